@@ -1,0 +1,3 @@
+pub mod DivisorLemmas
+pub mod FieldLemmas
+pub mod NameLemmas

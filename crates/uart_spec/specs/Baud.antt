@@ -1,0 +1,30 @@
+-- The arithmetic of the baud rate generator.
+use Rattle.std.specs.Prelude.{◌≡◌, ◌≢◌, ℕ, ◌+◌, ◌*◌, ◌<◌, ◌≤◌, Option, unwrap_or, Result, Ok, Err}
+use Rattle.uart_spec.specs.declared.errors.InvalidDivisorError.{InvalidDivisorError}
+use Rattle.uart_spec.specs.declared.errors.InvalidDivisorError.TheVariants.{NonInteger, OutOfRange}
+use Rattle.uart_spec.specs.declared.errors.NonIntegerBaudRateError.{NonIntegerBaudRateError}
+
+-- the prescaler division factor, which is 0 where there is none
+abbrev pub prescaler : Option ℕ → ℕ
+prescaler factor = unwrap_or factor 0
+
+-- the clock frequency at which a divisor gives a baud rate
+abbrev pub frequency_of : (baud_rate divisor : ℕ) → Option ℕ → ℕ
+frequency_of baud_rate divisor factor = 16 * (prescaler factor + 1) * baud_rate * divisor
+
+-- the baud rate at which the clock has this frequency, or that no whole one does
+abbrev pub IsBaudRateAnswer : (frequency divisor : ℕ) → Option ℕ → Result ℕ NonIntegerBaudRateError → Type 0
+IsBaudRateAnswer frequency divisor factor (Ok baud_rate) = frequency_of baud_rate divisor factor ≡ frequency
+IsBaudRateAnswer frequency divisor factor (Err error) =
+    ((baud_rate : ℕ) → frequency_of baud_rate divisor factor ≢ frequency)
+    × (error ≡ record { frequency = frequency; divisor = divisor; prescaler_division_factor = factor })
+
+-- the divisor at which the clock has this frequency, in the divisor latch or too large for it, or that no whole one does
+abbrev pub IsDivisorAnswer : (frequency baud_rate : ℕ) → Option ℕ → Result ℕ InvalidDivisorError → Type 0
+IsDivisorAnswer frequency baud_rate factor (Ok divisor) =
+    (frequency_of baud_rate divisor factor ≡ frequency) × (1 ≤ divisor) × (divisor ≤ 65535)
+IsDivisorAnswer frequency baud_rate factor (Err (OutOfRange divisor)) =
+    (frequency_of baud_rate divisor factor ≡ frequency) × (65535 < divisor)
+IsDivisorAnswer frequency baud_rate factor (Err (NonInteger error)) =
+    ((divisor : ℕ) → frequency_of baud_rate divisor factor ≢ frequency)
+    × (error ≡ record { frequency = frequency; baud_rate = baud_rate; prescaler_division_factor = factor })

@@ -1,0 +1,33 @@
+-- Registers as sets of bit places, and fields of neighbouring places.
+use Rattle.std.specs.Prelude.{◌≡◌, ℕ, ◌+◌, ◌/◌, ◌%◌, ◌^◌, ◌<◌, ◌≤◌, Bool, ◌==◌, not, ◌↔◌, ◌⊎◌, Option, Some, List}
+use Rattle.std.specs.Int.RustNames.{bit_and}
+use Rattle.bitflags.specs.Sets.{known_bits}
+
+-- the value has all of these bits
+abbrev pub has : ℕ → ℕ → Bool
+has value bits = bit_and value bits == bits
+
+-- the value has some of these bits
+abbrev pub has_any : ℕ → ℕ → Bool
+has_any value bits = not (bit_and value bits == 0)
+
+-- the number in the places of a field, which is so many places wide from its lowest one on
+abbrev pub field : (lowest width value : ℕ) → ℕ
+field lowest width value = value / 2 ^ lowest % 2 ^ width
+
+-- of the eight places, those outside of a field are the same in both values
+abbrev pub SameOutside : (lowest width old new : ℕ) → Type 0
+SameOutside lowest width old new =
+    (place : ℕ) → place < 8 → (place < lowest) ⊎ (lowest + width ≤ place) → field place 1 new ≡ field place 1 old
+
+-- no byte has a bit that the table of named bits lacks
+abbrev pub NamesEachByte : List (List ℕ × ℕ) → Type 0
+NamesEachByte table = (byte : ℕ) → byte < 256 → bit_and byte (known_bits table) ≡ byte
+
+-- this value and no other has the property
+abbrev pub IsOnly : {A : Type 0} → (A → Type 0) → A → Type 0
+IsOnly {A} P x = (y : A) → (x ≡ y) ↔ P y
+
+-- the one value that has the property, where there is one
+abbrev pub IsOnlyIfAny : {A : Type 0} → (A → Type 0) → Option A → Type 0
+IsOnlyIfAny {A} P o = (y : A) → (o ≡ Some y) ↔ P y

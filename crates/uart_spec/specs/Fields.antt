@@ -1,0 +1,55 @@
+-- The codes of the fields of FCR and LCR.
+use Rattle.std.specs.Prelude.{◌≡◌, ℕ}
+use Rattle.uart_spec.specs.Bits.{field}
+use Rattle.uart_spec.specs.declared.registers.fifo_trigger_level.FifoTriggerLevel.{FifoTriggerLevel}
+use Rattle.uart_spec.specs.declared.registers.fifo_trigger_level.FifoTriggerLevel.TheVariants.{One, Four, Eight, Fourteen}
+use Rattle.uart_spec.specs.declared.registers.frame.WordLength.{WordLength}
+use Rattle.uart_spec.specs.declared.registers.frame.WordLength.TheVariants.{FiveBits, SixBits, SevenBits, EightBits}
+use Rattle.uart_spec.specs.declared.registers.frame.Parity.{Parity}
+use Rattle.uart_spec.specs.declared.registers.frame.Parity.TheVariants.{Disabled, Odd, Even, Forced1, Forced0}
+
+-- the two-bit code of a trigger level
+abbrev pub trigger_code : FifoTriggerLevel → ℕ
+trigger_code One = 0
+trigger_code Four = 1
+trigger_code Eight = 2
+trigger_code Fourteen = 3
+
+-- the two-bit code of a word length
+abbrev pub word_length_code : WordLength → ℕ
+word_length_code FiveBits = 0
+word_length_code SixBits = 1
+word_length_code SevenBits = 2
+word_length_code EightBits = 3
+
+-- how many data bits a word length has
+abbrev pub word_length_bits : WordLength → ℕ
+word_length_bits FiveBits = 5
+word_length_bits SixBits = 6
+word_length_bits SevenBits = 7
+word_length_bits EightBits = 8
+
+-- the three-bit code of a parity
+abbrev pub parity_code : Parity → ℕ
+parity_code Disabled = 0
+parity_code Odd = 1
+parity_code Even = 3
+parity_code Forced1 = 5
+parity_code Forced0 = 7
+
+-- the two places from the lowest on hold the code of this trigger level
+abbrev pub HasTrigger : (lowest value : ℕ) → FifoTriggerLevel → Type 0
+HasTrigger lowest value level = field lowest 2 value ≡ trigger_code level
+
+-- the two places from the lowest on hold the code of this word length
+abbrev pub HasWordLength : (lowest value : ℕ) → WordLength → Type 0
+HasWordLength lowest value length = field lowest 2 value ≡ word_length_code length
+
+-- how many places of the parity field count: of no parity the lowest alone
+abbrev pub parity_places : Parity → ℕ
+parity_places Disabled = 1
+parity_places _ = 3
+
+-- the three places from the lowest on hold a code of this parity
+abbrev pub HasParity : (lowest value : ℕ) → Parity → Type 0
+HasParity lowest value parity = field lowest (parity_places parity) value ≡ parity_code parity

@@ -1,0 +1,7 @@
+pub mod Bits
+pub mod Fields
+pub mod Interrupts
+pub mod Baud
+pub mod Divisors
+pub mod BaudRate
+pub mod Config

@@ -1,0 +1,102 @@
+//! The arithmetic of clock frequency, divisor and baud rate.
+ghost use Rattle.std.specs.Prelude.{◌≡◌, ◌≢◌, ◌↔◌, ℕ, ◌+◌, ◌*◌, ◌<◌, ◌≤◌, ◌^◌, IfSome, IfNone};
+ghost use Rattle.uart_spec.specs.Bits.{IsOnly, IsOnlyIfAny};
+ghost use Rattle.uart_spec.specs.Baud.{IsBaudRateAnswer, IsDivisorAnswer, frequency_of, prescaler};
+
+use crate::errors::{InvalidDivisorError, NonIntegerBaudRateError, NonIntegerDivisorError};
+
+/// The usual frequency of the clock that drives the baud rate generator, in hertz: 16 ticks a bit at 115,200 baud.
+pub const CLK_FREQUENCY_HZ: u32 = 1_843_200;
+
+/// How many characters a FIFO of a 16550 holds.
+pub const FIFO_SIZE: usize = 16;
+
+/// How many registers a 16550 shows at a time, at offsets 0 to 7.
+pub const NUM_REGISTERS: usize = 8;
+
+/// The clock frequency in hertz at which a divisor gives a baud rate in bits a second.
+///
+/// The generator divides the clock by 16, by the divisor, and by the prescaler division factor plus 1. The factor is from 0
+/// to 15, and counts as 0 where it is absent.
+pub fn calc_frequency(baud_rate: u32, divisor: u32, prescaler_division_factor: Option<u32>) -> u32
+    requires baud_rate { 0 < baud_rate }
+    requires divisor { 0 < divisor }
+    requires prescaler { prescaler prescaler_division_factor ≤ 15 }
+    requires fits { frequency_of baud_rate divisor prescaler_division_factor < 2 ^ 32 }
+    ensures { result ≡ frequency_of baud_rate divisor prescaler_division_factor }
+{
+    16 * (prescaler_division_factor.unwrap_or(0) + 1) * baud_rate * divisor
+}
+
+/// The baud rate in bits a second that a divisor gives at a clock frequency in hertz.
+///
+/// Answers the arguments as an error where the baud rate is not whole.
+pub fn calc_baud_rate(
+    frequency: u32,
+    divisor: u32,
+    prescaler_division_factor: Option<u32>,
+) -> Result<u32, NonIntegerBaudRateError>
+    requires frequency { 0 < frequency }
+    requires divisor { 0 < divisor }
+    requires prescaler { prescaler prescaler_division_factor ≤ 15 }
+    ensures { IsOnly (IsBaudRateAnswer frequency divisor prescaler_division_factor) result }
+{
+    match other_factor(frequency, divisor, prescaler_division_factor) {
+        Some(baud_rate) => Ok(baud_rate),
+        None => Err(NonIntegerBaudRateError {
+            frequency,
+            divisor,
+            prescaler_division_factor,
+        }),
+    }
+}
+
+/// The divisor that gives a baud rate in bits a second at a clock frequency in hertz.
+///
+/// Answers `NonInteger` where no whole divisor gives exactly this baud rate, and nothing is rounded. Answers `OutOfRange`
+/// where one does and the divisor latch, which has 16 bits, cannot hold it.
+pub fn calc_divisor(
+    frequency: u32,
+    baud_rate: u32,
+    prescaler_division_factor: Option<u32>,
+) -> Result<u16, InvalidDivisorError>
+    requires frequency { 0 < frequency }
+    requires baud_rate { 0 < baud_rate }
+    requires prescaler { prescaler prescaler_division_factor ≤ 15 }
+    ensures { IsOnly (IsDivisorAnswer frequency baud_rate prescaler_division_factor) result }
+{
+    match other_factor(frequency, baud_rate, prescaler_division_factor) {
+        None => Err(InvalidDivisorError::NonInteger(NonIntegerDivisorError {
+            frequency,
+            baud_rate,
+            prescaler_division_factor,
+        })),
+        Some(divisor) if divisor <= u16::MAX as u32 => Ok(divisor as u16),
+        Some(divisor) => Err(InvalidDivisorError::OutOfRange { divisor }),
+    }
+}
+
+// The divisor for a baud rate, and also the baud rate for a divisor: the two are factors of one product.
+fn other_factor(frequency: u32, factor: u32, prescaler_division_factor: Option<u32>) -> Option<u32>
+    requires factor { 0 < factor }
+    requires prescaler { prescaler prescaler_division_factor ≤ 15 }
+    ensures only { IsOnlyIfAny (λ other. frequency_of factor other prescaler_division_factor ≡ frequency) result }
+    ensures some { IfSome result (λ other. frequency_of factor other prescaler_division_factor ≡ frequency) }
+    ensures none { IfNone result ((other : ℕ) → frequency_of factor other prescaler_division_factor ≢ frequency) }
+{
+    let ticks = 16 * (prescaler_division_factor.unwrap_or(0) as u64 + 1) * factor as u64;
+    whole_quotient(frequency, ticks)
+}
+
+// The number that times the divisor is the dividend.
+fn whole_quotient(dividend: u32, divisor: u64) -> Option<u32>
+    requires { 0 < divisor }
+    ensures { IsOnlyIfAny (λ quotient. divisor * quotient ≡ dividend) result }
+{
+    let dividend = dividend as u64;
+    if dividend % divisor == 0 {
+        Some((dividend / divisor) as u32)
+    } else {
+        None
+    }
+}

@@ -1,0 +1,57 @@
+//! The registers of a 16550: their offsets, their named bits and their fields.
+ghost use Rattle.uart_spec.specs.Bits.{NamesEachByte};
+
+use bitflags::Flags;
+
+mod divisors;
+mod fifo_control;
+mod fifo_trigger_level;
+mod frame;
+mod interrupt_enable;
+mod interrupt_status;
+mod interrupt_type;
+mod line_control;
+mod line_status;
+mod modem_control;
+mod modem_status;
+pub mod offsets;
+mod prescaler_division;
+
+pub use divisors::Divisor;
+pub use fifo_control::FCR;
+pub use fifo_trigger_level::FifoTriggerLevel;
+pub use frame::{Parity, WordLength};
+pub use interrupt_enable::IER;
+pub use interrupt_status::ISR;
+pub use interrupt_type::InterruptType;
+pub use line_control::LCR;
+pub use line_status::LSR;
+pub use modem_control::MCR;
+pub use modem_status::MSR;
+pub use prescaler_division::PSD;
+
+/// Data register: read, the front of the receiver; written, a byte for the transmitter.
+pub type DATA = u8;
+
+/// Scratchpad register, which the chip keeps and does not use.
+pub type SPR = u8;
+
+/// Low byte of the divisor latch.
+pub type DLL = u8;
+
+/// High byte of the divisor latch.
+pub type DLM = u8;
+
+/// Each byte is a value of each register, since each of the eight bits has a name: `from_bits` answers `Some` for it. This
+/// is a law for callers to cite, and does nothing.
+#[tactic(auto, using(crate::proofs::NameLemmas::eight_names))]
+pub fn every_byte_is_a_value()
+    ensures ier { NamesEachByte ⟦<IER as Flags>⟧.table }
+    ensures isr { NamesEachByte ⟦<ISR as Flags>⟧.table }
+    ensures fcr { NamesEachByte ⟦<FCR as Flags>⟧.table }
+    ensures lcr { NamesEachByte ⟦<LCR as Flags>⟧.table }
+    ensures mcr { NamesEachByte ⟦<MCR as Flags>⟧.table }
+    ensures lsr { NamesEachByte ⟦<LSR as Flags>⟧.table }
+    ensures msr { NamesEachByte ⟦<MSR as Flags>⟧.table }
+    ensures psd { NamesEachByte ⟦<PSD as Flags>⟧.table }
+{}

@@ -1,0 +1,59 @@
+//! The interrupts that ISR identifies.
+ghost use Rattle.std.specs.Prelude.{◌≡◌};
+ghost use Rattle.uart_spec.specs.Bits.{IsOnlyIfAny};
+ghost use Rattle.uart_spec.specs.Interrupts.{Identifies, priority};
+
+/// An interrupt, in the order in which a chip reports those that are pending together.
+#[derive(Clone, Copy, Debug, PartialEq, Eq, PartialOrd, Ord, Hash)]
+pub enum InterruptType {
+    /// An overrun, a parity error, a framing error or a break. A read of LSR acknowledges it.
+    ReceiverLineStatus,
+    /// Received characters wait, with FIFOs as many as the trigger level says. Reads of DATA acknowledge it.
+    ReceivedDataReady,
+    /// Characters wait in the receiver FIFO, fewer than the trigger level, and for some time none came or was taken. Reads
+    /// of DATA acknowledge it.
+    ReceptionTimeout,
+    /// The transmitter holding register or FIFO is empty. A read of ISR or a write of DATA acknowledges it.
+    TransmitterHoldingRegisterEmpty,
+    /// A modem line changed. A read of MSR acknowledges it.
+    ModemStatus,
+    /// A DMA reception came to its end, on chips with DMA signals.
+    DmaReceptionEndOfTransfer,
+    /// A DMA transmission came to its end, on chips with DMA signals.
+    DmaTransmissionEndOfTransfer,
+}
+
+impl InterruptType {
+    /// The priority, from 1, the highest, to 6. Two cases share priority 2.
+    pub fn priority(self) -> u8
+        ensures { result ≡ priority self }
+    {
+        match self {
+            InterruptType::ReceiverLineStatus => 1,
+            InterruptType::ReceivedDataReady | InterruptType::ReceptionTimeout => 2,
+            InterruptType::TransmitterHoldingRegisterEmpty => 3,
+            InterruptType::ModemStatus => 4,
+            InterruptType::DmaReceptionEndOfTransfer => 5,
+            InterruptType::DmaTransmissionEndOfTransfer => 6,
+        }
+    }
+
+    /// The interrupt that the low nibble of an ISR value identifies.
+    ///
+    /// There is none where bit 0 is set, since no interrupt is pending then, and none for the code 100 in bits 3 to 1,
+    /// although an interrupt is pending.
+    pub fn from_bits(isr_bits: u8) -> Option<Self>
+        ensures { IsOnlyIfAny (Identifies isr_bits) result }
+    {
+        match isr_bits & 0b1111 {
+            0b0110 => Some(InterruptType::ReceiverLineStatus),
+            0b0100 => Some(InterruptType::ReceivedDataReady),
+            0b1100 => Some(InterruptType::ReceptionTimeout),
+            0b0010 => Some(InterruptType::TransmitterHoldingRegisterEmpty),
+            0b0000 => Some(InterruptType::ModemStatus),
+            0b1110 => Some(InterruptType::DmaReceptionEndOfTransfer),
+            0b1010 => Some(InterruptType::DmaTransmissionEndOfTransfer),
+            _ => None,
+        }
+    }
+}

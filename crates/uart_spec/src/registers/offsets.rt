@@ -1,0 +1,37 @@
+//! The offset of each register from the device's base, in registers. Some registers share one.
+
+/// Data, while DLAB is clear: the receiver on reads, the transmitter on writes.
+pub const DATA: usize = 0;
+
+/// Interrupt enable, while DLAB is clear.
+pub const IER: usize = 1;
+
+/// Interrupt status, on reads.
+pub const ISR: usize = 2;
+
+/// FIFO control, on writes.
+pub const FCR: usize = 2;
+
+/// Line control.
+pub const LCR: usize = 3;
+
+/// Modem control.
+pub const MCR: usize = 4;
+
+/// Line status.
+pub const LSR: usize = 5;
+
+/// Modem status.
+pub const MSR: usize = 6;
+
+/// Scratchpad.
+pub const SPR: usize = 7;
+
+/// Low byte of the divisor, while DLAB is set.
+pub const DLL: usize = 0;
+
+/// High byte of the divisor, while DLAB is set.
+pub const DLM: usize = 1;
+
+/// Prescaler division, while DLAB is set, on chips that have it.
+pub const PSD: usize = 6;
