@@ -1,0 +1,10 @@
+pub mod Paths
+pub mod Languages
+pub mod Making
+pub mod Doings
+pub mod Statuses
+pub mod Inits
+pub mod Texts
+pub mod Loopbacks
+pub mod Terminals
+pub mod Chains

@@ -1,0 +1,64 @@
+-- The status calls.
+use Rattle.std.proofs.Common.{◌≡◌, ℕ, List, [], ◌∷◌, ◌++◌, refl, ◌∙◌, ap, bit_or}
+use Rattle.std.specs.Int.NonZero.{non_zero_u64_get}
+use Rattle.uart_16550.specs.Access.{Access, Read}
+use Rattle.uart_16550.specs.Grammar.{Only}
+use Rattle.uart_16550.specs.Driver.{Made, Did}
+use Rattle.uart_16550.specs.Status.{TakesLsr, TakesMsr, Dumps, divisor_accesses}
+use Rattle.uart_16550.specs.declared.driver.Uart16550.{Uart16550}
+use Rattle.uart_16550.specs.declared.dump.ConfigRegisterDump.{ConfigRegisterDump}
+use Rattle.uart_16550.proofs.Making.{made_only, lsr_kept, msr_kept, lsr_joined, msr_joined}
+use Rattle.uart_16550.proofs.Doings.{did_made}
+
+-- the registers in the dump's order, with both statuses joined with the saved bits as they stand after their reads
+pub dumped : {B : Type 0} {step : B → Access → B → Type 0} (dump : ConfigRegisterDump) (lcr lsr msr : ℕ) {a b c d e : Uart16550 B} →
+    Made step (Only (divisor_accesses lcr dump.dll dump.dlm ++ (Read 1 dump.ier.0 ∷ Read 2 dump.isr.0 ∷ Read 3 dump.lcr.0 ∷ Read 4 dump.mcr.0 ∷ []))) a b →
+    Made step (Only (Read 5 lsr ∷ [])) b c → dump.lsr.0 ≡ bit_or lsr c.saved_lsr.0 →
+    Made step (Only (Read 6 msr ∷ [])) c d → dump.msr.0 ≡ bit_or msr d.saved_msr.0 →
+    Made step (Only (Read 7 dump.spr ∷ [])) d e → Did step (Dumps dump) a e
+dumped dump lcr lsr msr p q shows_lsr r shows_msr s =
+    let all = did_made (made_only _ _ p (made_only _ _ q (made_only _ _ r s))) in
+    record {
+      list = all.list;
+      path = all.path;
+      does = record {
+        lcr = lcr;
+        lsr = lsr;
+        msr = msr;
+        is = all.does.0.is;
+        shows_lsr = shows_lsr ∙ lsr_joined lsr q ∙ ap (bit_or lsr) (lsr_kept _ refl p);
+        shows_msr = shows_msr ∙ msr_joined msr r ∙ ap (bit_or msr) (msr_kept _ refl q ∙ msr_kept _ refl p);
+        keeps = all.does.1;
+      };
+    }
+
+-- one read of a status, joined with the saved bits as they stand after it, which are then none
+pub takes_lsr : {B : Type 0} {step : B → Access → B → Type 0} (status result none : ℕ) {a b : Uart16550 B} → Made step (Only (Read 5 status ∷ [])) a b →
+    result ≡ bit_or status b.saved_lsr.0 → none ≡ 0 → Did step (TakesLsr result) a (record b { saved_lsr = record { 0 = none } })
+takes_lsr status result none p shows empty =
+    let same = msr_kept _ refl p in
+    record {
+      list = p.list;
+      path = p.path;
+      does = (
+        status,
+        p.fits.is,
+        shows ∙ lsr_joined status p,
+        λ i. record { config = p.config i; fifo = p.fifo i; lsr = empty i; msr = same i; limit = non_zero_u64_get (p.limit i) },
+      );
+    }
+
+pub takes_msr : {B : Type 0} {step : B → Access → B → Type 0} (status result none : ℕ) {a b : Uart16550 B} → Made step (Only (Read 6 status ∷ [])) a b →
+    result ≡ bit_or status b.saved_msr.0 → none ≡ 0 → Did step (TakesMsr result) a (record b { saved_msr = record { 0 = none } })
+takes_msr status result none p shows empty =
+    let same = lsr_kept _ refl p in
+    record {
+      list = p.list;
+      path = p.path;
+      does = (
+        status,
+        p.fits.is,
+        shows ∙ msr_joined status p,
+        λ i. record { config = p.config i; fifo = p.fifo i; lsr = same i; msr = empty i; limit = non_zero_u64_get (p.limit i) },
+      );
+    }

@@ -1,0 +1,12 @@
+use Rattle.std.proofs.Common.{◌≡◌}
+use Rattle.uart_16550.proofs.Making.{made_among, made_only}
+use Rattle.uart_16550.proofs.driver.Uart16550.set_line.Goals as goal
+
+pub returns : goal.returns
+returns g c =
+    let dlab : c.bits.result ≡ 128 = c.bits.ensures tt in
+    let frame : c.bits-2.result ≡ c.args.frame.0 = c.bits-2.ensures tt in
+    made_among (λ l t. record { is = rw (dlab, frame) at t.is })
+    (made_only _ _ (made_only _ _ (made_only _ _ (made_only _ _ (made_only _ _ (made_only _ _
+    c.write_register.ensures c.write_register-2.ensures) c.write_register-3.ensures) c.write_register-4.ensures)
+    c.write_register-5.ensures) c.write_register-6.ensures) c.write_register-7.ensures)

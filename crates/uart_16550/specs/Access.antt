@@ -1,0 +1,31 @@
+-- Accesses to the eight registers, paths of them, and the bits that the driver saves of their answers.
+use Rattle.std.specs.Prelude.{◌≡◌, ℕ, List, [], ◌∷◌, ◌==◌, if◌then◌else◌}
+use Rattle.std.specs.Int.RustNames.{bit_and, bit_or}
+
+-- a read with its answer, or a write with its value
+pub data Access : Type 0 where
+  Read : (offset answer : ℕ) → Access
+  Write : (offset value : ℕ) → Access
+
+-- the accesses lead from a to b, one step after the other
+abbrev pub Path : {S : Type 0} → (S → Access → S → Type 0) → S → List Access → S → Type 0
+Path step a [] b = b ≡ a
+Path {S} step a (access ∷ accesses) b = (mid : S) × step a access mid × Path step mid accesses b
+
+-- the bits of a register, among those of the mask, that one access answered
+abbrev pub saved_of : ℕ → ℕ → Access → ℕ
+saved_of register mask (Read offset answer) = if offset == register then bit_and answer mask else 0
+saved_of register mask (Write offset value) = 0
+
+-- the join of these bits over a list
+abbrev pub saved : ℕ → ℕ → List Access → ℕ
+saved register mask [] = 0
+saved register mask (access ∷ accesses) = bit_or (saved_of register mask access) (saved register mask accesses)
+
+-- the line errors: LSR bits 1 to 4
+abbrev pub saved_lsr : List Access → ℕ
+saved_lsr = saved 5 30
+
+-- the modem changes: MSR bits 0 to 3
+abbrev pub saved_msr : List Access → ℕ
+saved_msr = saved 6 15

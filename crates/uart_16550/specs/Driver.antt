@@ -1,0 +1,97 @@
+-- The driver's fields, and what a call does to them and to the backend.
+use Rattle.std.specs.Prelude.{◌≡◌, ℕ, Bool, true, false, List, [], ◌++◌}
+use Rattle.std.specs.Int.RustNames.{bit_or}
+use Rattle.std.specs.Int.NonZero.{non_zero_u64_get}
+use Rattle.uart_spec.specs.declared.config.Config.{Config}
+use Rattle.uart_16550.specs.Access.{Access, Path, saved_lsr, saved_msr}
+use Rattle.uart_16550.specs.Grammar.{Language, Settings}
+use Rattle.uart_16550.specs.declared.driver.Uart16550.{Uart16550}
+
+-- the backend that carries the driver's accesses
+abbrev pub backend_of : {B : Type 0} → Uart16550 B → B
+backend_of d = d.backend
+
+-- the driver beside its backend: its configuration, whether it takes the FIFO to be on, the saved bits of LSR and MSR, the spin limit
+pub record Fields : Type 0 where
+  pub config : Config
+  pub fifo : Bool
+  pub lsr : ℕ
+  pub msr : ℕ
+  pub limit : ℕ
+
+abbrev pub fields : {B : Type 0} → Uart16550 B → Fields
+fields d = record { config = d.config; fifo = d.fifo_enabled; lsr = d.saved_lsr.0; msr = d.saved_msr.0; limit = non_zero_u64_get d.spin_limit }
+
+-- what the lists of a call depend on
+abbrev pub settings_of : Fields → Settings
+settings_of f = record { checks = f.config.check_cts_before_sending; fifo = f.fifo; limit = f.limit }
+
+abbrev pub settings : {B : Type 0} → Uart16550 B → Settings
+settings d = record { checks = d.config.check_cts_before_sending; fifo = d.fifo_enabled; limit = non_zero_u64_get d.spin_limit }
+
+-- a driver that has made no access
+pub record IsFresh {B : Type 0} (d : Uart16550 B) (given : B) (config : Config) : Type 0 where
+  pub backend : d.backend ≡ given
+  pub begins : fields d ≡ record { config = config; fifo = true; lsr = 0; msr = 0; limit = 1000000 }
+
+-- the call made a list of the language, saved what its reads showed, and changed nothing else
+pub record Made {B : Type 0} (step : B → Access → B → Type 0) (L : Language) (old new : Uart16550 B) : Type 0 where
+  pub list : List Access
+  pub path : Path step old.backend list new.backend
+  pub lsr : new.saved_lsr.0 ≡ bit_or old.saved_lsr.0 (saved_lsr list)
+  pub msr : new.saved_msr.0 ≡ bit_or old.saved_msr.0 (saved_msr list)
+  pub config : new.config ≡ old.config
+  pub fifo : new.fifo_enabled ≡ old.fifo_enabled
+  pub limit : new.spin_limit ≡ old.spin_limit
+  pub fits : L (settings old) list
+
+-- what a call does: the fields before it, its accesses, and the fields after it
+abbrev pub Doing : Type 1
+Doing = Fields → List Access → Fields → Type 0
+
+-- the call did this, on a path of the backend's steps
+pub record Did {B : Type 0} (step : B → Access → B → Type 0) (G : Doing) (old new : Uart16550 B) : Type 0 where
+  pub list : List Access
+  pub path : Path step old.backend list new.backend
+  pub does : G (fields old) list (fields new)
+
+-- the fields after a list whose reads are saved
+abbrev pub saving : Fields → List Access → Fields
+saving f l = record { config = f.config; fifo = f.fifo; lsr = bit_or f.lsr (saved_lsr l); msr = bit_or f.msr (saved_msr l); limit = f.limit }
+
+-- a list of the language whose reads are saved
+abbrev pub Saving : Language → Doing
+Saving L f l after = L (settings_of f) l × (after ≡ saving f l)
+
+-- a list of the language whose reads are not saved
+abbrev pub Plain : Language → Doing
+Plain L f l after = L (settings_of f) l × (after ≡ f)
+
+-- no access, and this change of the fields
+abbrev pub Sets : (Fields → Fields) → Doing
+Sets change f l after = (l ≡ []) × (after ≡ change f)
+
+-- the one, and then the other
+pub record Next (G H : Doing) (f : Fields) (l : List Access) (after : Fields) : Type 0 where
+  pub front : List Access
+  pub back : List Access
+  pub mid : Fields
+  pub whole : l ≡ front ++ back
+  pub first : G f front mid
+  pub second : H mid back after
+
+-- the fields with this configuration, these interrupts in it, this FIFO, these saved bits, this limit
+abbrev pub with_config : Config → Fields → Fields
+with_config config f = record { config = config; fifo = f.fifo; lsr = f.lsr; msr = f.msr; limit = f.limit }
+
+abbrev pub with_interrupts : ℕ → Fields → Fields
+with_interrupts bits f = with_config (record f.config { interrupts = record { 0 = bits } }) f
+
+abbrev pub with_fifo : Bool → Fields → Fields
+with_fifo on f = record { config = f.config; fifo = on; lsr = f.lsr; msr = f.msr; limit = f.limit }
+
+abbrev pub with_saved : ℕ → ℕ → Fields → Fields
+with_saved lsr msr f = record { config = f.config; fifo = f.fifo; lsr = lsr; msr = msr; limit = f.limit }
+
+abbrev pub with_limit : ℕ → Fields → Fields
+with_limit limit f = record { config = f.config; fifo = f.fifo; lsr = f.lsr; msr = f.msr; limit = limit }

@@ -1,0 +1,13 @@
+-- The devices of the examples.
+use Rattle.std.specs.Prelude.{◌≡◌, ℕ, ◌%◌, List, [], ◌∷◌, ◌++◌, ◌==◌, nat_lt, length, slice_index, slice_set, if◌then◌else◌, ◌&&◌}
+use Rattle.uart_16550.specs.Access.{Access, Read, Write}
+
+-- 32 cells of memory, which repeat: a load answers the cell of its address, and a store sets it
+abbrev pub CellStep : List ℕ → Access → List ℕ → Type 0
+CellStep old (Read address value) new = (value ≡ slice_index old (address % 32)) × (new ≡ old)
+CellStep old (Write address value) new = new ≡ slice_set old (address % 32) value
+
+-- a console that is always idle: what is written to DATA is shown, as far as there is room
+abbrev pub Shows : List ℕ → Access → List ℕ → Type 0
+Shows shown (Read offset answer) new = (answer ≡ (if offset == 5 then 96 else 0)) × (new ≡ shown)
+Shows shown (Write offset value) new = new ≡ (if offset == 0 && nat_lt (length shown) 64 then shown ++ value ∷ [] else shown)

@@ -1,0 +1,40 @@
+-- What a terminal sends for a text.
+use Rattle.std.specs.Prelude.{◌≡◌, ◌<◌, ℕ, List, [], ◌∷◌, ◌++◌, ◌==◌, ◌||◌, Result, Ok, Err, length, take, min, ◌-◌, ◌^◌, if◌then◌else◌}
+use Rattle.uart_spec.specs.declared.errors.StalledError.{StalledError}
+use Rattle.uart_16550.specs.Grammar.{Language, Then, InOrder, AllMisses}
+use Rattle.uart_16550.specs.Transmit.{Round, SendMiss}
+
+-- backspace and delete take the last character away, and a line feed brings a carriage return with it
+abbrev pub expansion_of : ℕ → List ℕ
+expansion_of byte =
+    if byte == 8 || byte == 127 then 8 ∷ 32 ∷ 8 ∷ []
+    else if byte == 10 then 13 ∷ 10 ∷ []
+    else byte ∷ []
+
+-- the expansion of each byte, in order
+abbrev pub expansion : List ℕ → List ℕ
+expansion [] = []
+expansion (byte ∷ bytes) = expansion_of byte ++ expansion bytes
+
+-- each of the bytes is sent by itself, after its own wait
+abbrev pub SendsEach : List ℕ → Language
+SendsEach = InOrder (λ byte. Round (byte ∷ []))
+
+-- so many of these bytes, which are not all of them, and then a wait in vain
+abbrev pub SendsBeginning : List ℕ → ℕ → Language
+SendsBeginning bytes n s l = (n < length bytes) × Then (SendsEach (take n bytes)) (AllMisses SendMiss) s l
+
+-- these bytes, one by one: all of them, or a beginning
+abbrev pub SendsSingly : {T : Type 0} → List ℕ → Result T StalledError → Language
+SendsSingly bytes (Ok x) s l = SendsEach bytes s l
+SendsSingly bytes (Err e) s l = SendsBeginning bytes e.done s l
+
+-- `write_text`: the whole expansion, or a beginning of it, as long as the stall tells: its count ends at 2 ^ 64 - 1
+abbrev pub SendsText : {T : Type 0} → List ℕ → Result T StalledError → Language
+SendsText text (Ok x) s l = SendsEach (expansion text) s l
+SendsText text (Err e) s l = (sent : ℕ) × (e.done ≡ min sent (2 ^ 64 - 1)) × SendsBeginning (expansion text) sent s l
+
+-- `write_str`: the same without the count
+abbrev pub SendsStr : {T E : Type 0} → List ℕ → Result T E → Language
+SendsStr text (Ok x) s l = SendsEach (expansion text) s l
+SendsStr text (Err e) s l = (sent : ℕ) × SendsBeginning (expansion text) sent s l

@@ -1,0 +1,65 @@
+-- Languages of register accesses: which whole lists a call may make.
+use Rattle.std.specs.Prelude.{◌≡◌, ◌<◌, ℕ, Bool, true, false, List, [], ◌∷◌, ◌++◌, MatchBool, zero, suc}
+use Rattle.uart_spec.specs.Bits.{has}
+use Rattle.uart_16550.specs.Access.{Access, Read, Write}
+
+-- what a call's lists depend on: whether CTS is checked before sending, whether the FIFO is on, and the spin limit
+pub record Settings : Type 0 where
+  pub checks : Bool
+  pub fifo : Bool
+  pub limit : ℕ
+
+-- the lists that a call may make under some settings
+abbrev pub Language : Type 1
+Language = Settings → List Access → Type 0
+
+-- this list alone
+pub record Only (list : List Access) (s : Settings) (l : List Access) : Type 0 where
+  pub is : l ≡ list
+
+-- a list of the first, then one of the second
+pub record Then (P Q : Language) (s : Settings) (l : List Access) : Type 0 where
+  pub front : List Access
+  pub back : List Access
+  pub whole : l ≡ front ++ back
+  pub first : P s front
+  pub second : Q s back
+
+-- for each item in order a list of its language
+abbrev pub InOrder : {A : Type 0} → (A → Language) → List A → Language
+InOrder P [] = Only []
+InOrder P (item ∷ items) = Then (P item) (InOrder P items)
+
+-- n lists of the language
+abbrev pub Times : ℕ → Language → Language
+Times zero P = Only []
+Times (suc n) P = Then P (Times n P)
+
+-- fewer of them in a row than the limit
+abbrev pub FewMisses : Language → Language
+FewMisses P s l = (n : ℕ) × (n < s.limit) × Times n P s l
+
+-- as many in a row as the limit
+abbrev pub AllMisses : Language → Language
+AllMisses P s l = Times s.limit P s l
+
+-- one read of the register, whose answer has all of these bits, or lacks some of them
+pub record Asks (register bits : ℕ) (outcome : Bool) (s : Settings) (l : List Access) : Type 0 where
+  pub answer : ℕ
+  pub shows : has answer bits ≡ outcome
+  pub is : l ≡ Read register answer ∷ []
+
+-- one read of the register, whatever it answers
+abbrev pub Reads : ℕ → Language
+Reads register s l = (answer : ℕ) × (l ≡ Read register answer ∷ [])
+
+-- the first where the setting is on, else the second
+abbrev pub IfChecks : Language → Language → Language
+IfChecks P Q s l = MatchBool s.checks (P s l) (Q s l)
+
+abbrev pub IfFifo : Language → Language → Language
+IfFifo P Q s l = MatchBool s.fifo (P s l) (Q s l)
+
+-- no list at all
+abbrev pub Never : Language
+Never s l = ⊥

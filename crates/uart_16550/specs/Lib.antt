@@ -1,0 +1,17 @@
+pub mod Access
+pub mod Grammar
+pub mod Receive
+pub mod Transmit
+pub mod Driver
+pub mod Status
+pub mod Init
+pub mod Expansion
+pub mod Io
+pub mod Tty
+pub mod Backend
+pub mod Pio
+pub mod Mmio
+pub mod Devices
+pub mod Examples
+pub mod Loopback
+pub mod Links

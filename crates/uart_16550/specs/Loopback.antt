@@ -1,0 +1,151 @@
+-- The loopback test, access by access.
+use Rattle.std.specs.Prelude.{◌≡◌, ◌≢◌, ◌==◌, ◌&&◌, not, ℕ, Bool, true, false, List, [], ◌∷◌, ◌++◌, Result, Ok, Err, Option, Some, None, length, map, ◌⊎◌, if◌then◌else◌, codes}
+use Rattle.std.specs.Int.RustNames.{bit_and, bit_or}
+use Rattle.bitflags.specs.Sets.{without}
+use Rattle.uart_spec.specs.Bits.{has}
+use Rattle.uart_spec.specs.declared.errors.StalledError.{StalledError}
+use Rattle.uart_spec.specs.declared.errors.LoopbackError.{LoopbackError}
+use Rattle.uart_spec.specs.declared.errors.LoopbackError.TheVariants.{Stalled, SendError, UnexpectedLoopbackByte, UnexpectedLoopbackMsg}
+use Rattle.uart_16550.specs.Access.{Read, Write}
+use Rattle.uart_16550.specs.Grammar.{Language, Only, Then, InOrder, FewMisses, AllMisses, IfFifo}
+use Rattle.uart_16550.specs.Receive.{Hit, Miss, Awaited, ReceivesExact}
+use Rattle.uart_16550.specs.Transmit.{SendMiss, Round, SendsAll, SendsExact, TrySends, Waits}
+use Rattle.uart_16550.specs.Init.{SetsFifo}
+use Rattle.uart_16550.specs.Driver.{Fields, Doing, Saving, Plain, Sets, Next, with_fifo, with_saved}
+
+-- the first test byte, and the test message
+abbrev pub test_byte : ℕ
+test_byte = 66
+
+abbrev pub test_message : List ℕ
+test_message = codes "hello world!1337"
+
+-- a byte that waited from before is received
+abbrev pub TakesOne : Language
+TakesOne s l = (byte : ℕ) × Hit byte s l
+
+-- what waited from before is received until nothing waits; or there was a byte as many times as the limit
+abbrev pub Drains : Bool → Language
+Drains true = Then (FewMisses TakesOne) Miss
+Drains false = AllMisses TakesOne
+
+-- one byte is sent at once, and comes back
+abbrev pub SendsTestByte : Language
+SendsTestByte = TrySends {T = Unit {0}} test_byte (Ok tt)
+
+-- the test byte: sent and back; or not sent; or awaited in vain; or back as another
+abbrev pub ExchangesByte : {T : Type 0} → Result T LoopbackError → Language
+ExchangesByte (Ok x) s l = Then SendsTestByte (Awaited test_byte) s l
+ExchangesByte (Err (SendError e)) s l = TrySends {T = Unit {0}} test_byte (Err e) s l
+ExchangesByte (Err Stalled) s l = Then SendsTestByte (AllMisses Miss) s l
+ExchangesByte (Err (UnexpectedLoopbackByte expected actual)) s l =
+    (expected ≡ test_byte) × (actual ≢ test_byte) × Then SendsTestByte (Awaited actual) s l
+ExchangesByte (Err (UnexpectedLoopbackMsg expected actual)) s l = ⊥
+
+-- a byte and what came back for it
+abbrev pub Echo : (ℕ × ℕ) → Language
+Echo pair = Then (Round (pair.0 ∷ [])) (Awaited pair.1)
+
+-- a wait in vain, for room or for the byte that should come back
+abbrev pub EchoFails : ℕ → Language
+EchoFails byte s l = AllMisses SendMiss s l ⊎ Then (Round (byte ∷ [])) (AllMisses Miss) s l
+
+abbrev pub HasEchoed : ℕ → Option ℕ → Language
+HasEchoed byte (Some back) = Echo (byte, back)
+HasEchoed byte None = EchoFails byte
+
+-- with a FIFO the bytes are sent whole and received whole
+abbrev pub WholeEchoes : (sent got : List ℕ) → Language
+WholeEchoes sent got = Then (SendsAll sent) (InOrder Awaited got)
+
+abbrev pub WholeFails : (sent : List ℕ) → Language
+WholeFails sent s l = ((e : StalledError) × SendsExact {T = Unit {0}} sent (Err e) s l)
+    ⊎ ((e : StalledError) × (got : List ℕ) × Then (SendsAll sent) (ReceivesExact {T = Unit {0}} (length sent) got (Err e)) s l)
+
+-- without one each is sent and received by itself
+abbrev pub EachEchoes : (sent got : List ℕ) → Language
+EachEchoes sent got s l = (pairs : List (ℕ × ℕ)) × (map (λ pair. pair.0) pairs ≡ sent) × (map (λ pair. pair.1) pairs ≡ got) × InOrder Echo pairs s l
+
+abbrev pub EachFails : (sent : List ℕ) → Language
+EachFails sent s l = (pairs : List (ℕ × ℕ)) × (byte : ℕ) × (rest : List ℕ) × (map (λ pair. pair.0) pairs ++ (byte ∷ rest) ≡ sent)
+    × Then (InOrder Echo pairs) (EchoFails byte) s l
+
+-- what came back for these bytes, or nothing where a wait was in vain
+abbrev pub HasEchoedWhole : List ℕ → Option (List ℕ) → Language
+HasEchoedWhole sent (Some got) = WholeEchoes sent got
+HasEchoedWhole sent None = WholeFails sent
+
+abbrev pub HasEchoedEach : List ℕ → Option (List ℕ) → Language
+HasEchoedEach sent (Some got) = EachEchoes sent got
+HasEchoedEach sent None = EachFails sent
+
+abbrev pub HasEchoedAll : List ℕ → Option (List ℕ) → Language
+HasEchoedAll sent got = IfFifo (HasEchoedWhole sent got) (HasEchoedEach sent got)
+
+-- the test message: sent and back; or a wait in vain; or back as another
+abbrev pub ExchangesMessage : {T : Type 0} → Result T LoopbackError → Language
+ExchangesMessage (Ok x) s l = HasEchoedAll test_message (Some test_message) s l
+ExchangesMessage (Err (SendError e)) s l = ⊥
+ExchangesMessage (Err Stalled) s l = HasEchoedAll test_message None s l
+ExchangesMessage (Err (UnexpectedLoopbackByte expected actual)) s l = ⊥
+ExchangesMessage (Err (UnexpectedLoopbackMsg expected actual)) s l =
+    (expected ≡ test_message) × (actual ≢ test_message) × (length actual ≡ 16) × HasEchoedAll test_message (Some actual) s l
+
+-- inside the loopback: the drain, the byte, the message, up to the first fault
+abbrev pub Exchanges : {T : Type 0} → Result T LoopbackError → Language
+Exchanges (Ok x) s l = Then (Drains true) (Then (ExchangesByte (Ok x)) (ExchangesMessage (Ok x))) s l
+Exchanges (Err e) s l = ((e ≡ Stalled) × Drains false s l)
+    ⊎ (Then (Drains true) (ExchangesByte {T = Unit {0}} (Err e)) s l
+    ⊎ Then (Drains true) (Then (ExchangesByte {T = Unit {0}} (Ok tt)) (ExchangesMessage {T = Unit {0}} (Err e))) s l)
+
+-- these bits where the flag is set, else none
+abbrev pub flag : Bool → ℕ → ℕ
+flag on bits = if on then bits else 0
+
+-- the line differs
+abbrev pub differs : ℕ → ℕ → ℕ → Bool
+differs before now line = not (bit_and before line == bit_and now line)
+
+-- the changes between two readings of MSR, as their bits: of RI only its trailing edge
+abbrev pub line_changes : (before now : ℕ) → ℕ
+line_changes before now =
+    bit_or (bit_or (flag (differs before now 16) 1) (flag (differs before now 32) 2))
+    (bit_or (flag (has before 64 && not (has now 64)) 4) (flag (differs before now 128) 8))
+
+-- from the lines read to the FIFO step, in loopback
+abbrev pub Enters : (before : ℕ) → (fifo : Bool) → Doing
+Enters before fifo f l after =
+    Next (Saving (Then (Only (Read 6 before ∷ Write 1 0 ∷ Write 4 16 ∷ [])) (SetsFifo f.config.fifo_trigger_level fifo)))
+    (Sets (with_fifo fifo)) f l after
+
+-- these changes are saved beside those saved before, and the saved errors are those noted
+abbrev pub with_changes : (noted changes : ℕ) → Fields → Fields
+with_changes noted changes f = with_saved noted (bit_or f.msr changes) f
+
+-- loopback is left, MCR and IER are written back, changes of the lines are saved, and the saved errors are those noted
+abbrev pub Leaves : (mcr ier before noted : ℕ) → Doing
+Leaves mcr ier before noted f l after = (now : ℕ) ×
+    Next (Saving (Only (Write 4 (without 8 mcr 8) ∷ [])))
+    (Next (Plain (Only (Read 6 now ∷ [])))
+    (Next (Saving (Only (Write 4 mcr ∷ Write 1 ier ∷ [])))
+    (Sets (with_changes noted (line_changes before now))))) f l after
+
+-- MCR and IER are read, and then the transmitter is awaited
+abbrev pub BeginsTest : (mcr ier : ℕ) → Bool → Language
+BeginsTest mcr ier empty = Then (Only (Read 4 mcr ∷ Read 1 ier ∷ [])) (Waits 64 empty)
+
+-- after the first wait, whose end leaves the errors to be noted
+abbrev pub Tests : {T : Type 0} → (mcr ier : ℕ) → Result T LoopbackError → Doing
+Tests mcr ier result f l after = (before : ℕ) × (fifo : Bool) ×
+    Next (Enters before fifo) (Next (Saving (Exchanges result)) (Leaves mcr ier before f.lsr)) f l after
+
+-- the answer is a stall
+abbrev pub IsStalled : {T : Type 0} → Result T LoopbackError → Type 0
+IsStalled (Ok x) = ⊥
+IsStalled (Err e) = e ≡ Stalled
+
+-- `test_loopback`: a first wait in vain, and nothing written; or the test
+abbrev pub TestsLoopback : {T : Type 0} → Result T LoopbackError → Doing
+TestsLoopback result f l after = (mcr : ℕ) × (ier : ℕ) ×
+    ((IsStalled result × Saving (BeginsTest mcr ier false) f l after)
+    ⊎ Next (Saving (BeginsTest mcr ier true)) (Tests mcr ier result) f l after)

@@ -1,0 +1,51 @@
+-- The lists of the receiving calls.
+use Rattle.std.specs.Prelude.{◌≡◌, ◌<◌, ℕ, Bool, true, false, List, [], ◌∷◌, Result, Ok, Err, Option, Some, None, length, take, ◌⊎◌}
+use Rattle.uart_spec.specs.declared.errors.StalledError.{StalledError}
+use Rattle.uart_16550.specs.Access.{Access, Read, Write}
+use Rattle.uart_16550.specs.Grammar.{Language, Only, Then, InOrder, FewMisses, AllMisses, Asks}
+
+-- a look at LSR that shows data, and the byte taken
+abbrev pub Hit : ℕ → Language
+Hit byte = Then (Asks 5 1 true) (Only (Read 0 byte ∷ []))
+
+-- a look that shows none
+abbrev pub Miss : Language
+Miss = Asks 5 1 false
+
+-- `ready_to_receive`
+abbrev pub ReadyToReceive : {T E : Type 0} → Result T E → Language
+ReadyToReceive (Ok x) = Asks 5 1 true
+ReadyToReceive (Err e) = Miss
+
+-- `try_receive_byte`
+abbrev pub TryReceive : {E : Type 0} → Result ℕ E → Language
+TryReceive (Ok byte) = Hit byte
+TryReceive (Err e) = Miss
+
+-- `receive_bytes` into n slots: these bytes fill all slots, or a miss follows them
+abbrev pub Receives : ℕ → List ℕ → Language
+Receives n bytes s l = ((length bytes ≡ n) × InOrder Hit bytes s l) ⊎ ((length bytes < n) × Then (InOrder Hit bytes) Miss s l)
+
+-- a byte, after fewer misses in a row than the limit
+abbrev pub Awaited : ℕ → Language
+Awaited byte = Then (FewMisses Miss) (Hit byte)
+
+-- a wait for one byte: it came, or there were as many misses as the limit
+abbrev pub Awaits : Option ℕ → Language
+Awaits (Some byte) = Awaited byte
+Awaits None = AllMisses Miss
+
+-- a wait for bytes into n slots: some came, or there were as many misses as the limit
+abbrev pub ReceivesSome : ℕ → List ℕ → Bool → Language
+ReceivesSome n bytes true s l = (0 < length bytes) × Then (FewMisses Miss) (Receives n bytes) s l
+ReceivesSome n bytes false s l = (length bytes ≡ 0) × AllMisses Miss s l
+
+-- the bytes that an exact call put into its slots
+abbrev pub filled : {T : Type 0} → Result T StalledError → List ℕ → List ℕ
+filled (Ok x) slots = slots
+filled (Err e) slots = take e.done slots
+
+-- `receive_bytes_exact` into n slots: all are filled, each after its own wait; or those so far, and then a wait in vain
+abbrev pub ReceivesExact : {T : Type 0} → ℕ → List ℕ → Result T StalledError → Language
+ReceivesExact n bytes (Ok x) s l = (length bytes ≡ n) × InOrder Awaited bytes s l
+ReceivesExact n bytes (Err e) s l = (length bytes < n) × (e.done ≡ length bytes) × Then (InOrder Awaited bytes) (AllMisses Miss) s l

@@ -1,0 +1,79 @@
+-- The lists of the register calls, and the register dump.
+use Rattle.std.specs.Prelude.{◌≡◌, ℕ, true, false, List, [], ◌∷◌, ◌++◌, ◌+◌, ◌*◌, Result, Ok, Err}
+use Rattle.std.specs.Int.RustNames.{bit_and, bit_or}
+use Rattle.bitflags.specs.Sets.{without}
+use Rattle.uart_spec.specs.Bits.{has}
+use Rattle.uart_spec.specs.Baud.{IsBaudRateAnswer}
+use Rattle.uart_spec.specs.BaudRate.{to_integer, IsNamed}
+use Rattle.uart_spec.specs.declared.config.Config.{Config}
+use Rattle.uart_spec.specs.declared.config.BaudRate.{BaudRate}
+use Rattle.uart_spec.specs.declared.errors.NonIntegerBaudRateError.{NonIntegerBaudRateError}
+use Rattle.uart_spec.specs.declared.errors.RemoteReadyToReceiveError.{RemoteReadyToReceiveError}
+use Rattle.uart_spec.specs.declared.errors.RemoteReadyToReceiveError.TheVariants.{NoRemoteConnectedNoDSR, NoRemoteConnectedNoCD, RemoteNotClearToSend}
+use Rattle.uart_16550.specs.Access.{Access, Read, Write}
+use Rattle.uart_16550.specs.Grammar.{Language}
+use Rattle.uart_16550.specs.Driver.{Fields, Doing, saving, with_saved, with_interrupts}
+use Rattle.uart_16550.specs.declared.dump.ConfigRegisterDump.{ConfigRegisterDump}
+
+-- `lsr`: one read, answered joined with the saved bits, which are then none
+abbrev pub TakesLsr : ℕ → Doing
+TakesLsr result f l after = (status : ℕ) × (l ≡ Read 5 status ∷ []) × (result ≡ bit_or status f.lsr) × (after ≡ with_saved 0 f.msr f)
+
+-- `msr` likewise
+abbrev pub TakesMsr : ℕ → Doing
+TakesMsr result f l after = (status : ℕ) × (l ≡ Read 6 status ∷ []) × (result ≡ bit_or status f.msr) × (after ≡ with_saved f.lsr 0 f)
+
+-- DSR and CTS are set, or the one told is clear
+abbrev pub ShowsConnection : {T : Type 0} → Result T RemoteReadyToReceiveError → ℕ → Type 0
+ShowsConnection (Ok x) status = (has status 32 ≡ true) × (has status 16 ≡ true)
+ShowsConnection (Err NoRemoteConnectedNoDSR) status = has status 32 ≡ false
+ShowsConnection (Err NoRemoteConnectedNoCD) status = ⊥
+ShowsConnection (Err RemoteNotClearToSend) status = (has status 32 ≡ true) × (has status 16 ≡ false)
+
+-- `check_connected`: one read of MSR
+abbrev pub Connects : {T : Type 0} → Result T RemoteReadyToReceiveError → Language
+Connects result s l = (status : ℕ) × ShowsConnection result status × (l ≡ Read 6 status ∷ [])
+
+-- the divisor latch is read under DLAB, and LCR written back
+abbrev pub divisor_accesses : (lcr low high : ℕ) → List Access
+divisor_accesses lcr low high = Read 3 lcr ∷ Write 3 (bit_or lcr 128) ∷ Read 0 low ∷ Read 1 high ∷ Write 3 lcr ∷ []
+
+-- `dll_dlm`
+abbrev pub ReadsDivisor : (low high : ℕ) → Language
+ReadsDivisor low high s l = (lcr : ℕ) × (l ≡ divisor_accesses lcr low high)
+
+-- the interrupts are stored in the configuration and written
+abbrev pub StoresInterrupts : ℕ → Doing
+StoresInterrupts bits f l after = (l ≡ Write 1 bits ∷ []) × (after ≡ with_interrupts bits f)
+
+-- `enable_interrupts`, `disable_interrupts`: IER is read, and what it becomes is stored and written
+abbrev pub Enables : ℕ → Doing
+Enables bits f l after = (ier : ℕ) × (l ≡ Read 1 ier ∷ Write 1 (bit_or ier bits) ∷ []) × (after ≡ with_interrupts (bit_or ier bits) f)
+
+abbrev pub Disables : ℕ → Doing
+Disables bits f l after = (ier : ℕ) × (l ≡ Read 1 ier ∷ Write 1 (without 8 ier bits) ∷ []) × (after ≡ with_interrupts (without 8 ier bits) f)
+
+-- the seven registers after the divisor latch, in this order
+abbrev pub dump_reads : (lsr msr : ℕ) → ConfigRegisterDump → List Access
+dump_reads lsr msr dump = Read 1 dump.ier.0 ∷ Read 2 dump.isr.0 ∷ Read 3 dump.lcr.0 ∷ Read 4 dump.mcr.0 ∷ Read 5 lsr ∷ Read 6 msr ∷ Read 7 dump.spr ∷ []
+
+-- `config_register_dump`: what was read, LSR and MSR joined with the saved bits, which stay
+pub record Dumps (dump : ConfigRegisterDump) (f : Fields) (l : List Access) (after : Fields) : Type 0 where
+  pub lcr : ℕ
+  pub lsr : ℕ
+  pub msr : ℕ
+  pub is : l ≡ divisor_accesses lcr dump.dll dump.dlm ++ dump_reads lsr msr dump
+  pub shows_lsr : dump.lsr.0 ≡ bit_or lsr f.lsr
+  pub shows_msr : dump.msr.0 ≡ bit_or msr f.msr
+  pub keeps : after ≡ saving f l
+
+-- the divisor that a dump shows
+abbrev pub divisor_of : ConfigRegisterDump → ℕ
+divisor_of dump = 256 * dump.dlm + dump.dll
+
+-- the baud rate that a dump's divisor gives, as the case with a name where there is one; or that no whole one is given
+abbrev pub IsDumpRate : Config → ConfigRegisterDump → Result BaudRate NonIntegerBaudRateError → Type 0
+IsDumpRate config dump (Ok rate) =
+    IsBaudRateAnswer config.frequency (divisor_of dump) config.prescaler_division_factor (Ok (to_integer rate))
+    × ((named : BaudRate) → IsNamed named → to_integer named ≡ to_integer rate → rate ≡ named)
+IsDumpRate config dump (Err e) = IsBaudRateAnswer config.frequency (divisor_of dump) config.prescaler_division_factor (Err e)

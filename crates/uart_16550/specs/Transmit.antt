@@ -1,0 +1,89 @@
+-- The lists of the sending calls.
+use Rattle.std.specs.Prelude.{◌≡◌, ◌<◌, ℕ, Bool, true, false, List, [], ◌∷◌, ◌+◌, Result, Ok, Err, Option, Some, None, length, ◌⊎◌, map, take, drop, min, if◌then◌else◌}
+use Rattle.uart_spec.specs.declared.errors.ByteSendError.{ByteSendError}
+use Rattle.uart_spec.specs.declared.errors.ByteSendError.TheVariants.{NoCapacity, RemoteNotClearToSend}
+use Rattle.uart_spec.specs.declared.errors.StalledError.{StalledError}
+use Rattle.uart_16550.specs.Access.{Access, Read, Write}
+use Rattle.uart_16550.specs.Grammar.{Language, Settings, Only, Then, InOrder, FewMisses, AllMisses, Asks, IfChecks, Never}
+
+-- the modem lines allow to send or forbid it: in loopback they mean nothing
+abbrev pub LinesAllow : Bool → Language
+LinesAllow allowed s l = ((allowed ≡ true) × Asks 4 16 true s l) ⊎ Then (Asks 4 16 false) (Asks 6 16 allowed) s l
+
+-- a send check that hits: the holding register is empty, and with CTS checking the remote is clear to send
+abbrev pub SendHit : Language
+SendHit = IfChecks (Then (Asks 5 32 true) (LinesAllow true)) (Asks 5 32 true)
+
+-- a send check that misses for this reason
+abbrev pub SendRefused : ByteSendError → Language
+SendRefused NoCapacity = Asks 5 32 false
+SendRefused RemoteNotClearToSend = IfChecks (Then (Asks 5 32 true) (LinesAllow false)) Never
+
+-- a send check that misses
+abbrev pub SendMiss : Language
+SendMiss s l = (e : ByteSendError) × SendRefused e s l
+
+-- `ready_to_send`
+abbrev pub ReadyToSend : {T : Type 0} → Result T ByteSendError → Language
+ReadyToSend (Ok x) = SendHit
+ReadyToSend (Err e) = SendRefused e
+
+-- a write of each byte to DATA
+abbrev pub data_writes : List ℕ → List Access
+data_writes bytes = map (λ byte. Write 0 byte) bytes
+
+-- a send check that hits, and these bytes written
+abbrev pub Burst : List ℕ → Language
+Burst bytes = Then SendHit (Only (data_writes bytes))
+
+-- how many bytes one burst may take: a FIFO's 16, or the holding register's one
+abbrev pub burst_limit : Bool → ℕ
+burst_limit fifo = if fifo then 16 else 1
+
+-- how many of these bytes one burst takes
+abbrev pub burst_size : Settings → List ℕ → ℕ
+burst_size s bytes = min (length bytes) (burst_limit s.fifo)
+
+-- `send_bytes`: no bytes are none; else a check that misses, or one burst from the front
+abbrev pub Sends : List ℕ → ℕ → Language
+Sends bytes k s l =
+    ((length bytes ≡ 0) × (k ≡ 0) × (l ≡ []))
+    ⊎ ((0 < length bytes) × (k ≡ 0) × SendMiss s l)
+    ⊎ ((0 < length bytes) × (k ≡ burst_size s bytes) × Burst (take k bytes) s l)
+
+-- a burst, after fewer misses in a row than the limit
+abbrev pub Round : List ℕ → Language
+Round bytes = Then (FewMisses SendMiss) (Burst bytes)
+
+-- a wait for one burst: k of the bytes were sent, or there were as many misses as the limit
+abbrev pub SendsSome : List ℕ → Option ℕ → Language
+SendsSome bytes (Some k) s l = (k ≡ burst_size s bytes) × Round (take k bytes) s l
+SendsSome bytes None s l = AllMisses SendMiss s l
+
+-- these pieces were cut from the front of the bytes, each what one burst takes, and this is the rest
+abbrev pub IsCut : Settings → List ℕ → List (List ℕ) → List ℕ → Type 0
+IsCut s bytes [] rest = rest ≡ bytes
+IsCut s bytes (piece ∷ pieces) rest =
+    (0 < length bytes) × (piece ≡ take (burst_size s bytes) bytes) × IsCut s (drop (burst_size s bytes) bytes) pieces rest
+
+-- all of the bytes are sent, burst by burst
+abbrev pub SendsAll : List ℕ → Language
+SendsAll bytes s l = (pieces : List (List ℕ)) × IsCut s bytes pieces [] × InOrder Round pieces s l
+
+-- `send_bytes_exact`: all is sent; or what comes before a rest, burst by burst, and then a wait in vain
+abbrev pub SendsExact : {T : Type 0} → List ℕ → Result T StalledError → Language
+SendsExact bytes (Ok x) s l = SendsAll bytes s l
+SendsExact bytes (Err e) s l =
+    (pieces : List (List ℕ)) × (rest : List ℕ) × IsCut s bytes pieces rest × (0 < length rest) × (e.done + length rest ≡ length bytes)
+    × Then (InOrder Round pieces) (AllMisses SendMiss) s l
+
+-- `try_send_byte`: the `send_bytes` of one byte
+abbrev pub TrySends : {T : Type 0} → ℕ → Result T ByteSendError → Language
+TrySends byte (Ok x) = Sends (byte ∷ []) 1
+TrySends byte (Err NoCapacity) = Sends (byte ∷ []) 0
+TrySends byte (Err RemoteNotClearToSend) = Never
+
+-- a wait for these bits of LSR: fewer looks without them than the limit and then one with them; or as many in vain
+abbrev pub Waits : ℕ → Bool → Language
+Waits bits true = Then (FewMisses (Asks 5 bits false)) (Asks 5 bits true)
+Waits bits false = AllMisses (Asks 5 bits false)

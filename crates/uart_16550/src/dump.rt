@@ -1,0 +1,69 @@
+//! The register dump.
+ghost use Rattle.std.specs.Prelude.{◌≡◌, ◌<◌, ◌≤◌};
+ghost use Rattle.uart_spec.specs.Baud.{prescaler};
+ghost use Rattle.uart_16550.specs.Status.{divisor_of, IsDumpRate};
+
+use uart_spec::registers::{DLL, DLM, IER, ISR, LCR, LSR, MCR, MSR, SPR};
+use uart_spec::{BaudRate, Config, NonIntegerBaudRateError, calc_baud_rate};
+
+/// What the registers of a device showed, one after another.
+///
+/// Its default has all bits clear.
+#[derive(Clone, Debug, Default, PartialEq, Eq, PartialOrd, Ord, Hash, Drop)]
+pub struct ConfigRegisterDump {
+    /// The interrupt enable register.
+    pub ier: IER,
+    /// The interrupt status register, also called IIR.
+    pub isr: ISR,
+    /// The line control register.
+    pub lcr: LCR,
+    /// The modem control register.
+    pub mcr: MCR,
+    /// The line status register, joined with the bits that the driver had saved.
+    pub lsr: LSR,
+    /// The modem status register, joined with the bits that the driver had saved.
+    pub msr: MSR,
+    /// The scratch register.
+    pub spr: SPR,
+    /// The low byte of the divisor latch.
+    pub dll: DLL,
+    /// The high byte of the divisor latch.
+    pub dlm: DLM,
+}
+
+impl ConfigRegisterDump {
+    /// The divisor that the latch holds, 0 to 65535.
+    pub fn divisor(&self) -> u16
+        ensures { result ≡ divisor_of self.now }
+    {
+        256 * self.dlm as u16 + self.dll as u16
+    }
+
+    /// The baud rate that the divisor gives at the configuration's frequency and prescaler: the case with a name, where there
+    /// is one. The configuration's own baud rate does not matter; its frequency must not be 0, and its prescaler division
+    /// factor absent or at most 15.
+    ///
+    /// # Errors
+    ///
+    /// `NonIntegerBaudRateError` where the divisor is 0, or the rate is not whole.
+    pub fn baud_rate(&self, config: &Config) -> Result<BaudRate, NonIntegerBaudRateError>
+        requires frequency { 0 < config.now.frequency }
+        requires prescaler { prescaler config.now.prescaler_division_factor ≤ 15 }
+        ensures { IsDumpRate config.now self.now result }
+    {
+        let frequency = config.frequency;
+        let prescaler_division_factor = config.prescaler_division_factor;
+        let divisor = self.divisor() as u32;
+        if divisor == 0 {
+            return Err(NonIntegerBaudRateError {
+                frequency,
+                divisor,
+                prescaler_division_factor,
+            });
+        }
+        match calc_baud_rate(frequency, divisor, prescaler_division_factor) {
+            Ok(rate) => Ok(BaudRate::from_integer(rate)),
+            Err(error) => Err(error),
+        }
+    }
+}

@@ -1,0 +1,74 @@
+//! The backend at I/O ports.
+ghost use Rattle.std.specs.Prelude.{◌≡◌, ◌+◌, ◌<◌, IfOk, IfErr};
+ghost use Rattle.uart_16550.specs.Pio.{IsPortBase, IsAtPorts, IsPortRefusal, PortStep};
+
+use crate::backend::{Backend, PortAccess};
+use std::marker::Model;
+use uart_spec::InvalidAddressError;
+use uart_spec::registers::offsets;
+
+/// A device whose eight registers lie at eight I/O ports in a row.
+///
+/// An access of a register is one access of the port `base + offset`, and of no other.
+#[derive(Clone, Debug, PartialEq, Eq, PartialOrd, Hash, Drop)]
+pub struct PioBackend<P> {
+    base: u16,
+    pub(crate) access: P,
+}
+
+impl<P> Model for PioBackend<P> {
+    ghost use Rattle.uart_16550.specs.Pio.{Ports, IsPortBase};
+
+    ghost Value = { Ports P };
+
+    ghost view = { λ b. record { base = b.base; access = b.access } };
+
+    ghost invariant = { λ b. IsPortBase b.base };
+
+    ghost inverse = { λ p. record { base = p.base; access = p.access } };
+}
+
+impl<P: PortAccess> PioBackend<P> {
+    // The backend from this port on, unless the last register would lie beyond the last port.
+    pub(crate) fn new(base: u16, access: P) -> Result<Self, InvalidAddressError>
+    where
+        P: Drop,
+        ensures ok { IfOk result (λ ports. IsAtPorts ports base access) }
+        ensures refused { IfErr result (IsPortRefusal base) }
+    {
+        if base.checked_add(offsets::SPR as u16).is_none() {
+            return Err(InvalidAddressError::InvalidBaseAddress(base as usize));
+        }
+        Ok(PioBackend { base, access })
+    }
+
+    /// The port of the first register.
+    pub fn base(&self) -> u16
+        ensures value { result ≡ self.now.base }
+        ensures in_range { IsPortBase result }
+    {
+        self.base
+    }
+
+    // The port of a register.
+    fn port(&self, register_offset: u8) -> u16
+        requires { register_offset < 8 }
+        ensures { result ≡ self.now.base + register_offset }
+    {
+        self.base + register_offset as u16
+    }
+}
+
+impl<P: PortAccess> Backend for PioBackend<P> {
+    ghost step = { PortStep P.step };
+
+    fn read(&mut self, register_offset: u8) -> u8 {
+        let port = self.port(register_offset);
+        self.access.port_in(port)
+    }
+
+    fn write(&mut self, register_offset: u8, value: u8) {
+        let port = self.port(register_offset);
+        self.access.port_out(port, value);
+    }
+}

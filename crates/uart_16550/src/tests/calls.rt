@@ -1,0 +1,145 @@
+//! The calls of a driver that is initialised, and of one that is not.
+use super::devices::Entry::{Read, Write};
+use super::devices::{Constant, Listed, RegisterFile, driver, impatient};
+use super::examples::Memory;
+use crate::backend::Backend;
+use crate::spec::registers::{IER, ISR, LCR, LSR, MCR, MSR};
+use crate::spec::{BaudRate, Config, StalledError};
+use crate::{ConfigRegisterDump, Uart16550, embedded_io};
+use bitflags::Flags;
+use std::num::NonZeroUsize;
+use std::test::Fail;
+
+#[test]
+fn send_bytes_exact_sends_all(rt: HostRuntime) {
+    for has_fifos in [true, false] {
+        let mut uart = driver(RegisterFile::new(has_fifos));
+        assert_eq!(rt; uart.init(Config::DEFAULT), Ok(()));
+        assert_eq!(rt; uart.send_bytes_exact(b"hello"), Ok(()));
+        assert_eq!(rt; uart.backend().device.sent.as_slice(), b"hello".as_slice());
+    }
+}
+
+#[test]
+fn registers_are_shown(rt: HostRuntime) {
+    let mut uart = driver(RegisterFile::new(true));
+    uart.backend_mut().write(7, 0x5a);
+    assert!(rt; uart.check_present());
+    assert_eq!(rt; uart.init(Config::DEFAULT), Ok(()));
+    let shown = ConfigRegisterDump {
+        ier: IER::empty(),
+        isr: ISR::from_bits_retain(0xc1),
+        lcr: LCR::from_bits_retain(0x03),
+        mcr: MCR::from_bits_retain(0x0b),
+        lsr: LSR::from_bits_retain(0x60),
+        msr: MSR::empty(),
+        spr: 0x5a,
+        dll: 12,
+        dlm: 0,
+    };
+    assert_eq!(rt; uart.config_register_dump(), shown);
+    assert_eq!(rt; shown.divisor(), 12);
+    assert_eq!(rt; uart.dll_dlm(), (12, 0));
+    assert_eq!(rt; uart.ier(), shown.ier);
+    assert_eq!(rt; uart.isr(), shown.isr);
+    assert_eq!(rt; uart.lcr(), shown.lcr);
+    assert_eq!(rt; uart.mcr(), shown.mcr);
+    assert_eq!(rt; uart.lsr(), shown.lsr);
+    assert_eq!(rt; uart.msr(), shown.msr);
+    assert_eq!(rt; uart.spr(), shown.spr);
+    assert_eq!(rt; uart.ready_to_send(), Ok(()));
+    assert_eq!(rt; uart.try_send_byte(b'h'), Ok(()));
+    assert!(rt; uart.ready_to_receive().is_err());
+}
+
+#[test]
+fn interrupts_are_enabled_and_disabled(rt: HostRuntime) {
+    let mut uart = driver(RegisterFile::new(true));
+    let config = Config {
+        interrupts: IER::DATA_READY,
+        ..Config::DEFAULT
+    };
+    assert_eq!(rt; uart.init(config), Ok(()));
+    uart.enable_interrupts(IER::THR_EMPTY);
+    assert_eq!(rt;
+        uart.config().interrupts,
+        IER::DATA_READY.union(IER::THR_EMPTY)
+    );
+    uart.disable_interrupts(IER::DATA_READY);
+    assert_eq!(rt; uart.ier(), IER::THR_EMPTY);
+    assert_eq!(rt; uart.config().interrupts, IER::THR_EMPTY);
+}
+
+#[test]
+fn plain_memory_shows_the_divisor(rt: HostRuntime) -> Result<(), Fail> {
+    for stride in [4, 1] {
+        let mut cells = [0; 32];
+        cells[5 * stride] = 0x40;
+        let base = NonZeroUsize::new(0x1000).unwrap();
+        let mut uart = Uart16550::new_mmio(base, stride as u8, Memory(cells))?;
+        let config = Config {
+            baud_rate: BaudRate::Baud38400,
+            ..Config::DEFAULT
+        };
+        uart.init(config)?;
+        assert_eq!(rt; uart.config_register_dump().dll, 3);
+    }
+    Ok(())
+}
+
+#[test]
+fn receive_bytes_takes_what_comes(rt: HostRuntime) {
+    let mut uart = impatient(Constant(0xff));
+    let mut slots = [0; 3];
+    assert_eq!(rt; uart.receive_bytes(&mut slots), 3);
+    assert_eq!(rt; slots, [0xff; 3]);
+    let looks = [Read(5, 0xff), Read(0, 0xff)];
+    assert_eq!(rt;
+        uart.backend().log.as_slice(),
+        [looks, looks, looks].as_flattened()
+    );
+    assert_eq!(rt; uart.lsr(), LSR::all());
+    assert_eq!(rt; uart.try_receive_byte(), Ok(0xff));
+    assert_eq!(rt; uart.receive_bytes_exact(&mut slots), Ok(()));
+    assert_eq!(rt; uart.check_connected(), Ok(()));
+}
+
+#[test]
+fn waits_end_at_the_limit(rt: HostRuntime) {
+    let mut uart = impatient(Constant(0x00));
+    let stall = StalledError { done: 0 };
+    assert_eq!(rt; embedded_io::Write::flush(&mut uart), Err(stall));
+    assert_eq!(rt;
+        uart.backend().log.as_slice(),
+        [Read(5, 0x00); 3].as_slice()
+    );
+    assert!(rt; embedded_io::Write::write(&mut uart, b"hello").is_err());
+    assert_eq!(rt; uart.backend().log.len(), 6);
+    assert!(rt; uart.send_bytes_exact(b"hello").is_err());
+    assert_eq!(rt; uart.backend().log.len(), 9);
+    let mut slots = [0; 3];
+    assert!(rt; embedded_io::Read::read(&mut uart, &mut slots).is_err());
+    assert_eq!(rt; uart.backend().log.len(), 12);
+    assert!(rt; uart.receive_bytes_exact(&mut slots).is_err());
+    assert_eq!(rt;
+        uart.backend().log.as_slice(),
+        [Read(5, 0x00); 15].as_slice()
+    );
+}
+
+#[test]
+fn send_bytes_exact_stalls_after_a_burst(rt: HostRuntime) {
+    let mut uart = impatient(Listed(&[0x00, 0x00, 0x20]));
+    let stall = StalledError { done: 16 };
+    assert_eq!(rt; uart.send_bytes_exact(b"hello, world! 123"), Err(stall));
+    let log = uart.backend().log.as_slice();
+    assert_eq!(rt; log.len(), 22);
+    assert_eq!(rt;
+        &log[..3],
+        [Read(5, 0x00), Read(5, 0x00), Read(5, 0x20)].as_slice()
+    );
+    for (entry, byte) in log[3..19].iter().zip(b"hello, world! 12") {
+        assert_eq!(rt; *entry, Write(0, *byte));
+    }
+    assert_eq!(rt; &log[19..], [Read(5, 0x00); 3].as_slice());
+}
