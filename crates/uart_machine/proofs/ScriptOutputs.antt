@@ -1,0 +1,62 @@
+-- From a script's calls to what is printed for it.
+use Rattle.std.proofs.Common.{◌≡◌, ◌<◌, ◌+◌, ℕ, List, [], ◌∷◌, ◌++◌, length, map, take, get_or, Option, Some, None, inl, inr, refl, sym, ◌∙◌, ap, arith, slice_get}
+use Rattle.std.proofs.lemmas.List.{take_more, get_or-map, length-map}
+use Rattle.std.proofs.lemmas.Option.{slice_get_cases}
+use Rattle.uart_machine.specs.declared.call.Call.{Call}
+use Rattle.uart_machine.specs.declared.call.Call.TheVariants as call
+use Rattle.uart_machine.specs.declared.call.Answer.{Answer}
+use Rattle.std.specs.Prelude.{All}
+use Rattle.uart_machine.specs.Calls.{IsRunnable}
+use Rattle.uart_machine.specs.ScriptLines.{plain}
+use Rattle.uart_machine.specs.Run.{State, CallStep, Link, Chain, calls_of, answers_of, IsRun}
+use Rattle.uart_machine.specs.Session.{Ran}
+
+-- one item more
+pub take_got : {A : Type 0} (xs : List A) (i : ℕ) (x : A) → slice_get xs i ≡ Some x → take (i + 1) xs ≡ take i xs ++ x ∷ []
+take_got xs i x got =
+    elim (slice_get_cases xs i).1 [
+      | inl h ↦ let same : h.0 ≡ x = cc in rw (take_more xs i h.0 h.1, h.3, same) refl
+      | inr h ↦ absurd (cc)
+    ]
+
+pub never_none : {A : Type 0} (xs : List A) (i : ℕ) → i < length xs → slice_get xs i ≡ None → ⊥
+never_none xs i within none =
+    elim (slice_get_cases xs i).1 [ inl h ↦ cc | inr h ↦ omega arith ]
+
+-- the unused room of a text makes no difference to whether a call can run, nor to what it does
+pub runnable_plain : (c : Call) → IsRunnable (plain c) → IsRunnable c
+runnable_plain (call.Text text) h = tt
+runnable_plain c h = h
+
+pub all_runnable : (calls plans : List Call) → map plain calls ≡ plans → All IsRunnable plans → All IsRunnable calls
+all_runnable calls plans same all k d within =
+    let few : k < length plans = omega (arith, ap length same, length-map calls plain) in
+    let there = all k d few in
+    runnable_plain (get_or calls k d) (rw (← same, get_or-map plain calls k d d within) at there)
+
+step_plain : (s t : State) (c : Call) (a : Answer) → CallStep s c a t → CallStep s (plain c) a t
+step_plain s t (call.Text text) a h = h
+step_plain s t c a h = h
+
+abbrev pub plain_link : Link → Link
+plain_link l = record { before = l.before; call = plain l.call; answer = l.answer; after = l.after }
+
+chain_plain : (s t : State) (links : List Link) → Chain s links t → Chain s (map plain_link links) t
+chain_plain s t [] h = h
+chain_plain s t (l ∷ ls) h = (h.0, step_plain l.before l.after l.call l.answer h.1, chain_plain l.after t ls h.2)
+
+calls_plain : (links : List Link) → calls_of (map plain_link links) ≡ map plain (calls_of links)
+calls_plain [] = refl
+calls_plain (l ∷ ls) = ap (λ cs. plain l.call ∷ cs) (calls_plain ls)
+
+answers_plain : (links : List Link) → answers_of (map plain_link links) ≡ answers_of links
+answers_plain [] = refl
+answers_plain (l ∷ ls) = ap (λ answers. l.answer ∷ answers) (answers_plain ls)
+
+pub run_plain : (s t : State) (calls plans : List Call) (answers : List Answer) → map plain calls ≡ plans → Ran s calls answers t → IsRun s plans answers t
+run_plain s t calls plans answers same r = record {
+  links = map plain_link r.links;
+  chain = chain_plain s t r.links r.chain;
+  calls_same = calls_plain r.links ∙ ap (map plain) r.calls_same ∙ same;
+  answers_same = answers_plain r.links ∙ r.answers_same;
+}

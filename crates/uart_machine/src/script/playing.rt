@@ -1,0 +1,243 @@
+//! Plays a script from a reader to a writer.
+
+ghost use Rattle.std.specs.Prelude.{◌≡◌, ◌≤◌, ◌||◌, length, IfOk, IfErr, IfSome, OnOk, is_err};
+ghost use Rattle.std.specs.Io.KnownBytes.{Appends, IsAtEnd};
+ghost use Rattle.uart_machine.specs.declared.script.playing.PlayError.TheVariants.{OutOfMemory};
+ghost use Rattle.uart_machine.specs.Script.{plan_of, IsPlayable};
+ghost use Rattle.uart_machine.specs.Transmitter.{held};
+ghost use Rattle.uart_machine.specs.Machine.{fresh};
+ghost use Rattle.uart_machine.specs.Conserved.{waiting};
+ghost use Rattle.uart_machine.specs.Output.{printed};
+ghost use Rattle.uart_machine.specs.ScriptOutput.{IsFirst, IsOutput};
+ghost use Rattle.uart_machine.specs.Play.{ConsumesAtMost, is_read_fault, is_write_fault, IsWhole, IsReading, WritesFront, Outcome, WritesNothing, play_error};
+
+use super::cause::{Cause, ScriptError};
+use super::parsing::{MOST_BYTES, Script, parse};
+use super::rendering::render;
+use super::streams::{Fault, Input, Output};
+use crate::call::Answer;
+use crate::device::Device16550;
+use crate::event::ArrivalMark;
+use crate::running::run;
+use std::alloc::{AllocError, Global};
+use thiserror::Error;
+use uart_16550::{Uart16550, Uart16550Tty};
+
+/// Why a script was not played to its end.
+///
+/// Only at `WriteFault` was anything written: a beginning of the output.
+#[derive(Clone, Copy, Debug, PartialEq, Eq, Error)]
+pub enum PlayError {
+    /// The first faulty line, counted from 1, and what is wrong with it; line 0 for a script of too many bytes.
+    #[error("line {line}: {}", .cause.text())]
+    Refused { line: u32, cause: Cause },
+    /// The reader failed.
+    #[error("read fault")]
+    ReadFault,
+    /// The writer failed, or took nothing.
+    #[error("write fault")]
+    WriteFault,
+    /// The script, its machine or its output did not fit into memory.
+    #[error("out of memory")]
+    OutOfMemory,
+}
+
+impl From<ScriptError> for PlayError {
+    ghost from_gives = { λ e p. p ≡ play_error e };
+
+    fn from(error: ScriptError) -> PlayError {
+        match error {
+            ScriptError::Refused { line, cause } => PlayError::Refused { line, cause },
+            ScriptError::OutOfMemory => PlayError::OutOfMemory,
+        }
+    }
+}
+
+impl From<AllocError> for PlayError {
+    ghost from_gives = { λ _ p. p ≡ OutOfMemory };
+
+    fn from(_error: AllocError) -> PlayError {
+        PlayError::OutOfMemory
+    }
+}
+
+/// How many bytes are read at most: one more than the longest script has.
+const MOST_READ: usize = MOST_BYTES + 1;
+
+/// Reads to the end of the input, or `MOST_READ` bytes.
+fn read_all<R: Input>(alloc: Global, reader: &mut R) -> Result<Vec<u8>, PlayError>
+    ensures whole { IfOk result (λ text. IsWhole (R.remaining reader.old) (R.remaining reader.new) text.items) }
+    ensures most { ConsumesAtMost MOST_READ (R.remaining reader.old) (R.remaining reader.new) }
+    ensures fault { R.has_failed reader.new ≡ (R.has_failed reader.old || is_read_fault result) }
+    ensures kind { IfErr result IsReading }
+{
+    let mut text = Vec::new(alloc);
+    let mut chunk = [0u8; 512];
+    while text.len() < MOST_READ {
+        let room = (MOST_READ - text.len()).min(512);
+        match reader.read(&mut chunk[..room]) {
+            Err(_) => return Err(PlayError::ReadFault),
+            Ok(0) => return Ok(text),
+            Ok(count) => {
+                if text.extend_from_slice(&chunk[..count]).is_err() {
+                    return Err(PlayError::OutOfMemory);
+                }
+            }
+        }
+    }
+    Ok(text)
+}
+
+/// Writes all of the bytes.
+fn write_all<W: Output>(writer: &mut W, bytes: &[u8]) -> Result<(), Fault>
+    ensures all { OnOk result (Appends (W.contents writer.old) (W.contents writer.new) bytes.now) }
+    ensures front { WritesFront (W.contents writer.old) (W.contents writer.new) bytes.now }
+    ensures fault { W.has_failed writer.new ≡ (W.has_failed writer.old || is_err result) }
+{
+    let mut done = 0;
+    while done < bytes.len() {
+        match writer.write(&bytes[done..]) {
+            Err(_) => return Err(Fault),
+            Ok(0) => return Err(Fault),
+            Ok(count) => done += count,
+        }
+    }
+    Ok(())
+}
+
+// The script's machine.
+fn machine_for(alloc: Global, script: &Script) -> Result<Device16550, AllocError>
+    requires { IsPlayable (plan_of script.now) }
+    ensures { IfOk result (λ machine. machine ≡ fresh (plan_of script.now).chip (plan_of script.now).ticks (plan_of script.now).wire_capacity (plan_of script.now).events) }
+{
+    let schedule = script.events().to_vec(alloc)?;
+    let wire_capacity = script.wire_capacity();
+    match Device16550::new(
+        alloc,
+        script.chip(),
+        script.ticks(),
+        wire_capacity,
+        schedule,
+    ) {
+        Ok(machine) => Ok(machine),
+        Err(_) => Err(AllocError),
+    }
+}
+
+// The script's machine under a new driver with the script's limit.
+fn terminal_for(alloc: Global, script: &Script) -> Result<Uart16550Tty<Device16550>, AllocError>
+    requires { IsPlayable (plan_of script.now) }
+    ensures { IfOk result (λ terminal. IsFirst (plan_of script.now) terminal) }
+{
+    let mut uart = Uart16550::new_with_backend(machine_for(alloc, script)?);
+    uart.set_spin_limit(script.limit());
+    Ok(Uart16550Tty::from_inner(uart))
+}
+
+// As many answers as there are calls, for `run` to fill.
+fn empty_answers(alloc: Global, count: usize) -> Result<Vec<Answer>, AllocError>
+    ensures { IfOk result (λ answers. length answers.items ≡ count) }
+{
+    let mut answers = Vec::new(alloc);
+    for _i in 0..count {
+        answers.push(Answer::Done)?;
+    }
+    Ok(answers)
+}
+
+// The bytes that are still to leave, the shift place first.
+fn held_of(alloc: Global, machine: &Device16550) -> Result<Vec<u8>, AllocError>
+    ensures { IfOk result (λ bytes. bytes.items ≡ held machine.now.chip.transmitter) }
+{
+    let mut bytes = Vec::new(alloc);
+    for i in 0..machine.held_len() {
+        match machine.held_at(i) {
+            Some(byte) => bytes.push(byte)?,
+            None => unreachable!(),
+        }
+    }
+    Ok(bytes)
+}
+
+// The bytes that wait to be received.
+fn waiting_of(alloc: Global, machine: &Device16550) -> Result<Vec<u8>, AllocError>
+    ensures { IfOk result (λ bytes. bytes.items ≡ waiting machine.now) }
+{
+    let mut bytes = Vec::new(alloc);
+    for i in 0..machine.waiting_len() {
+        match machine.waiting_at(i) {
+            Some(byte) => bytes.push(byte)?,
+            None => unreachable!(),
+        }
+    }
+    Ok(bytes)
+}
+
+// What became of each arrival.
+fn marks_of(alloc: Global, machine: &Device16550) -> Result<Vec<ArrivalMark>, AllocError>
+    ensures { IfOk result (λ marks. marks.items ≡ machine.now.chip.receiver.marks) }
+{
+    let mut marks = Vec::new(alloc);
+    for i in 0..machine.arrivals() {
+        match machine.mark(i) {
+            Some(mark) => marks.push(mark)?,
+            None => unreachable!(),
+        }
+    }
+    Ok(marks)
+}
+
+// What is printed for answers and the last machine.
+fn printed_for(
+    alloc: Global,
+    answers: &[Answer],
+    machine: &Device16550,
+) -> Result<Vec<u8>, AllocError>
+    ensures { IfOk result (λ output. output.items ≡ printed answers.now machine.now.chip.transmitter.wire (held machine.now.chip.transmitter) (waiting machine.now) machine.now.chip.receiver.marks) }
+{
+    let held = held_of(alloc, machine)?;
+    let waiting = waiting_of(alloc, machine)?;
+    let marks = marks_of(alloc, machine)?;
+    render(alloc, answers, machine.wire(), &held, &waiting, &marks)
+}
+
+// Runs a script, and tells what is printed for it.
+fn output_for(alloc: Global, script: &Script) -> Result<Vec<u8>, AllocError>
+    requires { IsPlayable (plan_of script.now) }
+    ensures { IfOk result (λ output. IsOutput (plan_of script.now) output.items) }
+{
+    let mut terminal = terminal_for(alloc, script)?;
+    let calls = script.calls();
+    let mut answers = empty_answers(alloc, calls.len())?;
+    run(&mut terminal, calls, &mut answers);
+    let output = printed_for(alloc, &answers, terminal.inner().backend())?;
+    Ok(output)
+}
+
+/// Reads a script, plays it and writes its output.
+///
+/// The output is built as a whole before any of it is written.
+pub fn play<R: Input, W: Output>(
+    alloc: Global,
+    reader: &mut R,
+    writer: &mut W,
+) -> Result<(), PlayError>
+    // What an input comes to, where its bytes are known.
+    ensures outcome { IfSome (R.remaining reader.old) (λ input. Outcome input result (W.contents writer.old) (W.contents writer.new)) }
+    ensures whole { OnOk result (IsAtEnd (R.remaining reader.new)) }
+    ensures most { ConsumesAtMost MOST_READ (R.remaining reader.old) (R.remaining reader.new) }
+
+    ensures nothing { WritesNothing result (W.contents writer.old) (W.contents writer.new) }
+
+    // A read fault comes exactly where the reader failed, a write fault exactly where the writer did.
+    ensures reader_fault { R.has_failed reader.new ≡ (R.has_failed reader.old || is_read_fault result) }
+    ensures writer_fault { W.has_failed writer.new ≡ (W.has_failed writer.old || is_write_fault result) }
+{
+    let text = read_all(alloc, reader)?;
+    let script = parse(alloc, &text)?;
+    let output = output_for(alloc, &script)?;
+    match write_all(writer, &output) {
+        Ok(()) => Ok(()),
+        Err(_) => Err(PlayError::WriteFault),
+    }
+}

@@ -1,0 +1,108 @@
+//! Where a script comes from, and where its output goes.
+
+ghost use Rattle.std.specs.Prelude.{◌≡◌, ◌≤◌, ◌||◌, Option, List, ℕ, Bool, false, length, IfOk, is_err};
+ghost use Rattle.std.specs.Io.KnownBytes.{ReadConsumes, WriteAppends};
+ghost use Rattle.uart_machine.specs.Play.{takes_none};
+
+use std::io::{Read, Write};
+use thiserror::Error;
+
+/// A read or a write failed.
+#[derive(Clone, Copy, Debug, PartialEq, Eq, Error)]
+#[error("a read or a write failed")]
+pub struct Fault;
+
+/// A reader whose contracts tell its bytes, where they are known, and whether it has failed.
+pub trait Input {
+    // The bytes that reads will give from here on, where they are known.
+    ghost remaining: { Self → Option (List ℕ) };
+
+    // Whether a read has failed.
+    ghost has_failed: { Self → Bool };
+
+    /// Fills the front of the buffer and answers how many bytes that are.
+    ///
+    /// `Ok(0)` at a buffer that isn't empty is the end of the input.
+    fn read(&mut self, buf: &mut [u8]) -> Result<usize, Fault>
+        ensures bound { IfOk result (λ n. n ≤ length buf.new) }
+        ensures bytes { ReadConsumes (remaining self.old) (remaining self.new) result buf.new }
+        ensures fault { has_failed self.new ≡ (has_failed self.old || is_err result) };
+}
+
+/// A writer whose contracts tell its bytes, where they are known, and whether it has failed.
+pub trait Output {
+    // The bytes that the writer holds, where they are known.
+    ghost contents: { Self → Option (List ℕ) };
+
+    // Whether a write has failed: answered an error, or taken nothing of something.
+    ghost has_failed: { Self → Bool };
+
+    /// Takes a front of the bytes and answers how many that are; an error takes none.
+    fn write(&mut self, bytes: &[u8]) -> Result<usize, Fault>
+        ensures bound { IfOk result (λ n. n ≤ length bytes.now) }
+        ensures bytes { WriteAppends (contents self.old) (contents self.new) result bytes.now }
+        ensures fault { has_failed self.new ≡ (has_failed self.old || takes_none result bytes.now) };
+}
+
+/// A reader or a writer of std.
+#[derive(Drop)]
+pub struct Std<T> {
+    inner: T,
+    failed: bool,
+}
+
+impl<T> Std<T> {
+    ghost use Rattle.uart_machine.specs.Play.{std_inner, std_has_failed};
+
+    /// The reader or writer, which has not failed.
+    pub fn new(inner: T) -> Self
+        ensures inner { std_inner result ≡ inner }
+        ensures works { std_has_failed result ≡ false }
+    {
+        Std {
+            inner,
+            failed: false,
+        }
+    }
+}
+
+impl<T: Read> Input for Std<T> {
+    ghost use Rattle.uart_machine.specs.Play.{std_inner, std_has_failed};
+
+    ghost remaining = { λ s. T.remaining (std_inner s) };
+
+    ghost has_failed = { λ s. std_has_failed s };
+
+    fn read(&mut self, buf: &mut [u8]) -> Result<usize, Fault> {
+        match self.inner.read(buf) {
+            Ok(count) => Ok(count),
+            Err(_) => {
+                self.failed = true;
+                Err(Fault)
+            }
+        }
+    }
+}
+
+impl<T: Write> Output for Std<T> {
+    ghost use Rattle.uart_machine.specs.Play.{std_inner, std_has_failed};
+
+    ghost contents = { λ s. T.contents (std_inner s) };
+
+    ghost has_failed = { λ s. std_has_failed s };
+
+    fn write(&mut self, bytes: &[u8]) -> Result<usize, Fault> {
+        match self.inner.write(bytes) {
+            Ok(count) => {
+                if count == 0 && !bytes.is_empty() {
+                    self.failed = true;
+                }
+                Ok(count)
+            }
+            Err(_) => {
+                self.failed = true;
+                Err(Fault)
+            }
+        }
+    }
+}

@@ -1,0 +1,193 @@
+use super::{told, told_after_header};
+use crate::call::Call;
+use crate::event::{Chip, Event};
+use crate::script::parse;
+use arrayvec::{ArrayString, ArrayVec};
+use bitflags::Flags;
+use std::test::Fail;
+use uart_spec::registers::{FifoTriggerLevel, IER, WordLength};
+use uart_spec::{BaudRate, Config};
+
+#[test]
+fn faults_are_told(rt: HostRuntime) -> Result<(), Fail> {
+    for (lines, want) in [
+        ("limit 0", "line 2: bad number"),
+        ("\nlimit 5", "line 3: misplaced"),
+        ("wait 3", "line 2: unknown word"),
+        (" lsr", "line 2: unknown word"),
+        ("tick  4", "line 2: wrong count"),
+        ("init 14 0 nocts 00 8", "line 2: bad number"),
+        ("arrive 41 fp", "line 2: bad word"),
+        ("receive 65", "line 2: bad number"),
+        ("text ff", "line 2: bad text"),
+        ("lsr\t", "line 2: bad byte"),
+        ("send 4", "line 2: bad hex"),
+        ("lines g", "line 2: bad hex"),
+        ("chip 16450 4 64", "line 2: misplaced"),
+        ("lsr\nlsr 1\nwait", "line 3: wrong count"),
+        ("init 014 9600 nocts 00 8", "line 2: bad word"),
+        ("init 14 9600 maybe 0 9", "line 2: bad word"),
+        ("init 14 9600 cts 0 9", "line 2: bad hex"),
+        ("limit 99 99", "line 2: wrong count"),
+        ("LSR", "line 2: unknown word"),
+        ("lsr ", "line 2: wrong count"),
+        ("send ", "line 2: bad hex"),
+        ("tick +4", "line 2: bad number"),
+        ("tick 00000000004", "line 2: bad number"),
+    ] {
+        assert_eq!(rt; told_after_header(&rt, lines)?.as_str(), want, "at {lines}");
+    }
+    Ok(())
+}
+
+#[test]
+fn faults_of_the_first_line_are_told(rt: HostRuntime) -> Result<(), Fail> {
+    for (text, want) in [
+        ("", "line 1: misplaced"),
+        ("\nchip 16450 4 64", "line 1: misplaced"),
+        ("lsr", "line 1: misplaced"),
+        (" ", "line 1: misplaced"),
+        ("limit 5", "line 1: misplaced"),
+        ("lsr\t", "line 1: bad byte"),
+        ("chip 16450 4", "line 1: wrong count"),
+        ("chip 16450 4 64 cut", "line 1: wrong count"),
+        ("chip 8250 0 64", "line 1: bad word"),
+        ("chip 16550a 0 64", "line 1: bad number"),
+        ("chip 16450 4 64", "a script"),
+        ("chip 16450 4 64\n", "a script"),
+        ("chip 16450 4 64\n\n\n", "a script"),
+    ] {
+        assert_eq!(rt; told(&rt, text.as_bytes())?.as_str(), want, "at {text}");
+    }
+    Ok(())
+}
+
+const EVERY_WORD: &[u8] = b"chip 16550a 3 7
+limit 0000000005
+tick 65535
+arrive 4a
+arrive Ff pfb
+
+lines F
+access
+next
+init 8 9600 cts 0f 05
+loopback
+present
+connected
+ready-receive
+ready-send
+try-receive
+flush
+read-ready
+write-ready
+ier
+isr
+lcr
+mcr
+lsr
+msr
+spr
+dll-dlm
+fifo
+dump
+try-send 7F
+enable 02
+disable 01
+receive 0
+receive-exact 64
+read 1
+send -
+send-exact 00fF
+write 41
+text c3a9";
+
+// One line of each kind.
+#[test]
+fn every_word_means_its_event_or_call(rt: HostRuntime) -> Result<(), Fail> {
+    let script = parse(rt.alloc(), EVERY_WORD).ok().ok_or("refused")?;
+    assert_eq!(rt; script.chip(), Chip::Uart16550A);
+    assert_eq!(rt;
+        (script.ticks(), script.wire_capacity(), script.limit().get()),
+        (3, 7, 5)
+    );
+    assert_eq!(rt;
+        script.events(),
+        [
+            Event::Ticks(65535),
+            Event::Arrive {
+                byte: 0x4a,
+                errors: 0
+            },
+            Event::Arrive {
+                byte: 0xff,
+                errors: 0x1c
+            },
+            Event::Lines(0xf0),
+            Event::Access,
+            Event::Mark,
+        ]
+        .as_slice()
+    );
+    let calls = script.calls();
+    assert_eq!(rt; calls.len(), 31);
+    assert_eq!(rt;
+        calls[1],
+        Call::Init(Config {
+            interrupts: IER::from_bits_retain(0x0f),
+            fifo_trigger_level: Some(FifoTriggerLevel::Eight),
+            baud_rate: BaudRate::Baud9600,
+            data_bits: WordLength::FiveBits,
+            check_cts_before_sending: true,
+            ..Config::DEFAULT
+        })
+    );
+    assert_eq!(rt;
+        calls[2..26],
+        [
+            Call::TestLoopback,
+            Call::CheckPresent,
+            Call::CheckConnected,
+            Call::ReadyToReceive,
+            Call::ReadyToSend,
+            Call::TryReceive,
+            Call::Flush,
+            Call::ReadReady,
+            Call::WriteReady,
+            Call::Ier,
+            Call::Isr,
+            Call::Lcr,
+            Call::Mcr,
+            Call::Lsr,
+            Call::Msr,
+            Call::Spr,
+            Call::DllDlm,
+            Call::FifoEnabled,
+            Call::Dump,
+            Call::TrySend(0x7f),
+            Call::Enable(IER::THR_EMPTY),
+            Call::Disable(IER::DATA_READY),
+            Call::Receive(0),
+            Call::ReceiveExact(64),
+        ][..]
+    );
+    assert_eq!(rt;
+        calls[26..],
+        [
+            Call::Read(1),
+            Call::Send(ArrayVec::new()),
+            Call::SendExact(
+                ArrayVec::try_from([0x00, 0xff].as_slice())
+                    .ok()
+                    .ok_or("too many")?
+            ),
+            Call::Write(
+                ArrayVec::try_from([0x41].as_slice())
+                    .ok()
+                    .ok_or("too many")?
+            ),
+            Call::Text(ArrayString::try_from("\u{e9}").ok().ok_or("too many")?),
+        ][..]
+    );
+    Ok(())
+}

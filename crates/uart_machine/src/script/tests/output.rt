@@ -1,0 +1,134 @@
+use crate::call::Answer;
+use crate::event::ArrivalMark;
+use crate::script::rendering::render;
+use arrayvec::ArrayVec;
+use bitflags::Flags;
+use std::test::Fail;
+use uart_16550::ConfigRegisterDump;
+use uart_spec::registers::{IER, ISR, LCR, LSR, MCR, MSR};
+use uart_spec::{
+    ByteSendError, InitError, InvalidDivisorError, LoopbackError, NonIntegerDivisorError,
+    RemoteReadyToReceiveError,
+};
+
+fn bytes(values: &[u8]) -> ArrayVec<u8, 64> {
+    let mut bytes = ArrayVec::new();
+    for value in values {
+        if !bytes.is_full() {
+            bytes.push(*value);
+        }
+    }
+    bytes
+}
+
+fn dump() -> ConfigRegisterDump {
+    ConfigRegisterDump {
+        ier: IER::empty(),
+        isr: ISR::from_bits_retain(0xc1),
+        lcr: LCR::from_bits_retain(0x03),
+        mcr: MCR::from_bits_retain(0x0b),
+        lsr: LSR::from_bits_retain(0x60),
+        msr: MSR::empty(),
+        spr: 0,
+        dll: 0x0c,
+        dlm: 0x01,
+    }
+}
+
+#[test]
+fn each_answer_has_its_line(rt: HostRuntime) -> Result<(), Fail> {
+    let not_whole = NonIntegerDivisorError::default();
+    for (answer, want) in [
+        (Answer::Done, "ok"),
+        (Answer::Flag(true), "ok true"),
+        (Answer::Flag(false), "ok false"),
+        (Answer::Count(16), "ok 16"),
+        (Answer::Bytes(bytes(&[])), "ok -"),
+        (Answer::Bytes(bytes(&[0x01, 0x0a, 0xff])), "ok 010aff"),
+        (Answer::Register(0x62), "ok 62"),
+        (Answer::Latch(0x0c, 0x00), "ok 0c 00"),
+        (
+            Answer::Dump(dump()),
+            "ok ier 00 isr c1 lcr 03 mcr 0b lsr 60 msr 00 spr 00 divisor 268",
+        ),
+        (Answer::Stalled(4), "stalled 4"),
+        (Answer::ReceiveStalled(bytes(&[])), "stalled 0 -"),
+        (Answer::ReceiveStalled(bytes(&[0x41])), "stalled 1 41"),
+        (
+            Answer::InitRefused(InitError::DeviceNotPresent),
+            "err DeviceNotPresent",
+        ),
+        (Answer::InitRefused(InitError::Stalled), "err Stalled"),
+        (
+            Answer::InitRefused(InitError::InvalidBaudRate(InvalidDivisorError::NonInteger(
+                not_whole,
+            ))),
+            "err InvalidBaudRate NonInteger",
+        ),
+        (
+            Answer::InitRefused(InitError::InvalidBaudRate(InvalidDivisorError::OutOfRange {
+                divisor: 115_200,
+            })),
+            "err InvalidBaudRate OutOfRange 115200",
+        ),
+        (
+            Answer::LoopbackRefused(LoopbackError::SendError(ByteSendError::NoCapacity)),
+            "err SendError NoCapacity",
+        ),
+        (
+            Answer::LoopbackRefused(LoopbackError::UnexpectedLoopbackByte {
+                expected: 0x42,
+                actual: 0x02,
+            }),
+            "err UnexpectedLoopbackByte expected 66 actual 2",
+        ),
+        (
+            Answer::LoopbackRefused(LoopbackError::UnexpectedLoopbackMsg {
+                expected: [0; 16],
+                actual: [0xa5; 16],
+            }),
+            "err UnexpectedLoopbackMsg a5a5a5a5a5a5a5a5a5a5a5a5a5a5a5a5",
+        ),
+        (
+            Answer::LoopbackRefused(LoopbackError::Stalled),
+            "err Stalled",
+        ),
+        (
+            Answer::NotConnected(RemoteReadyToReceiveError::NoRemoteConnectedNoDSR),
+            "err NoRemoteConnectedNoDSR",
+        ),
+        (
+            Answer::NotConnected(RemoteReadyToReceiveError::RemoteNotClearToSend),
+            "err RemoteNotClearToSend",
+        ),
+        (Answer::NoData, "err ByteReceiveError"),
+        (Answer::NotSent(ByteSendError::NoCapacity), "err NoCapacity"),
+        (
+            Answer::NotSent(ByteSendError::RemoteNotClearToSend),
+            "err RemoteNotClearToSend",
+        ),
+    ] {
+        let text = render(rt.alloc(), &[answer], &[], &[], &[], &[])?;
+        let mut wanted = want.to_string(rt.alloc())?;
+        wanted.push_str("\nwire -\nheld -\nwaiting -\nmarks -\n")?;
+        assert_eq!(rt; text.as_slice(), wanted.as_bytes(), "at {want}");
+    }
+    Ok(())
+}
+
+#[test]
+fn what_is_left_has_four_lines(rt: HostRuntime) -> Result<(), Fail> {
+    let marks = [
+        ArrivalMark::Pending,
+        ArrivalMark::Waiting,
+        ArrivalMark::Read,
+        ArrivalMark::Discarded,
+        ArrivalMark::Dropped,
+    ];
+    let text = render(rt.alloc(), &[], &[1, 2, 3], &[0x48], &[0x41, 0xff], &marks)?;
+    assert_eq!(rt;
+        text.as_slice(),
+        b"wire 010203\nheld 48\nwaiting 41ff\nmarks pwrdx\n".as_slice()
+    );
+    Ok(())
+}

@@ -1,0 +1,315 @@
+//! Worked examples on raw accesses, and what no contract says: that machines are built, and texts.
+
+use crate::{ArrivalMark, BuildError, Chip, Device16550, Event};
+use std::test::Fail;
+use uart_16550::backend::Backend;
+
+const DATA: u8 = 0;
+
+const IER: u8 = 1;
+
+const ISR: u8 = 2;
+
+const FCR: u8 = 2;
+
+const LCR: u8 = 3;
+
+const MCR: u8 = 4;
+
+const LSR: u8 = 5;
+
+const MSR: u8 = 6;
+
+const SPR: u8 = 7;
+
+fn machine(
+    rt: &HostRuntime,
+    chip: Chip,
+    char_ticks: u16,
+    wire_capacity: usize,
+    events: &[Event],
+) -> Result<Device16550, Fail> {
+    let schedule = events.to_vec(rt.alloc())?;
+    Ok(Device16550::new(rt.alloc(), chip, char_ticks, wire_capacity, schedule)?)
+}
+
+fn fresh(rt: &HostRuntime) -> Result<Device16550, Fail> {
+    machine(rt, Chip::Uart16550A, 4, 64, &[])
+}
+
+fn arrive(byte: u8) -> Event {
+    Event::Arrive { byte, errors: 0 }
+}
+
+#[test]
+fn registers_one_by_one(rt: HostRuntime) -> Result<(), Fail> {
+    for (write, value, read, mask, want) in [
+        (IER, 0x0f, IER, 0xff, 0x0f),
+        (MCR, 0x1a, MSR, 0xf0, 0x90),
+        (FCR, 0x01, ISR, 0xff, 0xc1),
+        (FCR, 0x00, ISR, 0xff, 0x01),
+        (SPR, 0xa5, SPR, 0xff, 0xa5),
+    ] {
+        let mut machine = fresh(&rt)?;
+        assert!(rt; write < 8 && read < 8);
+        machine.write(write, value);
+        assert_eq!(rt; machine.read(read) & mask, want, "register {read}");
+    }
+    Ok(())
+}
+
+#[test]
+fn thr_empty_is_told_again(rt: HostRuntime) -> Result<(), Fail> {
+    let mut machine = fresh(&rt)?;
+    machine.write(IER, 0x02);
+    assert_eq!(rt; machine.read(ISR), 0x02);
+    machine.write(IER, 0x00);
+    machine.write(IER, 0x02);
+    assert_eq!(rt; machine.read(ISR), 0x02);
+    machine.write(IER, 0x00);
+    machine.write(IER, 0x02);
+    assert_eq!(rt; machine.read(LSR), 0x60);
+    assert_eq!(rt; machine.read(ISR), 0x02);
+    Ok(())
+}
+
+// A driver's initialization without FIFO, up to the write of the modem control register.
+fn initialize(machine: &mut Device16550) {
+    let scratch = machine.read(SPR);
+    for pattern in [0x42, 0x73] {
+        machine.write(SPR, pattern);
+        let _ = machine.read(SPR);
+    }
+    machine.write(SPR, scratch);
+    for (register, value) in [
+        (LCR, 0x00),
+        (IER, 0x00),
+        (LCR, 0x80),
+        (DATA, 0x0c),
+        (IER, 0x00),
+        (LCR, 0x00),
+        (LCR, 0x03),
+        (FCR, 0x06),
+    ] {
+        if register < 8 {
+            machine.write(register, value);
+        }
+    }
+    for _ in 0..17 {
+        if machine.read(LSR) & 0x01 == 0 {
+            break;
+        }
+        let _ = machine.read(DATA);
+    }
+    machine.write(MCR, 0x0b);
+}
+
+#[test]
+fn a_looped_byte_comes_back_late(rt: HostRuntime) -> Result<(), Fail> {
+    for (char_ticks, waiting) in [(15, Some(0x55)), (14, None)] {
+        let mut machine = machine(&rt, Chip::Uart16450, char_ticks, 64, &[])?;
+        machine.write(MCR, 0x10);
+        machine.write(DATA, 0x55);
+        initialize(&mut machine);
+        assert_eq!(rt; machine.waiting_at(0), waiting, "with {char_ticks} ticks");
+        assert_eq!(rt; machine.divisor(), 12);
+    }
+    Ok(())
+}
+
+#[test]
+fn builds_up_to_the_limits(rt: HostRuntime) -> Result<(), Fail> {
+    let good = [
+        Event::Arrive {
+            byte: 0xff,
+            errors: 0x1c,
+        },
+        Event::Lines(0xf0),
+    ];
+    let bad_errors = [
+        Event::Lines(0x01),
+        Event::Arrive {
+            byte: 0,
+            errors: 0x02,
+        },
+    ];
+    let bad_lines = [Event::Mark, Event::Lines(0x08)];
+    let bad_error_last = [Event::Arrive {
+        byte: 0,
+        errors: 0x20,
+    }];
+    for (char_ticks, wire_capacity, events, want) in [
+        (1, 0, good.as_slice(), None),
+        (1000, 65_536, good.as_slice(), None),
+        (0, 65_537, bad_errors.as_slice(), Some(BuildError::BadTicks)),
+        (1001, 0, good.as_slice(), Some(BuildError::BadTicks)),
+        (1, 65_537, bad_errors.as_slice(), Some(BuildError::BadWire)),
+        (1, 0, bad_errors.as_slice(), Some(BuildError::BadErrors(1))),
+        (
+            1,
+            0,
+            bad_error_last.as_slice(),
+            Some(BuildError::BadErrors(0)),
+        ),
+        (1, 0, bad_lines.as_slice(), Some(BuildError::BadLines(1))),
+    ] {
+        let schedule = events.to_vec(rt.alloc())?;
+        let built = Device16550::new(
+            rt.alloc(),
+            Chip::Uart16450,
+            char_ticks,
+            wire_capacity,
+            schedule,
+        );
+        assert_eq!(rt;
+            built.err(),
+            want,
+            "{char_ticks} ticks, room for {wire_capacity}"
+        );
+    }
+    Ok(())
+}
+
+// Run with each allocation failing in turn, as by `rt try --test --fail-alloc 1` and so on, it passes too.
+#[test]
+fn want_of_memory_is_told(rt: HostRuntime) {
+    if let Ok(schedule) = [arrive(0x41)].to_vec(rt.alloc()) {
+        let built = Device16550::new(rt.alloc(), Chip::Uart16550A, 4, 64, schedule);
+        assert!(rt; matches!(built.err(), None | Some(BuildError::OutOfMemory)));
+    }
+}
+
+#[test]
+fn texts(rt: HostRuntime) -> Result<(), Fail> {
+    for (error, text) in [
+        (BuildError::BadTicks, "a character takes 1 to 1000 ticks"),
+        (
+            BuildError::BadWire,
+            "the wire has room for at most 65536 bytes",
+        ),
+        (
+            BuildError::BadErrors(3),
+            "event 3: an arrival has other error bits than parity, framing and break",
+        ),
+        (
+            BuildError::BadLines(0),
+            "event 0: a change of lines has other bits than CTS, DSR, RI and CD",
+        ),
+        (BuildError::OutOfMemory, "out of memory"),
+    ] {
+        assert_eq!(rt; format!(in rt.alloc(); "{error}")?.as_str(), text);
+    }
+    Ok(())
+}
+
+// Writes each byte as soon as the THR is empty, with 200 looks at most for all of them.
+fn send(machine: &mut Device16550, bytes: &[u8]) {
+    let mut left = bytes;
+    for _ in 0..200 {
+        let [first, others @ ..] = left else {
+            return;
+        };
+        if machine.read(LSR) & 0x20 != 0 {
+            machine.write(DATA, *first);
+            left = others;
+        }
+    }
+}
+
+#[test]
+fn a_full_wire_keeps_the_rest(rt: HostRuntime) -> Result<(), Fail> {
+    let mut machine = machine(&rt, Chip::Uart16450, 1, 2, &[])?;
+    send(&mut machine, &[1, 2, 3, 4, 5]);
+    assert_eq!(rt; machine.wire(), [1, 2].as_slice());
+    assert_eq!(rt; machine.held_len(), 2);
+    assert_eq!(rt; machine.held_at(0), Some(3));
+    assert_eq!(rt; machine.held_at(1), Some(4));
+    assert_eq!(rt; machine.held_at(2), None);
+    assert_eq!(rt; machine.overflows(), 0);
+    Ok(())
+}
+
+#[test]
+fn a_gated_access_takes_no_tick(rt: HostRuntime) -> Result<(), Fail> {
+    let mut machine = machine(&rt, Chip::Uart16450, 4, 64, &[Event::Access, Event::Access])?;
+    machine.write(DATA, 0x41);
+    machine.write(DATA, 0x42);
+    assert_eq!(rt; machine.held_at(0), Some(0x42));
+    assert_eq!(rt; machine.overflows(), 1);
+    Ok(())
+}
+
+#[test]
+fn without_fifo_the_new_character_stays(rt: HostRuntime) -> Result<(), Fail> {
+    let mut machine = machine(&rt, Chip::Uart16450, 4, 64, &[arrive(0x41), arrive(0x42)])?;
+    assert_eq!(rt; machine.mark(1), Some(ArrivalMark::Pending));
+    assert_eq!(rt; machine.read(LSR), 0x63);
+    assert_eq!(rt; machine.waiting_len(), 1);
+    assert_eq!(rt; machine.read(DATA), 0x42);
+    assert_eq!(rt; machine.arrivals(), 2);
+    assert_eq!(rt; machine.mark(0), Some(ArrivalMark::Dropped));
+    assert_eq!(rt; machine.mark(1), Some(ArrivalMark::Read));
+    assert_eq!(rt; machine.mark(2), None);
+    Ok(())
+}
+
+#[test]
+fn a_full_fifo_drops_the_new_character(rt: HostRuntime) -> Result<(), Fail> {
+    let mut events = vec![in rt.alloc(); Event::Mark]?;
+    for byte in 1..=17 {
+        events.push(arrive(byte))?;
+    }
+    let mut machine = machine(&rt, Chip::Uart16550A, 4, 64, &events)?;
+    machine.write(FCR, 0xc7);
+    assert!(rt; machine.fifo_enabled());
+    machine.next();
+    assert_eq!(rt; machine.read(LSR), 0x63);
+    for byte in 1..=16 {
+        assert_eq!(rt; machine.read(DATA), byte);
+    }
+    assert_eq!(rt; machine.read(LSR), 0x60);
+    assert_eq!(rt; machine.mark(15), Some(ArrivalMark::Read));
+    assert_eq!(rt; machine.mark(16), Some(ArrivalMark::Dropped));
+    Ok(())
+}
+
+#[test]
+fn an_error_is_reported_once(rt: HostRuntime) -> Result<(), Fail> {
+    let parity_error = Event::Arrive {
+        byte: 0x41,
+        errors: 0x04,
+    };
+    let mut machine = machine(&rt, Chip::Uart16550A, 4, 64, &[Event::Mark, parity_error])?;
+    machine.write(FCR, 0xc7);
+    machine.next();
+    assert_eq!(rt; machine.read(LSR), 0xe5);
+    assert_eq!(rt; machine.read(LSR), 0x61);
+    assert_eq!(rt; machine.read(DATA), 0x41);
+    Ok(())
+}
+
+#[test]
+fn a_reset_discards_what_waits(rt: HostRuntime) -> Result<(), Fail> {
+    let mut machine = machine(&rt, Chip::Uart16550A, 4, 64, &[Event::Mark, arrive(0x41)])?;
+    machine.write(FCR, 0xc7);
+    machine.next();
+    assert_eq!(rt; machine.read(LSR), 0x61);
+    machine.write(FCR, 0xc7);
+    assert_eq!(rt; machine.waiting_at(0), None);
+    assert_eq!(rt; machine.mark(0), Some(ArrivalMark::Discarded));
+    Ok(())
+}
+
+#[test]
+fn modem_lines(rt: HostRuntime) -> Result<(), Fail> {
+    let undone = [Event::Lines(0x10), Event::Lines(0x00)];
+    let mut undone = machine(&rt, Chip::Uart16450, 4, 64, &undone)?;
+    assert_eq!(rt; undone.read(MSR), 0x01);
+    assert_eq!(rt; undone.read(MSR), 0x00);
+    let rings = [Event::Lines(0x40), Event::Mark, Event::Lines(0x00)];
+    let mut rings = machine(&rt, Chip::Uart16450, 4, 64, &rings)?;
+    assert_eq!(rt; rings.read(MSR), 0x40);
+    rings.next();
+    assert_eq!(rt; rings.read(MSR), 0x04);
+    Ok(())
+}
