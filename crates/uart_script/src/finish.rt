@@ -1,0 +1,83 @@
+//! How the program ends.
+ghost use Rattle.std.specs.Prelude.{◌≡◌};
+ghost use Rattle.uart_script.specs.Status.{status_of, error_status};
+
+use std::fmt;
+use std::fmt::Write;
+use uart_machine::script::{Output, PlayError};
+
+// Text for an output, written piece by piece.
+#[derive(Drop)]
+struct Printer<'a, W> {
+    writer: &'a mut W,
+}
+
+impl<W: Output> fmt::Write for Printer<'_, W> {
+    fn write_str(&mut self, text: &str) -> fmt::Result {
+        let bytes = text.as_bytes();
+        let mut done = 0;
+        while done < bytes.len() {
+            match self.writer.write(&bytes[done..]) {
+                Ok(0) => return Err(fmt::Error),
+                Ok(count) => done += count,
+                Err(_) => return Err(fmt::Error),
+            }
+        }
+        Ok(())
+    }
+}
+
+// The program's status for an error.
+fn status(error: PlayError) -> u8
+    ensures { result ≡ error_status error }
+{
+    match error {
+        PlayError::Refused { line: _, cause: _ } => 1,
+        PlayError::ReadFault | PlayError::WriteFault => 2,
+        PlayError::OutOfMemory => 3,
+    }
+}
+
+/// Writes what went wrong as one line, if anything did and the writer still works, and answers the program's status: 0
+/// where the script was played, 1 where it was refused, 2 where the reader or the writer failed, 3 where memory was wanting.
+///
+/// A fault of this line's own writing is ignored. Takes no memory.
+pub fn finish<W: Output>(outcome: Result<(), PlayError>, writer: &mut W) -> u8
+    ensures { result ≡ status_of outcome }
+{
+    let Err(error) = outcome else {
+        return 0;
+    };
+    if error != PlayError::WriteFault {
+        let _ = writeln!(Printer { writer }, "{error}");
+    }
+    status(error)
+}
+
+#[cfg(test)]
+mod tests {
+    use super::*;
+    use std::test::Fail;
+    use uart_machine::script::{Cause, Std};
+
+    #[test]
+    fn each_end_has_its_line_and_status(rt: HostRuntime) -> Result<(), Fail> {
+        let refused = PlayError::Refused {
+            line: 2,
+            cause: Cause::BadHex,
+        };
+        let cases: [(Result<(), PlayError>, &str, u8); 5] = [
+            (Ok(()), "", 0),
+            (Err(refused), "line 2: bad hex\n", 1),
+            (Err(PlayError::ReadFault), "read fault\n", 2),
+            (Err(PlayError::WriteFault), "", 2),
+            (Err(PlayError::OutOfMemory), "out of memory\n", 3),
+        ];
+        for (outcome, line, status) in cases {
+            let mut written = Vec::new(rt.alloc());
+            assert_eq!(rt; finish(outcome, &mut Std::new(&mut written)), status);
+            assert_eq!(rt; written.as_slice(), line.as_bytes());
+        }
+        Ok(())
+    }
+}

@@ -1,0 +1,15 @@
+//! Plays a script from standard input, and prints what it answers to standard output.
+#![tactic(auto)]
+
+mod finish;
+
+use finish::finish;
+use std::process::ExitCode;
+use uart_machine::script::{Std, play};
+
+fn main(rt: HostRuntime) -> ExitCode {
+    let mut reader = Std::new(rt.stdin());
+    let mut writer = Std::new(rt.stdout());
+    let result = play(rt.alloc(), &mut reader, &mut writer);
+    ExitCode::from(finish(result, &mut writer))
+}
