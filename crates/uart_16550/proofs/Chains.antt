@@ -1,5 +1,5 @@
 -- Calls of a writer, one more at the end.
-use Rattle.std.proofs.Common.{◌≡◌, ℕ, List, [], ◌∷◌, ◌++◌, take, drop, ◌+◌, refl, ◌∙◌, ap, sym, append_assoc, append-nil, Result, Ok, Err}
+use Rattle.std.proofs.Common.{◌≡◌, ℕ, List, [], ◌∷◌, ◌++◌, take, drop, ◌+◌, refl, ◌∙◌, ap, sym, append_assoc, append-nil, Result}
 use Rattle.std.proofs.lemmas.List.{take-append-drop, drop-drop}
 use Rattle.uart_16550.specs.Links.{WriteLink, WriteChain, taken, taken_by}
 

@@ -5,7 +5,7 @@ use Rattle.std.specs.Int.NonZero.{non_zero_u64_get}
 use lib.Bits.{or_zero_r}
 use Rattle.uart_spec.specs.Bits.{has}
 use Rattle.uart_16550.specs.Access.{Access, Read, Write, saved_lsr, saved_msr}
-use Rattle.uart_16550.specs.Grammar.{Language, Settings, Only, Then, InOrder, Times, FewMisses, Asks, IfChecks, IfFifo}
+use Rattle.uart_16550.specs.Grammar.{Language, Settings, Only, Then, InOrder, Times, FewMisses, Asks, IfChecks}
 use Rattle.uart_16550.specs.Driver.{Made, settings}
 use Rattle.uart_16550.specs.declared.driver.Uart16550.{Uart16550}
 use Rattle.uart_16550.proofs.Paths.{or_assoc, path_then, saved-append, or_saved}

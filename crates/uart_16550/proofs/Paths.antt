@@ -1,5 +1,5 @@
 -- Paths and saved bits, one list after another.
-use Rattle.std.proofs.Common.{◌≡◌, ℕ, List, [], ◌∷◌, ◌++◌, refl, sym, subst, arith, bit_and, bit_or}
+use Rattle.std.proofs.Common.{◌≡◌, ℕ, List, [], ◌∷◌, ◌++◌, refl, subst, arith, bit_and, bit_or}
 use Rattle.std.proofs.lemmas.Nat.Bits.{same_from_bits, bit_at_or, bit_at_and}
 use lib.Bits.{or_zero_r}
 use Rattle.uart_16550.specs.Access.{Access, Path, saved_of, saved}

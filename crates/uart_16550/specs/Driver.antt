@@ -1,5 +1,5 @@
 -- The driver's fields, and what a call does to them and to the backend.
-use Rattle.std.specs.Prelude.{◌≡◌, ℕ, Bool, true, false, List, [], ◌++◌}
+use Rattle.std.specs.Prelude.{◌≡◌, ℕ, Bool, true, List, [], ◌++◌}
 use Rattle.std.specs.Int.RustNames.{bit_or}
 use Rattle.std.specs.Int.NonZero.{non_zero_u64_get}
 use Rattle.uart_spec.specs.declared.config.Config.{Config}

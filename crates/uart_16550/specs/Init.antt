@@ -1,6 +1,5 @@
 -- The presence check and the initialisation, access by access.
 use Rattle.std.specs.Prelude.{◌≡◌, ◌<◌, ℕ, Bool, true, false, List, [], ◌∷◌, ◌+◌, ◌*◌, ◌%◌, ◌/◌, ◌==◌, ◌⊎◌, Result, Ok, Err, Option, Some, None, if◌then◌else◌}
-use Rattle.uart_spec.specs.Bits.{has}
 use Rattle.uart_spec.specs.Baud.{IsDivisorAnswer}
 use Rattle.uart_spec.specs.BaudRate.{to_integer}
 use Rattle.uart_spec.specs.Fields.{word_length_code, parity_code, trigger_code}
@@ -13,7 +12,7 @@ use Rattle.uart_16550.specs.Access.{Access, Read, Write}
 use Rattle.uart_16550.specs.Grammar.{Language, Only, Then, Times, Asks, Reads}
 use Rattle.uart_16550.specs.Receive.{Miss}
 use Rattle.uart_16550.specs.Transmit.{Waits}
-use Rattle.uart_16550.specs.Driver.{Fields, Doing, Saving, Plain, Sets, Next, with_config, with_fifo, with_saved}
+use Rattle.uart_16550.specs.Driver.{Doing, Saving, Plain, Sets, Next, with_config, with_fifo, with_saved}
 
 -- the scratch register is written with a pattern and keeps it, or not
 abbrev pub Keeps : ℕ → Bool → Language

@@ -1,6 +1,6 @@
 -- The lists of the register calls, and the register dump.
 use Rattle.std.specs.Prelude.{◌≡◌, ℕ, true, false, List, [], ◌∷◌, ◌++◌, ◌+◌, ◌*◌, Result, Ok, Err}
-use Rattle.std.specs.Int.RustNames.{bit_and, bit_or}
+use Rattle.std.specs.Int.RustNames.{bit_or}
 use Rattle.bitflags.specs.Sets.{without}
 use Rattle.uart_spec.specs.Bits.{has}
 use Rattle.uart_spec.specs.Baud.{IsBaudRateAnswer}

@@ -1,8 +1,7 @@
 -- The parser reads exactly the scripts, and tells exactly the first fault of bytes that are none.
-use Rattle.std.proofs.Common.{◌≡◌, ℕ, zero, suc, ◌+◌, ◌<◌, ◌≤◌, Bool, true, false, not, cond, ltb, eqb, List, [], ◌∷◌, ◌++◌, length, Option, Some, None, Result, Ok, Err, refl, sym, ap, subst, ◌∙◌, arith, inl, inr, ◌⊎◌}
+use Rattle.std.proofs.Common.{◌≡◌, ℕ, ◌+◌, ◌≤◌, Bool, true, false, cond, ltb, List, [], ◌∷◌, ◌++◌, length, Option, Some, None, Result, Ok, Err, refl, sym, ap, subst, ◌∙◌, arith, inl, inr, ◌⊎◌}
 use Rattle.std.specs.List.{position_or_len}
 use Rattle.std.proofs.lemmas.Bool.{cases_lt, ltb-true, ltb-false, lt-ltb, le-ltb}
-use Rattle.uart_machine.specs.declared.event.Chip.{Chip}
 use Rattle.uart_machine.specs.declared.script.cause.Cause.{Cause}
 use Rattle.uart_machine.specs.declared.script.cause.Cause.TheVariants.{Misplaced, TooLong}
 use Rattle.uart_machine.specs.declared.script.items.Header.{Header}
@@ -10,12 +9,12 @@ use Rattle.uart_machine.specs.Text.{lines_of}
 use Rattle.uart_machine.specs.Fields.{◌>>=◌}
 use Rattle.uart_machine.specs.Words.{fault_of}
 use Rattle.uart_machine.specs.ScriptLines.{Saying}
-use Rattle.uart_machine.specs.Script.{Plan, IsHeader, SayInOrder, IsScript, fault_at, AreFaultless, IsFirstFault, IsFaulty, long, empty, faulty}
+use Rattle.uart_machine.specs.Script.{Plan, SayInOrder, IsScript, fault_at, AreFaultless, IsFirstFault, IsFaulty, long, empty, faulty}
 use Rattle.uart_machine.specs.Items.{item_at, header_at}
-use Rattle.uart_machine.specs.ScriptReading.{Fault, on_line, numbered, before, with_saying, sayings_from, plan_by, planned, from_lines, script_of}
-use Rattle.uart_machine.proofs.ScriptLines.{lines_first, first_of, is_end}
+use Rattle.uart_machine.specs.ScriptReading.{Fault, on_line, numbered, before, sayings_from, plan_by, planned, from_lines, script_of}
+use Rattle.uart_machine.proofs.ScriptLines.{lines_first, is_end}
 use Rattle.uart_machine.proofs.ScriptMeanings.{says_what_is_read, reads_what_is_said}
-use Rattle.uart_machine.proofs.ScriptFaults.{line_fault, header_fault, header_of, says_header, reads_header}
+use Rattle.uart_machine.proofs.ScriptFaults.{line_fault, header_fault, says_header, reads_header}
 
 -- ---- values and faults
 

@@ -1,22 +1,19 @@
 -- The parser tells the fault of a line that the definition of the language tells.
-use Rattle.std.proofs.Common.{◌≡◌, ℕ, zero, suc, ◌+◌, ◌<◌, ◌≤◌, Bool, true, false, not, cond, ltb, eqb, ◌&&◌, ◌||◌, List, [], ◌∷◌, length, drop, Option, Some, None, Result, Ok, Err, refl, sym, ap, subst, ◌∙◌, arith, inl, inr}
-use Rattle.std.specs.Prelude.{codes}
-use Rattle.std.proofs.Math.Dec.{eqb-suc-zero}
+use Rattle.std.proofs.Common.{◌≡◌, ℕ, suc, ◌≤◌, Bool, true, false, not, cond, eqb, ◌&&◌, ◌||◌, List, [], ◌∷◌, length, drop, Option, Some, None, Result, Ok, Err, refl, sym, ap, subst, ◌∙◌, arith, inl, inr}
 use Rattle.std.proofs.lemmas.Bool.{eqb-true, le-ltb, or_cases}
 use Rattle.uart_machine.specs.declared.event.Chip.{Chip}
-use Rattle.uart_machine.specs.declared.event.Event.{Event}
 use Rattle.uart_machine.specs.declared.event.Event.TheVariants as event
 use Rattle.uart_machine.specs.declared.call.Call.{Call}
 use Rattle.uart_machine.specs.declared.call.Call.TheVariants as call
 use Rattle.uart_machine.specs.declared.script.cause.Cause.{Cause}
-use Rattle.uart_machine.specs.declared.script.cause.Cause.TheVariants.{BadByte, Misplaced, UnknownWord, WrongCount, TooLong}
+use Rattle.uart_machine.specs.declared.script.cause.Cause.TheVariants.{BadByte, Misplaced, UnknownWord, WrongCount}
 use Rattle.uart_machine.specs.declared.script.items.Header.{Header}
 use Rattle.uart_machine.specs.declared.script.words.Word.{Word}
 use Rattle.uart_machine.specs.declared.script.words.Word.TheVariants as word
 use Rattle.uart_machine.specs.Text.{words_of, word_at, has_bad_byte}
 use Rattle.uart_machine.specs.Fields.{◌>>=◌, number_in, byte_in, lines_in, bytes_in, text_in, errors_in, chip_in, level_in, rate_in, cts_in, interrupts_in, word_length_in}
 use Rattle.uart_machine.specs.Words.{name_of, word_of, fault_of, fields_of, has_count, is_placed}
-use Rattle.uart_machine.specs.ScriptLines.{Saying, Nothing, Limit, Calls, Happens, configured, bytes_of, text_of}
+use Rattle.uart_machine.specs.ScriptLines.{Nothing, Limit, Calls, Happens, configured, bytes_of, text_of}
 use Rattle.uart_machine.specs.Script.{IsHeader, fault_where, first_of, field_faults, word_faults, fault_at}
 use Rattle.uart_machine.specs.Items.{config_in, arrival_in, call_of, item_of, placed, starts_with, item_at, header_in, header_at}
 use Rattle.uart_machine.proofs.ScriptMeanings.{not_first, name_is}

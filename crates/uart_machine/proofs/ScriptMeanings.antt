@@ -1,16 +1,14 @@
 -- The parser reads a line as the definition of the language says.
-use Rattle.std.proofs.Common.{◌≡◌, ℕ, zero, suc, ◌+◌, ◌<◌, ◌≤◌, Bool, true, false, not, cond, ltb, eqb, ◌&&◌, ◌||◌, List, [], ◌∷◌, length, Option, Some, None, Result, Ok, Err, refl, sym, ap, subst, ◌∙◌, arith, inl, inr}
-use Rattle.std.specs.Prelude.{codes, bytes_eq, find, drop}
+use Rattle.std.proofs.Common.{◌≡◌, ℕ, suc, ◌≤◌, Bool, true, false, cond, eqb, ◌||◌, List, [], ◌∷◌, length, Option, Some, None, Result, Ok, Err, refl, sym, subst, arith, inl, inr}
+use Rattle.std.specs.Prelude.{codes, bytes_eq, find}
 use Rattle.std.proofs.Math.Dec.{eqb-suc-zero}
 use Rattle.std.proofs.lemmas.Bool.{eqb-true, ne_eqb, or_cases}
 use Rattle.std.proofs.lemmas.List.{nil_from_length}
 use Rattle.std.proofs.lemmas.Slice.Eq.{bytes_eq-Decides}
-use Rattle.uart_spec.specs.declared.config.Config.{Config}
 use Rattle.uart_spec.specs.declared.config.BaudRate.{BaudRate}
 use Rattle.uart_spec.specs.declared.registers.fifo_trigger_level.FifoTriggerLevel.{FifoTriggerLevel}
 use Rattle.uart_spec.specs.declared.registers.frame.WordLength.{WordLength}
 use Rattle.uart_spec.specs.declared.registers.interrupt_enable.IER.{IER}
-use Rattle.uart_machine.specs.declared.event.Event.{Event}
 use Rattle.uart_machine.specs.declared.event.Event.TheVariants as event
 use Rattle.uart_machine.specs.declared.call.Call.{Call}
 use Rattle.uart_machine.specs.declared.call.Call.TheVariants as call
@@ -20,10 +18,10 @@ use Rattle.uart_machine.specs.declared.script.words.Word.{Word}
 use Rattle.uart_machine.specs.declared.script.words.Word.TheVariants as word
 use Rattle.uart_machine.specs.Text.{words_of, word_at, has_bad_byte}
 use Rattle.uart_machine.specs.Fields.{◌>>=◌, number_in, byte_in, lines_in, bytes_in, text_in, errors_in, level_in, rate_in, cts_in, interrupts_in, word_length_in}
-use Rattle.uart_machine.specs.Words.{name_of, words, word_of, fault_of, fields_of, has_count, is_placed}
+use Rattle.uart_machine.specs.Words.{name_of, words, word_of, has_count, is_placed}
 use Rattle.uart_machine.specs.ScriptLines.{Saying, Nothing, Limit, Happens, Calls, Marks, configured, bytes_of, text_of, Means}
 use Rattle.uart_machine.specs.ScriptLines as row
-use Rattle.uart_machine.specs.Script.{Says, blank, printable, fault_where, first_of, field_faults, word_faults, fault_at}
+use Rattle.uart_machine.specs.Script.{Says, blank, printable}
 use Rattle.uart_machine.specs.Items.{config_in, arrival_in, call_of, item_of, placed, starts_with, item_at}
 
 -- ---- what the words mean is what is read

@@ -1,11 +1,11 @@
 -- What parsing answers, by what the parser reads.
-use Rattle.std.proofs.Common.{◌≡◌, ℕ, List, Result, Ok, Err, refl, sym, ap, subst, ◌∙◌}
+use Rattle.std.proofs.Common.{◌≡◌, ℕ, List, Result, Ok, Err, refl, ap, subst}
 use Rattle.std.specs.Prelude.{IsOk}
 use Rattle.uart_machine.specs.declared.script.cause.Cause.{Cause}
 use Rattle.uart_machine.specs.declared.script.cause.ScriptError.{ScriptError}
 use Rattle.uart_machine.specs.declared.script.cause.ScriptError.TheVariants as errors
 use Rattle.uart_machine.specs.declared.script.parsing.Script.{Script}
-use Rattle.uart_machine.specs.Script.{Plan, plan_of, IsScript, IsFaulty, IsParsed}
+use Rattle.uart_machine.specs.Script.{Plan, plan_of, IsFaulty, IsParsed}
 use Rattle.uart_machine.specs.ScriptReading.{Fault, script_of, Refuses, Parses}
 use Rattle.uart_machine.proofs.ScriptExact.{fault, is_script, script_is_read, is_faulty, fault_is_told}
 

@@ -1,21 +1,15 @@
 -- Every script can be played: its numbers are in their ranges, its events are sound and its calls runnable.
-use Rattle.std.proofs.Common.{◌≡◌, ℕ, zero, suc, ◌+◌, ◌*◌, ◌<◌, ◌≤◌, Bool, true, false, not, cond, ltb, leb, eqb, ◌&&◌, ◌||◌, List, [], ◌∷◌, ◌++◌, length, Option, Some, None, Result, Ok, Err, refl, sym, ap, subst, ◌∙◌, arith, inl, inr, bit_and}
-use Rattle.std.specs.Prelude.{All, flat_map, bytes_eq, codes}
-use Rattle.std.specs.List.{list_all}
+use Rattle.std.proofs.Common.{◌≡◌, ℕ, zero, suc, ◌+◌, ◌*◌, ◌<◌, ◌≤◌, Bool, true, false, cond, leb, eqb, ◌&&◌, List, [], ◌∷◌, length, Result, Ok, Err, refl, sym, subst, arith, bit_and}
+use Rattle.std.specs.Prelude.{All, flat_map}
 use Rattle.std.specs.Char.{is_ascii_hexdigit, digit_value}
 use Rattle.std.specs.Str.Parse.{digits_value}
-use Rattle.std.proofs.lemmas.Bool.{agree_below, agree_below_at, cases_lt, cases_eq, eqb-true, leb-true, and_parts, ne_eqb}
-use Rattle.std.proofs.lemmas.Grind.{common_steps}
+use Rattle.std.proofs.lemmas.Bool.{agree_below_at, eqb-true, leb-true, and_parts}
 use Rattle.std.proofs.lemmas.Bool.Decides.{nat_tests}
 use Rattle.std.proofs.lemmas.List.Elements.{All-append}
 use Rattle.std.proofs.lemmas.List.Concat.{flat_map-cons}
 use Rattle.uart_spec.specs.declared.config.BaudRate.{BaudRate}
 use Rattle.uart_spec.specs.declared.config.BaudRate.TheVariants as rate
-use Rattle.uart_spec.specs.declared.config.Config.{Config}
 use Rattle.uart_spec.specs.BaudRate.{to_integer}
-use Rattle.uart_spec.specs.Config.{IsComputable}
-use Rattle.uart_machine.specs.declared.event.Event.{Event}
-use Rattle.uart_machine.specs.declared.call.Call.{Call}
 use Rattle.uart_machine.specs.declared.script.cause.Cause.{Cause}
 use Rattle.uart_machine.specs.declared.script.cause.Cause.TheVariants.{BadWord}
 use Rattle.uart_machine.specs.Fields.{◌>>=◌, is_number, number_in, lines_in, errors_in, rate_of, rate_in}

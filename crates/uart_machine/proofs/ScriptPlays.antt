@@ -1,8 +1,7 @@
 -- What was read of an input says what the whole input comes to.
-use Rattle.std.proofs.Common.{◌≡◌, ℕ, ◌+◌, ◌<◌, ◌≤◌, List, [], ◌++◌, length, Option, Some, None, Result, Ok, Err, refl, sym, ap, subst, ◌∙◌, arith, inl, inr, append-nil, length-append}
+use Rattle.std.proofs.Common.{◌≡◌, ℕ, ◌<◌, List, ◌++◌, length, Option, Some, None, Err, refl, sym, ap, subst, ◌∙◌, arith, append-nil, length-append}
 use Rattle.std.specs.Prelude.{IfSome}
-use Rattle.std.specs.Io.KnownBytes.{Consumes, IsAtEnd}
-use Rattle.std.proofs.lemmas.Bool.{cases_lt}
+use Rattle.std.specs.Io.KnownBytes.{IsAtEnd}
 use Rattle.uart_machine.specs.declared.script.cause.Cause.{Cause}
 use Rattle.uart_machine.specs.declared.script.cause.ScriptError.{ScriptError}
 use Rattle.uart_machine.specs.declared.script.cause.ScriptError.TheVariants as errors

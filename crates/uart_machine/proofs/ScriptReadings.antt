@@ -1,5 +1,5 @@
 -- Reading a script line by line, as a loop does.
-use Rattle.std.proofs.Common.{◌≡◌, ℕ, zero, suc, ◌+◌, ◌<◌, ◌≤◌, Bool, true, false, cond, ltb, eqb, List, [], ◌∷◌, ◌++◌, length, map, Option, Some, None, Result, Ok, Err, refl, sym, ap, ◌∙◌, arith, append_assoc}
+use Rattle.std.proofs.Common.{◌≡◌, ℕ, ◌+◌, ◌<◌, ◌≤◌, true, eqb, List, [], ◌∷◌, ◌++◌, length, Result, Ok, Err, refl, sym, ap, ◌∙◌, arith, append_assoc}
 use Rattle.std.specs.Prelude.{flat_map, IsOk}
 use Rattle.std.specs.List.{position_or_len}
 use Rattle.std.proofs.lemmas.Bool.{lt-ltb, le-ltb, eqb-true}
@@ -16,10 +16,10 @@ use Rattle.uart_machine.specs.declared.script.parsing.Script.{Script}
 use Rattle.uart_machine.specs.Text.{lines_of}
 use Rattle.uart_machine.specs.Words.{fault_of}
 use Rattle.uart_machine.specs.ScriptLines.{Saying, Nothing, Limit, Happens, Calls, Marks, events_of, calls_of}
-use Rattle.uart_machine.specs.Script.{Plan, plan_of, limit_from, default_limit}
+use Rattle.uart_machine.specs.Script.{Plan, limit_from, default_limit}
 use Rattle.uart_machine.specs.Items.{item_at, header_at}
-use Rattle.uart_machine.specs.ScriptReading.{Fault, sayings_from, with_saying, on_line, numbered, before, plan_by, planned, from_lines, script_of, Refuses, Checks, Builds, Parses, added}
-use Rattle.uart_machine.proofs.ScriptLines.{lines_first, first_of, is_end}
+use Rattle.uart_machine.specs.ScriptReading.{Fault, sayings_from, with_saying, planned, from_lines, script_of, Refuses, Builds, Parses, added}
+use Rattle.uart_machine.proofs.ScriptLines.{lines_first, is_end}
 
 abbrev said : Saying → Result Saying Cause
 said s = Ok s

@@ -1,5 +1,5 @@
 -- How a line is read, field by field, as the parser reads it.
-use Rattle.std.specs.Prelude.{ℕ, ◌+◌, Bool, true, false, List, [], ◌∷◌, length, Option, Some, None, Result, Ok, Err, ◌==◌, nat_lt, if◌then◌else◌}
+use Rattle.std.specs.Prelude.{ℕ, List, length, Option, Some, None, Result, Ok, Err, ◌==◌, if◌then◌else◌}
 use Rattle.std.specs.Int.NonZero.{non_zero_u64_get}
 use Rattle.uart_spec.specs.declared.config.Config.{Config}
 use Rattle.uart_machine.specs.declared.event.Event.{Event}

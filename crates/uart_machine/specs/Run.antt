@@ -1,6 +1,5 @@
 -- Runs of calls over the machine: what each call does, and lists of calls.
-use Rattle.std.specs.Prelude.{◌≡◌, ◌≤◌, ℕ, Bool, List, [], ◌∷◌, ◌++◌, Result, Ok, Err, length, map}
-use Rattle.arrayvec.specs.ArrayVec.{ArrayVec}
+use Rattle.std.specs.Prelude.{◌≡◌, ◌≤◌, ℕ, Bool, List, [], ◌∷◌, Result, Ok, Err, length, map}
 use Rattle.uart_spec.specs.declared.config.Config.{Config}
 use Rattle.uart_spec.specs.declared.errors.InitError.{InitError}
 use Rattle.uart_spec.specs.declared.errors.LoopbackError.{LoopbackError}
@@ -9,8 +8,8 @@ use Rattle.uart_spec.specs.declared.errors.ByteSendError.{ByteSendError}
 use Rattle.uart_spec.specs.declared.errors.RemoteReadyToReceiveError.{RemoteReadyToReceiveError}
 use Rattle.uart_spec.specs.declared.errors.StalledError.{StalledError}
 use Rattle.uart_16550.specs.Access.{Read}
-use Rattle.uart_16550.specs.Grammar.{Language, Only}
-use Rattle.uart_16550.specs.Driver.{Doing, Did, Saving, Sets, fields, backend_of}
+use Rattle.uart_16550.specs.Grammar.{Only}
+use Rattle.uart_16550.specs.Driver.{Doing, Did, Saving, fields, backend_of}
 use Rattle.uart_16550.specs.Receive.{ReadyToReceive, TryReceive, Receives, ReceivesExact}
 use Rattle.uart_16550.specs.Transmit.{ReadyToSend, TrySends, Sends, SendsExact}
 use Rattle.uart_16550.specs.Init.{ChecksPresence, Inits}
@@ -20,7 +19,6 @@ use Rattle.uart_16550.specs.Io.{Reads, Writes, Flushes, AnswersRead, AnswersWrit
 use Rattle.uart_16550.specs.Expansion.{SendsText}
 use Rattle.uart_16550.specs.Tty.{inner_of}
 use Rattle.uart_16550.specs.declared.driver.Uart16550.{Uart16550}
-use Rattle.uart_16550.specs.declared.dump.ConfigRegisterDump.{ConfigRegisterDump}
 use Rattle.uart_16550.specs.declared.tty.Uart16550Tty.{Uart16550Tty}
 use Rattle.uart_machine.specs.declared.call.Call.{Call}
 use Rattle.uart_machine.specs.declared.call.Call.TheVariants as call

@@ -1,5 +1,5 @@
 -- How a script is read line by line, as the parser reads it.
-use Rattle.std.specs.Prelude.{◌≡◌, ℕ, ◌+◌, List, [], ◌∷◌, ◌++◌, map, Option, Some, None, Result, Ok, Err, nat_lt, if◌then◌else◌, flat_map, IsOk, length}
+use Rattle.std.specs.Prelude.{◌≡◌, ℕ, ◌+◌, List, [], ◌∷◌, ◌++◌, Result, Ok, Err, nat_lt, if◌then◌else◌, flat_map, IsOk, length}
 use Rattle.uart_machine.specs.declared.script.cause.Cause.{Cause}
 use Rattle.uart_machine.specs.declared.script.cause.Cause.TheVariants.{Misplaced, TooLong}
 use Rattle.uart_machine.specs.declared.script.cause.ScriptError.{ScriptError}
@@ -8,7 +8,7 @@ use Rattle.uart_machine.specs.declared.script.items.Header.{Header}
 use Rattle.uart_machine.specs.declared.script.parsing.Script.{Script}
 use Rattle.uart_machine.specs.Text.{lines_of}
 use Rattle.uart_machine.specs.Fields.{◌>>=◌}
-use Rattle.uart_machine.specs.ScriptLines.{Saying, Nothing, Limit, events_of, calls_of}
+use Rattle.uart_machine.specs.ScriptLines.{Saying, events_of, calls_of}
 use Rattle.uart_machine.specs.Script.{Plan, limit_from, default_limit, plan_of}
 use Rattle.uart_machine.specs.Items.{header_at, item_at}
 

@@ -1,4 +1,4 @@
-use Rattle.std.proofs.Common.{◌≡◌, ◌∙◌, ℕ, [], ◌∷◌, ap, refl}
+use Rattle.std.proofs.Common.{◌∙◌, ℕ, [], ◌∷◌, ap, refl}
 use Rattle.std.specs.Int.NonZero.{non_zero_u64_get}
 use Rattle.uart_16550.specs.Access.{Write}
 use Rattle.uart_16550.specs.Grammar.{Only}

@@ -1,4 +1,4 @@
-use Rattle.std.proofs.Common.{◌≡◌, ◌∙◌, ℕ, [], ◌∷◌, ap, refl, subst, bit_or, Ok, Err}
+use Rattle.std.proofs.Common.{◌∙◌, ℕ, [], ap, refl, subst, bit_or, Ok, Err}
 use Rattle.uart_spec.specs.declared.config.Config.{Config}
 use Rattle.uart_16550.specs.Driver.{Fields, with_config}
 use Rattle.uart_16550.specs.Init.{Ends}

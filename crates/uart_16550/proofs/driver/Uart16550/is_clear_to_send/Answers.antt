@@ -1,4 +1,4 @@
-use Rattle.std.proofs.Common.{inl, inr, sym, ◌∙◌, refl}
+use Rattle.std.proofs.Common.{inr, sym, ◌∙◌}
 use Rattle.uart_16550.proofs.Making.{made_then, made_asks, made_among}
 use Rattle.uart_16550.proofs.driver.Uart16550.is_clear_to_send.Goals as goal
 

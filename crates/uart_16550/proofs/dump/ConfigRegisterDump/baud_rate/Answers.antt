@@ -1,6 +1,4 @@
-use Rattle.std.proofs.Common.{◌≡◌, ◌∙◌, refl, Ok, Err, ap, ℕ}
-use Rattle.uart_spec.specs.Baud.{frequency_of}
-use Rattle.uart_16550.specs.Status.{divisor_of}
+use Rattle.std.proofs.Common.{◌∙◌, refl, Ok, Err}
 use Rattle.uart_16550.proofs.dump.ConfigRegisterDump.baud_rate.Goals as goal
 
 pub returns-in-Ok : goal.returns-in-Ok

@@ -1,4 +1,4 @@
-use Rattle.std.proofs.Common.{◌≡◌, ◌<◌, ℕ, [], ◌∷◌, length, arith}
+use Rattle.std.proofs.Common.{◌≡◌, ◌<◌, [], ◌∷◌, length, arith}
 use Rattle.std.proofs.lemmas.List.{take_more}
 use Rattle.uart_16550.specs.Transmit.{Round}
 use Rattle.uart_16550.proofs.Making.{made_none, made_then, made_more, made_among}

@@ -1,9 +1,9 @@
-use Rattle.std.proofs.Common.{◌≡◌, ◌<◌, ◌+◌, ◌-◌, ◌^◌, ℕ, refl, arith, length, take, min, ◌∙◌, ap, get_or, length-append, List, [], ◌∷◌}
+use Rattle.std.proofs.Common.{◌≡◌, ◌<◌, ◌+◌, ◌-◌, ◌^◌, ℕ, refl, arith, length, take, min, ap, get_or, length-append, [], ◌∷◌}
 use Rattle.std.proofs.lemmas.List.{length-take}
 use Rattle.uart_16550.specs.Transmit.{Round}
 use Rattle.uart_16550.specs.Expansion.{expansion, expansion_of}
 use Rattle.uart_16550.proofs.Making.{made_none, made_then, made_append, made_among}
-use Rattle.uart_16550.proofs.Texts.{expansion_more, take_around, length_around, sends_beginning}
+use Rattle.uart_16550.proofs.Texts.{expansion_more, sends_beginning}
 use Rattle.uart_16550.proofs.tty.Uart16550Tty.write_text.Goals as goal
 
 pub loop-byte-init : goal.loop-byte-init

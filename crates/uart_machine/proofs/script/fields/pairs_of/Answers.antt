@@ -1,5 +1,4 @@
-use Rattle.std.proofs.Common.{rules}
-use Rattle.uart_machine.proofs.ScriptDigits.{pairs_on, are_digits, are_read}
+use Rattle.uart_machine.proofs.ScriptDigits.{pairs_on, are_read}
 use Rattle.uart_machine.proofs.script.fields.pairs_of.Goals as goal
 
 pub loop-rest-preserved : goal.loop-rest-preserved

@@ -1,4 +1,4 @@
-use Rattle.std.proofs.Common.{rules, ◌≡◌, length, arith}
+use Rattle.std.proofs.Common.{arith}
 use Rattle.uart_machine.specs.Text.{lines_of}
 use Rattle.uart_machine.specs.Script.{plan_of}
 use Rattle.uart_machine.specs.ScriptReading.{sayings_from}

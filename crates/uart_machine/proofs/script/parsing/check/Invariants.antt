@@ -1,9 +1,7 @@
 use Rattle.std.proofs.Common.{◌≡◌, ◌≤◌, length}
 use Rattle.uart_machine.specs.Text.{lines_of}
 use Rattle.uart_machine.specs.Words.{fault_of}
-use Rattle.uart_machine.specs.ScriptReading.{sayings_from, planned}
-use Rattle.uart_machine.specs.Script.{plan_of}
-use Rattle.uart_machine.proofs.ScriptReadings.{ends_in}
+use Rattle.uart_machine.specs.ScriptReading.{sayings_from}
 use Rattle.uart_machine.proofs.script.parsing.check.Given as goal
 
 abbrev pub invariant-loop-rest : goal.invariant-loop-rest

@@ -1,4 +1,4 @@
-use Rattle.std.proofs.Common.{rules, ◌≡◌, ◌∙◌, arith, length, drop, take}
+use Rattle.std.proofs.Common.{◌∙◌, arith}
 use Rattle.uart_machine.proofs.ScriptBytes.{appends_more, none_failed, take_left}
 use Rattle.uart_machine.proofs.script.playing.write_all.Goals as goal
 

@@ -1,4 +1,4 @@
-use Rattle.std.proofs.Common.{rules, arith, ◌≡◌}
+use Rattle.std.proofs.Common.{arith}
 use Rattle.uart_machine.proofs.ScriptLines.{position-le, cut_at_end, cut_before_end}
 use Rattle.uart_machine.proofs.script.text.first_line.Goals as goal
 

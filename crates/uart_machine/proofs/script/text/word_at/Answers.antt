@@ -1,5 +1,4 @@
-use Rattle.std.proofs.Common.{rules, eqb, ◌≡◌}
-use Rattle.std.specs.Prelude.{unwrap_or, option_map, slice_index_or, slice_get, []}
+use Rattle.std.proofs.Common.{rules, eqb}
 use Rattle.std.proofs.lemmas.Iterator.Consumers.{nth_from_yields_List}
 use Rattle.std.proofs.lemmas.Iterator.Splits.{YieldsList-from_slice_split}
 use Rattle.uart_machine.specs.Text.{words_of}
