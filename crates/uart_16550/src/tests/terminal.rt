@@ -4,13 +4,14 @@ use crate::embedded_io::{Read, ReadReady, Write, WriteReady};
 use crate::spec::{BaudRate, Config, StalledError};
 use crate::{ConfigRegisterDump, Uart16550Tty};
 use std::fmt;
+use std::fmt::Write as _;
 
 #[test]
 fn a_line_ends_as_terminals_expect(rt: HostRuntime) {
     let mut uart = driver(RegisterFile::new(true));
     assert_eq!(rt; uart.init(Config::DEFAULT), Ok(()));
     let mut terminal = Uart16550Tty::from_inner(uart);
-    assert!(rt; fmt::Write::write_str(&mut terminal, "hello\n").is_ok());
+    assert!(rt; writeln!(terminal, "hello").is_ok());
     assert_eq!(rt; terminal.write_text("\x7f"), Ok(()));
     assert_eq!(rt;
         terminal.inner().backend().device.sent.as_slice(),
