@@ -5,7 +5,8 @@ use Rattle.uart_16550.specs.Driver.{fields}
 use Rattle.uart_16550.specs.Tty.{inner_of}
 use Rattle.uart_machine.specs.Sound.{IsSound}
 use Rattle.uart_machine.specs.Run.{State, machine_of, Link, Chain}
-use Rattle.uart_machine.specs.Session.{Ready, AllWithinSession, reported, received, reported_by, received_by}
+use Rattle.uart_machine.specs.Ready.{Ready}
+use Rattle.uart_machine.specs.Session.{AllWithinSession, reported, received, reported_by, received_by}
 use Rattle.uart_machine.specs.Statuses.{AllNoLsr, AllNoMsr}
 use Rattle.uart_machine.proofs.Bits.{or_assoc}
 use Rattle.uart_machine.proofs.Went.{Modes, saved-append}

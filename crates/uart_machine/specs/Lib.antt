@@ -12,6 +12,7 @@ pub mod Calls
 pub mod Run
 pub mod Statuses
 pub mod Served
+pub mod Ready
 pub mod Session
 pub mod Text
 pub mod Fields

@@ -1,23 +1,15 @@
 -- Sessions, and what holds in each.
-use Rattle.std.specs.Prelude.{◌≡◌, ℕ, false, List, [], ◌∷◌, ◌++◌, take}
-use Rattle.uart_16550.specs.Driver.{fields}
+use Rattle.std.specs.Prelude.{◌≡◌, ℕ, List, [], ◌∷◌, ◌++◌, take}
 use Rattle.uart_16550.specs.Expansion.{expansion}
-use Rattle.uart_16550.specs.Tty.{inner_of}
 use Rattle.uart_machine.specs.declared.call.Call.{Call}
 use Rattle.uart_machine.specs.declared.call.Call.TheVariants as call
 use Rattle.uart_machine.specs.declared.call.Answer.{Answer}
 use Rattle.uart_machine.specs.declared.call.Answer.TheVariants as answer
-use Rattle.uart_machine.specs.Chip.{is_dlab_set, is_loopback}
 use Rattle.uart_machine.specs.Conserved.{out, waiting, kept}
 use Rattle.uart_machine.specs.Run.{State, machine_of, Link, Chain, calls_of, answers_of}
 use Rattle.uart_machine.specs.Statuses.{Tells}
 use Rattle.uart_machine.specs.Served.{AllServe}
-
--- DLAB and loopback are off, and the chip's FIFO is on exactly if the driver takes it to be
-pub record Ready (s : State) : Type 0 where
-  pub dlab : is_dlab_set (machine_of s).chip.latches ≡ false
-  pub loopback : is_loopback (machine_of s).chip.latches ≡ false
-  pub fifo : (machine_of s).chip.fifo ≡ (fields (inner_of s)).fifo
+use Rattle.uart_machine.specs.Ready.{Ready}
 
 -- an `init` or a loopback test ends a session
 abbrev pub IsWithinSession : Call → Type 0

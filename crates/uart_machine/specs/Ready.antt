@@ -1,0 +1,82 @@
+-- States in which a session may begin, and what an `init` and a loopback test come to over the machine.
+use Rattle.std.specs.Prelude.{◌≡◌, ◌≢◌, ◌⊎◌, ℕ, Bool, true, false, ◌&&◌, List, [], ◌∷◌, Option, Some, None, Ok, bit_and}
+use Rattle.uart_spec.specs.declared.config.Config.{Config}
+use Rattle.uart_spec.specs.declared.errors.InitError.TheVariants.{DeviceNotPresent}
+use Rattle.uart_spec.specs.declared.errors.LoopbackError.TheVariants.{Stalled}
+use Rattle.uart_spec.specs.declared.registers.fifo_trigger_level.FifoTriggerLevel.{FifoTriggerLevel}
+use Rattle.uart_16550.specs.Driver.{fields}
+use Rattle.uart_16550.specs.Init.{DivisorOf, frame_bits}
+use Rattle.uart_16550.specs.Tty.{inner_of}
+use Rattle.uart_machine.specs.declared.call.Call.{Call}
+use Rattle.uart_machine.specs.declared.call.Call.TheVariants as call
+use Rattle.uart_machine.specs.declared.call.Answer.{Answer}
+use Rattle.uart_machine.specs.declared.call.Answer.TheVariants.{Done, InitRefused, LoopbackRefused}
+use Rattle.uart_machine.specs.declared.chip.Latches.{Latches}
+use Rattle.uart_machine.specs.declared.event.Chip.{Chip}
+use Rattle.uart_machine.specs.declared.event.Chip.TheVariants.{Uart16550A, Uart16450}
+use Rattle.uart_machine.specs.Registers.{ier_bits}
+use Rattle.uart_machine.specs.Chip.{is_dlab_set, is_loopback, is_transmitter_empty, divisor}
+use Rattle.uart_machine.specs.Run.{State, machine_of, Link}
+use Rattle.uart_machine.specs.Served.{transmitter_of, IsFlushed}
+
+-- the latches of a state
+abbrev pub latches_of : State → Latches
+latches_of s = (machine_of s).chip.latches
+
+-- DLAB and loopback are off, and the chip's FIFO is on exactly if the driver takes it to be
+pub record Ready (s : State) : Type 0 where
+  pub dlab : is_dlab_set (latches_of s) ≡ false
+  pub loopback : is_loopback (latches_of s) ≡ false
+  pub fifo : (machine_of s).chip.fifo ≡ (fields (inner_of s)).fifo
+
+-- ---- after an `init`
+
+-- the chip has a FIFO
+abbrev pub has_fifo : Chip → Bool
+has_fifo Uart16550A = true
+has_fifo Uart16450 = false
+
+-- a level is configured
+abbrev pub is_level : Option FifoTriggerLevel → Bool
+is_level (Some level) = true
+is_level None = false
+
+-- what an `init` that is done leaves, whatever the machine was before it
+pub record IsInitialised (config : Config) (t : State) : Type 0 where
+  pub ready : Ready t
+  pub divisor_latch : DivisorOf config (Ok (divisor (latches_of t)))
+  pub lcr : (latches_of t).lcr ≡ frame_bits config
+  pub mcr : (latches_of t).mcr ≡ 11
+  pub ier : (latches_of t).ier ≡ bit_and config.interrupts.0 ier_bits
+  pub is_empty : is_transmitter_empty (transmitter_of t).queue (transmitter_of t).shift_place ≡ true
+  pub fifo : (machine_of t).chip.fifo ≡ (is_level config.fifo_trigger_level && has_fifo (machine_of t).chip.model)
+
+-- it finds the device, and leaves this where it is done
+pub record Initialises (config : Config) (a : Answer) (t : State) : Type 0 where
+  pub is_present : a ≢ InitRefused DeviceNotPresent
+  pub leaves : a ≡ Done → IsInitialised config t
+
+-- ---- after a loopback test
+
+-- it is done or stalls; where it is done the transmitter is empty, and the wire holds what was to go out before it, and nothing else
+pub record IsTested (s : State) (a : Answer) (t : State) : Type 0 where
+  pub answers : (a ≡ Done) ⊎ (a ≡ LoopbackRefused Stalled)
+  pub leaves : a ≡ Done → IsFlushed s t
+
+-- ---- each call of a run
+
+-- what it comes to
+abbrev pub ComesTo : State → Call → Answer → State → Type 0
+ComesTo s (call.Init config) a t = Initialises config a t
+ComesTo s call.TestLoopback a t = Ready s → IsTested s a t
+ComesTo s other a t = Unit {0}
+
+-- whatever it answers, it leaves a ready state ready
+pub record Follows (s : State) (call : Call) (a : Answer) (t : State) : Type 0 where
+  pub ready : Ready s → Ready t
+  pub comes_to : ComesTo s call a t
+
+-- each of these calls
+abbrev pub AllFollow : List Link → Type 0
+AllFollow [] = Unit {0}
+AllFollow (link ∷ links) = Follows link.before link.call link.answer link.after × AllFollow links
