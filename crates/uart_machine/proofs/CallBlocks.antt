@@ -176,14 +176,14 @@ sends_blocks s bytes k l (inr (inr t)) = burst_blocks s (take k bytes) (rw t.1 (
 pub round_blocks : (s : Settings) (bytes : List ℕ) → length bytes ≤ room s.fifo → Makes s (Round bytes) bytes []
 round_blocks s bytes few l t = makes_then s (FewMisses SendMiss) (Burst bytes) [] bytes [] [] (makes_few s SendMiss (send_miss_blocks s)) (burst_blocks s bytes few) l t
 
-pieces_blocks : (s : Settings) (bytes : List ℕ) (pieces : List (List ℕ)) (rest : List ℕ) → IsCut s bytes pieces rest → Makes s (InOrder Round pieces) (concat pieces) []
+pub pieces_blocks : (s : Settings) (bytes : List ℕ) (pieces : List (List ℕ)) (rest : List ℕ) → IsCut s bytes pieces rest → Makes s (InOrder Round pieces) (concat pieces) []
 pieces_blocks s bytes [] rest cut l t = makes_only_none s l t
 pieces_blocks s bytes (piece ∷ pieces) rest cut l t =
     makes_then s (Round piece) (InOrder Round pieces) piece (concat pieces) [] [] (round_blocks s piece (rw cut.1 (burst_room s bytes)))
     (λ k u. pieces_blocks s (drop (burst_size s bytes) bytes) pieces rest cut.2 k u) l t
 
 -- the pieces and the rest are the whole
-cut_whole : (s : Settings) (bytes : List ℕ) (pieces : List (List ℕ)) (rest : List ℕ) → IsCut s bytes pieces rest → concat pieces ++ rest ≡ bytes
+pub cut_whole : (s : Settings) (bytes : List ℕ) (pieces : List (List ℕ)) (rest : List ℕ) → IsCut s bytes pieces rest → concat pieces ++ rest ≡ bytes
 cut_whole s bytes [] rest cut = cut
 cut_whole s bytes (piece ∷ pieces) rest cut =
     let n = burst_size s bytes in

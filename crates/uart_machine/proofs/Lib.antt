@@ -1,8 +1,11 @@
 pub mod Within
+pub mod Left
 pub mod Marks
 pub mod ReceiverSounds
 pub mod TransmitterSounds
 pub mod Sounds
+pub mod Nearing
+pub mod Constants
 pub mod Schedules
 pub mod Builds
 pub mod Bits
@@ -27,6 +30,8 @@ pub mod CallLaws
 pub mod SessionCalls
 pub mod StatusSessions
 pub mod Served
+pub mod WaitEnds
+pub mod Succeeds
 pub mod Sessions
 pub mod ScriptLines
 pub mod ScriptDigits

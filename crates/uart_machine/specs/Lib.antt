@@ -13,6 +13,7 @@ pub mod Run
 pub mod Statuses
 pub mod Served
 pub mod Ready
+pub mod Progress
 pub mod Session
 pub mod Text
 pub mod Fields
