@@ -32,6 +32,7 @@ pub mod StatusSessions
 pub mod Served
 pub mod WaitEnds
 pub mod Succeeds
+pub mod InitSucceeds
 pub mod Sessions
 pub mod ScriptLines
 pub mod ScriptDigits

@@ -334,7 +334,7 @@ latches-ticks : (n : ℕ) (c : ChipState) → (ticks n c).latches ≡ c.latches
 latches-ticks zero c = refl
 latches-ticks (suc n) c = latches-ticks n c
 
-latches-perform : (event : Event) (c : ChipState) → (perform event c).latches ≡ c.latches
+pub latches-perform : (event : Event) (c : ChipState) → (perform event c).latches ≡ c.latches
 latches-perform (Ticks n) c = latches-ticks n c
 latches-perform (Arrive byte errors) c = refl
 latches-perform (Lines inputs) c = refl

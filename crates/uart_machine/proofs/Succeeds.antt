@@ -32,7 +32,7 @@ use Rattle.uart_machine.proofs.SessionCalls.{modes_of, in_session}
 use Rattle.uart_machine.proofs.WaitEnds.{no_stall-empty, no_stall-room}
 
 -- the call's own settings
-abbrev settings_at : State → Settings
+abbrev pub settings_at : State → Settings
 settings_at s = settings_of (fields (inner_of s))
 
 -- room for more is room
@@ -43,7 +43,7 @@ runs : (s : State) → IsSound (machine_of s) → IsTimely s → HasRoom 0 (mach
 runs s w timely room = record { sound = w; ticked = timely.ticked; room = room }
 
 -- the limit exceeds what is left, there and after some accesses
-few_left : (s : State) (made : List Access) (m : MachineState) → IsSound (machine_of s) → IsTimely s → Path MachineStep (machine_of s) made m → left m.chip.transmitter < (settings_at s).limit
+pub few_left : (s : State) (made : List Access) (m : MachineState) → IsSound (machine_of s) → IsTimely s → Path MachineStep (machine_of s) made m → left m.chip.transmitter < (settings_at s).limit
 few_left s made m w timely p =
     let most = left-most m.chip.fifo m.chip.transmitter (sound_path made (machine_of s) m w p).chip.transmitter in
     let same = (same_pace-path made (machine_of s) m p).char_ticks in

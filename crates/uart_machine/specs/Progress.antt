@@ -1,5 +1,6 @@
 -- When a call must succeed: ticks come before each access, the spin limit is long enough, and the wire has room.
 use Rattle.std.specs.Prelude.{◌≡◌, ◌<◌, ◌≤◌, ℕ, ◌+◌, ◌*◌, false, List, [], ◌∷◌, length, Option, Some, None, Ok}
+use Rattle.uart_spec.specs.Config.{IsComputable}
 use Rattle.uart_spec.specs.declared.config.Config.{Config}
 use Rattle.uart_16550.specs.Driver.{fields}
 use Rattle.uart_16550.specs.Init.{DivisorOf}
@@ -56,9 +57,11 @@ pub record IsTimely (s : State) : Type 0 where
 abbrev pub IsUnchecked : State → Type 0
 IsUnchecked s = (fields (inner_of s)).config.check_cts_before_sending ≡ false
 
--- the configuration has a divisor
-abbrev pub HasDivisor : Config → Type 0
-HasDivisor config = (divisor : ℕ) × DivisorOf config (Ok divisor)
+-- the arithmetic takes the configuration, and it has a divisor
+pub record HasDivisor (config : Config) : Type 0 where
+  pub computable : IsComputable config
+  pub divisor : ℕ
+  pub is_divisor : DivisorOf config (Ok divisor)
 
 -- with room on the wire for what it sends the call does not stall: an `init` from any state, the others from a ready one
 abbrev pub Succeeds : State → Call → Answer → Type 0

@@ -1,0 +1,182 @@
+-- Where ticks come before each access, the spin limit is long enough and the wire has room, an `init` does not stall.
+use Rattle.std.proofs.Common.{◌≡◌, ◌≢◌, ℕ, zero, suc, ◌+◌, ◌*◌, ◌≤◌, ◌<◌, Bool, true, false, ◌==◌, inl, inr, List, [], ◌∷◌, ◌++◌, length, Result, Ok, Err, Option, Some, None, refl, arith, sym, ◌∙◌, ap, subst, ◌%◌, ◌/◌}
+use Rattle.uart_spec.specs.declared.config.Config.{Config}
+use Rattle.uart_spec.specs.declared.errors.InvalidDivisorError.{InvalidDivisorError}
+use Rattle.uart_spec.specs.declared.errors.InvalidDivisorError.TheVariants.{NonInteger, OutOfRange}
+use Rattle.uart_machine.specs.Progress.{HasDivisor, IsTimely, HasRoom, left}
+use Rattle.uart_machine.specs.Run.{State, machine_of, HasInited, init_answer}
+use Rattle.uart_machine.specs.Sound.{IsSound}
+use Rattle.uart_machine.specs.declared.call.Answer.{Answer}
+use Rattle.uart_machine.specs.declared.call.Answer.TheVariants.{Done, InitRefused}
+use Rattle.uart_spec.specs.declared.errors.InitError.{InitError}
+use Rattle.uart_spec.specs.declared.errors.InitError.TheVariants.{InvalidBaudRate, DeviceNotPresent, Stalled}
+use Rattle.uart_spec.specs.Baud.{prescaler}
+use Rattle.uart_spec.specs.BaudRate.{to_integer}
+use Rattle.uart_16550.specs.Tty.{inner_of}
+use Rattle.std.proofs.Math.Nat.{mul-div_cancel_left}
+use Rattle.std.proofs.lemmas.Grind.{common_steps}
+use Rattle.uart_machine.proofs.Succeeds.{few_left}
+use Rattle.uart_machine.proofs.WaitEnds.{no_stall-empty}
+use Rattle.uart_spec.specs.declared.registers.fifo_trigger_level.FifoTriggerLevel.{FifoTriggerLevel}
+use Rattle.uart_16550.specs.Access.{Access, Read, Write, Path}
+use Rattle.uart_16550.specs.Grammar.{Language, Settings, Only, Then, Times, Asks, Reads}
+use Rattle.uart_16550.specs.Driver.{Doing, Fields, fields, settings_of, Saving, Plain, Sets, Next, with_config, with_fifo}
+use Rattle.uart_16550.specs.Receive.{Miss}
+use Rattle.uart_16550.specs.Init.{Keeps, KeepsPatterns, ChecksPresence, frame_bits, line_writes, fifo_bits, SetsFifo, Discards, Drains, Begins, DivisorOf, Inits}
+use Rattle.uart_machine.specs.declared.event.Event.{Event}
+use Rattle.uart_machine.specs.declared.event.Event.TheVariants.{Ticks, Arrive, Lines, Access as Gate, Mark}
+use Rattle.uart_machine.specs.Chip.{ChipState, is_dlab_set, ticks, arrive, change_lines}
+use Rattle.uart_machine.specs.Registers.{has_any}
+use Rattle.uart_machine.specs.Machine.{MachineState, MachineStep, before_access, at_access}
+use Rattle.uart_machine.proofs.Sounds.{latches-perform}
+use Rattle.uart_machine.proofs.Left.{nearer-less}
+use Rattle.uart_machine.proofs.Nearing.{Runs, Nears, AllNoData, runs-step, nearer-latch_step, nears-trans, nears-path}
+use Rattle.uart_machine.proofs.BlockLaws.{path_split}
+use Rattle.uart_machine.proofs.Served.{path_as}
+
+-- ---- languages and doings that send nothing
+
+-- each path of the language's lists nears the end
+abbrev NearsBy : Language → Type 0
+NearsBy L = (s : Settings) (l : List Access) → L s l → (m n : MachineState) → Runs m → Path MachineStep m l n → Nears m n
+
+abbrev NearsByDoing : Doing → Type 0
+NearsByDoing G = (f : Fields) (l : List Access) (after : Fields) → G f l after → (m n : MachineState) → Runs m → Path MachineStep m l n → Nears m n
+
+-- two lists in turn
+nears_both : (xs ys l : List Access) → l ≡ xs ++ ys → (m n : MachineState) → Path MachineStep m l n →
+    ((o : MachineState) → Path MachineStep m xs o → Nears m o) → ((o : MachineState) → Runs o → Path MachineStep o ys n → Nears o n) → Nears m n
+nears_both xs ys l e m n p first second =
+    let q = path_split MachineStep m n xs ys (path_as m n l (xs ++ ys) e p) in
+    let a = first q.0 q.1 in
+    nears-trans m q.0 n a (second q.0 a.runs q.2)
+
+nears_then : (P Q : Language) → NearsBy P → NearsBy Q → NearsBy (Then P Q)
+nears_then P Q p q s l t m n r path =
+    nears_both t.front t.back l t.whole m n path (λ o a. p s t.front t.first m o r a) (λ o v b. q s t.back t.second o n v b)
+
+nears_next : (G H : Doing) → NearsByDoing G → NearsByDoing H → NearsByDoing (Next G H)
+nears_next G H p q f l after t m n r path =
+    nears_both t.front t.back l t.whole m n path (λ o a. p f t.front t.mid t.first m o r a) (λ o v b. q t.mid t.back after t.second o n v b)
+
+nears_list : (list : List Access) → AllNoData list → NearsBy (Only list)
+nears_list list quiet s l t m n r path = nears-path list m n r quiet (path_as m n l list t.is path)
+
+nears_sets : (change : Fields → Fields) → NearsByDoing (Sets change)
+nears_sets change f l after t m n r path = nears-path [] m n r tt (path_as m n l [] t.0 path)
+
+nears_asks : (register bits : ℕ) (outcome : Bool) → NearsBy (Asks register bits outcome)
+nears_asks register bits outcome s l t m n r path = nears-path (Read register t.answer ∷ []) m n r (tt, tt) (path_as m n l (Read register t.answer ∷ []) t.is path)
+
+nears_times : (k : ℕ) (P : Language) → NearsBy P → NearsBy (Times k P)
+nears_times zero P p s l t m n r path = nears_list [] tt s l t m n r path
+nears_times (suc k) P p s l t m n r path = nears_then P (Times k P) p (nears_times k P p) s l t m n r path
+
+-- ---- the pieces of `init`
+
+nears_keeps : (pattern : ℕ) (outcome : Bool) → NearsBy (Keeps pattern outcome)
+nears_keeps pattern outcome s l (back, kept, is) m n r path =
+    nears-path (Write 7 pattern ∷ Read 7 back ∷ []) m n r (refl, (tt, tt)) (path_as m n l (Write 7 pattern ∷ Read 7 back ∷ []) is path)
+
+nears_presence : NearsBy (ChecksPresence true)
+nears_presence s l (old, t) m n r path =
+    nears_then (Only (Read 7 old ∷ [])) (Then (KeepsPatterns true) (Only (Write 7 old ∷ []))) (nears_list (Read 7 old ∷ []) (tt, tt))
+    (nears_then (KeepsPatterns true) (Only (Write 7 old ∷ [])) (λ s l t m n r path. nears_then (Keeps 66 true) (Keeps 115 true) (nears_keeps 66 true) (nears_keeps 115 true) s l t m n r path)
+    (nears_list (Write 7 old ∷ []) (refl, tt))) s l t m n r path
+
+latches-before : (events : List Event) (c : ChipState) → (before_access events c).latches ≡ c.latches
+latches-before [] c = refl
+latches-before (Ticks n ∷ events) c = latches-before events (ticks n c) ∙ latches-perform (Ticks n) c
+latches-before (Arrive byte errors ∷ events) c = latches-before events (arrive byte errors c)
+latches-before (Lines inputs ∷ events) c = latches-before events (change_lines inputs c)
+latches-before (Gate ∷ events) c = refl
+latches-before (Mark ∷ events) c = refl
+
+-- the divisor latch is written under DLAB, so nothing is sent
+nears_line : (divisor frame : ℕ) → NearsBy (Only (line_writes divisor frame))
+nears_line divisor frame s l t m n r path =
+    nears_both (Write 3 0 ∷ Write 1 0 ∷ []) (Write 3 128 ∷ Write 0 (divisor % 256) ∷ later) (line_writes divisor frame) refl m n (path_as m n l (line_writes divisor frame) t.is path)
+    (λ o a. nears-path (Write 3 0 ∷ Write 1 0 ∷ []) m o r (refl, (refl, tt)) a)
+    (λ o v b. latched o v b)
+  where
+    later : List Access
+    later = Write 1 (divisor / 256) ∷ Write 3 0 ∷ Write 3 frame ∷ []
+
+    latched : (o : MachineState) → Runs o → Path MachineStep o (Write 3 128 ∷ Write 0 (divisor % 256) ∷ later) n → Nears o n
+    latched o v (p, under, (q, latch, rest)) =
+        let a = nears-path (Write 3 128 ∷ []) o p v (refl, tt) (p, under, refl) in
+        let lcr : p.chip.latches.lcr ≡ 128 = ap (λ (w : MachineState). w.chip.latches.lcr) under in
+        let on : is_dlab_set (at_access p).chip.latches ≡ true = ap (λ latches. is_dlab_set latches) (latches-before p.ahead p.chip) ∙ ap (λ value. has_any value 128) lcr in
+        let b = nearer-latch_step p q (divisor % 256) a.runs.sound a.runs.ticked a.runs.room on latch in
+        let c : Nears p q = record { runs = runs-step p q (Write 0 (divisor % 256)) a.runs latch b; nearer = nearer-less 0 1 _ _ (omega arith) b } in
+        nears-trans o p n a (nears-trans p q n c (nears-path later q n c.runs (refl, (refl, (refl, tt))) rest))
+
+nears_fifo : (level : Option FifoTriggerLevel) (on : Bool) → NearsBy (SetsFifo level on)
+nears_fifo None on s l (off, is) m n r path = nears-path (Write 2 (fifo_bits None) ∷ []) m n r (refl, tt) (path_as m n l (Write 2 (fifo_bits None) ∷ []) is path)
+nears_fifo (Some level) on s l t m n r path =
+    nears_then (Only (Write 2 (fifo_bits (Some level)) ∷ [])) (Asks 2 192 on) (nears_list (Write 2 (fifo_bits (Some level)) ∷ []) (refl, tt)) (nears_asks 2 192 on) s l t m n r path
+
+nears_discards : NearsBy Discards
+nears_discards s l t m n r path = nears_then (Asks 5 1 true) (Reads 0) (nears_asks 5 1 true) (λ s l t m n r path. nears-path (Read 0 t.0 ∷ []) m n r (tt, tt) (path_as m n l (Read 0 t.0 ∷ []) t.1 path)) s l t m n r path
+
+nears_drains : NearsBy Drains
+nears_drains s l (inl t) m n r path = nears_times 17 Discards nears_discards s l t m n r path
+nears_drains s l (inr t) m n r path = nears_then (Times t.0 Discards) Miss (nears_times t.0 Discards nears_discards) (nears_asks 5 1 false) s l t.2 m n r path
+
+-- from the configuration stored to MCR written
+nears_begins : (config : Config) (divisor : ℕ) (fifo : Bool) → NearsByDoing (Begins config divisor fifo)
+nears_begins config divisor fifo =
+    nears_next (Sets (with_config config)) _ (nears_sets (with_config config))
+    (nears_next (Saving set_up) _ (λ f l after t m n r path. nears_set_up _ l t.0 m n r path)
+    (nears_next (Sets (with_fifo fifo)) _ (nears_sets (with_fifo fifo))
+    (nears_next (Plain Drains) _ (λ f l after t m n r path. nears_drains _ l t.0 m n r path)
+    (λ f l after t m n r path. nears_list (Write 4 11 ∷ []) (refl, tt) _ l t.0 m n r path))))
+  where
+    set_up : Language
+    set_up = Then (ChecksPresence true) (Then (Only (line_writes divisor (frame_bits config))) (SetsFifo config.fifo_trigger_level fifo))
+
+    nears_set_up : NearsBy set_up
+    nears_set_up = nears_then (ChecksPresence true) _ nears_presence (nears_then (Only (line_writes divisor (frame_bits config))) _ (nears_line divisor (frame_bits config)) (nears_fifo config.fifo_trigger_level fifo))
+
+-- ---- a configuration with a divisor is not refused for its baud rate
+
+no_refusal : (config : Config) (cause : InvalidDivisorError) → HasDivisor config → DivisorOf config (Err cause) → ⊥
+no_refusal config (NonInteger error) h refused = refused.0 h.divisor h.is_divisor.0
+no_refusal config (OutOfRange other) h refused =
+    let factor : ℕ = 16 * (prescaler config.prescaler_division_factor + 1) * to_integer config.baud_rate in
+    let some : 0 < factor = positive (prescaler config.prescaler_division_factor) (to_integer config.baud_rate) h.computable.baud_rate in
+    let same : other ≡ h.divisor =
+    sym (mul-div_cancel_left other some) ∙ (ap (λ n. n / factor) (refused.0 ∙ sym h.is_divisor.0) ∙ mul-div_cancel_left h.divisor some) in
+    absurd (omega (arith, same, refused.1, h.is_divisor.2))
+  where
+    positive : (p b : ℕ) → 0 < b → 0 < 16 * (p + 1) * b
+    positive p b some = grind (arith, common_steps)
+
+-- ---- `init`
+
+-- the limit stays
+limit-begins : (config : Config) (divisor : ℕ) (fifo : Bool) (f : Fields) (l : List Access) (mid : Fields) → Begins config divisor fifo f l mid → mid.limit ≡ f.limit
+limit-begins config divisor fifo f l mid b =
+    let at : Fields → ℕ = λ g. g.limit in
+    let c = b.second in
+    let d = c.second in
+    let e = d.second in
+    ap at e.second.1 ∙ (ap at e.first.1 ∙ (ap at d.first.1 ∙ (ap at c.first.1 ∙ ap at b.first.1)))
+
+pub init_succeeds : (s t : State) (config : Config) (a : Answer) → IsSound (machine_of s) → IsTimely s → HasRoom 0 (machine_of s) → HasDivisor config → HasInited config a (inner_of s) (inner_of t) →
+    a ≢ InitRefused DeviceNotPresent → a ≡ Done
+init_succeeds s t config a w timely room divisor h present = go h.result h.answered h.did.does
+  where
+    f : Fields
+    f = fields (inner_of s)
+
+    go : (result : Result (Unit {0}) InitError) → a ≡ init_answer result → Inits config result f h.did.list (fields (inner_of t)) → a ≡ Done
+    go (Ok x) e does = e
+    go (Err (InvalidBaudRate cause)) e does = absurd (no_refusal config cause divisor does.0)
+    go (Err DeviceNotPresent) e does = absurd (present e)
+    go (Err Stalled) e (other, fifo, is, next) =
+        let q = path_split MachineStep (machine_of s) (machine_of t) next.front next.back (path_as (machine_of s) (machine_of t) h.did.list (next.front ++ next.back) next.whole h.did.path) in
+        let r : Runs (machine_of s) = record { sound = w; ticked = timely.ticked; room = room } in
+        let a = nears_begins config other fifo f next.front next.mid next.first (machine_of s) q.0 r q.1 in
+        let few : left q.0.chip.transmitter < next.mid.limit = rw (limit-begins config other fifo f next.front next.mid next.first) (few_left s next.front q.0 w timely q.1) in
+        absurd (no_stall-empty (settings_of next.mid) next.mid.limit next.back q.0 (machine_of t) a.runs few next.second.0 q.2)
