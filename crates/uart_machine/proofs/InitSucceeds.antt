@@ -1,5 +1,5 @@
 -- Where ticks come before each access, the spin limit is long enough and the wire has room, an `init` does not stall.
-use Rattle.std.proofs.Common.{◌≡◌, ◌≢◌, ℕ, zero, suc, ◌+◌, ◌*◌, ◌≤◌, ◌<◌, Bool, true, false, ◌==◌, inl, inr, List, [], ◌∷◌, ◌++◌, length, Result, Ok, Err, Option, Some, None, refl, arith, sym, ◌∙◌, ap, subst, ◌%◌, ◌/◌}
+use Rattle.std.proofs.Common.{◌≡◌, ◌≢◌, ℕ, zero, suc, ◌+◌, ◌*◌, ◌<◌, Bool, true, false, inl, inr, List, [], ◌∷◌, ◌++◌, Result, Ok, Err, Option, Some, None, refl, arith, sym, ◌∙◌, ap, ◌%◌, ◌/◌}
 use Rattle.uart_spec.specs.declared.config.Config.{Config}
 use Rattle.uart_spec.specs.declared.errors.InvalidDivisorError.{InvalidDivisorError}
 use Rattle.uart_spec.specs.declared.errors.InvalidDivisorError.TheVariants.{NonInteger, OutOfRange}
@@ -30,7 +30,8 @@ use Rattle.uart_machine.specs.Registers.{has_any}
 use Rattle.uart_machine.specs.Machine.{MachineState, MachineStep, before_access, at_access}
 use Rattle.uart_machine.proofs.Sounds.{latches-perform}
 use Rattle.uart_machine.proofs.Left.{nearer-less}
-use Rattle.uart_machine.proofs.Nearing.{Runs, Nears, AllNoData, runs-step, nearer-latch_step, nears-trans, nears-path}
+use Rattle.uart_machine.proofs.Lasting.{AllSendNothing}
+use Rattle.uart_machine.proofs.Nearing.{Runs, Nears, runs-step, nearer-latch, nears-trans, nears-path}
 use Rattle.uart_machine.proofs.BlockLaws.{path_split}
 use Rattle.uart_machine.proofs.Served.{path_as}
 
@@ -59,7 +60,7 @@ nears_next : (G H : Doing) → NearsByDoing G → NearsByDoing H → NearsByDoin
 nears_next G H p q f l after t m n r path =
     nears_both t.front t.back l t.whole m n path (λ o a. p f t.front t.mid t.first m o r a) (λ o v b. q t.mid t.back after t.second o n v b)
 
-nears_list : (list : List Access) → AllNoData list → NearsBy (Only list)
+nears_list : (list : List Access) → AllSendNothing list → NearsBy (Only list)
 nears_list list quiet s l t m n r path = nears-path list m n r quiet (path_as m n l list t.is path)
 
 nears_sets : (change : Fields → Fields) → NearsByDoing (Sets change)
@@ -107,7 +108,7 @@ nears_line divisor frame s l t m n r path =
         let a = nears-path (Write 3 128 ∷ []) o p v (refl, tt) (p, under, refl) in
         let lcr : p.chip.latches.lcr ≡ 128 = ap (λ (w : MachineState). w.chip.latches.lcr) under in
         let on : is_dlab_set (at_access p).chip.latches ≡ true = ap (λ latches. is_dlab_set latches) (latches-before p.ahead p.chip) ∙ ap (λ value. has_any value 128) lcr in
-        let b = nearer-latch_step p q (divisor % 256) a.runs.sound a.runs.ticked a.runs.room on latch in
+        let b = nearer-latch p q (divisor % 256) a.runs.sound a.runs.ticked a.runs.room on latch in
         let c : Nears p q = record { runs = runs-step p q (Write 0 (divisor % 256)) a.runs latch b; nearer = nearer-less 0 1 _ _ (omega arith) b } in
         nears-trans o p n a (nears-trans p q n c (nears-path later q n c.runs (refl, (refl, (refl, tt))) rest))
 

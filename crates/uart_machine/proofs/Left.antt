@@ -1,8 +1,8 @@
 -- With room on the wire each tick brings the transmitter nearer to its end.
-use Rattle.std.proofs.Common.{◌≡◌, ℕ, zero, suc, ◌+◌, ◌-◌, ◌*◌, ◌≤◌, ◌<◌, Bool, true, false, nat_lt, List, [], ◌∷◌, ◌++◌, length, length-append, Option, Some, None, refl, arith, sym, ◌∙◌, ap, subst}
+use Rattle.std.proofs.Common.{◌≡◌, ℕ, suc, ◌+◌, ◌-◌, ◌*◌, ◌≤◌, ◌<◌, Bool, true, false, nat_lt, List, [], ◌∷◌, ◌++◌, length, length-append, Option, Some, None, refl, arith, sym, ◌∙◌, ap, subst}
 use Rattle.std.proofs.lemmas.Grind.{common_steps}
 use Rattle.uart_machine.specs.declared.transmitter.Shifting.{Shifting}
-use Rattle.uart_machine.specs.Transmitter.{TransmitterState, shift, refill, tick, out, held, shift_bytes, room}
+use Rattle.uart_machine.specs.Transmitter.{TransmitterState, shift, refill, tick, out, room}
 use Rattle.uart_machine.specs.Sound.{IsTicking, IsSoundTransmitter}
 use Rattle.uart_machine.specs.Progress.{left_of, left}
 

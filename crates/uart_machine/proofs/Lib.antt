@@ -3,6 +3,7 @@ pub mod Left
 pub mod Marks
 pub mod ReceiverSounds
 pub mod TransmitterSounds
+pub mod Lasting
 pub mod Sounds
 pub mod Nearing
 pub mod Constants

@@ -1,10 +1,10 @@
 -- Where ticks come before each access, the spin limit is long enough and the wire has room, calls do not stall.
-use Rattle.std.proofs.Common.{◌≡◌, ℕ, zero, suc, ◌+◌, ◌*◌, ◌≤◌, ◌<◌, Bool, true, false, inl, inr, List, [], ◌∷◌, ◌++◌, length, length-append, take, Result, Ok, Err, refl, arith, sym, ◌∙◌, ap, subst}
+use Rattle.std.proofs.Common.{◌≡◌, ℕ, ◌+◌, ◌≤◌, ◌<◌, Bool, List, [], ◌++◌, length, length-append, take, Result, Ok, Err, refl, arith, sym, ◌∙◌, ap, subst}
 use Rattle.std.specs.List.{concat}
 use Rattle.std.proofs.lemmas.List.{length-take}
 use Rattle.uart_spec.specs.declared.errors.StalledError.{StalledError}
 use Rattle.uart_16550.specs.Access.{Access, Path}
-use Rattle.uart_16550.specs.Grammar.{Language, Settings, Then, InOrder, Times, AllMisses, Asks}
+use Rattle.uart_16550.specs.Grammar.{Language, Settings, Then, InOrder, AllMisses}
 use Rattle.uart_16550.specs.Driver.{fields, settings_of}
 use Rattle.uart_16550.specs.Transmit.{SendMiss, Round, SendsExact}
 use Rattle.uart_16550.specs.Expansion.{expansion, SendsEach, SendsText}
@@ -12,7 +12,6 @@ use Rattle.uart_16550.specs.Io.{Writes, Flushes}
 use Rattle.uart_16550.specs.Tty.{inner_of}
 use Rattle.uart_machine.specs.declared.call.Answer.{Answer}
 use Rattle.uart_machine.specs.declared.call.Answer.TheVariants.{Done, Count}
-use Rattle.uart_machine.specs.Transmitter as transmitter
 use Rattle.uart_machine.specs.Machine.{MachineState, MachineStep}
 use Rattle.uart_machine.specs.Sound.{IsSound}
 use Rattle.uart_machine.specs.Conserved.{out}
@@ -22,7 +21,7 @@ use Rattle.uart_machine.specs.Progress.{IsTimely, IsUnchecked, left, HasRoom}
 use Rattle.uart_machine.proofs.Sounds.{sound_path}
 use Rattle.uart_machine.proofs.Left.{left-most}
 use Rattle.uart_machine.proofs.Nearing.{Runs, ticked-path}
-use Rattle.uart_machine.proofs.Constants.{same_pace-path}
+use Rattle.uart_machine.proofs.Constants.{same_pace}
 use Rattle.uart_machine.proofs.BlockLaws.{PassedBlocks, path_split}
 use Rattle.uart_machine.proofs.CallBlocks.{InBlocks, Makes, passed_in_blocks, pieces_blocks, cut_whole}
 use Rattle.uart_machine.proofs.CallKeeps.{sends_each_blocks}
@@ -46,7 +45,7 @@ runs s w timely room = record { sound = w; ticked = timely.ticked; room = room }
 pub few_left : (s : State) (made : List Access) (m : MachineState) → IsSound (machine_of s) → IsTimely s → Path MachineStep (machine_of s) made m → left m.chip.transmitter < (settings_at s).limit
 few_left s made m w timely p =
     let most = left-most m.chip.fifo m.chip.transmitter (sound_path made (machine_of s) m w p).chip.transmitter in
-    let same = (same_pace-path made (machine_of s) m p).char_ticks in
+    let same = (same_pace made (machine_of s) m p).char_ticks in
     omega (arith, most, same, timely.limit)
 
 -- ---- bytes are sent, and then a wait for room is in vain: there was none
@@ -57,7 +56,7 @@ no_stall-after s t L l written w ready timely off room makes fits path =
     let q = path_split MachineStep m t fits.front fits.back (path_as m t l (fits.front ++ fits.back) fits.whole path) in
     let p = sent q.0 q.1 in
     let long : length (out q.0) ≡ length (out m) + length written = ap length p.passed.went.sends.grows ∙ length-append (out m) written in
-    let same = (same_pace-path fits.front m q.0 q.1).capacity in
+    let same = (same_pace fits.front m q.0 q.1).capacity in
     let r : Runs q.0 = record { sound = p.passed.sound; ticked = ticked-path fits.front m q.0 timely.ticked q.1; room = omega (arith, long, same, room) } in
     no_stall-room (settings_at s) off (settings_at s).limit fits.back q.0 t r (few_left s fits.front q.0 w timely q.1) fits.second q.2
   where

@@ -1,14 +1,12 @@
 -- A wait that is long enough ends: each look brings the transmitter nearer to its end, and then the look shows what is awaited.
-use Rattle.std.proofs.Common.{◌≡◌, ℕ, zero, suc, ◌+◌, ◌*◌, ◌≤◌, ◌<◌, Bool, true, false, ◌==◌, List, [], ◌∷◌, ◌++◌, length, Option, Some, None, refl, arith, sym, ◌∙◌, ap, subst}
+use Rattle.std.proofs.Common.{◌≡◌, ℕ, zero, suc, ◌*◌, ◌≤◌, ◌<◌, true, false, ◌==◌, List, [], ◌∷◌, ◌++◌, length, Option, Some, None, refl, arith, ◌∙◌, ap}
 use Rattle.std.proofs.lemmas.Grind.{common_steps}
 use Rattle.uart_spec.specs.Bits.{has}
 use Rattle.uart_16550.specs.Access.{Access, Read, Path}
-use Rattle.uart_16550.specs.Grammar.{Language, Settings, Times, Then, Asks}
-use Rattle.uart_16550.specs.Transmit.{SendRefused, SendMiss}
-use Rattle.uart_spec.specs.declared.errors.ByteSendError.{ByteSendError}
+use Rattle.uart_16550.specs.Grammar.{Settings, Times, Asks}
+use Rattle.uart_16550.specs.Transmit.{SendMiss}
 use Rattle.uart_spec.specs.declared.errors.ByteSendError.TheVariants.{NoCapacity, RemoteNotClearToSend}
 use Rattle.uart_machine.specs.declared.transmitter.Shifting.{Shifting}
-use Rattle.uart_machine.specs.Registers.{has_any}
 use Rattle.uart_machine.specs.Chip.{is_transmitter_empty}
 use Rattle.uart_machine.specs.Machine.{MachineState, MachineStep}
 use Rattle.uart_machine.specs.Progress.{left_of, left}
