@@ -29,61 +29,59 @@ use Rattle.uart_machine.specs.Chip.{ChipState, is_dlab_set, ticks, arrive, chang
 use Rattle.uart_machine.specs.Registers.{has_any}
 use Rattle.uart_machine.specs.Machine.{MachineState, MachineStep, before_access, at_access}
 use Rattle.uart_machine.proofs.Sounds.{latches-perform}
-use Rattle.uart_machine.proofs.Left.{nearer-less}
 use Rattle.uart_machine.proofs.Lasting.{AllSendNothing}
-use Rattle.uart_machine.proofs.Nearing.{Runs, Nears, runs-step, nearer-latch, nears-trans, nears-path}
+use Rattle.uart_machine.proofs.Nearing.{RunsFree, free_runs, free-step, free-path, nearer-latch}
 use Rattle.uart_machine.proofs.BlockLaws.{path_split}
 use Rattle.uart_machine.proofs.Served.{path_as}
 
 -- ---- languages and doings that send nothing
 
--- each path of the language's lists nears the end
-abbrev NearsBy : Language → Type 0
-NearsBy L = (s : Settings) (l : List Access) → L s l → (m n : MachineState) → Runs m → Path MachineStep m l n → Nears m n
+-- on each path of the language's lists the machine keeps what it needs
+abbrev FreesBy : Language → Type 0
+FreesBy L = (s : Settings) (l : List Access) → L s l → (m n : MachineState) → RunsFree m → Path MachineStep m l n → RunsFree n
 
-abbrev NearsByDoing : Doing → Type 0
-NearsByDoing G = (f : Fields) (l : List Access) (after : Fields) → G f l after → (m n : MachineState) → Runs m → Path MachineStep m l n → Nears m n
+abbrev FreesByDoing : Doing → Type 0
+FreesByDoing G = (f : Fields) (l : List Access) (after : Fields) → G f l after → (m n : MachineState) → RunsFree m → Path MachineStep m l n → RunsFree n
 
 -- two lists in turn
-nears_both : (xs ys l : List Access) → l ≡ xs ++ ys → (m n : MachineState) → Path MachineStep m l n →
-    ((o : MachineState) → Path MachineStep m xs o → Nears m o) → ((o : MachineState) → Runs o → Path MachineStep o ys n → Nears o n) → Nears m n
-nears_both xs ys l e m n p first second =
+frees_both : (xs ys l : List Access) → l ≡ xs ++ ys → (m n : MachineState) → Path MachineStep m l n →
+    ((o : MachineState) → Path MachineStep m xs o → RunsFree o) → ((o : MachineState) → RunsFree o → Path MachineStep o ys n → RunsFree n) → RunsFree n
+frees_both xs ys l e m n p first second =
     let q = path_split MachineStep m n xs ys (path_as m n l (xs ++ ys) e p) in
-    let a = first q.0 q.1 in
-    nears-trans m q.0 n a (second q.0 a.runs q.2)
+    second q.0 (first q.0 q.1) q.2
 
-nears_then : (P Q : Language) → NearsBy P → NearsBy Q → NearsBy (Then P Q)
-nears_then P Q p q s l t m n r path =
-    nears_both t.front t.back l t.whole m n path (λ o a. p s t.front t.first m o r a) (λ o v b. q s t.back t.second o n v b)
+frees_then : (P Q : Language) → FreesBy P → FreesBy Q → FreesBy (Then P Q)
+frees_then P Q p q s l t m n r path =
+    frees_both t.front t.back l t.whole m n path (λ o a. p s t.front t.first m o r a) (λ o v b. q s t.back t.second o n v b)
 
-nears_next : (G H : Doing) → NearsByDoing G → NearsByDoing H → NearsByDoing (Next G H)
-nears_next G H p q f l after t m n r path =
-    nears_both t.front t.back l t.whole m n path (λ o a. p f t.front t.mid t.first m o r a) (λ o v b. q t.mid t.back after t.second o n v b)
+frees_next : (G H : Doing) → FreesByDoing G → FreesByDoing H → FreesByDoing (Next G H)
+frees_next G H p q f l after t m n r path =
+    frees_both t.front t.back l t.whole m n path (λ o a. p f t.front t.mid t.first m o r a) (λ o v b. q t.mid t.back after t.second o n v b)
 
-nears_list : (list : List Access) → AllSendNothing list → NearsBy (Only list)
-nears_list list quiet s l t m n r path = nears-path list m n r quiet (path_as m n l list t.is path)
+frees_list : (list : List Access) → AllSendNothing list → FreesBy (Only list)
+frees_list list quiet s l t m n r path = free-path list m n r quiet (path_as m n l list t.is path)
 
-nears_sets : (change : Fields → Fields) → NearsByDoing (Sets change)
-nears_sets change f l after t m n r path = nears-path [] m n r tt (path_as m n l [] t.0 path)
+frees_sets : (change : Fields → Fields) → FreesByDoing (Sets change)
+frees_sets change f l after t m n r path = free-path [] m n r tt (path_as m n l [] t.0 path)
 
-nears_asks : (register bits : ℕ) (outcome : Bool) → NearsBy (Asks register bits outcome)
-nears_asks register bits outcome s l t m n r path = nears-path (Read register t.answer ∷ []) m n r (tt, tt) (path_as m n l (Read register t.answer ∷ []) t.is path)
+frees_asks : (register bits : ℕ) (outcome : Bool) → FreesBy (Asks register bits outcome)
+frees_asks register bits outcome s l t m n r path = free-path (Read register t.answer ∷ []) m n r (tt, tt) (path_as m n l (Read register t.answer ∷ []) t.is path)
 
-nears_times : (k : ℕ) (P : Language) → NearsBy P → NearsBy (Times k P)
-nears_times zero P p s l t m n r path = nears_list [] tt s l t m n r path
-nears_times (suc k) P p s l t m n r path = nears_then P (Times k P) p (nears_times k P p) s l t m n r path
+frees_times : (k : ℕ) (P : Language) → FreesBy P → FreesBy (Times k P)
+frees_times zero P p s l t m n r path = frees_list [] tt s l t m n r path
+frees_times (suc k) P p s l t m n r path = frees_then P (Times k P) p (frees_times k P p) s l t m n r path
 
 -- ---- the pieces of `init`
 
-nears_keeps : (pattern : ℕ) (outcome : Bool) → NearsBy (Keeps pattern outcome)
-nears_keeps pattern outcome s l (back, kept, is) m n r path =
-    nears-path (Write 7 pattern ∷ Read 7 back ∷ []) m n r (refl, (tt, tt)) (path_as m n l (Write 7 pattern ∷ Read 7 back ∷ []) is path)
+frees_keeps : (pattern : ℕ) (outcome : Bool) → FreesBy (Keeps pattern outcome)
+frees_keeps pattern outcome s l (back, kept, is) m n r path =
+    free-path (Write 7 pattern ∷ Read 7 back ∷ []) m n r (refl, (tt, tt)) (path_as m n l (Write 7 pattern ∷ Read 7 back ∷ []) is path)
 
-nears_presence : NearsBy (ChecksPresence true)
-nears_presence s l (old, t) m n r path =
-    nears_then (Only (Read 7 old ∷ [])) (Then (KeepsPatterns true) (Only (Write 7 old ∷ []))) (nears_list (Read 7 old ∷ []) (tt, tt))
-    (nears_then (KeepsPatterns true) (Only (Write 7 old ∷ [])) (λ s l t m n r path. nears_then (Keeps 66 true) (Keeps 115 true) (nears_keeps 66 true) (nears_keeps 115 true) s l t m n r path)
-    (nears_list (Write 7 old ∷ []) (refl, tt))) s l t m n r path
+frees_presence : FreesBy (ChecksPresence true)
+frees_presence s l (old, t) m n r path =
+    frees_then (Only (Read 7 old ∷ [])) (Then (KeepsPatterns true) (Only (Write 7 old ∷ []))) (frees_list (Read 7 old ∷ []) (tt, tt))
+    (frees_then (KeepsPatterns true) (Only (Write 7 old ∷ [])) (λ s l t m n r path. frees_then (Keeps 66 true) (Keeps 115 true) (frees_keeps 66 true) (frees_keeps 115 true) s l t m n r path)
+    (frees_list (Write 7 old ∷ []) (refl, tt))) s l t m n r path
 
 latches-before : (events : List Event) (c : ChipState) → (before_access events c).latches ≡ c.latches
 latches-before [] c = refl
@@ -94,50 +92,49 @@ latches-before (Gate ∷ events) c = refl
 latches-before (Mark ∷ events) c = refl
 
 -- the divisor latch is written under DLAB, so nothing is sent
-nears_line : (divisor frame : ℕ) → NearsBy (Only (line_writes divisor frame))
-nears_line divisor frame s l t m n r path =
-    nears_both (Write 3 0 ∷ Write 1 0 ∷ []) (Write 3 128 ∷ Write 0 (divisor % 256) ∷ later) (line_writes divisor frame) refl m n (path_as m n l (line_writes divisor frame) t.is path)
-    (λ o a. nears-path (Write 3 0 ∷ Write 1 0 ∷ []) m o r (refl, (refl, tt)) a)
+frees_line : (divisor frame : ℕ) → FreesBy (Only (line_writes divisor frame))
+frees_line divisor frame s l t m n r path =
+    frees_both (Write 3 0 ∷ Write 1 0 ∷ []) (Write 3 128 ∷ Write 0 (divisor % 256) ∷ later) (line_writes divisor frame) refl m n (path_as m n l (line_writes divisor frame) t.is path)
+    (λ o a. free-path (Write 3 0 ∷ Write 1 0 ∷ []) m o r (refl, (refl, tt)) a)
     (λ o v b. latched o v b)
   where
     later : List Access
     later = Write 1 (divisor / 256) ∷ Write 3 0 ∷ Write 3 frame ∷ []
 
-    latched : (o : MachineState) → Runs o → Path MachineStep o (Write 3 128 ∷ Write 0 (divisor % 256) ∷ later) n → Nears o n
+    latched : (o : MachineState) → RunsFree o → Path MachineStep o (Write 3 128 ∷ Write 0 (divisor % 256) ∷ later) n → RunsFree n
     latched o v (p, under, (q, latch, rest)) =
-        let a = nears-path (Write 3 128 ∷ []) o p v (refl, tt) (p, under, refl) in
+        let a = free-path (Write 3 128 ∷ []) o p v (refl, tt) (p, under, refl) in
         let lcr : p.chip.latches.lcr ≡ 128 = ap (λ (w : MachineState). w.chip.latches.lcr) under in
         let on : is_dlab_set (at_access p).chip.latches ≡ true = ap (λ latches. is_dlab_set latches) (latches-before p.ahead p.chip) ∙ ap (λ value. has_any value 128) lcr in
-        let b = nearer-latch p q (divisor % 256) a.runs.sound a.runs.ticked a.runs.room on latch in
-        let c : Nears p q = record { runs = runs-step p q (Write 0 (divisor % 256)) a.runs latch b; nearer = nearer-less 0 1 _ _ (omega arith) b } in
-        nears-trans o p n a (nears-trans p q n c (nears-path later q n c.runs (refl, (refl, (refl, tt))) rest))
+        let b = free-step p q (Write 0 (divisor % 256)) a latch (nearer-latch p q (divisor % 256) (free_runs p a) on latch) in
+        free-path later q n b (refl, (refl, (refl, tt))) rest
 
-nears_fifo : (level : Option FifoTriggerLevel) (on : Bool) → NearsBy (SetsFifo level on)
-nears_fifo None on s l (off, is) m n r path = nears-path (Write 2 (fifo_bits None) ∷ []) m n r (refl, tt) (path_as m n l (Write 2 (fifo_bits None) ∷ []) is path)
-nears_fifo (Some level) on s l t m n r path =
-    nears_then (Only (Write 2 (fifo_bits (Some level)) ∷ [])) (Asks 2 192 on) (nears_list (Write 2 (fifo_bits (Some level)) ∷ []) (refl, tt)) (nears_asks 2 192 on) s l t m n r path
+frees_fifo : (level : Option FifoTriggerLevel) (on : Bool) → FreesBy (SetsFifo level on)
+frees_fifo None on s l (off, is) m n r path = free-path (Write 2 (fifo_bits None) ∷ []) m n r (refl, tt) (path_as m n l (Write 2 (fifo_bits None) ∷ []) is path)
+frees_fifo (Some level) on s l t m n r path =
+    frees_then (Only (Write 2 (fifo_bits (Some level)) ∷ [])) (Asks 2 192 on) (frees_list (Write 2 (fifo_bits (Some level)) ∷ []) (refl, tt)) (frees_asks 2 192 on) s l t m n r path
 
-nears_discards : NearsBy Discards
-nears_discards s l t m n r path = nears_then (Asks 5 1 true) (Reads 0) (nears_asks 5 1 true) (λ s l t m n r path. nears-path (Read 0 t.0 ∷ []) m n r (tt, tt) (path_as m n l (Read 0 t.0 ∷ []) t.1 path)) s l t m n r path
+frees_discards : FreesBy Discards
+frees_discards s l t m n r path = frees_then (Asks 5 1 true) (Reads 0) (frees_asks 5 1 true) (λ s l t m n r path. free-path (Read 0 t.0 ∷ []) m n r (tt, tt) (path_as m n l (Read 0 t.0 ∷ []) t.1 path)) s l t m n r path
 
-nears_drains : NearsBy Drains
-nears_drains s l (inl t) m n r path = nears_times 17 Discards nears_discards s l t m n r path
-nears_drains s l (inr t) m n r path = nears_then (Times t.0 Discards) Miss (nears_times t.0 Discards nears_discards) (nears_asks 5 1 false) s l t.2 m n r path
+frees_drains : FreesBy Drains
+frees_drains s l (inl t) m n r path = frees_times 17 Discards frees_discards s l t m n r path
+frees_drains s l (inr t) m n r path = frees_then (Times t.0 Discards) Miss (frees_times t.0 Discards frees_discards) (frees_asks 5 1 false) s l t.2 m n r path
 
 -- from the configuration stored to MCR written
-nears_begins : (config : Config) (divisor : ℕ) (fifo : Bool) → NearsByDoing (Begins config divisor fifo)
-nears_begins config divisor fifo =
-    nears_next (Sets (with_config config)) _ (nears_sets (with_config config))
-    (nears_next (Saving set_up) _ (λ f l after t m n r path. nears_set_up _ l t.0 m n r path)
-    (nears_next (Sets (with_fifo fifo)) _ (nears_sets (with_fifo fifo))
-    (nears_next (Plain Drains) _ (λ f l after t m n r path. nears_drains _ l t.0 m n r path)
-    (λ f l after t m n r path. nears_list (Write 4 11 ∷ []) (refl, tt) _ l t.0 m n r path))))
+frees_begins : (config : Config) (divisor : ℕ) (fifo : Bool) → FreesByDoing (Begins config divisor fifo)
+frees_begins config divisor fifo =
+    frees_next (Sets (with_config config)) _ (frees_sets (with_config config))
+    (frees_next (Saving set_up) _ (λ f l after t m n r path. frees_set_up _ l t.0 m n r path)
+    (frees_next (Sets (with_fifo fifo)) _ (frees_sets (with_fifo fifo))
+    (frees_next (Plain Drains) _ (λ f l after t m n r path. frees_drains _ l t.0 m n r path)
+    (λ f l after t m n r path. frees_list (Write 4 11 ∷ []) (refl, tt) _ l t.0 m n r path))))
   where
     set_up : Language
     set_up = Then (ChecksPresence true) (Then (Only (line_writes divisor (frame_bits config))) (SetsFifo config.fifo_trigger_level fifo))
 
-    nears_set_up : NearsBy set_up
-    nears_set_up = nears_then (ChecksPresence true) _ nears_presence (nears_then (Only (line_writes divisor (frame_bits config))) _ (nears_line divisor (frame_bits config)) (nears_fifo config.fifo_trigger_level fifo))
+    frees_set_up : FreesBy set_up
+    frees_set_up = frees_then (ChecksPresence true) _ frees_presence (frees_then (Only (line_writes divisor (frame_bits config))) _ (frees_line divisor (frame_bits config)) (frees_fifo config.fifo_trigger_level fifo))
 
 -- ---- a configuration with a divisor is not refused for its baud rate
 
@@ -177,7 +174,7 @@ init_succeeds s t config a w timely room divisor h present = go h.result h.answe
     go (Err DeviceNotPresent) e does = absurd (present e)
     go (Err Stalled) e (other, fifo, is, next) =
         let q = path_split MachineStep (machine_of s) (machine_of t) next.front next.back (path_as (machine_of s) (machine_of t) h.did.list (next.front ++ next.back) next.whole h.did.path) in
-        let r : Runs (machine_of s) = record { sound = w; ticked = timely.ticked; room = room } in
-        let a = nears_begins config other fifo f next.front next.mid next.first (machine_of s) q.0 r q.1 in
+        let r : RunsFree (machine_of s) = record { sound = w; ticked = timely.ticked; room = room } in
+        let a = frees_begins config other fifo f next.front next.mid next.first (machine_of s) q.0 r q.1 in
         let few : left q.0.chip.transmitter < next.mid.limit = rw (limit-begins config other fifo f next.front next.mid next.first) (few_left s next.front q.0 w timely q.1) in
-        absurd (no_stall-empty (settings_of next.mid) next.mid.limit next.back q.0 (machine_of t) a.runs few next.second.0 q.2)
+        absurd (no_stall-empty (settings_of next.mid) next.mid.limit next.back q.0 (machine_of t) (free_runs q.0 a) few next.second.0 q.2)

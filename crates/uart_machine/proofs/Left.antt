@@ -1,4 +1,4 @@
--- With room on the wire each tick brings the transmitter nearer to its end.
+-- With room on the wire, or in loopback, each tick brings the transmitter nearer to its end.
 use Rattle.std.proofs.Common.{◌≡◌, ℕ, suc, ◌+◌, ◌-◌, ◌*◌, ◌≤◌, ◌<◌, Bool, true, false, nat_lt, List, [], ◌∷◌, ◌++◌, length, length-append, Option, Some, None, refl, arith, sym, ◌∙◌, ap, subst}
 use Rattle.std.proofs.lemmas.Grind.{common_steps}
 use Rattle.uart_machine.specs.declared.transmitter.Shifting.{Shifting}
@@ -57,7 +57,7 @@ nearer-freed s t u e last some f g c k h = go u.queue refl
         record { fewer = let b = whole (x ∷ y ∷ xs) (sym g ∙ w) in rw (b, c) (grind (arith, common_steps)); no_longer = omega (arith, a.no_longer, h); capacity = k; char_ticks = c }
 
 -- a character is shifted on, or leaves for the wire, where there is room, or comes back
-nearer-some : (loopback : Bool) (s : Shifting) (t : TransmitterState) → t.shift_place ≡ Some s → 1 ≤ s.ticks_left → length (out t) ≤ t.capacity → Nearer 1 t (tick loopback t)
+nearer-some : (loopback : Bool) (s : Shifting) (t : TransmitterState) → t.shift_place ≡ Some s → 1 ≤ s.ticks_left → (loopback ≡ false → length (out t) ≤ t.capacity) → Nearer 1 t (tick loopback t)
 nearer-some loopback s t e some free = go (nat_lt 1 s.ticks_left) refl loopback refl
   where
     shifts : (u : TransmitterState) → shift loopback (Some s) t ≡ u → shift loopback t.shift_place t ≡ u
@@ -80,7 +80,7 @@ nearer-some loopback s t e some free = go (nat_lt 1 s.ticks_left) refl loopback 
         nearer-shifted loopback t u (shifts u (rw (f, g) refl)) (nearer-freed s t u e f some refl refl refl refl (rw long (simp length-append (omega arith))))
     go false f false g =
         let u : TransmitterState = record t { shift_place = None; wire = t.wire ++ s.byte ∷ [] } in
-        let few : length t.wire < t.capacity = omega (arith, long, free) in
+        let few : length t.wire < t.capacity = omega (arith, long, free g) in
         let k : nat_lt (length t.wire) t.capacity ≡ true = grind (arith, common_steps) in
         nearer-shifted loopback t u (shifts u (rw (f, g, k) refl)) (nearer-freed s t u e f some refl refl refl refl (rw long (simp length-append (omega arith))))
 
@@ -88,7 +88,7 @@ nearer-none : (loopback : Bool) (t : TransmitterState) → t.shift_place ≡ Non
 nearer-none loopback t e =
     nearer-shifted loopback t t (ap (λ place. shift loopback place t) e) (subst (λ (place : Option Shifting). Nearer 1 t (refill place t.queue t)) (sym e) (nearer-refill t.queue t e refl))
 
-pub nearer-tick : (fifo loopback : Bool) (t : TransmitterState) → IsSoundTransmitter fifo t → length (out t) ≤ t.capacity → Nearer 1 t (tick loopback t)
+pub nearer-tick : (fifo loopback : Bool) (t : TransmitterState) → IsSoundTransmitter fifo t → (loopback ≡ false → length (out t) ≤ t.capacity) → Nearer 1 t (tick loopback t)
 nearer-tick fifo loopback t w free = go t.shift_place refl
   where
     go : (place : Option Shifting) → t.shift_place ≡ place → Nearer 1 t (tick loopback t)

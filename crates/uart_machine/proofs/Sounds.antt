@@ -330,7 +330,7 @@ sound_path (access ∷ accesses) m n w p = sound_path accesses p.0 n (sound_step
 
 -- ---- the latches hold bytes
 
-latches-ticks : (n : ℕ) (c : ChipState) → (ticks n c).latches ≡ c.latches
+pub latches-ticks : (n : ℕ) (c : ChipState) → (ticks n c).latches ≡ c.latches
 latches-ticks zero c = refl
 latches-ticks (suc n) c = latches-ticks n c
 
@@ -345,7 +345,7 @@ latches_if : (c x y : ChipState) (b : Bool) → x.latches ≡ c.latches → y.la
 latches_if c x y true p q = p
 latches_if c x y false p q = q
 
-latches-read : (offset : ℕ) (c : ChipState) → (after_read offset c).latches ≡ c.latches
+pub latches-read : (offset : ℕ) (c : ChipState) → (after_read offset c).latches ≡ c.latches
 latches-read offset c =
     latches_if c _ _ (offset == offset_data) (latches_if c _ _ (is_dlab_set c.latches) refl refl)
     (latches_if c _ _ (offset == offset_isr) (latches_if c _ _ (interrupt c == isr_thr_empty) refl refl)

@@ -39,7 +39,7 @@ less_room : (n k : ℕ) (m : MachineState) → n ≤ k → HasRoom k m → HasRo
 less_room n k m h room = omega (arith, h, room)
 
 runs : (s : State) → IsSound (machine_of s) → IsTimely s → HasRoom 0 (machine_of s) → Runs (machine_of s)
-runs s w timely room = record { sound = w; ticked = timely.ticked; room = room }
+runs s w timely room = record { sound = w; ticked = timely.ticked; flows = λ e. omega (arith, room) }
 
 -- the limit exceeds what is left, there and after some accesses
 pub few_left : (s : State) (made : List Access) (m : MachineState) → IsSound (machine_of s) → IsTimely s → Path MachineStep (machine_of s) made m → left m.chip.transmitter < (settings_at s).limit
@@ -57,7 +57,7 @@ no_stall-after s t L l written w ready timely off room makes fits path =
     let p = sent q.0 q.1 in
     let long : length (out q.0) ≡ length (out m) + length written = ap length p.passed.went.sends.grows ∙ length-append (out m) written in
     let same = (same_pace fits.front m q.0 q.1).capacity in
-    let r : Runs q.0 = record { sound = p.passed.sound; ticked = ticked-path fits.front m q.0 timely.ticked q.1; room = omega (arith, long, same, room) } in
+    let r : Runs q.0 = record { sound = p.passed.sound; ticked = ticked-path fits.front m q.0 timely.ticked q.1; flows = λ e. omega (arith, long, same, room) } in
     no_stall-room (settings_at s) off (settings_at s).limit fits.back q.0 t r (few_left s fits.front q.0 w timely q.1) fits.second q.2
   where
     session : InSession (modes_of s) s

@@ -13,7 +13,7 @@ use Rattle.uart_machine.specs.Progress.{left_of, left}
 use Rattle.uart_machine.specs.Sound.{IsTicking}
 use Rattle.uart_machine.proofs.Bits.{has_one}
 use Rattle.uart_machine.proofs.Left.{Nearer}
-use Rattle.uart_machine.proofs.Nearing.{Runs, runs-step, nearer-step}
+use Rattle.uart_machine.proofs.Nearing.{Runs, runs-look, nearer-step}
 use Rattle.uart_machine.proofs.BlockLaws.{path_split, look_room}
 use Rattle.uart_machine.proofs.Served.{look_empty, path_as}
 
@@ -35,10 +35,10 @@ no_stall I bits w s (suc k) l m n r i few t p =
     looked next o (mid, step, same) rest = go (left mid.chip.transmitter) refl
       where
         a : Nearer 1 m.chip.transmitter mid.chip.transmitter
-        a = nearer-step m mid (Read 5 t.first.answer) r.sound r.ticked r.room tt step
+        a = nearer-step m mid (Read 5 t.first.answer) r tt step
 
         after : Runs mid
-        after = runs-step m mid (Read 5 t.first.answer) r step a
+        after = runs-look m mid t.first.answer r step a
 
         holds : I mid
         holds = w.kept m mid t.first.answer r i step
