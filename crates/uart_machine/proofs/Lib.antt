@@ -28,6 +28,7 @@ pub mod SessionCalls
 pub mod StatusSessions
 pub mod Served
 pub mod Sessions
+pub mod Latches
 pub mod ScriptLines
 pub mod ScriptDigits
 pub mod ScriptBytes
