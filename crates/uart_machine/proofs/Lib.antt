@@ -29,6 +29,11 @@ pub mod StatusSessions
 pub mod Served
 pub mod Sessions
 pub mod Latches
+pub mod Pieces
+pub mod Presence
+pub mod FifoShown
+pub mod KeptLists
+pub mod KeptExchanges
 pub mod ScriptLines
 pub mod ScriptDigits
 pub mod ScriptBytes
