@@ -3,13 +3,14 @@ use Rattle.std.proofs.Common.{◌≡◌, ℕ, zero, suc, Bool, true, false, inl,
 use Rattle.uart_spec.specs.declared.errors.ByteSendError.{ByteSendError}
 use Rattle.uart_spec.specs.declared.errors.ByteSendError.TheVariants.{NoCapacity, RemoteNotClearToSend}
 use Rattle.uart_spec.specs.declared.errors.StalledError.{StalledError}
-use Rattle.uart_16550.specs.Access.{Access, Read, Write}
+use Rattle.uart_16550.specs.Access.{Access, Read, Write, Path}
 use Rattle.uart_16550.specs.Grammar.{Language, Settings, Only, Then, InOrder, Times, FewMisses, AllMisses, Asks, Reads, IfChecks, Never}
 use Rattle.uart_16550.specs.Receive.{Hit, Miss, Awaited, ReceivesExact}
 use Rattle.uart_16550.specs.Transmit.{LinesAllow, SendHit, SendRefused, SendMiss, data_writes, Burst, Sends, Round, SendsAll, SendsExact, TrySends, Waits}
 use Rattle.uart_16550.specs.Init.{Discards, Drains}
 use Rattle.uart_machine.specs.Chip.{is_dlab_set}
-use Rattle.uart_machine.proofs.Latches.{Kept, kept_after, kept_after-append}
+use Rattle.uart_machine.specs.Machine.{MachineState, MachineStep}
+use Rattle.uart_machine.proofs.Latches.{Kept, kept_in, kept_after, kept_after-append, kept_path}
 
 -- these accesses change nothing of it
 abbrev pub KeepsAll : List Access → Type 0
@@ -130,3 +131,8 @@ pub keeps_sends_exact : {T : Type 0} (s : Settings) (bytes : List ℕ) (result :
 keeps_sends_exact s bytes (Ok x) l t = keeps_sends_all s bytes l t
 keeps_sends_exact s bytes (Err e) l (pieces, rest, cut, some, count, made) =
     keeps_then s _ _ (keeps_in_order s Round pieces (keeps_round s)) (keeps_all s SendMiss (keeps_send_miss s)) l made
+
+-- ---- the machine
+
+pub kept_still : (s : Settings) (P : Language) (l : List Access) (m n : MachineState) → AllKeep s P → is_dlab_set m.chip.latches ≡ false → P s l → Path MachineStep m l n → kept_in n.chip ≡ kept_in m.chip
+kept_still s P l m n keeps d t p = kept_path l m n p ∙ keeps l t (kept_in m.chip) d

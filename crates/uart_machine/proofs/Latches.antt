@@ -135,3 +135,7 @@ kept_step (Write offset value) m n s =
 pub kept_path : (made : List Access) (m n : MachineState) → Path MachineStep m made n → kept_in n.chip ≡ kept_after made (kept_in m.chip)
 kept_path [] m n p = ap (λ (o : MachineState). kept_in o.chip) p
 kept_path (access ∷ accesses) m n p = kept_path accesses p.0 n p.2 ∙ ap (kept_after accesses) (kept_step access m p.0 p.1)
+
+-- by what the list is
+pub kept_list : (l made : List Access) (m n : MachineState) → l ≡ made → Path MachineStep m l n → kept_in n.chip ≡ kept_after made (kept_in m.chip)
+kept_list l made m n is p = kept_path l m n p ∙ ap (λ k. kept_after k (kept_in m.chip)) is

@@ -34,6 +34,7 @@ pub mod Presence
 pub mod FifoShown
 pub mod KeptLists
 pub mod KeptExchanges
+pub mod FifoSteps
 pub mod ScriptLines
 pub mod ScriptDigits
 pub mod ScriptBytes
