@@ -35,6 +35,8 @@ pub mod FifoShown
 pub mod KeptLists
 pub mod KeptExchanges
 pub mod FifoSteps
+pub mod Emptied
+pub mod Inits
 pub mod ScriptLines
 pub mod ScriptDigits
 pub mod ScriptBytes

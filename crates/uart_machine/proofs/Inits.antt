@@ -1,0 +1,103 @@
+-- What an `init` leaves in the registers, and of the transmitter.
+use Rattle.std.proofs.Common.{◌≡◌, ℕ, ◌+◌, ◌*◌, ◌/◌, ◌%◌, ◌≤◌, ◌<◌, ◌==◌, Bool, true, false, not, ◌&&◌, List, [], ◌∷◌, refl, arith, sym, ◌∙◌, ap, bit_and, if◌then◌else◌}
+use Rattle.std.proofs.lemmas.Grind.{common_steps}
+use Rattle.std.proofs.lemmas.Nat.Bits.{bit_at_above}
+use Rattle.std.proofs.Math.Nat.{div-add-mod}
+use Rattle.uart_spec.specs.Fields.{word_length_code, parity_code}
+use Rattle.uart_spec.specs.declared.config.Config.{Config}
+use Rattle.uart_spec.specs.declared.registers.frame.WordLength.{WordLength}
+use Rattle.uart_spec.specs.declared.registers.frame.WordLength.TheVariants.{FiveBits, SixBits, SevenBits, EightBits}
+use Rattle.uart_spec.specs.declared.registers.frame.Parity.{Parity}
+use Rattle.uart_spec.specs.declared.registers.frame.Parity.TheVariants.{Disabled, Odd, Even, Forced1, Forced0}
+use Rattle.uart_16550.specs.Access.{Access, Read, Write, Path}
+use Rattle.uart_16550.specs.Grammar.{Settings, Only, Then, Reads}
+use Rattle.uart_16550.specs.Driver.{Fields, settings_of, Saving, Plain, Sets, Next, with_config, with_fifo, with_saved}
+use Rattle.uart_16550.specs.Init.{ChecksPresence, frame_bits, line_writes, SetsFifo, Drains, Begins, Ends}
+use Rattle.uart_machine.specs.declared.chip.Latches.{Latches}
+use Rattle.uart_machine.specs.Registers.{has_any, ier_bits}
+use Rattle.uart_machine.specs.Chip.{is_dlab_set, divisor}
+use Rattle.uart_machine.specs.Machine.{MachineState, MachineStep}
+use Rattle.uart_machine.specs.Ready.{has_fifo, is_level}
+use Rattle.uart_machine.specs.Sound.{IsSound}
+use Rattle.uart_machine.proofs.Bits.{has_bit}
+use Rattle.uart_machine.proofs.Sounds.{sound_path}
+use Rattle.uart_machine.proofs.BlockLaws.{path_as}
+use Rattle.uart_machine.proofs.Latches.{Kept, kept_in, kept_after, kept_list, kept_path}
+use Rattle.uart_machine.proofs.Pieces.{then_parts, next_stages}
+use Rattle.uart_machine.proofs.KeptLists.{keeps_drains, kept_still}
+use Rattle.uart_machine.proofs.FifoSteps.{sets_fifo}
+use Rattle.uart_machine.proofs.Emptied.{IsEmpty, empty_path}
+
+-- ---- the frame
+
+-- no frame has the bit that shows the divisor latch
+pub frame-dlab : (config : Config) → has_any (frame_bits config) 128 ≡ false
+frame-dlab config =
+    let low : frame_bits config < 128 = sum (word_length_code config.data_bits) _ (parity_code config.parity) (word config.data_bits) (stop config.extra_stop_bits) (parity config.parity) in
+    has_bit 7 (frame_bits config) ∙ ap (λ b. b == 1) (bit_at_above (frame_bits config) 7 7 low (omega arith))
+  where
+    word : (length : WordLength) → word_length_code length ≤ 3
+    word FiveBits = omega arith
+    word SixBits = omega arith
+    word SevenBits = omega arith
+    word EightBits = omega arith
+
+    stop : (extra : Bool) → (if extra then 4 else 0) ≤ 4
+    stop true = omega arith
+    stop false = omega arith
+
+    parity : (p : Parity) → parity_code p ≤ 7
+    parity Disabled = omega arith
+    parity Odd = omega arith
+    parity Even = omega arith
+    parity Forced1 = omega arith
+    parity Forced0 = omega arith
+
+    sum : (a b c : ℕ) → a ≤ 3 → b ≤ 4 → c ≤ 7 → a + b + 8 * c < 128
+    sum a b c p q r = omega arith
+
+-- ---- up to MCR
+
+-- the latches after the line is set up
+abbrev pub set_up : Config → (divisor mcr scr : ℕ) → Latches
+set_up config divisor mcr scr = record { ier = 0; lcr = frame_bits config; mcr = mcr; scr = scr; dll = divisor % 256; dlm = divisor / 256 }
+
+-- a presence check leaves all but the scratch register
+record Checked (l : List Access) : Type 0 where
+  pub scr : ℕ
+  pub kept : (k : Kept) → kept_after l k ≡ record k { latches = record k.latches { scr = scr } }
+
+checked : (s : Settings) (l : List Access) → ChecksPresence true s l → Checked l
+checked s l (old, t) = record {
+  scr = old;
+  kept = λ k. rw (t.whole, t.first.is, t.second.whole, t.second.first.whole, t.second.first.first.2, t.second.first.second.2, t.second.second.is) refl;
+}
+
+-- the chip is set up, and the driver takes the FIFO to be as it is
+pub record Begun (config : Config) (d : ℕ) (on : Bool) (m n : MachineState) : Type 0 where
+  pub scr : ℕ
+  pub kept : kept_in n.chip ≡ record { latches = set_up config d 11 scr; fifo = on; model = m.chip.model }
+  pub is_on : on ≡ (is_level config.fifo_trigger_level && has_fifo m.chip.model)
+
+-- the line and the FIFO
+record Lined (config : Config) (d : ℕ) (on : Bool) (m n : MachineState) : Type 0 where
+  pub scr : ℕ
+  pub kept : kept_in n.chip ≡ record { latches = set_up config d m.chip.latches.mcr scr; fifo = on; model = m.chip.model }
+  pub is_on : on ≡ (is_level config.fifo_trigger_level && has_fifo m.chip.model)
+
+lined : (config : Config) (d : ℕ) (on : Bool) (s : Settings) (l : List Access) (m n : MachineState) → IsSound m →
+    Then (ChecksPresence true) (Then (Only (line_writes d (frame_bits config))) (SetsFifo config.fifo_trigger_level on)) s l → Path MachineStep m l n → Lined config d on m n
+lined config d on s l m n w t p =
+    let line : List Access = line_writes d (frame_bits config) in
+    let a = then_parts (ChecksPresence true) (Then (Only line) (SetsFifo config.fifo_trigger_level on)) s l m n t p in
+    let b = then_parts (Only line) (SetsFifo config.fifo_trigger_level on) s a.back a.between n a.second a.after in
+    let check = checked s a.front a.first in
+    let first = kept_path a.front m a.between a.before ∙ check.kept (kept_in m.chip) in
+    let second = kept_list b.front line a.between b.between b.first.is b.before ∙ ap (kept_after line) first in
+    let sound = sound_path b.front a.between b.between (sound_path a.front m a.between w a.before) b.before in
+    let set = sets_fifo config.fifo_trigger_level on s b.back b.between n sound b.second b.after in
+    record {
+      scr = check.scr;
+      kept = set.kept ∙ ap (λ (k : Kept). record k { fifo = on }) second;
+      is_on = set.is_on ∙ ap (λ (k : Kept). is_level config.fifo_trigger_level && has_fifo k.model) second;
+    }
