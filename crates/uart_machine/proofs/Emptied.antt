@@ -5,14 +5,14 @@ use Rattle.uart_machine.specs.declared.event.Event.TheVariants.{Ticks, Arrive, L
 use Rattle.uart_machine.specs.declared.transmitter.Shifting.{Shifting}
 use Rattle.uart_16550.specs.Access.{Access, Read, Write, Path}
 use Rattle.uart_16550.specs.Grammar.{Settings, Asks}
-use Rattle.uart_machine.specs.Registers.{offset_data, offset_isr, offset_lsr, offset_msr, isr_thr_empty}
+use Rattle.uart_machine.specs.Registers.{has_any, offset_data, offset_isr, offset_lsr, offset_msr, isr_thr_empty}
 use Rattle.uart_machine.specs.Transmitter as transmitter
 use Rattle.uart_machine.specs.Transmitter.{TransmitterState, shift, refill}
-use Rattle.uart_machine.specs.Chip.{ChipState, is_dlab_set, is_loopback, is_transmitter_empty, tick, ticks, arrive, change_lines, interrupt, after_read, after_write}
+use Rattle.uart_machine.specs.Chip.{ChipState, is_dlab_set, is_loopback, line_status, is_transmitter_empty, tick, ticks, arrive, change_lines, interrupt, after_read, after_write}
 use Rattle.uart_machine.specs.Machine.{MachineState, MachineStep, before_access, at_access}
 use Rattle.uart_machine.proofs.Bits.{has_one}
 use Rattle.uart_machine.proofs.BlockLaws.{path_as}
-use Rattle.uart_machine.proofs.Served.{look_empty}
+use Rattle.uart_machine.proofs.Status.{status_empty}
 
 -- nothing is left to send
 abbrev pub IsEmpty : TransmitterState → Type 0
@@ -77,6 +77,12 @@ empty_path (Read offset answer ∷ accesses) m n silent p e =
 empty_path (Write offset value ∷ accesses) m n silent p e =
     let E : MachineState → Type 0 = λ o. IsEmpty o.chip.transmitter in
     empty_path accesses p.0 n silent.1 p.2 (subst E (sym p.1) (empty-write offset value (at_access m).chip silent.0 (empty-before m.ahead m.chip e)))
+
+-- what a look shows of the transmitter after it
+look_empty : (m n : MachineState) (line : ℕ) → MachineStep m (Read 5 line) n → has_any line 64 ≡ is_transmitter_empty n.chip.transmitter.queue n.chip.transmitter.shift_place
+look_empty m n line s =
+    let e : has_any line 64 ≡ has_any (line_status (at_access m).chip) 64 = ap (λ l. has_any l 64) s.1 in
+    e ∙ (status_empty (at_access m).chip ∙ sym (ap (λ (o : MachineState). is_transmitter_empty o.chip.transmitter.queue o.chip.transmitter.shift_place) s.0))
 
 -- a look that shows an empty transmitter leaves one
 pub empty_shown : (s : Settings) (l : List Access) (m n : MachineState) → Asks 5 64 true s l → Path MachineStep m l n → IsEmpty n.chip.transmitter

@@ -73,12 +73,6 @@ checked s l (old, t) = record {
   kept = λ k. rw (t.whole, t.first.is, t.second.whole, t.second.first.whole, t.second.first.first.2, t.second.first.second.2, t.second.second.is) refl;
 }
 
--- the chip is set up, and the driver takes the FIFO to be as it is
-pub record Begun (config : Config) (d : ℕ) (on : Bool) (m n : MachineState) : Type 0 where
-  pub scr : ℕ
-  pub kept : kept_in n.chip ≡ record { latches = set_up config d 11 scr; fifo = on; model = m.chip.model }
-  pub is_on : on ≡ (is_level config.fifo_trigger_level && has_fifo m.chip.model)
-
 -- the line and the FIFO
 record Lined (config : Config) (d : ℕ) (on : Bool) (m n : MachineState) : Type 0 where
   pub scr : ℕ
@@ -101,3 +95,75 @@ lined config d on s l m n w t p =
       kept = set.kept ∙ ap (λ (k : Kept). record k { fifo = on }) second;
       is_on = set.is_on ∙ ap (λ (k : Kept). is_level config.fifo_trigger_level && has_fifo k.model) second;
     }
+
+-- the chip is set up, outside of loopback, and the driver takes the FIFO to be as it is
+pub record Begun (config : Config) (d : ℕ) (on : Bool) (m n : MachineState) (after : Fields) : Type 0 where
+  pub scr : ℕ
+  pub kept : kept_in n.chip ≡ record { latches = set_up config d 11 scr; fifo = on; model = m.chip.model }
+  pub is_on : on ≡ (is_level config.fifo_trigger_level && has_fifo m.chip.model)
+  pub knows : after.fifo ≡ on
+
+pub begun : (config : Config) (d : ℕ) (on : Bool) (f after : Fields) (l : List Access) (m n : MachineState) → IsSound m → Begins config d on f l after → Path MachineStep m l n → Begun config d on m n after
+begun config d on f after l m n w t p =
+    let a = next_stages _ _ f after l m n t p in
+    let b = next_stages _ _ a.mid after a.parts.back a.parts.between n a.parts.second a.parts.after in
+    let c = next_stages _ _ b.mid after b.parts.back b.parts.between n b.parts.second b.parts.after in
+    let e = next_stages (Plain Drains) (Saving (Only (Write 4 11 ∷ []))) c.mid after c.parts.back c.parts.between n c.parts.second c.parts.after in
+    let none = kept_list a.parts.front [] m a.parts.between a.parts.first.0 a.parts.before in
+    let sound = sound_path a.parts.front m a.parts.between w a.parts.before in
+    let line = lined config d on (settings_of a.mid) b.parts.front a.parts.between b.parts.between sound b.parts.first.0 b.parts.before in
+    let still = kept_list c.parts.front [] b.parts.between c.parts.between c.parts.first.0 c.parts.before in
+    let set : kept_in c.parts.between.chip ≡ record { latches = set_up config d m.chip.latches.mcr line.scr; fifo = on; model = m.chip.model } =
+    still ∙ (line.kept ∙ ap (λ (k : Kept). record { latches = set_up config d k.latches.mcr line.scr; fifo = on; model = k.model }) none) in
+    let dlab : is_dlab_set c.parts.between.chip.latches ≡ false = ap (λ (k : Kept). is_dlab_set k.latches) set ∙ frame-dlab config in
+    let drained = kept_still (settings_of c.mid) Drains e.parts.front c.parts.between e.parts.between (keeps_drains (settings_of c.mid)) dlab e.parts.first.0 e.parts.before in
+    let last = kept_list e.parts.back (Write 4 11 ∷ []) e.parts.between n e.parts.second.0.is e.parts.after in
+    record {
+      scr = line.scr;
+      kept = last ∙ ap (kept_after (Write 4 11 ∷ [])) (drained ∙ set);
+      is_on = line.is_on ∙ ap (λ (k : Kept). is_level config.fifo_trigger_level && has_fifo k.model) none;
+      knows = ap (λ (g : Fields). g.fifo) e.parts.second.1 ∙ (ap (λ (g : Fields). g.fifo) e.parts.first.1 ∙ ap (λ (g : Fields). g.fifo) c.parts.first.1);
+    }
+
+-- ---- the end
+
+-- the interrupts are enabled, and nothing else that is kept changes; an empty transmitter stays empty
+pub record Ended (config : Config) (f after : Fields) (m n : MachineState) : Type 0 where
+  pub kept : kept_in n.chip ≡ record (kept_in m.chip) { latches = record m.chip.latches { ier = bit_and config.interrupts.0 ier_bits } }
+  pub empty : IsEmpty m.chip.transmitter → IsEmpty n.chip.transmitter
+  pub knows : after.fifo ≡ f.fifo
+
+-- the statuses are read
+record Told (l : List Access) : Type 0 where
+  pub lsr : ℕ
+  pub isr : ℕ
+  pub msr : ℕ
+  pub is : l ≡ Read 5 lsr ∷ Read 2 isr ∷ Read 6 msr ∷ []
+
+told : (s : Settings) (l : List Access) → Then (Reads 5) (Then (Reads 2) (Reads 6)) s l → Told l
+told s l t = record { lsr = t.first.0; isr = t.second.first.0; msr = t.second.second.0; is = rw (t.whole, t.first.1, t.second.whole, t.second.first.1, t.second.second.1) refl }
+
+pub ended : (config : Config) (f after : Fields) (l : List Access) (m n : MachineState) → is_dlab_set m.chip.latches ≡ false → Ends config f l after → Path MachineStep m l n → Ended config f after m n
+ended config f after l m n dlab t p =
+    let a = next_stages (Plain (Then (Reads 5) (Then (Reads 2) (Reads 6)))) (Next (Sets (with_saved 0 0)) (Saving (Only (Write 1 config.interrupts.0 ∷ [])))) f after l m n t p in
+    let b = next_stages (Sets (with_saved 0 0)) (Saving (Only (Write 1 config.interrupts.0 ∷ []))) a.mid after a.parts.back a.parts.between n a.parts.second a.parts.after in
+    let status = told (settings_of f) a.parts.front a.parts.first.0 in
+    let reads : List Access = Read 5 status.lsr ∷ Read 2 status.isr ∷ Read 6 status.msr ∷ [] in
+    let write : List Access = Write 1 config.interrupts.0 ∷ [] in
+    let first = kept_list a.parts.front reads m a.parts.between status.is a.parts.before in
+    let same : kept_in b.parts.between.chip ≡ kept_in m.chip = kept_list b.parts.front [] a.parts.between b.parts.between b.parts.first.0 b.parts.before ∙ first in
+    let last = kept_list b.parts.back write b.parts.between n b.parts.second.0.is b.parts.after in
+    let x = path_as m a.parts.between a.parts.front reads status.is a.parts.before in
+    let y = path_as a.parts.between b.parts.between b.parts.front [] b.parts.first.0 b.parts.before in
+    let z = path_as b.parts.between n b.parts.back write b.parts.second.0.is b.parts.after in
+    record {
+      kept = last ∙ (ap (kept_after write) same ∙ ap (λ (set : Bool). enabled set) dlab);
+      empty = λ e. empty_path write b.parts.between n (refl, tt) z (empty_path [] a.parts.between b.parts.between tt y (empty_path reads m a.parts.between tt x e));
+      knows = ap (λ (g : Fields). g.fifo) b.parts.second.1 ∙ (ap (λ (g : Fields). g.fifo) b.parts.first.1 ∙ ap (λ (g : Fields). g.fifo) a.parts.first.1);
+    }
+  where
+    enabled : Bool → Kept
+    enabled set =
+        if set
+        then record (kept_in m.chip) { latches = record m.chip.latches { dlm = config.interrupts.0 } }
+        else record (kept_in m.chip) { latches = record m.chip.latches { ier = bit_and config.interrupts.0 ier_bits } }

@@ -26,6 +26,7 @@ pub mod Runs
 pub mod CallLaws
 pub mod SessionCalls
 pub mod StatusSessions
+pub mod Emptied
 pub mod Served
 pub mod Sessions
 pub mod Latches
@@ -35,7 +36,6 @@ pub mod FifoShown
 pub mod KeptLists
 pub mod KeptExchanges
 pub mod FifoSteps
-pub mod Emptied
 pub mod Inits
 pub mod ScriptLines
 pub mod ScriptDigits
