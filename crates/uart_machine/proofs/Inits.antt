@@ -26,7 +26,7 @@ use Rattle.uart_machine.proofs.Latches.{Kept, kept_in, kept_after, kept_list, ke
 use Rattle.uart_machine.proofs.Pieces.{then_parts, next_stages}
 use Rattle.uart_machine.proofs.KeptLists.{keeps_drains, kept_still}
 use Rattle.uart_machine.proofs.FifoSteps.{sets_fifo}
-use Rattle.uart_machine.proofs.Emptied.{IsEmpty, empty_path}
+use Rattle.uart_machine.proofs.Emptied.{IsEmpty, AllSilent, empty_path}
 
 -- ---- the frame
 
@@ -96,6 +96,23 @@ lined config d on s l m n w t p =
       is_on = set.is_on ∙ ap (λ (k : Kept). is_level config.fifo_trigger_level && has_fifo k.model) second;
     }
 
+-- the registers are as after these writes, and the driver takes the FIFO to be as before
+pub record Leaves (writes : List Access) (f after : Fields) (m n : MachineState) : Type 0 where
+  pub kept : kept_in n.chip ≡ kept_after writes (kept_in m.chip)
+  pub knows : after.fifo ≡ f.fifo
+
+-- the drain, and MCR written
+drained : (f after : Fields) (l : List Access) (m n : MachineState) → is_dlab_set m.chip.latches ≡ false → Next (Plain Drains) (Saving (Only (Write 4 11 ∷ []))) f l after →
+    Path MachineStep m l n → Leaves (Write 4 11 ∷ []) f after m n
+drained f after l m n dlab t p =
+    let a = next_stages (Plain Drains) (Saving (Only (Write 4 11 ∷ []))) f after l m n t p in
+    let same : kept_in a.parts.between.chip ≡ kept_in m.chip =
+    kept_still (settings_of f) Drains a.parts.front m a.parts.between (keeps_drains (settings_of f)) dlab a.parts.first.0 a.parts.before in
+    record {
+      kept = kept_list a.parts.back (Write 4 11 ∷ []) a.parts.between n a.parts.second.0.is a.parts.after ∙ ap (kept_after (Write 4 11 ∷ [])) same;
+      knows = ap (λ (g : Fields). g.fifo) a.parts.second.1 ∙ ap (λ (g : Fields). g.fifo) a.parts.first.1;
+    }
+
 -- the chip is set up, outside of loopback, and the driver takes the FIFO to be as it is
 pub record Begun (config : Config) (d : ℕ) (on : Bool) (m n : MachineState) (after : Fields) : Type 0 where
   pub scr : ℕ
@@ -108,30 +125,28 @@ begun config d on f after l m n w t p =
     let a = next_stages _ _ f after l m n t p in
     let b = next_stages _ _ a.mid after a.parts.back a.parts.between n a.parts.second a.parts.after in
     let c = next_stages _ _ b.mid after b.parts.back b.parts.between n b.parts.second b.parts.after in
-    let e = next_stages (Plain Drains) (Saving (Only (Write 4 11 ∷ []))) c.mid after c.parts.back c.parts.between n c.parts.second c.parts.after in
-    let none = kept_list a.parts.front [] m a.parts.between a.parts.first.0 a.parts.before in
-    let sound = sound_path a.parts.front m a.parts.between w a.parts.before in
-    let line = lined config d on (settings_of a.mid) b.parts.front a.parts.between b.parts.between sound b.parts.first.0 b.parts.before in
-    let still = kept_list c.parts.front [] b.parts.between c.parts.between c.parts.first.0 c.parts.before in
-    let set : kept_in c.parts.between.chip ≡ record { latches = set_up config d m.chip.latches.mcr line.scr; fifo = on; model = m.chip.model } =
-    still ∙ (line.kept ∙ ap (λ (k : Kept). record { latches = set_up config d k.latches.mcr line.scr; fifo = on; model = k.model }) none) in
-    let dlab : is_dlab_set c.parts.between.chip.latches ≡ false = ap (λ (k : Kept). is_dlab_set k.latches) set ∙ frame-dlab config in
-    let drained = kept_still (settings_of c.mid) Drains e.parts.front c.parts.between e.parts.between (keeps_drains (settings_of c.mid)) dlab e.parts.first.0 e.parts.before in
-    let last = kept_list e.parts.back (Write 4 11 ∷ []) e.parts.between n e.parts.second.0.is e.parts.after in
-    record {
-      scr = line.scr;
-      kept = last ∙ ap (kept_after (Write 4 11 ∷ [])) (drained ∙ set);
-      is_on = line.is_on ∙ ap (λ (k : Kept). is_level config.fifo_trigger_level && has_fifo k.model) none;
-      knows = ap (λ (g : Fields). g.fifo) e.parts.second.1 ∙ (ap (λ (g : Fields). g.fifo) e.parts.first.1 ∙ ap (λ (g : Fields). g.fifo) c.parts.first.1);
-    }
+    let begins = path_as m a.parts.between a.parts.front [] a.parts.first.0 a.parts.before in
+    let sets = path_as b.parts.between c.parts.between c.parts.front [] c.parts.first.0 c.parts.before in
+    joined a.parts.between b.parts.between c.parts.between c.mid begins sets
+    (lined config d on (settings_of a.mid) b.parts.front a.parts.between b.parts.between (sound_path [] m a.parts.between w begins) b.parts.first.0 b.parts.before)
+    (λ dlab. drained c.mid after c.parts.back c.parts.between n dlab c.parts.second c.parts.after) (ap (λ (g : Fields). g.fifo) c.parts.first.1)
+  where
+    -- nothing is accessed where the driver alone is set
+    joined : (m₁ m₂ m₃ : MachineState) (g : Fields) → m₁ ≡ m → m₃ ≡ m₂ → Lined config d on m₁ m₂ →
+        (is_dlab_set m₃.chip.latches ≡ false → Leaves (Write 4 11 ∷ []) g after m₃ n) → g.fifo ≡ on → Begun config d on m n after
+    joined m₁ m₂ m₃ g same still line rest knows =
+        let set : kept_in m₃.chip ≡ record { latches = set_up config d m₁.chip.latches.mcr line.scr; fifo = on; model = m₁.chip.model } =
+        ap (λ (o : MachineState). kept_in o.chip) still ∙ line.kept in
+        let last = rest (ap (λ (k : Kept). is_dlab_set k.latches) set ∙ frame-dlab config) in
+        let whole : kept_in n.chip ≡ record { latches = set_up config d 11 line.scr; fifo = on; model = m₁.chip.model } = last.kept ∙ ap (kept_after (Write 4 11 ∷ [])) set in
+        record {
+          scr = line.scr;
+          kept = whole ∙ ap (λ (o : MachineState). record { latches = set_up config d 11 line.scr; fifo = on; model = o.chip.model }) same;
+          is_on = line.is_on ∙ ap (λ (o : MachineState). is_level config.fifo_trigger_level && has_fifo o.chip.model) same;
+          knows = last.knows ∙ knows;
+        }
 
 -- ---- the end
-
--- the interrupts are enabled, and nothing else that is kept changes; an empty transmitter stays empty
-pub record Ended (config : Config) (f after : Fields) (m n : MachineState) : Type 0 where
-  pub kept : kept_in n.chip ≡ record (kept_in m.chip) { latches = record m.chip.latches { ier = bit_and config.interrupts.0 ier_bits } }
-  pub empty : IsEmpty m.chip.transmitter → IsEmpty n.chip.transmitter
-  pub knows : after.fifo ≡ f.fifo
 
 -- the statuses are read
 record Told (l : List Access) : Type 0 where
@@ -143,27 +158,31 @@ record Told (l : List Access) : Type 0 where
 told : (s : Settings) (l : List Access) → Then (Reads 5) (Then (Reads 2) (Reads 6)) s l → Told l
 told s l t = record { lsr = t.first.0; isr = t.second.first.0; msr = t.second.second.0; is = rw (t.whole, t.first.1, t.second.whole, t.second.first.1, t.second.second.1) refl }
 
-pub ended : (config : Config) (f after : Fields) (l : List Access) (m n : MachineState) → is_dlab_set m.chip.latches ≡ false → Ends config f l after → Path MachineStep m l n → Ended config f after m n
-ended config f after l m n dlab t p =
+-- the interrupts are enabled, and an empty transmitter stays empty
+pub record Ended (config : Config) (f after : Fields) (m n : MachineState) : Type 0 where
+  pub leaves : Leaves (Write 1 config.interrupts.0 ∷ []) f after m n
+  pub empty : IsEmpty m.chip.transmitter → IsEmpty n.chip.transmitter
+
+pub ended : (config : Config) (f after : Fields) (l : List Access) (m n : MachineState) → Ends config f l after → Path MachineStep m l n → Ended config f after m n
+ended config f after l m n t p =
     let a = next_stages (Plain (Then (Reads 5) (Then (Reads 2) (Reads 6)))) (Next (Sets (with_saved 0 0)) (Saving (Only (Write 1 config.interrupts.0 ∷ [])))) f after l m n t p in
     let b = next_stages (Sets (with_saved 0 0)) (Saving (Only (Write 1 config.interrupts.0 ∷ []))) a.mid after a.parts.back a.parts.between n a.parts.second a.parts.after in
     let status = told (settings_of f) a.parts.front a.parts.first.0 in
     let reads : List Access = Read 5 status.lsr ∷ Read 2 status.isr ∷ Read 6 status.msr ∷ [] in
-    let write : List Access = Write 1 config.interrupts.0 ∷ [] in
-    let first = kept_list a.parts.front reads m a.parts.between status.is a.parts.before in
-    let same : kept_in b.parts.between.chip ≡ kept_in m.chip = kept_list b.parts.front [] a.parts.between b.parts.between b.parts.first.0 b.parts.before ∙ first in
-    let last = kept_list b.parts.back write b.parts.between n b.parts.second.0.is b.parts.after in
-    let x = path_as m a.parts.between a.parts.front reads status.is a.parts.before in
-    let y = path_as a.parts.between b.parts.between b.parts.front [] b.parts.first.0 b.parts.before in
-    let z = path_as b.parts.between n b.parts.back write b.parts.second.0.is b.parts.after in
-    record {
-      kept = last ∙ (ap (kept_after write) same ∙ ap (λ (set : Bool). enabled set) dlab);
-      empty = λ e. empty_path write b.parts.between n (refl, tt) z (empty_path [] a.parts.between b.parts.between tt y (empty_path reads m a.parts.between tt x e));
-      knows = ap (λ (g : Fields). g.fifo) b.parts.second.1 ∙ (ap (λ (g : Fields). g.fifo) b.parts.first.1 ∙ ap (λ (g : Fields). g.fifo) a.parts.first.1);
-    }
+    let x : Path MachineStep m reads a.parts.between = path_as m a.parts.between a.parts.front reads status.is a.parts.before in
+    let y : Path MachineStep a.parts.between [] b.parts.between = path_as a.parts.between b.parts.between b.parts.front [] b.parts.first.0 b.parts.before in
+    let z : Path MachineStep b.parts.between (Write 1 config.interrupts.0 ∷ []) n = path_as b.parts.between n b.parts.back (Write 1 config.interrupts.0 ∷ []) b.parts.second.0.is b.parts.after in
+    joined reads a.parts.between b.parts.between (λ k. refl) tt x y z
+    (ap (λ (g : Fields). g.fifo) b.parts.second.1 ∙ (ap (λ (g : Fields). g.fifo) b.parts.first.1 ∙ ap (λ (g : Fields). g.fifo) a.parts.first.1))
   where
-    enabled : Bool → Kept
-    enabled set =
-        if set
-        then record (kept_in m.chip) { latches = record m.chip.latches { dlm = config.interrupts.0 } }
-        else record (kept_in m.chip) { latches = record m.chip.latches { ier = bit_and config.interrupts.0 ier_bits } }
+    joined : (reads : List Access) (m₁ m₂ : MachineState) → ((k : Kept) → kept_after reads k ≡ k) → AllSilent reads → Path MachineStep m reads m₁ → m₂ ≡ m₁ → Path MachineStep m₂ (Write 1 config.interrupts.0 ∷ []) n →
+        after.fifo ≡ f.fifo → Ended config f after m n
+    joined reads m₁ m₂ keep silent x y z knows = record {
+      leaves = record {
+        kept =
+            kept_path (Write 1 config.interrupts.0 ∷ []) m₂ n z ∙ ap (kept_after (Write 1 config.interrupts.0 ∷ []))
+            (ap (λ (o : MachineState). kept_in o.chip) y ∙ (kept_path reads m m₁ x ∙ keep (kept_in m.chip)));
+        knows = knows;
+      };
+      empty = λ e. empty_path (Write 1 config.interrupts.0 ∷ []) m₂ n (refl, tt) z (empty_path [] m₁ m₂ tt y (empty_path reads m m₁ silent x e));
+    }
