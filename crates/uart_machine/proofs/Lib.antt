@@ -37,6 +37,7 @@ pub mod KeptLists
 pub mod KeptExchanges
 pub mod FifoSteps
 pub mod Inits
+pub mod Initialised
 pub mod ScriptLines
 pub mod ScriptDigits
 pub mod ScriptBytes
