@@ -38,6 +38,8 @@ pub mod KeptExchanges
 pub mod FifoSteps
 pub mod Inits
 pub mod Initialised
+pub mod TestedReady
+pub mod ReadyKept
 pub mod ScriptLines
 pub mod ScriptDigits
 pub mod ScriptBytes
