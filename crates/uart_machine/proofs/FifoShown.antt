@@ -1,5 +1,5 @@
 -- The interrupt identification shows whether the FIFO is on.
-use Rattle.std.proofs.Common.{◌≡◌, ℕ, Bool, true, false, not, ◌==◌, ◌&&◌, refl, ◌∙◌, sym, ap, bit_or, if◌then◌else◌}
+use Rattle.std.proofs.Common.{◌≡◌, ℕ, Bool, true, false, not, ◌==◌, ◌&&◌, refl, ◌∙◌, ap, bit_or, if◌then◌else◌}
 use Rattle.uart_spec.specs.Bits.{has}
 use Rattle.uart_16550.specs.Access.{Read}
 use Rattle.uart_machine.specs.Registers.{has_any, flag}

@@ -1,17 +1,16 @@
 -- What an `init` comes to, whatever it answers.
-use Rattle.std.proofs.Common.{◌≡◌, ℕ, ◌+◌, ◌*◌, Bool, true, false, ◌&&◌, List, [], ◌∷◌, Result, Ok, Err, refl, sym, ◌∙◌, ap, subst, bit_and, if◌then◌else◌}
+use Rattle.std.proofs.Common.{◌≡◌, ℕ, Bool, true, false, ◌&&◌, List, [], ◌∷◌, Result, Ok, Err, refl, sym, ◌∙◌, ap, subst, bit_and, if◌then◌else◌}
 use Rattle.std.proofs.Math.Nat.{div-add-mod}
 use Rattle.uart_spec.specs.declared.config.Config.{Config}
 use Rattle.uart_spec.specs.declared.errors.InitError.{InitError}
 use Rattle.uart_spec.specs.declared.errors.InitError.TheVariants.{InvalidBaudRate, DeviceNotPresent, Stalled}
 use Rattle.uart_16550.specs.Access.{Access, Write, Path}
-use Rattle.uart_16550.specs.Grammar.{Settings, FewMisses, Asks}
+use Rattle.uart_16550.specs.Grammar.{FewMisses, Asks}
 use Rattle.uart_16550.specs.Driver.{Fields, fields, settings_of, Saving, Sets, Next, with_config}
 use Rattle.uart_16550.specs.Transmit.{Waits}
-use Rattle.uart_16550.specs.Init.{ChecksPresence, frame_bits, Begins, Ends, DivisorOf, Inits}
+use Rattle.uart_16550.specs.Init.{ChecksPresence, Begins, Ends, DivisorOf, Inits}
 use Rattle.uart_16550.specs.Tty.{inner_of}
 use Rattle.uart_machine.specs.declared.call.Answer.{Answer}
-use Rattle.uart_machine.specs.declared.call.Answer.TheVariants.{Done, InitRefused}
 use Rattle.uart_machine.specs.Registers.{ier_bits}
 use Rattle.uart_machine.specs.Chip.{is_dlab_set, is_loopback, divisor}
 use Rattle.uart_machine.specs.Machine.{MachineState, MachineStep}

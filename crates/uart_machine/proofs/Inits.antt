@@ -1,8 +1,6 @@
 -- What an `init` leaves in the registers, and of the transmitter.
-use Rattle.std.proofs.Common.{◌≡◌, ℕ, ◌+◌, ◌*◌, ◌/◌, ◌%◌, ◌≤◌, ◌<◌, ◌==◌, Bool, true, false, not, ◌&&◌, List, [], ◌∷◌, refl, arith, sym, ◌∙◌, ap, bit_and, if◌then◌else◌}
-use Rattle.std.proofs.lemmas.Grind.{common_steps}
+use Rattle.std.proofs.Common.{◌≡◌, ℕ, ◌+◌, ◌*◌, ◌/◌, ◌%◌, ◌≤◌, ◌<◌, ◌==◌, Bool, true, false, ◌&&◌, List, [], ◌∷◌, refl, arith, ◌∙◌, ap, if◌then◌else◌}
 use Rattle.std.proofs.lemmas.Nat.Bits.{bit_at_above}
-use Rattle.std.proofs.Math.Nat.{div-add-mod}
 use Rattle.uart_spec.specs.Fields.{word_length_code, parity_code}
 use Rattle.uart_spec.specs.declared.config.Config.{Config}
 use Rattle.uart_spec.specs.declared.registers.frame.WordLength.{WordLength}
@@ -11,10 +9,10 @@ use Rattle.uart_spec.specs.declared.registers.frame.Parity.{Parity}
 use Rattle.uart_spec.specs.declared.registers.frame.Parity.TheVariants.{Disabled, Odd, Even, Forced1, Forced0}
 use Rattle.uart_16550.specs.Access.{Access, Read, Write, Path}
 use Rattle.uart_16550.specs.Grammar.{Settings, Only, Then, Reads}
-use Rattle.uart_16550.specs.Driver.{Fields, settings_of, Saving, Plain, Sets, Next, with_config, with_fifo, with_saved}
+use Rattle.uart_16550.specs.Driver.{Fields, settings_of, Saving, Plain, Sets, Next, with_saved}
 use Rattle.uart_16550.specs.Init.{ChecksPresence, frame_bits, line_writes, SetsFifo, Drains, Begins, Ends}
 use Rattle.uart_machine.specs.declared.chip.Latches.{Latches}
-use Rattle.uart_machine.specs.Registers.{has_any, ier_bits}
+use Rattle.uart_machine.specs.Registers.{has_any}
 use Rattle.uart_machine.specs.Chip.{is_dlab_set, divisor}
 use Rattle.uart_machine.specs.Machine.{MachineState, MachineStep}
 use Rattle.uart_machine.specs.Ready.{has_fifo, is_level}

@@ -2,10 +2,10 @@
 use Rattle.std.proofs.Common.{ℕ, Bool, true, false, inl, inr, List, [], ◌∷◌, Result, Ok, Err, Option, Some, None}
 use Rattle.uart_spec.specs.declared.errors.LoopbackError.{LoopbackError}
 use Rattle.uart_spec.specs.declared.errors.LoopbackError.TheVariants.{Stalled, SendError, UnexpectedLoopbackByte, UnexpectedLoopbackMsg}
-use Rattle.uart_16550.specs.Grammar.{Settings, Then, InOrder, AllMisses}
+use Rattle.uart_16550.specs.Grammar.{Settings, AllMisses}
 use Rattle.uart_16550.specs.Receive.{Miss, Awaited}
-use Rattle.uart_16550.specs.Transmit.{SendMiss, Round}
-use Rattle.uart_16550.specs.Loopback.{test_byte, test_message, TakesOne, Drains, SendsTestByte, ExchangesByte, Echo, EchoFails, WholeEchoes, WholeFails, EachEchoes, EachFails, HasEchoedWhole, HasEchoedEach, HasEchoedAll, ExchangesMessage, Exchanges}
+use Rattle.uart_16550.specs.Transmit.{SendMiss}
+use Rattle.uart_16550.specs.Loopback.{test_byte, test_message, TakesOne, Drains, SendsTestByte, ExchangesByte, Echo, EchoFails, HasEchoedWhole, HasEchoedEach, HasEchoedAll, ExchangesMessage, Exchanges}
 use Rattle.uart_machine.proofs.KeptLists.{AllKeep, keeps_then, keeps_few, keeps_all, keeps_in_order, keeps_if, keeps_miss, keeps_hit, keeps_awaited, keeps_receives_exact, keeps_send_miss, keeps_round, keeps_try_sends, keeps_sends_all, keeps_sends_exact}
 
 module _ (s : Settings) where

@@ -8,7 +8,7 @@ use Rattle.uart_machine.specs.declared.event.Event.TheVariants.{Ticks, Arrive, L
 use Rattle.uart_16550.specs.Access.{Access, Read, Write, Path}
 use Rattle.uart_machine.specs.Registers.{has_any, offset_data, offset_ier, offset_isr, offset_fcr, offset_lcr, offset_mcr, offset_lsr, offset_msr, offset_scr, ier_bits, mcr_bits, isr_thr_empty, fcr_enable, fcr_receiver_reset, fcr_transmitter_reset}
 use Rattle.uart_machine.specs.Receiver.{clear}
-use Rattle.uart_machine.specs.Chip.{ChipState, is_dlab_set, tick, ticks, arrive, change_lines, interrupt, after_read, after_write, trigger_of, switch, reset_receiver, reset_transmitter, set_trigger, is_same, set_fifo, control}
+use Rattle.uart_machine.specs.Chip.{ChipState, is_dlab_set, ticks, arrive, change_lines, interrupt, after_read, after_write, trigger_of, switch, reset_receiver, reset_transmitter, set_trigger, is_same, set_fifo, control}
 use Rattle.uart_machine.specs.Machine.{MachineState, MachineStep, before_access, at_access}
 
 -- what is kept until it is written: the latches, and whether the FIFO is on; and the model, which is never written

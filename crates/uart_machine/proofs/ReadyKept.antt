@@ -1,5 +1,5 @@
 -- Whatever a call answers, it leaves a ready state ready.
-use Rattle.std.proofs.Common.{List, [], ◌∷◌, refl}
+use Rattle.std.proofs.Common.{[], ◌∷◌, refl}
 use Rattle.uart_machine.specs.declared.call.Call.{Call}
 use Rattle.uart_machine.specs.declared.call.Call.TheVariants as call
 use Rattle.uart_machine.specs.declared.call.Answer.{Answer}

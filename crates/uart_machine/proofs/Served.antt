@@ -16,16 +16,14 @@ use Rattle.uart_machine.specs.declared.call.Answer.{Answer}
 use Rattle.uart_machine.specs.declared.call.Answer.TheVariants.{Register, Done}
 use Rattle.uart_machine.specs.declared.receiver.Character.{Character}
 use Rattle.uart_machine.specs.declared.transmitter.Shifting.{Shifting}
-use Rattle.uart_machine.specs.Registers.{has_any}
 use Rattle.uart_machine.specs.Transmitter.{shift_bytes}
-use Rattle.uart_machine.specs.Chip.{line_status, is_transmitter_empty}
-use Rattle.uart_machine.specs.Machine.{MachineState, MachineStep, at_access}
+use Rattle.uart_machine.specs.Chip.{is_transmitter_empty}
+use Rattle.uart_machine.specs.Machine.{MachineState, MachineStep}
 use Rattle.uart_machine.specs.Conserved.{out}
 use Rattle.uart_machine.specs.Run.{State, machine_of, CallStep, Link, Chain, received_answer, read_answer, receive_exact_answer, exact_answer}
 use Rattle.uart_machine.specs.Session.{AllWithinSession}
 use Rattle.uart_machine.specs.Served.{HoldsAtLeast, waiting_len, transmitter_of, IsFlushed, Serves, AllServe}
 use Rattle.uart_machine.proofs.Bits.{has_one}
-use Rattle.uart_machine.proofs.Status.{status_empty}
 use Rattle.uart_machine.proofs.Went.{Modes}
 use Rattle.uart_machine.proofs.BlockLaws.{PassedBlocks, path_as, path_split, look_data}
 use Rattle.uart_machine.proofs.Emptied.{empty_shown}

@@ -1,17 +1,17 @@
 -- A loopback test leaves a ready state ready, whatever it answers.
-use Rattle.std.proofs.Common.{◌≡◌, ℕ, Bool, true, false, inl, inr, List, [], ◌∷◌, Result, Ok, Err, refl, sym, ◌∙◌, ap, bit_and, if◌then◌else◌}
+use Rattle.std.proofs.Common.{◌≡◌, ℕ, Bool, true, false, inl, inr, List, [], ◌∷◌, Result, refl, sym, ◌∙◌, ap, bit_and, if◌then◌else◌}
 use Rattle.bitflags.specs.Sets.{without}
 use Rattle.uart_spec.specs.declared.errors.LoopbackError.{LoopbackError}
 use Rattle.uart_16550.specs.Access.{Access, Read, Write, Path}
 use Rattle.uart_16550.specs.Grammar.{Settings, Only, Then}
-use Rattle.uart_16550.specs.Driver.{Fields, fields, settings_of, Saving, Plain, Sets, Next, with_fifo}
+use Rattle.uart_16550.specs.Driver.{Fields, fields, settings_of, Saving, Sets, Next, with_fifo}
 use Rattle.uart_16550.specs.Transmit.{Waits}
 use Rattle.uart_16550.specs.Init.{SetsFifo}
 use Rattle.uart_16550.specs.Loopback.{Exchanges, Enters, Leaves, BeginsTest, Tests, TestsLoopback}
 use Rattle.uart_16550.specs.Tty.{inner_of}
 use Rattle.uart_machine.specs.declared.call.Answer.{Answer}
 use Rattle.uart_machine.specs.Registers.{has_any, ier_bits, mcr_bits}
-use Rattle.uart_machine.specs.Chip.{is_dlab_set, is_loopback}
+use Rattle.uart_machine.specs.Chip.{is_dlab_set}
 use Rattle.uart_machine.specs.Machine.{MachineState, MachineStep}
 use Rattle.uart_machine.specs.Run.{State, machine_of, Called, loopback_answer}
 use Rattle.uart_machine.specs.Ready.{Ready}
@@ -116,9 +116,6 @@ tests_ready result mcr ier f l m t w dlab no_loop (before, on, does) p =
 pub tested_ready : (s t : State) (a : Answer) → IsSound (machine_of s) → Called TestsLoopback loopback_answer a (inner_of s) (inner_of t) → Ready s → Ready t
 tested_ready s t a w h ready = go h.did.does
   where
-    f : Fields
-    f = fields (inner_of s)
-
     go : TestsLoopback h.result (fields (inner_of s)) h.did.list (fields (inner_of t)) → Ready t
     go (mcr, ier, inl (stalls, (begins, same))) =
         let still = kept_still (settings_of (fields (inner_of s))) (BeginsTest mcr ier false) h.did.list (machine_of s) (machine_of t) (keeps_begins (settings_of (fields (inner_of s))) mcr ier false) ready.dlab begins h.did.path in
