@@ -19,7 +19,7 @@ use Rattle.uart_machine.specs.Ready.{Ready, has_fifo, is_level, IsInitialised, I
 use Rattle.uart_machine.specs.Sound.{IsSound}
 use Rattle.uart_machine.proofs.Latches.{Kept, kept_in, kept_after, kept_list}
 use Rattle.uart_machine.proofs.Pieces.{then_parts, next_stages}
-use Rattle.uart_machine.proofs.Presence.{is_present}
+use Rattle.uart_machine.proofs.Presence.{never_absent}
 use Rattle.uart_machine.proofs.KeptLists.{keeps_waits, kept_still}
 use Rattle.uart_machine.proofs.Emptied.{IsEmpty, empty_shown}
 use Rattle.uart_machine.proofs.Inits.{frame-dlab, set_up, Begun, begun, ended}
@@ -79,8 +79,8 @@ done config d on f l m t w of does p =
         let e = ended config h (fields (inner_of t)) ys m₂ (machine_of t) ends q in
         let set = still_begun config d on m m₁ m₂ g xs true begins waits p ∙ begins.kept in
         initialised config d begins.scr on (kept_in m.chip) t of
-        (e.leaves.kept ∙ (ap (kept_after (Write 1 config.interrupts.0 ∷ [])) set ∙ enabled config d begins.scr on (kept_in m.chip)))
-        begins.is_on (e.leaves.knows ∙ (knows ∙ begins.knows))
+        (e.left.kept ∙ (ap (kept_after (Write 1 config.interrupts.0 ∷ [])) set ∙ enabled config d begins.scr on (kept_in m.chip)))
+        begins.is_on (e.left.knows ∙ (knows ∙ begins.knows))
         (e.empty (empty_shown (settings_of g) a.back a.between m₂ a.second a.after))
 
 -- ---- refused
@@ -89,7 +89,7 @@ done config d on f l m t w of does p =
 found : (config : Config) (f after : Fields) (l : List Access) (m n : MachineState) → Next (Sets (with_config config)) (Saving (ChecksPresence false)) f l after → Path MachineStep m l n → ⊥
 found config f after l m n does p =
     let a = next_stages (Sets (with_config config)) (Saving (ChecksPresence false)) f after l m n does p in
-    is_present (settings_of a.mid) a.parts.back a.parts.between n a.parts.second.0 a.parts.after
+    never_absent (settings_of a.mid) a.parts.back a.parts.between n a.parts.second.0 a.parts.after
 
 -- a wait in vain for an empty transmitter, from any state
 stalled : (config : Config) (d : ℕ) (on : Bool) (f : Fields) (l : List Access) (m : MachineState) (t : State) → IsSound m →

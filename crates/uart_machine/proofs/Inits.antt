@@ -20,7 +20,7 @@ use Rattle.uart_machine.specs.Sound.{IsSound}
 use Rattle.uart_machine.proofs.Bits.{has_bit}
 use Rattle.uart_machine.proofs.Sounds.{sound_path}
 use Rattle.uart_machine.proofs.BlockLaws.{path_as}
-use Rattle.uart_machine.proofs.Latches.{Kept, kept_in, kept_after, kept_list, kept_path}
+use Rattle.uart_machine.proofs.Latches.{Kept, kept_in, kept_after, kept_list, kept_path, LeftBy}
 use Rattle.uart_machine.proofs.Pieces.{then_parts, next_stages}
 use Rattle.uart_machine.proofs.KeptLists.{keeps_drains, kept_still}
 use Rattle.uart_machine.proofs.FifoSteps.{sets_fifo}
@@ -94,14 +94,9 @@ lined config d on s l m n w t p =
       is_on = set.is_on ∙ ap (λ (k : Kept). is_level config.fifo_trigger_level && has_fifo k.model) second;
     }
 
--- the registers are as after these writes, and the driver takes the FIFO to be as before
-pub record Leaves (writes : List Access) (f after : Fields) (m n : MachineState) : Type 0 where
-  pub kept : kept_in n.chip ≡ kept_after writes (kept_in m.chip)
-  pub knows : after.fifo ≡ f.fifo
-
 -- the drain, and MCR written
 drained : (f after : Fields) (l : List Access) (m n : MachineState) → is_dlab_set m.chip.latches ≡ false → Next (Plain Drains) (Saving (Only (Write 4 11 ∷ []))) f l after →
-    Path MachineStep m l n → Leaves (Write 4 11 ∷ []) f after m n
+    Path MachineStep m l n → LeftBy (Write 4 11 ∷ []) f after m n
 drained f after l m n dlab t p =
     let a = next_stages (Plain Drains) (Saving (Only (Write 4 11 ∷ []))) f after l m n t p in
     let same : kept_in a.parts.between.chip ≡ kept_in m.chip =
@@ -131,7 +126,7 @@ begun config d on f after l m n w t p =
   where
     -- nothing is accessed where the driver alone is set
     joined : (m₁ m₂ m₃ : MachineState) (g : Fields) → m₁ ≡ m → m₃ ≡ m₂ → Lined config d on m₁ m₂ →
-        (is_dlab_set m₃.chip.latches ≡ false → Leaves (Write 4 11 ∷ []) g after m₃ n) → g.fifo ≡ on → Begun config d on m n after
+        (is_dlab_set m₃.chip.latches ≡ false → LeftBy (Write 4 11 ∷ []) g after m₃ n) → g.fifo ≡ on → Begun config d on m n after
     joined m₁ m₂ m₃ g same still line rest knows =
         let set : kept_in m₃.chip ≡ record { latches = set_up config d m₁.chip.latches.mcr line.scr; fifo = on; model = m₁.chip.model } =
         ap (λ (o : MachineState). kept_in o.chip) still ∙ line.kept in
@@ -158,7 +153,7 @@ told s l t = record { lsr = t.first.0; isr = t.second.first.0; msr = t.second.se
 
 -- the interrupts are enabled, and an empty transmitter stays empty
 pub record Ended (config : Config) (f after : Fields) (m n : MachineState) : Type 0 where
-  pub leaves : Leaves (Write 1 config.interrupts.0 ∷ []) f after m n
+  pub left : LeftBy (Write 1 config.interrupts.0 ∷ []) f after m n
   pub empty : IsEmpty m.chip.transmitter → IsEmpty n.chip.transmitter
 
 pub ended : (config : Config) (f after : Fields) (l : List Access) (m n : MachineState) → Ends config f l after → Path MachineStep m l n → Ended config f after m n
@@ -176,7 +171,7 @@ ended config f after l m n t p =
     joined : (reads : List Access) (m₁ m₂ : MachineState) → ((k : Kept) → kept_after reads k ≡ k) → AllSilent reads → Path MachineStep m reads m₁ → m₂ ≡ m₁ → Path MachineStep m₂ (Write 1 config.interrupts.0 ∷ []) n →
         after.fifo ≡ f.fifo → Ended config f after m n
     joined reads m₁ m₂ keep silent x y z knows = record {
-      leaves = record {
+      left = record {
         kept =
             kept_path (Write 1 config.interrupts.0 ∷ []) m₂ n z ∙ ap (kept_after (Write 1 config.interrupts.0 ∷ []))
             (ap (λ (o : MachineState). kept_in o.chip) y ∙ (kept_path reads m m₁ x ∙ keep (kept_in m.chip)));

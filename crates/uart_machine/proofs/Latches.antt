@@ -6,6 +6,7 @@ use Rattle.uart_machine.specs.declared.event.Chip.TheVariants.{Uart16550A, Uart1
 use Rattle.uart_machine.specs.declared.event.Event.{Event}
 use Rattle.uart_machine.specs.declared.event.Event.TheVariants.{Ticks, Arrive, Lines, Access as Gate, Mark}
 use Rattle.uart_16550.specs.Access.{Access, Read, Write, Path}
+use Rattle.uart_16550.specs.Driver.{Fields}
 use Rattle.uart_machine.specs.Registers.{has_any, offset_data, offset_ier, offset_isr, offset_fcr, offset_lcr, offset_mcr, offset_lsr, offset_msr, offset_scr, ier_bits, mcr_bits, isr_thr_empty, fcr_enable, fcr_receiver_reset, fcr_transmitter_reset}
 use Rattle.uart_machine.specs.Receiver.{clear}
 use Rattle.uart_machine.specs.Chip.{ChipState, is_dlab_set, ticks, arrive, change_lines, interrupt, after_read, after_write, trigger_of, switch, reset_receiver, reset_transmitter, set_trigger, is_same, set_fifo, control}
@@ -139,3 +140,8 @@ kept_path (access ∷ accesses) m n p = kept_path accesses p.0 n p.2 ∙ ap (kep
 -- by what the list is
 pub kept_list : (l made : List Access) (m n : MachineState) → l ≡ made → Path MachineStep m l n → kept_in n.chip ≡ kept_after made (kept_in m.chip)
 kept_list l made m n is p = kept_path l m n p ∙ ap (λ k. kept_after k (kept_in m.chip)) is
+
+-- what is kept is as after these accesses, and the driver takes the FIFO to be as before
+pub record LeftBy (made : List Access) (f after : Fields) (m n : MachineState) : Type 0 where
+  pub kept : kept_in n.chip ≡ kept_after made (kept_in m.chip)
+  pub knows : after.fifo ≡ f.fifo

@@ -25,8 +25,8 @@ patterns_kept s l m n (inl t) p = never_lost 66 s l m n t p
 patterns_kept s l m n (inr t) p = let r = then_parts _ _ s l m n t p in never_lost 115 s r.back r.between n r.second r.after
 
 -- no presence check fails
-pub is_present : (s : Settings) (l : List Access) (m n : MachineState) → ChecksPresence false s l → Path MachineStep m l n → ⊥
-is_present s l m n (old, t) p =
+pub never_absent : (s : Settings) (l : List Access) (m n : MachineState) → ChecksPresence false s l → Path MachineStep m l n → ⊥
+never_absent s l m n (old, t) p =
     let a = then_parts (Only (Read 7 old ∷ [])) (Then (KeepsPatterns false) (Only (Write 7 old ∷ []))) s l m n t p in
     let b = then_parts (KeepsPatterns false) (Only (Write 7 old ∷ [])) s a.back a.between n a.second a.after in
     patterns_kept s b.front a.between b.between b.first b.before

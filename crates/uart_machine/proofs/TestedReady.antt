@@ -19,7 +19,7 @@ use Rattle.uart_machine.specs.Sound.{IsSound}
 use Rattle.uart_machine.proofs.Bits.{has_and}
 use Rattle.uart_machine.proofs.Sounds.{sound_path}
 use Rattle.uart_machine.proofs.BlockLaws.{path_as}
-use Rattle.uart_machine.proofs.Latches.{Kept, kept_in, keep_write, kept_after, kept_list, kept_access}
+use Rattle.uart_machine.proofs.Latches.{Kept, kept_in, keep_write, kept_after, kept_list, kept_access, LeftBy}
 use Rattle.uart_machine.proofs.Pieces.{then_parts, next_stages}
 use Rattle.uart_machine.proofs.KeptLists.{AllKeep, keeps_only, keeps_then, keeps_waits, kept_still}
 use Rattle.uart_machine.proofs.KeptExchanges.{keeps_exchanges}
@@ -68,26 +68,26 @@ entered before on f after l m n w dlab t p =
 
 -- ---- out of loopback
 
--- the modes are written back
+-- the accesses by which the modes are written back
+abbrev leaving : (mcr ier now : ℕ) → List Access
+leaving mcr ier now = Write 4 (without 8 mcr 8) ∷ Read 6 now ∷ Write 4 mcr ∷ Write 1 ier ∷ []
+
+-- what is kept after them
 abbrev restored : ℕ → ℕ → Kept → Kept
 restored mcr ier k = record k { latches = record k.latches { ier = bit_and ier ier_bits; mcr = bit_and mcr mcr_bits } }
 
-record Left (mcr ier : ℕ) (f after : Fields) (m n : MachineState) : Type 0 where
-  pub kept : kept_in n.chip ≡ restored mcr ier (kept_in m.chip)
-  pub knows : after.fifo ≡ f.fifo
+written_back : (mcr ier now : ℕ) (k : Kept) → is_dlab_set k.latches ≡ false → kept_after (leaving mcr ier now) k ≡ restored mcr ier k
+written_back mcr ier now k d = ap (λ (b : Bool). if b then record k { latches = record k.latches { mcr = bit_and mcr mcr_bits; dlm = ier } } else restored mcr ier k) d
 
-left : (mcr ier before noted : ℕ) (f after : Fields) (l : List Access) (m n : MachineState) → is_dlab_set m.chip.latches ≡ false → Leaves mcr ier before noted f l after → Path MachineStep m l n → Left mcr ier f after m n
-left mcr ier before noted f after l m n dlab (now, t) p =
-    let is : l ≡ Write 4 (without 8 mcr 8) ∷ Read 6 now ∷ Write 4 mcr ∷ Write 1 ier ∷ [] =
-    rw (t.whole, t.first.0.is, t.second.whole, t.second.first.0.is, t.second.second.whole, t.second.second.first.0.is, t.second.second.second.0) refl in
+left : (mcr ier before noted : ℕ) (f after : Fields) (l : List Access) (m n : MachineState) → (t : Leaves mcr ier before noted f l after) → Path MachineStep m l n → LeftBy (leaving mcr ier t.0) f after m n
+left mcr ier before noted f after l m n (now, t) p =
     let fifo : Fields → Bool = λ g. g.fifo in
+    let is : l ≡ leaving mcr ier now =
+    rw (t.whole, t.first.0.is, t.second.whole, t.second.first.0.is, t.second.second.whole, t.second.second.first.0.is, t.second.second.second.0) refl in
     record {
-      kept = kept_list l (Write 4 (without 8 mcr 8) ∷ Read 6 now ∷ Write 4 mcr ∷ Write 1 ier ∷ []) m n is p ∙ written (kept_in m.chip) dlab;
+      kept = kept_list l (leaving mcr ier now) m n is p;
       knows = ap fifo t.second.second.second.1 ∙ (ap fifo t.second.second.first.1 ∙ (ap fifo t.second.first.1 ∙ ap fifo t.first.1));
     }
-  where
-    written : (k : Kept) → is_dlab_set k.latches ≡ false → kept_after (Write 4 (without 8 mcr 8) ∷ Read 6 now ∷ Write 4 mcr ∷ Write 1 ier ∷ []) k ≡ restored mcr ier k
-    written k d = ap (λ (b : Bool). if b then record k { latches = record k.latches { mcr = bit_and mcr mcr_bits; dlm = ier } } else restored mcr ier k) d
 
 -- ---- all of it
 
@@ -99,18 +99,17 @@ tests_ready result mcr ier f l m t w dlab no_loop (before, on, does) p =
     let a = next_stages (Enters before on) (Next (Saving (Exchanges result)) (Leaves mcr ier before f.lsr)) f after l m n does p in
     let b = next_stages (Saving (Exchanges result)) (Leaves mcr ier before f.lsr) a.mid after a.parts.back a.parts.between n a.parts.second a.parts.after in
     let e = entered before on f a.mid a.parts.front m a.parts.between w dlab a.parts.first a.parts.before in
-    joined a.parts.between b.parts.between b.mid e.kept
+    joined a.parts.between b.parts.between b.mid b.parts.second.0 e.kept
     (λ d. kept_still (settings_of a.mid) (Exchanges result) b.parts.front a.parts.between b.parts.between (keeps_exchanges (settings_of a.mid) result) d b.parts.first.0 b.parts.before)
-    (λ d. left mcr ier before f.lsr b.mid after b.parts.back b.parts.between n d b.parts.second b.parts.after)
+    (left mcr ier before f.lsr b.mid after b.parts.back b.parts.between n b.parts.second b.parts.after)
     (ap (λ (g : Fields). g.fifo) b.parts.first.1 ∙ e.knows)
   where
-    joined : (m₁ m₂ : MachineState) (g : Fields) → kept_in m₁.chip ≡ looped on (kept_in m.chip) → (is_dlab_set m₁.chip.latches ≡ false → kept_in m₂.chip ≡ kept_in m₁.chip) →
-        (is_dlab_set m₂.chip.latches ≡ false → Left mcr ier g (fields (inner_of t)) m₂ (machine_of t)) → g.fifo ≡ on → Ready t
-    joined m₁ m₂ g set still leaves knows =
-        let d₁ : is_dlab_set m₁.chip.latches ≡ false = ap (λ (k : Kept). is_dlab_set k.latches) set ∙ dlab in
-        let same = still d₁ ∙ set in
-        let out = leaves (ap (λ (k : Kept). is_dlab_set k.latches) same ∙ dlab) in
-        ready_by t (restored mcr ier (looped on (kept_in m.chip))) (out.kept ∙ ap (restored mcr ier) same) dlab (has_and 4 mcr 31 refl ∙ no_loop) (out.knows ∙ knows)
+    joined : (m₁ m₂ : MachineState) (g : Fields) (now : ℕ) → kept_in m₁.chip ≡ looped on (kept_in m.chip) → (is_dlab_set m₁.chip.latches ≡ false → kept_in m₂.chip ≡ kept_in m₁.chip) →
+        LeftBy (leaving mcr ier now) g (fields (inner_of t)) m₂ (machine_of t) → g.fifo ≡ on → Ready t
+    joined m₁ m₂ g now set still out knows =
+        let dlab₁ : is_dlab_set m₁.chip.latches ≡ false = ap (λ (k : Kept). is_dlab_set k.latches) set ∙ dlab in
+        let back = ap (kept_after (leaving mcr ier now)) (still dlab₁ ∙ set) ∙ written_back mcr ier now (looped on (kept_in m.chip)) dlab in
+        ready_by t (restored mcr ier (looped on (kept_in m.chip))) (out.kept ∙ back) dlab (has_and 4 mcr 31 refl ∙ no_loop) (out.knows ∙ knows)
 
 -- MCR is written back as it was
 pub tested_ready : (s t : State) (a : Answer) → IsSound (machine_of s) → Called TestsLoopback loopback_answer a (inner_of s) (inner_of t) → Ready s → Ready t
