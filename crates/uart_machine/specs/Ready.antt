@@ -1,5 +1,5 @@
 -- States in which a session may begin, and what an `init` and a loopback test come to over the machine.
-use Rattle.std.specs.Prelude.{◌≡◌, ◌≢◌, ◌⊎◌, ℕ, Bool, true, false, ◌&&◌, List, [], ◌∷◌, Option, Some, None, Ok, bit_and}
+use Rattle.std.specs.Prelude.{◌≡◌, ◌≢◌, ◌⊎◌, Bool, true, false, ◌&&◌, List, [], ◌∷◌, Option, Some, None, Ok, bit_and}
 use Rattle.uart_spec.specs.declared.config.Config.{Config}
 use Rattle.uart_spec.specs.declared.errors.InitError.TheVariants.{DeviceNotPresent}
 use Rattle.uart_spec.specs.declared.errors.LoopbackError.TheVariants.{Stalled}
