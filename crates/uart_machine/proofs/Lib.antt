@@ -40,6 +40,7 @@ pub mod Inits
 pub mod Initialised
 pub mod TestedReady
 pub mod ReadyKept
+pub mod Follows
 pub mod ScriptLines
 pub mod ScriptDigits
 pub mod ScriptBytes
