@@ -17,6 +17,8 @@ pub mod Went
 pub mod Blocks
 pub mod Effects
 pub mod Passed
+pub mod EmptyTransmitter
+pub mod Loops
 pub mod BlockLaws
 pub mod CallBlocks
 pub mod CallKeeps
