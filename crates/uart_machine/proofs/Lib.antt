@@ -21,6 +21,8 @@ pub mod EmptyTransmitter
 pub mod Loops
 pub mod BlockLaws
 pub mod CallBlocks
+pub mod LoopAccesses
+pub mod LoopBlocks
 pub mod CallKeeps
 pub mod SessionLaws
 pub mod StatusLaws
