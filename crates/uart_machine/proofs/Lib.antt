@@ -32,6 +32,13 @@ pub mod SessionCalls
 pub mod StatusSessions
 pub mod Served
 pub mod Sessions
+pub mod Latches
+pub mod Pieces
+pub mod Presence
+pub mod FifoShown
+pub mod KeptLists
+pub mod KeptExchanges
+pub mod FifoSteps
 pub mod ScriptLines
 pub mod ScriptDigits
 pub mod ScriptBytes

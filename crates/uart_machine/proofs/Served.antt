@@ -27,7 +27,7 @@ use Rattle.uart_machine.specs.Served.{HoldsAtLeast, waiting_len, transmitter_of,
 use Rattle.uart_machine.proofs.Bits.{has_one}
 use Rattle.uart_machine.proofs.Status.{status_empty}
 use Rattle.uart_machine.proofs.Went.{Modes}
-use Rattle.uart_machine.proofs.BlockLaws.{PassedBlocks, path_split, look_data}
+use Rattle.uart_machine.proofs.BlockLaws.{PassedBlocks, path_as, path_split, look_data}
 use Rattle.uart_machine.proofs.CallBlocks.{InBlocks, Makes, passed_in_blocks, try_receive_blocks, receives_blocks, receives_exact_blocks}
 use Rattle.uart_machine.proofs.CallKeeps.{reads_blocks, flushes_blocks}
 use Rattle.uart_machine.proofs.CallLaws.{InSession, passes_call}
@@ -54,9 +54,6 @@ dry_times : (s : Settings) (n : ℕ) (l : List Access) → 0 < n → Times n Mis
 dry_times s zero l some t = absurd (omega arith)
 dry_times s (suc zero) l some t = let none : t.back ≡ [] = t.second.is in record { front = []; back = t.front; whole = t.whole ∙ rw none (append-nil t.front); miss = t.first }
 dry_times s (suc (suc n)) l some t = dry_after s t.front t.back l t.whole (dry_times s (suc n) t.back (omega arith) t.second)
-
-path_as : (m n : MachineState) (l k : List Access) → l ≡ k → Path MachineStep m l n → Path MachineStep m k n
-path_as m n l k e p = let P : List Access → Type 0 = λ v. Path MachineStep m v n in subst P e p
 
 -- after it no character waits
 dry_empties : (s : Settings) (m n : MachineState) (l : List Access) → EndsDry s l → Path MachineStep m l n → length n.chip.receiver.queue ≡ 0
@@ -156,7 +153,7 @@ exact_serves x s t slots a l bytes (Err stall) w e h path some =
 
 -- ---- `flush`
 
-look_empty : (m n : MachineState) (line : ℕ) → MachineStep m (Read 5 line) n → has_any line 64 ≡ is_transmitter_empty n.chip.transmitter.queue n.chip.transmitter.shift_place
+pub look_empty : (m n : MachineState) (line : ℕ) → MachineStep m (Read 5 line) n → has_any line 64 ≡ is_transmitter_empty n.chip.transmitter.queue n.chip.transmitter.shift_place
 look_empty m n line s =
     let e : has_any line 64 ≡ has_any (line_status (at_access m).chip) 64 = ap (λ l. has_any l 64) s.1 in
     e ∙ (status_empty (at_access m).chip ∙ sym (ap (λ (o : MachineState). is_transmitter_empty o.chip.transmitter.queue o.chip.transmitter.shift_place) s.0))
