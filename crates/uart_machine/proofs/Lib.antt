@@ -39,6 +39,7 @@ pub mod FifoShown
 pub mod KeptLists
 pub mod KeptExchanges
 pub mod FifoSteps
+pub mod LoopPhases
 pub mod ScriptLines
 pub mod ScriptDigits
 pub mod ScriptBytes
