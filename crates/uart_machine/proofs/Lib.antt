@@ -40,6 +40,7 @@ pub mod KeptLists
 pub mod KeptExchanges
 pub mod FifoSteps
 pub mod LoopPhases
+pub mod LoopExchanges
 pub mod ScriptLines
 pub mod ScriptDigits
 pub mod ScriptBytes

@@ -18,13 +18,14 @@ use Rattle.uart_machine.specs.Transmitter.{room, shift_bytes}
 use Rattle.uart_machine.specs.Chip.{ChipState}
 use Rattle.uart_machine.specs.Machine.{MachineState, MachineStep, at_access}
 use Rattle.uart_machine.proofs.Bits.{has_one}
-use Rattle.uart_machine.proofs.Went.{Modes, IsIn, loopback}
+use Rattle.uart_machine.proofs.Went.{Modes, IsIn, dlab-in}
 use Rattle.uart_machine.proofs.EmptyTransmitter.{IsSent, IsSilent, silent_only, silent_then, silent_few, silent_asks, sent_path}
 use Rattle.uart_machine.proofs.BlockLaws.{path_as, look_data, look_room}
 use Rattle.uart_machine.proofs.CallBlocks.{InBlocks, Makes, makes_then, makes_reads, awaited_blocks, round_blocks, sends_all_blocks, try_sends_blocks}
 use Rattle.uart_machine.proofs.CallKeeps.{one_fits}
 use Rattle.uart_machine.proofs.Latches.{Kept, kept_in, kept_access, kept_list}
 use Rattle.uart_machine.proofs.Pieces.{Parts, then_parts}
+use Rattle.uart_machine.proofs.KeptLists.{AllKeep, keeps_then, keeps_few, keeps_miss, keeps_hit, kept_still}
 use Rattle.uart_machine.proofs.Loops.{line_in}
 use Rattle.uart_machine.proofs.LoopAccesses.{IsLooped}
 use Rattle.uart_machine.proofs.LoopBlocks.{IsIdle, CameBack, comes_back}
@@ -49,12 +50,6 @@ sent_idle x gone c w s none = record { modes = w; line = rw (nothing c.receiver.
     nothing [] e = refl
     nothing (front ∷ others) e = absurd (omega arith)
 
--- a machine in a loopback test, its line empty, and settings that know whether its FIFO is on
-pub record IsReadyToTest (x : Modes) (gone : List ℕ) (s : Settings) (m : MachineState) : Type 0 where
-  pub looped : IsLooped x
-  pub fifo : s.fifo ≡ x.fifo
-  pub idle : IsIdle x gone m.chip
-
 -- ---- the drain
 
 silent_takes_one : (s : Settings) → IsSilent s TakesOne
@@ -72,11 +67,41 @@ miss_empties s l m n t path = looked (path_as m n l (Read 5 t.answer ∷ []) t.i
         let none : nat_lt 0 (length mid.chip.receiver.queue) ≡ false = sym (look_data m mid t.answer step) ∙ (sym (has_one 0 t.answer) ∙ t.shows) in
         rw same (zero_of (length mid.chip.receiver.queue) none)
 
-drained : (x : Modes) (gone : List ℕ) (s : Settings) (l : List Access) (m n : MachineState) → IsIn x n.chip → IsSent gone m.chip.transmitter → Drains true s l → Path MachineStep m l n → IsIdle x gone n.chip
-drained x gone s l m n w sent t path =
+keeps_takes_one : (s : Settings) → AllKeep s TakesOne
+keeps_takes_one s l t = keeps_hit s t.0 l t.1
+
+-- what the registers keep says the modes
+kept_in_modes : (x : Modes) (c d : ChipState) → kept_in d ≡ kept_in c → IsIn x c → IsIn x d
+kept_in_modes x c d e w = record {
+  lcr = ap (λ (k : Kept). k.latches.lcr) e ∙ w.lcr;
+  mcr = ap (λ (k : Kept). k.latches.mcr) e ∙ w.mcr;
+  fifo = ap (λ (k : Kept). k.fifo) e ∙ w.fifo;
+}
+
+-- a machine in a loopback test whose transmitter is empty, and settings that know whether its FIFO is on
+pub record IsEntered (x : Modes) (gone : List ℕ) (s : Settings) (m : MachineState) : Type 0 where
+  pub looped : IsLooped x
+  pub fifo : s.fifo ≡ x.fifo
+  pub modes : IsIn x m.chip
+  pub sent : IsSent gone m.chip.transmitter
+
+-- the same where nothing waits either
+pub record IsReadyToTest (x : Modes) (gone : List ℕ) (s : Settings) (m : MachineState) : Type 0 where
+  pub looped : IsLooped x
+  pub fifo : s.fifo ≡ x.fifo
+  pub idle : IsIdle x gone m.chip
+
+pub drained : (x : Modes) (gone : List ℕ) (s : Settings) (l : List Access) (m n : MachineState) → IsEntered x gone s m → Drains true s l → Path MachineStep m l n → IsReadyToTest x gone s n
+drained x gone s l m n e t path =
+    let keeps = keeps_then s (FewMisses TakesOne) Miss (keeps_few s TakesOne (keeps_takes_one s)) (keeps_miss s) in
     let silent = silent_then s (FewMisses TakesOne) Miss (silent_few s TakesOne (silent_takes_one s)) (silent_asks s 5 1 false) l t in
+    let kept = kept_still s (Drains true) l m n keeps (dlab-in x m.chip e.modes ∙ e.looped.dlab) t path in
     let p = then_parts (FewMisses TakesOne) Miss s l m n t path in
-    sent_idle x gone n.chip w (sent_path gone l m n silent sent path) (miss_empties s p.back p.between n p.second p.after)
+    record {
+      looped = e.looped;
+      fifo = e.fifo;
+      idle = sent_idle x gone n.chip (kept_in_modes x m.chip n.chip kept e.modes) (sent_path gone l m n silent e.sent path) (miss_empties s p.back p.between n p.second p.after);
+    }
 
 -- ---- what comes back
 
@@ -93,7 +118,7 @@ exchanged x gone s L l m n ws rs r few all makes t path =
     record { same = c.same; ready = record { looped = r.looped; fifo = r.fifo; idle = c.idle } }
 
 -- the byte
-byte_exchanged : (x : Modes) (gone : List ℕ) (s : Settings) (actual : ℕ) (l : List Access) (m n : MachineState) → IsReadyToTest x gone s m →
+pub byte_exchanged : (x : Modes) (gone : List ℕ) (s : Settings) (actual : ℕ) (l : List Access) (m n : MachineState) → IsReadyToTest x gone s m →
     Then SendsTestByte (Awaited actual) s l → Path MachineStep m l n → Exchanged x gone s n (test_byte ∷ []) (actual ∷ [])
 byte_exchanged x gone s actual l m n r t path =
     let makes : Makes s (Then SendsTestByte (Awaited actual)) (test_byte ∷ []) (actual ∷ []) = λ k u.
@@ -129,7 +154,7 @@ each_exchanged x gone s (pair ∷ pairs) l m n r t path =
     record { same = cc (a.same, b.same); ready = b.ready }
 
 -- the message, as the FIFO asks
-message_exchanged : (x : Modes) (gone : List ℕ) (s : Settings) (got : List ℕ) (l : List Access) (m n : MachineState) → IsReadyToTest x gone s m → length got ≡ 16 →
+pub message_exchanged : (x : Modes) (gone : List ℕ) (s : Settings) (got : List ℕ) (l : List Access) (m n : MachineState) → IsReadyToTest x gone s m → length got ≡ 16 →
     HasEchoedAll test_message (Some got) s l → Path MachineStep m l n → Exchanged x gone s n test_message got
 message_exchanged x gone s got l m n r long t path = go s.fifo refl t
   where
@@ -140,7 +165,7 @@ message_exchanged x gone s got l m n r long t path = go s.fifo refl t
 -- ---- no send is refused
 
 -- the transmitter is empty, and in loopback the lines mean nothing
-never_refused : (x : Modes) (gone : List ℕ) (s : Settings) (e : ByteSendError) (l : List Access) (m n : MachineState) → IsReadyToTest x gone s m → SendRefused e s l → Path MachineStep m l n → ⊥
+pub never_refused : (x : Modes) (gone : List ℕ) (s : Settings) (e : ByteSendError) (l : List Access) (m n : MachineState) → IsReadyToTest x gone s m → SendRefused e s l → Path MachineStep m l n → ⊥
 never_refused x gone s NoCapacity l m n r t path = looked (path_as m n l (Read 5 t.answer ∷ []) t.is path)
   where
     sent : IsSent gone n.chip.transmitter
