@@ -127,7 +127,7 @@ sent_path gone (access ∷ accesses) m n w s p = sent_path gone accesses p.0 n w
 
 -- ---- languages of such lists
 
-nothing_append : (xs ys : List Access) → AllSendNothing xs → AllSendNothing ys → AllSendNothing (xs ++ ys)
+pub nothing_append : (xs ys : List Access) → AllSendNothing xs → AllSendNothing ys → AllSendNothing (xs ++ ys)
 nothing_append [] ys p q = q
 nothing_append (x ∷ xs) ys p q = (p.0, nothing_append xs ys p.1 q)
 

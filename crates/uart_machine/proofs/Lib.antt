@@ -41,6 +41,7 @@ pub mod KeptExchanges
 pub mod FifoSteps
 pub mod LoopPhases
 pub mod LoopExchanges
+pub mod LoopTests
 pub mod ScriptLines
 pub mod ScriptDigits
 pub mod ScriptBytes
