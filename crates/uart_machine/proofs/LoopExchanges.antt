@@ -1,5 +1,5 @@
 -- What the exchange of a loopback test comes to: all comes back as it was sent, or a wait was in vain.
-use Rattle.std.proofs.Common.{◌≡◌, ◌≢◌, ℕ, min, Bool, true, false, inl, inr, List, [], ◌∷◌, length, Result, Ok, Err, Some, None, refl, arith}
+use Rattle.std.proofs.Common.{◌≡◌, ℕ, min, Bool, true, false, inl, inr, List, [], ◌∷◌, Result, Ok, Err, refl, arith}
 use Rattle.uart_spec.specs.declared.errors.ByteSendError.{ByteSendError}
 use Rattle.uart_spec.specs.declared.errors.ByteSendError.TheVariants.{NoCapacity, RemoteNotClearToSend}
 use Rattle.uart_spec.specs.declared.errors.LoopbackError.{LoopbackError}
@@ -29,20 +29,20 @@ some_room true e = omega arith
 some_room false e = omega arith
 
 -- it is sent at once
-byte_sent : (x : Modes) (gone : List ℕ) (s : Settings) (e : ByteSendError) (l : List Access) (m n : MachineState) → IsReadyToTest x gone s m →
+byte_never_refused : (x : Modes) (gone : List ℕ) (s : Settings) (e : ByteSendError) (l : List Access) (m n : MachineState) → IsReadyToTest x gone s m →
     TrySends {T = Unit {0}} test_byte (Err e) s l → Path MachineStep m l n → ⊥
-byte_sent x gone s NoCapacity l m n r t path = go t
+byte_never_refused x gone s NoCapacity l m n r t path = go t
   where
     go : Sends (test_byte ∷ []) 0 s l → ⊥
     go (inl h) = omega (arith, h.0)
     go (inr (inl h)) = never_refused x gone s h.2.0 l m n r h.2.1 path
     go (inr (inr h)) = some_room s.fifo h.1
-byte_sent x gone s RemoteNotClearToSend l m n r t path = t
+byte_never_refused x gone s RemoteNotClearToSend l m n r t path = t
 
 byte_leads : {T : Type 0} (x : Modes) (gone : List ℕ) (s : Settings) (result : Result T LoopbackError) (l : List Access) (m n : MachineState) → IsReadyToTest x gone s m →
     ExchangesByte result s l → Path MachineStep m l n → LeadsTo (IsReadyToTest x gone s n) result
 byte_leads x gone s (Ok v) l m n r t path = (byte_exchanged x gone s test_byte l m n r t path).ready
-byte_leads x gone s (Err (SendError e)) l m n r t path = absurd (byte_sent x gone s e l m n r t path)
+byte_leads x gone s (Err (SendError e)) l m n r t path = absurd (byte_never_refused x gone s e l m n r t path)
 byte_leads x gone s (Err Stalled) l m n r t path = refl
 byte_leads x gone s (Err (UnexpectedLoopbackByte expected actual)) l m n r t path =
     let a = byte_exchanged x gone s actual l m n r t.2 path in

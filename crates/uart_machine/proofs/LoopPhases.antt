@@ -1,22 +1,20 @@
 -- The phases of a loopback test in loopback: the drain, the byte, the message.
-use Rattle.std.proofs.Common.{◌≡◌, ◌≢◌, ℕ, zero, suc, ◌≤◌, Bool, true, false, ◌==◌, nat_lt, inl, inr, List, [], ◌∷◌, ◌++◌, length, map, append-nil, Option, Some, None, Result, Ok, Err, refl, arith, sym, ◌∙◌, ap, subst, MatchBool}
+use Rattle.std.proofs.Common.{◌≡◌, ℕ, ◌≤◌, Bool, true, false, ◌==◌, nat_lt, inl, inr, List, [], ◌∷◌, ◌++◌, length, map, append-nil, Option, Some, None, Ok, refl, arith, sym, ◌∙◌, ap, subst, MatchBool}
 use Rattle.std.proofs.lemmas.Grind.{common_steps}
 use Rattle.uart_spec.specs.declared.errors.ByteSendError.{ByteSendError}
 use Rattle.uart_spec.specs.declared.errors.ByteSendError.TheVariants.{NoCapacity, RemoteNotClearToSend}
-use Rattle.uart_spec.specs.declared.errors.LoopbackError.{LoopbackError}
-use Rattle.uart_spec.specs.declared.errors.LoopbackError.TheVariants.{Stalled, SendError, UnexpectedLoopbackByte, UnexpectedLoopbackMsg}
 use Rattle.uart_spec.specs.Bits.{has}
 use Rattle.uart_16550.specs.Access.{Access, Read, Path}
-use Rattle.uart_16550.specs.Grammar.{Language, Settings, Only, Then, InOrder, FewMisses, AllMisses, Asks, Never}
-use Rattle.uart_16550.specs.Receive.{Hit, Miss, Awaited}
-use Rattle.uart_16550.specs.Transmit.{LinesAllow, SendRefused, SendMiss, burst_limit, Sends, Round, SendsAll, TrySends}
-use Rattle.uart_16550.specs.Loopback.{test_byte, test_message, TakesOne, Drains, SendsTestByte, ExchangesByte, Echo, WholeEchoes, EachEchoes, HasEchoedAll, ExchangesMessage, Exchanges}
+use Rattle.uart_16550.specs.Grammar.{Language, Settings, Only, Then, InOrder, FewMisses, Asks, Never}
+use Rattle.uart_16550.specs.Receive.{Miss, Awaited}
+use Rattle.uart_16550.specs.Transmit.{LinesAllow, SendRefused, Round, SendsAll}
+use Rattle.uart_16550.specs.Loopback.{test_byte, test_message, TakesOne, Drains, SendsTestByte, Echo, WholeEchoes, EachEchoes, HasEchoedAll}
 use Rattle.uart_machine.specs.declared.receiver.Character.{Character}
 use Rattle.uart_machine.specs.declared.transmitter.Shifting.{Shifting}
 use Rattle.uart_machine.specs.Registers.{has_any}
 use Rattle.uart_machine.specs.Transmitter.{room, shift_bytes}
 use Rattle.uart_machine.specs.Chip.{ChipState}
-use Rattle.uart_machine.specs.Machine.{MachineState, MachineStep, at_access}
+use Rattle.uart_machine.specs.Machine.{MachineState, MachineStep}
 use Rattle.uart_machine.proofs.Bits.{has_one}
 use Rattle.uart_machine.proofs.Went.{Modes, IsIn, dlab-in}
 use Rattle.uart_machine.proofs.EmptyTransmitter.{IsSent, IsSilent, silent_only, silent_then, silent_few, silent_asks, sent_path}
@@ -24,9 +22,8 @@ use Rattle.uart_machine.proofs.BlockLaws.{path_as, look_data, look_room}
 use Rattle.uart_machine.proofs.CallBlocks.{InBlocks, Makes, makes_then, makes_reads, awaited_blocks, round_blocks, sends_all_blocks, try_sends_blocks}
 use Rattle.uart_machine.proofs.CallKeeps.{one_fits}
 use Rattle.uart_machine.proofs.Latches.{Kept, kept_in, kept_access, kept_list}
-use Rattle.uart_machine.proofs.Pieces.{Parts, then_parts}
+use Rattle.uart_machine.proofs.Pieces.{then_parts}
 use Rattle.uart_machine.proofs.KeptLists.{AllKeep, keeps_then, keeps_few, keeps_miss, keeps_hit, kept_still}
-use Rattle.uart_machine.proofs.Loops.{line_in}
 use Rattle.uart_machine.proofs.LoopAccesses.{IsLooped}
 use Rattle.uart_machine.proofs.LoopBlocks.{IsIdle, CameBack, comes_back}
 

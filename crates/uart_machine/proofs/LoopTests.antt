@@ -1,7 +1,6 @@
 -- A loopback test that begins in a ready state: it is done or stalls, and where it is done all that was to go out is on the wire, and nothing else.
-use Rattle.std.proofs.Common.{◌≡◌, ℕ, Bool, true, false, inl, inr, List, [], ◌∷◌, ◌++◌, append-nil, Result, Ok, Err, refl, sym, ◌∙◌, ap, subst, bit_and, if◌then◌else◌}
+use Rattle.std.proofs.Common.{◌≡◌, ℕ, Bool, true, false, inl, inr, List, [], ◌∷◌, append-nil, Result, Ok, Err, refl, sym, ◌∙◌, ap, subst, bit_and, if◌then◌else◌}
 use Rattle.uart_spec.specs.declared.errors.LoopbackError.{LoopbackError}
-use Rattle.uart_spec.specs.declared.registers.fifo_trigger_level.FifoTriggerLevel.{FifoTriggerLevel}
 use Rattle.uart_16550.specs.Access.{Access, Read, Write, Path}
 use Rattle.uart_16550.specs.Grammar.{Language, Settings, Only, Then, FewMisses, Asks}
 use Rattle.uart_16550.specs.Transmit.{Waits}
@@ -10,7 +9,7 @@ use Rattle.uart_16550.specs.Init.{SetsFifo}
 use Rattle.uart_16550.specs.Loopback.{Exchanges, Enters, Leaves, BeginsTest, Tests, IsStalled, TestsLoopback, with_changes, line_changes}
 use Rattle.uart_16550.specs.Tty.{inner_of}
 use Rattle.uart_machine.specs.declared.call.Answer.{Answer}
-use Rattle.uart_machine.specs.declared.call.Answer.TheVariants.{Done, LoopbackRefused}
+use Rattle.uart_machine.specs.declared.call.Answer.TheVariants.{LoopbackRefused}
 use Rattle.uart_machine.specs.Registers.{has_any, ier_bits}
 use Rattle.uart_machine.specs.Transmitter.{out}
 use Rattle.uart_machine.specs.Chip.{is_dlab_set, is_transmitter_empty}
@@ -24,13 +23,12 @@ use Rattle.uart_machine.proofs.Sounds.{sound_path}
 use Rattle.uart_machine.proofs.Went.{Modes, IsIn}
 use Rattle.uart_machine.proofs.EmptyTransmitter.{IsSent, sent_shown, shown_sent, AllSendNothing, nothing_append, IsSilent, silent_only, silent_then, silent_sets_fifo, sent_path}
 use Rattle.uart_machine.proofs.BlockLaws.{IsOpen, Stands, path_as}
-use Rattle.uart_machine.proofs.CallBlocks.{InBlocks, Makes, makes_then, passed_in_blocks, waits_blocks}
+use Rattle.uart_machine.proofs.CallBlocks.{Makes, makes_then, passed_in_blocks, waits_blocks}
 use Rattle.uart_machine.proofs.CallKeeps.{quiet_blocks}
 use Rattle.uart_machine.proofs.Served.{look_empty}
 use Rattle.uart_machine.proofs.Latches.{Kept, kept_in, keep_write, kept_list}
 use Rattle.uart_machine.proofs.Pieces.{then_parts, next_stages}
-use Rattle.uart_machine.proofs.FifoSteps.{FifoSet, sets_fifo}
-use Rattle.uart_machine.proofs.LoopAccesses.{IsLooped}
+use Rattle.uart_machine.proofs.FifoSteps.{sets_fifo}
 use Rattle.uart_machine.proofs.LoopPhases.{idle_sent, IsEntered, IsReadyToTest}
 use Rattle.uart_machine.proofs.LoopExchanges.{LeadsTo, leads_on, exchange_leads}
 
