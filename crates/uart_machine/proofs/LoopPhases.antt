@@ -1,6 +1,5 @@
 -- The phases of a loopback test in loopback: the drain, the byte, the message.
-use Rattle.std.proofs.Common.{◌≡◌, ℕ, ◌≤◌, Bool, true, false, ◌==◌, nat_lt, inl, inr, List, [], ◌∷◌, ◌++◌, length, map, append-nil, Option, Some, None, Ok, refl, arith, sym, ◌∙◌, ap, subst, MatchBool}
-use Rattle.std.proofs.lemmas.Grind.{common_steps}
+use Rattle.std.proofs.Common.{◌≡◌, ℕ, ◌≤◌, Bool, true, false, ◌==◌, inl, inr, List, [], ◌∷◌, ◌++◌, length, map, append-nil, Option, Some, None, Ok, refl, arith, sym, ◌∙◌, ap, subst, MatchBool}
 use Rattle.uart_spec.specs.declared.errors.ByteSendError.{ByteSendError}
 use Rattle.uart_spec.specs.declared.errors.ByteSendError.TheVariants.{NoCapacity, RemoteNotClearToSend}
 use Rattle.uart_spec.specs.Bits.{has}
@@ -18,9 +17,10 @@ use Rattle.uart_machine.specs.Machine.{MachineState, MachineStep}
 use Rattle.uart_machine.proofs.Bits.{has_one}
 use Rattle.uart_machine.proofs.Went.{Modes, IsIn, dlab-in}
 use Rattle.uart_machine.proofs.EmptyTransmitter.{IsSent, IsSilent, silent_only, silent_then, silent_few, silent_asks, sent_path}
-use Rattle.uart_machine.proofs.BlockLaws.{path_as, look_data, look_room}
+use Rattle.uart_machine.proofs.BlockLaws.{path_as, look_room}
 use Rattle.uart_machine.proofs.CallBlocks.{InBlocks, Makes, makes_then, makes_reads, awaited_blocks, round_blocks, sends_all_blocks, try_sends_blocks}
 use Rattle.uart_machine.proofs.CallKeeps.{one_fits}
+use Rattle.uart_machine.proofs.Served.{EndsDry, dry_empties}
 use Rattle.uart_machine.proofs.Latches.{Kept, kept_in, kept_access, kept_list}
 use Rattle.uart_machine.proofs.Pieces.{then_parts}
 use Rattle.uart_machine.proofs.KeptLists.{AllKeep, keeps_then, keeps_few, keeps_miss, keeps_hit, kept_still}
@@ -52,18 +52,6 @@ sent_idle x gone c w s none = record { modes = w; line = rw (nothing c.receiver.
 silent_takes_one : (s : Settings) → IsSilent s TakesOne
 silent_takes_one s l t = silent_then s (Asks 5 1 true) (Only (Read 0 t.0 ∷ [])) (silent_asks s 5 1 true) (silent_only s (Read 0 t.0 ∷ []) (tt, tt)) l t.1
 
--- after a look that shows no data nothing waits
-miss_empties : (s : Settings) (l : List Access) (m n : MachineState) → Miss s l → Path MachineStep m l n → length n.chip.receiver.queue ≡ 0
-miss_empties s l m n t path = looked (path_as m n l (Read 5 t.answer ∷ []) t.is path)
-  where
-    zero_of : (k : ℕ) → nat_lt 0 k ≡ false → k ≡ 0
-    zero_of k e = grind (arith, common_steps)
-
-    looked : Path MachineStep m (Read 5 t.answer ∷ []) n → length n.chip.receiver.queue ≡ 0
-    looked (mid, step, same) =
-        let none : nat_lt 0 (length mid.chip.receiver.queue) ≡ false = sym (look_data m mid t.answer step) ∙ (sym (has_one 0 t.answer) ∙ t.shows) in
-        rw same (zero_of (length mid.chip.receiver.queue) none)
-
 keeps_takes_one : (s : Settings) → AllKeep s TakesOne
 keeps_takes_one s l t = keeps_hit s t.0 l t.1
 
@@ -93,11 +81,11 @@ drained x gone s l m n e t path =
     let keeps = keeps_then s (FewMisses TakesOne) Miss (keeps_few s TakesOne (keeps_takes_one s)) (keeps_miss s) in
     let silent = silent_then s (FewMisses TakesOne) Miss (silent_few s TakesOne (silent_takes_one s)) (silent_asks s 5 1 false) l t in
     let kept = kept_still s (Drains true) l m n keeps (dlab-in x m.chip e.modes ∙ e.looped.dlab) t path in
-    let p = then_parts (FewMisses TakesOne) Miss s l m n t path in
+    let dry : EndsDry s l = record { front = t.front; back = t.back; whole = t.whole; miss = t.second } in
     record {
       looped = e.looped;
       fifo = e.fifo;
-      idle = sent_idle x gone n.chip (kept_in_modes x m.chip n.chip kept e.modes) (sent_path gone l m n silent e.sent path) (miss_empties s p.back p.between n p.second p.after);
+      idle = sent_idle x gone n.chip (kept_in_modes x m.chip n.chip kept e.modes) (sent_path gone l m n silent e.sent path) (dry_empties s m n l dry path);
     }
 
 -- ---- what comes back

@@ -1,8 +1,8 @@
 -- A loopback test that begins in a ready state: it is done or stalls, and where it is done all that was to go out is on the wire, and nothing else.
-use Rattle.std.proofs.Common.{◌≡◌, ℕ, Bool, true, false, inl, inr, List, [], ◌∷◌, append-nil, Result, Ok, Err, refl, sym, ◌∙◌, ap, subst, bit_and, if◌then◌else◌}
+use Rattle.std.proofs.Common.{◌≡◌, ℕ, Bool, true, false, inl, inr, List, [], ◌∷◌, append-nil, Result, Ok, Err, refl, ◌∙◌, ap, subst, bit_and, if◌then◌else◌}
 use Rattle.uart_spec.specs.declared.errors.LoopbackError.{LoopbackError}
 use Rattle.uart_16550.specs.Access.{Access, Read, Write, Path}
-use Rattle.uart_16550.specs.Grammar.{Language, Settings, Only, Then, FewMisses, Asks}
+use Rattle.uart_16550.specs.Grammar.{Language, Settings, Only, Then}
 use Rattle.uart_16550.specs.Transmit.{Waits}
 use Rattle.uart_16550.specs.Driver.{Fields, Doing, Saving, Plain, Sets, Next, fields, settings_of, with_fifo}
 use Rattle.uart_16550.specs.Init.{SetsFifo}
@@ -12,20 +12,19 @@ use Rattle.uart_machine.specs.declared.call.Answer.{Answer}
 use Rattle.uart_machine.specs.declared.call.Answer.TheVariants.{LoopbackRefused}
 use Rattle.uart_machine.specs.Registers.{has_any, ier_bits}
 use Rattle.uart_machine.specs.Transmitter.{out}
-use Rattle.uart_machine.specs.Chip.{is_dlab_set, is_transmitter_empty}
+use Rattle.uart_machine.specs.Chip.{is_dlab_set}
 use Rattle.uart_machine.specs.Machine.{MachineState, MachineStep}
 use Rattle.uart_machine.specs.Sound.{IsSound}
 use Rattle.uart_machine.specs.Run.{State, machine_of, Called, loopback_answer}
 use Rattle.uart_machine.specs.Served.{IsFlushed}
 use Rattle.uart_machine.specs.Ready.{Ready, IsTested}
-use Rattle.uart_machine.proofs.Bits.{has_one}
 use Rattle.uart_machine.proofs.Sounds.{sound_path}
 use Rattle.uart_machine.proofs.Went.{Modes, IsIn}
 use Rattle.uart_machine.proofs.EmptyTransmitter.{IsSent, sent_shown, shown_sent, AllSendNothing, nothing_append, IsSilent, silent_only, silent_then, silent_sets_fifo, sent_path}
 use Rattle.uart_machine.proofs.BlockLaws.{IsOpen, Stands, path_as}
 use Rattle.uart_machine.proofs.CallBlocks.{Makes, makes_then, passed_in_blocks, waits_blocks}
 use Rattle.uart_machine.proofs.CallKeeps.{quiet_blocks}
-use Rattle.uart_machine.proofs.Served.{look_empty}
+use Rattle.uart_machine.proofs.Served.{wait_empties}
 use Rattle.uart_machine.proofs.Latches.{Kept, kept_in, keep_write, kept_list}
 use Rattle.uart_machine.proofs.Pieces.{then_parts, next_stages}
 use Rattle.uart_machine.proofs.FifoSteps.{sets_fifo}
@@ -61,15 +60,6 @@ begins_blocks : (s : Settings) (mcr ier : ℕ) → Makes s (BeginsTest mcr ier t
 begins_blocks s mcr ier l t =
     makes_then s (Only (Read 4 mcr ∷ Read 1 ier ∷ [])) (Waits 64 true) [] [] [] [] (λ k u. rw u.is (quiet_blocks s.fifo (Read 4 mcr ∷ Read 1 ier ∷ []) (refl, (refl, tt)))) (waits_blocks s 64 true) l t
 
--- after a look that shows it the transmitter is empty
-look_sent : (s : Settings) (l : List Access) (m n : MachineState) → Asks 5 64 true s l → Path MachineStep m l n → IsSent (out n.chip.transmitter) n.chip.transmitter
-look_sent s l m n t path = looked (path_as m n l (Read 5 t.answer ∷ []) t.is path)
-  where
-    looked : Path MachineStep m (Read 5 t.answer ∷ []) n → IsSent (out n.chip.transmitter) n.chip.transmitter
-    looked (mid, step, same) =
-        let empty : is_transmitter_empty mid.chip.transmitter.queue mid.chip.transmitter.shift_place ≡ true = sym (look_empty m mid t.answer step) ∙ (sym (has_one 6 t.answer) ∙ t.shows) in
-        rw same (sent_shown mid.chip.transmitter empty)
-
 begun : (s : State) (n : MachineState) (mcr ier : ℕ) (l : List Access) → IsSound (machine_of s) → Ready s → BeginsTest mcr ier true (settings_of (fields (inner_of s))) l →
     Path MachineStep (machine_of s) l n → IsBegun (out (machine_of s).chip.transmitter) n
 begun s n mcr ier l sound r t path =
@@ -81,13 +71,13 @@ begun s n mcr ier l sound r t path =
     let opened : IsOpen x = record { dlab = r.dlab; loopback = r.loopback } in
     let p = (passed_in_blocks x m n l [] [] opened stands (begins_blocks v mcr ier l t) path).passed in
     let a = then_parts (Only (Read 4 mcr ∷ Read 1 ier ∷ [])) (Waits 64 true) v l m n t path in
-    let b = then_parts (FewMisses (Asks 5 64 false)) (Asks 5 64 true) v a.back a.between n a.second a.after in
+    let empty = wait_empties v a.back a.between n a.second a.after in
     let same : out n.chip.transmitter ≡ out m.chip.transmitter = p.went.sends.grows ∙ append-nil (out m.chip.transmitter) in
     let P : List ℕ → Type 0 = λ gone. IsSent gone n.chip.transmitter in
     record {
       sound = p.sound;
       dlab = ap (λ v. has_any v 128) p.went.modes.lcr ∙ r.dlab;
-      sent = subst P same (look_sent v b.back b.between n b.second b.after);
+      sent = subst P same (sent_shown n.chip.transmitter empty);
     }
 
 -- ---- into the loopback

@@ -8,6 +8,7 @@ use Rattle.uart_16550.specs.Access.{Access, Read, Path}
 use Rattle.uart_16550.specs.Grammar.{Language, Settings, Times}
 use Rattle.uart_16550.specs.Driver.{fields, settings_of}
 use Rattle.uart_16550.specs.Receive.{Miss, TryReceive, Receives, ReceivesExact}
+use Rattle.uart_16550.specs.Transmit.{Waits}
 use Rattle.uart_16550.specs.Io.{Reads, Flushes}
 use Rattle.uart_16550.specs.Tty.{inner_of}
 use Rattle.uart_machine.specs.declared.call.Call.{Call}
@@ -36,7 +37,7 @@ use Rattle.uart_machine.proofs.SessionCalls.{in_session-after}
 -- ---- lists that end with a miss
 
 -- the list ends with a look that shows no data
-record EndsDry (s : Settings) (l : List Access) : Type 0 where
+pub record EndsDry (s : Settings) (l : List Access) : Type 0 where
   pub front : List Access
   pub back : List Access
   pub whole : l ≡ front ++ back
@@ -56,7 +57,7 @@ dry_times s (suc zero) l some t = let none : t.back ≡ [] = t.second.is in reco
 dry_times s (suc (suc n)) l some t = dry_after s t.front t.back l t.whole (dry_times s (suc n) t.back (omega arith) t.second)
 
 -- after it no character waits
-dry_empties : (s : Settings) (m n : MachineState) (l : List Access) → EndsDry s l → Path MachineStep m l n → length n.chip.receiver.queue ≡ 0
+pub dry_empties : (s : Settings) (m n : MachineState) (l : List Access) → EndsDry s l → Path MachineStep m l n → length n.chip.receiver.queue ≡ 0
 dry_empties s m n l d p =
     let q = path_split MachineStep m n d.front d.back (path_as m n l (d.front ++ d.back) d.whole p) in
     looked q.0 (path_as q.0 n d.back (Read 5 d.miss.answer ∷ []) d.miss.is q.2)
@@ -164,23 +165,28 @@ nothing_held [] None e = refl
 nothing_held [] (Some s) e = absurd (cc)
 nothing_held (x ∷ xs) place e = absurd (cc)
 
+-- a wait for it, that comes to its end
+pub wait_empties : (s : Settings) (l : List Access) (m n : MachineState) → Waits 64 true s l → Path MachineStep m l n → is_transmitter_empty n.chip.transmitter.queue n.chip.transmitter.shift_place ≡ true
+wait_empties s l m n h path =
+    let q = path_split MachineStep m n h.front h.back (path_as m n l (h.front ++ h.back) h.whole path) in
+    looked q.0 (path_as q.0 n h.back (Read 5 h.second.answer ∷ []) h.second.is q.2)
+  where
+    looked : (k : MachineState) → Path MachineStep k (Read 5 h.second.answer ∷ []) n → is_transmitter_empty n.chip.transmitter.queue n.chip.transmitter.shift_place ≡ true
+    looked k (mid, step, same) =
+        let empty : is_transmitter_empty mid.chip.transmitter.queue mid.chip.transmitter.shift_place ≡ true =
+        sym (look_empty k mid h.second.answer step) ∙ (sym (has_one 6 h.second.answer) ∙ h.second.shows) in
+        ap (λ (o : MachineState). is_transmitter_empty o.chip.transmitter.queue o.chip.transmitter.shift_place) same ∙ empty
+
 flush_serves : (x : Modes) (s t : State) (a : Answer) (l : List Access) (result : Result (Unit {0}) StalledError) → InSession x s → a ≡ exact_answer result → Flushes result (settings_at s) l →
     Path MachineStep (machine_of s) l (machine_of t) → a ≡ Done → IsFlushed s t
 flush_serves x s t a l (Ok done) w e h path f =
-    let q = path_split MachineStep (machine_of s) (machine_of t) h.front h.back (path_as (machine_of s) (machine_of t) l (h.front ++ h.back) h.whole path) in
-    let empty = looked q.0 (path_as q.0 (machine_of t) h.back (Read 5 h.second.answer ∷ []) h.second.is q.2) in
+    let empty = wait_empties (settings_at s) l (machine_of s) (machine_of t) h path in
     let p = passed_list x s t (Flushes {T = Unit {0}} (Ok done)) l [] [] w (flushes_blocks {T = Unit {0}} (settings_at s) (Ok done)) h path in
     let u = transmitter_of t in
     record {
       is_empty = empty;
       wire = sym (ap (λ zs. u.wire ++ zs) (nothing_held u.queue u.shift_place empty) ∙ append-nil u.wire) ∙ (p.passed.went.sends.grows ∙ append-nil (out (machine_of s)));
     }
-  where
-    looked : (k : MachineState) → Path MachineStep k (Read 5 h.second.answer ∷ []) (machine_of t) → is_transmitter_empty (transmitter_of t).queue (transmitter_of t).shift_place ≡ true
-    looked k (mid, step, same) =
-        let empty : is_transmitter_empty mid.chip.transmitter.queue mid.chip.transmitter.shift_place ≡ true =
-        sym (look_empty k mid h.second.answer step) ∙ (sym (has_one 6 h.second.answer) ∙ h.second.shows) in
-        ap (λ (o : MachineState). is_transmitter_empty o.chip.transmitter.queue o.chip.transmitter.shift_place) same ∙ empty
 flush_serves x s t a l (Err stall) w e h path f = absurd (cc)
 
 -- ---- each call
