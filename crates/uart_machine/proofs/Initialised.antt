@@ -21,7 +21,7 @@ use Rattle.uart_machine.proofs.Latches.{Kept, kept_in, kept_after, kept_list}
 use Rattle.uart_machine.proofs.Pieces.{then_parts, next_stages}
 use Rattle.uart_machine.proofs.Presence.{never_absent}
 use Rattle.uart_machine.proofs.KeptLists.{keeps_waits, kept_still}
-use Rattle.uart_machine.proofs.Emptied.{IsEmpty, empty_shown}
+use Rattle.uart_machine.proofs.EmptyTransmitter.{IsEmpty, empty_shown}
 use Rattle.uart_machine.proofs.Inits.{frame-dlab, set_up, Begun, begun, ended}
 
 -- ready by what the registers keep

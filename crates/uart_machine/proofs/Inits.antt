@@ -24,7 +24,8 @@ use Rattle.uart_machine.proofs.Latches.{Kept, kept_in, kept_after, kept_list, ke
 use Rattle.uart_machine.proofs.Pieces.{then_parts, next_stages}
 use Rattle.uart_machine.proofs.KeptLists.{keeps_drains, kept_still}
 use Rattle.uart_machine.proofs.FifoSteps.{sets_fifo}
-use Rattle.uart_machine.proofs.Emptied.{IsEmpty, AllSilent, empty_path}
+use Rattle.uart_machine.proofs.Lasting.{AllSendNothing}
+use Rattle.uart_machine.proofs.EmptyTransmitter.{IsEmpty, empty_path}
 
 -- ---- the frame
 
@@ -165,10 +166,10 @@ ended config f after l m n t p =
     let x : Path MachineStep m reads a.parts.between = path_as m a.parts.between a.parts.front reads status.is a.parts.before in
     let y : Path MachineStep a.parts.between [] b.parts.between = path_as a.parts.between b.parts.between b.parts.front [] b.parts.first.0 b.parts.before in
     let z : Path MachineStep b.parts.between (Write 1 config.interrupts.0 ∷ []) n = path_as b.parts.between n b.parts.back (Write 1 config.interrupts.0 ∷ []) b.parts.second.0.is b.parts.after in
-    joined reads a.parts.between b.parts.between (λ k. refl) tt x y z
+    joined reads a.parts.between b.parts.between (λ k. refl) (tt, (tt, (tt, tt))) x y z
     (ap (λ (g : Fields). g.fifo) b.parts.second.1 ∙ (ap (λ (g : Fields). g.fifo) b.parts.first.1 ∙ ap (λ (g : Fields). g.fifo) a.parts.first.1))
   where
-    joined : (reads : List Access) (m₁ m₂ : MachineState) → ((k : Kept) → kept_after reads k ≡ k) → AllSilent reads → Path MachineStep m reads m₁ → m₂ ≡ m₁ → Path MachineStep m₂ (Write 1 config.interrupts.0 ∷ []) n →
+    joined : (reads : List Access) (m₁ m₂ : MachineState) → ((k : Kept) → kept_after reads k ≡ k) → AllSendNothing reads → Path MachineStep m reads m₁ → m₂ ≡ m₁ → Path MachineStep m₂ (Write 1 config.interrupts.0 ∷ []) n →
         after.fifo ≡ f.fifo → Ended config f after m n
     joined reads m₁ m₂ keep silent x y z knows = record {
       left = record {

@@ -2,6 +2,7 @@ pub mod Within
 pub mod Marks
 pub mod ReceiverSounds
 pub mod TransmitterSounds
+pub mod Lasting
 pub mod Sounds
 pub mod Schedules
 pub mod Builds
@@ -18,6 +19,7 @@ pub mod Blocks
 pub mod Effects
 pub mod Passed
 pub mod BlockLaws
+pub mod EmptyTransmitter
 pub mod CallBlocks
 pub mod CallKeeps
 pub mod SessionLaws
@@ -26,7 +28,6 @@ pub mod Runs
 pub mod CallLaws
 pub mod SessionCalls
 pub mod StatusSessions
-pub mod Emptied
 pub mod Served
 pub mod Sessions
 pub mod Latches
@@ -36,6 +37,12 @@ pub mod FifoShown
 pub mod KeptLists
 pub mod KeptExchanges
 pub mod FifoSteps
+pub mod Loops
+pub mod LoopAccesses
+pub mod LoopBlocks
+pub mod LoopPhases
+pub mod LoopExchanges
+pub mod LoopTests
 pub mod Inits
 pub mod Initialised
 pub mod TestedReady

@@ -25,8 +25,8 @@ use Rattle.uart_machine.specs.Session.{AllWithinSession}
 use Rattle.uart_machine.specs.Served.{HoldsAtLeast, waiting_len, transmitter_of, IsFlushed, Serves, AllServe}
 use Rattle.uart_machine.proofs.Bits.{has_one}
 use Rattle.uart_machine.proofs.Went.{Modes}
+use Rattle.uart_machine.proofs.EmptyTransmitter.{wait_empties}
 use Rattle.uart_machine.proofs.BlockLaws.{PassedBlocks, path_as, path_split, look_data}
-use Rattle.uart_machine.proofs.Emptied.{empty_shown}
 use Rattle.uart_machine.proofs.CallBlocks.{InBlocks, Makes, passed_in_blocks, try_receive_blocks, receives_blocks, receives_exact_blocks}
 use Rattle.uart_machine.proofs.CallKeeps.{reads_blocks, flushes_blocks}
 use Rattle.uart_machine.proofs.CallLaws.{InSession, passes_call}
@@ -35,7 +35,7 @@ use Rattle.uart_machine.proofs.SessionCalls.{in_session-after}
 -- ---- lists that end with a miss
 
 -- the list ends with a look that shows no data
-record EndsDry (s : Settings) (l : List Access) : Type 0 where
+pub record EndsDry (s : Settings) (l : List Access) : Type 0 where
   pub front : List Access
   pub back : List Access
   pub whole : l ≡ front ++ back
@@ -55,7 +55,7 @@ dry_times s (suc zero) l some t = let none : t.back ≡ [] = t.second.is in reco
 dry_times s (suc (suc n)) l some t = dry_after s t.front t.back l t.whole (dry_times s (suc n) t.back (omega arith) t.second)
 
 -- after it no character waits
-dry_empties : (s : Settings) (m n : MachineState) (l : List Access) → EndsDry s l → Path MachineStep m l n → length n.chip.receiver.queue ≡ 0
+pub dry_empties : (s : Settings) (m n : MachineState) (l : List Access) → EndsDry s l → Path MachineStep m l n → length n.chip.receiver.queue ≡ 0
 dry_empties s m n l d p =
     let q = path_split MachineStep m n d.front d.back (path_as m n l (d.front ++ d.back) d.whole p) in
     looked q.0 (path_as q.0 n d.back (Read 5 d.miss.answer ∷ []) d.miss.is q.2)
@@ -161,8 +161,7 @@ nothing_held (x ∷ xs) place e = absurd (cc)
 flush_serves : (x : Modes) (s t : State) (a : Answer) (l : List Access) (result : Result (Unit {0}) StalledError) → InSession x s → a ≡ exact_answer result → Flushes result (settings_at s) l →
     Path MachineStep (machine_of s) l (machine_of t) → a ≡ Done → IsFlushed s t
 flush_serves x s t a l (Ok done) w e h path f =
-    let q = path_split MachineStep (machine_of s) (machine_of t) h.front h.back (path_as (machine_of s) (machine_of t) l (h.front ++ h.back) h.whole path) in
-    let empty = empty_shown (settings_at s) h.back q.0 (machine_of t) h.second q.2 in
+    let empty = wait_empties (settings_at s) l (machine_of s) (machine_of t) h path in
     let p = passed_list x s t (Flushes {T = Unit {0}} (Ok done)) l [] [] w (flushes_blocks {T = Unit {0}} (settings_at s) (Ok done)) h path in
     let u = transmitter_of t in
     record {
