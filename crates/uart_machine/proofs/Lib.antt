@@ -42,10 +42,10 @@ pub mod LoopAccesses
 pub mod LoopBlocks
 pub mod LoopPhases
 pub mod LoopExchanges
-pub mod LoopTests
 pub mod Inits
 pub mod Initialised
 pub mod TestedReady
+pub mod LoopTests
 pub mod ReadyKept
 pub mod Follows
 pub mod ScriptLines

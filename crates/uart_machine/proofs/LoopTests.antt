@@ -1,5 +1,5 @@
 -- A loopback test that begins in a ready state: it is done or stalls, and where it is done all that was to go out is on the wire, and nothing else.
-use Rattle.std.proofs.Common.{◌≡◌, ℕ, Bool, true, false, inl, inr, List, [], ◌∷◌, append-nil, Result, Ok, Err, refl, ◌∙◌, ap, subst, bit_and, if◌then◌else◌}
+use Rattle.std.proofs.Common.{◌≡◌, ℕ, Bool, true, false, inl, inr, List, [], ◌∷◌, append-nil, Result, Ok, Err, refl, ◌∙◌, ap, subst}
 use Rattle.uart_spec.specs.declared.errors.LoopbackError.{LoopbackError}
 use Rattle.uart_16550.specs.Access.{Access, Read, Write, Path}
 use Rattle.uart_16550.specs.Grammar.{Language, Settings, Only, Then}
@@ -10,7 +10,7 @@ use Rattle.uart_16550.specs.Loopback.{Exchanges, Enters, Leaves, BeginsTest, Tes
 use Rattle.uart_16550.specs.Tty.{inner_of}
 use Rattle.uart_machine.specs.declared.call.Answer.{Answer}
 use Rattle.uart_machine.specs.declared.call.Answer.TheVariants.{LoopbackRefused}
-use Rattle.uart_machine.specs.Registers.{has_any, ier_bits}
+use Rattle.uart_machine.specs.Registers.{has_any}
 use Rattle.uart_machine.specs.Transmitter.{out}
 use Rattle.uart_machine.specs.Chip.{is_dlab_set}
 use Rattle.uart_machine.specs.Machine.{MachineState, MachineStep}
@@ -18,16 +18,15 @@ use Rattle.uart_machine.specs.Sound.{IsSound}
 use Rattle.uart_machine.specs.Run.{State, machine_of, Called, loopback_answer}
 use Rattle.uart_machine.specs.Served.{IsFlushed}
 use Rattle.uart_machine.specs.Ready.{Ready, IsTested}
-use Rattle.uart_machine.proofs.Sounds.{sound_path}
 use Rattle.uart_machine.proofs.Went.{Modes, IsIn}
 use Rattle.uart_machine.proofs.Lasting.{AllSendNothing}
 use Rattle.uart_machine.proofs.EmptyTransmitter.{IsSent, sent_shown, shown_sent, wait_empties, nothing_append, IsSilent, silent_only, silent_then, silent_sets_fifo, sent_path}
-use Rattle.uart_machine.proofs.BlockLaws.{IsOpen, Stands, path_as}
+use Rattle.uart_machine.proofs.BlockLaws.{IsOpen, Stands}
 use Rattle.uart_machine.proofs.CallBlocks.{Makes, makes_then, passed_in_blocks, waits_blocks}
 use Rattle.uart_machine.proofs.CallKeeps.{quiet_blocks}
-use Rattle.uart_machine.proofs.Latches.{Kept, kept_in, keep_write, kept_list}
+use Rattle.uart_machine.proofs.Latches.{Kept}
 use Rattle.uart_machine.proofs.Pieces.{then_parts, next_stages}
-use Rattle.uart_machine.proofs.FifoSteps.{sets_fifo}
+use Rattle.uart_machine.proofs.TestedReady.{entered}
 use Rattle.uart_machine.proofs.LoopPhases.{idle_sent, IsEntered, IsReadyToTest}
 use Rattle.uart_machine.proofs.LoopExchanges.{LeadsTo, leads_on, exchange_leads}
 
@@ -90,36 +89,18 @@ enters_silently before fifo f after l t =
     silent_next (Saving L) (Sets (with_fifo fifo)) (silent_saving L (λ s. silent_then s (Only list) (SetsFifo level fifo) (silent_only s list (tt, (refl, (refl, tt)))) (silent_sets_fifo s level fifo)))
     (silent_sets (with_fifo fifo)) f after l t
 
--- a write of IER, or of the divisor latch in its place
-ier_keeps_lcr : (value : ℕ) (k : Kept) → (keep_write 1 value k).latches.lcr ≡ k.latches.lcr
-ier_keeps_lcr value k = either (is_dlab_set k.latches)
-  where
-    either : (b : Bool) → (if b then record k { latches = record k.latches { dlm = value } } else record k { latches = record k.latches { ier = bit_and value ier_bits } }).latches.lcr ≡ k.latches.lcr
-    either true = refl
-    either false = refl
-
 -- the modes of a loopback test under this LCR
 abbrev looped_modes : ℕ → Bool → Modes
 looped_modes lcr fifo = record { lcr = lcr; mcr = 16; fifo = fifo }
 
-entered : (gone : List ℕ) (before : ℕ) (fifo : Bool) (f after : Fields) (l : List Access) (m n : MachineState) → IsBegun gone m → Enters before fifo f l after → Path MachineStep m l n →
+in_loopback : (gone : List ℕ) (before : ℕ) (fifo : Bool) (f after : Fields) (l : List Access) (m n : MachineState) → IsBegun gone m → Enters before fifo f l after → Path MachineStep m l n →
     IsEntered (looped_modes m.chip.latches.lcr fifo) gone (settings_of after) n
-entered gone before fifo f after l m n b t path =
-    let level = f.config.fifo_trigger_level in
-    let list = Read 6 before ∷ Write 1 0 ∷ Write 4 16 ∷ [] in
-    let L : Language = Then (Only list) (SetsFifo level fifo) in
-    let a = next_stages (Saving L) (Sets (with_fifo fifo)) f after l m n t path in
-    let last : n ≡ a.parts.between = path_as a.parts.between n a.parts.back [] a.parts.second.0 a.parts.after in
-    let c = then_parts (Only list) (SetsFifo level fifo) (settings_of f) a.parts.front m a.parts.between a.parts.first.0 a.parts.before in
-    let first = kept_list c.front list m c.between c.first.is c.before in
-    let set = sets_fifo level fifo (settings_of f) c.back c.between a.parts.between (sound_path c.front m c.between b.sound c.before) c.second c.after in
-    let kept = rw first at set.kept in
-    let whole : IsIn (looped_modes m.chip.latches.lcr fifo) a.parts.between.chip =
-    record { lcr = ap (λ (k : Kept). k.latches.lcr) kept ∙ ier_keeps_lcr 0 (kept_in m.chip); mcr = ap (λ (k : Kept). k.latches.mcr) kept; fifo = ap (λ (k : Kept). k.fifo) kept } in
+in_loopback gone before fifo f after l m n b t path =
+    let e = entered before fifo f after l m n b.sound b.dlab t path in
     record {
       looped = record { dlab = b.dlab; loopback = refl };
-      fifo = ap (λ (g : Fields). g.fifo) a.parts.second.1;
-      modes = rw last whole;
+      fifo = e.knows;
+      modes = record { lcr = ap (λ (k : Kept). k.latches.lcr) e.kept; mcr = ap (λ (k : Kept). k.latches.mcr) e.kept; fifo = ap (λ (k : Kept). k.fifo) e.kept };
       sent = sent_path gone l m n (enters_silently before fifo f after l t) b.sent path;
     }
 
@@ -144,7 +125,7 @@ test_leads : {T : Type 0} (gone : List ℕ) (mcr ier : ℕ) (result : Result T L
 test_leads gone mcr ier result f after l m n b (before, fifo, t) path =
     let x = looped_modes m.chip.latches.lcr fifo in
     let a = next_stages (Enters before fifo) (Next (Saving (Exchanges result)) (Leaves mcr ier before f.lsr)) f after l m n t path in
-    let e = entered gone before fifo f a.mid a.parts.front m a.parts.between b a.parts.first a.parts.before in
+    let e = in_loopback gone before fifo f a.mid a.parts.front m a.parts.between b a.parts.first a.parts.before in
     let c = next_stages (Saving (Exchanges result)) (Leaves mcr ier before f.lsr) a.mid after a.parts.back a.parts.between n a.parts.second a.parts.after in
     let o = exchange_leads x gone (settings_of a.mid) result c.parts.front a.parts.between c.parts.between e c.parts.first.0 c.parts.before in
     let left : IsReadyToTest x gone (settings_of a.mid) c.parts.between → IsSent gone n.chip.transmitter =

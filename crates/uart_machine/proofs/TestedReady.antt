@@ -43,15 +43,15 @@ mcr_read s mcr ier empty l m n t p =
 -- ---- into loopback
 
 -- the registers in loopback
-abbrev looped : Bool → Kept → Kept
+abbrev pub looped : Bool → Kept → Kept
 looped on k = record k { latches = record k.latches { ier = 0; mcr = 16 }; fifo = on }
 
 -- loopback is entered, and the driver takes the FIFO to be as it is
-record Entered (on : Bool) (m n : MachineState) (after : Fields) : Type 0 where
+pub record Entered (on : Bool) (m n : MachineState) (after : Fields) : Type 0 where
   pub kept : kept_in n.chip ≡ looped on (kept_in m.chip)
   pub knows : after.fifo ≡ on
 
-entered : (before : ℕ) (on : Bool) (f after : Fields) (l : List Access) (m n : MachineState) → IsSound m → is_dlab_set m.chip.latches ≡ false → Enters before on f l after → Path MachineStep m l n → Entered on m n after
+pub entered : (before : ℕ) (on : Bool) (f after : Fields) (l : List Access) (m n : MachineState) → IsSound m → is_dlab_set m.chip.latches ≡ false → Enters before on f l after → Path MachineStep m l n → Entered on m n after
 entered before on f after l m n w dlab t p =
     let modes : List Access = Read 6 before ∷ Write 1 0 ∷ Write 4 16 ∷ [] in
     let a = next_stages (Saving (Then (Only modes) (SetsFifo f.config.fifo_trigger_level on))) (Sets (with_fifo on)) f after l m n t p in
