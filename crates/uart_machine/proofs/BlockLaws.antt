@@ -1,5 +1,5 @@
 -- What each block of a session does to the machine, and what a list of blocks does.
-use Rattle.std.proofs.Common.{◌≡◌, ℕ, ◌+◌, ◌≤◌, ◌<◌, Bool, true, false, ◌==◌, nat_lt, List, [], ◌∷◌, ◌++◌, length, map, refl, arith, sym, ◌∙◌, ap, bit_or}
+use Rattle.std.proofs.Common.{◌≡◌, ℕ, ◌+◌, ◌≤◌, ◌<◌, Bool, true, false, ◌==◌, nat_lt, List, [], ◌∷◌, ◌++◌, length, map, refl, arith, sym, ◌∙◌, ap, subst, bit_or}
 use Rattle.std.proofs.lemmas.List.{map-append}
 use Rattle.std.proofs.lemmas.Grind.{common_steps}
 use Rattle.uart_machine.specs.declared.receiver.Character.{Character}
@@ -18,6 +18,10 @@ use Rattle.uart_machine.proofs.Went.{Modes, IsIn, dlab, loopback, Went}
 use Rattle.uart_machine.proofs.Reports.{IsReported, report_reported}
 use Rattle.uart_machine.proofs.Effects.{went-look, went-send, TookFront, went-take, went-read_latch, went-write_lcr, went-read_1, went-quiet_read, went-quiet_write}
 use Rattle.uart_machine.proofs.Passed.{Passed, passed-refl, passed-trans, passed-access, passed-effect}
+
+-- a path of a list is one of the same list
+pub path_as : (m n : MachineState) (l k : List Access) → l ≡ k → Path MachineStep m l n → Path MachineStep m k n
+path_as m n l k e p = let P : List Access → Type 0 = λ v. Path MachineStep m v n in subst P e p
 
 -- a path of two lists leads through a state between
 pub path_split : {S : Type 0} (step : S → Access → S → Type 0) (a c : S) (xs ys : List Access) → Path step a (xs ++ ys) c → (b : S) × Path step a xs b × Path step b ys c

@@ -253,7 +253,7 @@ try_receive_blocks s (Ok byte) l t = hit_blocks s byte l t
 try_receive_blocks s (Err e) l t = miss_blocks s l t
 
 -- bytes that are read one after the other
-makes_reads : (s : Settings) (P : ℕ → Language) → ((byte : ℕ) → Makes s (P byte) [] (byte ∷ [])) → (bytes : List ℕ) → Makes s (InOrder P bytes) [] bytes
+pub makes_reads : (s : Settings) (P : ℕ → Language) → ((byte : ℕ) → Makes s (P byte) [] (byte ∷ [])) → (bytes : List ℕ) → Makes s (InOrder P bytes) [] bytes
 makes_reads s P p [] l t = makes_only_none s l t
 makes_reads s P p (byte ∷ bytes) l t = makes_then s (P byte) (InOrder P bytes) [] [] (byte ∷ []) bytes (p byte) (λ k u. makes_reads s P p bytes k u) l t
 
@@ -268,7 +268,7 @@ pub receives_blocks : (s : Settings) (n : ℕ) (bytes : List ℕ) → Makes s (R
 receives_blocks s n bytes l (inl t) = makes_reads s Hit (hit_blocks s) bytes l t.1
 receives_blocks s n bytes l (inr t) = makes_reads_then s Hit Miss (hit_blocks s) bytes (miss_blocks s) l t.1
 
-awaited_blocks : (s : Settings) (byte : ℕ) → Makes s (Awaited byte) [] (byte ∷ [])
+pub awaited_blocks : (s : Settings) (byte : ℕ) → Makes s (Awaited byte) [] (byte ∷ [])
 awaited_blocks s byte l t = makes_then s (FewMisses Miss) (Hit byte) [] [] [] (byte ∷ []) (makes_few s Miss (miss_blocks s)) (hit_blocks s byte) l t
 
 pub no_bytes : (bytes : List ℕ) → length bytes ≡ 0 → bytes ≡ []

@@ -91,7 +91,7 @@ answers_write_blocks s (Err e) l t = absurd t
 
 -- ---- texts
 
-one_fits : (fifo : Bool) → 1 ≤ room fifo
+pub one_fits : (fifo : Bool) → 1 ≤ room fifo
 one_fits true = omega arith
 one_fits false = omega arith
 

@@ -31,8 +31,7 @@ use Rattle.uart_machine.specs.Machine.{MachineState, MachineStep, before_access,
 use Rattle.uart_machine.proofs.Sounds.{latches-perform}
 use Rattle.uart_machine.proofs.Lasting.{AllSendNothing}
 use Rattle.uart_machine.proofs.Nearing.{RunsFree, free_runs, free-step, free-path, nearer-latch}
-use Rattle.uart_machine.proofs.BlockLaws.{path_split}
-use Rattle.uart_machine.proofs.Served.{path_as}
+use Rattle.uart_machine.proofs.BlockLaws.{path_split, path_as}
 
 -- ---- languages and doings that send nothing
 

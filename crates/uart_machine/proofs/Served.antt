@@ -16,18 +16,17 @@ use Rattle.uart_machine.specs.declared.call.Answer.{Answer}
 use Rattle.uart_machine.specs.declared.call.Answer.TheVariants.{Register, Done}
 use Rattle.uart_machine.specs.declared.receiver.Character.{Character}
 use Rattle.uart_machine.specs.declared.transmitter.Shifting.{Shifting}
-use Rattle.uart_machine.specs.Registers.{has_any}
 use Rattle.uart_machine.specs.Transmitter.{shift_bytes}
-use Rattle.uart_machine.specs.Chip.{line_status, is_transmitter_empty}
-use Rattle.uart_machine.specs.Machine.{MachineState, MachineStep, at_access}
+use Rattle.uart_machine.specs.Chip.{is_transmitter_empty}
+use Rattle.uart_machine.specs.Machine.{MachineState, MachineStep}
 use Rattle.uart_machine.specs.Conserved.{out}
 use Rattle.uart_machine.specs.Run.{State, machine_of, CallStep, Link, Chain, received_answer, read_answer, receive_exact_answer, exact_answer}
 use Rattle.uart_machine.specs.Session.{AllWithinSession}
 use Rattle.uart_machine.specs.Served.{HoldsAtLeast, waiting_len, transmitter_of, IsFlushed, Serves, AllServe}
 use Rattle.uart_machine.proofs.Bits.{has_one}
-use Rattle.uart_machine.proofs.Status.{status_empty}
 use Rattle.uart_machine.proofs.Went.{Modes}
-use Rattle.uart_machine.proofs.BlockLaws.{PassedBlocks, path_split, look_data}
+use Rattle.uart_machine.proofs.EmptyTransmitter.{wait_empties}
+use Rattle.uart_machine.proofs.BlockLaws.{PassedBlocks, path_as, path_split, look_data}
 use Rattle.uart_machine.proofs.CallBlocks.{InBlocks, Makes, passed_in_blocks, try_receive_blocks, receives_blocks, receives_exact_blocks}
 use Rattle.uart_machine.proofs.CallKeeps.{reads_blocks, flushes_blocks}
 use Rattle.uart_machine.proofs.CallLaws.{InSession, passes_call}
@@ -36,7 +35,7 @@ use Rattle.uart_machine.proofs.SessionCalls.{in_session-after}
 -- ---- lists that end with a miss
 
 -- the list ends with a look that shows no data
-record EndsDry (s : Settings) (l : List Access) : Type 0 where
+pub record EndsDry (s : Settings) (l : List Access) : Type 0 where
   pub front : List Access
   pub back : List Access
   pub whole : l ≡ front ++ back
@@ -55,11 +54,8 @@ dry_times s zero l some t = absurd (omega arith)
 dry_times s (suc zero) l some t = let none : t.back ≡ [] = t.second.is in record { front = []; back = t.front; whole = t.whole ∙ rw none (append-nil t.front); miss = t.first }
 dry_times s (suc (suc n)) l some t = dry_after s t.front t.back l t.whole (dry_times s (suc n) t.back (omega arith) t.second)
 
-pub path_as : (m n : MachineState) (l k : List Access) → l ≡ k → Path MachineStep m l n → Path MachineStep m k n
-path_as m n l k e p = let P : List Access → Type 0 = λ v. Path MachineStep m v n in subst P e p
-
 -- after it no character waits
-dry_empties : (s : Settings) (m n : MachineState) (l : List Access) → EndsDry s l → Path MachineStep m l n → length n.chip.receiver.queue ≡ 0
+pub dry_empties : (s : Settings) (m n : MachineState) (l : List Access) → EndsDry s l → Path MachineStep m l n → length n.chip.receiver.queue ≡ 0
 dry_empties s m n l d p =
     let q = path_split MachineStep m n d.front d.back (path_as m n l (d.front ++ d.back) d.whole p) in
     looked q.0 (path_as q.0 n d.back (Read 5 d.miss.answer ∷ []) d.miss.is q.2)
@@ -156,11 +152,6 @@ exact_serves x s t slots a l bytes (Err stall) w e h path some =
 
 -- ---- `flush`
 
-pub look_empty : (m n : MachineState) (line : ℕ) → MachineStep m (Read 5 line) n → has_any line 64 ≡ is_transmitter_empty n.chip.transmitter.queue n.chip.transmitter.shift_place
-look_empty m n line s =
-    let e : has_any line 64 ≡ has_any (line_status (at_access m).chip) 64 = ap (λ l. has_any l 64) s.1 in
-    e ∙ (status_empty (at_access m).chip ∙ sym (ap (λ (o : MachineState). is_transmitter_empty o.chip.transmitter.queue o.chip.transmitter.shift_place) s.0))
-
 -- an empty transmitter holds nothing
 nothing_held : (queue : List ℕ) (place : Option Shifting) → is_transmitter_empty queue place ≡ true → shift_bytes place ++ queue ≡ []
 nothing_held [] None e = refl
@@ -170,20 +161,13 @@ nothing_held (x ∷ xs) place e = absurd (cc)
 flush_serves : (x : Modes) (s t : State) (a : Answer) (l : List Access) (result : Result (Unit {0}) StalledError) → InSession x s → a ≡ exact_answer result → Flushes result (settings_at s) l →
     Path MachineStep (machine_of s) l (machine_of t) → a ≡ Done → IsFlushed s t
 flush_serves x s t a l (Ok done) w e h path f =
-    let q = path_split MachineStep (machine_of s) (machine_of t) h.front h.back (path_as (machine_of s) (machine_of t) l (h.front ++ h.back) h.whole path) in
-    let empty = looked q.0 (path_as q.0 (machine_of t) h.back (Read 5 h.second.answer ∷ []) h.second.is q.2) in
+    let empty = wait_empties (settings_at s) l (machine_of s) (machine_of t) h path in
     let p = passed_list x s t (Flushes {T = Unit {0}} (Ok done)) l [] [] w (flushes_blocks {T = Unit {0}} (settings_at s) (Ok done)) h path in
     let u = transmitter_of t in
     record {
       is_empty = empty;
       wire = sym (ap (λ zs. u.wire ++ zs) (nothing_held u.queue u.shift_place empty) ∙ append-nil u.wire) ∙ (p.passed.went.sends.grows ∙ append-nil (out (machine_of s)));
     }
-  where
-    looked : (k : MachineState) → Path MachineStep k (Read 5 h.second.answer ∷ []) (machine_of t) → is_transmitter_empty (transmitter_of t).queue (transmitter_of t).shift_place ≡ true
-    looked k (mid, step, same) =
-        let empty : is_transmitter_empty mid.chip.transmitter.queue mid.chip.transmitter.shift_place ≡ true =
-        sym (look_empty k mid h.second.answer step) ∙ (sym (has_one 6 h.second.answer) ∙ h.second.shows) in
-        ap (λ (o : MachineState). is_transmitter_empty o.chip.transmitter.queue o.chip.transmitter.shift_place) same ∙ empty
 flush_serves x s t a l (Err stall) w e h path f = absurd (cc)
 
 -- ---- each call

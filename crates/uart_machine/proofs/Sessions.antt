@@ -7,8 +7,8 @@ use Rattle.uart_machine.specs.declared.call.Call.TheVariants as call
 use Rattle.uart_machine.specs.declared.call.Answer.{Answer}
 use Rattle.uart_machine.specs.Machine.{MachineStep}
 use Rattle.uart_machine.specs.Sound.{IsSound}
-use Rattle.uart_machine.specs.Run.{State, machine_of, Link, Chain, CallStep, IsRun}
-use Rattle.uart_machine.specs.Session.{AllWithinSession, IsSession, reported, received, Conserves, Ran}
+use Rattle.uart_machine.specs.Run.{State, machine_of, Link, Chain, CallStep}
+use Rattle.uart_machine.specs.Session.{AllWithinSession, IsSession, reported, received, Conserves}
 use Rattle.uart_machine.proofs.Sounds.{sound_path, sound_mark}
 use Rattle.uart_machine.proofs.Went.{Modes, dlab-in, loopback-in}
 use Rattle.uart_machine.proofs.SessionLaws.{received_kept}
@@ -84,13 +84,3 @@ sound_chain s t [] w h = rw h w
 sound_chain s t (link ∷ links) w h =
     let S : State → Type 0 = λ v. IsSound (machine_of v) in
     sound_chain link.after t links (sound_call link.before link.after link.call link.answer (subst S (sym h.0) w) h.1) h.2
-
--- in a run from a sound machine each session conserves
-pub ran : (s t : State) (calls : List Call) (answers : List Answer) → IsSound (machine_of s) → IsRun s calls answers t → Ran s calls answers t
-ran s t calls answers sound r = record {
-  links = r.links;
-  chain = r.chain;
-  calls_same = r.calls_same;
-  answers_same = r.answers_same;
-  sessions = λ front session rest a b parts before within after is. session_conserves a b session (sound_chain s a front sound before) is within;
-}

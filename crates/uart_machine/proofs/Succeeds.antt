@@ -22,11 +22,10 @@ use Rattle.uart_machine.proofs.Sounds.{sound_path}
 use Rattle.uart_machine.proofs.Left.{left-most}
 use Rattle.uart_machine.proofs.Nearing.{Runs, ticked-path}
 use Rattle.uart_machine.proofs.Constants.{same_pace}
-use Rattle.uart_machine.proofs.BlockLaws.{PassedBlocks, path_split}
+use Rattle.uart_machine.proofs.BlockLaws.{PassedBlocks, path_split, path_as}
 use Rattle.uart_machine.proofs.CallBlocks.{InBlocks, Makes, passed_in_blocks, pieces_blocks, cut_whole}
 use Rattle.uart_machine.proofs.CallKeeps.{sends_each_blocks}
 use Rattle.uart_machine.proofs.CallLaws.{InSession}
-use Rattle.uart_machine.proofs.Served.{path_as}
 use Rattle.uart_machine.proofs.SessionCalls.{modes_of, in_session}
 use Rattle.uart_machine.proofs.WaitEnds.{no_stall-empty, no_stall-room}
 

@@ -14,8 +14,8 @@ use Rattle.uart_machine.specs.Sound.{IsTicking}
 use Rattle.uart_machine.proofs.Bits.{has_one}
 use Rattle.uart_machine.proofs.Left.{Nearer}
 use Rattle.uart_machine.proofs.Nearing.{Runs, runs-look, nearer-step}
-use Rattle.uart_machine.proofs.BlockLaws.{path_split, look_room}
-use Rattle.uart_machine.proofs.Served.{look_empty, path_as}
+use Rattle.uart_machine.proofs.BlockLaws.{path_split, path_as, look_room}
+use Rattle.uart_machine.proofs.EmptyTransmitter.{look_empty}
 
 -- what holds while it is awaited, and that then a look shows the bits once the transmitter is empty
 pub record Awaited (I : MachineState → Type 0) (bits : ℕ) : Type 0 where

@@ -9,7 +9,7 @@ use Rattle.uart_machine.specs.Conserved.{out, waiting, kept}
 use Rattle.uart_machine.specs.Run.{State, machine_of, Link, Chain, calls_of, answers_of}
 use Rattle.uart_machine.specs.Statuses.{Tells}
 use Rattle.uart_machine.specs.Served.{AllServe}
-use Rattle.uart_machine.specs.Ready.{Ready}
+use Rattle.uart_machine.specs.Ready.{Ready, AllFollow}
 
 -- an `init` or a loopback test ends a session
 abbrev pub IsWithinSession : Call → Type 0
@@ -90,11 +90,12 @@ pub record Conserves (s : State) (links : List Link) (t : State) : Type 0 where
   pub tells : Tells s links t
   pub served : AllServe links
 
--- these calls, answered so, lead from s to t, and each session in them conserves
+-- these calls, answered so, lead from s to t; each follows what is promised of it alone, and each session in them conserves
 pub record Ran (s : State) (calls : List Call) (answers : List Answer) (t : State) : Type 0 where
   pub links : List Link
   pub chain : Chain s links t
   pub calls_same : calls_of links ≡ calls
   pub answers_same : answers_of links ≡ answers
+  pub follows : AllFollow links
   pub sessions : (front session rest : List Link) (a b : State) → links ≡ front ++ (session ++ rest) →
       Chain s front a → Chain a session b → Chain b rest t → IsSession a session → Conserves a session b

@@ -19,9 +19,13 @@ use uart_spec::{
 /// Makes the calls in turn, each with its answer in its slot.
 ///
 /// Never refuses and takes no memory. In each session, that is from a state in which DLAB and loopback are off and the
-/// driver knows whether the FIFO is on, up to the next `Init`: the wire and the transmitter grow by exactly the bytes that
-/// sends reported, no data write meets a full transmitter, and bytes received followed by those waiting are those waiting at
-/// the start and those arrived, in order, less those dropped.
+/// driver knows whether the FIFO is on, up to the next `Init` or `TestLoopback`: the wire and the transmitter grow by exactly
+/// the bytes that sends reported, no data write meets a full transmitter, and bytes received followed by those waiting are
+/// those waiting at the start and those arrived, in order, less those dropped.
+///
+/// An `Init` finds the device, and one that is done leaves such a state, whatever the machine was before it. A `TestLoopback`
+/// in such a state is done or stalls, and where it is done nothing of it went onto the wire. Every call, whatever it answers,
+/// leaves such a state where it found one.
 pub fn run(uart: &mut Uart16550Tty<Device16550>, calls: &[Call], answers: &mut [Answer])
     requires runnable { All IsRunnable calls.now }
     requires slots { length calls.now ≡ length answers.old }

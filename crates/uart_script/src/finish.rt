@@ -58,7 +58,7 @@ pub fn finish<W: Output>(outcome: Result<(), PlayError>, writer: &mut W) -> u8
 mod tests {
     use super::*;
     use std::test::Fail;
-    use uart_machine::script::{Cause, Std};
+    use uart_machine::script::{Cause, Std, play};
 
     #[test]
     fn each_end_has_its_line_and_status(rt: HostRuntime) -> Result<(), Fail> {
@@ -76,6 +76,24 @@ mod tests {
         for (outcome, line, status) in cases {
             let mut written = Vec::new(rt.alloc());
             assert_eq!(rt; finish(outcome, &mut Std::new(&mut written)), status);
+            assert_eq!(rt; written.as_slice(), line.as_bytes());
+        }
+        Ok(())
+    }
+
+    // To one writer: nothing stands before the line.
+    #[test]
+    fn a_refused_script_has_its_line_and_status(rt: HostRuntime) -> Result<(), Fail> {
+        let cases: [(&[u8], &str); 3] = [
+            (b"", "line 1: misplaced\n"),
+            (b"chip 16550a 0 64\n", "line 1: bad number\n"),
+            (b"chip 16450 4 64\nsend 4\n", "line 2: bad hex\n"),
+        ];
+        for (script, line) in cases {
+            let mut written = Vec::new(rt.alloc());
+            let mut writer = Std::new(&mut written);
+            let outcome = play(rt.alloc(), &mut Std::new(script), &mut writer);
+            assert_eq!(rt; finish(outcome, &mut writer), 1, "at {line}");
             assert_eq!(rt; written.as_slice(), line.as_bytes());
         }
         Ok(())

@@ -1,16 +1,18 @@
-use super::parse;
+use super::{Std, play};
 use std::test::Fail;
 
 mod language;
 mod limits;
 mod output;
-mod rows;
 mod streams;
 
-// What is told of a text, or `a script`.
+// What is told of a text that is played, or `a script`.
 fn told(rt: &HostRuntime, text: &[u8]) -> Result<String, Fail> {
-    Ok(match parse(rt.alloc(), text) {
-        Ok(_) => "a script".to_string(rt.alloc())?,
+    let mut output = Vec::new(rt.alloc());
+    let result = play(rt.alloc(), &mut Std::new(text), &mut Std::new(&mut output));
+    Ok(match result {
+        Ok(()) => "a script".to_string(rt.alloc())?,
+        Err(_) if !output.is_empty() => "written at a refusal".to_string(rt.alloc())?,
         Err(error) => error.to_string(rt.alloc())?,
     })
 }

@@ -1,6 +1,6 @@
 use Rattle.std.proofs.Common.{arith}
 use Rattle.uart_machine.proofs.Runs.{run_nothing, run_step, run_whole}
-use Rattle.uart_machine.proofs.Sessions.{ran}
+use Rattle.uart_machine.proofs.Follows.{ran}
 use Rattle.uart_machine.proofs.running.run.Goals as goal
 
 pub loop-i-init : goal.loop-i-init

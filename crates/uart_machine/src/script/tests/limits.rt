@@ -13,17 +13,24 @@ fn repeated(rt: &HostRuntime, front: &[u8], bytes: &[u8], count: usize) -> Resul
     Ok(text)
 }
 
+// At each end of a range the last number that is accepted, and the first that is not.
 #[test]
 fn numbers_have_limits(rt: HostRuntime) -> Result<(), Fail> {
     for (fits, exceeds) in [
-        ("limit 1000000", "limit 1000001"),
         ("limit 1", "limit 0"),
+        ("limit 1000000", "limit 1000001"),
+        ("tick 0", "tick -1"),
         ("tick 65535", "tick 65536"),
+        ("tick 0000000004", "tick 00000000004"),
+        ("init off 1 cts 00 8", "init off 0 cts 00 8"),
         ("init 1 4294967295 cts 00 8", "init 1 4294967296 cts 00 8"),
         ("init off 1 cts 00 5", "init off 1 cts 00 4"),
-        ("init off 1 cts 00 0000000008", "init off 1 cts 00 9"),
+        ("init off 1 cts 00 8", "init off 1 cts 00 9"),
+        ("receive 0", "receive -1"),
         ("receive 64", "receive 65"),
+        ("receive-exact 0", "receive-exact -1"),
         ("receive-exact 64", "receive-exact 65"),
+        ("read 0", "read -1"),
         ("read 64", "read 65"),
     ] {
         assert_eq!(rt;
@@ -40,6 +47,7 @@ fn numbers_have_limits(rt: HostRuntime) -> Result<(), Fail> {
     for (fits, exceeds) in [
         ("chip 16450 1 64", "chip 16450 0 64"),
         ("chip 16450 1000 64", "chip 16450 1001 64"),
+        ("chip 16450 4 0", "chip 16450 4 -1"),
         ("chip 16450 4 65536", "chip 16450 4 65537"),
     ] {
         assert_eq!(rt;
@@ -53,6 +61,52 @@ fn numbers_have_limits(rt: HostRuntime) -> Result<(), Fail> {
             "at {exceeds}"
         );
     }
+    Ok(())
+}
+
+// Lines of the fewest and of the most words that are accepted, and with a word less or more.
+#[test]
+fn lines_have_limits_of_words(rt: HostRuntime) -> Result<(), Fail> {
+    for (fits, exceeds) in [
+        ("limit 5", "limit"),
+        ("limit 5", "limit 5 5"),
+        ("tick 4", "tick"),
+        ("tick 4", "tick 4 4"),
+        ("arrive 41", "arrive"),
+        ("arrive 41 p", "arrive 41 p p"),
+        ("lines 1", "lines"),
+        ("lines 1", "lines 1 1"),
+        ("access", "access 1"),
+        ("next", "next 1"),
+        ("init off 9600 cts 00 8", "init off 9600 cts 00"),
+        ("init off 9600 cts 00 8", "init off 9600 cts 00 8 8"),
+        ("loopback", "loopback 1"),
+        ("lsr", "lsr 1"),
+        ("enable 02", "enable"),
+        ("enable 02", "enable 02 02"),
+        ("receive 1", "receive"),
+        ("receive 1", "receive 1 1"),
+        ("send 41", "send"),
+        ("send 41", "send 41 41"),
+        ("text 41", "text"),
+        ("text 41", "text 41 41"),
+    ] {
+        assert_eq!(rt;
+            told_after_header(&rt, fits)?.as_str(),
+            "a script",
+            "at {fits}"
+        );
+        assert_eq!(rt;
+            told_after_header(&rt, exceeds)?.as_str(),
+            "line 2: wrong count",
+            "at {exceeds}"
+        );
+    }
+    assert_eq!(rt; told(&rt, b"chip 16450 4")?.as_str(), "line 1: wrong count");
+    assert_eq!(rt;
+        told(&rt, b"chip 16450 4 64 cut")?.as_str(),
+        "line 1: wrong count"
+    );
     Ok(())
 }
 
@@ -82,10 +136,15 @@ fn calls_have_at_most_64_bytes(rt: HostRuntime) -> Result<(), Fail> {
 fn scripts_have_at_most_4096_lines(rt: HostRuntime) -> Result<(), Fail> {
     let mut text = repeated(&rt, HEADER, b"lsr\n", 4095)?;
     assert_eq!(rt; told(&rt, &text)?.as_str(), "a script");
-    text.push(b'\n')?;
+    text.extend_from_slice(b"lsr\n")?;
     assert_eq!(rt; told(&rt, &text)?.as_str(), "line 4097: too long");
-    let unended = repeated(&rt, HEADER, b"\n", 4095)?;
-    assert_eq!(rt; told(&rt, &unended)?.as_str(), "a script");
+
+    // A blank line counts, and what follows the last line feed is a line only if there is anything.
+    let mut blank = repeated(&rt, HEADER, b"\n", 4095)?;
+    assert_eq!(rt; told(&rt, &blank)?.as_str(), "a script");
+    blank.push(b'\n')?;
+    assert_eq!(rt; told(&rt, &blank)?.as_str(), "line 4097: too long");
+
     let faulty = repeated(&rt, b"chip 16450 4 64\nx\n", b"lsr\n", 4096)?;
     assert_eq!(rt; told(&rt, &faulty)?.as_str(), "line 2: unknown word");
     Ok(())
@@ -99,5 +158,12 @@ fn scripts_have_at_most_65536_bytes(rt: HostRuntime) -> Result<(), Fail> {
     assert_eq!(rt; told(&rt, &text)?.as_str(), "a script");
     text.push(b'\n')?;
     assert_eq!(rt; told(&rt, &text)?.as_str(), "line 0: too long");
+
+    // Too many bytes are told before too many lines.
+    let mut blank = repeated(&rt, b"chip 16450 4 64\nlsr\n", b"\n", 65_516)?;
+    assert_eq!(rt; blank.len(), 65_536);
+    assert_eq!(rt; told(&rt, &blank)?.as_str(), "line 4097: too long");
+    blank.push(b'\n')?;
+    assert_eq!(rt; told(&rt, &blank)?.as_str(), "line 0: too long");
     Ok(())
 }

@@ -1,4 +1,4 @@
-use crate::script::{Cause, PlayError, Std, play};
+use crate::script::{PlayError, Std, play};
 use std::io;
 use std::io::{Read, Write};
 use std::test::Fail;
@@ -60,26 +60,6 @@ fn plays_from_a_reader_to_a_writer(rt: HostRuntime) -> Result<(), Fail> {
         Ok(())
     );
     assert_eq!(rt; output.as_slice(), OUTPUT);
-    Ok(())
-}
-
-#[test]
-fn refuses_without_output(rt: HostRuntime) -> Result<(), Fail> {
-    let cases: [(&[u8], u32, Cause); 3] = [
-        (b"", 1, Cause::Misplaced),
-        (b"chip 16550a 0 64", 1, Cause::BadNumber),
-        (b"chip 16450 4 64\nsend 4", 2, Cause::BadHex),
-    ];
-    for (text, line, cause) in cases {
-        let mut output = Vec::new(rt.alloc());
-        let result = play(rt.alloc(), &mut Std::new(text), &mut Std::new(&mut output));
-        assert_eq!(rt;
-            result,
-            Err(PlayError::Refused { line, cause }),
-            "at line {line}"
-        );
-        assert_eq!(rt; output.len(), 0);
-    }
     Ok(())
 }
 
