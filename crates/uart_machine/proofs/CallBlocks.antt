@@ -234,7 +234,7 @@ waits_blocks s bits false l t = makes_all s (Asks 5 bits false) (makes_look s bi
 miss_blocks : (s : Settings) → Makes s Miss [] []
 miss_blocks s l t = makes_look s 1 false l t
 
-hit_blocks : (s : Settings) (byte : ℕ) → Makes s (Hit byte) [] (byte ∷ [])
+pub hit_blocks : (s : Settings) (byte : ℕ) → Makes s (Hit byte) [] (byte ∷ [])
 hit_blocks s byte l t =
     let shows : has_any t.first.answer 1 ≡ true = sym (has_one 0 t.first.answer) ∙ t.first.shows in
     rw (t.whole, t.first.is, t.second.is) (blocks_one s.fifo (Hit_block t.first.answer byte) shows)

@@ -32,9 +32,6 @@ pub mod CallLaws
 pub mod SessionCalls
 pub mod StatusSessions
 pub mod Served
-pub mod WaitEnds
-pub mod Succeeds
-pub mod InitSucceeds
 pub mod Sessions
 pub mod Latches
 pub mod Pieces
@@ -52,6 +49,11 @@ pub mod Inits
 pub mod Initialised
 pub mod TestedReady
 pub mod LoopTests
+pub mod WaitEnds
+pub mod Succeeds
+pub mod InitSucceeds
+pub mod LoopWaits
+pub mod LoopSucceeds
 pub mod ReadyKept
 pub mod Follows
 pub mod ScriptLines

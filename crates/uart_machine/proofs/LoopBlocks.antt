@@ -100,7 +100,7 @@ loops_blocks x (block ∷ blocks) m n i w few h p =
     (loops_blocks x blocks q.0 n i a.modes (omega (arith, e, long, few)) h.1 q.2)
 
 -- what accesses in blocks do
-loops_in_blocks : (x : Modes) (m n : MachineState) (made : List Access) (ws rs : List ℕ) → IsLooped x → IsIn x m.chip → length (line_in m.chip) + length ws ≤ room x.fifo →
+pub loops_in_blocks : (x : Modes) (m n : MachineState) (made : List Access) (ws rs : List ℕ) → IsLooped x → IsIn x m.chip → length (line_in m.chip) + length ws ≤ room x.fifo →
     InBlocks x.fifo made ws rs → Path MachineStep m made n → Loops x m.chip n.chip ws rs
 loops_in_blocks x m n made ws rs i w few b p =
     let a = loops_blocks x b.blocks m n i w (rw b.is_written few) b.fit (rw b.joined at p) in

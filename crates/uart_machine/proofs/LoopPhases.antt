@@ -127,7 +127,7 @@ echo_exchanged x gone s pair l m n r t path =
     makes_then s (Round (pair.0 ∷ [])) (Awaited pair.1) (pair.0 ∷ []) [] [] (pair.1 ∷ []) (round_blocks s (pair.0 ∷ []) (one_fits s.fifo)) (awaited_blocks s pair.1) k u in
     exchanged x gone s (Echo pair) l m n (pair.0 ∷ []) (pair.1 ∷ []) r (one_fits s.fifo) refl makes t path
 
-each_exchanged : (x : Modes) (gone : List ℕ) (s : Settings) (pairs : List (ℕ × ℕ)) (l : List Access) (m n : MachineState) → IsReadyToTest x gone s m → InOrder Echo pairs s l →
+pub each_exchanged : (x : Modes) (gone : List ℕ) (s : Settings) (pairs : List (ℕ × ℕ)) (l : List Access) (m n : MachineState) → IsReadyToTest x gone s m → InOrder Echo pairs s l →
     Path MachineStep m l n → Exchanged x gone s n (map (λ pair. pair.0) pairs) (map (λ pair. pair.1) pairs)
 each_exchanged x gone s [] l m n r t path =
     let same : n ≡ m = path_as m n l [] t.is path in

@@ -50,7 +50,7 @@ silent_sets change f after l t = rw t.0 tt
 -- ---- before the loopback: the transmitter is awaited
 
 -- it is empty, all that was to go out is on the wire, and DLAB is off
-record IsBegun (gone : List ℕ) (m : MachineState) : Type 0 where
+pub record IsBegun (gone : List ℕ) (m : MachineState) : Type 0 where
   pub sound : IsSound m
   pub dlab : is_dlab_set m.chip.latches ≡ false
   pub sent : IsSent gone m.chip.transmitter
@@ -59,7 +59,7 @@ begins_blocks : (s : Settings) (mcr ier : ℕ) → Makes s (BeginsTest mcr ier t
 begins_blocks s mcr ier l t =
     makes_then s (Only (Read 4 mcr ∷ Read 1 ier ∷ [])) (Waits 64 true) [] [] [] [] (λ k u. rw u.is (quiet_blocks s.fifo (Read 4 mcr ∷ Read 1 ier ∷ []) (refl, (refl, tt)))) (waits_blocks s 64 true) l t
 
-begun : (s : State) (n : MachineState) (mcr ier : ℕ) (l : List Access) → IsSound (machine_of s) → Ready s → BeginsTest mcr ier true (settings_of (fields (inner_of s))) l →
+pub begun : (s : State) (n : MachineState) (mcr ier : ℕ) (l : List Access) → IsSound (machine_of s) → Ready s → BeginsTest mcr ier true (settings_of (fields (inner_of s))) l →
     Path MachineStep (machine_of s) l n → IsBegun (out (machine_of s).chip.transmitter) n
 begun s n mcr ier l sound r t path =
     let m = machine_of s in
@@ -90,10 +90,10 @@ enters_silently before fifo f after l t =
     (silent_sets (with_fifo fifo)) f after l t
 
 -- the modes of a loopback test under this LCR
-abbrev looped_modes : ℕ → Bool → Modes
+abbrev pub looped_modes : ℕ → Bool → Modes
 looped_modes lcr fifo = record { lcr = lcr; mcr = 16; fifo = fifo }
 
-in_loopback : (gone : List ℕ) (before : ℕ) (fifo : Bool) (f after : Fields) (l : List Access) (m n : MachineState) → IsBegun gone m → Enters before fifo f l after → Path MachineStep m l n →
+pub in_loopback : (gone : List ℕ) (before : ℕ) (fifo : Bool) (f after : Fields) (l : List Access) (m n : MachineState) → IsBegun gone m → Enters before fifo f l after → Path MachineStep m l n →
     IsEntered (looped_modes m.chip.latches.lcr fifo) gone (settings_of after) n
 in_loopback gone before fifo f after l m n b t path =
     let e = entered before fifo f after l m n b.sound b.dlab t path in

@@ -58,7 +58,7 @@ module _ (char_ticks : ℕ) (some : 1 ≤ char_ticks) where
       let h : char_ticks * suc (length xs) ≡ 0 = omega (arith, e) in
       let k : 1 ≤ char_ticks * suc (length xs) = grind (arith, common_steps) in absurd (omega (arith, h, k))
 
-  all_empty : (place : Option Shifting) (queue : List ℕ) → IsTicking char_ticks place → left_of char_ticks place queue ≡ 0 → is_transmitter_empty queue place ≡ true
+  pub all_empty : (place : Option Shifting) (queue : List ℕ) → IsTicking char_ticks place → left_of char_ticks place queue ≡ 0 → is_transmitter_empty queue place ≡ true
   all_empty None [] w e = refl
   all_empty None (x ∷ xs) w e = absurd (omega (arith, e))
   all_empty (Some s) queue w e = absurd (omega (arith, e, w.0))
