@@ -1,10 +1,8 @@
 -- An empty transmitter: while no byte is written it stays empty, in loopback or not, and the wire stays as it is.
-use Rattle.std.proofs.Common.{◌≡◌, ℕ, zero, suc, Bool, true, List, [], ◌∷◌, ◌++◌, append-nil, Option, Some, None, refl, sym, ◌∙◌, ap}
-use Rattle.uart_spec.specs.declared.registers.fifo_trigger_level.FifoTriggerLevel.{FifoTriggerLevel}
-use Rattle.uart_16550.specs.Access.{Access, Read, Write, Path}
-use Rattle.uart_16550.specs.Grammar.{Language, Settings, Only, Then, Times, FewMisses, Asks}
+use Rattle.std.proofs.Common.{◌≡◌, ℕ, Bool, true, List, [], ◌∷◌, ◌++◌, append-nil, Option, Some, None, refl, sym, ◌∙◌, ap}
+use Rattle.uart_16550.specs.Access.{Access, Read, Path}
+use Rattle.uart_16550.specs.Grammar.{Settings, Asks}
 use Rattle.uart_16550.specs.Transmit.{Waits}
-use Rattle.uart_16550.specs.Init.{SetsFifo}
 use Rattle.uart_machine.specs.declared.transmitter.Shifting.{Shifting}
 use Rattle.uart_machine.specs.Registers.{has_any}
 use Rattle.uart_machine.specs.Transmitter.{TransmitterState, shift, refill, tick, out}
@@ -94,32 +92,3 @@ pub wait_empties : (s : Settings) (l : List Access) (m n : MachineState) → Wai
 wait_empties s l m n h path =
     let q = path_split MachineStep m n h.front h.back (path_as m n l (h.front ++ h.back) h.whole path) in
     empty_shown s h.back q.0 n h.second q.2
-
--- ---- languages of such lists
-
-pub nothing_append : (xs ys : List Access) → AllSendNothing xs → AllSendNothing ys → AllSendNothing (xs ++ ys)
-nothing_append [] ys p q = q
-nothing_append (x ∷ xs) ys p q = (p.0, nothing_append xs ys p.1 q)
-
-abbrev pub IsSilent : Settings → Language → Type 0
-IsSilent s P = (l : List Access) → P s l → AllSendNothing l
-
-pub silent_only : (s : Settings) (list : List Access) → AllSendNothing list → IsSilent s (Only list)
-silent_only s list w l t = rw t.is w
-
-pub silent_then : (s : Settings) (P Q : Language) → IsSilent s P → IsSilent s Q → IsSilent s (Then P Q)
-silent_then s P Q p q l t = rw t.whole (nothing_append t.front t.back (p t.front t.first) (q t.back t.second))
-
-silent_times : (s : Settings) (n : ℕ) (P : Language) → IsSilent s P → IsSilent s (Times n P)
-silent_times s zero P p l t = silent_only s [] tt l t
-silent_times s (suc n) P p l t = silent_then s P (Times n P) p (λ k u. silent_times s n P p k u) l t
-
-pub silent_few : (s : Settings) (P : Language) → IsSilent s P → IsSilent s (FewMisses P)
-silent_few s P p l t = silent_times s t.0 P p l t.2
-
-pub silent_asks : (s : Settings) (register bits : ℕ) (outcome : Bool) → IsSilent s (Asks register bits outcome)
-silent_asks s register bits outcome l t = rw t.is (tt, tt)
-
-pub silent_sets_fifo : (s : Settings) (level : Option FifoTriggerLevel) (on : Bool) → IsSilent s (SetsFifo level on)
-silent_sets_fifo s None on l t = rw t.1 (refl, tt)
-silent_sets_fifo s (Some level) on l t = silent_then s _ (Asks 2 192 on) (silent_only s (Write 2 _ ∷ []) (refl, tt)) (silent_asks s 2 192 on) l t

@@ -4,6 +4,7 @@ pub mod Marks
 pub mod ReceiverSounds
 pub mod TransmitterSounds
 pub mod Lasting
+pub mod Latches
 pub mod Sounds
 pub mod Nearing
 pub mod Constants
@@ -22,7 +23,9 @@ pub mod Blocks
 pub mod Effects
 pub mod Passed
 pub mod BlockLaws
+pub mod Pieces
 pub mod EmptyTransmitter
+pub mod SilentLists
 pub mod CallBlocks
 pub mod CallKeeps
 pub mod SessionLaws
@@ -33,8 +36,6 @@ pub mod SessionCalls
 pub mod StatusSessions
 pub mod Served
 pub mod Sessions
-pub mod Latches
-pub mod Pieces
 pub mod Presence
 pub mod FifoShown
 pub mod KeptLists

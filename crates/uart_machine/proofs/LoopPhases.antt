@@ -16,7 +16,8 @@ use Rattle.uart_machine.specs.Chip.{ChipState}
 use Rattle.uart_machine.specs.Machine.{MachineState, MachineStep}
 use Rattle.uart_machine.proofs.Bits.{has_one}
 use Rattle.uart_machine.proofs.Went.{Modes, IsIn, dlab-in}
-use Rattle.uart_machine.proofs.EmptyTransmitter.{IsSent, IsSilent, silent_only, silent_then, silent_few, silent_asks, sent_path}
+use Rattle.uart_machine.proofs.EmptyTransmitter.{IsSent, sent_path}
+use Rattle.uart_machine.proofs.SilentLists.{IsSilent, silent_only, silent_then, silent_few, silent_asks}
 use Rattle.uart_machine.proofs.BlockLaws.{path_as, look_room}
 use Rattle.uart_machine.proofs.CallBlocks.{InBlocks, Makes, makes_then, makes_reads, awaited_blocks, round_blocks, sends_all_blocks, try_sends_blocks}
 use Rattle.uart_machine.proofs.CallKeeps.{one_fits}

@@ -1,12 +1,11 @@
 -- Where ticks come before each access, the spin limit is long enough and the wire has room, a loopback test does not stall.
-use Rattle.std.proofs.Common.{◌≡◌, ℕ, ◌+◌, ◌*◌, ◌≤◌, ◌<◌, Bool, true, false, ◌⊎◌, inl, inr, List, [], ◌∷◌, ◌++◌, length, append-nil, append_assoc, map, take, drop, Option, Some, None, Result, Ok, Err, refl, arith, sym, ◌∙◌, ap, subst, MatchBool}
-use Rattle.uart_spec.specs.declared.errors.StalledError.{StalledError}
+use Rattle.std.proofs.Common.{◌≡◌, ℕ, ◌<◌, Bool, true, false, ◌⊎◌, inl, inr, List, [], ◌∷◌, ◌++◌, length, append_assoc, drop, None, Result, Ok, Err, refl, arith, sym, ◌∙◌, ap, subst, MatchBool}
 use Rattle.uart_spec.specs.declared.errors.LoopbackError.{LoopbackError}
 use Rattle.uart_spec.specs.declared.errors.LoopbackError.TheVariants.{Stalled}
 use Rattle.uart_16550.specs.Access.{Access, Read, Path}
-use Rattle.uart_16550.specs.Grammar.{Language, Settings, Only, Then, InOrder, AllMisses, Asks}
-use Rattle.uart_16550.specs.Receive.{Miss, Awaited, ReceivesExact}
-use Rattle.uart_16550.specs.Transmit.{SendMiss, burst_size, burst_limit, Round, IsCut, SendsAll, SendsExact, Waits}
+use Rattle.uart_16550.specs.Grammar.{Settings, Only, Then, InOrder, AllMisses}
+use Rattle.uart_16550.specs.Receive.{Miss, Awaited}
+use Rattle.uart_16550.specs.Transmit.{SendMiss, burst_size, Round, IsCut, SendsAll, Waits}
 use Rattle.uart_16550.specs.Driver.{Fields, Saving, Next, fields, settings_of}
 use Rattle.uart_16550.specs.Loopback.{test_byte, test_message, Drains, SendsTestByte, ExchangesByte, Echo, EchoFails, WholeEchoes, WholeFails, EachFails, HasEchoedAll, ExchangesMessage, Exchanges, Enters, Leaves, BeginsTest, Tests, TestsLoopback}
 use Rattle.uart_16550.specs.Tty.{inner_of}

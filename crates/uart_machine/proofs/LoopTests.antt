@@ -4,7 +4,7 @@ use Rattle.uart_spec.specs.declared.errors.LoopbackError.{LoopbackError}
 use Rattle.uart_16550.specs.Access.{Access, Read, Write, Path}
 use Rattle.uart_16550.specs.Grammar.{Language, Settings, Only, Then}
 use Rattle.uart_16550.specs.Transmit.{Waits}
-use Rattle.uart_16550.specs.Driver.{Fields, Doing, Saving, Plain, Sets, Next, fields, settings_of, with_fifo}
+use Rattle.uart_16550.specs.Driver.{Fields, Saving, Plain, Sets, Next, fields, settings_of, with_fifo}
 use Rattle.uart_16550.specs.Init.{SetsFifo}
 use Rattle.uart_16550.specs.Loopback.{Exchanges, Enters, Leaves, BeginsTest, Tests, IsStalled, TestsLoopback, with_changes, line_changes}
 use Rattle.uart_16550.specs.Tty.{inner_of}
@@ -19,8 +19,8 @@ use Rattle.uart_machine.specs.Run.{State, machine_of, Called, loopback_answer}
 use Rattle.uart_machine.specs.Served.{IsFlushed}
 use Rattle.uart_machine.specs.Ready.{Ready, IsTested}
 use Rattle.uart_machine.proofs.Went.{Modes, IsIn}
-use Rattle.uart_machine.proofs.Lasting.{AllSendNothing}
-use Rattle.uart_machine.proofs.EmptyTransmitter.{IsSent, sent_shown, shown_sent, wait_empties, nothing_append, IsSilent, silent_only, silent_then, silent_sets_fifo, sent_path}
+use Rattle.uart_machine.proofs.EmptyTransmitter.{IsSent, sent_shown, shown_sent, wait_empties, sent_path}
+use Rattle.uart_machine.proofs.SilentLists.{DoesSilently, silent_only, silent_then, silent_sets_fifo, silent_next, silent_saving, silent_plain, silent_sets}
 use Rattle.uart_machine.proofs.BlockLaws.{IsOpen, Stands}
 use Rattle.uart_machine.proofs.CallBlocks.{Makes, makes_then, passed_in_blocks, waits_blocks}
 use Rattle.uart_machine.proofs.CallKeeps.{quiet_blocks}
@@ -29,23 +29,6 @@ use Rattle.uart_machine.proofs.Pieces.{then_parts, next_stages}
 use Rattle.uart_machine.proofs.TestedReady.{entered}
 use Rattle.uart_machine.proofs.LoopPhases.{idle_sent, IsEntered, IsReadyToTest}
 use Rattle.uart_machine.proofs.LoopExchanges.{LeadsTo, leads_on, exchange_leads}
-
--- ---- doings that write no byte
-
-abbrev DoesSilently : Doing → Type 0
-DoesSilently G = (f after : Fields) (l : List Access) → G f l after → AllSendNothing l
-
-silent_next : (G H : Doing) → DoesSilently G → DoesSilently H → DoesSilently (Next G H)
-silent_next G H p q f after l t = rw t.whole (nothing_append t.front t.back (p f t.mid t.front t.first) (q t.mid after t.back t.second))
-
-silent_saving : (L : Language) → ((s : Settings) → IsSilent s L) → DoesSilently (Saving L)
-silent_saving L p f after l t = p (settings_of f) l t.0
-
-silent_plain : (L : Language) → ((s : Settings) → IsSilent s L) → DoesSilently (Plain L)
-silent_plain L p f after l t = p (settings_of f) l t.0
-
-silent_sets : (change : Fields → Fields) → DoesSilently (Sets change)
-silent_sets change f after l t = rw t.0 tt
 
 -- ---- before the loopback: the transmitter is awaited
 

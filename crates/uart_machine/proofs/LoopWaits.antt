@@ -1,11 +1,11 @@
 -- In loopback no wait of a test is in vain, where ticks come before each access and the spin limit is long enough.
-use Rattle.std.proofs.Common.{◌≡◌, ℕ, zero, suc, ◌+◌, ◌*◌, ◌≤◌, ◌<◌, Bool, true, false, ◌==◌, nat_lt, inl, inr, List, [], ◌∷◌, ◌++◌, length, append-nil, map, Option, Some, None, refl, arith, sym, ◌∙◌, ap, subst}
+use Rattle.std.proofs.Common.{◌≡◌, ℕ, zero, suc, ◌+◌, ◌*◌, ◌≤◌, ◌<◌, Bool, true, false, nat_lt, List, [], ◌∷◌, ◌++◌, length, append-nil, map, Option, None, refl, arith, ◌∙◌, ap, subst}
 use Rattle.std.proofs.lemmas.Grind.{common_steps}
 use Rattle.std.proofs.lemmas.List.{length-map}
 use Rattle.uart_spec.specs.Bits.{has}
 use Rattle.uart_16550.specs.Access.{Access, Read, Path}
-use Rattle.uart_16550.specs.Grammar.{Language, Settings, Only, Then, Times, AllMisses, Asks}
-use Rattle.uart_16550.specs.Receive.{Hit, Miss}
+use Rattle.uart_16550.specs.Grammar.{Language, Settings, Then, Times, AllMisses}
+use Rattle.uart_16550.specs.Receive.{Miss}
 use Rattle.uart_16550.specs.Transmit.{SendMiss}
 use Rattle.uart_16550.specs.Loopback.{TakesOne, Drains}
 use Rattle.uart_machine.specs.declared.transmitter.Shifting.{Shifting}
@@ -20,12 +20,12 @@ use Rattle.uart_machine.proofs.Sounds.{sound_path}
 use Rattle.uart_machine.proofs.Left.{left-most}
 use Rattle.uart_machine.proofs.Nearing.{Runs, ticked-path}
 use Rattle.uart_machine.proofs.Constants.{same_pace}
-use Rattle.uart_machine.proofs.Went.{Modes, IsIn, loopback-in}
+use Rattle.uart_machine.proofs.Went.{Modes, loopback-in}
 use Rattle.uart_machine.proofs.BlockLaws.{look_data}
 use Rattle.uart_machine.proofs.EmptyTransmitter.{IsSent, sent_shown}
 use Rattle.uart_machine.proofs.CallBlocks.{InBlocks, Makes, blocks_none, blocks_then, hit_blocks}
 use Rattle.uart_machine.proofs.Pieces.{then_parts}
-use Rattle.uart_machine.proofs.Loops.{line_in, Loops, Fits, fits-after, line-length}
+use Rattle.uart_machine.proofs.Loops.{line_in, Fits, fits-after, line-length}
 use Rattle.uart_machine.proofs.LoopAccesses.{IsLooped, loops_read}
 use Rattle.uart_machine.proofs.LoopBlocks.{loops_in_blocks}
 use Rattle.uart_machine.proofs.LoopPhases.{IsEntered, IsReadyToTest, never_refused}

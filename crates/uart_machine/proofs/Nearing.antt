@@ -1,5 +1,5 @@
 -- Where ticks come before each access and the wire has room, each access that sends nothing brings the transmitter nearer to its end.
-use Rattle.std.proofs.Common.{false, refl, sym, ap, ◌∙◌, ◌≡◌, ℕ, zero, suc, ◌+◌, ◌-◌, ◌≤◌, true, List, [], ◌∷◌, ◌++◌, length, length-append, Option, Some, None, arith}
+use Rattle.std.proofs.Common.{false, sym, ap, ◌∙◌, ◌≡◌, ℕ, zero, suc, ◌+◌, ◌-◌, ◌≤◌, true, List, [], ◌∷◌, ◌++◌, length, length-append, Option, Some, None, arith}
 use Rattle.uart_16550.specs.Access.{Access, Read, Write, Path}
 use Rattle.uart_machine.specs.declared.event.Event.{Event}
 use Rattle.uart_machine.specs.declared.event.Event.TheVariants.{Ticks, Arrive, Lines, Access as Gate, Mark}
@@ -10,6 +10,7 @@ use Rattle.uart_machine.specs.Machine.{MachineState, MachineStep, before_access,
 use Rattle.uart_machine.specs.Sound.{IsSoundChip, IsSound}
 use Rattle.uart_machine.specs.Progress.{TickedAfter, IsTicked, left_of, HasRoom}
 use Rattle.uart_machine.proofs.Sounds.{steady_ticks, sound_perform, sound_step, latches-ticks}
+use Rattle.uart_machine.proofs.Latches.{Kept, kept_step}
 use Rattle.uart_machine.proofs.Lasting.{LastsInAccesses, SendsNothing, AllSendNothing, lasts-read, lasts-write, lasts-latch}
 use Rattle.uart_machine.proofs.Left.{Nearer, nearer-refl, nearer-trans, nearer-less, nearer-tick}
 
@@ -124,19 +125,11 @@ nearer-latch m n value r on s =
     nearer-effect m n (after_write 0 value c) r s (lasts-latch (Nearer 0 c.transmitter) (near_lasts c.transmitter) value c on (nearer-refl c.transmitter))
 
 -- a look leaves the modes as they are
-latches-before : (events : List Event) (c : ChipState) → (before_access events c).latches ≡ c.latches
-latches-before [] c = refl
-latches-before (Ticks n ∷ events) c = latches-before events (ticks n c) ∙ latches-ticks n c
-latches-before (Arrive byte errors ∷ events) c = latches-before events (arrive byte errors c)
-latches-before (Lines inputs ∷ events) c = latches-before events (change_lines inputs c)
-latches-before (Gate ∷ events) c = refl
-latches-before (Mark ∷ events) c = refl
-
 pub runs-look : (m n : MachineState) (line : ℕ) → Runs m → MachineStep m (Read 5 line) n → Nearer 1 m.chip.transmitter n.chip.transmitter → Runs n
 runs-look m n line r s a = record {
   sound = sound_step m n (Read 5 line) r.sound s;
   ticked = ticked-step m n (Read 5 line) r.ticked s;
-  flows = flows-nearer 1 m.chip n.chip (ap (λ (o : MachineState). o.chip.latches) s.0 ∙ latches-before m.ahead m.chip) a r.flows;
+  flows = flows-nearer 1 m.chip n.chip (ap (λ (k : Kept). k.latches) (kept_step (Read 5 line) m n s)) a r.flows;
 }
 
 -- ---- with room on the wire, in whatever mode

@@ -1,5 +1,5 @@
 -- States in which a session may begin, and what an `init` and a loopback test come to over the machine.
-use Rattle.std.specs.Prelude.{◌≡◌, ◌≢◌, ◌⊎◌, Bool, true, false, ◌&&◌, List, [], ◌∷◌, Option, Some, None, Ok, bit_and}
+use Rattle.std.specs.Prelude.{◌≡◌, ◌≢◌, ◌⊎◌, Bool, true, false, ◌&&◌, Option, Some, None, Ok, bit_and}
 use Rattle.uart_spec.specs.declared.config.Config.{Config}
 use Rattle.uart_spec.specs.declared.errors.InitError.TheVariants.{DeviceNotPresent}
 use Rattle.uart_spec.specs.declared.errors.LoopbackError.TheVariants.{Stalled}
@@ -16,7 +16,7 @@ use Rattle.uart_machine.specs.declared.event.Chip.{Chip}
 use Rattle.uart_machine.specs.declared.event.Chip.TheVariants.{Uart16550A, Uart16450}
 use Rattle.uart_machine.specs.Registers.{ier_bits}
 use Rattle.uart_machine.specs.Chip.{is_dlab_set, is_loopback, is_transmitter_empty, divisor}
-use Rattle.uart_machine.specs.Run.{State, machine_of, Link}
+use Rattle.uart_machine.specs.Run.{State, machine_of}
 use Rattle.uart_machine.specs.Served.{transmitter_of, IsFlushed}
 
 -- the latches of a state
@@ -63,20 +63,10 @@ pub record IsTested (s : State) (a : Answer) (t : State) : Type 0 where
   pub answers : (a ≡ Done) ⊎ (a ≡ LoopbackRefused Stalled)
   pub leaves : a ≡ Done → IsFlushed s t
 
--- ---- each call of a run
+-- ---- each call
 
--- what it comes to
+-- what a call comes to
 abbrev pub ComesTo : State → Call → Answer → State → Type 0
 ComesTo s (call.Init config) a t = Initialises config a t
 ComesTo s call.TestLoopback a t = Ready s → IsTested s a t
 ComesTo s other a t = Unit {0}
-
--- whatever it answers, it leaves a ready state ready
-pub record Follows (s : State) (call : Call) (a : Answer) (t : State) : Type 0 where
-  pub ready : Ready s → Ready t
-  pub comes_to : ComesTo s call a t
-
--- each of these calls
-abbrev pub AllFollow : List Link → Type 0
-AllFollow [] = Unit {0}
-AllFollow (link ∷ links) = Follows link.before link.call link.answer link.after × AllFollow links

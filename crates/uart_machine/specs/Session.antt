@@ -9,7 +9,8 @@ use Rattle.uart_machine.specs.Conserved.{out, waiting, kept}
 use Rattle.uart_machine.specs.Run.{State, machine_of, Link, Chain, calls_of, answers_of}
 use Rattle.uart_machine.specs.Statuses.{Tells}
 use Rattle.uart_machine.specs.Served.{AllServe}
-use Rattle.uart_machine.specs.Ready.{Ready, AllFollow}
+use Rattle.uart_machine.specs.Ready.{Ready, ComesTo}
+use Rattle.uart_machine.specs.Progress.{IsTimely, Succeeds}
 
 -- an `init` or a loopback test ends a session
 abbrev pub IsWithinSession : Call → Type 0
@@ -89,6 +90,21 @@ pub record Conserves (s : State) (links : List Link) (t : State) : Type 0 where
   pub kept : received links ++ waiting (machine_of t) ≡ kept (machine_of s) (machine_of t)
   pub tells : Tells s links t
   pub served : AllServe links
+
+-- ---- what each call of a run does, in a session or not
+
+-- whatever it answers, it leaves a ready state ready; it comes to what it should; and where ticks come, it succeeds
+pub record Follows (s : State) (call : Call) (a : Answer) (t : State) : Type 0 where
+  pub ready : Ready s → Ready t
+  pub comes_to : ComesTo s call a t
+  pub succeeds : IsTimely s → Succeeds s call a
+
+-- each of these calls
+abbrev pub AllFollow : List Link → Type 0
+AllFollow [] = Unit {0}
+AllFollow (link ∷ links) = Follows link.before link.call link.answer link.after × AllFollow links
+
+-- ---- runs
 
 -- these calls, answered so, lead from s to t; each follows what is promised of it alone, and each session in them conserves
 pub record Ran (s : State) (calls : List Call) (answers : List Answer) (t : State) : Type 0 where
