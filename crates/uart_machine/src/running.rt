@@ -26,6 +26,10 @@ use uart_spec::{
 /// An `Init` finds the device, and one that is done leaves such a state, whatever the machine was before it. A `TestLoopback`
 /// in such a state is done or stalls, and where it is done nothing of it went onto the wire. Every call, whatever it answers,
 /// leaves such a state where it found one.
+///
+/// Where each access of the schedule has a tick before it, the spin limit is at least 17 (t + 1) for a character of t ticks, and
+/// the wire has room for all that is to go out, an `Init` with a divisor is done, and from such a state so are `TestLoopback`,
+/// `Flush` and, without CTS checking, `SendExact`, `Write` and `Text`.
 pub fn run(uart: &mut Uart16550Tty<Device16550>, calls: &[Call], answers: &mut [Answer])
     requires runnable { All IsRunnable calls.now }
     requires slots { length calls.now ≡ length answers.old }
