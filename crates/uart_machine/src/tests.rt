@@ -1,5 +1,7 @@
 //! Worked examples on raw accesses, and what no contract says: that machines are built, and texts.
 
+mod counts;
+
 use crate::{ArrivalMark, BuildError, Chip, Device16550, Event};
 use std::test::Fail;
 use uart_16550::backend::Backend;

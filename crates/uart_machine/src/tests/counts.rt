@@ -1,0 +1,158 @@
+//! How many accesses a call makes over an idle chip, and how many unsuccessful polls it takes.
+ghost use Rattle.std.specs.Prelude.{⊤};
+
+use super::machine;
+use crate::{Chip, Device16550};
+use std::num::NonZeroU64;
+use std::test::Fail;
+use uart_16550::Uart16550;
+use uart_16550::backend::Backend;
+use uart_spec::registers::{FifoTriggerLevel, IER};
+use uart_spec::{Config, LoopbackError};
+
+// A machine whose accesses are counted.
+#[derive(Drop)]
+struct Counter {
+    machine: Device16550,
+    accesses: usize,
+}
+
+impl Backend for Counter {
+    // Nothing is promised of what an access answers.
+    ghost step = { λ _ _ _. ⊤ };
+
+    fn read(&mut self, register_offset: u8) -> u8 {
+        self.accesses = self.accesses.wrapping_add(1);
+        self.machine.read(register_offset)
+    }
+
+    fn write(&mut self, register_offset: u8, value: u8) {
+        self.accesses = self.accesses.wrapping_add(1);
+        self.machine.write(register_offset, value);
+    }
+}
+
+// A driver over an idle chip that it has initialised.
+fn idle(
+    rt: &HostRuntime,
+    chip: Chip,
+    char_ticks: u16,
+    fifo_trigger_level: Option<FifoTriggerLevel>,
+) -> Result<Uart16550<Counter>, Fail> {
+    let mut uart = Uart16550::new_with_backend(Counter {
+        machine: machine(rt, chip, char_ticks, 64, &[])?,
+        accesses: 0,
+    });
+    uart.init(Config {
+        fifo_trigger_level,
+        ..Config::DEFAULT
+    })?;
+    uart.backend_mut().accesses = 0;
+    Ok(uart)
+}
+
+#[test]
+fn small_calls(rt: HostRuntime) -> Result<(), Fail> {
+    let calls: [(&str, fn(&mut Uart16550<Counter>), usize); 6] = [
+        (
+            "check_present",
+            |uart| {
+                let _ = uart.check_present();
+            },
+            6,
+        ),
+        (
+            "dll_dlm",
+            |uart| {
+                let _ = uart.dll_dlm();
+            },
+            5,
+        ),
+        (
+            "config_register_dump",
+            |uart| {
+                let _ = uart.config_register_dump();
+            },
+            12,
+        ),
+        (
+            "enable_interrupts",
+            |uart| uart.enable_interrupts(IER::DATA_READY),
+            2,
+        ),
+        (
+            "disable_interrupts",
+            |uart| uart.disable_interrupts(IER::DATA_READY),
+            2,
+        ),
+        (
+            "lsr",
+            |uart| {
+                let _ = uart.lsr();
+            },
+            1,
+        ),
+    ];
+    for (name, call, accesses) in calls {
+        let mut uart = idle(&rt, Chip::Uart16550A, 4, Some(FifoTriggerLevel::Fourteen))?;
+        call(&mut uart);
+        assert_eq!(rt; uart.backend().accesses, accesses, "of {name}");
+    }
+    Ok(())
+}
+
+const CHAR_TICKS: [u16; 8] = [1, 2, 3, 4, 5, 16, 100, 1000];
+
+// Of a chip and a level, the accesses of a loopback test for each of these.
+const LOOPBACK_TESTS: [(Chip, Option<FifoTriggerLevel>, [usize; 8]); 4] = [
+    (
+        Chip::Uart16550A,
+        Some(FifoTriggerLevel::Fourteen),
+        [67, 68, 72, 89, 106, 293, 1721, 17021],
+    ),
+    (
+        Chip::Uart16550A,
+        None,
+        [97, 114, 131, 148, 165, 352, 1780, 17080],
+    ),
+    (
+        Chip::Uart16450,
+        None,
+        [97, 114, 131, 148, 165, 352, 1780, 17080],
+    ),
+    (
+        Chip::Uart16450,
+        Some(FifoTriggerLevel::Fourteen),
+        [98, 115, 132, 149, 166, 353, 1781, 17081],
+    ),
+];
+
+// The least spin limit is a poll for each tick of a character, and one more.
+#[test]
+fn loopback_tests(rt: HostRuntime) -> Result<(), Fail> {
+    for (chip, level, counts) in LOOPBACK_TESTS {
+        for (&char_ticks, &accesses) in CHAR_TICKS.iter().zip(counts.iter()) {
+            let ticks = u64::from(char_ticks);
+            let mut uart = idle(&rt, chip, char_ticks, level)?;
+            uart.set_spin_limit(NonZeroU64::new(ticks + 1).unwrap());
+            assert_eq!(rt;
+                uart.test_loopback(),
+                Ok(()),
+                "of {chip:?} with {char_ticks} ticks"
+            );
+            assert_eq!(rt;
+                uart.backend().accesses,
+                accesses,
+                "of {chip:?} with {char_ticks} ticks"
+            );
+            let mut uart = idle(&rt, chip, char_ticks, level)?;
+            uart.set_spin_limit(NonZeroU64::new(ticks).unwrap());
+            assert_eq!(rt;
+                uart.test_loopback(),
+                Err(LoopbackError::Stalled),
+                "of {chip:?} with {char_ticks} ticks"
+            );
+        }
+    }
+    Ok(())
+}
