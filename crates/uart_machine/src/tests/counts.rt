@@ -127,28 +127,34 @@ const LOOPBACK_TESTS: [(Chip, Option<FifoTriggerLevel>, [usize; 8]); 4] = [
     ),
 ];
 
+// What a loopback test under a spin limit answers, and its accesses.
+fn tested(
+    rt: &HostRuntime,
+    chip: Chip,
+    char_ticks: u16,
+    level: Option<FifoTriggerLevel>,
+    limit: u64,
+) -> Result<(Result<(), LoopbackError>, usize), Fail> {
+    let mut uart = idle(rt, chip, char_ticks, level)?;
+    if let Some(limit) = NonZeroU64::new(limit) {
+        uart.set_spin_limit(limit);
+    }
+    let answer = uart.test_loopback();
+    Ok((answer, uart.backend().accesses))
+}
+
 // The least spin limit is a poll for each tick of a character, and one more.
 #[test]
 fn loopback_tests(rt: HostRuntime) -> Result<(), Fail> {
     for (chip, level, counts) in LOOPBACK_TESTS {
         for (&char_ticks, &accesses) in CHAR_TICKS.iter().zip(counts.iter()) {
-            let ticks = u64::from(char_ticks);
-            let mut uart = idle(&rt, chip, char_ticks, level)?;
-            uart.set_spin_limit(NonZeroU64::new(ticks + 1).unwrap());
+            let limit = u64::from(char_ticks);
+            let (answer, made) = tested(&rt, chip, char_ticks, level, limit.saturating_add(1))?;
+            assert_eq!(rt; answer, Ok(()), "of {chip:?} with {char_ticks} ticks");
+            assert_eq!(rt; made, accesses, "of {chip:?} with {char_ticks} ticks");
+            let (answer, _) = tested(&rt, chip, char_ticks, level, limit)?;
             assert_eq!(rt;
-                uart.test_loopback(),
-                Ok(()),
-                "of {chip:?} with {char_ticks} ticks"
-            );
-            assert_eq!(rt;
-                uart.backend().accesses,
-                accesses,
-                "of {chip:?} with {char_ticks} ticks"
-            );
-            let mut uart = idle(&rt, chip, char_ticks, level)?;
-            uart.set_spin_limit(NonZeroU64::new(ticks).unwrap());
-            assert_eq!(rt;
-                uart.test_loopback(),
+                answer,
                 Err(LoopbackError::Stalled),
                 "of {chip:?} with {char_ticks} ticks"
             );
