@@ -1,6 +1,7 @@
 //! Worked examples on raw accesses, and what no contract says: that machines are built, and texts.
 
 mod counts;
+mod driver;
 
 use crate::{ArrivalMark, BuildError, Chip, Device16550, Event};
 use std::test::Fail;
@@ -72,50 +73,6 @@ fn thr_empty_is_told_again(rt: HostRuntime) -> Result<(), Fail> {
     machine.write(IER, 0x02);
     assert_eq!(rt; machine.read(LSR), 0x60);
     assert_eq!(rt; machine.read(ISR), 0x02);
-    Ok(())
-}
-
-// A driver's initialization without FIFO, up to the write of the modem control register.
-fn initialize(machine: &mut Device16550) {
-    let scratch = machine.read(SPR);
-    for pattern in [0x42, 0x73] {
-        machine.write(SPR, pattern);
-        let _ = machine.read(SPR);
-    }
-    machine.write(SPR, scratch);
-    for (register, value) in [
-        (LCR, 0x00),
-        (IER, 0x00),
-        (LCR, 0x80),
-        (DATA, 0x0c),
-        (IER, 0x00),
-        (LCR, 0x00),
-        (LCR, 0x03),
-        (FCR, 0x06),
-    ] {
-        if register < 8 {
-            machine.write(register, value);
-        }
-    }
-    for _ in 0..17 {
-        if machine.read(LSR) & 0x01 == 0 {
-            break;
-        }
-        let _ = machine.read(DATA);
-    }
-    machine.write(MCR, 0x0b);
-}
-
-#[test]
-fn a_looped_byte_comes_back_late(rt: HostRuntime) -> Result<(), Fail> {
-    for (char_ticks, waiting) in [(15, Some(0x55)), (14, None)] {
-        let mut machine = machine(&rt, Chip::Uart16450, char_ticks, 64, &[])?;
-        machine.write(MCR, 0x10);
-        machine.write(DATA, 0x55);
-        initialize(&mut machine);
-        assert_eq!(rt; machine.waiting_at(0), waiting, "with {char_ticks} ticks");
-        assert_eq!(rt; machine.divisor(), 12);
-    }
     Ok(())
 }
 

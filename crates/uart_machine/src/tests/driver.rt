@@ -1,0 +1,74 @@
+//! The driver over a chip that raw accesses left in some state.
+use super::{DATA, LCR, MCR, machine};
+use crate::Chip;
+use bitflags::Flags;
+use std::test::Fail;
+use uart_16550::Uart16550;
+use uart_16550::backend::Backend;
+use uart_spec::Config;
+use uart_spec::registers::FifoTriggerLevel;
+
+const WITHOUT_FIFO: Config = Config {
+    fifo_trigger_level: None,
+    ..Config::DEFAULT
+};
+
+#[test]
+fn a_looped_byte_comes_back_late(rt: HostRuntime) -> Result<(), Fail> {
+    for (char_ticks, waiting) in [(15, Some(0x55)), (14, None)] {
+        let machine = machine(&rt, Chip::Uart16450, char_ticks, 64, &[])?;
+        let mut uart = Uart16550::new_with_backend(machine);
+        uart.backend_mut().write(MCR, 0x10);
+        uart.backend_mut().write(DATA, 0x55);
+        uart.init(WITHOUT_FIFO)?;
+        assert_eq!(rt;
+            uart.backend().waiting_at(0),
+            waiting,
+            "with {char_ticks} ticks"
+        );
+        assert_eq!(rt;
+            uart.try_receive_byte().ok(),
+            waiting,
+            "with {char_ticks} ticks"
+        );
+    }
+    Ok(())
+}
+
+#[test]
+fn init_clears_the_divisor_latch_access(rt: HostRuntime) -> Result<(), Fail> {
+    let machine = machine(&rt, Chip::Uart16550A, 4, 64, &[])?;
+    let mut uart = Uart16550::new_with_backend(machine);
+    uart.backend_mut().write(LCR, 0x83);
+    uart.init(Config::DEFAULT)?;
+    let dump = uart.config_register_dump();
+    assert_eq!(rt; dump.lcr.bits(), 0x03);
+    assert_eq!(rt; dump.divisor(), 12);
+    Ok(())
+}
+
+#[test]
+fn init_leaves_what_is_configured(rt: HostRuntime) -> Result<(), Fail> {
+    let machine = machine(&rt, Chip::Uart16550A, 4, 64, &[])?;
+    let mut uart = Uart16550::new_with_backend(machine);
+    uart.init(Config {
+        fifo_trigger_level: Some(FifoTriggerLevel::Eight),
+        ..Config::DEFAULT
+    })?;
+    assert_eq!(rt; uart.fifo_enabled(), true);
+    assert_eq!(rt; uart.backend().fifo_enabled(), true);
+    assert_eq!(rt; uart.mcr().bits(), 0x0b);
+    assert_eq!(rt; uart.ier().bits(), 0x00);
+    assert_eq!(rt; uart.backend().divisor(), 12);
+    Ok(())
+}
+
+#[test]
+fn a_chip_without_fifo_takes_one_byte(rt: HostRuntime) -> Result<(), Fail> {
+    let machine = machine(&rt, Chip::Uart16450, 4, 64, &[])?;
+    let mut uart = Uart16550::new_with_backend(machine);
+    uart.init(Config::DEFAULT)?;
+    assert_eq!(rt; uart.fifo_enabled(), false);
+    assert_eq!(rt; uart.send_bytes(&[0x48, 0x65, 0x6c]), 1);
+    Ok(())
+}
