@@ -126,6 +126,10 @@ made_times n P {a} p q = made_among (λ l t. rw t.whole (times_more n P (setting
 pub made_few : {B : Type 0} {step : B → Access → B → Type 0} (n : ℕ) (P : Language) {a b : Uart16550 B} → n < (settings a).limit → Made step (Times n P) a b → Made step (FewMisses P) a b
 made_few n P few p = made_among (λ l t. (n, few, t)) p
 
+-- a hit after no misses
+pub made_at_once : {B : Type 0} {step : B → Access → B → Type 0} (P : Language) {Q : Language} {a b : Uart16550 B} → Made step Q a b → Made step (Then (FewMisses P) Q) a b
+made_at_once P {a} p = made_then (made_few 0 P (omega (arith, a.spin_limit.ok)) made_none) p
+
 -- what is allowed where CTS is checked
 pub made_checked : {B : Type 0} {step : B → Access → B → Type 0} {P Q : Language} {a b : Uart16550 B} → (settings a).checks ≡ true → Made step P a b → Made step (IfChecks P Q) a b
 made_checked {P} {Q} {a} on p = made_among (λ l t. let M : Bool → Type 0 = λ v. MatchBool v (P (settings a) l) (Q (settings a) l) in subst M (sym on) t) p
