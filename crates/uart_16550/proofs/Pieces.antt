@@ -1,12 +1,15 @@
 -- Slices that are sent or received piece by piece.
-use Rattle.std.proofs.Common.{◌≡◌, ◌<◌, ◌≤◌, ◌+◌, ◌-◌, ℕ, List, [], ◌∷◌, ◌++◌, refl, sym, ◌∙◌, ap, arith, append_assoc, length, take, drop, length-append, length-take, Err}
-use Rattle.std.proofs.lemmas.List.{take-append-le, drop-append-le, drop-drop, length-take-le}
-use Rattle.std.proofs.Math.Seq.{take-append-add, drop-append-add}
+use Rattle.std.proofs.Common.{◌≡◌, ◌<◌, ◌≤◌, ◌+◌, ◌-◌, ℕ, List, [], ◌∷◌, ◌++◌, refl, sym, ◌∙◌, ap, arith, append_assoc, length, take, drop, length-append, length-take, length-drop, append-nil, map, false, Result, Ok, Err}
+use Rattle.std.proofs.lemmas.List.{take-append-le, take-append-drop, drop-append-le, drop-drop, length-take-le, take-take}
+use Rattle.std.proofs.Math.Seq.{take-append-add, drop-append-add, take-add}
 use borrow.Rule.Slice.PartMut.{mid_of, post_of, put_mid, put_same}
 use Rattle.uart_16550.specs.Access.{Access}
 use Rattle.uart_16550.specs.Grammar.{Language, Settings, Then, InOrder}
 use Rattle.uart_16550.specs.Receive.{Awaited, ReceivesExact}
-use Rattle.uart_16550.proofs.Languages.{in_order_append}
+use Rattle.uart_16550.specs.Transmit.{IsCut, burst_size, Round, SendsExact}
+use Rattle.uart_16550.specs.Expansion.{SendsEach, SendsBeginning, SendsSingly}
+use Rattle.uart_spec.specs.declared.errors.StalledError.{StalledError}
+use Rattle.uart_16550.proofs.Languages.{in_order_append, in_order_map}
 
 -- the first of what a part holds now
 pub take_piece : (xs ys : List ℕ) (a k n : ℕ) → a ≤ length xs → n ≤ length ys → take (a + n) (put_mid a k xs ys) ≡ take a xs ++ take n ys
@@ -50,4 +53,44 @@ receives_stalled T n m done e items more s l front within t =
       omega (arith, length-append {A = ℕ}, some),
       omega (arith, length-append {A = ℕ}, count),
       in_order_then Awaited _ items more s l (record { front = t.front; back = t.back; whole = t.whole; first = t.first; second = t.second.2 }),
+    )
+
+-- the first of a part of a list
+pub take_within : (xs : List ℕ) (a k n : ℕ) → n ≤ k → take (a + n) xs ≡ take a xs ++ take n (take k (drop a xs))
+take_within xs a k n few = take-add a n xs ∙ ap (λ (zs : List ℕ). take a xs ++ zs) (sym (take-take n k (drop a xs) few))
+
+-- a wait in vain after pieces that were sent
+pub begins_later : (bytes : List ℕ) (a k n : ℕ) (s : Settings) (l : List Access) → a ≤ length bytes →
+    Then (SendsEach (take a bytes)) (SendsBeginning (take k (drop a bytes)) n) s l → SendsBeginning bytes (a + n) s l
+begins_later bytes a k n s l within t =
+    let some = t.second.0 in
+    let few : n ≤ k = omega (arith, length-take {A = ℕ}, some) in (
+      omega (arith, length-take {A = ℕ}, length-drop {A = ℕ}, some),
+      rw (take_within bytes a k n few)
+          (in_order_then (λ byte. Round (byte ∷ [])) _ (take a bytes) (take n (take k (drop a bytes))) s l (record { front = t.front; back = t.back; whole = t.whole; first = t.first; second = t.second.1 })),
+    )
+
+-- without FIFO each byte is a burst
+pub single_burst : (s : Settings) (byte : ℕ) (bytes : List ℕ) → s.fifo ≡ false → burst_size s (byte ∷ bytes) ≡ 1
+single_burst s byte bytes off = rw off (omega arith)
+
+pub cut_singly : (s : Settings) (bytes rest : List ℕ) → s.fifo ≡ false → IsCut s (bytes ++ rest) (map (λ byte. byte ∷ []) bytes) rest
+cut_singly s [] rest off = refl
+cut_singly s (byte ∷ bytes) rest off = rw (single_burst s byte (bytes ++ rest) off) (omega arith, refl, cut_singly s bytes rest off)
+
+pub sends_singly : (bytes : List ℕ) (result : Result (Unit {0}) StalledError) (s : Settings) (l : List Access) → s.fifo ≡ false → SendsSingly bytes result s l → SendsExact bytes result s l
+sends_singly bytes (Ok x) s l off t =
+    let cut = cut_singly s bytes [] off in
+    (map (λ byte. byte ∷ []) bytes, rw (append-nil bytes) at cut, in_order_map Round (λ byte. byte ∷ []) bytes s l t)
+sends_singly bytes (Err e) s l off t =
+    let cut = cut_singly s (take e.done bytes) (drop e.done bytes) off in
+    let some : 0 < length (drop e.done bytes) = omega (arith, length-drop {A = ℕ}, t.0) in
+    let sums : e.done + length (drop e.done bytes) ≡ length bytes = omega (arith, length-drop {A = ℕ}, t.0) in
+    let stall = t.1 in (
+      map (λ byte. byte ∷ []) (take e.done bytes),
+      drop e.done bytes,
+      rw (take-append-drop e.done bytes) at cut,
+      some,
+      sums,
+      record { front = stall.front; back = stall.back; whole = stall.whole; first = in_order_map Round (λ byte. byte ∷ []) (take e.done bytes) s stall.front stall.first; second = stall.second },
     )
