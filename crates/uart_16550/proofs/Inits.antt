@@ -2,12 +2,13 @@
 use Rattle.std.proofs.Common.{◌≡◌, ◌∙◌, ℕ, Bool, true, false, List, [], ◌∷◌, inr, ap, subst, refl, Result}
 use Rattle.uart_spec.specs.Baud.{IsDivisorAnswer}
 use Rattle.uart_spec.specs.BaudRate.{to_integer}
+use Rattle.uart_spec.specs.declared.errors.InitError.{InitError}
 use Rattle.uart_spec.specs.declared.errors.InvalidDivisorError.{InvalidDivisorError}
 use Rattle.uart_spec.specs.declared.config.Config.{Config}
 use Rattle.uart_16550.specs.Access.{Access, Write}
 use Rattle.uart_16550.specs.Grammar.{Settings, Only, Then}
 use Rattle.uart_16550.specs.Driver.{Made, Did, Plain, with_config, with_fifo}
-use Rattle.uart_16550.specs.Init.{Keeps, KeepsPatterns, ChecksPresence, SetsFifo, Drains, Begins, DivisorOf, frame_bits, line_writes}
+use Rattle.uart_16550.specs.Init.{Keeps, KeepsPatterns, ChecksPresence, SetsFifo, Drains, Begins, DivisorOf, Inits, frame_bits, line_writes}
 use Rattle.uart_16550.specs.declared.driver.Uart16550.{Uart16550}
 use Rattle.uart_16550.proofs.Making.{made_then, made_among}
 use Rattle.uart_16550.proofs.Doings.{did_then, did_made, did_set}
@@ -21,6 +22,11 @@ second_pattern false s l t = inr t
 pub given_at : (config : Config) (result : Result ℕ InvalidDivisorError) (baud : ℕ) → baud ≡ to_integer config.baud_rate →
     IsDivisorAnswer config.frequency baud config.prescaler_division_factor result → DivisorOf config result
 given_at config result baud same given = let A : ℕ → Type 0 = λ rate. IsDivisorAnswer config.frequency rate config.prescaler_division_factor result in subst A same given
+
+-- what was done with the stored configuration was done with the given one
+pub inits_stored : {B : Type 0} {step : B → Access → B → Type 0} {stored given : Config} {a b : Uart16550 B} (result : Result (Unit {0}) InitError) → stored ≡ given →
+    Did step (Inits stored result) a b → Did step (Inits given result) a b
+inits_stored {step} {a} {b} result same did = let D : Config → Type 0 = λ config. Did step (Inits config result) a b in subst D same did
 
 -- from the configuration stored to MCR written
 pub begun : {B : Type 0} {step : B → Access → B → Type 0} (config : Config) (divisor frame control : ℕ) (fifo : Bool) {a b c d e f : Uart16550 B} →

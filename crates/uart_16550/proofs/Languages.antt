@@ -1,7 +1,7 @@
 -- Lists of a language, one after another.
-use Rattle.std.proofs.Common.{◌≡◌, ◌<◌, ◌≤◌, ◌+◌, ℕ, zero, suc, true, false, List, [], ◌∷◌, ◌++◌, refl, sym, arith, append_assoc, append-nil, add-one, length, take, drop, inl, inr, Result, Ok, Err, is_ok}
+use Rattle.std.proofs.Common.{◌≡◌, ◌<◌, ◌≤◌, ◌+◌, ℕ, zero, suc, true, false, List, [], ◌∷◌, ◌++◌, refl, sym, arith, append_assoc, append-nil, add-one, length, take, drop, inl, inr, Result, Ok, Err, is_ok, map}
 use Rattle.uart_16550.specs.Access.{Access}
-use Rattle.uart_16550.specs.Grammar.{Language, Settings, InOrder, Times}
+use Rattle.uart_16550.specs.Grammar.{Language, Settings, Then, InOrder, Times}
 use Rattle.uart_16550.specs.Receive.{Receives, Miss}
 use Rattle.uart_16550.specs.Transmit.{IsCut, burst_size, burst_limit, Sends, SendMiss, Burst, ReadyToSend}
 use Rattle.uart_16550.specs.Io.{AnswersWrite}
@@ -28,6 +28,21 @@ in_order_append P (i ∷ items) more s l m p q = record {
   first = p.first;
   second = in_order_append P items more s p.back m p.second q;
 }
+
+-- what comes after two lists comes after the second of them
+pub then_later : (P Q R : Language) (s : Settings) (l : List Access) → Then (Then P Q) R s l → Then P (Then Q R) s l
+then_later P Q R s l t = record {
+  front = t.first.front;
+  back = t.first.back ++ t.back;
+  whole = rw (t.whole, t.first.whole) (append_assoc t.first.front t.first.back t.back);
+  first = t.first.first;
+  second = record { front = t.first.back; back = t.back; whole = refl; first = t.first.second; second = t.second };
+}
+
+-- a list for each item, by what the items are made to
+pub in_order_map : {A B : Type 0} (P : B → Language) (f : A → B) (items : List A) (s : Settings) (l : List Access) → InOrder (λ item. P (f item)) items s l → InOrder P (map f items) s l
+in_order_map P f [] s l t = t
+in_order_map P f (i ∷ items) s l t = record { front = t.front; back = t.back; whole = t.whole; first = t.first; second = in_order_map P f items s t.back t.second }
 
 -- one list more
 pub times_more : (n : ℕ) (P : Language) (s : Settings) (l m : List Access) → Times n P s l → P s m → Times (n + 1) P s (l ++ m)

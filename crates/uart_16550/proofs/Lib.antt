@@ -1,5 +1,6 @@
 pub mod Paths
 pub mod Languages
+pub mod Pieces
 pub mod Making
 pub mod Doings
 pub mod Statuses

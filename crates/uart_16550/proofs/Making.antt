@@ -6,10 +6,11 @@ use lib.Bits.{or_zero_r}
 use Rattle.uart_spec.specs.Bits.{has}
 use Rattle.uart_16550.specs.Access.{Access, Read, Write, saved_lsr, saved_msr}
 use Rattle.uart_16550.specs.Grammar.{Language, Settings, Only, Then, InOrder, Times, FewMisses, Asks, IfChecks}
+use Rattle.uart_16550.specs.Transmit.{SendHit, SendMiss, WaitsToSend, Round, data_writes}
 use Rattle.uart_16550.specs.Driver.{Made, settings}
 use Rattle.uart_16550.specs.declared.driver.Uart16550.{Uart16550}
 use Rattle.uart_16550.proofs.Paths.{or_assoc, path_then, saved-append, or_saved}
-use Rattle.uart_16550.proofs.Languages.{in_order_more, in_order_append, times_more}
+use Rattle.uart_16550.proofs.Languages.{in_order_more, in_order_append, times_more, then_later}
 
 -- a call leaves the settings
 pub made_settings : {B : Type 0} {step : B → Access → B → Type 0} {L : Language} {a b : Uart16550 B} → Made step L a b → settings b ≡ settings a
@@ -125,6 +126,14 @@ made_times n P {a} p q = made_among (λ l t. rw t.whole (times_more n P (setting
 -- fewer times than the limit
 pub made_few : {B : Type 0} {step : B → Access → B → Type 0} (n : ℕ) (P : Language) {a b : Uart16550 B} → n < (settings a).limit → Made step (Times n P) a b → Made step (FewMisses P) a b
 made_few n P few p = made_among (λ l t. (n, few, t)) p
+
+-- a hit after no misses
+pub made_at_once : {B : Type 0} {step : B → Access → B → Type 0} (P : Language) {Q : Language} {a b : Uart16550 B} → Made step Q a b → Made step (Then (FewMisses P) Q) a b
+made_at_once P {a} p = made_then (made_few 0 P (omega (arith, a.spin_limit.ok)) made_none) p
+
+-- a burst, after its wait
+pub made_round : {B : Type 0} {step : B → Access → B → Type 0} (bytes : List ℕ) {a b c : Uart16550 B} → Made step (WaitsToSend true) a b → Made step (Only (data_writes bytes)) b c → Made step (Round bytes) a c
+made_round bytes {a} p q = made_among (λ l t. then_later (FewMisses SendMiss) SendHit _ (settings a) l t) (made_then p q)
 
 -- what is allowed where CTS is checked
 pub made_checked : {B : Type 0} {step : B → Access → B → Type 0} {P Q : Language} {a b : Uart16550 B} → (settings a).checks ≡ true → Made step P a b → Made step (IfChecks P Q) a b

@@ -55,6 +55,11 @@ Sends bytes k s l =
 abbrev pub Round : List ℕ → Language
 Round bytes = Then (FewMisses SendMiss) (Burst bytes)
 
+-- a wait for room: a check hit after fewer misses in a row than the limit, or there were as many misses
+abbrev pub WaitsToSend : Bool → Language
+WaitsToSend true = Then (FewMisses SendMiss) SendHit
+WaitsToSend false = AllMisses SendMiss
+
 -- a wait for one burst: k of the bytes were sent, or there were as many misses as the limit
 abbrev pub SendsSome : List ℕ → Option ℕ → Language
 SendsSome bytes (Some k) s l = (k ≡ burst_size s bytes) × Round (take k bytes) s l

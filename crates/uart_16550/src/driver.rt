@@ -22,6 +22,10 @@ use uart_spec::registers::{LSR, MSR, offsets};
 /// How many unsuccessful polls in a row a wait makes before it answers a stall, until `set_spin_limit` says otherwise.
 pub const DEFAULT_SPIN_LIMIT: u64 = 1_000_000;
 
+// Slices are sent and received in pieces of this size, each in a copy: no access can change the copy, so the compiler may keep
+// a backend's fields in registers meanwhile. Of the slice itself it does not know that.
+const PIECE_SIZE: usize = 128;
+
 // Overrun, parity, framing and break: reading LSR clears them in the chip.
 const SAVED_LSR_BITS: u8 = 0x1e;
 

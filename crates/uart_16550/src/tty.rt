@@ -4,7 +4,7 @@ ghost use Rattle.std.specs.Borrow.{Lends, sem};
 ghost use Rattle.std.specs.Int.NonZero.{non_zero_usize_get};
 ghost use Rattle.uart_spec.specs.Config.{IsComputable};
 ghost use Rattle.uart_16550.specs.Driver.{Made};
-ghost use Rattle.uart_16550.specs.Expansion.{expansion, expansion_of, SendsEach, SendsSingly, SendsText, SendsStr};
+ghost use Rattle.uart_16550.specs.Expansion.{expansion, expansion_of, SendsEach, SendsText, SendsStr};
 ghost use Rattle.uart_16550.specs.Tty.{inner_of, TerminalMade, IsStarted, Builds, BuildsAt};
 ghost use Rattle.uart_16550.specs.Pio.{IsAtPorts, IsPortRefusal, PortStep};
 ghost use Rattle.uart_16550.specs.Mmio.{IsInMemory, IsMappingRefusal, MemoryStep};
@@ -164,20 +164,6 @@ impl<B: Backend> Uart16550Tty<B> {
         &mut self.inner
     }
 
-    // Sends the bytes one by one.
-    fn send_singly(&mut self, bytes: &[u8]) -> Result<(), StalledError>
-        ensures made { TerminalMade B.step (SendsSingly bytes.now result) self.old self.new }
-        ensures done { IfErr result (λ e. e.done < length bytes.now) }
-    {
-        for (done, &byte) in bytes.iter().enumerate() {
-            match self.inner.send_some(&[byte]) {
-                Some(_) => {}
-                None => return Err(StalledError { done }),
-            }
-        }
-        Ok(())
-    }
-
     /// Sends the text's expansion byte by byte, and waits for room before each.
     ///
     /// # Errors
@@ -190,7 +176,7 @@ impl<B: Backend> Uart16550Tty<B> {
         let mut done = 0_usize;
         for &byte in text.as_bytes() {
             let expansion = expansion_of(byte);
-            match self.send_singly(&expansion.bytes[..expansion.len]) {
+            match self.inner.send_singly(&expansion.bytes[..expansion.len]) {
                 Ok(()) => done = done.saturating_add(expansion.len),
                 Err(stall) => {
                     let done = done.saturating_add(stall.done);

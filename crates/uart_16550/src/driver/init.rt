@@ -8,6 +8,7 @@ ghost use Rattle.uart_16550.specs.Driver.{Made, Did, Plain, fields};
 use super::Uart16550;
 use crate::backend::Backend;
 use bitflags::Flags;
+use std::mem;
 use uart_spec::registers::{FCR, FifoTriggerLevel, ISR, LCR, LSR, MCR, MSR, offsets};
 use uart_spec::{Config, InitError, calc_divisor};
 
@@ -138,15 +139,19 @@ impl<B: Backend> Uart16550<B> {
         requires { IsComputable config }
         ensures { Did B.step (Inits config result) self.old self.new }
     {
-        let baud_rate = config.baud_rate.to_integer();
-        let prescaler = config.prescaler_division_factor;
-        let divisor = match calc_divisor(config.frequency, baud_rate, prescaler) {
+        // Stored first and then read where it stands, the configuration is copied once, and as a whole.
+        let before = mem::replace(&mut self.config, config);
+        let baud_rate = self.config.baud_rate.to_integer();
+        let prescaler = self.config.prescaler_division_factor;
+        let divisor = match calc_divisor(self.config.frequency, baud_rate, prescaler) {
             Ok(divisor) => divisor,
-            Err(cause) => return Err(InitError::InvalidBaudRate(cause)),
+            Err(cause) => {
+                self.config = before;
+                return Err(InitError::InvalidBaudRate(cause));
+            }
         };
-        let frame = frame_of(&config);
-        let level = config.fifo_trigger_level;
-        self.config = config;
+        let frame = frame_of(&self.config);
+        let level = self.config.fifo_trigger_level;
         if !self.check_present() {
             return Err(InitError::DeviceNotPresent);
         }

@@ -3,7 +3,7 @@ ghost use Rattle.std.specs.Prelude.{◌≡◌, ◌<◌, ◌≤◌, length, take,
 ghost use Rattle.uart_16550.specs.Receive.{ReadyToReceive, TryReceive, Receives, ReceivesSome, Awaits, ReceivesExact, filled};
 ghost use Rattle.uart_16550.specs.Driver.{Made};
 
-use super::Uart16550;
+use super::{PIECE_SIZE, Uart16550};
 use crate::backend::Backend;
 use bitflags::Flags;
 use uart_spec::registers::{LSR, offsets};
@@ -63,17 +63,51 @@ impl<B: Backend> Uart16550<B> {
         None
     }
 
-    // Waits for one byte.
+    // Waits for one byte. The first look stands by itself, since it mostly finds one.
     pub(crate) fn receive_one(&mut self) -> Option<u8>
         ensures { Made B.step (Awaits result) self.old self.new }
     {
-        for _turn in 0..self.spin_limit.get() {
+        match self.try_receive_byte() {
+            Ok(byte) => return Some(byte),
+            Err(_) => {}
+        }
+        for _turn in 1..self.spin_limit.get() {
             match self.try_receive_byte() {
                 Ok(byte) => return Some(byte),
                 Err(_) => {}
             }
         }
         None
+    }
+
+    // Receives as many bytes as there are slots, and waits for each.
+    fn receive_each(&mut self, slots: &mut [u8]) -> Result<(), StalledError>
+        ensures made { Made B.step (ReceivesExact (length slots.old) (filled result slots.new) result) self.old self.new }
+        ensures rest { IfErr result (λ e. drop e.done slots.new ≡ drop e.done slots.old) }
+    {
+        for (done, slot) in slots.iter_mut().enumerate() {
+            match self.receive_one() {
+                Some(byte) => *slot = byte,
+                None => return Err(StalledError { done }),
+            }
+        }
+        Ok(())
+    }
+
+    // The same. A whole piece is received into a copy.
+    #[inline(always)]
+    fn receive_piece(&mut self, slots: &mut [u8]) -> Result<(), StalledError>
+        ensures made { Made B.step (ReceivesExact (length slots.old) (filled result slots.new) result) self.old self.new }
+        ensures rest { IfErr result (λ e. drop e.done slots.new ≡ drop e.done slots.old) }
+    {
+        if slots.len() != PIECE_SIZE {
+            return self.receive_each(slots);
+        }
+        let mut copy = [0; PIECE_SIZE];
+        copy.copy_from_slice(slots);
+        let result = self.receive_each(&mut copy);
+        slots.copy_from_slice(&copy);
+        result
     }
 
     /// Receives as many bytes as there are slots, and waits for each.
@@ -86,11 +120,18 @@ impl<B: Backend> Uart16550<B> {
         ensures made { Made B.step (ReceivesExact (length buffer.old) (filled result buffer.new) result) self.old self.new }
         ensures rest { IfErr result (λ e. drop e.done buffer.new ≡ drop e.done buffer.old) }
     {
-        for (done, slot) in buffer.iter_mut().enumerate() {
-            match self.receive_one() {
-                Some(byte) => *slot = byte,
-                None => return Err(StalledError { done }),
+        let mut done = 0;
+        while done < buffer.len() {
+            let end = buffer.len().min(done + PIECE_SIZE);
+            match self.receive_piece(&mut buffer[done..end]) {
+                Ok(()) => {}
+                Err(stall) => {
+                    return Err(StalledError {
+                        done: done + stall.done,
+                    });
+                }
             }
+            done = end;
         }
         Ok(())
     }

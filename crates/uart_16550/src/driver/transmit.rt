@@ -1,10 +1,11 @@
 //! Sending.
-ghost use Rattle.std.specs.Prelude.{◌≡◌, ◌<◌, ◌≤◌, length, IfErr, IfSome, is_ok};
+ghost use Rattle.std.specs.Prelude.{◌≡◌, ◌<◌, ◌≤◌, length, take, IfErr, IfSome};
 ghost use Rattle.uart_16550.specs.Grammar.{Only, Asks};
-ghost use Rattle.uart_16550.specs.Transmit.{LinesAllow, ReadyToSend, data_writes, burst_limit, Sends, SendsSome, SendsExact, Waits, TrySends};
+ghost use Rattle.uart_16550.specs.Transmit.{LinesAllow, ReadyToSend, data_writes, burst_size, Sends, WaitsToSend, SendsSome, SendsExact, Waits, TrySends};
+ghost use Rattle.uart_16550.specs.Expansion.{SendsSingly};
 ghost use Rattle.uart_16550.specs.Driver.{Made, settings};
 
-use super::Uart16550;
+use super::{PIECE_SIZE, Uart16550};
 use crate::backend::Backend;
 use bitflags::Flags;
 use uart_spec::registers::{LSR, MCR, MSR, offsets};
@@ -44,19 +45,35 @@ impl<B: Backend> Uart16550<B> {
         Ok(())
     }
 
-    // How many bytes one burst may write.
-    fn burst_limit(&self) -> usize
-        ensures { result ≡ burst_limit (settings self.now).fifo }
-    {
-        if self.fifo_enabled { FIFO_SIZE } else { 1 }
-    }
-
     // Writes the bytes to DATA in order.
     fn write_data(&mut self, bytes: &[u8])
         ensures { Made B.step (Only (data_writes bytes.now)) self.old self.new }
     {
         for &byte in bytes {
             self.write_register(offsets::DATA, byte);
+        }
+    }
+
+    // Writes one burst from the front to DATA, and answers how many bytes it took. A whole burst is written from a copy.
+    fn write_burst(&mut self, bytes: &[u8]) -> usize
+        requires { 0 < length bytes.now }
+        ensures made { Made B.step (Only (data_writes (take result bytes.now))) self.old self.new }
+        ensures size { result ≡ burst_size (settings self.old) bytes.now }
+    {
+        if !self.fifo_enabled {
+            self.write_register(offsets::DATA, bytes[0]);
+            return 1;
+        }
+        match bytes.first_chunk::<FIFO_SIZE>() {
+            Some(burst) => {
+                let copy = *burst;
+                self.write_data(&copy);
+                FIFO_SIZE
+            }
+            None => {
+                self.write_data(bytes);
+                bytes.len()
+            }
         }
     }
 
@@ -74,9 +91,7 @@ impl<B: Backend> Uart16550<B> {
         let Ok(()) = self.ready_to_send() else {
             return 0;
         };
-        let count = buffer.len().min(self.burst_limit());
-        self.write_data(&buffer[..count]);
-        count
+        self.write_burst(buffer)
     }
 
     /// Sends one byte, if the transmitter has room.
@@ -93,19 +108,100 @@ impl<B: Backend> Uart16550<B> {
         Ok(())
     }
 
+    // Waits until bytes may be written. The first look stands by itself, since it mostly hits.
+    #[inline(always)]
+    fn wait_to_send(&mut self) -> bool
+        ensures { Made B.step (WaitsToSend result) self.old self.new }
+    {
+        match self.ready_to_send() {
+            Ok(()) => return true,
+            Err(_) => {}
+        }
+        for _turn in 1..self.spin_limit.get() {
+            match self.ready_to_send() {
+                Ok(()) => return true,
+                Err(_) => {}
+            }
+        }
+        false
+    }
+
     // Waits until a burst was sent, and answers how many bytes it took.
     pub(crate) fn send_some(&mut self, bytes: &[u8]) -> Option<usize>
         requires { 0 < length bytes.now }
         ensures made { Made B.step (SendsSome bytes.now result) self.old self.new }
         ensures count { IfSome result (λ k. (0 < k) × (k ≤ length bytes.now)) }
     {
-        for _turn in 0..self.spin_limit.get() {
-            let count = self.send_bytes(bytes);
-            if count > 0 {
-                return Some(count);
-            }
+        if !self.wait_to_send() {
+            return None;
         }
-        None
+        Some(self.write_burst(bytes))
+    }
+
+    // Sends the bytes one by one, and waits for room before each.
+    #[inline(always)]
+    pub(crate) fn send_singly(&mut self, bytes: &[u8]) -> Result<(), StalledError>
+        ensures made { Made B.step (SendsSingly bytes.now result) self.old self.new }
+        ensures done { IfErr result (λ e. e.done < length bytes.now) }
+    {
+        for (done, &byte) in bytes.iter().enumerate() {
+            if !self.wait_to_send() {
+                return Err(StalledError { done });
+            }
+            self.write_register(offsets::DATA, byte);
+        }
+        Ok(())
+    }
+
+    // The same. A whole piece is sent from a copy.
+    #[inline(always)]
+    fn send_piece(&mut self, bytes: &[u8]) -> Result<(), StalledError>
+        ensures made { Made B.step (SendsSingly bytes.now result) self.old self.new }
+        ensures done { IfErr result (λ e. e.done < length bytes.now) }
+    {
+        match bytes.as_array::<PIECE_SIZE>() {
+            Some(piece) => {
+                let copy = *piece;
+                self.send_singly(&copy)
+            }
+            None => self.send_singly(bytes),
+        }
+    }
+
+    // The same, piece by piece.
+    fn send_pieces(&mut self, bytes: &[u8]) -> Result<(), StalledError>
+        ensures made { Made B.step (SendsSingly bytes.now result) self.old self.new }
+        ensures done { IfErr result (λ e. e.done < length bytes.now) }
+    {
+        let mut done = 0;
+        while done < bytes.len() {
+            let end = bytes.len().min(done + PIECE_SIZE);
+            match self.send_piece(&bytes[done..end]) {
+                Ok(()) => {}
+                Err(stall) => {
+                    return Err(StalledError {
+                        done: done + stall.done,
+                    });
+                }
+            }
+            done = end;
+        }
+        Ok(())
+    }
+
+    // Sends the bytes burst by burst, and waits for room before each.
+    fn send_bursts(&mut self, bytes: &[u8]) -> Result<(), StalledError>
+        ensures made { Made B.step (SendsExact bytes.now result) self.old self.new }
+        ensures done { IfErr result (λ e. e.done < length bytes.now) }
+    {
+        let mut done = 0;
+        while done < bytes.len() {
+            let Some(count) = self.send_some(&bytes[done..]) else {
+                return Err(StalledError { done });
+            };
+            done += count;
+        }
+        Ok(())
     }
 
     /// Sends all of the bytes, and waits for room before each burst.
@@ -118,14 +214,11 @@ impl<B: Backend> Uart16550<B> {
         ensures made { Made B.step (SendsExact bytes.now result) self.old self.new }
         ensures done { IfErr result (λ e. e.done < length bytes.now) }
     {
-        let mut done = 0;
-        while done < bytes.len() {
-            let Some(count) = self.send_some(&bytes[done..]) else {
-                return Err(StalledError { done });
-            };
-            done += count;
+        if self.fifo_enabled {
+            self.send_bursts(bytes)
+        } else {
+            self.send_pieces(bytes)
         }
-        Ok(())
     }
 
     // Looks at LSR until it shows these bits.

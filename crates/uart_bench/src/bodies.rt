@@ -1,0 +1,135 @@
+//! The bodies whose instructions are counted.
+//!
+//! Each is a function of its own in the built program, for each backend, so that a profiler can name it.
+ghost use Rattle.std.specs.Prelude.{◌≡◌};
+ghost use Rattle.uart_spec.specs.Config.{IsComputable};
+
+use crate::cells::{Observed, Totals};
+use std::fmt::Write;
+use uart_16550::backend::Backend;
+use uart_16550::spec::registers::{FifoTriggerLevel, LSR, MSR};
+use uart_16550::{Config, ConfigRegisterDump, Uart16550, Uart16550Tty};
+
+/// A body.
+#[derive(Clone, Copy, Debug, PartialEq, Eq)]
+pub enum Body {
+    SendFifo,
+    SendSingle,
+    Receive,
+    InitFifo,
+    InitSingle,
+    Lsr,
+    Msr,
+    Dump,
+    Text,
+}
+
+/// All bodies, each with its name and the LSR that it needs.
+pub const BODIES: [(Body, &str, u8); 9] = [
+    (Body::SendFifo, "send-fifo", 0x60),
+    (Body::SendSingle, "send-single", 0x60),
+    (Body::Receive, "receive", 0x61),
+    (Body::InitFifo, "init-fifo", 0x60),
+    (Body::InitSingle, "init-single", 0x60),
+    (Body::Lsr, "lsr", 0x60),
+    (Body::Msr, "msr", 0x60),
+    (Body::Dump, "dump", 0x60),
+    (Body::Text, "text", 0x60),
+];
+
+#[inline(never)]
+fn send<B: Backend>(uart: &mut Uart16550<B>, bytes: &[u8]) -> bool {
+    uart.send_bytes_exact(bytes).is_ok()
+}
+
+#[inline(never)]
+fn receive<B: Backend>(uart: &mut Uart16550<B>, buffer: &mut [u8]) -> bool {
+    uart.receive_bytes_exact(buffer).is_ok()
+}
+
+#[inline(never)]
+fn init<B: Backend>(uart: &mut Uart16550<B>, config: Config) -> bool
+    requires { IsComputable config }
+{
+    uart.init(config).is_ok()
+}
+
+#[inline(never)]
+fn lsr<B: Backend>(uart: &mut Uart16550<B>) -> LSR {
+    uart.lsr()
+}
+
+#[inline(never)]
+fn msr<B: Backend>(uart: &mut Uart16550<B>) -> MSR {
+    uart.msr()
+}
+
+#[inline(never)]
+fn dump<B: Backend>(uart: &mut Uart16550<B>) -> ConfigRegisterDump {
+    uart.config_register_dump()
+}
+
+#[inline(never)]
+fn text<B: Backend>(terminal: &mut Uart16550Tty<B>, text: &str) -> bool {
+    terminal.write_str(text).is_ok()
+}
+
+// The default configuration with this trigger level.
+fn config_with(level: Option<FifoTriggerLevel>) -> Config
+    ensures { IsComputable result }
+{
+    Config {
+        fifo_trigger_level: level,
+        ..Config::DEFAULT
+    }
+}
+
+/// Runs a body so many times over a backend, and answers what came of its accesses.
+///
+/// The buffer is what one call sends or receives, and the text what one call prints.
+pub fn run<B: Observed + Drop>(
+    body: Body,
+    count: u64,
+    backend: B,
+    buffer: &mut [u8],
+    line: &str,
+) -> Totals {
+    let mut uart = Uart16550::new_with_backend(backend);
+    if body == Body::Text {
+        let mut terminal = Uart16550Tty::from_inner(uart);
+        for _turn in 0..count {
+            text(&mut terminal, line);
+        }
+        return terminal.inner().backend().totals();
+    }
+    if body == Body::SendSingle {
+        init(&mut uart, config_with(None));
+    }
+    for _turn in 0..count {
+        match body {
+            Body::SendFifo | Body::SendSingle => {
+                send(&mut uart, buffer);
+            }
+            Body::Receive => {
+                receive(&mut uart, buffer);
+            }
+            Body::InitFifo => {
+                init(&mut uart, config_with(Some(FifoTriggerLevel::Fourteen)));
+            }
+            Body::InitSingle => {
+                init(&mut uart, config_with(None));
+            }
+            Body::Lsr => {
+                lsr(&mut uart);
+            }
+            Body::Msr => {
+                msr(&mut uart);
+            }
+            Body::Dump => {
+                dump(&mut uart);
+            }
+            Body::Text => {}
+        }
+    }
+    uart.backend().totals()
+}
