@@ -8,6 +8,7 @@ pub mod Latches
 pub mod Sounds
 pub mod Nearing
 pub mod Constants
+pub mod Jumps
 pub mod Schedules
 pub mod Builds
 pub mod Bits
@@ -57,6 +58,7 @@ pub mod LoopWaits
 pub mod LoopSucceeds
 pub mod ReadyKept
 pub mod Follows
+pub mod Idle
 pub mod ScriptLines
 pub mod ScriptDigits
 pub mod ScriptBytes

@@ -8,7 +8,7 @@ use Rattle.uart_machine.specs.declared.receiver.Character.{Character}
 use Rattle.uart_machine.specs.declared.receiver.Origin.TheVariants.{Arrived, Looped}
 use Rattle.uart_machine.specs.Registers.{IsWithin, lsr_character_errors}
 use Rattle.uart_machine.specs.Transmitter.{room}
-use Rattle.uart_machine.specs.Receiver.{ReceiverState, set_mark, replace, come_back, grow_idle, tick, arrive, take_front, report, discard, clear}
+use Rattle.uart_machine.specs.Receiver.{ReceiverState, set_mark, replace, come_back, grow_timeout, tick, arrive, take_front, report, discard, clear}
 use Rattle.uart_machine.specs.Sound.{Waits, AllWait, NoneIs, Distinct, AllErrorsLegal, IsTrigger, IsSoundReceiver}
 use Rattle.uart_machine.proofs.Marks.{length-set_mark, none_to_come, all_wait-set, all_wait-set_mark, all_wait-next, all_wait-found, all_wait-append, distinct-next, distinct-looped, ToCome, Settled, NoOther, to_come-next, to_come-set, settled-next, settled-set, no_other-set, no_other-rest, no_other-next}
 
@@ -17,7 +17,7 @@ pub record Safe (fifo : Bool) (arrived : ℕ) (r s : ReceiverState) : Type 0 whe
   pub sound : IsSoundReceiver fifo s
   pub number : s.arrived ≡ arrived
   pub known : length s.marks ≡ length r.marks
-  pub limit : s.idle_limit ≡ r.idle_limit
+  pub limit : s.timeout_limit ≡ r.timeout_limit
 
 pub safe_if : (fifo : Bool) (arrived : ℕ) (r x y : ReceiverState) (b : Bool) → (b ≡ true → Safe fifo arrived r x) → (b ≡ false → Safe fifo arrived r y) → Safe fifo arrived r (if b then x else y)
 safe_if fifo arrived r x y true p q = p refl
@@ -42,7 +42,7 @@ safe_arrival_room : (fifo : Bool) (r : ReceiverState) (byte errors : ℕ) (repor
     Safe fifo (r.arrived + 1) r (record r {
       queue = r.queue ++ record { byte = byte; errors = errors; origin = Arrived r.arrived } ∷ [];
       is_front_reported = reported;
-      idle_ticks = 0;
+      timeout_ticks = 0;
       arrived = r.arrived + 1;
       marks = slice_set r.marks r.arrived Waiting;
     })
@@ -73,8 +73,8 @@ safe_arrival_room fifo r byte errors reported w k l e =
     }
 
 -- what waits stays, and the arrival is lost
-safe_arrival_lost : (fifo : Bool) (r : ReceiverState) (m : ArrivalMark) (overrun : Bool) (idle : ℕ) → IsSoundReceiver fifo r → r.arrived < length r.marks → m ≢ Pending → m ≢ Waiting → idle ≤ r.idle_limit →
-    Safe fifo (r.arrived + 1) r (record r { is_overrun = overrun; idle_ticks = idle; arrived = r.arrived + 1; marks = slice_set r.marks r.arrived m })
+safe_arrival_lost : (fifo : Bool) (r : ReceiverState) (m : ArrivalMark) (overrun : Bool) (idle : ℕ) → IsSoundReceiver fifo r → r.arrived < length r.marks → m ≢ Pending → m ≢ Waiting → idle ≤ r.timeout_limit →
+    Safe fifo (r.arrived + 1) r (record r { is_overrun = overrun; timeout_ticks = idle; arrived = r.arrived + 1; marks = slice_set r.marks r.arrived m })
 safe_arrival_lost fifo r m overrun idle w k p q i =
     let none : NoneIs r.arrived r.queue = none_to_come r.arrived r.marks r.is_stray_lost r.queue w.marked.wait in
     record {
@@ -104,7 +104,7 @@ safe_arrival_replaced : (fifo : Bool) (r : ReceiverState) (byte errors : ℕ) (o
       queue = record { byte = byte; errors = errors; origin = Arrived r.arrived } ∷ [];
       is_overrun = true;
       is_front_reported = false;
-      idle_ticks = 0;
+      timeout_ticks = 0;
       arrived = r.arrived + 1;
       marks = slice_set (set_mark old.origin Dropped r.marks) r.arrived Waiting;
       is_stray_lost = stray;
@@ -148,7 +148,7 @@ none_full false e = cc
 
 pub safe_arrive : (loopback fifo : Bool) (r : ReceiverState) (byte errors : ℕ) → IsSoundReceiver fifo r → r.arrived < length r.marks → IsWithin errors lsr_character_errors →
     Safe fifo (r.arrived + 1) r (arrive loopback fifo byte errors r)
-safe_arrive true fifo r byte errors w k l = safe_arrival_lost fifo r Discarded r.is_overrun r.idle_ticks w k (λ e. cc) (λ e. cc) w.idle
+safe_arrive true fifo r byte errors w k l = safe_arrival_lost fifo r Discarded r.is_overrun r.timeout_ticks w k (λ e. cc) (λ e. cc) w.idle
 safe_arrive false fifo r byte errors w k l =
     safe_if fifo (r.arrived + 1) r _ _ (nat_lt (length r.queue) (room fifo)) (safe_arrival_room fifo r byte errors _ w k l)
     (λ full. safe_if fifo (r.arrived + 1) r _ _ fifo (λ e. safe_arrival_lost fifo r Dropped true 0 w k (λ e. cc) (λ e. cc) zero-le)
@@ -170,7 +170,7 @@ safe_looped_room : (fifo : Bool) (r : ReceiverState) (byte : ℕ) (reported : Bo
     Safe fifo r.arrived r (record r {
       queue = r.queue ++ record { byte = byte; errors = 0; origin = Looped } ∷ [];
       is_front_reported = reported;
-      idle_ticks = 0;
+      timeout_ticks = 0;
       is_stray_lost = false;
     })
 safe_looped_room fifo r byte reported w e =
@@ -196,7 +196,7 @@ safe_looped_room fifo r byte reported w e =
       limit = refl;
     }
 
-safe_looped_lost : (fifo : Bool) (r : ReceiverState) → IsSoundReceiver fifo r → Safe fifo r.arrived r (record r { is_overrun = true; idle_ticks = 0; is_stray_lost = false })
+safe_looped_lost : (fifo : Bool) (r : ReceiverState) → IsSoundReceiver fifo r → Safe fifo r.arrived r (record r { is_overrun = true; timeout_ticks = 0; is_stray_lost = false })
 safe_looped_lost fifo r w = record {
   sound = record {
     marked = record {
@@ -222,7 +222,7 @@ safe_looped_replaced : (fifo : Bool) (r : ReceiverState) (byte : ℕ) (old : Cha
       queue = record { byte = byte; errors = 0; origin = Looped } ∷ [];
       is_overrun = true;
       is_front_reported = false;
-      idle_ticks = 0;
+      timeout_ticks = 0;
       marks = set_mark old.origin Dropped r.marks;
       is_stray_lost = false;
     })
@@ -274,7 +274,7 @@ safe_come_back fifo (Some byte) r w =
 pub safe_tick : (fifo : Bool) (place : Option ℕ) (r : ReceiverState) → IsSoundReceiver fifo r → Safe fifo r.arrived r (tick fifo place r)
 safe_tick fifo place r w = idle (come_back fifo place r) (safe_come_back fifo place r w)
   where
-    idle : (s : ReceiverState) → Safe fifo r.arrived r s → Safe fifo r.arrived r (grow_idle s)
+    idle : (s : ReceiverState) → Safe fifo r.arrived r s → Safe fifo r.arrived r (grow_timeout s)
     idle s a = record {
       sound = record {
         marked = record {

@@ -9,7 +9,7 @@ use Rattle.uart_machine.specs.Registers.{has_any}
 use Rattle.uart_machine.specs.Transmitter as transmitter
 use Rattle.uart_machine.specs.Transmitter.{looped_byte}
 use Rattle.uart_machine.specs.Receiver as receiver
-use Rattle.uart_machine.specs.Receiver.{ReceiverState, grow_idle}
+use Rattle.uart_machine.specs.Receiver.{ReceiverState, grow_timeout}
 use Rattle.uart_machine.specs.Chip.{ChipState, is_dlab_set, is_loopback, tick, ticks, arrive, change_lines}
 use Rattle.uart_machine.specs.Machine.{perform, arrivals}
 use Rattle.uart_machine.specs.Conserved.{arriving}
@@ -110,15 +110,15 @@ went-refl x c s w = record {
   turns = turns-refl c.modem;
 }
 
-tick-still : (c : ChipState) → is_loopback c.latches ≡ false → tick c ≡ record c { transmitter = transmitter.tick false c.transmitter; receiver = grow_idle c.receiver }
+tick-still : (c : ChipState) → is_loopback c.latches ≡ false → tick c ≡ record c { transmitter = transmitter.tick false c.transmitter; receiver = grow_timeout c.receiver }
 tick-still c e = ap (λ (b : Bool). record c { transmitter = transmitter.tick b c.transmitter; receiver = receiver.tick c.fifo (looped_byte b c.transmitter.shift_place) c.receiver }) e
 
 pub went-tick : (x : Modes) (c : ChipState) → loopback x ≡ false → IsSoundChip c → IsIn x c → Went x c (tick c) [] [] [] []
 went-tick x c l s w = rw (tick-still c (loopback-in x c w ∙ l)) (record {
   modes = record { lcr = w.lcr; mcr = w.mcr; fifo = w.fifo };
   sends = sends-tick c.transmitter;
-  receives = receives-still x.fifo c.receiver (grow_idle c.receiver) (marked-in x c s w) (record { queue = refl; marks = refl; stray = refl; arrived = refl }) refl;
-  reports = reports-same x.fifo c.receiver (grow_idle c.receiver) refl refl refl;
+  receives = receives-still x.fifo c.receiver (grow_timeout c.receiver) (marked-in x c s w) (record { queue = refl; marks = refl; stray = refl; arrived = refl }) refl;
+  reports = reports-same x.fifo c.receiver (grow_timeout c.receiver) refl refl refl;
   turns = turns-refl c.modem;
 })
 

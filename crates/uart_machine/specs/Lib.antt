@@ -3,6 +3,7 @@ pub mod Transmitter
 pub mod Receiver
 pub mod Modem
 pub mod Chip
+pub mod Jumps
 pub mod Machine
 pub mod Sound
 pub mod Build

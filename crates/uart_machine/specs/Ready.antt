@@ -16,6 +16,7 @@ use Rattle.uart_machine.specs.declared.event.Chip.{Chip}
 use Rattle.uart_machine.specs.declared.event.Chip.TheVariants.{Uart16550A, Uart16450}
 use Rattle.uart_machine.specs.Registers.{ier_bits}
 use Rattle.uart_machine.specs.Chip.{is_dlab_set, is_loopback, is_transmitter_empty, divisor}
+use Rattle.uart_machine.specs.Machine.{MachineState}
 use Rattle.uart_machine.specs.Run.{State, machine_of}
 use Rattle.uart_machine.specs.Served.{transmitter_of, IsFlushed}
 
@@ -28,6 +29,10 @@ pub record Ready (s : State) : Type 0 where
   pub dlab : is_dlab_set (latches_of s) ≡ false
   pub loopback : is_loopback (latches_of s) ≡ false
   pub fifo : (machine_of s).chip.fifo ≡ (fields (inner_of s)).fifo
+
+-- with the driver as it is, the second machine is ready where the first is
+abbrev pub KeepsReady : MachineState → MachineState → Type 0
+KeepsReady m n = (s t : State) → machine_of s ≡ m → machine_of t ≡ n → fields (inner_of t) ≡ fields (inner_of s) → Ready s → Ready t
 
 -- ---- after an `init`
 

@@ -14,8 +14,8 @@ pub record ReceiverState : Type 0 where
   pub is_overrun : Bool
   pub is_front_reported : Bool
   pub last_byte : ℕ
-  pub idle_ticks : ℕ
-  pub idle_limit : ℕ
+  pub timeout_ticks : ℕ
+  pub timeout_limit : ℕ
   pub trigger : ℕ
   pub arrived : ℕ
   pub marks : List ArrivalMark
@@ -29,8 +29,8 @@ fresh char_ticks arrivals =
       is_overrun = false;
       is_front_reported = false;
       last_byte = 0;
-      idle_ticks = 0;
-      idle_limit = 4 * char_ticks;
+      timeout_ticks = 0;
+      timeout_limit = 4 * char_ticks;
       trigger = 1;
       arrived = 0;
       marks = replicate arrivals Pending;
@@ -59,7 +59,7 @@ replace (old ∷ others) new r =
       queue = new ∷ [];
       is_overrun = true;
       is_front_reported = false;
-      idle_ticks = 0;
+      timeout_ticks = 0;
       marks = set_mark new.origin Waiting (set_mark old.origin Dropped r.marks);
       is_stray_lost = if is_looped new.origin then false else if is_looped old.origin then true else r.is_stray_lost;
     }
@@ -71,14 +71,14 @@ come_in fifo new r =
     then record r {
       queue = r.queue ++ new ∷ [];
       is_front_reported = if length r.queue == 0 then false else r.is_front_reported;
-      idle_ticks = 0;
+      timeout_ticks = 0;
       marks = set_mark new.origin Waiting r.marks;
       is_stray_lost = if is_looped new.origin then false else r.is_stray_lost;
     }
     else if fifo
     then record r {
       is_overrun = true;
-      idle_ticks = 0;
+      timeout_ticks = 0;
       marks = set_mark new.origin Dropped r.marks;
       is_stray_lost = if is_looped new.origin then false else r.is_stray_lost;
     }
@@ -90,12 +90,12 @@ come_back fifo None r = r
 come_back fifo (Some byte) r = come_in fifo (record { byte = byte; errors = 0; origin = Looped }) r
 
 -- one more tick without a character
-abbrev pub grow_idle : ReceiverState → ReceiverState
-grow_idle r = record r { idle_ticks = min (r.idle_ticks + 1) r.idle_limit }
+abbrev pub grow_timeout : ReceiverState → ReceiverState
+grow_timeout r = record r { timeout_ticks = min (r.timeout_ticks + 1) r.timeout_limit }
 
 -- one tick, with the byte that came back in it
 abbrev pub tick : Bool → Option ℕ → ReceiverState → ReceiverState
-tick fifo looped r = grow_idle (come_back fifo looped r)
+tick fifo looped r = grow_timeout (come_back fifo looped r)
 
 -- the next arrival of the schedule: in loopback it is discarded, else it comes in
 abbrev pub arrive : Bool → Bool → ℕ → ℕ → ReceiverState → ReceiverState
@@ -111,7 +111,7 @@ take_front (front ∷ others) r =
     record r {
       queue = others;
       is_front_reported = false;
-      idle_ticks = 0;
+      timeout_ticks = 0;
       last_byte = front.byte;
       marks = set_mark front.origin Read r.marks;
     }
@@ -148,7 +148,7 @@ is_data_pending fifo r = if fifo then nat_le r.trigger (length r.queue) else nat
 
 -- characters wait in the FIFO, and none came or was taken for four character times
 abbrev pub is_timed_out : Bool → ReceiverState → Bool
-is_timed_out fifo r = fifo && (nat_lt 0 (length r.queue) && (r.idle_ticks == r.idle_limit))
+is_timed_out fifo r = fifo && (nat_lt 0 (length r.queue) && (r.timeout_ticks == r.timeout_limit))
 
 -- the bytes that wait to be read
 abbrev pub waiting : ReceiverState → List ℕ

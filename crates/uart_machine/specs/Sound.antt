@@ -73,7 +73,7 @@ pub record IsSoundReceiver (fifo : Bool) (r : ReceiverState) : Type 0 where
   pub no_other : (number : ℕ) → NoneIs number r.queue → mark_at r.marks number ≢ Waiting
   pub legal : AllErrorsLegal r.queue
   pub levels : IsTrigger r.trigger
-  pub idle : r.idle_ticks ≤ r.idle_limit
+  pub idle : r.timeout_ticks ≤ r.timeout_limit
 
 -- ---- the transmitter, the modem lines and the latches
 
@@ -119,7 +119,7 @@ pub record IsSoundChip (c : ChipState) : Type 0 where
   pub modem : IsSoundModem c.modem
   pub latches : IsSoundLatches c.latches
   pub implemented : c.fifo ≡ true → c.model ≡ Uart16550A
-  pub limit : c.receiver.idle_limit ≡ 4 * c.transmitter.char_ticks
+  pub limit : c.receiver.timeout_limit ≡ 4 * c.transmitter.char_ticks
 
 -- the events keep to the bits that they may have
 abbrev pub AllLegal : List Event → Type 0

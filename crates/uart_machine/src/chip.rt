@@ -2,6 +2,7 @@
 ghost use Rattle.std.specs.Prelude.{◌≡◌, ◌<◌, ◌≤◌, ◌+◌, [], ◌∷◌, length, IfOk};
 ghost use Rattle.uart_machine.specs.Chip as spec;
 ghost use Rattle.uart_machine.specs.Machine.{arrivals, perform};
+ghost use Rattle.uart_machine.specs.Jumps.{skip, moves};
 
 use crate::event::{Chip, Event};
 use crate::modem::Modem;
@@ -134,12 +135,37 @@ impl Uart {
         self.receiver.tick(self.fifo, looped);
     }
 
-    fn ticks(&mut self, n: u16)
-        ensures { self.new ≡ spec.ticks n self.old }
+    // Ticks in which no character leaves the shift place and none enters it.
+    fn skip(&mut self, ticks: u16)
+        ensures { self.new ≡ skip ticks self.old }
     {
-        for _i in 0..n {
-            self.tick();
+        self.transmitter.count_down(ticks);
+        self.receiver.count_up(ticks);
+    }
+
+    /// Lets `n` ticks pass, and returns in how many turns. A turn goes on to the tick in which a character leaves the shift
+    /// place or enters it, or over all that is left if none does. So its cost does not grow with the number of ticks.
+    pub fn ticks(&mut self, n: u16) -> usize
+        ensures after { self.new ≡ spec.ticks n self.old }
+        ensures turns { result ≤ moves self.old.transmitter + 1 }
+    {
+        let mut left = n;
+        let mut turns = 0;
+        while left > 0 {
+            match self.transmitter.next_move(self.is_loopback()) {
+                Some(ticks) if ticks <= left => {
+                    self.skip(ticks - 1);
+                    self.tick();
+                    left -= ticks;
+                }
+                _ => {
+                    self.skip(left);
+                    left = 0;
+                }
+            }
+            turns += 1;
         }
+        turns
     }
 
     fn arrive(&mut self, byte: u8, errors: u8)
@@ -163,7 +189,9 @@ impl Uart {
         ensures { self.new ≡ perform event self.old }
     {
         match event {
-            Event::Ticks(n) => self.ticks(n),
+            Event::Ticks(n) => {
+                self.ticks(n);
+            }
             Event::Arrive { byte, errors } => self.arrive(byte, errors),
             Event::Lines(inputs) => self.change_lines(inputs),
             Event::Access | Event::Mark => {}

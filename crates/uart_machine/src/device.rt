@@ -1,11 +1,13 @@
 //! The chip under a schedule.
-ghost use Rattle.std.specs.Prelude.{◌≡◌, length, slice_get, IfOk, IsOkUnless};
+ghost use Rattle.std.specs.Prelude.{◌≡◌, ◌≤◌, length, slice_get, IfOk, IsOkUnless};
 ghost use Rattle.uart_machine.specs.Machine as spec;
 ghost use Rattle.uart_machine.specs.Build.{refusal};
 ghost use Rattle.uart_machine.specs.Sound.{IsWhole};
 ghost use Rattle.uart_machine.specs.Transmitter.{held};
 ghost use Rattle.uart_machine.specs.Conserved.{waiting};
-ghost use Rattle.uart_machine.specs.Chip.{divisor};
+ghost use Rattle.uart_machine.specs.Chip.{divisor, ticks};
+ghost use Rattle.uart_machine.specs.Jumps.{most_turns};
+ghost use Rattle.uart_machine.specs.Ready.{KeepsReady};
 ghost use Rattle.uart_machine.specs.declared.event.BuildError.{BuildError};
 
 use crate::chip::Uart;
@@ -144,6 +146,19 @@ impl Device16550 {
         ensures { result ≡ self.now.chip.transmitter.overflows }
     {
         self.uart.transmitter().overflows()
+    }
+
+    /// Lets `n` ticks pass outside of the schedule, which stays as it is, and so does the place in it.
+    ///
+    /// Returns in how many turns they passed. A turn goes on to the tick in which a character leaves the shift place or enters
+    /// it, or over all that is left if none does. There are at most 18, whatever `n` is: no turn if `n` is 0, and one if `n`
+    /// is 1.
+    pub fn idle(&mut self, n: u16) -> usize
+        ensures after { self.new ≡ record self.old { chip = ticks n self.old.chip } }
+        ensures turns { result ≤ most_turns }
+        ensures ready { KeepsReady self.old self.new }
+    {
+        self.uart.ticks(n)
     }
 
     // Performs the events that come before an access.

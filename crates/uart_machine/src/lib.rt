@@ -9,6 +9,7 @@ mod chip;
 mod device;
 mod event;
 mod modem;
+mod queue;
 mod receiver;
 mod registers;
 mod running;

@@ -3,13 +3,15 @@ ghost use Rattle.std.specs.Prelude.{◌≡◌, ◌==◌, ◌<◌, ◌≤◌, len
 ghost use Rattle.std.specs.List.{list_any};
 ghost use Rattle.uart_machine.specs.Receiver as spec;
 ghost use Rattle.uart_machine.specs.Receiver.{unreported, has_errors, front_errors, waiting};
+ghost use Rattle.uart_machine.specs.Jumps.{count_up};
 
 use crate::event::ArrivalMark;
+use crate::queue::{put, room_of};
 use crate::registers::{LSR_CHARACTER_ERRORS, has_any};
-use crate::transmitter::room_of;
-use arrayvec::ArrayVec;
+use circular_buffer::HeapCircularBuffer;
 use std::alloc::{AllocError, Global};
 use std::marker::Model;
+use uart_spec::FIFO_SIZE;
 
 /// Where a character comes from: it is an arrival of the schedule, or it came back in loopback.
 #[derive(Clone, Copy, Default)]
@@ -30,12 +32,12 @@ pub struct Character {
 /// What receives: characters wait in the queue for a read of the data register.
 #[derive(Drop)]
 pub struct Receiver {
-    queue: ArrayVec<Character, 16>,
+    queue: HeapCircularBuffer<Character>,
     is_overrun: bool,
     is_front_reported: bool,
     last_byte: u8,
-    idle_ticks: u16,
-    idle_limit: u16,
+    timeout_ticks: u16,
+    timeout_limit: u16,
     trigger: usize,
     arrived: usize,
     marks: Vec<ArrivalMark>,
@@ -43,14 +45,15 @@ pub struct Receiver {
 }
 
 impl Model for Receiver {
-    ghost use Rattle.std.specs.Prelude.{◌≡◌, ◌≤◌, length};
+    ghost use Rattle.std.specs.Prelude.{◌≡◌, true};
     ghost use Rattle.uart_machine.specs.Receiver.{ReceiverState};
+    ghost use Rattle.uart_machine.specs.Transmitter.{room};
 
     ghost Value = { ReceiverState };
 
-    ghost view = { λ r. record { queue = r.queue.items; is_overrun = r.is_overrun; is_front_reported = r.is_front_reported; last_byte = r.last_byte; idle_ticks = r.idle_ticks; idle_limit = r.idle_limit; trigger = r.trigger; arrived = r.arrived; marks = r.marks.items; is_stray_lost = r.is_stray_lost } };
+    ghost view = { λ r. record { queue = r.queue.items; is_overrun = r.is_overrun; is_front_reported = r.is_front_reported; last_byte = r.last_byte; timeout_ticks = r.timeout_ticks; timeout_limit = r.timeout_limit; trigger = r.trigger; arrived = r.arrived; marks = r.marks.items; is_stray_lost = r.is_stray_lost } };
 
-    ghost invariant = { λ r. length r.queue.items ≤ 16 };
+    ghost invariant = { λ r. r.queue.capacity ≡ room true };
 }
 
 impl Origin {
@@ -76,38 +79,33 @@ fn set_mark(marks: &mut Vec<ArrivalMark>, origin: Origin, mark: ArrivalMark)
 }
 
 // Marks the characters that a reset throws away.
-fn discard(characters: &[Character], marks: &mut Vec<ArrivalMark>)
-    ensures { marks.new.items ≡ spec.discard characters.now marks.old.items }
+fn discard(characters: &HeapCircularBuffer<Character>, marks: &mut Vec<ArrivalMark>)
+    ensures { marks.new.items ≡ spec.discard characters.now.items marks.old.items }
 {
     for character in characters {
         set_mark(marks, character.origin, ArrivalMark::Discarded);
     }
 }
 
-// Some of these characters has errors.
-fn any_errors(characters: &[Character]) -> bool
-    ensures { result ≡ list_any has_errors characters.now }
-{
-    characters.iter().any(|character| has_any(character.errors, LSR_CHARACTER_ERRORS))
-}
-
 impl Receiver {
-    /// A receiver to which nothing has come yet, with so many arrivals to come. The marks' memory is reserved here.
+    /// A receiver to which nothing has come yet, with this many arrivals to come. The memory of its queue and of the marks is
+    /// reserved here.
     pub fn new(alloc: Global, char_ticks: u16, arrivals: usize) -> Result<Self, AllocError>
         requires { char_ticks ≤ 1000 }
         ensures { IfOk result (λ r. r ≡ spec.fresh char_ticks arrivals) }
     {
+        let queue = HeapCircularBuffer::with_capacity(alloc, FIFO_SIZE)?;
         let mut marks = Vec::with_capacity(alloc, arrivals)?;
         for _ in 0..arrivals {
             marks.push(ArrivalMark::Pending)?;
         }
         Ok(Self {
-            queue: ArrayVec::new(),
+            queue,
             is_overrun: false,
             is_front_reported: false,
             last_byte: 0,
-            idle_ticks: 0,
-            idle_limit: 4 * char_ticks,
+            timeout_ticks: 0,
+            timeout_limit: 4 * char_ticks,
             trigger: 1,
             arrived: 0,
             marks,
@@ -123,7 +121,7 @@ impl Receiver {
             if self.queue.is_empty() {
                 self.is_front_reported = false;
             }
-            self.queue.push(new);
+            put(&mut self.queue, new);
             set_mark(&mut self.marks, new.origin, ArrivalMark::Waiting);
         } else if fifo {
             self.is_overrun = true;
@@ -132,7 +130,7 @@ impl Receiver {
             self.replace(new);
             return;
         }
-        self.idle_ticks = 0;
+        self.timeout_ticks = 0;
         if new.origin.is_looped() {
             self.is_stray_lost = false;
         }
@@ -142,15 +140,14 @@ impl Receiver {
     fn replace(&mut self, new: Character)
         ensures { self.new ≡ spec.replace self.old.queue new self.old }
     {
-        if self.queue.is_empty() {
+        let Some(old) = self.queue.pop_front() else {
             return;
-        }
-        let old = self.queue.remove(0);
+        };
         self.queue.clear();
-        self.queue.push(new);
+        put(&mut self.queue, new);
         self.is_overrun = true;
         self.is_front_reported = false;
-        self.idle_ticks = 0;
+        self.timeout_ticks = 0;
         set_mark(&mut self.marks, old.origin, ArrivalMark::Dropped);
         set_mark(&mut self.marks, new.origin, ArrivalMark::Waiting);
         if new.origin.is_looped() {
@@ -174,7 +171,19 @@ impl Receiver {
                 },
             );
         }
-        self.idle_ticks = self.idle_ticks.saturating_add(1).min(self.idle_limit);
+        self.timeout_ticks = self.timeout_ticks.saturating_add(1).min(self.timeout_limit);
+    }
+
+    /// Ticks in which no character comes in and none is taken.
+    pub fn count_up(&mut self, ticks: u16)
+        ensures { self.new ≡ count_up ticks self.old }
+    {
+        if ticks > 0 {
+            self.timeout_ticks = self
+                .timeout_ticks
+                .saturating_add(ticks)
+                .min(self.timeout_limit);
+        }
     }
 
     /// The next arrival of the schedule.
@@ -203,10 +212,9 @@ impl Receiver {
         ensures after { self.new ≡ spec.take_front self.old.queue self.old }
         ensures byte { result ≡ self.new.last_byte }
     {
-        if !self.queue.is_empty() {
-            let front = self.queue.remove(0);
+        if let Some(front) = self.queue.pop_front() {
             self.is_front_reported = false;
-            self.idle_ticks = 0;
+            self.timeout_ticks = 0;
             self.last_byte = front.byte;
             set_mark(&mut self.marks, front.origin, ArrivalMark::Read);
         }
@@ -227,7 +235,7 @@ impl Receiver {
     pub fn clear(&mut self)
         ensures { self.new ≡ spec.clear self.old }
     {
-        discard(self.queue.as_slice(), &mut self.marks);
+        discard(&self.queue, &mut self.marks);
         self.queue.clear();
     }
 
@@ -253,10 +261,9 @@ impl Receiver {
     pub fn front_errors(&self) -> u8
         ensures { result ≡ front_errors self.now.queue self.now.is_front_reported }
     {
-        if self.queue.is_empty() || self.is_front_reported {
-            0
-        } else {
-            self.queue[0].errors & LSR_CHARACTER_ERRORS
+        match self.queue.front() {
+            Some(front) if !self.is_front_reported => front.errors & LSR_CHARACTER_ERRORS,
+            _ => 0,
         }
     }
 
@@ -264,14 +271,11 @@ impl Receiver {
     pub fn has_unreported_errors(&self) -> bool
         ensures { result ≡ list_any has_errors (unreported self.now.queue self.now.is_front_reported) }
     {
-        let queue = self.queue.as_slice();
-        if !self.is_front_reported {
-            return any_errors(queue);
+        let mut characters = self.queue.iter();
+        if self.is_front_reported {
+            characters.next();
         }
-        match queue {
-            [] => false,
-            [_, others @ ..] => any_errors(others),
-        }
+        characters.any(|character| has_any(character.errors, LSR_CHARACTER_ERRORS))
     }
 
     /// As many characters wait as the trigger says, or any without FIFO.
@@ -289,7 +293,7 @@ impl Receiver {
     pub fn is_timed_out(&self, fifo: bool) -> bool
         ensures { result ≡ spec.is_timed_out fifo self.now }
     {
-        fifo && !self.queue.is_empty() && self.idle_ticks == self.idle_limit
+        fifo && !self.queue.is_empty() && self.timeout_ticks == self.timeout_limit
     }
 
     pub fn waiting_len(&self) -> usize

@@ -3,10 +3,13 @@ ghost use Rattle.std.specs.Prelude.{◌≡◌, ◌==◌, ◌<◌, ◌≤◌, [],
 ghost use Rattle.uart_machine.specs.Transmitter as spec;
 ghost use Rattle.uart_machine.specs.Transmitter.{room, looped_byte, held};
 ghost use Rattle.uart_machine.specs.Chip.{is_transmitter_empty};
+ghost use Rattle.uart_machine.specs.Jumps.{next_move, count_down};
 
-use arrayvec::ArrayVec;
+use crate::queue::{put, room_of};
+use circular_buffer::HeapCircularBuffer;
 use std::alloc::{AllocError, Global};
 use std::marker::Model;
+use uart_spec::FIFO_SIZE;
 
 /// The character that is being shifted out, and the ticks that it still takes.
 #[derive(Clone, Copy)]
@@ -18,7 +21,7 @@ pub struct Shifting {
 /// What sends: bytes written to the data register wait in the queue, one is shifted out, and then it is on the wire.
 #[derive(Drop)]
 pub struct Transmitter {
-    queue: ArrayVec<u8, 16>,
+    queue: HeapCircularBuffer<u8>,
     shift_place: Option<Shifting>,
     wire: Vec<u8>,
     capacity: usize,
@@ -28,31 +31,25 @@ pub struct Transmitter {
 }
 
 impl Model for Transmitter {
-    ghost use Rattle.std.specs.Prelude.{◌≡◌, ◌≤◌, length, vec_len, vec_capacity};
-    ghost use Rattle.uart_machine.specs.Transmitter.{TransmitterState};
+    ghost use Rattle.std.specs.Prelude.{◌≡◌, ◌≤◌, true, vec_capacity};
+    ghost use Rattle.uart_machine.specs.Transmitter.{TransmitterState, room};
 
     ghost Value = { TransmitterState };
 
     ghost view = { λ t. record { queue = t.queue.items; shift_place = t.shift_place; wire = t.wire.items; capacity = t.capacity; char_ticks = t.char_ticks; overflows = t.overflows; is_thr_pending = t.is_thr_pending } };
 
-    ghost invariant = { λ t. (length t.queue.items ≤ 16) × (t.capacity ≤ vec_capacity t.wire) };
-}
-
-/// How many characters a queue has room for.
-pub fn room_of(fifo: bool) -> usize
-    ensures { result ≡ room fifo }
-{
-    if fifo { 16 } else { 1 }
+    ghost invariant = { λ t. (t.queue.capacity ≡ room true) × (t.capacity ≤ vec_capacity t.wire) };
 }
 
 impl Transmitter {
-    /// A transmitter that has sent nothing yet. The wire's memory is reserved here.
+    /// A transmitter that has sent nothing yet. The memory of its queue and of the wire is reserved here.
     pub fn new(alloc: Global, char_ticks: u16, capacity: usize) -> Result<Self, AllocError>
         ensures { IfOk result (λ t. t ≡ spec.fresh char_ticks capacity) }
     {
+        let queue = HeapCircularBuffer::with_capacity(alloc, FIFO_SIZE)?;
         let wire = Vec::with_capacity(alloc, capacity)?;
         Ok(Self {
-            queue: ArrayVec::new(),
+            queue,
             shift_place: None,
             wire,
             capacity,
@@ -92,8 +89,10 @@ impl Transmitter {
     fn refill(&mut self)
         ensures { self.new ≡ spec.refill self.old.shift_place self.old.queue self.old }
     {
-        if self.shift_place.is_none() && !self.queue.is_empty() {
-            let byte = self.queue.remove(0);
+        if self.shift_place.is_some() {
+            return;
+        }
+        if let Some(byte) = self.queue.pop_front() {
             self.shift_place = Some(Shifting {
                 byte,
                 ticks_left: self.char_ticks,
@@ -114,16 +113,47 @@ impl Transmitter {
         looped
     }
 
+    /// The ticks until a character leaves the shift place or enters it: `None` if none can, as with a full wire.
+    pub fn next_move(&self, loopback: bool) -> Option<u16>
+        ensures { result ≡ next_move loopback self.now }
+    {
+        match self.shift_place {
+            None if self.queue.is_empty() => None,
+            None => Some(1),
+            Some(shifting) if loopback || self.wire.len() < self.capacity => {
+                Some(shifting.ticks_left.max(1))
+            }
+            Some(_) => None,
+        }
+    }
+
+    /// Ticks in which no character leaves the shift place and none enters it.
+    pub fn count_down(&mut self, ticks: u16)
+        ensures { self.new ≡ count_down ticks self.old }
+    {
+        if let Some(shifting) = self.shift_place {
+            let ticks_left = if ticks < shifting.ticks_left {
+                shifting.ticks_left - ticks
+            } else {
+                shifting.ticks_left.min(1)
+            };
+            self.shift_place = Some(Shifting {
+                byte: shifting.byte,
+                ticks_left,
+            });
+        }
+    }
+
     /// Takes a byte from the data register.
     pub fn load(&mut self, fifo: bool, byte: u8)
         ensures { self.new ≡ spec.load fifo byte self.old }
     {
         if self.queue.len() < room_of(fifo) {
-            self.queue.push(byte);
+            put(&mut self.queue, byte);
         } else {
             if !fifo {
                 self.queue.clear();
-                self.queue.push(byte);
+                put(&mut self.queue, byte);
             }
             self.overflows = self.overflows.saturating_add(1);
         }
