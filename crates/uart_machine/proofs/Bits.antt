@@ -1,17 +1,28 @@
 -- Bits of registers that are put together.
-use Rattle.std.proofs.Common.{◌≡◌, ℕ, zero, suc, ◌*◌, ◌^◌, ◌<◌, max, min, Bool, true, false, not, ◌==◌, ◌||◌, ◌&&◌, refl, arith, sym, ◌∙◌, ap, bit_and, bit_or}
+use Rattle.std.proofs.Common.{◌≡◌, ℕ, zero, suc, ◌*◌, ◌%◌, ◌^◌, ◌<◌, max, min, Bool, true, false, not, ◌==◌, ◌||◌, ◌&&◌, refl, arith, sym, ◌∙◌, ap, bit_and, bit_or, ◌+◌}
 use Rattle.std.proofs.lemmas.Grind.{common_steps}
 use Rattle.std.specs.Int.{bit_at}
 use Rattle.std.proofs.lemmas.Nat.Bits.{same_from_bits, bit_at_or, bit_at_and, and_pow, bit_at-lt}
 use Rattle.std.proofs.lemmas.Nat.{pow_pos}
 use Rattle.std.specs.Int.Bits.{and_zero_l}
-use Rattle.uart_spec.specs.Bits.{has}
-use Rattle.uart_machine.specs.Registers.{has_any, flag}
+use lib.Bits.{or_zero_r}
+use Rattle.uart_spec.specs.Bits.{has, field}
+use Rattle.uart_machine.specs.Registers.{has_any, flag, lcr_dlab, lcr_word_length}
+use Rattle.uart_machine.specs.Chip.{word_length, cut_to}
 
 -- ---- joins
 
 pub or_assoc : (a b c : ℕ) → bit_or (bit_or a b) c ≡ bit_or a (bit_or b c)
 or_assoc a b c = same_from_bits _ _ (λ i. rw (bit_at_or (bit_or a b) c i, bit_at_or a b i, bit_at_or a (bit_or b c) i, bit_at_or b c i) (omega arith))
+
+-- a mask of a join
+pub and_or : (a b mask : ℕ) → bit_and (bit_or a b) mask ≡ bit_or (bit_and a mask) (bit_and b mask)
+and_or a b mask =
+    same_from_bits _ _ (λ i. rw (bit_at_and (bit_or a b) mask i, bit_at_or a b i, bit_at_or (bit_and a mask) (bit_and b mask) i, bit_at_and a mask i, bit_at_and b mask i) (omega arith))
+
+-- the divisor latch has nothing to do with the word length
+pub word_same : (lcr : ℕ) → word_length (bit_or lcr lcr_dlab) ≡ word_length lcr
+word_same lcr = ap (λ (more : ℕ). 5 + more) (and_or lcr lcr_dlab lcr_word_length ∙ or_zero_r (bit_and lcr lcr_word_length))
 
 -- ---- one bit
 
@@ -73,3 +84,13 @@ has_none k = ap (λ v. not (v == 0)) (and_zero_l (2 ^ k))
 pub has_flag : (b : Bool) (bits mask : ℕ) → has_any (flag b bits) mask ≡ (b && has_any bits mask)
 has_flag true bits mask = refl
 has_flag false bits mask = ap (λ v. not (v == 0)) (and_zero_l mask)
+
+-- ---- the word length
+
+field_bits : (value : ℕ) → field 0 2 value ≡ bit_and value lcr_word_length
+field_bits value = grind (arith, common_steps)
+
+-- with this code in LCR a byte is cut so
+pub cut_with : (cuts : Bool) (lcr code byte : ℕ) → cuts ≡ true → field 0 2 lcr ≡ code → byte % 2 ^ (5 + code) ≡ cut_to cuts (word_length lcr) byte
+cut_with cuts lcr code byte on e =
+    sym (ap (λ (b : Bool). cut_to b (word_length lcr) byte) on ∙ ap (λ (more : ℕ). byte % 2 ^ (5 + more)) (sym (field_bits lcr) ∙ e))

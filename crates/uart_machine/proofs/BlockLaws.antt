@@ -7,14 +7,14 @@ use Rattle.uart_16550.specs.Access.{Access, Read, Write, Path}
 use Rattle.uart_machine.specs.Registers.{has_any}
 use Rattle.uart_machine.specs.Transmitter.{room}
 use Rattle.uart_machine.specs.Receiver.{report}
-use Rattle.uart_machine.specs.Chip.{line_status, after_read, after_write}
+use Rattle.uart_machine.specs.Chip.{word_length, line_status, after_read, after_write}
 use Rattle.uart_machine.specs.Machine.{MachineState, MachineStep, at_access}
 use Rattle.uart_machine.specs.Sound.{IsSound}
-use Rattle.uart_machine.proofs.Bits.{has_or}
+use Rattle.uart_machine.proofs.Bits.{has_or, word_same}
 use Rattle.uart_machine.proofs.Status.{status_room, status_data}
 use Rattle.uart_machine.proofs.Sounds.{sound_access, sound_read, sound_write}
 use Rattle.uart_machine.proofs.Blocks.{is_quiet, Block, Look, Hit, Burst, Other, Divisor, accesses_of, AllQuiet, IsFit, AllFit, flat, written_in, read_in, data_written, data_read}
-use Rattle.uart_machine.proofs.Went.{Modes, IsIn, dlab, loopback, Went}
+use Rattle.uart_machine.proofs.Went.{Modes, IsIn, fixed, dlab, loopback, Went}
 use Rattle.uart_machine.proofs.Reports.{IsReported, report_reported}
 use Rattle.uart_machine.proofs.Effects.{went-look, went-send, TookFront, went-take, went-read_latch, went-write_lcr, went-read_1, went-quiet_read, went-quiet_write}
 use Rattle.uart_machine.proofs.Passed.{Passed, passed-refl, passed-trans, passed-access, passed-effect}
@@ -50,7 +50,7 @@ passed_read x m n offset value ts l w s effect =
     passed-effect x x m n (after_read offset (at_access m).chip) (Read offset value) [] ts l refl w.sound w.modes s.0 (sound_read offset (at_access m) (sound_access m w.sound)) effect
 
 -- a write, which may change the modes
-passed_write : (x y : Modes) (m n : MachineState) (offset value : ℕ) (ws : List ℕ) → loopback x ≡ false → y.fifo ≡ x.fifo → Stands x m → MachineStep m (Write offset value) n →
+passed_write : (x y : Modes) (m n : MachineState) (offset value : ℕ) (ws : List ℕ) → loopback x ≡ false → fixed y ≡ fixed x → Stands x m → MachineStep m (Write offset value) n →
     (Passed x m (at_access m) [] [] [] → Went y (at_access m).chip (after_write offset value (at_access m).chip) [] (Write offset value ∷ []) ws []) → Passed y m n (Write offset value ∷ []) ws []
 passed_write x y m n offset value ws l same w s effect =
     passed-effect x y m n (after_write offset value (at_access m).chip) (Write offset value) ws [] l same w.sound w.modes s (sound_write offset value (at_access m) (sound_access m w.sound)) effect
@@ -164,13 +164,13 @@ passed_divisor x m n lcr low high o w (m₁, s₁, (m₂, s₂, (m₃, s₃, (m�
     let same : lcr ≡ x.lcr = s₁.1 ∙ (sym (ap (λ (n : MachineState). n.chip.latches.lcr) s₁.0) ∙ a.went.modes.lcr) in
     let on : dlab y ≡ true = has_or 7 lcr 128 ∙ grind (arith, common_steps) in
     let b : Passed y m₁ m₂ (Write 3 (bit_or lcr 128) ∷ []) [] [] =
-    passed_write x y m₁ m₂ 3 (bit_or lcr 128) [] o.loopback refl (stands-after x m m₁ _ _ _ a) s₂ (λ p. went-write_lcr x (at_access m₁).chip (bit_or lcr 128) p.sound.chip p.went.modes) in
+    passed_write x y m₁ m₂ 3 (bit_or lcr 128) [] o.loopback refl (stands-after x m m₁ _ _ _ a) s₂ (λ p. went-write_lcr x (at_access m₁).chip (bit_or lcr 128) p.sound.chip p.went.modes (word_same lcr ∙ ap word_length (same ∙ sym p.went.modes.lcr))) in
     let c : Passed y m₂ m₃ (Read 0 low ∷ []) [] [] =
     passed_read y m₂ m₃ 0 low [] o.loopback (stands-after y m₁ m₂ _ _ _ b) s₃ (λ p. went-read_latch y (at_access m₂).chip low on p.sound.chip p.went.modes) in
     let d : Passed y m₃ m₄ (Read 1 high ∷ []) [] [] =
     passed_read y m₃ m₄ 1 high [] o.loopback (stands-after y m₂ m₃ _ _ _ c) s₄ (λ p. went-read_1 y (at_access m₃).chip high p.sound.chip p.went.modes) in
     let f : Passed z m₄ m₅ (Write 3 lcr ∷ []) [] [] =
-    passed_write y z m₄ m₅ 3 lcr [] o.loopback refl (stands-after y m₃ m₄ _ _ _ d) s₅ (λ p. went-write_lcr y (at_access m₄).chip lcr p.sound.chip p.went.modes) in
+    passed_write y z m₄ m₅ 3 lcr [] o.loopback refl (stands-after y m₃ m₄ _ _ _ d) s₅ (λ p. went-write_lcr y (at_access m₄).chip lcr p.sound.chip p.went.modes (sym (word_same lcr) ∙ ap word_length (sym p.went.modes.lcr))) in
     let df = passed-trans y z m₃ m₄ m₅ (Read 1 high ∷ []) (Write 3 lcr ∷ []) [] [] [] [] refl d f in
     let cdf = passed-trans y z m₂ m₃ m₅ (Read 0 low ∷ []) (Read 1 high ∷ Write 3 lcr ∷ []) [] [] [] [] refl c df in
     let bcdf = passed-trans y z m₁ m₂ m₅ (Write 3 (bit_or lcr 128) ∷ []) (Read 0 low ∷ Read 1 high ∷ Write 3 lcr ∷ []) [] [] [] [] refl b cdf in

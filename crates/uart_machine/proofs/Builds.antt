@@ -15,7 +15,7 @@ use Rattle.uart_machine.specs.Registers.{lsr_character_errors, msr_lines}
 use Rattle.uart_machine.specs.Receiver.{mark_at}
 use Rattle.uart_machine.specs.Chip as chip
 use Rattle.uart_machine.specs.Chip.{ChipState}
-use Rattle.uart_machine.specs.Machine.{MachineState, arrivals, fresh}
+use Rattle.uart_machine.specs.Machine.{MachineState, arrivals, fresh, cutting}
 use Rattle.uart_machine.specs.Build.{is_arrival, has_bad_errors, has_bad_lines, refusal}
 use Rattle.uart_machine.specs.Sound.{AllLegal, IsWhole}
 
@@ -95,6 +95,30 @@ is_fresh model char_ticks capacity n events seen c p q r =
     let all : n ≡ arrivals events = q ∙ (ap (λ (xs : List Event). count_by is_arrival xs) r ∙ sym (arrivals-count events)) in
     let f : ℕ → MachineState = λ n. record { chip = chip.fresh model char_ticks capacity n; ahead = events } in
     ap (λ (c : ChipState). let m : MachineState = record { chip = c; ahead = events } in m) p ∙ ap f all
+
+-- and with the option
+pub is_cutting : (model : Chip) (char_ticks capacity n : ℕ) (cuts : Bool) (events seen : List Event) (c : ChipState) → c ≡ record (chip.fresh model char_ticks capacity n) { cuts = cuts } →
+    n ≡ count_by is_arrival seen → seen ≡ events → record { chip = c; ahead = events } ≡ cutting cuts (fresh model char_ticks capacity events)
+is_cutting model char_ticks capacity n cuts events seen c p q r =
+    ap (λ (c : ChipState). let m : MachineState = record { chip = c; ahead = events } in m) p ∙
+    ap (λ (m : MachineState). cutting cuts m) (is_fresh model char_ticks capacity n events seen (chip.fresh model char_ticks capacity n) refl q r)
+
+pub whole_cutting : (cuts : Bool) (m : MachineState) → IsWhole m → IsWhole (cutting cuts m)
+whole_cutting cuts m w = record {
+  sound = record {
+    chip = record {
+      receiver = w.sound.chip.receiver;
+      transmitter = w.sound.chip.transmitter;
+      modem = w.sound.chip.modem;
+      latches = w.sound.chip.latches;
+      implemented = w.sound.chip.implemented;
+      limit = w.sound.chip.limit;
+    };
+    foreseen = w.sound.foreseen;
+    legal = w.sound.legal;
+  };
+  bytes = w.bytes;
+}
 
 all_pending : (n k : ℕ) → mark_at (replicate n Pending) k ≡ Pending
 all_pending n k = grind (arith, common_steps, get_or-replicate)

@@ -3,7 +3,7 @@ use Rattle.std.proofs.Common.{◌≡◌, ℕ, Bool, true, false, ◌==◌, nat_l
 use Rattle.uart_16550.specs.Access.{Access, Read, Write, Path}
 use Rattle.uart_machine.specs.declared.transmitter.Shifting.{Shifting}
 use Rattle.uart_machine.specs.Transmitter.{TransmitterState, shift, refill, load, room}
-use Rattle.uart_machine.specs.Chip.{ChipState, is_dlab_set, after_write}
+use Rattle.uart_machine.specs.Chip.{ChipState, cut_of, is_dlab_set, after_write}
 use Rattle.uart_machine.specs.Machine.{MachineState, MachineStep, at_access}
 use Rattle.uart_machine.proofs.Lasting.{Lasts, lasts-read, lasts-write, lasts-before}
 
@@ -50,9 +50,9 @@ module _ (t : TransmitterState) where
       go false e = lasts-write (SamePace t) pace_lasts.in_accesses offset value c e p
       go true e = rw e (latched (is_dlab_set c.latches))
         where
-          latched : (b : Bool) → SamePace t (if b then record c { latches = record c.latches { dll = value } } else record c { transmitter = load c.fifo value c.transmitter }).transmitter
+          latched : (b : Bool) → SamePace t (if b then record c { latches = record c.latches { dll = value } } else record c { transmitter = load c.fifo (cut_of c value) c.transmitter }).transmitter
           latched true = p
-          latched false = load-pace c.fifo value c.transmitter p
+          latched false = load-pace c.fifo (cut_of c value) c.transmitter p
 
   pub same_pace-path : (made : List Access) (m n : MachineState) → SamePace t m.chip.transmitter → Path MachineStep m made n → SamePace t n.chip.transmitter
   same_pace-path [] m n p path = rw path p

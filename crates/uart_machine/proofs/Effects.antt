@@ -7,7 +7,7 @@ use Rattle.uart_16550.specs.Access.{Access, Read, Write, saved_lsr, saved_msr}
 use Rattle.uart_machine.specs.Registers.{has_any}
 use Rattle.uart_machine.specs.Transmitter.{TransmitterState, room, load}
 use Rattle.uart_machine.specs.Receiver.{report, take_front}
-use Rattle.uart_machine.specs.Chip.{ChipState, line_status, interrupt, answer, after_read, after_write}
+use Rattle.uart_machine.specs.Chip.{ChipState, word_length, cut_to, cut_of, line_status, interrupt, answer, after_read, after_write}
 use Rattle.uart_machine.specs.Sound.{IsSoundChip}
 use Rattle.uart_machine.proofs.Bits.{has_and}
 use Rattle.uart_machine.proofs.Status.{status_overrun}
@@ -17,14 +17,14 @@ use Rattle.uart_machine.proofs.Arrivals.{receives-front}
 use Rattle.uart_machine.proofs.Reports.{IsReported, reports-refl, reports-look, reports-front}
 use Rattle.uart_machine.proofs.Turns.{turns-refl, turns-status}
 use Rattle.uart_machine.proofs.Blocks.{is_quiet}
-use Rattle.uart_machine.proofs.Went.{Modes, IsIn, dlab, dlab-in, marked-in, Went}
+use Rattle.uart_machine.proofs.Went.{Modes, IsIn, fixed_in, dlab, dlab-in, marked-in, Went}
 
 -- the same but for what a session doesn't speak of
-went-still : (x : Modes) (c d : ChipState) (access : Access) → IsSoundChip c → IsIn x c → d.latches.lcr ≡ c.latches.lcr → d.latches.mcr ≡ c.latches.mcr → d.fifo ≡ c.fifo →
+went-still : (x : Modes) (c d : ChipState) (access : Access) → IsSoundChip c → IsIn x c → d.latches.lcr ≡ c.latches.lcr → d.latches.mcr ≡ c.latches.mcr → fixed_in d ≡ fixed_in c →
     Sends c.transmitter d.transmitter [] → d.receiver ≡ c.receiver → d.modem ≡ c.modem → saved_lsr (access ∷ []) ≡ 0 → saved_msr (access ∷ []) ≡ 0 →
     Went x c d [] (access ∷ []) [] []
 went-still x c d access s w l m f sends r t no_lsr no_msr = record {
-  modes = record { lcr = l ∙ w.lcr; mcr = m ∙ w.mcr; fifo = f ∙ w.fifo };
+  modes = record { lcr = l ∙ w.lcr; mcr = m ∙ w.mcr; fifo = ap (λ (p : Bool × (ℕ → ℕ)). p.0) f ∙ w.fifo; cut = ap (λ (p : Bool × (ℕ → ℕ)). p.1) f ∙ w.cut };
   sends = sends;
   receives = rw (r, no_lsr) (receives-refl x.fifo c.receiver (marked-in x c s w));
   reports = rw (r, no_lsr) (reports-refl x.fifo c.receiver);
@@ -39,7 +39,7 @@ shows-line line = ap (λ v. has_any v 2) (or_zero_r (bit_and line 30)) ∙ has_a
 
 pub went-look : (x : Modes) (c : ChipState) (line : ℕ) → IsSoundChip c → IsIn x c → line ≡ line_status c → Went x c (after_read 5 c) [] (Read 5 line ∷ []) [] []
 went-look x c line s w e = record {
-  modes = record { lcr = w.lcr; mcr = w.mcr; fifo = w.fifo };
+  modes = record { lcr = w.lcr; mcr = w.mcr; fifo = w.fifo; cut = w.cut };
   sends = sends-refl c.transmitter;
   receives = receives-same x.fifo c.receiver (report c.receiver) _ (marked-in x c s w) (record { queue = refl; marks = refl; stray = refl; arrived = refl })
       (λ h. inl (shown ∙ h)) (λ h. back h);
@@ -59,11 +59,12 @@ went-look x c line s w e = record {
 pub went-send : (x : Modes) (c : ChipState) (byte : ℕ) → dlab x ≡ false → IsSoundChip c → IsIn x c → length c.transmitter.queue < room x.fifo →
     Went x c (after_write 0 byte c) [] (Write 0 byte ∷ []) (byte ∷ []) []
 went-send x c byte off s w free =
-    let e : after_write 0 byte c ≡ record c { transmitter = load c.fifo byte c.transmitter } = rw (dlab-in x c w ∙ off) refl in
-    let f : load c.fifo byte c.transmitter ≡ load x.fifo byte c.transmitter = ap (λ (b : Bool). load b byte c.transmitter) w.fifo in
+    let e : after_write 0 byte c ≡ record c { transmitter = load c.fifo (cut_of c byte) c.transmitter } = rw (dlab-in x c w ∙ off) refl in
+    let f : load c.fifo (cut_of c byte) c.transmitter ≡ load x.fifo (x.cut byte) c.transmitter =
+    ap (λ (b : Bool). load b (cut_of c byte) c.transmitter) w.fifo ∙ ap (λ (g : ℕ → ℕ). load x.fifo (g byte) c.transmitter) w.cut in
     rw e (record {
-      modes = record { lcr = w.lcr; mcr = w.mcr; fifo = w.fifo };
-      sends = subst (λ (t : TransmitterState). Sends c.transmitter t (byte ∷ [])) (sym f) (sends-load x.fifo byte c.transmitter free);
+      modes = record { lcr = w.lcr; mcr = w.mcr; fifo = w.fifo; cut = w.cut };
+      sends = subst (λ (t : TransmitterState). Sends c.transmitter t (x.cut byte ∷ [])) (sym f) (sends-load x.fifo (x.cut byte) c.transmitter free);
       receives = receives-refl x.fifo c.receiver (marked-in x c s w);
       reports = reports-refl x.fifo c.receiver;
       turns = turns-refl c.modem;
@@ -86,7 +87,7 @@ went-take x c byte off s w told b = go c.receiver.queue refl
           front = front;
           is_byte = sym (b ∙ rw (dlab-in x c w ∙ off, e) refl);
           went = rw d (record {
-            modes = record { lcr = w.lcr; mcr = w.mcr; fifo = w.fifo };
+            modes = record { lcr = w.lcr; mcr = w.mcr; fifo = w.fifo; cut = w.cut };
             sends = sends-refl c.transmitter;
             receives = receives-front x.fifo c.receiver front others (marked-in x c s w) e;
             reports = reports-front x.fifo c.receiver front others told e;
@@ -100,10 +101,10 @@ went-read_latch x c low on s w = rw (dlab-in x c w ∙ on) (went-still x c c (Re
 
 -- ---- the other registers
 
--- LCR is written, and the mode with it
-pub went-write_lcr : (x : Modes) (c : ChipState) (value : ℕ) → IsSoundChip c → IsIn x c → Went (record x { lcr = value }) c (after_write 3 value c) [] (Write 3 value ∷ []) [] []
-went-write_lcr x c value s w = record {
-  modes = record { lcr = refl; mcr = w.mcr; fifo = w.fifo };
+-- LCR is written with the same word length, and the mode with it
+pub went-write_lcr : (x : Modes) (c : ChipState) (value : ℕ) → IsSoundChip c → IsIn x c → word_length value ≡ word_length c.latches.lcr → Went (record x { lcr = value }) c (after_write 3 value c) [] (Write 3 value ∷ []) [] []
+went-write_lcr x c value s w same = record {
+  modes = record { lcr = refl; mcr = w.mcr; fifo = w.fifo; cut = ap {B = ℕ → ℕ} (λ (length : ℕ) (byte : ℕ). cut_to c.cuts length byte) same ∙ w.cut };
   sends = sends-refl c.transmitter;
   receives = receives-refl x.fifo c.receiver (marked-in x c s w);
   reports = reports-refl x.fifo c.receiver;
@@ -126,7 +127,7 @@ went-read_3 x c value s w = went-still x c c (Read 3 value) s w refl refl refl (
 
 went-read_6 : (x : Modes) (c : ChipState) (value : ℕ) → IsSoundChip c → IsIn x c → value ≡ answer 6 c → Went x c (after_read 6 c) [] (Read 6 value ∷ []) [] []
 went-read_6 x c value s w e = record {
-  modes = record { lcr = w.lcr; mcr = w.mcr; fifo = w.fifo };
+  modes = record { lcr = w.lcr; mcr = w.mcr; fifo = w.fifo; cut = w.cut };
   sends = sends-refl c.transmitter;
   receives = receives-refl x.fifo c.receiver (marked-in x c s w);
   reports = reports-refl x.fifo c.receiver;

@@ -75,7 +75,7 @@ checked s l (old, t) = record {
 -- the line and the FIFO
 record Lined (config : Config) (d : ℕ) (on : Bool) (m n : MachineState) : Type 0 where
   pub scr : ℕ
-  pub kept : kept_in n.chip ≡ record { latches = set_up config d m.chip.latches.mcr scr; fifo = on; model = m.chip.model }
+  pub kept : kept_in n.chip ≡ record { latches = set_up config d m.chip.latches.mcr scr; fifo = on; model = m.chip.model; cuts = m.chip.cuts }
   pub is_on : on ≡ (is_level config.fifo_trigger_level && has_fifo m.chip.model)
 
 lined : (config : Config) (d : ℕ) (on : Bool) (s : Settings) (l : List Access) (m n : MachineState) → IsSound m →
@@ -110,7 +110,7 @@ drained f after l m n dlab t p =
 -- the chip is set up, outside of loopback, and the driver takes the FIFO to be as it is
 pub record Begun (config : Config) (d : ℕ) (on : Bool) (m n : MachineState) (after : Fields) : Type 0 where
   pub scr : ℕ
-  pub kept : kept_in n.chip ≡ record { latches = set_up config d 11 scr; fifo = on; model = m.chip.model }
+  pub kept : kept_in n.chip ≡ record { latches = set_up config d 11 scr; fifo = on; model = m.chip.model; cuts = m.chip.cuts }
   pub is_on : on ≡ (is_level config.fifo_trigger_level && has_fifo m.chip.model)
   pub knows : after.fifo ≡ on
 
@@ -129,13 +129,13 @@ begun config d on f after l m n w t p =
     joined : (m₁ m₂ m₃ : MachineState) (g : Fields) → m₁ ≡ m → m₃ ≡ m₂ → Lined config d on m₁ m₂ →
         (is_dlab_set m₃.chip.latches ≡ false → LeftBy (Write 4 11 ∷ []) g after m₃ n) → g.fifo ≡ on → Begun config d on m n after
     joined m₁ m₂ m₃ g same still line rest knows =
-        let set : kept_in m₃.chip ≡ record { latches = set_up config d m₁.chip.latches.mcr line.scr; fifo = on; model = m₁.chip.model } =
+        let set : kept_in m₃.chip ≡ record { latches = set_up config d m₁.chip.latches.mcr line.scr; fifo = on; model = m₁.chip.model; cuts = m₁.chip.cuts } =
         ap (λ (o : MachineState). kept_in o.chip) still ∙ line.kept in
         let last = rest (ap (λ (k : Kept). is_dlab_set k.latches) set ∙ frame-dlab config) in
-        let whole : kept_in n.chip ≡ record { latches = set_up config d 11 line.scr; fifo = on; model = m₁.chip.model } = last.kept ∙ ap (kept_after (Write 4 11 ∷ [])) set in
+        let whole : kept_in n.chip ≡ record { latches = set_up config d 11 line.scr; fifo = on; model = m₁.chip.model; cuts = m₁.chip.cuts } = last.kept ∙ ap (kept_after (Write 4 11 ∷ [])) set in
         record {
           scr = line.scr;
-          kept = whole ∙ ap (λ (o : MachineState). record { latches = set_up config d 11 line.scr; fifo = on; model = o.chip.model }) same;
+          kept = whole ∙ ap (λ (o : MachineState). record { latches = set_up config d 11 line.scr; fifo = on; model = o.chip.model; cuts = o.chip.cuts }) same;
           is_on = line.is_on ∙ ap (λ (o : MachineState). is_level config.fifo_trigger_level && has_fifo o.chip.model) same;
           knows = last.knows ∙ knows;
         }

@@ -9,17 +9,22 @@ use Rattle.uart_16550.specs.Access.{Access, Read, Write, Path}
 use Rattle.uart_16550.specs.Driver.{Fields}
 use Rattle.uart_machine.specs.Registers.{has_any, offset_data, offset_ier, offset_isr, offset_fcr, offset_lcr, offset_mcr, offset_lsr, offset_msr, offset_scr, ier_bits, mcr_bits, isr_thr_empty, fcr_enable, fcr_receiver_reset, fcr_transmitter_reset}
 use Rattle.uart_machine.specs.Receiver.{clear}
-use Rattle.uart_machine.specs.Chip.{ChipState, is_dlab_set, ticks, arrive, change_lines, interrupt, after_read, after_write, trigger_of, switch, reset_receiver, reset_transmitter, set_trigger, is_same, set_fifo, control}
-use Rattle.uart_machine.specs.Machine.{MachineState, MachineStep, before_access, at_access}
+use Rattle.uart_machine.specs.Chip.{ChipState, word_length, cut_to, is_dlab_set, ticks, arrive, change_lines, interrupt, after_read, after_write, trigger_of, switch, reset_receiver, reset_transmitter, set_trigger, is_same, set_fifo, control}
+use Rattle.uart_machine.specs.Machine.{MachineState, MachineStep, before_access, at_access, before_mark, at_mark}
 
--- what is kept until it is written: the latches, and whether the FIFO is on; and the model, which is never written
+-- what is kept until it is written: the latches, and whether the FIFO is on; and the model and the option, which are never written
 pub record Kept : Type 0 where
   pub latches : Latches
   pub fifo : Bool
   pub model : Chip
+  pub cuts : Bool
 
 abbrev pub kept_in : ChipState → Kept
-kept_in c = record { latches = c.latches; fifo = c.fifo; model = c.model }
+kept_in c = record { latches = c.latches; fifo = c.fifo; model = c.model; cuts = c.cuts }
+
+-- how a byte is cut
+abbrev pub kept_cut : Kept → ℕ → ℕ
+kept_cut k byte = cut_to k.cuts (word_length k.latches.lcr) byte
 
 -- what is kept after a write of the FIFO control register
 abbrev pub keep_control : Chip → ℕ → Kept → Kept
@@ -145,3 +150,45 @@ kept_list l made m n is p = kept_path l m n p ∙ ap (λ k. kept_after k (kept_i
 pub record LeftBy (made : List Access) (f after : Fields) (m n : MachineState) : Type 0 where
   pub kept : kept_in n.chip ≡ kept_after made (kept_in m.chip)
   pub knows : after.fifo ≡ f.fifo
+
+-- ---- what no access and no event changes
+
+-- the option
+abbrev pub CutsAs : Bool → MachineState → Type 0
+CutsAs cuts m = m.chip.cuts ≡ cuts
+
+cuts-control : (model : Chip) (value : ℕ) (k : Kept) → (keep_control model value k).cuts ≡ k.cuts
+cuts-control Uart16450 value k = refl
+cuts-control Uart16550A value k = refl
+
+cuts_if : (b : Bool) (x y k : Kept) → x.cuts ≡ k.cuts → y.cuts ≡ k.cuts → (if b then x else y).cuts ≡ k.cuts
+cuts_if true x y k p q = p
+cuts_if false x y k p q = q
+
+cuts-keep : (access : Access) (k : Kept) → (keep access k).cuts ≡ k.cuts
+cuts-keep (Read offset answer) k = refl
+cuts-keep (Write offset value) k =
+    cuts_if (offset == offset_data) _ _ k (cuts_if (is_dlab_set k.latches) _ _ k refl refl)
+    (cuts_if (offset == offset_ier) _ _ k (cuts_if (is_dlab_set k.latches) _ _ k refl refl)
+    (cuts_if (offset == offset_fcr) _ _ k (cuts-control k.model value k)
+    (cuts_if (offset == offset_lcr) _ _ k refl
+    (cuts_if (offset == offset_mcr) _ _ k refl
+    (cuts_if (offset == offset_scr) _ _ k refl refl)))))
+
+cuts-after : (made : List Access) (k : Kept) → (kept_after made k).cuts ≡ k.cuts
+cuts-after [] k = refl
+cuts-after (access ∷ accesses) k = cuts-after accesses (keep access k) ∙ cuts-keep access k
+
+pub cuts_path : (cuts : Bool) (made : List Access) (m n : MachineState) → CutsAs cuts m → Path MachineStep m made n → CutsAs cuts n
+cuts_path cuts made m n e p = ap (λ (k : Kept). k.cuts) (kept_path made m n p) ∙ (cuts-after made (kept_in m.chip) ∙ e)
+
+kept-before_mark : (events : List Event) (c : ChipState) → kept_in (before_mark events c) ≡ kept_in c
+kept-before_mark [] c = refl
+kept-before_mark (Ticks n ∷ events) c = kept-before_mark events (ticks n c) ∙ kept-ticks n c
+kept-before_mark (Arrive byte errors ∷ events) c = kept-before_mark events (arrive byte errors c)
+kept-before_mark (Lines inputs ∷ events) c = kept-before_mark events (change_lines inputs c)
+kept-before_mark (Gate ∷ events) c = kept-before_mark events c
+kept-before_mark (Mark ∷ events) c = refl
+
+pub cuts_mark : (cuts : Bool) (m : MachineState) → CutsAs cuts m → CutsAs cuts (at_mark m)
+cuts_mark cuts m e = ap (λ (k : Kept). k.cuts) (kept-before_mark m.ahead m.chip) ∙ e

@@ -58,6 +58,7 @@ pub mod LoopWaits
 pub mod LoopSucceeds
 pub mod ReadyKept
 pub mod Follows
+pub mod Uncuts
 pub mod Idle
 pub mod ScriptLines
 pub mod ScriptDigits

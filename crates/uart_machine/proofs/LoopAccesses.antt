@@ -5,10 +5,10 @@ use Rattle.uart_machine.specs.declared.receiver.Character.{Character}
 use Rattle.uart_16550.specs.Access.{Access, Read, Write, Path}
 use Rattle.uart_machine.specs.Transmitter.{TransmitterState, load, room}
 use Rattle.uart_machine.specs.Receiver.{ReceiverState, report, take_front}
-use Rattle.uart_machine.specs.Chip.{ChipState, is_dlab_set, interrupt, with_latches, enable, answer, after_read, after_write}
+use Rattle.uart_machine.specs.Chip.{ChipState, cut_of, is_dlab_set, interrupt, with_latches, enable, answer, after_read, after_write}
 use Rattle.uart_machine.specs.Machine.{MachineState, MachineStep, at_access}
 use Rattle.uart_machine.proofs.Blocks.{is_quiet, AllQuiet}
-use Rattle.uart_machine.proofs.Went.{Modes, IsIn, dlab, dlab-in, loopback}
+use Rattle.uart_machine.proofs.Went.{Modes, IsIn, fixed_in, dlab, dlab-in, loopback}
 use Rattle.uart_machine.proofs.Loops.{line_of, line_in, Carries, carries-refl, Loops, loops-trans, loops-still, loops-refl, line-length, Fits, fits-after, loops_before}
 
 -- these modes are those of a loopback test: loopback is set, and DLAB is not
@@ -19,9 +19,9 @@ pub record IsLooped (x : Modes) : Type 0 where
 -- ---- effects on the chip
 
 -- the line stays as it is
-loops_same : (x : Modes) (c d : ChipState) → IsIn x c → d.latches.lcr ≡ c.latches.lcr → d.latches.mcr ≡ c.latches.mcr → d.fifo ≡ c.fifo →
+loops_same : (x : Modes) (c d : ChipState) → IsIn x c → d.latches.lcr ≡ c.latches.lcr → d.latches.mcr ≡ c.latches.mcr → fixed_in d ≡ fixed_in c →
     Carries c.transmitter d.transmitter c.receiver d.receiver → Loops x c d [] []
-loops_same x c d w lcr mcr fifo a = loops-still x c d (record { lcr = lcr ∙ w.lcr; mcr = mcr ∙ w.mcr; fifo = fifo ∙ w.fifo }) a
+loops_same x c d w lcr mcr fifo a = loops-still x c d (record { lcr = lcr ∙ w.lcr; mcr = mcr ∙ w.mcr; fifo = ap (λ (p : Bool × (ℕ → ℕ)). p.0) fifo ∙ w.fifo; cut = ap (λ (p : Bool × (ℕ → ℕ)). p.1) fifo ∙ w.cut }) a
 
 loops_if : (x : Modes) (c d e : ChipState) (b : Bool) → Loops x c d [] [] → Loops x c e [] [] → Loops x c (if b then d else e) [] []
 loops_if x c d e true p q = p
@@ -70,34 +70,35 @@ loops_front x c byte off w some b = go c.receiver.queue refl
         let taken = record c { receiver = take_front (front ∷ others) c.receiver } in
         let k : line_in c ≡ front.byte ∷ line_in taken = rw e refl in
         rw g (record {
-          modes = record { lcr = w.lcr; mcr = w.mcr; fifo = w.fifo };
+          modes = record { lcr = w.lcr; mcr = w.mcr; fifo = w.fifo; cut = w.cut };
           line = ap (λ v. v ∷ line_in taken) f ∙ (sym k ∙ sym (append-nil (line_in c)));
           wire = refl;
           place = omega arith;
           fuller = rw e (omega arith);
         })
 
--- a byte comes to the end of the line
-loops_load : (x : Modes) (c : ChipState) (byte : ℕ) → dlab x ≡ false → IsIn x c → length c.transmitter.queue < room x.fifo → Loops x c (after_write 0 byte c) (byte ∷ []) []
+-- a byte comes to the end of the line, cut
+loops_load : (x : Modes) (c : ChipState) (byte : ℕ) → dlab x ≡ false → IsIn x c → length c.transmitter.queue < room x.fifo → Loops x c (after_write 0 byte c) (x.cut byte ∷ []) []
 loops_load x c byte off w free =
-    let e : after_write 0 byte c ≡ record c { transmitter = load c.fifo byte c.transmitter } = rw (dlab-in x c w ∙ off) refl in
-    let f : load c.fifo byte c.transmitter ≡ load x.fifo byte c.transmitter = ap (λ (b : Bool). load b byte c.transmitter) w.fifo in
+    let e : after_write 0 byte c ≡ record c { transmitter = load c.fifo (cut_of c byte) c.transmitter } = rw (dlab-in x c w ∙ off) refl in
+    let f : load c.fifo (cut_of c byte) c.transmitter ≡ load x.fifo (x.cut byte) c.transmitter =
+    ap (λ (b : Bool). load b (cut_of c byte) c.transmitter) w.fifo ∙ ap (λ (g : ℕ → ℕ). load x.fifo (g byte) c.transmitter) w.cut in
     rw (e, f) (record {
-      modes = record { lcr = w.lcr; mcr = w.mcr; fifo = w.fifo };
-      line = last x.fifo c.transmitter c.receiver free;
-      wire = same_wire x.fifo c.transmitter free;
-      place = one_more x.fifo c.transmitter free;
+      modes = record { lcr = w.lcr; mcr = w.mcr; fifo = w.fifo; cut = w.cut };
+      line = last x.fifo (x.cut byte) c.transmitter c.receiver free;
+      wire = same_wire x.fifo (x.cut byte) c.transmitter free;
+      place = one_more x.fifo (x.cut byte) c.transmitter free;
       fuller = omega arith;
     })
   where
-    last : (fifo : Bool) (t : TransmitterState) (r : ReceiverState) → length t.queue < room fifo → line_of (load fifo byte t) r ≡ line_of t r ++ byte ∷ []
-    last fifo t r free = grind (arith, common_steps)
+    last : (fifo : Bool) (byte : ℕ) (t : TransmitterState) (r : ReceiverState) → length t.queue < room fifo → line_of (load fifo byte t) r ≡ line_of t r ++ byte ∷ []
+    last fifo byte t r free = grind (arith, common_steps)
 
-    same_wire : (fifo : Bool) (t : TransmitterState) → length t.queue < room fifo → (load fifo byte t).wire ≡ t.wire
-    same_wire fifo t free = grind (arith, common_steps)
+    same_wire : (fifo : Bool) (byte : ℕ) (t : TransmitterState) → length t.queue < room fifo → (load fifo byte t).wire ≡ t.wire
+    same_wire fifo byte t free = grind (arith, common_steps)
 
-    one_more : (fifo : Bool) (t : TransmitterState) → length t.queue < room fifo → length (load fifo byte t).queue ≤ length t.queue + 1
-    one_more fifo t free = grind (arith, common_steps)
+    one_more : (fifo : Bool) (byte : ℕ) (t : TransmitterState) → length t.queue < room fifo → length (load fifo byte t).queue ≤ length t.queue + 1
+    one_more fifo byte t free = grind (arith, common_steps)
 
 -- ---- single accesses
 
@@ -129,9 +130,9 @@ loops_take x m n byte i f some s =
     loops_effect x x m n (after_read 0 (at_access m).chip) [] (byte ∷ []) i.loopback f s.0 (λ a. loops_front x (at_access m).chip byte i.dlab a.modes (omega (arith, a.fuller, some)) s.1)
 
 loops_send : (x : Modes) (m n : MachineState) (byte : ℕ) → IsLooped x → Fits x m.chip → length m.chip.transmitter.queue < room x.fifo → MachineStep m (Write 0 byte) n →
-    Loops x m.chip n.chip (byte ∷ []) []
+    Loops x m.chip n.chip (x.cut byte ∷ []) []
 loops_send x m n byte i f free s =
-    loops_effect x x m n (after_write 0 byte (at_access m).chip) (byte ∷ []) [] i.loopback f s (λ a. loops_load x (at_access m).chip byte i.dlab a.modes (omega (arith, a.place, free)))
+    loops_effect x x m n (after_write 0 byte (at_access m).chip) (x.cut byte ∷ []) [] i.loopback f s (λ a. loops_load x (at_access m).chip byte i.dlab a.modes (omega (arith, a.place, free)))
 
 -- ---- some accesses of one kind
 
@@ -145,10 +146,10 @@ loops_quiets x (access ∷ accesses) m n l f q p =
     loops-trans x x m.chip p.0.chip n.chip [] [] [] [] a (loops_quiets x accesses p.0 n l (fits-after x x m.chip p.0.chip [] refl f a) q.1 p.2)
 
 pub loops_sends : (x : Modes) (bytes : List ℕ) (m n : MachineState) → IsLooped x → IsIn x m.chip → length (line_in m.chip) + length bytes ≤ room x.fifo →
-    length m.chip.transmitter.queue + length bytes ≤ room x.fifo → Path MachineStep m (map (Write 0) bytes) n → Loops x m.chip n.chip bytes []
+    length m.chip.transmitter.queue + length bytes ≤ room x.fifo → Path MachineStep m (map (Write 0) bytes) n → Loops x m.chip n.chip (map x.cut bytes) []
 loops_sends x [] m n i w few free p = loops_none x m n w p
 loops_sends x (byte ∷ bytes) m n i w few free p =
     let a = loops_send x m p.0 byte i (record { modes = w; few = omega (arith, few) }) (omega (arith, free)) p.1 in
-    let long = line-length x m.chip p.0.chip (byte ∷ []) [] a in
-    loops-trans x x m.chip p.0.chip n.chip (byte ∷ []) bytes [] [] a
+    let long = line-length x m.chip p.0.chip (x.cut byte ∷ []) [] a in
+    loops-trans x x m.chip p.0.chip n.chip (x.cut byte ∷ []) (map x.cut bytes) [] [] a
     (loops_sends x bytes p.0 n i a.modes (omega (arith, long, few)) (omega (arith, a.place, free)) p.2)

@@ -22,7 +22,7 @@ use Rattle.uart_machine.proofs.BlockLaws.{path_as, look_room}
 use Rattle.uart_machine.proofs.CallBlocks.{InBlocks, Makes, makes_then, makes_reads, awaited_blocks, round_blocks, sends_all_blocks, try_sends_blocks}
 use Rattle.uart_machine.proofs.CallKeeps.{one_fits}
 use Rattle.uart_machine.proofs.Served.{EndsDry, dry_empties}
-use Rattle.uart_machine.proofs.Latches.{Kept, kept_in, kept_access, kept_list}
+use Rattle.uart_machine.proofs.Latches.{Kept, kept_in, kept_cut, kept_access, kept_list}
 use Rattle.uart_machine.proofs.Pieces.{then_parts}
 use Rattle.uart_machine.proofs.KeptLists.{AllKeep, keeps_then, keeps_few, keeps_miss, keeps_hit, kept_still}
 use Rattle.uart_machine.proofs.LoopAccesses.{IsLooped}
@@ -62,6 +62,7 @@ kept_in_modes x c d e w = record {
   lcr = ap (λ (k : Kept). k.latches.lcr) e ∙ w.lcr;
   mcr = ap (λ (k : Kept). k.latches.mcr) e ∙ w.mcr;
   fifo = ap (λ (k : Kept). k.fifo) e ∙ w.fifo;
+  cut = ap kept_cut e ∙ w.cut;
 }
 
 -- a machine in a loopback test whose transmitter is empty, and settings that know whether its FIFO is on
@@ -91,16 +92,16 @@ drained x gone s l m n e t path =
 
 -- ---- what comes back
 
--- what was read is what was written, and the machine is as ready as before
+-- what was read is what was written, cut, and the machine is as ready as before
 pub record Exchanged (x : Modes) (gone : List ℕ) (s : Settings) (n : MachineState) (written read : List ℕ) : Type 0 where
-  pub same : read ≡ written
+  pub same : read ≡ map x.cut written
   pub ready : IsReadyToTest x gone s n
 
 exchanged : (x : Modes) (gone : List ℕ) (s : Settings) (L : Language) (l : List Access) (m n : MachineState) (ws rs : List ℕ) → IsReadyToTest x gone s m → length ws ≤ room s.fifo →
     length rs ≡ length ws → Makes s L ws rs → L s l → Path MachineStep m l n → Exchanged x gone s n ws rs
 exchanged x gone s L l m n ws rs r few all makes t path =
     let B : Bool → Type 0 = λ fifo. InBlocks fifo l ws rs in
-    let c : CameBack x gone n.chip ws rs = comes_back x gone m n l ws rs r.looped r.idle (rw (← r.fifo) few) all (subst B r.fifo (makes l t)) path in
+    let c : CameBack x gone n.chip (map x.cut ws) rs = comes_back x gone m n l ws rs r.looped r.idle (rw (← r.fifo) few) all (subst B r.fifo (makes l t)) path in
     record { same = c.same; ready = record { looped = r.looped; fifo = r.fifo; idle = c.idle } }
 
 -- the byte

@@ -10,12 +10,13 @@ use Rattle.uart_16550.specs.Driver.{Fields, Saving, Next, fields, settings_of}
 use Rattle.uart_16550.specs.Loopback.{test_byte, test_message, Drains, SendsTestByte, ExchangesByte, Echo, EchoFails, WholeEchoes, WholeFails, EachFails, HasEchoedAll, ExchangesMessage, Exchanges, Enters, Leaves, BeginsTest, Tests, TestsLoopback}
 use Rattle.uart_16550.specs.Tty.{inner_of}
 use Rattle.uart_machine.specs.declared.call.Answer.{Answer}
-use Rattle.uart_machine.specs.declared.call.Answer.TheVariants.{Done, LoopbackRefused}
+use Rattle.uart_machine.specs.declared.call.Answer.TheVariants.{LoopbackRefused}
 use Rattle.uart_machine.specs.Transmitter.{room, out}
 use Rattle.uart_machine.specs.Machine.{MachineState, MachineStep}
 use Rattle.uart_machine.specs.Sound.{IsSound}
 use Rattle.uart_machine.specs.Run.{State, machine_of, Called, loopback_answer}
-use Rattle.uart_machine.specs.Ready.{Ready}
+use Rattle.uart_machine.specs.Ready.{Ready, is_narrow, test_answer}
+use Rattle.uart_machine.specs.Chip.{cut_of}
 use Rattle.uart_machine.specs.Progress.{IsTimely, HasRoom}
 use Rattle.uart_machine.proofs.Went.{Modes}
 use Rattle.uart_machine.proofs.BlockLaws.{path_as}
@@ -118,15 +119,15 @@ no_stall-exchange x gone s l m n v e (inr (inr t)) path =
 limit-enters : (before : ℕ) (fifo : Bool) (f : Fields) (l : List Access) (mid : Fields) → Enters before fifo f l mid → mid.limit ≡ f.limit
 limit-enters before fifo f l mid t = let at : Fields → ℕ = λ g. g.limit in ap at t.second.1 ∙ ap at t.first.1
 
-no_stall-test : (gone : List ℕ) (mcr ier : ℕ) (f after : Fields) (l : List Access) (m n : MachineState) → Lives f.limit m → IsBegun gone m → Tests {T = Unit {0}} mcr ier (Err Stalled) f l after →
+no_stall-test : (cut : ℕ → ℕ) (gone : List ℕ) (mcr ier : ℕ) (f after : Fields) (l : List Access) (m n : MachineState) → Lives f.limit m → IsBegun cut gone m → Tests {T = Unit {0}} mcr ier (Err Stalled) f l after →
     Path MachineStep m l n → ⊥
-no_stall-test gone mcr ier f after l m n v b (before, fifo, t) path =
+no_stall-test cut gone mcr ier f after l m n v b (before, fifo, t) path =
     let a = next_stages (Enters before fifo) (Next (Saving (Exchanges {T = Unit {0}} (Err Stalled))) (Leaves mcr ier before f.lsr)) f after l m n t path in
-    let e = in_loopback gone before fifo f a.mid a.parts.front m a.parts.between b a.parts.first a.parts.before in
+    let e = in_loopback cut gone before fifo f a.mid a.parts.front m a.parts.between b a.parts.first a.parts.before in
     let c = next_stages (Saving (Exchanges {T = Unit {0}} (Err Stalled))) (Leaves mcr ier before f.lsr) a.mid after a.parts.back a.parts.between n a.parts.second a.parts.after in
     let w = lives-path f.limit a.parts.front m a.parts.between v a.parts.before in
     let same : f.limit ≡ a.mid.limit = sym (limit-enters before fifo f a.parts.front a.mid a.parts.first) in
-    no_stall-exchange (looped_modes m.chip.latches.lcr fifo) gone (settings_of a.mid) c.parts.front a.parts.between c.parts.between (subst (λ limit. Lives limit a.parts.between) same w) e c.parts.first.0 c.parts.before
+    no_stall-exchange (looped_modes m.chip.latches.lcr fifo cut) gone (settings_of a.mid) c.parts.front a.parts.between c.parts.between (subst (λ limit. Lives limit a.parts.between) same w) e c.parts.first.0 c.parts.before
 
 no_stall-begin : (s : State) (n : MachineState) (mcr ier : ℕ) (l : List Access) → IsSound (machine_of s) → IsTimely s → HasRoom 0 (machine_of s) → BeginsTest mcr ier false (settings_of (fields (inner_of s))) l →
     Path MachineStep (machine_of s) l n → ⊥
@@ -137,7 +138,7 @@ no_stall-begin s n mcr ier l w timely room t path =
     let a = free-path p.front (machine_of s) p.between r (rw p.first.is (tt, (tt, tt))) p.before in
     no_stall-empty v v.limit p.back p.between n (free_runs p.between a) (few_left s p.front p.between w timely p.before) p.second p.after
 
-pub test_succeeds : (s t : State) (a : Answer) → IsSound (machine_of s) → Ready s → IsTimely s → HasRoom 0 (machine_of s) → Called TestsLoopback loopback_answer a (inner_of s) (inner_of t) → a ≡ Done
+pub test_succeeds : (s t : State) (a : Answer) → IsSound (machine_of s) → Ready s → IsTimely s → HasRoom 0 (machine_of s) → Called TestsLoopback loopback_answer a (inner_of s) (inner_of t) → a ≡ test_answer (is_narrow (machine_of s).chip)
 test_succeeds s t a w ready timely room h = go (tested s t a w ready h).answers
   where
     f : Fields
@@ -154,12 +155,12 @@ test_succeeds s t a w ready timely room h = go (tested s t a w ready h).answers
             let v : Lives f.limit (machine_of s) = record { sound = w; ticked = timely.ticked; enough = timely.limit } in
             let u = lives-path f.limit c.parts.front (machine_of s) c.parts.between v c.parts.before in
             let same : f.limit ≡ c.mid.limit = sym (ap (λ (g : Fields). g.limit) c.parts.first.1) in
-            no_stall-test (out (machine_of s).chip.transmitter) mcr ier c.mid (fields (inner_of t)) c.parts.back c.parts.between (machine_of t) (subst (λ limit. Lives limit c.parts.between) same u) b c.parts.second c.parts.after
+            no_stall-test (cut_of (machine_of s).chip) (out (machine_of s).chip.transmitter) mcr ier c.mid (fields (inner_of t)) c.parts.back c.parts.between (machine_of t) (subst (λ limit. Lives limit c.parts.between) same u) b c.parts.second c.parts.after
 
     refused : (result : Result (Unit {0}) LoopbackError) → loopback_answer result ≡ LoopbackRefused Stalled → result ≡ Err Stalled
     refused (Ok x) e = absurd (cc)
     refused (Err fault) e = cc
 
-    go : (a ≡ Done) ⊎ (a ≡ LoopbackRefused Stalled) → a ≡ Done
+    go : (a ≡ test_answer (is_narrow (machine_of s).chip)) ⊎ (a ≡ LoopbackRefused Stalled) → a ≡ test_answer (is_narrow (machine_of s).chip)
     go (inl e) = e
     go (inr e) = absurd (never h.result (refused h.result (sym h.answered ∙ e)) h.did.does)

@@ -93,9 +93,10 @@ never_dry x gone s L l m n ws rs v r few more makes t path =
     let none : length (line_in m.chip) ≡ 0 = ap length r.idle.line in
     let same : room s.fifo ≡ room x.fifo = ap room r.fifo in
     let a = loops_in_blocks x m p.between p.front ws rs r.looped r.idle.modes (omega (arith, none, few, same)) (subst B r.fifo (makes p.front p.first)) p.before in
-    let long = line-length x m.chip p.between.chip ws rs a in
+    let size : length (map x.cut ws) ≡ length ws = length-map ws x.cut in
+    let long = line-length x m.chip p.between.chip (map x.cut ws) rs a in
     let w = lives-path s.limit p.front m p.between v p.before in
-    let on : OnItsWay x p.between = record { fits = record { modes = a.modes; few = omega (arith, none, few, same, long) }; some = omega (arith, none, more, long) } in
+    let on : OnItsWay x p.between = record { fits = record { modes = a.modes; few = omega (arith, none, few, same, size, long) }; some = omega (arith, none, more, size, long) } in
     let runs : Runs p.between = record { sound = w.sound; ticked = w.ticked; flows = λ off. absurd (cc (loopback-in x p.between.chip a.modes, r.looped.loopback, off)) } in
     no_stall (OnItsWay x) 1 (data_awaited x r.looped) s s.limit p.back p.between n runs on (few_left s.limit p.between w) p.second p.after
 

@@ -9,7 +9,7 @@ use Rattle.uart_machine.specs.Transmitter as transmitter
 use Rattle.uart_machine.specs.Transmitter.{TransmitterState, shift, looped_byte, refill, room, held}
 use Rattle.uart_machine.specs.Receiver as receiver
 use Rattle.uart_machine.specs.Receiver.{ReceiverState, come_back, waiting}
-use Rattle.uart_machine.specs.Chip.{ChipState, is_loopback, tick, ticks, arrive, change_lines}
+use Rattle.uart_machine.specs.Chip.{ChipState, cut_of, is_loopback, tick, ticks, arrive, change_lines}
 use Rattle.uart_machine.specs.Machine.{before_access}
 use Rattle.uart_machine.proofs.Went.{Modes, IsIn, loopback, loopback-in}
 
@@ -69,7 +69,7 @@ carries_tick fifo t r h =
 
 -- ---- a stretch in loopback
 
--- from c to d these were written and these read: what was read is the front of the line, what was written its end, and the wire stays
+-- from c to d these came to the line and these were read: what was read is the front of the line, what was written its end, and the wire stays
 pub record Loops (x : Modes) (c d : ChipState) (written read : List ℕ) : Type 0 where
   pub modes : IsIn x d
   pub line : read ++ line_in d ≡ line_in c ++ written
@@ -113,7 +113,7 @@ loops_tick : (x : Modes) (c : ChipState) → loopback x ≡ true → Fits x c �
 loops_tick x c l f =
     let few : length (line_in c) ≤ room c.fifo = rw (ap room f.modes.fifo) f.few in
     rw (in_loopback (loopback-in x c f.modes ∙ l))
-    (loops-still x c _ (record { lcr = f.modes.lcr; mcr = f.modes.mcr; fifo = f.modes.fifo }) (carries_tick c.fifo c.transmitter c.receiver few))
+    (loops-still x c _ (record { lcr = f.modes.lcr; mcr = f.modes.mcr; fifo = f.modes.fifo; cut = f.modes.cut }) (carries_tick c.fifo c.transmitter c.receiver few))
   where
     in_loopback : is_loopback c.latches ≡ true →
         tick c ≡ record c { transmitter = transmitter.tick true c.transmitter; receiver = receiver.tick c.fifo (looped_byte true c.transmitter.shift_place) c.receiver }
@@ -128,14 +128,14 @@ loops_ticks x (suc n) c l f =
 -- what arrives is discarded
 loops_arrive : (x : Modes) (byte errors : ℕ) (c : ChipState) → loopback x ≡ true → Fits x c → Loops x c (arrive byte errors c) [] []
 loops_arrive x byte errors c l f =
-    let e : arrive byte errors c ≡ record c { receiver = receiver.arrive true c.fifo byte errors c.receiver } =
-    ap (λ (b : Bool). record c { receiver = receiver.arrive b c.fifo byte errors c.receiver }) (loopback-in x c f.modes ∙ l) in
+    let e : arrive byte errors c ≡ record c { receiver = receiver.arrive true c.fifo (cut_of c byte) errors c.receiver } =
+    ap (λ (b : Bool). record c { receiver = receiver.arrive b c.fifo (cut_of c byte) errors c.receiver }) (loopback-in x c f.modes ∙ l) in
     rw e
-    (loops-still x c _ (record { lcr = f.modes.lcr; mcr = f.modes.mcr; fifo = f.modes.fifo }) (record { line = refl; wire = refl; place = omega arith; fuller = omega arith }))
+    (loops-still x c _ (record { lcr = f.modes.lcr; mcr = f.modes.mcr; fifo = f.modes.fifo; cut = f.modes.cut }) (record { line = refl; wire = refl; place = omega arith; fuller = omega arith }))
 
 loops_lines : (x : Modes) (inputs : ℕ) (c : ChipState) → Fits x c → Loops x c (change_lines inputs c) [] []
 loops_lines x inputs c f =
-    loops-still x c (change_lines inputs c) (record { lcr = f.modes.lcr; mcr = f.modes.mcr; fifo = f.modes.fifo }) (carries-refl c.transmitter c.receiver)
+    loops-still x c (change_lines inputs c) (record { lcr = f.modes.lcr; mcr = f.modes.mcr; fifo = f.modes.fifo; cut = f.modes.cut }) (carries-refl c.transmitter c.receiver)
 
 -- one event and then more
 loops_more : (x : Modes) (c d e : ChipState) → Fits x c → Loops x c d [] [] → (Fits x d → Loops x d e [] []) → Loops x c e [] []

@@ -8,7 +8,7 @@ use Rattle.uart_machine.specs.Chip.{ChipState, tick, ticks, arrive, change_lines
 use Rattle.uart_machine.specs.Machine.{MachineState, perform, arrivals, at_access, at_mark}
 use Rattle.uart_machine.specs.Sound.{IsSound}
 use Rattle.uart_machine.proofs.Sounds.{sound_perform, sound_tick}
-use Rattle.uart_machine.proofs.Went.{Modes, IsIn, loopback, Went, went-trans, went-refl, went-tick, went-perform}
+use Rattle.uart_machine.proofs.Went.{Modes, IsIn, fixed, loopback, Went, went-trans, went-refl, went-tick, went-perform}
 
 -- from m to n: these accesses were made, these bytes written and these characters taken
 pub record Passed (x : Modes) (m n : MachineState) (made : List Access) (written : List ℕ) (takes : List Character) : Type 0 where
@@ -21,7 +21,7 @@ pub passed-refl : (x : Modes) (m : MachineState) → IsSound m → IsIn x m.chip
 passed-refl x m s w = record { events = []; ahead = refl; went = went-refl x m.chip s.chip w; sound = s }
 
 -- one stretch and then another, which may begin in other modes
-pub passed-trans : (x y : Modes) (m n o : MachineState) (xs ys : List Access) (ws vs : List ℕ) (ts us : List Character) → y.fifo ≡ x.fifo →
+pub passed-trans : (x y : Modes) (m n o : MachineState) (xs ys : List Access) (ws vs : List ℕ) (ts us : List Character) → fixed y ≡ fixed x →
     Passed x m n xs ws ts → Passed y n o ys vs us → Passed y m o (xs ++ ys) (ws ++ vs) (ts ++ us)
 passed-trans x y m n o xs ys ws vs ts us same p q = record {
   events = p.events ++ q.events;
@@ -84,7 +84,7 @@ passed-mark x m l s w = passed_until x m.ahead m.chip l s w
 -- ---- accesses
 
 -- the events before an access, and then its effect, in the modes that it leaves
-pub passed-effect : (x y : Modes) (m n : MachineState) (d : ChipState) (access : Access) (ws : List ℕ) (ts : List Character) → loopback x ≡ false → y.fifo ≡ x.fifo →
+pub passed-effect : (x y : Modes) (m n : MachineState) (d : ChipState) (access : Access) (ws : List ℕ) (ts : List Character) → loopback x ≡ false → fixed y ≡ fixed x →
     IsSound m → IsIn x m.chip → n ≡ record (at_access m) { chip = d } → IsSound (record (at_access m) { chip = d }) →
     (Passed x m (at_access m) [] [] [] → Went y (at_access m).chip d [] (access ∷ []) ws ts) → Passed y m n (access ∷ []) ws ts
 passed-effect x y m n d access ws ts l same s w e after effect =

@@ -207,7 +207,7 @@ pub script_is_read : (bytes : List ℕ) (plan : Plan) → IsScript bytes plan �
 unfolding script_of from_lines planned
 script_is_read bytes plan s =
     let read = all_read 2 s.others s.sayings (omega arith) (omega (arith, s.few)) s.body in
-    rw (le-ltb 65536 (length bytes) s.fits, s.lines, reads_header s.first plan.chip plan.ticks plan.wire_capacity s.header, read, ← s.limit, ← s.events, ← s.calls) refl
+    rw (le-ltb 65536 (length bytes) s.fits, s.lines, reads_header s.first plan.chip plan.ticks plan.wire_capacity plan.cuts s.header, read, ← s.limit, ← s.events, ← s.calls) refl
 
 no_lines : (bytes : List ℕ) → lines_of bytes ≡ [] → bytes ≡ []
 no_lines [] e = refl

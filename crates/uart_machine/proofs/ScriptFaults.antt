@@ -1,20 +1,22 @@
 -- The parser tells the fault of a line that the definition of the language tells.
 use Rattle.std.proofs.Common.{◌≡◌, ℕ, suc, ◌≤◌, Bool, true, false, not, cond, eqb, ◌&&◌, ◌||◌, List, [], ◌∷◌, length, drop, Option, Some, None, Result, Ok, Err, refl, sym, ap, subst, ◌∙◌, arith, inl, inr}
+use Rattle.std.specs.Prelude.{codes, bytes_eq}
+use Rattle.std.proofs.lemmas.Slice.Eq.{bytes_eq-Decides}
 use Rattle.std.proofs.lemmas.Bool.{eqb-true, le-ltb, or_cases}
 use Rattle.uart_machine.specs.declared.event.Chip.{Chip}
 use Rattle.uart_machine.specs.declared.event.Event.TheVariants as event
 use Rattle.uart_machine.specs.declared.call.Call.{Call}
 use Rattle.uart_machine.specs.declared.call.Call.TheVariants as call
 use Rattle.uart_machine.specs.declared.script.cause.Cause.{Cause}
-use Rattle.uart_machine.specs.declared.script.cause.Cause.TheVariants.{BadByte, Misplaced, UnknownWord, WrongCount}
+use Rattle.uart_machine.specs.declared.script.cause.Cause.TheVariants.{BadByte, Misplaced, UnknownWord, WrongCount, BadWord}
 use Rattle.uart_machine.specs.declared.script.items.Header.{Header}
 use Rattle.uart_machine.specs.declared.script.words.Word.{Word}
 use Rattle.uart_machine.specs.declared.script.words.Word.TheVariants as word
 use Rattle.uart_machine.specs.Text.{words_of, word_at, has_bad_byte}
-use Rattle.uart_machine.specs.Fields.{◌>>=◌, number_in, byte_in, lines_in, bytes_in, text_in, errors_in, chip_in, level_in, rate_in, cts_in, interrupts_in, word_length_in}
+use Rattle.uart_machine.specs.Fields.{◌>>=◌, number_in, byte_in, lines_in, bytes_in, text_in, errors_in, chip_in, cut_in, level_in, rate_in, cts_in, interrupts_in, word_length_in}
 use Rattle.uart_machine.specs.Words.{name_of, word_of, fault_of, fields_of, has_count, is_placed}
 use Rattle.uart_machine.specs.ScriptLines.{Nothing, Limit, Calls, Happens, configured, bytes_of, text_of}
-use Rattle.uart_machine.specs.Script.{IsHeader, fault_where, first_of, field_faults, word_faults, fault_at}
+use Rattle.uart_machine.specs.Script.{IsHeader, option_words, fault_where, first_of, field_faults, word_faults, fault_at}
 use Rattle.uart_machine.specs.Items.{config_in, arrival_in, call_of, item_of, placed, starts_with, item_at, header_in, header_at}
 use Rattle.uart_machine.proofs.ScriptMeanings.{not_first, name_is}
 
@@ -44,6 +46,11 @@ three_fault (Ok x) (Ok y) (Ok z) make = refl
 three_fault (Ok x) (Ok y) (Err d) make = refl
 three_fault (Ok x) (Err d) c make = refl
 three_fault (Err d) b c make = refl
+
+four_fault : {A B C D E : Type 0} (a : Result A Cause) (b : Result B Cause) (c : Result C Cause) (d : Result D Cause) (make : A → B → C → D → E)
+    → fault_of (a >>= (λ x. b >>= (λ y. c >>= (λ z. d >>= (λ u. Ok (make x y z u)))))) ≡ first_of (fault_of a ∷ fault_of b ∷ fault_of c ∷ fault_of d ∷ [])
+four_fault (Ok x) b c d make = three_fault b c d (make x)
+four_fault (Err f) b c d make = refl
 
 five_fault : {A B C D E F : Type 0} (a : Result A Cause) (b : Result B Cause) (c : Result C Cause) (d : Result D Cause) (e : Result E Cause) (make : A → B → C → D → E → F)
     → fault_of (a >>= (λ x. b >>= (λ y. c >>= (λ z. d >>= (λ u. e >>= (λ v. Ok (make x y z u v))))))) ≡ first_of (fault_of a ∷ fault_of b ∷ fault_of c ∷ fault_of d ∷ fault_of e ∷ [])
@@ -148,14 +155,22 @@ line_fault number line le most = rw (le-ltb 4096 number most) (line_fault_by num
 
 -- ---- the first line
 
+-- a header, as a value
+abbrev pub header_of : Chip → ℕ → ℕ → Bool → Header
+header_of chip ticks capacity cuts = record { chip = chip; ticks = ticks; wire_capacity = capacity; cuts = cuts }
+
+four_or_five : (n : ℕ) → (eqb (suc (suc (suc (suc (suc (suc n)))))) 4 || eqb (suc (suc (suc (suc (suc (suc n)))))) 5) ≡ true → ⊥
+four_or_five n c = elim (or_cases (eqb (suc (suc (suc (suc (suc (suc n)))))) 4) (eqb (suc (suc (suc (suc (suc (suc n)))))) 5) c) [ inl a ↦ omega (arith, eqb-true _ _ a) | inr b ↦ omega (arith, eqb-true _ _ b) ]
+
 header_words_fault : (ws : List (List ℕ)) → has_count word.Chip (length ws) ≡ true → fault_of (header_in ws) ≡ first_of (field_faults (fields_of word.Chip) (drop 1 ws))
 unfolding header_in
 header_words_fault [] c = absurd cc
 header_words_fault (name ∷ []) c = absurd cc
 header_words_fault (name ∷ NAME ∷ []) c = absurd cc
 header_words_fault (name ∷ NAME ∷ T ∷ []) c = absurd cc
-header_words_fault (name ∷ NAME ∷ T ∷ W ∷ []) c = three_fault (chip_in NAME) (number_in 1 1000 T) (number_in 0 65536 W) (λ chip ticks capacity. record { chip = chip; ticks = ticks; wire_capacity = capacity })
-header_words_fault (name ∷ NAME ∷ T ∷ W ∷ X ∷ rest) c = absurd (omega (arith, eqb-true _ _ c))
+header_words_fault (name ∷ NAME ∷ T ∷ W ∷ []) c = three_fault (chip_in NAME) (number_in 1 1000 T) (number_in 0 65536 W) (λ chip ticks capacity. header_of chip ticks capacity false)
+header_words_fault (name ∷ NAME ∷ T ∷ W ∷ C ∷ []) c = four_fault (chip_in NAME) (number_in 1 1000 T) (number_in 0 65536 W) (cut_in C) header_of
+header_words_fault (name ∷ NAME ∷ T ∷ W ∷ C ∷ X ∷ rest) c = absurd (four_or_five (length rest) c)
 
 first_word_fault : (first : Option Word) (ws : List (List ℕ)) → fault_of (placed 1 ws first >>= (λ w. header_in ws)) ≡ first_of (word_faults 1 first ws)
 first_word_fault None ws = refl
@@ -184,28 +199,47 @@ three_ok (Ok x) (Ok y) (Err f) make d e = absurd cc
 three_ok (Ok x) (Err f) c make d e = absurd cc
 three_ok (Err f) b c make d e = absurd cc
 
--- a header, as a value
-abbrev pub header_of : Chip → ℕ → ℕ → Header
-header_of chip ticks capacity = record { chip = chip; ticks = ticks; wire_capacity = capacity }
+four_ok : {A B C D E : Type 0} (a : Result A Cause) (b : Result B Cause) (c : Result C Cause) (d : Result D Cause) (make : A → B → C → D → E) (e : E)
+    → (a >>= (λ x. b >>= (λ y. c >>= (λ z. d >>= (λ u. Ok (make x y z u)))))) ≡ Ok e → (x : A) × (y : B) × (z : C) × (u : D) × (a ≡ Ok x) × (b ≡ Ok y) × (c ≡ Ok z) × (d ≡ Ok u) × (make x y z u ≡ e)
+four_ok (Ok x) (Ok y) (Ok z) (Ok u) make e h = (x, y, z, u, refl, refl, refl, refl, cc)
+four_ok (Ok x) (Ok y) (Ok z) (Err f) make e h = absurd cc
+four_ok (Ok x) (Ok y) (Err f) d make e h = absurd cc
+four_ok (Ok x) (Err f) c d make e h = absurd cc
+four_ok (Err f) b c d make e h = absurd cc
+
+-- what the option's word is
+is_cut : (C : List ℕ) (cuts : Bool) → cut_in C ≡ Ok cuts → C ∷ [] ≡ option_words cuts
+unfolding cut_in
+is_cut C cuts e = go (bytes_eq C (codes "cut")) refl cuts e
+  where
+    go : (b : Bool) → bytes_eq C (codes "cut") ≡ b → (cuts : Bool) → cond b (Ok true) (Err BadWord) ≡ Ok cuts → C ∷ [] ≡ option_words cuts
+    go true f true e = ap (λ x. x ∷ []) ((bytes_eq-Decides C (codes "cut")).0 f)
+    go true f false e = absurd cc
+    go false f cuts e = absurd cc
 
 words_are_header : (line : List ℕ) (ws : List (List ℕ)) (h : Header) → words_of line ≡ ws → has_bad_byte line ≡ false → name_of word.Chip ≡ word_at 0 ws → has_count word.Chip (length ws) ≡ true → header_in ws ≡ Ok h
-    → IsHeader line h.chip h.ticks h.wire_capacity
+    → IsHeader line h.chip h.ticks h.wire_capacity h.cuts
 unfolding header_in
 words_are_header line [] h w b n c e = absurd cc
 words_are_header line (name ∷ []) h w b n c e = absurd cc
 words_are_header line (name ∷ NAME ∷ []) h w b n c e = absurd cc
 words_are_header line (name ∷ NAME ∷ T ∷ []) h w b n c e = absurd cc
 words_are_header line (name ∷ NAME ∷ T ∷ W ∷ []) h w b n c e =
-    let r = three_ok (chip_in NAME) (number_in 1 1000 T) (number_in 0 65536 W) header_of h e in
-    subst (λ (x : Header). IsHeader line x.chip x.ticks x.wire_capacity) r.6 (record { NAME = NAME; T = T; W = W; printable = b; words = w ∙ ap (λ x. x ∷ NAME ∷ T ∷ W ∷ []) (sym n); chip_is = r.3; ticks_is = r.4; wire_capacity_is = r.5 })
-words_are_header line (name ∷ NAME ∷ T ∷ W ∷ X ∷ rest) h w b n c e = absurd (omega (arith, eqb-true _ _ c))
+    let r = three_ok (chip_in NAME) (number_in 1 1000 T) (number_in 0 65536 W) (λ chip ticks capacity. header_of chip ticks capacity false) h e in
+    subst (λ (x : Header). IsHeader line x.chip x.ticks x.wire_capacity x.cuts) r.6 (record { NAME = NAME; T = T; W = W; printable = b; words = w ∙ ap (λ x. x ∷ NAME ∷ T ∷ W ∷ []) (sym n); chip_is = r.3; ticks_is = r.4; wire_capacity_is = r.5 })
+words_are_header line (name ∷ NAME ∷ T ∷ W ∷ C ∷ []) h w b n c e =
+    let r = four_ok (chip_in NAME) (number_in 1 1000 T) (number_in 0 65536 W) (cut_in C) header_of h e in
+    let o = is_cut C r.3 r.7 in
+    subst (λ (x : Header). IsHeader line x.chip x.ticks x.wire_capacity x.cuts) r.8
+    (record { NAME = NAME; T = T; W = W; printable = b; words = w ∙ (ap (λ x. x ∷ NAME ∷ T ∷ W ∷ C ∷ []) (sym n) ∙ ap (λ rest. codes "chip" ∷ NAME ∷ T ∷ W ∷ rest) o); chip_is = r.4; ticks_is = r.5; wire_capacity_is = r.6 })
+words_are_header line (name ∷ NAME ∷ T ∷ W ∷ C ∷ X ∷ rest) h w b n c e = absurd (four_or_five (length rest) c)
 
 counted : {A : Type 0} (c : Bool) (r : Result A Cause) (x : A) → (cond c (Ok word.Chip) (Err WrongCount) >>= (λ w. r)) ≡ Ok x → (c ≡ true) × (r ≡ Ok x)
 counted true r x e = (refl, e)
 counted false r x e = absurd cc
 
 header_by : (line : List ℕ) (h : Header) (bad : Bool) (first : Option Word) → has_bad_byte line ≡ bad → word_of (word_at 0 (words_of line)) ≡ first
-    → (cond bad (Err BadByte) (placed 1 (words_of line) first) >>= (λ w. header_in (words_of line))) ≡ Ok h → IsHeader line h.chip h.ticks h.wire_capacity
+    → (cond bad (Err BadByte) (placed 1 (words_of line) first) >>= (λ w. header_in (words_of line))) ≡ Ok h → IsHeader line h.chip h.ticks h.wire_capacity h.cuts
 header_by line h true first b f e = absurd cc
 header_by line h false None b f e = absurd cc
 header_by line h false (Some word.Chip) b f e =
@@ -213,10 +247,11 @@ header_by line h false (Some word.Chip) b f e =
     words_are_header line (words_of line) h refl b (name_is _ word.Chip f) r.0 r.1
 header_by line h false (Some w) b f e = absurd cc
 
-pub says_header : (line : List ℕ) (h : Header) → header_at line ≡ Ok h → IsHeader line h.chip h.ticks h.wire_capacity
+pub says_header : (line : List ℕ) (h : Header) → header_at line ≡ Ok h → IsHeader line h.chip h.ticks h.wire_capacity h.cuts
 unfolding header_at starts_with
 says_header line h e = header_by line h _ _ refl refl e
 
-pub reads_header : (line : List ℕ) (chip : Chip) (ticks capacity : ℕ) → IsHeader line chip ticks capacity → header_at line ≡ Ok (header_of chip ticks capacity)
-unfolding header_at starts_with header_in word_of
-reads_header line chip ticks capacity h = rw (h.printable, h.words, h.chip_is, h.ticks_is, h.wire_capacity_is) refl
+pub reads_header : (line : List ℕ) (chip : Chip) (ticks capacity : ℕ) (cuts : Bool) → IsHeader line chip ticks capacity cuts → header_at line ≡ Ok (header_of chip ticks capacity cuts)
+unfolding header_at starts_with header_in word_of cut_in
+reads_header line chip ticks capacity false h = rw (h.printable, h.words, h.chip_is, h.ticks_is, h.wire_capacity_is) refl
+reads_header line chip ticks capacity true h = rw (h.printable, h.words, h.chip_is, h.ticks_is, h.wire_capacity_is) refl

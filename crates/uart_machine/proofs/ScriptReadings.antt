@@ -88,7 +88,7 @@ grows plan s (Ok sayings) =
 grows plan s (Err e) = refl
 
 abbrev pub empty_plan : Header → Plan
-empty_plan header = record { chip = header.chip; ticks = header.ticks; wire_capacity = header.wire_capacity; limit = default_limit; events = []; calls = [] }
+empty_plan header = record { chip = header.chip; ticks = header.ticks; wire_capacity = header.wire_capacity; cuts = header.cuts; limit = default_limit; events = []; calls = [] }
 
 pub starts : (header : Header) (sayings : Result (List Saying) Fault) → ends_in (empty_plan header) sayings ≡ planned header sayings
 unfolding planned

@@ -3,6 +3,7 @@ use Rattle.std.proofs.Common.{◌≡◌, ℕ, List, [], ◌∷◌, ◌++◌, ref
 use Rattle.uart_16550.specs.Access.{Access, saved, saved_lsr, saved_msr}
 use Rattle.uart_16550.specs.Driver.{fields}
 use Rattle.uart_16550.specs.Tty.{inner_of}
+use Rattle.uart_machine.specs.Chip.{cut_of}
 use Rattle.uart_machine.specs.Sound.{IsSound}
 use Rattle.uart_machine.specs.Run.{State, machine_of, Link, Chain}
 use Rattle.uart_machine.specs.Ready.{Ready}
@@ -15,13 +16,13 @@ use Rattle.uart_machine.proofs.CallLaws.{Passes, InSession, passes_none, passes_
 
 -- the modes in which a session runs are those in which it begins
 pub modes_of : State → Modes
-modes_of s = record { lcr = (machine_of s).chip.latches.lcr; mcr = (machine_of s).chip.latches.mcr; fifo = (machine_of s).chip.fifo }
+modes_of s = record { lcr = (machine_of s).chip.latches.lcr; mcr = (machine_of s).chip.latches.mcr; fifo = (machine_of s).chip.fifo; cut = cut_of (machine_of s).chip }
 
 pub in_session : (s : State) → Ready s → IsSound (machine_of s) → InSession (modes_of s) s
 unfolding modes_of
 in_session s ready sound = record {
   open_modes = record { dlab = ready.dlab; loopback = ready.loopback };
-  stands = record { sound = sound; modes = record { lcr = refl; mcr = refl; fifo = refl } };
+  stands = record { sound = sound; modes = record { lcr = refl; mcr = refl; fifo = refl; cut = refl } };
   fifo = sym ready.fifo;
 }
 

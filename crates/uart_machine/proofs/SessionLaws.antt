@@ -10,9 +10,9 @@ use Rattle.uart_16550.specs.Access.{Access, Read, saved_lsr, saved_msr}
 use Rattle.uart_machine.specs.Registers.{has_any}
 use Rattle.uart_machine.specs.Machine.{MachineState, MachineStep}
 use Rattle.uart_machine.specs.Laws.{changes_in}
-use Rattle.uart_machine.specs.Conserved.{waiting, stands, arriving, between, entered, kept, IsDrop}
+use Rattle.uart_machine.specs.Conserved.{waiting, stands, between, entered, kept, IsDrop}
 use Rattle.uart_machine.proofs.Receives.{Drop, Owed, Shows}
-use Rattle.uart_machine.proofs.Went.{Modes}
+use Rattle.uart_machine.proofs.Went.{Modes, IsIn, arriving_cut}
 use Rattle.uart_machine.proofs.Passed.{Passed}
 use Rattle.uart_machine.proofs.BlockLaws.{PassedBlocks}
 
@@ -26,18 +26,19 @@ between_passed x m n made ws ts p =
     rw (few, p.ahead) (take-append_seam p.events n.ahead)
 
 -- what entered and stands was taken or waits
-pub taken_entered : (x : Modes) (m n : MachineState) (made : List Access) (ws : List ℕ) (ts : List Character) → Passed x m n made ws ts →
+pub taken_entered : (x : Modes) (m n : MachineState) (made : List Access) (ws : List ℕ) (ts : List Character) → IsIn x m.chip → Passed x m n made ws ts →
     filter (stands n.chip.receiver) (entered m n) ≡ ts ++ n.chip.receiver.queue
-taken_entered x m n made ws ts p =
+taken_entered x m n made ws ts w p =
     let r = m.chip.receiver in
-    ap (λ (es : List Event). filter (stands n.chip.receiver) (r.queue ++ arriving r.arrived es)) (between_passed x m n made ws ts p) ∙ p.went.receives.moved.stay
+    ap (λ (f : ℕ → ℕ). filter (stands n.chip.receiver) (r.queue ++ arriving_cut f r.arrived (between m n))) w.cut ∙
+    (ap (λ (es : List Event). filter (stands n.chip.receiver) (r.queue ++ arriving_cut x.cut r.arrived es)) (between_passed x m n made ws ts p) ∙ p.went.receives.moved.stay)
 
 -- what was received and what waits is what was kept
-pub received_kept : (x : Modes) (m n : MachineState) (made : List Access) (ws rs : List ℕ) → PassedBlocks x m n made ws rs → rs ++ waiting n ≡ kept m n
-received_kept x m n made ws rs p =
+pub received_kept : (x : Modes) (m n : MachineState) (made : List Access) (ws rs : List ℕ) → IsIn x m.chip → PassedBlocks x m n made ws rs → rs ++ waiting n ≡ kept m n
+received_kept x m n made ws rs w p =
     let byte : Character → ℕ = λ character. character.byte in
     let s = n.chip.receiver in
-    sym (ap (map byte) (taken_entered x m n made ws p.takes p.passed) ∙ (map-append byte p.takes s.queue ∙ ap (λ zs. zs ++ map byte s.queue) p.bytes))
+    sym (ap (map byte) (taken_entered x m n made ws p.takes w p.passed) ∙ (map-append byte p.takes s.queue ∙ ap (λ zs. zs ++ map byte s.queue) p.bytes))
 
 -- ---- the overrun flag
 

@@ -14,7 +14,7 @@ use Rattle.uart_machine.specs.Transmitter.{TransmitterState, looped_byte, load}
 use Rattle.uart_machine.specs.Receiver as receiver
 use Rattle.uart_machine.specs.Receiver.{ReceiverState, take_front, report, clear}
 use Rattle.uart_machine.specs.Modem.{renew}
-use Rattle.uart_machine.specs.Chip.{ChipState, is_dlab_set, is_loopback, tick, ticks, arrive, change_lines, interrupt, after_read, after_write, trigger_of, switch, reset_receiver, reset_transmitter, set_trigger, is_same, set_fifo, control, with_latches, enable}
+use Rattle.uart_machine.specs.Chip.{ChipState, cut_of, is_dlab_set, is_loopback, tick, ticks, arrive, change_lines, interrupt, after_read, after_write, trigger_of, switch, reset_receiver, reset_transmitter, set_trigger, is_same, set_fifo, control, with_latches, enable}
 use Rattle.uart_machine.specs.Machine.{MachineState, MachineStep, arrivals, perform, at_access, at_mark}
 use Rattle.uart_machine.specs.Sound.{IsTrigger, IsSoundTransmitter, IsSoundLatches, IsSoundChip, HoldBytes, AllLegal, IsSound, IsWhole}
 use Rattle.uart_machine.proofs.Within.{within_and, within-le}
@@ -121,7 +121,7 @@ pub steady_arrive : (byte errors : ℕ) (c : ChipState) → IsSoundChip c → c.
     Steady (c.receiver.arrived + 1) c (arrive byte errors c)
 steady_arrive byte errors c w k l =
     let loopback : Bool = is_loopback c.latches in
-    steady_receiver (c.receiver.arrived + 1) c (receiver.arrive loopback c.fifo byte errors c.receiver) w (safe_arrive loopback c.fifo c.receiver byte errors w.receiver k l)
+    steady_receiver (c.receiver.arrived + 1) c (receiver.arrive loopback c.fifo (cut_of c byte) errors c.receiver) w (safe_arrive loopback c.fifo c.receiver (cut_of c byte) errors w.receiver k l)
 
 -- a change of the lines
 pub steady_lines : (inputs : ℕ) (c : ChipState) → IsSoundChip c → IsWithin inputs msr_lines → Steady c.receiver.arrived c (change_lines inputs c)
@@ -251,7 +251,7 @@ steady_write offset value c w =
     let same : IsSoundLatches c.latches = w.latches in
     let still : (l : Latches) → l.ier ≡ c.latches.ier → l.mcr ≡ c.latches.mcr → Steady n c (with_latches l c) = λ l p q. steady_latches c l w (kept l p q) in
     steady_if n c _ _ (offset == offset_data)
-    (steady_if n c _ _ (is_dlab_set c.latches) (still _ refl refl) (steady_transmitter c (load c.fifo value c.transmitter) w (sound_load c.fifo value c.transmitter w.transmitter) (char_ticks-load c.fifo value c.transmitter)))
+    (steady_if n c _ _ (is_dlab_set c.latches) (still _ refl refl) (steady_transmitter c (load c.fifo (cut_of c value) c.transmitter) w (sound_load c.fifo (cut_of c value) c.transmitter w.transmitter) (char_ticks-load c.fifo (cut_of c value) c.transmitter)))
     (steady_if n c _ _ (offset == offset_ier) (steady_if n c _ _ (is_dlab_set c.latches) (still _ refl refl) (steady_enable value c w))
     (steady_if n c _ _ (offset == offset_fcr) (steady_control c.model value c w refl)
     (steady_if n c _ _ (offset == offset_lcr) (still _ refl refl)

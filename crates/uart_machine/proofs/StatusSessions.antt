@@ -78,8 +78,8 @@ first_told : (fifo : Bool) (old : Option Character) (line : ℕ) (queue : List C
 first_told fifo old line [] h = tt
 first_told fifo old line (f ∷ others) h = (h f others refl, tt)
 
-tells_line : (x : Modes) (s t : State) (value : ℕ) → LsrAfter x s t value → TellsLine s t value
-tells_line x s t value a =
+tells_line : (x : Modes) (s t : State) (value : ℕ) → InSession x s → LsrAfter x s t value → TellsLine s t value
+tells_line x s t value w a =
     let old = reported_front (receiver_of s) in
     let queue = (receiver_of t).queue in
     let all : AllTold x.fifo old value (a.takes ++ take 1 queue) =
@@ -87,7 +87,7 @@ tells_line x s t value a =
     record {
       drop = a.tells.drop_told;
       taken = a.takes;
-      was_taken = taken_entered x (machine_of s) (machine_of t) a.made a.written a.takes a.tells.passed;
+      was_taken = taken_entered x (machine_of s) (machine_of t) a.made a.written a.takes w.stands.modes a.tells.passed;
       errors = rw a.tells.passed.went.modes.fifo all;
     }
 
@@ -161,7 +161,7 @@ tells_in x s t links w within chain = record {
         let e = ends s t some last h in
         let after = lsr_after x s last.before last.after some value w (within-front some (last ∷ []) i) none e.chain (call_is last.before last.after last.call call.Lsr last.answer (Register value) c a e.step) in
         let T : State → Type 0 = λ v. TellsLine s v value in
-        subst T e.same (tells_line x s last.after value after)
+        subst T e.same (tells_line x s last.after value w after)
 
     only_drops : (first : Link) (some : List Link) (last : Link) (value : ℕ) → AllWithinSession (first ∷ (some ++ last ∷ [])) → Chain s (first ∷ (some ++ last ∷ [])) t → AllNoLsr some →
         first.call ≡ call.Lsr → last.call ≡ call.Lsr → last.answer ≡ Register value → TellsNoOtherDrop first.after t value

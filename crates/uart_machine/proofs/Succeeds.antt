@@ -1,5 +1,6 @@
 -- Where ticks come before each access, the spin limit is long enough and the wire has room, calls do not stall.
-use Rattle.std.proofs.Common.{◌≡◌, ℕ, ◌+◌, ◌≤◌, ◌<◌, Bool, List, [], ◌++◌, length, length-append, take, Result, Ok, Err, refl, arith, sym, ◌∙◌, ap, subst}
+use Rattle.std.proofs.Common.{◌≡◌, ℕ, ◌+◌, ◌≤◌, ◌<◌, Bool, List, [], ◌++◌, length, map, length-append, take, Result, Ok, Err, refl, arith, sym, ◌∙◌, ap, subst}
+use Rattle.std.proofs.lemmas.List.{length-map}
 use Rattle.std.specs.List.{concat}
 use Rattle.std.proofs.lemmas.List.{length-take}
 use Rattle.uart_spec.specs.declared.errors.StalledError.{StalledError}
@@ -54,7 +55,9 @@ no_stall-after s t L l written w ready timely off room makes fits path =
     let m = machine_of s in
     let q = path_split MachineStep m t fits.front fits.back (path_as m t l (fits.front ++ fits.back) fits.whole path) in
     let p = sent q.0 q.1 in
-    let long : length (out q.0) ≡ length (out m) + length written = ap length p.passed.went.sends.grows ∙ length-append (out m) written in
+    let cut : ℕ → ℕ = (modes_of s).cut in
+    let size : length (map cut written) ≡ length written = length-map written cut in
+    let long : length (out q.0) ≡ length (out m) + length written = ap length p.passed.went.sends.grows ∙ (length-append (out m) (map cut written) ∙ ap (λ n. length (out m) + n) size) in
     let same = (same_pace fits.front m q.0 q.1).capacity in
     let r : Runs q.0 = record { sound = p.passed.sound; ticked = ticked-path fits.front m q.0 timely.ticked q.1; flows = λ e. omega (arith, long, same, room) } in
     no_stall-room (settings_at s) off (settings_at s).limit fits.back q.0 t r (few_left s fits.front q.0 w timely q.1) fits.second q.2

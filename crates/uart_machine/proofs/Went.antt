@@ -1,5 +1,6 @@
 -- What a stretch of a session does to the chip.
-use Rattle.std.proofs.Common.{◌≡◌, ℕ, zero, suc, ◌+◌, ◌≤◌, ◌<◌, Bool, false, List, [], ◌∷◌, ◌++◌, length, refl, arith, sym, ◌∙◌, ap, subst, inl, bit_or}
+use Rattle.std.proofs.Common.{◌≡◌, ℕ, zero, suc, ◌+◌, ◌≤◌, ◌<◌, Bool, false, List, [], ◌∷◌, ◌++◌, length, map, refl, arith, sym, ◌∙◌, ap, subst, inl, bit_or}
+use Rattle.std.proofs.lemmas.List.{map-append}
 use Rattle.uart_machine.specs.declared.event.Event.{Event}
 use Rattle.uart_machine.specs.declared.event.Event.TheVariants.{Ticks, Arrive, Lines, Access as Gate, Mark}
 use Rattle.uart_machine.specs.declared.receiver.Character.{Character}
@@ -10,9 +11,9 @@ use Rattle.uart_machine.specs.Transmitter as transmitter
 use Rattle.uart_machine.specs.Transmitter.{looped_byte}
 use Rattle.uart_machine.specs.Receiver as receiver
 use Rattle.uart_machine.specs.Receiver.{ReceiverState, grow_timeout}
-use Rattle.uart_machine.specs.Chip.{ChipState, is_dlab_set, is_loopback, tick, ticks, arrive, change_lines}
+use Rattle.uart_machine.specs.Chip.{ChipState, cut_of, is_dlab_set, is_loopback, tick, ticks, arrive, change_lines}
 use Rattle.uart_machine.specs.Machine.{perform, arrivals}
-use Rattle.uart_machine.specs.Conserved.{arriving}
+use Rattle.uart_machine.specs.Conserved.{arriving, cut_character}
 use Rattle.uart_machine.specs.Sound.{IsMarked, IsSoundChip}
 use Rattle.uart_machine.proofs.Bits.{or_assoc}
 use Rattle.uart_machine.proofs.Sounds.{steady_ticks}
@@ -29,12 +30,21 @@ pub record Modes : Type 0 where
   pub lcr : ℕ
   pub mcr : ℕ
   pub fifo : Bool
+  pub cut : ℕ → ℕ
 
 -- the chip is in these modes
 pub record IsIn (x : Modes) (c : ChipState) : Type 0 where
   pub lcr : c.latches.lcr ≡ x.lcr
   pub mcr : c.latches.mcr ≡ x.mcr
   pub fifo : c.fifo ≡ x.fifo
+  pub cut : cut_of c ≡ x.cut
+
+-- the modes that no call of a session changes
+abbrev pub fixed : Modes → Bool × (ℕ → ℕ)
+fixed x = (x.fifo, x.cut)
+
+abbrev pub fixed_in : ChipState → Bool × (ℕ → ℕ)
+fixed_in c = (c.fifo, cut_of c)
 
 -- offsets 0 and 1 reach the divisor latch
 abbrev pub dlab : Modes → Bool
@@ -55,15 +65,19 @@ marked-in x c s w = subst (λ (b : Bool). IsMarked b c.receiver) w.fifo s.receiv
 
 -- ---- the events' characters, and the accesses' saved bits
 
-pub arriving-append : (k : ℕ) (xs ys : List Event) → arriving k (xs ++ ys) ≡ arriving k xs ++ arriving (k + length (arriving k xs)) ys
-arriving-append k [] ys = ap (λ n. arriving n ys) (omega arith)
-arriving-append k (Arrive byte errors ∷ xs) ys =
-    let e : (k + 1) + length (arriving (k + 1) xs) ≡ k + suc (length (arriving (k + 1) xs)) = omega arith in
-    ap (λ zs. record { byte = byte; errors = errors; origin = Arrived k } ∷ zs) (arriving-append (k + 1) xs ys ∙ ap (λ n. arriving (k + 1) xs ++ arriving n ys) e)
-arriving-append k (Ticks n ∷ xs) ys = arriving-append k xs ys
-arriving-append k (Lines inputs ∷ xs) ys = arriving-append k xs ys
-arriving-append k (Gate ∷ xs) ys = arriving-append k xs ys
-arriving-append k (Mark ∷ xs) ys = arriving-append k xs ys
+-- the characters that events bring, cut
+abbrev pub arriving_cut : (ℕ → ℕ) → ℕ → List Event → List Character
+arriving_cut cut number events = map (cut_character cut) (arriving number events)
+
+pub arriving-append : (cut : ℕ → ℕ) (k : ℕ) (xs ys : List Event) → arriving_cut cut k (xs ++ ys) ≡ arriving_cut cut k xs ++ arriving_cut cut (k + length (arriving_cut cut k xs)) ys
+arriving-append cut k [] ys = ap (λ n. arriving_cut cut n ys) (omega arith)
+arriving-append cut k (Arrive byte errors ∷ xs) ys =
+    let e : (k + 1) + length (arriving_cut cut (k + 1) xs) ≡ k + suc (length (arriving_cut cut (k + 1) xs)) = omega arith in
+    ap (λ zs. record { byte = cut byte; errors = errors; origin = Arrived k } ∷ zs) (arriving-append cut (k + 1) xs ys ∙ ap (λ n. arriving_cut cut (k + 1) xs ++ arriving_cut cut n ys) e)
+arriving-append cut k (Ticks n ∷ xs) ys = arriving-append cut k xs ys
+arriving-append cut k (Lines inputs ∷ xs) ys = arriving-append cut k xs ys
+arriving-append cut k (Gate ∷ xs) ys = arriving-append cut k xs ys
+arriving-append cut k (Mark ∷ xs) ys = arriving-append cut k xs ys
 
 pub saved-append : (register mask : ℕ) (xs ys : List Access) → saved register mask (xs ++ ys) ≡ bit_or (saved register mask xs) (saved register mask ys)
 saved-append register mask [] ys = refl
@@ -75,29 +89,37 @@ saved-append register mask (x ∷ xs) ys =
 -- from c to d: these events came, these accesses were made, these bytes written and these characters taken
 pub record Went (x : Modes) (c d : ChipState) (events : List Event) (made : List Access) (written : List ℕ) (takes : List Character) : Type 0 where
   pub modes : IsIn x d
-  pub sends : Sends c.transmitter d.transmitter written
-  pub receives : Receives x.fifo c.receiver d.receiver (arriving c.receiver.arrived events) takes (saved_lsr made)
+  pub sends : Sends c.transmitter d.transmitter (map x.cut written)
+  pub receives : Receives x.fifo c.receiver d.receiver (arriving_cut x.cut c.receiver.arrived events) takes (saved_lsr made)
   pub reports : Reports x.fifo c.receiver d.receiver takes (saved_lsr made)
   pub turns : Turns c.modem d.modem events (saved_msr made)
 
 -- one stretch and then another, which may begin in other modes
-pub went-trans : (x y : Modes) (c d e : ChipState) (f g : List Event) (xs ys : List Access) (ws vs : List ℕ) (ts us : List Character) → y.fifo ≡ x.fifo →
+pub went-trans : (x y : Modes) (c d e : ChipState) (f g : List Event) (xs ys : List Access) (ws vs : List ℕ) (ts us : List Character) → fixed y ≡ fixed x →
     Went x c d f xs ws ts → Went y d e g ys vs us → Went y c e (f ++ g) (xs ++ ys) (ws ++ vs) (ts ++ us)
 went-trans x y c d e f g xs ys ws vs ts us same p q = record {
   modes = q.modes;
-  sends = sends-trans c.transmitter d.transmitter e.transmitter ws vs p.sends q.sends;
+  sends =
+      let joined : map x.cut ws ++ map y.cut vs ≡ map y.cut (ws ++ vs) = ap (λ (f : ℕ → ℕ). map f ws ++ map y.cut vs) (sym cut) ∙ sym (map-append y.cut ws vs) in
+      subst (λ (zs : List ℕ). Sends c.transmitter e.transmitter zs) joined (sends-trans c.transmitter d.transmitter e.transmitter (map x.cut ws) (map y.cut vs) p.sends q.sends);
   receives =
       let k = c.receiver.arrived in
-      let first : Receives y.fifo c.receiver d.receiver (arriving k f) ts (saved_lsr xs) = rw same p.receives in
-      let come : arriving k f ++ arriving d.receiver.arrived g ≡ arriving k (f ++ g) = ap (λ n. arriving k f ++ arriving n g) p.receives.number ∙ sym (arriving-append k f g) in
-      let both = receives-trans y.fifo c.receiver d.receiver e.receiver (arriving k f) (arriving d.receiver.arrived g) ts us (saved_lsr xs) (saved_lsr ys) first q.receives in
+      let first : Receives y.fifo c.receiver d.receiver (arriving_cut y.cut k f) ts (saved_lsr xs) = rw (fifo, cut) p.receives in
+      let come : arriving_cut y.cut k f ++ arriving_cut y.cut d.receiver.arrived g ≡ arriving_cut y.cut k (f ++ g) = ap (λ n. arriving_cut y.cut k f ++ arriving_cut y.cut n g) first.number ∙ sym (arriving-append y.cut k f g) in
+      let both = receives-trans y.fifo c.receiver d.receiver e.receiver (arriving_cut y.cut k f) (arriving_cut y.cut d.receiver.arrived g) ts us (saved_lsr xs) (saved_lsr ys) first q.receives in
       rw (come, ← saved-append 5 30 xs ys) at both;
   reports =
-      let first : Reports y.fifo c.receiver d.receiver ts (saved_lsr xs) = rw same p.reports in
+      let first : Reports y.fifo c.receiver d.receiver ts (saved_lsr xs) = rw fifo p.reports in
       let both = reports-trans y.fifo c.receiver d.receiver e.receiver ts us (saved_lsr xs) (saved_lsr ys) (λ h. q.receives.is_shown (inl h)) first q.reports in
       rw (← saved-append 5 30 xs ys) at both;
   turns = rw (saved-append 6 15 xs ys) (turns-trans c.modem d.modem e.modem f g (saved_msr xs) (saved_msr ys) p.turns q.turns);
 }
+  where
+    fifo : y.fifo ≡ x.fifo
+    fifo = ap (λ (p : Bool × (ℕ → ℕ)). p.0) same
+
+    cut : y.cut ≡ x.cut
+    cut = ap (λ (p : Bool × (ℕ → ℕ)). p.1) same
 
 -- ---- events
 
@@ -115,7 +137,7 @@ tick-still c e = ap (λ (b : Bool). record c { transmitter = transmitter.tick b 
 
 pub went-tick : (x : Modes) (c : ChipState) → loopback x ≡ false → IsSoundChip c → IsIn x c → Went x c (tick c) [] [] [] []
 went-tick x c l s w = rw (tick-still c (loopback-in x c w ∙ l)) (record {
-  modes = record { lcr = w.lcr; mcr = w.mcr; fifo = w.fifo };
+  modes = record { lcr = w.lcr; mcr = w.mcr; fifo = w.fifo; cut = w.cut };
   sends = sends-tick c.transmitter;
   receives = receives-still x.fifo c.receiver (grow_timeout c.receiver) (marked-in x c s w) (record { queue = refl; marks = refl; stray = refl; arrived = refl }) refl;
   reports = reports-same x.fifo c.receiver (grow_timeout c.receiver) refl refl refl;
@@ -132,21 +154,23 @@ went-ticks x (suc n) c l s w =
 went-arrive : (x : Modes) (byte errors : ℕ) (c : ChipState) → loopback x ≡ false → IsSoundChip c → IsIn x c → c.receiver.arrived < length c.receiver.marks →
     Went x c (arrive byte errors c) (Arrive byte errors ∷ []) [] [] []
 went-arrive x byte errors c l s w k = record {
-  modes = record { lcr = w.lcr; mcr = w.mcr; fifo = w.fifo };
+  modes = record { lcr = w.lcr; mcr = w.mcr; fifo = w.fifo; cut = w.cut };
   sends = sends-refl c.transmitter;
   receives =
-      let new : Character = record { byte = byte; errors = errors; origin = Arrived c.receiver.arrived } in
-      subst (λ (r : ReceiverState). Receives x.fifo c.receiver r (new ∷ []) [] 0) (sym same) (receives-arrive x.fifo c.receiver byte errors (marked-in x c s w) k);
-  reports = subst (λ (r : ReceiverState). Reports x.fifo c.receiver r [] 0) (sym same) (reports-arrive x.fifo c.receiver byte errors);
+      let new : Character = record { byte = x.cut byte; errors = errors; origin = Arrived c.receiver.arrived } in
+      subst (λ (r : ReceiverState). Receives x.fifo c.receiver r (new ∷ []) [] 0) (sym same) (receives-arrive x.fifo c.receiver (x.cut byte) errors (marked-in x c s w) k);
+  reports = subst (λ (r : ReceiverState). Reports x.fifo c.receiver r [] 0) (sym same) (reports-arrive x.fifo c.receiver (x.cut byte) errors);
   turns = record { lines = refl; deltas = (turns-refl c.modem).deltas };
 }
   where
-    same : receiver.arrive (is_loopback c.latches) c.fifo byte errors c.receiver ≡ receiver.arrive false x.fifo byte errors c.receiver
-    same = ap (λ (b : Bool). receiver.arrive b c.fifo byte errors c.receiver) (loopback-in x c w ∙ l) ∙ ap (λ (b : Bool). receiver.arrive false b byte errors c.receiver) w.fifo
+    same : receiver.arrive (is_loopback c.latches) c.fifo (cut_of c byte) errors c.receiver ≡ receiver.arrive false x.fifo (x.cut byte) errors c.receiver
+    same =
+        ap (λ (b : Bool). receiver.arrive b c.fifo (cut_of c byte) errors c.receiver) (loopback-in x c w ∙ l) ∙
+        (ap (λ (b : Bool). receiver.arrive false b (cut_of c byte) errors c.receiver) w.fifo ∙ ap (λ (f : ℕ → ℕ). receiver.arrive false x.fifo (f byte) errors c.receiver) w.cut)
 
 went-lines : (x : Modes) (inputs : ℕ) (c : ChipState) → loopback x ≡ false → IsSoundChip c → IsIn x c → Went x c (change_lines inputs c) (Lines inputs ∷ []) [] [] []
 went-lines x inputs c l s w = record {
-  modes = record { lcr = w.lcr; mcr = w.mcr; fifo = w.fifo };
+  modes = record { lcr = w.lcr; mcr = w.mcr; fifo = w.fifo; cut = w.cut };
   sends = sends-refl c.transmitter;
   receives = receives-refl x.fifo c.receiver (marked-in x c s w);
   reports = reports-refl x.fifo c.receiver;

@@ -1,12 +1,12 @@
 -- The chip: its registers, what an access does, and what happens between accesses.
-use Rattle.std.specs.Prelude.{ℕ, ◌+◌, ◌*◌, zero, suc, Bool, true, false, not, ◌&&◌, List, [], ◌∷◌, length, Option, Some, None, nat_lt, if◌then◌else◌, ◌==◌, bit_and, bit_or}
+use Rattle.std.specs.Prelude.{ℕ, ◌+◌, ◌*◌, ◌%◌, ◌^◌, zero, suc, Bool, true, false, not, ◌&&◌, List, [], ◌∷◌, length, Option, Some, None, nat_lt, if◌then◌else◌, ◌==◌, bit_and, bit_or}
 use Rattle.std.specs.List.{list_any}
 use Rattle.uart_machine.specs.declared.chip.Latches.{Latches}
 use Rattle.uart_machine.specs.declared.transmitter.Shifting.{Shifting}
 use Rattle.uart_machine.specs.declared.event.Chip.{Chip}
 use Rattle.uart_machine.specs.declared.event.Chip.TheVariants.{Uart16550A, Uart16450}
 use Rattle.uart_machine.specs.declared.modem.Modem.{Modem}
-use Rattle.uart_machine.specs.Registers.{has_any, flag, offset_data, offset_ier, offset_isr, offset_fcr, offset_lcr, offset_mcr, offset_lsr, offset_msr, offset_scr, ier_data_ready, ier_thr_empty, ier_line_status, ier_modem_status, ier_bits, isr_modem_status, isr_none, isr_thr_empty, isr_data_ready, isr_line_status, isr_timeout, isr_fifo, fcr_enable, fcr_receiver_reset, fcr_transmitter_reset, fcr_trigger, lcr_dlab, mcr_loopback, mcr_bits, lsr_data_ready, lsr_overrun, lsr_errors, lsr_thr_empty, lsr_transmitter_empty, lsr_fifo_error}
+use Rattle.uart_machine.specs.Registers.{has_any, flag, offset_data, offset_ier, offset_isr, offset_fcr, offset_lcr, offset_mcr, offset_lsr, offset_msr, offset_scr, ier_data_ready, ier_thr_empty, ier_line_status, ier_modem_status, ier_bits, isr_modem_status, isr_none, isr_thr_empty, isr_data_ready, isr_line_status, isr_timeout, isr_fifo, fcr_enable, fcr_receiver_reset, fcr_transmitter_reset, fcr_trigger, lcr_dlab, lcr_word_length, mcr_loopback, mcr_bits, lsr_data_ready, lsr_overrun, lsr_errors, lsr_thr_empty, lsr_transmitter_empty, lsr_fifo_error}
 use Rattle.uart_machine.specs.Transmitter as transmitter
 use Rattle.uart_machine.specs.Transmitter.{TransmitterState, looped_byte, load}
 use Rattle.uart_machine.specs.Receiver as receiver
@@ -14,7 +14,7 @@ use Rattle.uart_machine.specs.Receiver.{ReceiverState, take_front, front_errors,
 use Rattle.uart_machine.specs.Modem as modem
 use Rattle.uart_machine.specs.Modem.{renew}
 
--- the model says whether there is a FIFO at all, fifo whether it is on
+-- the model says whether there is a FIFO at all, fifo whether it is on, cuts whether characters are cut to the word length
 pub record ChipState : Type 0 where
   pub model : Chip
   pub latches : Latches
@@ -22,6 +22,7 @@ pub record ChipState : Type 0 where
   pub transmitter : TransmitterState
   pub receiver : ReceiverState
   pub modem : Modem
+  pub cuts : Bool
 
 -- a chip after power on, with so many arrivals to come
 abbrev pub fresh : Chip → ℕ → ℕ → ℕ → ChipState
@@ -33,6 +34,7 @@ fresh model char_ticks capacity arrivals =
       transmitter = transmitter.fresh char_ticks capacity;
       receiver = receiver.fresh char_ticks arrivals;
       modem = modem.fresh;
+      cuts = false;
     }
 
 -- offsets 0 and 1 reach the divisor latch
@@ -46,6 +48,19 @@ is_loopback l = has_any l.mcr mcr_loopback
 -- the divisor latch
 abbrev pub divisor : Latches → ℕ
 divisor l = 256 * l.dlm + l.dll
+
+-- the word length: 5 to 8 data bits a character
+abbrev pub word_length : (lcr : ℕ) → ℕ
+word_length lcr = 5 + bit_and lcr lcr_word_length
+
+-- a byte as a character of this word length, if characters are cut
+abbrev pub cut_to : (cuts : Bool) → (length byte : ℕ) → ℕ
+cut_to false length byte = byte
+cut_to true length byte = byte % 2 ^ length
+
+-- a byte as the chip sends and receives it now
+abbrev pub cut_of : ChipState → ℕ → ℕ
+cut_of c byte = cut_to c.cuts (word_length c.latches.lcr) byte
 
 -- ---- between accesses
 
@@ -64,7 +79,7 @@ ticks (suc n) c = tick (ticks n c)
 
 -- a character arrives
 abbrev pub arrive : ℕ → ℕ → ChipState → ChipState
-arrive byte errors c = record c { receiver = receiver.arrive (is_loopback c.latches) c.fifo byte errors c.receiver }
+arrive byte errors c = record c { receiver = receiver.arrive (is_loopback c.latches) c.fifo (cut_of c byte) errors c.receiver }
 
 -- the modem's inputs change
 abbrev pub change_lines : ℕ → ChipState → ChipState
@@ -179,7 +194,7 @@ enable value c =
 -- what a write of the register leaves
 abbrev pub after_write : ℕ → ℕ → ChipState → ChipState
 after_write offset value c =
-    if offset == offset_data then (if is_dlab_set c.latches then with_latches (record c.latches { dll = value }) c else record c { transmitter = load c.fifo value c.transmitter })
+    if offset == offset_data then (if is_dlab_set c.latches then with_latches (record c.latches { dll = value }) c else record c { transmitter = load c.fifo (cut_of c value) c.transmitter })
     else if offset == offset_ier then (if is_dlab_set c.latches then with_latches (record c.latches { dlm = value }) c else enable value c)
     else if offset == offset_fcr then control c.model value c
     else if offset == offset_lcr then with_latches (record c.latches { lcr = value }) c

@@ -10,6 +10,7 @@ use Rattle.uart_machine.specs.declared.receiver.Origin.TheVariants.{Arrived, Loo
 use Rattle.uart_machine.specs.Transmitter as transmitter
 use Rattle.uart_machine.specs.Receiver as receiver
 use Rattle.uart_machine.specs.Receiver.{ReceiverState, mark_at}
+use Rattle.uart_machine.specs.Chip.{cut_of}
 use Rattle.uart_machine.specs.Machine.{MachineState}
 
 -- what has gone onto the wire, and then what is still to go
@@ -40,19 +41,25 @@ stands r character = origin_stands r.marks r.is_stray_lost character.origin
 -- the characters that these events bring, numbered from here
 abbrev pub arriving : ℕ → List Event → List Character
 arriving number [] = []
-arriving number (Arrive byte errors ∷ events) = record { byte = byte; errors = errors; origin = Arrived number } ∷ arriving (number + 1) events
+arriving number (Arrive byte errors ∷ events) =
+    record { byte = byte; errors = errors; origin = Arrived number } ∷ arriving (number + 1) events
 arriving number (Ticks n ∷ events) = arriving number events
 arriving number (Lines inputs ∷ events) = arriving number events
 arriving number (Gate ∷ events) = arriving number events
 arriving number (Mark ∷ events) = arriving number events
 
+-- a character with its byte cut
+abbrev pub cut_character : (ℕ → ℕ) → Character → Character
+cut_character cut character = record character { byte = cut character.byte }
+
 -- the events that were performed from the first machine to the second
 abbrev pub between : MachineState → MachineState → List Event
 between m n = take (length m.ahead - length n.ahead) m.ahead
 
--- what waited in the first machine, and then what arrived up to the second
+-- what waited in the first machine, and then what arrived up to the second, each cut to the word length
 abbrev pub entered : MachineState → MachineState → List Character
-entered m n = m.chip.receiver.queue ++ arriving m.chip.receiver.arrived (between m n)
+entered m n =
+    m.chip.receiver.queue ++ map (cut_character (cut_of m.chip)) (arriving m.chip.receiver.arrived (between m n))
 
 -- the bytes of these that the second machine tells were not dropped
 abbrev pub kept : MachineState → MachineState → List ℕ

@@ -82,6 +82,10 @@ chip_in word =
     else if bytes_eq word (codes "16450") then Ok Uart16450
     else Err BadWord
 
+-- the option that may end the first line
+unfoldable pub cut_in : List ℕ → Result Bool Cause
+cut_in word = if bytes_eq word (codes "cut") then Ok true else Err BadWord
+
 -- F: the trigger level of the receiver FIFO
 unfoldable pub level_in : List ℕ → Result (Option FifoTriggerLevel) Cause
 level_in word =

@@ -1,5 +1,5 @@
 -- How a line is read, field by field, as the parser reads it.
-use Rattle.std.specs.Prelude.{ℕ, List, length, Option, Some, None, Result, Ok, Err, ◌==◌, if◌then◌else◌}
+use Rattle.std.specs.Prelude.{ℕ, false, List, length, Option, Some, None, Result, Ok, Err, ◌==◌, if◌then◌else◌}
 use Rattle.std.specs.Int.NonZero.{non_zero_u64_get}
 use Rattle.uart_spec.specs.declared.config.Config.{Config}
 use Rattle.uart_machine.specs.declared.event.Event.{Event}
@@ -14,7 +14,7 @@ use Rattle.uart_machine.specs.declared.script.items.Header.{Header}
 use Rattle.uart_machine.specs.declared.script.words.Word.{Word}
 use Rattle.uart_machine.specs.declared.script.words.Word.TheVariants as word
 use Rattle.uart_machine.specs.Text.{words_of, word_at, has_bad_byte}
-use Rattle.uart_machine.specs.Fields.{◌>>=◌, number_in, byte_in, lines_in, bytes_in, text_in, errors_in, chip_in, level_in, rate_in, cts_in, interrupts_in, word_length_in}
+use Rattle.uart_machine.specs.Fields.{◌>>=◌, number_in, byte_in, lines_in, bytes_in, text_in, errors_in, chip_in, cut_in, level_in, rate_in, cts_in, interrupts_in, word_length_in}
 use Rattle.uart_machine.specs.Words.{word_of, has_count, is_placed}
 use Rattle.uart_machine.specs.ScriptLines.{Saying, Nothing, Limit, Happens, Calls, Marks, configured, bytes_of, text_of, plain}
 
@@ -129,13 +129,14 @@ item_at number line =
     if length line == 0 then Ok Nothing
     else starts_with number line >>= (λ word. item_of word (words_of line))
 
--- chip NAME T W
+-- chip NAME T W, or chip NAME T W cut
 unfoldable pub header_in : List (List ℕ) → Result Header Cause
 header_in ws = do
   chip ← chip_in (word_at 1 ws)
   ticks ← number_in 1 1000 (word_at 2 ws)
   capacity ← number_in 0 65536 (word_at 3 ws)
-  Ok (record { chip = chip; ticks = ticks; wire_capacity = capacity })
+  cuts ← if length ws == 5 then cut_in (word_at 4 ws) else Ok false
+  Ok (record { chip = chip; ticks = ticks; wire_capacity = capacity; cuts = cuts })
 
 -- the first line
 unfoldable pub header_at : List ℕ → Result Header Cause

@@ -16,6 +16,7 @@ pub mod Served
 pub mod Ready
 pub mod Progress
 pub mod Session
+pub mod Uncut
 pub mod Text
 pub mod Fields
 pub mod Words

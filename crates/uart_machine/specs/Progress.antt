@@ -18,7 +18,7 @@ use Rattle.uart_machine.specs.Machine.{MachineState}
 use Rattle.uart_machine.specs.Conserved.{out}
 use Rattle.uart_machine.specs.Run.{State, machine_of}
 use Rattle.uart_machine.specs.Served.{transmitter_of}
-use Rattle.uart_machine.specs.Ready.{Ready}
+use Rattle.uart_machine.specs.Ready.{Ready, is_narrow, test_answer}
 
 -- each Access of these events has at least one tick after the Access or Mark before it, or after the beginning; of that one so many
 -- ticks have passed already
@@ -66,7 +66,7 @@ pub record HasDivisor (config : Config) : Type 0 where
 -- with room on the wire for what it sends the call does not stall: an `init` from any state, the others from a ready one
 abbrev pub Succeeds : State → Call → Answer → Type 0
 Succeeds s (call.Init config) a = HasRoom 0 (machine_of s) → HasDivisor config → a ≡ Done
-Succeeds s call.TestLoopback a = Ready s → HasRoom 0 (machine_of s) → a ≡ Done
+Succeeds s call.TestLoopback a = Ready s → HasRoom 0 (machine_of s) → a ≡ test_answer (is_narrow (machine_of s).chip)
 Succeeds s call.Flush a = Ready s → HasRoom 0 (machine_of s) → a ≡ Done
 Succeeds s (call.SendExact bytes) a = Ready s → IsUnchecked s → HasRoom (length bytes.items) (machine_of s) → a ≡ Done
 Succeeds s (call.Write bytes) a = Ready s → IsUnchecked s → HasRoom (length bytes.items) (machine_of s) → (count : ℕ) × (a ≡ Count count)

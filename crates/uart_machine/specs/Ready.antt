@@ -1,11 +1,12 @@
 -- States in which a session may begin, and what an `init` and a loopback test come to over the machine.
-use Rattle.std.specs.Prelude.{◌≡◌, ◌≢◌, ◌⊎◌, Bool, true, false, ◌&&◌, Option, Some, None, Ok, bit_and}
+use Rattle.std.specs.Prelude.{◌≡◌, ◌≢◌, ◌⊎◌, Bool, true, false, ◌&&◌, nat_lt, Option, Some, None, Ok, bit_and}
 use Rattle.uart_spec.specs.declared.config.Config.{Config}
 use Rattle.uart_spec.specs.declared.errors.InitError.TheVariants.{DeviceNotPresent}
-use Rattle.uart_spec.specs.declared.errors.LoopbackError.TheVariants.{Stalled}
+use Rattle.uart_spec.specs.declared.errors.LoopbackError.TheVariants.{Stalled, UnexpectedLoopbackByte}
 use Rattle.uart_spec.specs.declared.registers.fifo_trigger_level.FifoTriggerLevel.{FifoTriggerLevel}
 use Rattle.uart_16550.specs.Driver.{fields}
 use Rattle.uart_16550.specs.Init.{DivisorOf, frame_bits}
+use Rattle.uart_16550.specs.Loopback.{test_byte}
 use Rattle.uart_16550.specs.Tty.{inner_of}
 use Rattle.uart_machine.specs.declared.call.Call.{Call}
 use Rattle.uart_machine.specs.declared.call.Call.TheVariants as call
@@ -15,7 +16,7 @@ use Rattle.uart_machine.specs.declared.chip.Latches.{Latches}
 use Rattle.uart_machine.specs.declared.event.Chip.{Chip}
 use Rattle.uart_machine.specs.declared.event.Chip.TheVariants.{Uart16550A, Uart16450}
 use Rattle.uart_machine.specs.Registers.{ier_bits}
-use Rattle.uart_machine.specs.Chip.{is_dlab_set, is_loopback, is_transmitter_empty, divisor}
+use Rattle.uart_machine.specs.Chip.{ChipState, word_length, is_dlab_set, is_loopback, is_transmitter_empty, divisor}
 use Rattle.uart_machine.specs.Machine.{MachineState}
 use Rattle.uart_machine.specs.Run.{State, machine_of}
 use Rattle.uart_machine.specs.Served.{transmitter_of, IsFlushed}
@@ -63,10 +64,19 @@ pub record Initialises (config : Config) (a : Answer) (t : State) : Type 0 where
 
 -- ---- after a loopback test
 
--- it is done or stalls; where it is done the transmitter is empty, and the wire holds what was to go out before it, and nothing else
+-- characters are cut to fewer than the 7 bits of a test's bytes
+abbrev pub is_narrow : ChipState → Bool
+is_narrow c = c.cuts && nat_lt (word_length c.latches.lcr) 7
+
+-- what a test answers that does not stall: it is done, or its first byte comes back without the bit of 64
+abbrev pub test_answer : (is_narrow : Bool) → Answer
+test_answer false = Done
+test_answer true = LoopbackRefused (UnexpectedLoopbackByte test_byte 2)
+
+-- it answers this or stalls; if it does not stall, the transmitter is empty, and the wire holds what was to go out before it, and nothing else
 pub record IsTested (s : State) (a : Answer) (t : State) : Type 0 where
-  pub answers : (a ≡ Done) ⊎ (a ≡ LoopbackRefused Stalled)
-  pub leaves : a ≡ Done → IsFlushed s t
+  pub answers : (a ≡ test_answer (is_narrow (machine_of s).chip)) ⊎ (a ≡ LoopbackRefused Stalled)
+  pub leaves : a ≡ test_answer (is_narrow (machine_of s).chip) → IsFlushed s t
 
 -- ---- each call
 

@@ -93,6 +93,9 @@ abbrev pub fcr_trigger : ℕ
 fcr_trigger = 192
 
 -- ---- line control
+abbrev pub lcr_word_length : ℕ
+lcr_word_length = 3
+
 abbrev pub lcr_dlab : ℕ
 lcr_dlab = 128
 

@@ -1,5 +1,5 @@
 -- What a script is, line by line, and the first faulty line of bytes that are none.
-use Rattle.std.specs.Prelude.{◌≡◌, ◌↔◌, ⊤, ℕ, ◌+◌, ◌<◌, ◌≤◌, ◌==◌, ◌&&◌, nat_lt, bit_and, Bool, false, not, List, [], ◌∷◌, ◌++◌, length, map, Option, Some, None, Result, Ok, Err, IfOk, All, if◌then◌else◌, flat_map, codes, drop}
+use Rattle.std.specs.Prelude.{◌≡◌, ◌↔◌, ⊤, ℕ, ◌+◌, ◌<◌, ◌≤◌, ◌==◌, ◌&&◌, nat_lt, bit_and, Bool, true, false, not, List, [], ◌∷◌, ◌++◌, length, map, Option, Some, None, Result, Ok, Err, IfOk, All, if◌then◌else◌, flat_map, codes, drop}
 use Rattle.std.specs.Int.NonZero.{non_zero_u64_get}
 use Rattle.uart_machine.specs.declared.event.Chip.{Chip}
 use Rattle.uart_machine.specs.declared.event.Event.{Event}
@@ -36,6 +36,7 @@ pub record Plan : Type 0 where
   pub chip : Chip
   pub ticks : ℕ
   pub wire_capacity : ℕ
+  pub cuts : Bool
   pub limit : ℕ
   pub events : List Event
   pub calls : List Call
@@ -46,18 +47,24 @@ plan_of s = record {
   chip = s.header.chip;
   ticks = s.header.ticks;
   wire_capacity = s.header.wire_capacity;
+  cuts = s.header.cuts;
   limit = non_zero_u64_get s.limit;
   events = s.events.items;
   calls = map plain s.calls.items;
 }
 
--- chip NAME T W
-pub record IsHeader (line : List ℕ) (chip : Chip) (ticks wire_capacity : ℕ) : Type 0 where
+-- the word of the option, where it is on
+abbrev pub option_words : Bool → List (List ℕ)
+option_words false = []
+option_words true = codes "cut" ∷ []
+
+-- chip NAME T W, or chip NAME T W cut
+pub record IsHeader (line : List ℕ) (chip : Chip) (ticks wire_capacity : ℕ) (cuts : Bool) : Type 0 where
   pub NAME : List ℕ
   pub T : List ℕ
   pub W : List ℕ
   pub printable : has_bad_byte line ≡ false
-  pub words : words_of line ≡ codes "chip" ∷ NAME ∷ T ∷ W ∷ []
+  pub words : words_of line ≡ codes "chip" ∷ NAME ∷ T ∷ W ∷ option_words cuts
   pub chip_is : chip_in NAME ≡ Ok chip
   pub ticks_is : number_in 1 1000 T ≡ Ok ticks
   pub wire_capacity_is : number_in 0 65536 W ≡ Ok wire_capacity
@@ -81,7 +88,7 @@ pub record IsScript (bytes : List ℕ) (plan : Plan) : Type 0 where
   pub fits : length bytes ≤ 65536
   pub lines : lines_of bytes ≡ first ∷ others
   pub few : length others < 4096
-  pub header : IsHeader first plan.chip plan.ticks plan.wire_capacity
+  pub header : IsHeader first plan.chip plan.ticks plan.wire_capacity plan.cuts
   pub body : SayInOrder 2 others sayings
   pub limit : plan.limit ≡ limit_from default_limit sayings
   pub events : plan.events ≡ flat_map events_of sayings

@@ -9,7 +9,7 @@ use Rattle.uart_16550.specs.Driver.{fields}
 use Rattle.uart_16550.specs.Tty.{inner_of}
 use Rattle.uart_machine.specs.declared.call.Answer.{Answer}
 use Rattle.uart_machine.specs.Transmitter.{held}
-use Rattle.uart_machine.specs.Machine.{fresh}
+use Rattle.uart_machine.specs.Machine.{fresh, cutting}
 use Rattle.uart_machine.specs.Conserved.{waiting}
 use Rattle.uart_machine.specs.Run.{State, machine_of, IsRun}
 use Rattle.uart_machine.specs.Script.{Plan}
@@ -31,7 +31,7 @@ first_config = record {
 
 -- the script's machine after power on, and a new driver with the script's limit
 pub record IsFirst (plan : Plan) (s : State) : Type 0 where
-  pub machine : machine_of s ≡ fresh plan.chip plan.ticks plan.wire_capacity plan.events
+  pub machine : machine_of s ≡ cutting plan.cuts (fresh plan.chip plan.ticks plan.wire_capacity plan.events)
   pub driver : fields (inner_of s) ≡ record { config = first_config; fifo = true; lsr = 0; msr = 0; limit = plan.limit }
 
 -- the lines for the answers of a run, and for what the last machine shows

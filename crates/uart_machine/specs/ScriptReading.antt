@@ -43,6 +43,7 @@ plan_by header sayings = record {
   chip = header.chip;
   ticks = header.ticks;
   wire_capacity = header.wire_capacity;
+  cuts = header.cuts;
   limit = limit_from default_limit sayings;
   events = flat_map events_of sayings;
   calls = flat_map calls_of sayings;

@@ -1,10 +1,11 @@
 -- Sessions, and what holds in each.
-use Rattle.std.specs.Prelude.{◌≡◌, ℕ, List, [], ◌∷◌, ◌++◌, take}
+use Rattle.std.specs.Prelude.{◌≡◌, ℕ, List, [], ◌∷◌, ◌++◌, map, take}
 use Rattle.uart_16550.specs.Expansion.{expansion}
 use Rattle.uart_machine.specs.declared.call.Call.{Call}
 use Rattle.uart_machine.specs.declared.call.Call.TheVariants as call
 use Rattle.uart_machine.specs.declared.call.Answer.{Answer}
 use Rattle.uart_machine.specs.declared.call.Answer.TheVariants as answer
+use Rattle.uart_machine.specs.Chip.{cut_of}
 use Rattle.uart_machine.specs.Conserved.{out, waiting, kept}
 use Rattle.uart_machine.specs.Run.{State, machine_of, Link, Chain, calls_of, answers_of}
 use Rattle.uart_machine.specs.Statuses.{Tells}
@@ -85,7 +86,7 @@ overflows s = (machine_of s).chip.transmitter.overflows
 -- kept; an `lsr` or `msr` at the end tells of drops, line errors and changes; and each call does at least what it is for
 pub record Conserves (s : State) (links : List Link) (t : State) : Type 0 where
   pub ready : Ready t
-  pub sent : out (machine_of t) ≡ out (machine_of s) ++ reported links
+  pub sent : out (machine_of t) ≡ out (machine_of s) ++ map (cut_of (machine_of s).chip) (reported links)
   pub no_overflow : overflows t ≡ overflows s
   pub kept : received links ++ waiting (machine_of t) ≡ kept (machine_of s) (machine_of t)
   pub tells : Tells s links t

@@ -3,7 +3,7 @@ use Rattle.std.specs.Prelude.{ℕ, ◌+◌, Bool, not, List, [], ◌∷◌, leng
 use Rattle.uart_machine.specs.declared.script.cause.Cause.{Cause}
 use Rattle.uart_machine.specs.declared.script.words.Word.{Word}
 use Rattle.uart_machine.specs.declared.script.words.Word.TheVariants as word
-use Rattle.uart_machine.specs.Fields.{number_in, byte_in, lines_in, bytes_in, text_in, errors_in, chip_in, level_in, rate_in, cts_in, interrupts_in, word_length_in}
+use Rattle.uart_machine.specs.Fields.{number_in, byte_in, lines_in, bytes_in, text_in, errors_in, chip_in, cut_in, level_in, rate_in, cts_in, interrupts_in, word_length_in}
 
 -- a word as it stands in a script
 abbrev pub name_of : Word → List ℕ
@@ -61,9 +61,9 @@ fault_of (Err e) = Some e
 abbrev pub faulty : {A : Type 0} → (List ℕ → Result A Cause) → List ℕ → Option Cause
 faulty reader text = fault_of (reader text)
 
--- the fields that follow a word; the errors of an arrival may be left out
+-- the fields that follow a word; the errors of an arrival and the option of a chip may be left out
 abbrev pub fields_of : Word → List (List ℕ → Option Cause)
-fields_of word.Chip = faulty chip_in ∷ faulty (number_in 1 1000) ∷ faulty (number_in 0 65536) ∷ []
+fields_of word.Chip = faulty chip_in ∷ faulty (number_in 1 1000) ∷ faulty (number_in 0 65536) ∷ faulty cut_in ∷ []
 fields_of word.Limit = faulty (number_in 1 1000000) ∷ []
 fields_of word.Tick = faulty (number_in 0 65535) ∷ []
 fields_of word.Arrive = faulty byte_in ∷ faulty errors_in ∷ []
@@ -83,6 +83,7 @@ fields_of other = []
 
 -- whether a line with this word may have so many words, itself among them
 abbrev pub has_count : Word → ℕ → Bool
+has_count word.Chip count = count == 4 || count == 5
 has_count word.Arrive count = count == 2 || count == 3
 has_count word count = count == length (fields_of word) + 1
 

@@ -10,13 +10,14 @@ use crate::receiver::Receiver;
 use crate::registers::{
     FCR_ENABLE, FCR_RECEIVER_RESET, FCR_TRANSMITTER_RESET, FCR_TRIGGER, IER_BITS, IER_DATA_READY,
     IER_LINE_STATUS, IER_MODEM_STATUS, IER_THR_EMPTY, ISR_DATA_READY, ISR_FIFO, ISR_LINE_STATUS,
-    ISR_MODEM_STATUS, ISR_NONE, ISR_THR_EMPTY, ISR_TIMEOUT, LCR_DLAB, LSR_DATA_READY, LSR_ERRORS,
-    LSR_FIFO_ERROR, LSR_OVERRUN, LSR_THR_EMPTY, LSR_TRANSMITTER_EMPTY, MCR_BITS, MCR_LOOPBACK,
-    flag, has_any, offsets,
+    ISR_MODEM_STATUS, ISR_NONE, ISR_THR_EMPTY, ISR_TIMEOUT, LCR_DLAB, LCR_WORD_LENGTH,
+    LSR_DATA_READY, LSR_ERRORS, LSR_FIFO_ERROR, LSR_OVERRUN, LSR_THR_EMPTY, LSR_TRANSMITTER_EMPTY,
+    MCR_BITS, MCR_LOOPBACK, flag, has_any, offsets,
 };
 use crate::transmitter::Transmitter;
 use std::alloc::{AllocError, Global};
 use std::marker::Model;
+use uart_spec::registers::WordLength;
 
 /// The registers that keep what is written.
 #[derive(Clone, Copy)]
@@ -38,6 +39,7 @@ pub struct Uart {
     transmitter: Transmitter,
     receiver: Receiver,
     modem: Modem,
+    cuts: bool,
 }
 
 impl Model for Uart {
@@ -45,7 +47,7 @@ impl Model for Uart {
 
     ghost Value = { ChipState };
 
-    ghost view = { λ c. record { model = c.model; latches = c.latches; fifo = c.fifo; transmitter = c.transmitter; receiver = c.receiver; modem = c.modem } };
+    ghost view = { λ c. record { model = c.model; latches = c.latches; fifo = c.fifo; transmitter = c.transmitter; receiver = c.receiver; modem = c.modem; cuts = c.cuts } };
 }
 
 // How many characters the trigger bits ask for.
@@ -68,9 +70,10 @@ impl Uart {
         char_ticks: u16,
         capacity: usize,
         arrivals: usize,
+        cuts: bool,
     ) -> Result<Self, AllocError>
         requires { char_ticks ≤ 1000 }
-        ensures { IfOk result (λ c. c ≡ spec.fresh model char_ticks capacity arrivals) }
+        ensures { IfOk result (λ c. c ≡ record (spec.fresh model char_ticks capacity arrivals) { cuts = cuts }) }
     {
         let transmitter = Transmitter::new(alloc, char_ticks, capacity)?;
         let receiver = Receiver::new(alloc, char_ticks, arrivals)?;
@@ -88,6 +91,7 @@ impl Uart {
             transmitter,
             receiver,
             modem: Modem::new(),
+            cuts,
         })
     }
 
@@ -119,6 +123,21 @@ impl Uart {
         ensures { result ≡ spec.is_dlab_set self.now.latches }
     {
         has_any(self.latches.lcr, LCR_DLAB)
+    }
+
+    // A byte as it is sent and received: if the option is on, its data bits alone.
+    fn cut(&self, byte: u8) -> u8
+        ensures { result ≡ spec.cut_of self.now byte }
+    {
+        if !self.cuts {
+            return byte;
+        }
+        match WordLength::from_raw_bits(self.latches.lcr) {
+            WordLength::FiveBits => byte % (1 << 5),
+            WordLength::SixBits => byte % (1 << 6),
+            WordLength::SevenBits => byte % (1 << 7),
+            WordLength::EightBits => byte,
+        }
     }
 
     fn is_loopback(&self) -> bool
@@ -173,6 +192,7 @@ impl Uart {
         ensures { self.new ≡ spec.arrive byte errors self.old }
     {
         let loopback = self.is_loopback();
+        let byte = self.cut(byte);
         self.receiver.arrive(loopback, self.fifo, byte, errors);
     }
 
@@ -287,7 +307,10 @@ impl Uart {
     {
         match offset {
             offsets::DATA if self.is_dlab_set() => self.latches.dll = value,
-            offsets::DATA => self.transmitter.load(self.fifo, value),
+            offsets::DATA => {
+                let byte = self.cut(value);
+                self.transmitter.load(self.fifo, byte);
+            }
             offsets::IER if self.is_dlab_set() => self.latches.dlm = value,
             offsets::IER => self.enable(value),
             offsets::FCR => self.control(value),

@@ -62,11 +62,46 @@ impl Device16550 {
         ensures refused { (reason : BuildError) → refusal char_ticks wire_capacity schedule.items ≡ Some reason → result ≡ Err reason }
         ensures accepted { refusal char_ticks wire_capacity schedule.items ≡ None → IsOkUnless result BuildError.OutOfMemory }
     {
+        Self::build(alloc, chip, char_ticks, wire_capacity, schedule, false)
+    }
+
+    /// The same, for a chip that cuts each character to the word length of LCR: one that is written to the data register before it
+    /// is put into the transmitter, and one that arrives before it comes in.
+    ///
+    /// # Errors
+    ///
+    /// As [`Device16550::new`].
+    pub fn new_cut(
+        alloc: Global,
+        chip: Chip,
+        char_ticks: u16,
+        wire_capacity: usize,
+        schedule: Vec<Event>,
+    ) -> Result<Self, BuildError>
+        ensures built { IfOk result (λ machine. machine ≡ spec.with_cut (spec.fresh chip char_ticks wire_capacity schedule.items)) }
+        ensures refused { (reason : BuildError) → refusal char_ticks wire_capacity schedule.items ≡ Some reason → result ≡ Err reason }
+        ensures accepted { refusal char_ticks wire_capacity schedule.items ≡ None → IsOkUnless result BuildError.OutOfMemory }
+    {
+        Self::build(alloc, chip, char_ticks, wire_capacity, schedule, true)
+    }
+
+    fn build(
+        alloc: Global,
+        chip: Chip,
+        char_ticks: u16,
+        wire_capacity: usize,
+        schedule: Vec<Event>,
+        cuts: bool,
+    ) -> Result<Self, BuildError>
+        ensures built { IfOk result (λ machine. machine ≡ spec.cutting cuts (spec.fresh chip char_ticks wire_capacity schedule.items)) }
+        ensures refused { (reason : BuildError) → refusal char_ticks wire_capacity schedule.items ≡ Some reason → result ≡ Err reason }
+        ensures accepted { refusal char_ticks wire_capacity schedule.items ≡ None → IsOkUnless result BuildError.OutOfMemory }
+    {
         if let Some(reason) = refusal(char_ticks, wire_capacity, &schedule) {
             return Err(reason);
         }
         let arrivals = arrivals(&schedule);
-        let Ok(uart) = Uart::new(alloc, chip, char_ticks, wire_capacity, arrivals) else {
+        let Ok(uart) = Uart::new(alloc, chip, char_ticks, wire_capacity, arrivals, cuts) else {
             return Err(BuildError::OutOfMemory);
         };
         Ok(Self {

@@ -54,6 +54,9 @@ pub const FCR_TRANSMITTER_RESET: u8 = 0x04;
 
 pub const FCR_TRIGGER: u8 = 0xc0;
 
+/// The data bits of a character, from 5 on.
+pub const LCR_WORD_LENGTH: u8 = 0x03;
+
 pub const LCR_DLAB: u8 = 0x80;
 
 pub const MCR_DTR: u8 = 0x01;

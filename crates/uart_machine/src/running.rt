@@ -3,6 +3,7 @@ ghost use Rattle.std.specs.Prelude.{◌≡◌, ◌≤◌, length, All};
 ghost use Rattle.uart_spec.specs.Config.{IsComputable};
 ghost use Rattle.uart_machine.specs.Calls.{IsRunnable};
 ghost use Rattle.uart_machine.specs.Session.{Ran};
+ghost use Rattle.uart_machine.specs.Uncut.{IsUncut, RanUncut};
 ghost use Rattle.uart_machine.specs.Run.{CallStep, loopback_answer, connected_answer, receive_ready_answer, received_answer, sent_answer, exact_answer, count_answer, ready_answer, HasInited, HasReceived, HasReceivedExact, HasRead};
 
 use crate::call::{Answer, Call};
@@ -33,7 +34,8 @@ use uart_spec::{
 pub fn run(uart: &mut Uart16550Tty<Device16550>, calls: &[Call], answers: &mut [Answer])
     requires runnable { All IsRunnable calls.now }
     requires slots { length calls.now ≡ length answers.old }
-    ensures { Ran uart.old calls.now answers.new uart.new }
+    ensures ran { Ran uart.old calls.now answers.new uart.new }
+    ensures uncut { IsUncut uart.old → RanUncut uart.old calls.now answers.new uart.new }
 {
     // Any observer tells what holds of every machine.
     let _fifo = uart.inner().backend().fifo_enabled();

@@ -1,7 +1,9 @@
 //! Worked examples on raw accesses, and what no contract says: that machines are built, and texts.
 
 mod counts;
+mod cut;
 mod driver;
+mod idle;
 
 use crate::{ArrivalMark, BuildError, Chip, Device16550, Event};
 use std::test::Fail;
@@ -270,28 +272,5 @@ fn modem_lines(rt: HostRuntime) -> Result<(), Fail> {
     assert_eq!(rt; rings.read(MSR), 0x40);
     rings.next();
     assert_eq!(rt; rings.read(MSR), 0x04);
-    Ok(())
-}
-
-// Accesses without a tick each, so that all characters queue behind a free shift place.
-#[test]
-fn idle_takes_at_most_18_turns(rt: HostRuntime) -> Result<(), Fail> {
-    let mut behind_free = machine(&rt, Chip::Uart16550A, 5, 64, &[Event::Access; 20])?;
-    behind_free.write(FCR, 1);
-    for byte in 0..16 {
-        behind_free.write(DATA, byte);
-    }
-    assert_eq!(rt; behind_free.idle(60_000), 18);
-    assert_eq!(rt; behind_free.wire().len(), 16);
-    let mut behind_busy = machine(&rt, Chip::Uart16550A, 1000, 64, &[])?;
-    behind_busy.write(FCR, 1);
-    for byte in 0..17 {
-        behind_busy.write(DATA, byte);
-    }
-    assert_eq!(rt; behind_busy.held_len(), 17);
-    assert_eq!(rt; behind_busy.idle(60_000), 18);
-    assert_eq!(rt; behind_busy.wire().len(), 17);
-    assert_eq!(rt; behind_busy.idle(0), 0);
-    assert_eq!(rt; behind_busy.idle(1), 1);
     Ok(())
 }

@@ -5,7 +5,7 @@ ghost use Rattle.std.specs.List.{list_all};
 ghost use Rattle.std.specs.Char.{is_ascii_digit, is_ascii_hexdigit, digit_value};
 ghost use Rattle.std.specs.Int.NonZero.{non_zero_u64_get};
 ghost use Rattle.std.specs.Str.Parse.{digits_value};
-ghost use Rattle.uart_machine.specs.Fields.{is_number, number_in, byte_in, lines_in, bytes_in, text_in, errors_in, chip_in, level_in, rate_of, rate_in, cts_in, interrupts_in, word_length_in, pairs_of, is_pairs, seen};
+ghost use Rattle.uart_machine.specs.Fields.{is_number, number_in, byte_in, lines_in, bytes_in, text_in, errors_in, chip_in, cut_in, level_in, rate_of, rate_in, cts_in, interrupts_in, word_length_in, pairs_of, is_pairs, seen};
 
 use super::cause::Cause;
 use crate::event::Chip;
@@ -206,6 +206,18 @@ pub fn chip_in(word: &[u8]) -> Result<Chip, Cause>
         Ok(Chip::Uart16550A)
     } else if word == b"16450".as_slice() {
         Ok(Chip::Uart16450)
+    } else {
+        Err(Cause::BadWord)
+    }
+}
+
+/// The option that may end the first line.
+#[tactic(auto, unfolding(crate::specs::Fields::cut_in))]
+pub fn cut_in(word: &[u8]) -> Result<bool, Cause>
+    ensures { result ≡ cut_in word.now }
+{
+    if word == b"cut".as_slice() {
+        Ok(true)
     } else {
         Err(Cause::BadWord)
     }

@@ -8,8 +8,8 @@ ghost use Rattle.uart_machine.specs.ScriptLines.{plain};
 
 use super::cause::Cause;
 use super::fields::{
-    byte_in, bytes_in, chip_in, count_in, cts_in, errors_in, interrupts_in, level_in, limit_in,
-    lines_in, number_in, rate_in, text_in, word_length_in,
+    byte_in, bytes_in, chip_in, count_in, cts_in, cut_in, errors_in, interrupts_in, level_in,
+    limit_in, lines_in, number_in, rate_in, text_in, word_length_in,
 };
 use super::text::{has_bad_byte, word_at, word_count};
 use super::words::{Word, has_count, is_placed, word_of};
@@ -35,6 +35,7 @@ pub struct Header {
     pub chip: Chip,
     pub ticks: u16,
     pub wire_capacity: usize,
+    pub cuts: bool,
 }
 
 #[tactic(auto, unfolding(crate::specs::Items::config_in))]
@@ -163,10 +164,16 @@ fn header_in(line: &[u8]) -> Result<Header, Cause>
     let chip = chip_in(word_at(line, 1))?;
     let ticks = number_in(1, 1000, word_at(line, 2))?;
     let wire_capacity = number_in(0, 65_536, word_at(line, 3))?;
+    let cuts = if word_count(line) == 5 {
+        cut_in(word_at(line, 4))?
+    } else {
+        false
+    };
     Ok(Header {
         chip,
         ticks: ticks as u16,
         wire_capacity: wire_capacity as usize,
+        cuts,
     })
 }
 

@@ -63,6 +63,13 @@ impl Script {
         self.limit
     }
 
+    /// Whether the chip cuts characters to the word length.
+    pub fn cut(&self) -> bool
+        ensures { result ≡ (plan_of self.now).cuts }
+    {
+        self.header.cuts
+    }
+
     /// What happens to the chip, in the script's order.
     pub fn events(&self) -> &[Event]
         ensures { result.now ≡ (plan_of self.now).events }

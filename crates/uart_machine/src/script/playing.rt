@@ -5,7 +5,7 @@ ghost use Rattle.std.specs.Io.KnownBytes.{Appends, IsAtEnd};
 ghost use Rattle.uart_machine.specs.declared.script.playing.PlayError.TheVariants.{OutOfMemory};
 ghost use Rattle.uart_machine.specs.Script.{plan_of, IsPlayable};
 ghost use Rattle.uart_machine.specs.Transmitter.{held};
-ghost use Rattle.uart_machine.specs.Machine.{fresh};
+ghost use Rattle.uart_machine.specs.Machine.{fresh, cutting};
 ghost use Rattle.uart_machine.specs.Conserved.{waiting};
 ghost use Rattle.uart_machine.specs.Output.{printed};
 ghost use Rattle.uart_machine.specs.ScriptOutput.{IsFirst, IsOutput};
@@ -108,17 +108,28 @@ fn write_all<W: Output>(writer: &mut W, bytes: &[u8]) -> Result<(), Fault>
 // The script's machine.
 fn machine_for(alloc: Global, script: &Script) -> Result<Device16550, AllocError>
     requires { IsPlayable (plan_of script.now) }
-    ensures { IfOk result (λ machine. machine ≡ fresh (plan_of script.now).chip (plan_of script.now).ticks (plan_of script.now).wire_capacity (plan_of script.now).events) }
+    ensures { IfOk result (λ machine. machine ≡ cutting (plan_of script.now).cuts (fresh (plan_of script.now).chip (plan_of script.now).ticks (plan_of script.now).wire_capacity (plan_of script.now).events)) }
 {
     let schedule = script.events().to_vec(alloc)?;
     let wire_capacity = script.wire_capacity();
-    match Device16550::new(
-        alloc,
-        script.chip(),
-        script.ticks(),
-        wire_capacity,
-        schedule,
-    ) {
+    let machine = if script.cut() {
+        Device16550::new_cut(
+            alloc,
+            script.chip(),
+            script.ticks(),
+            wire_capacity,
+            schedule,
+        )
+    } else {
+        Device16550::new(
+            alloc,
+            script.chip(),
+            script.ticks(),
+            wire_capacity,
+            schedule,
+        )
+    };
+    match machine {
         Ok(machine) => Ok(machine),
         Err(_) => Err(AllocError),
     }

@@ -156,7 +156,7 @@ pub fn has_count(word: Word, count: usize) -> bool
     ensures { result ≡ has_count word count }
 {
     match word {
-        Word::Chip => count == 4,
+        Word::Chip => count == 4 || count == 5,
         Word::Init => count == 6,
         Word::Arrive => count == 2 || count == 3,
         Word::Limit

@@ -104,8 +104,13 @@ fn lines_have_limits_of_words(rt: HostRuntime) -> Result<(), Fail> {
     }
     assert_eq!(rt; told(&rt, b"chip 16450 4")?.as_str(), "line 1: wrong count");
     assert_eq!(rt;
-        told(&rt, b"chip 16450 4 64 cut")?.as_str(),
+        told(&rt, b"chip 16450 4 64 cut cut")?.as_str(),
         "line 1: wrong count"
+    );
+    assert_eq!(rt; told(&rt, b"chip 16450 4 64 cut")?.as_str(), "a script");
+    assert_eq!(rt;
+        told(&rt, b"chip 16450 4 64 Cut")?.as_str(),
+        "line 1: bad word"
     );
     Ok(())
 }

@@ -20,6 +20,6 @@ returns c =
       last = c.run.new.uart;
       answers = answers;
       begins = c.in_ok-terminal.ensures;
-      ran = run_plain _ _ _ _ _ c.calls-calls.ensures c.run.ensures;
+      ran = run_plain _ _ _ _ _ c.calls-calls.ensures c.run.ensures.ran;
       is = rw (same, machine) at c.in_ok-output.ensures;
     }
