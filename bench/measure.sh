@@ -31,3 +31,4 @@ for backend in "" called; do
 done
 each machine::access machine-access 257 256
 each machine::ticks machine-ticks 257 256
+each machine::idle machine-idle 257 256

@@ -12,12 +12,15 @@ pub enum Work {
     Access,
     /// 1,000 ticks of the schedule.
     Ticks,
+    /// One tick outside of the schedule.
+    Idle,
 }
 
 /// All of it, each with its name.
-pub const WORKS: [(Work, &str); 2] = [
+pub const WORKS: [(Work, &str); 3] = [
     (Work::Access, "machine-access"),
     (Work::Ticks, "machine-ticks"),
+    (Work::Idle, "machine-idle"),
 ];
 
 #[inline(never)]
@@ -28,6 +31,11 @@ fn access(machine: &mut Device16550) -> u8 {
 #[inline(never)]
 fn ticks(machine: &mut Device16550) {
     machine.next();
+}
+
+#[inline(never)]
+fn idle(machine: &mut Device16550) -> usize {
+    machine.idle(1)
 }
 
 // A mark and 1,000 ticks, so many times.
@@ -43,7 +51,7 @@ fn thousands(alloc: Global, count: u64) -> Result<Vec<Event>, AllocError> {
 /// Does this so many times on a machine that is given a character to send before, and answers what LSR shows then.
 pub fn perform(alloc: Global, work: Work, count: u64) -> Result<u8, BuildError> {
     let schedule = match work {
-        Work::Access => Ok(Vec::new(alloc)),
+        Work::Access | Work::Idle => Ok(Vec::new(alloc)),
         Work::Ticks => thousands(alloc, count),
     };
     let Ok(schedule) = schedule else {
@@ -57,6 +65,9 @@ pub fn perform(alloc: Global, work: Work, count: u64) -> Result<u8, BuildError> 
                 access(&mut machine);
             }
             Work::Ticks => ticks(&mut machine),
+            Work::Idle => {
+                idle(&mut machine);
+            }
         }
     }
     Ok(access(&mut machine))
