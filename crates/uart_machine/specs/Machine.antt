@@ -1,5 +1,5 @@
 -- The chip under a schedule: which events come before an access, and the step that an access makes.
-use Rattle.std.specs.Prelude.{◌≡◌, ℕ, ◌+◌, Bool, true, List, [], ◌∷◌}
+use Rattle.std.specs.Prelude.{◌≡◌, ℕ, ◌+◌, Bool, List, [], ◌∷◌}
 use Rattle.uart_machine.specs.declared.event.Chip.{Chip}
 use Rattle.uart_machine.specs.declared.event.Event.{Event}
 use Rattle.uart_machine.specs.declared.event.Event.TheVariants.{Ticks, Arrive, Lines, Access as Gate, Mark}
@@ -26,12 +26,9 @@ abbrev pub fresh : Chip → ℕ → ℕ → List Event → MachineState
 fresh model char_ticks capacity events =
     record { chip = chip.fresh model char_ticks capacity (arrivals events); ahead = events }
 
--- the same machine, which cuts characters to the word length or doesn't
+-- the same machine, which cuts characters to the word length or does not
 abbrev pub cutting : Bool → MachineState → MachineState
 cutting cuts m = record m { chip = record m.chip { cuts = cuts } }
-
-abbrev pub with_cut : MachineState → MachineState
-with_cut m = cutting true m
 
 -- what one event does; Access and Mark do nothing by themselves
 abbrev pub perform : Event → ChipState → ChipState

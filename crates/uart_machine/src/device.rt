@@ -1,5 +1,5 @@
 //! The chip under a schedule.
-ghost use Rattle.std.specs.Prelude.{◌≡◌, ◌≤◌, length, slice_get, IfOk, IsOkUnless};
+ghost use Rattle.std.specs.Prelude.{◌≡◌, ◌≤◌, true, length, slice_get, IfOk, IsOkUnless};
 ghost use Rattle.uart_machine.specs.Machine as spec;
 ghost use Rattle.uart_machine.specs.Build.{refusal};
 ghost use Rattle.uart_machine.specs.Sound.{IsWhole};
@@ -65,12 +65,13 @@ impl Device16550 {
         Self::build(alloc, chip, char_ticks, wire_capacity, schedule, false)
     }
 
-    /// The same, for a chip that cuts each character to the word length of LCR: one that is written to the data register before it
-    /// is put into the transmitter, and one that arrives before it comes in.
+    /// A machine as [`Device16550::new`] makes it, whose chip cuts each character to the word length of LCR: with 5, 6 or 7 data
+    /// bits the higher bits of a byte are lost as it is written to the transmitter, and as it arrives. What comes back in
+    /// loopback is not cut again, nor is the divisor latch.
     ///
     /// # Errors
     ///
-    /// As [`Device16550::new`].
+    /// Those of [`Device16550::new`], in the same order.
     pub fn new_cut(
         alloc: Global,
         chip: Chip,
@@ -78,13 +79,14 @@ impl Device16550 {
         wire_capacity: usize,
         schedule: Vec<Event>,
     ) -> Result<Self, BuildError>
-        ensures built { IfOk result (λ machine. machine ≡ spec.with_cut (spec.fresh chip char_ticks wire_capacity schedule.items)) }
+        ensures built { IfOk result (λ machine. machine ≡ spec.cutting true (spec.fresh chip char_ticks wire_capacity schedule.items)) }
         ensures refused { (reason : BuildError) → refusal char_ticks wire_capacity schedule.items ≡ Some reason → result ≡ Err reason }
         ensures accepted { refusal char_ticks wire_capacity schedule.items ≡ None → IsOkUnless result BuildError.OutOfMemory }
     {
         Self::build(alloc, chip, char_ticks, wire_capacity, schedule, true)
     }
 
+    // A machine with the option or without.
     fn build(
         alloc: Global,
         chip: Chip,

@@ -24,8 +24,12 @@ use uart_spec::{
 /// the bytes that sends reported, no data write meets a full transmitter, and bytes received followed by those waiting are
 /// those waiting at the start and those arrived, in order, less those dropped.
 ///
+/// On a machine that cuts characters to the word length ([`Device16550::new_cut`]) this holds with the bytes that sends reported
+/// and those that arrived cut so. The clause `uncut` says it without a word about cutting, for every other machine.
+///
 /// An `Init` finds the device, and one that is done leaves such a state, whatever the machine was before it. A `TestLoopback`
-/// in such a state is done or stalls, and where it is done nothing of it went onto the wire. Every call, whatever it answers,
+/// in such a state is done or stalls, and where it is done nothing of it went onto the wire. With characters of 5 or 6 bits it
+/// reports an unexpected byte in place of being done. Every call, whatever it answers,
 /// leaves such a state where it found one.
 ///
 /// Where each access of the schedule has a tick before it, the spin limit is at least 17 (t + 1) for a character of t ticks, and
