@@ -15,3 +15,5 @@ pub mod Devices
 pub mod Examples
 pub mod Loopback
 pub mod Links
+pub mod Choice
+pub mod DriverCalls

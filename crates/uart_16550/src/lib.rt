@@ -6,6 +6,7 @@ pub mod backend;
 mod driver;
 mod dump;
 pub mod embedded_io;
+pub mod laws;
 mod mmio;
 mod pio;
 #[cfg(test)]

@@ -1,5 +1,5 @@
 -- The divisors of the usual clock that give a whole baud rate.
-use Rattle.std.specs.Prelude.{◌≡◌, ℕ, ◌*◌, ◌≤◌}
+use Rattle.std.specs.Prelude.{◌≡◌, ℕ, ◌*◌, ◌≤◌, List, [], ◌∷◌}
 use Rattle.uart_spec.specs.declared.registers.divisors.Divisor.{Divisor}
 use Rattle.uart_spec.specs.declared.registers.divisors.Divisor.TheVariants.{Divisor1, Divisor2, Divisor3, Divisor4, Divisor5, Divisor6, Divisor8, Divisor9, Divisor10, Divisor12, Divisor15, Divisor16, Divisor18, Divisor20, Divisor24, Divisor25, Divisor30, Divisor32, Divisor36, Divisor40, Divisor45, Divisor48, Divisor50, Divisor60, Divisor64, Divisor72, Divisor75, Divisor80, Divisor90, Divisor96, Divisor100, Divisor120, Divisor128, Divisor144, Divisor150, Divisor160, Divisor180, Divisor192, Divisor200, Divisor225, Divisor240, Divisor256, Divisor288, Divisor300, Divisor320, Divisor360, Divisor384, Divisor400, Divisor450, Divisor480, Divisor512, Divisor576, Divisor600, Divisor640, Divisor720, Divisor768, Divisor800, Divisor900, Divisor960, Divisor1152, Divisor1200, Divisor1280, Divisor1440, Divisor1536, Divisor1600, Divisor1800, Divisor1920, Divisor2304, Divisor2400, Divisor2560, Divisor2880, Divisor3200, Divisor3600, Divisor3840, Divisor4608, Divisor4800, Divisor5760, Divisor6400, Divisor7200, Divisor7680, Divisor9600, Divisor11520, Divisor12800, Divisor14400, Divisor19200, Divisor23040, Divisor28800, Divisor38400, Divisor57600}
 
@@ -98,3 +98,18 @@ number Divisor57600 = 57600
 -- the number divides 115,200, the baud rate of divisor 1, and fits into the divisor latch
 abbrev pub IsDivisor : ℕ → Type 0
 IsDivisor n = (n ≤ 65535) × ((rate : ℕ) × (n * rate ≡ 115200))
+
+-- all of them, from the least on
+abbrev pub divisors : List Divisor
+divisors =
+    Divisor1 ∷ Divisor2 ∷ Divisor3 ∷ Divisor4 ∷ Divisor5 ∷ Divisor6 ∷ Divisor8 ∷ Divisor9 ∷ Divisor10 ∷ Divisor12 ∷
+    Divisor15 ∷ Divisor16 ∷ Divisor18 ∷ Divisor20 ∷ Divisor24 ∷ Divisor25 ∷ Divisor30 ∷ Divisor32 ∷ Divisor36 ∷
+    Divisor40 ∷ Divisor45 ∷ Divisor48 ∷ Divisor50 ∷ Divisor60 ∷ Divisor64 ∷ Divisor72 ∷ Divisor75 ∷ Divisor80 ∷
+    Divisor90 ∷ Divisor96 ∷ Divisor100 ∷ Divisor120 ∷ Divisor128 ∷ Divisor144 ∷ Divisor150 ∷ Divisor160 ∷
+    Divisor180 ∷ Divisor192 ∷ Divisor200 ∷ Divisor225 ∷ Divisor240 ∷ Divisor256 ∷ Divisor288 ∷ Divisor300 ∷
+    Divisor320 ∷ Divisor360 ∷ Divisor384 ∷ Divisor400 ∷ Divisor450 ∷ Divisor480 ∷ Divisor512 ∷ Divisor576 ∷
+    Divisor600 ∷ Divisor640 ∷ Divisor720 ∷ Divisor768 ∷ Divisor800 ∷ Divisor900 ∷ Divisor960 ∷ Divisor1152 ∷
+    Divisor1200 ∷ Divisor1280 ∷ Divisor1440 ∷ Divisor1536 ∷ Divisor1600 ∷ Divisor1800 ∷ Divisor1920 ∷ Divisor2304 ∷
+    Divisor2400 ∷ Divisor2560 ∷ Divisor2880 ∷ Divisor3200 ∷ Divisor3600 ∷ Divisor3840 ∷ Divisor4608 ∷ Divisor4800 ∷
+    Divisor5760 ∷ Divisor6400 ∷ Divisor7200 ∷ Divisor7680 ∷ Divisor9600 ∷ Divisor11520 ∷ Divisor12800 ∷
+    Divisor14400 ∷ Divisor19200 ∷ Divisor23040 ∷ Divisor28800 ∷ Divisor38400 ∷ Divisor57600 ∷ []

@@ -5,3 +5,4 @@ pub mod Baud
 pub mod Divisors
 pub mod BaudRate
 pub mod Config
+pub mod Orders

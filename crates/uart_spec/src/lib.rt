@@ -7,6 +7,7 @@
 mod baud;
 mod config;
 mod errors;
+pub mod laws;
 pub mod registers;
 #[cfg(test)]
 mod tests;

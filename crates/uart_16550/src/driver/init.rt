@@ -10,10 +10,10 @@ use crate::backend::Backend;
 use bitflags::Flags;
 use std::mem;
 use uart_spec::registers::{FCR, FifoTriggerLevel, ISR, LCR, LSR, MCR, MSR, offsets};
-use uart_spec::{Config, InitError, calc_divisor};
+use uart_spec::{Config, FIFO_SIZE, InitError, calc_divisor};
 
-// The FIFO and the shift register hold 17 characters.
-const MOST_WAITING: usize = 17;
+// What a FIFO and the shift register hold.
+const MOST_WAITING: usize = FIFO_SIZE + 1;
 
 // LCR for a configuration.
 fn frame_of(config: &Config) -> LCR

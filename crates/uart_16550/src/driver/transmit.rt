@@ -9,10 +9,7 @@ use super::{PIECE_SIZE, Uart16550};
 use crate::backend::Backend;
 use bitflags::Flags;
 use uart_spec::registers::{LSR, MCR, MSR, offsets};
-use uart_spec::{ByteSendError, StalledError};
-
-/// How many bytes one burst may write where the FIFO is on.
-const FIFO_SIZE: usize = 16;
+use uart_spec::{ByteSendError, FIFO_SIZE, StalledError};
 
 impl<B: Backend> Uart16550<B> {
     // Whether the modem lines allow to send. In loopback they mean nothing.

@@ -1,0 +1,53 @@
+-- The calls of a driver leave no choice.
+use Rattle.std.proofs.Common.{◌≡◌, refl}
+use Rattle.std.specs.declared.fmt.Error.{Error}
+use Rattle.uart_16550.specs.Choice.{LeavesNoChoice}
+use Rattle.uart_16550.specs.Grammar.{Settings}
+use Rattle.uart_16550.specs.Driver.{Saving, with_limit}
+use Rattle.uart_16550.specs.DriverCalls.{SavingCall, SavingOutcome, SavingLists, ChangingCall, ChangingDoing}
+use Rattle.uart_16550.proofs.determined.Parting.{Determined, read_determined}
+use Rattle.uart_16550.proofs.determined.Doings.{no_choice, saving_determined, does_so, does_set}
+use Rattle.uart_16550.proofs.determined.Receive.{ready_to_receive_determined, try_receive_determined}
+use Rattle.uart_16550.proofs.determined.Transmit.{ready_to_send_determined, sends_determined, try_send_determined, sends_exact_determined}
+use Rattle.uart_16550.proofs.determined.Expansion.{text_determined, str_determined}
+use Rattle.uart_16550.proofs.determined.Io.{receives_into_determined, exact_into_determined, reads_into_determined, writes_determined, flushes_determined, answers_read_determined, answers_write_determined}
+use Rattle.uart_16550.proofs.determined.Status.{takes_lsr_determined, takes_msr_determined, connects_determined, divisor_determined, enables_determined, disables_determined, dumps_determined}
+use Rattle.uart_16550.proofs.determined.Init.{presence_determined, inits_determined}
+use Rattle.uart_16550.proofs.determined.Loopback.{tests_loopback_determined}
+use Rattle.uart_16550.proofs.determined.Tty.{starts_determined}
+
+lists_determined : (call : SavingCall) (s : Settings) (a b : SavingOutcome call) →
+    Determined (a ≡ b) (SavingLists call a s) (SavingLists call b s)
+lists_determined (SavingCall.read_register register) s = read_determined register
+lists_determined SavingCall.check_connected s = connects_determined s
+lists_determined SavingCall.dll_dlm s = divisor_determined s
+lists_determined SavingCall.check_present s = presence_determined s
+lists_determined SavingCall.ready_to_receive s = ready_to_receive_determined s
+lists_determined SavingCall.try_receive_byte s = try_receive_determined s
+lists_determined SavingCall.ready_to_send s = ready_to_send_determined s
+lists_determined (SavingCall.receive_bytes slots) s = receives_into_determined s slots
+lists_determined (SavingCall.receive_bytes_exact slots) s = exact_into_determined s slots
+lists_determined (SavingCall.try_send_byte byte) s = try_send_determined s byte
+lists_determined (SavingCall.send_bytes bytes) s = sends_determined s bytes
+lists_determined (SavingCall.send_bytes_exact bytes) s = sends_exact_determined s bytes
+lists_determined (SavingCall.read slots) s = reads_into_determined s slots
+lists_determined (SavingCall.write bytes) s = writes_determined s bytes
+lists_determined SavingCall.flush s = flushes_determined s
+lists_determined SavingCall.read_ready s = answers_read_determined s
+lists_determined SavingCall.write_ready s = answers_write_determined s
+lists_determined (SavingCall.write_text text) s = text_determined s text
+lists_determined (SavingCall.write_str text) s = str_determined s text Error (λ x y. refl)
+
+pub saving_leaves_no_choice : (call : SavingCall) → LeavesNoChoice (λ outcome. Saving (SavingLists call outcome))
+saving_leaves_no_choice call = saving_determined (SavingLists call) (lists_determined call)
+
+pub changing_leaves_no_choice : (call : ChangingCall) → LeavesNoChoice (ChangingDoing call)
+changing_leaves_no_choice ChangingCall.lsr = no_choice takes_lsr_determined
+changing_leaves_no_choice ChangingCall.msr = no_choice takes_msr_determined
+changing_leaves_no_choice ChangingCall.config_register_dump = no_choice dumps_determined
+changing_leaves_no_choice (ChangingCall.enable_interrupts bits) = no_choice (enables_determined bits)
+changing_leaves_no_choice (ChangingCall.disable_interrupts bits) = no_choice (disables_determined bits)
+changing_leaves_no_choice (ChangingCall.set_spin_limit limit) = no_choice (λ f a b. does_so (λ t. refl) (does_set f (with_limit limit)))
+changing_leaves_no_choice (ChangingCall.init config computable) = no_choice (inits_determined config computable)
+changing_leaves_no_choice (ChangingCall.start config computable) = no_choice (starts_determined config computable)
+changing_leaves_no_choice ChangingCall.test_loopback = no_choice tests_loopback_determined

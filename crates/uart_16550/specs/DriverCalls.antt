@@ -1,0 +1,115 @@
+-- The calls of a driver: what each may come to, and what it then did, as its contract says.
+use Rattle.std.specs.Prelude.{ℕ, Bool, List, [], ◌∷◌, Result}
+use Rattle.std.specs.declared.fmt.Error.{Error}
+use Rattle.uart_spec.specs.Config.{IsComputable}
+use Rattle.uart_spec.specs.declared.config.Config.{Config}
+use Rattle.uart_spec.specs.declared.errors.ByteReceiveError.{ByteReceiveError}
+use Rattle.uart_spec.specs.declared.errors.ByteSendError.{ByteSendError}
+use Rattle.uart_spec.specs.declared.errors.InitError.{InitError}
+use Rattle.uart_spec.specs.declared.errors.LoopbackError.{LoopbackError}
+use Rattle.uart_spec.specs.declared.errors.RemoteReadyToReceiveError.{RemoteReadyToReceiveError}
+use Rattle.uart_spec.specs.declared.errors.StalledError.{StalledError}
+use Rattle.uart_spec.specs.declared.errors.Uart16550TtyError.{Uart16550TtyError}
+use Rattle.uart_16550.specs.Access.{Read}
+use Rattle.uart_16550.specs.Grammar.{Language, Only}
+use Rattle.uart_16550.specs.Driver.{Doing, Sets, with_limit}
+use Rattle.uart_16550.specs.Receive.{ReadyToReceive, TryReceive}
+use Rattle.uart_16550.specs.Transmit.{ReadyToSend, Sends, TrySends, SendsExact}
+use Rattle.uart_16550.specs.Status.{TakesLsr, TakesMsr, Connects, ReadsDivisor, Enables, Disables, Dumps}
+use Rattle.uart_16550.specs.Init.{ChecksPresence, Inits}
+use Rattle.uart_16550.specs.Loopback.{TestsLoopback}
+use Rattle.uart_16550.specs.Io.{Writes, Flushes, AnswersRead, AnswersWrite}
+use Rattle.uart_16550.specs.Expansion.{SendsText, SendsStr}
+use Rattle.uart_16550.specs.Tty.{Starts}
+use Rattle.uart_16550.specs.Choice.{ReceivesInto, ReceivesExactInto, ReadsInto}
+use Rattle.uart_16550.specs.declared.dump.ConfigRegisterDump.{ConfigRegisterDump}
+
+-- the calls that save what their reads show, and change nothing else in the driver's fields
+-- `read_register` stands for `ier`, `isr`, `lcr`, `mcr` and `spr`
+pub data SavingCall : Type 0 where
+  read_register : (register : ℕ) → SavingCall
+  check_connected dll_dlm check_present : SavingCall
+  ready_to_receive try_receive_byte ready_to_send : SavingCall
+  receive_bytes receive_bytes_exact : (slots : List ℕ) → SavingCall
+  try_send_byte : (byte : ℕ) → SavingCall
+  send_bytes send_bytes_exact : (bytes : List ℕ) → SavingCall
+  read : (slots : List ℕ) → SavingCall
+  write : (bytes : List ℕ) → SavingCall
+  flush read_ready write_ready : SavingCall
+  write_text write_str : (text : List ℕ) → SavingCall
+
+-- what it may come to: what it returns, and for a call that fills slots also what is in them after it
+abbrev pub SavingOutcome : SavingCall → Type 0
+SavingOutcome (read_register register) = ℕ
+SavingOutcome check_connected = Result (Unit {0}) RemoteReadyToReceiveError
+SavingOutcome dll_dlm = ℕ × ℕ
+SavingOutcome check_present = Bool
+SavingOutcome ready_to_receive = Result (Unit {0}) ByteReceiveError
+SavingOutcome try_receive_byte = Result ℕ ByteReceiveError
+SavingOutcome ready_to_send = Result (Unit {0}) ByteSendError
+SavingOutcome (receive_bytes slots) = ℕ × List ℕ
+SavingOutcome (receive_bytes_exact slots) = Result (Unit {0}) StalledError × List ℕ
+SavingOutcome (try_send_byte byte) = Result (Unit {0}) ByteSendError
+SavingOutcome (send_bytes bytes) = ℕ
+SavingOutcome (send_bytes_exact bytes) = Result (Unit {0}) StalledError
+SavingOutcome (read slots) = Result ℕ StalledError × List ℕ
+SavingOutcome (write bytes) = Result ℕ StalledError
+SavingOutcome flush = Result (Unit {0}) StalledError
+SavingOutcome read_ready = Result Bool StalledError
+SavingOutcome write_ready = Result Bool StalledError
+SavingOutcome (write_text text) = Result (Unit {0}) StalledError
+SavingOutcome (write_str text) = Result (Unit {0}) Error
+
+-- the lists that it may then have made
+abbrev pub SavingLists : (call : SavingCall) → SavingOutcome call → Language
+SavingLists (read_register register) value = Only (Read register value ∷ [])
+SavingLists check_connected result = Connects result
+SavingLists dll_dlm divisor = ReadsDivisor divisor.0 divisor.1
+SavingLists check_present present = ChecksPresence present
+SavingLists ready_to_receive result = ReadyToReceive result
+SavingLists try_receive_byte result = TryReceive result
+SavingLists ready_to_send result = ReadyToSend result
+SavingLists (receive_bytes slots) end = ReceivesInto slots end.1 end.0
+SavingLists (receive_bytes_exact slots) end = ReceivesExactInto slots end.1 end.0
+SavingLists (try_send_byte byte) result = TrySends byte result
+SavingLists (send_bytes bytes) count = Sends bytes count
+SavingLists (send_bytes_exact bytes) result = SendsExact bytes result
+SavingLists (read slots) end = ReadsInto slots end.1 end.0
+SavingLists (write bytes) result = Writes bytes result
+SavingLists flush result = Flushes result
+SavingLists read_ready result = AnswersRead result
+SavingLists write_ready result = AnswersWrite result
+SavingLists (write_text text) result = SendsText text result
+SavingLists (write_str text) result = SendsStr text result
+
+-- the other calls; `init` and `start`, of a terminal, with a configuration that the arithmetic takes
+pub data ChangingCall : Type 0 where
+  lsr msr config_register_dump : ChangingCall
+  enable_interrupts disable_interrupts : (bits : ℕ) → ChangingCall
+  set_spin_limit : (limit : ℕ) → ChangingCall
+  init start : (config : Config) → IsComputable config → ChangingCall
+  test_loopback : ChangingCall
+
+-- what it may come to
+abbrev pub ChangingOutcome : ChangingCall → Type 0
+ChangingOutcome lsr = ℕ
+ChangingOutcome msr = ℕ
+ChangingOutcome config_register_dump = ConfigRegisterDump
+ChangingOutcome (enable_interrupts bits) = Unit {0}
+ChangingOutcome (disable_interrupts bits) = Unit {0}
+ChangingOutcome (set_spin_limit limit) = Unit {0}
+ChangingOutcome (init config computable) = Result (Unit {0}) InitError
+ChangingOutcome (start config computable) = Result (Unit {0}) Uart16550TtyError
+ChangingOutcome test_loopback = Result (Unit {0}) LoopbackError
+
+-- what it then did
+abbrev pub ChangingDoing : (call : ChangingCall) → ChangingOutcome call → Doing
+ChangingDoing lsr status = TakesLsr status
+ChangingDoing msr status = TakesMsr status
+ChangingDoing config_register_dump dump = Dumps dump
+ChangingDoing (enable_interrupts bits) result = Enables bits
+ChangingDoing (disable_interrupts bits) result = Disables bits
+ChangingDoing (set_spin_limit limit) result = Sets (with_limit limit)
+ChangingDoing (init config computable) result = Inits config result
+ChangingDoing (start config computable) result = Starts config result
+ChangingDoing test_loopback result = TestsLoopback result

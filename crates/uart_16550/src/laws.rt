@@ -1,0 +1,59 @@
+//! Laws about the calls of a driver, which follow from what their contracts say.
+//!
+//! Each function here has a law as its contract, for callers to cite, and does nothing.
+ghost use Rattle.std.specs.Prelude.{◌≡◌, [], ◌∷◌};
+ghost use Rattle.std.specs.Ordering.{nat_cmp};
+ghost use Rattle.uart_spec.specs.Orders.{in_turn};
+ghost use Rattle.uart_16550.specs.Choice.{Agree, AgreeSaving, HasOneOutcome, HasOneOutcomeSaving, IsFunction, LeavesNoChoice};
+ghost use Rattle.uart_16550.specs.Driver.{Saving};
+ghost use Rattle.uart_16550.specs.DriverCalls.{ChangingCall, ChangingDoing, SavingCall, SavingLists};
+ghost use Rattle.uart_16550.specs.declared.dump.ConfigRegisterDump.{ConfigRegisterDump};
+
+use crate::backend::Backend;
+use crate::dump::ConfigRegisterDump;
+use uart_spec::registers::{IER, ISR, LCR, LSR, MCR, MSR};
+
+/// The contract of each call leaves no choice: what its reads answered so far decides the next access, and in the end what is
+/// returned, what is in the slots, and what is in the driver's fields.
+pub fn calls_leave_no_choice()
+    ensures saving { (call : SavingCall) → LeavesNoChoice (λ outcome. Saving (SavingLists call outcome)) }
+    ensures changing { (call : ChangingCall) → LeavesNoChoice (ChangingDoing call) }
+{}
+
+/// Two drivers with equal fields, each over a backend of its own, do the same in a call whose reads are answered alike.
+pub fn calls_agree<B: Backend, C: Backend>()
+    ensures saving { (call : SavingCall) → AgreeSaving (SavingLists call) B.step C.step }
+    ensures changing { (call : ChangingCall) → Agree (ChangingDoing call) B.step C.step }
+{}
+
+/// Over a backend whose step relation is a function, a call has one outcome, and leaves the driver and the backend in one state.
+pub fn calls_have_one_outcome<B: Backend>()
+    ensures saving { IsFunction B.step → (call : SavingCall) → HasOneOutcomeSaving (SavingLists call) B.step }
+    ensures changing { IsFunction B.step → (call : ChangingCall) → HasOneOutcome (ChangingDoing call) B.step }
+{}
+
+/// Dumps are compared by their registers in this order, and the default has all bits clear.
+pub fn dump_fields_are_in_order()
+    ensures order { (a b : ConfigRegisterDump) → ⟦<ConfigRegisterDump as Ord>⟧.cmp a b ≡ in_turn (
+        ⟦<IER as Ord>⟧.cmp a.ier b.ier
+        ∷ ⟦<ISR as Ord>⟧.cmp a.isr b.isr
+        ∷ ⟦<LCR as Ord>⟧.cmp a.lcr b.lcr
+        ∷ ⟦<MCR as Ord>⟧.cmp a.mcr b.mcr
+        ∷ ⟦<LSR as Ord>⟧.cmp a.lsr b.lsr
+        ∷ ⟦<MSR as Ord>⟧.cmp a.msr b.msr
+        ∷ nat_cmp a.spr b.spr
+        ∷ nat_cmp a.dll b.dll
+        ∷ nat_cmp a.dlm b.dlm
+        ∷ []) }
+    ensures default { (dump : ConfigRegisterDump) → ⟦<ConfigRegisterDump as Default>⟧.is_default dump → dump ≡ record {
+      ier = record { 0 = 0 };
+      isr = record { 0 = 0 };
+      lcr = record { 0 = 0 };
+      mcr = record { 0 = 0 };
+      lsr = record { 0 = 0 };
+      msr = record { 0 = 0 };
+      spr = 0;
+      dll = 0;
+      dlm = 0;
+    } }
+{}

@@ -1,0 +1,134 @@
+//! Laws about the types and constants: defaults, orders, values.
+//!
+//! Each function here has a law as its contract, for callers to cite, and does nothing.
+ghost use Rattle.std.specs.Prelude.{◌≡◌, ℕ, List, [], ◌∷◌, None, Some, false};
+ghost use Rattle.std.specs.Ordering.{nat_cmp, bool_cmp};
+ghost use Rattle.std.specs.declared.cmp.Ordering.TheVariants.{Less};
+ghost use Rattle.uart_spec.specs.Divisors.{divisors};
+ghost use Rattle.uart_spec.specs.Orders.{IsAscending, in_turn, partial_in_turn};
+ghost use Rattle.uart_spec.specs.declared.baud.TheConstants.{CLK_FREQUENCY_HZ, FIFO_SIZE, NUM_REGISTERS};
+ghost use Rattle.uart_spec.specs.declared.config.BaudRate.{BaudRate};
+ghost use Rattle.uart_spec.specs.declared.config.BaudRate.TheVariants.{Baud9600};
+ghost use Rattle.uart_spec.specs.declared.config.Config.{Config};
+ghost use Rattle.uart_spec.specs.declared.config.TheConstants.Config.{DEFAULT};
+ghost use Rattle.uart_spec.specs.declared.errors.InvalidDivisorError.{InvalidDivisorError};
+ghost use Rattle.uart_spec.specs.declared.errors.InvalidDivisorError.TheVariants.{NonInteger, OutOfRange};
+ghost use Rattle.uart_spec.specs.declared.errors.NonIntegerBaudRateError.{NonIntegerBaudRateError};
+ghost use Rattle.uart_spec.specs.declared.errors.NonIntegerDivisorError.{NonIntegerDivisorError};
+ghost use Rattle.uart_spec.specs.declared.registers.divisors.Divisor.{Divisor};
+ghost use Rattle.uart_spec.specs.declared.registers.divisors.Divisor.TheVariants.{Divisor1};
+ghost use Rattle.uart_spec.specs.declared.registers.fifo_control.FCR.{FCR};
+ghost use Rattle.uart_spec.specs.declared.registers.fifo_trigger_level.FifoTriggerLevel.{FifoTriggerLevel};
+ghost use Rattle.uart_spec.specs.declared.registers.fifo_trigger_level.FifoTriggerLevel.TheVariants.{One, Four, Eight, Fourteen};
+ghost use Rattle.uart_spec.specs.declared.registers.frame.Parity.{Parity};
+ghost use Rattle.uart_spec.specs.declared.registers.frame.Parity.TheVariants.{Disabled, Odd, Even, Forced1, Forced0};
+ghost use Rattle.uart_spec.specs.declared.registers.frame.WordLength.{WordLength};
+ghost use Rattle.uart_spec.specs.declared.registers.frame.WordLength.TheVariants.{FiveBits, SixBits, SevenBits, EightBits};
+ghost use Rattle.uart_spec.specs.declared.registers.interrupt_enable.IER.{IER};
+ghost use Rattle.uart_spec.specs.declared.registers.interrupt_status.ISR.{ISR};
+ghost use Rattle.uart_spec.specs.declared.registers.interrupt_type.InterruptType.TheVariants.{ReceiverLineStatus, ReceivedDataReady, ReceptionTimeout, TransmitterHoldingRegisterEmpty, ModemStatus, DmaReceptionEndOfTransfer, DmaTransmissionEndOfTransfer};
+ghost use Rattle.uart_spec.specs.declared.registers.line_control.LCR.{LCR};
+ghost use Rattle.uart_spec.specs.declared.registers.line_status.LSR.{LSR};
+ghost use Rattle.uart_spec.specs.declared.registers.modem_control.MCR.{MCR};
+ghost use Rattle.uart_spec.specs.declared.registers.modem_status.MSR.{MSR};
+ghost use Rattle.uart_spec.specs.declared.registers.offsets.TheConstants as offset;
+ghost use Rattle.uart_spec.specs.declared.registers.prescaler_division.PSD.{PSD};
+
+use crate::config::{BaudRate, Config};
+use crate::errors::{InvalidDivisorError, NonIntegerBaudRateError, NonIntegerDivisorError};
+use crate::registers::{
+    Divisor, FCR, FifoTriggerLevel, IER, ISR, InterruptType, LCR, LSR, MCR, MSR, PSD, Parity,
+    WordLength,
+};
+
+/// The default of each type.
+pub fn defaults_are_these()
+    ensures ier { (value : IER) → ⟦<IER as Default>⟧.is_default value → value.0 ≡ 0 }
+    ensures isr { (value : ISR) → ⟦<ISR as Default>⟧.is_default value → value.0 ≡ 0 }
+    ensures fcr { (value : FCR) → ⟦<FCR as Default>⟧.is_default value → value.0 ≡ 0 }
+    ensures lcr { (value : LCR) → ⟦<LCR as Default>⟧.is_default value → value.0 ≡ 0 }
+    ensures mcr { (value : MCR) → ⟦<MCR as Default>⟧.is_default value → value.0 ≡ 0 }
+    ensures lsr { (value : LSR) → ⟦<LSR as Default>⟧.is_default value → value.0 ≡ 0 }
+    ensures msr { (value : MSR) → ⟦<MSR as Default>⟧.is_default value → value.0 ≡ 0 }
+    ensures psd { (value : PSD) → ⟦<PSD as Default>⟧.is_default value → value.0 ≡ 0 }
+    ensures trigger_level { (level : FifoTriggerLevel) → ⟦<FifoTriggerLevel as Default>⟧.is_default level → level ≡ Fourteen }
+    ensures word_length { (length : WordLength) → ⟦<WordLength as Default>⟧.is_default length → length ≡ EightBits }
+    ensures parity { (parity : Parity) → ⟦<Parity as Default>⟧.is_default parity → parity ≡ Disabled }
+    ensures divisor { (divisor : Divisor) → ⟦<Divisor as Default>⟧.is_default divisor → divisor ≡ Divisor1 }
+    ensures baud_rate { (rate : BaudRate) → ⟦<BaudRate as Default>⟧.is_default rate → rate ≡ Baud9600 }
+    ensures config { (config : Config) → ⟦<Config as Default>⟧.is_default config → config ≡ DEFAULT }
+    ensures baud_rate_error { (error : NonIntegerBaudRateError) → ⟦<NonIntegerBaudRateError as Default>⟧.is_default error →
+        error ≡ record { frequency = 0; divisor = 0; prescaler_division_factor = None } }
+    ensures divisor_error { (error : NonIntegerDivisorError) → ⟦<NonIntegerDivisorError as Default>⟧.is_default error →
+        error ≡ record { frequency = 0; baud_rate = 0; prescaler_division_factor = None } }
+{}
+
+/// The default configuration, field by field.
+pub fn default_config_is_this()
+    ensures interrupts { DEFAULT.interrupts.0 ≡ 0 }
+    ensures frequency { DEFAULT.frequency ≡ 1843200 }
+    ensures prescaler { DEFAULT.prescaler_division_factor ≡ None }
+    ensures trigger_level { DEFAULT.fifo_trigger_level ≡ Some Fourteen }
+    ensures baud_rate { DEFAULT.baud_rate ≡ Baud9600 }
+    ensures data_bits { DEFAULT.data_bits ≡ EightBits }
+    ensures stop_bits { DEFAULT.extra_stop_bits ≡ false }
+    ensures parity { DEFAULT.parity ≡ Disabled }
+    ensures checks_cts { DEFAULT.check_cts_before_sending ≡ false }
+{}
+
+/// The cases of each enum, from the least on. Interrupts are in the order in which a chip reports them.
+pub fn cases_are_in_order()
+    ensures interrupts { IsAscending ⟦<InterruptType as Ord>⟧.cmp
+        (ReceiverLineStatus ∷ ReceivedDataReady ∷ ReceptionTimeout ∷ TransmitterHoldingRegisterEmpty
+        ∷ ModemStatus ∷ DmaReceptionEndOfTransfer ∷ DmaTransmissionEndOfTransfer ∷ []) }
+    ensures trigger_levels { IsAscending ⟦<FifoTriggerLevel as Ord>⟧.cmp (One ∷ Four ∷ Eight ∷ Fourteen ∷ []) }
+    ensures word_lengths { IsAscending ⟦<WordLength as Ord>⟧.cmp (FiveBits ∷ SixBits ∷ SevenBits ∷ EightBits ∷ []) }
+    ensures parities { IsAscending ⟦<Parity as Ord>⟧.cmp (Disabled ∷ Odd ∷ Even ∷ Forced1 ∷ Forced0 ∷ []) }
+    ensures divisor_errors { (error : NonIntegerDivisorError) (divisor : ℕ) →
+        ⟦<InvalidDivisorError as PartialOrd>⟧.partial_cmp (NonInteger error) (OutOfRange divisor) ≡ Some Less }
+    ensures divisors { IsAscending ⟦<Divisor as Ord>⟧.cmp divisors }
+{}
+
+/// Records are compared by their fields in this order.
+pub fn fields_are_in_order()
+    ensures config { (a b : Config) → ⟦<Config as Ord>⟧.cmp a b ≡ in_turn (
+        ⟦<IER as Ord>⟧.cmp a.interrupts b.interrupts
+        ∷ nat_cmp a.frequency b.frequency
+        ∷ ⟦<Option<u32> as Ord>⟧.cmp a.prescaler_division_factor b.prescaler_division_factor
+        ∷ ⟦<Option<FifoTriggerLevel> as Ord>⟧.cmp a.fifo_trigger_level b.fifo_trigger_level
+        ∷ ⟦<BaudRate as Ord>⟧.cmp a.baud_rate b.baud_rate
+        ∷ ⟦<WordLength as Ord>⟧.cmp a.data_bits b.data_bits
+        ∷ bool_cmp a.extra_stop_bits b.extra_stop_bits
+        ∷ ⟦<Parity as Ord>⟧.cmp a.parity b.parity
+        ∷ bool_cmp a.check_cts_before_sending b.check_cts_before_sending
+        ∷ []) }
+    ensures baud_rate_error { (a b : NonIntegerBaudRateError) → ⟦<NonIntegerBaudRateError as PartialOrd>⟧.partial_cmp a b ≡ partial_in_turn (
+        ⟦<u32 as PartialOrd>⟧.partial_cmp a.frequency b.frequency
+        ∷ ⟦<u32 as PartialOrd>⟧.partial_cmp a.divisor b.divisor
+        ∷ ⟦<Option<u32> as PartialOrd>⟧.partial_cmp a.prescaler_division_factor b.prescaler_division_factor
+        ∷ []) }
+    ensures divisor_error { (a b : NonIntegerDivisorError) → ⟦<NonIntegerDivisorError as PartialOrd>⟧.partial_cmp a b ≡ partial_in_turn (
+        ⟦<u32 as PartialOrd>⟧.partial_cmp a.frequency b.frequency
+        ∷ ⟦<u32 as PartialOrd>⟧.partial_cmp a.baud_rate b.baud_rate
+        ∷ ⟦<Option<u32> as PartialOrd>⟧.partial_cmp a.prescaler_division_factor b.prescaler_division_factor
+        ∷ []) }
+{}
+
+/// The values of the constants.
+pub fn constants_are_these()
+    ensures clock { CLK_FREQUENCY_HZ ≡ 1843200 }
+    ensures fifo { FIFO_SIZE ≡ 16 }
+    ensures registers { NUM_REGISTERS ≡ 8 }
+    ensures data { offset.DATA ≡ 0 }
+    ensures ier { offset.IER ≡ 1 }
+    ensures isr { offset.ISR ≡ 2 }
+    ensures fcr { offset.FCR ≡ 2 }
+    ensures lcr { offset.LCR ≡ 3 }
+    ensures mcr { offset.MCR ≡ 4 }
+    ensures lsr { offset.LSR ≡ 5 }
+    ensures msr { offset.MSR ≡ 6 }
+    ensures spr { offset.SPR ≡ 7 }
+    ensures dll { offset.DLL ≡ 0 }
+    ensures dlm { offset.DLM ≡ 1 }
+    ensures psd { offset.PSD ≡ 6 }
+{}
