@@ -9,3 +9,4 @@ pub mod Texts
 pub mod Loopbacks
 pub mod Terminals
 pub mod Chains
+pub mod Replays

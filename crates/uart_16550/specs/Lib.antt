@@ -15,3 +15,4 @@ pub mod Devices
 pub mod Examples
 pub mod Loopback
 pub mod Links
+pub mod Replay

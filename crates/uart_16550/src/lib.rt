@@ -8,6 +8,7 @@ mod dump;
 pub mod embedded_io;
 mod mmio;
 mod pio;
+pub mod replay;
 #[cfg(test)]
 mod tests;
 mod tty;
