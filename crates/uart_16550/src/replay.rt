@@ -1,7 +1,7 @@
 //! A backend that plays answers back, and keeps the accesses that were made.
 //!
 //! A call's list of accesses is decided by the driver's fields and by what is answered. So a driver over a `Replay` is a function
-//! from these to the one list that the call may make: whatever another backend answered, the same call with the same fields over a
+//! from these to the one list that the call may make: whatever another backend answers, the same call with the same fields over a
 //! replay of its answers makes the same accesses.
 ghost use Rattle.std.specs.Prelude.{◌≡◌, true, false, ◌&&◌, [], ◌∷◌, ◌++◌, nat_lt, length, map, IfSome, IsNone};
 ghost use Rattle.uart_16550.specs.Replay.{Plays, TapesShow, access_of, room};

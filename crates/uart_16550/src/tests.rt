@@ -12,5 +12,6 @@ mod init;
 mod lists;
 mod looks;
 mod loopback;
+mod replays;
 mod setup;
 mod terminal;

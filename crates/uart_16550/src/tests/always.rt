@@ -4,7 +4,7 @@ use super::devices::{Constant, RegisterFile, impatient};
 use super::driving::Answer::{
     self, Count, Done, Flag, Latch, NoData, NotConnected, NotSent, Register, Stalled,
 };
-use super::driving::{Call, compare};
+use super::driving::{Call, compare, over};
 use super::lists::{Accesses, list};
 use crate::spec::BaudRate::Baud9600;
 use crate::spec::ByteSendError::NoCapacity;
@@ -20,20 +20,17 @@ const DEFAULT_INIT: Call = Call::Init(Some(FifoTriggerLevel::Fourteen), Baud9600
 
 // A call over a device that always answers FF.
 fn noisy(rt: &impl Abort, call: Call, answer: Answer, accesses: Accesses) {
-    let mut terminal = Uart16550Tty::from_inner(impatient(Constant(0xff)));
-    compare(rt, &mut terminal, call, answer, accesses);
+    over(rt, Constant(0xff), call, answer, accesses);
 }
 
 // A call over a device that always answers 00.
 fn silent(rt: &impl Abort, call: Call, answer: Answer, accesses: Accesses) {
-    let mut terminal = Uart16550Tty::from_inner(impatient(Constant(0x00)));
-    compare(rt, &mut terminal, call, answer, accesses);
+    over(rt, Constant(0x00), call, answer, accesses);
 }
 
 // A call over the register file.
 fn filed(rt: &impl Abort, call: Call, answer: Answer, accesses: Accesses) {
-    let mut terminal = Uart16550Tty::from_inner(impatient(RegisterFile::new(true)));
-    compare(rt, &mut terminal, call, answer, accesses);
+    over(rt, RegisterFile::new(true), call, answer, accesses);
 }
 
 // A dump in which each register shows this.

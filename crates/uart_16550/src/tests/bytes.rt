@@ -1,8 +1,9 @@
 //! The calls that receive and send, by bytes and by slices: each with its whole list of accesses, and each of their waits to its
 //! stall.
+use super::devices::Listed;
 use super::driving::Answer::{Count, Done, FormatError, NoData, NotSent, Register, Stalled};
 use super::driving::Start::{Checking, CheckingNoFifo, New, NoFifo};
-use super::driving::{Call, UNTOUCHED, receiving, row, started};
+use super::driving::{Call, Left, NOTHING, UNTOUCHED, perform, read_back, receiving, row, started};
 use super::lists::list;
 use crate::spec::ByteSendError::NoCapacity;
 use crate::spec::StalledError;
@@ -37,7 +38,7 @@ fn single_bytes(rt: HostRuntime) {
     );
     let clear = list().look(0x20).read(4, 0x0b).read(6, 0x10).data(b"a");
     row(&rt, Checking, &[0x20, 0x0b, 0x10], send, Done, clear);
-    // It does not tell that the remote is not clear to send.
+    // It does not report that the remote is not clear to send.
     let not_clear = list().look(0x20).read(4, 0x0b).read(6, 0x20);
     row(
         &rt,
@@ -436,4 +437,70 @@ fn long_slices_stall_after_many_bytes(rt: HostRuntime) {
         terminal.inner().backend().log.entries(),
         received.entries()
     );
+}
+
+#[test]
+fn refusals_leave_all_but_the_saved_bits(rt: HostRuntime) {
+    // Three looks, each with another error: a wait makes them all, another call the first.
+    let answers = &[0x02, 0x04, 0x08];
+    for (call, saved_lsr) in [
+        (Call::ReadyToReceive, 0x02),
+        (Call::ReadyToSend, 0x02),
+        (Call::TryReceiveByte, 0x02),
+        (Call::TrySendByte(b'a'), 0x02),
+        (Call::ReadReady, 0x02),
+        (Call::WriteReady, 0x02),
+        (Call::ReceiveBytes(3), 0x02),
+        (Call::SendBytes(b"hello"), 0x02),
+        (Call::ReceiveBytesExact(3), 0x0e),
+        (Call::SendBytesExact(b"hello"), 0x0e),
+        (Call::Read(3), 0x0e),
+        (Call::Write(b"hello"), 0x0e),
+        (Call::Flush, 0x0e),
+        (Call::WriteText("hello"), 0x0e),
+        (Call::WriteStr("hello"), 0x0e),
+    ] {
+        let mut terminal = started(New, answers);
+        perform(&mut terminal, call, &mut [UNTOUCHED; 4]);
+        let left = Left {
+            saved_lsr,
+            ..NOTHING
+        };
+        assert_eq!(rt; read_back(&mut terminal, Listed(&[])), left, "{call:?}");
+        let mut terminal = started(NoFifo, answers);
+        perform(&mut terminal, call, &mut [UNTOUCHED; 4]);
+        let left = Left {
+            level: None,
+            fifo_enabled: false,
+            saved_lsr,
+            ..NOTHING
+        };
+        assert_eq!(rt; read_back(&mut terminal, Listed(&[])), left, "{call:?}");
+    }
+}
+
+#[test]
+fn refusals_that_check_cts_save_changes_too(rt: HostRuntime) {
+    // Three checks without CTS, each with another change.
+    let answers = &[0x22, 0x0b, 0x01, 0x20, 0x0b, 0x02, 0x24, 0x0b, 0x04];
+    for (call, saved_lsr, saved_msr) in [
+        (Call::ReadyToSend, 0x02, 0x01),
+        (Call::TrySendByte(b'a'), 0x02, 0x01),
+        (Call::WriteReady, 0x02, 0x01),
+        (Call::SendBytes(b"hello"), 0x02, 0x01),
+        (Call::SendBytesExact(b"hello"), 0x06, 0x07),
+        (Call::Write(b"hello"), 0x06, 0x07),
+        (Call::WriteText("hello"), 0x06, 0x07),
+        (Call::WriteStr("hello"), 0x06, 0x07),
+    ] {
+        let mut terminal = started(Checking, answers);
+        perform(&mut terminal, call, &mut [UNTOUCHED; 4]);
+        let left = Left {
+            checks_cts: true,
+            saved_lsr,
+            saved_msr,
+            ..NOTHING
+        };
+        assert_eq!(rt; read_back(&mut terminal, Listed(&[])), left, "{call:?}");
+    }
 }

@@ -3,6 +3,7 @@ use super::devices::{Listed, Recorder, impatient};
 use super::lists::Accesses;
 use crate::backend::Backend;
 use crate::embedded_io::{Read, ReadReady, Write, WriteReady};
+use crate::replay::Replay;
 use crate::spec::registers::{FifoTriggerLevel, IER};
 use crate::spec::{
     BaudRate, ByteSendError, Config, InitError, LoopbackError, RemoteReadyToReceiveError,
@@ -11,6 +12,7 @@ use crate::spec::{
 use crate::{ConfigRegisterDump, Uart16550, Uart16550Tty};
 use bitflags::Flags;
 use std::fmt;
+use std::num::NonZeroU64;
 use std::process::Abort;
 
 /// A call. Receiving calls have so many slots, at most 4.
@@ -48,7 +50,7 @@ pub enum Call {
     WriteStr(&'static str),
 }
 
-/// What a call answered.
+/// What a call returned.
 #[derive(Debug, PartialEq, Drop)]
 pub enum Answer {
     Done,
@@ -83,7 +85,7 @@ fn counted(came: Result<usize, StalledError>) -> Answer {
     }
 }
 
-fn told(came: Result<bool, StalledError>) -> Answer {
+fn flagged(came: Result<bool, StalledError>) -> Answer {
     match came {
         Ok(ready) => Answer::Flag(ready),
         Err(stall) => Answer::Stalled(stall.done),
@@ -137,8 +139,8 @@ fn look<B: Backend>(uart: &mut Uart16550<B>, call: Call) -> Answer {
             Err(_) => Answer::NoData,
         },
         Call::ReadyToSend => sent(uart.ready_to_send()),
-        Call::ReadReady => told(uart.read_ready()),
-        Call::WriteReady => told(uart.write_ready()),
+        Call::ReadReady => flagged(uart.read_ready()),
+        Call::WriteReady => flagged(uart.write_ready()),
         Call::EnableInterrupts(interrupts) => {
             uart.enable_interrupts(interrupts);
             Answer::Done
@@ -239,29 +241,59 @@ const CHECKING_NO_FIFO: Config = Config {
     ..Config::DEFAULT
 };
 
-/// A terminal over a device that gives these answers, set up so.
-pub fn started(start: Start, answers: &'static [u8]) -> Uart16550Tty<Recorder<Listed>> {
-    let mut uart = impatient(Listed(&[]));
-    match start {
-        Start::New => {}
-        Start::NoFifo => {
-            uart.backend_mut().device = Listed(&[0x00, 0x42, 0x73, 0x00, 0x40]);
-            let _ = uart.init(NO_FIFO);
-        }
-        Start::Checking => {
-            uart.backend_mut().device = Listed(&[0x00, 0x42, 0x73, 0xc1, 0x00, 0x40]);
-            let _ = uart.init(CHECKING);
-        }
-        Start::CheckingNoFifo => {
-            uart.backend_mut().device = Listed(&[0x00, 0x42, 0x73, 0x00, 0x40]);
-            let _ = uart.init(CHECKING_NO_FIFO);
+impl Start {
+    // What a device answers to the initialisation, before zeros.
+    fn answers(self) -> &'static [u8] {
+        match self {
+            Start::New => &[],
+            Start::Checking => &[0x00, 0x42, 0x73, 0xc1, 0x00, 0x40],
+            Start::NoFifo | Start::CheckingNoFifo => &[0x00, 0x42, 0x73, 0x00, 0x40],
         }
     }
+
+    // Sets a new driver up, over a device that gives these answers.
+    fn prepare<B: Backend>(self, uart: &mut Uart16550<B>) {
+        let _ = match self {
+            Start::New => Ok(()),
+            Start::NoFifo => uart.init(NO_FIFO),
+            Start::Checking => uart.init(CHECKING),
+            Start::CheckingNoFifo => uart.init(CHECKING_NO_FIFO),
+        };
+    }
+}
+
+/// A terminal over a device that gives these answers, set up so.
+pub fn started(start: Start, answers: &'static [u8]) -> Uart16550Tty<Recorder<Listed>> {
+    let mut uart = impatient(Listed(start.answers()));
+    start.prepare(&mut uart);
     *uart.backend_mut() = Recorder::new(Listed(answers));
     Uart16550Tty::from_inner(uart)
 }
 
-/// Makes the call, and compares what it answered and which accesses it made.
+// A terminal over a replay of these answers, set up so over a replay of the others.
+fn replaying<'a>(start: Start, others: &'a [u8], answers: &'a [u8]) -> Uart16550Tty<Replay<'a>> {
+    let mut uart = Uart16550::new_with_backend(Replay::new(others));
+    uart.set_spin_limit(NonZeroU64::new(3).unwrap());
+    start.prepare(&mut uart);
+    *uart.backend_mut() = Replay::new(answers);
+    Uart16550Tty::from_inner(uart)
+}
+
+// The same call of a driver that is set up so, over a replay of what the device answered, returns the same and makes the same
+// accesses.
+fn replay(rt: &impl Abort, start: Start, call: Call, answer: &Answer, list: &Accesses) {
+    let answers = list.answers();
+    let mut terminal = replaying(start, start.answers(), answers.as_slice());
+    let came = perform(&mut terminal, call, &mut [UNTOUCHED; 4]);
+    assert_eq!(rt; &came, answer, "{call:?}");
+    assert_eq!(rt;
+        terminal.inner().backend().accesses(),
+        list.entries(),
+        "{call:?}"
+    );
+}
+
+/// Makes the call, and compares what it returned and which accesses were made so far.
 pub fn compare<D: Backend>(
     rt: &impl Abort,
     terminal: &mut Uart16550Tty<Recorder<D>>,
@@ -269,8 +301,7 @@ pub fn compare<D: Backend>(
     answer: Answer,
     list: Accesses,
 ) {
-    let mut slots = [UNTOUCHED; 4];
-    let came = perform(terminal, call, &mut slots);
+    let came = perform(terminal, call, &mut [UNTOUCHED; 4]);
     assert_eq!(rt; came, answer, "{call:?}");
     assert_eq!(rt;
         terminal.inner().backend().log.entries(),
@@ -279,8 +310,21 @@ pub fn compare<D: Backend>(
     );
 }
 
-/// One row: a driver that is set up so, over a device that gives these answers and then zeros, makes a call. That answers this,
-/// and these are its accesses. The driver is given back.
+/// A row over any device: a new driver makes a call. That returns this, and these are its accesses, also over a replay.
+pub fn over<D: Backend + Drop>(
+    rt: &impl Abort,
+    device: D,
+    call: Call,
+    answer: Answer,
+    list: Accesses,
+) {
+    replay(rt, Start::New, call, &answer, &list);
+    let mut terminal = Uart16550Tty::from_inner(impatient(device));
+    compare(rt, &mut terminal, call, answer, list);
+}
+
+/// One row: a driver that is set up so, over a device that gives these answers and then zeros, makes a call. That returns this,
+/// and these are its accesses, also over a replay. Returns the driver after the call.
 pub fn row(
     rt: &impl Abort,
     start: Start,
@@ -289,12 +333,13 @@ pub fn row(
     answer: Answer,
     list: Accesses,
 ) -> Uart16550Tty<Recorder<Listed>> {
+    replay(rt, start, call, &answer, &list);
     let mut terminal = started(start, answers);
     compare(rt, &mut terminal, call, answer, list);
     terminal
 }
 
-/// A row of a receiving call, with what the four slots then hold.
+/// A row of a receiving call of a new driver, with what the four slots then hold.
 pub fn receiving(
     rt: &impl Abort,
     answers: &'static [u8],
@@ -305,14 +350,9 @@ pub fn receiving(
 ) {
     let mut terminal = started(Start::New, answers);
     let mut slots = [UNTOUCHED; 4];
-    let came = perform(&mut terminal, call, &mut slots);
-    assert_eq!(rt; came, answer, "{call:?}");
+    perform(&mut terminal, call, &mut slots);
     assert_eq!(rt; slots, filled, "{call:?}");
-    assert_eq!(rt;
-        terminal.inner().backend().log.entries(),
-        list.entries(),
-        "{call:?}"
-    );
+    row(rt, Start::New, answers, call, answer, list);
 }
 
 /// What a call left behind: in the driver's fields, and as the last write to each register.
@@ -320,6 +360,8 @@ pub fn receiving(
 pub struct Left {
     pub baud_rate: BaudRate,
     pub interrupts: u8,
+    pub level: Option<FifoTriggerLevel>,
+    pub checks_cts: bool,
     pub fifo_enabled: bool,
     pub saved_lsr: u8,
     pub saved_msr: u8,
@@ -333,6 +375,8 @@ pub struct Left {
 pub const NOTHING: Left = Left {
     baud_rate: BaudRate::Baud9600,
     interrupts: 0,
+    level: Some(FifoTriggerLevel::Fourteen),
+    checks_cts: false,
     fifo_enabled: true,
     saved_lsr: 0,
     saved_msr: 0,
@@ -342,7 +386,7 @@ pub const NOTHING: Left = Left {
     mcr: None,
 };
 
-/// Reads back what is left. The saved bits are those that `lsr` and `msr` answer over a device that shows none.
+/// Reads back what is left. The saved bits are those that `lsr` and `msr` return over a device that shows none.
 pub fn read_back<D: Backend + Drop>(terminal: &mut Uart16550Tty<Recorder<D>>, silent: D) -> Left {
     let uart = terminal.inner_mut();
     let log = &uart.backend().log;
@@ -351,6 +395,8 @@ pub fn read_back<D: Backend + Drop>(terminal: &mut Uart16550Tty<Recorder<D>>, si
     Left {
         baud_rate: uart.config().baud_rate,
         interrupts: uart.config().interrupts.bits(),
+        level: uart.config().fifo_trigger_level,
+        checks_cts: uart.config().check_cts_before_sending,
         fifo_enabled: uart.fifo_enabled(),
         saved_lsr: uart.lsr().bits(),
         saved_msr: uart.msr().bits(),

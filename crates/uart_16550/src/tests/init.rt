@@ -86,6 +86,7 @@ fn init_without_level(rt: HostRuntime) {
     let mut terminal = row(&rt, New, answers, Init(None, Baud300), Done, all);
     let left = Left {
         baud_rate: Baud300,
+        level: None,
         fifo_enabled: false,
         fcr: Some(0x06),
         ..SET_UP
@@ -154,6 +155,7 @@ fn init_finds_no_device(rt: HostRuntime) {
     // The configuration is the new one; the FIFO is taken to be on and the saved bits stay, as before.
     let left = || Left {
         baud_rate: Baud38400,
+        level: None,
         saved_lsr: 0x02,
         ..NOTHING
     };

@@ -1,26 +1,12 @@
 //! Lists of accesses, as they are recorded, and as tables write them down.
+pub use crate::replay::Entry;
+use crate::replay::REPLAY_ROOM;
 use arrayvec::ArrayVec;
 
-/// How many accesses a list has room for.
-pub const ROOM: usize = 512;
-
-/// One access: where, and the byte that was read or written.
-#[derive(Clone, Copy, Debug, PartialEq, Eq)]
-pub enum Entry {
-    Read(usize, u8),
-    Write(usize, u8),
-}
-
-impl Default for Entry {
-    fn default() -> Self {
-        Entry::Read(0, 0)
-    }
-}
-
-/// A list of accesses, which tells whether it had room for all of them.
+/// A list of accesses, which knows whether it had room for all of them.
 #[derive(Debug, PartialEq, Drop)]
 pub struct Accesses {
-    entries: ArrayVec<Entry, ROOM>,
+    entries: ArrayVec<Entry, REPLAY_ROOM>,
     is_whole: bool,
 }
 
@@ -38,7 +24,7 @@ impl Accesses {
         }
     }
 
-    /// The accesses; `None` where there was no room for all of them.
+    /// The accesses; `None` if there was no room for all of them.
     pub fn entries(&self) -> Option<&[Entry]> {
         if self.is_whole {
             Some(self.entries.as_slice())
@@ -50,6 +36,17 @@ impl Accesses {
     /// How many there are.
     pub fn count(&self) -> usize {
         self.entries.len()
+    }
+
+    /// What the reads answered.
+    pub fn answers(&self) -> ArrayVec<u8, REPLAY_ROOM> {
+        let mut answers = ArrayVec::new();
+        for entry in self.entries.as_slice() {
+            if let Entry::Read(_, answer) = *entry {
+                let _ = answers.try_push(answer);
+            }
+        }
+        answers
     }
 
     /// The last byte that was written to a register. While DLAB is set, the first two are the divisor latch.

@@ -124,6 +124,7 @@ fn the_test_of_a_driver_without_level_asks_isr_nothing(rt: HostRuntime) {
     let refusal = LoopbackRefused(Stalled);
     let mut terminal = row(&rt, NoFifo, answers, TestLoopback, refusal, stalled);
     let state = Left {
+        level: None,
         fcr: Some(0x06),
         ..WITHOUT_FIFO
     };
@@ -203,6 +204,7 @@ fn the_test_byte_is_refused_where_cts_is_checked(rt: HostRuntime) {
     let refusal = LoopbackRefused(SendError(NoCapacity));
     let mut terminal = row(&rt, Checking, answers, TestLoopback, refusal, left(checked));
     let state = Left {
+        checks_cts: true,
         saved_msr: 0x0d,
         ..RESTORED
     };
@@ -221,7 +223,11 @@ fn the_test_byte_is_refused_where_cts_is_checked(rt: HostRuntime) {
     let message = byte.look(0x20).read(4, 0x10).data(MESSAGE).looks(3, 0x00);
     let refusal = LoopbackRefused(Stalled);
     let mut terminal = row(&rt, Checking, answers, TestLoopback, refusal, left(message));
-    assert_eq!(rt; read_back(&mut terminal, Listed(&[])), RESTORED);
+    let state = Left {
+        checks_cts: true,
+        ..RESTORED
+    };
+    assert_eq!(rt; read_back(&mut terminal, Listed(&[])), state);
 }
 
 #[test]

@@ -151,6 +151,23 @@ fn terminals_are_refused_by_the_test(rt: HostRuntime) {
 }
 
 #[test]
+fn terminals_stall(rt: HostRuntime) {
+    // In the wait of `init`, and in each part of the test: the spin limit is that of a new driver.
+    let refused = Uart16550Tty::new_with_backend(Listed(&[0x00, 0x42, 0x73]), Config::DEFAULT);
+    assert_eq!(rt; refused.err(), Some(InitError(Refusal::Stalled)));
+    for answers in [
+        [0x00, 0x42, 0x73, 0xc1, 0x00, 0x40].as_slice(),
+        &[
+            0x00, 0x42, 0x73, 0xc1, 0x00, 0x40, 0x00, 0x00, 0x00, 0x0b, 0x00, 0x40, 0x00, 0xc1,
+            0x00, 0x20,
+        ],
+    ] {
+        let refused = Uart16550Tty::new_with_backend(Listed(answers), Config::DEFAULT);
+        assert_eq!(rt; refused.err(), Some(TestError(LoopbackError::Stalled)));
+    }
+}
+
+#[test]
 fn terminals_are_refused_at_an_address(rt: HostRuntime) {
     let beyond = InvalidAddressError::InvalidBaseAddress(65529);
     let refused = Uart16550Tty::new_port(65529, Constant(0xff), Config::DEFAULT);
