@@ -9,4 +9,5 @@ pub mod Texts
 pub mod Loopbacks
 pub mod Terminals
 pub mod Chains
+pub mod Replays
 pub mod determined

@@ -17,3 +17,4 @@ pub mod Loopback
 pub mod Links
 pub mod Choice
 pub mod DriverCalls
+pub mod Replay

@@ -9,6 +9,7 @@ pub mod embedded_io;
 pub mod laws;
 mod mmio;
 mod pio;
+pub mod replay;
 #[cfg(test)]
 mod tests;
 mod tty;

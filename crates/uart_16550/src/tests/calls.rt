@@ -1,11 +1,10 @@
 //! The calls of a driver that is initialised, and of one that is not.
-use super::devices::Entry::{Read, Write};
-use super::devices::{Constant, Listed, RegisterFile, driver, impatient};
+use super::devices::{RegisterFile, driver};
 use super::examples::Memory;
 use crate::backend::Backend;
 use crate::spec::registers::{IER, ISR, LCR, LSR, MCR, MSR};
-use crate::spec::{BaudRate, Config, StalledError};
-use crate::{ConfigRegisterDump, Uart16550, embedded_io};
+use crate::spec::{BaudRate, Config};
+use crate::{ConfigRegisterDump, Uart16550};
 use bitflags::Flags;
 use std::num::NonZeroUsize;
 use std::test::Fail;
@@ -85,61 +84,4 @@ fn plain_memory_shows_the_divisor(rt: HostRuntime) -> Result<(), Fail> {
         assert_eq!(rt; uart.config_register_dump().dll, 3);
     }
     Ok(())
-}
-
-#[test]
-fn receive_bytes_takes_what_comes(rt: HostRuntime) {
-    let mut uart = impatient(Constant(0xff));
-    let mut slots = [0; 3];
-    assert_eq!(rt; uart.receive_bytes(&mut slots), 3);
-    assert_eq!(rt; slots, [0xff; 3]);
-    let looks = [Read(5, 0xff), Read(0, 0xff)];
-    assert_eq!(rt;
-        uart.backend().log.as_slice(),
-        [looks, looks, looks].as_flattened()
-    );
-    assert_eq!(rt; uart.lsr(), LSR::all());
-    assert_eq!(rt; uart.try_receive_byte(), Ok(0xff));
-    assert_eq!(rt; uart.receive_bytes_exact(&mut slots), Ok(()));
-    assert_eq!(rt; uart.check_connected(), Ok(()));
-}
-
-#[test]
-fn waits_end_at_the_limit(rt: HostRuntime) {
-    let mut uart = impatient(Constant(0x00));
-    let stall = StalledError { done: 0 };
-    assert_eq!(rt; embedded_io::Write::flush(&mut uart), Err(stall));
-    assert_eq!(rt;
-        uart.backend().log.as_slice(),
-        [Read(5, 0x00); 3].as_slice()
-    );
-    assert!(rt; embedded_io::Write::write(&mut uart, b"hello").is_err());
-    assert_eq!(rt; uart.backend().log.len(), 6);
-    assert!(rt; uart.send_bytes_exact(b"hello").is_err());
-    assert_eq!(rt; uart.backend().log.len(), 9);
-    let mut slots = [0; 3];
-    assert!(rt; embedded_io::Read::read(&mut uart, &mut slots).is_err());
-    assert_eq!(rt; uart.backend().log.len(), 12);
-    assert!(rt; uart.receive_bytes_exact(&mut slots).is_err());
-    assert_eq!(rt;
-        uart.backend().log.as_slice(),
-        [Read(5, 0x00); 15].as_slice()
-    );
-}
-
-#[test]
-fn send_bytes_exact_stalls_after_a_burst(rt: HostRuntime) {
-    let mut uart = impatient(Listed(&[0x00, 0x00, 0x20]));
-    let stall = StalledError { done: 16 };
-    assert_eq!(rt; uart.send_bytes_exact(b"hello, world! 123"), Err(stall));
-    let log = uart.backend().log.as_slice();
-    assert_eq!(rt; log.len(), 22);
-    assert_eq!(rt;
-        &log[..3],
-        [Read(5, 0x00), Read(5, 0x00), Read(5, 0x20)].as_slice()
-    );
-    for (entry, byte) in log[3..19].iter().zip(b"hello, world! 12") {
-        assert_eq!(rt; *entry, Write(0, *byte));
-    }
-    assert_eq!(rt; &log[19..], [Read(5, 0x00); 3].as_slice());
 }

@@ -1,38 +1,27 @@
 //! Devices for tests.
-ghost use Rattle.std.specs.Prelude.{◌≡◌};
+ghost use Rattle.std.specs.Prelude.{◌≡◌, ℕ};
+ghost use Rattle.uart_16550.specs.Access.{Read as read_access};
 ghost use Rattle.uart_16550.specs.Devices.{AnswersAlways, AnswersInTurn, FileStep, is_latch};
 
+use super::lists::{Accesses, Entry};
 use crate::Uart16550;
 use crate::backend::{Backend, ByteAccess, PortAccess};
 use arrayvec::ArrayVec;
 use std::num::NonZeroU64;
 use uart_spec::registers::offsets;
 
-/// One access: where, and the byte that was read or written.
-#[derive(Clone, Copy, Debug, PartialEq, Eq)]
-pub enum Entry {
-    Read(usize, u8),
-    Write(usize, u8),
-}
-
-impl Default for Entry {
-    fn default() -> Self {
-        Entry::Read(0, 0)
-    }
-}
-
-/// A device whose accesses are recorded, as far as there is room.
+/// A device whose accesses are recorded.
 #[derive(Drop)]
 pub struct Recorder<D> {
     pub device: D,
-    pub log: ArrayVec<Entry, 64>,
+    pub log: Accesses,
 }
 
 impl<D> Recorder<D> {
     pub fn new(device: D) -> Self {
         Recorder {
             device,
-            log: ArrayVec::new(),
+            log: Accesses::new(),
         }
     }
 }
@@ -42,17 +31,13 @@ impl<D: Backend> Backend for Recorder<D> {
 
     fn read(&mut self, register_offset: u8) -> u8 {
         let answer = self.device.read(register_offset);
-        let _ = self
-            .log
-            .try_push(Entry::Read(register_offset as usize, answer));
+        self.log.push(Entry::Read(register_offset as usize, answer));
         answer
     }
 
     fn write(&mut self, register_offset: u8, value: u8) {
         self.device.write(register_offset, value);
-        let _ = self
-            .log
-            .try_push(Entry::Write(register_offset as usize, value));
+        self.log.push(Entry::Write(register_offset as usize, value));
     }
 }
 
@@ -61,13 +46,13 @@ impl<D: PortAccess> PortAccess for Recorder<D> {
 
     fn port_in(&mut self, port: u16) -> u8 {
         let answer = self.device.port_in(port);
-        let _ = self.log.try_push(Entry::Read(port as usize, answer));
+        self.log.push(Entry::Read(port as usize, answer));
         answer
     }
 
     fn port_out(&mut self, port: u16, value: u8) {
         self.device.port_out(port, value);
-        let _ = self.log.try_push(Entry::Write(port as usize, value));
+        self.log.push(Entry::Write(port as usize, value));
     }
 }
 
@@ -76,13 +61,13 @@ impl<D: ByteAccess> ByteAccess for Recorder<D> {
 
     fn load(&mut self, address: usize) -> u8 {
         let answer = self.device.load(address);
-        let _ = self.log.try_push(Entry::Read(address, answer));
+        self.log.push(Entry::Read(address, answer));
         answer
     }
 
     fn store(&mut self, address: usize, value: u8) {
         self.device.store(address, value);
-        let _ = self.log.try_push(Entry::Write(address, value));
+        self.log.push(Entry::Write(address, value));
     }
 }
 
@@ -124,10 +109,11 @@ impl ByteAccess for Constant {
 #[derive(Drop)]
 pub struct Listed(pub &'static [u8]);
 
-impl Backend for Listed {
-    ghost step = { λ old access new. AnswersInTurn old.0.now access new.0.now };
-
-    fn read(&mut self, _register_offset: u8) -> u8 {
+impl Listed {
+    // The next answer.
+    fn next(&mut self) -> u8
+        ensures { (place : ℕ) → AnswersInTurn self.old.0.now (read_access place result) self.new.0.now }
+    {
         match self.0 {
             [first, rest @ ..] => {
                 self.0 = rest;
@@ -136,8 +122,36 @@ impl Backend for Listed {
             [] => 0,
         }
     }
+}
+
+impl Backend for Listed {
+    ghost step = { λ old access new. AnswersInTurn old.0.now access new.0.now };
+
+    fn read(&mut self, _register_offset: u8) -> u8 {
+        self.next()
+    }
 
     fn write(&mut self, _register_offset: u8, _value: u8) {}
+}
+
+impl PortAccess for Listed {
+    ghost step = { λ old access new. AnswersInTurn old.0.now access new.0.now };
+
+    fn port_in(&mut self, _port: u16) -> u8 {
+        self.next()
+    }
+
+    fn port_out(&mut self, _port: u16, _value: u8) {}
+}
+
+impl ByteAccess for Listed {
+    ghost step = { λ old access new. AnswersInTurn old.0.now access new.0.now };
+
+    fn load(&mut self, _address: usize) -> u8 {
+        self.next()
+    }
+
+    fn store(&mut self, _address: usize, _value: u8) {}
 }
 
 /// A device whose registers keep what is written to them, and whose transmitter is always idle.

@@ -1,9 +1,7 @@
 //! The terminal, the traits at one concrete type, and generic code over them.
-use super::devices::{Constant, RegisterFile, driver, impatient};
-use crate::embedded_io::{Read, ReadReady, Write, WriteReady};
-use crate::spec::{BaudRate, Config, StalledError};
+use super::devices::{RegisterFile, driver};
+use crate::spec::{BaudRate, Config};
 use crate::{ConfigRegisterDump, Uart16550Tty};
-use std::fmt;
 use std::fmt::Write as _;
 
 #[test]
@@ -17,24 +15,6 @@ fn a_line_ends_as_terminals_expect(rt: HostRuntime) {
         terminal.inner().backend().device.sent.as_slice(),
         b"hello\r\n\x08 \x08".as_slice()
     );
-}
-
-#[test]
-fn a_text_stalls_where_nothing_leaves(rt: HostRuntime) {
-    let mut terminal = Uart16550Tty::from_inner(impatient(Constant(0)));
-    assert_eq!(rt; terminal.write_text("a\n"), Err(StalledError { done: 0 }));
-    assert!(rt; fmt::Write::write_str(&mut terminal, "a").is_err());
-}
-
-#[test]
-fn empty_slices_make_no_access(rt: HostRuntime) {
-    let mut uart = driver(RegisterFile::new(true));
-    assert_eq!(rt; uart.read(&mut []), Ok(0));
-    assert_eq!(rt; uart.write(&[]), Ok(0));
-    assert_eq!(rt; uart.backend().log.len(), 0);
-    assert_eq!(rt; uart.read_ready(), Ok(false));
-    assert_eq!(rt; uart.write_ready(), Ok(true));
-    assert_eq!(rt; uart.flush(), Ok(()));
 }
 
 #[test]

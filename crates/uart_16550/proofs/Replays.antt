@@ -1,0 +1,35 @@
+-- What a tape tells of the calls over it.
+use Rattle.std.proofs.Common.{◌≡◌, ℕ, Bool, true, false, ◌&&◌, List, [], ◌∷◌, ◌++◌, refl, sym, ◌∙◌, ap, subst, append_assoc, append-nil, nat_lt, length}
+use Rattle.uart_16550.specs.Access.{Access, Path}
+use Rattle.uart_16550.specs.Grammar.{Language}
+use Rattle.uart_16550.specs.Driver.{Made, Did, Doing, Saving}
+use Rattle.uart_16550.specs.Replay.{Tape, Plays, TapesShow, Replayed, room}
+use Rattle.uart_16550.specs.declared.driver.Uart16550.{Uart16550}
+use Rattle.uart_16550.proofs.Doings.{did_made}
+
+pub whole_before : (b c : Bool) → (b && c) ≡ true → b ≡ true
+whole_before true c h = refl
+whole_before false c h = h
+
+pub still_whole : (a b : Tape) (l : List Access) → Path Plays a l b → b.whole ≡ true → a.whole ≡ true
+still_whole a b [] p h = sym (ap (λ (t : Tape). t.whole) p) ∙ h
+still_whole a b (access ∷ accesses) p h =
+    whole_before a.whole (nat_lt (length a.made) room) (sym p.1.whole ∙ still_whole p.0 b accesses p.2 h)
+
+pub tapes_show : TapesShow
+tapes_show a b [] p h = record { made = ap (λ (t : Tape). t.made) p ∙ sym (append-nil a.made); fed = ap (λ (t : Tape). t.answers) p }
+tapes_show a b (access ∷ accesses) p h =
+    let rest = tapes_show p.0 b accesses p.2 h in
+    record {
+      made =
+          rest.made ∙ ap (λ (made : List Access). made ++ accesses) (p.1.made (still_whole p.0 b accesses p.2 h))
+          ∙ append_assoc a.made (access ∷ []) accesses;
+      fed = (p.0.answers, p.1.answers, rest.fed);
+    }
+
+-- calls over a tape
+pub did_replay : {G : Doing} {old new : Uart16550 Tape} → Did Plays G old new → Replayed G old new
+did_replay {old} {new} p h = (p.list, p.does, tapes_show old.backend new.backend p.list p.path h)
+
+pub made_replay : {L : Language} {old new : Uart16550 Tape} → Made Plays L old new → Replayed (Saving L) old new
+made_replay p = did_replay (did_made p)

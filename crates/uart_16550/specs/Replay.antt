@@ -1,0 +1,47 @@
+-- A backend that gives listed answers and keeps the accesses, and what it tells of a call.
+use Rattle.std.specs.Prelude.{◌≡◌, ℕ, Bool, true, ◌&&◌, List, [], ◌∷◌, ◌++◌, nat_lt, length}
+use Rattle.uart_16550.specs.Access.{Access, Path, Read, Write}
+use Rattle.uart_16550.specs.Devices.{AnswersInTurn}
+use Rattle.uart_16550.specs.Driver.{Doing, fields}
+use Rattle.uart_16550.specs.declared.driver.Uart16550.{Uart16550}
+use Rattle.uart_16550.specs.declared.replay.Entry.{Entry}
+use Rattle.uart_16550.specs.declared.replay.Entry.TheVariants.{Read as ReadEntry, Write as WriteEntry}
+
+-- the access that an entry names
+abbrev pub access_of : Entry → Access
+access_of (ReadEntry offset answer) = Read offset answer
+access_of (WriteEntry offset value) = Write offset value
+
+-- the answers that are left, the accesses that were made, and whether all of them were kept
+pub record Tape : Type 0 where
+  pub answers : List ℕ
+  pub made : List Access
+  pub whole : Bool
+
+-- how many accesses are kept
+abbrev pub room : ℕ
+room = 512
+
+-- a read takes the next answer, or 0 where none is left; and the access is kept, as long as there is room
+pub record Plays (old : Tape) (access : Access) (new : Tape) : Type 0 where
+  pub answers : AnswersInTurn old.answers access new.answers
+  pub whole : new.whole ≡ (old.whole && nat_lt (length old.made) room)
+  pub made : new.whole ≡ true → new.made ≡ old.made ++ access ∷ []
+
+-- the reads of a list are answered in turn, and these answers are left
+abbrev pub FedBy : (answers : List ℕ) → List Access → (left : List ℕ) → Type 0
+FedBy answers [] left = left ≡ answers
+FedBy answers (access ∷ accesses) left = (between : List ℕ) × AnswersInTurn answers access between × FedBy between accesses left
+
+-- these accesses were added to the tape, and their reads were answered by it
+pub record Shows (old : Tape) (list : List Access) (new : Tape) : Type 0 where
+  pub made : new.made ≡ old.made ++ list
+  pub fed : FedBy old.answers list new.answers
+
+-- a tape that is whole shows the accesses that led to it
+abbrev pub TapesShow : Type 0
+TapesShow = (old new : Tape) (list : List Access) → Path Plays old list new → new.whole ≡ true → Shows old list new
+
+-- if the tape is whole after a call, what it shows is a list of the call
+abbrev pub Replayed : Doing → Uart16550 Tape → Uart16550 Tape → Type 0
+Replayed G old new = new.backend.whole ≡ true → (list : List Access) × G (fields old) list (fields new) × Shows old.backend list new.backend

@@ -1,0 +1,108 @@
+//! A backend that plays answers back, and keeps the accesses that were made.
+//!
+//! A call's list of accesses is decided by the driver's fields and by what is answered. So a driver over a `Replay` is a function
+//! from these to the one list that the call may make: whatever another backend answers, the same call with the same fields over a
+//! replay of its answers makes the same accesses.
+ghost use Rattle.std.specs.Prelude.{◌≡◌, true, false, ◌&&◌, [], ◌∷◌, ◌++◌, nat_lt, length, map, IfSome, IsNone};
+ghost use Rattle.uart_16550.specs.Replay.{Plays, TapesShow, access_of, room};
+
+use crate::backend::Backend;
+use arrayvec::ArrayVec;
+use std::marker::Model;
+
+/// How many accesses a `Replay` keeps.
+pub const REPLAY_ROOM: usize = 512;
+
+/// One access: where, and the byte that was read or written.
+#[derive(Clone, Copy, Debug, PartialEq, Eq)]
+pub enum Entry {
+    Read(usize, u8),
+    Write(usize, u8),
+}
+
+impl Default for Entry {
+    fn default() -> Self {
+        Entry::Read(0, 0)
+    }
+}
+
+/// A backend that answers the bytes of a list in turn, and then 0, whatever the register. It keeps its accesses, as long as there
+/// is room.
+#[derive(Drop)]
+pub struct Replay<'a> {
+    answers: &'a [u8],
+    accesses: ArrayVec<Entry, REPLAY_ROOM>,
+    is_whole: bool,
+}
+
+impl<'a> Model for Replay<'a> {
+    ghost use Rattle.std.specs.Prelude.{map};
+    ghost use Rattle.uart_16550.specs.Replay.{Tape, access_of};
+
+    ghost Value = { Tape };
+
+    ghost view = { λ r. record { answers = r.answers.now; made = map access_of r.accesses.items; whole = r.is_whole } };
+}
+
+impl<'a> Replay<'a> {
+    /// A replay of these answers, to which no access was made.
+    pub fn new(answers: &'a [u8]) -> Self
+        ensures { result ≡ record { answers = answers.now; made = []; whole = true } }
+    {
+        Replay {
+            answers,
+            accesses: ArrayVec::new(),
+            is_whole: true,
+        }
+    }
+
+    /// The accesses that were made; `None` if there were more than are kept.
+    pub fn accesses(&self) -> Option<&[Entry]>
+        ensures some { IfSome result (λ accesses. (self.now.whole ≡ true) × (self.now.made ≡ map access_of accesses.now)) }
+        ensures none { IsNone result → self.now.whole ≡ false }
+    {
+        if self.is_whole {
+            Some(self.accesses.as_slice())
+        } else {
+            None
+        }
+    }
+
+    // Keeps an access.
+    fn keep(&mut self, entry: Entry)
+        ensures answers { self.new.answers ≡ self.old.answers }
+        ensures whole { self.new.whole ≡ (self.old.whole && nat_lt (length self.old.made) room) }
+        ensures made { self.new.whole ≡ true → self.new.made ≡ self.old.made ++ access_of entry ∷ [] }
+    {
+        if self.accesses.try_push(entry).is_err() {
+            self.is_whole = false;
+        }
+    }
+}
+
+impl Backend for Replay<'_> {
+    ghost step = { Plays };
+
+    fn read(&mut self, register_offset: u8) -> u8 {
+        let answer = match self.answers {
+            [first, rest @ ..] => {
+                self.answers = rest;
+                *first
+            }
+            [] => 0,
+        };
+        self.keep(Entry::Read(register_offset as usize, answer));
+        answer
+    }
+
+    fn write(&mut self, register_offset: u8, value: u8) {
+        self.keep(Entry::Write(register_offset as usize, value));
+    }
+}
+
+/// A replay that kept all of its accesses shows those that led to it, and its reads were answered by its answers, in turn. This is
+/// a law for callers to cite, and does nothing.
+#[tactic(auto, using(crate::proofs::Replays::tapes_show))]
+pub fn replays_show_their_accesses()
+    ensures { TapesShow }
+{}

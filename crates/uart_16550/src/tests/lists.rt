@@ -1,0 +1,210 @@
+//! Lists of accesses, as they are recorded, and as tables write them down.
+pub use crate::replay::Entry;
+use crate::replay::REPLAY_ROOM;
+use arrayvec::ArrayVec;
+
+/// A list of accesses, which knows whether it had room for all of them.
+#[derive(Debug, PartialEq, Drop)]
+pub struct Accesses {
+    entries: ArrayVec<Entry, REPLAY_ROOM>,
+    is_whole: bool,
+}
+
+impl Accesses {
+    pub fn new() -> Self {
+        Accesses {
+            entries: ArrayVec::new(),
+            is_whole: true,
+        }
+    }
+
+    pub fn push(&mut self, entry: Entry) {
+        if self.entries.try_push(entry).is_err() {
+            self.is_whole = false;
+        }
+    }
+
+    /// The accesses; `None` if there was no room for all of them.
+    pub fn entries(&self) -> Option<&[Entry]> {
+        if self.is_whole {
+            Some(self.entries.as_slice())
+        } else {
+            None
+        }
+    }
+
+    /// How many there are.
+    pub fn count(&self) -> usize {
+        self.entries.len()
+    }
+
+    /// What the reads answered.
+    pub fn answers(&self) -> ArrayVec<u8, REPLAY_ROOM> {
+        let mut answers = ArrayVec::new();
+        for entry in self.entries.as_slice() {
+            if let Entry::Read(_, answer) = *entry {
+                let _ = answers.try_push(answer);
+            }
+        }
+        answers
+    }
+
+    /// The last byte that was written to a register. While DLAB is set, the first two are the divisor latch.
+    pub fn last_write(&self, offset: usize) -> Option<u8> {
+        let mut is_latch = false;
+        let mut last = None;
+        for entry in self.entries.as_slice() {
+            if let Entry::Write(place, value) = *entry {
+                if place == 3 {
+                    is_latch = value >= 0x80;
+                }
+                if place == offset && !(is_latch && place < 2) {
+                    last = Some(value);
+                }
+            }
+        }
+        last
+    }
+
+    /// One read.
+    pub fn read(mut self, offset: usize, answer: u8) -> Self {
+        self.push(Entry::Read(offset, answer));
+        self
+    }
+
+    /// One write.
+    pub fn write(mut self, offset: usize, value: u8) -> Self {
+        self.push(Entry::Write(offset, value));
+        self
+    }
+
+    /// One read of LSR.
+    pub fn look(self, lsr: u8) -> Self {
+        self.read(5, lsr)
+    }
+
+    /// So many reads of LSR, each with this answer.
+    pub fn looks(mut self, count: usize, lsr: u8) -> Self {
+        for _turn in 0..count {
+            self.push(Entry::Read(5, lsr));
+        }
+        self
+    }
+
+    /// A look that shows data, and the byte taken.
+    pub fn hit(self, byte: u8) -> Self {
+        self.look(0x01).read(0, byte)
+    }
+
+    /// The same for each of the bytes.
+    pub fn hits(mut self, bytes: &[u8]) -> Self {
+        for &byte in bytes {
+            self.push(Entry::Read(5, 0x01));
+            self.push(Entry::Read(0, byte));
+        }
+        self
+    }
+
+    /// A write of each byte to DATA.
+    pub fn data(mut self, bytes: &[u8]) -> Self {
+        for &byte in bytes {
+            self.push(Entry::Write(0, byte));
+        }
+        self
+    }
+
+    /// The accesses as they are made at ports or addresses: from a base on, each register a stride further than the one before.
+    pub fn placed(&self, base: usize, stride: usize) -> Self {
+        let mut placed = Accesses::new();
+        for entry in self.entries.as_slice() {
+            match *entry {
+                Entry::Read(offset, answer) => {
+                    placed.push(Entry::Read(
+                        base.wrapping_add(offset.wrapping_mul(stride)),
+                        answer,
+                    ));
+                }
+                Entry::Write(offset, value) => {
+                    placed.push(Entry::Write(
+                        base.wrapping_add(offset.wrapping_mul(stride)),
+                        value,
+                    ));
+                }
+            }
+        }
+        placed
+    }
+
+    /// The accesses of another list after these.
+    pub fn then(mut self, others: &Accesses) -> Self {
+        for &entry in others.entries.as_slice() {
+            self.push(entry);
+        }
+        self
+    }
+
+    /// A send check that hits by LSR alone, and a burst of these bytes.
+    pub fn burst(self, bytes: &[u8]) -> Self {
+        self.look(0x20).data(bytes)
+    }
+
+    /// Each byte sent by itself, and another one come back for it.
+    pub fn echoes(mut self, sent: &[u8], back: u8) -> Self {
+        for &byte in sent {
+            self = self.burst(&[byte]).hit(back);
+        }
+        self
+    }
+
+    /// Each byte sent by itself, and come back.
+    pub fn same_echoes(mut self, bytes: &[u8]) -> Self {
+        for &byte in bytes {
+            self = self.burst(&[byte]).hit(byte);
+        }
+        self
+    }
+
+    /// A presence check that finds a device, whose scratch register held this.
+    pub fn present(self, old: u8) -> Self {
+        self.read(7, old)
+            .write(7, 0x42)
+            .read(7, 0x42)
+            .write(7, 0x73)
+            .read(7, 0x73)
+            .write(7, old)
+    }
+
+    /// Interrupts off, the divisor latch set, and the frame.
+    pub fn line(self, dll: u8, dlm: u8, frame: u8) -> Self {
+        self.write(3, 0x00)
+            .write(1, 0x00)
+            .write(3, 0x80)
+            .write(0, dll)
+            .write(1, dlm)
+            .write(3, 0x00)
+            .write(3, frame)
+    }
+
+    /// FCR written, and ISR read to see whether the FIFO is on.
+    pub fn fifo(self, control: u8, isr: u8) -> Self {
+        self.write(2, control).read(2, isr)
+    }
+
+    /// The end of an initialisation: LSR, ISR and MSR read, and IER written.
+    pub fn end(self, lsr: u8, isr: u8, msr: u8, ier: u8) -> Self {
+        self.read(5, lsr).read(2, isr).read(6, msr).write(1, ier)
+    }
+
+    /// The end of a loopback test: MCR written without OUT_2, MSR read, MCR and IER written back.
+    pub fn leave(self, mcr_without_out_2: u8, msr: u8, mcr: u8, ier: u8) -> Self {
+        self.write(4, mcr_without_out_2)
+            .read(6, msr)
+            .write(4, mcr)
+            .write(1, ier)
+    }
+}
+
+/// The list without accesses.
+pub fn list() -> Accesses {
+    Accesses::new()
+}
