@@ -3,7 +3,7 @@ use Rattle.std.proofs.Common.{◌≡◌, ℕ, Bool, true, false, ◌&&◌, List,
 use Rattle.uart_16550.specs.Access.{Access, Path}
 use Rattle.uart_16550.specs.Grammar.{Language}
 use Rattle.uart_16550.specs.Driver.{Made, Did, Doing, Saving}
-use Rattle.uart_16550.specs.Replay.{Tape, Plays, TapesShow, Replayed, room}
+use Rattle.uart_16550.specs.Replay.{Tape, Plays, FedBy, TapesShow, Replayed, room}
 use Rattle.uart_16550.specs.declared.driver.Uart16550.{Uart16550}
 use Rattle.uart_16550.proofs.Doings.{did_made}
 
@@ -16,15 +16,20 @@ still_whole a b [] p h = sym (ap (λ (t : Tape). t.whole) p) ∙ h
 still_whole a b (access ∷ accesses) p h =
     whole_before a.whole (nat_lt (length a.made) room) (sym p.1.whole ∙ still_whole p.0 b accesses p.2 h)
 
+-- its reads were answered by the first tape, in turn
+pub fed_path : (a b : Tape) (l : List Access) → Path Plays a l b → FedBy a.answers l b.answers
+fed_path a b [] p = ap (λ (t : Tape). t.answers) p
+fed_path a b (access ∷ accesses) p = (p.0.answers, p.1.answers, fed_path p.0 b accesses p.2)
+
 pub tapes_show : TapesShow
-tapes_show a b [] p h = record { made = ap (λ (t : Tape). t.made) p ∙ sym (append-nil a.made); fed = ap (λ (t : Tape). t.answers) p }
+tapes_show a b [] p h = record { made = ap (λ (t : Tape). t.made) p ∙ sym (append-nil a.made); fed = fed_path a b [] p }
 tapes_show a b (access ∷ accesses) p h =
     let rest = tapes_show p.0 b accesses p.2 h in
     record {
       made =
           rest.made ∙ ap (λ (made : List Access). made ++ accesses) (p.1.made (still_whole p.0 b accesses p.2 h))
           ∙ append_assoc a.made (access ∷ []) accesses;
-      fed = (p.0.answers, p.1.answers, rest.fed);
+      fed = fed_path a b (access ∷ accesses) p;
     }
 
 -- calls over a tape

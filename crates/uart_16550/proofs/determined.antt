@@ -12,3 +12,4 @@ pub mod Loopback
 pub mod Tty
 pub mod Backends
 pub mod Calls
+pub mod Replays

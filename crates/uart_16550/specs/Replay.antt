@@ -2,7 +2,9 @@
 use Rattle.std.specs.Prelude.{◌≡◌, ℕ, Bool, true, ◌&&◌, List, [], ◌∷◌, ◌++◌, nat_lt, length}
 use Rattle.uart_16550.specs.Access.{Access, Path, Read, Write}
 use Rattle.uart_16550.specs.Devices.{AnswersInTurn}
-use Rattle.uart_16550.specs.Driver.{Doing, fields}
+use Rattle.uart_16550.specs.Grammar.{Language}
+use Rattle.uart_16550.specs.Driver.{Did, Doing, Made, fields}
+use Rattle.uart_16550.specs.Choice.{answers}
 use Rattle.uart_16550.specs.declared.driver.Uart16550.{Uart16550}
 use Rattle.uart_16550.specs.declared.replay.Entry.{Entry}
 use Rattle.uart_16550.specs.declared.replay.Entry.TheVariants.{Read as ReadEntry, Write as WriteEntry}
@@ -45,3 +47,20 @@ TapesShow = (old new : Tape) (list : List Access) → Path Plays old list new �
 -- if the tape is whole after a call, what it shows is a list of the call
 abbrev pub Replayed : Doing → Uart16550 Tape → Uart16550 Tape → Type 0
 Replayed G old new = new.backend.whole ≡ true → (list : List Access) × G (fields old) list (fields new) × Shows old.backend list new.backend
+
+-- two calls from equal fields, the second over a tape with what the reads of the first were answered: they have one
+-- outcome and leave equal fields, and the tape, if it is whole, shows the accesses of the first
+abbrev pub Repeats : {R B : Type 0} → (R → Doing) → (B → Access → B → Type 0) → Type 0
+Repeats {R} {B} G step =
+    (a b : R) (old new : Uart16550 B) (before after : Uart16550 Tape) → (p : Did step (G a) old new) →
+    Did Plays (G b) before after → fields old ≡ fields before → before.backend.answers ≡ answers p.list →
+    (a ≡ b) × (fields new ≡ fields after)
+    × (after.backend.whole ≡ true → after.backend.made ≡ before.backend.made ++ p.list)
+
+-- the same of calls that save what their reads show, and change nothing else
+abbrev pub RepeatsSaving : {R B : Type 0} → (R → Language) → (B → Access → B → Type 0) → Type 0
+RepeatsSaving {R} {B} L step =
+    (a b : R) (old new : Uart16550 B) (before after : Uart16550 Tape) → (p : Made step (L a) old new) →
+    Made Plays (L b) before after → fields old ≡ fields before → before.backend.answers ≡ answers p.list →
+    (a ≡ b) × (fields new ≡ fields after)
+    × (after.backend.whole ≡ true → after.backend.made ≡ before.backend.made ++ p.list)

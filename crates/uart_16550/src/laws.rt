@@ -7,6 +7,7 @@ ghost use Rattle.uart_spec.specs.Orders.{in_turn};
 ghost use Rattle.uart_16550.specs.Choice.{Agree, AgreeSaving, HasOneOutcome, HasOneOutcomeSaving, IsFunction, LeavesNoChoice};
 ghost use Rattle.uart_16550.specs.Driver.{Saving};
 ghost use Rattle.uart_16550.specs.DriverCalls.{ChangingCall, ChangingDoing, SavingCall, SavingLists};
+ghost use Rattle.uart_16550.specs.Replay.{Repeats, RepeatsSaving};
 ghost use Rattle.uart_16550.specs.declared.dump.ConfigRegisterDump.{ConfigRegisterDump};
 
 use crate::backend::Backend;
@@ -30,6 +31,14 @@ pub fn calls_agree<B: Backend, C: Backend>()
 pub fn calls_have_one_outcome<B: Backend>()
     ensures saving { IsFunction B.step → (call : SavingCall) → HasOneOutcomeSaving (SavingLists call) B.step }
     ensures changing { IsFunction B.step → (call : ChangingCall) → HasOneOutcome (ChangingDoing call) B.step }
+{}
+
+/// A call over a [`Replay`](crate::replay::Replay) of what the reads of a call were answered, from equal fields, repeats it: it
+/// has the same outcome, leaves equal fields, and makes the same accesses. So a replay is a function from fields and answers to the
+/// one list that the call may make.
+pub fn replays_repeat_calls<B: Backend>()
+    ensures saving { (call : SavingCall) → RepeatsSaving (SavingLists call) B.step }
+    ensures changing { (call : ChangingCall) → Repeats (ChangingDoing call) B.step }
 {}
 
 /// Dumps are compared by their registers in this order, and the default has all bits clear.

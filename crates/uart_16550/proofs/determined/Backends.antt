@@ -9,7 +9,7 @@ use Rattle.uart_16550.specs.Driver.{Made, Doing, Fields, Saving, fields, backend
 use Rattle.uart_16550.specs.declared.driver.Uart16550.{Uart16550}
 
 -- over one stream
-answers_append : (l m : List Access) → answers (l ++ m) ≡ answers l ++ answers m
+pub answers_append : (l m : List Access) → answers (l ++ m) ≡ answers l ++ answers m
 answers_append [] m = refl
 answers_append (Read offset answer ∷ l) m = ap (λ xs. answer ∷ xs) (answers_append l m)
 answers_append (Write offset value ∷ l) m = answers_append l m
@@ -28,7 +28,7 @@ head_of : List ℕ → ℕ
 head_of [] = 0
 head_of (x ∷ xs) = x
 
-same_head : (a b : ℕ) (xs ys : List ℕ) → a ∷ xs ≡ b ∷ ys → a ≡ b
+pub same_head : (a b : ℕ) (xs ys : List ℕ) → a ∷ xs ≡ b ∷ ys → a ≡ b
 unfolding head_of
 same_head a b xs ys same = ap head_of same
 
@@ -52,7 +52,7 @@ agree {R} {B} {C} {G} law stream a b old new other_old other_new p q same x y =
     same_call (inr part) = absurd (never_part stream p.list q.list x y part)
 
 -- what a call does that saves what it reads
-saved : {B : Type 0} {step : B → Access → B → Type 0} {L : Language} {old new : Uart16550 B} → (p : Made step L old new) →
+pub saved : {B : Type 0} {step : B → Access → B → Type 0} {L : Language} {old new : Uart16550 B} → (p : Made step L old new) →
     Saving L (fields old) p.list (fields new)
 saved p = (p.fits, λ i. record { config = p.config i; fifo = p.fifo i; lsr = p.lsr i; msr = p.msr i; limit = non_zero_u64_get (p.limit i) })
 
