@@ -4,6 +4,7 @@ mod counts;
 mod cut;
 mod driver;
 mod idle;
+mod schedules;
 
 use crate::{ArrivalMark, BuildError, Chip, Device16550, Event};
 use std::test::Fail;
