@@ -35,9 +35,17 @@ fn fifos(uart: &Uart16550<Device16550>) -> (bool, bool) {
 const LEFT_BEHIND: [(&str, &[(u8, u8)], u8); 10] = [
     ("nothing", &[], 0x00),
     ("loopback", &[(MCR, 0x1f)], 0x00),
-    ("a divisor latch", &[(LCR, 0x80), (DATA, 0xff), (IER, 0xff)], 0x00),
+    (
+        "a divisor latch",
+        &[(LCR, 0x80), (DATA, 0xff), (IER, 0xff)],
+        0x00,
+    ),
     ("every bit of LCR", &[(LCR, 0xff)], 0x00),
-    ("loopback and a divisor latch", &[(MCR, 0x1f), (LCR, 0x83), (DATA, 0x01)], 0x00),
+    (
+        "loopback and a divisor latch",
+        &[(MCR, 0x1f), (LCR, 0x83), (DATA, 0x01)],
+        0x00,
+    ),
     ("a FIFO", &[(FCR, 0x01)], 0x00),
     ("a FIFO with a level", &[(FCR, 0x81)], 0x00),
     ("a FIFO switched off", &[(FCR, 0xc7), (FCR, 0x00)], 0x00),
