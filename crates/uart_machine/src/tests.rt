@@ -4,6 +4,7 @@ mod counts;
 mod cut;
 mod driver;
 mod idle;
+mod schedules;
 
 use crate::{ArrivalMark, BuildError, Chip, Device16550, Event};
 use std::test::Fail;
@@ -129,15 +130,6 @@ fn builds_up_to_the_limits(rt: HostRuntime) -> Result<(), Fail> {
         );
     }
     Ok(())
-}
-
-// Run with each allocation failing in turn, as by `rt try --test --fail-alloc 1` and so on, it passes too.
-#[test]
-fn want_of_memory_is_told(rt: HostRuntime) {
-    if let Ok(schedule) = [arrive(0x41)].to_vec(rt.alloc()) {
-        let built = Device16550::new(rt.alloc(), Chip::Uart16550A, 4, 64, schedule);
-        assert!(rt; matches!(built.err(), None | Some(BuildError::OutOfMemory)));
-    }
 }
 
 #[test]

@@ -81,6 +81,21 @@ mod tests {
         Ok(())
     }
 
+    // A writer of so few bytes that the line is cut off.
+    #[test]
+    fn a_fault_of_its_own_line_changes_no_status(rt: HostRuntime) {
+        for (outcome, written, status) in [
+            (Ok(()), *b"\0\0\0\0", 0),
+            (Err(PlayError::ReadFault), *b"read", 2),
+            (Err(PlayError::WriteFault), *b"\0\0\0\0", 2),
+            (Err(PlayError::OutOfMemory), *b"out ", 3),
+        ] {
+            let mut room = [0u8; 4];
+            assert_eq!(rt; finish(outcome, &mut Std::new(&mut room[..])), status);
+            assert_eq!(rt; room, written);
+        }
+    }
+
     // To one writer: nothing stands before the line.
     #[test]
     fn a_refused_script_has_its_line_and_status(rt: HostRuntime) -> Result<(), Fail> {

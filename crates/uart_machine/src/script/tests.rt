@@ -1,6 +1,7 @@
 use super::{Std, play};
 use std::test::Fail;
 
+mod faults;
 mod language;
 mod limits;
 mod output;

@@ -1,0 +1,207 @@
+//! Readers and writers that fail, one call later each time, and scripts that are cut off.
+use super::streams::{OUTPUT, SCRIPT};
+use super::told;
+use crate::script::{Cause, PlayError, Std, play};
+use std::io;
+use std::io::{Read, Write};
+use std::test::Fail;
+
+// Gives at most a piece of the text a read, and fails once no reads are left.
+#[derive(Drop)]
+struct Reader<'a> {
+    text: &'a [u8],
+    piece: usize,
+    reads: usize,
+}
+
+impl Read for Reader<'_> {
+    fn read(&mut self, buf: &mut [u8]) -> io::Result<usize> {
+        if self.reads == 0 {
+            return Err(io::ErrorKind::Other.into());
+        }
+        self.reads -= 1;
+        let count = self.piece.min(buf.len()).min(self.text.len());
+        buf[..count].copy_from_slice(&self.text[..count]);
+        self.text = &self.text[count..];
+        Ok(count)
+    }
+}
+
+// Takes at most a piece of the bytes a write, and fails once no writes are left.
+#[derive(Drop)]
+struct Writer {
+    taken: Vec<u8>,
+    piece: usize,
+    writes: usize,
+}
+
+impl Write for Writer {
+    fn write(&mut self, bytes: &[u8]) -> io::Result<usize> {
+        if self.writes == 0 {
+            return Err(io::ErrorKind::Other.into());
+        }
+        self.writes -= 1;
+        let count = self.piece.min(bytes.len());
+        self.taken.extend_from_slice(&bytes[..count])?;
+        Ok(count)
+    }
+
+    fn flush(&mut self) -> io::Result<()> {
+        Ok(())
+    }
+}
+
+// What comes of a text by a reader that fails after so many reads, and what is written.
+fn read_by(
+    rt: &HostRuntime,
+    text: &[u8],
+    piece: usize,
+    reads: usize,
+) -> (Result<(), PlayError>, Vec<u8>) {
+    let mut output = Vec::new(rt.alloc());
+    let mut reader = Std::new(Reader { text, piece, reads });
+    let result = play(rt.alloc(), &mut reader, &mut Std::new(&mut output));
+    (result, output)
+}
+
+#[test]
+fn a_reader_fails_at_each_read(rt: HostRuntime) -> Result<(), Fail> {
+    let mut padded = SCRIPT.to_vec(rt.alloc())?;
+    padded.resize(1024, b'\n')?;
+    // A text, the piece, and the reads up to its end, the one that finds the end included.
+    let cases: [(&[u8], usize, usize); 4] = [
+        (SCRIPT, 1, 68),
+        (SCRIPT, 7, 11),
+        (SCRIPT, 512, 2),
+        (&padded, 512, 3),
+    ];
+    for (text, piece, enough) in cases {
+        for reads in 0..enough {
+            let (result, output) = read_by(&rt, text, piece, reads);
+            assert_eq!(rt;
+                result,
+                Err(PlayError::ReadFault),
+                "{reads} reads of {piece}"
+            );
+            assert_eq!(rt; output.len(), 0, "{reads} reads of {piece}");
+        }
+        let (result, output) = read_by(&rt, text, piece, enough);
+        assert_eq!(rt; result, Ok(()), "{enough} reads of {piece}");
+        assert_eq!(rt; output.as_slice(), OUTPUT, "{enough} reads of {piece}");
+    }
+    Ok(())
+}
+
+// 65,536 bytes are 128 reads, and the next one finds a byte too many. No further read is made, so none fails.
+#[test]
+fn a_long_script_is_not_read_to_its_end(rt: HostRuntime) -> Result<(), Fail> {
+    let mut text = SCRIPT.to_vec(rt.alloc())?;
+    text.resize(70_000, b'\n')?;
+    let too_long = PlayError::Refused {
+        line: 0,
+        cause: Cause::TooLong,
+    };
+    for (reads, want) in [(128, PlayError::ReadFault), (129, too_long)] {
+        let (result, output) = read_by(&rt, &text, 512, reads);
+        assert_eq!(rt; result, Err(want), "{reads} reads");
+        assert_eq!(rt; output.len(), 0, "{reads} reads");
+    }
+    Ok(())
+}
+
+#[test]
+fn a_writer_fails_at_each_write(rt: HostRuntime) -> Result<(), Fail> {
+    // The piece, and the writes that take the whole output.
+    for (piece, enough) in [(1, 41), (7, 6), (512, 1)] {
+        for writes in 0..=enough {
+            let mut writer = Writer {
+                taken: Vec::new(rt.alloc()),
+                piece,
+                writes,
+            };
+            let result = play(
+                rt.alloc(),
+                &mut Std::new(SCRIPT),
+                &mut Std::new(&mut writer),
+            );
+            let want = if writes < enough {
+                Err(PlayError::WriteFault)
+            } else {
+                Ok(())
+            };
+            assert_eq!(rt; result, want, "{writes} writes of {piece}");
+            let length = piece.saturating_mul(writes).min(OUTPUT.len());
+            assert_eq!(rt;
+                writer.taken.as_slice(),
+                &OUTPUT[..length],
+                "{writes} writes of {piece}"
+            );
+        }
+    }
+    Ok(())
+}
+
+#[test]
+fn a_writer_takes_nothing(rt: HostRuntime) {
+    let mut writer = Writer {
+        taken: Vec::new(rt.alloc()),
+        piece: 0,
+        writes: 1,
+    };
+    let result = play(
+        rt.alloc(),
+        &mut Std::new(SCRIPT),
+        &mut Std::new(&mut writer),
+    );
+    assert_eq!(rt; result, Err(PlayError::WriteFault));
+    assert_eq!(rt; writer.taken.len(), 0);
+    assert_eq!(rt; writer.writes, 0);
+}
+
+const OVERRUN: &[u8] = b"chip 16450 4 64
+limit 200
+init off 9600 nocts 00 8
+next
+arrive 41
+arrive 42
+receive 4
+lsr
+";
+
+// The number of the last line: of what follows the last line feed, if there is anything, else of the line before it.
+fn last_line(text: &[u8]) -> usize {
+    let mut number = 1usize;
+    for (i, &byte) in text.iter().enumerate() {
+        if byte == b'\n' && i.saturating_add(1) < text.len() {
+            number = number.saturating_add(1);
+        }
+    }
+    number
+}
+
+// Of each line but the first two only the whole is a line; a number may be cut off.
+#[test]
+fn a_script_is_cut_off(rt: HostRuntime) -> Result<(), Fail> {
+    let mut played = Vec::new(rt.alloc());
+    for length in 0..=OVERRUN.len() {
+        let text = &OVERRUN[..length];
+        let answer = told(&rt, text)?;
+        if answer.as_str() == "a script" {
+            played.push(length)?;
+        } else {
+            let front = format!(in rt.alloc(); "line {}: ", last_line(text))?;
+            assert!(rt;
+                answer.starts_with(front.as_str()),
+                "{length} bytes: {answer}"
+            );
+        }
+    }
+    assert_eq!(rt;
+        played.as_slice(),
+        [
+            14, 15, 16, 23, 24, 25, 26, 50, 51, 55, 56, 65, 66, 75, 76, 85, 86, 89, 90
+        ]
+        .as_slice()
+    );
+    Ok(())
+}

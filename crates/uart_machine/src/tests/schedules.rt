@@ -1,0 +1,209 @@
+//! Chips that others left in some state, and what an `init` makes of them.
+use super::{DATA, FCR, IER, ISR, LCR, MCR, MSR, SPR, machine};
+use crate::{Chip, Device16550, Event};
+use bitflags::Flags;
+use std::test::Fail;
+use uart_16550::Uart16550;
+use uart_16550::backend::Backend;
+use uart_spec::Config;
+
+const WITHOUT_FIFO: Config = Config {
+    fifo_trigger_level: None,
+    ..Config::DEFAULT
+};
+
+// What a dump shows of IER, ISR, LCR, MCR, LSR, MSR and SPR.
+fn registers(uart: &mut Uart16550<Device16550>) -> [u8; 7] {
+    let dump = uart.config_register_dump();
+    [
+        dump.ier.bits(),
+        dump.isr.bits(),
+        dump.lcr.bits(),
+        dump.mcr.bits(),
+        dump.lsr.bits(),
+        dump.msr.bits(),
+        dump.spr,
+    ]
+}
+
+// Whether the FIFO is on, for the driver and in the chip.
+fn fifos(uart: &Uart16550<Device16550>) -> (bool, bool) {
+    (uart.fifo_enabled(), uart.backend().fifo_enabled())
+}
+
+// What was written to a chip before the driver came, and what its scratch register holds then.
+const LEFT_BEHIND: [(&str, &[(u8, u8)], u8); 10] = [
+    ("nothing", &[], 0x00),
+    ("loopback", &[(MCR, 0x1f)], 0x00),
+    (
+        "a divisor latch",
+        &[(LCR, 0x80), (DATA, 0xff), (IER, 0xff)],
+        0x00,
+    ),
+    ("every bit of LCR", &[(LCR, 0xff)], 0x00),
+    (
+        "loopback and a divisor latch",
+        &[(MCR, 0x1f), (LCR, 0x83), (DATA, 0x01)],
+        0x00,
+    ),
+    ("a FIFO", &[(FCR, 0x01)], 0x00),
+    ("a FIFO with a level", &[(FCR, 0x81)], 0x00),
+    ("a FIFO switched off", &[(FCR, 0xc7), (FCR, 0x00)], 0x00),
+    ("interrupts", &[(IER, 0x0f)], 0x00),
+    ("a byte in SPR", &[(SPR, 0xa5)], 0xa5),
+];
+
+#[test]
+fn an_init_clears_what_was_left(rt: HostRuntime) -> Result<(), Fail> {
+    for (chip, isr, room) in [(Chip::Uart16550A, 0xc1, 16), (Chip::Uart16450, 0x01, 1)] {
+        for (left, writes, spr) in LEFT_BEHIND {
+            let mut machine = machine(&rt, chip, 4, 64, &[])?;
+            for &(register, value) in writes {
+                assert!(rt; register < 8);
+                machine.write(register, value);
+            }
+            let mut uart = Uart16550::new_with_backend(machine);
+            uart.init(Config::DEFAULT)?;
+            let want = [0x00, isr, 0x03, 0x0b, 0x60, 0x00, spr];
+            assert_eq!(rt; registers(&mut uart), want, "{chip:?} with {left}");
+            assert_eq!(rt; uart.backend().divisor(), 12, "{chip:?} with {left}");
+            let has_fifo = chip == Chip::Uart16550A;
+            assert_eq!(rt; fifos(&uart), (has_fifo, has_fifo), "{chip:?} with {left}");
+            assert_eq!(rt; uart.backend().wire().len(), 0, "{chip:?} with {left}");
+            assert_eq!(rt; uart.send_bytes(&[0x55; 20]), room, "{chip:?} with {left}");
+            assert_eq!(rt; uart.backend().overflows(), 0, "{chip:?} with {left}");
+        }
+    }
+    Ok(())
+}
+
+// A byte in the shift place goes out; an `init` discards what a FIFO still holds by then, and a 16450 keeps its one byte.
+#[test]
+fn an_init_lets_a_byte_go_out(rt: HostRuntime) -> Result<(), Fail> {
+    let cases: [(Chip, u16, &[u8], u64); 4] = [
+        (Chip::Uart16550A, 4, &[1, 2, 3], 0),
+        (Chip::Uart16550A, 1000, &[1], 0),
+        (Chip::Uart16450, 4, &[1, 3], 1),
+        (Chip::Uart16450, 1000, &[1, 3], 1),
+    ];
+    for (chip, char_ticks, wire, overflows) in cases {
+        let mut machine = machine(&rt, chip, char_ticks, 64, &[])?;
+        machine.write(FCR, 0x01);
+        for byte in 1..=3 {
+            machine.write(DATA, byte);
+        }
+        let mut uart = Uart16550::new_with_backend(machine);
+        uart.init(Config::DEFAULT)?;
+        let machine = uart.backend();
+        assert_eq!(rt; machine.wire(), wire, "{chip:?} with {char_ticks} ticks");
+        assert_eq!(rt; machine.held_len(), 0, "{chip:?} with {char_ticks} ticks");
+        assert_eq!(rt;
+            machine.overflows(),
+            overflows,
+            "{chip:?} with {char_ticks} ticks"
+        );
+    }
+    Ok(())
+}
+
+// The driver takes the FIFO to be on and writes five bytes at once. The chip has room for one, so three are lost.
+#[test]
+fn a_fifo_is_switched_off_behind_the_driver(rt: HostRuntime) -> Result<(), Fail> {
+    let machine = machine(&rt, Chip::Uart16550A, 4, 64, &[])?;
+    let mut uart = Uart16550::new_with_backend(machine);
+    uart.init(Config::DEFAULT)?;
+    uart.backend_mut().write(FCR, 0x00);
+    assert_eq!(rt; fifos(&uart), (true, false));
+    assert_eq!(rt; uart.send_bytes(&[1, 2, 3, 4, 5]), 5);
+    assert_eq!(rt; uart.backend().overflows(), 3);
+    uart.init(Config::DEFAULT)?;
+    assert_eq!(rt; fifos(&uart), (true, true));
+    assert_eq!(rt;
+        registers(&mut uart),
+        [0x00, 0xc1, 0x03, 0x0b, 0x60, 0x00, 0x00]
+    );
+    assert_eq!(rt; uart.backend().wire(), [1, 5].as_slice());
+    assert_eq!(rt; uart.send_bytes(&[6, 7, 8]), 3);
+    uart.backend_mut().idle(100);
+    assert_eq!(rt; uart.backend().wire(), [1, 5, 6, 7, 8].as_slice());
+    assert_eq!(rt; uart.backend().overflows(), 3);
+    Ok(())
+}
+
+#[test]
+fn a_fifo_is_switched_on_behind_the_driver(rt: HostRuntime) -> Result<(), Fail> {
+    let machine = machine(&rt, Chip::Uart16550A, 4, 64, &[])?;
+    let mut uart = Uart16550::new_with_backend(machine);
+    uart.init(WITHOUT_FIFO)?;
+    uart.backend_mut().write(FCR, 0x01);
+    assert_eq!(rt; fifos(&uart), (false, true));
+    assert_eq!(rt; uart.send_bytes(&[1, 2, 3, 4, 5]), 1);
+    uart.init(WITHOUT_FIFO)?;
+    assert_eq!(rt; fifos(&uart), (false, false));
+    assert_eq!(rt;
+        registers(&mut uart),
+        [0x00, 0x01, 0x03, 0x0b, 0x60, 0x00, 0x00]
+    );
+    assert_eq!(rt; uart.backend().wire(), [1].as_slice());
+    assert_eq!(rt; uart.send_bytes(&[2, 3]), 1);
+    assert_eq!(rt; uart.backend().overflows(), 0);
+    Ok(())
+}
+
+// The test puts back what it found, so what is sent after it still comes back, until the next `init`.
+#[test]
+fn a_loopback_test_leaves_loopback_on(rt: HostRuntime) -> Result<(), Fail> {
+    let machine = machine(&rt, Chip::Uart16550A, 4, 64, &[])?;
+    let mut uart = Uart16550::new_with_backend(machine);
+    uart.init(Config::DEFAULT)?;
+    uart.backend_mut().write(MCR, 0x1b);
+    uart.test_loopback()?;
+    assert_eq!(rt; uart.mcr().bits(), 0x1b);
+    assert_eq!(rt; uart.msr().bits(), 0xbb);
+    assert_eq!(rt; uart.send_bytes(&[0x55]), 1);
+    uart.backend_mut().idle(10);
+    assert_eq!(rt; uart.backend().waiting_at(0), Some(0x55));
+    uart.init(Config::DEFAULT)?;
+    assert_eq!(rt;
+        registers(&mut uart),
+        [0x00, 0xc1, 0x03, 0x0b, 0x60, 0x00, 0x00]
+    );
+    assert_eq!(rt; uart.backend().waiting_len(), 0);
+    assert_eq!(rt; uart.backend().wire().len(), 0);
+    Ok(())
+}
+
+#[test]
+fn a_16450_is_probed(rt: HostRuntime) -> Result<(), Fail> {
+    for (write, value, read, mask, want) in [
+        (IER, 0x0f, IER, 0xff, 0x0f),
+        (MCR, 0x1a, MSR, 0xf0, 0x90),
+        (FCR, 0x01, ISR, 0xff, 0x01),
+        (FCR, 0xc7, ISR, 0xff, 0x01),
+        (SPR, 0xa5, SPR, 0xff, 0xa5),
+    ] {
+        let mut machine = machine(&rt, Chip::Uart16450, 4, 64, &[])?;
+        assert!(rt; write < 8 && read < 8);
+        machine.write(write, value);
+        assert_eq!(rt; machine.read(read) & mask, want, "register {read}");
+    }
+    Ok(())
+}
+
+// A byte that is written withdraws the interrupt. It is due again once the byte moves on, for which a tick has to pass.
+#[test]
+fn thr_empty_is_due_again_after_a_byte(rt: HostRuntime) -> Result<(), Fail> {
+    for chip in [Chip::Uart16550A, Chip::Uart16450] {
+        let mut machine = machine(&rt, chip, 4, 64, &[Event::Access; 6])?;
+        machine.write(IER, 0x02);
+        for want in [0x02, 0x01] {
+            assert_eq!(rt; machine.read(ISR), want, "of {chip:?}");
+        }
+        machine.write(DATA, 0x41);
+        machine.write(IER, 0x02);
+        for want in [0x01, 0x02, 0x01] {
+            assert_eq!(rt; machine.read(ISR), want, "of {chip:?}");
+        }
+    }
+    Ok(())
+}
