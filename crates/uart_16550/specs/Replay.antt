@@ -22,7 +22,7 @@ pub record Tape : Type 0 where
 abbrev pub room : ℕ
 room = 512
 
--- a read takes the next answer, or 0 where none is left; and the access is kept, as long as there is room
+-- a read takes the next answer, or 0 if none is left; and the access is kept, as long as there is room
 pub record Plays (old : Tape) (access : Access) (new : Tape) : Type 0 where
   pub answers : AnswersInTurn old.answers access new.answers
   pub whole : new.whole ≡ (old.whole && nat_lt (length old.made) room)
@@ -31,7 +31,8 @@ pub record Plays (old : Tape) (access : Access) (new : Tape) : Type 0 where
 -- the reads of a list are answered in turn, and these answers are left
 abbrev pub FedBy : (answers : List ℕ) → List Access → (left : List ℕ) → Type 0
 FedBy answers [] left = left ≡ answers
-FedBy answers (access ∷ accesses) left = (between : List ℕ) × AnswersInTurn answers access between × FedBy between accesses left
+FedBy answers (access ∷ accesses) left =
+    (between : List ℕ) × AnswersInTurn answers access between × FedBy between accesses left
 
 -- these accesses were added to the tape, and their reads were answered by it
 pub record Shows (old : Tape) (list : List Access) (new : Tape) : Type 0 where
@@ -40,8 +41,11 @@ pub record Shows (old : Tape) (list : List Access) (new : Tape) : Type 0 where
 
 -- a tape that is whole shows the accesses that led to it
 abbrev pub TapesShow : Type 0
-TapesShow = (old new : Tape) (list : List Access) → Path Plays old list new → new.whole ≡ true → Shows old list new
+TapesShow =
+    (old new : Tape) (list : List Access) → Path Plays old list new → new.whole ≡ true → Shows old list new
 
 -- if the tape is whole after a call, what it shows is a list of the call
 abbrev pub Replayed : Doing → Uart16550 Tape → Uart16550 Tape → Type 0
-Replayed G old new = new.backend.whole ≡ true → (list : List Access) × G (fields old) list (fields new) × Shows old.backend list new.backend
+Replayed G old new =
+    new.backend.whole ≡ true →
+    (list : List Access) × G (fields old) list (fields new) × Shows old.backend list new.backend
