@@ -24,7 +24,7 @@ pub record Tape : Type 0 where
 abbrev pub room : ℕ
 room = 512
 
--- a read takes the next answer, or 0 where none is left; and the access is kept, as long as there is room
+-- a read takes the next answer, or 0 if none is left; and the access is kept, as long as there is room
 pub record Plays (old : Tape) (access : Access) (new : Tape) : Type 0 where
   pub answers : AnswersInTurn old.answers access new.answers
   pub whole : new.whole ≡ (old.whole && nat_lt (length old.made) room)
@@ -33,7 +33,8 @@ pub record Plays (old : Tape) (access : Access) (new : Tape) : Type 0 where
 -- the reads of a list are answered in turn, and these answers are left
 abbrev pub FedBy : (answers : List ℕ) → List Access → (left : List ℕ) → Type 0
 FedBy answers [] left = left ≡ answers
-FedBy answers (access ∷ accesses) left = (between : List ℕ) × AnswersInTurn answers access between × FedBy between accesses left
+FedBy answers (access ∷ accesses) left =
+    (between : List ℕ) × AnswersInTurn answers access between × FedBy between accesses left
 
 -- these accesses were added to the tape, and their reads were answered by it
 pub record Shows (old : Tape) (list : List Access) (new : Tape) : Type 0 where
@@ -42,10 +43,12 @@ pub record Shows (old : Tape) (list : List Access) (new : Tape) : Type 0 where
 
 -- a tape that is whole shows the accesses that led to it
 abbrev pub TapesShow : Type 0
-TapesShow = (old new : Tape) (list : List Access) → Path Plays old list new → new.whole ≡ true → Shows old list new
+TapesShow =
+    (old new : Tape) (list : List Access) → Path Plays old list new → new.whole ≡ true → Shows old list new
 
 -- if the tape is whole after a call, what it shows is a list of the call
 abbrev pub Replayed : Doing → Uart16550 Tape → Uart16550 Tape → Type 0
+<<<<<<< HEAD
 Replayed G old new = new.backend.whole ≡ true → (list : List Access) × G (fields old) list (fields new) × Shows old.backend list new.backend
 
 -- two calls from equal fields, the second over a tape with what the reads of the first were answered: they have one
@@ -64,3 +67,8 @@ RepeatsSaving {R} {B} L step =
     Made Plays (L b) before after → fields old ≡ fields before → before.backend.answers ≡ answers p.list →
     (a ≡ b) × (fields new ≡ fields after)
     × (after.backend.whole ≡ true → after.backend.made ≡ before.backend.made ++ p.list)
+=======
+Replayed G old new =
+    new.backend.whole ≡ true →
+    (list : List Access) × G (fields old) list (fields new) × Shows old.backend list new.backend
+>>>>>>> 16c7748d528dc8f82c0423074545f06d09845ca4

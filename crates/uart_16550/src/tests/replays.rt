@@ -18,14 +18,16 @@ ghost use Rattle.uart_16550.specs.Tty.{inner_of};
 ghost use Rattle.uart_16550.specs.Replay.{Replayed};
 
 use crate::embedded_io::{Read, ReadReady, Write, WriteReady};
-use crate::replay::Replay;
+use crate::replay::{Entry, Replay};
 use crate::spec::registers::{DLL, DLM, IER, ISR, LCR, LSR, MCR, MSR, SPR};
 use crate::spec::{
     ByteReceiveError, ByteSendError, Config, InitError, LoopbackError, RemoteReadyToReceiveError,
     StalledError,
 };
 use crate::{ConfigRegisterDump, Uart16550, Uart16550Tty};
+use bitflags::Flags;
 use std::fmt;
+use std::num::NonZeroU64;
 
 fn check_present(uart: &mut Uart16550<Replay<'_>>) -> bool
     ensures { Replayed (Saving (ChecksPresence result)) uart.old uart.new }
@@ -209,4 +211,89 @@ fn write_str(terminal: &mut Uart16550Tty<Replay<'_>>, text: &str) -> fmt::Result
     ensures { Replayed (Saving (SendsStr text.now result)) (inner_of terminal.old) (inner_of terminal.new) }
 {
     fmt::Write::write_str(terminal, text)
+}
+
+// So many accesses were made, and all of them were kept.
+fn shows(uart: &Uart16550<Replay<'_>>, count: usize) -> bool {
+    match uart.backend().accesses() {
+        Some(accesses) => accesses.len() == count,
+        None => false,
+    }
+}
+
+#[test]
+fn a_replay_shows_what_a_call_does(rt: HostRuntime) {
+    let mut uart = Uart16550::new_with_backend(Replay::new(&[0x00, 0x20]));
+    assert_eq!(rt; send_bytes_exact(&mut uart, b"hi"), Ok(()));
+    let accesses = [
+        Entry::Read(5, 0x00),
+        Entry::Read(5, 0x20),
+        Entry::Write(0, b'h'),
+        Entry::Write(0, b'i'),
+    ];
+    assert_eq!(rt; uart.backend().accesses(), Some(accesses.as_slice()));
+}
+
+#[test]
+fn a_replay_says_that_it_is_full(rt: HostRuntime) {
+    let mut uart = Uart16550::new_with_backend(Replay::new(&[]));
+    uart.set_spin_limit(NonZeroU64::new(512).unwrap());
+    assert!(rt; flush(&mut uart).is_err());
+    assert!(rt; shows(&uart, 512));
+    assert!(rt; read_ready(&mut uart).is_ok());
+    assert_eq!(rt; uart.backend().accesses(), None);
+}
+
+#[test]
+fn looks_and_registers_over_a_replay(rt: HostRuntime) {
+    // Each read is answered by 60: there is room, and no data.
+    let mut uart = Uart16550::new_with_backend(Replay::new(&[0x60; 64]));
+    assert!(rt; !check_present(&mut uart));
+    assert!(rt; shows(&uart, 4));
+    assert!(rt; check_connected(&mut uart).is_err());
+    assert!(rt; ready_to_receive(&mut uart).is_err());
+    assert!(rt; ready_to_send(&mut uart).is_ok());
+    assert_eq!(rt; read_ready(&mut uart), Ok(false));
+    assert_eq!(rt; write_ready(&mut uart), Ok(true));
+    assert!(rt; shows(&uart, 9));
+    enable_interrupts(&mut uart, IER::empty());
+    disable_interrupts(&mut uart, IER::empty());
+    assert!(rt; shows(&uart, 13));
+    assert_eq!(rt; ier(&mut uart).bits(), 0x60);
+    assert_eq!(rt; isr(&mut uart).bits(), 0x60);
+    assert_eq!(rt; lcr(&mut uart).bits(), 0x60);
+    assert_eq!(rt; mcr(&mut uart).bits(), 0x60);
+    assert_eq!(rt; lsr(&mut uart).bits(), 0x60);
+    assert_eq!(rt; msr(&mut uart).bits(), 0x60);
+    assert_eq!(rt; spr(&mut uart), 0x60);
+    assert!(rt; shows(&uart, 20));
+    assert_eq!(rt; dll_dlm(&mut uart), (0x60, 0x60));
+    assert_eq!(rt; config_register_dump(&mut uart).divisor(), 0x6060);
+    assert!(rt; shows(&uart, 37));
+}
+
+#[test]
+fn bytes_over_a_replay(rt: HostRuntime) {
+    let mut uart = Uart16550::new_with_backend(Replay::new(&[0x60; 64]));
+    uart.set_spin_limit(NonZeroU64::new(3).unwrap());
+    assert!(rt; try_receive_byte(&mut uart).is_err());
+    assert!(rt; try_send_byte(&mut uart, b'a').is_ok());
+    assert_eq!(rt; receive_bytes(&mut uart, &mut [0; 2]), 0);
+    assert_eq!(rt; send_bytes(&mut uart, b"hi"), 2);
+    assert!(rt; shows(&uart, 7));
+    assert!(rt; receive_bytes_exact(&mut uart, &mut [0; 2]).is_err());
+    assert!(rt; send_bytes_exact(&mut uart, b"hi").is_ok());
+    assert!(rt; read(&mut uart, &mut [0; 2]).is_err());
+    assert_eq!(rt; write(&mut uart, b"hi"), Ok(2));
+    assert!(rt; flush(&mut uart).is_ok());
+    assert!(rt; shows(&uart, 20));
+    assert!(rt; init(&mut uart, Config::DEFAULT).is_err());
+    assert!(rt; shows(&uart, 24));
+    // The transmitter is empty, the FIFO off, the byte sent, and none comes back.
+    assert!(rt; test_loopback(&mut uart).is_err());
+    assert!(rt; shows(&uart, 42));
+    let mut terminal = Uart16550Tty::from_inner(uart);
+    assert!(rt; write_text(&mut terminal, "a").is_ok());
+    assert!(rt; write_str(&mut terminal, "a").is_ok());
+    assert!(rt; shows(terminal.inner(), 46));
 }

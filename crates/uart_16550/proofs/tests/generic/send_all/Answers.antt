@@ -1,4 +1,4 @@
-use Rattle.std.proofs.Common.{◌≡◌, ℕ, ◌+◌, ◌++◌, ◌∷◌, [], take, drop, arith, length-drop, refl, append-nil, Ok, Err}
+use Rattle.std.proofs.Common.{ℕ, ◌++◌, ◌∷◌, [], drop, arith, length-drop, refl, append-nil, Ok, Err}
 use Rattle.std.proofs.lemmas.List.{take_rest}
 use Rattle.uart_16550.specs.Links.{WriteLink, taken}
 use Rattle.uart_16550.proofs.Chains.{chain_more, taken_more, joined_more}

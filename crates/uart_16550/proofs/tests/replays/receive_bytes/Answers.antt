@@ -5,4 +5,5 @@ use Rattle.uart_16550.proofs.tests.replays.receive_bytes.Goals as goal
 
 pub returns : goal.returns
 returns c =
-    made_replay {L = Receives (length c.args.slots.now) (take c.receive_bytes.result c.receive_bytes.new.buffer)} c.receive_bytes.ensures.made
+    let taken = take c.receive_bytes.result c.receive_bytes.new.buffer in
+    made_replay {L = Receives (length c.args.slots.now) taken} c.receive_bytes.ensures.made
