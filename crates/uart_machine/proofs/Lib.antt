@@ -71,3 +71,4 @@ pub mod ScriptParsed
 pub mod ScriptPlays
 pub mod ScriptPlayable
 pub mod ScriptOutputs
+pub mod OneOutcome

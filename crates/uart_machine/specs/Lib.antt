@@ -27,3 +27,4 @@ pub mod ScriptReading
 pub mod Output
 pub mod ScriptOutput
 pub mod Play
+pub mod OneOutcome

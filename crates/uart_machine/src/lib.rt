@@ -8,6 +8,7 @@ mod call;
 mod chip;
 mod device;
 mod event;
+pub mod laws;
 mod modem;
 mod queue;
 mod receiver;

@@ -7,6 +7,7 @@ use Rattle.uart_16550.specs.Choice.{PartAtRead, LeavesNoChoice, answers, IsAnswe
 use Rattle.uart_16550.specs.Grammar.{Language}
 use Rattle.uart_16550.specs.Driver.{Made, Doing, Fields, Saving, fields, backend_of}
 use Rattle.uart_16550.specs.declared.driver.Uart16550.{Uart16550}
+use Rattle.uart_16550.proofs.determined.Repeated.{same_first}
 
 -- over one stream
 pub answers_append : (l m : List Access) → answers (l ++ m) ≡ answers l ++ answers m
@@ -24,20 +25,12 @@ cut_at stream l front rest register answer fed is = (
       ∙ append_assoc (answers front) (answer ∷ answers rest) fed.0,
 )
 
-head_of : List ℕ → ℕ
-head_of [] = 0
-head_of (x ∷ xs) = x
-
-pub same_head : (a b : ℕ) (xs ys : List ℕ) → a ∷ xs ≡ b ∷ ys → a ≡ b
-unfolding head_of
-same_head a b xs ys same = ap head_of same
-
 -- lists that part at a read are not answered from one stream
 pub never_part : (stream : List ℕ) (l m : List Access) → IsAnsweredFrom stream l → IsAnsweredFrom stream m → PartAtRead l m → ⊥
 never_part stream l m p q part =
     let a = cut_at stream l part.front part.rest part.register part.answer p part.is_one in
     let b = cut_at stream m part.front part.other_rest part.register part.other_answer q part.is_other in
-    part.differs (same_head _ _ a.0 b.0
+    part.differs (same_first
     (append_cancel_left (answers part.front) (part.answer ∷ a.0) (part.other_answer ∷ b.0) (sym a.1 ∙ b.1)))
 
 pub agree : {R B C : Type 0} {G : R → Doing} {step : B → Access → B → Type 0} {other_step : C → Access → C → Type 0} → LeavesNoChoice G →

@@ -98,7 +98,7 @@ reads_apart s n xs ys a d = record { at = λ l m p q. at l m p.1 q.0 q.2 }
     at l m (inl p) some q = absurd (omega (arith, p.0, some))
     at l m (inr p) some q = (some_none s n xs ys).at l m p.1 q
 
-reads_determined : (s : Settings) (n : ℕ) (xs ys : List ℕ) (a b : Result ℕ StalledError) →
+pub reads_determined : (s : Settings) (n : ℕ) (xs ys : List ℕ) (a b : Result ℕ StalledError) →
     Determined ((xs ≡ ys) × (a ≡ b)) (Reads n xs a s) (Reads n ys b s)
 reads_determined s n xs ys (Ok a) (Ok b) = record { at = λ l m p q. at l m p.0 q.0 p.1 q.1 }
   where

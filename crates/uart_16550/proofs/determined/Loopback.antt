@@ -16,7 +16,7 @@ use Rattle.uart_16550.specs.Driver.{Doing, Fields, Saving, Plain, Sets, Next, se
 use Rattle.uart_16550.specs.Loopback.{test_byte, test_message, TakesOne, Drains, SendsTestByte, ExchangesByte, Echo, EchoFails, WholeEchoes, WholeFails, EachEchoes, HasEchoedWhole, HasEchoedEach, HasEchoedAll, ExchangesMessage, Exchanges, Enters, Leaves, with_changes, line_changes, BeginsTest, Tests, IsStalled, TestsLoopback}
 use Rattle.uart_16550.proofs.Languages.{then_later}
 use Rattle.uart_16550.proofs.determined.Parting.{SameOrPart, Determined, so, so_is, so_read, so_reads, determined_so, determined_sym, determined_then, determined_front, determined_among, determined_none, determined_only, determined_fifo, read_determined, not_both}
-use Rattle.uart_16550.proofs.determined.Repeated.{Misses, waits_end, wait_ends, wait_fails, Items, Alike, items_all}
+use Rattle.uart_16550.proofs.determined.Repeated.{same_first, same_others, Misses, waits_end, wait_ends, wait_fails, Items, Alike, items_all}
 use Rattle.uart_16550.proofs.determined.Receive.{hits_determined, miss_same, miss_hit, vain_same, vain_awaited, awaited_determined, awaited_all, receives_exact_determined}
 use Rattle.uart_16550.proofs.determined.Transmit.{round_same, vain_round, unsent_same, waits_determined, try_send_determined, sends_all_same, sends_stall, sends_exact_determined}
 use Rattle.uart_16550.proofs.determined.Init.{fifo_determined}
@@ -192,26 +192,10 @@ fails_same s b c same = record { at = at }
 abbrev sents : List (ℕ × ℕ) → List ℕ
 sents pairs = map (λ pair. pair.0) pairs
 
-head_of : List ℕ → ℕ
-head_of [] = 0
-head_of (x ∷ xs) = x
-
-tail_of : List ℕ → List ℕ
-tail_of [] = []
-tail_of (x ∷ xs) = xs
-
-same_head : (a b : ℕ) (u v : List ℕ) → a ∷ u ≡ b ∷ v → a ≡ b
-unfolding head_of
-same_head a b u v e = ap head_of e
-
-same_tail : (a b : ℕ) (u v : List ℕ) → a ∷ u ≡ b ∷ v → u ≡ v
-unfolding tail_of
-same_tail a b u v e = ap tail_of e
-
 alike_pairs : (ps qs : List (ℕ × ℕ)) → sents ps ≡ sents qs → Alike (λ x y. x.0 ≡ y.0) ps qs
 alike_pairs [] qs same = tt
 alike_pairs (p ∷ ps) [] same = tt
-alike_pairs (p ∷ ps) (q ∷ qs) same = (same_head _ _ _ _ same, alike_pairs ps qs (same_tail _ _ _ _ same))
+alike_pairs (p ∷ ps) (q ∷ qs) same = (same_first same, alike_pairs ps qs (same_others same))
 
 each_echoes : (s : Settings) (sent xs ys : List ℕ) → Determined (xs ≡ ys) (EachEchoes sent xs s) (EachEchoes sent ys s)
 each_echoes s sent xs ys = record {
@@ -231,30 +215,30 @@ fails_echoes s [] [] byte rest same = absurd (no_item _ _ (sym same))
 fails_echoes s [] (q ∷ qs) byte rest same =
     determined_none {Q = EchoFails byte}
     (determined_sym (determined_front {P = Echo q} {Q = InOrder Echo qs}
-    (determined_sym (fails_echo s byte q (same_head _ _ _ _ same)))))
+    (determined_sym (fails_echo s byte q (same_first same)))))
 fails_echoes s (p ∷ ps) [] byte rest same = absurd (no_item _ _ (sym same))
 fails_echoes s (p ∷ ps) (q ∷ qs) byte rest same =
     determined_among
     (determined_then {P = Echo p} {P' = Echo q} {Q = Then (InOrder Echo ps) (EchoFails byte)} {Q' = InOrder Echo qs}
-    (echoes_determined s p q (same_head _ _ _ _ same))
-    (λ t. fails_echoes s ps qs byte rest (same_tail _ _ _ _ same)))
+    (echoes_determined s p q (same_first same))
+    (λ t. fails_echoes s ps qs byte rest (same_others same)))
     (then_later (Echo p) (InOrder Echo ps) (EchoFails byte) s) (λ l t. t)
 
 fails_fails : (s : Settings) (ps qs : List (ℕ × ℕ)) (b c : ℕ) (r t : List ℕ) → sents ps ++ (b ∷ r) ≡ sents qs ++ (c ∷ t) →
     Determined (Unit {0}) (Then (InOrder Echo ps) (EchoFails b) s) (Then (InOrder Echo qs) (EchoFails c) s)
 fails_fails s [] [] b c r t same =
     determined_then {P = Only []} {P' = Only []} {Q = EchoFails b} {Q' = EchoFails c} (determined_only refl)
-    (λ x. fails_same s b c (same_head _ _ _ _ same))
+    (λ x. fails_same s b c (same_first same))
 fails_fails s [] (q ∷ qs) b c r t same =
     determined_none {Q = EchoFails b} (determined_sym (determined_front {P = InOrder Echo (q ∷ qs)} {Q = EchoFails c}
-    (determined_front {P = Echo q} {Q = InOrder Echo qs} (determined_sym (fails_echo s b q (same_head _ _ _ _ same))))))
+    (determined_front {P = Echo q} {Q = InOrder Echo qs} (determined_sym (fails_echo s b q (same_first same))))))
 fails_fails s (p ∷ ps) [] b c r t same =
     determined_front {P = InOrder Echo (p ∷ ps)} {Q = EchoFails b} (determined_front {P = Echo p} {Q = InOrder Echo ps}
-    (determined_sym (determined_none {Q = EchoFails c} (fails_echo s c p (sym (same_head _ _ _ _ same))))))
+    (determined_sym (determined_none {Q = EchoFails c} (fails_echo s c p (sym (same_first same))))))
 fails_fails s (p ∷ ps) (q ∷ qs) b c r t same =
     determined_among
     (determined_then {P = Echo p} {P' = Echo q} {Q = Then (InOrder Echo ps) (EchoFails b)} {Q' = Then (InOrder Echo qs) (EchoFails c)}
-    (echoes_determined s p q (same_head _ _ _ _ same)) (λ x. fails_fails s ps qs b c r t (same_tail _ _ _ _ same)))
+    (echoes_determined s p q (same_first same)) (λ x. fails_fails s ps qs b c r t (same_others same)))
     (then_later (Echo p) (InOrder Echo ps) (EchoFails b) s) (then_later (Echo q) (InOrder Echo qs) (EchoFails c) s)
 
 -- what came back is as long as what was sent

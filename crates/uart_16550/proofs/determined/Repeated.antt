@@ -68,6 +68,23 @@ Alike K (x ∷ xs) (y ∷ ys) = K x y × Alike K xs ys
 pub record Items {A : Type 0} (s : Settings) (P : A → Language) (Related : A → A → Type 0) : Type 0 where
   pub item : (x y : A) → Related x y → Determined (x ≡ y) (P x s) (P y s)
 
+-- the first items and the others of equal lists
+first_of : {A : Type 0} → A → List A → A
+first_of x [] = x
+first_of x (y ∷ ys) = y
+
+others_of : {A : Type 0} → List A → List A
+others_of [] = []
+others_of (x ∷ xs) = xs
+
+pub same_first : {A : Type 0} {x y : A} {xs ys : List A} → x ∷ xs ≡ y ∷ ys → x ≡ y
+unfolding first_of
+same_first {A} {x} same = ap (first_of x) same
+
+pub same_others : {A : Type 0} {x y : A} {xs ys : List A} → x ∷ xs ≡ y ∷ ys → xs ≡ ys
+unfolding others_of
+same_others same = ap others_of same
+
 pub same_items : {A : Type 0} (x y : A) (xs ys : List A) → x ≡ y → xs ≡ ys → x ∷ xs ≡ y ∷ ys
 same_items x y xs ys same rest = ap (λ z. z ∷ xs) same ∙ ap (λ zs. y ∷ zs) rest
 

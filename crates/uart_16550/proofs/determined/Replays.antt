@@ -7,7 +7,8 @@ use Rattle.uart_16550.specs.Grammar.{Language}
 use Rattle.uart_16550.specs.Driver.{Doing, Fields, Saving, fields}
 use Rattle.uart_16550.specs.Replay.{Tape, Plays, FedBy, Repeats, RepeatsSaving}
 use Rattle.uart_16550.proofs.Replays.{fed_path, tapes_show}
-use Rattle.uart_16550.proofs.determined.Backends.{answers_append, same_head, saved}
+use Rattle.uart_16550.proofs.determined.Repeated.{same_first}
+use Rattle.uart_16550.proofs.determined.Backends.{answers_append, saved}
 
 no_head : (a : ℕ) (xs : List ℕ) → [] ≡ a ∷ xs → ⊥
 no_head a xs e = cc
@@ -16,7 +17,7 @@ no_head a xs e = cc
 fed_after : (xs more : List ℕ) (front rest : List Access) (register a b : ℕ) (left : List ℕ) → xs ≡ answers front ++ (a ∷ more) →
     FedBy xs (front ++ Read register b ∷ rest) left → a ≡ b
 fed_after [] more [] rest register a b left e (between, taken, fed) = absurd (no_head a more e)
-fed_after (x ∷ xs) more [] rest register a b left e (between, taken, fed) = sym (same_head x a xs more e) ∙ sym taken.0
+fed_after (x ∷ xs) more [] rest register a b left e (between, taken, fed) = sym (same_first e) ∙ sym taken.0
 fed_after [] more (Read offset answer ∷ front) rest register a b left e (between, taken, fed) = absurd (no_head answer _ e)
 fed_after (x ∷ xs) more (Read offset answer ∷ front) rest register a b left e (between, taken, fed) =
     fed_after between more front rest register a b left (taken.1 ∙ same_tail x answer xs _ e) fed

@@ -1,0 +1,14 @@
+//! Laws about runs and scripts, which follow from what the contracts say.
+//!
+//! Each function here has a law as its contract, for callers to cite, and does nothing.
+ghost use Rattle.uart_machine.specs.OneOutcome.{RunsHaveOneOutcome, ScriptsHaveOneOutput};
+
+/// What `run` answers, and the state that it leaves, are a function of the calls and the state before.
+pub fn runs_have_one_outcome()
+    ensures { RunsHaveOneOutcome }
+{}
+
+/// What `play` writes for a script is a function of the script.
+pub fn scripts_have_one_output()
+    ensures { ScriptsHaveOneOutput }
+{}
