@@ -48,8 +48,9 @@ TapesShow =
 
 -- if the tape is whole after a call, what it shows is a list of the call
 abbrev pub Replayed : Doing → Uart16550 Tape → Uart16550 Tape → Type 0
-<<<<<<< HEAD
-Replayed G old new = new.backend.whole ≡ true → (list : List Access) × G (fields old) list (fields new) × Shows old.backend list new.backend
+Replayed G old new =
+    new.backend.whole ≡ true →
+    (list : List Access) × G (fields old) list (fields new) × Shows old.backend list new.backend
 
 -- two calls from equal fields, the second over a tape with what the reads of the first were answered: they have one
 -- outcome and leave equal fields, and the tape, if it is whole, shows the accesses of the first
@@ -67,8 +68,3 @@ RepeatsSaving {R} {B} L step =
     Made Plays (L b) before after → fields old ≡ fields before → before.backend.answers ≡ answers p.list →
     (a ≡ b) × (fields new ≡ fields after)
     × (after.backend.whole ≡ true → after.backend.made ≡ before.backend.made ++ p.list)
-=======
-Replayed G old new =
-    new.backend.whole ≡ true →
-    (list : List Access) × G (fields old) list (fields new) × Shows old.backend list new.backend
->>>>>>> 16c7748d528dc8f82c0423074545f06d09845ca4
