@@ -227,7 +227,8 @@ fn output_for(alloc: Global, script: &Script) -> Result<Vec<u8>, AllocError>
 
 /// Reads a script, plays it and writes its output.
 ///
-/// The output is built as a whole before any of it is written.
+/// The output is built as a whole before any of it is written. What is written for a script is a function of the script
+/// ([`scripts_have_one_output`](crate::laws::scripts_have_one_output)).
 pub fn play<R: Input, W: Output>(
     alloc: Global,
     reader: &mut R,
