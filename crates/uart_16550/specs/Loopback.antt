@@ -54,9 +54,9 @@ abbrev pub HasEchoed : ℕ → Option ℕ → Language
 HasEchoed byte (Some back) = Echo (byte, back)
 HasEchoed byte None = EchoFails byte
 
--- with a FIFO the bytes are sent whole and received whole
+-- with a FIFO the bytes are sent whole, and as many are received
 abbrev pub WholeEchoes : (sent got : List ℕ) → Language
-WholeEchoes sent got = Then (SendsAll sent) (InOrder Awaited got)
+WholeEchoes sent got s l = (length got ≡ length sent) × Then (SendsAll sent) (InOrder Awaited got) s l
 
 abbrev pub WholeFails : (sent : List ℕ) → Language
 WholeFails sent s l = ((e : StalledError) × SendsExact {T = Unit {0}} sent (Err e) s l)

@@ -41,7 +41,7 @@ module _ (s : Settings) where
   echo_fails byte l (inr t) = keeps_then s _ _ (keeps_round s (byte ∷ [])) misses l t
 
   whole : (sent : List ℕ) (got : Option (List ℕ)) → AllKeep s (HasEchoedWhole sent got)
-  whole sent (Some got) l t = keeps_then s _ _ (keeps_sends_all s sent) (keeps_in_order s Awaited got (keeps_awaited s)) l t
+  whole sent (Some got) l t = keeps_then s _ _ (keeps_sends_all s sent) (keeps_in_order s Awaited got (keeps_awaited s)) l t.1
   whole sent None l (inl t) = keeps_sends_exact {T = Unit {0}} s sent (Err t.0) l t.1
   whole sent None l (inr t) = keeps_then s _ _ (keeps_sends_all s sent) (keeps_receives_exact {T = Unit {0}} s _ t.1 (Err t.0)) l t.2
 

@@ -114,12 +114,13 @@ byte_exchanged x gone s actual l m n r t path =
 
 -- the message, whole
 whole_exchanged : (x : Modes) (gone : List ℕ) (s : Settings) (sent got : List ℕ) (l : List Access) (m n : MachineState) → IsReadyToTest x gone s m → length sent ≤ room s.fifo →
-    length got ≡ length sent → WholeEchoes sent got s l → Path MachineStep m l n → Exchanged x gone s n sent got
-whole_exchanged x gone s sent got l m n r few all t path =
-    let makes : Makes s (WholeEchoes sent got) (sent ++ []) got = λ k u.
+    WholeEchoes sent got s l → Path MachineStep m l n → Exchanged x gone s n sent got
+whole_exchanged x gone s sent got l m n r few t path =
+    let both = Then (SendsAll sent) (InOrder Awaited got) in
+    let makes : Makes s both (sent ++ []) got = λ k u.
     makes_then s (SendsAll sent) (InOrder Awaited got) sent [] [] got (sends_all_blocks s sent) (makes_reads s Awaited (awaited_blocks s) got) k u in
-    let same : Makes s (WholeEchoes sent got) sent got = rw (append-nil sent) at makes in
-    exchanged x gone s (WholeEchoes sent got) l m n sent got r few all same t path
+    let same : Makes s both sent got = rw (append-nil sent) at makes in
+    exchanged x gone s both l m n sent got r few t.0 same t.1 path
 
 -- each byte by itself
 echo_exchanged : (x : Modes) (gone : List ℕ) (s : Settings) (pair : ℕ × ℕ) (l : List Access) (m n : MachineState) → IsReadyToTest x gone s m → Echo pair s l → Path MachineStep m l n →
@@ -146,7 +147,7 @@ pub message_exchanged : (x : Modes) (gone : List ℕ) (s : Settings) (got : List
 message_exchanged x gone s got l m n r long t path = go s.fifo refl t
   where
     go : (b : Bool) → s.fifo ≡ b → MatchBool b (WholeEchoes test_message got s l) (EachEchoes test_message got s l) → Exchanged x gone s n test_message got
-    go true e t = whole_exchanged x gone s test_message got l m n r (rw e (omega arith)) long t path
+    go true e t = whole_exchanged x gone s test_message got l m n r (rw e (omega arith)) t path
     go false e (pairs, sent, back, made) = let a = each_exchanged x gone s pairs l m n r made path in rw (sent, back) at a
 
 -- ---- no send is refused

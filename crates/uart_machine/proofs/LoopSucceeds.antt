@@ -7,7 +7,7 @@ use Rattle.uart_16550.specs.Grammar.{Settings, Only, Then, InOrder, AllMisses}
 use Rattle.uart_16550.specs.Receive.{Miss, Awaited}
 use Rattle.uart_16550.specs.Transmit.{SendMiss, burst_size, Round, IsCut, SendsAll, Waits}
 use Rattle.uart_16550.specs.Driver.{Fields, Saving, Next, fields, settings_of}
-use Rattle.uart_16550.specs.Loopback.{test_byte, test_message, Drains, SendsTestByte, ExchangesByte, Echo, EchoFails, WholeEchoes, WholeFails, EachFails, HasEchoedAll, ExchangesMessage, Exchanges, Enters, Leaves, BeginsTest, Tests, TestsLoopback}
+use Rattle.uart_16550.specs.Loopback.{test_byte, test_message, Drains, SendsTestByte, ExchangesByte, Echo, EchoFails, WholeFails, EachFails, HasEchoedAll, ExchangesMessage, Exchanges, Enters, Leaves, BeginsTest, Tests, TestsLoopback}
 use Rattle.uart_16550.specs.Tty.{inner_of}
 use Rattle.uart_machine.specs.declared.call.Answer.{Answer}
 use Rattle.uart_machine.specs.declared.call.Answer.TheVariants.{LoopbackRefused}
@@ -64,16 +64,17 @@ no_stall-whole x gone s l m n fifo v r (inl (e, (pieces, rest, cut, some, count,
     never_full x gone s p.back m n v r p.second (rw same at p.after)
 no_stall-whole x gone s l m n fifo v r (inr (e, got, t)) path =
     let u = t.second.2 in
-    let regrouped : Then (WholeEchoes test_message got) (AllMisses Miss) s l = record {
+    let both = Then (SendsAll test_message) (InOrder Awaited got) in
+    let regrouped : Then both (AllMisses Miss) s l = record {
       front = t.front ++ u.front;
       back = u.back;
       whole = t.whole ∙ (ap (λ zs. t.front ++ zs) u.whole ∙ sym (append_assoc t.front u.front u.back));
       first = record { front = t.front; back = u.front; whole = refl; first = t.first; second = u.first };
       second = u.second;
     } in
-    let makes : Makes s (WholeEchoes test_message got) (test_message ++ []) got = λ k w.
+    let makes : Makes s both (test_message ++ []) got = λ k w.
     makes_then s (SendsAll test_message) (InOrder Awaited got) test_message [] [] got (sends_all_blocks s test_message) (makes_reads s Awaited (awaited_blocks s) got) k w in
-    never_dry x gone s (WholeEchoes test_message got) l m n (test_message ++ []) got v r (rw fifo (omega arith)) t.second.0 makes regrouped path
+    never_dry x gone s both l m n (test_message ++ []) got v r (rw fifo (omega arith)) t.second.0 makes regrouped path
 
 -- ---- the message, byte by byte
 

@@ -111,10 +111,12 @@ exchanges_byte_determined s a b = record {
 }
 
 -- the message, whole
-whole_echoes : (s : Settings) (sent xs ys : List ℕ) → length xs ≡ length ys →
-    Determined (xs ≡ ys) (WholeEchoes sent xs s) (WholeEchoes sent ys s)
-whole_echoes s sent xs ys same =
-    determined_then {P = SendsAll sent} {P' = SendsAll sent} (sends_all_same s sent) (λ t. awaited_all s xs ys same)
+whole_echoes : (s : Settings) (sent xs ys : List ℕ) → Determined (xs ≡ ys) (WholeEchoes sent xs s) (WholeEchoes sent ys s)
+whole_echoes s sent xs ys = record {
+  at = λ l m p q.
+      (determined_then {s = s} {P = SendsAll sent} {P' = SendsAll sent} {Q = InOrder Awaited xs} {Q' = InOrder Awaited ys}
+      (sends_all_same s sent) (λ t. awaited_all s xs ys (p.0 ∙ sym q.0))).at l m p.1 q.1;
+}
 
 -- all came back, and the wait for some was in vain
 back_stall : (s : Settings) (n : ℕ) (xs ys : List ℕ) (e : StalledError) → length xs ≡ n →
@@ -127,15 +129,15 @@ sent_apart : (s : Settings) (sent : List ℕ) (Q : Language) (e : StalledError) 
     Determined ⊥ (Then (SendsAll sent) Q s) (SendsExact {T = Unit {0}} sent (Err e) s)
 sent_apart s sent Q e = determined_front {P = SendsAll sent} {Q = Q} (determined_sym (sends_stall s sent e))
 
-whole_apart : (s : Settings) (sent xs : List ℕ) → length xs ≡ length sent → Determined ⊥ (WholeEchoes sent xs s) (WholeFails sent s)
-whole_apart s sent xs same = record { at = at }
+whole_apart : (s : Settings) (sent xs : List ℕ) → Determined ⊥ (WholeEchoes sent xs s) (WholeFails sent s)
+whole_apart s sent xs = record { at = at }
   where
     at : (l m : List Access) → WholeEchoes sent xs s l → WholeFails sent s m → SameOrPart ⊥ l m
-    at l m p (inl q) = (sent_apart s sent (InOrder Awaited xs) q.0).at l m p q.1
+    at l m p (inl q) = (sent_apart s sent (InOrder Awaited xs) q.0).at l m p.1 q.1
     at l m p (inr q) =
         (determined_then {s = s} {P = SendsAll sent} {P' = SendsAll sent} {Q = InOrder Awaited xs}
         {Q' = ReceivesExact {T = Unit {0}} (length sent) q.1 (Err q.0)}
-        (sends_all_same s sent) (λ t. back_stall s (length sent) xs q.1 q.0 same)).at l m p q.2
+        (sends_all_same s sent) (λ t. back_stall s (length sent) xs q.1 q.0 p.0)).at l m p.1 q.2
 
 whole_fails_same : (s : Settings) (sent : List ℕ) → Determined (Unit {0}) (WholeFails sent s) (WholeFails sent s)
 whole_fails_same s sent = record { at = at }
@@ -241,20 +243,15 @@ fails_fails s (p ∷ ps) (q ∷ qs) b c r t same =
     (echoes_determined s p q (same_first same)) (λ x. fails_fails s ps qs b c r t (same_others same)))
     (then_later (Echo p) (InOrder Echo ps) (EchoFails b) s) (then_later (Echo q) (InOrder Echo qs) (EchoFails c) s)
 
--- what came back is as long as what was sent
-abbrev IsWhole : List ℕ → Option (List ℕ) → Type 0
-IsWhole sent (Some xs) = length xs ≡ length sent
-IsWhole sent None = Unit {0}
-
 some_list : {xs ys : List ℕ} → xs ≡ ys → ◌≡◌ {A = Option (List ℕ)} (Some xs) (Some ys)
 some_list same = ap (λ (zs : List ℕ). let r : Option (List ℕ) = Some zs in r) same
 
-whole_determined : (s : Settings) (sent : List ℕ) (x y : Option (List ℕ)) → IsWhole sent x → IsWhole sent y →
+whole_determined : (s : Settings) (sent : List ℕ) (x y : Option (List ℕ)) →
     Determined (x ≡ y) (HasEchoedWhole sent x s) (HasEchoedWhole sent y s)
-whole_determined s sent (Some xs) (Some ys) h k = determined_so some_list (whole_echoes s sent xs ys (h ∙ sym k))
-whole_determined s sent (Some xs) None h k = determined_so absurd (whole_apart s sent xs h)
-whole_determined s sent None (Some ys) h k = determined_sym (whole_apart s sent ys k)
-whole_determined s sent None None h k = determined_so (λ t. refl) (whole_fails_same s sent)
+whole_determined s sent (Some xs) (Some ys) = determined_so some_list (whole_echoes s sent xs ys)
+whole_determined s sent (Some xs) None = determined_so absurd (whole_apart s sent xs)
+whole_determined s sent None (Some ys) = determined_sym (whole_apart s sent ys)
+whole_determined s sent None None = determined_so (λ t. refl) (whole_fails_same s sent)
 
 each_apart : (s : Settings) (sent xs : List ℕ) → Determined ⊥ (HasEchoedEach sent None s) (HasEchoedEach sent (Some xs) s)
 each_apart s sent xs = record { at = λ l m p q. (fails_echoes s p.0 q.0 p.1 p.2 (p.3 ∙ sym q.1)).at l m p.4 q.3 }
@@ -267,11 +264,11 @@ each_determined s sent None (Some ys) = determined_so absurd (each_apart s sent 
 each_determined s sent None None =
     record { at = λ l m p q. so (λ t. refl) ((fails_fails s p.0 q.0 p.1 q.1 p.2 q.2 (p.3 ∙ sym q.3)).at l m p.4 q.4) }
 
-echoed_determined : (s : Settings) (sent : List ℕ) (x y : Option (List ℕ)) → IsWhole sent x → IsWhole sent y →
+echoed_determined : (s : Settings) (sent : List ℕ) (x y : Option (List ℕ)) →
     Determined (x ≡ y) (HasEchoedAll sent x s) (HasEchoedAll sent y s)
-echoed_determined s sent x y h k =
+echoed_determined s sent x y =
     determined_fifo s (HasEchoedWhole sent x) (HasEchoedWhole sent y) (HasEchoedEach sent x) (HasEchoedEach sent y)
-    (whole_determined s sent x y h k) (each_determined s sent x y)
+    (whole_determined s sent x y) (each_determined s sent x y)
 
 -- what an outcome says of the message that came back
 abbrev IsMessage : Outcome → Option (List ℕ) → Type 0
@@ -311,12 +308,12 @@ messages_same (Err (UnexpectedLoopbackMsg d e)) (Err (UnexpectedLoopbackMsg g h)
     λ i. Err (UnexpectedLoopbackMsg (expected i) (actual i))
 
 message_reply : (r : Outcome) (s : Settings) (l : List Access) → ExchangesMessage r s l →
-    (o : Option (List ℕ)) × IsMessage r o × IsWhole test_message o × HasEchoedAll test_message o s l
-message_reply (Ok x) s l t = (Some test_message, refl, refl, t)
+    (o : Option (List ℕ)) × IsMessage r o × HasEchoedAll test_message o s l
+message_reply (Ok x) s l t = (Some test_message, refl, t)
 message_reply (Err (SendError e)) s l t = absurd t
-message_reply (Err Stalled) s l t = (None, refl, tt, t)
+message_reply (Err Stalled) s l t = (None, refl, t)
 message_reply (Err (UnexpectedLoopbackByte expected actual)) s l t = absurd t
-message_reply (Err (UnexpectedLoopbackMsg expected actual)) s l t = (Some actual, (t.0, t.1, refl), t.2, t.3)
+message_reply (Err (UnexpectedLoopbackMsg expected actual)) s l t = (Some actual, (t.0, t.1, refl), t.3)
 
 exchanges_message_determined : (s : Settings) (a b : Outcome) → Determined (a ≡ b) (ExchangesMessage a s) (ExchangesMessage b s)
 exchanges_message_determined s a b = record {
@@ -324,7 +321,7 @@ exchanges_message_determined s a b = record {
       let x = message_reply a s l p in
       let y = message_reply b s m q in
       let M : Option (List ℕ) → Type 0 = λ o. IsMessage a o in
-      so (λ r. messages_same a b y.0 (subst M r x.1) y.1) ((echoed_determined s test_message x.0 y.0 x.2 y.2).at l m x.3 y.3);
+      so (λ r. messages_same a b y.0 (subst M r x.1) y.1) ((echoed_determined s test_message x.0 y.0).at l m x.2 y.2);
 }
 
 -- how far the exchange came

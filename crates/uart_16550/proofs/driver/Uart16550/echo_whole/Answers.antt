@@ -1,4 +1,8 @@
-use Rattle.std.proofs.Common.{inr}
+use Rattle.std.proofs.Common.{inr, Ok}
+use Rattle.uart_16550.specs.Grammar.{Then}
+use Rattle.uart_16550.specs.Receive.{ReceivesExact}
+use Rattle.uart_16550.specs.Transmit.{SendsAll}
+use Rattle.uart_16550.specs.Loopback.{test_message}
 use Rattle.uart_16550.proofs.Making.{made_then, made_among}
 use Rattle.uart_16550.proofs.driver.Uart16550.echo_whole.Goals as goal
 
@@ -7,4 +11,7 @@ returns-in_default-receive_bytes_exact-clause-made g c =
     made_among (λ l t. inr (_, _, t)) (made_then c.in-Ok.ensures.made c.in_default-receive_bytes_exact.ensures.made)
 
 pub returns-clause-made : goal.returns-clause-made
-returns-clause-made g c = made_then c.in-Ok.ensures.made (made_among (λ l t. t.1) c.in-Ok-receive_bytes_exact.ensures.made)
+returns-clause-made g c =
+    made_among {L = Then (SendsAll test_message) (ReceivesExact {T = Unit {0}} 16 _ (Ok tt))}
+    (λ l t. (t.second.0, record { front = t.front; back = t.back; whole = t.whole; first = t.first; second = t.second.1 }))
+    (made_then c.in-Ok.ensures.made c.in-Ok-receive_bytes_exact.ensures.made)
