@@ -15,7 +15,7 @@ use Rattle.uart_machine.specs.declared.call.Answer.{Answer}
 use Rattle.uart_machine.specs.declared.call.Answer.TheVariants.{LoopbackRefused}
 use Rattle.uart_machine.specs.Registers.{has_any}
 use Rattle.uart_machine.specs.Transmitter.{out}
-use Rattle.uart_machine.specs.Chip.{ChipState, word_length, cut_to, cut_of, is_dlab_set}
+use Rattle.uart_machine.specs.Chip.{ChipState, cut_to, cut_of, is_dlab_set}
 use Rattle.uart_machine.specs.Machine.{MachineState, MachineStep}
 use Rattle.uart_machine.specs.Sound.{IsSound}
 use Rattle.uart_machine.specs.Run.{State, machine_of, Called, loopback_answer}

@@ -12,8 +12,8 @@ use Rattle.uart_machine.specs.Chip.{ChipState, word_length, cut_to, cut_of}
 use Rattle.uart_machine.specs.Machine.{MachineState}
 use Rattle.uart_machine.specs.Conserved.{out, stands, arriving, cut_character, between, entered}
 use Rattle.uart_machine.specs.Run.{State, machine_of, Link, Chain}
-use Rattle.uart_machine.specs.Ready.{Ready, is_narrow, test_answer, IsTested}
-use Rattle.uart_machine.specs.Session.{IsSession, reported, Conserves, Follows, AllFollow, Ran}
+use Rattle.uart_machine.specs.Ready.{is_narrow, test_answer}
+use Rattle.uart_machine.specs.Session.{reported, Conserves, Follows, AllFollow, Ran}
 use Rattle.uart_machine.specs.Uncut.{IsUncut, entered_uncut, ConservesUncut, TestsUncut, FollowsUncut, AllFollowUncut, RanUncut}
 use Rattle.uart_machine.proofs.Latches.{cuts_path, cuts_mark}
 use Rattle.uart_machine.proofs.Sessions.{Lasts, lasts_call, lasts_chain}

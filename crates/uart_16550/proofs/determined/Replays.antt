@@ -1,11 +1,11 @@
 -- A call over a replay of another backend's answers repeats the call.
-use Rattle.std.proofs.Common.{◌≡◌, ℕ, true, List, [], ◌∷◌, ◌++◌, refl, sym, ◌∙◌, ap, subst, inl, inr, ◌⊎◌}
-use Rattle.uart_16550.specs.Access.{Access, Read, Write, Path}
+use Rattle.std.proofs.Common.{◌≡◌, ℕ, true, List, [], ◌∷◌, ◌++◌, sym, ◌∙◌, ap, subst, inl, inr, ◌⊎◌}
+use Rattle.uart_16550.specs.Access.{Access, Read, Write}
 use Rattle.uart_16550.specs.Choice.{PartAtRead, LeavesNoChoice, answers}
 use Rattle.uart_16550.specs.Devices.{AnswersInTurn}
 use Rattle.uart_16550.specs.Grammar.{Language}
 use Rattle.uart_16550.specs.Driver.{Doing, Fields, Saving, fields}
-use Rattle.uart_16550.specs.Replay.{Tape, Plays, FedBy, Repeats, RepeatsSaving}
+use Rattle.uart_16550.specs.Replay.{FedBy, Repeats, RepeatsSaving}
 use Rattle.uart_16550.proofs.Replays.{fed_path, tapes_show}
 use Rattle.uart_16550.proofs.determined.Repeated.{same_first}
 use Rattle.uart_16550.proofs.determined.Backends.{answers_append, saved}

@@ -1,5 +1,4 @@
 use Rattle.std.proofs.Common.{arith}
-use Rattle.uart_machine.specs.Session.{Ran}
 use Rattle.uart_machine.proofs.Runs.{run_nothing, run_step, run_whole}
 use Rattle.uart_machine.proofs.Follows.{ran}
 use Rattle.uart_machine.proofs.Uncuts.{ran_uncut}
