@@ -4,6 +4,7 @@
 //! from these to the one list that the call may make: whatever another backend answers, the same call with the same fields over a
 //! replay of its answers makes the same accesses.
 ghost use Rattle.std.specs.Prelude.{◌≡◌, true, false, ◌&&◌, [], ◌∷◌, ◌++◌, nat_lt, length, map, IfSome, IsNone};
+ghost use Rattle.uart_16550.specs.Access.{Read};
 ghost use Rattle.uart_16550.specs.Replay.{Plays, TapesShow, access_of, room};
 
 use crate::backend::Backend;
@@ -21,6 +22,8 @@ pub enum Entry {
 }
 
 impl Default for Entry {
+    ghost is_default = { λ entry. access_of entry ≡ Read 0 0 };
+
     fn default() -> Self {
         Entry::Read(0, 0)
     }
