@@ -60,6 +60,7 @@ pub mod ReadyKept
 pub mod Follows
 pub mod Uncuts
 pub mod Idle
+pub mod ReadyTicks
 pub mod ScriptLines
 pub mod ScriptDigits
 pub mod ScriptBytes

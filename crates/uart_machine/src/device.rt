@@ -7,7 +7,6 @@ ghost use Rattle.uart_machine.specs.Transmitter.{held};
 ghost use Rattle.uart_machine.specs.Conserved.{waiting};
 ghost use Rattle.uart_machine.specs.Chip.{divisor, ticks};
 ghost use Rattle.uart_machine.specs.Jumps.{most_turns};
-ghost use Rattle.uart_machine.specs.Ready.{KeepsReady};
 ghost use Rattle.uart_machine.specs.declared.event.BuildError.{BuildError};
 
 use crate::chip::Uart;
@@ -193,7 +192,6 @@ impl Device16550 {
     pub fn idle(&mut self, n: u16) -> usize
         ensures after { self.new ≡ record self.old { chip = ticks n self.old.chip } }
         ensures turns { result ≤ most_turns }
-        ensures ready { KeepsReady self.old self.new }
     {
         self.uart.ticks(n)
     }
