@@ -18,23 +18,23 @@ use Rattle.uart_16550.proofs.determined.Receive.{receives_determined, receives_e
 use Rattle.uart_16550.proofs.determined.Io.{reads_determined}
 use Rattle.uart_16550.proofs.determined.Calls.{saving_leaves_no_choice, changing_leaves_no_choice}
 use Rattle.uart_16550.proofs.determined.Backends.{one_outcome}
-use Rattle.uart_machine.specs.declared.call.Call.{Call}
-use Rattle.uart_machine.specs.declared.call.Call.TheVariants as call
-use Rattle.uart_machine.specs.declared.call.Answer.{Answer}
-use Rattle.uart_machine.specs.declared.call.Answer.TheVariants.{Done, Flag}
-use Rattle.uart_machine.specs.Machine.{MachineState, MachineStep, at_mark}
-use Rattle.uart_machine.specs.Calls.{IsRunnable}
-use Rattle.uart_machine.specs.Run.{State, machine_of, Called, CallStep, Link, Chain, calls_of, answers_of, IsRun}
-use Rattle.uart_machine.specs.Transmitter.{held}
-use Rattle.uart_machine.specs.Conserved.{waiting}
-use Rattle.uart_machine.specs.Output.{printed}
-use Rattle.uart_machine.specs.Script.{Plan, IsScript}
+use Rattle.uart_calls.specs.declared.call.Call.{Call}
+use Rattle.uart_calls.specs.declared.call.Call.TheVariants as call
+use Rattle.uart_calls.specs.declared.call.Answer.{Answer}
+use Rattle.uart_calls.specs.declared.call.Answer.TheVariants.{Done, Flag}
+use Rattle.uart_chip.specs.Machine.{MachineState, MachineStep, at_mark}
+use Rattle.uart_calls.specs.Calls.{IsRunnable}
+use Rattle.uart_run.specs.Run.{State, machine_of, Called, CallStep, Link, Chain, calls_of, answers_of, IsRun}
+use Rattle.uart_chip.specs.Transmitter.{held}
+use Rattle.uart_device.specs.Conserved.{waiting}
+use Rattle.uart_language.specs.Output.{printed}
+use Rattle.uart_language.specs.Script.{Plan, IsScript}
 use Rattle.uart_machine.specs.ScriptOutput.{IsFirst, output_of}
-use Rattle.uart_machine.specs.ScriptReading.{Fault}
+use Rattle.uart_language.specs.ScriptReading.{Fault}
 use Rattle.uart_machine.specs.Play.{IsPlayed, Outcome}
 use Rattle.uart_machine.specs.OneOutcome.{IsSameState}
-use Rattle.uart_machine.proofs.ScriptExact.{script_is_read}
-use Rattle.uart_machine.proofs.ScriptPlayable.{playable}
+use Rattle.uart_language.proofs.ScriptExact.{script_is_read}
+use Rattle.uart_language.proofs.ScriptPlayable.{playable}
 
 -- the machine's step is a function
 machine_is_function : IsFunction MachineStep

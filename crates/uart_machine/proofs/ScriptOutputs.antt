@@ -2,14 +2,14 @@
 use Rattle.std.proofs.Common.{◌≡◌, ◌<◌, ◌+◌, ℕ, List, [], ◌∷◌, ◌++◌, length, map, take, get_or, Some, None, inl, inr, refl, ◌∙◌, ap, arith, slice_get}
 use Rattle.std.proofs.lemmas.List.{take_more, get_or-map, length-map}
 use Rattle.std.proofs.lemmas.Option.{slice_get_cases}
-use Rattle.uart_machine.specs.declared.call.Call.{Call}
-use Rattle.uart_machine.specs.declared.call.Call.TheVariants as call
-use Rattle.uart_machine.specs.declared.call.Answer.{Answer}
+use Rattle.uart_calls.specs.declared.call.Call.{Call}
+use Rattle.uart_calls.specs.declared.call.Call.TheVariants as call
+use Rattle.uart_calls.specs.declared.call.Answer.{Answer}
 use Rattle.std.specs.Prelude.{All}
-use Rattle.uart_machine.specs.Calls.{IsRunnable}
-use Rattle.uart_machine.specs.ScriptLines.{plain}
-use Rattle.uart_machine.specs.Run.{State, CallStep, Link, Chain, calls_of, answers_of, IsRun}
-use Rattle.uart_machine.specs.Session.{Ran}
+use Rattle.uart_calls.specs.Calls.{IsRunnable}
+use Rattle.uart_language.specs.ScriptLines.{plain}
+use Rattle.uart_run.specs.Run.{State, CallStep, Link, Chain, calls_of, answers_of, IsRun}
+use Rattle.uart_run.specs.Session.{Ran}
 
 -- one item more
 pub take_got : {A : Type 0} (xs : List A) (i : ℕ) (x : A) → slice_get xs i ≡ Some x → take (i + 1) xs ≡ take i xs ++ x ∷ []

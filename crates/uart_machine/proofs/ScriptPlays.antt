@@ -2,10 +2,10 @@
 use Rattle.std.proofs.Common.{◌≡◌, ℕ, ◌<◌, List, ◌++◌, length, Option, Some, None, Err, refl, sym, ap, subst, ◌∙◌, arith, append-nil, length-append}
 use Rattle.std.specs.Prelude.{IfSome}
 use Rattle.std.specs.Io.KnownBytes.{IsAtEnd}
-use Rattle.uart_machine.specs.declared.script.cause.Cause.{Cause}
-use Rattle.uart_machine.specs.declared.script.cause.ScriptError.{ScriptError}
-use Rattle.uart_machine.specs.declared.script.cause.ScriptError.TheVariants as errors
-use Rattle.uart_machine.specs.Script.{Plan, IsScript, IsFaulty, long, empty, faulty, IsParsed}
+use Rattle.uart_language.specs.declared.cause.Cause.{Cause}
+use Rattle.uart_language.specs.declared.cause.ScriptError.{ScriptError}
+use Rattle.uart_language.specs.declared.cause.ScriptError.TheVariants as errors
+use Rattle.uart_language.specs.Script.{Plan, IsScript, IsFaulty, long, empty, faulty, IsParsed}
 use Rattle.uart_machine.specs.ScriptOutput.{IsOutput}
 use Rattle.uart_machine.specs.Play.{IsWhole, IsPlayed, Outcome, play_error}
 

@@ -4,9 +4,9 @@ use Rattle.std.specs.Io.KnownBytes.{Consumes, Appends, Keeps, IsAtEnd}
 use Rattle.uart_machine.specs.declared.script.streams.Std.{Std}
 use Rattle.uart_machine.specs.declared.script.playing.PlayError.{PlayError}
 use Rattle.uart_machine.specs.declared.script.playing.PlayError.TheVariants as errors
-use Rattle.uart_machine.specs.declared.script.cause.ScriptError.{ScriptError}
-use Rattle.uart_machine.specs.declared.script.cause.ScriptError.TheVariants as script
-use Rattle.uart_machine.specs.Script.{Plan, IsScript, IsFaulty}
+use Rattle.uart_language.specs.declared.cause.ScriptError.{ScriptError}
+use Rattle.uart_language.specs.declared.cause.ScriptError.TheVariants as script
+use Rattle.uart_language.specs.Script.{Plan, IsScript, IsFaulty}
 use Rattle.uart_machine.specs.ScriptOutput.{IsOutput}
 
 -- what a reader or a writer of std wraps

@@ -7,13 +7,13 @@ use Rattle.uart_spec.specs.declared.registers.frame.Parity.TheVariants.{Disabled
 use Rattle.uart_spec.specs.declared.registers.fifo_trigger_level.FifoTriggerLevel.TheVariants.{Fourteen}
 use Rattle.uart_16550.specs.Driver.{fields}
 use Rattle.uart_16550.specs.Tty.{inner_of}
-use Rattle.uart_machine.specs.declared.call.Answer.{Answer}
-use Rattle.uart_machine.specs.Transmitter.{held}
-use Rattle.uart_machine.specs.Machine.{fresh, cutting}
-use Rattle.uart_machine.specs.Conserved.{waiting}
-use Rattle.uart_machine.specs.Run.{State, machine_of, IsRun}
-use Rattle.uart_machine.specs.Script.{Plan}
-use Rattle.uart_machine.specs.Output.{printed}
+use Rattle.uart_calls.specs.declared.call.Answer.{Answer}
+use Rattle.uart_chip.specs.Transmitter.{held}
+use Rattle.uart_chip.specs.Machine.{fresh, cutting}
+use Rattle.uart_device.specs.Conserved.{waiting}
+use Rattle.uart_run.specs.Run.{State, machine_of, IsRun}
+use Rattle.uart_language.specs.Script.{Plan}
+use Rattle.uart_language.specs.Output.{printed}
 
 -- the configuration of a driver that was not initialised yet
 abbrev pub first_config : Config

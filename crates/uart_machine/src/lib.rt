@@ -4,22 +4,11 @@
 //! before it, and then has the effect that the datasheet gives it. Its contracts say exactly which state follows which.
 #![tactic(auto)]
 
-mod call;
-mod chip;
-mod device;
-mod event;
-pub mod laws;
-mod modem;
-mod queue;
-mod receiver;
-mod registers;
-mod running;
 pub mod script;
 #[cfg(test)]
 mod tests;
-mod transmitter;
 
-pub use call::{Answer, Call};
-pub use device::Device16550;
-pub use event::{ArrivalMark, BuildError, Chip, Event};
-pub use running::run;
+pub use uart_calls::{Answer, Call};
+pub use uart_chip::{ArrivalMark, BuildError, Chip, Event};
+pub use uart_device::Device16550;
+pub use uart_run::run;

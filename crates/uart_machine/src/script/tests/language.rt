@@ -1,6 +1,6 @@
 use super::{told, told_after_header};
-use crate::call::Call;
-use crate::event::{Chip, Event};
+use uart_calls::Call;
+use uart_chip::{Chip, Event};
 use crate::script::parse;
 use arrayvec::{ArrayString, ArrayVec};
 use bitflags::Flags;

@@ -1,6 +1,6 @@
-use crate::call::Answer;
-use crate::event::ArrivalMark;
-use crate::script::rendering::render;
+use uart_calls::Answer;
+use uart_chip::ArrivalMark;
+use uart_language::render;
 use arrayvec::ArrayVec;
 use bitflags::Flags;
 use std::test::Fail;

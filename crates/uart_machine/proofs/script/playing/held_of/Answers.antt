@@ -1,5 +1,5 @@
 use Rattle.std.proofs.Common.{◌∙◌, ◌++◌, ◌∷◌, [], ap, sym}
-use Rattle.uart_machine.specs.Transmitter.{held}
+use Rattle.uart_chip.specs.Transmitter.{held}
 use Rattle.uart_machine.proofs.ScriptOutputs.{take_got}
 use Rattle.uart_machine.proofs.script.playing.held_of.Goals as goal
 

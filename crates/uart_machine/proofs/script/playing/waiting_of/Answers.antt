@@ -1,5 +1,5 @@
 use Rattle.std.proofs.Common.{◌∙◌, ◌++◌, ◌∷◌, [], ap, sym}
-use Rattle.uart_machine.specs.Conserved.{waiting}
+use Rattle.uart_device.specs.Conserved.{waiting}
 use Rattle.uart_machine.proofs.ScriptOutputs.{take_got}
 use Rattle.uart_machine.proofs.script.playing.waiting_of.Goals as goal
 

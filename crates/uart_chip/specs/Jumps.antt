@@ -1,0 +1,59 @@
+-- Ticks in turns: when a character moves next, what passes until then, and how many turns there may be.
+use Rattle.std.specs.Prelude.{ℕ, ◌+◌, ◌-◌, min, max, zero, suc, Bool, List, [], ◌∷◌, length, Option, Some, None, nat_lt, if◌then◌else◌}
+use Rattle.uart_chip.specs.declared.transmitter.Shifting.{Shifting}
+use Rattle.uart_chip.specs.Transmitter.{TransmitterState}
+use Rattle.uart_chip.specs.Receiver.{ReceiverState}
+use Rattle.uart_chip.specs.Chip.{ChipState}
+
+-- the ticks until the character in the shift place leaves it, if it may leave, or the next one enters a free place
+abbrev pub next_move_of : (may_leave : Bool) → Option Shifting → List ℕ → Option ℕ
+next_move_of may_leave None [] = None
+next_move_of may_leave None (x ∷ xs) = Some 1
+next_move_of may_leave (Some s) queue = if may_leave then Some (max s.ticks_left 1) else None
+
+-- of a transmitter: none if it is empty, or if the wire is full and it is not in loopback
+abbrev pub next_move : Bool → TransmitterState → Option ℕ
+next_move loopback t =
+    next_move_of (if loopback then loopback else nat_lt (length t.wire) t.capacity) t.shift_place t.queue
+
+-- ---- n ticks in which no character moves
+
+-- the ticks left of a character that stays: it waits at its last
+abbrev pub left_after : (n left : ℕ) → ℕ
+left_after n left = if nat_lt n left then left - n else min left 1
+
+abbrev pub place_after : ℕ → Option Shifting → Option Shifting
+place_after n None = None
+place_after n (Some s) = Some (record { byte = s.byte; ticks_left = left_after n s.ticks_left })
+
+-- the transmitter after them
+abbrev pub count_down : ℕ → TransmitterState → TransmitterState
+count_down n t = record t { shift_place = place_after n t.shift_place }
+
+abbrev pub timeout_after : (n ticks limit : ℕ) → ℕ
+timeout_after zero ticks limit = ticks
+timeout_after (suc n) ticks limit = min (ticks + suc n) limit
+
+-- the receiver after them
+abbrev pub count_up : ℕ → ReceiverState → ReceiverState
+count_up n r = record r { timeout_ticks = timeout_after n r.timeout_ticks r.timeout_limit }
+
+-- the chip after them
+abbrev pub skip : ℕ → ChipState → ChipState
+skip n c = record c { transmitter = count_down n c.transmitter; receiver = count_up n c.receiver }
+
+-- ---- turns
+
+-- how many more times a character may leave the shift place or enter a free one
+abbrev pub moves_of : Option Shifting → List ℕ → ℕ
+moves_of None [] = 0
+moves_of None (x ∷ xs) = suc (length (x ∷ xs))
+moves_of (Some s) queue = suc (length queue)
+
+abbrev pub moves : TransmitterState → ℕ
+moves t = moves_of t.shift_place t.queue
+
+-- the most turns that any number of ticks takes: a move of each of 16 characters in the queue and of the one in or into
+-- the shift place, and then what is left
+abbrev pub most_turns : ℕ
+most_turns = 18

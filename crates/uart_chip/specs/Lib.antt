@@ -1,0 +1,8 @@
+pub mod Registers
+pub mod Transmitter
+pub mod Receiver
+pub mod Modem
+pub mod Chip
+pub mod Jumps
+pub mod Machine
+pub mod Build

@@ -1,0 +1,89 @@
+-- The chip under a schedule: which events come before an access, and the step that an access makes.
+use Rattle.std.specs.Prelude.{◌≡◌, ℕ, ◌+◌, Bool, List, [], ◌∷◌}
+use Rattle.uart_chip.specs.declared.event.Chip.{Chip}
+use Rattle.uart_chip.specs.declared.event.Event.{Event}
+use Rattle.uart_chip.specs.declared.event.Event.TheVariants.{Ticks, Arrive, Lines, Access as Gate, Mark}
+use Rattle.uart_16550.specs.Access.{Access, Read, Write}
+use Rattle.uart_chip.specs.Chip as chip
+use Rattle.uart_chip.specs.Chip.{ChipState, tick, ticks, arrive, change_lines, answer, after_read, after_write}
+
+-- ahead are the events of the schedule that are still to come
+pub record MachineState : Type 0 where
+  pub chip : ChipState
+  pub ahead : List Event
+
+-- how many characters these events bring
+abbrev pub arrivals : List Event → ℕ
+arrivals [] = 0
+arrivals (Arrive byte errors ∷ events) = 1 + arrivals events
+arrivals (Ticks n ∷ events) = arrivals events
+arrivals (Lines inputs ∷ events) = arrivals events
+arrivals (Gate ∷ events) = arrivals events
+arrivals (Mark ∷ events) = arrivals events
+
+-- a machine after power on, with its whole schedule ahead
+abbrev pub fresh : Chip → ℕ → ℕ → List Event → MachineState
+fresh model char_ticks capacity events =
+    record { chip = chip.fresh model char_ticks capacity (arrivals events); ahead = events }
+
+-- the same machine, which cuts characters to the word length or does not
+abbrev pub cutting : Bool → MachineState → MachineState
+cutting cuts m = record m { chip = record m.chip { cuts = cuts } }
+
+-- what one event does; Access and Mark do nothing by themselves
+abbrev pub perform : Event → ChipState → ChipState
+perform (Ticks n) c = ticks n c
+perform (Arrive byte errors) c = arrive byte errors c
+perform (Lines inputs) c = change_lines inputs c
+perform Gate c = c
+perform Mark c = c
+
+-- the chip as an access finds it: the events up to the first Access were performed, or up to a Mark or the end and one tick more
+abbrev pub before_access : List Event → ChipState → ChipState
+before_access [] c = tick c
+before_access (Ticks n ∷ events) c = before_access events (ticks n c)
+before_access (Arrive byte errors ∷ events) c = before_access events (arrive byte errors c)
+before_access (Lines inputs ∷ events) c = before_access events (change_lines inputs c)
+before_access (Gate ∷ events) c = c
+before_access (Mark ∷ events) c = tick c
+
+-- the events that an access leaves: an Access is taken, a Mark stays
+abbrev pub after_access : List Event → List Event
+after_access [] = []
+after_access (Ticks n ∷ events) = after_access events
+after_access (Arrive byte errors ∷ events) = after_access events
+after_access (Lines inputs ∷ events) = after_access events
+after_access (Gate ∷ events) = events
+after_access (Mark ∷ events) = Mark ∷ events
+
+-- the machine as an access finds it
+abbrev pub at_access : MachineState → MachineState
+at_access m = record { chip = before_access m.ahead m.chip; ahead = after_access m.ahead }
+
+-- the chip after the events up to the next Mark or the end
+abbrev pub before_mark : List Event → ChipState → ChipState
+before_mark [] c = c
+before_mark (Ticks n ∷ events) c = before_mark events (ticks n c)
+before_mark (Arrive byte errors ∷ events) c = before_mark events (arrive byte errors c)
+before_mark (Lines inputs ∷ events) c = before_mark events (change_lines inputs c)
+before_mark (Gate ∷ events) c = before_mark events c
+before_mark (Mark ∷ events) c = c
+
+-- the events after the next Mark
+abbrev pub after_mark : List Event → List Event
+after_mark [] = []
+after_mark (Ticks n ∷ events) = after_mark events
+after_mark (Arrive byte errors ∷ events) = after_mark events
+after_mark (Lines inputs ∷ events) = after_mark events
+after_mark (Gate ∷ events) = after_mark events
+after_mark (Mark ∷ events) = events
+
+-- the machine after the next Mark was taken
+abbrev pub at_mark : MachineState → MachineState
+at_mark m = record { chip = before_mark m.ahead m.chip; ahead = after_mark m.ahead }
+
+-- which machine may follow which by which access: the events come first, then the register's effect
+abbrev pub MachineStep : MachineState → Access → MachineState → Type 0
+MachineStep m (Read offset value) n =
+    let r = at_access m in (n ≡ record r { chip = after_read offset r.chip }) × (value ≡ answer offset r.chip)
+MachineStep m (Write offset value) n = let r = at_access m in n ≡ record r { chip = after_write offset value r.chip }

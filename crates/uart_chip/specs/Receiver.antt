@@ -1,0 +1,155 @@
+-- The receiver: a queue of characters, and what became of each that arrived.
+use Rattle.std.specs.Prelude.{ℕ, ◌+◌, ◌*◌, min, Bool, true, false, ◌&&◌, List, [], ◌∷◌, ◌++◌, map, length, drop, replicate, slice_set, slice_index_or, Option, Some, None, nat_lt, nat_le, if◌then◌else◌, ◌==◌, bit_and}
+use Rattle.uart_chip.specs.declared.receiver.Character.{Character}
+use Rattle.uart_chip.specs.declared.receiver.Origin.{Origin}
+use Rattle.uart_chip.specs.declared.receiver.Origin.TheVariants.{Arrived, Looped}
+use Rattle.uart_chip.specs.declared.event.ArrivalMark.{ArrivalMark}
+use Rattle.uart_chip.specs.declared.event.ArrivalMark.TheVariants.{Pending, Waiting, Read, Discarded, Dropped}
+use Rattle.uart_chip.specs.Transmitter.{room}
+use Rattle.uart_chip.specs.Registers.{has_any, lsr_character_errors}
+
+-- the marks are of the arrivals of the schedule, of which so many have arrived
+pub record ReceiverState : Type 0 where
+  pub queue : List Character
+  pub is_overrun : Bool
+  pub is_front_reported : Bool
+  pub last_byte : ℕ
+  pub timeout_ticks : ℕ
+  pub timeout_limit : ℕ
+  pub trigger : ℕ
+  pub arrived : ℕ
+  pub marks : List ArrivalMark
+  pub is_stray_lost : Bool
+
+-- a receiver to which nothing has come yet, with so many arrivals to come
+abbrev pub fresh : ℕ → ℕ → ReceiverState
+fresh char_ticks arrivals =
+    record {
+      queue = [];
+      is_overrun = false;
+      is_front_reported = false;
+      last_byte = 0;
+      timeout_ticks = 0;
+      timeout_limit = 4 * char_ticks;
+      trigger = 1;
+      arrived = 0;
+      marks = replicate arrivals Pending;
+      is_stray_lost = false;
+    }
+
+-- the mark of the arrival with this number
+abbrev pub mark_at : List ArrivalMark → ℕ → ArrivalMark
+mark_at marks number = slice_index_or marks number Pending
+
+-- the marks with that of this origin set; a looped character has none
+abbrev pub set_mark : Origin → ArrivalMark → List ArrivalMark → List ArrivalMark
+set_mark (Arrived number) mark marks = slice_set marks number mark
+set_mark Looped mark marks = marks
+
+-- the character came back in loopback
+abbrev pub is_looped : Origin → Bool
+is_looped Looped = true
+is_looped (Arrived number) = false
+
+-- a character comes in without FIFO while one waits: the one that waits is dropped
+abbrev pub replace : List Character → Character → ReceiverState → ReceiverState
+replace [] new r = r
+replace (old ∷ others) new r =
+    record r {
+      queue = new ∷ [];
+      is_overrun = true;
+      is_front_reported = false;
+      timeout_ticks = 0;
+      marks = set_mark new.origin Waiting (set_mark old.origin Dropped r.marks);
+      is_stray_lost = if is_looped new.origin then false else if is_looped old.origin then true else r.is_stray_lost;
+    }
+
+-- a character comes in: it is put last, or is dropped where the FIFO is full, or replaces the one that waits
+abbrev pub come_in : Bool → Character → ReceiverState → ReceiverState
+come_in fifo new r =
+    if nat_lt (length r.queue) (room fifo)
+    then record r {
+      queue = r.queue ++ new ∷ [];
+      is_front_reported = if length r.queue == 0 then false else r.is_front_reported;
+      timeout_ticks = 0;
+      marks = set_mark new.origin Waiting r.marks;
+      is_stray_lost = if is_looped new.origin then false else r.is_stray_lost;
+    }
+    else if fifo
+    then record r {
+      is_overrun = true;
+      timeout_ticks = 0;
+      marks = set_mark new.origin Dropped r.marks;
+      is_stray_lost = if is_looped new.origin then false else r.is_stray_lost;
+    }
+    else replace r.queue new r
+
+-- the byte that came back in this tick, if any, comes in
+abbrev pub come_back : Bool → Option ℕ → ReceiverState → ReceiverState
+come_back fifo None r = r
+come_back fifo (Some byte) r = come_in fifo (record { byte = byte; errors = 0; origin = Looped }) r
+
+-- one more tick without a character
+abbrev pub grow_timeout : ReceiverState → ReceiverState
+grow_timeout r = record r { timeout_ticks = min (r.timeout_ticks + 1) r.timeout_limit }
+
+-- one tick, with the byte that came back in it
+abbrev pub tick : Bool → Option ℕ → ReceiverState → ReceiverState
+tick fifo looped r = grow_timeout (come_back fifo looped r)
+
+-- the next arrival of the schedule: in loopback it is discarded, else it comes in
+abbrev pub arrive : Bool → Bool → ℕ → ℕ → ReceiverState → ReceiverState
+arrive loopback fifo byte errors r =
+    if loopback
+    then record r { arrived = r.arrived + 1; marks = slice_set r.marks r.arrived Discarded }
+    else come_in fifo (record { byte = byte; errors = errors; origin = Arrived r.arrived }) (record r { arrived = r.arrived + 1 })
+
+-- the front of the queue is taken
+abbrev pub take_front : List Character → ReceiverState → ReceiverState
+take_front [] r = r
+take_front (front ∷ others) r =
+    record r {
+      queue = others;
+      is_front_reported = false;
+      timeout_ticks = 0;
+      last_byte = front.byte;
+      marks = set_mark front.origin Read r.marks;
+    }
+
+-- the errors of the front, unless they were reported
+abbrev pub front_errors : List Character → Bool → ℕ
+front_errors [] reported = 0
+front_errors (front ∷ others) reported = if reported then 0 else bit_and front.errors lsr_character_errors
+
+-- the characters whose errors were not reported yet
+abbrev pub unreported : List Character → Bool → List Character
+unreported queue reported = if reported then drop 1 queue else queue
+
+-- the character has a parity or framing error or is a break
+abbrev pub has_errors : Character → Bool
+has_errors character = has_any character.errors lsr_character_errors
+
+-- the line status was read
+abbrev pub report : ReceiverState → ReceiverState
+report r = record r { is_overrun = false; is_front_reported = if length r.queue == 0 then r.is_front_reported else true }
+
+-- the marks of these characters become Discarded
+abbrev pub discard : List Character → List ArrivalMark → List ArrivalMark
+discard [] marks = marks
+discard (character ∷ characters) marks = discard characters (set_mark character.origin Discarded marks)
+
+-- the queue is emptied
+abbrev pub clear : ReceiverState → ReceiverState
+clear r = record r { queue = []; marks = discard r.queue r.marks }
+
+-- as many characters wait as the trigger says, or any without FIFO
+abbrev pub is_data_pending : Bool → ReceiverState → Bool
+is_data_pending fifo r = if fifo then nat_le r.trigger (length r.queue) else nat_lt 0 (length r.queue)
+
+-- characters wait in the FIFO, and none came or was taken for four character times
+abbrev pub is_timed_out : Bool → ReceiverState → Bool
+is_timed_out fifo r = fifo && (nat_lt 0 (length r.queue) && (r.timeout_ticks == r.timeout_limit))
+
+-- the bytes that wait to be read
+abbrev pub waiting : ReceiverState → List ℕ
+waiting r = map (λ character. character.byte) r.queue

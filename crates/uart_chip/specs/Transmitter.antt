@@ -1,0 +1,80 @@
+-- The transmitter: a queue, the place from which a character is shifted out, and the wire.
+use Rattle.std.specs.Prelude.{ℕ, ◌+◌, ◌-◌, ◌^◌, min, Bool, true, false, List, [], ◌∷◌, ◌++◌, length, Option, Some, None, nat_lt, if◌then◌else◌}
+use Rattle.uart_chip.specs.declared.transmitter.Shifting.{Shifting}
+
+-- the queue is what a write of the data register fills; a character takes char_ticks in the shift place
+pub record TransmitterState : Type 0 where
+  pub queue : List ℕ
+  pub shift_place : Option Shifting
+  pub wire : List ℕ
+  pub capacity : ℕ
+  pub char_ticks : ℕ
+  pub overflows : ℕ
+  pub is_thr_pending : Bool
+
+-- a transmitter that has sent nothing yet
+abbrev pub fresh : ℕ → ℕ → TransmitterState
+fresh char_ticks capacity =
+    record {
+      queue = [];
+      shift_place = None;
+      wire = [];
+      capacity = capacity;
+      char_ticks = char_ticks;
+      overflows = 0;
+      is_thr_pending = false;
+    }
+
+-- the shift place's tick: a character that is done comes back in loopback, else goes onto the wire where there is room
+abbrev pub shift : Bool → Option Shifting → TransmitterState → TransmitterState
+shift loopback None t = t
+shift loopback (Some s) t =
+    if nat_lt 1 s.ticks_left then record t { shift_place = Some (record { byte = s.byte; ticks_left = s.ticks_left - 1 }) }
+    else if loopback then record t { shift_place = None }
+    else if nat_lt (length t.wire) t.capacity then record t { shift_place = None; wire = t.wire ++ s.byte ∷ [] }
+    else t
+
+-- the byte that comes back in this tick
+abbrev pub looped_byte : Bool → Option Shifting → Option ℕ
+looped_byte true (Some s) = if nat_lt 1 s.ticks_left then None else Some s.byte
+looped_byte true None = None
+looped_byte false place = None
+
+-- a free shift place takes the front of the queue; where that was the last one, the THR is empty again
+abbrev pub refill : Option Shifting → List ℕ → TransmitterState → TransmitterState
+refill (Some s) queue t = t
+refill None [] t = t
+refill None (x ∷ []) t = record t { queue = []; shift_place = Some (record { byte = x; ticks_left = t.char_ticks }); is_thr_pending = true }
+refill None (x ∷ y ∷ xs) t = record t { queue = y ∷ xs; shift_place = Some (record { byte = x; ticks_left = t.char_ticks }) }
+
+-- one tick
+abbrev pub tick : Bool → TransmitterState → TransmitterState
+tick loopback t = let u = shift loopback t.shift_place t in refill u.shift_place u.queue u
+
+-- how many characters a queue has room for
+abbrev pub room : Bool → ℕ
+room fifo = if fifo then 16 else 1
+
+-- a byte is written to the data register: a full FIFO loses it, without FIFO it replaces the one that waits
+abbrev pub load : Bool → ℕ → TransmitterState → TransmitterState
+load fifo byte t =
+    if nat_lt (length t.queue) (room fifo)
+    then record t { queue = t.queue ++ byte ∷ []; is_thr_pending = false }
+    else record t {
+      queue = if fifo then t.queue else byte ∷ [];
+      overflows = min (t.overflows + 1) (2 ^ 64 - 1);
+      is_thr_pending = false;
+    }
+
+-- the byte in the shift place
+abbrev pub shift_bytes : Option Shifting → List ℕ
+shift_bytes None = []
+shift_bytes (Some s) = s.byte ∷ []
+
+-- what is still to leave, in order
+abbrev pub held : TransmitterState → List ℕ
+held t = shift_bytes t.shift_place ++ t.queue
+
+-- what has left and what is still to leave, in order
+abbrev pub out : TransmitterState → List ℕ
+out t = t.wire ++ held t

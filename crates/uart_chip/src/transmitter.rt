@@ -1,0 +1,227 @@
+//! The transmitter: a queue, the place from which a character is shifted out, and the wire.
+ghost use Rattle.std.specs.Prelude.{◌≡◌, ◌==◌, ◌<◌, ◌≤◌, [], ◌∷◌, ◌++◌, length, slice_get, IfOk};
+ghost use Rattle.uart_chip.specs.Transmitter as spec;
+ghost use Rattle.uart_chip.specs.Transmitter.{room, looped_byte, held};
+ghost use Rattle.uart_chip.specs.Chip.{is_transmitter_empty};
+ghost use Rattle.uart_chip.specs.Jumps.{next_move, count_down};
+
+use crate::queue::{put, room_of};
+use circular_buffer::HeapCircularBuffer;
+use std::alloc::{AllocError, Global};
+use std::marker::Model;
+use uart_spec::FIFO_SIZE;
+
+/// The character that is being shifted out, and the ticks that it still takes.
+#[derive(Clone, Copy)]
+pub struct Shifting {
+    pub byte: u8,
+    pub ticks_left: u16,
+}
+
+/// What sends: bytes written to the data register wait in the queue, one is shifted out, and then it is on the wire.
+#[derive(Drop)]
+pub struct Transmitter {
+    queue: HeapCircularBuffer<u8>,
+    shift_place: Option<Shifting>,
+    wire: Vec<u8>,
+    capacity: usize,
+    char_ticks: u16,
+    overflows: u64,
+    is_thr_pending: bool,
+}
+
+impl Model for Transmitter {
+    ghost use Rattle.std.specs.Prelude.{◌≡◌, ◌≤◌, true, vec_capacity};
+    ghost use Rattle.uart_chip.specs.Transmitter.{TransmitterState, room};
+
+    ghost Value = { TransmitterState };
+
+    ghost view = { λ t. record { queue = t.queue.items; shift_place = t.shift_place; wire = t.wire.items; capacity = t.capacity; char_ticks = t.char_ticks; overflows = t.overflows; is_thr_pending = t.is_thr_pending } };
+
+    ghost invariant = { λ t. (t.queue.capacity ≡ room true) × (t.capacity ≤ vec_capacity t.wire) };
+}
+
+impl Transmitter {
+    /// A transmitter that has sent nothing yet. The memory of its queue and of the wire is reserved here.
+    pub fn new(alloc: Global, char_ticks: u16, capacity: usize) -> Result<Self, AllocError>
+        ensures { IfOk result (λ t. t ≡ spec.fresh char_ticks capacity) }
+    {
+        let queue = HeapCircularBuffer::with_capacity(alloc, FIFO_SIZE)?;
+        let wire = Vec::with_capacity(alloc, capacity)?;
+        Ok(Self {
+            queue,
+            shift_place: None,
+            wire,
+            capacity,
+            char_ticks,
+            overflows: 0,
+            is_thr_pending: false,
+        })
+    }
+
+    // The shift place's tick, and the byte that comes back in it.
+    fn shift(&mut self, loopback: bool) -> Option<u8>
+        ensures after { self.new ≡ spec.shift loopback self.old.shift_place self.old }
+        ensures looped { result ≡ looped_byte loopback self.old.shift_place }
+    {
+        let Some(shifting) = self.shift_place else {
+            return None;
+        };
+        if shifting.ticks_left > 1 {
+            self.shift_place = Some(Shifting {
+                byte: shifting.byte,
+                ticks_left: shifting.ticks_left - 1,
+            });
+            return None;
+        }
+        if loopback {
+            self.shift_place = None;
+            return Some(shifting.byte);
+        }
+        if self.wire.len() < self.capacity {
+            self.wire.push(shifting.byte).unwrap();
+            self.shift_place = None;
+        }
+        None
+    }
+
+    // A free shift place takes the front of the queue.
+    fn refill(&mut self)
+        ensures { self.new ≡ spec.refill self.old.shift_place self.old.queue self.old }
+    {
+        if self.shift_place.is_some() {
+            return;
+        }
+        if let Some(byte) = self.queue.pop_front() {
+            self.shift_place = Some(Shifting {
+                byte,
+                ticks_left: self.char_ticks,
+            });
+            if self.queue.is_empty() {
+                self.is_thr_pending = true;
+            }
+        }
+    }
+
+    /// One tick, and the byte that comes back in it.
+    pub fn tick(&mut self, loopback: bool) -> Option<u8>
+        ensures after { self.new ≡ spec.tick loopback self.old }
+        ensures looped { result ≡ looped_byte loopback self.old.shift_place }
+    {
+        let looped = self.shift(loopback);
+        self.refill();
+        looped
+    }
+
+    /// The ticks until a character leaves the shift place or enters it: `None` if none can, as with a full wire.
+    pub fn next_move(&self, loopback: bool) -> Option<u16>
+        ensures { result ≡ next_move loopback self.now }
+    {
+        match self.shift_place {
+            None if self.queue.is_empty() => None,
+            None => Some(1),
+            Some(shifting) if loopback || self.wire.len() < self.capacity => {
+                Some(shifting.ticks_left.max(1))
+            }
+            Some(_) => None,
+        }
+    }
+
+    /// Ticks in which no character leaves the shift place and none enters it.
+    pub fn count_down(&mut self, ticks: u16)
+        ensures { self.new ≡ count_down ticks self.old }
+    {
+        if let Some(shifting) = self.shift_place {
+            let ticks_left = if ticks < shifting.ticks_left {
+                shifting.ticks_left - ticks
+            } else {
+                shifting.ticks_left.min(1)
+            };
+            self.shift_place = Some(Shifting {
+                byte: shifting.byte,
+                ticks_left,
+            });
+        }
+    }
+
+    /// Takes a byte from the data register.
+    pub fn load(&mut self, fifo: bool, byte: u8)
+        ensures { self.new ≡ spec.load fifo byte self.old }
+    {
+        if self.queue.len() < room_of(fifo) {
+            put(&mut self.queue, byte);
+        } else {
+            if !fifo {
+                self.queue.clear();
+                put(&mut self.queue, byte);
+            }
+            self.overflows = self.overflows.saturating_add(1);
+        }
+        self.is_thr_pending = false;
+    }
+
+    /// Nothing waits in the queue.
+    pub fn is_thr_empty(&self) -> bool
+        ensures { result ≡ (length self.now.queue == 0) }
+    {
+        self.queue.is_empty()
+    }
+
+    /// Nothing is left to send.
+    pub fn is_empty(&self) -> bool
+        ensures { result ≡ is_transmitter_empty self.now.queue self.now.shift_place }
+    {
+        self.queue.is_empty() && self.shift_place.is_none()
+    }
+
+    pub fn is_thr_pending(&self) -> bool
+        ensures { result ≡ self.now.is_thr_pending }
+    {
+        self.is_thr_pending
+    }
+
+    pub fn set_thr_pending(&mut self, on: bool)
+        ensures { self.new ≡ record self.old { is_thr_pending = on } }
+    {
+        self.is_thr_pending = on;
+    }
+
+    /// Empties the queue; the shift place stays.
+    pub fn clear(&mut self)
+        ensures { self.new ≡ record self.old { queue = [] } }
+    {
+        self.queue.clear();
+    }
+
+    pub fn wire(&self) -> &[u8]
+        ensures { result.now ≡ self.now.wire }
+    {
+        self.wire.as_slice()
+    }
+
+    pub fn overflows(&self) -> u64
+        ensures { result ≡ self.now.overflows }
+    {
+        self.overflows
+    }
+
+    pub fn held_len(&self) -> usize
+        ensures { result ≡ length (held self.now) }
+    {
+        match self.shift_place {
+            None => self.queue.len(),
+            Some(_) => self.queue.len() + 1,
+        }
+    }
+
+    /// The byte at a place of what is still to leave: the shift place first, then the queue.
+    pub fn held_at(&self, i: usize) -> Option<u8>
+        ensures { result ≡ slice_get (held self.now) i }
+    {
+        match self.shift_place {
+            None => self.queue.get(i).copied(),
+            Some(shifting) if i == 0 => Some(shifting.byte),
+            Some(_) => self.queue.get(i - 1).copied(),
+        }
+    }
+}

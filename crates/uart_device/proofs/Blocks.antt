@@ -1,0 +1,76 @@
+-- The accesses of a session in blocks, and what each block writes to the data register and reads from it.
+use Rattle.std.specs.Prelude.{◌≡◌, ℕ, ◌≤◌, Bool, true, ◌||◌, ◌==◌, List, [], ◌∷◌, ◌++◌, length, map, bit_or}
+use Rattle.uart_16550.specs.Access.{Access, Read, Write}
+use Rattle.uart_chip.specs.Registers.{has_any}
+use Rattle.uart_chip.specs.Transmitter.{room}
+
+-- a look at the line status; one that shows data, and the byte taken; one that shows room, with checks of the modem lines, and the bytes
+-- written; another access; the divisor latch read under DLAB
+pub data Block : Type 0 where
+  Look : (line : ℕ) → Block
+  Hit : (line byte : ℕ) → Block
+  Burst : (line : ℕ) (checks : List Access) (bytes : List ℕ) → Block
+  Other : (access : Access) → Block
+  Divisor : (lcr low high : ℕ) → Block
+
+-- the accesses of a block
+abbrev pub accesses_of : Block → List Access
+accesses_of (Look line) = Read 5 line ∷ []
+accesses_of (Hit line byte) = Read 5 line ∷ Read 0 byte ∷ []
+accesses_of (Burst line checks bytes) = Read 5 line ∷ (checks ++ map (Write 0) bytes)
+accesses_of (Other access) = access ∷ []
+accesses_of (Divisor lcr low high) = Read 3 lcr ∷ Write 3 (bit_or lcr 128) ∷ Read 0 low ∷ Read 1 high ∷ Write 3 lcr ∷ []
+
+-- the accesses of some blocks, one after the other
+abbrev pub flat : List Block → List Access
+flat [] = []
+flat (block ∷ blocks) = accesses_of block ++ flat blocks
+
+-- an access that touches neither the data nor the line status nor a mode
+abbrev pub is_quiet : Access → Bool
+is_quiet (Read offset answer) = (offset == 1) || ((offset == 2) || ((offset == 3) || ((offset == 4) || ((offset == 6) || (offset == 7)))))
+is_quiet (Write offset value) = (offset == 1) || (offset == 7)
+
+-- only such accesses
+abbrev pub AllQuiet : List Access → Type 0
+AllQuiet [] = Unit {0}
+AllQuiet (access ∷ accesses) = (is_quiet access ≡ true) × AllQuiet accesses
+
+-- a block as a driver makes it that takes the FIFO to be on or off
+abbrev pub IsFit : Bool → Block → Type 0
+IsFit fifo (Look line) = Unit {0}
+IsFit fifo (Hit line byte) = has_any line 1 ≡ true
+IsFit fifo (Burst line checks bytes) = (has_any line 32 ≡ true) × AllQuiet checks × (length bytes ≤ room fifo)
+IsFit fifo (Other access) = is_quiet access ≡ true
+IsFit fifo (Divisor lcr low high) = Unit {0}
+
+-- each of these blocks fits
+abbrev pub AllFit : Bool → List Block → Type 0
+AllFit fifo [] = Unit {0}
+AllFit fifo (block ∷ blocks) = IsFit fifo block × AllFit fifo blocks
+
+-- the bytes written to the data register
+abbrev pub written_in : Block → List ℕ
+written_in (Look line) = []
+written_in (Hit line byte) = []
+written_in (Burst line checks bytes) = bytes
+written_in (Other access) = []
+written_in (Divisor lcr low high) = []
+
+-- the same of some blocks, in order
+abbrev pub data_written : List Block → List ℕ
+data_written [] = []
+data_written (block ∷ blocks) = written_in block ++ data_written blocks
+
+-- the bytes read from the data register; under DLAB none is
+abbrev pub read_in : Block → List ℕ
+read_in (Look line) = []
+read_in (Hit line byte) = byte ∷ []
+read_in (Burst line checks bytes) = []
+read_in (Other access) = []
+read_in (Divisor lcr low high) = []
+
+-- the same of some blocks, in order
+abbrev pub data_read : List Block → List ℕ
+data_read [] = []
+data_read (block ∷ blocks) = read_in block ++ data_read blocks

@@ -1,0 +1,63 @@
+-- What a stretch of a session does to the transmitter: bytes are written, move on, and none is lost.
+use Rattle.std.proofs.Common.{◌≡◌, ℕ, ◌+◌, ◌≤◌, ◌<◌, Bool, false, List, [], ◌∷◌, ◌++◌, length, length-append, append_assoc, append-nil, Option, Some, None, refl, arith, sym, ◌∙◌, ap}
+use Rattle.std.proofs.lemmas.Grind.{common_steps}
+use Rattle.uart_chip.specs.declared.transmitter.Shifting.{Shifting}
+use Rattle.uart_chip.specs.Transmitter.{TransmitterState, shift, refill, tick, load, out, room}
+
+-- from t to u these were written; the queue may have grown by no more than that
+pub record Sends (t u : TransmitterState) (written : List ℕ) : Type 0 where
+  pub grows : out u ≡ out t ++ written
+  pub same_overflows : u.overflows ≡ t.overflows
+  pub place : length u.queue ≤ length t.queue + length written
+
+pub sends-refl : (t : TransmitterState) → Sends t t []
+sends-refl t = record { grows = sym (append-nil (out t)); same_overflows = refl; place = omega arith }
+
+pub sends-trans : (t u v : TransmitterState) (xs ys : List ℕ) → Sends t u xs → Sends u v ys → Sends t v (xs ++ ys)
+sends-trans t u v xs ys a b = record {
+  grows = b.grows ∙ (ap (λ zs. zs ++ ys) a.grows ∙ append_assoc (out t) xs ys);
+  same_overflows = b.same_overflows ∙ a.same_overflows;
+  place = simp length-append (omega (arith, a.place, b.place));
+}
+
+-- the interrupt flag of the transmitter doesn't matter
+pub sends-pending : (t : TransmitterState) (pending : Bool) → Sends t (record t { is_thr_pending = pending }) []
+sends-pending t pending = record { grows = sym (append-nil (out t)); same_overflows = refl; place = omega arith }
+
+-- ---- a tick outside of loopback
+
+sends-shift : (place : Option Shifting) (t : TransmitterState) → t.shift_place ≡ place → Sends t (shift false place t) []
+sends-shift None t e = sends-refl t
+sends-shift (Some s) t e = record {
+  grows = grind (arith, common_steps);
+  same_overflows = grind (arith, common_steps);
+  place = grind (arith, common_steps);
+}
+
+sends-refill : (place : Option Shifting) (queue : List ℕ) (t : TransmitterState) → t.shift_place ≡ place → t.queue ≡ queue → Sends t (refill place queue t) []
+sends-refill (Some s) queue t e f = sends-refl t
+sends-refill None [] t e f = sends-refl t
+sends-refill None (x ∷ []) t e f = record {
+  grows = grind (arith, common_steps);
+  same_overflows = refl;
+  place = grind (arith, common_steps);
+}
+sends-refill None (x ∷ y ∷ xs) t e f = record {
+  grows = grind (arith, common_steps);
+  same_overflows = refl;
+  place = grind (arith, common_steps);
+}
+
+pub sends-tick : (t : TransmitterState) → Sends t (tick false t) []
+sends-tick t =
+    let u : TransmitterState = shift false t.shift_place t in
+    sends-trans t u (tick false t) [] [] (sends-shift t.shift_place t refl) (sends-refill u.shift_place u.queue u refl refl)
+
+-- ---- a write with room
+
+pub sends-load : (fifo : Bool) (x : ℕ) (t : TransmitterState) → length t.queue < room fifo → Sends t (load fifo x t) (x ∷ [])
+sends-load fifo x t free = record {
+  grows = grind (arith, common_steps);
+  same_overflows = grind (arith, common_steps);
+  place = grind (arith, common_steps);
+}

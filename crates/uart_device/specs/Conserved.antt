@@ -1,0 +1,72 @@
+-- What has gone out, what came in, and what was kept of it.
+use Rattle.std.specs.Prelude.{◌≡◌, ℕ, ◌+◌, ◌-◌, Bool, true, false, not, List, [], ◌∷◌, ◌++◌, map, filter, take, length}
+use Rattle.uart_chip.specs.declared.event.ArrivalMark.{ArrivalMark}
+use Rattle.uart_chip.specs.declared.event.ArrivalMark.TheVariants.{Pending, Waiting, Read, Discarded, Dropped}
+use Rattle.uart_chip.specs.declared.event.Event.{Event}
+use Rattle.uart_chip.specs.declared.event.Event.TheVariants.{Ticks, Arrive, Lines, Access as Gate, Mark}
+use Rattle.uart_chip.specs.declared.receiver.Character.{Character}
+use Rattle.uart_chip.specs.declared.receiver.Origin.{Origin}
+use Rattle.uart_chip.specs.declared.receiver.Origin.TheVariants.{Arrived, Looped}
+use Rattle.uart_chip.specs.Transmitter as transmitter
+use Rattle.uart_chip.specs.Receiver as receiver
+use Rattle.uart_chip.specs.Receiver.{ReceiverState, mark_at}
+use Rattle.uart_chip.specs.Chip.{cut_of}
+use Rattle.uart_chip.specs.Machine.{MachineState}
+
+-- what has gone onto the wire, and then what is still to go
+abbrev pub out : MachineState → List ℕ
+out m = transmitter.out m.chip.transmitter
+
+-- the bytes that wait to be read
+abbrev pub waiting : MachineState → List ℕ
+waiting m = receiver.waiting m.chip.receiver
+
+-- the mark says that the character was dropped
+abbrev pub is_dropped : ArrivalMark → Bool
+is_dropped Pending = false
+is_dropped Waiting = false
+is_dropped Read = false
+is_dropped Discarded = false
+is_dropped Dropped = true
+
+-- a character of this origin was not dropped
+abbrev pub origin_stands : List ArrivalMark → Bool → Origin → Bool
+origin_stands marks stray (Arrived number) = not (is_dropped (mark_at marks number))
+origin_stands marks stray Looped = not stray
+
+-- the character was not dropped, as the receiver tells
+abbrev pub stands : ReceiverState → Character → Bool
+stands r character = origin_stands r.marks r.is_stray_lost character.origin
+
+-- the characters that these events bring, numbered from here
+abbrev pub arriving : ℕ → List Event → List Character
+arriving number [] = []
+arriving number (Arrive byte errors ∷ events) =
+    record { byte = byte; errors = errors; origin = Arrived number } ∷ arriving (number + 1) events
+arriving number (Ticks n ∷ events) = arriving number events
+arriving number (Lines inputs ∷ events) = arriving number events
+arriving number (Gate ∷ events) = arriving number events
+arriving number (Mark ∷ events) = arriving number events
+
+-- a character with its byte cut
+abbrev pub cut_character : (ℕ → ℕ) → Character → Character
+cut_character cut character = record character { byte = cut character.byte }
+
+-- the events that were performed from the first machine to the second
+abbrev pub between : MachineState → MachineState → List Event
+between m n = take (length m.ahead - length n.ahead) m.ahead
+
+-- what waited in the first machine, and then what arrived up to the second, each cut to the word length
+abbrev pub entered : MachineState → MachineState → List Character
+entered m n =
+    m.chip.receiver.queue ++ map (cut_character (cut_of m.chip)) (arriving m.chip.receiver.arrived (between m n))
+
+-- the bytes of these that the second machine tells were not dropped
+abbrev pub kept : MachineState → MachineState → List ℕ
+kept m n = map (λ character. character.byte) (filter (stands n.chip.receiver) (entered m n))
+
+-- a drop lies between the two: a character of this origin stood before and does not after
+pub record IsDrop (m n : MachineState) : Type 0 where
+  pub origin : Origin
+  pub stood : origin_stands m.chip.receiver.marks m.chip.receiver.is_stray_lost origin ≡ true
+  pub lost : origin_stands n.chip.receiver.marks n.chip.receiver.is_stray_lost origin ≡ false

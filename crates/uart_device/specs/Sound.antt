@@ -1,0 +1,142 @@
+-- What holds of every machine that was built, whatever happened to it since.
+use Rattle.std.specs.Prelude.{◌≡◌, ◌≢◌, ◌⊎◌, ℕ, ◌+◌, ◌*◌, ◌<◌, ◌≤◌, Bool, true, false, List, [], ◌∷◌, length, Option, Some, None}
+use Rattle.uart_chip.specs.declared.chip.Latches.{Latches}
+use Rattle.uart_chip.specs.declared.event.ArrivalMark.{ArrivalMark}
+use Rattle.uart_chip.specs.declared.event.ArrivalMark.TheVariants.{Pending, Waiting}
+use Rattle.uart_chip.specs.declared.event.Chip.TheVariants.{Uart16550A}
+use Rattle.uart_chip.specs.declared.event.Event.{Event}
+use Rattle.uart_chip.specs.declared.event.Event.TheVariants.{Ticks, Arrive, Lines, Access as Gate, Mark}
+use Rattle.uart_chip.specs.declared.modem.Modem.{Modem}
+use Rattle.uart_chip.specs.declared.receiver.Character.{Character}
+use Rattle.uart_chip.specs.declared.receiver.Origin.{Origin}
+use Rattle.uart_chip.specs.declared.receiver.Origin.TheVariants.{Arrived, Looped}
+use Rattle.uart_chip.specs.declared.transmitter.Shifting.{Shifting}
+use Rattle.uart_chip.specs.Registers.{IsWithin, ier_bits, mcr_bits, lsr_character_errors, msr_deltas, msr_lines}
+use Rattle.uart_chip.specs.Transmitter.{TransmitterState, room}
+use Rattle.uart_chip.specs.Receiver.{ReceiverState, mark_at}
+use Rattle.uart_chip.specs.Chip.{ChipState}
+use Rattle.uart_chip.specs.Machine.{MachineState, arrivals}
+
+-- ---- the receiver
+
+-- a character of this origin may wait: an arrival is marked so, and of looped ones none was lost since
+abbrev pub Waits : ℕ → List ArrivalMark → Bool → Origin → Type 0
+Waits arrived marks stray (Arrived number) = (number < arrived) × (mark_at marks number ≡ Waiting)
+Waits arrived marks stray Looped = stray ≡ false
+
+-- each of these characters may wait
+abbrev pub AllWait : ℕ → List ArrivalMark → Bool → List Character → Type 0
+AllWait arrived marks stray [] = Unit {0}
+AllWait arrived marks stray (character ∷ characters) = Waits arrived marks stray character.origin × AllWait arrived marks stray characters
+
+-- the origin is not the arrival with this number
+abbrev pub OtherOrigin : ℕ → Origin → Type 0
+OtherOrigin number (Arrived other) = other ≢ number
+OtherOrigin number Looped = Unit {0}
+
+-- none of these characters is the arrival with this number
+abbrev pub NoneIs : ℕ → List Character → Type 0
+NoneIs number [] = Unit {0}
+NoneIs number (character ∷ characters) = OtherOrigin number character.origin × NoneIs number characters
+
+-- none of these characters is the arrival that this origin names
+abbrev pub NoneHas : Origin → List Character → Type 0
+NoneHas (Arrived number) characters = NoneIs number characters
+NoneHas Looped characters = Unit {0}
+
+-- each arrival is there at most once
+abbrev pub Distinct : List Character → Type 0
+Distinct [] = Unit {0}
+Distinct (character ∷ characters) = NoneHas character.origin characters × Distinct characters
+
+-- each has errors of a character alone
+abbrev pub AllErrorsLegal : List Character → Type 0
+AllErrorsLegal [] = Unit {0}
+AllErrorsLegal (character ∷ characters) = IsWithin character.errors lsr_character_errors × AllErrorsLegal characters
+
+-- the trigger is one of the four levels
+abbrev pub IsTrigger : ℕ → Type 0
+IsTrigger n = (n ≡ 1) ⊎ ((n ≡ 4) ⊎ ((n ≡ 8) ⊎ (n ≡ 14)))
+
+-- what waits is marked so, each arrival once and within the room; the marks of those to come are Pending
+pub record IsMarked (fifo : Bool) (r : ReceiverState) : Type 0 where
+  pub wait : AllWait r.arrived r.marks r.is_stray_lost r.queue
+  pub distinct : Distinct r.queue
+  pub to_come : (number : ℕ) → r.arrived ≤ number → mark_at r.marks number ≡ Pending
+  pub in_room : length r.queue ≤ room fifo
+  pub counted : r.arrived ≤ length r.marks
+
+-- the marks say what became of each arrival: also, what arrived is not Pending, and only what waits is Waiting
+pub record IsSoundReceiver (fifo : Bool) (r : ReceiverState) : Type 0 where
+  pub marked : IsMarked fifo r
+  pub settled : (number : ℕ) → number < r.arrived → mark_at r.marks number ≢ Pending
+  pub no_other : (number : ℕ) → NoneIs number r.queue → mark_at r.marks number ≢ Waiting
+  pub legal : AllErrorsLegal r.queue
+  pub levels : IsTrigger r.trigger
+  pub idle : r.timeout_ticks ≤ r.timeout_limit
+
+-- ---- the transmitter, the modem lines and the latches
+
+-- a character that is shifted out has at least one tick left, and at most its whole time
+abbrev pub IsTicking : ℕ → Option Shifting → Type 0
+IsTicking char_ticks None = Unit {0}
+IsTicking char_ticks (Some s) = (1 ≤ s.ticks_left) × (s.ticks_left ≤ char_ticks)
+
+-- the queue and the wire hold no more than they have room for
+pub record IsSoundTransmitter (fifo : Bool) (t : TransmitterState) : Type 0 where
+  pub in_room : length t.queue ≤ room fifo
+  pub ticking : IsTicking t.char_ticks t.shift_place
+  pub at_least_one : 1 ≤ t.char_ticks
+  pub at_most : t.char_ticks ≤ 1000
+  pub on_wire : length t.wire ≤ t.capacity
+
+-- inputs and lines lie in the high nibble, changes in the low one
+pub record IsSoundModem (m : Modem) : Type 0 where
+  pub inputs : IsWithin m.inputs msr_lines
+  pub lines : IsWithin m.lines msr_lines
+  pub deltas : IsWithin m.deltas msr_deltas
+
+-- the two latches that keep only some bits
+pub record IsSoundLatches (l : Latches) : Type 0 where
+  pub ier : IsWithin l.ier ier_bits
+  pub mcr : IsWithin l.mcr mcr_bits
+
+-- every latch holds a byte
+pub record HoldBytes (l : Latches) : Type 0 where
+  pub ier : l.ier < 256
+  pub lcr : l.lcr < 256
+  pub mcr : l.mcr < 256
+  pub scr : l.scr < 256
+  pub dll : l.dll < 256
+  pub dlm : l.dlm < 256
+
+-- ---- the machine
+
+-- the parts are sound, only a chip that has a FIFO has it on, and the idle limit is four character times
+pub record IsSoundChip (c : ChipState) : Type 0 where
+  pub receiver : IsSoundReceiver c.fifo c.receiver
+  pub transmitter : IsSoundTransmitter c.fifo c.transmitter
+  pub modem : IsSoundModem c.modem
+  pub latches : IsSoundLatches c.latches
+  pub implemented : c.fifo ≡ true → c.model ≡ Uart16550A
+  pub limit : c.receiver.timeout_limit ≡ 4 * c.transmitter.char_ticks
+
+-- the events keep to the bits that they may have
+abbrev pub AllLegal : List Event → Type 0
+AllLegal [] = Unit {0}
+AllLegal (Arrive byte errors ∷ events) = IsWithin errors lsr_character_errors × AllLegal events
+AllLegal (Lines inputs ∷ events) = IsWithin inputs msr_lines × AllLegal events
+AllLegal (Ticks n ∷ events) = AllLegal events
+AllLegal (Gate ∷ events) = AllLegal events
+AllLegal (Mark ∷ events) = AllLegal events
+
+-- the chip is sound, each arrival still to come has a mark, and the events to come are legal: every access keeps it, whatever is written
+pub record IsSound (m : MachineState) : Type 0 where
+  pub chip : IsSoundChip m.chip
+  pub foreseen : m.chip.receiver.arrived + arrivals m.ahead ≡ length m.chip.receiver.marks
+  pub legal : AllLegal m.ahead
+
+-- what holds of every machine: it is sound, and its latches hold bytes
+pub record IsWhole (m : MachineState) : Type 0 where
+  pub sound : IsSound m
+  pub bytes : HoldBytes m.chip.latches

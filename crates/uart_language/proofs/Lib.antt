@@ -1,0 +1,9 @@
+pub mod ScriptLines
+pub mod ScriptDigits
+pub mod ScriptBytes
+pub mod ScriptReadings
+pub mod ScriptMeanings
+pub mod ScriptFaults
+pub mod ScriptExact
+pub mod ScriptParsed
+pub mod ScriptPlayable

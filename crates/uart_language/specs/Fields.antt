@@ -1,0 +1,147 @@
+-- What a field of a line says, or what is wrong with it.
+use Rattle.std.specs.Prelude.{ℕ, ◌+◌, ◌*◌, ◌/◌, ◌%◌, Bool, true, false, List, [], ◌∷◌, length, Option, Some, None, Result, Ok, Err, ◌==◌, ◌&&◌, nat_le, if◌then◌else◌, bytes_eq, codes}
+use Rattle.std.specs.List.{list_all}
+use Rattle.std.specs.Char.{is_ascii_digit, is_ascii_hexdigit, digit_value}
+use Rattle.std.specs.Str.{is_utf8}
+use Rattle.std.specs.Str.Parse.{digits_value}
+use Rattle.uart_spec.specs.declared.config.BaudRate.{BaudRate}
+use Rattle.uart_spec.specs.declared.config.BaudRate.TheVariants as rate
+use Rattle.uart_spec.specs.declared.registers.frame.WordLength.{WordLength}
+use Rattle.uart_spec.specs.declared.registers.frame.WordLength.TheVariants.{FiveBits, SixBits, SevenBits, EightBits}
+use Rattle.uart_spec.specs.declared.registers.fifo_trigger_level.FifoTriggerLevel.{FifoTriggerLevel}
+use Rattle.uart_spec.specs.declared.registers.fifo_trigger_level.FifoTriggerLevel.TheVariants.{One, Four, Eight, Fourteen}
+use Rattle.uart_spec.specs.declared.registers.interrupt_enable.IER.{IER}
+use Rattle.uart_chip.specs.declared.event.Chip.{Chip}
+use Rattle.uart_chip.specs.declared.event.Chip.TheVariants.{Uart16550A, Uart16450}
+use Rattle.uart_language.specs.declared.cause.Cause.{Cause}
+use Rattle.uart_language.specs.declared.cause.Cause.TheVariants.{BadWord, BadNumber, BadHex, TooManyBytes, BadText}
+
+-- what follows a value, or the fault before it
+infixl 10 ◌>>=◌
+abbrev pub ◌>>=◌ : {A B E : Type 0} → Result A E → (A → Result B E) → Result B E
+(Ok x) >>= f = f x
+(Err e) >>= f = Err e
+
+-- 1 to 10 decimal digits
+abbrev pub is_number : List ℕ → Bool
+is_number word = nat_le 1 (length word) && nat_le (length word) 10 && list_all is_ascii_digit word
+
+-- a number from least to most
+unfoldable pub number_in : ℕ → ℕ → List ℕ → Result ℕ Cause
+number_in least most word =
+    if is_number word && nat_le least (digits_value 10 word) && nat_le (digits_value 10 word) most
+    then Ok (digits_value 10 word) else Err BadNumber
+
+-- HH: two hexadecimal digits of either case
+unfoldable pub byte_in : List ℕ → Result ℕ Cause
+byte_in word = if length word == 2 && list_all is_ascii_hexdigit word then Ok (digits_value 16 word) else Err BadHex
+
+-- H: one hexadecimal digit, for the four modem lines in the high bits of MSR
+unfoldable pub lines_in : List ℕ → Result ℕ Cause
+lines_in word = if length word == 1 && list_all is_ascii_hexdigit word then Ok (16 * digits_value 16 word) else Err BadHex
+
+-- the bytes that pairs of digits write
+unfoldable pub pairs_of : List ℕ → List ℕ
+pairs_of [] = []
+pairs_of (high ∷ []) = []
+pairs_of (high ∷ low ∷ digits) = (16 * digit_value high + digit_value low) ∷ pairs_of digits
+
+-- one or more pairs of hexadecimal digits
+abbrev pub is_pairs : List ℕ → Bool
+is_pairs word = nat_le 1 (length word) && (length word % 2 == 0) && list_all is_ascii_hexdigit word
+
+-- HEX: `-` for no bytes, or pairs of digits for at most 64 bytes
+unfoldable pub bytes_in : List ℕ → Result (List ℕ) Cause
+bytes_in word =
+    if bytes_eq word (codes "-") then Ok []
+    else if is_pairs word then (if nat_le (length word / 2) 64 then Ok (pairs_of word) else Err TooManyBytes)
+    else Err BadHex
+
+-- HEX whose bytes are UTF-8
+unfoldable pub text_in : List ℕ → Result (List ℕ) Cause
+text_in word = do
+  bytes ← bytes_in word
+  if is_utf8 bytes then Ok bytes else Err BadText
+
+-- E: a parity error p, a framing error f and a break b are the bits 04, 08 and 10 of LSR
+unfoldable pub errors_in : List ℕ → Result ℕ Cause
+errors_in word =
+    if bytes_eq word (codes "p") then Ok 0x04
+    else if bytes_eq word (codes "f") then Ok 0x08
+    else if bytes_eq word (codes "b") then Ok 0x10
+    else if bytes_eq word (codes "pf") then Ok 0x0C
+    else if bytes_eq word (codes "pb") then Ok 0x14
+    else if bytes_eq word (codes "fb") then Ok 0x18
+    else if bytes_eq word (codes "pfb") then Ok 0x1C
+    else Err BadWord
+
+-- the chip
+unfoldable pub chip_in : List ℕ → Result Chip Cause
+chip_in word =
+    if bytes_eq word (codes "16550a") then Ok Uart16550A
+    else if bytes_eq word (codes "16450") then Ok Uart16450
+    else Err BadWord
+
+-- the option that may end the first line
+unfoldable pub cut_in : List ℕ → Result Bool Cause
+cut_in word = if bytes_eq word (codes "cut") then Ok true else Err BadWord
+
+-- F: the trigger level of the receiver FIFO
+unfoldable pub level_in : List ℕ → Result (Option FifoTriggerLevel) Cause
+level_in word =
+    if bytes_eq word (codes "off") then Ok None
+    else if bytes_eq word (codes "1") then Ok (Some One)
+    else if bytes_eq word (codes "4") then Ok (Some Four)
+    else if bytes_eq word (codes "8") then Ok (Some Eight)
+    else if bytes_eq word (codes "14") then Ok (Some Fourteen)
+    else Err BadWord
+
+-- the baud rate of a number: the case with a name, where there is one
+abbrev pub rate_of : ℕ → BaudRate
+rate_of n =
+    if n == 115200 then rate.Baud115200
+    else if n == 57600 then rate.Baud57600
+    else if n == 38400 then rate.Baud38400
+    else if n == 9600 then rate.Baud9600
+    else if n == 4800 then rate.Baud4800
+    else if n == 2400 then rate.Baud2400
+    else if n == 1200 then rate.Baud1200
+    else if n == 600 then rate.Baud600
+    else if n == 300 then rate.Baud300
+    else if n == 150 then rate.Baud150
+    else if n == 110 then rate.Baud110
+    else rate.Custom n
+
+-- BAUD: the bits a second
+unfoldable pub rate_in : List ℕ → Result BaudRate Cause
+rate_in word = do
+  n ← number_in 1 4294967295 word
+  Ok (rate_of n)
+
+-- C: whether the driver checks CTS
+unfoldable pub cts_in : List ℕ → Result Bool Cause
+cts_in word =
+    if bytes_eq word (codes "cts") then Ok true
+    else if bytes_eq word (codes "nocts") then Ok false
+    else Err BadWord
+
+-- HH: the bits of IER
+unfoldable pub interrupts_in : List ℕ → Result IER Cause
+interrupts_in word = do
+  bits ← byte_in word
+  Ok (record { 0 = bits })
+
+-- the word length of five to eight bits
+abbrev pub word_length_of : ℕ → WordLength
+word_length_of n = if n == 5 then FiveBits else if n == 6 then SixBits else if n == 7 then SevenBits else EightBits
+
+-- BITS: the data bits of a character
+unfoldable pub word_length_in : List ℕ → Result WordLength Cause
+word_length_in word = do
+  n ← number_in 5 8 word
+  Ok (word_length_of n)
+
+-- what a function returned, seen by view
+abbrev pub seen : {A B E : Type 0} → (A → B) → Result A E → Result B E
+seen view (Ok x) = Ok (view x)
+seen view (Err e) = Err e

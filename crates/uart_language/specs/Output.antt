@@ -1,0 +1,118 @@
+-- What is printed.
+use Rattle.std.specs.Prelude.{ℕ, ◌+◌, ◌*◌, ◌/◌, ◌%◌, true, false, List, [], ◌∷◌, ◌++◌, length, map, ◌==◌, if◌then◌else◌, codes}
+use Rattle.std.specs.List.{flat_map}
+use Rattle.std.specs.Char.{digit_char}
+use Rattle.std.specs.Fmt.{decimal}
+use Rattle.uart_spec.specs.declared.errors.InvalidDivisorError.TheVariants as divisor
+use Rattle.uart_spec.specs.declared.errors.InitError.{InitError}
+use Rattle.uart_spec.specs.declared.errors.InitError.TheVariants as init
+use Rattle.uart_spec.specs.declared.errors.ByteSendError.{ByteSendError}
+use Rattle.uart_spec.specs.declared.errors.ByteSendError.TheVariants as send
+use Rattle.uart_spec.specs.declared.errors.RemoteReadyToReceiveError.{RemoteReadyToReceiveError}
+use Rattle.uart_spec.specs.declared.errors.RemoteReadyToReceiveError.TheVariants as remote
+use Rattle.uart_spec.specs.declared.errors.LoopbackError.{LoopbackError}
+use Rattle.uart_spec.specs.declared.errors.LoopbackError.TheVariants as loopback
+use Rattle.uart_16550.specs.declared.dump.ConfigRegisterDump.{ConfigRegisterDump}
+use Rattle.uart_chip.specs.declared.event.ArrivalMark.{ArrivalMark}
+use Rattle.uart_chip.specs.declared.event.ArrivalMark.TheVariants as mark
+use Rattle.uart_calls.specs.declared.call.Answer.{Answer}
+use Rattle.uart_calls.specs.declared.call.Answer.TheVariants as answer
+use Rattle.uart_language.specs.declared.cause.Cause.{Cause}
+use Rattle.uart_language.specs.declared.cause.Cause.TheVariants.{BadByte, Misplaced, UnknownWord, WrongCount, BadWord, BadNumber, BadHex, TooManyBytes, BadText, TooLong}
+
+-- what is wrong with a line
+abbrev pub cause_text : Cause → List ℕ
+cause_text BadByte = codes "bad byte"
+cause_text Misplaced = codes "misplaced"
+cause_text UnknownWord = codes "unknown word"
+cause_text WrongCount = codes "wrong count"
+cause_text BadWord = codes "bad word"
+cause_text BadNumber = codes "bad number"
+cause_text BadHex = codes "bad hex"
+cause_text TooManyBytes = codes "too many bytes"
+cause_text BadText = codes "bad text"
+cause_text TooLong = codes "too long"
+
+-- a byte in two lower-case hexadecimal digits
+abbrev pub hex_byte : ℕ → List ℕ
+hex_byte b = digit_char (b / 16) ∷ digit_char (b % 16) ∷ []
+
+-- bytes in digits, or `-` for none
+abbrev pub hex : List ℕ → List ℕ
+hex bytes = if length bytes == 0 then codes "-" else flat_map hex_byte bytes
+
+-- ---- answers
+
+abbrev pub send_error_name : ByteSendError → List ℕ
+send_error_name send.NoCapacity = codes "NoCapacity"
+send_error_name send.RemoteNotClearToSend = codes "RemoteNotClearToSend"
+
+abbrev pub remote_error_name : RemoteReadyToReceiveError → List ℕ
+remote_error_name remote.NoRemoteConnectedNoDSR = codes "NoRemoteConnectedNoDSR"
+remote_error_name remote.NoRemoteConnectedNoCD = codes "NoRemoteConnectedNoCD"
+remote_error_name remote.RemoteNotClearToSend = codes "RemoteNotClearToSend"
+
+abbrev pub init_error_text : InitError → List ℕ
+init_error_text init.DeviceNotPresent = codes "DeviceNotPresent"
+init_error_text (init.InvalidBaudRate (divisor.NonInteger e)) = codes "InvalidBaudRate NonInteger"
+init_error_text (init.InvalidBaudRate (divisor.OutOfRange d)) = codes "InvalidBaudRate OutOfRange " ++ decimal d
+init_error_text init.Stalled = codes "Stalled"
+
+abbrev pub loopback_error_text : LoopbackError → List ℕ
+loopback_error_text (loopback.SendError e) = codes "SendError " ++ send_error_name e
+loopback_error_text (loopback.UnexpectedLoopbackByte expected actual) = codes "UnexpectedLoopbackByte expected " ++ decimal expected ++ codes " actual " ++ decimal actual
+loopback_error_text (loopback.UnexpectedLoopbackMsg expected actual) = codes "UnexpectedLoopbackMsg " ++ hex actual
+loopback_error_text loopback.Stalled = codes "Stalled"
+
+-- registers by their names, and the divisor of the two latches
+abbrev pub setup_text : ConfigRegisterDump → List ℕ
+setup_text d = codes " ier " ++ hex_byte d.ier.0 ++ codes " isr " ++ hex_byte d.isr.0 ++ codes " lcr " ++ hex_byte d.lcr.0 ++ codes " mcr " ++ hex_byte d.mcr.0
+
+abbrev pub status_text : ConfigRegisterDump → List ℕ
+status_text d = codes " lsr " ++ hex_byte d.lsr.0 ++ codes " msr " ++ hex_byte d.msr.0 ++ codes " spr " ++ hex_byte d.spr ++ codes " divisor " ++ decimal (256 * d.dlm + d.dll)
+
+abbrev pub answer_text : Answer → List ℕ
+answer_text answer.Done = codes "ok"
+answer_text (answer.Flag true) = codes "ok true"
+answer_text (answer.Flag false) = codes "ok false"
+answer_text (answer.Count n) = codes "ok " ++ decimal n
+answer_text (answer.Bytes bytes) = codes "ok " ++ hex bytes.items
+answer_text (answer.Register byte) = codes "ok " ++ hex_byte byte
+answer_text (answer.Latch low high) = codes "ok " ++ hex_byte low ++ codes " " ++ hex_byte high
+answer_text (answer.Dump dump) = codes "ok" ++ setup_text dump ++ status_text dump
+answer_text (answer.Stalled n) = codes "stalled " ++ decimal n
+answer_text (answer.ReceiveStalled bytes) = codes "stalled " ++ decimal (length bytes.items) ++ codes " " ++ hex bytes.items
+answer_text (answer.InitRefused e) = codes "err " ++ init_error_text e
+answer_text (answer.LoopbackRefused e) = codes "err " ++ loopback_error_text e
+answer_text (answer.NotConnected e) = codes "err " ++ remote_error_name e
+answer_text answer.NoData = codes "err ByteReceiveError"
+answer_text (answer.NotSent e) = codes "err " ++ send_error_name e
+
+-- a line, ended by byte 0A
+abbrev pub line : List ℕ → List ℕ
+line text = text ++ 10 ∷ []
+
+-- one line for each answer
+abbrev pub answer_lines : List Answer → List ℕ
+answer_lines answers = flat_map (λ a. line (answer_text a)) answers
+
+-- ---- what is left
+
+abbrev pub mark_letter : ArrivalMark → ℕ
+mark_letter mark.Pending = 112
+mark_letter mark.Waiting = 119
+mark_letter mark.Read = 114
+mark_letter mark.Discarded = 100
+mark_letter mark.Dropped = 120
+
+-- marks in letters, p w r d x, or `-` for none
+abbrev pub marks_text : List ArrivalMark → List ℕ
+marks_text marks = if length marks == 0 then codes "-" else map mark_letter marks
+
+-- what went out on the wire, what the transmitter holds, what waits in the receiver, and what became of each arrival
+abbrev pub final_lines : (wire held waiting : List ℕ) → List ArrivalMark → List ℕ
+final_lines wire held waiting marks = line (codes "wire " ++ hex wire) ++ line (codes "held " ++ hex held) ++ line (codes "waiting " ++ hex waiting) ++ line (codes "marks " ++ marks_text marks)
+
+-- all that is printed for a script that was played
+abbrev pub printed : List Answer → (wire held waiting : List ℕ) → List ArrivalMark → List ℕ
+printed answers wire held waiting marks = answer_lines answers ++ final_lines wire held waiting marks

@@ -1,0 +1,173 @@
+-- What a script is, line by line, and the first faulty line of bytes that are none.
+use Rattle.std.specs.Prelude.{◌≡◌, ◌↔◌, ⊤, ℕ, ◌+◌, ◌<◌, ◌≤◌, ◌==◌, ◌&&◌, nat_lt, bit_and, Bool, true, false, not, List, [], ◌∷◌, ◌++◌, length, map, Option, Some, None, Result, Ok, Err, IfOk, All, if◌then◌else◌, flat_map, codes, drop}
+use Rattle.std.specs.Int.NonZero.{non_zero_u64_get}
+use Rattle.uart_chip.specs.declared.event.Chip.{Chip}
+use Rattle.uart_chip.specs.declared.event.Event.{Event}
+use Rattle.uart_chip.specs.declared.event.Event.TheVariants as event
+use Rattle.uart_calls.specs.declared.call.Call.{Call}
+use Rattle.uart_language.specs.declared.cause.Cause.{Cause}
+use Rattle.uart_language.specs.declared.cause.Cause.TheVariants.{BadByte, Misplaced, UnknownWord, WrongCount, TooLong}
+use Rattle.uart_language.specs.declared.cause.ScriptError.{ScriptError}
+use Rattle.uart_language.specs.declared.cause.ScriptError.TheVariants as errors
+use Rattle.uart_language.specs.declared.parsing.Script.{Script}
+use Rattle.uart_language.specs.declared.words.Word.{Word}
+use Rattle.uart_calls.specs.Calls.{IsRunnable}
+use Rattle.uart_language.specs.Text.{lines_of, words_of, word_at, has_bad_byte}
+use Rattle.uart_language.specs.Fields.{number_in, chip_in}
+use Rattle.uart_language.specs.Words.{word_of, has_count, is_placed, fields_of}
+use Rattle.uart_language.specs.ScriptLines.{Saying, Nothing, Limit, events_of, calls_of, plain, Means}
+
+-- ---- the script
+
+-- A line after the first: a blank line says nothing, any other has no byte outside of 20 to 7E and the meaning of its words.
+pub data Says (number : ℕ) (line : List ℕ) (said : Saying) : Type 0 where
+  blank : line ≡ [] → said ≡ Nothing → Says number line said
+  printable : has_bad_byte line ≡ false → Means number (words_of line) said → Says number line said
+
+-- the lines say this, one by one; the first has this number
+abbrev pub SayInOrder : ℕ → List (List ℕ) → List Saying → Type 0
+SayInOrder number [] [] = Unit {0}
+SayInOrder number [] (said ∷ sayings) = ⊥
+SayInOrder number (line ∷ lines) [] = ⊥
+SayInOrder number (line ∷ lines) (said ∷ sayings) = Says number line said × SayInOrder (number + 1) lines sayings
+
+-- a script, without where it lies in memory
+pub record Plan : Type 0 where
+  pub chip : Chip
+  pub ticks : ℕ
+  pub wire_capacity : ℕ
+  pub cuts : Bool
+  pub limit : ℕ
+  pub events : List Event
+  pub calls : List Call
+
+-- what a parsed script holds
+abbrev pub plan_of : Script → Plan
+plan_of s = record {
+  chip = s.header.chip;
+  ticks = s.header.ticks;
+  wire_capacity = s.header.wire_capacity;
+  cuts = s.header.cuts;
+  limit = non_zero_u64_get s.limit;
+  events = s.events.items;
+  calls = map plain s.calls.items;
+}
+
+-- the word of the option, where it is on
+abbrev pub option_words : Bool → List (List ℕ)
+option_words false = []
+option_words true = codes "cut" ∷ []
+
+-- chip NAME T W, or chip NAME T W cut
+pub record IsHeader (line : List ℕ) (chip : Chip) (ticks wire_capacity : ℕ) (cuts : Bool) : Type 0 where
+  pub NAME : List ℕ
+  pub T : List ℕ
+  pub W : List ℕ
+  pub printable : has_bad_byte line ≡ false
+  pub words : words_of line ≡ codes "chip" ∷ NAME ∷ T ∷ W ∷ option_words cuts
+  pub chip_is : chip_in NAME ≡ Ok chip
+  pub ticks_is : number_in 1 1000 T ≡ Ok ticks
+  pub wire_capacity_is : number_in 0 65536 W ≡ Ok wire_capacity
+
+-- the limit that is said last, or else this one
+abbrev pub limit_from : ℕ → List Saying → ℕ
+limit_from limit [] = limit
+limit_from limit (Limit n ∷ sayings) = limit_from n sayings
+limit_from limit (other ∷ sayings) = limit_from limit sayings
+
+-- the driver's limit where no line gives one
+abbrev pub default_limit : ℕ
+default_limit = 1000000
+
+-- The bytes are a script that says this: a header, and after it lines whose events form the schedule and whose calls the
+-- list, in their order.
+pub record IsScript (bytes : List ℕ) (plan : Plan) : Type 0 where
+  pub first : List ℕ
+  pub others : List (List ℕ)
+  pub sayings : List Saying
+  pub fits : length bytes ≤ 65536
+  pub lines : lines_of bytes ≡ first ∷ others
+  pub few : length others < 4096
+  pub header : IsHeader first plan.chip plan.ticks plan.wire_capacity plan.cuts
+  pub body : SayInOrder 2 others sayings
+  pub limit : plan.limit ≡ limit_from default_limit sayings
+  pub events : plan.events ≡ flat_map events_of sayings
+  pub calls : plan.calls ≡ flat_map calls_of sayings
+
+-- ---- the first faulty line
+
+-- a fault, where the test says so
+abbrev pub fault_where : Bool → Cause → Option Cause
+fault_where test cause = if test then Some cause else None
+
+-- the first of some faults
+abbrev pub first_of : List (Option Cause) → Option Cause
+first_of [] = None
+first_of (None ∷ faults) = first_of faults
+first_of (Some cause ∷ faults) = Some cause
+
+-- what is wrong with the words after the first, each by the field that stands at its place
+abbrev pub field_faults : List (List ℕ → Option Cause) → List (List ℕ) → List (Option Cause)
+field_faults [] rest = []
+field_faults (field ∷ fields) [] = []
+field_faults (field ∷ fields) (word ∷ rest) = field word ∷ field_faults fields rest
+
+-- what is wrong with a line that begins with a word, and with one that begins with none
+abbrev pub word_faults : ℕ → Option Word → List (List ℕ) → List (Option Cause)
+word_faults number (Some word) ws =
+    fault_where (not (is_placed number (Some word))) Misplaced ∷ fault_where (not (has_count word (length ws))) WrongCount ∷ field_faults (fields_of word) (drop 1 ws)
+word_faults number None ws = fault_where (not (is_placed number None)) Misplaced ∷ Some UnknownWord ∷ []
+
+-- What is wrong with a line, found from the left. Line 4,097 is too long whatever it holds, and a blank line after the first is fine.
+abbrev pub fault_at : ℕ → List ℕ → Option Cause
+fault_at number line =
+    if nat_lt 4096 number then Some TooLong
+    else if length line == 0 && not (number == 1) then None
+    else first_of (fault_where (has_bad_byte line) BadByte ∷ word_faults number (word_of (word_at 0 (words_of line))) (words_of line))
+
+-- none of these lines has a fault; the first has this number
+abbrev pub AreFaultless : ℕ → List (List ℕ) → Type 0
+AreFaultless number [] = Unit {0}
+AreFaultless number (line ∷ lines) = (fault_at number line ≡ None) × AreFaultless (number + 1) lines
+
+-- among these lines, the first of which has the number `start`, this is the first faulty one
+pub record IsFirstFault (start : ℕ) (lines : List (List ℕ)) (number : ℕ) (cause : Cause) : Type 0 where
+  pub before : List (List ℕ)
+  pub line : List ℕ
+  pub after : List (List ℕ)
+  pub cut : lines ≡ before ++ line ∷ after
+  pub faultless : AreFaultless start before
+  pub number_is : number ≡ start + length before
+  pub faulty : fault_at number line ≡ Some cause
+
+-- The bytes are no script, and this is told: too many bytes, before anything else; no line at all; or the first faulty line.
+pub data IsFaulty (bytes : List ℕ) (number : ℕ) (cause : Cause) : Type 0 where
+  long : 65536 < length bytes → number ≡ 0 → cause ≡ TooLong → IsFaulty bytes number cause
+  empty : bytes ≡ [] → number ≡ 1 → cause ≡ Misplaced → IsFaulty bytes number cause
+  faulty : length bytes ≤ 65536 → IsFirstFault 1 (lines_of bytes) number cause → IsFaulty bytes number cause
+
+-- ---- what parsing answers
+
+-- The one script that the bytes are; or their first fault, exactly where they are none; or want of memory, and that only
+-- of a script.
+pub record IsParsed (bytes : List ℕ) (result : Result Script ScriptError) : Type 0 where
+  pub script : IfOk result (λ s. IsScript bytes (plan_of s))
+  pub only : IfOk result (λ s. (plan : Plan) → IsScript bytes plan → plan ≡ plan_of s)
+  pub refused : (line : ℕ) (cause : Cause) → (result ≡ Err (errors.Refused line cause)) ↔ IsFaulty bytes line cause
+  pub memory : result ≡ Err errors.OutOfMemory → (plan : Plan) × IsScript bytes plan
+
+-- ---- what every script keeps
+
+-- error bits are 2 to 4 of LSR, and modem lines are 4 to 7 of MSR
+abbrev pub IsSound : Event → Type 0
+IsSound (event.Arrive byte errors) = bit_and errors 0x1C ≡ errors
+IsSound (event.Lines lines) = bit_and lines 0xF0 ≡ lines
+IsSound other = ⊤
+
+-- its numbers are in their ranges, its events sound and its calls runnable, so that it can be played
+pub record IsPlayable (plan : Plan) : Type 0 where
+  pub ticks : (1 ≤ plan.ticks) × (plan.ticks ≤ 1000)
+  pub wire_capacity : plan.wire_capacity ≤ 65536
+  pub limit : (1 ≤ plan.limit) × (plan.limit ≤ 1000000)
+  pub events : All IsSound plan.events
+  pub calls : All IsRunnable plan.calls

@@ -1,0 +1,94 @@
+-- The words that a line may begin with, and the fields that follow each.
+use Rattle.std.specs.Prelude.{ℕ, ◌+◌, Bool, not, List, [], ◌∷◌, length, Option, Some, None, Result, Ok, Err, ◌==◌, ◌||◌, bytes_eq, codes, find}
+use Rattle.uart_language.specs.declared.cause.Cause.{Cause}
+use Rattle.uart_language.specs.declared.words.Word.{Word}
+use Rattle.uart_language.specs.declared.words.Word.TheVariants as word
+use Rattle.uart_language.specs.Fields.{number_in, byte_in, lines_in, bytes_in, text_in, errors_in, chip_in, cut_in, level_in, rate_in, cts_in, interrupts_in, word_length_in}
+
+-- a word as it stands in a script
+abbrev pub name_of : Word → List ℕ
+name_of word.Chip = codes "chip"
+name_of word.Limit = codes "limit"
+name_of word.Tick = codes "tick"
+name_of word.Arrive = codes "arrive"
+name_of word.Lines = codes "lines"
+name_of word.Access = codes "access"
+name_of word.Next = codes "next"
+name_of word.Init = codes "init"
+name_of word.Loopback = codes "loopback"
+name_of word.Present = codes "present"
+name_of word.Connected = codes "connected"
+name_of word.ReadyReceive = codes "ready-receive"
+name_of word.ReadySend = codes "ready-send"
+name_of word.TryReceive = codes "try-receive"
+name_of word.Flush = codes "flush"
+name_of word.ReadReady = codes "read-ready"
+name_of word.WriteReady = codes "write-ready"
+name_of word.Ier = codes "ier"
+name_of word.Isr = codes "isr"
+name_of word.Lcr = codes "lcr"
+name_of word.Mcr = codes "mcr"
+name_of word.Lsr = codes "lsr"
+name_of word.Msr = codes "msr"
+name_of word.Spr = codes "spr"
+name_of word.DllDlm = codes "dll-dlm"
+name_of word.Fifo = codes "fifo"
+name_of word.Dump = codes "dump"
+name_of word.TrySend = codes "try-send"
+name_of word.Enable = codes "enable"
+name_of word.Disable = codes "disable"
+name_of word.Receive = codes "receive"
+name_of word.ReceiveExact = codes "receive-exact"
+name_of word.Read = codes "read"
+name_of word.Send = codes "send"
+name_of word.SendExact = codes "send-exact"
+name_of word.Write = codes "write"
+name_of word.Text = codes "text"
+
+abbrev pub words : List Word
+words = word.Chip ∷ word.Limit ∷ word.Tick ∷ word.Arrive ∷ word.Lines ∷ word.Access ∷ word.Next ∷ word.Init ∷ word.Loopback ∷ word.Present ∷ word.Connected ∷ word.ReadyReceive ∷ word.ReadySend ∷ word.TryReceive ∷ word.Flush ∷ word.ReadReady ∷ word.WriteReady ∷ word.Ier ∷ word.Isr ∷ word.Lcr ∷ word.Mcr ∷ word.Lsr ∷ word.Msr ∷ word.Spr ∷ word.DllDlm ∷ word.Fifo ∷ word.Dump ∷ word.TrySend ∷ word.Enable ∷ word.Disable ∷ word.Receive ∷ word.ReceiveExact ∷ word.Read ∷ word.Send ∷ word.SendExact ∷ word.Write ∷ word.Text ∷ []
+
+-- the word that a text is
+unfoldable pub word_of : List ℕ → Option Word
+word_of text = find (λ w. bytes_eq (name_of w) text) words
+
+-- what is wrong with a field, where it is faulty
+abbrev pub fault_of : {A E : Type 0} → Result A E → Option E
+fault_of (Ok x) = None
+fault_of (Err e) = Some e
+
+-- what is wrong with a word as a field
+abbrev pub faulty : {A : Type 0} → (List ℕ → Result A Cause) → List ℕ → Option Cause
+faulty reader text = fault_of (reader text)
+
+-- the fields that follow a word; the errors of an arrival and the option of a chip may be left out
+abbrev pub fields_of : Word → List (List ℕ → Option Cause)
+fields_of word.Chip = faulty chip_in ∷ faulty (number_in 1 1000) ∷ faulty (number_in 0 65536) ∷ faulty cut_in ∷ []
+fields_of word.Limit = faulty (number_in 1 1000000) ∷ []
+fields_of word.Tick = faulty (number_in 0 65535) ∷ []
+fields_of word.Arrive = faulty byte_in ∷ faulty errors_in ∷ []
+fields_of word.Lines = faulty lines_in ∷ []
+fields_of word.Init = faulty level_in ∷ faulty rate_in ∷ faulty cts_in ∷ faulty interrupts_in ∷ faulty word_length_in ∷ []
+fields_of word.TrySend = faulty byte_in ∷ []
+fields_of word.Enable = faulty interrupts_in ∷ []
+fields_of word.Disable = faulty interrupts_in ∷ []
+fields_of word.Receive = faulty (number_in 0 64) ∷ []
+fields_of word.ReceiveExact = faulty (number_in 0 64) ∷ []
+fields_of word.Read = faulty (number_in 0 64) ∷ []
+fields_of word.Send = faulty bytes_in ∷ []
+fields_of word.SendExact = faulty bytes_in ∷ []
+fields_of word.Write = faulty bytes_in ∷ []
+fields_of word.Text = faulty text_in ∷ []
+fields_of other = []
+
+-- whether a line with this word may have so many words, itself among them
+abbrev pub has_count : Word → ℕ → Bool
+has_count word.Chip count = count == 4 || count == 5
+has_count word.Arrive count = count == 2 || count == 3
+has_count word count = count == length (fields_of word) + 1
+
+-- Line 1 is a chip line and no other is, and only line 2 may be the limit.
+abbrev pub is_placed : ℕ → Option Word → Bool
+is_placed number (Some word.Chip) = number == 1
+is_placed number (Some word.Limit) = number == 2
+is_placed number other = not (number == 1)

@@ -1,0 +1,82 @@
+//! Why bytes are no script.
+
+ghost use Rattle.std.specs.Prelude.{◌≡◌};
+ghost use Rattle.uart_language.specs.declared.cause.ScriptError.TheVariants.{OutOfMemory};
+ghost use Rattle.uart_language.specs.Output.{cause_text};
+
+use std::alloc::{AllocError, AllocFailed};
+use thiserror::Error;
+
+/// What is wrong with a line, in the order in which a line is checked.
+///
+/// `TooLong` is told of a script as a whole, at line 0, or of its line 4097.
+#[derive(Clone, Copy, Debug, PartialEq, Eq)]
+pub enum Cause {
+    /// A byte outside of 20 to 7E.
+    BadByte,
+    /// The first line is no `chip` line, or `chip` or `limit` stands elsewhere.
+    Misplaced,
+    /// The line's first word is none of the language.
+    UnknownWord,
+    /// The line has too few or too many words.
+    WrongCount,
+    /// A field that takes one of a few words has another.
+    BadWord,
+    /// A number of a wrong form, or out of its range.
+    BadNumber,
+    /// Hexadecimal digits of a wrong form.
+    BadHex,
+    /// More than 64 bytes.
+    TooManyBytes,
+    /// The bytes of a text are not UTF-8.
+    BadText,
+    /// More than 4,096 lines or 65,536 bytes.
+    TooLong,
+}
+
+impl Cause {
+    /// The cause as it is printed.
+    pub fn text(self) -> &'static str
+        ensures { result.now ≡ cause_text self }
+    {
+        match self {
+            Cause::BadByte => "bad byte",
+            Cause::Misplaced => "misplaced",
+            Cause::UnknownWord => "unknown word",
+            Cause::WrongCount => "wrong count",
+            Cause::BadWord => "bad word",
+            Cause::BadNumber => "bad number",
+            Cause::BadHex => "bad hex",
+            Cause::TooManyBytes => "too many bytes",
+            Cause::BadText => "bad text",
+            Cause::TooLong => "too long",
+        }
+    }
+}
+
+/// Why there is no [`Script`](super::Script).
+#[derive(Clone, Copy, Debug, PartialEq, Eq, Error)]
+pub enum ScriptError {
+    /// The first faulty line, counted from 1, and what is wrong with it; line 0 for a script of too many bytes.
+    #[error("line {line}: {}", .cause.text())]
+    Refused { line: u32, cause: Cause },
+    /// The script did not fit into memory.
+    #[error("out of memory")]
+    OutOfMemory,
+}
+
+impl From<AllocError> for ScriptError {
+    ghost from_gives = { λ _ e. e ≡ OutOfMemory };
+
+    fn from(_error: AllocError) -> ScriptError {
+        ScriptError::OutOfMemory
+    }
+}
+
+impl<T: Drop> From<AllocFailed<T>> for ScriptError {
+    ghost from_gives = { λ _ e. e ≡ OutOfMemory };
+
+    fn from(_error: AllocFailed<T>) -> ScriptError {
+        ScriptError::OutOfMemory
+    }
+}

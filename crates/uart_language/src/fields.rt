@@ -1,0 +1,279 @@
+//! Reads the fields of a line.
+
+ghost use Rattle.std.specs.Prelude.{◌≡◌, ◌<◌, ◌+◌, ◌*◌, ◌≤◌, List, Option, Some, None, IsTrue, IfOk, length, if◌then◌else◌};
+ghost use Rattle.std.specs.List.{list_all};
+ghost use Rattle.std.specs.Char.{is_ascii_digit, is_ascii_hexdigit, digit_value};
+ghost use Rattle.std.specs.Int.NonZero.{non_zero_u64_get};
+ghost use Rattle.std.specs.Str.Parse.{digits_value};
+ghost use Rattle.uart_language.specs.Fields.{is_number, number_in, byte_in, lines_in, bytes_in, text_in, errors_in, chip_in, cut_in, level_in, rate_of, rate_in, cts_in, interrupts_in, word_length_in, pairs_of, is_pairs, seen};
+
+use super::cause::Cause;
+use uart_chip::Chip;
+use arrayvec::{ArrayString, ArrayVec};
+use bitflags::Flags;
+use std::num::NonZeroU64;
+use uart_spec::BaudRate;
+use uart_spec::registers::{FifoTriggerLevel, IER, WordLength};
+
+/// Whether a word is 1 to 10 decimal digits.
+fn is_number(word: &[u8]) -> bool
+    ensures { result ≡ is_number word.now }
+{
+    !word.is_empty() && word.len() <= 10 && all_decimal(word)
+}
+
+fn all_decimal(word: &[u8]) -> bool
+    ensures { result ≡ list_all is_ascii_digit word.now }
+{
+    word.iter().all(|digit| digit.is_ascii_digit())
+}
+
+/// The value of a decimal digit.
+fn decimal_digit(digit: u8) -> u8
+    requires { IsTrue (is_ascii_digit digit) }
+    ensures value { result ≡ digit_value digit }
+    ensures small { result < 10 }
+{
+    digit - b'0'
+}
+
+/// The number that decimal digits write.
+fn decimal(word: &[u8]) -> u64
+    requires digits { IsTrue (list_all is_ascii_digit word.now) }
+    requires short { length word.now ≤ 10 }
+    ensures { result ≡ digits_value 10 word.now }
+{
+    let mut value = 0u64;
+    for digit in word {
+        value = value * 10 + u64::from(decimal_digit(*digit));
+    }
+    value
+}
+
+/// A number from `least` to `most`.
+#[tactic(auto, unfolding(crate::specs::Fields::number_in))]
+pub fn number_in(least: u64, most: u64, word: &[u8]) -> Result<u64, Cause>
+    ensures value { result ≡ number_in least most word.now }
+    ensures range { IfOk result (λ n. (least ≤ n) × (n ≤ most)) }
+{
+    if !is_number(word) {
+        return Err(Cause::BadNumber);
+    }
+    let value = decimal(word);
+    if least <= value && value <= most {
+        Ok(value)
+    } else {
+        Err(Cause::BadNumber)
+    }
+}
+
+/// The value of a hexadecimal digit.
+fn hex_digit(digit: u8) -> u8
+    requires { IsTrue (is_ascii_hexdigit digit) }
+    ensures value { result ≡ digit_value digit }
+    ensures small { result < 16 }
+{
+    match digit {
+        b'0'..=b'9' => digit - b'0',
+        b'A'..=b'F' => digit - b'A' + 10,
+        _ => digit - b'a' + 10,
+    }
+}
+
+/// A byte as two hexadecimal digits.
+#[tactic(auto, unfolding(crate::specs::Fields::byte_in))]
+pub fn byte_in(word: &[u8]) -> Result<u8, Cause>
+    ensures { result ≡ byte_in word.now }
+{
+    match word {
+        [high, low] if high.is_ascii_hexdigit() && low.is_ascii_hexdigit() => {
+            Ok(16 * hex_digit(*high) + hex_digit(*low))
+        }
+        _ => Err(Cause::BadHex),
+    }
+}
+
+/// The modem lines as one hexadecimal digit.
+#[tactic(auto, unfolding(crate::specs::Fields::lines_in))]
+pub fn lines_in(word: &[u8]) -> Result<u8, Cause>
+    ensures { result ≡ lines_in word.now }
+{
+    match word {
+        [digit] if digit.is_ascii_hexdigit() => Ok(16 * hex_digit(*digit)),
+        _ => Err(Cause::BadHex),
+    }
+}
+
+/// Whether a word is one or more pairs of hexadecimal digits.
+fn is_pairs(word: &[u8]) -> bool
+    ensures { result ≡ is_pairs word.now }
+{
+    !word.is_empty() && word.len() % 2 == 0 && all_hex(word)
+}
+
+fn all_hex(word: &[u8]) -> bool
+    ensures { result ≡ list_all is_ascii_hexdigit word.now }
+{
+    word.iter().all(|digit| digit.is_ascii_hexdigit())
+}
+
+/// The bytes that pairs of digits write.
+fn pairs_of(word: &[u8]) -> ArrayVec<u8, 64>
+    requires digits { IsTrue (list_all is_ascii_hexdigit word.now) }
+    requires fits { length word.now < 130 }
+    ensures { result.items ≡ pairs_of word.now }
+{
+    let mut bytes = ArrayVec::new();
+    let mut rest = word;
+    while let [high, low, after @ ..] = rest {
+        bytes.push(16 * hex_digit(*high) + hex_digit(*low));
+        rest = after;
+    }
+    bytes
+}
+
+/// At most 64 bytes.
+#[tactic(auto, unfolding(crate::specs::Fields::bytes_in))]
+pub fn bytes_in(word: &[u8]) -> Result<ArrayVec<u8, 64>, Cause>
+    ensures { seen (λ bytes. bytes.items) result ≡ bytes_in word.now }
+{
+    if word == b"-".as_slice() {
+        return Ok(ArrayVec::new());
+    }
+    if !is_pairs(word) {
+        return Err(Cause::BadHex);
+    }
+    if word.len() / 2 > 64 {
+        return Err(Cause::TooManyBytes);
+    }
+    Ok(pairs_of(word))
+}
+
+/// At most 64 bytes of text.
+#[tactic(auto, unfolding(crate::specs::Fields::text_in))]
+pub fn text_in(word: &[u8]) -> Result<ArrayString<64>, Cause>
+    ensures { seen (λ text. text.bytes) result ≡ text_in word.now }
+{
+    let bytes = bytes_in(word)?;
+    match str::from_utf8(&bytes) {
+        Ok(text) => {
+            let mut string = ArrayString::new();
+            string.push_str(text);
+            Ok(string)
+        }
+        Err(_) => Err(Cause::BadText),
+    }
+}
+
+/// The error bits of an arriving byte.
+#[tactic(auto, unfolding(crate::specs::Fields::errors_in))]
+pub fn errors_in(word: &[u8]) -> Result<u8, Cause>
+    ensures { result ≡ errors_in word.now }
+{
+    match word {
+        b"p" => Ok(0x04),
+        b"f" => Ok(0x08),
+        b"b" => Ok(0x10),
+        b"pf" => Ok(0x0C),
+        b"pb" => Ok(0x14),
+        b"fb" => Ok(0x18),
+        b"pfb" => Ok(0x1C),
+        _ => Err(Cause::BadWord),
+    }
+}
+
+/// A number of bytes that a call has room for.
+pub fn count_in(word: &[u8]) -> Result<usize, Cause>
+    ensures { result ≡ number_in 0 64 word.now }
+{
+    let count = number_in(0, 64, word)?;
+    Ok(count as usize)
+}
+
+/// The driver's limit.
+pub fn limit_in(word: &[u8]) -> Result<NonZeroU64, Cause>
+    ensures { seen non_zero_u64_get result ≡ number_in 1 1000000 word.now }
+{
+    let limit = number_in(1, 1_000_000, word)?;
+    NonZeroU64::new(limit).ok_or(Cause::BadNumber)
+}
+
+#[tactic(auto, unfolding(crate::specs::Fields::chip_in))]
+pub fn chip_in(word: &[u8]) -> Result<Chip, Cause>
+    ensures { result ≡ chip_in word.now }
+{
+    if word == b"16550a".as_slice() {
+        Ok(Chip::Uart16550A)
+    } else if word == b"16450".as_slice() {
+        Ok(Chip::Uart16450)
+    } else {
+        Err(Cause::BadWord)
+    }
+}
+
+/// The option that may end the first line.
+#[tactic(auto, unfolding(crate::specs::Fields::cut_in))]
+pub fn cut_in(word: &[u8]) -> Result<bool, Cause>
+    ensures { result ≡ cut_in word.now }
+{
+    if word == b"cut".as_slice() {
+        Ok(true)
+    } else {
+        Err(Cause::BadWord)
+    }
+}
+
+/// The trigger level of the receiver FIFO.
+#[tactic(auto, unfolding(crate::specs::Fields::level_in))]
+pub fn level_in(word: &[u8]) -> Result<Option<FifoTriggerLevel>, Cause>
+    ensures { result ≡ level_in word.now }
+{
+    match word {
+        b"off" => Ok(None),
+        b"1" => Ok(Some(FifoTriggerLevel::One)),
+        b"4" => Ok(Some(FifoTriggerLevel::Four)),
+        b"8" => Ok(Some(FifoTriggerLevel::Eight)),
+        b"14" => Ok(Some(FifoTriggerLevel::Fourteen)),
+        _ => Err(Cause::BadWord),
+    }
+}
+
+/// The baud rate, in bits a second.
+#[tactic(auto, unfolding(crate::specs::Fields::rate_in))]
+pub fn rate_in(word: &[u8]) -> Result<BaudRate, Cause>
+    ensures { result ≡ rate_in word.now }
+{
+    let rate = number_in(1, 4_294_967_295, word)?;
+    Ok(BaudRate::from_integer(rate as u32))
+}
+
+/// Whether the driver checks CTS.
+#[tactic(auto, unfolding(crate::specs::Fields::cts_in))]
+pub fn cts_in(word: &[u8]) -> Result<bool, Cause>
+    ensures { result ≡ cts_in word.now }
+{
+    if word == b"cts".as_slice() {
+        Ok(true)
+    } else if word == b"nocts".as_slice() {
+        Ok(false)
+    } else {
+        Err(Cause::BadWord)
+    }
+}
+
+/// The bits of IER.
+#[tactic(auto, unfolding(crate::specs::Fields::interrupts_in))]
+pub fn interrupts_in(word: &[u8]) -> Result<IER, Cause>
+    ensures { result ≡ interrupts_in word.now }
+{
+    Ok(IER::from_bits_retain(byte_in(word)?))
+}
+
+/// The data bits of a character.
+#[tactic(auto, unfolding(crate::specs::Fields::word_length_in))]
+pub fn word_length_in(word: &[u8]) -> Result<WordLength, Cause>
+    ensures { result ≡ word_length_in word.now }
+{
+    let bits = number_in(5, 8, word)?;
+    Ok(WordLength::from_integer(bits as u8))
+}

@@ -1,0 +1,187 @@
+//! What a line says.
+
+ghost use Rattle.std.specs.Prelude.{◌≡◌};
+ghost use Rattle.uart_language.specs.Text.{words_of};
+ghost use Rattle.uart_language.specs.Fields.{seen};
+ghost use Rattle.uart_language.specs.Items.{config_in, arrival_in, call_of, item_of, starts_with, item_at, header_in, header_at, saying_of};
+ghost use Rattle.uart_language.specs.ScriptLines.{plain};
+
+use super::cause::Cause;
+use super::fields::{
+    byte_in, bytes_in, chip_in, count_in, cts_in, cut_in, errors_in, interrupts_in, level_in,
+    limit_in, lines_in, number_in, rate_in, text_in, word_length_in,
+};
+use super::text::{has_bad_byte, word_at, word_count};
+use super::words::{Word, has_count, is_placed, word_of};
+use uart_calls::Call;
+use uart_chip::{Chip, Event};
+use std::num::NonZeroU64;
+use uart_spec::Config;
+
+/// What a line after the first says.
+#[derive(Drop)]
+pub enum Item {
+    Blank,
+    Limit(NonZeroU64),
+    Event(Event),
+    Call(Call),
+    /// A mark of the schedule, and the call that goes to it.
+    Next,
+}
+
+/// What the first line says.
+#[derive(Clone, Copy, Debug, PartialEq, Eq)]
+pub struct Header {
+    pub chip: Chip,
+    pub ticks: u16,
+    pub wire_capacity: usize,
+    pub cuts: bool,
+}
+
+#[tactic(auto, unfolding(crate::specs::Items::config_in))]
+fn config_in(line: &[u8]) -> Result<Config, Cause>
+    ensures { result ≡ config_in (words_of line.now) }
+{
+    Ok(Config {
+        fifo_trigger_level: level_in(word_at(line, 1))?,
+        baud_rate: rate_in(word_at(line, 2))?,
+        check_cts_before_sending: cts_in(word_at(line, 3))?,
+        interrupts: interrupts_in(word_at(line, 4))?,
+        data_bits: word_length_in(word_at(line, 5))?,
+        ..Config::DEFAULT
+    })
+}
+
+#[tactic(auto, unfolding(crate::specs::Items::arrival_in))]
+fn arrival_in(line: &[u8]) -> Result<Event, Cause>
+    ensures { result ≡ arrival_in (words_of line.now) }
+{
+    let byte = byte_in(word_at(line, 1))?;
+    let errors = if word_count(line) == 3 {
+        errors_in(word_at(line, 2))?
+    } else {
+        0
+    };
+    Ok(Event::Arrive { byte, errors })
+}
+
+/// The call that a line asks for.
+#[tactic(auto, unfolding(crate::specs::Items::call_of))]
+fn call_of(word: Word, line: &[u8]) -> Result<Call, Cause>
+    ensures { seen plain result ≡ call_of word (words_of line.now) }
+{
+    Ok(match word {
+        Word::Init => Call::Init(config_in(line)?),
+        Word::Loopback => Call::TestLoopback,
+        Word::Present => Call::CheckPresent,
+        Word::Connected => Call::CheckConnected,
+        Word::ReadyReceive => Call::ReadyToReceive,
+        Word::ReadySend => Call::ReadyToSend,
+        Word::TryReceive => Call::TryReceive,
+        Word::Flush => Call::Flush,
+        Word::ReadReady => Call::ReadReady,
+        Word::WriteReady => Call::WriteReady,
+        Word::Ier => Call::Ier,
+        Word::Isr => Call::Isr,
+        Word::Lcr => Call::Lcr,
+        Word::Mcr => Call::Mcr,
+        Word::Lsr => Call::Lsr,
+        Word::Msr => Call::Msr,
+        Word::Spr => Call::Spr,
+        Word::DllDlm => Call::DllDlm,
+        Word::Fifo => Call::FifoEnabled,
+        Word::Dump => Call::Dump,
+        Word::TrySend => Call::TrySend(byte_in(word_at(line, 1))?),
+        Word::Enable => Call::Enable(interrupts_in(word_at(line, 1))?),
+        Word::Disable => Call::Disable(interrupts_in(word_at(line, 1))?),
+        Word::Receive => Call::Receive(count_in(word_at(line, 1))?),
+        Word::ReceiveExact => Call::ReceiveExact(count_in(word_at(line, 1))?),
+        Word::Read => Call::Read(count_in(word_at(line, 1))?),
+        Word::Send => Call::Send(bytes_in(word_at(line, 1))?),
+        Word::SendExact => Call::SendExact(bytes_in(word_at(line, 1))?),
+        Word::Write => Call::Write(bytes_in(word_at(line, 1))?),
+        Word::Text => Call::Text(text_in(word_at(line, 1))?),
+        _ => return Err(Cause::UnknownWord),
+    })
+}
+
+/// What the words of a line after the first say.
+#[tactic(auto, unfolding(crate::specs::Items::item_of))]
+fn item_of(word: Word, line: &[u8]) -> Result<Item, Cause>
+    ensures { seen saying_of result ≡ item_of word (words_of line.now) }
+{
+    match word {
+        Word::Limit => Ok(Item::Limit(limit_in(word_at(line, 1))?)),
+        Word::Tick => {
+            let count = number_in(0, 65_535, word_at(line, 1))?;
+            Ok(Item::Event(Event::Ticks(count as u16)))
+        }
+        Word::Arrive => Ok(Item::Event(arrival_in(line)?)),
+        Word::Lines => Ok(Item::Event(Event::Lines(lines_in(word_at(line, 1))?))),
+        Word::Access => Ok(Item::Event(Event::Access)),
+        Word::Next => Ok(Item::Next),
+        _ => Ok(Item::Call(call_of(word, line)?)),
+    }
+}
+
+/// The first word of a line, if it stands in its place before as many words as it takes.
+#[tactic(auto, unfolding(crate::specs::Items::starts_with))]
+fn first_word(number: u32, line: &[u8]) -> Result<Word, Cause>
+    ensures { result ≡ starts_with number line.now }
+{
+    if has_bad_byte(line) {
+        return Err(Cause::BadByte);
+    }
+    let word = word_of(word_at(line, 0));
+    if !is_placed(number, word) {
+        return Err(Cause::Misplaced);
+    }
+    let Some(word) = word else {
+        return Err(Cause::UnknownWord);
+    };
+    if !has_count(word, word_count(line)) {
+        return Err(Cause::WrongCount);
+    }
+    Ok(word)
+}
+
+/// What a line after the first says.
+#[tactic(auto, unfolding(crate::specs::Items::item_at))]
+pub fn item_at(number: u32, line: &[u8]) -> Result<Item, Cause>
+    ensures { seen saying_of result ≡ item_at number line.now }
+{
+    if line.is_empty() {
+        return Ok(Item::Blank);
+    }
+    let word = first_word(number, line)?;
+    item_of(word, line)
+}
+
+#[tactic(auto, unfolding(crate::specs::Items::header_in))]
+fn header_in(line: &[u8]) -> Result<Header, Cause>
+    ensures { result ≡ header_in (words_of line.now) }
+{
+    let chip = chip_in(word_at(line, 1))?;
+    let ticks = number_in(1, 1000, word_at(line, 2))?;
+    let wire_capacity = number_in(0, 65_536, word_at(line, 3))?;
+    let cuts = if word_count(line) == 5 {
+        cut_in(word_at(line, 4))?
+    } else {
+        false
+    };
+    Ok(Header {
+        chip,
+        ticks: ticks as u16,
+        wire_capacity: wire_capacity as usize,
+        cuts,
+    })
+}
+
+/// What the first line says.
+#[tactic(auto, unfolding(crate::specs::Items::header_at))]
+pub fn header_at(line: &[u8]) -> Result<Header, Cause>
+    ensures { result ≡ header_at line.now }
+{
+    first_word(1, line)?;
+    header_in(line)
+}

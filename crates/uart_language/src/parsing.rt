@@ -1,0 +1,198 @@
+//! What a whole script says.
+
+ghost use Rattle.std.specs.Prelude.{◌≡◌, ◌+◌, ◌<◌, ◌≤◌, length, OnOk, IfOk, MatchResult, map};
+ghost use Rattle.std.specs.Int.NonZero.{non_zero_u64_get};
+ghost use Rattle.uart_language.specs.Text.{lines_of};
+ghost use Rattle.uart_language.specs.Items.{saying_of};
+ghost use Rattle.uart_language.specs.ScriptLines.{plain};
+ghost use Rattle.uart_language.specs.Script.{plan_of, IsParsed};
+ghost use Rattle.uart_language.specs.ScriptReading.{sayings_from, with_saying, added, planned, script_of, Refuses, Checks, Builds};
+
+use super::cause::{Cause, ScriptError};
+use super::items::{Header, Item, header_at, item_at};
+use super::text::first_line;
+use uart_calls::Call;
+use uart_chip::{Chip, Event};
+use std::alloc::{AllocError, Global};
+use std::num::NonZeroU64;
+
+/// The longest script, in bytes.
+pub const MOST_BYTES: usize = 65_536;
+
+/// The longest script, in lines.
+const MOST_LINES: u32 = 4_096;
+
+/// The driver's limit where no line gives one.
+const DEFAULT_LIMIT: u64 = 1_000_000;
+
+/// A script: a chip, what happens to it, and the calls that are made.
+#[derive(Drop)]
+pub struct Script {
+    header: Header,
+    limit: NonZeroU64,
+    events: Vec<Event>,
+    calls: Vec<Call>,
+}
+
+impl Script {
+    /// Which chip the machine is.
+    pub fn chip(&self) -> Chip
+        ensures { result ≡ (plan_of self.now).chip }
+    {
+        self.header.chip
+    }
+
+    /// How many ticks the chip takes to send a character.
+    pub fn ticks(&self) -> u16
+        ensures { result ≡ (plan_of self.now).ticks }
+    {
+        self.header.ticks
+    }
+
+    /// How many characters the wire takes.
+    pub fn wire_capacity(&self) -> usize
+        ensures { result ≡ (plan_of self.now).wire_capacity }
+    {
+        self.header.wire_capacity
+    }
+
+    /// The driver's limit: how many unsuccessful polls in a row end a wait.
+    pub fn limit(&self) -> NonZeroU64
+        ensures { non_zero_u64_get result ≡ (plan_of self.now).limit }
+    {
+        self.limit
+    }
+
+    /// Whether the chip cuts characters to the word length.
+    pub fn cut(&self) -> bool
+        ensures { result ≡ (plan_of self.now).cuts }
+    {
+        self.header.cuts
+    }
+
+    /// What happens to the chip, in the script's order.
+    pub fn events(&self) -> &[Event]
+        ensures { result.now ≡ (plan_of self.now).events }
+    {
+        &self.events
+    }
+
+    /// The calls, in the script's order.
+    pub fn calls(&self) -> &[Call]
+        ensures { map plain result.now ≡ (plan_of self.now).calls }
+    {
+        &self.calls
+    }
+
+    fn add(&mut self, item: Item) -> Result<(), AllocError>
+        ensures { OnOk result (plan_of self.new ≡ added (plan_of self.old) (saying_of item)) }
+    {
+        match item {
+            Item::Blank => {}
+            Item::Limit(limit) => self.limit = limit,
+            Item::Event(event) => self.events.push(event)?,
+            Item::Call(call) => self.calls.push(call)?,
+            Item::Next => {
+                self.events.push(Event::Mark)?;
+                self.calls.push(Call::Next)?;
+            }
+        }
+        Ok(())
+    }
+}
+
+/// What the first of some lines says, and the lines after it.
+fn next_item(number: u32, bytes: &[u8]) -> Result<(Item, &[u8]), ScriptError>
+    requires { 0 < length bytes.now }
+    ensures read { MatchResult result
+        (λ x. sayings_from number (lines_of bytes.now) ≡ with_saying (saying_of x.0) (sayings_from (number + 1) (lines_of x.1.now)))
+        (λ e. Refuses e (sayings_from number (lines_of bytes.now))) }
+    ensures shorter { IfOk result (λ x. (length x.1.now < length bytes.now) × (number ≤ MOST_LINES)) }
+{
+    if number > MOST_LINES {
+        return Err(ScriptError::Refused {
+            line: number,
+            cause: Cause::TooLong,
+        });
+    }
+    let (line, rest) = first_line(bytes);
+    match item_at(number, line) {
+        Ok(item) => Ok((item, rest)),
+        Err(cause) => Err(ScriptError::Refused {
+            line: number,
+            cause,
+        }),
+    }
+}
+
+/// Looks for a fault in the lines after the first.
+fn check(bytes: &[u8]) -> Result<(), ScriptError>
+    ensures { Checks result (sayings_from 2 (lines_of bytes.now)) }
+{
+    let mut number = 2;
+    let mut rest = bytes;
+    while !rest.is_empty() {
+        let (_, after) = next_item(number, rest)?;
+        rest = after;
+        number += 1;
+    }
+    Ok(())
+}
+
+/// The script of a header and the lines after it.
+fn build(alloc: Global, header: Header, bytes: &[u8]) -> Result<Script, ScriptError>
+    ensures { Builds result (planned header (sayings_from 2 (lines_of bytes.now))) }
+{
+    let mut script = Script {
+        header,
+        limit: NonZeroU64::new(DEFAULT_LIMIT).unwrap(),
+        events: Vec::new(alloc),
+        calls: Vec::new(alloc),
+    };
+    let mut number = 2;
+    let mut rest = bytes;
+    while !rest.is_empty() {
+        let (item, after) = next_item(number, rest)?;
+        script.add(item)?;
+        rest = after;
+        number += 1;
+    }
+    Ok(script)
+}
+
+/// What the first line says, and the lines after it.
+fn first_item(bytes: &[u8]) -> Result<(Header, &[u8]), ScriptError>
+    ensures { MatchResult result
+        (λ x. script_of bytes.now ≡ planned x.0 (sayings_from 2 (lines_of x.1.now)))
+        (λ e. Refuses e (script_of bytes.now)) }
+{
+    if bytes.len() > MOST_BYTES {
+        return Err(ScriptError::Refused {
+            line: 0,
+            cause: Cause::TooLong,
+        });
+    }
+    if bytes.is_empty() {
+        return Err(ScriptError::Refused {
+            line: 1,
+            cause: Cause::Misplaced,
+        });
+    }
+    let (line, rest) = first_line(bytes);
+    match header_at(line) {
+        Ok(header) => Ok((header, rest)),
+        Err(cause) => Err(ScriptError::Refused { line: 1, cause }),
+    }
+}
+
+/// The script that the bytes are.
+///
+/// Every line is looked at before any memory is taken, so bytes that are no script are refused as such however little
+/// memory there is.
+pub fn parse(alloc: Global, bytes: &[u8]) -> Result<Script, ScriptError>
+    ensures { IsParsed bytes.now result }
+{
+    let (header, rest) = first_item(bytes)?;
+    check(rest)?;
+    build(alloc, header, rest)
+}

@@ -1,0 +1,303 @@
+//! How answers and the machine's last state are printed.
+
+ghost use Rattle.std.specs.Prelude.{◌≡◌, ◌<◌, ◌++◌, OnOk, IfOk, map, codes};
+ghost use Rattle.std.specs.List.{flat_map};
+ghost use Rattle.std.specs.Char.{digit_char};
+ghost use Rattle.std.specs.Fmt.{decimal};
+ghost use Rattle.uart_language.specs.Output.{hex_byte, hex, send_error_name, remote_error_name, init_error_text, loopback_error_text, setup_text, status_text, answer_text, line, answer_lines, mark_letter, marks_text, final_lines, printed};
+
+use uart_calls::Answer;
+use uart_chip::ArrivalMark;
+use bitflags::Flags;
+use std::alloc::{AllocError, Global};
+use uart_16550::ConfigRegisterDump;
+use uart_spec::{
+    ByteSendError, InitError, InvalidDivisorError, LoopbackError, RemoteReadyToReceiveError,
+};
+
+/// A digit below 16 as text.
+fn hex_digit(digit: u8) -> u8
+    requires { digit < 16 }
+    ensures { result ≡ digit_char digit }
+{
+    if digit < 10 {
+        b'0' + digit
+    } else {
+        b'a' + (digit - 10)
+    }
+}
+
+fn push_byte(out: &mut Vec<u8>, byte: u8) -> Result<(), AllocError>
+    ensures { OnOk result (out.new.items ≡ out.old.items ++ hex_byte byte) }
+{
+    out.push(hex_digit(byte / 16))?;
+    out.push(hex_digit(byte % 16))?;
+    Ok(())
+}
+
+fn push_bytes(out: &mut Vec<u8>, bytes: &[u8]) -> Result<(), AllocError>
+    ensures { OnOk result (out.new.items ≡ out.old.items ++ flat_map hex_byte bytes.now) }
+{
+    for byte in bytes {
+        push_byte(out, *byte)?;
+    }
+    Ok(())
+}
+
+/// Bytes in hexadecimal digits, or `-`.
+fn push_hex(out: &mut Vec<u8>, bytes: &[u8]) -> Result<(), AllocError>
+    ensures { OnOk result (out.new.items ≡ out.old.items ++ hex bytes.now) }
+{
+    if bytes.is_empty() {
+        out.push(b'-')?;
+        return Ok(());
+    }
+    push_bytes(out, bytes)
+}
+
+fn push_number(alloc: Global, out: &mut Vec<u8>, number: usize) -> Result<(), AllocError>
+    ensures { OnOk result (out.new.items ≡ out.old.items ++ decimal number) }
+{
+    let text = number.to_string(alloc)?;
+    out.extend_from_slice(text.as_bytes())
+}
+
+fn send_error_name(error: &ByteSendError) -> &'static [u8]
+    ensures { result.now ≡ send_error_name error.now }
+{
+    match error {
+        ByteSendError::NoCapacity => b"NoCapacity",
+        ByteSendError::RemoteNotClearToSend => b"RemoteNotClearToSend",
+    }
+}
+
+fn remote_error_name(error: &RemoteReadyToReceiveError) -> &'static [u8]
+    ensures { result.now ≡ remote_error_name error.now }
+{
+    match error {
+        RemoteReadyToReceiveError::NoRemoteConnectedNoDSR => b"NoRemoteConnectedNoDSR",
+        RemoteReadyToReceiveError::NoRemoteConnectedNoCD => b"NoRemoteConnectedNoCD",
+        RemoteReadyToReceiveError::RemoteNotClearToSend => b"RemoteNotClearToSend",
+    }
+}
+
+fn push_init_error(alloc: Global, out: &mut Vec<u8>, error: &InitError) -> Result<(), AllocError>
+    ensures { OnOk result (out.new.items ≡ out.old.items ++ init_error_text error.now) }
+{
+    match error {
+        InitError::DeviceNotPresent => out.extend_from_slice(b"DeviceNotPresent"),
+        InitError::InvalidBaudRate(InvalidDivisorError::NonInteger(_)) => {
+            out.extend_from_slice(b"InvalidBaudRate NonInteger")
+        }
+        InitError::InvalidBaudRate(InvalidDivisorError::OutOfRange { divisor }) => {
+            out.extend_from_slice(b"InvalidBaudRate OutOfRange ")?;
+            push_number(alloc, out, *divisor as usize)
+        }
+        InitError::Stalled => out.extend_from_slice(b"Stalled"),
+    }
+}
+
+/// A name, a number, ` actual ` and a number.
+fn push_mismatch(
+    alloc: Global,
+    out: &mut Vec<u8>,
+    expected: u8,
+    actual: u8,
+) -> Result<(), AllocError>
+    ensures { OnOk result (out.new.items ≡ out.old.items ++ codes "UnexpectedLoopbackByte expected " ++ decimal expected ++ codes " actual " ++ decimal actual) }
+{
+    out.extend_from_slice(b"UnexpectedLoopbackByte expected ")?;
+    push_number(alloc, out, usize::from(expected))?;
+    out.extend_from_slice(b" actual ")?;
+    push_number(alloc, out, usize::from(actual))
+}
+
+fn push_loopback_error(
+    alloc: Global,
+    out: &mut Vec<u8>,
+    error: &LoopbackError,
+) -> Result<(), AllocError>
+    ensures { OnOk result (out.new.items ≡ out.old.items ++ loopback_error_text error.now) }
+{
+    match error {
+        LoopbackError::SendError(cause) => {
+            out.extend_from_slice(b"SendError ")?;
+            out.extend_from_slice(send_error_name(cause))
+        }
+        LoopbackError::UnexpectedLoopbackByte { expected, actual } => {
+            push_mismatch(alloc, out, *expected, *actual)
+        }
+        LoopbackError::UnexpectedLoopbackMsg { actual, .. } => {
+            out.extend_from_slice(b"UnexpectedLoopbackMsg ")?;
+            push_hex(out, actual)
+        }
+        LoopbackError::Stalled => out.extend_from_slice(b"Stalled"),
+    }
+}
+
+fn push_register(out: &mut Vec<u8>, name: &[u8], byte: u8) -> Result<(), AllocError>
+    ensures { OnOk result (out.new.items ≡ out.old.items ++ (name.now ++ hex_byte byte)) }
+{
+    out.extend_from_slice(name)?;
+    push_byte(out, byte)
+}
+
+fn push_setup(out: &mut Vec<u8>, dump: &ConfigRegisterDump) -> Result<(), AllocError>
+    ensures { OnOk result (out.new.items ≡ out.old.items ++ setup_text dump.now) }
+{
+    push_register(out, b" ier ", dump.ier.bits())?;
+    push_register(out, b" isr ", dump.isr.bits())?;
+    push_register(out, b" lcr ", dump.lcr.bits())?;
+    push_register(out, b" mcr ", dump.mcr.bits())
+}
+
+fn push_status(
+    alloc: Global,
+    out: &mut Vec<u8>,
+    dump: &ConfigRegisterDump,
+) -> Result<(), AllocError>
+    ensures { OnOk result (out.new.items ≡ out.old.items ++ status_text dump.now) }
+{
+    push_register(out, b" lsr ", dump.lsr.bits())?;
+    push_register(out, b" msr ", dump.msr.bits())?;
+    push_register(out, b" spr ", dump.spr)?;
+    out.extend_from_slice(b" divisor ")?;
+    push_number(alloc, out, usize::from(dump.divisor()))
+}
+
+fn push_answer(alloc: Global, out: &mut Vec<u8>, answer: &Answer) -> Result<(), AllocError>
+    ensures { OnOk result (out.new.items ≡ out.old.items ++ answer_text answer.now) }
+{
+    match answer {
+        Answer::Done => out.extend_from_slice(b"ok"),
+        Answer::Flag(true) => out.extend_from_slice(b"ok true"),
+        Answer::Flag(false) => out.extend_from_slice(b"ok false"),
+        Answer::Count(count) => {
+            out.extend_from_slice(b"ok ")?;
+            push_number(alloc, out, *count)
+        }
+        Answer::Bytes(bytes) => {
+            out.extend_from_slice(b"ok ")?;
+            push_hex(out, bytes)
+        }
+        Answer::Register(byte) => push_register(out, b"ok ", *byte),
+        Answer::Latch(low, high) => {
+            push_register(out, b"ok ", *low)?;
+            push_register(out, b" ", *high)
+        }
+        Answer::Dump(dump) => {
+            out.extend_from_slice(b"ok")?;
+            push_setup(out, dump)?;
+            push_status(alloc, out, dump)
+        }
+        Answer::Stalled(count) => {
+            out.extend_from_slice(b"stalled ")?;
+            push_number(alloc, out, *count)
+        }
+        Answer::ReceiveStalled(bytes) => {
+            out.extend_from_slice(b"stalled ")?;
+            push_number(alloc, out, bytes.len())?;
+            out.extend_from_slice(b" ")?;
+            push_hex(out, bytes)
+        }
+        Answer::InitRefused(error) => {
+            out.extend_from_slice(b"err ")?;
+            push_init_error(alloc, out, error)
+        }
+        Answer::LoopbackRefused(error) => {
+            out.extend_from_slice(b"err ")?;
+            push_loopback_error(alloc, out, error)
+        }
+        Answer::NotConnected(error) => {
+            out.extend_from_slice(b"err ")?;
+            out.extend_from_slice(remote_error_name(error))
+        }
+        Answer::NoData => out.extend_from_slice(b"err ByteReceiveError"),
+        Answer::NotSent(error) => {
+            out.extend_from_slice(b"err ")?;
+            out.extend_from_slice(send_error_name(error))
+        }
+    }
+}
+
+/// One line for each answer.
+fn push_answers(alloc: Global, out: &mut Vec<u8>, answers: &[Answer]) -> Result<(), AllocError>
+    ensures { OnOk result (out.new.items ≡ out.old.items ++ answer_lines answers.now) }
+{
+    for answer in answers {
+        push_answer(alloc, out, answer)?;
+        out.push(b'\n')?;
+    }
+    Ok(())
+}
+
+fn push_bytes_line(out: &mut Vec<u8>, name: &[u8], bytes: &[u8]) -> Result<(), AllocError>
+    ensures { OnOk result (out.new.items ≡ out.old.items ++ line (name.now ++ hex bytes.now)) }
+{
+    out.extend_from_slice(name)?;
+    push_hex(out, bytes)?;
+    out.push(b'\n')?;
+    Ok(())
+}
+
+fn mark_letter(mark: ArrivalMark) -> u8
+    ensures { result ≡ mark_letter mark }
+{
+    match mark {
+        ArrivalMark::Pending => b'p',
+        ArrivalMark::Waiting => b'w',
+        ArrivalMark::Read => b'r',
+        ArrivalMark::Discarded => b'd',
+        ArrivalMark::Dropped => b'x',
+    }
+}
+
+fn push_letters(out: &mut Vec<u8>, marks: &[ArrivalMark]) -> Result<(), AllocError>
+    ensures { OnOk result (out.new.items ≡ out.old.items ++ map mark_letter marks.now) }
+{
+    for mark in marks {
+        out.push(mark_letter(*mark))?;
+    }
+    Ok(())
+}
+
+/// Marks in letters, or `-`.
+fn push_marks(out: &mut Vec<u8>, marks: &[ArrivalMark]) -> Result<(), AllocError>
+    ensures { OnOk result (out.new.items ≡ out.old.items ++ marks_text marks.now) }
+{
+    if marks.is_empty() {
+        out.push(b'-')?;
+        return Ok(());
+    }
+    push_letters(out, marks)
+}
+
+fn push_marks_line(out: &mut Vec<u8>, marks: &[ArrivalMark]) -> Result<(), AllocError>
+    ensures { OnOk result (out.new.items ≡ out.old.items ++ line (codes "marks " ++ marks_text marks.now)) }
+{
+    out.extend_from_slice(b"marks ")?;
+    push_marks(out, marks)?;
+    out.push(b'\n')?;
+    Ok(())
+}
+
+/// One line for each answer, and four for what is left of the machine: the wire, what the transmitter holds, what waits in
+/// the receiver, and the mark of each arrival.
+pub fn render(
+    alloc: Global,
+    answers: &[Answer],
+    wire: &[u8],
+    held: &[u8],
+    waiting: &[u8],
+    marks: &[ArrivalMark],
+) -> Result<Vec<u8>, AllocError>
+    ensures { IfOk result (λ text. text.items ≡ printed answers.now wire.now held.now waiting.now marks.now) }
+{
+    let mut out = Vec::new(alloc);
+    push_answers(alloc, &mut out, answers)?;
+    push_bytes_line(&mut out, b"wire ", wire)?;
+    push_bytes_line(&mut out, b"held ", held)?;
+    push_bytes_line(&mut out, b"waiting ", waiting)?;
+    push_marks_line(&mut out, marks)?;
+    Ok(out)
+}

@@ -1,6 +1,0 @@
-use Rattle.std.proofs.Common.{◌≡◌}
-use Rattle.uart_machine.specs.Receiver.{discard}
-use Rattle.uart_machine.proofs.receiver.discard.Given as goal
-
-abbrev pub invariant-loop-character : goal.invariant-loop-character
-invariant-loop-character l = discard l.character-iterator l.marks.items ≡ discard l.characters.items l.initial.marks.items

@@ -1,6 +1,0 @@
-use Rattle.std.proofs.Common.{take}
-use Rattle.uart_machine.specs.Run.{IsRun}
-use Rattle.uart_machine.proofs.running.run.Given as goal
-
-abbrev pub invariant-loop-i : goal.invariant-loop-i
-invariant-loop-i l = IsRun l.fn.uart (take l.i l.calls) (take l.i l.answers) l.uart

@@ -1,9 +1,0 @@
-use Rattle.std.proofs.Common.{length}
-use Rattle.uart_machine.proofs.ScriptDigits.{ReadsPairs}
-use Rattle.uart_machine.proofs.script.fields.pairs_of.Given as goal
-
-abbrev pub invariant-loop-rest : goal.invariant-loop-rest
-invariant-loop-rest l = ReadsPairs l.word l.bytes.items l.rest
-
-abbrev pub decreases-loop-rest : goal.decreases-loop-rest
-decreases-loop-rest l = length l.rest

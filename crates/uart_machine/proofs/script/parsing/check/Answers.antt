@@ -1,5 +1,0 @@
-use Rattle.uart_machine.proofs.ScriptReadings.{all_read}
-use Rattle.uart_machine.proofs.script.parsing.check.Goals as goal
-
-pub returns : goal.returns
-returns c = all_read c.loop-rest.number c.loop-rest.rest.now _ c.loop-rest-test.ensures c.loop-rest.invariant.0

@@ -1,0 +1,56 @@
+-- Runs: each call of one follows what is promised of it alone, and each session in it conserves.
+use Rattle.std.proofs.Common.{List, [], ◌∷◌, sym, subst}
+use Rattle.uart_calls.specs.declared.call.Call.{Call}
+use Rattle.uart_calls.specs.declared.call.Call.TheVariants as call
+use Rattle.uart_calls.specs.declared.call.Answer.{Answer}
+use Rattle.uart_device.specs.Sound.{IsSound}
+use Rattle.uart_run.specs.Run.{State, machine_of, Link, Chain, CallStep, IsRun}
+use Rattle.uart_run.specs.Ready.{ComesTo}
+use Rattle.uart_run.specs.Progress.{IsTimely, Succeeds}
+use Rattle.uart_run.specs.Session.{Follows, AllFollow, Ran}
+use Rattle.uart_run.proofs.Sessions.{session_conserves, sound_call, sound_chain}
+use Rattle.uart_run.proofs.Initialised.{initialises}
+use Rattle.uart_run.proofs.LoopTests.{tested}
+use Rattle.uart_run.proofs.ReadyKept.{follows_ready}
+use Rattle.uart_run.proofs.Succeeds.{flush_succeeds, write_succeeds, send_exact_succeeds, text_succeeds}
+use Rattle.uart_run.proofs.InitSucceeds.{init_succeeds}
+use Rattle.uart_run.proofs.LoopSucceeds.{test_succeeds}
+
+-- what a call comes to
+comes_to : (s t : State) (call : Call) (a : Answer) → IsSound (machine_of s) → CallStep s call a t → ComesTo s call a t
+comes_to s t (call.Init config) a w h = initialises s t config a w h
+comes_to s t call.TestLoopback a w h = λ ready. tested s t a w ready h
+comes_to s t other a w h = tt
+
+-- and that it succeeds
+succeeds : (s t : State) (call : Call) (a : Answer) → IsSound (machine_of s) → CallStep s call a t → IsTimely s → Succeeds s call a
+succeeds s t (call.Init config) a w h timely = λ room divisor. init_succeeds s t config a w timely room divisor h (initialises s t config a w h).is_present
+succeeds s t call.TestLoopback a w h timely = λ ready room. test_succeeds s t a w ready timely room h
+succeeds s t call.Flush a w h timely = λ ready room. flush_succeeds s t a h.did.list h.result w timely room h.answered h.did.does.0 h.did.path
+succeeds s t (call.SendExact bytes) a w h timely = λ ready off room. send_exact_succeeds s t a h.did.list bytes.items h.result w ready timely off room h.answered h.did.does.0 h.did.path
+succeeds s t (call.Write bytes) a w h timely = λ ready off room. write_succeeds s t a h.did.list bytes.items h.result w timely off room h.answered h.did.does.0 h.did.path
+succeeds s t (call.Text text) a w h timely = λ ready off room. text_succeeds s t a h.1.did.list text.bytes h.1.result w ready timely off room h.1.answered h.1.did.does.0 h.1.did.path
+succeeds s t other a w h timely = tt
+
+follow_chain : (s t : State) (links : List Link) → IsSound (machine_of s) → Chain s links t → AllFollow links
+follow_chain s t [] w h = tt
+follow_chain s t (link ∷ links) w h =
+    let S : State → Type 0 = λ v. IsSound (machine_of v) in
+    let begins = subst S (sym h.0) w in
+    let follows : Follows link.before link.call link.answer link.after = record {
+      ready = follows_ready link.before link.after link.call link.answer begins h.1;
+      comes_to = comes_to link.before link.after link.call link.answer begins h.1;
+      succeeds = succeeds link.before link.after link.call link.answer begins h.1;
+    } in
+    (follows, follow_chain link.after t links (sound_call link.before link.after link.call link.answer begins h.1) h.2)
+
+-- a run from a sound machine
+pub ran : (s t : State) (calls : List Call) (answers : List Answer) → IsSound (machine_of s) → IsRun s calls answers t → Ran s calls answers t
+ran s t calls answers sound r = record {
+  links = r.links;
+  chain = r.chain;
+  calls_same = r.calls_same;
+  answers_same = r.answers_same;
+  follows = follow_chain s t r.links sound r.chain;
+  sessions = λ front session rest a b parts before within after is. session_conserves a b session (sound_chain s a front sound before) is within;
+}

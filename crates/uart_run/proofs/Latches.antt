@@ -1,0 +1,194 @@
+-- What the registers keep: the writes alone tell of it, whatever events come between them.
+use Rattle.std.proofs.Common.{◌≡◌, ℕ, zero, suc, Bool, true, false, ◌==◌, List, [], ◌∷◌, ◌++◌, refl, ◌∙◌, ap, bit_and, if◌then◌else◌}
+use Rattle.uart_chip.specs.declared.chip.Latches.{Latches}
+use Rattle.uart_chip.specs.declared.event.Chip.{Chip}
+use Rattle.uart_chip.specs.declared.event.Chip.TheVariants.{Uart16550A, Uart16450}
+use Rattle.uart_chip.specs.declared.event.Event.{Event}
+use Rattle.uart_chip.specs.declared.event.Event.TheVariants.{Ticks, Arrive, Lines, Access as Gate, Mark}
+use Rattle.uart_16550.specs.Access.{Access, Read, Write, Path}
+use Rattle.uart_16550.specs.Driver.{Fields}
+use Rattle.uart_chip.specs.Registers.{has_any, offset_data, offset_ier, offset_isr, offset_fcr, offset_lcr, offset_mcr, offset_lsr, offset_msr, offset_scr, ier_bits, mcr_bits, isr_thr_empty, fcr_enable, fcr_receiver_reset, fcr_transmitter_reset}
+use Rattle.uart_chip.specs.Receiver.{clear}
+use Rattle.uart_chip.specs.Chip.{ChipState, word_length, cut_to, is_dlab_set, ticks, arrive, change_lines, interrupt, after_read, after_write, trigger_of, switch, reset_receiver, reset_transmitter, set_trigger, is_same, set_fifo, control}
+use Rattle.uart_chip.specs.Machine.{MachineState, MachineStep, before_access, at_access, before_mark, at_mark}
+
+-- what is kept until it is written: the latches, and whether the FIFO is on; and the model and the option, which are never written
+pub record Kept : Type 0 where
+  pub latches : Latches
+  pub fifo : Bool
+  pub model : Chip
+  pub cuts : Bool
+
+abbrev pub kept_in : ChipState → Kept
+kept_in c = record { latches = c.latches; fifo = c.fifo; model = c.model; cuts = c.cuts }
+
+-- how a byte is cut
+abbrev pub kept_cut : Kept → ℕ → ℕ
+kept_cut k byte = cut_to k.cuts (word_length k.latches.lcr) byte
+
+-- what is kept after a write of the FIFO control register
+abbrev pub keep_control : Chip → ℕ → Kept → Kept
+keep_control Uart16450 value k = k
+keep_control Uart16550A value k = record k { fifo = has_any value fcr_enable }
+
+-- after a write of any register
+abbrev pub keep_write : ℕ → ℕ → Kept → Kept
+keep_write offset value k =
+    if offset == offset_data then (if is_dlab_set k.latches then record k { latches = record k.latches { dll = value } } else k)
+    else if offset == offset_ier then (if is_dlab_set k.latches then record k { latches = record k.latches { dlm = value } } else record k { latches = record k.latches { ier = bit_and value ier_bits } })
+    else if offset == offset_fcr then keep_control k.model value k
+    else if offset == offset_lcr then record k { latches = record k.latches { lcr = value } }
+    else if offset == offset_mcr then record k { latches = record k.latches { mcr = bit_and value mcr_bits } }
+    else if offset == offset_scr then record k { latches = record k.latches { scr = value } }
+    else k
+
+-- after an access: a read changes nothing of it
+abbrev pub keep : Access → Kept → Kept
+keep (Read offset answer) k = k
+keep (Write offset value) k = keep_write offset value k
+
+-- and after some, one after the other
+abbrev pub kept_after : List Access → Kept → Kept
+kept_after [] k = k
+kept_after (access ∷ accesses) k = kept_after accesses (keep access k)
+
+pub kept_after-append : (xs ys : List Access) (k : Kept) → kept_after (xs ++ ys) k ≡ kept_after ys (kept_after xs k)
+kept_after-append [] ys k = refl
+kept_after-append (x ∷ xs) ys k = kept_after-append xs ys (keep x k)
+
+-- ---- what changes nothing of it
+
+kept_if : (b : Bool) (x y : ChipState) (p q : Kept) → kept_in x ≡ p → kept_in y ≡ q → kept_in (if b then x else y) ≡ (if b then p else q)
+kept_if true x y p q h k = h
+kept_if false x y p q h k = k
+
+same_if : (b : Bool) (x y : ChipState) (k : Kept) → kept_in x ≡ k → kept_in y ≡ k → kept_in (if b then x else y) ≡ k
+same_if true x y k p q = p
+same_if false x y k p q = q
+
+kept-ticks : (n : ℕ) (c : ChipState) → kept_in (ticks n c) ≡ kept_in c
+kept-ticks zero c = refl
+kept-ticks (suc n) c = kept-ticks n c
+
+-- the events before an access
+pub kept-before : (events : List Event) (c : ChipState) → kept_in (before_access events c) ≡ kept_in c
+kept-before [] c = refl
+kept-before (Ticks n ∷ events) c = kept-before events (ticks n c) ∙ kept-ticks n c
+kept-before (Arrive byte errors ∷ events) c = kept-before events (arrive byte errors c)
+kept-before (Lines inputs ∷ events) c = kept-before events (change_lines inputs c)
+kept-before (Gate ∷ events) c = refl
+kept-before (Mark ∷ events) c = refl
+
+-- a read
+kept-read : (offset : ℕ) (c : ChipState) → kept_in (after_read offset c) ≡ kept_in c
+kept-read offset c =
+    let k = kept_in c in
+    same_if (offset == offset_data) _ _ k (same_if (is_dlab_set c.latches) _ _ k refl refl)
+    (same_if (offset == offset_isr) _ _ k (same_if (interrupt c == isr_thr_empty) _ _ k refl refl)
+    (same_if (offset == offset_lsr) _ _ k refl (same_if (offset == offset_msr) _ _ k refl refl)))
+
+-- ---- a write
+
+same_true : (a b : Bool) → is_same a b ≡ true → a ≡ b
+same_true true true e = refl
+same_true true false e = absurd (cc)
+same_true false true e = absurd (cc)
+same_true false false e = refl
+
+-- of the FIFO control register: the FIFO is as the bit says
+kept-switched : (on : Bool) (c : ChipState) → kept_in (if is_same c.fifo on then c else switch on c) ≡ record (kept_in c) { fifo = on }
+kept-switched on c = go (is_same c.fifo on) refl
+  where
+    go : (b : Bool) → is_same c.fifo on ≡ b → kept_in (if b then c else switch on c) ≡ record (kept_in c) { fifo = on }
+    go true e = ap (λ (f : Bool). record (kept_in c) { fifo = f }) (same_true c.fifo on e)
+    go false e = refl
+
+kept-fifo : (value : ℕ) (c : ChipState) → kept_in (set_fifo value c) ≡ record (kept_in c) { fifo = has_any value fcr_enable }
+kept-fifo value c =
+    let on : Bool = has_any value fcr_enable in
+    let k : Kept = record (kept_in c) { fifo = on } in
+    let d : ChipState = if is_same c.fifo on then c else switch on c in
+    let a : kept_in d ≡ k = kept-switched on c in
+    let e : ChipState = reset_receiver value d in
+    let b : kept_in e ≡ k = same_if (has_any value fcr_receiver_reset) (record d { receiver = clear d.receiver }) d k a a in
+    let f : ChipState = reset_transmitter value e in
+    let g : kept_in f ≡ k = same_if (has_any value fcr_transmitter_reset) (record e { transmitter = record e.transmitter { queue = []; is_thr_pending = true } }) e k b b in
+    same_if on (set_trigger (trigger_of value) f) d k g a
+
+kept-control : (model : Chip) (value : ℕ) (c : ChipState) → kept_in (control model value c) ≡ keep_control model value (kept_in c)
+kept-control Uart16450 value c = refl
+kept-control Uart16550A value c = kept-fifo value c
+
+kept-write : (offset value : ℕ) (c : ChipState) → kept_in (after_write offset value c) ≡ keep_write offset value (kept_in c)
+kept-write offset value c =
+    kept_if (offset == offset_data) _ _ _ _ (kept_if (is_dlab_set c.latches) _ _ _ _ refl refl)
+    (kept_if (offset == offset_ier) _ _ _ _ (kept_if (is_dlab_set c.latches) _ _ _ _ refl refl)
+    (kept_if (offset == offset_fcr) _ _ _ _ (kept-control c.model value c)
+    (kept_if (offset == offset_lcr) _ _ _ _ refl
+    (kept_if (offset == offset_mcr) _ _ _ _ refl
+    (kept_if (offset == offset_scr) _ _ _ _ refl refl)))))
+
+-- ---- the machine
+
+pub kept_access : (m : MachineState) → kept_in (at_access m).chip ≡ kept_in m.chip
+kept_access m = kept-before m.ahead m.chip
+
+pub kept_step : (access : Access) (m n : MachineState) → MachineStep m access n → kept_in n.chip ≡ keep access (kept_in m.chip)
+kept_step (Read offset answer) m n s = ap (λ (o : MachineState). kept_in o.chip) s.0 ∙ (kept-read offset (at_access m).chip ∙ kept_access m)
+kept_step (Write offset value) m n s =
+    ap (λ (o : MachineState). kept_in o.chip) s ∙ (kept-write offset value (at_access m).chip ∙ ap (keep_write offset value) (kept_access m))
+
+pub kept_path : (made : List Access) (m n : MachineState) → Path MachineStep m made n → kept_in n.chip ≡ kept_after made (kept_in m.chip)
+kept_path [] m n p = ap (λ (o : MachineState). kept_in o.chip) p
+kept_path (access ∷ accesses) m n p = kept_path accesses p.0 n p.2 ∙ ap (kept_after accesses) (kept_step access m p.0 p.1)
+
+-- by what the list is
+pub kept_list : (l made : List Access) (m n : MachineState) → l ≡ made → Path MachineStep m l n → kept_in n.chip ≡ kept_after made (kept_in m.chip)
+kept_list l made m n is p = kept_path l m n p ∙ ap (λ k. kept_after k (kept_in m.chip)) is
+
+-- what is kept is as after these accesses, and the driver takes the FIFO to be as before
+pub record LeftBy (made : List Access) (f after : Fields) (m n : MachineState) : Type 0 where
+  pub kept : kept_in n.chip ≡ kept_after made (kept_in m.chip)
+  pub knows : after.fifo ≡ f.fifo
+
+-- ---- what no access and no event changes
+
+-- the option
+abbrev pub CutsAs : Bool → MachineState → Type 0
+CutsAs cuts m = m.chip.cuts ≡ cuts
+
+cuts-control : (model : Chip) (value : ℕ) (k : Kept) → (keep_control model value k).cuts ≡ k.cuts
+cuts-control Uart16450 value k = refl
+cuts-control Uart16550A value k = refl
+
+cuts_if : (b : Bool) (x y k : Kept) → x.cuts ≡ k.cuts → y.cuts ≡ k.cuts → (if b then x else y).cuts ≡ k.cuts
+cuts_if true x y k p q = p
+cuts_if false x y k p q = q
+
+cuts-keep : (access : Access) (k : Kept) → (keep access k).cuts ≡ k.cuts
+cuts-keep (Read offset answer) k = refl
+cuts-keep (Write offset value) k =
+    cuts_if (offset == offset_data) _ _ k (cuts_if (is_dlab_set k.latches) _ _ k refl refl)
+    (cuts_if (offset == offset_ier) _ _ k (cuts_if (is_dlab_set k.latches) _ _ k refl refl)
+    (cuts_if (offset == offset_fcr) _ _ k (cuts-control k.model value k)
+    (cuts_if (offset == offset_lcr) _ _ k refl
+    (cuts_if (offset == offset_mcr) _ _ k refl
+    (cuts_if (offset == offset_scr) _ _ k refl refl)))))
+
+cuts-after : (made : List Access) (k : Kept) → (kept_after made k).cuts ≡ k.cuts
+cuts-after [] k = refl
+cuts-after (access ∷ accesses) k = cuts-after accesses (keep access k) ∙ cuts-keep access k
+
+pub cuts_path : (cuts : Bool) (made : List Access) (m n : MachineState) → CutsAs cuts m → Path MachineStep m made n → CutsAs cuts n
+cuts_path cuts made m n e p = ap (λ (k : Kept). k.cuts) (kept_path made m n p) ∙ (cuts-after made (kept_in m.chip) ∙ e)
+
+kept-before_mark : (events : List Event) (c : ChipState) → kept_in (before_mark events c) ≡ kept_in c
+kept-before_mark [] c = refl
+kept-before_mark (Ticks n ∷ events) c = kept-before_mark events (ticks n c) ∙ kept-ticks n c
+kept-before_mark (Arrive byte errors ∷ events) c = kept-before_mark events (arrive byte errors c)
+kept-before_mark (Lines inputs ∷ events) c = kept-before_mark events (change_lines inputs c)
+kept-before_mark (Gate ∷ events) c = kept-before_mark events c
+kept-before_mark (Mark ∷ events) c = refl
+
+pub cuts_mark : (cuts : Bool) (m : MachineState) → CutsAs cuts m → CutsAs cuts (at_mark m)
+cuts_mark cuts m e = ap (λ (k : Kept). k.cuts) (kept-before_mark m.ahead m.chip) ∙ e

@@ -1,0 +1,23 @@
+-- Whatever a call answers, it leaves a ready state ready.
+use Rattle.std.proofs.Common.{[], ◌∷◌, refl}
+use Rattle.uart_calls.specs.declared.call.Call.{Call}
+use Rattle.uart_calls.specs.declared.call.Call.TheVariants as call
+use Rattle.uart_calls.specs.declared.call.Answer.{Answer}
+use Rattle.uart_run.specs.Run.{State, machine_of, Link, CallStep}
+use Rattle.uart_run.specs.Ready.{Ready}
+use Rattle.uart_device.specs.Sound.{IsSound}
+use Rattle.uart_run.specs.Session.{IsWithinSession}
+use Rattle.uart_run.proofs.Sessions.{session_conserves}
+use Rattle.uart_run.proofs.Initialised.{init_ready}
+use Rattle.uart_run.proofs.TestedReady.{tested_ready}
+
+-- a call within a session is a session of its own
+alone : (s t : State) (call : Call) (a : Answer) → IsWithinSession call → IsSound (machine_of s) → CallStep s call a t → Ready s → Ready t
+alone s t call a within w h ready =
+    let link : Link = record { before = s; call = call; answer = a; after = t } in
+    (session_conserves s t (link ∷ []) w (ready, (within, tt)) (refl, h, refl)).ready
+
+pub follows_ready : (s t : State) (call : Call) (a : Answer) → IsSound (machine_of s) → CallStep s call a t → Ready s → Ready t
+follows_ready s t (call.Init config) a w h ready = init_ready s t config a w h ready
+follows_ready s t call.TestLoopback a w h ready = tested_ready s t a w h ready
+follows_ready s t other a w h ready = alone s t other a tt w h ready

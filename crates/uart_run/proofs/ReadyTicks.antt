@@ -1,0 +1,24 @@
+-- Ticks outside of the schedule leave a ready state ready.
+use Rattle.std.proofs.Common.{◌≡◌, ℕ, zero, suc, refl, sym, ◌∙◌, ap}
+use Rattle.uart_16550.specs.Driver.{Fields}
+use Rattle.uart_chip.specs.Chip.{ChipState, is_dlab_set, is_loopback, ticks}
+use Rattle.uart_chip.specs.Machine.{MachineState}
+use Rattle.uart_run.specs.Run.{machine_of}
+use Rattle.uart_run.specs.Ready.{KeepsReady}
+use Rattle.uart_device.proofs.Sounds.{latches-ticks}
+
+fifo-ticks : (n : ℕ) (c : ChipState) → (ticks n c).fifo ≡ c.fifo
+fifo-ticks zero c = refl
+fifo-ticks (suc n) c = fifo-ticks n c
+
+pub ready_ticks : (n : ℕ) (m o : MachineState) → o ≡ record m { chip = ticks n m.chip } → KeepsReady m o
+ready_ticks n m o e s t f g h r =
+    let l : (machine_of t).chip.latches ≡ (machine_of s).chip.latches =
+    ap (λ (x : MachineState). x.chip.latches) (g ∙ e) ∙ (latches-ticks n m.chip ∙ sym (ap (λ (x : MachineState). x.chip.latches) f)) in
+    let b : (machine_of t).chip.fifo ≡ (machine_of s).chip.fifo =
+    ap (λ (x : MachineState). x.chip.fifo) (g ∙ e) ∙ (fifo-ticks n m.chip ∙ sym (ap (λ (x : MachineState). x.chip.fifo) f)) in
+    record {
+      dlab = ap is_dlab_set l ∙ r.dlab;
+      loopback = ap is_loopback l ∙ r.loopback;
+      fifo = b ∙ (r.fifo ∙ sym (ap (λ (x : Fields). x.fifo) h));
+    }

@@ -1,0 +1,104 @@
+-- What a session conserves, carried over its calls.
+use Rattle.std.proofs.Common.{ℕ, List, [], ◌∷◌, ◌++◌, map, ap, sym, ◌∙◌, subst}
+use Rattle.uart_16550.specs.Access.{Access, Path}
+use Rattle.uart_16550.specs.Driver.{Doing, Did}
+use Rattle.uart_16550.specs.Tty.{inner_of}
+use Rattle.uart_calls.specs.declared.call.Call.{Call}
+use Rattle.uart_calls.specs.declared.call.Call.TheVariants as call
+use Rattle.uart_calls.specs.declared.call.Answer.{Answer}
+use Rattle.uart_chip.specs.Machine.{MachineState, MachineStep, at_mark}
+use Rattle.uart_device.specs.Sound.{IsSound}
+use Rattle.uart_device.specs.Conserved.{out}
+use Rattle.uart_run.specs.Run.{State, machine_of, Link, Chain, CallStep}
+use Rattle.uart_run.specs.Session.{AllWithinSession, IsSession, reported, received, Conserves}
+use Rattle.uart_device.proofs.Sounds.{sound_path, sound_mark}
+use Rattle.uart_device.proofs.Went.{Modes, dlab-in, loopback-in}
+use Rattle.uart_device.proofs.SessionLaws.{received_kept}
+use Rattle.uart_run.proofs.CallLaws.{InSession}
+use Rattle.uart_run.proofs.SessionCalls.{modes_of, in_session, passes_chain}
+use Rattle.uart_run.proofs.StatusSessions.{tells_in}
+use Rattle.uart_run.proofs.Served.{serves_chain}
+
+-- ---- what was conserved
+
+pub conserves : (x : Modes) (s t : State) (links : List Link) → InSession x s → AllWithinSession links → Chain s links t → Conserves s links t
+conserves x s t links w within chain =
+    let p = passes_chain x s t links w within chain in
+    let went = p.passed.passed.went in
+    record {
+      ready = record {
+        dlab = dlab-in x (machine_of t).chip went.modes ∙ w.open_modes.dlab;
+        loopback = loopback-in x (machine_of t).chip went.modes ∙ w.open_modes.loopback;
+        fifo = went.modes.fifo ∙ sym w.fifo ∙ sym p.fifo;
+      };
+      sent = went.sends.grows ∙ sym (ap (λ (f : ℕ → ℕ). out (machine_of s) ++ map f (reported links)) w.stands.modes.cut);
+      no_overflow = went.sends.same_overflows;
+      kept = received_kept x (machine_of s) (machine_of t) p.made (reported links) (received links) w.stands.modes p.passed;
+      tells = tells_in x s t links w within chain;
+      served = serves_chain x s t links w within chain;
+    }
+
+-- a session conserves
+pub session_conserves : (s t : State) (links : List Link) → IsSound (machine_of s) → IsSession s links → Chain s links t → Conserves s links t
+session_conserves s t links sound session chain = conserves (modes_of s) s t links (in_session s session.0 sound) session.1 chain
+
+-- ---- what every call keeps
+
+-- every list of accesses keeps it, and so do the events up to a mark
+pub record Lasts (P : MachineState → Type 0) : Type 0 where
+  pub path : (made : List Access) (m n : MachineState) → P m → Path MachineStep m made n → P n
+  pub mark : (m : MachineState) → P m → P (at_mark m)
+
+lasts_did : {P : MachineState → Type 0} {G : Doing} (s t : State) → Lasts P → P (machine_of s) → Did MachineStep G (inner_of s) (inner_of t) →
+    P (machine_of t)
+lasts_did s t k w did = k.path did.list (machine_of s) (machine_of t) w did.path
+
+pub lasts_call : {P : MachineState → Type 0} (s t : State) (call : Call) (a : Answer) → Lasts P → P (machine_of s) → CallStep s call a t →
+    P (machine_of t)
+lasts_call s t call.Next a k w h = rw h.machine (k.mark (machine_of s) w)
+lasts_call s t call.FifoEnabled a k w h = rw h.1 w
+lasts_call s t (call.Enable bits) a k w h = lasts_did s t k w h.1
+lasts_call s t (call.Disable bits) a k w h = lasts_did s t k w h.1
+lasts_call s t (call.Text text) a k w h = lasts_did s t k w h.1.did
+lasts_call s t (call.Init config) a k w h = lasts_did s t k w h.did
+lasts_call s t call.TestLoopback a k w h = lasts_did s t k w h.did
+lasts_call s t call.CheckPresent a k w h = lasts_did s t k w h.did
+lasts_call s t call.CheckConnected a k w h = lasts_did s t k w h.did
+lasts_call s t call.ReadyToReceive a k w h = lasts_did s t k w h.did
+lasts_call s t call.ReadyToSend a k w h = lasts_did s t k w h.did
+lasts_call s t call.TryReceive a k w h = lasts_did s t k w h.did
+lasts_call s t call.Flush a k w h = lasts_did s t k w h.did
+lasts_call s t call.ReadReady a k w h = lasts_did s t k w h.did
+lasts_call s t call.WriteReady a k w h = lasts_did s t k w h.did
+lasts_call s t call.Ier a k w h = lasts_did s t k w h.did
+lasts_call s t call.Isr a k w h = lasts_did s t k w h.did
+lasts_call s t call.Lcr a k w h = lasts_did s t k w h.did
+lasts_call s t call.Mcr a k w h = lasts_did s t k w h.did
+lasts_call s t call.Lsr a k w h = lasts_did s t k w h.did
+lasts_call s t call.Msr a k w h = lasts_did s t k w h.did
+lasts_call s t call.Spr a k w h = lasts_did s t k w h.did
+lasts_call s t call.DllDlm a k w h = lasts_did s t k w h.did
+lasts_call s t call.Dump a k w h = lasts_did s t k w h.did
+lasts_call s t (call.TrySend byte) a k w h = lasts_did s t k w h.did
+lasts_call s t (call.Receive slots) a k w h = lasts_did s t k w h.did
+lasts_call s t (call.ReceiveExact slots) a k w h = lasts_did s t k w h.did
+lasts_call s t (call.Read slots) a k w h = lasts_did s t k w h.did
+lasts_call s t (call.Send bytes) a k w h = lasts_did s t k w h.did
+lasts_call s t (call.SendExact bytes) a k w h = lasts_did s t k w h.did
+lasts_call s t (call.Write bytes) a k w h = lasts_did s t k w h.did
+
+pub lasts_chain : {P : MachineState → Type 0} (s t : State) (links : List Link) → Lasts P → P (machine_of s) → Chain s links t → P (machine_of t)
+lasts_chain s t [] k w h = rw h w
+lasts_chain {P} s t (link ∷ links) k w h =
+    let S : State → Type 0 = λ v. P (machine_of v) in
+    lasts_chain link.after t links k (lasts_call link.before link.after link.call link.answer k (subst S (sym h.0) w) h.1) h.2
+
+-- soundness lasts
+lasts_sound : Lasts IsSound
+lasts_sound = record { path = sound_path; mark = sound_mark }
+
+pub sound_call : (s t : State) (call : Call) (a : Answer) → IsSound (machine_of s) → CallStep s call a t → IsSound (machine_of t)
+sound_call s t call a w h = lasts_call s t call a lasts_sound w h
+
+pub sound_chain : (s t : State) (links : List Link) → IsSound (machine_of s) → Chain s links t → IsSound (machine_of t)
+sound_chain s t links w h = lasts_chain s t links lasts_sound w h

@@ -1,0 +1,75 @@
+-- Lists of accesses that send nothing: of languages, and of what a call does.
+use Rattle.std.proofs.Common.{ℕ, zero, suc, Bool, true, false, inl, inr, List, [], ◌∷◌, ◌++◌, Option, Some, None, refl}
+use Rattle.uart_spec.specs.declared.registers.fifo_trigger_level.FifoTriggerLevel.{FifoTriggerLevel}
+use Rattle.uart_16550.specs.Access.{Access, Read, Write}
+use Rattle.uart_16550.specs.Grammar.{Language, Settings, Only, Then, Times, FewMisses, Asks, Reads}
+use Rattle.uart_16550.specs.Driver.{Fields, Doing, Saving, Plain, Sets, Next, settings_of}
+use Rattle.uart_16550.specs.Init.{Keeps, ChecksPresence, SetsFifo, Discards, Drains}
+use Rattle.uart_device.proofs.Lasting.{AllSendNothing}
+
+-- ---- languages
+
+pub nothing_append : (xs ys : List Access) → AllSendNothing xs → AllSendNothing ys → AllSendNothing (xs ++ ys)
+nothing_append [] ys p q = q
+nothing_append (x ∷ xs) ys p q = (p.0, nothing_append xs ys p.1 q)
+
+abbrev pub IsSilent : Settings → Language → Type 0
+IsSilent s P = (l : List Access) → P s l → AllSendNothing l
+
+pub silent_only : (s : Settings) (list : List Access) → AllSendNothing list → IsSilent s (Only list)
+silent_only s list w l t = rw t.is w
+
+pub silent_then : (s : Settings) (P Q : Language) → IsSilent s P → IsSilent s Q → IsSilent s (Then P Q)
+silent_then s P Q p q l t = rw t.whole (nothing_append t.front t.back (p t.front t.first) (q t.back t.second))
+
+silent_times : (s : Settings) (n : ℕ) (P : Language) → IsSilent s P → IsSilent s (Times n P)
+silent_times s zero P p l t = silent_only s [] tt l t
+silent_times s (suc n) P p l t = silent_then s P (Times n P) p (λ k u. silent_times s n P p k u) l t
+
+pub silent_few : (s : Settings) (P : Language) → IsSilent s P → IsSilent s (FewMisses P)
+silent_few s P p l t = silent_times s t.0 P p l t.2
+
+pub silent_asks : (s : Settings) (register bits : ℕ) (outcome : Bool) → IsSilent s (Asks register bits outcome)
+silent_asks s register bits outcome l t = rw t.is (tt, tt)
+
+pub silent_sets_fifo : (s : Settings) (level : Option FifoTriggerLevel) (on : Bool) → IsSilent s (SetsFifo level on)
+silent_sets_fifo s None on l t = rw t.1 (refl, tt)
+silent_sets_fifo s (Some level) on l t = silent_then s _ (Asks 2 192 on) (silent_only s (Write 2 _ ∷ []) (refl, tt)) (silent_asks s 2 192 on) l t
+
+silent_reads : (s : Settings) (register : ℕ) → IsSilent s (Reads register)
+silent_reads s register l t = rw t.1 (tt, tt)
+
+-- ---- pieces of `init`
+
+silent_keeps : (s : Settings) (pattern : ℕ) (outcome : Bool) → IsSilent s (Keeps pattern outcome)
+silent_keeps s pattern outcome l t = rw t.2 (refl, (tt, tt))
+
+pub silent_presence : (s : Settings) → IsSilent s (ChecksPresence true)
+silent_presence s l t =
+    silent_then s _ _ (silent_only s (Read 7 t.0 ∷ []) (tt, tt))
+    (silent_then s _ _ (λ k u. silent_then s (Keeps 66 true) (Keeps 115 true) (silent_keeps s 66 true) (silent_keeps s 115 true) k u) (silent_only s (Write 7 t.0 ∷ []) (refl, tt))) l t.1
+
+silent_discards : (s : Settings) → IsSilent s Discards
+silent_discards s = silent_then s _ _ (silent_asks s 5 1 true) (silent_reads s 0)
+
+pub silent_drains : (s : Settings) → IsSilent s Drains
+silent_drains s l (inl t) = silent_times s 17 Discards (silent_discards s) l t
+silent_drains s l (inr t) = silent_then s _ _ (silent_times s t.0 Discards (silent_discards s)) (silent_asks s 5 1 false) l t.2
+
+-- ---- what a call does
+
+-- each of its lists sends nothing
+abbrev pub DoesSilently : Doing → Type 0
+DoesSilently G = (f after : Fields) (l : List Access) → G f l after → AllSendNothing l
+
+pub silent_next : (G H : Doing) → DoesSilently G → DoesSilently H → DoesSilently (Next G H)
+silent_next G H p q f after l t = rw t.whole (nothing_append t.front t.back (p f t.mid t.front t.first) (q t.mid after t.back t.second))
+
+pub silent_saving : (L : Language) → ((s : Settings) → IsSilent s L) → DoesSilently (Saving L)
+silent_saving L p f after l t = p (settings_of f) l t.0
+
+pub silent_plain : (L : Language) → ((s : Settings) → IsSilent s L) → DoesSilently (Plain L)
+silent_plain L p f after l t = p (settings_of f) l t.0
+
+pub silent_sets : (change : Fields → Fields) → DoesSilently (Sets change)
+silent_sets change f after l t = rw t.0 tt

@@ -1,0 +1,74 @@
+-- When a call must succeed: ticks come before each access, the spin limit is long enough, and the wire has room.
+use Rattle.std.specs.Prelude.{◌≡◌, ◌<◌, ◌≤◌, ℕ, ◌+◌, ◌*◌, false, List, [], ◌∷◌, length, Option, Some, None, Ok}
+use Rattle.uart_spec.specs.Config.{IsComputable}
+use Rattle.uart_spec.specs.declared.config.Config.{Config}
+use Rattle.uart_16550.specs.Driver.{fields}
+use Rattle.uart_16550.specs.Init.{DivisorOf}
+use Rattle.uart_16550.specs.Expansion.{expansion}
+use Rattle.uart_16550.specs.Tty.{inner_of}
+use Rattle.uart_calls.specs.declared.call.Call.{Call}
+use Rattle.uart_calls.specs.declared.call.Call.TheVariants as call
+use Rattle.uart_calls.specs.declared.call.Answer.{Answer}
+use Rattle.uart_calls.specs.declared.call.Answer.TheVariants.{Done, Count}
+use Rattle.uart_chip.specs.declared.event.Event.{Event}
+use Rattle.uart_chip.specs.declared.event.Event.TheVariants.{Ticks, Arrive, Lines, Access as Gate, Mark}
+use Rattle.uart_chip.specs.declared.transmitter.Shifting.{Shifting}
+use Rattle.uart_chip.specs.Transmitter.{TransmitterState}
+use Rattle.uart_chip.specs.Machine.{MachineState}
+use Rattle.uart_device.specs.Conserved.{out}
+use Rattle.uart_run.specs.Run.{State, machine_of}
+use Rattle.uart_run.specs.Served.{transmitter_of}
+use Rattle.uart_run.specs.Ready.{Ready, is_narrow, test_answer}
+
+-- each Access of these events has at least one tick after the Access or Mark before it, or after the beginning; of that one so many
+-- ticks have passed already
+abbrev pub TickedAfter : ℕ → List Event → Type 0
+TickedAfter passed [] = Unit {0}
+TickedAfter passed (Ticks n ∷ events) = TickedAfter (passed + n) events
+TickedAfter passed (Gate ∷ events) = (0 < passed) × TickedAfter 0 events
+TickedAfter passed (Mark ∷ events) = TickedAfter 0 events
+TickedAfter passed (Arrive byte errors ∷ events) = TickedAfter passed events
+TickedAfter passed (Lines inputs ∷ events) = TickedAfter passed events
+
+-- this of the schedule that is still to come
+abbrev pub IsTicked : MachineState → Type 0
+IsTicked m = TickedAfter 0 m.ahead
+
+-- the ticks until a shift place and a queue are empty: a character takes so many, and a free place takes one tick to be filled
+abbrev pub left_of : ℕ → Option Shifting → List ℕ → ℕ
+left_of char_ticks None [] = 0
+left_of char_ticks None (x ∷ xs) = 1 + char_ticks * length (x ∷ xs)
+left_of char_ticks (Some s) queue = s.ticks_left + char_ticks * length queue
+
+-- the ticks until the transmitter is empty: at most 17 character times
+abbrev pub left : TransmitterState → ℕ
+left t = left_of t.char_ticks t.shift_place t.queue
+
+-- the wire takes all that is to go out, and so many bytes more
+abbrev pub HasRoom : ℕ → MachineState → Type 0
+HasRoom n m = length (out m) + n ≤ m.chip.transmitter.capacity
+
+-- ticks come before each access, and the spin limit exceeds the ticks that the transmitter may take
+pub record IsTimely (s : State) : Type 0 where
+  pub ticked : IsTicked (machine_of s)
+  pub limit : 17 * ((transmitter_of s).char_ticks + 1) ≤ (fields (inner_of s)).limit
+
+-- the driver does not check CTS before it sends
+abbrev pub IsUnchecked : State → Type 0
+IsUnchecked s = (fields (inner_of s)).config.check_cts_before_sending ≡ false
+
+-- the arithmetic takes the configuration, and it has a divisor
+pub record HasDivisor (config : Config) : Type 0 where
+  pub computable : IsComputable config
+  pub divisor : ℕ
+  pub is_divisor : DivisorOf config (Ok divisor)
+
+-- with room on the wire for what it sends the call does not stall: an `init` from any state, the others from a ready one
+abbrev pub Succeeds : State → Call → Answer → Type 0
+Succeeds s (call.Init config) a = HasRoom 0 (machine_of s) → HasDivisor config → a ≡ Done
+Succeeds s call.TestLoopback a = Ready s → HasRoom 0 (machine_of s) → a ≡ test_answer (is_narrow (machine_of s).chip)
+Succeeds s call.Flush a = Ready s → HasRoom 0 (machine_of s) → a ≡ Done
+Succeeds s (call.SendExact bytes) a = Ready s → IsUnchecked s → HasRoom (length bytes.items) (machine_of s) → a ≡ Done
+Succeeds s (call.Write bytes) a = Ready s → IsUnchecked s → HasRoom (length bytes.items) (machine_of s) → (count : ℕ) × (a ≡ Count count)
+Succeeds s (call.Text text) a = Ready s → IsUnchecked s → HasRoom (length (expansion text.bytes)) (machine_of s) → a ≡ Done
+Succeeds s other a = Unit {0}

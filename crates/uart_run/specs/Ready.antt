@@ -1,0 +1,87 @@
+-- States in which a session may begin, and what an `init` and a loopback test come to over the machine.
+use Rattle.std.specs.Prelude.{◌≡◌, ◌≢◌, ◌⊎◌, Bool, true, false, ◌&&◌, nat_lt, Option, Some, None, Ok, bit_and}
+use Rattle.uart_spec.specs.declared.config.Config.{Config}
+use Rattle.uart_spec.specs.declared.errors.InitError.TheVariants.{DeviceNotPresent}
+use Rattle.uart_spec.specs.declared.errors.LoopbackError.TheVariants.{Stalled, UnexpectedLoopbackByte}
+use Rattle.uart_spec.specs.declared.registers.fifo_trigger_level.FifoTriggerLevel.{FifoTriggerLevel}
+use Rattle.uart_16550.specs.Driver.{fields}
+use Rattle.uart_16550.specs.Init.{DivisorOf, frame_bits}
+use Rattle.uart_16550.specs.Loopback.{test_byte}
+use Rattle.uart_16550.specs.Tty.{inner_of}
+use Rattle.uart_calls.specs.declared.call.Call.{Call}
+use Rattle.uart_calls.specs.declared.call.Call.TheVariants as call
+use Rattle.uart_calls.specs.declared.call.Answer.{Answer}
+use Rattle.uart_calls.specs.declared.call.Answer.TheVariants.{Done, InitRefused, LoopbackRefused}
+use Rattle.uart_chip.specs.declared.chip.Latches.{Latches}
+use Rattle.uart_chip.specs.declared.event.Chip.{Chip}
+use Rattle.uart_chip.specs.declared.event.Chip.TheVariants.{Uart16550A, Uart16450}
+use Rattle.uart_chip.specs.Registers.{ier_bits}
+use Rattle.uart_chip.specs.Chip.{ChipState, word_length, is_dlab_set, is_loopback, is_transmitter_empty, divisor}
+use Rattle.uart_chip.specs.Machine.{MachineState}
+use Rattle.uart_run.specs.Run.{State, machine_of}
+use Rattle.uart_run.specs.Served.{transmitter_of, IsFlushed}
+
+-- the latches of a state
+abbrev pub latches_of : State → Latches
+latches_of s = (machine_of s).chip.latches
+
+-- DLAB and loopback are off, and the chip's FIFO is on exactly if the driver takes it to be
+pub record Ready (s : State) : Type 0 where
+  pub dlab : is_dlab_set (latches_of s) ≡ false
+  pub loopback : is_loopback (latches_of s) ≡ false
+  pub fifo : (machine_of s).chip.fifo ≡ (fields (inner_of s)).fifo
+
+-- with the driver as it is, the second machine is ready where the first is
+abbrev pub KeepsReady : MachineState → MachineState → Type 0
+KeepsReady m n = (s t : State) → machine_of s ≡ m → machine_of t ≡ n → fields (inner_of t) ≡ fields (inner_of s) → Ready s → Ready t
+
+-- ---- after an `init`
+
+-- the chip has a FIFO
+abbrev pub has_fifo : Chip → Bool
+has_fifo Uart16550A = true
+has_fifo Uart16450 = false
+
+-- a level is configured
+abbrev pub is_level : Option FifoTriggerLevel → Bool
+is_level (Some level) = true
+is_level None = false
+
+-- what an `init` that is done leaves, whatever the machine was before it
+pub record IsInitialised (config : Config) (t : State) : Type 0 where
+  pub ready : Ready t
+  pub divisor_latch : DivisorOf config (Ok (divisor (latches_of t)))
+  pub lcr : (latches_of t).lcr ≡ frame_bits config
+  pub mcr : (latches_of t).mcr ≡ 11
+  pub ier : (latches_of t).ier ≡ bit_and config.interrupts.0 ier_bits
+  pub is_empty : is_transmitter_empty (transmitter_of t).queue (transmitter_of t).shift_place ≡ true
+  pub fifo : (machine_of t).chip.fifo ≡ (is_level config.fifo_trigger_level && has_fifo (machine_of t).chip.model)
+
+-- it finds the device, and leaves this where it is done
+pub record Initialises (config : Config) (a : Answer) (t : State) : Type 0 where
+  pub is_present : a ≢ InitRefused DeviceNotPresent
+  pub leaves : a ≡ Done → IsInitialised config t
+
+-- ---- after a loopback test
+
+-- characters are cut to fewer than the 7 bits of a test's bytes
+abbrev pub is_narrow : ChipState → Bool
+is_narrow c = c.cuts && nat_lt (word_length c.latches.lcr) 7
+
+-- what a test answers that does not stall: it is done, or its first byte comes back without the bit of 64
+abbrev pub test_answer : (is_narrow : Bool) → Answer
+test_answer false = Done
+test_answer true = LoopbackRefused (UnexpectedLoopbackByte test_byte 2)
+
+-- it answers this or stalls; if it does not stall, the transmitter is empty, and the wire holds what was to go out before it, and nothing else
+pub record IsTested (s : State) (a : Answer) (t : State) : Type 0 where
+  pub answers : (a ≡ test_answer (is_narrow (machine_of s).chip)) ⊎ (a ≡ LoopbackRefused Stalled)
+  pub leaves : a ≡ test_answer (is_narrow (machine_of s).chip) → IsFlushed s t
+
+-- ---- each call
+
+-- what a call comes to
+abbrev pub ComesTo : State → Call → Answer → State → Type 0
+ComesTo s (call.Init config) a t = Initialises config a t
+ComesTo s call.TestLoopback a t = Ready s → IsTested s a t
+ComesTo s other a t = Unit {0}

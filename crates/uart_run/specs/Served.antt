@@ -1,0 +1,42 @@
+-- What a call of a session does at least, whatever the schedule brings: it takes what waits, and a flush empties the transmitter.
+use Rattle.std.specs.Prelude.{◌≡◌, ◌<◌, ◌≤◌, ℕ, true, List, [], ◌∷◌, length, min}
+use Rattle.uart_calls.specs.declared.call.Call.{Call}
+use Rattle.uart_calls.specs.declared.call.Call.TheVariants as call
+use Rattle.uart_calls.specs.declared.call.Answer.{Answer}
+use Rattle.uart_calls.specs.declared.call.Answer.TheVariants as answer
+use Rattle.uart_chip.specs.Transmitter.{TransmitterState}
+use Rattle.uart_chip.specs.Chip.{is_transmitter_empty}
+use Rattle.uart_device.specs.Conserved.{out, waiting}
+use Rattle.uart_run.specs.Run.{State, machine_of, Link, bytes_answer}
+
+-- the answer holds at least so many bytes
+abbrev pub HoldsAtLeast : ℕ → Answer → Type 0
+HoldsAtLeast n a = (bytes : List ℕ) × (a ≡ bytes_answer bytes) × (n ≤ length bytes)
+
+-- how many bytes wait
+abbrev pub waiting_len : State → ℕ
+waiting_len s = length (waiting (machine_of s))
+
+-- the transmitter of a state
+abbrev pub transmitter_of : State → TransmitterState
+transmitter_of s = (machine_of s).chip.transmitter
+
+-- the transmitter is empty, and all that was in it has gone onto the wire
+pub record IsFlushed (s t : State) : Type 0 where
+  pub is_empty : is_transmitter_empty (transmitter_of t).queue (transmitter_of t).shift_place ≡ true
+  pub wire : (transmitter_of t).wire ≡ out (machine_of s)
+
+-- where a byte waits, a `try_receive_byte` gives one; calls into slots take as many as fit of what waits, an exact one
+-- doesn't stall if it asks for no more; and a `flush` that is done has emptied the transmitter
+abbrev pub Serves : State → Call → Answer → State → Type 0
+Serves s call.TryReceive a t = 0 < waiting_len s → (byte : ℕ) × (a ≡ answer.Register byte)
+Serves s (call.Receive slots) a t = 0 < waiting_len s → HoldsAtLeast (min slots (waiting_len s)) a
+Serves s (call.Read slots) a t = 0 < waiting_len s → HoldsAtLeast (min slots (waiting_len s)) a
+Serves s (call.ReceiveExact slots) a t = slots ≤ waiting_len s → HoldsAtLeast slots a
+Serves s call.Flush a t = a ≡ answer.Done → IsFlushed s t
+Serves s other a t = Unit {0}
+
+-- each of these calls
+abbrev pub AllServe : List Link → Type 0
+AllServe [] = Unit {0}
+AllServe (link ∷ links) = Serves link.before link.call link.answer link.after × AllServe links

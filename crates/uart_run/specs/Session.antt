@@ -1,0 +1,118 @@
+-- Sessions, and what holds in each.
+use Rattle.std.specs.Prelude.{◌≡◌, ℕ, List, [], ◌∷◌, ◌++◌, map, take}
+use Rattle.uart_16550.specs.Expansion.{expansion}
+use Rattle.uart_calls.specs.declared.call.Call.{Call}
+use Rattle.uart_calls.specs.declared.call.Call.TheVariants as call
+use Rattle.uart_calls.specs.declared.call.Answer.{Answer}
+use Rattle.uart_calls.specs.declared.call.Answer.TheVariants as answer
+use Rattle.uart_chip.specs.Chip.{cut_of}
+use Rattle.uart_device.specs.Conserved.{out, waiting, kept}
+use Rattle.uart_run.specs.Run.{State, machine_of, Link, Chain, calls_of, answers_of}
+use Rattle.uart_run.specs.Statuses.{Tells}
+use Rattle.uart_run.specs.Served.{AllServe}
+use Rattle.uart_run.specs.Ready.{Ready, ComesTo}
+use Rattle.uart_run.specs.Progress.{IsTimely, Succeeds}
+
+-- an `init` or a loopback test ends a session
+abbrev pub IsWithinSession : Call → Type 0
+IsWithinSession (call.Init config) = ⊥
+IsWithinSession call.TestLoopback = ⊥
+IsWithinSession other = Unit {0}
+
+abbrev pub AllWithinSession : List Link → Type 0
+AllWithinSession [] = Unit {0}
+AllWithinSession (link ∷ links) = IsWithinSession link.call × AllWithinSession links
+
+-- a session: it begins where the state is ready, and no call in it is an `init` or a loopback test
+abbrev pub IsSession : State → List Link → Type 0
+IsSession s links = Ready s × AllWithinSession links
+
+-- ---- what a call reported as sent, and what it received
+
+-- the count of an answer, and the count of a stall
+abbrev pub count_of : Answer → ℕ
+count_of (answer.Count count) = count
+count_of other = 0
+
+-- of these bytes all, or as many as the stall tells
+abbrev pub sent_of : List ℕ → Answer → List ℕ
+sent_of bytes answer.Done = bytes
+sent_of bytes (answer.Stalled done) = take done bytes
+sent_of bytes other = []
+
+abbrev pub sent_byte_of : ℕ → Answer → List ℕ
+sent_byte_of byte answer.Done = byte ∷ []
+sent_byte_of byte other = []
+
+abbrev pub reported_by : Call → Answer → List ℕ
+reported_by (call.TrySend byte) a = sent_byte_of byte a
+reported_by (call.Send bytes) a = take (count_of a) bytes.items
+reported_by (call.Write bytes) a = take (count_of a) bytes.items
+reported_by (call.SendExact bytes) a = sent_of bytes.items a
+reported_by (call.Text text) a = sent_of (expansion text.bytes) a
+reported_by other a = []
+
+abbrev pub byte_of : Answer → List ℕ
+byte_of (answer.Register byte) = byte ∷ []
+byte_of other = []
+
+abbrev pub bytes_of : Answer → List ℕ
+bytes_of (answer.Bytes bytes) = bytes.items
+bytes_of (answer.ReceiveStalled bytes) = bytes.items
+bytes_of other = []
+
+abbrev pub received_by : Call → Answer → List ℕ
+received_by call.TryReceive a = byte_of a
+received_by (call.Receive slots) a = bytes_of a
+received_by (call.ReceiveExact slots) a = bytes_of a
+received_by (call.Read slots) a = bytes_of a
+received_by other a = []
+
+-- over calls in turn
+abbrev pub reported : List Link → List ℕ
+reported [] = []
+reported (link ∷ links) = reported_by link.call link.answer ++ reported links
+
+abbrev pub received : List Link → List ℕ
+received [] = []
+received (link ∷ links) = received_by link.call link.answer ++ received links
+
+-- ---- what a session conserves
+
+abbrev pub overflows : State → ℕ
+overflows s = (machine_of s).chip.transmitter.overflows
+
+-- the wire and the transmitter grew by what was reported, no data write met a full transmitter, what was received and waits is what was
+-- kept; an `lsr` or `msr` at the end tells of drops, line errors and changes; and each call does at least what it is for
+pub record Conserves (s : State) (links : List Link) (t : State) : Type 0 where
+  pub ready : Ready t
+  pub sent : out (machine_of t) ≡ out (machine_of s) ++ map (cut_of (machine_of s).chip) (reported links)
+  pub no_overflow : overflows t ≡ overflows s
+  pub kept : received links ++ waiting (machine_of t) ≡ kept (machine_of s) (machine_of t)
+  pub tells : Tells s links t
+  pub served : AllServe links
+
+-- ---- what each call of a run does, in a session or not
+
+-- whatever it answers, it leaves a ready state ready; it comes to what it should; and where ticks come, it succeeds
+pub record Follows (s : State) (call : Call) (a : Answer) (t : State) : Type 0 where
+  pub ready : Ready s → Ready t
+  pub comes_to : ComesTo s call a t
+  pub succeeds : IsTimely s → Succeeds s call a
+
+-- each of these calls
+abbrev pub AllFollow : List Link → Type 0
+AllFollow [] = Unit {0}
+AllFollow (link ∷ links) = Follows link.before link.call link.answer link.after × AllFollow links
+
+-- ---- runs
+
+-- these calls, answered so, lead from s to t; each follows what is promised of it alone, and each session in them conserves
+pub record Ran (s : State) (calls : List Call) (answers : List Answer) (t : State) : Type 0 where
+  pub links : List Link
+  pub chain : Chain s links t
+  pub calls_same : calls_of links ≡ calls
+  pub answers_same : answers_of links ≡ answers
+  pub follows : AllFollow links
+  pub sessions : (front session rest : List Link) (a b : State) → links ≡ front ++ (session ++ rest) →
+      Chain s front a → Chain a session b → Chain b rest t → IsSession a session → Conserves a session b

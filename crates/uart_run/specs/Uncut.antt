@@ -1,0 +1,65 @@
+-- What holds of a run over a machine without the option: no byte is cut.
+use Rattle.std.specs.Prelude.{◌≡◌, ◌⊎◌, false, ℕ, List, [], ◌∷◌, ◌++◌, map, filter}
+use Rattle.uart_spec.specs.declared.errors.LoopbackError.TheVariants.{Stalled}
+use Rattle.uart_chip.specs.declared.receiver.Character.{Character}
+use Rattle.uart_calls.specs.declared.call.Call.{Call}
+use Rattle.uart_calls.specs.declared.call.Call.TheVariants as call
+use Rattle.uart_calls.specs.declared.call.Answer.{Answer}
+use Rattle.uart_calls.specs.declared.call.Answer.TheVariants.{Done, LoopbackRefused}
+use Rattle.uart_chip.specs.Machine.{MachineState}
+use Rattle.uart_device.specs.Conserved.{out, waiting, stands, arriving, between, entered}
+use Rattle.uart_run.specs.Run.{State, machine_of, Link, Chain, calls_of, answers_of}
+use Rattle.uart_run.specs.Served.{AllServe, IsFlushed}
+use Rattle.uart_run.specs.Statuses.{Tells}
+use Rattle.uart_run.specs.Ready.{Ready}
+use Rattle.uart_run.specs.Progress.{IsTimely, HasRoom}
+use Rattle.uart_run.specs.Session.{IsSession, reported, received, overflows, AllFollow}
+
+-- the machine does not cut characters to the word length
+abbrev pub IsUncut : State → Type 0
+IsUncut s = (machine_of s).chip.cuts ≡ false
+
+-- what waited in the first machine, and then what arrived up to the second
+abbrev pub entered_uncut : MachineState → MachineState → List Character
+entered_uncut m n = m.chip.receiver.queue ++ arriving m.chip.receiver.arrived (between m n)
+
+-- the bytes of these that were not dropped, as the second machine shows
+abbrev pub kept_uncut : MachineState → MachineState → List ℕ
+kept_uncut m n = map (λ character. character.byte) (filter (stands n.chip.receiver) (entered_uncut m n))
+
+-- a session: the wire and the transmitter grew by what was reported, no data write met a full transmitter, and what was
+-- received and what waits is what was kept; the other clauses are those of any machine, of the characters that entered
+pub record ConservesUncut (s : State) (links : List Link) (t : State) : Type 0 where
+  pub ready : Ready t
+  pub sent : out (machine_of t) ≡ out (machine_of s) ++ reported links
+  pub no_overflow : overflows t ≡ overflows s
+  pub kept : received links ++ waiting (machine_of t) ≡ kept_uncut (machine_of s) (machine_of t)
+  pub all_entered : entered (machine_of s) (machine_of t) ≡ entered_uncut (machine_of s) (machine_of t)
+  pub tells : Tells s links t
+  pub served : AllServe links
+
+-- a loopback test that is called where a session may begin: it is done or stalls; if it is done, the transmitter is empty and
+-- the wire holds what was to go out before it, and nothing else; and if ticks come and the wire has room, it is done
+pub record TestsUncut (s : State) (a : Answer) (t : State) : Type 0 where
+  pub answers : Ready s → (a ≡ Done) ⊎ (a ≡ LoopbackRefused Stalled)
+  pub leaves : Ready s → a ≡ Done → IsFlushed s t
+  pub succeeds : IsTimely s → Ready s → HasRoom 0 (machine_of s) → a ≡ Done
+
+abbrev pub FollowsUncut : State → Call → Answer → State → Type 0
+FollowsUncut s call.TestLoopback a t = TestsUncut s a t
+FollowsUncut s other a t = Unit {0}
+
+abbrev pub AllFollowUncut : List Link → Type 0
+AllFollowUncut [] = Unit {0}
+AllFollowUncut (link ∷ links) = FollowsUncut link.before link.call link.answer link.after × AllFollowUncut links
+
+-- these calls, answered so, lead from s to t; each follows what is promised of it alone, and each session in them conserves
+pub record RanUncut (s : State) (calls : List Call) (answers : List Answer) (t : State) : Type 0 where
+  pub links : List Link
+  pub chain : Chain s links t
+  pub calls_same : calls_of links ≡ calls
+  pub answers_same : answers_of links ≡ answers
+  pub follows : AllFollow links
+  pub tests : AllFollowUncut links
+  pub sessions : (front session rest : List Link) (a b : State) → links ≡ front ++ (session ++ rest) →
+      Chain s front a → Chain a session b → Chain b rest t → IsSession a session → ConservesUncut a session b

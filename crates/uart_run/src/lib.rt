@@ -1,0 +1,6 @@
+//! Runs of calls over the software chip, and what is proved of driver and chip together.
+#![tactic(auto)]
+
+mod running;
+
+pub use running::run;
