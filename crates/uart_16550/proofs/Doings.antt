@@ -3,7 +3,7 @@ use Rattle.std.proofs.Common.{◌≡◌, ◌+◌, ℕ, Bool, List, [], ◌∷◌
 use lib.Bits.{or_zero_r}
 use Rattle.std.specs.Int.NonZero.{non_zero_u64_get}
 use Rattle.uart_spec.specs.Bits.{has}
-use Rattle.uart_16550.specs.Access.{Access, Read, saved_lsr, saved_msr}
+use Rattle.uart_spec.specs.Access.{Access, Read, saved_lsr, saved_msr}
 use Rattle.uart_16550.specs.Grammar.{Language, Settings, Only, Then, Times, Asks, Reads}
 use Rattle.uart_16550.specs.Driver.{Made, Did, Doing, Fields, fields, settings_of, Saving, saving, Plain, Sets, Next}
 use Rattle.uart_16550.specs.declared.driver.Uart16550.{Uart16550}

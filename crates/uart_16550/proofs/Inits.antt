@@ -5,7 +5,7 @@ use Rattle.uart_spec.specs.BaudRate.{to_integer}
 use Rattle.uart_spec.specs.declared.errors.InitError.{InitError}
 use Rattle.uart_spec.specs.declared.errors.InvalidDivisorError.{InvalidDivisorError}
 use Rattle.uart_spec.specs.declared.config.Config.{Config}
-use Rattle.uart_16550.specs.Access.{Access, Write}
+use Rattle.uart_spec.specs.Access.{Access, Write}
 use Rattle.uart_16550.specs.Grammar.{Settings, Only, Then}
 use Rattle.uart_16550.specs.Driver.{Made, Did, Plain, with_config, with_fifo}
 use Rattle.uart_16550.specs.Init.{Keeps, KeepsPatterns, ChecksPresence, SetsFifo, Drains, Begins, DivisorOf, Inits, frame_bits, line_writes}

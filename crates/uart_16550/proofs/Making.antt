@@ -4,7 +4,7 @@ use Rattle.std.proofs.lemmas.Bool.Decides.{nat_tests}
 use Rattle.std.specs.Int.NonZero.{non_zero_u64_get}
 use lib.Bits.{or_zero_r}
 use Rattle.uart_spec.specs.Bits.{has}
-use Rattle.uart_16550.specs.Access.{Access, Read, Write, saved_lsr, saved_msr}
+use Rattle.uart_spec.specs.Access.{Access, Read, Write, saved_lsr, saved_msr}
 use Rattle.uart_16550.specs.Grammar.{Language, Settings, Only, Then, InOrder, Times, FewMisses, Asks, IfChecks}
 use Rattle.uart_16550.specs.Transmit.{SendHit, SendMiss, WaitsToSend, Round, data_writes}
 use Rattle.uart_16550.specs.Driver.{Made, settings}

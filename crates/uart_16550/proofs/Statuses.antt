@@ -1,7 +1,7 @@
 -- The status calls.
 use Rattle.std.proofs.Common.{◌≡◌, ℕ, [], ◌∷◌, ◌++◌, refl, ◌∙◌, ap, bit_or}
 use Rattle.std.specs.Int.NonZero.{non_zero_u64_get}
-use Rattle.uart_16550.specs.Access.{Access, Read}
+use Rattle.uart_spec.specs.Access.{Access, Read}
 use Rattle.uart_16550.specs.Grammar.{Only}
 use Rattle.uart_16550.specs.Driver.{Made, Did}
 use Rattle.uart_16550.specs.Status.{TakesLsr, TakesMsr, Dumps, divisor_accesses}

@@ -1,6 +1,6 @@
 -- Accesses of registers that lie at ports or at addresses.
 use Rattle.std.specs.Prelude.{ℕ}
-use Rattle.uart_16550.specs.Access.{Access, Read, Write}
+use Rattle.uart_spec.specs.Access.{Access, Read, Write}
 
 -- the access as it is made at the place of its register
 abbrev pub placed : (ℕ → ℕ) → Access → Access

@@ -1,7 +1,7 @@
 -- The devices that tests drive.
 use Rattle.std.specs.Prelude.{◌≡◌, ℕ, Bool, ◌&&◌, List, [], ◌∷◌, ◌++◌, ◌==◌, nat_lt, length, slice_index, slice_set, if◌then◌else◌, ⊤}
 use Rattle.uart_spec.specs.Bits.{has}
-use Rattle.uart_16550.specs.Access.{Access, Read, Write}
+use Rattle.uart_spec.specs.Access.{Access, Read, Write}
 
 -- a read answers this byte, whatever the register
 abbrev pub AnswersAlways : ℕ → Access → Type 0

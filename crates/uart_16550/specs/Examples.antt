@@ -1,6 +1,6 @@
 -- The devices of the examples.
 use Rattle.std.specs.Prelude.{◌≡◌, ℕ, ◌%◌, List, [], ◌∷◌, ◌++◌, ◌==◌, nat_lt, length, slice_index, slice_set, if◌then◌else◌, ◌&&◌}
-use Rattle.uart_16550.specs.Access.{Access, Read, Write}
+use Rattle.uart_spec.specs.Access.{Access, Read, Write}
 
 -- 32 cells of memory, which repeat: a load answers the cell of its address, and a store sets it
 abbrev pub CellStep : List ℕ → Access → List ℕ → Type 0

@@ -1,7 +1,7 @@
 -- Languages of register accesses: which whole lists a call may make.
 use Rattle.std.specs.Prelude.{◌≡◌, ◌<◌, ℕ, Bool, List, [], ◌∷◌, ◌++◌, MatchBool, zero, suc}
 use Rattle.uart_spec.specs.Bits.{has}
-use Rattle.uart_16550.specs.Access.{Access, Read}
+use Rattle.uart_spec.specs.Access.{Access, Read}
 
 -- what a call's lists depend on: whether CTS is checked before sending, whether the FIFO is on, and the spin limit
 pub record Settings : Type 0 where

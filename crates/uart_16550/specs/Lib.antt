@@ -1,4 +1,3 @@
-pub mod Access
 pub mod Grammar
 pub mod Receive
 pub mod Transmit

@@ -6,7 +6,7 @@ use Rattle.uart_spec.specs.Bits.{has}
 use Rattle.uart_spec.specs.declared.errors.StalledError.{StalledError}
 use Rattle.uart_spec.specs.declared.errors.LoopbackError.{LoopbackError}
 use Rattle.uart_spec.specs.declared.errors.LoopbackError.TheVariants.{Stalled, SendError, UnexpectedLoopbackByte, UnexpectedLoopbackMsg}
-use Rattle.uart_16550.specs.Access.{Read, Write}
+use Rattle.uart_spec.specs.Access.{Read, Write}
 use Rattle.uart_16550.specs.Grammar.{Language, Only, Then, InOrder, FewMisses, AllMisses, IfFifo}
 use Rattle.uart_16550.specs.Receive.{Hit, Miss, Awaited, ReceivesExact}
 use Rattle.uart_16550.specs.Transmit.{SendMiss, Round, SendsAll, SendsExact, TrySends, Waits}

@@ -6,7 +6,7 @@ use Rattle.std.specs.declared.num.NonZeroUsize.{NonZeroUsize}
 use Rattle.std.specs.declared.num.NonZeroU8.{NonZeroU8}
 use Rattle.uart_spec.specs.declared.errors.InvalidAddressError.{InvalidAddressError}
 use Rattle.uart_spec.specs.declared.errors.InvalidAddressError.TheVariants.{InvalidBaseAddress, InvalidStride}
-use Rattle.uart_16550.specs.Access.{Access}
+use Rattle.uart_spec.specs.Access.{Access}
 use Rattle.uart_16550.specs.Backend.{placed}
 
 -- the address of the first register, how many bytes apart the registers lie, and the object that reaches the memory

@@ -1,6 +1,6 @@
 -- A backend that gives listed answers and keeps the accesses, and what it tells of a call.
 use Rattle.std.specs.Prelude.{◌≡◌, ℕ, Bool, true, ◌&&◌, List, [], ◌∷◌, ◌++◌, nat_lt, length}
-use Rattle.uart_16550.specs.Access.{Access, Path, Read, Write}
+use Rattle.uart_spec.specs.Access.{Access, Path, Read, Write}
 use Rattle.uart_16550.specs.Devices.{AnswersInTurn}
 use Rattle.uart_16550.specs.Grammar.{Language}
 use Rattle.uart_16550.specs.Driver.{Did, Doing, Made, fields}

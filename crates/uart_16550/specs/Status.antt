@@ -10,7 +10,7 @@ use Rattle.uart_spec.specs.declared.config.BaudRate.{BaudRate}
 use Rattle.uart_spec.specs.declared.errors.NonIntegerBaudRateError.{NonIntegerBaudRateError}
 use Rattle.uart_spec.specs.declared.errors.RemoteReadyToReceiveError.{RemoteReadyToReceiveError}
 use Rattle.uart_spec.specs.declared.errors.RemoteReadyToReceiveError.TheVariants.{NoRemoteConnectedNoDSR, NoRemoteConnectedNoCD, RemoteNotClearToSend}
-use Rattle.uart_16550.specs.Access.{Access, Read, Write}
+use Rattle.uart_spec.specs.Access.{Access, Read, Write}
 use Rattle.uart_16550.specs.Grammar.{Language}
 use Rattle.uart_16550.specs.Driver.{Fields, Doing, saving, with_saved, with_interrupts}
 use Rattle.uart_16550.specs.declared.dump.ConfigRegisterDump.{ConfigRegisterDump}

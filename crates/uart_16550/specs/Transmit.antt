@@ -3,7 +3,7 @@ use Rattle.std.specs.Prelude.{◌≡◌, ◌<◌, ℕ, Bool, true, false, List, 
 use Rattle.uart_spec.specs.declared.errors.ByteSendError.{ByteSendError}
 use Rattle.uart_spec.specs.declared.errors.ByteSendError.TheVariants.{NoCapacity, RemoteNotClearToSend}
 use Rattle.uart_spec.specs.declared.errors.StalledError.{StalledError}
-use Rattle.uart_16550.specs.Access.{Access, Write}
+use Rattle.uart_spec.specs.Access.{Access, Write}
 use Rattle.uart_16550.specs.Grammar.{Language, Settings, Only, Then, InOrder, FewMisses, AllMisses, Asks, IfChecks, Never}
 
 -- the modem lines allow to send or forbid it: in loopback they mean nothing

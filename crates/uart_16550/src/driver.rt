@@ -2,7 +2,7 @@
 ghost use Rattle.std.specs.Prelude.{◌≡◌, ◌≢◌, ◌<◌, [], ◌∷◌};
 ghost use Rattle.std.specs.Borrow.{Lends, sem};
 ghost use Rattle.std.specs.Int.NonZero.{non_zero_u64_get};
-ghost use Rattle.uart_16550.specs.Access.{Access, Read, Write};
+ghost use Rattle.uart_spec.specs.Access.{Access, Read, Write};
 ghost use Rattle.uart_16550.specs.Grammar.{Only};
 ghost use Rattle.uart_16550.specs.Driver.{Made, Did, Plain, Sets, IsFresh, backend_of, fields, with_limit};
 ghost use Rattle.uart_16550.specs.contracts.driver.Uart16550.{the_row};

@@ -4,7 +4,7 @@
 //! from these to the one list that the call may make: whatever another backend answers, the same call with the same fields over a
 //! replay of its answers makes the same accesses ([`replays_repeat_calls`](crate::laws::replays_repeat_calls)).
 ghost use Rattle.std.specs.Prelude.{◌≡◌, true, false, ◌&&◌, [], ◌∷◌, ◌++◌, nat_lt, length, map, IfSome, IsNone};
-ghost use Rattle.uart_16550.specs.Access.{Read};
+ghost use Rattle.uart_spec.specs.Access.{Read};
 ghost use Rattle.uart_16550.specs.Replay.{Plays, TapesShow, access_of, room};
 
 use crate::backend::Backend;

@@ -3,7 +3,7 @@ use Rattle.std.specs.Prelude.{◌≡◌, ℕ, ◌+◌, Bool, List, [], ◌∷◌
 use Rattle.uart_chip.specs.declared.event.Chip.{Chip}
 use Rattle.uart_chip.specs.declared.event.Event.{Event}
 use Rattle.uart_chip.specs.declared.event.Event.TheVariants.{Ticks, Arrive, Lines, Access as Gate, Mark}
-use Rattle.uart_16550.specs.Access.{Access, Read, Write}
+use Rattle.uart_spec.specs.Access.{Access, Read, Write}
 use Rattle.uart_chip.specs.Chip as chip
 use Rattle.uart_chip.specs.Chip.{ChipState, tick, ticks, arrive, change_lines, answer, after_read, after_write}
 

@@ -1,6 +1,6 @@
 -- The accesses of a session in blocks, and what each block writes to the data register and reads from it.
 use Rattle.std.specs.Prelude.{◌≡◌, ℕ, ◌≤◌, Bool, true, ◌||◌, ◌==◌, List, [], ◌∷◌, ◌++◌, length, map, bit_or}
-use Rattle.uart_16550.specs.Access.{Access, Read, Write}
+use Rattle.uart_spec.specs.Access.{Access, Read, Write}
 use Rattle.uart_chip.specs.Registers.{has_any}
 use Rattle.uart_chip.specs.Transmitter.{room}
 

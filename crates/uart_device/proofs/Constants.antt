@@ -1,6 +1,6 @@
 -- No event and no access changes how long a character takes, or how much the wire takes.
 use Rattle.std.proofs.Common.{◌≡◌, ℕ, Bool, true, false, ◌==◌, nat_lt, List, [], ◌∷◌, length, Option, Some, None, refl, if◌then◌else◌}
-use Rattle.uart_16550.specs.Access.{Access, Read, Write, Path}
+use Rattle.uart_spec.specs.Access.{Access, Read, Write, Path}
 use Rattle.uart_chip.specs.declared.transmitter.Shifting.{Shifting}
 use Rattle.uart_chip.specs.Transmitter.{TransmitterState, shift, refill, load, room}
 use Rattle.uart_chip.specs.Chip.{ChipState, cut_of, is_dlab_set, after_write}

@@ -3,7 +3,7 @@ use Rattle.std.proofs.Common.{◌≡◌, ℕ, zero, suc, ◌<◌, Bool, true, fa
 use Rattle.std.proofs.lemmas.Grind.{common_steps}
 use lib.Bits.{or_zero_r}
 use Rattle.uart_chip.specs.declared.receiver.Character.{Character}
-use Rattle.uart_16550.specs.Access.{Access, Read, Write, saved_lsr, saved_msr}
+use Rattle.uart_spec.specs.Access.{Access, Read, Write, saved_lsr, saved_msr}
 use Rattle.uart_chip.specs.Registers.{has_any}
 use Rattle.uart_chip.specs.Transmitter.{TransmitterState, room, load}
 use Rattle.uart_chip.specs.Receiver.{report, take_front}

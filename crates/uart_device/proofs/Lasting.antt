@@ -1,6 +1,6 @@
 -- What lasts of the transmitter while no byte is written: shown once for any property of it.
 use Rattle.std.proofs.Common.{◌≡◌, ℕ, zero, suc, Bool, true, false, ◌==◌, List, [], ◌∷◌, if◌then◌else◌}
-use Rattle.uart_16550.specs.Access.{Access, Read, Write, Path}
+use Rattle.uart_spec.specs.Access.{Access, Read, Write, Path}
 use Rattle.uart_chip.specs.declared.event.Chip.{Chip}
 use Rattle.uart_chip.specs.declared.event.Chip.TheVariants.{Uart16550A, Uart16450}
 use Rattle.uart_chip.specs.declared.event.Event.{Event}

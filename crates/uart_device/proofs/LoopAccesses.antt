@@ -2,7 +2,7 @@
 use Rattle.std.proofs.Common.{◌≡◌, ℕ, ◌+◌, ◌≤◌, ◌<◌, Bool, true, false, ◌==◌, List, [], ◌∷◌, ◌++◌, length, append-nil, map, refl, arith, sym, ◌∙◌, ap, if◌then◌else◌}
 use Rattle.std.proofs.lemmas.Grind.{common_steps}
 use Rattle.uart_chip.specs.declared.receiver.Character.{Character}
-use Rattle.uart_16550.specs.Access.{Access, Read, Write, Path}
+use Rattle.uart_spec.specs.Access.{Access, Read, Write, Path}
 use Rattle.uart_chip.specs.Transmitter.{TransmitterState, load, room}
 use Rattle.uart_chip.specs.Receiver.{ReceiverState, report, take_front}
 use Rattle.uart_chip.specs.Chip.{ChipState, cut_of, is_dlab_set, interrupt, with_latches, enable, answer, after_read, after_write}

@@ -3,7 +3,7 @@ use Rattle.std.proofs.Common.{◌≡◌, ℕ, ◌+◌, ◌≤◌, false, List, [
 use Rattle.uart_chip.specs.declared.event.Event.{Event}
 use Rattle.uart_chip.specs.declared.event.Event.TheVariants.{Ticks, Arrive, Lines, Access as Gate, Mark}
 use Rattle.uart_chip.specs.declared.receiver.Character.{Character}
-use Rattle.uart_16550.specs.Access.{Access}
+use Rattle.uart_spec.specs.Access.{Access}
 use Rattle.uart_chip.specs.Chip.{ChipState, tick, ticks, arrive, change_lines}
 use Rattle.uart_chip.specs.Machine.{MachineState, perform, arrivals, at_access, at_mark}
 use Rattle.uart_device.specs.Sound.{IsSound}

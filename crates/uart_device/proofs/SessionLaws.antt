@@ -6,7 +6,7 @@ use Rattle.std.proofs.lemmas.List.{map-append}
 use lib.Bits.{or_zero_r}
 use Rattle.uart_chip.specs.declared.event.Event.{Event}
 use Rattle.uart_chip.specs.declared.receiver.Character.{Character}
-use Rattle.uart_16550.specs.Access.{Access, Read, saved_lsr, saved_msr}
+use Rattle.uart_spec.specs.Access.{Access, Read, saved_lsr, saved_msr}
 use Rattle.uart_chip.specs.Registers.{has_any}
 use Rattle.uart_chip.specs.Machine.{MachineState, MachineStep}
 use Rattle.uart_device.specs.Laws.{changes_in}

@@ -5,7 +5,7 @@ use Rattle.std.proofs.lemmas.Nat.Bits.{same_from_bits, bit_at_or, bit_at_and, bi
 use Rattle.std.specs.Int.Bits.{and_zero_l, and_self}
 use lib.Bits.{or_zero_r}
 use Rattle.uart_chip.specs.declared.receiver.Character.{Character}
-use Rattle.uart_16550.specs.Access.{Access, Read, Write, Path, saved, saved_of, saved_lsr, saved_msr}
+use Rattle.uart_spec.specs.Access.{Access, Read, Write, Path, saved, saved_of, saved_lsr, saved_msr}
 use Rattle.uart_chip.specs.Registers.{has_any, IsWithin}
 use Rattle.uart_chip.specs.Receiver.{ReceiverState}
 use Rattle.uart_chip.specs.Machine.{MachineState, MachineStep}

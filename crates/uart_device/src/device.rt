@@ -9,11 +9,10 @@ ghost use Rattle.uart_chip.specs.Chip.{divisor, ticks};
 ghost use Rattle.uart_chip.specs.Jumps.{most_turns};
 ghost use Rattle.uart_chip.specs.declared.event.BuildError.{BuildError};
 
-use uart_chip::Uart;
-use uart_chip::{ArrivalMark, BuildError, Chip, Event, arrivals, refusal};
 use std::alloc::Global;
 use std::marker::Model;
-use uart_16550::backend::Backend;
+use uart_chip::{ArrivalMark, BuildError, Chip, Event, Uart, arrivals, refusal};
+use uart_spec::backend::Backend;
 
 /// A serial chip in software: one more backend of the driver.
 ///

@@ -8,10 +8,10 @@ ghost use Rattle.std.specs.Str.Parse.{digits_value};
 ghost use Rattle.uart_language.specs.Fields.{is_number, number_in, byte_in, lines_in, bytes_in, text_in, errors_in, chip_in, cut_in, level_in, rate_of, rate_in, cts_in, interrupts_in, word_length_in, pairs_of, is_pairs, seen};
 
 use super::cause::Cause;
-use uart_chip::Chip;
 use arrayvec::{ArrayString, ArrayVec};
 use bitflags::Flags;
 use std::num::NonZeroU64;
+use uart_chip::Chip;
 use uart_spec::BaudRate;
 use uart_spec::registers::{FifoTriggerLevel, IER, WordLength};
 

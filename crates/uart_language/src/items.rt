@@ -13,9 +13,9 @@ use super::fields::{
 };
 use super::text::{has_bad_byte, word_at, word_count};
 use super::words::{Word, has_count, is_placed, word_of};
+use std::num::NonZeroU64;
 use uart_calls::Call;
 use uart_chip::{Chip, Event};
-use std::num::NonZeroU64;
 use uart_spec::Config;
 
 /// What a line after the first says.

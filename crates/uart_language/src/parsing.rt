@@ -11,10 +11,10 @@ ghost use Rattle.uart_language.specs.ScriptReading.{sayings_from, with_saying, a
 use super::cause::{Cause, ScriptError};
 use super::items::{Header, Item, header_at, item_at};
 use super::text::first_line;
-use uart_calls::Call;
-use uart_chip::{Chip, Event};
 use std::alloc::{AllocError, Global};
 use std::num::NonZeroU64;
+use uart_calls::Call;
+use uart_chip::{Chip, Event};
 
 /// The longest script, in bytes.
 pub const MOST_BYTES: usize = 65_536;

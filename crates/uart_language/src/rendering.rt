@@ -6,11 +6,11 @@ ghost use Rattle.std.specs.Char.{digit_char};
 ghost use Rattle.std.specs.Fmt.{decimal};
 ghost use Rattle.uart_language.specs.Output.{hex_byte, hex, send_error_name, remote_error_name, init_error_text, loopback_error_text, setup_text, status_text, answer_text, line, answer_lines, mark_letter, marks_text, final_lines, printed};
 
-use uart_calls::Answer;
-use uart_chip::ArrivalMark;
 use bitflags::Flags;
 use std::alloc::{AllocError, Global};
 use uart_16550::ConfigRegisterDump;
+use uart_calls::Answer;
+use uart_chip::ArrivalMark;
 use uart_spec::{
     ByteSendError, InitError, InvalidDivisorError, LoopbackError, RemoteReadyToReceiveError,
 };

@@ -4,6 +4,7 @@
 //! before it, and then has the effect that the datasheet gives it. Its contracts say exactly which state follows which.
 #![tactic(auto)]
 
+pub mod laws;
 pub mod script;
 #[cfg(test)]
 mod tests;

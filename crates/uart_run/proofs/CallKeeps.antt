@@ -3,7 +3,7 @@ use Rattle.std.proofs.Common.{◌≡◌, ℕ, ◌≤◌, Bool, true, false, inl,
 use lib.Bits.{or_zero_r}
 use Rattle.uart_spec.specs.declared.errors.RemoteReadyToReceiveError.{RemoteReadyToReceiveError}
 use Rattle.uart_spec.specs.declared.errors.StalledError.{StalledError}
-use Rattle.uart_16550.specs.Access.{Access, Read, Write, saved_lsr, saved_msr}
+use Rattle.uart_spec.specs.Access.{Access, Read, Write, saved_lsr, saved_msr}
 use Rattle.uart_16550.specs.Grammar.{Language, Settings, Only, Then, AllMisses}
 use Rattle.uart_16550.specs.Driver.{Fields, settings_of, Saving}
 use Rattle.uart_16550.specs.Transmit.{SendMiss, Round}

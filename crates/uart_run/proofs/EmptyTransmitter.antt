@@ -1,6 +1,6 @@
 -- An empty transmitter: while no byte is written it stays empty, in loopback or not, and the wire stays as it is.
 use Rattle.std.proofs.Common.{◌≡◌, ℕ, Bool, true, List, [], ◌∷◌, ◌++◌, append-nil, Option, Some, None, refl, sym, ◌∙◌, ap}
-use Rattle.uart_16550.specs.Access.{Access, Read, Path}
+use Rattle.uart_spec.specs.Access.{Access, Read, Path}
 use Rattle.uart_16550.specs.Grammar.{Settings, Asks}
 use Rattle.uart_16550.specs.Transmit.{Waits}
 use Rattle.uart_chip.specs.declared.transmitter.Shifting.{Shifting}

@@ -1,7 +1,7 @@
 -- The interrupt identification shows whether the FIFO is on.
 use Rattle.std.proofs.Common.{◌≡◌, ℕ, Bool, true, false, not, ◌==◌, ◌&&◌, refl, ◌∙◌, ap, bit_or, if◌then◌else◌}
 use Rattle.uart_spec.specs.Bits.{has}
-use Rattle.uart_16550.specs.Access.{Read}
+use Rattle.uart_spec.specs.Access.{Read}
 use Rattle.uart_chip.specs.Registers.{has_any, flag}
 use Rattle.uart_chip.specs.Receiver.{is_data_pending, is_timed_out}
 use Rattle.uart_chip.specs.Chip.{ChipState, line_status, answer}

@@ -9,7 +9,7 @@ use Rattle.uart_spec.specs.declared.errors.InvalidDivisorError.{InvalidDivisorEr
 use Rattle.uart_spec.specs.declared.errors.InvalidDivisorError.TheVariants.{NonInteger, OutOfRange}
 use Rattle.uart_spec.specs.declared.errors.InitError.{InitError}
 use Rattle.uart_spec.specs.declared.errors.InitError.TheVariants.{InvalidBaudRate, DeviceNotPresent, Stalled}
-use Rattle.uart_16550.specs.Access.{Access, Write, Path}
+use Rattle.uart_spec.specs.Access.{Access, Write, Path}
 use Rattle.uart_16550.specs.Grammar.{Language, Settings, Only, Then}
 use Rattle.uart_16550.specs.Transmit.{Waits}
 use Rattle.uart_16550.specs.Driver.{Fields, fields, settings_of, Doing, Saving, Plain, Sets, Next, with_config, with_fifo}

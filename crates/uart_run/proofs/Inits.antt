@@ -7,7 +7,7 @@ use Rattle.uart_spec.specs.declared.registers.frame.WordLength.{WordLength}
 use Rattle.uart_spec.specs.declared.registers.frame.WordLength.TheVariants.{FiveBits, SixBits, SevenBits, EightBits}
 use Rattle.uart_spec.specs.declared.registers.frame.Parity.{Parity}
 use Rattle.uart_spec.specs.declared.registers.frame.Parity.TheVariants.{Disabled, Odd, Even, Forced1, Forced0}
-use Rattle.uart_16550.specs.Access.{Access, Read, Write, Path}
+use Rattle.uart_spec.specs.Access.{Access, Read, Write, Path}
 use Rattle.uart_16550.specs.Grammar.{Settings, Only, Then, Reads}
 use Rattle.uart_16550.specs.Driver.{Fields, settings_of, Saving, Plain, Sets, Next, with_saved}
 use Rattle.uart_16550.specs.Init.{ChecksPresence, frame_bits, line_writes, SetsFifo, Drains, Begins, Ends}

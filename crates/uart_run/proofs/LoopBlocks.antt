@@ -2,7 +2,7 @@
 use Rattle.std.proofs.Common.{◌≡◌, ℕ, ◌+◌, ◌≤◌, ◌<◌, true, ◌==◌, nat_lt, List, [], ◌∷◌, ◌++◌, length, length-append, map, refl, arith, sym, ◌∙◌, ap, subst, bit_or}
 use Rattle.std.proofs.lemmas.List.{map-append, length-map}
 use Rattle.std.proofs.lemmas.Grind.{common_steps}
-use Rattle.uart_16550.specs.Access.{Access, Read, Write, Path}
+use Rattle.uart_spec.specs.Access.{Access, Read, Write, Path}
 use Rattle.uart_chip.specs.Registers.{has_any}
 use Rattle.uart_chip.specs.Transmitter.{room}
 use Rattle.uart_chip.specs.Chip.{ChipState, word_length, cut_to, after_read, after_write}

@@ -3,7 +3,7 @@ use Rattle.std.proofs.Common.{◌≡◌, ℕ, ◌≤◌, Bool, true, false, ◌=
 use Rattle.uart_spec.specs.declared.errors.ByteSendError.{ByteSendError}
 use Rattle.uart_spec.specs.declared.errors.ByteSendError.TheVariants.{NoCapacity, RemoteNotClearToSend}
 use Rattle.uart_spec.specs.Bits.{has}
-use Rattle.uart_16550.specs.Access.{Access, Read, Path}
+use Rattle.uart_spec.specs.Access.{Access, Read, Path}
 use Rattle.uart_16550.specs.Grammar.{Language, Settings, Only, Then, InOrder, FewMisses, Asks, Never}
 use Rattle.uart_16550.specs.Receive.{Miss, Awaited}
 use Rattle.uart_16550.specs.Transmit.{LinesAllow, SendRefused, Round, SendsAll}

@@ -1,6 +1,6 @@
 -- Pieces of a path: where a list, or what a call does, has two parts, its path leads through a machine between them.
 use Rattle.std.proofs.Common.{◌≡◌, List, ◌++◌}
-use Rattle.uart_16550.specs.Access.{Access, Path}
+use Rattle.uart_spec.specs.Access.{Access, Path}
 use Rattle.uart_16550.specs.Grammar.{Language, Settings, Then}
 use Rattle.uart_16550.specs.Driver.{Fields, Doing, Next}
 use Rattle.uart_chip.specs.Machine.{MachineState, MachineStep}

@@ -1,7 +1,7 @@
 -- The presence check finds the chip: its scratch register keeps what is written.
 use Rattle.std.proofs.Common.{◌≡◌, ℕ, false, ◌==◌, inl, inr, List, [], ◌∷◌, ◌∙◌, arith, ap}
 use Rattle.std.proofs.lemmas.Grind.{common_steps}
-use Rattle.uart_16550.specs.Access.{Access, Read, Write, Path}
+use Rattle.uart_spec.specs.Access.{Access, Read, Write, Path}
 use Rattle.uart_16550.specs.Grammar.{Settings, Only, Then}
 use Rattle.uart_16550.specs.Init.{Keeps, KeepsPatterns, ChecksPresence}
 use Rattle.uart_chip.specs.Machine.{MachineState, MachineStep}

@@ -1,6 +1,6 @@
 -- The calls of a session in turn.
 use Rattle.std.proofs.Common.{◌≡◌, ℕ, List, [], ◌∷◌, ◌++◌, refl, sym, ◌∙◌, ap, subst, bit_or}
-use Rattle.uart_16550.specs.Access.{Access, saved, saved_lsr, saved_msr}
+use Rattle.uart_spec.specs.Access.{Access, saved, saved_lsr, saved_msr}
 use Rattle.uart_16550.specs.Driver.{fields}
 use Rattle.uart_16550.specs.Tty.{inner_of}
 use Rattle.uart_chip.specs.Chip.{cut_of}

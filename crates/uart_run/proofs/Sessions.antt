@@ -1,6 +1,6 @@
 -- What a session conserves, carried over its calls.
 use Rattle.std.proofs.Common.{ℕ, List, [], ◌∷◌, ◌++◌, map, ap, sym, ◌∙◌, subst}
-use Rattle.uart_16550.specs.Access.{Access, Path}
+use Rattle.uart_spec.specs.Access.{Access, Path}
 use Rattle.uart_16550.specs.Driver.{Doing, Did}
 use Rattle.uart_16550.specs.Tty.{inner_of}
 use Rattle.uart_calls.specs.declared.call.Call.{Call}

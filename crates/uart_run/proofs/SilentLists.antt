@@ -1,7 +1,7 @@
 -- Lists of accesses that send nothing: of languages, and of what a call does.
 use Rattle.std.proofs.Common.{ℕ, zero, suc, Bool, true, false, inl, inr, List, [], ◌∷◌, ◌++◌, Option, Some, None, refl}
 use Rattle.uart_spec.specs.declared.registers.fifo_trigger_level.FifoTriggerLevel.{FifoTriggerLevel}
-use Rattle.uart_16550.specs.Access.{Access, Read, Write}
+use Rattle.uart_spec.specs.Access.{Access, Read, Write}
 use Rattle.uart_16550.specs.Grammar.{Language, Settings, Only, Then, Times, FewMisses, Asks, Reads}
 use Rattle.uart_16550.specs.Driver.{Fields, Doing, Saving, Plain, Sets, Next, settings_of}
 use Rattle.uart_16550.specs.Init.{Keeps, ChecksPresence, SetsFifo, Discards, Drains}

@@ -1,6 +1,6 @@
 -- What `lsr` and `msr` tell in a session, carried over its calls.
 use Rattle.std.proofs.Common.{◌≡◌, ℕ, Bool, false, List, [], ◌∷◌, ◌++◌, take, Option, refl, sym, ◌∙◌, ap, subst}
-use Rattle.uart_16550.specs.Access.{Access, Read, Path}
+use Rattle.uart_spec.specs.Access.{Access, Read, Path}
 use Rattle.uart_16550.specs.Driver.{Fields, fields}
 use Rattle.uart_16550.specs.Tty.{inner_of}
 use Rattle.uart_calls.specs.declared.call.Call.{Call}

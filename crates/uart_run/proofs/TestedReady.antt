@@ -2,7 +2,7 @@
 use Rattle.std.proofs.Common.{◌≡◌, ℕ, Bool, true, false, inl, inr, List, [], ◌∷◌, Result, refl, sym, ◌∙◌, ap, bit_and, if◌then◌else◌}
 use Rattle.bitflags.specs.Sets.{without}
 use Rattle.uart_spec.specs.declared.errors.LoopbackError.{LoopbackError}
-use Rattle.uart_16550.specs.Access.{Access, Read, Write, Path}
+use Rattle.uart_spec.specs.Access.{Access, Read, Write, Path}
 use Rattle.uart_16550.specs.Grammar.{Settings, Only, Then}
 use Rattle.uart_16550.specs.Driver.{Fields, fields, settings_of, Saving, Sets, Next, with_fifo}
 use Rattle.uart_16550.specs.Transmit.{Waits}

@@ -6,12 +6,12 @@ ghost use Rattle.uart_run.specs.Session.{Ran};
 ghost use Rattle.uart_run.specs.Uncut.{IsUncut, RanUncut};
 ghost use Rattle.uart_run.specs.Run.{CallStep, loopback_answer, connected_answer, receive_ready_answer, received_answer, sent_answer, exact_answer, count_answer, ready_answer, HasInited, HasReceived, HasReceivedExact, HasRead};
 
-use uart_calls::{Answer, Call};
-use uart_device::Device16550;
 use arrayvec::ArrayVec;
 use bitflags::Flags;
 use uart_16550::embedded_io::{Read, ReadReady, Write, WriteReady};
 use uart_16550::{Uart16550, Uart16550Tty};
+use uart_calls::{Answer, Call};
+use uart_device::Device16550;
 use uart_spec::{
     ByteReceiveError, ByteSendError, Config, InitError, LoopbackError, RemoteReadyToReceiveError,
     StalledError,

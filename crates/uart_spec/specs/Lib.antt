@@ -1,3 +1,4 @@
+pub mod Access
 pub mod Bits
 pub mod Fields
 pub mod Interrupts

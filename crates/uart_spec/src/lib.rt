@@ -4,6 +4,7 @@
 //! Bits are numbered from 0, the lowest, to 7. Frequencies are in hertz and baud rates in bits a second.
 #![tactic(auto)]
 
+pub mod backend;
 mod baud;
 mod config;
 mod errors;

@@ -10,7 +10,7 @@ use Rattle.uart_spec.specs.declared.errors.InvalidDivisorError.{InvalidDivisorEr
 use Rattle.uart_spec.specs.declared.errors.InvalidDivisorError.TheVariants.{NonInteger, OutOfRange}
 use Rattle.uart_spec.specs.declared.errors.InitError.{InitError}
 use Rattle.uart_spec.specs.declared.errors.InitError.TheVariants.{InvalidBaudRate, DeviceNotPresent, Stalled}
-use Rattle.uart_16550.specs.Access.{Access, Read, Write}
+use Rattle.uart_spec.specs.Access.{Access, Read, Write}
 use Rattle.uart_16550.specs.Grammar.{Language, Settings, Only, Then, Reads}
 use Rattle.uart_16550.specs.Receive.{Miss}
 use Rattle.uart_16550.specs.Transmit.{Waits}

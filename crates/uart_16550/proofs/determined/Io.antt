@@ -2,7 +2,7 @@
 use Rattle.std.proofs.Common.{◌≡◌, ◌<◌, ◌≤◌, ℕ, Bool, true, false, List, [], ◌∷◌, ◌++◌, refl, sym, ◌∙◌, ap, arith, inl, inr, ◌⊎◌, Result, Ok, Err, Some, None, length, take, drop, unwrap_or}
 use Rattle.std.proofs.lemmas.List.{length-take-le, take-append-drop, nil_from_length}
 use Rattle.uart_spec.specs.declared.errors.StalledError.{StalledError}
-use Rattle.uart_16550.specs.Access.{Access}
+use Rattle.uart_spec.specs.Access.{Access}
 use Rattle.uart_16550.specs.Choice.{ReceivesInto, ReceivesExactInto, ReadsInto}
 use Rattle.uart_16550.specs.Grammar.{Settings, Then, InOrder}
 use Rattle.uart_16550.specs.Receive.{Hit, Miss, Receives, ReceivesSome}

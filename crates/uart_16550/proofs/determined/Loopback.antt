@@ -7,7 +7,7 @@ use Rattle.uart_spec.specs.declared.errors.StalledError.{StalledError}
 use Rattle.uart_spec.specs.declared.errors.ByteSendError.{ByteSendError}
 use Rattle.uart_spec.specs.declared.errors.LoopbackError.{LoopbackError}
 use Rattle.uart_spec.specs.declared.errors.LoopbackError.TheVariants.{Stalled, SendError, UnexpectedLoopbackByte, UnexpectedLoopbackMsg}
-use Rattle.uart_16550.specs.Access.{Access, Read, Write}
+use Rattle.uart_spec.specs.Access.{Access, Read, Write}
 use Rattle.uart_16550.specs.Grammar.{Language, Settings, Only, Then, InOrder, AllMisses}
 use Rattle.uart_16550.specs.Receive.{Miss, Awaited, ReceivesExact}
 use Rattle.uart_16550.specs.Transmit.{Round, SendMiss, SendsAll, SendsExact, TrySends}

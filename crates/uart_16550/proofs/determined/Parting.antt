@@ -2,7 +2,7 @@
 use Rattle.std.proofs.Common.{◌≡◌, ℕ, Bool, true, false, List, [], ◌∷◌, ◌++◌, refl, sym, ◌∙◌, ap, subst, append_assoc, append-nil, inl, inr, ◌⊎◌, MatchBool}
 use Rattle.std.proofs.Math.Decide.{ℕ_discrete}
 use Rattle.uart_spec.specs.Bits.{has}
-use Rattle.uart_16550.specs.Access.{Access, Read, Write}
+use Rattle.uart_spec.specs.Access.{Access, Read, Write}
 use Rattle.uart_16550.specs.Choice.{PartAtRead}
 use Rattle.uart_16550.specs.Grammar.{Language, Settings, Only, Then, Asks, Reads, IfChecks, IfFifo, Never}
 

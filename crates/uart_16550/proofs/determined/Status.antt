@@ -4,7 +4,7 @@ use Rattle.bitflags.specs.Sets.{without}
 use Rattle.uart_spec.specs.Bits.{has}
 use Rattle.uart_spec.specs.declared.errors.RemoteReadyToReceiveError.{RemoteReadyToReceiveError}
 use Rattle.uart_spec.specs.declared.errors.RemoteReadyToReceiveError.TheVariants.{NoRemoteConnectedNoDSR, NoRemoteConnectedNoCD, RemoteNotClearToSend}
-use Rattle.uart_16550.specs.Access.{Access}
+use Rattle.uart_spec.specs.Access.{Access}
 use Rattle.uart_16550.specs.Grammar.{Settings}
 use Rattle.uart_16550.specs.Driver.{Fields, with_interrupts, saving}
 use Rattle.uart_16550.specs.Status.{TakesLsr, TakesMsr, Connects, ShowsConnection, ReadsDivisor, divisor_accesses, Enables, Disables, Dumps, dump_reads}

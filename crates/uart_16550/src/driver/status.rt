@@ -1,6 +1,6 @@
 //! The register calls.
 ghost use Rattle.std.specs.Prelude.{◌≡◌, [], ◌∷◌};
-ghost use Rattle.uart_16550.specs.Access.{Read};
+ghost use Rattle.uart_spec.specs.Access.{Read};
 ghost use Rattle.uart_16550.specs.Grammar.{Only};
 ghost use Rattle.uart_16550.specs.Status.{TakesLsr, TakesMsr, Connects, ReadsDivisor, StoresInterrupts, Enables, Disables, Dumps};
 ghost use Rattle.uart_16550.specs.Driver.{Made, Did};

@@ -1,6 +1,6 @@
 //! Devices for tests.
 ghost use Rattle.std.specs.Prelude.{◌≡◌, ℕ};
-ghost use Rattle.uart_16550.specs.Access.{Read as read_access};
+ghost use Rattle.uart_spec.specs.Access.{Read as read_access};
 ghost use Rattle.uart_16550.specs.Devices.{AnswersAlways, AnswersInTurn, FileStep, is_latch};
 
 use super::lists::{Accesses, Entry};

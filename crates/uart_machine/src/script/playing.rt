@@ -11,17 +11,15 @@ ghost use Rattle.uart_language.specs.Output.{printed};
 ghost use Rattle.uart_machine.specs.ScriptOutput.{IsFirst, IsOutput};
 ghost use Rattle.uart_machine.specs.Play.{ConsumesAtMost, is_read_fault, is_write_fault, IsWhole, IsReading, WritesFront, Outcome, WritesNothing, play_error};
 
-use uart_language::{Cause, ScriptError};
-use uart_language::{MOST_BYTES, Script, parse};
-use uart_language::render;
 use super::streams::{Fault, Input, Output};
-use uart_calls::Answer;
-use uart_device::Device16550;
-use uart_chip::ArrivalMark;
-use uart_run::run;
 use std::alloc::{AllocError, Global};
 use thiserror::Error;
 use uart_16550::{Uart16550, Uart16550Tty};
+use uart_calls::Answer;
+use uart_chip::ArrivalMark;
+use uart_device::Device16550;
+use uart_language::{Cause, MOST_BYTES, Script, ScriptError, parse, render};
+use uart_run::run;
 
 /// Why a script was not played to its end.
 ///

@@ -1,10 +1,10 @@
 use super::{told, told_after_header};
-use uart_calls::Call;
-use uart_chip::{Chip, Event};
 use crate::script::parse;
 use arrayvec::{ArrayString, ArrayVec};
 use bitflags::Flags;
 use std::test::Fail;
+use uart_calls::Call;
+use uart_chip::{Chip, Event};
 use uart_spec::registers::{FifoTriggerLevel, IER, WordLength};
 use uart_spec::{BaudRate, Config};
 

@@ -1,10 +1,10 @@
-use uart_calls::Answer;
-use uart_chip::ArrivalMark;
-use uart_language::render;
 use arrayvec::ArrayVec;
 use bitflags::Flags;
 use std::test::Fail;
 use uart_16550::ConfigRegisterDump;
+use uart_calls::Answer;
+use uart_chip::ArrivalMark;
+use uart_language::render;
 use uart_spec::registers::{IER, ISR, LCR, LSR, MCR, MSR};
 use uart_spec::{
     ByteSendError, InitError, InvalidDivisorError, LoopbackError, NonIntegerDivisorError,

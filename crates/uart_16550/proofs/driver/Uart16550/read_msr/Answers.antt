@@ -1,6 +1,6 @@
 use Rattle.std.proofs.Common.{refl, sym, [], ◌∷◌}
 use lib.Bits.{or_zero_r}
-use Rattle.uart_16550.specs.Access.{Read}
+use Rattle.uart_spec.specs.Access.{Read}
 use Rattle.uart_16550.proofs.driver.Uart16550.read_msr.Goals as goal
 
 pub returns : goal.returns

@@ -1,5 +1,5 @@
 use Rattle.std.proofs.Common.{◌≡◌, ◌∙◌, ℕ, [], ◌∷◌, ap, sym}
-use Rattle.uart_16550.specs.Access.{Write}
+use Rattle.uart_spec.specs.Access.{Write}
 use Rattle.uart_16550.specs.Init.{fifo_bits}
 use Rattle.uart_16550.proofs.Making.{made_then, made_asks, made_among}
 use Rattle.uart_16550.proofs.driver.Uart16550.set_fifo.Goals as goal

@@ -1,5 +1,5 @@
 use Rattle.std.proofs.Common.{◌≡◌, ◌∙◌, ℕ, [], ◌∷◌, ap, refl}
-use Rattle.uart_16550.specs.Access.{Write}
+use Rattle.uart_spec.specs.Access.{Write}
 use Rattle.uart_16550.proofs.Doings.{did_unsaved}
 use Rattle.uart_16550.proofs.driver.Uart16550.store_interrupts.Goals as goal
 
