@@ -1,17 +1,22 @@
-//! Makes each call of `uart_machine` that takes memory, and prints what it came to.
+//! Makes each call of `uart_machine` and `uart_ring` that takes memory, and prints what it came to.
 //!
 //! Standard input is how many allocations are made before the first call. So if one allocation of a run is refused, as by
 //! `rt try --fail-alloc`, this number decides which one of the calls' allocations that is.
 #![tactic(auto)]
 
+use bitflags::Flags;
 use std::alloc::{AllocError, Global};
 use std::io::{ErrorKind, Read};
+use std::num::NonZeroU64;
 use std::process::ExitCode;
 use std::{fmt, io};
 use uart_16550::backend::Backend;
+use uart_16550::replay::{Entry, Replay};
 use uart_16550::spec::registers::offsets;
+use uart_16550::{Config, Uart16550};
 use uart_machine::script::{PlayError, ScriptError, Std, parse, play};
 use uart_machine::{BuildError, Call, Chip, Device16550, Event};
+use uart_ring::{RingError, Uart16550Ring};
 
 // A script with so many calls and events that their lists grow, as its output does.
 const SCRIPT: &[u8] = b"chip 16550a 4 64
@@ -138,6 +143,39 @@ fn check(built: Result<Device16550, BuildError>, held: u8) -> Outcome {
     }
 }
 
+// A driver whose spin limit was set, and that has saved errors.
+fn used_driver() -> Uart16550<Replay<'static>> {
+    let mut uart = Uart16550::new_with_backend(Replay::new(&[0x1e, 0x60, 0x0f]));
+    uart.set_spin_limit(NonZeroU64::new(7).unwrap());
+    let _ = uart.ready_to_receive();
+    uart
+}
+
+// It is that driver still: its settings, its only access so far, the errors that it saved, and the next answers.
+fn is_unchanged(mut uart: Uart16550<Replay<'static>>) -> bool {
+    let is_same = uart.config() == &Config::DEFAULT
+        && uart.fifo_enabled()
+        && uart.spin_limit().get() == 7
+        && uart.backend().accesses() == Some(&[Entry::Read(offsets::LSR, 0x1e)]);
+    is_same && uart.lsr().bits() == 0x7e && uart.msr().bits() == 0x0f
+}
+
+// Makes rings. A refusal must return the driver as it was.
+fn make_rings(alloc: Global) -> Outcome {
+    match Uart16550Ring::new(alloc, used_driver(), 64, 16) {
+        Ok(ring) => Outcome::of(
+            ring.transmit_len() == 0 && ring.receive_len() == 0 && is_unchanged(ring.into_inner()),
+        ),
+        Err((uart, cause)) => {
+            if cause == RingError::OutOfMemory && is_unchanged(uart) {
+                Outcome::OutOfMemory
+            } else {
+                Outcome::Other
+            }
+        }
+    }
+}
+
 // The number that the input is.
 fn number<R: Read>(reader: &mut R) -> io::Result<usize> {
     let mut text = [0u8; 8];
@@ -185,6 +223,7 @@ fn main(rt: HostRuntime) -> io::Result<ExitCode> {
                 0x1f,
             ),
         ),
+        ("rings", make_rings(alloc)),
     ];
     for (name, outcome) in outcomes {
         println!(rt; "{name} {outcome}")?;

@@ -1,0 +1,306 @@
+-- That ring calls leave the THR-empty interrupt armed.
+use Rattle.std.proofs.Common.{◌≡◌, ◌<◌, ◌==◌, ◌||◌, ◌&&◌, ◌⊎◌, ⊤, ℕ, zero, suc, Bool, true, false, not, min, MatchBool, if◌then◌else◌, List, [], ◌∷◌, ◌++◌, length, take, drop, length-take, length-drop, append-nil, refl, arith, sym, ◌∙◌, ap, inl, inr, Option, Some, None, bit_and, bit_or}
+use Rattle.std.proofs.lemmas.Bool.{false≢true}
+use Rattle.std.proofs.lemmas.Bool.Decides.{nat_tests}
+use Rattle.std.proofs.lemmas.Nat.Bits.{same_from_bits, bit_at_or, bit_at_and}
+use lib.Bits.{or_zero_r}
+use Rattle.bitflags.specs.Sets.{without}
+use Rattle.uart_spec.specs.Access.{Access, Read, Write}
+use Rattle.uart_spec.specs.Bits.{has, field, IsOnlyIfAny}
+use Rattle.uart_spec.specs.Interrupts.{Identifies, interrupt_code}
+use Rattle.uart_spec.specs.declared.baud.TheConstants.{FIFO_SIZE}
+use Rattle.uart_spec.specs.declared.errors.ByteSendError.TheVariants.{NoCapacity, RemoteNotClearToSend}
+use Rattle.uart_spec.specs.declared.registers.interrupt_enable.TheConstants.IER
+use Rattle.uart_spec.specs.declared.registers.interrupt_type.InterruptType.{InterruptType}
+use Rattle.uart_spec.specs.declared.registers.interrupt_type.InterruptType.TheVariants.{ReceiverLineStatus, ReceivedDataReady, ReceptionTimeout, TransmitterHoldingRegisterEmpty, ModemStatus, DmaReceptionEndOfTransfer, DmaTransmissionEndOfTransfer}
+use Rattle.uart_spec.specs.declared.registers.line_status.TheConstants.LSR
+use Rattle.uart_spec.specs.declared.registers.offsets.TheConstants as offsets
+use Rattle.uart_16550.specs.Grammar.{Settings, Only, Then, Asks, InOrder}
+use Rattle.uart_16550.specs.Driver.{Fields, Saving, settings_of}
+use Rattle.uart_16550.specs.Receive.{Receives, Hit}
+use Rattle.uart_16550.specs.Transmit.{Sends, SendHit, SendMiss, LinesAllow, burst_limit, data_writes}
+use Rattle.uart_16550.specs.Status.{Enables, Disables}
+use Rattle.uart_ring.specs.Ring.{RingFields, OnDriver, Stays, RingNext, RingTimes, IfAny, with_queued, with_paused, without_taken, unchanged, free, is_full}
+use Rattle.uart_ring.specs.Transmit.{ArmsIfLeft, Pumps, Queues}
+use Rattle.uart_ring.specs.Receive.{PausesIfFull, FillsReceiveRing, EndsPause, Takes}
+use Rattle.uart_ring.specs.Status.{NotesLine, NotesModem, TakesLine, TakesModem}
+use Rattle.uart_ring.specs.Service.{ShowsInterrupt, Serves, ServesOne, Services}
+use Rattle.uart_ring.specs.Armed.{ThrEmpty, shows_thr_empty, due_after_read, after_access, after_accesses, KeepsIer, IsArmed, LeavesArmed, Arms}
+use Rattle.uart_ring.proofs.Conserving.{Carries, received_carries, shows_carry, serves_one_carries, times_carry}
+
+-- ---- bits of IER
+
+-- a bit that is joined is there
+joined : (ier : ℕ) → has (bit_or ier IER.THR_EMPTY.0) IER.THR_EMPTY.0 ≡ true
+joined ier = ap (λ n. n == 2) (same_from_bits _ _ (λ i. rw (bit_at_and (bit_or ier 2) 2 i, bit_at_or ier 2 i) (omega arith)))
+
+-- another bit that is joined changes nothing
+kept_joined : (ier : ℕ) → has (bit_or ier IER.DATA_READY.0) IER.THR_EMPTY.0 ≡ has ier IER.THR_EMPTY.0
+kept_joined ier = ap (λ n. n == 2) (spread ∙ or_zero_r (bit_and ier 2))
+  where
+    spread : bit_and (bit_or ier 1) 2 ≡ bit_or (bit_and ier 2) (bit_and 1 2)
+    spread = same_from_bits _ _ (λ i. rw (bit_at_and (bit_or ier 1) 2 i, bit_at_or ier 1 i, bit_at_or (bit_and ier 2) (bit_and 1 2) i, bit_at_and ier 2 i, bit_at_and 1 2 i) (omega arith))
+
+-- nor does another bit that is taken away
+kept_taken : (ier : ℕ) → has (without 8 ier IER.DATA_READY.0) IER.THR_EMPTY.0 ≡ has ier IER.THR_EMPTY.0
+kept_taken ier = ap (λ n. n == 2) together
+  where
+    together : bit_and (bit_and ier 254) 2 ≡ bit_and ier (bit_and 254 2)
+    together = same_from_bits _ _ (λ i. rw (bit_at_and (bit_and ier 254) 2 i, bit_at_and ier 254 i, bit_at_and ier (bit_and 254 2) i, bit_at_and 254 2 i) (omega arith))
+
+-- ---- what lists tell
+
+or_true : (b : Bool) → (b || true) ≡ true
+or_true true = refl
+or_true false = refl
+
+after-append : (known : ThrEmpty) (l m : List Access) → after_accesses known (l ++ m) ≡ after_accesses (after_accesses known l) m
+after-append known [] m = refl
+after-append known (access ∷ l) m = after-append (after_access known access) l m
+
+keeps_first : (known : ThrEmpty) (l m : List Access) → KeepsIer known (l ++ m) → KeepsIer known l
+keeps_first known [] m t = tt
+keeps_first known (access ∷ l) m t = (t.0, keeps_first (after_access known access) l m t.1)
+
+keeps_rest : (known : ThrEmpty) (l m : List Access) → KeepsIer known (l ++ m) → KeepsIer (after_accesses known l) m
+keeps_rest known [] m t = t
+keeps_rest known (access ∷ l) m t = keeps_rest (after_access known access) l m t.1
+
+-- the interrupt is enabled and due
+abbrev IsLive : ThrEmpty → Type 0
+IsLive known = (known.enabled ≡ true) × (known.due ≡ true)
+
+-- ---- reads of other registers than ISR leave it live
+
+abbrev IsOtherRead : Access → Type 0
+IsOtherRead (Read offset answer) = (offset == offsets.ISR) ≡ false
+IsOtherRead (Write offset value) = ⊥
+
+abbrev AllOtherReads : List Access → Type 0
+AllOtherReads [] = ⊤
+AllOtherReads (access ∷ accesses) = IsOtherRead access × AllOtherReads accesses
+
+others-append : (l m : List Access) → AllOtherReads l → AllOtherReads m → AllOtherReads (l ++ m)
+others-append [] m p q = q
+others-append (access ∷ l) m p q = (p.0, others-append l m p.1 q)
+
+still_due : (offset answer : ℕ) (due : Bool) → (offset == offsets.ISR) ≡ false → due ≡ true → due_after_read offset answer due ≡ true
+still_due offset answer due other is = rw (other, is) (go (offset == offsets.LSR))
+  where
+    go : (b : Bool) → (if b then not (has answer LSR.THR_EMPTY.0) || true else true) ≡ true
+    go true = or_true (not (has answer LSR.THR_EMPTY.0))
+    go false = refl
+
+live_others : (known : ThrEmpty) (l : List Access) → AllOtherReads l → IsLive known → IsLive (after_accesses known l)
+live_others known [] p live = live
+live_others known (Read offset answer ∷ l) p live =
+    live_others (after_access known (Read offset answer)) l p.1 (live.0, still_due offset answer known.due p.0 live.1)
+live_others known (Write offset value ∷ l) p live = absurd p.0
+
+hits_others : (bytes : List ℕ) (s : Settings) (l : List Access) → InOrder Hit bytes s l → AllOtherReads l
+hits_others [] s l t = rw t.is tt
+hits_others (byte ∷ bytes) s l t =
+    let one : AllOtherReads t.front = rw (t.first.whole, t.first.first.is, t.first.second.is) (refl, (refl, tt)) in
+    rw t.whole (others-append t.front t.back one (hits_others bytes s t.back t.second))
+
+receives_others : (room : ℕ) (bytes : List ℕ) (s : Settings) (l : List Access) → Receives room bytes s l → AllOtherReads l
+receives_others room bytes s l (inl (all, t)) = hits_others bytes s l t
+receives_others room bytes s l (inr (fewer, t)) =
+    let miss : AllOtherReads t.back = rw t.second.is (refl, tt) in
+    rw t.whole (others-append t.front t.back (hits_others bytes s t.front t.first) miss)
+
+-- ---- sending makes it due
+
+writes_due : (known : ThrEmpty) (bytes : List ℕ) → (known.due ≡ true) ⊎ (0 < length bytes) → (after_accesses known (data_writes bytes)).due ≡ true
+writes_due known [] (inl due) = due
+writes_due known [] (inr some) = absurd (omega (arith, some))
+writes_due known (byte ∷ bytes) h = writes_due (record { enabled = known.enabled; due = true }) bytes (inl refl)
+
+-- a look that shows no room makes it due
+miss_due : (known : ThrEmpty) (answer : ℕ) → has answer LSR.THR_EMPTY.0 ≡ false → (after_access known (Read offsets.LSR answer)).due ≡ true
+miss_due known answer shows = rw shows refl
+
+asks_miss : (s : Settings) → s.checks ≡ false → (l : List Access) → SendMiss s l → Asks offsets.LSR LSR.THR_EMPTY.0 false s l
+asks_miss s off l (NoCapacity, t) = t
+asks_miss s off l (RemoteNotClearToSend, t) = absurd (rw off at t)
+
+-- after a send of some bytes: the transmitter had no room, or it holds them
+sent_due : (known : ThrEmpty) (s : Settings) (bytes : List ℕ) (sent : ℕ) (l : List Access) → s.checks ≡ false → Sends bytes sent s l → 0 < length bytes → (after_accesses known l).due ≡ true
+sent_due known s bytes sent l off (inl (none, zero, is)) some = absurd (omega (arith, none, some))
+sent_due known s bytes sent l off (inr (inl (any, zero, t))) some = let miss = asks_miss s off l t in rw miss.is (miss_due known miss.answer miss.shows)
+sent_due known s bytes sent l off (inr (inr (any, size, t))) some =
+    let one : 0 < burst_limit s.fifo = elim s.fifo as (λ b. 0 < burst_limit b) [ true ↦ omega arith | false ↦ omega arith ] in
+    let written : 0 < length (take sent bytes) = omega (arith, any, size, one, length-take sent bytes) in
+    rw (t.whole, t.second.is, after-append known t.front (data_writes (take sent bytes))) (writes_due (after_accesses known t.front) (take sent bytes) (inr written))
+
+-- ---- IER
+
+enabled_live : (known : ThrEmpty) (f : Fields) (l : List Access) (after : Fields) → Enables IER.THR_EMPTY.0 f l after → known.due ≡ true → IsLive (after_accesses known l)
+enabled_live known f l after (ier, is, changed) due = rw is (joined ier, due)
+
+-- the other interrupts leave it as it is, if IER reads true
+resumed_live : (known : ThrEmpty) (f : Fields) (l : List Access) (after : Fields) → Enables IER.DATA_READY.0 f l after → KeepsIer known l → IsLive known → IsLive (after_accesses known l)
+resumed_live known f l after (ier, is, changed) keeps live =
+    let true_of : KeepsIer known (Read offsets.IER ier ∷ Write offsets.IER (bit_or ier IER.DATA_READY.0) ∷ []) = rw is at keeps in
+    rw is (kept_joined ier ∙ true_of.0 refl live.0, live.1)
+
+paused_live : (known : ThrEmpty) (f : Fields) (l : List Access) (after : Fields) → Disables IER.DATA_READY.0 f l after → KeepsIer known l → IsLive known → IsLive (after_accesses known l)
+paused_live known f l after (ier, is, changed) keeps live =
+    let true_of : KeepsIer known (Read offsets.IER ier ∷ Write offsets.IER (without 8 ier IER.DATA_READY.0) ∷ []) = rw is at keeps in
+    rw is (kept_taken ier ∙ true_of.0 refl live.0, live.1)
+
+-- ---- each piece
+
+-- what CTS checking was, it is
+unchecked : (f : RingFields) (l : List Access) (after : RingFields) → Carries f l after → f.driver.config.check_cts_before_sending ≡ false → after.driver.config.check_cts_before_sending ≡ false
+unchecked f l after c off = ap (λ (s : Settings). s.checks) c.settings ∙ off
+
+-- one after the other
+leaves_then : (f mid after : RingFields) (l m : List Access) → Carries f l mid → LeavesArmed f l mid → LeavesArmed mid m after → LeavesArmed f (l ++ m) after
+leaves_then f mid after l m c first second = λ off known keeps armed.
+    rw (after-append known l m)
+    (second (unchecked f l mid c off) (after_accesses known l) (keeps_rest known l m keeps) (first off known (keeps_first known l m keeps) armed))
+
+leaves_stays : (f : RingFields) (l : List Access) (after : RingFields) → Stays f l after → LeavesArmed f l after
+leaves_stays f l after (is, same) = λ off known keeps armed. rw (is, same) armed
+
+-- the same waits to be sent, and what was live is live
+leaves_live : (f : RingFields) (l : List Access) (after : RingFields) → after.transmit.items ≡ f.transmit.items →
+    ((known : ThrEmpty) → KeepsIer known l → IsLive known → IsLive (after_accesses known l)) → LeavesArmed f l after
+leaves_live f l after items live = λ off known keeps armed. go known keeps armed
+  where
+    go : (known : ThrEmpty) → KeepsIer known l → IsArmed known f → IsArmed (after_accesses known l) after
+    go known keeps (inl none) = inl (items ∙ none)
+    go known keeps (inr is) = inr (live known keeps is)
+
+leaves_others : (f : RingFields) (l : List Access) (after : RingFields) → after.transmit.items ≡ f.transmit.items → AllOtherReads l → LeavesArmed f l after
+leaves_others f l after items others = leaves_live f l after items (λ known keeps live. live_others known l others live)
+
+-- a pump arms
+pub pumps_arm : (f : RingFields) (l : List Access) (after : RingFields) → Pumps f l after → Arms f l after
+pumps_arm f l after (sent, (t, same)) = λ off known. go off known (drop sent f.transmit.items) refl t.second
+  where
+    items : after.transmit.items ≡ drop sent f.transmit.items
+    items = ap (λ (g : RingFields). g.transmit.items) same
+
+    go : f.driver.config.check_cts_before_sending ≡ false → (known : ThrEmpty) (left : List ℕ) → drop sent f.transmit.items ≡ left → ArmsIfLeft left t.mid t.back after.driver → IsArmed (after_accesses known l) after
+    go off known [] e arms = inl (items ∙ e)
+    go off known (byte ∷ bytes) e arms =
+        let long : 0 < length (drop sent f.transmit.items) = rw e (omega arith) in
+        let some : 0 < length (take FIFO_SIZE f.transmit.items) = omega (arith, long, length-drop sent f.transmit.items, length-take FIFO_SIZE f.transmit.items) in
+        let due = sent_due known (settings_of f.driver) (take FIFO_SIZE f.transmit.items) sent t.front off t.first.0 some in
+        inr (rw (t.whole, after-append known t.front t.back) (enabled_live (after_accesses known t.front) t.mid t.back after.driver arms due))
+
+pumps_leave : (f : RingFields) (l : List Access) (after : RingFields) → Pumps f l after → LeavesArmed f l after
+pumps_leave f l after t = λ off known keeps armed. pumps_arm f l after t off known
+
+pauses_leave : (f : RingFields) (l : List Access) (after : RingFields) → PausesIfFull f l after → LeavesArmed f l after
+pauses_leave f l after t = go (is_full f.receive) t
+  where
+    go : (full : Bool) → MatchBool full (OnDriver (Disables IER.DATA_READY.0) (with_paused true) f l after) (Stays f l after) → LeavesArmed f l after
+    go true t = leaves_live f l after (ap (λ (g : RingFields). g.transmit.items) t.1) (λ known keeps live. paused_live known f.driver l after.driver t.0 keeps live)
+    go false t = leaves_stays f l after t
+
+ends_pause_leaves : (f : RingFields) (l : List Access) (after : RingFields) → EndsPause f l after → LeavesArmed f l after
+ends_pause_leaves f l after t = go f.is_paused t
+  where
+    go : (paused : Bool) → MatchBool paused (OnDriver (Enables IER.DATA_READY.0) (with_paused false) f l after) (Stays f l after) → LeavesArmed f l after
+    go true t = leaves_live f l after (ap (λ (g : RingFields). g.transmit.items) t.1) (λ known keeps live. resumed_live known f.driver l after.driver t.0 keeps live)
+    go false t = leaves_stays f l after t
+
+fills_leave : (f : RingFields) (l : List Access) (after : RingFields) → FillsReceiveRing f l after → LeavesArmed f l after
+fills_leave f l after (bytes, t) =
+    let items : t.mid.transmit.items ≡ f.transmit.items = ap (λ (g : RingFields). g.transmit.items) t.first.1 in
+    let first = leaves_others f t.front t.mid items (receives_others _ bytes (settings_of f.driver) t.front t.first.0.0) in
+    rw t.whole (leaves_then f t.mid after t.front t.back (received_carries bytes f t.front t.mid t.first) first (pauses_leave t.mid t.back after t.second))
+
+notes_line_leave : (f : RingFields) (l : List Access) (after : RingFields) → NotesLine f l after → LeavesArmed f l after
+notes_line_leave f l after (status, ((read, is, shown, changed), same)) =
+    leaves_others f l after (ap (λ (g : RingFields). g.transmit.items) same) (rw is (refl, tt))
+
+notes_modem_leave : (f : RingFields) (l : List Access) (after : RingFields) → NotesModem f l after → LeavesArmed f l after
+notes_modem_leave f l after (status, ((read, is, shown, changed), same)) =
+    leaves_others f l after (ap (λ (g : RingFields). g.transmit.items) same) (rw is (refl, tt))
+
+-- ---- service
+
+-- ISR shows another interrupt, or none
+not_thr_empty : (isr : ℕ) → (Identifies isr TransmitterHoldingRegisterEmpty → ⊥) → shows_thr_empty isr ≡ false
+not_thr_empty isr other = go (field 0 1 isr == 0) (field 1 3 isr == 1) refl refl
+  where
+    go : (a b : Bool) → (field 0 1 isr == 0) ≡ a → (field 1 3 isr == 1) ≡ b → (a && b) ≡ false
+    go false b p q = refl
+    go true false p q = refl
+    go true true p q =
+        let pending : field 0 1 isr ≡ 0 = grind (arith, nat_tests) in
+        let code : field 1 3 isr ≡ 1 = grind (arith, nat_tests) in
+        absurd (other (pending, code))
+
+isr_leaves : (interrupt : Option InterruptType) (f : RingFields) (l : List Access) (after : RingFields) → (interrupt ≡ Some TransmitterHoldingRegisterEmpty → ⊥) →
+    OnDriver (ShowsInterrupt interrupt) unchanged f l after → LeavesArmed f l after
+isr_leaves interrupt f l after other ((isr, shown, t), same) =
+    leaves_live f l after (ap (λ (g : RingFields). g.transmit.items) same) live
+  where
+    silent : shows_thr_empty isr ≡ false
+    silent = not_thr_empty isr (λ h. other ((shown TransmitterHoldingRegisterEmpty).1 h))
+
+    live : (known : ThrEmpty) → KeepsIer known l → IsLive known → IsLive (after_accesses known l)
+    live known keeps is = rw (t.0.is, silent) is
+
+-- what is served after a read of ISR that did not acknowledge it
+served : (interrupt : InterruptType) (f : RingFields) (l : List Access) (after : RingFields) → (Some interrupt ≡ Some TransmitterHoldingRegisterEmpty → ⊥) →
+    ((g : RingFields) (m : List Access) (end : RingFields) → Serves interrupt g m end → LeavesArmed g m end) →
+    RingNext (OnDriver (ShowsInterrupt (Some interrupt)) unchanged) (Serves interrupt) f l after → LeavesArmed f l after
+served interrupt f l after other leaves t =
+    rw t.whole (leaves_then f t.mid after t.front t.back (shows_carry _ f t.front t.mid t.first) (isr_leaves _ f t.front t.mid other t.first) (leaves t.mid t.back after t.second))
+
+serves_one_leaves : (f : RingFields) (l : List Access) (after : RingFields) → ServesOne f l after → LeavesArmed f l after
+serves_one_leaves f l after (ReceiverLineStatus, t) = served ReceiverLineStatus f l after (λ e. cc) notes_line_leave t
+serves_one_leaves f l after (ReceivedDataReady, t) = served ReceivedDataReady f l after (λ e. cc) fills_leave t
+serves_one_leaves f l after (ReceptionTimeout, t) = served ReceptionTimeout f l after (λ e. cc) fills_leave t
+serves_one_leaves f l after (ModemStatus, t) = served ModemStatus f l after (λ e. cc) notes_modem_leave t
+serves_one_leaves f l after (DmaReceptionEndOfTransfer, t) = served DmaReceptionEndOfTransfer f l after (λ e. cc) leaves_stays t
+serves_one_leaves f l after (DmaTransmissionEndOfTransfer, t) = served DmaTransmissionEndOfTransfer f l after (λ e. cc) leaves_stays t
+serves_one_leaves f l after (TransmitterHoldingRegisterEmpty, t) = λ off known keeps armed.
+    rw (t.whole, after-append known t.front t.back)
+    (pumps_arm t.mid t.back after t.second (unchecked f t.front t.mid (shows_carry _ f t.front t.mid t.first) off) (after_accesses known t.front))
+
+times_leave : (n : ℕ) (f : RingFields) (l : List Access) (after : RingFields) → RingTimes n ServesOne f l after → LeavesArmed f l after
+times_leave zero f l after t = leaves_stays f l after t
+times_leave (suc n) f l after t =
+    rw t.whole (leaves_then f t.mid after t.front t.back (serves_one_carries f t.front t.mid t.first) (serves_one_leaves f t.front t.mid t.first) (times_leave n t.mid t.back after t.second))
+
+-- ---- each call
+
+pub services_leave : (count : ℕ) (f : RingFields) (l : List Access) (after : RingFields) → Services count f l after → LeavesArmed f l after
+services_leave count f l after (inl (fewer, t)) =
+    rw t.whole (leaves_then f t.mid after t.front t.back (times_carry count f t.front t.mid t.first) (times_leave count f t.front t.mid t.first) (isr_leaves None t.mid t.back after (λ e. cc) t.second))
+services_leave count f l after (inr (all, t)) = times_leave count f l after t
+
+any_pumps_arm : (count : ℕ) (f : RingFields) (l : List Access) (after : RingFields) → 0 < count → IfAny count Pumps f l after → Arms f l after
+any_pumps_arm zero f l after some t = absurd (omega (arith, some))
+any_pumps_arm (suc n) f l after some t = pumps_arm f l after t
+
+-- nothing is queued, or what is queued is pumped
+pub queues_leave : (bytes : List ℕ) (count : ℕ) (f : RingFields) (l : List Access) (after : RingFields) → Queues bytes count f l after → LeavesArmed f l after
+queues_leave bytes zero f l after (is, (none, same)) =
+    leaves_live f l after (ap (λ (g : RingFields). g.transmit.items) same ∙ append-nil f.transmit.items) (λ known keeps live. rw none live)
+queues_leave bytes (suc n) f l after (is, t) = λ off known keeps armed. pumps_arm (with_queued (take (suc n) bytes) f) l after t off known
+
+pub queues_arm : (bytes : List ℕ) (count : ℕ) → 0 < count → (f : RingFields) (l : List Access) (after : RingFields) → Queues bytes count f l after → Arms f l after
+queues_arm bytes count some f l after (is, t) = any_pumps_arm count (with_queued (take count bytes) f) l after some t
+
+any_ends_pause_leaves : (count : ℕ) (f : RingFields) (l : List Access) (after : RingFields) → IfAny count EndsPause f l after → LeavesArmed f l after
+any_ends_pause_leaves zero f l after t = leaves_stays f l after t
+any_ends_pause_leaves (suc n) f l after t = ends_pause_leaves f l after t
+
+pub takes_leave : (slots : ℕ) (bytes : List ℕ) (f : RingFields) (l : List Access) (after : RingFields) → Takes slots bytes f l after → LeavesArmed f l after
+takes_leave slots bytes f l after (is, t) = any_ends_pause_leaves (length bytes) (without_taken (length bytes) f) l after t
+
+pub takes_line_leave : (line : ℕ) (f : RingFields) (l : List Access) (after : RingFields) → TakesLine line f l after → LeavesArmed f l after
+takes_line_leave line f l after (status, told, ((read, is, shown, changed), same)) =
+    leaves_others f l after (ap (λ (g : RingFields). g.transmit.items) same) (rw is (refl, tt))
+
+pub takes_modem_leave : (modem : ℕ) (f : RingFields) (l : List Access) (after : RingFields) → TakesModem modem f l after → LeavesArmed f l after
+takes_modem_leave modem f l after (status, told, ((read, is, shown, changed), same)) =
+    leaves_others f l after (ap (λ (g : RingFields). g.transmit.items) same) (rw is (refl, tt))

@@ -1,0 +1,5 @@
+pub mod RingDoings
+pub mod Transfers
+pub mod Conserving
+pub mod Arming
+pub mod Bounding

@@ -1,0 +1,25 @@
+-- How many accesses ring calls make at the most.
+use Rattle.std.specs.Prelude.{◌≤◌, ◌+◌, ◌*◌, ℕ, length}
+use Rattle.uart_spec.specs.declared.baud.TheConstants.{FIFO_SIZE}
+use Rattle.uart_ring.specs.Ring.{RingDoing}
+use Rattle.uart_ring.specs.declared.ring.service.TheConstants.{MAX_INTERRUPTS}
+
+-- so many accesses, or fewer
+abbrev pub MakesAtMost : ℕ → RingDoing
+MakesAtMost most f l after = length l ≤ most
+
+-- a change of IER: it is read and written
+abbrev pub most_of_change : ℕ
+most_of_change = 2
+
+-- a pump: a send check reads LSR, MCR and MSR, and a full FIFO is written; then a change of IER
+abbrev pub most_of_pump : ℕ
+most_of_pump = 3 + FIFO_SIZE + most_of_change
+
+-- a full FIFO is received, each byte after a look; then a change of IER
+abbrev pub most_of_receiving : ℕ
+most_of_receiving = 2 * FIFO_SIZE + most_of_change
+
+-- `service`: for each interrupt ISR is read, and none takes longer to be served than a full FIFO that is received
+abbrev pub most_of_service : ℕ
+most_of_service = MAX_INTERRUPTS * (1 + most_of_receiving)

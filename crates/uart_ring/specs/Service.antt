@@ -1,0 +1,42 @@
+-- Serving interrupts.
+use Rattle.std.specs.Prelude.{◌≡◌, ◌<◌, ◌⊎◌, ℕ, [], ◌∷◌, Option, Some, None}
+use Rattle.uart_spec.specs.Access.{Read}
+use Rattle.uart_spec.specs.Bits.{IsOnlyIfAny}
+use Rattle.uart_spec.specs.Interrupts.{Identifies}
+use Rattle.uart_spec.specs.declared.registers.interrupt_type.InterruptType.{InterruptType}
+use Rattle.uart_spec.specs.declared.registers.interrupt_type.InterruptType.TheVariants.{ReceiverLineStatus, ReceivedDataReady, ReceptionTimeout, TransmitterHoldingRegisterEmpty, ModemStatus, DmaReceptionEndOfTransfer, DmaTransmissionEndOfTransfer}
+use Rattle.uart_spec.specs.declared.registers.offsets.TheConstants as offsets
+use Rattle.uart_16550.specs.Grammar.{Only}
+use Rattle.uart_16550.specs.Driver.{Doing, Saving}
+use Rattle.uart_ring.specs.declared.ring.service.TheConstants.{MAX_INTERRUPTS}
+use Rattle.uart_ring.specs.Ring.{RingDoing, OnDriver, Stays, RingNext, RingTimes, unchanged}
+use Rattle.uart_ring.specs.Transmit.{Pumps}
+use Rattle.uart_ring.specs.Receive.{FillsReceiveRing}
+use Rattle.uart_ring.specs.Status.{NotesLine, NotesModem}
+
+-- one read of ISR, which shows this interrupt, or none that has a name
+abbrev pub ShowsInterrupt : Option InterruptType → Doing
+ShowsInterrupt interrupt f l after =
+    (isr : ℕ) × IsOnlyIfAny (Identifies isr) interrupt × Saving (Only (Read offsets.ISR isr ∷ [])) f l after
+
+-- how an interrupt is served
+abbrev pub Serves : InterruptType → RingDoing
+Serves ReceiverLineStatus = NotesLine
+Serves ReceivedDataReady = FillsReceiveRing
+Serves ReceptionTimeout = FillsReceiveRing
+Serves TransmitterHoldingRegisterEmpty = Pumps
+Serves ModemStatus = NotesModem
+Serves DmaReceptionEndOfTransfer = Stays
+Serves DmaTransmissionEndOfTransfer = Stays
+
+-- an interrupt is shown, and then served
+abbrev pub ServesOne : RingDoing
+ServesOne f l after =
+    (interrupt : InterruptType)
+    × RingNext (OnDriver (ShowsInterrupt (Some interrupt)) unchanged) (Serves interrupt) f l after
+
+-- `service`: fewer interrupts than the most were served, and then none was shown; or the most were
+abbrev pub Services : ℕ → RingDoing
+Services count f l after =
+    ((count < MAX_INTERRUPTS) × RingNext (RingTimes count ServesOne) (OnDriver (ShowsInterrupt None) unchanged) f l after)
+    ⊎ ((count ≡ MAX_INTERRUPTS) × RingTimes count ServesOne f l after)

@@ -1,0 +1,26 @@
+-- Line errors and changes of the modem lines: noted when they are served, and taken by the caller.
+use Rattle.std.specs.Prelude.{◌≡◌, ℕ, bit_and, bit_or}
+use Rattle.uart_spec.specs.declared.registers.line_status.TheConstants.LSR
+use Rattle.uart_spec.specs.declared.registers.modem_status.TheConstants.MSR
+use Rattle.uart_16550.specs.Status.{TakesLsr, TakesMsr}
+use Rattle.uart_ring.specs.Ring.{RingDoing, OnDriver, with_line, with_modem}
+
+-- `lsr`, of which the line errors are noted
+abbrev pub NotesLine : RingDoing
+NotesLine f l after =
+    (status : ℕ) × OnDriver (TakesLsr status) (with_line (bit_or f.line (bit_and status LSR.LINE_ERRORS.0))) f l after
+
+-- `msr`, of which the changes are noted
+abbrev pub NotesModem : RingDoing
+NotesModem f l after =
+    (status : ℕ) × OnDriver (TakesMsr status) (with_modem (bit_or f.modem (bit_and status MSR.CHANGES.0))) f l after
+
+-- `take_line`: `lsr` joined with what was noted, which is then nothing
+abbrev pub TakesLine : ℕ → RingDoing
+TakesLine result f l after =
+    (status : ℕ) × (result ≡ bit_or status f.line) × OnDriver (TakesLsr status) (with_line 0) f l after
+
+-- `take_modem`: `msr` likewise
+abbrev pub TakesModem : ℕ → RingDoing
+TakesModem result f l after =
+    (status : ℕ) × (result ≡ bit_or status f.modem) × OnDriver (TakesMsr status) (with_modem 0) f l after

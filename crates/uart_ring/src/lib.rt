@@ -1,0 +1,12 @@
+//! Transmit and receive rings over the serial driver, to be served by interrupts.
+//!
+//! A [`Uart16550Ring`] keeps bytes until the chip takes them, and received bytes until the caller takes them. Call
+//! [`Uart16550Ring::service`] when the chip raises its interrupt. No call waits, and only [`Uart16550Ring::new`] takes memory.
+#![tactic(auto)]
+
+pub mod laws;
+mod ring;
+#[cfg(test)]
+mod tests;
+
+pub use ring::{MAX_CAPACITY, MAX_INTERRUPTS, RingError, Uart16550Ring};

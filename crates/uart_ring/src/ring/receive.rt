@@ -1,0 +1,50 @@
+//! From the chip to the receive ring, and from there to the caller.
+ghost use Rattle.std.specs.Prelude.{◌≡◌, length, take, drop, min};
+ghost use Rattle.uart_ring.specs.Ring.{RingDid, ring_fields};
+ghost use Rattle.uart_ring.specs.Receive.{PausesIfFull, FillsReceiveRing, Takes};
+
+use super::Uart16550Ring;
+use uart_16550::backend::Backend;
+use uart_spec::FIFO_SIZE;
+use uart_spec::registers::IER;
+
+impl<B: Backend> Uart16550Ring<B> {
+    // Pauses receiving if the receive ring is full.
+    fn pause_if_full(&mut self)
+        ensures { RingDid B.step PausesIfFull self.old self.new }
+    {
+        if self.receive.is_full() {
+            self.uart.disable_interrupts(IER::DATA_READY);
+            self.is_paused = true;
+        }
+    }
+
+    // Receives bytes into the receive ring, as many as a FIFO holds and as there is room for.
+    pub(super) fn fill_receive_ring(&mut self)
+        ensures { RingDid B.step FillsReceiveRing self.old self.new }
+    {
+        let mut slots = [0; FIFO_SIZE];
+        let room = FIFO_SIZE.min(self.receive.capacity() - self.receive.len());
+        let count = self.uart.receive_bytes(&mut slots[..room]);
+        self.receive.fill_from_slice(&slots[..count]);
+        self.pause_if_full();
+    }
+
+    /// Takes received bytes out of the receive ring, as many as there are slots for, and returns how many. Later slots stay as
+    /// they are.
+    ///
+    /// If there are any and receiving is paused, the DATA_READY interrupt is enabled again, and the pause ends. Otherwise this
+    /// makes no access.
+    pub fn take(&mut self, slots: &mut [u8]) -> usize
+        ensures did { RingDid B.step (Takes (length slots.old) (take result slots.new)) self.old self.new }
+        ensures count { result ≡ min (length slots.old) (length (ring_fields self.old).receive.items) }
+        ensures rest { drop result slots.new ≡ drop result slots.old }
+    {
+        let count = self.receive.read_into(slots);
+        if count > 0 && self.is_paused {
+            self.uart.enable_interrupts(IER::DATA_READY);
+            self.is_paused = false;
+        }
+        count
+    }
+}

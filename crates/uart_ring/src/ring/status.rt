@@ -1,0 +1,44 @@
+//! Line errors and changes of the modem lines: noted when they are served, and taken by the caller.
+ghost use Rattle.uart_ring.specs.Ring.{RingDid};
+ghost use Rattle.uart_ring.specs.Status.{NotesLine, NotesModem, TakesLine, TakesModem};
+
+use super::Uart16550Ring;
+use bitflags::Flags;
+use uart_16550::backend::Backend;
+use uart_spec::registers::{LSR, MSR};
+
+impl<B: Backend> Uart16550Ring<B> {
+    // Notes the errors that LSR shows and those that the driver saved.
+    pub(super) fn note_line(&mut self)
+        ensures { RingDid B.step NotesLine self.old self.new }
+    {
+        let status = self.uart.lsr();
+        self.line.insert(status.intersection(LSR::LINE_ERRORS));
+    }
+
+    // Notes the changes that MSR shows and those that the driver saved.
+    pub(super) fn note_modem(&mut self)
+        ensures { RingDid B.step NotesModem self.old self.new }
+    {
+        let status = self.uart.msr();
+        self.modem.insert(status.intersection(MSR::CHANGES));
+    }
+
+    /// Reads LSR, joined with the errors that `service` noted and those that the driver saved. These are then forgotten.
+    pub fn take_line(&mut self) -> LSR
+        ensures { RingDid B.step (TakesLine result.0) self.old self.new }
+    {
+        let line = self.uart.lsr().union(self.line);
+        self.line = LSR::from_bits_retain(0);
+        line
+    }
+
+    /// Reads MSR, joined with the changes that `service` noted and those that the driver saved. These are then forgotten.
+    pub fn take_modem(&mut self) -> MSR
+        ensures { RingDid B.step (TakesModem result.0) self.old self.new }
+    {
+        let modem = self.uart.msr().union(self.modem);
+        self.modem = MSR::from_bits_retain(0);
+        modem
+    }
+}

@@ -1,0 +1,57 @@
+//! From the transmit ring to the chip.
+ghost use Rattle.std.specs.Prelude.{◌≡◌, ◌≤◌, length, take, min};
+ghost use Rattle.uart_ring.specs.Ring.{RingDid, free, ring_fields};
+ghost use Rattle.uart_ring.specs.Transmit.{Pumps, Queues};
+
+use super::Uart16550Ring;
+use circular_buffer::HeapCircularBuffer;
+use uart_16550::backend::Backend;
+use uart_spec::FIFO_SIZE;
+use uart_spec::registers::IER;
+
+// Copies the first bytes of a ring, as many as the FIFO of a chip holds, and returns how many.
+fn copy_front(ring: &HeapCircularBuffer<u8>, copy: &mut [u8; FIFO_SIZE]) -> usize
+    ensures count { result ≤ FIFO_SIZE }
+    ensures bytes { take result copy.new ≡ take FIFO_SIZE ring.now.items }
+{
+    let (front, back) = ring.as_slices();
+    let from_front = front.len().min(FIFO_SIZE);
+    let from_back = back.len().min(FIFO_SIZE - from_front);
+    let count = from_front + from_back;
+    copy[..from_front].copy_from_slice(&front[..from_front]);
+    copy[from_front..count].copy_from_slice(&back[..from_back]);
+    count
+}
+
+impl<B: Backend> Uart16550Ring<B> {
+    // Sends bytes from the transmit ring, if the chip has room. If bytes are left, THR_EMPTY is enabled, else disabled.
+    pub(super) fn pump(&mut self)
+        ensures { RingDid B.step Pumps self.old self.new }
+    {
+        let mut burst = [0; FIFO_SIZE];
+        let count = copy_front(&self.transmit, &mut burst);
+        let sent = self.uart.send_bytes(&burst[..count]);
+        self.transmit.truncate_front(self.transmit.len() - sent);
+        if self.transmit.is_empty() {
+            self.uart.disable_interrupts(IER::THR_EMPTY);
+        } else {
+            self.uart.enable_interrupts(IER::THR_EMPTY);
+        }
+    }
+
+    /// Queues bytes from the front, as many as the transmit ring has room for, and returns how many.
+    ///
+    /// If there are any, bytes are then written to the chip, up to 16 if its FIFO is on and else one, provided that it has room.
+    /// The THR_EMPTY interrupt is enabled if bytes are left in the ring, else disabled. Does not wait: if the ring had no room
+    /// for all, call it again after interrupts were served, with the rest of the slice.
+    pub fn queue(&mut self, bytes: &[u8]) -> usize
+        ensures did { RingDid B.step (Queues bytes.now result) self.old self.new }
+        ensures count { result ≡ min (length bytes.now) (free (ring_fields self.old).transmit) }
+    {
+        let count = self.transmit.fill_from_slice(bytes);
+        if count > 0 {
+            self.pump();
+        }
+        count
+    }
+}

@@ -1,0 +1,81 @@
+//! Rings over a replay, what a chip answers, and lists of accesses as tests write them down.
+use crate::{RingError, Uart16550Ring};
+use std::process::Abort;
+use uart_16550::Uart16550;
+use uart_16550::replay::{Entry, Replay};
+use uart_spec::registers::offsets;
+
+/// LSR: the transmitter is empty.
+pub const EMPTY: u8 = 0x60;
+
+/// LSR: the transmitter has no room.
+pub const FULL: u8 = 0x00;
+
+/// LSR: the transmitter is empty, and a character waits to be read.
+pub const WAITS: u8 = 0x61;
+
+/// ISR: no interrupt is pending, with the FIFO on; and each that may be.
+pub const NONE: u8 = 0xc1;
+pub const LINE_STATUS: u8 = 0xc6;
+pub const DATA_READY: u8 = 0xc4;
+pub const TIMEOUT: u8 = 0xcc;
+pub const THR_EMPTY: u8 = 0xc2;
+pub const MODEM_STATUS: u8 = 0xc0;
+pub const DMA_RECEPTION: u8 = 0xce;
+pub const DMA_TRANSMISSION: u8 = 0xca;
+
+/// One access, or those of a burst.
+#[derive(Clone, Copy)]
+pub enum Step {
+    Read(usize, u8),
+    Write(usize, u8),
+    /// Each byte is written to DATA.
+    Sent(&'static [u8]),
+    /// For each byte LSR shows that one waits, and DATA is read.
+    Received(&'static [u8]),
+}
+
+/// Rings over a new driver, whose reads are answered by these bytes in turn.
+pub fn rings<'a>(
+    rt: &HostRuntime,
+    answers: &'a [u8],
+    tx_capacity: usize,
+    rx_capacity: usize,
+) -> Result<Uart16550Ring<Replay<'a>>, RingError> {
+    let uart = Uart16550::new_with_backend(Replay::new(answers));
+    match Uart16550Ring::new(rt.alloc(), uart, tx_capacity, rx_capacity) {
+        Ok(ring) => Ok(ring),
+        Err((_uart, cause)) => Err(cause),
+    }
+}
+
+/// These accesses were made, and no others.
+pub fn made<R: Abort>(rt: &R, replay: &Replay<'_>, steps: &[Step]) {
+    let Some(accesses) = replay.accesses() else {
+        assert!(rt; false, "more accesses than are kept");
+        return;
+    };
+    let mut accesses = accesses.iter().copied();
+    for step in steps {
+        match *step {
+            Step::Read(offset, answer) => {
+                assert_eq!(rt; accesses.next(), Some(Entry::Read(offset, answer)));
+            }
+            Step::Write(offset, value) => {
+                assert_eq!(rt; accesses.next(), Some(Entry::Write(offset, value)));
+            }
+            Step::Sent(bytes) => {
+                for &byte in bytes {
+                    assert_eq!(rt; accesses.next(), Some(Entry::Write(offsets::DATA, byte)));
+                }
+            }
+            Step::Received(bytes) => {
+                for &byte in bytes {
+                    assert_eq!(rt; accesses.next(), Some(Entry::Read(offsets::LSR, WAITS)));
+                    assert_eq!(rt; accesses.next(), Some(Entry::Read(offsets::DATA, byte)));
+                }
+            }
+        }
+    }
+    assert_eq!(rt; accesses.next(), None);
+}
