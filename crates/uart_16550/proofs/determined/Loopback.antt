@@ -7,6 +7,9 @@ use Rattle.uart_spec.specs.declared.errors.StalledError.{StalledError}
 use Rattle.uart_spec.specs.declared.errors.ByteSendError.{ByteSendError}
 use Rattle.uart_spec.specs.declared.errors.LoopbackError.{LoopbackError}
 use Rattle.uart_spec.specs.declared.errors.LoopbackError.TheVariants.{Stalled, SendError, UnexpectedLoopbackByte, UnexpectedLoopbackMsg}
+use Rattle.uart_spec.specs.declared.registers.offsets.TheConstants as offsets
+use Rattle.uart_spec.specs.declared.registers.line_status.TheConstants.LSR
+use Rattle.uart_spec.specs.declared.registers.modem_control.TheConstants.MCR
 use Rattle.uart_spec.specs.Access.{Access, Read, Write}
 use Rattle.uart_16550.specs.Grammar.{Language, Settings, Only, Then, InOrder, AllMisses}
 use Rattle.uart_16550.specs.Receive.{Miss, Awaited, ReceivesExact}
@@ -378,7 +381,7 @@ exchanges_determined s a b = record { at = λ l m p q. at l m (steps_of a s l p)
 
 -- into the loopback
 entering : (s : Settings) (x y : ℕ) →
-    Determined (x ≡ y) (Only (Read 6 x ∷ Write 1 0 ∷ Write 4 16 ∷ []) s) (Only (Read 6 y ∷ Write 1 0 ∷ Write 4 16 ∷ []) s)
+    Determined (x ≡ y) (Only (Read offsets.MSR x ∷ Write offsets.IER 0 ∷ Write offsets.MCR MCR.LOOP_BACK.0 ∷ []) s) (Only (Read offsets.MSR y ∷ Write offsets.IER 0 ∷ Write offsets.MCR MCR.LOOP_BACK.0 ∷ []) s)
 entering s x y = record { at = λ l m p q. so_is p.is q.is (so (λ r. r.0) (so_read (λ same. inl (tt {0}, refl)))) }
 
 set_fifos : (f : Fields) (a b : Bool) → a ≡ b → Does (Unit {0}) f (Sets (with_fifo a)) (Sets (with_fifo b))
@@ -388,8 +391,8 @@ set_fifos f a b same =
 enters_determined : (f : Fields) (x y : ℕ) (a b : Bool) → Does ((x ≡ y) × (a ≡ b)) f (Enters x a) (Enters y b)
 enters_determined f x y a b =
     let level = f.config.fifo_trigger_level in
-    let X = Only (Read 6 x ∷ Write 1 0 ∷ Write 4 16 ∷ []) in
-    let Y = Only (Read 6 y ∷ Write 1 0 ∷ Write 4 16 ∷ []) in
+    let X = Only (Read offsets.MSR x ∷ Write offsets.IER 0 ∷ Write offsets.MCR MCR.LOOP_BACK.0 ∷ []) in
+    let Y = Only (Read offsets.MSR y ∷ Write offsets.IER 0 ∷ Write offsets.MCR MCR.LOOP_BACK.0 ∷ []) in
     let s = settings_of f in
     let lists : Determined ((x ≡ y) × (a ≡ b)) (Then X (SetsFifo level a) s) (Then Y (SetsFifo level b) s) =
     determined_then (entering s x y) (λ same. determined_so (λ t. (same, t)) (fifo_determined s level a b)) in
@@ -402,23 +405,23 @@ enters_determined f x y a b =
 -- out of it
 Settles : (mcr ier before noted now : ℕ) → Doing
 Settles mcr ier before noted now =
-    Next (Saving (Only (Write 4 mcr ∷ Write 1 ier ∷ []))) (Sets (with_changes noted (line_changes before now)))
+    Next (Saving (Only (Write offsets.MCR mcr ∷ Write offsets.IER ier ∷ []))) (Sets (with_changes noted (line_changes before now)))
 
 settles_determined : (mcr ier before noted x y : ℕ) (f : Fields) → x ≡ y →
     Does (Unit {0}) f (Settles mcr ier before noted x) (Settles mcr ier before noted y)
 unfolding Settles
 settles_determined mcr ier before noted x y f same =
-    let W = Only (Write 4 mcr ∷ Write 1 ier ∷ []) in
+    let W = Only (Write offsets.MCR mcr ∷ Write offsets.IER ier ∷ []) in
     let M : ℕ → Type 0 = λ z. Does (Unit {0}) f (Settles mcr ier before noted x) (Settles mcr ier before noted z) in
     subst M same (does_next (does_saving f W W (determined_only refl)) (λ t g. does_set g (with_changes noted (line_changes before x))))
 
 leaving : (mcr ier before noted x y : ℕ) (f : Fields) → Does (Unit {0}) f
-    (Next (Saving (Only (Write 4 (without 8 mcr 8) ∷ []))) (Next (Plain (Only (Read 6 x ∷ []))) (Settles mcr ier before noted x)))
-    (Next (Saving (Only (Write 4 (without 8 mcr 8) ∷ []))) (Next (Plain (Only (Read 6 y ∷ []))) (Settles mcr ier before noted y)))
+    (Next (Saving (Only (Write offsets.MCR (without 8 mcr MCR.OUT_2_INT_ENABLE.0) ∷ []))) (Next (Plain (Only (Read offsets.MSR x ∷ []))) (Settles mcr ier before noted x)))
+    (Next (Saving (Only (Write offsets.MCR (without 8 mcr MCR.OUT_2_INT_ENABLE.0) ∷ []))) (Next (Plain (Only (Read offsets.MSR y ∷ []))) (Settles mcr ier before noted y)))
 leaving mcr ier before noted x y f =
-    let W = Only (Write 4 (without 8 mcr 8) ∷ []) in
+    let W = Only (Write offsets.MCR (without 8 mcr MCR.OUT_2_INT_ENABLE.0) ∷ []) in
     does_next (does_saving f W W (determined_only refl))
-    (λ t g. does_next (does_plain g (Only (Read 6 x ∷ [])) (Only (Read 6 y ∷ [])) (read_determined 6 x y))
+    (λ t g. does_next (does_plain g (Only (Read offsets.MSR x ∷ [])) (Only (Read offsets.MSR y ∷ [])) (read_determined offsets.MSR x y))
     (λ same h. settles_determined mcr ier before noted x y h same))
 
 leaves_same : (mcr ier before noted : ℕ) (f : Fields) → Does (Unit {0}) f (Leaves mcr ier before noted) (Leaves mcr ier before noted)
@@ -452,13 +455,13 @@ tests_at mcr ier mcr' ier' r t f p q =
 
 -- before the loopback
 opening : (s : Settings) (mcr ier mcr' ier' : ℕ) →
-    Determined ((mcr ≡ mcr') × (ier ≡ ier')) (Only (Read 4 mcr ∷ Read 1 ier ∷ []) s) (Only (Read 4 mcr' ∷ Read 1 ier' ∷ []) s)
+    Determined ((mcr ≡ mcr') × (ier ≡ ier')) (Only (Read offsets.MCR mcr ∷ Read offsets.IER ier ∷ []) s) (Only (Read offsets.MCR mcr' ∷ Read offsets.IER ier' ∷ []) s)
 opening s mcr ier mcr' ier' = record { at = λ l m p q. so_is p.is q.is (so_read (λ same. so_reads)) }
 
 begins_test_determined : (s : Settings) (mcr ier mcr' ier' : ℕ) (x y : Bool) →
     Determined ((mcr ≡ mcr') × (ier ≡ ier') × (x ≡ y)) (BeginsTest mcr ier x s) (BeginsTest mcr' ier' y s)
 begins_test_determined s mcr ier mcr' ier' x y =
-    determined_then (opening s mcr ier mcr' ier') (λ same. determined_so (λ t. (same.0, same.1, t)) (waits_determined s 64 x y))
+    determined_then (opening s mcr ier mcr' ier') (λ same. determined_so (λ t. (same.0, same.1, t)) (waits_determined s LSR.TRANSMITTER_EMPTY.0 x y))
 
 stalls : (r : Outcome) → IsStalled r → r ≡ Err Stalled
 stalls (Ok x) h = absurd h

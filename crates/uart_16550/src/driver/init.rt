@@ -12,6 +12,11 @@ use std::mem;
 use uart_spec::registers::{FCR, FifoTriggerLevel, ISR, LCR, LSR, MCR, MSR, offsets};
 use uart_spec::{Config, FIFO_SIZE, InitError, calc_divisor};
 
+// The patterns that the scratch register is tried with.
+const FIRST_PATTERN: u8 = 0x42;
+
+const SECOND_PATTERN: u8 = 0x73;
+
 // What a FIFO and the shift register hold.
 const MOST_WAITING: usize = FIFO_SIZE + 1;
 
@@ -51,10 +56,10 @@ impl<B: Backend> Uart16550<B> {
     fn keeps_patterns(&mut self) -> bool
         ensures { Made B.step (KeepsPatterns result) self.old self.new }
     {
-        if !self.keeps(0x42) {
+        if !self.keeps(FIRST_PATTERN) {
             return false;
         }
-        self.keeps(0x73)
+        self.keeps(SECOND_PATTERN)
     }
 
     /// Whether a device is there: its scratch register keeps what is written to it.

@@ -84,7 +84,7 @@ impl<B: Backend> Uart16550<B> {
     // Sends the test message whole, and receives it whole.
     fn echo_whole(&mut self) -> Option<[u8; 16]>
         ensures made { Made B.step (HasEchoedWhole test_message result) self.old self.new }
-        ensures length { IfSome result (λ actual. length actual ≡ 16) }
+        ensures length { IfSome result (λ actual. length actual ≡ length test_message) }
     {
         let Ok(()) = self.send_bytes_exact(&TEST_MESSAGE) else {
             return None;
@@ -99,7 +99,7 @@ impl<B: Backend> Uart16550<B> {
     // Sends the test message byte by byte, and awaits each.
     fn echo_each(&mut self) -> Option<[u8; 16]>
         ensures made { Made B.step (HasEchoedEach test_message result) self.old self.new }
-        ensures length { IfSome result (λ actual. length actual ≡ 16) }
+        ensures length { IfSome result (λ actual. length actual ≡ length test_message) }
     {
         let mut actual = [0; 16];
         for (i, &byte) in TEST_MESSAGE.iter().enumerate() {
@@ -111,7 +111,7 @@ impl<B: Backend> Uart16550<B> {
     // Sends the test message and awaits it: whole where the FIFO is on, else byte by byte.
     fn echo_message(&mut self) -> Option<[u8; 16]>
         ensures made { Made B.step (HasEchoedAll test_message result) self.old self.new }
-        ensures length { IfSome result (λ actual. length actual ≡ 16) }
+        ensures length { IfSome result (λ actual. length actual ≡ length test_message) }
     {
         if self.fifo_enabled {
             return self.echo_whole();
