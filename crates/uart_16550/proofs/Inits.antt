@@ -9,7 +9,7 @@ use Rattle.uart_spec.specs.declared.registers.offsets.TheConstants as offsets
 use Rattle.uart_spec.specs.Access.{Access, Write}
 use Rattle.uart_16550.specs.Grammar.{Settings, Only, Then}
 use Rattle.uart_16550.specs.Driver.{Made, Did, Plain, with_config, with_fifo}
-use Rattle.uart_16550.specs.Init.{first_pattern, second_pattern, Keeps, KeepsPatterns, ChecksPresence, SetsFifo, Drains, Begins, DivisorOf, Inits, frame_bits, line_writes, raised_outputs}
+use Rattle.uart_16550.specs.Init.{first_pattern, second_pattern, Keeps, KeepsPatterns, ChecksPresence, SetsFifo, DrainsReceiver, Begins, DivisorOf, Inits, frame_bits, line_writes, raised_outputs}
 use Rattle.uart_16550.specs.declared.driver.Uart16550.{Uart16550}
 use Rattle.uart_16550.proofs.Making.{made_then, made_among}
 use Rattle.uart_16550.proofs.Doings.{did_then, did_made, did_set}
@@ -33,7 +33,7 @@ inits_stored {step} {a} {b} result same did = let D : Config → Type 0 = λ con
 pub begun : {B : Type 0} {step : B → Access → B → Type 0} (config : Config) (divisor frame control : ℕ) (fifo : Bool) {a b c d e f : Uart16550 B} →
     frame ≡ frame_bits config → control ≡ raised_outputs →
     Made step (ChecksPresence true) (record a { config = config }) b → Made step (Only (line_writes divisor frame)) b c → Made step (SetsFifo config.fifo_trigger_level fifo) c d →
-    Did step (Plain Drains) (record d { fifo_enabled = fifo }) e → Made step (Only (Write offsets.MCR control ∷ [])) e f →
+    Did step (Plain DrainsReceiver) (record d { fifo_enabled = fifo }) e → Made step (Only (Write offsets.MCR control ∷ [])) e f →
     Did step (Begins config divisor fifo) a f
 begun {B} {step} config divisor frame control fifo {a} {b} {c} {d} {e} {f} is_frame is_control present line on drained written =
     let framed : Made step (Only (line_writes divisor (frame_bits config))) b c = made_among (λ l t. record { is = t.is ∙ ap (line_writes divisor) is_frame }) line in

@@ -44,8 +44,8 @@ abbrev pub sent_after : List ℕ → ℕ → List ℕ
 sent_after sent value = if nat_lt (length sent) 64 then sent ++ value ∷ [] else sent
 
 -- the file after a write: DATA is sent, FCR shows in ISR, LSR stays, and the others keep what is written
-abbrev pub after_write : File → ℕ → ℕ → File
-after_write file offset value =
+abbrev pub file_after : File → ℕ → ℕ → File
+file_after file offset value =
     if is_latch file.registers offset then record file { latch = slice_set file.latch offset value }
     else if offset == offsets.DATA then record file { sent = sent_after file.sent value }
     else if offset == offsets.FCR then
@@ -56,4 +56,4 @@ after_write file offset value =
 -- an access of the file
 abbrev pub FileStep : File → Access → File → Type 0
 FileStep old (Read offset answer) new = (answer ≡ answer_of old offset) × (new ≡ old)
-FileStep old (Write offset value) new = new ≡ after_write old offset value
+FileStep old (Write offset value) new = new ≡ file_after old offset value

@@ -16,9 +16,9 @@ use Rattle.uart_spec.specs.declared.registers.line_status.TheConstants.LSR
 use Rattle.uart_spec.specs.declared.registers.modem_control.TheConstants.MCR
 use Rattle.uart_spec.specs.declared.baud.TheConstants.{FIFO_SIZE}
 use Rattle.uart_spec.specs.Access.{Access, Read, Write}
-use Rattle.uart_16550.specs.Grammar.{Language, Only, Then, Times, Asks, Reads}
+use Rattle.uart_16550.specs.Grammar.{Language, Only, Then, Times, Asks, ReadsRegister}
 use Rattle.uart_16550.specs.Receive.{Miss}
-use Rattle.uart_16550.specs.Transmit.{Waits}
+use Rattle.uart_16550.specs.Transmit.{WaitsFor}
 use Rattle.uart_16550.specs.Driver.{Doing, Saving, Plain, Sets, Next, with_config, with_fifo, with_saved}
 
 -- the two patterns that the scratch register is tried with
@@ -70,15 +70,15 @@ SetsFifo (Some level) on s l =
 
 -- a byte that waits is thrown away
 abbrev pub Discards : Language
-Discards = Then (Asks offsets.LSR LSR.DATA_READY.0 true) (Reads offsets.DATA)
+Discards = Then (Asks offsets.LSR LSR.DATA_READY.0 true) (ReadsRegister offsets.DATA)
 
 -- the most that can wait to be received: what the FIFO holds, and the character in the shift register
 abbrev pub most_waiting : ℕ
 most_waiting = FIFO_SIZE + 1
 
 -- bytes are thrown away until none waits, or as many as can wait
-abbrev pub Drains : Language
-Drains s l =
+abbrev pub DrainsReceiver : Language
+DrainsReceiver s l =
     Times most_waiting Discards s l ⊎ ((n : ℕ) × (n < most_waiting) × Then (Times n Discards) Miss s l)
 
 -- the outputs that are raised: DTR, RTS and OUT2
@@ -92,13 +92,13 @@ Begins config divisor fifo =
     (Next (Saving (Then (ChecksPresence true)
     (Then (Only (line_writes divisor (frame_bits config))) (SetsFifo config.fifo_trigger_level fifo))))
     (Next (Sets (with_fifo fifo))
-    (Next (Plain Drains)
+    (Next (Plain DrainsReceiver)
     (Saving (Only (Write offsets.MCR raised_outputs ∷ []))))))
 
 -- the statuses are read and forgotten, and the interrupts enabled
 abbrev pub Ends : Config → Doing
 Ends config =
-    Next (Plain (Then (Reads offsets.LSR) (Then (Reads offsets.ISR) (Reads offsets.MSR))))
+    Next (Plain (Then (ReadsRegister offsets.LSR) (Then (ReadsRegister offsets.ISR) (ReadsRegister offsets.MSR))))
     (Next (Sets (with_saved 0 0))
     (Saving (Only (Write offsets.IER config.interrupts.0 ∷ []))))
 
@@ -109,9 +109,9 @@ DivisorOf config = IsDivisorAnswer config.frequency (to_integer config.baud_rate
 -- `init`: the whole list, or that up to the refusal
 abbrev pub Inits : {T : Type 0} → Config → Result T InitError → Doing
 Inits config (Ok x) f l after = (divisor : ℕ) × (fifo : Bool) × DivisorOf config (Ok divisor) ×
-    Next (Begins config divisor fifo) (Next (Saving (Waits LSR.TRANSMITTER_EMPTY.0 true)) (Ends config)) f l after
+    Next (Begins config divisor fifo) (Next (Saving (WaitsFor LSR.TRANSMITTER_EMPTY.0 true)) (Ends config)) f l after
 Inits config (Err (InvalidBaudRate cause)) f l after = DivisorOf config (Err cause) × (l ≡ []) × (after ≡ f)
 Inits config (Err DeviceNotPresent) f l after = (divisor : ℕ) × DivisorOf config (Ok divisor) ×
     Next (Sets (with_config config)) (Saving (ChecksPresence false)) f l after
 Inits config (Err Stalled) f l after = (divisor : ℕ) × (fifo : Bool) × DivisorOf config (Ok divisor) ×
-    Next (Begins config divisor fifo) (Saving (Waits LSR.TRANSMITTER_EMPTY.0 false)) f l after
+    Next (Begins config divisor fifo) (Saving (WaitsFor LSR.TRANSMITTER_EMPTY.0 false)) f l after

@@ -1,8 +1,8 @@
 -- The loopback test, access by access.
-use Rattle.std.specs.Prelude.{◌≡◌, ◌≢◌, ◌==◌, ◌&&◌, not, ℕ, Bool, true, false, List, [], ◌∷◌, ◌++◌, Result, Ok, Err, Option, Some, None, length, map, ◌⊎◌, if◌then◌else◌, codes}
+use Rattle.std.specs.Prelude.{◌≡◌, ◌≢◌, ◌==◌, ◌&&◌, not, ℕ, Bool, true, false, List, [], ◌∷◌, ◌++◌, Result, Ok, Err, Option, Some, None, length, map, ◌⊎◌, codes}
 use Rattle.std.specs.Int.RustNames.{bit_and, bit_or}
 use Rattle.bitflags.specs.Sets.{without}
-use Rattle.uart_spec.specs.Bits.{has}
+use Rattle.uart_spec.specs.Bits.{has, flag}
 use Rattle.uart_spec.specs.declared.errors.StalledError.{StalledError}
 use Rattle.uart_spec.specs.declared.errors.LoopbackError.{LoopbackError}
 use Rattle.uart_spec.specs.declared.errors.LoopbackError.TheVariants.{Stalled, SendError, UnexpectedLoopbackByte, UnexpectedLoopbackMsg}
@@ -13,7 +13,7 @@ use Rattle.uart_spec.specs.declared.registers.modem_status.TheConstants.MSR
 use Rattle.uart_spec.specs.Access.{Read, Write}
 use Rattle.uart_16550.specs.Grammar.{Language, Only, Then, InOrder, FewMisses, AllMisses, IfFifo}
 use Rattle.uart_16550.specs.Receive.{Hit, Miss, Awaited, ReceivesExact}
-use Rattle.uart_16550.specs.Transmit.{SendMiss, Round, SendsAll, SendsExact, TrySends, Waits}
+use Rattle.uart_16550.specs.Transmit.{SendMiss, Round, SendsAll, SendsExact, TrySends, WaitsFor}
 use Rattle.uart_16550.specs.Init.{SetsFifo}
 use Rattle.uart_16550.specs.Driver.{Fields, Doing, Saving, Plain, Sets, Next, with_fifo, with_saved}
 
@@ -29,9 +29,9 @@ abbrev pub TakesOne : Language
 TakesOne s l = (byte : ℕ) × Hit byte s l
 
 -- what waited from before is received until nothing waits; or there was a byte as many times as the limit
-abbrev pub Drains : Bool → Language
-Drains true = Then (FewMisses TakesOne) Miss
-Drains false = AllMisses TakesOne
+abbrev pub DrainsLoopback : Bool → Language
+DrainsLoopback true = Then (FewMisses TakesOne) Miss
+DrainsLoopback false = AllMisses TakesOne
 
 -- one byte is sent at once, and comes back
 abbrev pub SendsTestByte : Language
@@ -97,14 +97,10 @@ ExchangesMessage (Err (UnexpectedLoopbackMsg expected actual)) s l =
 
 -- inside the loopback: the drain, the byte, the message, up to the first fault
 abbrev pub Exchanges : {T : Type 0} → Result T LoopbackError → Language
-Exchanges (Ok x) s l = Then (Drains true) (Then (ExchangesByte (Ok x)) (ExchangesMessage (Ok x))) s l
-Exchanges (Err e) s l = ((e ≡ Stalled) × Drains false s l)
-    ⊎ (Then (Drains true) (ExchangesByte {T = Unit {0}} (Err e)) s l
-    ⊎ Then (Drains true) (Then (ExchangesByte {T = Unit {0}} (Ok tt)) (ExchangesMessage {T = Unit {0}} (Err e))) s l)
-
--- these bits where the flag is set, else none
-abbrev pub flag : Bool → ℕ → ℕ
-flag on bits = if on then bits else 0
+Exchanges (Ok x) s l = Then (DrainsLoopback true) (Then (ExchangesByte (Ok x)) (ExchangesMessage (Ok x))) s l
+Exchanges (Err e) s l = ((e ≡ Stalled) × DrainsLoopback false s l)
+    ⊎ (Then (DrainsLoopback true) (ExchangesByte {T = Unit {0}} (Err e)) s l
+    ⊎ Then (DrainsLoopback true) (Then (ExchangesByte {T = Unit {0}} (Ok tt)) (ExchangesMessage {T = Unit {0}} (Err e))) s l)
 
 -- the line differs
 abbrev pub differs : ℕ → ℕ → ℕ → Bool
@@ -139,7 +135,7 @@ Leaves mcr ier before noted f l after = (now : ℕ) ×
 -- MCR and IER are read, and then the transmitter is awaited
 abbrev pub BeginsTest : (mcr ier : ℕ) → Bool → Language
 BeginsTest mcr ier empty =
-    Then (Only (Read offsets.MCR mcr ∷ Read offsets.IER ier ∷ [])) (Waits LSR.TRANSMITTER_EMPTY.0 empty)
+    Then (Only (Read offsets.MCR mcr ∷ Read offsets.IER ier ∷ [])) (WaitsFor LSR.TRANSMITTER_EMPTY.0 empty)
 
 -- after the first wait, whose end leaves the errors to be noted
 abbrev pub Tests : {T : Type 0} → (mcr ier : ℕ) → Result T LoopbackError → Doing

@@ -8,7 +8,7 @@ use Rattle.uart_spec.specs.declared.errors.InvalidAddressError.{InvalidAddressEr
 use Rattle.uart_spec.specs.declared.errors.InvalidAddressError.TheVariants.{InvalidBaseAddress, InvalidStride}
 use Rattle.uart_spec.specs.declared.registers.offsets.TheConstants as offsets
 use Rattle.uart_spec.specs.Access.{Access}
-use Rattle.uart_16550.specs.Backend.{placed}
+use Rattle.uart_16550.specs.Backend.{access_at}
 
 -- the address of the first register, how many bytes apart the registers lie, and the object that reaches the memory
 pub record Mapped (M : Type 0) : Type 0 where
@@ -40,6 +40,6 @@ IsMappingRefusal address apart (InvalidBaseAddress a) =
 
 -- the object makes the access at the address base + offset * stride, and base and stride stay
 pub record MemoryStep {M : Type 0} (step : M → Access → M → Type 0) (old : Mapped M) (access : Access) (new : Mapped M) : Type 0 where
-  pub made : step old.access (placed (address_of (non_zero_usize_get old.base) (non_zero_u8_get old.stride)) access) new.access
+  pub made : step old.access (access_at (address_of (non_zero_usize_get old.base) (non_zero_u8_get old.stride)) access) new.access
   pub base : new.base ≡ old.base
   pub stride : new.stride ≡ old.stride

@@ -4,7 +4,7 @@ use Rattle.uart_spec.specs.declared.errors.InvalidAddressError.{InvalidAddressEr
 use Rattle.uart_spec.specs.declared.errors.InvalidAddressError.TheVariants.{InvalidBaseAddress}
 use Rattle.uart_spec.specs.declared.registers.offsets.TheConstants as offsets
 use Rattle.uart_spec.specs.Access.{Access}
-use Rattle.uart_16550.specs.Backend.{placed}
+use Rattle.uart_16550.specs.Backend.{access_at}
 
 -- the port of the first register, and the object that reaches the ports
 pub record Ports (P : Type 0) : Type 0 where
@@ -32,5 +32,5 @@ pub record IsPortRefusal (port : ℕ) (e : InvalidAddressError) : Type 0 where
 
 -- the object makes the access at the port base + offset, and the base stays
 pub record PortStep {P : Type 0} (step : P → Access → P → Type 0) (old : Ports P) (access : Access) (new : Ports P) : Type 0 where
-  pub made : step old.access (placed (λ offset. old.base + offset) access) new.access
+  pub made : step old.access (access_at (λ offset. old.base + offset) access) new.access
   pub base : new.base ≡ old.base

@@ -96,6 +96,6 @@ TrySends byte (Err NoCapacity) = Sends (byte ∷ []) 0
 TrySends byte (Err RemoteNotClearToSend) = Never
 
 -- a wait for these bits of LSR: fewer looks without them than the limit and then one with them; or as many in vain
-abbrev pub Waits : ℕ → Bool → Language
-Waits bits true = Then (FewMisses (Asks offsets.LSR bits false)) (Asks offsets.LSR bits true)
-Waits bits false = AllMisses (Asks offsets.LSR bits false)
+abbrev pub WaitsFor : ℕ → Bool → Language
+WaitsFor bits true = Then (FewMisses (Asks offsets.LSR bits false)) (Asks offsets.LSR bits true)
+WaitsFor bits false = AllMisses (Asks offsets.LSR bits false)

@@ -14,11 +14,11 @@ use Rattle.uart_spec.specs.declared.registers.offsets.TheConstants as offsets
 use Rattle.uart_spec.specs.declared.registers.interrupt_status.TheConstants.ISR
 use Rattle.uart_spec.specs.declared.registers.line_status.TheConstants.LSR
 use Rattle.uart_spec.specs.Access.{Access, Read, Write}
-use Rattle.uart_16550.specs.Grammar.{Language, Settings, Only, Then, Reads}
+use Rattle.uart_16550.specs.Grammar.{Language, Settings, Only, Then, ReadsRegister}
 use Rattle.uart_16550.specs.Receive.{Miss}
-use Rattle.uart_16550.specs.Transmit.{Waits}
+use Rattle.uart_16550.specs.Transmit.{WaitsFor}
 use Rattle.uart_16550.specs.Driver.{Doing, Fields, Saving, Plain, Sets, Next, settings_of, with_config, with_fifo, with_saved}
-use Rattle.uart_16550.specs.Init.{first_pattern, second_pattern, Keeps, KeepsPatterns, ChecksPresence, line_writes, frame_bits, SetsFifo, Discards, most_waiting, Drains, raised_outputs, Begins, Ends, DivisorOf, Inits}
+use Rattle.uart_16550.specs.Init.{first_pattern, second_pattern, Keeps, KeepsPatterns, ChecksPresence, line_writes, frame_bits, SetsFifo, Discards, most_waiting, DrainsReceiver, raised_outputs, Begins, Ends, DivisorOf, Inits}
 use Rattle.uart_16550.proofs.determined.Parting.{SameOrPart, Determined, so, so_is, so_write, so_reads, determined_so, determined_sym, determined_then, determined_front, determined_only, read_determined, reads_determined, asks_determined, asks_apart, asks_same, not_both}
 use Rattle.uart_16550.proofs.determined.Repeated.{Misses, times_same, times_hit, times_all}
 use Rattle.uart_16550.proofs.determined.Receive.{miss_same}
@@ -76,10 +76,10 @@ fifo_determined s (Some level) a b = determined_then (determined_only refl) (λ 
 discards : (s : Settings) → Misses s Discards Miss
 discards s = record { same = determined_then (asks_same offsets.LSR LSR.DATA_READY.0 true) (λ x. reads_determined s offsets.DATA); apart = determined_front (asks_apart offsets.LSR LSR.DATA_READY.0) }
 
-drains_same : (s : Settings) → Determined (Unit {0}) (Drains s) (Drains s)
+drains_same : (s : Settings) → Determined (Unit {0}) (DrainsReceiver s) (DrainsReceiver s)
 drains_same s = record { at = at }
   where
-    at : (l m : List Access) → Drains s l → Drains s m → SameOrPart (Unit {0}) l m
+    at : (l m : List Access) → DrainsReceiver s l → DrainsReceiver s m → SameOrPart (Unit {0}) l m
     at l m (inl p) (inl q) = (times_same s Discards (discards s).same most_waiting).at l m p q
     at l m (inl p) (inr q) = (determined_sym (times_all s Discards Miss (discards s) q.0 most_waiting q.1)).at l m p q.2
     at l m (inr p) (inl q) = so absurd ((times_all s Discards Miss (discards s) p.0 most_waiting p.1).at l m p.2 q)
@@ -87,12 +87,12 @@ drains_same s = record { at = at }
 
 -- after the FIFO step
 abbrev Drained : Bool → Doing
-Drained fifo = Next (Sets (with_fifo fifo)) (Next (Plain Drains) (Saving (Only (Write offsets.MCR raised_outputs ∷ []))))
+Drained fifo = Next (Sets (with_fifo fifo)) (Next (Plain DrainsReceiver) (Saving (Only (Write offsets.MCR raised_outputs ∷ []))))
 
 drained_same : (f : Fields) (fifo : Bool) → Does (Unit {0}) f (Drained fifo) (Drained fifo)
 drained_same f fifo =
     does_next (does_set f (with_fifo fifo))
-    (λ x g. does_next (does_plain g Drains Drains (drains_same (settings_of g)))
+    (λ x g. does_next (does_plain g DrainsReceiver DrainsReceiver (drains_same (settings_of g)))
     (λ y h. does_saving h (Only (Write offsets.MCR raised_outputs ∷ [])) (Only (Write offsets.MCR raised_outputs ∷ [])) (determined_only refl)))
 
 drained_determined : (f : Fields) (a b : Bool) → a ≡ b → Does (a ≡ b) f (Drained a) (Drained b)
@@ -137,7 +137,7 @@ absent_same f config =
 -- the wait and the end
 ends_same : (f : Fields) (config : Config) → Does (Unit {0}) f (Ends config) (Ends config)
 ends_same f config =
-    let L = Then (Reads offsets.LSR) (Then (Reads offsets.ISR) (Reads offsets.MSR)) in
+    let L = Then (ReadsRegister offsets.LSR) (Then (ReadsRegister offsets.ISR) (ReadsRegister offsets.MSR)) in
     let W = Only (Write offsets.IER config.interrupts.0 ∷ []) in
     does_next (does_plain f L L
     (let s = settings_of f in determined_then (reads_determined s offsets.LSR)
@@ -145,20 +145,20 @@ ends_same f config =
     (λ x g. does_next (does_set g (with_saved 0 0)) (λ y h. does_saving h W W (determined_only refl)))
 
 abbrev Finishes : Config → Bool → Doing
-Finishes config true = Next (Saving (Waits LSR.TRANSMITTER_EMPTY.0 true)) (Ends config)
-Finishes config false = Saving (Waits LSR.TRANSMITTER_EMPTY.0 false)
+Finishes config true = Next (Saving (WaitsFor LSR.TRANSMITTER_EMPTY.0 true)) (Ends config)
+Finishes config false = Saving (WaitsFor LSR.TRANSMITTER_EMPTY.0 false)
 
 finishes_apart : (f : Fields) (config : Config) → Does ⊥ f (Finishes config true) (Finishes config false)
 finishes_apart f config =
-    does_front (does_saving f (Waits LSR.TRANSMITTER_EMPTY.0 true) (Waits LSR.TRANSMITTER_EMPTY.0 false) (determined_so not_both (waits_determined (settings_of f) LSR.TRANSMITTER_EMPTY.0 true false)))
+    does_front (does_saving f (WaitsFor LSR.TRANSMITTER_EMPTY.0 true) (WaitsFor LSR.TRANSMITTER_EMPTY.0 false) (determined_so not_both (waits_determined (settings_of f) LSR.TRANSMITTER_EMPTY.0 true false)))
 
 finishes_determined : (f : Fields) (config : Config) (x y : Bool) → Does (x ≡ y) f (Finishes config x) (Finishes config y)
 finishes_determined f config true true =
     does_so (λ t. refl)
-    (does_next (does_saving f (Waits LSR.TRANSMITTER_EMPTY.0 true) (Waits LSR.TRANSMITTER_EMPTY.0 true) (waits_determined (settings_of f) LSR.TRANSMITTER_EMPTY.0 true true)) (λ x g. ends_same g config))
+    (does_next (does_saving f (WaitsFor LSR.TRANSMITTER_EMPTY.0 true) (WaitsFor LSR.TRANSMITTER_EMPTY.0 true) (waits_determined (settings_of f) LSR.TRANSMITTER_EMPTY.0 true true)) (λ x g. ends_same g config))
 finishes_determined f config true false = does_so absurd (finishes_apart f config)
 finishes_determined f config false true = does_sym (finishes_apart f config)
-finishes_determined f config false false = does_saving f (Waits LSR.TRANSMITTER_EMPTY.0 false) (Waits LSR.TRANSMITTER_EMPTY.0 false) (waits_determined (settings_of f) LSR.TRANSMITTER_EMPTY.0 false false)
+finishes_determined f config false false = does_saving f (WaitsFor LSR.TRANSMITTER_EMPTY.0 false) (WaitsFor LSR.TRANSMITTER_EMPTY.0 false) (waits_determined (settings_of f) LSR.TRANSMITTER_EMPTY.0 false false)
 
 abbrev Tries : Config → ℕ → (fifo empty : Bool) → Doing
 Tries config divisor fifo empty = Next (Begins config divisor fifo) (Finishes config empty)

@@ -16,7 +16,7 @@ use Rattle.uart_16550.specs.Receive.{Miss, Awaited, ReceivesExact}
 use Rattle.uart_16550.specs.Transmit.{Round, SendMiss, SendsAll, SendsExact, TrySends}
 use Rattle.uart_16550.specs.Init.{SetsFifo}
 use Rattle.uart_16550.specs.Driver.{Doing, Fields, Saving, Plain, Sets, Next, settings_of, with_fifo}
-use Rattle.uart_16550.specs.Loopback.{test_byte, test_message, TakesOne, Drains, SendsTestByte, ExchangesByte, Echo, EchoFails, WholeEchoes, WholeFails, EachEchoes, HasEchoedWhole, HasEchoedEach, HasEchoedAll, ExchangesMessage, Exchanges, Enters, Leaves, with_changes, line_changes, BeginsTest, Tests, IsStalled, TestsLoopback}
+use Rattle.uart_16550.specs.Loopback.{test_byte, test_message, TakesOne, DrainsLoopback, SendsTestByte, ExchangesByte, Echo, EchoFails, WholeEchoes, WholeFails, EachEchoes, HasEchoedWhole, HasEchoedEach, HasEchoedAll, ExchangesMessage, Exchanges, Enters, Leaves, with_changes, line_changes, BeginsTest, Tests, IsStalled, TestsLoopback}
 use Rattle.uart_16550.proofs.Languages.{then_later}
 use Rattle.uart_16550.proofs.determined.Parting.{SameOrPart, Determined, so, so_is, so_read, so_reads, determined_so, determined_sym, determined_then, determined_front, determined_among, determined_none, determined_only, determined_fifo, read_determined, not_both}
 use Rattle.uart_16550.proofs.determined.Repeated.{same_first, same_others, Misses, waits_end, wait_ends, wait_fails, Items, Alike, items_all}
@@ -35,13 +35,13 @@ takes s = record {
   apart = record { at = λ l m p q. (determined_sym (miss_hit s p.0)).at l m p.1 q };
 }
 
-drains_apart : (s : Settings) → Determined ⊥ (Drains true s) (Drains false s)
+drains_apart : (s : Settings) → Determined ⊥ (DrainsLoopback true s) (DrainsLoopback false s)
 drains_apart s = wait_ends s TakesOne Miss (takes s)
 
-drains_true : (s : Settings) → Determined (Unit {0}) (Drains true s) (Drains true s)
+drains_true : (s : Settings) → Determined (Unit {0}) (DrainsLoopback true s) (DrainsLoopback true s)
 drains_true s = waits_end s TakesOne Miss Miss (takes s) (takes s) (miss_same s)
 
-drains_false : (s : Settings) → Determined (Unit {0}) (Drains false s) (Drains false s)
+drains_false : (s : Settings) → Determined (Unit {0}) (DrainsLoopback false s) (DrainsLoopback false s)
 drains_false s = wait_fails s TakesOne (takes s).same
 
 -- the test byte: refused, or what came back for it
@@ -329,9 +329,9 @@ exchanges_message_determined s a b = record {
 
 -- how far the exchange came
 abbrev Steps : Outcome → Settings → List Access → Type 0
-Steps r s l = ((r ≡ Err Stalled) × Drains false s l)
-    ⊎ (((e : LoopbackError) × (r ≡ Err e) × Then (Drains true) (ExchangesByte {T = Unit {0}} (Err e)) s l)
-    ⊎ Then (Drains true) (Then (ExchangesByte {T = Unit {0}} (Ok tt)) (ExchangesMessage r)) s l)
+Steps r s l = ((r ≡ Err Stalled) × DrainsLoopback false s l)
+    ⊎ (((e : LoopbackError) × (r ≡ Err e) × Then (DrainsLoopback true) (ExchangesByte {T = Unit {0}} (Err e)) s l)
+    ⊎ Then (DrainsLoopback true) (Then (ExchangesByte {T = Unit {0}} (Ok tt)) (ExchangesMessage r)) s l)
 
 steps_of : (r : Outcome) (s : Settings) (l : List Access) → Exchanges r s l → Steps r s l
 steps_of (Ok x) s l t = inr (inr t)
@@ -339,12 +339,12 @@ steps_of (Err e) s l (inl t) = inl (ap (λ (z : LoopbackError). let r : Outcome 
 steps_of (Err e) s l (inr (inl t)) = inr (inl (e, refl, t))
 steps_of (Err e) s l (inr (inr t)) = inr (inr t)
 
-undrained : (s : Settings) (Q : Language) → Determined ⊥ (Then (Drains true) Q s) (Drains false s)
-undrained s Q = determined_front {P = Drains true} {Q = Q} (drains_apart s)
+undrained : (s : Settings) (Q : Language) → Determined ⊥ (Then (DrainsLoopback true) Q s) (DrainsLoopback false s)
+undrained s Q = determined_front {P = DrainsLoopback true} {Q = Q} (drains_apart s)
 
 after_drain : {C : Type 0} (s : Settings) (Q R : Language) → Determined C (Q s) (R s) →
-    Determined C (Then (Drains true) Q s) (Then (Drains true) R s)
-after_drain s Q R h = determined_then {P = Drains true} {P' = Drains true} {Q = Q} {Q' = R} (drains_true s) (λ t. h)
+    Determined C (Then (DrainsLoopback true) Q s) (Then (DrainsLoopback true) R s)
+after_drain s Q R h = determined_then {P = DrainsLoopback true} {P' = DrainsLoopback true} {Q = Q} {Q' = R} (drains_true s) (λ t. h)
 
 abbrev ByteFails : LoopbackError → Language
 ByteFails e = ExchangesByte {T = Unit {0}} (Err e)
@@ -353,7 +353,7 @@ abbrev Goes : Outcome → Language
 Goes r = Then (ExchangesByte {T = Unit {0}} (Ok tt)) (ExchangesMessage r)
 
 byte_failed : (s : Settings) (e : LoopbackError) (r : Outcome) →
-    Determined ⊥ (Then (Drains true) (Goes r) s) (Then (Drains true) (ByteFails e) s)
+    Determined ⊥ (Then (DrainsLoopback true) (Goes r) s) (Then (DrainsLoopback true) (ByteFails e) s)
 byte_failed s e r =
     after_drain s (Goes r) (ByteFails e)
     (determined_front {P = ExchangesByte {T = Unit {0}} (Ok tt)} {Q = ExchangesMessage r}

@@ -9,7 +9,7 @@ use Rattle.uart_spec.specs.declared.registers.modem_control.TheConstants.MCR
 use Rattle.uart_spec.specs.declared.registers.modem_status.TheConstants.MSR
 use Rattle.uart_spec.specs.Access.{Access}
 use Rattle.uart_16550.specs.Grammar.{Settings, Then, AllMisses, Asks, Never}
-use Rattle.uart_16550.specs.Transmit.{LinesAllow, SendHit, SendRefused, SendMiss, ReadyToSend, Burst, Round, Sends, TrySends, burst_size, IsCut, SendsAll, SendsExact, SendsSome, Waits}
+use Rattle.uart_16550.specs.Transmit.{LinesAllow, SendHit, SendRefused, SendMiss, ReadyToSend, Burst, Round, Sends, TrySends, burst_size, IsCut, SendsAll, SendsExact, SendsSome, WaitsFor}
 use Rattle.uart_16550.proofs.determined.Parting.{SameOrPart, Determined, so, determined_so, determined_sym, determined_then, determined_front, determined_only, determined_never, determined_checks, determined_if, asks_determined, asks_apart, asks_same, not_both}
 use Rattle.uart_16550.proofs.determined.Repeated.{Misses, Items, waits_end, wait_ends, wait_fails, items_all, items_more, items_short, Alike, given}
 use Rattle.uart_16550.proofs.determined.Receive.{stalled}
@@ -18,7 +18,7 @@ use Rattle.uart_16550.proofs.determined.Receive.{stalled}
 shows : (s : Settings) (bits : ℕ) → Misses s (Asks offsets.LSR bits false) (Asks offsets.LSR bits true)
 shows s bits = record { same = asks_same offsets.LSR bits false; apart = determined_sym (asks_apart offsets.LSR bits) }
 
-pub waits_determined : (s : Settings) (bits : ℕ) (a b : Bool) → Determined (a ≡ b) (Waits bits a s) (Waits bits b s)
+pub waits_determined : (s : Settings) (bits : ℕ) (a b : Bool) → Determined (a ≡ b) (WaitsFor bits a s) (WaitsFor bits b s)
 waits_determined s bits true true =
     waits_end s (Asks offsets.LSR bits false) (Asks offsets.LSR bits true) (Asks offsets.LSR bits true) (shows s bits) (shows s bits) (asks_determined offsets.LSR bits true true)
 waits_determined s bits true false = determined_so absurd (wait_ends s (Asks offsets.LSR bits false) (Asks offsets.LSR bits true) (shows s bits))

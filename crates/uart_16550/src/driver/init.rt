@@ -1,8 +1,8 @@
 //! The presence check and the initialisation.
 ghost use Rattle.std.specs.Prelude.{◌≡◌, ◌≢◌, ◌<◌, [], ◌∷◌};
 ghost use Rattle.uart_spec.specs.Config.{IsComputable};
-ghost use Rattle.uart_16550.specs.Grammar.{Only, Then, Reads};
-ghost use Rattle.uart_16550.specs.Init.{Keeps, KeepsPatterns, ChecksPresence, frame_bits, line_writes, fifo_bits, SetsFifo, Drains, Ends, Inits};
+ghost use Rattle.uart_16550.specs.Grammar.{Only, Then, ReadsRegister};
+ghost use Rattle.uart_16550.specs.Init.{Keeps, KeepsPatterns, ChecksPresence, frame_bits, line_writes, fifo_bits, SetsFifo, DrainsReceiver, Ends, Inits};
 ghost use Rattle.uart_16550.specs.Driver.{Made, Did, Plain, fields};
 
 use super::Uart16550;
@@ -100,7 +100,7 @@ impl<B: Backend> Uart16550<B> {
 
     // Throws away what waits to be received.
     fn drain(&mut self)
-        ensures { Did B.step (Plain Drains) self.old self.new }
+        ensures { Did B.step (Plain DrainsReceiver) self.old self.new }
     {
         for _turn in 0..MOST_WAITING {
             let lsr = LSR::from_bits_retain(self.read_plain(offsets::LSR));
@@ -111,7 +111,7 @@ impl<B: Backend> Uart16550<B> {
         }
     }
 
-    // Reads the statuses and forgets them, and enables the configured interrupts.
+    // ReadsRegister the statuses and forgets them, and enables the configured interrupts.
     fn finish_init(&mut self)
         ensures { Did B.step (Ends (fields self.old).config) self.old self.new }
     {

@@ -1,6 +1,7 @@
 //! The loopback test.
 ghost use Rattle.std.specs.Prelude.{◌≡◌, length, IfSome};
-ghost use Rattle.uart_16550.specs.Loopback.{test_message, Drains, HasEchoed, HasEchoedWhole, HasEchoedEach, HasEchoedAll, ExchangesByte, ExchangesMessage, Exchanges, Enters, Leaves, TestsLoopback, flag, differs, line_changes};
+ghost use Rattle.uart_spec.specs.Bits.{flag};
+ghost use Rattle.uart_16550.specs.Loopback.{test_message, DrainsLoopback, HasEchoed, HasEchoedWhole, HasEchoedEach, HasEchoedAll, ExchangesByte, ExchangesMessage, Exchanges, Enters, Leaves, TestsLoopback, differs, line_changes};
 ghost use Rattle.uart_16550.specs.Driver.{Made, Did, fields};
 
 use super::Uart16550;
@@ -44,7 +45,7 @@ fn line_changes(before: MSR, now: MSR) -> MSR
 impl<B: Backend> Uart16550<B> {
     // Receives what waits from before, and tells whether that came to an end.
     fn drain_received(&mut self) -> bool
-        ensures { Made B.step (Drains result) self.old self.new }
+        ensures { Made B.step (DrainsLoopback result) self.old self.new }
     {
         for _turn in 0..self.spin_limit.get() {
             let Ok(_) = self.try_receive_byte() else {
