@@ -1,7 +1,8 @@
 //! Sending.
 ghost use Rattle.std.specs.Prelude.{◌≡◌, ◌<◌, ◌≤◌, length, take, IfErr, IfSome};
 ghost use Rattle.uart_16550.specs.Grammar.{Only, Asks};
-ghost use Rattle.uart_16550.specs.Transmit.{LinesAllow, ReadyToSend, data_writes, burst_size, Sends, WaitsToSend, SendsSome, SendsExact, WaitsFor, TrySends};
+ghost use Rattle.uart_16550.specs.Transmit.{LinesAllow, ReadyToSend, data_writes, burst_size, Sends, WaitsToSend, SendsSome, SendsExact};
+ghost use Rattle.uart_16550.specs.Transmit.{WaitsFor, TrySends};
 ghost use Rattle.uart_16550.specs.Expansion.{SendsSingly};
 ghost use Rattle.uart_16550.specs.Driver.{Made, settings};
 
