@@ -6,9 +6,12 @@ use Rattle.std.proofs.lemmas.Nat.Bits.{same_from_bits, bit_at_or, bit_at_and, an
 use Rattle.std.proofs.lemmas.Nat.{pow_pos}
 use Rattle.std.specs.Int.Bits.{and_zero_l}
 use lib.Bits.{or_zero_r}
-use Rattle.uart_spec.specs.Bits.{has, field}
-use Rattle.uart_chip.specs.Registers.{has_any, flag, lcr_dlab, lcr_word_length}
-use Rattle.uart_chip.specs.Chip.{word_length, cut_to}
+use Rattle.uart_spec.specs.Bits.{has, has_any, field, IsOnly}
+use Rattle.uart_spec.specs.Fields.{trigger_code, HasTrigger}
+use Rattle.uart_spec.specs.declared.registers.fifo_trigger_level.FifoTriggerLevel.{FifoTriggerLevel}
+use Rattle.uart_spec.specs.declared.registers.line_control.TheConstants.LCR
+use Rattle.uart_chip.specs.Masks.{flag}
+use Rattle.uart_chip.specs.Chip.{word_length, cut_to, level_of, trigger_level}
 
 -- ---- joins
 
@@ -21,8 +24,8 @@ and_or a b mask =
     same_from_bits _ _ (λ i. rw (bit_at_and (bit_or a b) mask i, bit_at_or a b i, bit_at_or (bit_and a mask) (bit_and b mask) i, bit_at_and a mask i, bit_at_and b mask i) (omega arith))
 
 -- the divisor latch has nothing to do with the word length
-pub word_same : (lcr : ℕ) → word_length (bit_or lcr lcr_dlab) ≡ word_length lcr
-word_same lcr = ap (λ (more : ℕ). 5 + more) (and_or lcr lcr_dlab lcr_word_length ∙ or_zero_r (bit_and lcr lcr_word_length))
+pub word_same : (lcr : ℕ) → word_length (bit_or lcr LCR.DLAB.0) ≡ word_length lcr
+word_same lcr = ap (λ (more : ℕ). 5 + more) (and_or lcr LCR.DLAB.0 LCR.WORD_LENGTH.0 ∙ or_zero_r (bit_and lcr LCR.WORD_LENGTH.0))
 
 -- ---- one bit
 
@@ -87,10 +90,23 @@ has_flag false bits mask = ap (λ v. not (v == 0)) (and_zero_l mask)
 
 -- ---- the word length
 
-field_bits : (value : ℕ) → field 0 2 value ≡ bit_and value lcr_word_length
+field_bits : (value : ℕ) → field 0 2 value ≡ bit_and value LCR.WORD_LENGTH.0
 field_bits value = grind (arith, common_steps)
 
 -- with this code in LCR a byte is cut so
 pub cut_with : (cuts : Bool) (lcr code byte : ℕ) → cuts ≡ true → field 0 2 lcr ≡ code → byte % 2 ^ (5 + code) ≡ cut_to cuts (word_length lcr) byte
 cut_with cuts lcr code byte on e =
     sym (ap (λ (b : Bool). cut_to b (word_length lcr) byte) on ∙ ap (λ (more : ℕ). byte % 2 ^ (5 + more)) (sym (field_bits lcr) ∙ e))
+
+-- ---- the trigger level
+
+coded : (code : ℕ) → code < 4 → code ≡ trigger_code (level_of code)
+coded zero h = refl
+coded (suc zero) h = refl
+coded (suc (suc zero)) h = refl
+coded (suc (suc (suc zero))) h = refl
+coded (suc (suc (suc (suc n)))) h = absurd (omega arith)
+
+-- the only level whose code is in FCR
+pub only_level : (fcr : ℕ) (level : FifoTriggerLevel) → IsOnly (HasTrigger 6 fcr) level → level ≡ trigger_level fcr
+only_level fcr level only = (only (trigger_level fcr)).1 (coded (field 6 2 fcr) (grind (arith, common_steps)))

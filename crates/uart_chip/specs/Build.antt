@@ -5,7 +5,8 @@ use Rattle.uart_chip.specs.declared.event.Event.{Event}
 use Rattle.uart_chip.specs.declared.event.Event.TheVariants.{Ticks, Arrive, Lines, Access as Gate, Mark}
 use Rattle.uart_chip.specs.declared.event.BuildError.{BuildError}
 use Rattle.uart_chip.specs.declared.event.BuildError.TheVariants.{BadTicks, BadWire, BadErrors, BadLines}
-use Rattle.uart_chip.specs.Registers.{lsr_character_errors, msr_lines}
+use Rattle.uart_spec.specs.declared.registers.line_status.TheConstants.LSR
+use Rattle.uart_spec.specs.declared.registers.modem_status.TheConstants.MSR
 
 -- some bit lies outside of the mask
 abbrev pub is_outside : ℕ → ℕ → Bool
@@ -13,7 +14,7 @@ is_outside value mask = not (bit_and value mask == value)
 
 -- an arrival with a bit that is no error of a character
 abbrev pub has_bad_errors : Event → Bool
-has_bad_errors (Arrive byte errors) = is_outside errors lsr_character_errors
+has_bad_errors (Arrive byte errors) = is_outside errors LSR.CHARACTER_ERRORS.0
 has_bad_errors (Ticks n) = false
 has_bad_errors (Lines inputs) = false
 has_bad_errors Gate = false
@@ -21,7 +22,7 @@ has_bad_errors Mark = false
 
 -- a change of the lines with a bit that is no line
 abbrev pub has_bad_lines : Event → Bool
-has_bad_lines (Lines inputs) = is_outside inputs msr_lines
+has_bad_lines (Lines inputs) = is_outside inputs MSR.LINES.0
 has_bad_lines (Ticks n) = false
 has_bad_lines (Arrive byte errors) = false
 has_bad_lines Gate = false

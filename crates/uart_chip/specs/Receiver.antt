@@ -6,7 +6,10 @@ use Rattle.uart_chip.specs.declared.receiver.Origin.TheVariants.{Arrived, Looped
 use Rattle.uart_chip.specs.declared.event.ArrivalMark.{ArrivalMark}
 use Rattle.uart_chip.specs.declared.event.ArrivalMark.TheVariants.{Pending, Waiting, Read, Discarded, Dropped}
 use Rattle.uart_chip.specs.Transmitter.{room}
-use Rattle.uart_chip.specs.Registers.{has_any, lsr_character_errors}
+use Rattle.uart_spec.specs.Bits.{has_any}
+use Rattle.uart_spec.specs.declared.registers.fifo_trigger_level.FifoTriggerLevel.{FifoTriggerLevel}
+use Rattle.uart_spec.specs.declared.registers.fifo_trigger_level.FifoTriggerLevel.TheVariants.{One, Four, Eight, Fourteen}
+use Rattle.uart_spec.specs.declared.registers.line_status.TheConstants.LSR
 
 -- the marks are of the arrivals of the schedule, of which so many have arrived
 pub record ReceiverState : Type 0 where
@@ -16,7 +19,7 @@ pub record ReceiverState : Type 0 where
   pub last_byte : ℕ
   pub timeout_ticks : ℕ
   pub timeout_limit : ℕ
-  pub trigger : ℕ
+  pub trigger : FifoTriggerLevel
   pub arrived : ℕ
   pub marks : List ArrivalMark
   pub is_stray_lost : Bool
@@ -31,7 +34,7 @@ fresh char_ticks arrivals =
       last_byte = 0;
       timeout_ticks = 0;
       timeout_limit = 4 * char_ticks;
-      trigger = 1;
+      trigger = One;
       arrived = 0;
       marks = replicate arrivals Pending;
       is_stray_lost = false;
@@ -119,7 +122,7 @@ take_front (front ∷ others) r =
 -- the errors of the front, unless they were reported
 abbrev pub front_errors : List Character → Bool → ℕ
 front_errors [] reported = 0
-front_errors (front ∷ others) reported = if reported then 0 else bit_and front.errors lsr_character_errors
+front_errors (front ∷ others) reported = if reported then 0 else bit_and front.errors LSR.CHARACTER_ERRORS.0
 
 -- the characters whose errors were not reported yet
 abbrev pub unreported : List Character → Bool → List Character
@@ -127,7 +130,7 @@ unreported queue reported = if reported then drop 1 queue else queue
 
 -- the character has a parity or framing error or is a break
 abbrev pub has_errors : Character → Bool
-has_errors character = has_any character.errors lsr_character_errors
+has_errors character = has_any character.errors LSR.CHARACTER_ERRORS.0
 
 -- the line status was read
 abbrev pub report : ReceiverState → ReceiverState
@@ -142,9 +145,16 @@ discard (character ∷ characters) marks = discard characters (set_mark characte
 abbrev pub clear : ReceiverState → ReceiverState
 clear r = record r { queue = []; marks = discard r.queue r.marks }
 
+-- how many characters a trigger level asks for
+abbrev pub characters_of : FifoTriggerLevel → ℕ
+characters_of One = 1
+characters_of Four = 4
+characters_of Eight = 8
+characters_of Fourteen = 14
+
 -- as many characters wait as the trigger says, or any without FIFO
 abbrev pub is_data_pending : Bool → ReceiverState → Bool
-is_data_pending fifo r = if fifo then nat_le r.trigger (length r.queue) else nat_lt 0 (length r.queue)
+is_data_pending fifo r = if fifo then nat_le (characters_of r.trigger) (length r.queue) else nat_lt 0 (length r.queue)
 
 -- characters wait in the FIFO, and none came or was taken for four character times
 abbrev pub is_timed_out : Bool → ReceiverState → Bool

@@ -3,8 +3,9 @@
 ghost use Rattle.std.specs.Prelude.{◌≡◌, count_by, position};
 ghost use Rattle.uart_chip.specs.Build as spec;
 
-use crate::registers::{LSR_CHARACTER_ERRORS, MSR_LINES};
+use bitflags::Flags;
 use thiserror::Error;
+use uart_spec::registers::{LSR, MSR};
 
 const MAX_CHAR_TICKS: u16 = 1000;
 
@@ -41,7 +42,10 @@ impl Event {
         ensures { result ≡ spec.has_bad_errors self.now }
     {
         match self {
-            Event::Arrive { errors, .. } => *errors & LSR_CHARACTER_ERRORS != *errors,
+            Event::Arrive { errors, .. } => {
+                let errors = LSR::from_bits_retain(*errors);
+                errors.intersection(LSR::CHARACTER_ERRORS) != errors
+            }
             _ => false,
         }
     }
@@ -51,7 +55,10 @@ impl Event {
         ensures { result ≡ spec.has_bad_lines self.now }
     {
         match self {
-            Event::Lines(inputs) => *inputs & MSR_LINES != *inputs,
+            Event::Lines(inputs) => {
+                let inputs = MSR::from_bits_retain(*inputs);
+                inputs.intersection(MSR::LINES) != inputs
+            }
             _ => false,
         }
     }

@@ -5,13 +5,13 @@
 
 mod chip;
 mod event;
+mod masks;
 mod modem;
 mod queue;
 mod receiver;
-mod registers;
 mod transmitter;
 
-pub use chip::{Latches, Uart};
+pub use chip::Uart;
 pub use event::{ArrivalMark, BuildError, Chip, Event, arrivals, refusal};
 pub use modem::Modem;
 pub use receiver::{Character, Origin, Receiver};

@@ -1,5 +1,5 @@
 -- A machine that can be built is sound.
-use Rattle.std.proofs.Common.{◌≡◌, ℕ, suc, ◌+◌, ◌≤◌, Bool, true, false, not, ◌&&◌, ◌==◌, nat_lt, nat_le, List, [], ◌∷◌, length, replicate, Option, Some, None, refl, arith, sym, ◌∙◌, ap, bit_and, zero-le, if◌then◌else◌, inl}
+use Rattle.std.proofs.Common.{◌≡◌, ℕ, suc, ◌+◌, ◌≤◌, Bool, true, false, not, ◌&&◌, ◌==◌, nat_lt, nat_le, List, [], ◌∷◌, length, replicate, Option, Some, None, refl, arith, sym, ◌∙◌, ap, bit_and, zero-le, if◌then◌else◌}
 use Rattle.std.specs.List.{position, prefix_len, count_by}
 use Rattle.std.specs.Option.{option_map, option_or}
 use Rattle.std.proofs.lemmas.Grind.{common_steps}
@@ -11,7 +11,8 @@ use Rattle.uart_chip.specs.declared.event.BuildError.TheVariants.{BadTicks, BadW
 use Rattle.uart_chip.specs.declared.event.Chip.{Chip}
 use Rattle.uart_chip.specs.declared.event.Event.{Event}
 use Rattle.uart_chip.specs.declared.event.Event.TheVariants.{Ticks, Arrive, Lines, Access as Gate, Mark}
-use Rattle.uart_chip.specs.Registers.{lsr_character_errors, msr_lines}
+use Rattle.uart_spec.specs.declared.registers.line_status.TheConstants.LSR
+use Rattle.uart_spec.specs.declared.registers.modem_status.TheConstants.MSR
 use Rattle.uart_chip.specs.Receiver.{mark_at}
 use Rattle.uart_chip.specs.Chip as chip
 use Rattle.uart_chip.specs.Chip.{ChipState}
@@ -40,18 +41,18 @@ none_passes p events e = go (nat_lt (prefix_len (λ event. not (p event)) events
 
 legal_arrival : (byte errors : ℕ) (events : List Event) → length (Arrive byte errors ∷ events) ≤ prefix_len (λ event. not (has_bad_errors event)) (Arrive byte errors ∷ events) →
     (length events ≤ prefix_len (λ event. not (has_bad_errors event)) events → AllLegal events) → AllLegal (Arrive byte errors ∷ events)
-legal_arrival byte errors events p rest = go (bit_and errors lsr_character_errors == errors) refl p
+legal_arrival byte errors events p rest = go (bit_and errors LSR.CHARACTER_ERRORS.0 == errors) refl p
   where
-    go : (b : Bool) → (bit_and errors lsr_character_errors == errors) ≡ b →
+    go : (b : Bool) → (bit_and errors LSR.CHARACTER_ERRORS.0 == errors) ≡ b →
         suc (length events) ≤ (if not (not b) then 1 + prefix_len (λ event. not (has_bad_errors event)) events else 0) → AllLegal (Arrive byte errors ∷ events)
     go true e p = (grind (arith, common_steps), rest (omega (arith, p)))
     go false e p = absurd (omega (arith, p))
 
 legal_lines : (inputs : ℕ) (events : List Event) → length (Lines inputs ∷ events) ≤ prefix_len (λ event. not (has_bad_lines event)) (Lines inputs ∷ events) →
     (length events ≤ prefix_len (λ event. not (has_bad_lines event)) events → AllLegal events) → AllLegal (Lines inputs ∷ events)
-legal_lines inputs events p rest = go (bit_and inputs msr_lines == inputs) refl p
+legal_lines inputs events p rest = go (bit_and inputs MSR.LINES.0 == inputs) refl p
   where
-    go : (b : Bool) → (bit_and inputs msr_lines == inputs) ≡ b →
+    go : (b : Bool) → (bit_and inputs MSR.LINES.0 == inputs) ≡ b →
         suc (length events) ≤ (if not (not b) then 1 + prefix_len (λ event. not (has_bad_lines event)) events else 0) → AllLegal (Lines inputs ∷ events)
     go true e p = (grind (arith, common_steps), rest (omega (arith, p)))
     go false e p = absurd (omega (arith, p))
@@ -134,7 +135,6 @@ whole_fresh chip char_ticks capacity events e =
             settled = λ k h. absurd (omega (arith, h));
             no_other = λ k h w. never (all_pending (arrivals events) k) w;
             legal = tt;
-            levels = inl refl;
             idle = zero-le;
           };
           transmitter = record { in_room = zero-le; ticking = tt; at_least_one = a.at_least_one; at_most = a.at_most; on_wire = zero-le };

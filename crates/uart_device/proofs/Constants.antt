@@ -1,6 +1,7 @@
 -- No event and no access changes how long a character takes, or how much the wire takes.
 use Rattle.std.proofs.Common.{◌≡◌, ℕ, Bool, true, false, ◌==◌, nat_lt, List, [], ◌∷◌, length, Option, Some, None, refl, if◌then◌else◌}
 use Rattle.uart_spec.specs.Access.{Access, Read, Write, Path}
+use Rattle.uart_spec.specs.declared.registers.offsets.TheConstants as offsets
 use Rattle.uart_chip.specs.declared.transmitter.Shifting.{Shifting}
 use Rattle.uart_chip.specs.Transmitter.{TransmitterState, shift, refill, load, room}
 use Rattle.uart_chip.specs.Chip.{ChipState, cut_of, is_dlab_set, after_write}
@@ -44,9 +45,9 @@ module _ (t : TransmitterState) where
       one_of _ _ (nat_lt (length u.queue) (room fifo)) (record { capacity = p.capacity; char_ticks = p.char_ticks }) (record { capacity = p.capacity; char_ticks = p.char_ticks })
 
   write-pace : (offset value : ℕ) (c : ChipState) → SamePace t c.transmitter → SamePace t (after_write offset value c).transmitter
-  write-pace offset value c p = go (offset == 0) refl
+  write-pace offset value c p = go (offset == offsets.DATA) refl
     where
-      go : (b : Bool) → (offset == 0) ≡ b → SamePace t (after_write offset value c).transmitter
+      go : (b : Bool) → (offset == offsets.DATA) ≡ b → SamePace t (after_write offset value c).transmitter
       go false e = lasts-write (SamePace t) pace_lasts.in_accesses offset value c e p
       go true e = rw e (latched (is_dlab_set c.latches))
         where

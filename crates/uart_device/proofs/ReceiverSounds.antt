@@ -6,10 +6,12 @@ use Rattle.uart_chip.specs.declared.event.ArrivalMark.{ArrivalMark}
 use Rattle.uart_chip.specs.declared.event.ArrivalMark.TheVariants.{Pending, Waiting, Read, Discarded, Dropped}
 use Rattle.uart_chip.specs.declared.receiver.Character.{Character}
 use Rattle.uart_chip.specs.declared.receiver.Origin.TheVariants.{Arrived, Looped}
-use Rattle.uart_chip.specs.Registers.{IsWithin, lsr_character_errors}
+use Rattle.uart_spec.specs.declared.registers.fifo_trigger_level.FifoTriggerLevel.{FifoTriggerLevel}
+use Rattle.uart_spec.specs.declared.registers.line_status.TheConstants.LSR
+use Rattle.uart_chip.specs.Masks.{IsWithin}
 use Rattle.uart_chip.specs.Transmitter.{room}
 use Rattle.uart_chip.specs.Receiver.{ReceiverState, set_mark, replace, come_back, grow_timeout, tick, arrive, take_front, report, discard, clear}
-use Rattle.uart_device.specs.Sound.{Waits, AllWait, NoneIs, Distinct, AllErrorsLegal, IsTrigger, IsSoundReceiver}
+use Rattle.uart_device.specs.Sound.{Waits, AllWait, NoneIs, Distinct, AllErrorsLegal, IsSoundReceiver}
 use Rattle.uart_device.proofs.Marks.{length-set_mark, none_to_come, all_wait-set, all_wait-set_mark, all_wait-next, all_wait-found, all_wait-append, distinct-next, distinct-looped, ToCome, Settled, NoOther, to_come-next, to_come-set, settled-next, settled-set, no_other-set, no_other-rest, no_other-next}
 
 -- the receiver is sound after a move, of so many arrivals, as many to come
@@ -28,7 +30,7 @@ safe_if fifo arrived r x y false p q = q refl
 length-next : (queue : List Character) (new : Character) (n : ℕ) → nat_lt (length queue) n ≡ true → length (queue ++ new ∷ []) ≤ n
 length-next queue new n e = let free : length queue < n = grind (arith, common_steps) in simp length-append (omega arith)
 
-legal-next : (queue : List Character) (new : Character) → IsWithin new.errors lsr_character_errors → AllErrorsLegal queue → AllErrorsLegal (queue ++ new ∷ [])
+legal-next : (queue : List Character) (new : Character) → IsWithin new.errors LSR.CHARACTER_ERRORS.0 → AllErrorsLegal queue → AllErrorsLegal (queue ++ new ∷ [])
 legal-next [] new n h = (n, tt)
 legal-next (x ∷ xs) new n h = (h.0, legal-next xs new n h.1)
 
@@ -37,7 +39,7 @@ counted-next arrived k m marks h = simp length-set (omega arith)
 
 -- ---- an arrival
 
-safe_arrival_room : (fifo : Bool) (r : ReceiverState) (byte errors : ℕ) (reported : Bool) → IsSoundReceiver fifo r → r.arrived < length r.marks → IsWithin errors lsr_character_errors →
+safe_arrival_room : (fifo : Bool) (r : ReceiverState) (byte errors : ℕ) (reported : Bool) → IsSoundReceiver fifo r → r.arrived < length r.marks → IsWithin errors LSR.CHARACTER_ERRORS.0 →
     nat_lt (length r.queue) (room fifo) ≡ true →
     Safe fifo (r.arrived + 1) r (record r {
       queue = r.queue ++ record { byte = byte; errors = errors; origin = Arrived r.arrived } ∷ [];
@@ -64,7 +66,6 @@ safe_arrival_room fifo r byte errors reported w k l e =
         settled = settled-next r.arrived r.marks Waiting k (λ e. cc) w.settled;
         no_other = no_other-next r.queue new r.marks Waiting w.no_other;
         legal = legal-next r.queue new l w.legal;
-        levels = w.levels;
         idle = zero-le;
       };
       number = refl;
@@ -89,7 +90,6 @@ safe_arrival_lost fifo r m overrun idle w k p q i =
         settled = settled-next r.arrived r.marks m k p w.settled;
         no_other = no_other-set r.queue r.marks (Arrived r.arrived) m q w.no_other;
         legal = w.legal;
-        levels = w.levels;
         idle = i;
       };
       number = refl;
@@ -98,7 +98,7 @@ safe_arrival_lost fifo r m overrun idle w k p q i =
     }
 
 -- the one that waits is replaced
-safe_arrival_replaced : (fifo : Bool) (r : ReceiverState) (byte errors : ℕ) (old : Character) (stray : Bool) → IsSoundReceiver fifo r → r.arrived < length r.marks → IsWithin errors lsr_character_errors →
+safe_arrival_replaced : (fifo : Bool) (r : ReceiverState) (byte errors : ℕ) (old : Character) (stray : Bool) → IsSoundReceiver fifo r → r.arrived < length r.marks → IsWithin errors LSR.CHARACTER_ERRORS.0 →
     r.queue ≡ old ∷ [] →
     Safe fifo (r.arrived + 1) r (record r {
       queue = record { byte = byte; errors = errors; origin = Arrived r.arrived } ∷ [];
@@ -129,7 +129,6 @@ safe_arrival_replaced fifo r byte errors old stray w k l e =
         settled = settled-next r.arrived marks Waiting within (λ e. cc) (settled-set r.arrived r.marks old.origin Dropped (λ e. cc) w.settled);
         no_other = no_other-next [] new marks Waiting (no_other-rest old [] r.marks Dropped (λ e. cc) others);
         legal = (l, tt);
-        levels = w.levels;
         idle = zero-le;
       };
       number = refl;
@@ -146,7 +145,7 @@ none_full : (fifo : Bool) → nat_lt 0 (room fifo) ≡ false → ⊥
 none_full true e = cc
 none_full false e = cc
 
-pub safe_arrive : (loopback fifo : Bool) (r : ReceiverState) (byte errors : ℕ) → IsSoundReceiver fifo r → r.arrived < length r.marks → IsWithin errors lsr_character_errors →
+pub safe_arrive : (loopback fifo : Bool) (r : ReceiverState) (byte errors : ℕ) → IsSoundReceiver fifo r → r.arrived < length r.marks → IsWithin errors LSR.CHARACTER_ERRORS.0 →
     Safe fifo (r.arrived + 1) r (arrive loopback fifo byte errors r)
 safe_arrive true fifo r byte errors w k l = safe_arrival_lost fifo r Discarded r.is_overrun r.timeout_ticks w k (λ e. cc) (λ e. cc) w.idle
 safe_arrive false fifo r byte errors w k l =
@@ -188,7 +187,6 @@ safe_looped_room fifo r byte reported w e =
         settled = w.settled;
         no_other = no_other-next r.queue new r.marks Waiting w.no_other;
         legal = legal-next r.queue new refl w.legal;
-        levels = w.levels;
         idle = zero-le;
       };
       number = refl;
@@ -209,7 +207,6 @@ safe_looped_lost fifo r w = record {
     settled = w.settled;
     no_other = w.no_other;
     legal = w.legal;
-    levels = w.levels;
     idle = zero-le;
   };
   number = refl;
@@ -245,7 +242,6 @@ safe_looped_replaced fifo r byte old w e =
         settled = settled-set r.arrived r.marks old.origin Dropped (λ e. cc) w.settled;
         no_other = no_other-next [] new marks Waiting (no_other-rest old [] r.marks Dropped (λ e. cc) others);
         legal = (refl, tt);
-        levels = w.levels;
         idle = zero-le;
       };
       number = refl;
@@ -287,7 +283,6 @@ safe_tick fifo place r w = idle (come_back fifo place r) (safe_come_back fifo pl
         settled = a.sound.settled;
         no_other = a.sound.no_other;
         legal = a.sound.legal;
-        levels = a.sound.levels;
         idle = omega arith;
       };
       number = a.number;
@@ -324,7 +319,6 @@ safe_take_front fifo r w = go r.queue refl
             settled = settled-set r.arrived r.marks front.origin Read (λ e. cc) w.settled;
             no_other = no_other-rest front others r.marks Read (λ e. cc) rest;
             legal = legal.1;
-            levels = w.levels;
             idle = zero-le;
           };
           number = refl;
@@ -367,7 +361,6 @@ safe_clear fifo on r w =
         settled = settled-discard r.queue r.arrived r.marks w.settled;
         no_other = no_other-discard r.queue r.marks w.no_other;
         legal = tt;
-        levels = w.levels;
         idle = w.idle;
       };
       number = refl;
@@ -383,16 +376,14 @@ sound_report fifo r w = record {
   settled = w.settled;
   no_other = w.no_other;
   legal = w.legal;
-  levels = w.levels;
   idle = w.idle;
 }
 
-pub sound_trigger : (fifo : Bool) (r : ReceiverState) (n : ℕ) → IsTrigger n → IsSoundReceiver fifo r → IsSoundReceiver fifo (record r { trigger = n })
-sound_trigger fifo r n l w = record {
+pub sound_trigger : (fifo : Bool) (r : ReceiverState) (level : FifoTriggerLevel) → IsSoundReceiver fifo r → IsSoundReceiver fifo (record r { trigger = level })
+sound_trigger fifo r level w = record {
   marked = record { wait = w.marked.wait; distinct = w.marked.distinct; to_come = w.marked.to_come; in_room = w.marked.in_room; counted = w.marked.counted };
   settled = w.settled;
   no_other = w.no_other;
   legal = w.legal;
-  levels = l;
   idle = w.idle;
 }

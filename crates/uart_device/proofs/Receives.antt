@@ -6,7 +6,8 @@ use Rattle.uart_chip.specs.declared.event.ArrivalMark.TheVariants.{Pending, Wait
 use Rattle.uart_chip.specs.declared.receiver.Character.{Character}
 use Rattle.uart_chip.specs.declared.receiver.Origin.{Origin}
 use Rattle.uart_chip.specs.declared.receiver.Origin.TheVariants.{Arrived, Looped}
-use Rattle.uart_chip.specs.Registers.{has_any}
+use Rattle.uart_spec.specs.Bits.{has_any}
+use Rattle.uart_spec.specs.declared.registers.line_status.TheConstants.LSR
 use Rattle.uart_chip.specs.Receiver.{ReceiverState, mark_at, set_mark}
 use Rattle.uart_device.specs.Sound.{IsMarked}
 use Rattle.uart_device.specs.Conserved.{is_dropped, origin_stands, stands}
@@ -64,7 +65,7 @@ no_drop-set r s o m new marks stray d = go d.origin d.stood d.lost
 
 -- these bits of the line status show it, or it would still be shown
 abbrev pub Shows : ℕ → ReceiverState → Type 0
-Shows seen r = (has_any seen 2 ≡ true) ⊎ (r.is_overrun ≡ true)
+Shows seen r = (has_any seen LSR.OVERRUN_ERROR.0 ≡ true) ⊎ (r.is_overrun ≡ true)
 
 -- it was pending, or a drop lies between
 abbrev pub Owed : ReceiverState → ReceiverState → Type 0
@@ -91,11 +92,11 @@ or_either : (a b : Bool) → (a || b) ≡ true → (a ≡ true) ⊎ (b ≡ true)
 or_either true b e = inl refl
 or_either false b e = inr e
 
-pub shows_first : (a b : ℕ) (r : ReceiverState) → has_any a 2 ≡ true → Shows (bit_or a b) r
-shows_first a b r e = inl (has_or 1 a b ∙ or_left (has_any a 2) (has_any b 2) e)
+pub shows_first : (a b : ℕ) (r : ReceiverState) → has_any a LSR.OVERRUN_ERROR.0 ≡ true → Shows (bit_or a b) r
+shows_first a b r e = inl (has_or 1 a b ∙ or_left (has_any a LSR.OVERRUN_ERROR.0) (has_any b LSR.OVERRUN_ERROR.0) e)
 
 pub shows_second : (a b : ℕ) (r : ReceiverState) → Shows b r → Shows (bit_or a b) r
-shows_second a b r (inl e) = inl (has_or 1 a b ∙ or_right (has_any a 2) (has_any b 2) e)
+shows_second a b r (inl e) = inl (has_or 1 a b ∙ or_right (has_any a LSR.OVERRUN_ERROR.0) (has_any b LSR.OVERRUN_ERROR.0) e)
 shows_second a b r (inr e) = inr e
 
 pub receives-trans : (fifo : Bool) (r s t : ReceiverState) (f g xs ys : List Character) (a b : ℕ) → Receives fifo r s f xs a → Receives fifo s t g ys b →
@@ -129,9 +130,9 @@ receives-trans fifo r s t f g xs ys a b p q = record {
     from_second (inr h) = inr (drop_second fifo r s t f xs p.moved h)
 
     owed_then : Shows (bit_or a b) t → Owed r t
-    owed_then (inl h) = either (or_either (has_any a 2) (has_any b 2) (sym (has_or 1 a b) ∙ h))
+    owed_then (inl h) = either (or_either (has_any a LSR.OVERRUN_ERROR.0) (has_any b LSR.OVERRUN_ERROR.0) (sym (has_or 1 a b) ∙ h))
       where
-        either : (has_any a 2 ≡ true) ⊎ (has_any b 2 ≡ true) → Owed r t
+        either : (has_any a LSR.OVERRUN_ERROR.0 ≡ true) ⊎ (has_any b LSR.OVERRUN_ERROR.0 ≡ true) → Owed r t
         either (inl h) = from_first (p.was_owed (inl h))
         either (inr h) = from_second (q.was_owed (inl h))
     owed_then (inr h) = from_second (q.was_owed (inr h))

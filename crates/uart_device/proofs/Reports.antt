@@ -6,9 +6,10 @@ use Rattle.std.proofs.lemmas.Nat.Bits.{same_from_bits, bit_at_or, bit_at_and}
 use Rattle.std.specs.Int.{bit_at}
 use Rattle.std.specs.Int.Bits.{and_self}
 use lib.Bits.{or_zero_r}
+use Rattle.uart_spec.specs.declared.registers.line_status.TheConstants.LSR
 use Rattle.uart_chip.specs.declared.receiver.Character.{Character}
 use Rattle.uart_chip.specs.declared.receiver.Origin.TheVariants.{Arrived}
-use Rattle.uart_chip.specs.Registers.{IsWithin}
+use Rattle.uart_chip.specs.Masks.{IsWithin}
 use Rattle.uart_chip.specs.Transmitter.{room}
 use Rattle.uart_chip.specs.Receiver.{ReceiverState, front_errors, arrive, replace, report, take_front}
 use Rattle.uart_chip.specs.Chip.{ChipState, line_status}
@@ -198,7 +199,7 @@ status_errors c =
     within-left e _ _ (within-right e _ _ (within-left e e _ (and_self e)))
 
 pub reports-look : (fifo : Bool) (c : ChipState) (line : ℕ) → AllErrorsLegal c.receiver.queue → line ≡ line_status c →
-    Reports fifo c.receiver (report c.receiver) [] (bit_or (bit_and line 30) 0)
+    Reports fifo c.receiver (report c.receiver) [] (bit_or (bit_and line LSR.LINE_ERRORS.0) 0)
 reports-look fifo c line legal l = record {
   still = λ e h. report_reported fifo c.receiver h.some;
   front = λ old before h. record { told = λ f others e i. go c.receiver.is_front_reported refl old before h f others i };
@@ -206,16 +207,16 @@ reports-look fifo c line legal l = record {
 }
   where
     go : (b : Bool) → c.receiver.is_front_reported ≡ b → (old : Option Character) (before : ℕ) → FrontTold old before c.receiver → (f : Character) (others : List Character) →
-        c.receiver.queue ≡ f ∷ others → Told old (bit_or before (bit_or (bit_and line 30) 0)) f
-    go true q old before h f others i = told-more old before (bit_or (bit_and line 30) 0) f (h.told f others q i)
+        c.receiver.queue ≡ f ∷ others → Told old (bit_or before (bit_or (bit_and line LSR.LINE_ERRORS.0) 0)) f
+    go true q old before h f others i = told-more old before (bit_or (bit_and line LSR.LINE_ERRORS.0) 0) f (h.told f others q i)
     go false q old before h f others i =
         let legals : AllErrorsLegal (f ∷ others) = rw i at legal in
         let few : IsWithin f.errors 28 = legals.0 in
         let shown : front_errors c.receiver.queue c.receiver.is_front_reported ≡ f.errors = rw (q, i) few in
         let held : IsWithin f.errors line = rw l (subst (λ e. IsWithin e (line_status c)) shown (status_errors c)) in
-        let saved : IsWithin f.errors 30 = within-left f.errors 28 2 few in
-        let all : IsWithin f.errors (bit_and line 30) = within-both f.errors line 30 held saved in
-        inr (within-right f.errors before (bit_or (bit_and line 30) 0) (within-left f.errors (bit_and line 30) 0 all))
+        let saved : IsWithin f.errors LSR.LINE_ERRORS.0 = within-left f.errors LSR.CHARACTER_ERRORS.0 LSR.OVERRUN_ERROR.0 few in
+        let all : IsWithin f.errors (bit_and line LSR.LINE_ERRORS.0) = within-both f.errors line LSR.LINE_ERRORS.0 held saved in
+        inr (within-right f.errors before (bit_or (bit_and line LSR.LINE_ERRORS.0) 0) (within-left f.errors (bit_and line LSR.LINE_ERRORS.0) 0 all))
 
 -- ---- the front is taken
 

@@ -7,7 +7,9 @@ use lib.Bits.{or_zero_r}
 use Rattle.uart_chip.specs.declared.event.Event.{Event}
 use Rattle.uart_chip.specs.declared.receiver.Character.{Character}
 use Rattle.uart_spec.specs.Access.{Access, Read, saved_lsr, saved_msr}
-use Rattle.uart_chip.specs.Registers.{has_any}
+use Rattle.uart_spec.specs.Bits.{has_any}
+use Rattle.uart_spec.specs.declared.registers.line_status.TheConstants.LSR
+use Rattle.uart_spec.specs.declared.registers.offsets.TheConstants as offsets
 use Rattle.uart_chip.specs.Machine.{MachineState, MachineStep}
 use Rattle.uart_device.specs.Laws.{changes_in}
 use Rattle.uart_device.specs.Conserved.{waiting, stands, between, entered, kept, IsDrop}
@@ -49,21 +51,21 @@ pub drop_receivers : (m n : MachineState) → IsDrop m n → Drop m.chip.receive
 drop_receivers m n d = record { origin = d.origin; stood = d.stood; lost = d.lost }
 
 -- a look clears the flag
-pub look_clears : (m n : MachineState) (line : ℕ) → MachineStep m (Read 5 line) n → n.chip.receiver.is_overrun ≡ false
+pub look_clears : (m n : MachineState) (line : ℕ) → MachineStep m (Read offsets.LSR line) n → n.chip.receiver.is_overrun ≡ false
 look_clears m n line s = ap (λ (o : MachineState). o.chip.receiver.is_overrun) s.0
 
 -- where a stretch ends with a look, a drop in it was shown
 pub drop_shown : (x : Modes) (m n : MachineState) (made : List Access) (ws : List ℕ) (ts : List Character) → Passed x m n made ws ts → n.chip.receiver.is_overrun ≡ false →
-    IsDrop m n → has_any (saved_lsr made) 2 ≡ true
+    IsDrop m n → has_any (saved_lsr made) LSR.OVERRUN_ERROR.0 ≡ true
 drop_shown x m n made ws ts p cleared d = go (p.went.receives.is_shown (inr (drop_receivers m n d)))
   where
-    go : Shows (saved_lsr made) n.chip.receiver → has_any (saved_lsr made) 2 ≡ true
+    go : Shows (saved_lsr made) n.chip.receiver → has_any (saved_lsr made) LSR.OVERRUN_ERROR.0 ≡ true
     go (inl h) = h
     go (inr h) = absurd (cc)
 
 -- where it began after one, what was shown was a drop in it
 pub shown_drop : (x : Modes) (m n : MachineState) (made : List Access) (ws : List ℕ) (ts : List Character) → Passed x m n made ws ts → m.chip.receiver.is_overrun ≡ false →
-    has_any (saved_lsr made) 2 ≡ true → IsDrop m n
+    has_any (saved_lsr made) LSR.OVERRUN_ERROR.0 ≡ true → IsDrop m n
 shown_drop x m n made ws ts p cleared h = go (p.went.receives.was_owed (inl h))
   where
     go : Owed m.chip.receiver n.chip.receiver → IsDrop m n
@@ -73,7 +75,7 @@ shown_drop x m n made ws ts p cleared h = go (p.went.receives.was_owed (inl h))
 -- ---- the modem changes
 
 -- a read of the modem status clears them
-pub status_clears : (m n : MachineState) (status : ℕ) → MachineStep m (Read 6 status) n → n.chip.modem.deltas ≡ 0
+pub status_clears : (m n : MachineState) (status : ℕ) → MachineStep m (Read offsets.MSR status) n → n.chip.modem.deltas ≡ 0
 status_clears m n status s = ap (λ (o : MachineState). o.chip.modem.deltas) s.0
 
 -- where a stretch ends with such a read, what was shown are the changes that stood and those of its events

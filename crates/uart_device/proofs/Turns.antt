@@ -5,9 +5,11 @@ use Rattle.std.specs.Int.{bit_at}
 use lib.Bits.{or_zero_r}
 use Rattle.uart_chip.specs.declared.event.Event.{Event}
 use Rattle.uart_chip.specs.declared.event.Event.TheVariants.{Ticks, Arrive, Lines, Access as Gate, Mark}
-use Rattle.uart_chip.specs.declared.modem.Modem.{Modem}
-use Rattle.uart_chip.specs.Registers.{has_any, IsWithin, msr_deltas, msr_lines}
-use Rattle.uart_chip.specs.Modem.{renew, lines_under, changes}
+use Rattle.uart_spec.specs.Bits.{has_any}
+use Rattle.uart_spec.specs.declared.registers.modem_status.TheConstants.MSR
+use Rattle.uart_spec.specs.declared.registers.modem_control.TheConstants.MCR
+use Rattle.uart_chip.specs.Masks.{IsWithin}
+use Rattle.uart_chip.specs.Modem.{ModemState, renew, lines_under, changes}
 use Rattle.uart_device.specs.Laws.{lines_after, changes_in}
 use Rattle.uart_device.specs.Sound.{IsSoundModem}
 use Rattle.uart_chip.proofs.Bits.{or_assoc}
@@ -30,14 +32,14 @@ changes_in-append lines (Gate ∷ xs) ys = changes_in-append lines xs ys
 changes_in-append lines (Mark ∷ xs) ys = changes_in-append lines xs ys
 
 -- from m to n these events came, and the modem status showed these changes
-pub record Turns (m n : Modem) (events : List Event) (seen : ℕ) : Type 0 where
+pub record Turns (m n : ModemState) (events : List Event) (seen : ℕ) : Type 0 where
   pub lines : n.lines ≡ lines_after m.lines events
   pub deltas : bit_or seen n.deltas ≡ bit_or m.deltas (changes_in m.lines events)
 
-pub turns-refl : (m : Modem) → Turns m m [] 0
+pub turns-refl : (m : ModemState) → Turns m m [] 0
 turns-refl m = record { lines = refl; deltas = sym (or_zero_r m.deltas) }
 
-pub turns-trans : (m n o : Modem) (xs ys : List Event) (a b : ℕ) → Turns m n xs a → Turns n o ys b → Turns m o (xs ++ ys) (bit_or a b)
+pub turns-trans : (m n o : ModemState) (xs ys : List Event) (a b : ℕ) → Turns m n xs a → Turns n o ys b → Turns m o (xs ++ ys) (bit_or a b)
 turns-trans m n o xs ys a b p q = record {
   lines = q.lines ∙ (ap (λ l. lines_after l ys) p.lines ∙ sym (lines_after-append m.lines xs ys));
   deltas =
@@ -48,7 +50,7 @@ turns-trans m n o xs ys a b p q = record {
 }
 
 -- the inputs change, outside of loopback
-pub turns-lines : (mcr inputs : ℕ) (m : Modem) → has_any mcr 16 ≡ false → Turns m (renew mcr (record m { inputs = inputs })) (Lines inputs ∷ []) 0
+pub turns-lines : (mcr inputs : ℕ) (m : ModemState) → has_any mcr MCR.LOOP_BACK.0 ≡ false → Turns m (renew mcr (record m { inputs = inputs })) (Lines inputs ∷ []) 0
 turns-lines mcr inputs m e =
     let same : lines_under mcr inputs ≡ inputs = rw e refl in
     record {
@@ -57,23 +59,23 @@ turns-lines mcr inputs m e =
     }
 
 -- the low nibble of the modem status is the changes
-status_deltas : (lines deltas : ℕ) → IsWithin lines msr_lines → IsWithin deltas msr_deltas → bit_and (bit_or lines deltas) msr_deltas ≡ deltas
+status_deltas : (lines deltas : ℕ) → IsWithin lines MSR.LINES.0 → IsWithin deltas MSR.CHANGES.0 → bit_and (bit_or lines deltas) MSR.CHANGES.0 ≡ deltas
 status_deltas lines deltas p q = same_from_bits _ _ (λ i. at i)
   where
-    at : (i : ℕ) → bit_at (bit_and (bit_or lines deltas) msr_deltas) i ≡ bit_at deltas i
+    at : (i : ℕ) → bit_at (bit_and (bit_or lines deltas) MSR.CHANGES.0) i ≡ bit_at deltas i
     at i =
-        let high : bit_at lines i ≡ min (bit_at lines i) (bit_at msr_lines i) = ap (λ n. bit_at n i) (sym p) ∙ bit_at_and lines msr_lines i in
-        let low : bit_at deltas i ≡ min (bit_at deltas i) (bit_at msr_deltas i) = ap (λ n. bit_at n i) (sym q) ∙ bit_at_and deltas msr_deltas i in
-        let apart : min (bit_at msr_lines i) (bit_at msr_deltas i) ≡ 0 = sym (bit_at_and msr_lines msr_deltas i) ∙ bit_at-zero i in
-        bit_at_and (bit_or lines deltas) msr_deltas i ∙ (ap (λ n. min n (bit_at msr_deltas i)) (bit_at_or lines deltas i) ∙
-        joined (bit_at lines i) (bit_at deltas i) (bit_at msr_lines i) (bit_at msr_deltas i) high low apart)
+        let high : bit_at lines i ≡ min (bit_at lines i) (bit_at MSR.LINES.0 i) = ap (λ n. bit_at n i) (sym p) ∙ bit_at_and lines MSR.LINES.0 i in
+        let low : bit_at deltas i ≡ min (bit_at deltas i) (bit_at MSR.CHANGES.0 i) = ap (λ n. bit_at n i) (sym q) ∙ bit_at_and deltas MSR.CHANGES.0 i in
+        let apart : min (bit_at MSR.LINES.0 i) (bit_at MSR.CHANGES.0 i) ≡ 0 = sym (bit_at_and MSR.LINES.0 MSR.CHANGES.0 i) ∙ bit_at-zero i in
+        bit_at_and (bit_or lines deltas) MSR.CHANGES.0 i ∙ (ap (λ n. min n (bit_at MSR.CHANGES.0 i)) (bit_at_or lines deltas i) ∙
+        joined (bit_at lines i) (bit_at deltas i) (bit_at MSR.LINES.0 i) (bit_at MSR.CHANGES.0 i) high low apart)
       where
         joined : (a b h l : ℕ) → a ≡ min a h → b ≡ min b l → min h l ≡ 0 → min (max a b) l ≡ b
         joined a b h l p q r = omega arith
 
 -- the modem status is read
-pub turns-status : (m : Modem) (status : ℕ) → IsSoundModem m → status ≡ bit_or m.lines m.deltas → Turns m (record m { deltas = 0 }) [] (bit_or (bit_and status 15) 0)
+pub turns-status : (m : ModemState) (status : ℕ) → IsSoundModem m → status ≡ bit_or m.lines m.deltas → Turns m (record m { deltas = 0 }) [] (bit_or (bit_and status MSR.CHANGES.0) 0)
 turns-status m status w e = record {
   lines = refl;
-  deltas = or_zero_r _ ∙ (or_zero_r _ ∙ (ap (λ v. bit_and v 15) e ∙ (status_deltas m.lines m.deltas w.lines w.deltas ∙ sym (or_zero_r m.deltas))));
+  deltas = or_zero_r _ ∙ (or_zero_r _ ∙ (ap (λ v. bit_and v MSR.CHANGES.0) e ∙ (status_deltas m.lines m.deltas w.lines w.deltas ∙ sym (or_zero_r m.deltas))));
 }

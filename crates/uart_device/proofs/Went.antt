@@ -6,7 +6,12 @@ use Rattle.uart_chip.specs.declared.event.Event.TheVariants.{Ticks, Arrive, Line
 use Rattle.uart_chip.specs.declared.receiver.Character.{Character}
 use Rattle.uart_chip.specs.declared.receiver.Origin.TheVariants.{Arrived}
 use Rattle.uart_spec.specs.Access.{Access, saved, saved_of, saved_lsr, saved_msr}
-use Rattle.uart_chip.specs.Registers.{has_any}
+use Rattle.uart_spec.specs.Bits.{has_any}
+use Rattle.uart_spec.specs.declared.registers.line_control.TheConstants.LCR
+use Rattle.uart_spec.specs.declared.registers.modem_control.TheConstants.MCR
+use Rattle.uart_spec.specs.declared.registers.line_status.TheConstants.LSR
+use Rattle.uart_spec.specs.declared.registers.modem_status.TheConstants.MSR
+use Rattle.uart_spec.specs.declared.registers.offsets.TheConstants as offsets
 use Rattle.uart_chip.specs.Transmitter as transmitter
 use Rattle.uart_chip.specs.Transmitter.{looped_byte}
 use Rattle.uart_chip.specs.Receiver as receiver
@@ -48,17 +53,17 @@ fixed_in c = (c.fifo, cut_of c)
 
 -- offsets 0 and 1 reach the divisor latch
 abbrev pub dlab : Modes → Bool
-dlab x = has_any x.lcr 128
+dlab x = has_any x.lcr LCR.DLAB.0
 
 -- what leaves the transmitter comes back
 abbrev pub loopback : Modes → Bool
-loopback x = has_any x.mcr 16
+loopback x = has_any x.mcr MCR.LOOP_BACK.0
 
 pub dlab-in : (x : Modes) (c : ChipState) → IsIn x c → is_dlab_set c.latches ≡ dlab x
-dlab-in x c w = ap (λ l. has_any l 128) w.lcr
+dlab-in x c w = ap (λ l. has_any l LCR.DLAB.0) w.lcr
 
 pub loopback-in : (x : Modes) (c : ChipState) → IsIn x c → is_loopback c.latches ≡ loopback x
-loopback-in x c w = ap (λ l. has_any l 16) w.mcr
+loopback-in x c w = ap (λ l. has_any l MCR.LOOP_BACK.0) w.mcr
 
 pub marked-in : (x : Modes) (c : ChipState) → IsSoundChip c → IsIn x c → IsMarked x.fifo c.receiver
 marked-in x c s w = subst (λ (b : Bool). IsMarked b c.receiver) w.fifo s.receiver.marked
@@ -107,12 +112,12 @@ went-trans x y c d e f g xs ys ws vs ts us same p q = record {
       let first : Receives y.fifo c.receiver d.receiver (arriving_cut y.cut k f) ts (saved_lsr xs) = rw (fifo, cut) p.receives in
       let come : arriving_cut y.cut k f ++ arriving_cut y.cut d.receiver.arrived g ≡ arriving_cut y.cut k (f ++ g) = ap (λ n. arriving_cut y.cut k f ++ arriving_cut y.cut n g) first.number ∙ sym (arriving-append y.cut k f g) in
       let both = receives-trans y.fifo c.receiver d.receiver e.receiver (arriving_cut y.cut k f) (arriving_cut y.cut d.receiver.arrived g) ts us (saved_lsr xs) (saved_lsr ys) first q.receives in
-      rw (come, ← saved-append 5 30 xs ys) at both;
+      rw (come, ← saved-append offsets.LSR LSR.LINE_ERRORS.0 xs ys) at both;
   reports =
       let first : Reports y.fifo c.receiver d.receiver ts (saved_lsr xs) = rw fifo p.reports in
       let both = reports-trans y.fifo c.receiver d.receiver e.receiver ts us (saved_lsr xs) (saved_lsr ys) (λ h. q.receives.is_shown (inl h)) first q.reports in
-      rw (← saved-append 5 30 xs ys) at both;
-  turns = rw (saved-append 6 15 xs ys) (turns-trans c.modem d.modem e.modem f g (saved_msr xs) (saved_msr ys) p.turns q.turns);
+      rw (← saved-append offsets.LSR LSR.LINE_ERRORS.0 xs ys) at both;
+  turns = rw (saved-append offsets.MSR MSR.CHANGES.0 xs ys) (turns-trans c.modem d.modem e.modem f g (saved_msr xs) (saved_msr ys) p.turns q.turns);
 }
   where
     fifo : y.fifo ≡ x.fifo

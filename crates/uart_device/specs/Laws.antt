@@ -3,7 +3,9 @@ use Rattle.std.specs.Prelude.{◌≡◌, ◌⊎◌, ℕ, Bool, true, false, List
 use Rattle.uart_chip.specs.declared.event.Event.{Event}
 use Rattle.uart_chip.specs.declared.event.Event.TheVariants.{Ticks, Arrive, Lines, Access as Gate, Mark}
 use Rattle.uart_chip.specs.declared.receiver.Character.{Character}
-use Rattle.uart_chip.specs.Registers.{has_any, IsWithin, lsr_overrun}
+use Rattle.uart_spec.specs.Bits.{has_any}
+use Rattle.uart_spec.specs.declared.registers.line_status.TheConstants.LSR
+use Rattle.uart_chip.specs.Masks.{IsWithin}
 use Rattle.uart_chip.specs.Receiver.{ReceiverState}
 use Rattle.uart_chip.specs.Modem.{changes}
 
@@ -22,7 +24,7 @@ reported_front r = front_of r.queue r.is_front_reported
 -- the line status holds the character's errors, or they were reported before; without FIFO it may hold the overrun flag in their place
 abbrev pub IsTold : Bool → Option Character → ℕ → Character → Type 0
 IsTold fifo reported line character =
-    (reported ≡ Some character) ⊎ (IsWithin character.errors line ⊎ ((fifo ≡ false) × (has_any line lsr_overrun ≡ true)))
+    (reported ≡ Some character) ⊎ (IsWithin character.errors line ⊎ ((fifo ≡ false) × (has_any line LSR.OVERRUN_ERROR.0 ≡ true)))
 
 -- each of these characters was told
 abbrev pub AllTold : Bool → Option Character → ℕ → List Character → Type 0
