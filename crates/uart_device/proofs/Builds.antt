@@ -10,7 +10,7 @@ use Rattle.uart_chip.specs.declared.event.ArrivalMark.TheVariants.{Pending, Wait
 use Rattle.uart_chip.specs.declared.event.BuildError.TheVariants.{BadTicks, BadWire, BadErrors, BadLines}
 use Rattle.uart_chip.specs.declared.event.Chip.{Chip}
 use Rattle.uart_chip.specs.declared.event.Event.{Event}
-use Rattle.uart_chip.specs.declared.event.Event.TheVariants.{Ticks, Arrive, Lines, Access as Gate, Mark}
+use Rattle.uart_chip.specs.declared.event.Event.TheVariants.{Arrive, Lines}
 use Rattle.uart_spec.specs.declared.registers.line_status.TheConstants.LSR
 use Rattle.uart_spec.specs.declared.registers.modem_status.TheConstants.MSR
 use Rattle.uart_chip.specs.Receiver.{mark_at}
@@ -24,11 +24,8 @@ pub arrivals-count : (events : List Event) → arrivals events ≡ count_by is_a
 arrivals-count events = is_count_by arrivals is_arrival refl next events
   where
     next : (event : Event) (events : List Event) → arrivals (event ∷ events) ≡ (if is_arrival event then 1 + arrivals events else arrivals events)
-    next (Ticks n) events = refl
     next (Arrive byte errors) events = refl
-    next (Lines inputs) events = refl
-    next Gate events = refl
-    next Mark events = refl
+    next _ events = refl
 
 -- nothing passes where there is no first place
 none_passes : (p : Event → Bool) (events : List Event) → position p events ≡ None → length events ≤ prefix_len (λ event. not (p event)) events
@@ -59,11 +56,9 @@ legal_lines inputs events p rest = go (bit_and inputs MSR.LINES.0 == inputs) ref
 
 all_legal : (events : List Event) → length events ≤ prefix_len (λ event. not (has_bad_errors event)) events → length events ≤ prefix_len (λ event. not (has_bad_lines event)) events → AllLegal events
 all_legal [] p q = tt
-all_legal (Ticks n ∷ events) p q = all_legal events (omega (arith, p)) (omega (arith, q))
 all_legal (Arrive byte errors ∷ events) p q = legal_arrival byte errors events p (λ p. all_legal events p (omega (arith, q)))
 all_legal (Lines inputs ∷ events) p q = legal_lines inputs events q (λ q. all_legal events (omega (arith, p)) q)
-all_legal (Gate ∷ events) p q = all_legal events (omega (arith, p)) (omega (arith, q))
-all_legal (Mark ∷ events) p q = all_legal events (omega (arith, p)) (omega (arith, q))
+all_legal (_ ∷ events) p q = (tt, all_legal events (omega (arith, p)) (omega (arith, q)))
 
 -- ---- from no refusal
 

@@ -4,15 +4,15 @@ use Rattle.uart_spec.specs.Access.{Access, Read, Write, Path}
 use Rattle.uart_chip.specs.declared.event.Chip.{Chip}
 use Rattle.uart_chip.specs.declared.event.Chip.TheVariants.{Uart16550A, Uart16450}
 use Rattle.uart_chip.specs.declared.event.Event.{Event}
-use Rattle.uart_chip.specs.declared.event.Event.TheVariants.{Ticks, Arrive, Lines, Access as Gate, Mark}
+use Rattle.uart_chip.specs.declared.event.Event.TheVariants.{Ticks, Access as Gate, Mark}
 use Rattle.uart_spec.specs.Bits.{has_any}
 use Rattle.uart_spec.specs.declared.registers.fifo_control.TheConstants.FCR
 use Rattle.uart_spec.specs.declared.registers.offsets.TheConstants as offsets
 use Rattle.uart_chip.specs.Transmitter as transmitter
 use Rattle.uart_chip.specs.Transmitter.{TransmitterState}
 use Rattle.uart_chip.specs.Receiver.{clear}
-use Rattle.uart_chip.specs.Chip.{ChipState, is_dlab_set, is_loopback, tick, ticks, arrive, change_lines, interrupt, is_thr_empty, after_read, after_write, trigger_level, switch, reset_receiver, reset_transmitter, set_trigger, is_same, set_fifo, control}
-use Rattle.uart_chip.specs.Machine.{MachineState, MachineStep, before_access, at_access}
+use Rattle.uart_chip.specs.Chip.{ChipState, is_dlab_set, is_loopback, tick, ticks, interrupt, is_thr_empty, after_read, after_write, trigger_level, switch, reset_receiver, reset_transmitter, set_trigger, is_same, set_fifo, control}
+use Rattle.uart_chip.specs.Machine.{MachineState, MachineStep, perform, before_access, at_access}
 
 -- a property lasts where the queue is emptied and where the interrupt flag changes: that is all that an access does which sends nothing
 pub record LastsInAccesses (P : TransmitterState → Type 0) : Type 0 where
@@ -86,13 +86,15 @@ module _ (P : TransmitterState → Type 0) (w : Lasts P) where
   lasts-ticks zero c p = p
   lasts-ticks (suc n) c p = lasts-tick (ticks n c) (lasts-ticks n c p)
 
+  lasts-perform : (event : Event) (c : ChipState) → P c.transmitter → P (perform event c).transmitter
+  lasts-perform (Ticks n) c p = lasts-ticks n c p
+  lasts-perform _ c p = p
+
   pub lasts-before : (events : List Event) (c : ChipState) → P c.transmitter → P (before_access events c).transmitter
   lasts-before [] c p = lasts-tick c p
-  lasts-before (Ticks n ∷ events) c p = lasts-before events (ticks n c) (lasts-ticks n c p)
-  lasts-before (Arrive byte errors ∷ events) c p = lasts-before events (arrive byte errors c) p
-  lasts-before (Lines inputs ∷ events) c p = lasts-before events (change_lines inputs c) p
   lasts-before (Gate ∷ events) c p = p
   lasts-before (Mark ∷ events) c p = lasts-tick c p
+  lasts-before (event ∷ events) c p = lasts-before events (perform event c) (lasts-perform event c p)
 
   lasts-step : (access : Access) (m n : MachineState) → SendsNothing access → P m.chip.transmitter → MachineStep m access n → P n.chip.transmitter
   lasts-step (Read offset value) m n q p s = rw s.0 (lasts-read P w.in_accesses offset (at_access m).chip (lasts-before m.ahead m.chip p))

@@ -10,7 +10,7 @@ use Rattle.uart_chip.specs.Transmitter.{TransmitterState, shift, looped_byte, re
 use Rattle.uart_chip.specs.Receiver as receiver
 use Rattle.uart_chip.specs.Receiver.{ReceiverState, come_back, waiting}
 use Rattle.uart_chip.specs.Chip.{ChipState, cut_of, is_loopback, tick, ticks, arrive, change_lines}
-use Rattle.uart_chip.specs.Machine.{before_access}
+use Rattle.uart_chip.specs.Machine.{perform, before_access}
 use Rattle.uart_device.proofs.Went.{Modes, IsIn, loopback, loopback-in}
 
 -- ---- the line
@@ -137,6 +137,13 @@ loops_lines : (x : Modes) (inputs : ℕ) (c : ChipState) → Fits x c → Loops 
 loops_lines x inputs c f =
     loops-still x c (change_lines inputs c) (record { lcr = f.modes.lcr; mcr = f.modes.mcr; fifo = f.modes.fifo; cut = f.modes.cut }) (carries-refl c.transmitter c.receiver)
 
+-- one event
+loops_perform : (x : Modes) (event : Event) (c : ChipState) → loopback x ≡ true → Fits x c → Loops x c (perform event c) [] []
+loops_perform x (Ticks n) c l f = loops_ticks x n c l f
+loops_perform x (Arrive byte errors) c l f = loops_arrive x byte errors c l f
+loops_perform x (Lines inputs) c l f = loops_lines x inputs c f
+loops_perform x _ c l f = loops-refl x c f.modes
+
 -- one event and then more
 loops_more : (x : Modes) (c d e : ChipState) → Fits x c → Loops x c d [] [] → (Fits x d → Loops x d e [] []) → Loops x c e [] []
 loops_more x c d e f a rest = loops-trans x x c d e [] [] [] [] a (rest (fits-after x x c d [] refl f a))
@@ -144,8 +151,7 @@ loops_more x c d e f a rest = loops-trans x x c d e [] [] [] [] a (rest (fits-af
 -- the events up to an access
 pub loops_before : (x : Modes) (events : List Event) (c : ChipState) → loopback x ≡ true → Fits x c → Loops x c (before_access events c) [] []
 loops_before x [] c l f = loops_tick x c l f
-loops_before x (Ticks n ∷ events) c l f = loops_more x c (ticks n c) _ f (loops_ticks x n c l f) (λ g. loops_before x events (ticks n c) l g)
-loops_before x (Arrive byte errors ∷ events) c l f = loops_more x c (arrive byte errors c) _ f (loops_arrive x byte errors c l f) (λ g. loops_before x events (arrive byte errors c) l g)
-loops_before x (Lines inputs ∷ events) c l f = loops_more x c (change_lines inputs c) _ f (loops_lines x inputs c f) (λ g. loops_before x events (change_lines inputs c) l g)
 loops_before x (Gate ∷ events) c l f = loops-refl x c f.modes
 loops_before x (Mark ∷ events) c l f = loops_tick x c l f
+loops_before x (event ∷ events) c l f =
+    loops_more x c (perform event c) _ f (loops_perform x event c l f) (λ g. loops_before x events (perform event c) l g)

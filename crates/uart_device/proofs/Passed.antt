@@ -1,10 +1,10 @@
 -- What a stretch of a session does to the machine: the events up to an access or a mark, and accesses with them.
 use Rattle.std.proofs.Common.{◌≡◌, ℕ, ◌+◌, ◌≤◌, false, List, [], ◌∷◌, ◌++◌, length, append_assoc, refl, arith, sym, ◌∙◌, ap}
 use Rattle.uart_chip.specs.declared.event.Event.{Event}
-use Rattle.uart_chip.specs.declared.event.Event.TheVariants.{Ticks, Arrive, Lines, Access as Gate, Mark}
+use Rattle.uart_chip.specs.declared.event.Event.TheVariants.{Arrive, Access as Gate, Mark}
 use Rattle.uart_chip.specs.declared.receiver.Character.{Character}
 use Rattle.uart_spec.specs.Access.{Access}
-use Rattle.uart_chip.specs.Chip.{ChipState, tick, ticks, arrive, change_lines}
+use Rattle.uart_chip.specs.Chip.{ChipState, tick}
 use Rattle.uart_chip.specs.Machine.{MachineState, perform, arrivals, at_access, at_mark}
 use Rattle.uart_device.specs.Sound.{IsSound}
 use Rattle.uart_device.proofs.Sounds.{sound_perform, sound_tick}
@@ -44,11 +44,8 @@ passed_more x c event events n l s w rest =
     passed-trans x x (record { chip = c; ahead = event ∷ events }) (record { chip = perform event c; ahead = events }) n [] [] [] [] [] [] refl one p
   where
     few : (event : Event) → c.receiver.arrived + arrivals (event ∷ events) ≡ length c.receiver.marks → c.receiver.arrived + arrivals (event ∷ []) ≤ length c.receiver.marks
-    few (Ticks n) e = omega (arith, e)
     few (Arrive byte errors) e = omega (arith, e)
-    few (Lines inputs) e = omega (arith, e)
-    few Gate e = omega (arith, e)
-    few Mark e = omega (arith, e)
+    few _ e = omega (arith, e)
 
 -- a tick while the events wait
 passed_tick : (x : Modes) (c : ChipState) (events : List Event) → loopback x ≡ false → IsSound (record { chip = c; ahead = events }) → IsIn x c →
@@ -59,11 +56,9 @@ passed_tick x c events l s w = record { events = []; ahead = refl; went = went-t
 passed_before : (x : Modes) (events : List Event) (c : ChipState) → loopback x ≡ false → IsSound (record { chip = c; ahead = events }) → IsIn x c →
     Passed x (record { chip = c; ahead = events }) (at_access (record { chip = c; ahead = events })) [] [] []
 passed_before x [] c l s w = passed_tick x c [] l s w
-passed_before x (Ticks n ∷ events) c l s w = passed_more x c (Ticks n) events _ l s w (λ t v. passed_before x events (ticks n c) l t v)
-passed_before x (Arrive byte errors ∷ events) c l s w = passed_more x c (Arrive byte errors) events _ l s w (λ t v. passed_before x events (arrive byte errors c) l t v)
-passed_before x (Lines inputs ∷ events) c l s w = passed_more x c (Lines inputs) events _ l s w (λ t v. passed_before x events (change_lines inputs c) l t v)
 passed_before x (Gate ∷ events) c l s w = passed_more x c Gate events _ l s w (λ t v. passed-refl x (record { chip = c; ahead = events }) t v)
 passed_before x (Mark ∷ events) c l s w = passed_tick x c (Mark ∷ events) l s w
+passed_before x (event ∷ events) c l s w = passed_more x c event events _ l s w (λ t v. passed_before x events (perform event c) l t v)
 
 pub passed-access : (x : Modes) (m : MachineState) → loopback x ≡ false → IsSound m → IsIn x m.chip → Passed x m (at_access m) [] [] []
 passed-access x m l s w = passed_before x m.ahead m.chip l s w
@@ -72,11 +67,8 @@ passed-access x m l s w = passed_before x m.ahead m.chip l s w
 passed_until : (x : Modes) (events : List Event) (c : ChipState) → loopback x ≡ false → IsSound (record { chip = c; ahead = events }) → IsIn x c →
     Passed x (record { chip = c; ahead = events }) (at_mark (record { chip = c; ahead = events })) [] [] []
 passed_until x [] c l s w = passed-refl x (record { chip = c; ahead = [] }) s w
-passed_until x (Ticks n ∷ events) c l s w = passed_more x c (Ticks n) events _ l s w (λ t v. passed_until x events (ticks n c) l t v)
-passed_until x (Arrive byte errors ∷ events) c l s w = passed_more x c (Arrive byte errors) events _ l s w (λ t v. passed_until x events (arrive byte errors c) l t v)
-passed_until x (Lines inputs ∷ events) c l s w = passed_more x c (Lines inputs) events _ l s w (λ t v. passed_until x events (change_lines inputs c) l t v)
-passed_until x (Gate ∷ events) c l s w = passed_more x c Gate events _ l s w (λ t v. passed_until x events c l t v)
 passed_until x (Mark ∷ events) c l s w = passed_more x c Mark events _ l s w (λ t v. passed-refl x (record { chip = c; ahead = events }) t v)
+passed_until x (event ∷ events) c l s w = passed_more x c event events _ l s w (λ t v. passed_until x events (perform event c) l t v)
 
 pub passed-mark : (x : Modes) (m : MachineState) → loopback x ≡ false → IsSound m → IsIn x m.chip → Passed x m (at_mark m) [] [] []
 passed-mark x m l s w = passed_until x m.ahead m.chip l s w

@@ -1,7 +1,7 @@
 -- The next event of a schedule is performed.
 use Rattle.std.proofs.Common.{◌≡◌, ◌≢◌, ℕ, suc, ◌+◌, ◌<◌, List, ◌∷◌, length, drop, slice_index_or, refl, sym, ◌∙◌, ap, add-one, drop-cons}
 use Rattle.uart_chip.specs.declared.event.Event.{Event}
-use Rattle.uart_chip.specs.declared.event.Event.TheVariants.{Ticks, Arrive, Lines, Access as Gate, Mark}
+use Rattle.uart_chip.specs.declared.event.Event.TheVariants.{Access as Gate, Mark}
 use Rattle.uart_chip.specs.Chip.{ChipState}
 use Rattle.uart_chip.specs.Machine.{MachineState, perform, at_access, at_mark}
 use Rattle.uart_device.specs.Sound.{IsWhole}
@@ -9,19 +9,14 @@ use Rattle.uart_device.proofs.Sounds.{whole_perform}
 
 access_performs : (event : Event) (events : List Event) (c : ChipState) → event ≢ Gate → event ≢ Mark →
     at_access (record { chip = perform event c; ahead = events }) ≡ at_access (record { chip = c; ahead = event ∷ events })
-access_performs (Ticks n) events c g m = refl
-access_performs (Arrive byte errors) events c g m = refl
-access_performs (Lines inputs) events c g m = refl
 access_performs Gate events c g m = absurd (g refl)
 access_performs Mark events c g m = absurd (m refl)
+access_performs _ events c g m = refl
 
 mark_performs : (event : Event) (events : List Event) (c : ChipState) → event ≢ Mark →
     at_mark (record { chip = perform event c; ahead = events }) ≡ at_mark (record { chip = c; ahead = event ∷ events })
-mark_performs (Ticks n) events c m = refl
-mark_performs (Arrive byte errors) events c m = refl
-mark_performs (Lines inputs) events c m = refl
-mark_performs Gate events c m = refl
 mark_performs Mark events c m = absurd (m refl)
+mark_performs _ events c m = refl
 
 next_event : (events : List Event) (k : ℕ) (event : Event) → k < length events → event ≡ slice_index_or events k event → drop k events ≡ event ∷ drop (k + 1) events
 next_event events k event h e = rw (add-one, drop-cons events k event) (ap (λ (x : Event). x ∷ drop (suc k) events) (sym e))

@@ -272,14 +272,13 @@ sound_steady c d events s f l = record { chip = s.sound; foreseen = omega (arith
 
 -- one event is performed
 pub sound_perform : (event : Event) (events : List Event) (c : ChipState) → IsSound (record { chip = c; ahead = event ∷ events }) → IsSound (record { chip = perform event c; ahead = events })
-sound_perform (Ticks n) events c w = sound_steady c (ticks n c) events (steady_ticks n c w.chip) w.foreseen w.legal
+sound_perform (Ticks n) events c w = sound_steady c (ticks n c) events (steady_ticks n c w.chip) w.foreseen w.legal.1
 sound_perform (Arrive byte errors) events c w =
     let within : c.receiver.arrived < length c.receiver.marks = omega (arith, w.foreseen) in
     let a = steady_arrive byte errors c w.chip within w.legal.0 in
     record { chip = a.sound; foreseen = omega (arith, a.number, a.known, w.foreseen); legal = w.legal.1 }
 sound_perform (Lines inputs) events c w = sound_steady c (change_lines inputs c) events (steady_lines inputs c w.chip w.legal.0) w.foreseen w.legal.1
-sound_perform Gate events c w = record { chip = w.chip; foreseen = w.foreseen; legal = w.legal }
-sound_perform Mark events c w = record { chip = w.chip; foreseen = w.foreseen; legal = w.legal }
+sound_perform _ events c w = record { chip = w.chip; foreseen = w.foreseen; legal = w.legal.1 }
 
 pub sound_tick : (events : List Event) (c : ChipState) → IsSound (record { chip = c; ahead = events }) → IsSound (record { chip = tick c; ahead = events })
 sound_tick events c w = sound_steady c (tick c) events (steady_tick c w.chip) w.foreseen w.legal
@@ -287,11 +286,9 @@ sound_tick events c w = sound_steady c (tick c) events (steady_tick c w.chip) w.
 -- an access performs the events before it
 pub sound_before : (events : List Event) (c : ChipState) → IsSound (record { chip = c; ahead = events }) → IsSound (at_access (record { chip = c; ahead = events }))
 sound_before [] c w = sound_tick [] c w
-sound_before (Ticks n ∷ events) c w = sound_before events (ticks n c) (sound_perform (Ticks n) events c w)
-sound_before (Arrive byte errors ∷ events) c w = sound_before events (arrive byte errors c) (sound_perform (Arrive byte errors) events c w)
-sound_before (Lines inputs ∷ events) c w = sound_before events (change_lines inputs c) (sound_perform (Lines inputs) events c w)
 sound_before (Gate ∷ events) c w = sound_perform Gate events c w
 sound_before (Mark ∷ events) c w = sound_tick (Mark ∷ events) c w
+sound_before (event ∷ events) c w = sound_before events (perform event c) (sound_perform event events c w)
 
 pub sound_access : (m : MachineState) → IsSound m → IsSound (at_access m)
 sound_access m w = sound_before m.ahead m.chip (record { chip = w.chip; foreseen = w.foreseen; legal = w.legal })
@@ -299,11 +296,8 @@ sound_access m w = sound_before m.ahead m.chip (record { chip = w.chip; foreseen
 -- the events up to the next Mark are performed
 pub sound_before_mark : (events : List Event) (c : ChipState) → IsSound (record { chip = c; ahead = events }) → IsSound (at_mark (record { chip = c; ahead = events }))
 sound_before_mark [] c w = w
-sound_before_mark (Ticks n ∷ events) c w = sound_before_mark events (ticks n c) (sound_perform (Ticks n) events c w)
-sound_before_mark (Arrive byte errors ∷ events) c w = sound_before_mark events (arrive byte errors c) (sound_perform (Arrive byte errors) events c w)
-sound_before_mark (Lines inputs ∷ events) c w = sound_before_mark events (change_lines inputs c) (sound_perform (Lines inputs) events c w)
-sound_before_mark (Gate ∷ events) c w = sound_before_mark events c (sound_perform Gate events c w)
 sound_before_mark (Mark ∷ events) c w = sound_perform Mark events c w
+sound_before_mark (event ∷ events) c w = sound_before_mark events (perform event c) (sound_perform event events c w)
 
 pub sound_mark : (m : MachineState) → IsSound m → IsSound (at_mark m)
 sound_mark m w = sound_before_mark m.ahead m.chip (record { chip = w.chip; foreseen = w.foreseen; legal = w.legal })
@@ -331,10 +325,7 @@ latches-ticks (suc n) c = latches-ticks n c
 
 pub latches-perform : (event : Event) (c : ChipState) → (perform event c).latches ≡ c.latches
 latches-perform (Ticks n) c = latches-ticks n c
-latches-perform (Arrive byte errors) c = refl
-latches-perform (Lines inputs) c = refl
-latches-perform Gate c = refl
-latches-perform Mark c = refl
+latches-perform _ c = refl
 
 latches_if : (c x y : ChipState) (b : Bool) → x.latches ≡ c.latches → y.latches ≡ c.latches → (if b then x else y).latches ≡ c.latches
 latches_if c x y true p q = p

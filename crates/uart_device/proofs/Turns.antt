@@ -4,7 +4,7 @@ use Rattle.std.proofs.lemmas.Nat.Bits.{same_from_bits, bit_at_or, bit_at_and, bi
 use Rattle.std.specs.Int.{bit_at}
 use lib.Bits.{or_zero_r}
 use Rattle.uart_chip.specs.declared.event.Event.{Event}
-use Rattle.uart_chip.specs.declared.event.Event.TheVariants.{Ticks, Arrive, Lines, Access as Gate, Mark}
+use Rattle.uart_chip.specs.declared.event.Event.TheVariants.{Lines}
 use Rattle.uart_spec.specs.Bits.{has_any}
 use Rattle.uart_spec.specs.declared.registers.modem_status.TheConstants.MSR
 use Rattle.uart_spec.specs.declared.registers.modem_control.TheConstants.MCR
@@ -17,19 +17,13 @@ use Rattle.uart_chip.proofs.Bits.{or_assoc}
 pub lines_after-append : (lines : ℕ) (xs ys : List Event) → lines_after lines (xs ++ ys) ≡ lines_after (lines_after lines xs) ys
 lines_after-append lines [] ys = refl
 lines_after-append lines (Lines inputs ∷ xs) ys = lines_after-append inputs xs ys
-lines_after-append lines (Ticks n ∷ xs) ys = lines_after-append lines xs ys
-lines_after-append lines (Arrive byte errors ∷ xs) ys = lines_after-append lines xs ys
-lines_after-append lines (Gate ∷ xs) ys = lines_after-append lines xs ys
-lines_after-append lines (Mark ∷ xs) ys = lines_after-append lines xs ys
+lines_after-append lines (_ ∷ xs) ys = lines_after-append lines xs ys
 
 pub changes_in-append : (lines : ℕ) (xs ys : List Event) → changes_in lines (xs ++ ys) ≡ bit_or (changes_in lines xs) (changes_in (lines_after lines xs) ys)
 changes_in-append lines [] ys = refl
 changes_in-append lines (Lines inputs ∷ xs) ys =
     ap (bit_or (changes lines inputs)) (changes_in-append inputs xs ys) ∙ sym (or_assoc (changes lines inputs) (changes_in inputs xs) (changes_in (lines_after inputs xs) ys))
-changes_in-append lines (Ticks n ∷ xs) ys = changes_in-append lines xs ys
-changes_in-append lines (Arrive byte errors ∷ xs) ys = changes_in-append lines xs ys
-changes_in-append lines (Gate ∷ xs) ys = changes_in-append lines xs ys
-changes_in-append lines (Mark ∷ xs) ys = changes_in-append lines xs ys
+changes_in-append lines (_ ∷ xs) ys = changes_in-append lines xs ys
 
 -- from m to n these events came, and the modem status showed these changes
 pub record Turns (m n : ModemState) (events : List Event) (seen : ℕ) : Type 0 where

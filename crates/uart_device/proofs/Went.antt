@@ -2,7 +2,7 @@
 use Rattle.std.proofs.Common.{◌≡◌, ℕ, zero, suc, ◌+◌, ◌≤◌, ◌<◌, Bool, false, List, [], ◌∷◌, ◌++◌, length, map, refl, arith, sym, ◌∙◌, ap, subst, inl, bit_or}
 use Rattle.std.proofs.lemmas.List.{map-append}
 use Rattle.uart_chip.specs.declared.event.Event.{Event}
-use Rattle.uart_chip.specs.declared.event.Event.TheVariants.{Ticks, Arrive, Lines, Access as Gate, Mark}
+use Rattle.uart_chip.specs.declared.event.Event.TheVariants.{Ticks, Arrive, Lines}
 use Rattle.uart_chip.specs.declared.receiver.Character.{Character}
 use Rattle.uart_chip.specs.declared.receiver.Origin.TheVariants.{Arrived}
 use Rattle.uart_spec.specs.Access.{Access, saved, saved_of, saved_lsr, saved_msr}
@@ -79,10 +79,7 @@ arriving-append cut k [] ys = ap (λ n. arriving_cut cut n ys) (omega arith)
 arriving-append cut k (Arrive byte errors ∷ xs) ys =
     let e : (k + 1) + length (arriving_cut cut (k + 1) xs) ≡ k + suc (length (arriving_cut cut (k + 1) xs)) = omega arith in
     ap (λ zs. record { byte = cut byte; errors = errors; origin = Arrived k } ∷ zs) (arriving-append cut (k + 1) xs ys ∙ ap (λ n. arriving_cut cut (k + 1) xs ++ arriving_cut cut n ys) e)
-arriving-append cut k (Ticks n ∷ xs) ys = arriving-append cut k xs ys
-arriving-append cut k (Lines inputs ∷ xs) ys = arriving-append cut k xs ys
-arriving-append cut k (Gate ∷ xs) ys = arriving-append cut k xs ys
-arriving-append cut k (Mark ∷ xs) ys = arriving-append cut k xs ys
+arriving-append cut k (_ ∷ xs) ys = arriving-append cut k xs ys
 
 pub saved-append : (register mask : ℕ) (xs ys : List Access) → saved register mask (xs ++ ys) ≡ bit_or (saved register mask xs) (saved register mask ys)
 saved-append register mask [] ys = refl
@@ -185,8 +182,11 @@ went-lines x inputs c l s w = record {
 -- one event
 pub went-perform : (x : Modes) (event : Event) (c : ChipState) → loopback x ≡ false → IsSoundChip c → IsIn x c →
     c.receiver.arrived + arrivals (event ∷ []) ≤ length c.receiver.marks → Went x c (perform event c) (event ∷ []) [] [] []
-went-perform x (Ticks n) c l s w k = let a = went-ticks x n c l s w in record { modes = a.modes; sends = a.sends; receives = a.receives; reports = a.reports; turns = record { lines = a.turns.lines; deltas = a.turns.deltas } }
+went-perform x (Ticks n) c l s w k =
+    let a = went-ticks x n c l s w in
+    record { modes = a.modes; sends = a.sends; receives = a.receives; reports = a.reports; turns = record { lines = a.turns.lines; deltas = a.turns.deltas } }
 went-perform x (Arrive byte errors) c l s w k = went-arrive x byte errors c l s w (omega (arith, k))
 went-perform x (Lines inputs) c l s w k = went-lines x inputs c l s w
-went-perform x Gate c l s w k = let a = went-refl x c s w in record { modes = a.modes; sends = a.sends; receives = a.receives; reports = a.reports; turns = record { lines = a.turns.lines; deltas = a.turns.deltas } }
-went-perform x Mark c l s w k = let a = went-refl x c s w in record { modes = a.modes; sends = a.sends; receives = a.receives; reports = a.reports; turns = record { lines = a.turns.lines; deltas = a.turns.deltas } }
+went-perform x event c l s w k =
+    let a = went-refl x c s w in
+    record { modes = a.modes; sends = a.sends; receives = a.receives; reports = a.reports; turns = record { lines = a.turns.lines; deltas = a.turns.deltas } }

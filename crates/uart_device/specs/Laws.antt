@@ -1,7 +1,7 @@
 -- What the line status tells of errors, and how the modem lines change.
 use Rattle.std.specs.Prelude.{◌≡◌, ◌⊎◌, ℕ, Bool, true, false, List, [], ◌∷◌, Option, Some, None, bit_or}
 use Rattle.uart_chip.specs.declared.event.Event.{Event}
-use Rattle.uart_chip.specs.declared.event.Event.TheVariants.{Ticks, Arrive, Lines, Access as Gate, Mark}
+use Rattle.uart_chip.specs.declared.event.Event.TheVariants.{Lines}
 use Rattle.uart_chip.specs.declared.receiver.Character.{Character}
 use Rattle.uart_spec.specs.Bits.{has_any}
 use Rattle.uart_spec.specs.declared.registers.line_status.TheConstants.LSR
@@ -37,16 +37,10 @@ AllTold fifo reported line (character ∷ characters) = IsTold fifo reported lin
 abbrev pub lines_after : ℕ → List Event → ℕ
 lines_after lines [] = lines
 lines_after lines (Lines inputs ∷ events) = lines_after inputs events
-lines_after lines (Ticks n ∷ events) = lines_after lines events
-lines_after lines (Arrive byte errors ∷ events) = lines_after lines events
-lines_after lines (Gate ∷ events) = lines_after lines events
-lines_after lines (Mark ∷ events) = lines_after lines events
+lines_after lines (_ ∷ events) = lines_after lines events
 
 -- the changes of the modem lines that these events bring, also those that are undone, as the modem status shows them
 abbrev pub changes_in : ℕ → List Event → ℕ
 changes_in lines [] = 0
 changes_in lines (Lines inputs ∷ events) = bit_or (changes lines inputs) (changes_in inputs events)
-changes_in lines (Ticks n ∷ events) = changes_in lines events
-changes_in lines (Arrive byte errors ∷ events) = changes_in lines events
-changes_in lines (Gate ∷ events) = changes_in lines events
-changes_in lines (Mark ∷ events) = changes_in lines events
+changes_in lines (_ ∷ events) = changes_in lines events

@@ -1,10 +1,10 @@
 -- What holds of every machine that was built, whatever happened to it since.
 use Rattle.std.specs.Prelude.{◌≡◌, ◌≢◌, ℕ, ◌+◌, ◌*◌, ◌<◌, ◌≤◌, Bool, true, false, List, [], ◌∷◌, length, Option, Some, None}
+use Rattle.std.specs.List.{AllByRecursion}
 use Rattle.uart_chip.specs.declared.event.ArrivalMark.{ArrivalMark}
 use Rattle.uart_chip.specs.declared.event.ArrivalMark.TheVariants.{Pending, Waiting}
 use Rattle.uart_chip.specs.declared.event.Chip.TheVariants.{Uart16550A}
 use Rattle.uart_chip.specs.declared.event.Event.{Event}
-use Rattle.uart_chip.specs.declared.event.Event.TheVariants.{Ticks, Arrive, Lines, Access as Gate, Mark}
 use Rattle.uart_chip.specs.declared.receiver.Character.{Character}
 use Rattle.uart_chip.specs.declared.receiver.Origin.{Origin}
 use Rattle.uart_chip.specs.declared.receiver.Origin.TheVariants.{Arrived, Looped}
@@ -17,6 +17,7 @@ use Rattle.uart_chip.specs.Receiver.{ReceiverState, mark_at}
 use Rattle.uart_chip.specs.Modem.{ModemState}
 use Rattle.uart_chip.specs.Chip.{LatchesState, ChipState}
 use Rattle.uart_chip.specs.Machine.{MachineState, arrivals}
+use Rattle.uart_chip.specs.Build.{IsLegal}
 
 -- ---- the receiver
 
@@ -119,12 +120,7 @@ pub record IsSoundChip (c : ChipState) : Type 0 where
 
 -- the events keep to the bits that they may have
 abbrev pub AllLegal : List Event → Type 0
-AllLegal [] = Unit {0}
-AllLegal (Arrive byte errors ∷ events) = IsWithin errors LSR.CHARACTER_ERRORS.0 × AllLegal events
-AllLegal (Lines inputs ∷ events) = IsWithin inputs MSR.LINES.0 × AllLegal events
-AllLegal (Ticks n ∷ events) = AllLegal events
-AllLegal (Gate ∷ events) = AllLegal events
-AllLegal (Mark ∷ events) = AllLegal events
+AllLegal = AllByRecursion IsLegal
 
 -- the chip is sound, each arrival still to come has a mark, and the events to come are legal: every access keeps it, whatever is written
 pub record IsSound (m : MachineState) : Type 0 where

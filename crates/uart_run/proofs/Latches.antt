@@ -3,7 +3,7 @@ use Rattle.std.proofs.Common.{◌≡◌, ℕ, zero, suc, Bool, true, false, ◌=
 use Rattle.uart_chip.specs.declared.event.Chip.{Chip}
 use Rattle.uart_chip.specs.declared.event.Chip.TheVariants.{Uart16550A, Uart16450}
 use Rattle.uart_chip.specs.declared.event.Event.{Event}
-use Rattle.uart_chip.specs.declared.event.Event.TheVariants.{Ticks, Arrive, Lines, Access as Gate, Mark}
+use Rattle.uart_chip.specs.declared.event.Event.TheVariants.{Ticks, Access as Gate, Mark}
 use Rattle.uart_spec.specs.Access.{Access, Read, Write, Path}
 use Rattle.uart_16550.specs.Driver.{Fields}
 use Rattle.uart_spec.specs.Bits.{has_any}
@@ -11,8 +11,8 @@ use Rattle.uart_spec.specs.declared.registers.fifo_control.TheConstants.FCR
 use Rattle.uart_spec.specs.declared.registers.offsets.TheConstants as offsets
 use Rattle.uart_chip.specs.Masks.{ier_bits, mcr_bits}
 use Rattle.uart_chip.specs.Receiver.{clear}
-use Rattle.uart_chip.specs.Chip.{LatchesState, ChipState, word_length, cut_to, is_dlab_set, ticks, arrive, change_lines, interrupt, is_thr_empty, after_read, after_write, trigger_level, switch, reset_receiver, reset_transmitter, set_trigger, is_same, set_fifo, control}
-use Rattle.uart_chip.specs.Machine.{MachineState, MachineStep, before_access, at_access, before_mark, at_mark}
+use Rattle.uart_chip.specs.Chip.{LatchesState, ChipState, word_length, cut_to, is_dlab_set, ticks, interrupt, is_thr_empty, after_read, after_write, trigger_level, switch, reset_receiver, reset_transmitter, set_trigger, is_same, set_fifo, control}
+use Rattle.uart_chip.specs.Machine.{MachineState, MachineStep, perform, before_access, at_access, before_mark, at_mark}
 
 -- what is kept until it is written: the latches, and whether the FIFO is on; and the model and the option, which are never written
 pub record Kept : Type 0 where
@@ -72,14 +72,16 @@ kept-ticks : (n : ℕ) (c : ChipState) → kept_in (ticks n c) ≡ kept_in c
 kept-ticks zero c = refl
 kept-ticks (suc n) c = kept-ticks n c
 
+kept-perform : (event : Event) (c : ChipState) → kept_in (perform event c) ≡ kept_in c
+kept-perform (Ticks n) c = kept-ticks n c
+kept-perform _ c = refl
+
 -- the events before an access
 pub kept-before : (events : List Event) (c : ChipState) → kept_in (before_access events c) ≡ kept_in c
 kept-before [] c = refl
-kept-before (Ticks n ∷ events) c = kept-before events (ticks n c) ∙ kept-ticks n c
-kept-before (Arrive byte errors ∷ events) c = kept-before events (arrive byte errors c)
-kept-before (Lines inputs ∷ events) c = kept-before events (change_lines inputs c)
 kept-before (Gate ∷ events) c = refl
 kept-before (Mark ∷ events) c = refl
+kept-before (event ∷ events) c = kept-before events (perform event c) ∙ kept-perform event c
 
 -- a read
 kept-read : (offset : ℕ) (c : ChipState) → kept_in (after_read offset c) ≡ kept_in c
@@ -186,11 +188,8 @@ cuts_path cuts made m n e p = ap (λ (k : Kept). k.cuts) (kept_path made m n p) 
 
 kept-before_mark : (events : List Event) (c : ChipState) → kept_in (before_mark events c) ≡ kept_in c
 kept-before_mark [] c = refl
-kept-before_mark (Ticks n ∷ events) c = kept-before_mark events (ticks n c) ∙ kept-ticks n c
-kept-before_mark (Arrive byte errors ∷ events) c = kept-before_mark events (arrive byte errors c)
-kept-before_mark (Lines inputs ∷ events) c = kept-before_mark events (change_lines inputs c)
-kept-before_mark (Gate ∷ events) c = kept-before_mark events c
 kept-before_mark (Mark ∷ events) c = refl
+kept-before_mark (event ∷ events) c = kept-before_mark events (perform event c) ∙ kept-perform event c
 
 pub cuts_mark : (cuts : Bool) (m : MachineState) → CutsAs cuts m → CutsAs cuts (at_mark m)
 cuts_mark cuts m e = ap (λ (k : Kept). k.cuts) (kept-before_mark m.ahead m.chip) ∙ e
