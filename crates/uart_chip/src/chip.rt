@@ -29,7 +29,7 @@ pub struct Latches {
     dlm: DLM,
 }
 
-/// The chip apart from its schedule.
+/// A chip of either model, without a schedule. Under a schedule it is a `Device16550`, in the crate above.
 #[derive(Drop)]
 pub struct Uart {
     model: Chip,

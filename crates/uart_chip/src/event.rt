@@ -11,7 +11,7 @@ const MAX_CHAR_TICKS: u16 = 1000;
 
 const MAX_WIRE_CAPACITY: usize = 65_536;
 
-/// Which chip the machine is.
+/// The model of a chip. The chip itself is [`Uart`](crate::Uart).
 #[derive(Clone, Copy, Debug, PartialEq, Eq)]
 pub enum Chip {
     /// With queues of 16 characters, which the FIFO control register switches on.

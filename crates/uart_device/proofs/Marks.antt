@@ -8,7 +8,7 @@ use Rattle.uart_chip.specs.declared.receiver.Character.{Character}
 use Rattle.uart_chip.specs.declared.receiver.Origin.{Origin}
 use Rattle.uart_chip.specs.declared.receiver.Origin.TheVariants.{Arrived, Looped}
 use Rattle.uart_chip.specs.Receiver.{mark_at, set_mark}
-use Rattle.uart_device.specs.Sound.{Waits, AllWait, OtherOrigin, NoneIs, NoneHas, Distinct}
+use Rattle.uart_device.specs.Sound.{IsInQueue, AllInQueue, OtherOrigin, NoneIs, NoneHas, Distinct}
 
 pub length-set_mark : (o : Origin) (m : ArrivalMark) (marks : List ArrivalMark) → length (set_mark o m marks) ≡ length marks
 length-set_mark (Arrived k) m marks = length-set marks k m
@@ -38,50 +38,50 @@ mark_at-set_mark_not Looped m other marks j new old = old
 -- ---- what waits
 
 -- the numbers of those that wait are below those to come
-pub none_to_come : (arrived : ℕ) (marks : List ArrivalMark) (stray : Bool) (queue : List Character) → AllWait arrived marks stray queue → NoneIs arrived queue
+pub none_to_come : (arrived : ℕ) (marks : List ArrivalMark) (stray : Bool) (queue : List Character) → AllInQueue arrived marks stray queue → NoneIs arrived queue
 none_to_come arrived marks stray [] h = tt
 none_to_come arrived marks stray (x ∷ xs) h = (other x.origin h.0, none_to_come arrived marks stray xs h.1)
   where
-    other : (o : Origin) → Waits arrived marks stray o → OtherOrigin arrived o
+    other : (o : Origin) → IsInQueue arrived marks stray o → OtherOrigin arrived o
     other (Arrived k) h = omega (arith, h.0)
     other Looped h = tt
 
 -- another's mark is set
-pub all_wait-set : (arrived : ℕ) (marks : List ArrivalMark) (stray : Bool) (k : ℕ) (m : ArrivalMark) (queue : List Character) →
-    NoneIs k queue → AllWait arrived marks stray queue → AllWait arrived (slice_set marks k m) stray queue
-all_wait-set arrived marks stray k m [] d h = tt
-all_wait-set arrived marks stray k m (x ∷ xs) d h = (one x.origin d.0 h.0, all_wait-set arrived marks stray k m xs d.1 h.1)
+pub all_in_queue-set : (arrived : ℕ) (marks : List ArrivalMark) (stray : Bool) (k : ℕ) (m : ArrivalMark) (queue : List Character) →
+    NoneIs k queue → AllInQueue arrived marks stray queue → AllInQueue arrived (slice_set marks k m) stray queue
+all_in_queue-set arrived marks stray k m [] d h = tt
+all_in_queue-set arrived marks stray k m (x ∷ xs) d h = (one x.origin d.0 h.0, all_in_queue-set arrived marks stray k m xs d.1 h.1)
   where
-    one : (o : Origin) → OtherOrigin k o → Waits arrived marks stray o → Waits arrived (slice_set marks k m) stray o
+    one : (o : Origin) → OtherOrigin k o → IsInQueue arrived marks stray o → IsInQueue arrived (slice_set marks k m) stray o
     one (Arrived j) d h = (h.0, get_or-set_other marks k j m Pending d ∙ h.1)
     one Looped d h = h
 
-pub all_wait-set_mark : (arrived : ℕ) (marks : List ArrivalMark) (stray : Bool) (o : Origin) (m : ArrivalMark) (queue : List Character) →
-    NoneHas o queue → AllWait arrived marks stray queue → AllWait arrived (set_mark o m marks) stray queue
-all_wait-set_mark arrived marks stray (Arrived k) m queue d h = all_wait-set arrived marks stray k m queue d h
-all_wait-set_mark arrived marks stray Looped m queue d h = h
+pub all_in_queue-set_mark : (arrived : ℕ) (marks : List ArrivalMark) (stray : Bool) (o : Origin) (m : ArrivalMark) (queue : List Character) →
+    NoneHas o queue → AllInQueue arrived marks stray queue → AllInQueue arrived (set_mark o m marks) stray queue
+all_in_queue-set_mark arrived marks stray (Arrived k) m queue d h = all_in_queue-set arrived marks stray k m queue d h
+all_in_queue-set_mark arrived marks stray Looped m queue d h = h
 
 -- one more has arrived
-pub all_wait-next : (arrived : ℕ) (marks : List ArrivalMark) (stray : Bool) (queue : List Character) → AllWait arrived marks stray queue → AllWait (arrived + 1) marks stray queue
-all_wait-next arrived marks stray [] h = tt
-all_wait-next arrived marks stray (x ∷ xs) h = (one x.origin h.0, all_wait-next arrived marks stray xs h.1)
+pub all_in_queue-next : (arrived : ℕ) (marks : List ArrivalMark) (stray : Bool) (queue : List Character) → AllInQueue arrived marks stray queue → AllInQueue (arrived + 1) marks stray queue
+all_in_queue-next arrived marks stray [] h = tt
+all_in_queue-next arrived marks stray (x ∷ xs) h = (one x.origin h.0, all_in_queue-next arrived marks stray xs h.1)
   where
-    one : (o : Origin) → Waits arrived marks stray o → Waits (arrived + 1) marks stray o
+    one : (o : Origin) → IsInQueue arrived marks stray o → IsInQueue (arrived + 1) marks stray o
     one (Arrived j) h = (omega (arith, h.0), h.1)
     one Looped h = h
 
 -- a looped character came, so none is lost since
-pub all_wait-found : (arrived : ℕ) (marks : List ArrivalMark) (stray : Bool) (queue : List Character) → AllWait arrived marks stray queue → AllWait arrived marks false queue
-all_wait-found arrived marks stray [] h = tt
-all_wait-found arrived marks stray (x ∷ xs) h = (one x.origin h.0, all_wait-found arrived marks stray xs h.1)
+pub all_in_queue-found : (arrived : ℕ) (marks : List ArrivalMark) (stray : Bool) (queue : List Character) → AllInQueue arrived marks stray queue → AllInQueue arrived marks false queue
+all_in_queue-found arrived marks stray [] h = tt
+all_in_queue-found arrived marks stray (x ∷ xs) h = (one x.origin h.0, all_in_queue-found arrived marks stray xs h.1)
   where
-    one : (o : Origin) → Waits arrived marks stray o → Waits arrived marks false o
+    one : (o : Origin) → IsInQueue arrived marks stray o → IsInQueue arrived marks false o
     one (Arrived j) h = h
     one Looped h = refl
 
-pub all_wait-append : (arrived : ℕ) (marks : List ArrivalMark) (stray : Bool) (xs ys : List Character) → AllWait arrived marks stray xs → AllWait arrived marks stray ys → AllWait arrived marks stray (xs ++ ys)
-all_wait-append arrived marks stray [] ys h k = k
-all_wait-append arrived marks stray (x ∷ xs) ys h k = (h.0, all_wait-append arrived marks stray xs ys h.1 k)
+pub all_in_queue-append : (arrived : ℕ) (marks : List ArrivalMark) (stray : Bool) (xs ys : List Character) → AllInQueue arrived marks stray xs → AllInQueue arrived marks stray ys → AllInQueue arrived marks stray (xs ++ ys)
+all_in_queue-append arrived marks stray [] ys h k = k
+all_in_queue-append arrived marks stray (x ∷ xs) ys h k = (h.0, all_in_queue-append arrived marks stray xs ys h.1 k)
 
 -- ---- each once
 
@@ -133,7 +133,7 @@ pub to_come-next : (arrived : ℕ) (marks : List ArrivalMark) (m : ArrivalMark) 
 to_come-next arrived marks m h k l = let apart : k ≢ arrived = omega arith in get_or-set_other marks arrived k m Pending apart ∙ h k (omega arith)
 
 -- the mark of one that waits is set
-pub to_come-set : (arrived : ℕ) (marks old : List ArrivalMark) (stray : Bool) (o : Origin) (m : ArrivalMark) → Waits arrived old stray o → ToCome arrived marks → ToCome arrived (set_mark o m marks)
+pub to_come-set : (arrived : ℕ) (marks old : List ArrivalMark) (stray : Bool) (o : Origin) (m : ArrivalMark) → IsInQueue arrived old stray o → ToCome arrived marks → ToCome arrived (set_mark o m marks)
 to_come-set arrived marks old stray (Arrived j) m w h k l = let apart : k ≢ j = omega (arith, w.0) in get_or-set_other marks j k m Pending apart ∙ h k l
 to_come-set arrived marks old stray Looped m w h k l = h k l
 

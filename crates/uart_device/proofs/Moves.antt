@@ -11,17 +11,17 @@ use Rattle.uart_chip.specs.declared.receiver.Origin.{Origin}
 use Rattle.uart_chip.specs.declared.receiver.Origin.TheVariants.{Arrived, Looped}
 use Rattle.uart_chip.specs.Transmitter.{room}
 use Rattle.uart_chip.specs.Receiver.{ReceiverState, mark_at, set_mark, is_looped}
-use Rattle.uart_device.specs.Sound.{Waits, AllWait, IsMarked}
+use Rattle.uart_device.specs.Sound.{IsInQueue, AllInQueue, IsMarked}
 use Rattle.uart_device.specs.Conserved.{is_dropped, origin_stands, stands}
-use Rattle.uart_device.proofs.Marks.{none_to_come, all_wait-set, all_wait-next, all_wait-append}
+use Rattle.uart_device.proofs.Marks.{none_to_come, all_in_queue-set, all_in_queue-next, all_in_queue-append}
 
 -- ---- what waits was not dropped
 
-pub waits_stands : (arrived : ℕ) (marks : List ArrivalMark) (stray : Bool) (o : Origin) → Waits arrived marks stray o → origin_stands marks stray o ≡ true
+pub waits_stands : (arrived : ℕ) (marks : List ArrivalMark) (stray : Bool) (o : Origin) → IsInQueue arrived marks stray o → origin_stands marks stray o ≡ true
 waits_stands arrived marks stray (Arrived k) h = rw h.1 refl
 waits_stands arrived marks stray Looped h = rw h refl
 
-pub filter-waits : (r : ReceiverState) (arrived : ℕ) (characters : List Character) → AllWait arrived r.marks r.is_stray_lost characters → filter (stands r) characters ≡ characters
+pub filter-waits : (r : ReceiverState) (arrived : ℕ) (characters : List Character) → AllInQueue arrived r.marks r.is_stray_lost characters → filter (stands r) characters ≡ characters
 filter-waits r arrived [] h = refl
 filter-waits r arrived (character ∷ characters) h =
     let e : stands r character ≡ true = waits_stands arrived r.marks r.is_stray_lost character.origin h.0 in
@@ -144,10 +144,10 @@ pub moved_room : (fifo : Bool) (r s : ReceiverState) (new : Character) → IsMar
     s.queue ≡ r.queue ++ new ∷ [] → s.marks ≡ slice_set r.marks r.arrived Waiting → s.is_stray_lost ≡ r.is_stray_lost → s.arrived ≡ r.arrived + 1 →
     Moved fifo r s (new ∷ []) []
 moved_room fifo r s new w o k queue marks stray arrived =
-    let old : AllWait (r.arrived + 1) (slice_set r.marks r.arrived Waiting) r.is_stray_lost r.queue =
-    all_wait-set (r.arrived + 1) r.marks r.is_stray_lost r.arrived Waiting r.queue (none_to_come r.arrived r.marks r.is_stray_lost r.queue w.wait) (all_wait-next r.arrived r.marks r.is_stray_lost r.queue w.wait) in
-    let here : Waits (r.arrived + 1) (slice_set r.marks r.arrived Waiting) r.is_stray_lost new.origin = rw o (omega arith, get_or-set_same r.marks r.arrived Waiting Pending k) in
-    let all : AllWait s.arrived s.marks s.is_stray_lost (r.queue ++ new ∷ []) = rw (arrived, marks, stray) (all_wait-append _ _ _ r.queue (new ∷ []) old (here, tt)) in
+    let old : AllInQueue (r.arrived + 1) (slice_set r.marks r.arrived Waiting) r.is_stray_lost r.queue =
+    all_in_queue-set (r.arrived + 1) r.marks r.is_stray_lost r.arrived Waiting r.queue (none_to_come r.arrived r.marks r.is_stray_lost r.queue w.wait) (all_in_queue-next r.arrived r.marks r.is_stray_lost r.queue w.wait) in
+    let here : IsInQueue (r.arrived + 1) (slice_set r.marks r.arrived Waiting) r.is_stray_lost new.origin = rw o (omega arith, get_or-set_same r.marks r.arrived Waiting Pending k) in
+    let all : AllInQueue s.arrived s.marks s.is_stray_lost (r.queue ++ new ∷ []) = rw (arrived, marks, stray) (all_in_queue-append _ _ _ r.queue (new ∷ []) old (here, tt)) in
     let pending : mark_at r.marks r.arrived ≡ Pending = w.to_come r.arrived (omega arith) in
     record {
       stay = filter-waits s s.arrived (r.queue ++ new ∷ []) all ∙ sym queue;
@@ -161,8 +161,8 @@ pub moved_full : (r s : ReceiverState) (new : Character) → IsMarked true r →
     s.queue ≡ r.queue → s.marks ≡ slice_set r.marks r.arrived Dropped → s.is_stray_lost ≡ r.is_stray_lost → Moved true r s (new ∷ []) []
 moved_full r s new w o k queue marks stray =
     let pending : mark_at r.marks r.arrived ≡ Pending = w.to_come r.arrived (omega arith) in
-    let old : AllWait r.arrived (slice_set r.marks r.arrived Dropped) r.is_stray_lost r.queue =
-    all_wait-set r.arrived r.marks r.is_stray_lost r.arrived Dropped r.queue (none_to_come r.arrived r.marks r.is_stray_lost r.queue w.wait) w.wait in
+    let old : AllInQueue r.arrived (slice_set r.marks r.arrived Dropped) r.is_stray_lost r.queue =
+    all_in_queue-set r.arrived r.marks r.is_stray_lost r.arrived Dropped r.queue (none_to_come r.arrived r.marks r.is_stray_lost r.queue w.wait) w.wait in
     let stay_old : filter (stands s) r.queue ≡ r.queue = filter-waits s r.arrived r.queue (rw (marks, stray) old) in
     let out : stands s new ≡ false = rw (o, marks, get_or-set_same r.marks r.arrived Dropped Pending k) refl in
     let none : filter (stands s) (new ∷ []) ≡ [] = rw out refl in
@@ -197,7 +197,7 @@ moved_taken fifo r s front (Arrived k) w o i marks stray =
     let distinct = rw i at w.distinct in
     let others = rw o at distinct.0 in
     let within : k < length r.marks = omega (arith, here.0, w.counted) in
-    let rest : AllWait r.arrived (slice_set r.marks k Read) r.is_stray_lost s.queue = all_wait-set r.arrived r.marks r.is_stray_lost k Read s.queue others wait.1 in
+    let rest : AllInQueue r.arrived (slice_set r.marks k Read) r.is_stray_lost s.queue = all_in_queue-set r.arrived r.marks r.is_stray_lost k Read s.queue others wait.1 in
     let stay_rest : filter (stands s) s.queue ≡ s.queue = filter-waits s r.arrived s.queue (rw (marks, stray) rest) in
     let in_front : stands s front ≡ true = rw (o, marks, get_or-set_same r.marks k Read Pending within) refl in
     let whole : filter (stands s) (front ∷ s.queue) ≡ front ∷ s.queue = rw in_front (ap (λ xs. front ∷ xs) stay_rest) in

@@ -11,8 +11,8 @@ use Rattle.uart_spec.specs.declared.registers.line_status.TheConstants.LSR
 use Rattle.uart_chip.specs.Masks.{IsWithin}
 use Rattle.uart_chip.specs.Transmitter.{room}
 use Rattle.uart_chip.specs.Receiver.{ReceiverState, set_mark, replace, come_back, grow_timeout, tick, arrive, take_front, report, discard, clear}
-use Rattle.uart_device.specs.Sound.{Waits, AllWait, NoneIs, Distinct, AllErrorsLegal, IsSoundReceiver}
-use Rattle.uart_device.proofs.Marks.{length-set_mark, none_to_come, all_wait-set, all_wait-set_mark, all_wait-next, all_wait-found, all_wait-append, distinct-next, distinct-looped, ToCome, Settled, NoOther, to_come-next, to_come-set, settled-next, settled-set, no_other-set, no_other-rest, no_other-next}
+use Rattle.uart_device.specs.Sound.{IsInQueue, AllInQueue, NoneIs, Distinct, AllErrorsLegal, IsSoundReceiver}
+use Rattle.uart_device.proofs.Marks.{length-set_mark, none_to_come, all_in_queue-set, all_in_queue-set_mark, all_in_queue-next, all_in_queue-found, all_in_queue-append, distinct-next, distinct-looped, ToCome, Settled, NoOther, to_come-next, to_come-set, settled-next, settled-set, no_other-set, no_other-rest, no_other-next}
 
 -- the receiver is sound after a move, of so many arrivals, as many to come
 pub record Safe (fifo : Bool) (arrived : ℕ) (r s : ReceiverState) : Type 0 where
@@ -51,13 +51,13 @@ safe_arrival_room : (fifo : Bool) (r : ReceiverState) (byte errors : ℕ) (repor
 safe_arrival_room fifo r byte errors reported w k l e =
     let new : Character = record { byte = byte; errors = errors; origin = Arrived r.arrived } in
     let none : NoneIs r.arrived r.queue = none_to_come r.arrived r.marks r.is_stray_lost r.queue w.marked.wait in
-    let old : AllWait (r.arrived + 1) (slice_set r.marks r.arrived Waiting) r.is_stray_lost r.queue =
-    all_wait-set (r.arrived + 1) r.marks r.is_stray_lost r.arrived Waiting r.queue none (all_wait-next r.arrived r.marks r.is_stray_lost r.queue w.marked.wait) in
-    let here : Waits (r.arrived + 1) (slice_set r.marks r.arrived Waiting) r.is_stray_lost (Arrived r.arrived) = (omega arith, get_or-set_same r.marks r.arrived Waiting Pending k) in
+    let old : AllInQueue (r.arrived + 1) (slice_set r.marks r.arrived Waiting) r.is_stray_lost r.queue =
+    all_in_queue-set (r.arrived + 1) r.marks r.is_stray_lost r.arrived Waiting r.queue none (all_in_queue-next r.arrived r.marks r.is_stray_lost r.queue w.marked.wait) in
+    let here : IsInQueue (r.arrived + 1) (slice_set r.marks r.arrived Waiting) r.is_stray_lost (Arrived r.arrived) = (omega arith, get_or-set_same r.marks r.arrived Waiting Pending k) in
     record {
       sound = record {
         marked = record {
-          wait = all_wait-append (r.arrived + 1) (slice_set r.marks r.arrived Waiting) r.is_stray_lost r.queue (new ∷ []) old (here, tt);
+          wait = all_in_queue-append (r.arrived + 1) (slice_set r.marks r.arrived Waiting) r.is_stray_lost r.queue (new ∷ []) old (here, tt);
           distinct = distinct-next r.queue new r.arrived refl none w.marked.distinct;
           to_come = to_come-next r.arrived r.marks Waiting w.marked.to_come;
           in_room = length-next r.queue new (room fifo) e;
@@ -81,7 +81,7 @@ safe_arrival_lost fifo r m overrun idle w k p q i =
     record {
       sound = record {
         marked = record {
-          wait = all_wait-set (r.arrived + 1) r.marks r.is_stray_lost r.arrived m r.queue none (all_wait-next r.arrived r.marks r.is_stray_lost r.queue w.marked.wait);
+          wait = all_in_queue-set (r.arrived + 1) r.marks r.is_stray_lost r.arrived m r.queue none (all_in_queue-next r.arrived r.marks r.is_stray_lost r.queue w.marked.wait);
           distinct = w.marked.distinct;
           to_come = to_come-next r.arrived r.marks m w.marked.to_come;
           in_room = w.marked.in_room;
@@ -114,7 +114,7 @@ safe_arrival_replaced fifo r byte errors old stray w k l e =
     let marks : List ArrivalMark = set_mark old.origin Dropped r.marks in
     let same : length marks ≡ length r.marks = length-set_mark old.origin Dropped r.marks in
     let within : r.arrived < length marks = omega arith in
-    let waits : AllWait r.arrived r.marks r.is_stray_lost (old ∷ []) = rw e at w.marked.wait in
+    let waits : AllInQueue r.arrived r.marks r.is_stray_lost (old ∷ []) = rw e at w.marked.wait in
     let others : NoOther (old ∷ []) r.marks = rw e at w.no_other in
     let one : length (old ∷ []) ≤ room fifo = rw e at w.marked.in_room in
     record {
@@ -174,11 +174,11 @@ safe_looped_room : (fifo : Bool) (r : ReceiverState) (byte : ℕ) (reported : Bo
     })
 safe_looped_room fifo r byte reported w e =
     let new : Character = record { byte = byte; errors = 0; origin = Looped } in
-    let found : AllWait r.arrived r.marks false r.queue = all_wait-found r.arrived r.marks r.is_stray_lost r.queue w.marked.wait in
+    let found : AllInQueue r.arrived r.marks false r.queue = all_in_queue-found r.arrived r.marks r.is_stray_lost r.queue w.marked.wait in
     record {
       sound = record {
         marked = record {
-          wait = all_wait-append r.arrived r.marks false r.queue (new ∷ []) found (refl, tt);
+          wait = all_in_queue-append r.arrived r.marks false r.queue (new ∷ []) found (refl, tt);
           distinct = distinct-looped r.queue new refl w.marked.distinct;
           to_come = w.marked.to_come;
           in_room = length-next r.queue new (room fifo) e;
@@ -198,7 +198,7 @@ safe_looped_lost : (fifo : Bool) (r : ReceiverState) → IsSoundReceiver fifo r 
 safe_looped_lost fifo r w = record {
   sound = record {
     marked = record {
-      wait = all_wait-found r.arrived r.marks r.is_stray_lost r.queue w.marked.wait;
+      wait = all_in_queue-found r.arrived r.marks r.is_stray_lost r.queue w.marked.wait;
       distinct = w.marked.distinct;
       to_come = w.marked.to_come;
       in_room = w.marked.in_room;
@@ -227,7 +227,7 @@ safe_looped_replaced fifo r byte old w e =
     let new : Character = record { byte = byte; errors = 0; origin = Looped } in
     let marks : List ArrivalMark = set_mark old.origin Dropped r.marks in
     let same : length marks ≡ length r.marks = length-set_mark old.origin Dropped r.marks in
-    let waits : AllWait r.arrived r.marks r.is_stray_lost (old ∷ []) = rw e at w.marked.wait in
+    let waits : AllInQueue r.arrived r.marks r.is_stray_lost (old ∷ []) = rw e at w.marked.wait in
     let others : NoOther (old ∷ []) r.marks = rw e at w.no_other in
     let one : length (old ∷ []) ≤ room fifo = rw e at w.marked.in_room in
     record {
@@ -301,7 +301,7 @@ safe_take_front fifo r w = go r.queue refl
         rw f (record { sound = w; number = refl; known = refl; limit = refl })
     go (front ∷ others) e =
         let f : take_front r.queue r ≡ take_front (front ∷ others) r = ap (λ (xs : List Character). take_front xs r) e in
-        let waits : AllWait r.arrived r.marks r.is_stray_lost (front ∷ others) = rw e at w.marked.wait in
+        let waits : AllInQueue r.arrived r.marks r.is_stray_lost (front ∷ others) = rw e at w.marked.wait in
         let distinct : Distinct (front ∷ others) = rw e at w.marked.distinct in
         let rest : NoOther (front ∷ others) r.marks = rw e at w.no_other in
         let legal : AllErrorsLegal (front ∷ others) = rw e at w.legal in
@@ -310,7 +310,7 @@ safe_take_front fifo r w = go r.queue refl
         rw f (record {
           sound = record {
             marked = record {
-              wait = all_wait-set_mark r.arrived r.marks r.is_stray_lost front.origin Read others distinct.0 waits.1;
+              wait = all_in_queue-set_mark r.arrived r.marks r.is_stray_lost front.origin Read others distinct.0 waits.1;
               distinct = distinct.1;
               to_come = to_come-set r.arrived r.marks r.marks r.is_stray_lost front.origin Read waits.0 w.marked.to_come;
               in_room = omega (arith, few);
@@ -332,7 +332,7 @@ length-discard : (queue : List Character) (marks : List ArrivalMark) → length 
 length-discard [] marks = refl
 length-discard (x ∷ xs) marks = length-discard xs (set_mark x.origin Discarded marks) ∙ length-set_mark x.origin Discarded marks
 
-to_come-discard : (queue : List Character) (arrived : ℕ) (marks old : List ArrivalMark) (stray : Bool) → AllWait arrived old stray queue → ToCome arrived marks → ToCome arrived (discard queue marks)
+to_come-discard : (queue : List Character) (arrived : ℕ) (marks old : List ArrivalMark) (stray : Bool) → AllInQueue arrived old stray queue → ToCome arrived marks → ToCome arrived (discard queue marks)
 to_come-discard [] arrived marks old stray w h = h
 to_come-discard (x ∷ xs) arrived marks old stray w h =
     to_come-discard xs arrived (set_mark x.origin Discarded marks) old stray w.1 (to_come-set arrived marks old stray x.origin Discarded w.0 h)

@@ -21,15 +21,15 @@ use Rattle.uart_chip.specs.Build.{IsLegal}
 
 -- ---- the receiver
 
--- a character of this origin may wait: an arrival is marked so, and of looped ones none was lost since
-abbrev pub Waits : ℕ → List ArrivalMark → Bool → Origin → Type 0
-Waits arrived marks stray (Arrived number) = (number < arrived) × (mark_at marks number ≡ Waiting)
-Waits arrived marks stray Looped = stray ≡ false
+-- a character of this origin may be in the queue: an arrival is marked so, and of looped ones none was lost since
+abbrev pub IsInQueue : ℕ → List ArrivalMark → Bool → Origin → Type 0
+IsInQueue arrived marks stray (Arrived number) = (number < arrived) × (mark_at marks number ≡ Waiting)
+IsInQueue arrived marks stray Looped = stray ≡ false
 
--- each of these characters may wait
-abbrev pub AllWait : ℕ → List ArrivalMark → Bool → List Character → Type 0
-AllWait arrived marks stray [] = Unit {0}
-AllWait arrived marks stray (character ∷ characters) = Waits arrived marks stray character.origin × AllWait arrived marks stray characters
+-- each of these characters may be in the queue
+abbrev pub AllInQueue : ℕ → List ArrivalMark → Bool → List Character → Type 0
+AllInQueue arrived marks stray [] = Unit {0}
+AllInQueue arrived marks stray (character ∷ characters) = IsInQueue arrived marks stray character.origin × AllInQueue arrived marks stray characters
 
 -- the origin is not the arrival with this number
 abbrev pub OtherOrigin : ℕ → Origin → Type 0
@@ -58,7 +58,7 @@ AllErrorsLegal (character ∷ characters) = IsWithin character.errors LSR.CHARAC
 
 -- what waits is marked so, each arrival once and within the room; the marks of those to come are Pending
 pub record IsMarked (fifo : Bool) (r : ReceiverState) : Type 0 where
-  pub wait : AllWait r.arrived r.marks r.is_stray_lost r.queue
+  pub wait : AllInQueue r.arrived r.marks r.is_stray_lost r.queue
   pub distinct : Distinct r.queue
   pub to_come : (number : ℕ) → r.arrived ≤ number → mark_at r.marks number ≡ Pending
   pub in_room : length r.queue ≤ room fifo
