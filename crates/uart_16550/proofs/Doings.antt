@@ -4,7 +4,7 @@ use lib.Bits.{or_zero_r}
 use Rattle.std.specs.Int.NonZero.{non_zero_u64_get}
 use Rattle.uart_spec.specs.Bits.{has}
 use Rattle.uart_spec.specs.Access.{Access, Read, saved_lsr, saved_msr}
-use Rattle.uart_16550.specs.Grammar.{Language, Settings, Only, Then, Times, Asks, Reads}
+use Rattle.uart_16550.specs.Grammar.{Language, Settings, Only, Then, Times, Asks, ReadsRegister}
 use Rattle.uart_16550.specs.Driver.{Made, Did, Doing, Fields, fields, settings_of, Saving, saving, Plain, Sets, Next}
 use Rattle.uart_16550.specs.declared.driver.Uart16550.{Uart16550}
 use Rattle.uart_16550.proofs.Paths.{path_then}
@@ -71,7 +71,7 @@ plain_times n P p q = plain_among {L = Then (Times n P) P} {M = Times (n + 1) P}
 pub plain_asks : {B : Type 0} {step : B → Access → B → Type 0} (register answer bits : ℕ) (outcome : Bool) {a b : Uart16550 B} → Did step (Plain (Only (Read register answer ∷ []))) a b → has answer bits ≡ outcome → Did step (Plain (Asks register bits outcome)) a b
 plain_asks register answer bits outcome p h = plain_among {L = Only (Read register answer ∷ [])} {M = Asks register bits outcome} (λ s l t. record { answer = answer; shows = h; is = t.is }) p
 
-pub plain_read : {B : Type 0} {step : B → Access → B → Type 0} (register answer : ℕ) {a b : Uart16550 B} → Did step (Plain (Only (Read register answer ∷ []))) a b → Did step (Plain (Reads register)) a b
+pub plain_read : {B : Type 0} {step : B → Access → B → Type 0} (register answer : ℕ) {a b : Uart16550 B} → Did step (Plain (Only (Read register answer ∷ []))) a b → Did step (Plain (ReadsRegister register)) a b
 plain_read register answer p = record { list = p.list; path = p.path; does = ((answer, p.does.0.is), p.does.1) }
 
 -- the fields are set

@@ -7,7 +7,7 @@ use Rattle.uart_16550.specs.Grammar.{Settings, Only, Then}
 use Rattle.uart_16550.specs.Receive.{Awaits}
 use Rattle.uart_16550.specs.Transmit.{Round}
 use Rattle.uart_16550.specs.Driver.{Made, Did, Next, Saving, fields}
-use Rattle.uart_16550.specs.Loopback.{HasEchoed, Drains, ExchangesByte, ExchangesMessage, Exchanges, Enters, Leaves, Tests}
+use Rattle.uart_16550.specs.Loopback.{HasEchoed, DrainsLoopback, ExchangesByte, ExchangesMessage, Exchanges, Enters, Leaves, Tests}
 use Rattle.uart_16550.specs.declared.driver.Uart16550.{Uart16550}
 use Rattle.uart_16550.proofs.Making.{made_among}
 use Rattle.uart_16550.proofs.Doings.{did_then}
@@ -19,7 +19,7 @@ echoed byte None s l t = inr t
 
 -- the message's answer is that of the whole exchange
 pub exchanged : {T : Type 0} (result : Result T LoopbackError) (s : Settings) (l : List Access) →
-    Then (Drains true) (Then (ExchangesByte {T = Unit {0}} (Ok tt)) (ExchangesMessage result)) s l → Exchanges result s l
+    Then (DrainsLoopback true) (Then (ExchangesByte {T = Unit {0}} (Ok tt)) (ExchangesMessage result)) s l → Exchanges result s l
 exchanged (Ok x) s l t = t
 exchanged (Err e) s l t = inr (inr t)
 

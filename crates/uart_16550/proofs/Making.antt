@@ -4,6 +4,9 @@ use Rattle.std.proofs.lemmas.Bool.Decides.{nat_tests}
 use Rattle.std.specs.Int.NonZero.{non_zero_u64_get}
 use lib.Bits.{or_zero_r}
 use Rattle.uart_spec.specs.Bits.{has}
+use Rattle.uart_spec.specs.declared.registers.offsets.TheConstants as offsets
+use Rattle.uart_spec.specs.declared.registers.line_status.TheConstants.LSR
+use Rattle.uart_spec.specs.declared.registers.modem_status.TheConstants.MSR
 use Rattle.uart_spec.specs.Access.{Access, Read, Write, saved_lsr, saved_msr}
 use Rattle.uart_16550.specs.Grammar.{Language, Settings, Only, Then, InOrder, Times, FewMisses, Asks, IfChecks}
 use Rattle.uart_16550.specs.Transmit.{SendHit, SendMiss, WaitsToSend, Round, data_writes}
@@ -21,8 +24,8 @@ pub made_then : {B : Type 0} {step : B → Access → B → Type 0} {L M : Langu
 made_then {step} {M} {a} {b} {c} p q = record {
   list = p.list ++ q.list;
   path = path_then step a.backend b.backend c.backend p.list q.list p.path q.path;
-  lsr = rw (q.lsr, p.lsr, saved-append 5 30 p.list q.list) (or_assoc a.saved_lsr.0 (saved_lsr p.list) (saved_lsr q.list));
-  msr = rw (q.msr, p.msr, saved-append 6 15 p.list q.list) (or_assoc a.saved_msr.0 (saved_msr p.list) (saved_msr q.list));
+  lsr = rw (q.lsr, p.lsr, saved-append offsets.LSR LSR.LINE_ERRORS.0 p.list q.list) (or_assoc a.saved_lsr.0 (saved_lsr p.list) (saved_lsr q.list));
+  msr = rw (q.msr, p.msr, saved-append offsets.MSR MSR.CHANGES.0 p.list q.list) (or_assoc a.saved_msr.0 (saved_msr p.list) (saved_msr q.list));
   config = q.config ∙ p.config;
   fifo = q.fifo ∙ p.fifo;
   limit = q.limit ∙ p.limit;
@@ -75,10 +78,10 @@ made_none {a} = record {
 }
 
 -- a read of a register of which nothing is saved
-pub made_read : {B : Type 0} (step : B → Access → B → Type 0) (a : Uart16550 B) (after : B) (offset answer : ℕ) → offset ≢ 5 → offset ≢ 6 → step a.backend (Read offset answer) after → Made step (Only (Read offset answer ∷ [])) a (record a { backend = after })
+pub made_read : {B : Type 0} (step : B → Access → B → Type 0) (a : Uart16550 B) (after : B) (offset answer : ℕ) → offset ≢ offsets.LSR → offset ≢ offsets.MSR → step a.backend (Read offset answer) after → Made step (Only (Read offset answer ∷ [])) a (record a { backend = after })
 made_read step a after offset answer not_lsr not_msr taken =
-    let other_lsr : (offset == 5) ≡ false = grind (arith, nat_tests) in
-    let other_msr : (offset == 6) ≡ false = grind (arith, nat_tests) in
+    let other_lsr : (offset == offsets.LSR) ≡ false = grind (arith, nat_tests) in
+    let other_msr : (offset == offsets.MSR) ≡ false = grind (arith, nat_tests) in
     record {
       list = Read offset answer ∷ [];
       path = (after, taken, refl);
@@ -147,13 +150,13 @@ pub msr_kept : {B : Type 0} {step : B → Access → B → Type 0} (list : List 
 msr_kept list {a} none p = p.msr ∙ ap (λ (l : List Access). bit_or a.saved_msr.0 (saved_msr l)) p.fits.is ∙ ap (bit_or a.saved_msr.0) none ∙ or_zero_r _
 
 -- a status joined with the saved bits after its own read is the status joined with those before it
-pub lsr_joined : {B : Type 0} {step : B → Access → B → Type 0} (status : ℕ) {a b : Uart16550 B} → Made step (Only (Read 5 status ∷ [])) a b → bit_or status b.saved_lsr.0 ≡ bit_or status a.saved_lsr.0
+pub lsr_joined : {B : Type 0} {step : B → Access → B → Type 0} (status : ℕ) {a b : Uart16550 B} → Made step (Only (Read offsets.LSR status ∷ [])) a b → bit_or status b.saved_lsr.0 ≡ bit_or status a.saved_lsr.0
 lsr_joined status {a} p =
-    ap (bit_or status) (p.lsr ∙ ap (λ (l : List Access). bit_or a.saved_lsr.0 (saved_lsr l)) p.fits.is) ∙ or_saved status a.saved_lsr.0 30
+    ap (bit_or status) (p.lsr ∙ ap (λ (l : List Access). bit_or a.saved_lsr.0 (saved_lsr l)) p.fits.is) ∙ or_saved status a.saved_lsr.0 LSR.LINE_ERRORS.0
 
-pub msr_joined : {B : Type 0} {step : B → Access → B → Type 0} (status : ℕ) {a b : Uart16550 B} → Made step (Only (Read 6 status ∷ [])) a b → bit_or status b.saved_msr.0 ≡ bit_or status a.saved_msr.0
+pub msr_joined : {B : Type 0} {step : B → Access → B → Type 0} (status : ℕ) {a b : Uart16550 B} → Made step (Only (Read offsets.MSR status ∷ [])) a b → bit_or status b.saved_msr.0 ≡ bit_or status a.saved_msr.0
 msr_joined status {a} p =
-    ap (bit_or status) (p.msr ∙ ap (λ (l : List Access). bit_or a.saved_msr.0 (saved_msr l)) p.fits.is) ∙ or_saved status a.saved_msr.0 15
+    ap (bit_or status) (p.msr ∙ ap (λ (l : List Access). bit_or a.saved_msr.0 (saved_msr l)) p.fits.is) ∙ or_saved status a.saved_msr.0 MSR.CHANGES.0
 
 -- what the check may use to join calls
 pub ruleset calls = (made_then, made_none, made_more, made_times, made_few, made_asks, made_only, made_checked)

@@ -5,6 +5,7 @@ use Rattle.std.specs.Int.NonZero.{non_zero_u64_get}
 use Rattle.uart_spec.specs.declared.config.Config.{Config}
 use Rattle.uart_spec.specs.Access.{Access, Path, saved_lsr, saved_msr}
 use Rattle.uart_16550.specs.Grammar.{Language, Settings}
+use Rattle.uart_16550.specs.declared.driver.TheConstants.{DEFAULT_SPIN_LIMIT}
 use Rattle.uart_16550.specs.declared.driver.Uart16550.{Uart16550}
 
 -- the backend that carries the driver's accesses
@@ -32,7 +33,7 @@ settings d = record { checks = d.config.check_cts_before_sending; fifo = d.fifo_
 -- a driver that has made no access
 pub record IsFresh {B : Type 0} (d : Uart16550 B) (given : B) (config : Config) : Type 0 where
   pub backend : d.backend ≡ given
-  pub begins : fields d ≡ record { config = config; fifo = true; lsr = 0; msr = 0; limit = 1000000 }
+  pub begins : fields d ≡ record { config = config; fifo = true; lsr = 0; msr = 0; limit = DEFAULT_SPIN_LIMIT }
 
 -- the call made a list of the language, saved what its reads showed, and changed nothing else
 pub record Made {B : Type 0} (step : B → Access → B → Type 0) (L : Language) (old new : Uart16550 B) : Type 0 where

@@ -1,20 +1,22 @@
 -- The lists of the receiving calls.
 use Rattle.std.specs.Prelude.{◌≡◌, ◌<◌, ℕ, Bool, true, false, List, [], ◌∷◌, Result, Ok, Err, Option, Some, None, length, take, ◌⊎◌}
 use Rattle.uart_spec.specs.declared.errors.StalledError.{StalledError}
+use Rattle.uart_spec.specs.declared.registers.offsets.TheConstants as offsets
+use Rattle.uart_spec.specs.declared.registers.line_status.TheConstants.LSR
 use Rattle.uart_spec.specs.Access.{Read}
 use Rattle.uart_16550.specs.Grammar.{Language, Only, Then, InOrder, FewMisses, AllMisses, Asks}
 
 -- a look at LSR that shows data, and the byte taken
 abbrev pub Hit : ℕ → Language
-Hit byte = Then (Asks 5 1 true) (Only (Read 0 byte ∷ []))
+Hit byte = Then (Asks offsets.LSR LSR.DATA_READY.0 true) (Only (Read offsets.DATA byte ∷ []))
 
 -- a look that shows none
 abbrev pub Miss : Language
-Miss = Asks 5 1 false
+Miss = Asks offsets.LSR LSR.DATA_READY.0 false
 
 -- `ready_to_receive`
 abbrev pub ReadyToReceive : {T E : Type 0} → Result T E → Language
-ReadyToReceive (Ok x) = Asks 5 1 true
+ReadyToReceive (Ok x) = Asks offsets.LSR LSR.DATA_READY.0 true
 ReadyToReceive (Err e) = Miss
 
 -- `try_receive_byte`

@@ -11,9 +11,9 @@ use Rattle.uart_spec.specs.declared.errors.InitError.{InitError}
 use Rattle.uart_spec.specs.declared.errors.InitError.TheVariants.{InvalidBaudRate, DeviceNotPresent, Stalled}
 use Rattle.uart_spec.specs.Access.{Access, Write, Path}
 use Rattle.uart_16550.specs.Grammar.{Language, Settings, Only, Then}
-use Rattle.uart_16550.specs.Transmit.{Waits}
+use Rattle.uart_16550.specs.Transmit.{WaitsFor}
 use Rattle.uart_16550.specs.Driver.{Fields, fields, settings_of, Doing, Saving, Plain, Sets, Next, with_config, with_fifo}
-use Rattle.uart_16550.specs.Init.{ChecksPresence, frame_bits, line_writes, SetsFifo, Drains, Begins, DivisorOf, Inits}
+use Rattle.uart_16550.specs.Init.{ChecksPresence, frame_bits, line_writes, SetsFifo, DrainsReceiver, Begins, DivisorOf, Inits}
 use Rattle.uart_16550.specs.Tty.{inner_of}
 use Rattle.uart_calls.specs.declared.call.Answer.{Answer}
 use Rattle.uart_calls.specs.declared.call.Answer.TheVariants.{Done, InitRefused}
@@ -61,10 +61,10 @@ free-set_up config divisor fifo s l m n r t path =
     free-list s (SetsFifo level fifo) q.back q.between n (silent_sets_fifo s level fifo) b q.second q.after
 
 -- the drain and MCR
-free-drained : (f mid : Fields) (l : List Access) (m n : MachineState) → RunsFree m → Next (Plain Drains) (Saving (Only (Write 4 11 ∷ []))) f l mid → Path MachineStep m l n → RunsFree n
+free-drained : (f mid : Fields) (l : List Access) (m n : MachineState) → RunsFree m → Next (Plain DrainsReceiver) (Saving (Only (Write 4 11 ∷ []))) f l mid → Path MachineStep m l n → RunsFree n
 free-drained f mid l m n r t path =
-    let a = next_stages (Plain Drains) (Saving (Only (Write 4 11 ∷ []))) f mid l m n t path in
-    let b = free-list (settings_of f) Drains a.parts.front m a.parts.between (silent_drains (settings_of f)) r a.parts.first.0 a.parts.before in
+    let a = next_stages (Plain DrainsReceiver) (Saving (Only (Write 4 11 ∷ []))) f mid l m n t path in
+    let b = free-list (settings_of f) DrainsReceiver a.parts.front m a.parts.between (silent_drains (settings_of f)) r a.parts.first.0 a.parts.before in
     free-path (Write 4 11 ∷ []) a.parts.between n b (refl, tt) (path_as a.parts.between n a.parts.back (Write 4 11 ∷ []) a.parts.second.0.is a.parts.after)
 
 -- fields that are set make no access
@@ -78,13 +78,13 @@ free-begins : (config : Config) (divisor : ℕ) (fifo : Bool) (f mid : Fields) (
 free-begins config divisor fifo f mid l m n r t path = free-sets (with_config config) (Next (Saving (SetsUp config divisor fifo)) known) f mid l m n t path set_up
   where
     known : Doing
-    known = Next (Sets (with_fifo fifo)) (Next (Plain Drains) (Saving (Only (Write 4 11 ∷ []))))
+    known = Next (Sets (with_fifo fifo)) (Next (Plain DrainsReceiver) (Saving (Only (Write 4 11 ∷ []))))
 
     set_up : (g : Fields) (k : List Access) → Next (Saving (SetsUp config divisor fifo)) known g k mid → Path MachineStep m k n → RunsFree n
     set_up g k u p =
         let a = next_stages (Saving (SetsUp config divisor fifo)) known g mid k m n u p in
         let b = free-set_up config divisor fifo (settings_of g) a.parts.front m a.parts.between r a.parts.first.0 a.parts.before in
-        free-sets (with_fifo fifo) (Next (Plain Drains) (Saving (Only (Write 4 11 ∷ [])))) a.mid mid a.parts.back a.parts.between n a.parts.second a.parts.after
+        free-sets (with_fifo fifo) (Next (Plain DrainsReceiver) (Saving (Only (Write 4 11 ∷ [])))) a.mid mid a.parts.back a.parts.between n a.parts.second a.parts.after
         (λ h back w q. free-drained h mid back a.parts.between n b w q)
 
 -- the limit stays
@@ -112,10 +112,10 @@ no_refusal config (OutOfRange other) h refused =
 -- ---- `init`
 
 no_stall-init : (s t : State) (config : Config) (divisor : ℕ) (fifo : Bool) (l : List Access) → IsSound (machine_of s) → IsTimely s → HasRoom 0 (machine_of s) →
-    Next (Begins config divisor fifo) (Saving (Waits 64 false)) (fields (inner_of s)) l (fields (inner_of t)) → Path MachineStep (machine_of s) l (machine_of t) → ⊥
+    Next (Begins config divisor fifo) (Saving (WaitsFor 64 false)) (fields (inner_of s)) l (fields (inner_of t)) → Path MachineStep (machine_of s) l (machine_of t) → ⊥
 no_stall-init s t config divisor fifo l w timely room does path =
     let f = fields (inner_of s) in
-    let a = next_stages (Begins config divisor fifo) (Saving (Waits 64 false)) f (fields (inner_of t)) l (machine_of s) (machine_of t) does path in
+    let a = next_stages (Begins config divisor fifo) (Saving (WaitsFor 64 false)) f (fields (inner_of t)) l (machine_of s) (machine_of t) does path in
     let n = a.parts.between in
     let b = free-begins config divisor fifo f a.mid a.parts.front (machine_of s) n (record { sound = w; ticked = timely.ticked; room = room }) a.parts.first a.parts.before in
     let few : left n.chip.transmitter < a.mid.limit = rw (limit-begins config divisor fifo f a.mid a.parts.front a.parts.first) (few_left s a.parts.front n w timely a.parts.before) in

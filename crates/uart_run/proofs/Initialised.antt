@@ -7,7 +7,7 @@ use Rattle.uart_spec.specs.declared.errors.InitError.TheVariants.{InvalidBaudRat
 use Rattle.uart_spec.specs.Access.{Access, Write, Path}
 use Rattle.uart_16550.specs.Grammar.{FewMisses, Asks}
 use Rattle.uart_16550.specs.Driver.{Fields, fields, settings_of, Saving, Sets, Next, with_config}
-use Rattle.uart_16550.specs.Transmit.{Waits}
+use Rattle.uart_16550.specs.Transmit.{WaitsFor}
 use Rattle.uart_16550.specs.Init.{ChecksPresence, Begins, Ends, DivisorOf, Inits}
 use Rattle.uart_16550.specs.Tty.{inner_of}
 use Rattle.uart_calls.specs.declared.call.Answer.{Answer}
@@ -57,22 +57,22 @@ initialised config d scr on k t of kept is_on knows empty = record {
 }
 
 -- a wait keeps the registers that were set up
-still_begun : (config : Config) (d : ℕ) (on : Bool) (m n o : MachineState) (g : Fields) (l : List Access) (empty : Bool) → Begun config d on m n g → Waits 64 empty (settings_of g) l → Path MachineStep n l o →
+still_begun : (config : Config) (d : ℕ) (on : Bool) (m n o : MachineState) (g : Fields) (l : List Access) (empty : Bool) → Begun config d on m n g → WaitsFor 64 empty (settings_of g) l → Path MachineStep n l o →
     kept_in o.chip ≡ kept_in n.chip
 still_begun config d on m n o g l empty b t p =
-    kept_still (settings_of g) (Waits 64 empty) l n o (keeps_waits (settings_of g) 64 empty) (ap (λ (v : Kept). is_dlab_set v.latches) b.kept ∙ frame-dlab config) t p
+    kept_still (settings_of g) (WaitsFor 64 empty) l n o (keeps_waits (settings_of g) 64 empty) (ap (λ (v : Kept). is_dlab_set v.latches) b.kept ∙ frame-dlab config) t p
 
 done : (config : Config) (d : ℕ) (on : Bool) (f : Fields) (l : List Access) (m : MachineState) (t : State) → IsSound m → DivisorOf config (Ok d) →
-    Next (Begins config d on) (Next (Saving (Waits 64 true)) (Ends config)) f l (fields (inner_of t)) → Path MachineStep m l (machine_of t) → IsInitialised config t
+    Next (Begins config d on) (Next (Saving (WaitsFor 64 true)) (Ends config)) f l (fields (inner_of t)) → Path MachineStep m l (machine_of t) → IsInitialised config t
 done config d on f l m t w of does p =
     let n = machine_of t in
     let after = fields (inner_of t) in
-    let a = next_stages (Begins config d on) (Next (Saving (Waits 64 true)) (Ends config)) f after l m n does p in
-    let b = next_stages (Saving (Waits 64 true)) (Ends config) a.mid after a.parts.back a.parts.between n a.parts.second a.parts.after in
+    let a = next_stages (Begins config d on) (Next (Saving (WaitsFor 64 true)) (Ends config)) f after l m n does p in
+    let b = next_stages (Saving (WaitsFor 64 true)) (Ends config) a.mid after a.parts.back a.parts.between n a.parts.second a.parts.after in
     joined a.parts.between b.parts.between a.mid b.mid b.parts.front b.parts.back (begun config d on f a.mid a.parts.front m a.parts.between w a.parts.first a.parts.before)
     b.parts.first.0 b.parts.before b.parts.second b.parts.after (ap (λ (g : Fields). g.fifo) b.parts.first.1)
   where
-    joined : (m₁ m₂ : MachineState) (g h : Fields) (xs ys : List Access) → Begun config d on m m₁ g → Waits 64 true (settings_of g) xs → Path MachineStep m₁ xs m₂ →
+    joined : (m₁ m₂ : MachineState) (g h : Fields) (xs ys : List Access) → Begun config d on m m₁ g → WaitsFor 64 true (settings_of g) xs → Path MachineStep m₁ xs m₂ →
         Ends config h ys (fields (inner_of t)) → Path MachineStep m₂ ys (machine_of t) → h.fifo ≡ g.fifo → IsInitialised config t
     joined m₁ m₂ g h xs ys begins waits p ends q knows =
         let a = then_parts (FewMisses (Asks 5 64 false)) (Asks 5 64 true) (settings_of g) xs m₁ m₂ waits p in
@@ -93,10 +93,10 @@ found config f after l m n does p =
 
 -- a wait in vain for an empty transmitter, from any state
 stalled : (config : Config) (d : ℕ) (on : Bool) (f : Fields) (l : List Access) (m : MachineState) (t : State) → IsSound m →
-    Next (Begins config d on) (Saving (Waits 64 false)) f l (fields (inner_of t)) → Path MachineStep m l (machine_of t) → Ready t
+    Next (Begins config d on) (Saving (WaitsFor 64 false)) f l (fields (inner_of t)) → Path MachineStep m l (machine_of t) → Ready t
 stalled config d on f l m t w does p =
     let n = machine_of t in
-    let a = next_stages (Begins config d on) (Saving (Waits 64 false)) f (fields (inner_of t)) l m n does p in
+    let a = next_stages (Begins config d on) (Saving (WaitsFor 64 false)) f (fields (inner_of t)) l m n does p in
     let b = begun config d on f a.mid a.parts.front m a.parts.between w a.parts.first a.parts.before in
     let set = still_begun config d on m a.parts.between n a.mid a.parts.back false b a.parts.second.0 a.parts.after ∙ b.kept in
     ready_by t _ set (frame-dlab config) refl (ap (λ (g : Fields). g.fifo) a.parts.second.1 ∙ b.knows)

@@ -8,9 +8,9 @@ use Rattle.uart_spec.specs.declared.registers.frame.WordLength.TheVariants.{Five
 use Rattle.uart_spec.specs.declared.registers.frame.Parity.{Parity}
 use Rattle.uart_spec.specs.declared.registers.frame.Parity.TheVariants.{Disabled, Odd, Even, Forced1, Forced0}
 use Rattle.uart_spec.specs.Access.{Access, Read, Write, Path}
-use Rattle.uart_16550.specs.Grammar.{Settings, Only, Then, Reads}
+use Rattle.uart_16550.specs.Grammar.{Settings, Only, Then, ReadsRegister}
 use Rattle.uart_16550.specs.Driver.{Fields, settings_of, Saving, Plain, Sets, Next, with_saved}
-use Rattle.uart_16550.specs.Init.{ChecksPresence, frame_bits, line_writes, SetsFifo, Drains, Begins, Ends}
+use Rattle.uart_16550.specs.Init.{ChecksPresence, frame_bits, line_writes, SetsFifo, DrainsReceiver, Begins, Ends}
 use Rattle.uart_spec.specs.Bits.{has_any}
 use Rattle.uart_chip.specs.Chip.{LatchesState, is_dlab_set, divisor}
 use Rattle.uart_chip.specs.Machine.{MachineState, MachineStep}
@@ -95,12 +95,12 @@ lined config d on s l m n w t p =
     }
 
 -- the drain, and MCR written
-drained : (f after : Fields) (l : List Access) (m n : MachineState) → is_dlab_set m.chip.latches ≡ false → Next (Plain Drains) (Saving (Only (Write 4 11 ∷ []))) f l after →
+drained : (f after : Fields) (l : List Access) (m n : MachineState) → is_dlab_set m.chip.latches ≡ false → Next (Plain DrainsReceiver) (Saving (Only (Write 4 11 ∷ []))) f l after →
     Path MachineStep m l n → LeftBy (Write 4 11 ∷ []) f after m n
 drained f after l m n dlab t p =
-    let a = next_stages (Plain Drains) (Saving (Only (Write 4 11 ∷ []))) f after l m n t p in
+    let a = next_stages (Plain DrainsReceiver) (Saving (Only (Write 4 11 ∷ []))) f after l m n t p in
     let same : kept_in a.parts.between.chip ≡ kept_in m.chip =
-    kept_still (settings_of f) Drains a.parts.front m a.parts.between (keeps_drains (settings_of f)) dlab a.parts.first.0 a.parts.before in
+    kept_still (settings_of f) DrainsReceiver a.parts.front m a.parts.between (keeps_drains (settings_of f)) dlab a.parts.first.0 a.parts.before in
     record {
       kept = kept_list a.parts.back (Write 4 11 ∷ []) a.parts.between n a.parts.second.0.is a.parts.after ∙ ap (kept_after (Write 4 11 ∷ [])) same;
       knows = ap (λ (g : Fields). g.fifo) a.parts.second.1 ∙ ap (λ (g : Fields). g.fifo) a.parts.first.1;
@@ -148,7 +148,7 @@ record Told (l : List Access) : Type 0 where
   pub msr : ℕ
   pub is : l ≡ Read 5 lsr ∷ Read 2 isr ∷ Read 6 msr ∷ []
 
-told : (s : Settings) (l : List Access) → Then (Reads 5) (Then (Reads 2) (Reads 6)) s l → Told l
+told : (s : Settings) (l : List Access) → Then (ReadsRegister 5) (Then (ReadsRegister 2) (ReadsRegister 6)) s l → Told l
 told s l t = record { lsr = t.first.0; isr = t.second.first.0; msr = t.second.second.0; is = rw (t.whole, t.first.1, t.second.whole, t.second.first.1, t.second.second.1) refl }
 
 -- the interrupts are enabled, and an empty transmitter stays empty
@@ -158,7 +158,7 @@ pub record Ended (config : Config) (f after : Fields) (m n : MachineState) : Typ
 
 pub ended : (config : Config) (f after : Fields) (l : List Access) (m n : MachineState) → Ends config f l after → Path MachineStep m l n → Ended config f after m n
 ended config f after l m n t p =
-    let a = next_stages (Plain (Then (Reads 5) (Then (Reads 2) (Reads 6)))) (Next (Sets (with_saved 0 0)) (Saving (Only (Write 1 config.interrupts.0 ∷ [])))) f after l m n t p in
+    let a = next_stages (Plain (Then (ReadsRegister 5) (Then (ReadsRegister 2) (ReadsRegister 6)))) (Next (Sets (with_saved 0 0)) (Saving (Only (Write 1 config.interrupts.0 ∷ [])))) f after l m n t p in
     let b = next_stages (Sets (with_saved 0 0)) (Saving (Only (Write 1 config.interrupts.0 ∷ []))) a.mid after a.parts.back a.parts.between n a.parts.second a.parts.after in
     let status = told (settings_of f) a.parts.front a.parts.first.0 in
     let reads : List Access = Read 5 status.lsr ∷ Read 2 status.isr ∷ Read 6 status.msr ∷ [] in

@@ -5,7 +5,7 @@ use Rattle.uart_spec.specs.declared.errors.LoopbackError.TheVariants.{Stalled, S
 use Rattle.uart_16550.specs.Grammar.{Settings, AllMisses}
 use Rattle.uart_16550.specs.Receive.{Miss, Awaited}
 use Rattle.uart_16550.specs.Transmit.{SendMiss}
-use Rattle.uart_16550.specs.Loopback.{test_byte, test_message, TakesOne, Drains, SendsTestByte, ExchangesByte, Echo, EchoFails, HasEchoedWhole, HasEchoedEach, HasEchoedAll, ExchangesMessage, Exchanges}
+use Rattle.uart_16550.specs.Loopback.{test_byte, test_message, TakesOne, DrainsLoopback, SendsTestByte, ExchangesByte, Echo, EchoFails, HasEchoedWhole, HasEchoedEach, HasEchoedAll, ExchangesMessage, Exchanges}
 use Rattle.uart_run.proofs.KeptLists.{AllKeep, keeps_then, keeps_few, keeps_all, keeps_in_order, keeps_if, keeps_miss, keeps_hit, keeps_awaited, keeps_receives_exact, keeps_send_miss, keeps_round, keeps_try_sends, keeps_sends_all, keeps_sends_exact}
 
 module _ (s : Settings) where
@@ -14,7 +14,7 @@ module _ (s : Settings) where
   takes_one : AllKeep s TakesOne
   takes_one l t = keeps_hit s t.0 l t.1
 
-  drains : (whole : Bool) → AllKeep s (Drains whole)
+  drains : (whole : Bool) → AllKeep s (DrainsLoopback whole)
   drains true = keeps_then s _ _ (keeps_few s TakesOne takes_one) (keeps_miss s)
   drains false = keeps_all s TakesOne takes_one
 

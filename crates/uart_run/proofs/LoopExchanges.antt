@@ -8,7 +8,7 @@ use Rattle.uart_spec.specs.declared.errors.LoopbackError.TheVariants.{Stalled, S
 use Rattle.uart_spec.specs.Access.{Access, Path}
 use Rattle.uart_16550.specs.Grammar.{Settings, Then}
 use Rattle.uart_16550.specs.Transmit.{burst_limit, Sends, TrySends}
-use Rattle.uart_16550.specs.Loopback.{test_byte, test_message, Drains, ExchangesByte, ExchangesMessage, Exchanges}
+use Rattle.uart_16550.specs.Loopback.{test_byte, test_message, DrainsLoopback, ExchangesByte, ExchangesMessage, Exchanges}
 use Rattle.uart_chip.specs.Machine.{MachineState, MachineStep}
 use Rattle.uart_device.proofs.Went.{Modes}
 use Rattle.uart_run.proofs.Pieces.{then_parts}
@@ -113,12 +113,12 @@ both_lead true x gone s result l m n c r t path =
 pub exchange_leads : {T : Type 0} (narrow : Bool) (x : Modes) (gone : List ℕ) (s : Settings) (result : Result T LoopbackError) (l : List Access) (m n : MachineState) → Cuts narrow x.cut →
     IsEntered x gone s m → Exchanges result s l → Path MachineStep m l n → LeadsTo narrow (IsReadyToTest x gone s n) result
 exchange_leads narrow x gone s (Ok v) l m n c e t path =
-    let p = then_parts (Drains true) (Then (ExchangesByte (Ok v)) (ExchangesMessage (Ok v))) s l m n t path in
+    let p = then_parts (DrainsLoopback true) (Then (ExchangesByte (Ok v)) (ExchangesMessage (Ok v))) s l m n t path in
     both_lead narrow x gone s (Ok v) p.back p.between n c (drained x gone s p.front m p.between e p.first p.before) p.second p.after
 exchange_leads narrow x gone s (Err fault) l m n c e (inl t) path = inl t.0
 exchange_leads narrow x gone s (Err fault) l m n c e (inr (inl t)) path =
-    let p = then_parts (Drains true) (ExchangesByte {T = Unit {0}} (Err fault)) s l m n t path in
+    let p = then_parts (DrainsLoopback true) (ExchangesByte {T = Unit {0}} (Err fault)) s l m n t path in
     byte_leads {T = Unit {0}} narrow x gone s (Err fault) p.back p.between n c (drained x gone s p.front m p.between e p.first p.before) p.second p.after
 exchange_leads narrow x gone s (Err fault) l m n c e (inr (inr t)) path =
-    let p = then_parts (Drains true) (Then (ExchangesByte {T = Unit {0}} (Ok tt)) (ExchangesMessage {T = Unit {0}} (Err fault))) s l m n t path in
+    let p = then_parts (DrainsLoopback true) (Then (ExchangesByte {T = Unit {0}} (Ok tt)) (ExchangesMessage {T = Unit {0}} (Err fault))) s l m n t path in
     both_lead {T = Unit {0}} narrow x gone s (Err fault) p.back p.between n c (drained x gone s p.front m p.between e p.first p.before) p.second p.after

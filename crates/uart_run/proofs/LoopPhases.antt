@@ -7,7 +7,7 @@ use Rattle.uart_spec.specs.Access.{Access, Read, Path}
 use Rattle.uart_16550.specs.Grammar.{Language, Settings, Only, Then, InOrder, FewMisses, Asks, Never}
 use Rattle.uart_16550.specs.Receive.{Miss, Awaited}
 use Rattle.uart_16550.specs.Transmit.{LinesAllow, SendRefused, Round, SendsAll}
-use Rattle.uart_16550.specs.Loopback.{test_byte, test_message, TakesOne, Drains, SendsTestByte, Echo, WholeEchoes, EachEchoes, HasEchoedAll}
+use Rattle.uart_16550.specs.Loopback.{test_byte, test_message, TakesOne, DrainsLoopback, SendsTestByte, Echo, WholeEchoes, EachEchoes, HasEchoedAll}
 use Rattle.uart_chip.specs.declared.receiver.Character.{Character}
 use Rattle.uart_chip.specs.declared.transmitter.Shifting.{Shifting}
 use Rattle.uart_chip.specs.Transmitter.{room, shift_bytes}
@@ -77,11 +77,11 @@ pub record IsReadyToTest (x : Modes) (gone : List ℕ) (s : Settings) (m : Machi
   pub fifo : s.fifo ≡ x.fifo
   pub idle : IsIdle x gone m.chip
 
-pub drained : (x : Modes) (gone : List ℕ) (s : Settings) (l : List Access) (m n : MachineState) → IsEntered x gone s m → Drains true s l → Path MachineStep m l n → IsReadyToTest x gone s n
+pub drained : (x : Modes) (gone : List ℕ) (s : Settings) (l : List Access) (m n : MachineState) → IsEntered x gone s m → DrainsLoopback true s l → Path MachineStep m l n → IsReadyToTest x gone s n
 drained x gone s l m n e t path =
     let keeps = keeps_then s (FewMisses TakesOne) Miss (keeps_few s TakesOne (keeps_takes_one s)) (keeps_miss s) in
     let silent = silent_then s (FewMisses TakesOne) Miss (silent_few s TakesOne (silent_takes_one s)) (silent_asks s 5 1 false) l t in
-    let kept = kept_still s (Drains true) l m n keeps (dlab-in x m.chip e.modes ∙ e.looped.dlab) t path in
+    let kept = kept_still s (DrainsLoopback true) l m n keeps (dlab-in x m.chip e.modes ∙ e.looped.dlab) t path in
     let dry : EndsDry s l = record { front = t.front; back = t.back; whole = t.whole; miss = t.second } in
     record {
       looped = e.looped;

@@ -5,9 +5,9 @@ use Rattle.uart_spec.specs.declared.errors.LoopbackError.TheVariants.{Stalled}
 use Rattle.uart_spec.specs.Access.{Access, Read, Path}
 use Rattle.uart_16550.specs.Grammar.{Settings, Only, Then, InOrder, AllMisses}
 use Rattle.uart_16550.specs.Receive.{Miss, Awaited}
-use Rattle.uart_16550.specs.Transmit.{SendMiss, burst_size, Round, IsCut, SendsAll, Waits}
+use Rattle.uart_16550.specs.Transmit.{SendMiss, burst_size, Round, IsCut, SendsAll, WaitsFor}
 use Rattle.uart_16550.specs.Driver.{Fields, Saving, Next, fields, settings_of}
-use Rattle.uart_16550.specs.Loopback.{test_byte, test_message, Drains, SendsTestByte, ExchangesByte, Echo, EchoFails, WholeFails, EachFails, HasEchoedAll, ExchangesMessage, Exchanges, Enters, Leaves, BeginsTest, Tests, TestsLoopback}
+use Rattle.uart_16550.specs.Loopback.{test_byte, test_message, DrainsLoopback, SendsTestByte, ExchangesByte, Echo, EchoFails, WholeFails, EachFails, HasEchoedAll, ExchangesMessage, Exchanges, Enters, Leaves, BeginsTest, Tests, TestsLoopback}
 use Rattle.uart_16550.specs.Tty.{inner_of}
 use Rattle.uart_calls.specs.declared.call.Answer.{Answer}
 use Rattle.uart_calls.specs.declared.call.Answer.TheVariants.{LoopbackRefused}
@@ -103,11 +103,11 @@ no_stall-exchange : (x : Modes) (gone : List ℕ) (s : Settings) (l : List Acces
     Path MachineStep m l n → ⊥
 no_stall-exchange x gone s l m n v e (inl t) path = never_flooded x gone s l m n v e t.1 path
 no_stall-exchange x gone s l m n v e (inr (inl t)) path =
-    let p = then_parts (Drains true) (ExchangesByte {T = Unit {0}} (Err Stalled)) s l m n t path in
+    let p = then_parts (DrainsLoopback true) (ExchangesByte {T = Unit {0}} (Err Stalled)) s l m n t path in
     let r = drained x gone s p.front m p.between e p.first p.before in
     no_stall-byte x gone s p.back p.between n (lives-path s.limit p.front m p.between v p.before) r p.second p.after
 no_stall-exchange x gone s l m n v e (inr (inr t)) path =
-    let p = then_parts (Drains true) (Then (ExchangesByte {T = Unit {0}} (Ok tt)) (ExchangesMessage {T = Unit {0}} (Err Stalled))) s l m n t path in
+    let p = then_parts (DrainsLoopback true) (Then (ExchangesByte {T = Unit {0}} (Ok tt)) (ExchangesMessage {T = Unit {0}} (Err Stalled))) s l m n t path in
     let r = drained x gone s p.front m p.between e p.first p.before in
     let q = then_parts (ExchangesByte {T = Unit {0}} (Ok tt)) (ExchangesMessage {T = Unit {0}} (Err Stalled)) s p.back p.between n p.second p.after in
     let a = byte_exchanged x gone s test_byte q.front p.between q.between r q.first q.before in
@@ -134,7 +134,7 @@ no_stall-begin : (s : State) (n : MachineState) (mcr ier : ℕ) (l : List Access
     Path MachineStep (machine_of s) l n → ⊥
 no_stall-begin s n mcr ier l w timely room t path =
     let v = settings_of (fields (inner_of s)) in
-    let p = then_parts (Only (Read 4 mcr ∷ Read 1 ier ∷ [])) (Waits 64 false) v l (machine_of s) n t path in
+    let p = then_parts (Only (Read 4 mcr ∷ Read 1 ier ∷ [])) (WaitsFor 64 false) v l (machine_of s) n t path in
     let r : RunsFree (machine_of s) = record { sound = w; ticked = timely.ticked; room = room } in
     let a = free-path p.front (machine_of s) p.between r (rw p.first.is (tt, (tt, tt))) p.before in
     no_stall-empty v v.limit p.back p.between n (free_runs p.between a) (few_left s p.front p.between w timely p.before) p.second p.after

@@ -6,7 +6,7 @@ use Rattle.std.proofs.lemmas.Nat.{and_le_r}
 use Rattle.std.proofs.Math.Nat.{mod-eq_of_lt}
 use Rattle.uart_spec.specs.Access.{Access, Read, Write, Path}
 use Rattle.uart_16550.specs.Grammar.{Language, Settings, Only, Then}
-use Rattle.uart_16550.specs.Transmit.{Waits}
+use Rattle.uart_16550.specs.Transmit.{WaitsFor}
 use Rattle.uart_16550.specs.Driver.{Fields, Saving, Plain, Sets, Next, fields, settings_of, with_fifo}
 use Rattle.uart_16550.specs.Init.{SetsFifo}
 use Rattle.uart_16550.specs.Loopback.{Exchanges, Enters, Leaves, BeginsTest, Tests, IsStalled, TestsLoopback, with_changes, line_changes}
@@ -44,7 +44,7 @@ pub record IsBegun (cut : ℕ → ℕ) (gone : List ℕ) (m : MachineState) : Ty
 
 begins_blocks : (s : Settings) (mcr ier : ℕ) → Makes s (BeginsTest mcr ier true) [] []
 begins_blocks s mcr ier l t =
-    makes_then s (Only (Read 4 mcr ∷ Read 1 ier ∷ [])) (Waits 64 true) [] [] [] [] (λ k u. rw u.is (quiet_blocks s.fifo (Read 4 mcr ∷ Read 1 ier ∷ []) (refl, (refl, tt)))) (waits_blocks s 64 true) l t
+    makes_then s (Only (Read 4 mcr ∷ Read 1 ier ∷ [])) (WaitsFor 64 true) [] [] [] [] (λ k u. rw u.is (quiet_blocks s.fifo (Read 4 mcr ∷ Read 1 ier ∷ []) (refl, (refl, tt)))) (waits_blocks s 64 true) l t
 
 pub begun : (s : State) (n : MachineState) (mcr ier : ℕ) (l : List Access) → IsSound (machine_of s) → Ready s → BeginsTest mcr ier true (settings_of (fields (inner_of s))) l →
     Path MachineStep (machine_of s) l n → IsBegun (cut_of (machine_of s).chip) (out (machine_of s).chip.transmitter) n
@@ -56,7 +56,7 @@ begun s n mcr ier l sound r t path =
     let stands : Stands x m = record { sound = sound; modes = in_modes } in
     let opened : IsOpen x = record { dlab = r.dlab; loopback = r.loopback } in
     let p = (passed_in_blocks x m n l [] [] opened stands (begins_blocks v mcr ier l t) path).passed in
-    let a = then_parts (Only (Read 4 mcr ∷ Read 1 ier ∷ [])) (Waits 64 true) v l m n t path in
+    let a = then_parts (Only (Read 4 mcr ∷ Read 1 ier ∷ [])) (WaitsFor 64 true) v l m n t path in
     let empty = wait_empties v a.back a.between n a.second a.after in
     let same : out n.chip.transmitter ≡ out m.chip.transmitter = p.went.sends.grows ∙ append-nil (out m.chip.transmitter) in
     let P : List ℕ → Type 0 = λ gone. IsSent gone n.chip.transmitter in

@@ -7,7 +7,7 @@ use Rattle.uart_spec.specs.Access.{Access, Read, Path}
 use Rattle.uart_16550.specs.Grammar.{Language, Settings, Then, Times, AllMisses}
 use Rattle.uart_16550.specs.Receive.{Miss}
 use Rattle.uart_16550.specs.Transmit.{SendMiss}
-use Rattle.uart_16550.specs.Loopback.{TakesOne, Drains}
+use Rattle.uart_16550.specs.Loopback.{TakesOne, DrainsLoopback}
 use Rattle.uart_chip.specs.declared.transmitter.Shifting.{Shifting}
 use Rattle.uart_chip.specs.declared.receiver.Character.{Character}
 use Rattle.uart_chip.specs.Transmitter.{room, out, shift_bytes}
@@ -120,7 +120,7 @@ takes_blocks s (suc k) l t =
     let a = takes_blocks s k t.back t.second in
     (t.first.0 ∷ a.0, ap suc a.1, rw t.whole (blocks_then s.fifo t.front t.back [] [] (t.first.0 ∷ []) a.0 (hit_blocks s t.first.0 t.front t.first.1) a.2))
 
-pub never_flooded : (x : Modes) (gone : List ℕ) (s : Settings) (l : List Access) (m n : MachineState) → Lives s.limit m → IsEntered x gone s m → Drains false s l → Path MachineStep m l n → ⊥
+pub never_flooded : (x : Modes) (gone : List ℕ) (s : Settings) (l : List Access) (m n : MachineState) → Lives s.limit m → IsEntered x gone s m → DrainsLoopback false s l → Path MachineStep m l n → ⊥
 never_flooded x gone s l m n v e t path =
     let a = takes_blocks s s.limit l t in
     let B : Bool → Type 0 = λ fifo. InBlocks fifo l [] a.0 in

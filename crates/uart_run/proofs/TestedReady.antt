@@ -5,7 +5,7 @@ use Rattle.uart_spec.specs.declared.errors.LoopbackError.{LoopbackError}
 use Rattle.uart_spec.specs.Access.{Access, Read, Write, Path}
 use Rattle.uart_16550.specs.Grammar.{Settings, Only, Then}
 use Rattle.uart_16550.specs.Driver.{Fields, fields, settings_of, Saving, Sets, Next, with_fifo}
-use Rattle.uart_16550.specs.Transmit.{Waits}
+use Rattle.uart_16550.specs.Transmit.{WaitsFor}
 use Rattle.uart_16550.specs.Init.{SetsFifo}
 use Rattle.uart_16550.specs.Loopback.{Exchanges, Enters, Leaves, BeginsTest, Tests, TestsLoopback}
 use Rattle.uart_16550.specs.Tty.{inner_of}
@@ -35,7 +35,7 @@ keeps_begins s mcr ier empty = keeps_then s _ _ (keeps_only s (Read 4 mcr ∷ Re
 -- MCR is read as it is
 mcr_read : (s : Settings) (mcr ier : ℕ) (empty : Bool) (l : List Access) (m n : MachineState) → BeginsTest mcr ier empty s l → Path MachineStep m l n → mcr ≡ m.chip.latches.mcr
 mcr_read s mcr ier empty l m n t p =
-    let a = then_parts (Only (Read 4 mcr ∷ Read 1 ier ∷ [])) (Waits 64 empty) s l m n t p in
+    let a = then_parts (Only (Read 4 mcr ∷ Read 1 ier ∷ [])) (WaitsFor 64 empty) s l m n t p in
     first a.between (path_as m a.between a.front (Read 4 mcr ∷ Read 1 ier ∷ []) a.first.is a.before)
   where
     first : (o : MachineState) → Path MachineStep m (Read 4 mcr ∷ Read 1 ier ∷ []) o → mcr ≡ m.chip.latches.mcr

@@ -34,7 +34,7 @@ loop-i-preserved g c =
 pub returns-clause-made : goal.returns-clause-made
 returns-clause-made g c =
     let inv = c.loop-i.invariant in
-    let all : c.loop-i.i ≡ 16 = omega arith in
+    let all : c.loop-i.i ≡ length test_message = omega arith in
     let sent = rw all at inv.sent in
-    let got = (rw all at inv.got) ∙ take_all 16 c.loop-i.actual (omega arith) in
+    let got = (rw all at inv.got) ∙ take_all (length test_message) c.loop-i.actual (omega arith) in
     made_among (λ l t. (inv.pairs, sent, got, t)) inv.made

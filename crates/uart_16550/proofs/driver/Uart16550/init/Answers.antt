@@ -1,6 +1,7 @@
 use Rattle.std.proofs.Common.{◌∙◌, ℕ, [], ap, refl, subst, bit_or, Ok, Err}
 use Rattle.uart_spec.specs.declared.config.Config.{Config}
 use Rattle.uart_spec.specs.declared.errors.InitError.TheVariants.{InvalidBaudRate, DeviceNotPresent, Stalled}
+use Rattle.uart_spec.specs.declared.registers.modem_control.TheConstants.MCR
 use Rattle.uart_16550.specs.Driver.{Fields, fields, with_config}
 use Rattle.uart_16550.specs.Init.{Ends}
 use Rattle.uart_16550.proofs.Doings.{did_then, did_made, did_set, did_among}
@@ -25,7 +26,7 @@ pub returns-then-not-wait_for : goal.returns-then-not-wait_for
 returns-then-not-wait_for g c =
     let stored = c.replace-before.new.dest in
     let given = given_at stored (Ok c.in-Ok.divisor) _ c.to_integer-baud_rate.ensures ((c.in-Ok.ensures _).0 refl) in
-    let control = c.bits.ensures tt ∙ c.union-modem_control.ensures tt ∙ ap (λ (x : ℕ). bit_or x 8) (c.union.ensures tt) in
+    let control = c.bits.ensures tt ∙ c.union-modem_control.ensures tt ∙ ap (λ (x : ℕ). bit_or x MCR.OUT_2_INT_ENABLE.0) (c.union.ensures tt) in
     let on = c.set_fifo-self.result in
     inits_stored (Err Stalled) c.replace-before.ensures.after (did_among (λ f l after t. (c.in-Ok.divisor, on, given, t))
     (did_then
@@ -36,7 +37,7 @@ pub returns : goal.returns
 returns g c =
     let stored = c.replace-before.new.dest in
     let given = given_at stored (Ok c.in-Ok.divisor) _ c.to_integer-baud_rate.ensures ((c.in-Ok.ensures _).0 refl) in
-    let control = c.bits.ensures tt ∙ c.union-modem_control.ensures tt ∙ ap (λ (x : ℕ). bit_or x 8) (c.union.ensures tt) in
+    let control = c.bits.ensures tt ∙ c.union-modem_control.ensures tt ∙ ap (λ (x : ℕ). bit_or x MCR.OUT_2_INT_ENABLE.0) (c.union.ensures tt) in
     let on = c.set_fifo-self.result in
     let config = c.if-not-wait_for.ensures.config ∙ c.write_register.ensures.config ∙ ap (λ (f : Fields). f.config) c.drain.ensures.does.1
     ∙ c.set_fifo-self.ensures.config ∙ c.set_line.ensures.config ∙ c.if-not-check_present.ensures.config in
