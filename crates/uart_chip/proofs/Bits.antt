@@ -6,11 +6,10 @@ use Rattle.std.proofs.lemmas.Nat.Bits.{same_from_bits, bit_at_or, bit_at_and, an
 use Rattle.std.proofs.lemmas.Nat.{pow_pos}
 use Rattle.std.specs.Int.Bits.{and_zero_l}
 use lib.Bits.{or_zero_r}
-use Rattle.uart_spec.specs.Bits.{has, has_any, field, IsOnly}
+use Rattle.uart_spec.specs.Bits.{has, has_any, field, IsOnly, flag}
 use Rattle.uart_spec.specs.Fields.{trigger_code, HasTrigger}
 use Rattle.uart_spec.specs.declared.registers.fifo_trigger_level.FifoTriggerLevel.{FifoTriggerLevel}
 use Rattle.uart_spec.specs.declared.registers.line_control.TheConstants.LCR
-use Rattle.uart_chip.specs.Masks.{flag}
 use Rattle.uart_chip.specs.Chip.{word_length, cut_to, level_of, trigger_level}
 
 -- ---- joins

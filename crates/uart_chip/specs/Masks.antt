@@ -1,11 +1,7 @@
--- Masks of registers: bits under a condition, and what the chip keeps of a write.
-use Rattle.std.specs.Prelude.{◌≡◌, ℕ, ◌+◌, Bool, bit_and, if◌then◌else◌}
+-- Masks of registers: that a value is within one, and what the chip keeps of a write.
+use Rattle.std.specs.Prelude.{◌≡◌, ℕ, ◌+◌, bit_and}
 use Rattle.uart_spec.specs.declared.registers.interrupt_enable.TheConstants.IER
 use Rattle.uart_spec.specs.declared.registers.modem_control.TheConstants.MCR
-
--- these bits where the flag is set, else none
-abbrev pub flag : Bool → ℕ → ℕ
-flag on bits = if on then bits else 0
 
 -- no bit outside of the mask is set
 abbrev pub IsWithin : ℕ → ℕ → Type 0

@@ -1,5 +1,6 @@
 //! Masks of registers: bits under a condition, and what the chip keeps of a write.
 ghost use Rattle.std.specs.Prelude.{◌≡◌, bit_and};
+ghost use Rattle.uart_spec.specs.Bits.{flag};
 ghost use Rattle.uart_chip.specs.Masks as spec;
 
 use bitflags::Flags;
@@ -7,7 +8,7 @@ use uart_spec::registers::{IER, MCR};
 
 /// These bits if the condition holds, else none.
 pub fn flag<F: Flags>(on: bool, bits: F) -> F
-    ensures { F.exact → F.set_of result ≡ spec.flag on (F.set_of bits) }
+    ensures { F.exact → F.set_of result ≡ flag on (F.set_of bits) }
 {
     if on { bits } else { F::empty() }
 }
