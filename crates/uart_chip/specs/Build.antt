@@ -4,6 +4,7 @@ use Rattle.std.specs.Option.{option_map, option_or}
 use Rattle.uart_chip.specs.declared.event.Event.{Event}
 use Rattle.uart_chip.specs.declared.event.Event.TheVariants.{Arrive, Lines}
 use Rattle.uart_chip.specs.declared.event.BuildError.{BuildError}
+use Rattle.uart_chip.specs.declared.event.TheConstants.{MAX_CHAR_TICKS, MAX_WIRE_CAPACITY}
 use Rattle.uart_chip.specs.declared.event.BuildError.TheVariants.{BadTicks, BadWire, BadErrors, BadLines}
 use Rattle.uart_spec.specs.declared.registers.line_status.TheConstants.LSR
 use Rattle.uart_spec.specs.declared.registers.modem_status.TheConstants.MSR
@@ -37,6 +38,6 @@ is_arrival _ = false
 -- why no machine is built, whatever memory there is: the first reason in this order
 abbrev pub refusal : ℕ → ℕ → List Event → Option BuildError
 refusal char_ticks capacity events =
-    if not (nat_le 1 char_ticks && nat_le char_ticks 1000) then Some BadTicks
-    else if nat_lt 65536 capacity then Some BadWire
+    if not (nat_le 1 char_ticks && nat_le char_ticks MAX_CHAR_TICKS) then Some BadTicks
+    else if nat_lt MAX_WIRE_CAPACITY capacity then Some BadWire
     else option_or (option_map BadErrors (position has_bad_errors events)) (option_map BadLines (position has_bad_lines events))

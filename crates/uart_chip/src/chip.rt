@@ -3,6 +3,7 @@ ghost use Rattle.std.specs.Prelude.{◌≡◌, ◌<◌, ◌≤◌, ◌+◌, [], 
 ghost use Rattle.uart_chip.specs.Chip as spec;
 ghost use Rattle.uart_chip.specs.Machine.{arrivals, perform};
 ghost use Rattle.uart_chip.specs.Jumps.{skip, moves};
+ghost use Rattle.uart_chip.specs.declared.event.TheConstants.{MAX_CHAR_TICKS};
 ghost use Rattle.uart_spec.specs.declared.registers.offsets.TheConstants as offsets;
 
 use crate::event::{Chip, Event};
@@ -95,7 +96,7 @@ impl Uart {
         arrivals: usize,
         cuts: bool,
     ) -> Result<Self, AllocError>
-        requires { char_ticks ≤ 1000 }
+        requires { char_ticks ≤ MAX_CHAR_TICKS }
         ensures { IfOk result (λ c. c ≡ record (spec.fresh model char_ticks capacity arrivals) { cuts = cuts }) }
     {
         let transmitter = Transmitter::new(alloc, char_ticks, capacity)?;

@@ -7,9 +7,11 @@ use bitflags::Flags;
 use thiserror::Error;
 use uart_spec::registers::{LSR, MSR};
 
-const MAX_CHAR_TICKS: u16 = 1000;
+/// The most ticks that a character may take to be shifted out.
+pub const MAX_CHAR_TICKS: u16 = 1000;
 
-const MAX_WIRE_CAPACITY: usize = 65_536;
+/// The most bytes that a wire may have room for.
+pub const MAX_WIRE_CAPACITY: usize = 65_536;
 
 /// The model of a chip. The chip itself is [`Uart`](crate::Uart).
 #[derive(Clone, Copy, Debug, PartialEq, Eq)]
@@ -124,9 +126,9 @@ pub enum ArrivalMark {
 /// Why no machine was built. The first reason in this order is told.
 #[derive(Clone, Copy, Debug, PartialEq, Eq, Error)]
 pub enum BuildError {
-    #[error("a character takes 1 to 1000 ticks")]
+    #[error("a character takes 1 to {max} ticks", max = MAX_CHAR_TICKS)]
     BadTicks,
-    #[error("the wire has room for at most 65536 bytes")]
+    #[error("the wire has room for at most {max} bytes", max = MAX_WIRE_CAPACITY)]
     BadWire,
     #[error("event {0}: an arrival has other error bits than parity, framing and break")]
     BadErrors(usize),

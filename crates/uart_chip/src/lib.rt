@@ -12,7 +12,9 @@ mod receiver;
 mod transmitter;
 
 pub use chip::Uart;
-pub use event::{ArrivalMark, BuildError, Chip, Event, arrivals, refusal};
+pub use event::{
+    ArrivalMark, BuildError, Chip, Event, MAX_CHAR_TICKS, MAX_WIRE_CAPACITY, arrivals, refusal,
+};
 pub use modem::Modem;
 pub use receiver::{Character, Origin, Receiver};
 pub use transmitter::{Shifting, Transmitter};

@@ -4,6 +4,7 @@ ghost use Rattle.std.specs.List.{list_any};
 ghost use Rattle.uart_chip.specs.Receiver as spec;
 ghost use Rattle.uart_chip.specs.Receiver.{unreported, has_errors, front_errors, waiting};
 ghost use Rattle.uart_chip.specs.Jumps.{count_up};
+ghost use Rattle.uart_chip.specs.declared.event.TheConstants.{MAX_CHAR_TICKS};
 
 use crate::event::ArrivalMark;
 use crate::queue::{put, room_of};
@@ -113,7 +114,7 @@ impl Receiver {
     /// A receiver to which nothing has come yet, with this many arrivals to come. The memory of its queue and of the marks is
     /// reserved here.
     pub fn new(alloc: Global, char_ticks: u16, arrivals: usize) -> Result<Self, AllocError>
-        requires { char_ticks ≤ 1000 }
+        requires { char_ticks ≤ MAX_CHAR_TICKS }
         ensures { IfOk result (λ r. r ≡ spec.fresh char_ticks arrivals) }
     {
         let queue = HeapCircularBuffer::with_capacity(alloc, FIFO_SIZE)?;

@@ -9,6 +9,7 @@ use Rattle.uart_chip.specs.declared.event.ArrivalMark.{ArrivalMark}
 use Rattle.uart_chip.specs.declared.event.ArrivalMark.TheVariants.{Pending, Waiting}
 use Rattle.uart_chip.specs.declared.event.BuildError.TheVariants.{BadTicks, BadWire, BadErrors, BadLines}
 use Rattle.uart_chip.specs.declared.event.Chip.{Chip}
+use Rattle.uart_chip.specs.declared.event.TheConstants.{MAX_CHAR_TICKS, MAX_WIRE_CAPACITY}
 use Rattle.uart_chip.specs.declared.event.Event.{Event}
 use Rattle.uart_chip.specs.declared.event.Event.TheVariants.{Arrive, Lines}
 use Rattle.uart_spec.specs.declared.registers.line_status.TheConstants.LSR
@@ -64,14 +65,14 @@ all_legal (_ ∷ events) p q = (tt, all_legal events (omega (arith, p)) (omega (
 
 pub record IsAccepted (char_ticks : ℕ) (events : List Event) : Type 0 where
   pub at_least_one : 1 ≤ char_ticks
-  pub at_most : char_ticks ≤ 1000
+  pub at_most : char_ticks ≤ MAX_CHAR_TICKS
   pub legal : AllLegal events
 
 accepted : (char_ticks capacity : ℕ) (events : List Event) → refusal char_ticks capacity events ≡ None → IsAccepted char_ticks events
 accepted char_ticks capacity events e =
-    go (nat_le 1 char_ticks) refl (nat_le char_ticks 1000) refl (nat_lt 65536 capacity) (position has_bad_errors events) refl (position has_bad_lines events) refl e
+    go (nat_le 1 char_ticks) refl (nat_le char_ticks MAX_CHAR_TICKS) refl (nat_lt MAX_WIRE_CAPACITY capacity) (position has_bad_errors events) refl (position has_bad_lines events) refl e
   where
-    go : (a : Bool) → nat_le 1 char_ticks ≡ a → (b : Bool) → nat_le char_ticks 1000 ≡ b → (w : Bool) → (x : Option ℕ) → position has_bad_errors events ≡ x → (y : Option ℕ) → position has_bad_lines events ≡ y →
+    go : (a : Bool) → nat_le 1 char_ticks ≡ a → (b : Bool) → nat_le char_ticks MAX_CHAR_TICKS ≡ b → (w : Bool) → (x : Option ℕ) → position has_bad_errors events ≡ x → (y : Option ℕ) → position has_bad_lines events ≡ y →
         (if not (a && b) then Some BadTicks else if w then Some BadWire else option_or (option_map BadErrors x) (option_map BadLines y)) ≡ None → IsAccepted char_ticks events
     go true l true m false None x None y e = record {
       at_least_one = grind (arith, common_steps);

@@ -5,6 +5,7 @@ use Rattle.uart_chip.specs.declared.event.ArrivalMark.{ArrivalMark}
 use Rattle.uart_chip.specs.declared.event.ArrivalMark.TheVariants.{Pending, Waiting}
 use Rattle.uart_chip.specs.declared.event.Chip.TheVariants.{Uart16550A}
 use Rattle.uart_chip.specs.declared.event.Event.{Event}
+use Rattle.uart_chip.specs.declared.event.TheConstants.{MAX_CHAR_TICKS}
 use Rattle.uart_chip.specs.declared.receiver.Character.{Character}
 use Rattle.uart_chip.specs.declared.receiver.Origin.{Origin}
 use Rattle.uart_chip.specs.declared.receiver.Origin.TheVariants.{Arrived, Looped}
@@ -84,7 +85,7 @@ pub record IsSoundTransmitter (fifo : Bool) (t : TransmitterState) : Type 0 wher
   pub in_room : length t.queue ≤ room fifo
   pub ticking : IsTicking t.char_ticks t.shift_place
   pub at_least_one : 1 ≤ t.char_ticks
-  pub at_most : t.char_ticks ≤ 1000
+  pub at_most : t.char_ticks ≤ MAX_CHAR_TICKS
   pub on_wire : length t.wire ≤ t.capacity
 
 -- inputs and lines lie in the high nibble, changes in the low one
