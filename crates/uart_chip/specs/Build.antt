@@ -1,5 +1,6 @@
 -- Which machines can be built, and which refusal comes first.
-use Rattle.std.specs.Prelude.{ℕ, Bool, true, false, not, ◌&&◌, ◌==◌, nat_le, nat_lt, bit_and, List, Option, Some, position, if◌then◌else◌}
+use Rattle.std.specs.Prelude.{ℕ, Bool, true, false, not, ◌&&◌, ◌==◌, nat_le, nat_lt, bit_and, List, Option, Some}
+use Rattle.std.specs.Prelude.{position, if◌then◌else◌}
 use Rattle.std.specs.Option.{option_map, option_or}
 use Rattle.uart_chip.specs.declared.event.Event.{Event}
 use Rattle.uart_chip.specs.declared.event.Event.TheVariants.{Arrive, Lines}
@@ -38,6 +39,8 @@ is_arrival _ = false
 -- why no machine is built, whatever memory there is: the first reason in this order
 abbrev pub refusal : ℕ → ℕ → List Event → Option BuildError
 refusal char_ticks capacity events =
+    let errors = option_map BadErrors (position has_bad_errors events) in
+    let lines = option_map BadLines (position has_bad_lines events) in
     if not (nat_le 1 char_ticks && nat_le char_ticks MAX_CHAR_TICKS) then Some BadTicks
     else if nat_lt MAX_WIRE_CAPACITY capacity then Some BadWire
-    else option_or (option_map BadErrors (position has_bad_errors events)) (option_map BadLines (position has_bad_lines events))
+    else option_or errors lines

@@ -1,5 +1,6 @@
 -- The chip: its registers, what an access does, and what happens between accesses.
-use Rattle.std.specs.Prelude.{ℕ, ◌+◌, ◌*◌, ◌%◌, ◌^◌, zero, suc, Bool, true, false, not, ◌&&◌, List, [], ◌∷◌, length, Option, Some, None, nat_lt, if◌then◌else◌, ◌==◌, bit_and, bit_or}
+use Rattle.std.specs.Prelude.{ℕ, ◌+◌, ◌*◌, ◌%◌, ◌^◌, zero, suc, Bool, true, false, not, ◌&&◌, List, [], ◌∷◌, length}
+use Rattle.std.specs.Prelude.{Option, Some, None, nat_lt, if◌then◌else◌, ◌==◌, bit_and, bit_or}
 use Rattle.std.specs.List.{list_any}
 use Rattle.uart_chip.specs.declared.transmitter.Shifting.{Shifting}
 use Rattle.uart_chip.specs.declared.event.Chip.{Chip}
@@ -8,9 +9,14 @@ use Rattle.uart_spec.specs.Bits.{has_any, field, flag}
 use Rattle.uart_spec.specs.Fields.{trigger_code}
 use Rattle.uart_spec.specs.Interrupts.{interrupt_code}
 use Rattle.uart_spec.specs.declared.registers.fifo_trigger_level.FifoTriggerLevel.{FifoTriggerLevel}
-use Rattle.uart_spec.specs.declared.registers.fifo_trigger_level.FifoTriggerLevel.TheVariants.{One, Four, Eight, Fourteen}
+use Rattle.uart_spec.specs.declared.registers.fifo_trigger_level.FifoTriggerLevel.TheVariants.{One, Four, Eight}
+use Rattle.uart_spec.specs.declared.registers.fifo_trigger_level.FifoTriggerLevel.TheVariants.{Fourteen}
 use Rattle.uart_spec.specs.declared.registers.interrupt_type.InterruptType.{InterruptType}
-use Rattle.uart_spec.specs.declared.registers.interrupt_type.InterruptType.TheVariants.{ReceiverLineStatus, ReceivedDataReady, ReceptionTimeout, TransmitterHoldingRegisterEmpty, ModemStatus}
+use Rattle.uart_spec.specs.declared.registers.interrupt_type.InterruptType.TheVariants.{ReceiverLineStatus}
+use Rattle.uart_spec.specs.declared.registers.interrupt_type.InterruptType.TheVariants.{ReceivedDataReady}
+use Rattle.uart_spec.specs.declared.registers.interrupt_type.InterruptType.TheVariants.{ReceptionTimeout}
+use Rattle.uart_spec.specs.declared.registers.interrupt_type.InterruptType.TheVariants.{TransmitterHoldingRegisterEmpty}
+use Rattle.uart_spec.specs.declared.registers.interrupt_type.InterruptType.TheVariants.{ModemStatus}
 use Rattle.uart_spec.specs.declared.registers.interrupt_enable.TheConstants.IER
 use Rattle.uart_spec.specs.declared.registers.interrupt_status.TheConstants.ISR
 use Rattle.uart_spec.specs.declared.registers.fifo_control.TheConstants.FCR
@@ -22,7 +28,8 @@ use Rattle.uart_chip.specs.Masks.{ier_bits, mcr_bits}
 use Rattle.uart_chip.specs.Transmitter as transmitter
 use Rattle.uart_chip.specs.Transmitter.{TransmitterState, looped_byte, load}
 use Rattle.uart_chip.specs.Receiver as receiver
-use Rattle.uart_chip.specs.Receiver.{ReceiverState, take_front, front_errors, unreported, has_errors, report, clear, is_data_pending, is_timed_out}
+use Rattle.uart_chip.specs.Receiver.{ReceiverState, take_front, front_errors, unreported, has_errors, report, clear}
+use Rattle.uart_chip.specs.Receiver.{is_data_pending, is_timed_out}
 use Rattle.uart_chip.specs.Modem as modem
 use Rattle.uart_chip.specs.Modem.{ModemState, renew}
 
@@ -35,7 +42,8 @@ pub record LatchesState : Type 0 where
   pub dll : ℕ
   pub dlm : ℕ
 
--- the model says whether there is a FIFO at all, fifo whether it is on, cuts whether characters are cut to the word length
+-- the model says whether there is a FIFO at all, fifo whether it is on, and cuts whether characters are cut to the word
+-- length
 pub record ChipState : Type 0 where
   pub model : Chip
   pub latches : LatchesState
@@ -100,7 +108,8 @@ ticks (suc n) c = tick (ticks n c)
 
 -- a character arrives
 abbrev pub arrive : ℕ → ℕ → ChipState → ChipState
-arrive byte errors c = record c { receiver = receiver.arrive (is_loopback c.latches) c.fifo (cut_of c byte) errors c.receiver }
+arrive byte errors c =
+    record c { receiver = receiver.arrive (is_loopback c.latches) c.fifo (cut_of c byte) errors c.receiver }
 
 -- the modem's inputs change
 abbrev pub change_lines : ℕ → ChipState → ChipState
@@ -117,10 +126,15 @@ is_transmitter_empty (x ∷ xs) place = false
 -- the line status register
 abbrev pub line_status : ChipState → ℕ
 line_status c =
-    bit_or (bit_or (bit_or (flag (nat_lt 0 (length c.receiver.queue)) LSR.DATA_READY.0) (flag c.receiver.is_overrun LSR.OVERRUN_ERROR.0))
-    (bit_or (front_errors c.receiver.queue c.receiver.is_front_reported) (flag (length c.transmitter.queue == 0) LSR.THR_EMPTY.0)))
-    (bit_or (flag (is_transmitter_empty c.transmitter.queue c.transmitter.shift_place) LSR.TRANSMITTER_EMPTY.0)
-    (flag (c.fifo && list_any has_errors (unreported c.receiver.queue c.receiver.is_front_reported)) LSR.FIFO_DATA_ERROR.0))
+    let data_ready = flag (nat_lt 0 (length c.receiver.queue)) LSR.DATA_READY.0 in
+    let overrun = flag c.receiver.is_overrun LSR.OVERRUN_ERROR.0 in
+    let errors = front_errors c.receiver.queue c.receiver.is_front_reported in
+    let thr_empty = flag (length c.transmitter.queue == 0) LSR.THR_EMPTY.0 in
+    let is_empty = is_transmitter_empty c.transmitter.queue c.transmitter.shift_place in
+    let transmitter_empty = flag is_empty LSR.TRANSMITTER_EMPTY.0 in
+    let has_error = list_any has_errors (unreported c.receiver.queue c.receiver.is_front_reported) in
+    let fifo_error = flag (c.fifo && has_error) LSR.FIFO_DATA_ERROR.0 in
+    bit_or (bit_or (bit_or data_ready overrun) (bit_or errors thr_empty)) (bit_or transmitter_empty fifo_error)
 
 -- the interrupt of the highest priority among those that are enabled and pending
 abbrev pub interrupt : ChipState → Option InterruptType
@@ -144,12 +158,17 @@ abbrev pub is_thr_empty : Option InterruptType → Bool
 is_thr_empty (Some TransmitterHoldingRegisterEmpty) = true
 is_thr_empty _ = false
 
+-- THR-empty is pending, or is not
+abbrev pub with_thr_pending : Bool → ChipState → ChipState
+with_thr_pending pending c = record c { transmitter = record c.transmitter { is_thr_pending = pending } }
+
 -- ---- a read
 
 -- what a read of the register answers
 abbrev pub answer : ℕ → ChipState → ℕ
 answer offset c =
-    if offset == offsets.DATA then (if is_dlab_set c.latches then c.latches.dll else (take_front c.receiver.queue c.receiver).last_byte)
+    if offset == offsets.DATA
+    then (if is_dlab_set c.latches then c.latches.dll else (take_front c.receiver.queue c.receiver).last_byte)
     else if offset == offsets.IER then (if is_dlab_set c.latches then c.latches.dlm else c.latches.ier)
     else if offset == offsets.ISR then bit_or (identification (interrupt c)) (flag c.fifo ISR.FIFOS_ENABLED.0)
     else if offset == offsets.LCR then c.latches.lcr
@@ -161,8 +180,9 @@ answer offset c =
 -- what a read of the register leaves
 abbrev pub after_read : ℕ → ChipState → ChipState
 after_read offset c =
-    if offset == offsets.DATA then (if is_dlab_set c.latches then c else record c { receiver = take_front c.receiver.queue c.receiver })
-    else if offset == offsets.ISR then (if is_thr_empty (interrupt c) then record c { transmitter = record c.transmitter { is_thr_pending = false } } else c)
+    if offset == offsets.DATA
+    then (if is_dlab_set c.latches then c else record c { receiver = take_front c.receiver.queue c.receiver })
+    else if offset == offsets.ISR then (if is_thr_empty (interrupt c) then with_thr_pending false c else c)
     else if offset == offsets.LSR then record c { receiver = report c.receiver }
     else if offset == offsets.MSR then record c { modem = record c.modem { deltas = 0 } }
     else c
@@ -192,7 +212,9 @@ reset_receiver value c = if has_any value FCR.RX_FIFO_RESET.0 then record c { re
 -- the transmitter is reset where the bit asks for it
 abbrev pub reset_transmitter : ℕ → ChipState → ChipState
 reset_transmitter value c =
-    if has_any value FCR.TX_FIFO_RESET.0 then record c { transmitter = record c.transmitter { queue = []; is_thr_pending = true } } else c
+    if has_any value FCR.TX_FIFO_RESET.0
+    then record c { transmitter = record c.transmitter { queue = []; is_thr_pending = true } }
+    else c
 
 -- the trigger is set
 abbrev pub set_trigger : FifoTriggerLevel → ChipState → ChipState
@@ -206,8 +228,9 @@ is_same false b = not b
 -- a write of the FIFO control register of a chip with FIFO: the switch, then the resets and the trigger where it is on
 abbrev pub set_fifo : ℕ → ChipState → ChipState
 set_fifo value c =
-    let d = if is_same c.fifo (has_any value FCR.FIFO_ENABLE.0) then c else switch (has_any value FCR.FIFO_ENABLE.0) c in
-    if has_any value FCR.FIFO_ENABLE.0 then set_trigger (trigger_level value) (reset_transmitter value (reset_receiver value d)) else d
+    let on = has_any value FCR.FIFO_ENABLE.0 in
+    let d = if is_same c.fifo on then c else switch on c in
+    if on then set_trigger (trigger_level value) (reset_transmitter value (reset_receiver value d)) else d
 
 -- a write of the FIFO control register
 abbrev pub control : Chip → ℕ → ChipState → ChipState
@@ -221,20 +244,34 @@ with_latches l c = record c { latches = l }
 -- a write of the interrupt enable register: THR-empty is pending where it is newly enabled and the THR is empty
 abbrev pub enable : ℕ → ChipState → ChipState
 enable value c =
+    let is_enabled = has_any c.latches.ier IER.THR_EMPTY.0 in
+    let is_told = not is_enabled && (has_any value IER.THR_EMPTY.0 && (length c.transmitter.queue == 0)) in
     record c {
       latches = record c.latches { ier = bit_and value ier_bits };
       transmitter = record c.transmitter {
-        is_thr_pending = if not (has_any c.latches.ier IER.THR_EMPTY.0) && (has_any value IER.THR_EMPTY.0 && (length c.transmitter.queue == 0)) then true else c.transmitter.is_thr_pending;
+        is_thr_pending = if is_told then true else c.transmitter.is_thr_pending;
       };
     }
+
+-- a write of the modem control register, of what it keeps
+abbrev pub control_modem : ℕ → ChipState → ChipState
+control_modem mcr c = record c { latches = record c.latches { mcr = mcr }; modem = renew mcr c.modem }
+
+-- a write of the data register
+abbrev pub write_data : ℕ → ChipState → ChipState
+write_data value c =
+    if is_dlab_set c.latches
+    then with_latches (record c.latches { dll = value }) c
+    else record c { transmitter = load c.fifo (cut_of c value) c.transmitter }
 
 -- what a write of the register leaves
 abbrev pub after_write : ℕ → ℕ → ChipState → ChipState
 after_write offset value c =
-    if offset == offsets.DATA then (if is_dlab_set c.latches then with_latches (record c.latches { dll = value }) c else record c { transmitter = load c.fifo (cut_of c value) c.transmitter })
-    else if offset == offsets.IER then (if is_dlab_set c.latches then with_latches (record c.latches { dlm = value }) c else enable value c)
+    if offset == offsets.DATA then write_data value c
+    else if offset == offsets.IER
+    then (if is_dlab_set c.latches then with_latches (record c.latches { dlm = value }) c else enable value c)
     else if offset == offsets.FCR then control c.model value c
     else if offset == offsets.LCR then with_latches (record c.latches { lcr = value }) c
-    else if offset == offsets.MCR then record c { latches = record c.latches { mcr = bit_and value mcr_bits }; modem = renew (bit_and value mcr_bits) c.modem }
+    else if offset == offsets.MCR then control_modem (bit_and value mcr_bits) c
     else if offset == offsets.SPR then with_latches (record c.latches { scr = value }) c
     else c

@@ -34,7 +34,8 @@ perform (Arrive byte errors) c = arrive byte errors c
 perform (Lines inputs) c = change_lines inputs c
 perform _ c = c
 
--- the chip as an access finds it: the events up to the first Access were performed, or up to a Mark or the end and one tick more
+-- the chip as an access finds it: the events up to the first Access were performed, or up to a Mark or the end and one
+-- tick more
 abbrev pub before_access : List Event → ChipState → ChipState
 before_access [] c = tick c
 before_access (Gate ∷ events) c = c

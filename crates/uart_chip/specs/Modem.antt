@@ -17,8 +17,11 @@ fresh = record { inputs = 0; lines = 0; deltas = 0 }
 -- in loopback the outputs stand in place of the inputs
 abbrev pub looped_lines : ℕ → ℕ
 looped_lines mcr =
-    bit_or (bit_or (flag (has_any mcr MCR.RTS.0) MSR.CTS.0) (flag (has_any mcr MCR.DTR.0) MSR.DSR.0))
-    (bit_or (flag (has_any mcr MCR.OUT_1.0) MSR.RI.0) (flag (has_any mcr MCR.OUT_2_INT_ENABLE.0) MSR.CD.0))
+    let cts = flag (has_any mcr MCR.RTS.0) MSR.CTS.0 in
+    let dsr = flag (has_any mcr MCR.DTR.0) MSR.DSR.0 in
+    let ri = flag (has_any mcr MCR.OUT_1.0) MSR.RI.0 in
+    let cd = flag (has_any mcr MCR.OUT_2_INT_ENABLE.0) MSR.CD.0 in
+    bit_or (bit_or cts dsr) (bit_or ri cd)
 
 -- the lines under this modem control register
 abbrev pub lines_under : ℕ → ℕ → ℕ
@@ -31,8 +34,11 @@ is_changed old new mask = not (bit_and old mask == bit_and new mask)
 -- the changes between two states of the lines: of RI only from set to clear
 abbrev pub changes : ℕ → ℕ → ℕ
 changes old new =
-    bit_or (bit_or (flag (is_changed old new MSR.CTS.0) MSR.DELTA_CTS.0) (flag (is_changed old new MSR.DSR.0) MSR.DELTA_DSR.0))
-    (bit_or (flag (has_any old MSR.RI.0 && not (has_any new MSR.RI.0)) MSR.TRAILING_EDGE_RI.0) (flag (is_changed old new MSR.CD.0) MSR.DELTA_CD.0))
+    let cts = flag (is_changed old new MSR.CTS.0) MSR.DELTA_CTS.0 in
+    let dsr = flag (is_changed old new MSR.DSR.0) MSR.DELTA_DSR.0 in
+    let ri = flag (has_any old MSR.RI.0 && not (has_any new MSR.RI.0)) MSR.TRAILING_EDGE_RI.0 in
+    let cd = flag (is_changed old new MSR.CD.0) MSR.DELTA_CD.0 in
+    bit_or (bit_or cts dsr) (bit_or ri cd)
 
 -- the lines are renewed under this modem control register
 abbrev pub renew : ℕ → ModemState → ModemState

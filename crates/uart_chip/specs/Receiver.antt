@@ -1,5 +1,7 @@
 -- The receiver: a queue of characters, and what became of each that arrived.
-use Rattle.std.specs.Prelude.{ℕ, ◌+◌, ◌*◌, min, Bool, true, false, ◌&&◌, List, [], ◌∷◌, ◌++◌, map, length, drop, replicate, slice_set, slice_index_or, Option, Some, None, nat_lt, nat_le, if◌then◌else◌, ◌==◌, bit_and}
+use Rattle.std.specs.Prelude.{ℕ, ◌+◌, ◌*◌, min, Bool, true, false, ◌&&◌, List, [], ◌∷◌, ◌++◌, map, length, drop}
+use Rattle.std.specs.Prelude.{replicate, slice_set, slice_index_or, Option, Some, None, nat_lt, nat_le, if◌then◌else◌}
+use Rattle.std.specs.Prelude.{◌==◌, bit_and}
 use Rattle.uart_chip.specs.declared.receiver.Character.{Character}
 use Rattle.uart_chip.specs.declared.receiver.Origin.{Origin}
 use Rattle.uart_chip.specs.declared.receiver.Origin.TheVariants.{Arrived, Looped}
@@ -8,7 +10,8 @@ use Rattle.uart_chip.specs.declared.event.ArrivalMark.TheVariants.{Pending, Wait
 use Rattle.uart_chip.specs.Transmitter.{room}
 use Rattle.uart_spec.specs.Bits.{has_any}
 use Rattle.uart_spec.specs.declared.registers.fifo_trigger_level.FifoTriggerLevel.{FifoTriggerLevel}
-use Rattle.uart_spec.specs.declared.registers.fifo_trigger_level.FifoTriggerLevel.TheVariants.{One, Four, Eight, Fourteen}
+use Rattle.uart_spec.specs.declared.registers.fifo_trigger_level.FifoTriggerLevel.TheVariants.{One, Four, Eight}
+use Rattle.uart_spec.specs.declared.registers.fifo_trigger_level.FifoTriggerLevel.TheVariants.{Fourteen}
 use Rattle.uart_spec.specs.declared.registers.line_status.TheConstants.LSR
 
 -- the marks are of the arrivals of the schedule, of which so many have arrived
@@ -103,9 +106,10 @@ tick fifo looped r = grow_timeout (come_back fifo looped r)
 -- the next arrival of the schedule: in loopback it is discarded, else it comes in
 abbrev pub arrive : Bool → Bool → ℕ → ℕ → ReceiverState → ReceiverState
 arrive loopback fifo byte errors r =
+    let new : Character = record { byte = byte; errors = errors; origin = Arrived r.arrived } in
     if loopback
     then record r { arrived = r.arrived + 1; marks = slice_set r.marks r.arrived Discarded }
-    else come_in fifo (record { byte = byte; errors = errors; origin = Arrived r.arrived }) (record r { arrived = r.arrived + 1 })
+    else come_in fifo new (record r { arrived = r.arrived + 1 })
 
 -- the front of the queue is taken
 abbrev pub take_front : List Character → ReceiverState → ReceiverState
@@ -134,7 +138,10 @@ has_errors character = has_any character.errors LSR.CHARACTER_ERRORS.0
 
 -- the line status was read
 abbrev pub report : ReceiverState → ReceiverState
-report r = record r { is_overrun = false; is_front_reported = if length r.queue == 0 then r.is_front_reported else true }
+report r = record r {
+  is_overrun = false;
+  is_front_reported = if length r.queue == 0 then r.is_front_reported else true;
+}
 
 -- the marks of these characters become Discarded
 abbrev pub discard : List Character → List ArrivalMark → List ArrivalMark

@@ -53,7 +53,18 @@ impl Model for Receiver {
 
     ghost Value = { ReceiverState };
 
-    ghost view = { λ r. record { queue = r.queue.items; is_overrun = r.is_overrun; is_front_reported = r.is_front_reported; last_byte = r.last_byte; timeout_ticks = r.timeout_ticks; timeout_limit = r.timeout_limit; trigger = r.trigger; arrived = r.arrived; marks = r.marks.items; is_stray_lost = r.is_stray_lost } };
+    ghost view = { λ r. record {
+      queue = r.queue.items;
+      is_overrun = r.is_overrun;
+      is_front_reported = r.is_front_reported;
+      last_byte = r.last_byte;
+      timeout_ticks = r.timeout_ticks;
+      timeout_limit = r.timeout_limit;
+      trigger = r.trigger;
+      arrived = r.arrived;
+      marks = r.marks.items;
+      is_stray_lost = r.is_stray_lost;
+    } };
 
     ghost invariant = { λ r. r.queue.capacity ≡ room true };
 }

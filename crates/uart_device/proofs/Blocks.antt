@@ -22,7 +22,9 @@ accesses_of (Look line) = Read offsets.LSR line ∷ []
 accesses_of (Hit line byte) = Read offsets.LSR line ∷ Read offsets.DATA byte ∷ []
 accesses_of (Burst line checks bytes) = Read offsets.LSR line ∷ (checks ++ map (Write offsets.DATA) bytes)
 accesses_of (Other access) = access ∷ []
-accesses_of (Divisor lcr low high) = Read offsets.LCR lcr ∷ Write offsets.LCR (bit_or lcr LCR.DLAB.0) ∷ Read offsets.DLL low ∷ Read offsets.DLM high ∷ Write offsets.LCR lcr ∷ []
+accesses_of (Divisor lcr low high) =
+    Read offsets.LCR lcr ∷ Write offsets.LCR (bit_or lcr LCR.DLAB.0) ∷ Read offsets.DLL low ∷ Read offsets.DLM high ∷
+    Write offsets.LCR lcr ∷ []
 
 -- the accesses of some blocks, one after the other
 abbrev pub flat : List Block → List Access
@@ -31,7 +33,10 @@ flat (block ∷ blocks) = accesses_of block ++ flat blocks
 
 -- an access that touches neither the data nor the line status nor a mode
 abbrev pub is_quiet : Access → Bool
-is_quiet (Read offset answer) = (offset == offsets.IER) || ((offset == offsets.ISR) || ((offset == offsets.LCR) || ((offset == offsets.MCR) || ((offset == offsets.MSR) || (offset == offsets.SPR)))))
+is_quiet (Read offset answer) =
+    (offset == offsets.IER) ||
+    ((offset == offsets.ISR) ||
+    ((offset == offsets.LCR) || ((offset == offsets.MCR) || ((offset == offsets.MSR) || (offset == offsets.SPR)))))
 is_quiet (Write offset value) = (offset == offsets.IER) || (offset == offsets.SPR)
 
 -- only such accesses

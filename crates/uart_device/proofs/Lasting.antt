@@ -11,7 +11,8 @@ use Rattle.uart_spec.specs.declared.registers.offsets.TheConstants as offsets
 use Rattle.uart_chip.specs.Transmitter as transmitter
 use Rattle.uart_chip.specs.Transmitter.{TransmitterState}
 use Rattle.uart_chip.specs.Receiver.{clear}
-use Rattle.uart_chip.specs.Chip.{ChipState, is_dlab_set, is_loopback, tick, ticks, interrupt, is_thr_empty, after_read, after_write, trigger_level, switch, reset_receiver, reset_transmitter, set_trigger, is_same, set_fifo, control}
+use Rattle.uart_chip.specs.Chip.{ChipState, is_dlab_set, is_loopback, tick, ticks, interrupt, is_thr_empty, after_read, after_write}
+use Rattle.uart_chip.specs.Chip.{trigger_level, switch, reset_receiver, reset_transmitter, set_trigger, is_same, set_fifo, control}
 use Rattle.uart_chip.specs.Machine.{MachineState, MachineStep, perform, before_access, at_access}
 
 -- a property lasts where the queue is emptied and where the interrupt flag changes: that is all that an access does which sends nothing
@@ -53,12 +54,15 @@ module _ (P : TransmitterState → Type 0) (w : LastsInAccesses P) where
   lasts-fifo value c p =
       let on : Bool = has_any value FCR.FIFO_ENABLE.0 in
       let d : ChipState = if is_same c.fifo on then c else switch on c in
-      let switched : P d.transmitter = either P c (switch on c) (is_same c.fifo on) p (w.cleared c.transmitter c.transmitter.is_thr_pending p) in
+      let switched : P d.transmitter =
+      either P c (switch on c) (is_same c.fifo on) p (w.cleared c.transmitter c.transmitter.is_thr_pending p) in
       let e : ChipState = reset_receiver value d in
-      let received : P e.transmitter = either P (record d { receiver = clear d.receiver }) d (has_any value FCR.RX_FIFO_RESET.0) switched switched in
+      let received : P e.transmitter =
+      either P (record d { receiver = clear d.receiver }) d (has_any value FCR.RX_FIFO_RESET.0) switched switched in
       let f : ChipState = reset_transmitter value e in
       let emptied : ChipState = record e { transmitter = record e.transmitter { queue = []; is_thr_pending = true } } in
-      let reset : P f.transmitter = either P emptied e (has_any value FCR.TX_FIFO_RESET.0) (w.cleared e.transmitter true received) received in
+      let reset : P f.transmitter =
+      either P emptied e (has_any value FCR.TX_FIFO_RESET.0) (w.cleared e.transmitter true received) received in
       either P (set_trigger (trigger_level value) f) d on reset switched
 
   lasts-control : (model : Chip) (value : ℕ) (c : ChipState) → P c.transmitter → P (control model value c).transmitter
@@ -66,14 +70,16 @@ module _ (P : TransmitterState → Type 0) (w : LastsInAccesses P) where
   lasts-control Uart16550A value c p = lasts-fifo value c p
 
   -- another register is written than that of the data
-  pub lasts-write : (offset value : ℕ) (c : ChipState) → (offset == offsets.DATA) ≡ false → P c.transmitter → P (after_write offset value c).transmitter
+  pub lasts-write : (offset value : ℕ) (c : ChipState) → (offset == offsets.DATA) ≡ false → P c.transmitter →
+      P (after_write offset value c).transmitter
   lasts-write offset value c other p =
       rw other (either P _ _ (offset == offsets.IER) (either P _ _ (is_dlab_set c.latches) p (w.pending c.transmitter _ p))
       (either P _ _ (offset == offsets.FCR) (lasts-control c.model value c p)
       (either P _ _ (offset == offsets.LCR) p (either P _ _ (offset == offsets.MCR) p (either P _ _ (offset == offsets.SPR) p p)))))
 
   -- under DLAB the divisor latch is written
-  pub lasts-latch : (value : ℕ) (c : ChipState) → is_dlab_set c.latches ≡ true → P c.transmitter → P (after_write offsets.DATA value c).transmitter
+  pub lasts-latch : (value : ℕ) (c : ChipState) → is_dlab_set c.latches ≡ true → P c.transmitter →
+      P (after_write offsets.DATA value c).transmitter
   lasts-latch value c on p = rw on p
 
 -- ---- events, and accesses after them
@@ -96,10 +102,13 @@ module _ (P : TransmitterState → Type 0) (w : Lasts P) where
   lasts-before (Mark ∷ events) c p = lasts-tick c p
   lasts-before (event ∷ events) c p = lasts-before events (perform event c) (lasts-perform event c p)
 
-  lasts-step : (access : Access) (m n : MachineState) → SendsNothing access → P m.chip.transmitter → MachineStep m access n → P n.chip.transmitter
+  lasts-step : (access : Access) (m n : MachineState) → SendsNothing access → P m.chip.transmitter → MachineStep m access n →
+      P n.chip.transmitter
   lasts-step (Read offset value) m n q p s = rw s.0 (lasts-read P w.in_accesses offset (at_access m).chip (lasts-before m.ahead m.chip p))
-  lasts-step (Write offset value) m n q p s = rw s (lasts-write P w.in_accesses offset value (at_access m).chip q (lasts-before m.ahead m.chip p))
+  lasts-step (Write offset value) m n q p s =
+      rw s (lasts-write P w.in_accesses offset value (at_access m).chip q (lasts-before m.ahead m.chip p))
 
-  pub lasts-path : (made : List Access) (m n : MachineState) → AllSendNothing made → P m.chip.transmitter → Path MachineStep m made n → P n.chip.transmitter
+  pub lasts-path : (made : List Access) (m n : MachineState) → AllSendNothing made → P m.chip.transmitter → Path MachineStep m made n →
+      P n.chip.transmitter
   lasts-path [] m n q p path = rw path p
   lasts-path (access ∷ made) m n q p path = lasts-path made path.0 n q.1 (lasts-step access m path.0 q.0 p path.1) path.2

@@ -1,5 +1,6 @@
 -- What a stretch of a session does to the receiver: characters come in and are taken, and a drop shows in the overrun flag.
-use Rattle.std.proofs.Common.{◌≡◌, ◌≢◌, ℕ, ◌+◌, ◌≤◌, Bool, true, false, not, ◌||◌, ◌⊎◌, inl, inr, List, [], ◌++◌, length, length-append, append-nil, refl, arith, sym, ◌∙◌, bit_or}
+use Rattle.std.proofs.Common.{◌≡◌, ◌≢◌, ℕ, ◌+◌, ◌≤◌, Bool, true, false, not, ◌||◌, ◌⊎◌, inl, inr, List, [], ◌++◌, length, length-append}
+use Rattle.std.proofs.Common.{append-nil, refl, arith, sym, ◌∙◌, bit_or}
 use Rattle.std.specs.List.{filter}
 use Rattle.uart_chip.specs.declared.event.ArrivalMark.{ArrivalMark}
 use Rattle.uart_chip.specs.declared.event.ArrivalMark.TheVariants.{Pending, Waiting, Read, Discarded, Dropped}
@@ -52,7 +53,8 @@ dropped_is Discarded e = absurd (cc)
 dropped_is Dropped e = refl
 
 -- a mark is set that is none of a drop
-pub no_drop-set : (r s : ReceiverState) (o : Origin) (m : ArrivalMark) → m ≢ Dropped → s.marks ≡ set_mark o m r.marks → s.is_stray_lost ≡ r.is_stray_lost → Drop r s → ⊥
+pub no_drop-set : (r s : ReceiverState) (o : Origin) (m : ArrivalMark) → m ≢ Dropped → s.marks ≡ set_mark o m r.marks →
+    s.is_stray_lost ≡ r.is_stray_lost → Drop r s → ⊥
 no_drop-set r s o m new marks stray d = go d.origin d.stood d.lost
   where
     go : (from : Origin) → origin_stands r.marks r.is_stray_lost from ≡ true → origin_stands s.marks s.is_stray_lost from ≡ false → ⊥
@@ -99,7 +101,8 @@ pub shows_second : (a b : ℕ) (r : ReceiverState) → Shows b r → Shows (bit_
 shows_second a b r (inl e) = inl (has_or 1 a b ∙ or_right (has_any a LSR.OVERRUN_ERROR.0) (has_any b LSR.OVERRUN_ERROR.0) e)
 shows_second a b r (inr e) = inr e
 
-pub receives-trans : (fifo : Bool) (r s t : ReceiverState) (f g xs ys : List Character) (a b : ℕ) → Receives fifo r s f xs a → Receives fifo s t g ys b →
+pub receives-trans : (fifo : Bool) (r s t : ReceiverState) (f g xs ys : List Character) (a b : ℕ) → Receives fifo r s f xs a →
+    Receives fifo s t g ys b →
     Receives fifo r t (f ++ g) (xs ++ ys) (bit_or a b)
 receives-trans fifo r s t f g xs ys a b p q = record {
   number = simp length-append (omega (arith, p.number, q.number));
@@ -148,7 +151,8 @@ pub record SameCharacters (r s : ReceiverState) : Type 0 where
 
 moved_same : (fifo : Bool) (r s : ReceiverState) → IsMarked fifo r → SameCharacters r s → Moved fifo r s [] []
 moved_same fifo r s w k = record {
-  stay = let all : filter (stands s) r.queue ≡ r.queue = filter-waits s r.arrived r.queue (rw (k.marks, k.stray) w.wait) in rw (k.queue, append-nil r.queue) all;
+  stay = let all : filter (stands s) r.queue ≡ r.queue =
+      filter-waits s r.arrived r.queue (rw (k.marks, k.stray) w.wait) in rw (k.queue, append-nil r.queue) all;
   falls = λ o h. rw (k.marks, k.stray) at h;
   final = λ o h. same_final o h;
   taken_final = tt;
@@ -178,7 +182,8 @@ receives-same fifo r s seen w k f g = record {
     to (inr h) = absurd (no_drop-same r s k.marks k.stray h)
 
 -- the overrun flag stays too, and the line status is not read
-pub receives-still : (fifo : Bool) (r s : ReceiverState) → IsMarked fifo r → SameCharacters r s → s.is_overrun ≡ r.is_overrun → Receives fifo r s [] [] 0
+pub receives-still : (fifo : Bool) (r s : ReceiverState) → IsMarked fifo r → SameCharacters r s → s.is_overrun ≡ r.is_overrun →
+    Receives fifo r s [] [] 0
 receives-still fifo r s w k e = receives-same fifo r s 0 w k (λ h. inr (e ∙ h)) (λ h. back h)
   where
     back : Shows 0 s → r.is_overrun ≡ true

@@ -11,7 +11,8 @@ use Rattle.uart_chip.specs.Chip.{ChipState, line_status, is_transmitter_empty}
 use Rattle.uart_chip.proofs.Bits.{has_or, has_flag, has_none, has_not}
 
 -- no other bit is an error of a character
-front_errors-bit : (k : ℕ) → bit_at LSR.CHARACTER_ERRORS.0 k ≡ 0 → (queue : List Character) (reported : Bool) → has_any (front_errors queue reported) (2 ^ k) ≡ false
+front_errors-bit : (k : ℕ) → bit_at LSR.CHARACTER_ERRORS.0 k ≡ 0 → (queue : List Character) (reported : Bool) →
+    has_any (front_errors queue reported) (2 ^ k) ≡ false
 front_errors-bit k z [] reported = has_none k
 front_errors-bit k z (front ∷ others) true = has_none k
 front_errors-bit k z (front ∷ others) false = has_not k front.errors LSR.CHARACTER_ERRORS.0 z
@@ -55,19 +56,27 @@ module _ (c : ChipState) where
   -- a character waits
   pub status_data : has_any (line_status c) LSR.DATA_READY.0 ≡ nat_lt 0 (length c.receiver.queue)
   unfolding whole data_ready thr_empty all_empty fifo_error
-  status_data = line_data data_ready c.receiver.is_overrun thr_empty all_empty fifo_error _ (front_errors-bit 0 refl c.receiver.queue c.receiver.is_front_reported)
+  status_data =
+      line_data data_ready c.receiver.is_overrun thr_empty all_empty fifo_error _
+      (front_errors-bit 0 refl c.receiver.queue c.receiver.is_front_reported)
 
   -- the overrun flag is pending
   pub status_overrun : has_any (line_status c) LSR.OVERRUN_ERROR.0 ≡ c.receiver.is_overrun
   unfolding whole data_ready thr_empty all_empty fifo_error
-  status_overrun = line_overrun data_ready c.receiver.is_overrun thr_empty all_empty fifo_error _ (front_errors-bit 1 refl c.receiver.queue c.receiver.is_front_reported)
+  status_overrun =
+      line_overrun data_ready c.receiver.is_overrun thr_empty all_empty fifo_error _
+      (front_errors-bit 1 refl c.receiver.queue c.receiver.is_front_reported)
 
   -- the transmitter's queue is empty
   pub status_room : has_any (line_status c) LSR.THR_EMPTY.0 ≡ (length c.transmitter.queue == 0)
   unfolding whole data_ready thr_empty all_empty fifo_error
-  status_room = line_room data_ready c.receiver.is_overrun thr_empty all_empty fifo_error _ (front_errors-bit 5 refl c.receiver.queue c.receiver.is_front_reported)
+  status_room =
+      line_room data_ready c.receiver.is_overrun thr_empty all_empty fifo_error _
+      (front_errors-bit 5 refl c.receiver.queue c.receiver.is_front_reported)
 
   -- nothing is left to send
   pub status_empty : has_any (line_status c) LSR.TRANSMITTER_EMPTY.0 ≡ is_transmitter_empty c.transmitter.queue c.transmitter.shift_place
   unfolding whole data_ready thr_empty all_empty fifo_error
-  status_empty = line_empty data_ready c.receiver.is_overrun thr_empty all_empty fifo_error _ (front_errors-bit 6 refl c.receiver.queue c.receiver.is_front_reported)
+  status_empty =
+      line_empty data_ready c.receiver.is_overrun thr_empty all_empty fifo_error _
+      (front_errors-bit 6 refl c.receiver.queue c.receiver.is_front_reported)

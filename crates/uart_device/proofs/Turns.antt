@@ -19,10 +19,12 @@ lines_after-append lines [] ys = refl
 lines_after-append lines (Lines inputs ∷ xs) ys = lines_after-append inputs xs ys
 lines_after-append lines (_ ∷ xs) ys = lines_after-append lines xs ys
 
-pub changes_in-append : (lines : ℕ) (xs ys : List Event) → changes_in lines (xs ++ ys) ≡ bit_or (changes_in lines xs) (changes_in (lines_after lines xs) ys)
+pub changes_in-append : (lines : ℕ) (xs ys : List Event) →
+    changes_in lines (xs ++ ys) ≡ bit_or (changes_in lines xs) (changes_in (lines_after lines xs) ys)
 changes_in-append lines [] ys = refl
 changes_in-append lines (Lines inputs ∷ xs) ys =
-    ap (bit_or (changes lines inputs)) (changes_in-append inputs xs ys) ∙ sym (or_assoc (changes lines inputs) (changes_in inputs xs) (changes_in (lines_after inputs xs) ys))
+    ap (bit_or (changes lines inputs)) (changes_in-append inputs xs ys) ∙
+    sym (or_assoc (changes lines inputs) (changes_in inputs xs) (changes_in (lines_after inputs xs) ys))
 changes_in-append lines (_ ∷ xs) ys = changes_in-append lines xs ys
 
 -- from m to n these events came, and the modem status showed these changes
@@ -37,14 +39,17 @@ pub turns-trans : (m n o : ModemState) (xs ys : List Event) (a b : ℕ) → Turn
 turns-trans m n o xs ys a b p q = record {
   lines = q.lines ∙ (ap (λ l. lines_after l ys) p.lines ∙ sym (lines_after-append m.lines xs ys));
   deltas =
-      let later : bit_or b o.deltas ≡ bit_or n.deltas (changes_in (lines_after m.lines xs) ys) = q.deltas ∙ ap (λ l. bit_or n.deltas (changes_in l ys)) p.lines in
+      let later : bit_or b o.deltas ≡ bit_or n.deltas (changes_in (lines_after m.lines xs) ys) =
+      q.deltas ∙ ap (λ l. bit_or n.deltas (changes_in l ys)) p.lines in
       or_assoc a b o.deltas ∙ (ap (bit_or a) later ∙ (sym (or_assoc a n.deltas (changes_in (lines_after m.lines xs) ys)) ∙
-      (ap (λ d. bit_or d (changes_in (lines_after m.lines xs) ys)) p.deltas ∙ (or_assoc m.deltas (changes_in m.lines xs) (changes_in (lines_after m.lines xs) ys) ∙
+      (ap (λ d. bit_or d (changes_in (lines_after m.lines xs) ys)) p.deltas ∙
+      (or_assoc m.deltas (changes_in m.lines xs) (changes_in (lines_after m.lines xs) ys) ∙
       ap (bit_or m.deltas) (sym (changes_in-append m.lines xs ys))))));
 }
 
 -- the inputs change, outside of loopback
-pub turns-lines : (mcr inputs : ℕ) (m : ModemState) → has_any mcr MCR.LOOP_BACK.0 ≡ false → Turns m (renew mcr (record m { inputs = inputs })) (Lines inputs ∷ []) 0
+pub turns-lines : (mcr inputs : ℕ) (m : ModemState) → has_any mcr MCR.LOOP_BACK.0 ≡ false →
+    Turns m (renew mcr (record m { inputs = inputs })) (Lines inputs ∷ []) 0
 turns-lines mcr inputs m e =
     let same : lines_under mcr inputs ≡ inputs = rw e refl in
     record {
@@ -53,14 +58,18 @@ turns-lines mcr inputs m e =
     }
 
 -- the low nibble of the modem status is the changes
-status_deltas : (lines deltas : ℕ) → IsWithin lines MSR.LINES.0 → IsWithin deltas MSR.CHANGES.0 → bit_and (bit_or lines deltas) MSR.CHANGES.0 ≡ deltas
+status_deltas : (lines deltas : ℕ) → IsWithin lines MSR.LINES.0 → IsWithin deltas MSR.CHANGES.0 →
+    bit_and (bit_or lines deltas) MSR.CHANGES.0 ≡ deltas
 status_deltas lines deltas p q = same_from_bits _ _ (λ i. at i)
   where
     at : (i : ℕ) → bit_at (bit_and (bit_or lines deltas) MSR.CHANGES.0) i ≡ bit_at deltas i
     at i =
-        let high : bit_at lines i ≡ min (bit_at lines i) (bit_at MSR.LINES.0 i) = ap (λ n. bit_at n i) (sym p) ∙ bit_at_and lines MSR.LINES.0 i in
-        let low : bit_at deltas i ≡ min (bit_at deltas i) (bit_at MSR.CHANGES.0 i) = ap (λ n. bit_at n i) (sym q) ∙ bit_at_and deltas MSR.CHANGES.0 i in
-        let apart : min (bit_at MSR.LINES.0 i) (bit_at MSR.CHANGES.0 i) ≡ 0 = sym (bit_at_and MSR.LINES.0 MSR.CHANGES.0 i) ∙ bit_at-zero i in
+        let high : bit_at lines i ≡ min (bit_at lines i) (bit_at MSR.LINES.0 i) =
+        ap (λ n. bit_at n i) (sym p) ∙ bit_at_and lines MSR.LINES.0 i in
+        let low : bit_at deltas i ≡ min (bit_at deltas i) (bit_at MSR.CHANGES.0 i) =
+        ap (λ n. bit_at n i) (sym q) ∙ bit_at_and deltas MSR.CHANGES.0 i in
+        let apart : min (bit_at MSR.LINES.0 i) (bit_at MSR.CHANGES.0 i) ≡ 0 =
+        sym (bit_at_and MSR.LINES.0 MSR.CHANGES.0 i) ∙ bit_at-zero i in
         bit_at_and (bit_or lines deltas) MSR.CHANGES.0 i ∙ (ap (λ n. min n (bit_at MSR.CHANGES.0 i)) (bit_at_or lines deltas i) ∙
         joined (bit_at lines i) (bit_at deltas i) (bit_at MSR.LINES.0 i) (bit_at MSR.CHANGES.0 i) high low apart)
       where
@@ -68,8 +77,10 @@ status_deltas lines deltas p q = same_from_bits _ _ (λ i. at i)
         joined a b h l p q r = omega arith
 
 -- the modem status is read
-pub turns-status : (m : ModemState) (status : ℕ) → IsSoundModem m → status ≡ bit_or m.lines m.deltas → Turns m (record m { deltas = 0 }) [] (bit_or (bit_and status MSR.CHANGES.0) 0)
+pub turns-status : (m : ModemState) (status : ℕ) → IsSoundModem m → status ≡ bit_or m.lines m.deltas →
+    Turns m (record m { deltas = 0 }) [] (bit_or (bit_and status MSR.CHANGES.0) 0)
 turns-status m status w e = record {
   lines = refl;
-  deltas = or_zero_r _ ∙ (or_zero_r _ ∙ (ap (λ v. bit_and v MSR.CHANGES.0) e ∙ (status_deltas m.lines m.deltas w.lines w.deltas ∙ sym (or_zero_r m.deltas))));
+  deltas = or_zero_r _ ∙
+      (or_zero_r _ ∙ (ap (λ v. bit_and v MSR.CHANGES.0) e ∙ (status_deltas m.lines m.deltas w.lines w.deltas ∙ sym (or_zero_r m.deltas))));
 }

@@ -21,15 +21,18 @@ front_of (front ∷ others) false = None
 abbrev pub reported_front : ReceiverState → Option Character
 reported_front r = front_of r.queue r.is_front_reported
 
--- the line status holds the character's errors, or they were reported before; without FIFO it may hold the overrun flag in their place
+-- the line status holds the character's errors, or they were reported before; without FIFO it may hold the overrun flag
+-- in their place
 abbrev pub IsTold : Bool → Option Character → ℕ → Character → Type 0
 IsTold fifo reported line character =
-    (reported ≡ Some character) ⊎ (IsWithin character.errors line ⊎ ((fifo ≡ false) × (has_any line LSR.OVERRUN_ERROR.0 ≡ true)))
+    (reported ≡ Some character) ⊎
+    (IsWithin character.errors line ⊎ ((fifo ≡ false) × (has_any line LSR.OVERRUN_ERROR.0 ≡ true)))
 
 -- each of these characters was told
 abbrev pub AllTold : Bool → Option Character → ℕ → List Character → Type 0
 AllTold fifo reported line [] = Unit {0}
-AllTold fifo reported line (character ∷ characters) = IsTold fifo reported line character × AllTold fifo reported line characters
+AllTold fifo reported line (character ∷ characters) =
+    IsTold fifo reported line character × AllTold fifo reported line characters
 
 -- ---- modem changes
 

@@ -1,5 +1,6 @@
 -- What holds of every machine that was built, whatever happened to it since.
-use Rattle.std.specs.Prelude.{◌≡◌, ◌≢◌, ℕ, ◌+◌, ◌*◌, ◌<◌, ◌≤◌, Bool, true, false, List, [], ◌∷◌, length, Option, Some, None}
+use Rattle.std.specs.Prelude.{◌≡◌, ◌≢◌, ℕ, ◌+◌, ◌*◌, ◌<◌, ◌≤◌, Bool, true, false, List, [], ◌∷◌, length, Option, Some}
+use Rattle.std.specs.Prelude.{None}
 use Rattle.std.specs.List.{AllByRecursion}
 use Rattle.uart_chip.specs.declared.event.ArrivalMark.{ArrivalMark}
 use Rattle.uart_chip.specs.declared.event.ArrivalMark.TheVariants.{Pending, Waiting}
@@ -30,7 +31,8 @@ IsInQueue arrived marks stray Looped = stray ≡ false
 -- each of these characters may be in the queue
 abbrev pub AllInQueue : ℕ → List ArrivalMark → Bool → List Character → Type 0
 AllInQueue arrived marks stray [] = Unit {0}
-AllInQueue arrived marks stray (character ∷ characters) = IsInQueue arrived marks stray character.origin × AllInQueue arrived marks stray characters
+AllInQueue arrived marks stray (character ∷ characters) =
+    IsInQueue arrived marks stray character.origin × AllInQueue arrived marks stray characters
 
 -- the origin is not the arrival with this number
 abbrev pub OtherOrigin : ℕ → Origin → Type 0
@@ -123,7 +125,8 @@ pub record IsSoundChip (c : ChipState) : Type 0 where
 abbrev pub AllLegal : List Event → Type 0
 AllLegal = AllByRecursion IsLegal
 
--- the chip is sound, each arrival still to come has a mark, and the events to come are legal: every access keeps it, whatever is written
+-- the chip is sound, each arrival still to come has a mark, and the events to come are legal: every access keeps it,
+-- whatever is written
 pub record IsSound (m : MachineState) : Type 0 where
   pub chip : IsSoundChip m.chip
   pub foreseen : m.chip.receiver.arrived + arrivals m.ahead ≡ length m.chip.receiver.marks
