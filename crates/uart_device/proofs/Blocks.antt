@@ -1,5 +1,6 @@
 -- The accesses of a session in blocks, and what each block writes to the data register and reads from it.
 use Rattle.std.specs.Prelude.{◌≡◌, ℕ, ◌≤◌, Bool, true, ◌||◌, ◌==◌, List, [], ◌∷◌, ◌++◌, length, map, bit_or}
+use Rattle.std.specs.List.{AllByRecursion}
 use Rattle.uart_spec.specs.Access.{Access, Read, Write}
 use Rattle.uart_spec.specs.Bits.{has_any}
 use Rattle.uart_spec.specs.declared.registers.line_control.TheConstants.LCR
@@ -41,8 +42,7 @@ is_quiet (Write offset value) = (offset == offsets.IER) || (offset == offsets.SP
 
 -- only such accesses
 abbrev pub AllQuiet : List Access → Type 0
-AllQuiet [] = Unit {0}
-AllQuiet (access ∷ accesses) = (is_quiet access ≡ true) × AllQuiet accesses
+AllQuiet accesses = AllByRecursion (λ (access : Access). is_quiet access ≡ true) accesses
 
 -- a block as a driver makes it that takes the FIFO to be on or off
 abbrev pub IsFit : Bool → Block → Type 0
@@ -54,8 +54,7 @@ IsFit fifo (Divisor lcr low high) = Unit {0}
 
 -- each of these blocks fits
 abbrev pub AllFit : Bool → List Block → Type 0
-AllFit fifo [] = Unit {0}
-AllFit fifo (block ∷ blocks) = IsFit fifo block × AllFit fifo blocks
+AllFit fifo blocks = AllByRecursion (IsFit fifo) blocks
 
 -- the bytes written to the data register
 abbrev pub written_in : Block → List ℕ

@@ -1,5 +1,6 @@
 -- What lasts of the transmitter while no byte is written: shown once for any property of it.
 use Rattle.std.proofs.Common.{◌≡◌, ℕ, zero, suc, Bool, true, false, ◌==◌, List, [], ◌∷◌, if◌then◌else◌}
+use Rattle.std.specs.List.{AllByRecursion}
 use Rattle.uart_spec.specs.Access.{Access, Read, Write, Path}
 use Rattle.uart_chip.specs.declared.event.Chip.{Chip}
 use Rattle.uart_chip.specs.declared.event.Chip.TheVariants.{Uart16550A, Uart16450}
@@ -32,8 +33,7 @@ SendsNothing (Write offset value) = (offset == offsets.DATA) ≡ false
 
 -- only such accesses
 abbrev pub AllSendNothing : List Access → Type 0
-AllSendNothing [] = Unit {0}
-AllSendNothing (access ∷ accesses) = SendsNothing access × AllSendNothing accesses
+AllSendNothing accesses = AllByRecursion SendsNothing accesses
 
 -- ---- effects
 

@@ -2,7 +2,7 @@
 use Rattle.std.proofs.Common.{◌≡◌, ◌≢◌, ℕ, ◌+◌, ◌≤◌, ◌<◌, Bool, true, false, not, nat_eq, List, [], ◌∷◌, ◌++◌, length, append_assoc}
 use Rattle.std.proofs.Common.{append-nil, refl, arith, sym, ◌∙◌, ap, if◌then◌else◌, slice_set, get_or-set_same, get_or-set_other}
 use Rattle.std.proofs.lemmas.List.{length-set}
-use Rattle.std.specs.List.{filter}
+use Rattle.std.specs.List.{filter, AllByRecursion}
 use Rattle.std.proofs.lemmas.List.Elements.{filter-append}
 use Rattle.std.proofs.lemmas.Grind.{common_steps}
 use Rattle.uart_chip.specs.declared.event.ArrivalMark.{ArrivalMark}
@@ -34,8 +34,7 @@ filter-waits r arrived (character ∷ characters) h =
 
 -- none of these came back in loopback
 abbrev pub NoneLooped : List Character → Type 0
-NoneLooped [] = Unit {0}
-NoneLooped (character ∷ characters) = (is_looped character.origin ≡ false) × NoneLooped characters
+NoneLooped characters = AllByRecursion (λ (character : Character). is_looped character.origin ≡ false) characters
 
 -- no looped character can be lost from now on
 abbrev pub CannotStray : Bool → ReceiverState → Type 0
@@ -48,8 +47,7 @@ IsFinal fifo r (Arrived k) = mark_at r.marks k ≡ Read
 IsFinal fifo r Looped = CannotStray fifo r
 
 abbrev pub AllFinal : Bool → ReceiverState → List Character → Type 0
-AllFinal fifo r [] = Unit {0}
-AllFinal fifo r (character ∷ characters) = IsFinal fifo r character.origin × AllFinal fifo r characters
+AllFinal fifo r characters = AllByRecursion (λ (character : Character). IsFinal fifo r character.origin) characters
 
 -- from r to s these came in, and those were taken
 pub record Moved (fifo : Bool) (r s : ReceiverState) (entering takes : List Character) : Type 0 where

@@ -1,5 +1,6 @@
 -- What the line status tells of errors, and how the modem lines change.
 use Rattle.std.specs.Prelude.{◌≡◌, ◌⊎◌, ℕ, Bool, true, false, List, [], ◌∷◌, Option, Some, None, bit_or}
+use Rattle.std.specs.List.{AllByRecursion}
 use Rattle.uart_chip.specs.declared.event.Event.{Event}
 use Rattle.uart_chip.specs.declared.event.Event.TheVariants.{Lines}
 use Rattle.uart_chip.specs.declared.receiver.Character.{Character}
@@ -30,9 +31,7 @@ IsTold fifo reported line character =
 
 -- each of these characters was told
 abbrev pub AllTold : Bool → Option Character → ℕ → List Character → Type 0
-AllTold fifo reported line [] = Unit {0}
-AllTold fifo reported line (character ∷ characters) =
-    IsTold fifo reported line character × AllTold fifo reported line characters
+AllTold fifo reported line characters = AllByRecursion (IsTold fifo reported line) characters
 
 -- ---- modem changes
 

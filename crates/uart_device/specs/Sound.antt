@@ -30,9 +30,8 @@ IsInQueue arrived marks stray Looped = stray ≡ false
 
 -- each of these characters may be in the queue
 abbrev pub AllInQueue : ℕ → List ArrivalMark → Bool → List Character → Type 0
-AllInQueue arrived marks stray [] = Unit {0}
-AllInQueue arrived marks stray (character ∷ characters) =
-    IsInQueue arrived marks stray character.origin × AllInQueue arrived marks stray characters
+AllInQueue arrived marks stray characters =
+    AllByRecursion (λ (character : Character). IsInQueue arrived marks stray character.origin) characters
 
 -- the origin is not the arrival with this number
 abbrev pub OtherOrigin : ℕ → Origin → Type 0
@@ -41,8 +40,7 @@ OtherOrigin number Looped = Unit {0}
 
 -- none of these characters is the arrival with this number
 abbrev pub NoneIs : ℕ → List Character → Type 0
-NoneIs number [] = Unit {0}
-NoneIs number (character ∷ characters) = OtherOrigin number character.origin × NoneIs number characters
+NoneIs number characters = AllByRecursion (λ (character : Character). OtherOrigin number character.origin) characters
 
 -- none of these characters is the arrival that this origin names
 abbrev pub NoneHas : Origin → List Character → Type 0
@@ -56,8 +54,8 @@ Distinct (character ∷ characters) = NoneHas character.origin characters × Dis
 
 -- each has errors of a character alone
 abbrev pub AllErrorsLegal : List Character → Type 0
-AllErrorsLegal [] = Unit {0}
-AllErrorsLegal (character ∷ characters) = IsWithin character.errors LSR.CHARACTER_ERRORS.0 × AllErrorsLegal characters
+AllErrorsLegal characters =
+    AllByRecursion (λ (character : Character). IsWithin character.errors LSR.CHARACTER_ERRORS.0) characters
 
 -- what waits is marked so, each arrival once and within the room; the marks of those to come are Pending
 pub record IsMarked (fifo : Bool) (r : ReceiverState) : Type 0 where
@@ -123,7 +121,7 @@ pub record IsSoundChip (c : ChipState) : Type 0 where
 
 -- the events keep to the bits that they may have
 abbrev pub AllLegal : List Event → Type 0
-AllLegal = AllByRecursion IsLegal
+AllLegal events = AllByRecursion IsLegal events
 
 -- the chip is sound, each arrival still to come has a mark, and the events to come are legal: every access keeps it,
 -- whatever is written
