@@ -15,7 +15,7 @@ pub use Rattle.uart_language.specs.Output
 pub use Rattle.uart_run.specs.Progress
 pub use Rattle.uart_run.specs.Ready
 pub use Rattle.uart_chip.specs.Receiver
-pub use Rattle.uart_chip.specs.Registers
+pub use Rattle.uart_chip.specs.Masks
 pub use Rattle.uart_run.specs.Run
 pub use Rattle.uart_language.specs.Script
 pub use Rattle.uart_language.specs.ScriptLines

@@ -1,6 +1,6 @@
 -- The FIFO step of an `init` or a loopback test: the FIFO is on afterwards where a level is configured and the chip has one, and the driver knows it.
 use Rattle.std.proofs.Common.{◌≡◌, ℕ, Bool, true, false, ◌&&◌, List, [], ◌∷◌, Option, Some, None, refl, sym, ◌∙◌, ap}
-use Rattle.uart_spec.specs.Bits.{has}
+use Rattle.uart_spec.specs.Bits.{has, has_any}
 use Rattle.uart_spec.specs.declared.registers.fifo_trigger_level.FifoTriggerLevel.{FifoTriggerLevel}
 use Rattle.uart_spec.specs.declared.registers.fifo_trigger_level.FifoTriggerLevel.TheVariants.{One, Four, Eight, Fourteen}
 use Rattle.uart_spec.specs.Access.{Access, Read, Write, Path}
@@ -8,7 +8,7 @@ use Rattle.uart_16550.specs.Grammar.{Settings, Only, Asks}
 use Rattle.uart_16550.specs.Init.{fifo_bits, SetsFifo}
 use Rattle.uart_chip.specs.declared.event.Chip.{Chip}
 use Rattle.uart_chip.specs.declared.event.Chip.TheVariants.{Uart16550A, Uart16450}
-use Rattle.uart_chip.specs.Registers.{has_any, fcr_enable}
+use Rattle.uart_spec.specs.declared.registers.fifo_control.TheConstants.FCR
 use Rattle.uart_chip.specs.Machine.{MachineState, MachineStep}
 use Rattle.uart_run.specs.Ready.{has_fifo, is_level}
 use Rattle.uart_device.specs.Sound.{IsSound}
@@ -17,7 +17,7 @@ use Rattle.uart_run.proofs.Latches.{Kept, kept_in, keep_control, kept_list, kept
 use Rattle.uart_run.proofs.FifoShown.{fifo_shown}
 use Rattle.uart_run.proofs.Pieces.{then_parts}
 
-enables : (level : Option FifoTriggerLevel) → has_any (fifo_bits level) fcr_enable ≡ (is_level level && true)
+enables : (level : Option FifoTriggerLevel) → has_any (fifo_bits level) FCR.FIFO_ENABLE.0 ≡ (is_level level && true)
 enables None = refl
 enables (Some One) = refl
 enables (Some Four) = refl

@@ -17,7 +17,7 @@ use Rattle.uart_16550.specs.Init.{ChecksPresence, frame_bits, line_writes, SetsF
 use Rattle.uart_16550.specs.Tty.{inner_of}
 use Rattle.uart_calls.specs.declared.call.Answer.{Answer}
 use Rattle.uart_calls.specs.declared.call.Answer.TheVariants.{Done, InitRefused}
-use Rattle.uart_chip.specs.Registers.{has_any}
+use Rattle.uart_spec.specs.Bits.{has_any}
 use Rattle.uart_chip.specs.Chip.{is_dlab_set}
 use Rattle.uart_chip.specs.Machine.{MachineState, MachineStep, at_access}
 use Rattle.uart_device.specs.Sound.{IsSound}

@@ -11,7 +11,7 @@ use Rattle.uart_16550.specs.Transmit.{WaitsFor}
 use Rattle.uart_16550.specs.Init.{ChecksPresence, Begins, Ends, DivisorOf, Inits}
 use Rattle.uart_16550.specs.Tty.{inner_of}
 use Rattle.uart_calls.specs.declared.call.Answer.{Answer}
-use Rattle.uart_chip.specs.Registers.{ier_bits}
+use Rattle.uart_chip.specs.Masks.{ier_bits}
 use Rattle.uart_chip.specs.Chip.{is_dlab_set, is_loopback, divisor}
 use Rattle.uart_chip.specs.Machine.{MachineState, MachineStep}
 use Rattle.uart_run.specs.Run.{State, machine_of, HasInited, init_answer}

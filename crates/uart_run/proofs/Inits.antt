@@ -11,9 +11,8 @@ use Rattle.uart_spec.specs.Access.{Access, Read, Write, Path}
 use Rattle.uart_16550.specs.Grammar.{Settings, Only, Then, ReadsRegister}
 use Rattle.uart_16550.specs.Driver.{Fields, settings_of, Saving, Plain, Sets, Next, with_saved}
 use Rattle.uart_16550.specs.Init.{ChecksPresence, frame_bits, line_writes, SetsFifo, DrainsReceiver, Begins, Ends}
-use Rattle.uart_chip.specs.declared.chip.Latches.{Latches}
-use Rattle.uart_chip.specs.Registers.{has_any}
-use Rattle.uart_chip.specs.Chip.{is_dlab_set, divisor}
+use Rattle.uart_spec.specs.Bits.{has_any}
+use Rattle.uart_chip.specs.Chip.{LatchesState, is_dlab_set, divisor}
 use Rattle.uart_chip.specs.Machine.{MachineState, MachineStep}
 use Rattle.uart_run.specs.Ready.{has_fifo, is_level}
 use Rattle.uart_device.specs.Sound.{IsSound}
@@ -58,7 +57,7 @@ frame-dlab config =
 -- ---- up to MCR
 
 -- the latches after the line is set up
-abbrev pub set_up : Config → (divisor mcr scr : ℕ) → Latches
+abbrev pub set_up : Config → (divisor mcr scr : ℕ) → LatchesState
 set_up config divisor mcr scr = record { ier = 0; lcr = frame_bits config; mcr = mcr; scr = scr; dll = divisor % 256; dlm = divisor / 256 }
 
 -- a presence check leaves all but the scratch register

@@ -13,7 +13,7 @@ use Rattle.uart_16550.specs.Loopback.{Exchanges, Enters, Leaves, BeginsTest, Tes
 use Rattle.uart_16550.specs.Tty.{inner_of}
 use Rattle.uart_calls.specs.declared.call.Answer.{Answer}
 use Rattle.uart_calls.specs.declared.call.Answer.TheVariants.{LoopbackRefused}
-use Rattle.uart_chip.specs.Registers.{has_any}
+use Rattle.uart_spec.specs.Bits.{has_any}
 use Rattle.uart_chip.specs.Transmitter.{out}
 use Rattle.uart_chip.specs.Chip.{ChipState, cut_to, cut_of, is_dlab_set}
 use Rattle.uart_chip.specs.Machine.{MachineState, MachineStep}

@@ -2,11 +2,11 @@
 use Rattle.std.proofs.Common.{false, sym, ap, ◌∙◌, ◌≡◌, ℕ, zero, suc, ◌+◌, ◌-◌, ◌≤◌, true, List, [], ◌∷◌, ◌++◌, length, length-append, Option, Some, None, arith}
 use Rattle.uart_spec.specs.Access.{Access, Read, Write, Path}
 use Rattle.uart_chip.specs.declared.event.Event.{Event}
-use Rattle.uart_chip.specs.declared.event.Event.TheVariants.{Ticks, Arrive, Lines, Access as Gate, Mark}
+use Rattle.uart_chip.specs.declared.event.Event.TheVariants.{Ticks, Access as Gate, Mark}
 use Rattle.uart_chip.specs.declared.transmitter.Shifting.{Shifting}
 use Rattle.uart_chip.specs.Transmitter.{TransmitterState, out, shift_bytes}
-use Rattle.uart_chip.specs.Chip.{ChipState, is_dlab_set, is_loopback, tick, ticks, arrive, change_lines, after_read, after_write}
-use Rattle.uart_chip.specs.Machine.{MachineState, MachineStep, before_access, after_access, at_access}
+use Rattle.uart_chip.specs.Chip.{ChipState, is_dlab_set, is_loopback, tick, ticks, after_read, after_write}
+use Rattle.uart_chip.specs.Machine.{MachineState, MachineStep, perform, before_access, after_access, at_access}
 use Rattle.uart_device.specs.Sound.{IsSoundChip, IsSound}
 use Rattle.uart_run.specs.Progress.{TickedAfter, IsTicked, left_of, HasRoom}
 use Rattle.uart_device.proofs.Sounds.{steady_ticks, sound_perform, sound_step, latches-ticks}
@@ -50,18 +50,16 @@ nearer-before passed (Ticks n ∷ events) c w h t =
     let a = nearer-ticks n c w.chip h in
     let b = nearer-before (passed + n) events d (sound_perform (Ticks n) events c w) (flows-nearer n c d (latches-ticks n c) a h) t in
     nearer-less (1 - passed) (n + (1 - (passed + n))) _ _ (omega arith) (nearer-trans n (1 - (passed + n)) c.transmitter d.transmitter _ a b)
-nearer-before passed (Arrive byte errors ∷ events) c w h t = nearer-before passed events (arrive byte errors c) (sound_perform (Arrive byte errors) events c w) h t
-nearer-before passed (Lines inputs ∷ events) c w h t = nearer-before passed events (change_lines inputs c) (sound_perform (Lines inputs) events c w) h t
 nearer-before passed (Gate ∷ events) c w h t = nearer-less (1 - passed) 0 _ _ (omega (arith, t.0)) (nearer-refl c.transmitter)
 nearer-before passed (Mark ∷ events) c w h t = nearer-less (1 - passed) 1 _ _ (omega arith) (nearer-one c w.chip h)
+nearer-before passed (event ∷ events) c w h t = nearer-before passed events (perform event c) (sound_perform event events c w) h t
 
 ticked-after : (passed : ℕ) (events : List Event) → TickedAfter passed events → TickedAfter 0 (after_access events)
 ticked-after passed [] t = tt
 ticked-after passed (Ticks n ∷ events) t = ticked-after (passed + n) events t
-ticked-after passed (Arrive byte errors ∷ events) t = ticked-after passed events t
-ticked-after passed (Lines inputs ∷ events) t = ticked-after passed events t
 ticked-after passed (Gate ∷ events) t = t.1
 ticked-after passed (Mark ∷ events) t = t
+ticked-after passed (_ ∷ events) t = ticked-after passed events t
 
 pub ticked-step : (m n : MachineState) (access : Access) → IsTicked m → MachineStep m access n → IsTicked n
 ticked-step m n (Read offset value) t s = rw s.0 (ticked-after 0 m.ahead t)
