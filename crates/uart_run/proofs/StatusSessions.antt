@@ -59,7 +59,7 @@ lsr_after x s n t links value w within none chain step =
     let p = passes_chain x s n links w within chain in
     let does = step.did.does in
     let path : Path MachineStep (machine_of n) (Read 5 does.0 ∷ []) (machine_of t) = rw does.1 at step.did.path in
-    let same : value ≡ step.result = register_is value step.result step.answered in
+    let same : value ≡ step.outcome = register_is value step.outcome step.answered in
     record {
       made = p.made ++ Read 5 does.0 ∷ [];
       written = reported links;
@@ -119,7 +119,7 @@ msr_after x s n t links value w within none chain step =
     let p = passes_chain x s n links w within chain in
     let does = step.did.does in
     let path : Path MachineStep (machine_of n) (Read 6 does.0 ∷ []) (machine_of t) = rw does.1 at step.did.path in
-    let same : value ≡ step.result = register_is value step.result step.answered in
+    let same : value ≡ step.outcome = register_is value step.outcome step.answered in
     record {
       made = p.made ++ Read 6 does.0 ∷ [];
       written = reported links;

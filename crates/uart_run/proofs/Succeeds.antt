@@ -16,7 +16,8 @@ use Rattle.uart_calls.specs.declared.call.Answer.TheVariants.{Done, Count}
 use Rattle.uart_chip.specs.Machine.{MachineState, MachineStep}
 use Rattle.uart_device.specs.Sound.{IsSound}
 use Rattle.uart_device.specs.Conserved.{out}
-use Rattle.uart_run.specs.Run.{State, machine_of, exact_answer, count_answer}
+use Rattle.uart_calls.specs.Meaning.{exact_answer, count_answer}
+use Rattle.uart_run.specs.Run.{State, machine_of}
 use Rattle.uart_run.specs.Ready.{Ready}
 use Rattle.uart_run.specs.Progress.{IsTimely, IsUnchecked, left, HasRoom}
 use Rattle.uart_device.proofs.Sounds.{sound_path}
