@@ -9,12 +9,12 @@ use Rattle.uart_run.specs.Ready.{ComesTo}
 use Rattle.uart_run.specs.Progress.{IsTimely, Succeeds}
 use Rattle.uart_run.specs.Session.{Follows, AllFollow, Ran}
 use Rattle.uart_run.proofs.Sessions.{session_conserves, sound_call, sound_chain}
-use Rattle.uart_run.proofs.Initialised.{initialises}
-use Rattle.uart_run.proofs.LoopTests.{tested}
+use Rattle.uart_run.proofs.initialising.Initialised.{initialises}
+use Rattle.uart_run.proofs.loopback.LoopTests.{tested}
 use Rattle.uart_run.proofs.ReadyKept.{follows_ready}
-use Rattle.uart_run.proofs.Succeeds.{flush_succeeds, write_succeeds, send_exact_succeeds, text_succeeds}
-use Rattle.uart_run.proofs.InitSucceeds.{init_succeeds}
-use Rattle.uart_run.proofs.LoopSucceeds.{test_succeeds}
+use Rattle.uart_run.proofs.progress.Succeeds.{flush_succeeds, write_succeeds, send_exact_succeeds, text_succeeds}
+use Rattle.uart_run.proofs.initialising.InitSucceeds.{init_succeeds}
+use Rattle.uart_run.proofs.loopback.LoopSucceeds.{test_succeeds}
 
 -- what a call comes to
 comes_to : (s t : State) (call : Call) (a : Answer) → IsSound (machine_of s) → CallStep s call a t → ComesTo s call a t

@@ -25,12 +25,12 @@ use Rattle.uart_device.proofs.BlockLaws.{path_as}
 use Rattle.uart_run.proofs.CallBlocks.{Makes, makes_then, makes_reads, awaited_blocks, round_blocks, sends_all_blocks, try_sends_blocks}
 use Rattle.uart_run.proofs.CallKeeps.{one_fits}
 use Rattle.uart_run.proofs.Pieces.{then_parts, next_stages}
-use Rattle.uart_run.proofs.LoopPhases.{IsEntered, IsReadyToTest, drained, each_exchanged, byte_exchanged}
-use Rattle.uart_run.proofs.LoopWaits.{Lives, lives-path, never_dry, never_full, never_flooded}
-use Rattle.uart_run.proofs.LoopTests.{tested, IsBegun, begun, looped_modes, in_loopback}
-use Rattle.uart_run.proofs.Nearing.{RunsFree, free_runs, free-path}
-use Rattle.uart_run.proofs.WaitEnds.{no_stall-empty}
-use Rattle.uart_run.proofs.Succeeds.{few_left}
+use Rattle.uart_run.proofs.loopback.LoopPhases.{IsEntered, IsReadyToTest, drained, each_exchanged, byte_exchanged}
+use Rattle.uart_run.proofs.loopback.LoopWaits.{Lives, lives-path, never_dry, never_full, never_flooded}
+use Rattle.uart_run.proofs.loopback.LoopTests.{tested, IsBegun, begun, looped_modes, in_loopback}
+use Rattle.uart_run.proofs.progress.Nearing.{RunsFree, free_runs, free-path}
+use Rattle.uart_run.proofs.progress.WaitEnds.{no_stall-empty}
+use Rattle.uart_run.proofs.progress.Succeeds.{few_left}
 
 -- ---- the byte
 

@@ -31,9 +31,9 @@ use Rattle.uart_run.proofs.CallBlocks.{Makes, makes_then, passed_in_blocks, wait
 use Rattle.uart_run.proofs.CallKeeps.{quiet_blocks}
 use Rattle.uart_run.proofs.Latches.{Kept, kept_cut}
 use Rattle.uart_run.proofs.Pieces.{then_parts, next_stages}
-use Rattle.uart_run.proofs.TestedReady.{entered}
-use Rattle.uart_run.proofs.LoopPhases.{idle_sent, IsEntered, IsReadyToTest}
-use Rattle.uart_run.proofs.LoopExchanges.{Cuts, LeadsTo, leads_on, exchange_leads}
+use Rattle.uart_run.proofs.loopback.TestedReady.{entered}
+use Rattle.uart_run.proofs.loopback.LoopPhases.{idle_sent, IsEntered, IsReadyToTest}
+use Rattle.uart_run.proofs.loopback.LoopExchanges.{Cuts, LeadsTo, leads_on, exchange_leads}
 
 -- ---- before the loopback: the transmitter is awaited
 

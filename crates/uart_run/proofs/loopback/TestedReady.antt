@@ -24,9 +24,9 @@ use Rattle.uart_device.proofs.BlockLaws.{path_as}
 use Rattle.uart_run.proofs.Latches.{Kept, kept_in, keep_write, kept_after, kept_list, kept_access, LeftBy}
 use Rattle.uart_run.proofs.Pieces.{then_parts, next_stages}
 use Rattle.uart_run.proofs.KeptLists.{AllKeep, keeps_only, keeps_then, keeps_waits, kept_still}
-use Rattle.uart_run.proofs.KeptExchanges.{keeps_exchanges}
-use Rattle.uart_run.proofs.FifoSteps.{sets_fifo}
-use Rattle.uart_run.proofs.Initialised.{ready_by}
+use Rattle.uart_run.proofs.loopback.KeptExchanges.{keeps_exchanges}
+use Rattle.uart_run.proofs.initialising.FifoSteps.{sets_fifo}
+use Rattle.uart_run.proofs.initialising.Initialised.{ready_by}
 
 -- ---- the first wait
 

@@ -21,10 +21,10 @@ use Rattle.uart_run.specs.Ready.{Ready, has_fifo, is_level, IsInitialised, Initi
 use Rattle.uart_device.specs.Sound.{IsSound}
 use Rattle.uart_run.proofs.Latches.{Kept, kept_in, kept_after, kept_list}
 use Rattle.uart_run.proofs.Pieces.{then_parts, next_stages}
-use Rattle.uart_run.proofs.Presence.{never_absent}
+use Rattle.uart_run.proofs.initialising.Presence.{never_absent}
 use Rattle.uart_run.proofs.KeptLists.{keeps_waits, kept_still}
 use Rattle.uart_run.proofs.EmptyTransmitter.{IsEmpty, empty_shown}
-use Rattle.uart_run.proofs.Inits.{frame-dlab, set_up, Begun, begun, ended}
+use Rattle.uart_run.proofs.initialising.Inits.{frame-dlab, set_up, Begun, begun, ended}
 
 -- ready by what the registers keep
 pub ready_by : (t : State) (k : Kept) → kept_in (machine_of t).chip ≡ k → is_dlab_set k.latches ≡ false → is_loopback k.latches ≡ false → (fields (inner_of t)).fifo ≡ k.fifo → Ready t

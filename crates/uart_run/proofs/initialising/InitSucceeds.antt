@@ -28,10 +28,10 @@ use Rattle.uart_run.specs.Progress.{HasDivisor, IsTimely, HasRoom, left}
 use Rattle.uart_run.proofs.Latches.{Kept, kept_access}
 use Rattle.uart_device.proofs.BlockLaws.{path_as}
 use Rattle.uart_run.proofs.Pieces.{then_parts, next_stages}
-use Rattle.uart_run.proofs.Nearing.{RunsFree, free_runs, free-step, free-path, nearer-latch}
+use Rattle.uart_run.proofs.progress.Nearing.{RunsFree, free_runs, free-step, free-path, nearer-latch}
 use Rattle.uart_run.proofs.SilentLists.{IsSilent, silent_presence, silent_sets_fifo, silent_drains}
-use Rattle.uart_run.proofs.WaitEnds.{no_stall-empty}
-use Rattle.uart_run.proofs.Succeeds.{few_left}
+use Rattle.uart_run.proofs.progress.WaitEnds.{no_stall-empty}
+use Rattle.uart_run.proofs.progress.Succeeds.{few_left}
 
 -- ---- up to the wait
 
