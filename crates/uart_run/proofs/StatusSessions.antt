@@ -60,10 +60,10 @@ record Took (register : ℕ) (saved : Fields → ℕ) (s : State) (a : Answer) (
   pub told : a ≡ Register (bit_or status (saved (fields (inner_of s))))
   pub emptied : saved (fields (inner_of t)) ≡ 0
 
-took : (register : ℕ) (saved : Fields → ℕ) (result status : ℕ) (G : Doing) (s t : State) (a : Answer) → a ≡ Register result →
+takes_status : (register : ℕ) (saved : Fields → ℕ) (result status : ℕ) (G : Doing) (s t : State) (a : Answer) → a ≡ Register result →
     (did : Did MachineStep G (inner_of s) (inner_of t)) → did.list ≡ Read register status ∷ [] →
     result ≡ bit_or status (saved (fields (inner_of s))) → saved (fields (inner_of t)) ≡ 0 → Took register saved s a t
-took register saved result status G s t a answered did is joined emptied =
+takes_status register saved result status G s t a answered did is joined emptied =
     record { status = status; path = rw is at did.path; told = answered ∙ ap (λ v. Register v) joined; emptied = emptied }
 
 told_after : (T : MachineState → MachineState → List Access → List ℕ → List Character → ℕ → ℕ → Type 0) (register : ℕ)
@@ -89,7 +89,7 @@ told_after T register saved x s n t links value w within chain took tells =
 took_lsr : (s t : State) (a : Answer) → CallStep s call.Lsr a t → Took 5 (λ f. f.lsr) s a t
 took_lsr s t a step =
     let does = step.did.does in
-    took 5 (λ f. f.lsr) step.outcome does.0 (TakesLsr step.outcome) s t a step.answered step.did does.1 does.2
+    takes_status 5 (λ f. f.lsr) step.outcome does.0 (TakesLsr step.outcome) s t a step.answered step.did does.1 does.2
     (ap (λ (f : Fields). f.lsr) does.3)
 
 lsr_after : (x : Modes) (s n t : State) (links : List Link) (value : ℕ) → InSession x s → AllWithinSession links → AllNoLsr links →
@@ -127,7 +127,7 @@ tells_line x s t value w a =
 took_msr : (s t : State) (a : Answer) → CallStep s call.Msr a t → Took 6 (λ f. f.msr) s a t
 took_msr s t a step =
     let does = step.did.does in
-    took 6 (λ f. f.msr) step.outcome does.0 (TakesMsr step.outcome) s t a step.answered step.did does.1 does.2
+    takes_status 6 (λ f. f.msr) step.outcome does.0 (TakesMsr step.outcome) s t a step.answered step.did does.1 does.2
     (ap (λ (f : Fields). f.msr) does.3)
 
 msr_after : (x : Modes) (s n t : State) (links : List Link) (value : ℕ) → InSession x s → AllWithinSession links → AllNoMsr links →
