@@ -1,4 +1,4 @@
-//! Makes calls of a driver.
+//! Makes a call of the driver, over any backend.
 ghost use Rattle.std.specs.Prelude.{◌≡◌, ◌≤◌, length};
 ghost use Rattle.uart_spec.specs.Config.{IsComputable};
 ghost use Rattle.uart_calls.specs.Calls.{IsRunnable};
@@ -17,13 +17,13 @@ use uart_spec::{
     StalledError,
 };
 
-/// Makes one call of the driver, over any backend.
+/// Makes one call of the driver, over any backend. Takes no memory.
 ///
-/// Returns what the call's result is as an [`Answer`]: `Done` for a call that succeeded and has nothing to tell, what it
-/// returned or received otherwise, and the refusal or the stall of one that failed. Takes no memory.
+/// Returns [`Answer::Done`] if the call succeeded and has nothing to tell, or else what it returned or received; and if it
+/// failed, its refusal or its stall.
 ///
-/// For [`Call::Next`] the driver does nothing, and the answer is `Done`: a real chip has no schedule. A caller whose device has
-/// one makes that call itself.
+/// For [`Call::Next`] this makes no access and returns `Done`, since a real chip has no schedule. A caller whose device has one
+/// makes that call itself.
 pub fn perform<B: Backend>(uart: &mut Uart16550Tty<B>, call: &Call) -> Answer
     requires { IsRunnable call.now }
     ensures { Performed B.step uart.old call.now result uart.new }

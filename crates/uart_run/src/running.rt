@@ -21,8 +21,7 @@ use uart_device::Device16550;
 ///
 /// An `Init` finds the device, and one that is done leaves such a state, whatever the machine was before it. A `TestLoopback`
 /// in such a state is done or stalls, and where it is done nothing of it went onto the wire. With characters of 5 or 6 bits it
-/// reports an unexpected byte in place of being done. Every call, whatever it answers,
-/// leaves such a state where it found one.
+/// reports an unexpected byte in place of being done. Every call, whatever it answers, leaves such a state where it found one.
 ///
 /// Where each access of the schedule has a tick before it, the spin limit is at least 17 (t + 1) for a character of t ticks, and
 /// the wire has room for all that is to go out, an `Init` with a divisor is done, and from such a state so are `TestLoopback`,
