@@ -90,9 +90,9 @@ MakesNoAccess f l after = (l ≡ []) × (after ≡ f)
 abbrev pub ShowsFifo : Bool → Doing
 ShowsFifo on f l after = (on ≡ f.fifo) × MakesNoAccess f l after
 
--- one read of a register
-abbrev pub ReadsRegister : (register value : ℕ) → Language
-ReadsRegister register value = Only (Read register value ∷ [])
+-- one read of a register, which shows this value
+abbrev pub ShowsRegister : (register value : ℕ) → Language
+ShowsRegister register value = Only (Read register value ∷ [])
 
 -- a text of at most a call's bytes, of which a stall's count is exact
 abbrev pub SendsShortText : List ℕ → Result (Unit {0}) StalledError → Language
@@ -130,13 +130,13 @@ meaning call.TryReceive = saves TryReceive received_answer
 meaning call.Flush = saves Flushes exact_answer
 meaning call.ReadReady = saves AnswersRead ready_answer
 meaning call.WriteReady = saves AnswersWrite ready_answer
-meaning call.Ier = saves (ReadsRegister offsets.IER) Register
-meaning call.Isr = saves (ReadsRegister offsets.ISR) Register
-meaning call.Lcr = saves (ReadsRegister offsets.LCR) Register
-meaning call.Mcr = saves (ReadsRegister offsets.MCR) Register
+meaning call.Ier = saves (ShowsRegister offsets.IER) Register
+meaning call.Isr = saves (ShowsRegister offsets.ISR) Register
+meaning call.Lcr = saves (ShowsRegister offsets.LCR) Register
+meaning call.Mcr = saves (ShowsRegister offsets.MCR) Register
 meaning call.Lsr = means TakesLsr Register
 meaning call.Msr = means TakesMsr Register
-meaning call.Spr = saves (ReadsRegister offsets.SPR) Register
+meaning call.Spr = saves (ShowsRegister offsets.SPR) Register
 meaning call.DllDlm = saves (λ latch. ReadsDivisor latch.0 latch.1) latch_answer
 meaning call.FifoEnabled = means ShowsFifo Flag
 meaning call.Dump = means Dumps Dump
