@@ -10,6 +10,7 @@ pub use Rattle.uart_language.specs.Items
 pub use Rattle.uart_chip.specs.Jumps
 pub use Rattle.uart_device.specs.Laws
 pub use Rattle.uart_chip.specs.Machine
+pub use Rattle.uart_calls.specs.Meaning
 pub use Rattle.uart_chip.specs.Modem
 pub use Rattle.uart_language.specs.Output
 pub use Rattle.uart_run.specs.Progress

@@ -9,7 +9,7 @@ pub mod script;
 #[cfg(test)]
 mod tests;
 
-pub use uart_calls::{Answer, Call};
+pub use uart_calls::{Answer, CALL_BYTES, Call, perform};
 pub use uart_chip::{ArrivalMark, BuildError, Chip, Event};
 pub use uart_device::Device16550;
 pub use uart_run::run;

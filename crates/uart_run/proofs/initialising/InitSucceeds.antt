@@ -15,21 +15,23 @@ use Rattle.uart_16550.specs.Transmit.{WaitsFor}
 use Rattle.uart_16550.specs.Driver.{Fields, fields, settings_of, Doing, Saving, Plain, Sets, Next, with_config, with_fifo}
 use Rattle.uart_16550.specs.Init.{ChecksPresence, frame_bits, line_writes, SetsFifo, DrainsReceiver, Begins, DivisorOf, Inits}
 use Rattle.uart_16550.specs.Tty.{inner_of}
+use Rattle.uart_calls.specs.declared.call.Call.TheVariants as call
 use Rattle.uart_calls.specs.declared.call.Answer.{Answer}
 use Rattle.uart_calls.specs.declared.call.Answer.TheVariants.{Done, InitRefused}
 use Rattle.uart_spec.specs.Bits.{has_any}
 use Rattle.uart_chip.specs.Chip.{is_dlab_set}
 use Rattle.uart_chip.specs.Machine.{MachineState, MachineStep, at_access}
 use Rattle.uart_device.specs.Sound.{IsSound}
-use Rattle.uart_run.specs.Run.{State, machine_of, HasInited, init_answer}
+use Rattle.uart_calls.specs.Meaning.{init_answer}
+use Rattle.uart_run.specs.Run.{State, machine_of, CallStep}
 use Rattle.uart_run.specs.Progress.{HasDivisor, IsTimely, HasRoom, left}
 use Rattle.uart_run.proofs.Latches.{Kept, kept_access}
 use Rattle.uart_device.proofs.BlockLaws.{path_as}
 use Rattle.uart_run.proofs.Pieces.{then_parts, next_stages}
-use Rattle.uart_run.proofs.Nearing.{RunsFree, free_runs, free-step, free-path, nearer-latch}
+use Rattle.uart_run.proofs.progress.Nearing.{RunsFree, free_runs, free-step, free-path, nearer-latch}
 use Rattle.uart_run.proofs.SilentLists.{IsSilent, silent_presence, silent_sets_fifo, silent_drains}
-use Rattle.uart_run.proofs.WaitEnds.{no_stall-empty}
-use Rattle.uart_run.proofs.Succeeds.{few_left}
+use Rattle.uart_run.proofs.progress.WaitEnds.{no_stall-empty}
+use Rattle.uart_run.proofs.progress.Succeeds.{few_left}
 
 -- ---- up to the wait
 
@@ -121,9 +123,9 @@ no_stall-init s t config divisor fifo l w timely room does path =
     let few : left n.chip.transmitter < a.mid.limit = rw (limit-begins config divisor fifo f a.mid a.parts.front a.parts.first) (few_left s a.parts.front n w timely a.parts.before) in
     no_stall-empty (settings_of a.mid) a.mid.limit a.parts.back n (machine_of t) (free_runs n b) few a.parts.second.0 a.parts.after
 
-pub init_succeeds : (s t : State) (config : Config) (a : Answer) → IsSound (machine_of s) → IsTimely s → HasRoom 0 (machine_of s) → HasDivisor config → HasInited config a (inner_of s) (inner_of t) →
+pub init_succeeds : (s t : State) (config : Config) (a : Answer) → IsSound (machine_of s) → IsTimely s → HasRoom 0 (machine_of s) → HasDivisor config → CallStep s (call.Init config) a t →
     a ≢ InitRefused DeviceNotPresent → a ≡ Done
-init_succeeds s t config a w timely room divisor h present = go h.result h.answered h.did.does
+init_succeeds s t config a w timely room divisor h present = go h.outcome h.answered h.did.does
   where
     go : (result : Result (Unit {0}) InitError) → a ≡ init_answer result → Inits config result (fields (inner_of s)) h.did.list (fields (inner_of t)) → a ≡ Done
     go (Ok x) e does = e

@@ -9,12 +9,14 @@ use Rattle.uart_16550.specs.Transmit.{SendMiss, burst_size, Round, IsCut, SendsA
 use Rattle.uart_16550.specs.Driver.{Fields, Saving, Next, fields, settings_of}
 use Rattle.uart_16550.specs.Loopback.{test_byte, test_message, DrainsLoopback, SendsTestByte, ExchangesByte, Echo, EchoFails, WholeFails, EachFails, HasEchoedAll, ExchangesMessage, Exchanges, Enters, Leaves, BeginsTest, Tests, TestsLoopback}
 use Rattle.uart_16550.specs.Tty.{inner_of}
+use Rattle.uart_calls.specs.declared.call.Call.TheVariants as call
 use Rattle.uart_calls.specs.declared.call.Answer.{Answer}
 use Rattle.uart_calls.specs.declared.call.Answer.TheVariants.{LoopbackRefused}
 use Rattle.uart_chip.specs.Transmitter.{room, out}
 use Rattle.uart_chip.specs.Machine.{MachineState, MachineStep}
 use Rattle.uart_device.specs.Sound.{IsSound}
-use Rattle.uart_run.specs.Run.{State, machine_of, Called, loopback_answer}
+use Rattle.uart_calls.specs.Meaning.{loopback_answer}
+use Rattle.uart_run.specs.Run.{State, machine_of, CallStep}
 use Rattle.uart_run.specs.Ready.{Ready, is_narrow, test_answer}
 use Rattle.uart_chip.specs.Chip.{cut_of}
 use Rattle.uart_run.specs.Progress.{IsTimely, HasRoom}
@@ -23,12 +25,12 @@ use Rattle.uart_device.proofs.BlockLaws.{path_as}
 use Rattle.uart_run.proofs.CallBlocks.{Makes, makes_then, makes_reads, awaited_blocks, round_blocks, sends_all_blocks, try_sends_blocks}
 use Rattle.uart_run.proofs.CallKeeps.{one_fits}
 use Rattle.uart_run.proofs.Pieces.{then_parts, next_stages}
-use Rattle.uart_run.proofs.LoopPhases.{IsEntered, IsReadyToTest, drained, each_exchanged, byte_exchanged}
-use Rattle.uart_run.proofs.LoopWaits.{Lives, lives-path, never_dry, never_full, never_flooded}
-use Rattle.uart_run.proofs.LoopTests.{tested, IsBegun, begun, looped_modes, in_loopback}
-use Rattle.uart_run.proofs.Nearing.{RunsFree, free_runs, free-path}
-use Rattle.uart_run.proofs.WaitEnds.{no_stall-empty}
-use Rattle.uart_run.proofs.Succeeds.{few_left}
+use Rattle.uart_run.proofs.loopback.LoopPhases.{IsEntered, IsReadyToTest, drained, each_exchanged, byte_exchanged}
+use Rattle.uart_run.proofs.loopback.LoopWaits.{Lives, lives-path, never_dry, never_full, never_flooded}
+use Rattle.uart_run.proofs.loopback.LoopTests.{tested, IsBegun, begun, looped_modes, in_loopback}
+use Rattle.uart_run.proofs.progress.Nearing.{RunsFree, free_runs, free-path}
+use Rattle.uart_run.proofs.progress.WaitEnds.{no_stall-empty}
+use Rattle.uart_run.proofs.progress.Succeeds.{few_left}
 
 -- ---- the byte
 
@@ -139,7 +141,7 @@ no_stall-begin s n mcr ier l w timely room t path =
     let a = free-path p.front (machine_of s) p.between r (rw p.first.is (tt, (tt, tt))) p.before in
     no_stall-empty v v.limit p.back p.between n (free_runs p.between a) (few_left s p.front p.between w timely p.before) p.second p.after
 
-pub test_succeeds : (s t : State) (a : Answer) → IsSound (machine_of s) → Ready s → IsTimely s → HasRoom 0 (machine_of s) → Called TestsLoopback loopback_answer a (inner_of s) (inner_of t) → a ≡ test_answer (is_narrow (machine_of s).chip)
+pub test_succeeds : (s t : State) (a : Answer) → IsSound (machine_of s) → Ready s → IsTimely s → HasRoom 0 (machine_of s) → CallStep s call.TestLoopback a t → a ≡ test_answer (is_narrow (machine_of s).chip)
 test_succeeds s t a w ready timely room h = go (tested s t a w ready h).answers
   where
     f : Fields
@@ -164,4 +166,4 @@ test_succeeds s t a w ready timely room h = go (tested s t a w ready h).answers
 
     go : (a ≡ test_answer (is_narrow (machine_of s).chip)) ⊎ (a ≡ LoopbackRefused Stalled) → a ≡ test_answer (is_narrow (machine_of s).chip)
     go (inl e) = e
-    go (inr e) = absurd (never h.result (refused h.result (sym h.answered ∙ e)) h.did.does)
+    go (inr e) = absurd (never h.outcome (refused h.outcome (sym h.answered ∙ e)) h.did.does)

@@ -12,8 +12,8 @@ use Rattle.uart_chip.specs.Machine.{MachineState, MachineStep}
 use Rattle.uart_run.specs.Progress.{left_of, left}
 use Rattle.uart_device.specs.Sound.{IsTicking}
 use Rattle.uart_chip.proofs.Bits.{has_one}
-use Rattle.uart_run.proofs.Left.{Nearer}
-use Rattle.uart_run.proofs.Nearing.{Runs, runs-look, nearer-step}
+use Rattle.uart_run.proofs.progress.Left.{Nearer}
+use Rattle.uart_run.proofs.progress.Nearing.{Runs, runs-look, nearer-step}
 use Rattle.uart_device.proofs.BlockLaws.{path_split, path_as, look_room}
 use Rattle.uart_run.proofs.EmptyTransmitter.{look_empty}
 

@@ -22,7 +22,7 @@ use Rattle.uart_device.proofs.BlockLaws.{path_as}
 use Rattle.uart_run.proofs.Latches.{Kept, kept_in, kept_after, kept_list, kept_path, LeftBy}
 use Rattle.uart_run.proofs.Pieces.{then_parts, next_stages}
 use Rattle.uart_run.proofs.KeptLists.{keeps_drains, kept_still}
-use Rattle.uart_run.proofs.FifoSteps.{sets_fifo}
+use Rattle.uart_run.proofs.initialising.FifoSteps.{sets_fifo}
 use Rattle.uart_device.proofs.Lasting.{AllSendNothing}
 use Rattle.uart_run.proofs.EmptyTransmitter.{IsEmpty, empty_path}
 

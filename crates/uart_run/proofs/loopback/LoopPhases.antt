@@ -25,7 +25,7 @@ use Rattle.uart_run.proofs.Latches.{Kept, kept_in, kept_cut, kept_access, kept_l
 use Rattle.uart_run.proofs.Pieces.{then_parts}
 use Rattle.uart_run.proofs.KeptLists.{AllKeep, keeps_then, keeps_few, keeps_miss, keeps_hit, kept_still}
 use Rattle.uart_device.proofs.LoopAccesses.{IsLooped}
-use Rattle.uart_run.proofs.LoopBlocks.{IsIdle, CameBack, comes_back}
+use Rattle.uart_run.proofs.loopback.LoopBlocks.{IsIdle, CameBack, comes_back}
 
 -- ---- an idle chip
 

@@ -10,19 +10,21 @@ use Rattle.uart_16550.specs.Driver.{Fields, fields, settings_of, Saving, Sets, N
 use Rattle.uart_16550.specs.Transmit.{WaitsFor}
 use Rattle.uart_16550.specs.Init.{ChecksPresence, Begins, Ends, DivisorOf, Inits}
 use Rattle.uart_16550.specs.Tty.{inner_of}
+use Rattle.uart_calls.specs.declared.call.Call.TheVariants as call
 use Rattle.uart_calls.specs.declared.call.Answer.{Answer}
 use Rattle.uart_chip.specs.Masks.{ier_bits}
 use Rattle.uart_chip.specs.Chip.{is_dlab_set, is_loopback, divisor}
 use Rattle.uart_chip.specs.Machine.{MachineState, MachineStep}
-use Rattle.uart_run.specs.Run.{State, machine_of, HasInited, init_answer}
+use Rattle.uart_calls.specs.Meaning.{init_answer}
+use Rattle.uart_run.specs.Run.{State, machine_of, CallStep}
 use Rattle.uart_run.specs.Ready.{Ready, has_fifo, is_level, IsInitialised, Initialises}
 use Rattle.uart_device.specs.Sound.{IsSound}
 use Rattle.uart_run.proofs.Latches.{Kept, kept_in, kept_after, kept_list}
 use Rattle.uart_run.proofs.Pieces.{then_parts, next_stages}
-use Rattle.uart_run.proofs.Presence.{never_absent}
+use Rattle.uart_run.proofs.initialising.Presence.{never_absent}
 use Rattle.uart_run.proofs.KeptLists.{keeps_waits, kept_still}
 use Rattle.uart_run.proofs.EmptyTransmitter.{IsEmpty, empty_shown}
-use Rattle.uart_run.proofs.Inits.{frame-dlab, set_up, Begun, begun, ended}
+use Rattle.uart_run.proofs.initialising.Inits.{frame-dlab, set_up, Begun, begun, ended}
 
 -- ready by what the registers keep
 pub ready_by : (t : State) (k : Kept) → kept_in (machine_of t).chip ≡ k → is_dlab_set k.latches ≡ false → is_loopback k.latches ≡ false → (fields (inner_of t)).fifo ≡ k.fifo → Ready t
@@ -108,8 +110,8 @@ untouched s t l none same p ready =
 
 -- ---- whatever it answers
 
-pub initialises : (s t : State) (config : Config) (a : Answer) → IsSound (machine_of s) → HasInited config a (inner_of s) (inner_of t) → Initialises config a t
-initialises s t config a w h = go h.result h.answered h.did.does
+pub initialises : (s t : State) (config : Config) (a : Answer) → IsSound (machine_of s) → CallStep s (call.Init config) a t → Initialises config a t
+initialises s t config a w h = go h.outcome h.answered h.did.does
   where
     go : (result : Result (Unit {0}) InitError) → a ≡ init_answer result → Inits config result (fields (inner_of s)) h.did.list (fields (inner_of t)) → Initialises config a t
     go (Ok x) e (d, on, of, does) = record { is_present = λ r. absurd (cc); leaves = λ r. done config d on (fields (inner_of s)) h.did.list (machine_of s) t w of does h.did.path }
@@ -117,8 +119,8 @@ initialises s t config a w h = go h.result h.answered h.did.does
     go (Err DeviceNotPresent) e (d, of, does) = absurd (found config (fields (inner_of s)) (fields (inner_of t)) h.did.list (machine_of s) (machine_of t) does h.did.path)
     go (Err Stalled) e does = record { is_present = λ r. absurd (cc); leaves = λ r. absurd (cc) }
 
-pub init_ready : (s t : State) (config : Config) (a : Answer) → IsSound (machine_of s) → HasInited config a (inner_of s) (inner_of t) → Ready s → Ready t
-init_ready s t config a w h ready = go h.result h.did.does
+pub init_ready : (s t : State) (config : Config) (a : Answer) → IsSound (machine_of s) → CallStep s (call.Init config) a t → Ready s → Ready t
+init_ready s t config a w h ready = go h.outcome h.did.does
   where
     go : (result : Result (Unit {0}) InitError) → Inits config result (fields (inner_of s)) h.did.list (fields (inner_of t)) → Ready t
     go (Ok x) (d, on, of, does) = (done config d on (fields (inner_of s)) h.did.list (machine_of s) t w of does h.did.path).ready

@@ -17,8 +17,8 @@ use Rattle.uart_device.specs.Sound.{IsSound}
 use Rattle.uart_run.specs.Progress.{IsTicked, left}
 use Rattle.uart_chip.proofs.Bits.{has_one}
 use Rattle.uart_device.proofs.Sounds.{sound_path}
-use Rattle.uart_run.proofs.Left.{left-most}
-use Rattle.uart_run.proofs.Nearing.{Runs, ticked-path}
+use Rattle.uart_run.proofs.progress.Left.{left-most}
+use Rattle.uart_run.proofs.progress.Nearing.{Runs, ticked-path}
 use Rattle.uart_device.proofs.Constants.{same_pace}
 use Rattle.uart_device.proofs.Went.{Modes, loopback-in}
 use Rattle.uart_device.proofs.BlockLaws.{look_data}
@@ -27,9 +27,9 @@ use Rattle.uart_run.proofs.CallBlocks.{InBlocks, Makes, blocks_none, blocks_then
 use Rattle.uart_run.proofs.Pieces.{then_parts}
 use Rattle.uart_device.proofs.Loops.{line_in, Fits, fits-after, line-length}
 use Rattle.uart_device.proofs.LoopAccesses.{IsLooped, loops_read}
-use Rattle.uart_run.proofs.LoopBlocks.{loops_in_blocks}
-use Rattle.uart_run.proofs.LoopPhases.{IsEntered, IsReadyToTest, never_refused}
-use Rattle.uart_run.proofs.WaitEnds.{Awaited, no_stall, all_empty}
+use Rattle.uart_run.proofs.loopback.LoopBlocks.{loops_in_blocks}
+use Rattle.uart_run.proofs.loopback.LoopPhases.{IsEntered, IsReadyToTest, never_refused}
+use Rattle.uart_run.proofs.progress.WaitEnds.{Awaited, no_stall, all_empty}
 
 -- a sound machine to which ticks come, and a limit that exceeds the ticks that its transmitter may take
 pub record Lives (limit : ℕ) (m : MachineState) : Type 0 where

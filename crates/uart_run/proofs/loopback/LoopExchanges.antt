@@ -12,7 +12,7 @@ use Rattle.uart_16550.specs.Loopback.{test_byte, test_message, DrainsLoopback, E
 use Rattle.uart_chip.specs.Machine.{MachineState, MachineStep}
 use Rattle.uart_device.proofs.Went.{Modes}
 use Rattle.uart_run.proofs.Pieces.{then_parts}
-use Rattle.uart_run.proofs.LoopPhases.{IsEntered, IsReadyToTest, drained, byte_exchanged, message_exchanged, never_refused}
+use Rattle.uart_run.proofs.loopback.LoopPhases.{IsEntered, IsReadyToTest, drained, byte_exchanged, message_exchanged, never_refused}
 
 -- so characters are cut: narrow, so that the test byte is another, or so that no byte of the test is
 abbrev pub Cuts : Bool → (ℕ → ℕ) → Type 0

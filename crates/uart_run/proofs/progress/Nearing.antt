@@ -12,7 +12,7 @@ use Rattle.uart_run.specs.Progress.{TickedAfter, IsTicked, left_of, HasRoom}
 use Rattle.uart_device.proofs.Sounds.{steady_ticks, sound_perform, sound_step, latches-ticks}
 use Rattle.uart_run.proofs.Latches.{Kept, kept_step}
 use Rattle.uart_device.proofs.Lasting.{LastsInAccesses, SendsNothing, AllSendNothing, lasts-read, lasts-write, lasts-latch}
-use Rattle.uart_run.proofs.Left.{Nearer, nearer-refl, nearer-trans, nearer-less, nearer-tick}
+use Rattle.uart_run.proofs.progress.Left.{Nearer, nearer-refl, nearer-trans, nearer-less, nearer-tick}
 
 -- the wire takes all that is to go out
 abbrev pub Fits : TransmitterState → Type 0

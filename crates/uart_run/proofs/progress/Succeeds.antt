@@ -16,19 +16,20 @@ use Rattle.uart_calls.specs.declared.call.Answer.TheVariants.{Done, Count}
 use Rattle.uart_chip.specs.Machine.{MachineState, MachineStep}
 use Rattle.uart_device.specs.Sound.{IsSound}
 use Rattle.uart_device.specs.Conserved.{out}
-use Rattle.uart_run.specs.Run.{State, machine_of, exact_answer, count_answer}
+use Rattle.uart_calls.specs.Meaning.{exact_answer, count_answer}
+use Rattle.uart_run.specs.Run.{State, machine_of}
 use Rattle.uart_run.specs.Ready.{Ready}
 use Rattle.uart_run.specs.Progress.{IsTimely, IsUnchecked, left, HasRoom}
 use Rattle.uart_device.proofs.Sounds.{sound_path}
-use Rattle.uart_run.proofs.Left.{left-most}
-use Rattle.uart_run.proofs.Nearing.{Runs, ticked-path}
+use Rattle.uart_run.proofs.progress.Left.{left-most}
+use Rattle.uart_run.proofs.progress.Nearing.{Runs, ticked-path}
 use Rattle.uart_device.proofs.Constants.{same_pace}
 use Rattle.uart_device.proofs.BlockLaws.{PassedBlocks, path_split, path_as}
 use Rattle.uart_run.proofs.CallBlocks.{InBlocks, Makes, passed_in_blocks, pieces_blocks, cut_whole}
 use Rattle.uart_run.proofs.CallKeeps.{sends_each_blocks}
 use Rattle.uart_run.proofs.CallLaws.{InSession}
 use Rattle.uart_run.proofs.SessionCalls.{modes_of, in_session}
-use Rattle.uart_run.proofs.WaitEnds.{no_stall-empty, no_stall-room}
+use Rattle.uart_run.proofs.progress.WaitEnds.{no_stall-empty, no_stall-room}
 
 -- the call's own settings
 abbrev pub settings_at : State → Settings

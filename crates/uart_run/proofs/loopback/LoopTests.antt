@@ -11,6 +11,7 @@ use Rattle.uart_16550.specs.Driver.{Fields, Saving, Plain, Sets, Next, fields, s
 use Rattle.uart_16550.specs.Init.{SetsFifo}
 use Rattle.uart_16550.specs.Loopback.{Exchanges, Enters, Leaves, BeginsTest, Tests, IsStalled, TestsLoopback, with_changes, line_changes}
 use Rattle.uart_16550.specs.Tty.{inner_of}
+use Rattle.uart_calls.specs.declared.call.Call.TheVariants as call
 use Rattle.uart_calls.specs.declared.call.Answer.{Answer}
 use Rattle.uart_calls.specs.declared.call.Answer.TheVariants.{LoopbackRefused}
 use Rattle.uart_spec.specs.Bits.{has_any}
@@ -18,7 +19,8 @@ use Rattle.uart_chip.specs.Transmitter.{out}
 use Rattle.uart_chip.specs.Chip.{ChipState, cut_to, cut_of, is_dlab_set}
 use Rattle.uart_chip.specs.Machine.{MachineState, MachineStep}
 use Rattle.uart_device.specs.Sound.{IsSound}
-use Rattle.uart_run.specs.Run.{State, machine_of, Called, loopback_answer}
+use Rattle.uart_calls.specs.Meaning.{loopback_answer}
+use Rattle.uart_run.specs.Run.{State, machine_of, CallStep}
 use Rattle.uart_run.specs.Served.{IsFlushed}
 use Rattle.uart_run.specs.Ready.{Ready, is_narrow, test_answer, IsTested}
 use Rattle.uart_device.proofs.Went.{Modes, IsIn}
@@ -29,9 +31,9 @@ use Rattle.uart_run.proofs.CallBlocks.{Makes, makes_then, passed_in_blocks, wait
 use Rattle.uart_run.proofs.CallKeeps.{quiet_blocks}
 use Rattle.uart_run.proofs.Latches.{Kept, kept_cut}
 use Rattle.uart_run.proofs.Pieces.{then_parts, next_stages}
-use Rattle.uart_run.proofs.TestedReady.{entered}
-use Rattle.uart_run.proofs.LoopPhases.{idle_sent, IsEntered, IsReadyToTest}
-use Rattle.uart_run.proofs.LoopExchanges.{Cuts, LeadsTo, leads_on, exchange_leads}
+use Rattle.uart_run.proofs.loopback.TestedReady.{entered}
+use Rattle.uart_run.proofs.loopback.LoopPhases.{idle_sent, IsEntered, IsReadyToTest}
+use Rattle.uart_run.proofs.loopback.LoopExchanges.{Cuts, LeadsTo, leads_on, exchange_leads}
 
 -- ---- before the loopback: the transmitter is awaited
 
@@ -149,8 +151,8 @@ answer_tested s t a (Err fault) e (inl o) =
     record { answers = inr stalled; leaves = λ d. absurd (no_stall (is_narrow (machine_of s).chip) (sym stalled ∙ d)) }
 answer_tested s t a (Err fault) e (inr o) = record { answers = inl (e ∙ (ap (λ v. LoopbackRefused v) o.1 ∙ sym (ap test_answer o.0))); leaves = λ d. o.2 }
 
-pub tested : (s t : State) (a : Answer) → IsSound (machine_of s) → Ready s → Called TestsLoopback loopback_answer a (inner_of s) (inner_of t) → IsTested s a t
-tested s t a sound r h = answer_tested s t a h.result h.answered (go h.did.does)
+pub tested : (s t : State) (a : Answer) → IsSound (machine_of s) → Ready s → CallStep s call.TestLoopback a t → IsTested s a t
+tested s t a sound r h = answer_tested s t a h.outcome h.answered (go h.did.does)
   where
     gone : List ℕ
     gone = out (machine_of s).chip.transmitter
@@ -158,10 +160,10 @@ tested s t a sound r h = answer_tested s t a h.result h.answered (go h.did.does)
     flushed : IsSent gone (machine_of t).chip.transmitter → IsFlushed s t
     flushed w = record { is_empty = shown_sent gone (machine_of t).chip.transmitter w; wire = w.wire }
 
-    go : TestsLoopback h.result (fields (inner_of s)) h.did.list (fields (inner_of t)) → LeadsTo (is_narrow (machine_of s).chip) (IsFlushed s t) h.result
-    go (mcr, ier, inl k) = stalled_leads (is_narrow (machine_of s).chip) _ h.result k.0
+    go : TestsLoopback h.outcome (fields (inner_of s)) h.did.list (fields (inner_of t)) → LeadsTo (is_narrow (machine_of s).chip) (IsFlushed s t) h.outcome
+    go (mcr, ier, inl k) = stalled_leads (is_narrow (machine_of s).chip) _ h.outcome k.0
     go (mcr, ier, inr k) =
-        let c = next_stages (Saving (BeginsTest mcr ier true)) (Tests mcr ier h.result) (fields (inner_of s)) (fields (inner_of t)) h.did.list (machine_of s) (machine_of t) k h.did.path in
+        let c = next_stages (Saving (BeginsTest mcr ier true)) (Tests mcr ier h.outcome) (fields (inner_of s)) (fields (inner_of t)) h.did.list (machine_of s) (machine_of t) k h.did.path in
         let b = begun s c.parts.between mcr ier c.parts.front sound r c.parts.first.0 c.parts.before in
-        leads_on (is_narrow (machine_of s).chip) _ _ h.result flushed
-        (test_leads (is_narrow (machine_of s).chip) (cut_of (machine_of s).chip) gone mcr ier h.result c.mid (fields (inner_of t)) c.parts.back c.parts.between (machine_of t) (chip_cuts (machine_of s).chip) b c.parts.second c.parts.after)
+        leads_on (is_narrow (machine_of s).chip) _ _ h.outcome flushed
+        (test_leads (is_narrow (machine_of s).chip) (cut_of (machine_of s).chip) gone mcr ier h.outcome c.mid (fields (inner_of t)) c.parts.back c.parts.between (machine_of t) (chip_cuts (machine_of s).chip) b c.parts.second c.parts.after)

@@ -14,7 +14,7 @@ use Rattle.uart_run.specs.Ready.{has_fifo, is_level}
 use Rattle.uart_device.specs.Sound.{IsSound}
 use Rattle.uart_device.proofs.BlockLaws.{path_as}
 use Rattle.uart_run.proofs.Latches.{Kept, kept_in, keep_control, kept_list, kept_path}
-use Rattle.uart_run.proofs.FifoShown.{fifo_shown}
+use Rattle.uart_run.proofs.initialising.FifoShown.{fifo_shown}
 use Rattle.uart_run.proofs.Pieces.{then_parts}
 
 enables : (level : Option FifoTriggerLevel) → has_any (fifo_bits level) FCR.FIFO_ENABLE.0 ≡ (is_level level && true)

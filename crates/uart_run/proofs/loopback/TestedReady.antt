@@ -9,12 +9,14 @@ use Rattle.uart_16550.specs.Transmit.{WaitsFor}
 use Rattle.uart_16550.specs.Init.{SetsFifo}
 use Rattle.uart_16550.specs.Loopback.{Exchanges, Enters, Leaves, BeginsTest, Tests, TestsLoopback}
 use Rattle.uart_16550.specs.Tty.{inner_of}
+use Rattle.uart_calls.specs.declared.call.Call.TheVariants as call
 use Rattle.uart_calls.specs.declared.call.Answer.{Answer}
 use Rattle.uart_spec.specs.Bits.{has_any}
 use Rattle.uart_chip.specs.Masks.{ier_bits, mcr_bits}
 use Rattle.uart_chip.specs.Chip.{is_dlab_set}
 use Rattle.uart_chip.specs.Machine.{MachineState, MachineStep}
-use Rattle.uart_run.specs.Run.{State, machine_of, Called, loopback_answer}
+use Rattle.uart_calls.specs.Meaning.{loopback_answer}
+use Rattle.uart_run.specs.Run.{State, machine_of, CallStep}
 use Rattle.uart_run.specs.Ready.{Ready}
 use Rattle.uart_device.specs.Sound.{IsSound}
 use Rattle.uart_chip.proofs.Bits.{has_and}
@@ -23,9 +25,9 @@ use Rattle.uart_device.proofs.BlockLaws.{path_as}
 use Rattle.uart_run.proofs.Latches.{Kept, kept_in, keep_write, kept_after, kept_list, kept_access, LeftBy}
 use Rattle.uart_run.proofs.Pieces.{then_parts, next_stages}
 use Rattle.uart_run.proofs.KeptLists.{AllKeep, keeps_only, keeps_then, keeps_waits, kept_still}
-use Rattle.uart_run.proofs.KeptExchanges.{keeps_exchanges}
-use Rattle.uart_run.proofs.FifoSteps.{sets_fifo}
-use Rattle.uart_run.proofs.Initialised.{ready_by}
+use Rattle.uart_run.proofs.loopback.KeptExchanges.{keeps_exchanges}
+use Rattle.uart_run.proofs.initialising.FifoSteps.{sets_fifo}
+use Rattle.uart_run.proofs.initialising.Initialised.{ready_by}
 
 -- ---- the first wait
 
@@ -113,18 +115,18 @@ tests_ready result mcr ier f l m t w dlab no_loop (before, on, does) p =
         ready_by t (restored mcr ier (looped on (kept_in m.chip))) (out.kept ∙ back) dlab (has_and 4 mcr 31 refl ∙ no_loop) (out.knows ∙ knows)
 
 -- MCR is written back as it was
-pub tested_ready : (s t : State) (a : Answer) → IsSound (machine_of s) → Called TestsLoopback loopback_answer a (inner_of s) (inner_of t) → Ready s → Ready t
+pub tested_ready : (s t : State) (a : Answer) → IsSound (machine_of s) → CallStep s call.TestLoopback a t → Ready s → Ready t
 tested_ready s t a w h ready = go h.did.does
   where
-    go : TestsLoopback h.result (fields (inner_of s)) h.did.list (fields (inner_of t)) → Ready t
+    go : TestsLoopback h.outcome (fields (inner_of s)) h.did.list (fields (inner_of t)) → Ready t
     go (mcr, ier, inl (stalls, (begins, same))) =
         let still = kept_still (settings_of (fields (inner_of s))) (BeginsTest mcr ier false) h.did.list (machine_of s) (machine_of t) (keeps_begins (settings_of (fields (inner_of s))) mcr ier false) ready.dlab begins h.did.path in
         ready_by t (kept_in (machine_of s).chip) still ready.dlab ready.loopback (ap (λ (g : Fields). g.fifo) same ∙ sym ready.fifo)
     go (mcr, ier, inr does) =
         let v = settings_of (fields (inner_of s)) in
-        let a = next_stages (Saving (BeginsTest mcr ier true)) (Tests mcr ier h.result) (fields (inner_of s)) (fields (inner_of t)) h.did.list (machine_of s) (machine_of t) does h.did.path in
+        let a = next_stages (Saving (BeginsTest mcr ier true)) (Tests mcr ier h.outcome) (fields (inner_of s)) (fields (inner_of t)) h.did.list (machine_of s) (machine_of t) does h.did.path in
         let still = kept_still v (BeginsTest mcr ier true) a.parts.front (machine_of s) a.parts.between (keeps_begins v mcr ier true) ready.dlab a.parts.first.0 a.parts.before in
-        tests_ready h.result mcr ier a.mid a.parts.back a.parts.between t (sound_path a.parts.front (machine_of s) a.parts.between w a.parts.before)
+        tests_ready h.outcome mcr ier a.mid a.parts.back a.parts.between t (sound_path a.parts.front (machine_of s) a.parts.between w a.parts.before)
         (ap (λ (k : Kept). is_dlab_set k.latches) still ∙ ready.dlab)
         (ap (λ b. has_any b 16) (mcr_read v mcr ier true a.parts.front (machine_of s) a.parts.between a.parts.first.0 a.parts.before) ∙ ready.loopback)
         a.parts.second a.parts.after
