@@ -1,9 +1,8 @@
-pub mod ScriptLines
-pub mod ScriptDigits
-pub mod ScriptBytes
-pub mod ScriptReadings
-pub mod ScriptMeanings
-pub mod ScriptFaults
-pub mod ScriptExact
-pub mod ScriptParsed
-pub mod ScriptPlayable
+pub mod Lines
+pub mod Digits
+pub mod Readings
+pub mod Meanings
+pub mod Faults
+pub mod Exact
+pub mod Parsed
+pub mod Playable

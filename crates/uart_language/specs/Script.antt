@@ -15,7 +15,7 @@ use Rattle.uart_calls.specs.Calls.{IsRunnable}
 use Rattle.uart_language.specs.Text.{lines_of, words_of, word_at, has_bad_byte}
 use Rattle.uart_language.specs.Fields.{number_in, chip_in}
 use Rattle.uart_language.specs.Words.{word_of, has_count, is_placed, fields_of}
-use Rattle.uart_language.specs.ScriptLines.{Saying, Nothing, Limit, events_of, calls_of, plain, Means}
+use Rattle.uart_language.specs.Sayings.{Saying, Nothing, Limit, events_of, calls_of, plain, Means}
 
 -- ---- the script
 

@@ -4,7 +4,7 @@ ghost use Rattle.std.specs.Prelude.{◌≡◌};
 ghost use Rattle.uart_language.specs.Text.{words_of};
 ghost use Rattle.uart_language.specs.Fields.{seen};
 ghost use Rattle.uart_language.specs.Items.{config_in, arrival_in, call_of, item_of, starts_with, item_at, header_in, header_at, saying_of};
-ghost use Rattle.uart_language.specs.ScriptLines.{plain};
+ghost use Rattle.uart_language.specs.Sayings.{plain};
 
 use super::cause::Cause;
 use super::fields::{

@@ -4,9 +4,9 @@ ghost use Rattle.std.specs.Prelude.{◌≡◌, ◌+◌, ◌<◌, ◌≤◌, leng
 ghost use Rattle.std.specs.Int.NonZero.{non_zero_u64_get};
 ghost use Rattle.uart_language.specs.Text.{lines_of};
 ghost use Rattle.uart_language.specs.Items.{saying_of};
-ghost use Rattle.uart_language.specs.ScriptLines.{plain};
+ghost use Rattle.uart_language.specs.Sayings.{plain};
 ghost use Rattle.uart_language.specs.Script.{plan_of, IsParsed};
-ghost use Rattle.uart_language.specs.ScriptReading.{sayings_from, with_saying, added, planned, script_of, Refuses, Checks, Builds};
+ghost use Rattle.uart_language.specs.Reading.{sayings_from, with_saying, added, planned, script_of, Refuses, Checks, Builds};
 
 use super::cause::{Cause, ScriptError};
 use super::items::{Header, Item, header_at, item_at};

@@ -30,11 +30,11 @@ use Rattle.uart_device.specs.Conserved.{waiting}
 use Rattle.uart_language.specs.Output.{printed}
 use Rattle.uart_language.specs.Script.{Plan, IsScript}
 use Rattle.uart_machine.specs.ScriptOutput.{IsFirst, output_of}
-use Rattle.uart_language.specs.ScriptReading.{Fault}
+use Rattle.uart_language.specs.Reading.{Fault}
 use Rattle.uart_machine.specs.Play.{IsPlayed, Outcome}
 use Rattle.uart_machine.specs.OneOutcome.{IsSameState}
-use Rattle.uart_language.proofs.ScriptExact.{script_is_read}
-use Rattle.uart_language.proofs.ScriptPlayable.{playable}
+use Rattle.uart_language.proofs.Exact.{script_is_read}
+use Rattle.uart_language.proofs.Playable.{playable}
 
 -- the machine's step is a function
 machine_is_function : IsFunction MachineStep

@@ -7,7 +7,7 @@ use Rattle.uart_calls.specs.declared.call.Call.TheVariants as call
 use Rattle.uart_calls.specs.declared.call.Answer.{Answer}
 use Rattle.std.specs.Prelude.{All}
 use Rattle.uart_calls.specs.Calls.{IsRunnable}
-use Rattle.uart_language.specs.ScriptLines.{plain}
+use Rattle.uart_language.specs.Sayings.{plain}
 use Rattle.uart_run.specs.Run.{State, CallStep, Link, Chain, calls_of, answers_of, IsRun}
 use Rattle.uart_run.specs.Session.{Ran}
 

@@ -4,6 +4,7 @@ mod counts;
 mod cut;
 mod driver;
 mod idle;
+mod paths;
 mod schedules;
 
 use crate::{ArrivalMark, BuildError, Chip, Device16550, Event};

@@ -1,4 +1,4 @@
-use Rattle.uart_language.proofs.ScriptDigits.{Reads}
+use Rattle.uart_language.proofs.Digits.{Reads}
 use Rattle.uart_language.proofs.fields.decimal.Given as goal
 
 abbrev pub invariant-loop-digit : goal.invariant-loop-digit

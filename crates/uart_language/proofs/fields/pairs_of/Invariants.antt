@@ -1,5 +1,5 @@
 use Rattle.std.proofs.Common.{length}
-use Rattle.uart_language.proofs.ScriptDigits.{ReadsPairs}
+use Rattle.uart_language.proofs.Digits.{ReadsPairs}
 use Rattle.uart_language.proofs.fields.pairs_of.Given as goal
 
 abbrev pub invariant-loop-rest : goal.invariant-loop-rest

@@ -1,8 +1,8 @@
 use Rattle.std.proofs.Common.{◌≡◌, ◌≤◌, length}
 use Rattle.uart_language.specs.Text.{lines_of}
-use Rattle.uart_language.specs.ScriptReading.{sayings_from, planned}
+use Rattle.uart_language.specs.Reading.{sayings_from, planned}
 use Rattle.uart_language.specs.Script.{plan_of}
-use Rattle.uart_language.proofs.ScriptReadings.{ends_in}
+use Rattle.uart_language.proofs.Readings.{ends_in}
 use Rattle.uart_language.proofs.parsing.build.Given as goal
 
 abbrev pub invariant-loop-rest : goal.invariant-loop-rest

@@ -1,7 +1,7 @@
 use Rattle.std.proofs.Common.{◌≡◌, ◌≤◌, length}
 use Rattle.uart_language.specs.Text.{lines_of}
 use Rattle.uart_language.specs.Words.{fault_of}
-use Rattle.uart_language.specs.ScriptReading.{sayings_from}
+use Rattle.uart_language.specs.Reading.{sayings_from}
 use Rattle.uart_language.proofs.parsing.check.Given as goal
 
 abbrev pub invariant-loop-rest : goal.invariant-loop-rest

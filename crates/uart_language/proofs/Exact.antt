@@ -8,13 +8,13 @@ use Rattle.uart_language.specs.declared.items.Header.{Header}
 use Rattle.uart_language.specs.Text.{lines_of}
 use Rattle.uart_language.specs.Fields.{◌>>=◌}
 use Rattle.uart_language.specs.Words.{fault_of}
-use Rattle.uart_language.specs.ScriptLines.{Saying}
+use Rattle.uart_language.specs.Sayings.{Saying}
 use Rattle.uart_language.specs.Script.{Plan, SayInOrder, IsScript, fault_at, AreFaultless, IsFirstFault, IsFaulty, long, empty, faulty}
 use Rattle.uart_language.specs.Items.{item_at, header_at}
-use Rattle.uart_language.specs.ScriptReading.{Fault, on_line, numbered, before, sayings_from, plan_by, planned, from_lines, script_of}
-use Rattle.uart_language.proofs.ScriptLines.{lines_first, is_end}
-use Rattle.uart_language.proofs.ScriptMeanings.{says_what_is_read, reads_what_is_said}
-use Rattle.uart_language.proofs.ScriptFaults.{line_fault, header_fault, says_header, reads_header}
+use Rattle.uart_language.specs.Reading.{Fault, on_line, numbered, before, sayings_from, plan_by, planned, from_lines, script_of}
+use Rattle.uart_language.proofs.Lines.{lines_first, is_end}
+use Rattle.uart_language.proofs.Meanings.{says_what_is_read, reads_what_is_said}
+use Rattle.uart_language.proofs.Faults.{line_fault, header_fault, says_header, reads_header}
 
 -- ---- values and faults
 

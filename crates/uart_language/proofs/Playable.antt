@@ -14,8 +14,8 @@ use Rattle.uart_language.specs.declared.cause.Cause.{Cause}
 use Rattle.uart_language.specs.declared.cause.Cause.TheVariants.{BadWord}
 use Rattle.uart_language.specs.Fields.{◌>>=◌, is_number, number_in, lines_in, errors_in, rate_of, rate_in}
 use Rattle.uart_calls.specs.Calls.{IsRunnable}
-use Rattle.uart_language.specs.ScriptLines.{Saying, Nothing, Limit, Happens, Calls, Marks, Means, events_of, calls_of}
-use Rattle.uart_language.specs.ScriptLines as row
+use Rattle.uart_language.specs.Sayings.{Saying, Nothing, Limit, Happens, Calls, Marks, Means, events_of, calls_of}
+use Rattle.uart_language.specs.Sayings as row
 use Rattle.uart_language.specs.Script.{Plan, Says, blank, printable, SayInOrder, limit_from, IsScript, IsSound, IsPlayable}
 
 -- ---- fields

@@ -19,8 +19,8 @@ use Rattle.uart_language.specs.declared.words.Word.TheVariants as word
 use Rattle.uart_language.specs.Text.{words_of, word_at, has_bad_byte}
 use Rattle.uart_language.specs.Fields.{◌>>=◌, number_in, byte_in, lines_in, bytes_in, text_in, errors_in, level_in, rate_in, cts_in, interrupts_in, word_length_in}
 use Rattle.uart_language.specs.Words.{name_of, words, word_of, has_count, is_placed}
-use Rattle.uart_language.specs.ScriptLines.{Saying, Nothing, Limit, Happens, Calls, Marks, configured, bytes_of, text_of, Means}
-use Rattle.uart_language.specs.ScriptLines as row
+use Rattle.uart_language.specs.Sayings.{Saying, Nothing, Limit, Happens, Calls, Marks, configured, bytes_of, text_of, Means}
+use Rattle.uart_language.specs.Sayings as row
 use Rattle.uart_language.specs.Script.{Says, blank, printable}
 use Rattle.uart_language.specs.Items.{config_in, arrival_in, call_of, item_of, placed, starts_with, item_at}
 

@@ -8,7 +8,7 @@ use Rattle.uart_language.specs.declared.items.Header.{Header}
 use Rattle.uart_language.specs.declared.parsing.Script.{Script}
 use Rattle.uart_language.specs.Text.{lines_of}
 use Rattle.uart_language.specs.Fields.{◌>>=◌}
-use Rattle.uart_language.specs.ScriptLines.{Saying, events_of, calls_of}
+use Rattle.uart_language.specs.Sayings.{Saying, events_of, calls_of}
 use Rattle.uart_language.specs.Script.{Plan, limit_from, default_limit, plan_of}
 use Rattle.uart_language.specs.Items.{header_at, item_at}
 

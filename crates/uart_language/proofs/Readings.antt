@@ -15,11 +15,11 @@ use Rattle.uart_language.specs.declared.items.Header.{Header}
 use Rattle.uart_language.specs.declared.parsing.Script.{Script}
 use Rattle.uart_language.specs.Text.{lines_of}
 use Rattle.uart_language.specs.Words.{fault_of}
-use Rattle.uart_language.specs.ScriptLines.{Saying, Nothing, Limit, Happens, Calls, Marks, events_of, calls_of}
+use Rattle.uart_language.specs.Sayings.{Saying, Nothing, Limit, Happens, Calls, Marks, events_of, calls_of}
 use Rattle.uart_language.specs.Script.{Plan, limit_from, default_limit}
 use Rattle.uart_language.specs.Items.{item_at, header_at}
-use Rattle.uart_language.specs.ScriptReading.{Fault, sayings_from, with_saying, planned, from_lines, script_of, Refuses, Builds, Parses, added}
-use Rattle.uart_language.proofs.ScriptLines.{lines_first, is_end}
+use Rattle.uart_language.specs.Reading.{Fault, sayings_from, with_saying, planned, from_lines, script_of, Refuses, Builds, Parses, added}
+use Rattle.uart_language.proofs.Lines.{lines_first, is_end}
 
 abbrev said : Saying → Result Saying Cause
 said s = Ok s

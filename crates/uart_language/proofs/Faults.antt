@@ -15,10 +15,10 @@ use Rattle.uart_language.specs.declared.words.Word.TheVariants as word
 use Rattle.uart_language.specs.Text.{words_of, word_at, has_bad_byte}
 use Rattle.uart_language.specs.Fields.{◌>>=◌, number_in, byte_in, lines_in, bytes_in, text_in, errors_in, chip_in, cut_in, level_in, rate_in, cts_in, interrupts_in, word_length_in}
 use Rattle.uart_language.specs.Words.{name_of, word_of, fault_of, fields_of, has_count, is_placed}
-use Rattle.uart_language.specs.ScriptLines.{Nothing, Limit, Calls, Happens, configured, bytes_of, text_of}
+use Rattle.uart_language.specs.Sayings.{Nothing, Limit, Calls, Happens, configured, bytes_of, text_of}
 use Rattle.uart_language.specs.Script.{IsHeader, option_words, fault_where, first_of, field_faults, word_faults, fault_at}
 use Rattle.uart_language.specs.Items.{config_in, arrival_in, call_of, item_of, placed, starts_with, item_at, header_in, header_at}
-use Rattle.uart_language.proofs.ScriptMeanings.{not_first, name_is}
+use Rattle.uart_language.proofs.Meanings.{not_first, name_is}
 
 -- ---- the fields of a line
 
