@@ -15,9 +15,9 @@ use Rattle.uart_language.specs.declared.words.Word.TheVariants as word
 use Rattle.uart_language.specs.Text.{words_of, word_at, has_bad_byte}
 use Rattle.uart_language.specs.Fields.{◌>>=◌, number_in, byte_in, lines_in, bytes_in, text_in, errors_in, chip_in, cut_in, level_in, rate_in, cts_in, interrupts_in, word_length_in}
 use Rattle.uart_language.specs.Words.{name_of, word_of, fault_of, fields_of, has_count, is_placed}
-use Rattle.uart_language.specs.Sayings.{Nothing, Limit, Calls, Happens, configured, bytes_of, text_of}
+use Rattle.uart_language.specs.Sayings.{Nothing, Limit, Calls, Happens, configured, array_of, text_of}
 use Rattle.uart_language.specs.Script.{IsHeader, option_words, fault_where, first_of, field_faults, word_faults, fault_at}
-use Rattle.uart_language.specs.Items.{config_in, arrival_in, call_of, item_of, placed, starts_with, item_at, header_in, header_at}
+use Rattle.uart_language.specs.Items.{config_in, arrival_in, call_of, item_of, placed_word, starts_with, item_at, header_in, header_at}
 use Rattle.uart_language.proofs.Meanings.{not_first, name_is}
 
 -- ---- the fields of a line
@@ -110,9 +110,9 @@ item_fault word.Disable name rest c other = call_field_fault (interrupts_in) (ca
 item_fault word.Receive name rest c other = call_field_fault (number_in 0 64) (call.Receive) name rest c
 item_fault word.ReceiveExact name rest c other = call_field_fault (number_in 0 64) (call.ReceiveExact) name rest c
 item_fault word.Read name rest c other = call_field_fault (number_in 0 64) (call.Read) name rest c
-item_fault word.Send name rest c other = call_field_fault (bytes_in) (λ x. call.Send (bytes_of x)) name rest c
-item_fault word.SendExact name rest c other = call_field_fault (bytes_in) (λ x. call.SendExact (bytes_of x)) name rest c
-item_fault word.Write name rest c other = call_field_fault (bytes_in) (λ x. call.Write (bytes_of x)) name rest c
+item_fault word.Send name rest c other = call_field_fault (bytes_in) (λ x. call.Send (array_of x)) name rest c
+item_fault word.SendExact name rest c other = call_field_fault (bytes_in) (λ x. call.SendExact (array_of x)) name rest c
+item_fault word.Write name rest c other = call_field_fault (bytes_in) (λ x. call.Write (array_of x)) name rest c
 item_fault word.Text name rest c other = call_field_fault (text_in) (λ x. call.Text (text_of x)) name rest c
 item_fault w name rest c other = refl
 
@@ -136,13 +136,13 @@ unplaced_fault false read = refl
 not_chip : (number : ℕ) (w : Word) → 2 ≤ number → is_placed number (Some w) ≡ true → w ≡ word.Chip → ⊥
 not_chip number w le p e = let one : eqb number 1 ≡ true = subst (λ x. is_placed number (Some x) ≡ true) e p in omega (arith, eqb-true number 1 one)
 
-word_fault : (number : ℕ) (first : Option Word) (ws : List (List ℕ)) → 2 ≤ number → fault_of (placed number ws first >>= (λ w. item_of w ws)) ≡ first_of (word_faults number first ws)
+word_fault : (number : ℕ) (first : Option Word) (ws : List (List ℕ)) → 2 ≤ number → fault_of (placed_word number ws first >>= (λ w. item_of w ws)) ≡ first_of (word_faults number first ws)
 word_fault number None ws le = unplaced_fault (is_placed number None) _
 word_fault number (Some w) [] le = placed_fault number w [] _ _ (λ v. item_of v []) (λ p c. absurd (no_count w c))
 word_fault number (Some w) (text ∷ rest) le = placed_fault number w (text ∷ rest) _ _ (λ v. item_of v (text ∷ rest)) (λ p c. item_fault w text rest c (not_chip number w le p))
 
 line_fault_by : (number : ℕ) (line : List ℕ) (none bad : Bool) → 2 ≤ number
-    → fault_of (cond none (Ok Nothing) (cond bad (Err BadByte) (placed number (words_of line) (word_of (word_at 0 (words_of line)))) >>= (λ w. item_of w (words_of line))))
+    → fault_of (cond none (Ok Nothing) (cond bad (Err BadByte) (placed_word number (words_of line) (word_of (word_at 0 (words_of line)))) >>= (λ w. item_of w (words_of line))))
     ≡ cond (none && not (eqb number 1)) None (first_of (fault_where bad BadByte ∷ word_faults number (word_of (word_at 0 (words_of line))) (words_of line)))
 line_fault_by number line true bad le = rw (not_first number le) refl
 line_fault_by number line false true le = refl
@@ -172,13 +172,13 @@ header_words_fault (name ∷ NAME ∷ T ∷ W ∷ []) c = three_fault (chip_in N
 header_words_fault (name ∷ NAME ∷ T ∷ W ∷ C ∷ []) c = four_fault (chip_in NAME) (number_in 1 1000 T) (number_in 0 65536 W) (cut_in C) header_of
 header_words_fault (name ∷ NAME ∷ T ∷ W ∷ C ∷ X ∷ rest) c = absurd (four_or_five (length rest) c)
 
-first_word_fault : (first : Option Word) (ws : List (List ℕ)) → fault_of (placed 1 ws first >>= (λ w. header_in ws)) ≡ first_of (word_faults 1 first ws)
+first_word_fault : (first : Option Word) (ws : List (List ℕ)) → fault_of (placed_word 1 ws first >>= (λ w. header_in ws)) ≡ first_of (word_faults 1 first ws)
 first_word_fault None ws = refl
 first_word_fault (Some word.Chip) ws = placed_fault 1 word.Chip ws true _ (λ w. header_in ws) (λ p c. header_words_fault ws c)
 first_word_fault (Some w) ws = refl
 
 header_fault_by : (line : List ℕ) (none bad : Bool)
-    → fault_of (cond bad (Err BadByte) (placed 1 (words_of line) (word_of (word_at 0 (words_of line)))) >>= (λ w. header_in (words_of line)))
+    → fault_of (cond bad (Err BadByte) (placed_word 1 (words_of line) (word_of (word_at 0 (words_of line)))) >>= (λ w. header_in (words_of line)))
     ≡ cond (none && false) None (first_of (fault_where bad BadByte ∷ word_faults 1 (word_of (word_at 0 (words_of line))) (words_of line)))
 header_fault_by line true true = refl
 header_fault_by line false true = refl
@@ -239,7 +239,7 @@ counted true r x e = (refl, e)
 counted false r x e = absurd cc
 
 header_by : (line : List ℕ) (h : Header) (bad : Bool) (first : Option Word) → has_bad_byte line ≡ bad → word_of (word_at 0 (words_of line)) ≡ first
-    → (cond bad (Err BadByte) (placed 1 (words_of line) first) >>= (λ w. header_in (words_of line))) ≡ Ok h → IsHeader line h.chip h.ticks h.wire_capacity h.cuts
+    → (cond bad (Err BadByte) (placed_word 1 (words_of line) first) >>= (λ w. header_in (words_of line))) ≡ Ok h → IsHeader line h.chip h.ticks h.wire_capacity h.cuts
 header_by line h true first b f e = absurd cc
 header_by line h false None b f e = absurd cc
 header_by line h false (Some word.Chip) b f e =

@@ -19,16 +19,16 @@ use Rattle.uart_language.specs.declared.words.Word.TheVariants as word
 use Rattle.uart_language.specs.Text.{words_of, word_at, has_bad_byte}
 use Rattle.uart_language.specs.Fields.{◌>>=◌, number_in, byte_in, lines_in, bytes_in, text_in, errors_in, level_in, rate_in, cts_in, interrupts_in, word_length_in}
 use Rattle.uart_language.specs.Words.{name_of, words, word_of, has_count, is_placed}
-use Rattle.uart_language.specs.Sayings.{Saying, Nothing, Limit, Happens, Calls, Marks, configured, bytes_of, text_of, Means}
+use Rattle.uart_language.specs.Sayings.{Saying, Nothing, Limit, Happens, Calls, Marks, configured, array_of, text_of, Means}
 use Rattle.uart_language.specs.Sayings as row
 use Rattle.uart_language.specs.Script.{Says, blank, printable}
-use Rattle.uart_language.specs.Items.{config_in, arrival_in, call_of, item_of, placed, starts_with, item_at}
+use Rattle.uart_language.specs.Items.{config_in, arrival_in, call_of, item_of, placed_word, starts_with, item_at}
 
 -- ---- what the words mean is what is read
 
 -- what the words of a line are read as
 abbrev read_of : ℕ → List (List ℕ) → Result Saying Cause
-read_of number ws = placed number ws (word_of (word_at 0 ws)) >>= (λ word. item_of word ws)
+read_of number ws = placed_word number ws (word_of (word_at 0 ws)) >>= (λ word. item_of word ws)
 
 pub not_first : (number : ℕ) → 2 ≤ number → eqb number 1 ≡ false
 not_first number le = ne_eqb number 1 (λ e. omega arith)
@@ -184,9 +184,9 @@ is_meant number word.Disable rest s le p c e = call_field number _ (interrupts_i
 is_meant number word.Receive rest s le p c e = call_field number _ (number_in 0 64) (call.Receive) rest s c e (λ W x h. row.receive h)
 is_meant number word.ReceiveExact rest s le p c e = call_field number _ (number_in 0 64) (call.ReceiveExact) rest s c e (λ W x h. row.receive_exact h)
 is_meant number word.Read rest s le p c e = call_field number _ (number_in 0 64) (call.Read) rest s c e (λ W x h. row.read h)
-is_meant number word.Send rest s le p c e = call_field number _ (bytes_in) (λ x. call.Send (bytes_of x)) rest s c e (λ W x h. row.send h)
-is_meant number word.SendExact rest s le p c e = call_field number _ (bytes_in) (λ x. call.SendExact (bytes_of x)) rest s c e (λ W x h. row.send_exact h)
-is_meant number word.Write rest s le p c e = call_field number _ (bytes_in) (λ x. call.Write (bytes_of x)) rest s c e (λ W x h. row.write h)
+is_meant number word.Send rest s le p c e = call_field number _ (bytes_in) (λ x. call.Send (array_of x)) rest s c e (λ W x h. row.send h)
+is_meant number word.SendExact rest s le p c e = call_field number _ (bytes_in) (λ x. call.SendExact (array_of x)) rest s c e (λ W x h. row.send_exact h)
+is_meant number word.Write rest s le p c e = call_field number _ (bytes_in) (λ x. call.Write (array_of x)) rest s c e (λ W x h. row.write h)
 is_meant number word.Text rest s le p c e = call_field number _ (text_in) (λ x. call.Text (text_of x)) rest s c e (λ W x h. row.text h)
 
 -- ---- the first word
@@ -218,7 +218,7 @@ no_word : {A : Type 0} (b : Bool) (x : A) → cond b (Err UnknownWord) (Err Misp
 no_word true x e = absurd cc
 no_word false x e = absurd cc
 
-placed_is : (number : ℕ) (ws : List (List ℕ)) (first : Option Word) (w : Word) → placed number ws first ≡ Ok w → IsPlaced number ws first w
+placed_is : (number : ℕ) (ws : List (List ℕ)) (first : Option Word) (w : Word) → placed_word number ws first ≡ Ok w → IsPlaced number ws first w
 placed_is number ws None w e = absurd (no_word (is_placed number None) w e)
 placed_is number ws (Some v) w e = placed_by number ws v w _ _ refl refl e
 
@@ -230,10 +230,10 @@ bind_ok (Err c) f y e = absurd cc
 pub means_what_is_read : (number : ℕ) (ws : List (List ℕ)) (s : Saying) → 2 ≤ number → read_of number ws ≡ Ok s → Means number ws s
 unfolding word_of
 means_what_is_read number [] s le e =
-    let first = bind_ok (placed number [] None) (λ w. item_of w []) s e in
+    let first = bind_ok (placed_word number [] None) (λ w. item_of w []) s e in
     absurd (no_word (is_placed number None) first.0 first.1)
 means_what_is_read number (text ∷ rest) s le e =
-    let first = bind_ok (placed number (text ∷ rest) (word_of text)) (λ w. item_of w (text ∷ rest)) s e in
+    let first = bind_ok (placed_word number (text ∷ rest) (word_of text)) (λ w. item_of w (text ∷ rest)) s e in
     let p = placed_is number (text ∷ rest) (word_of text) first.0 first.1 in
     let name : name_of first.0 ≡ text = name_is text first.0 p.word_is in
     subst (λ x. Means number (x ∷ rest) s) name (is_meant number first.0 rest s le p.place p.count (subst (λ x. item_of first.0 (x ∷ rest) ≡ Ok s) (sym name) first.2))
@@ -241,7 +241,7 @@ means_what_is_read number (text ∷ rest) s le e =
 -- ---- a line after the first
 
 says_by : (number : ℕ) (line : List ℕ) (s : Saying) (none bad : Bool) → 2 ≤ number → eqb (length line) 0 ≡ none → has_bad_byte line ≡ bad
-    → cond none (read Nothing) (cond bad (Err BadByte) (placed number (words_of line) (word_of (word_at 0 (words_of line)))) >>= (λ w. item_of w (words_of line))) ≡ Ok s → Says number line s
+    → cond none (read Nothing) (cond bad (Err BadByte) (placed_word number (words_of line) (word_of (word_at 0 (words_of line)))) >>= (λ w. item_of w (words_of line))) ≡ Ok s → Says number line s
 says_by number line s true bad le n b e = blank (nil_from_length line (eqb-true _ _ n)) (sym (ok_is e))
 says_by number line s false true le n b e = absurd cc
 says_by number line s false false le n b e = printable b (means_what_is_read number (words_of line) s le e)
@@ -253,7 +253,7 @@ says_what_is_read number line s le e = says_by number line s _ _ le refl refl e
 is_read_by : (number : ℕ) (line : List ℕ) (s : Saying) → 2 ≤ number → has_bad_byte line ≡ false → read_of number (words_of line) ≡ Ok s → item_at number line ≡ Ok s
 unfolding item_at starts_with word_of
 is_read_by number [] s le b e =
-    let first = bind_ok (placed number ([] ∷ []) None) (λ w. item_of w ([] ∷ [])) s e in
+    let first = bind_ok (placed_word number ([] ∷ []) None) (λ w. item_of w ([] ∷ [])) s e in
     absurd (no_word (is_placed number None) first.0 first.1)
 is_read_by number (byte ∷ line) s le b e = rw (b, eqb-suc-zero (length line)) e
 

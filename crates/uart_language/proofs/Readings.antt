@@ -15,10 +15,10 @@ use Rattle.uart_language.specs.declared.items.Header.{Header}
 use Rattle.uart_language.specs.declared.parsing.Script.{Script}
 use Rattle.uart_language.specs.Text.{lines_of}
 use Rattle.uart_language.specs.Words.{fault_of}
-use Rattle.uart_language.specs.Sayings.{Saying, Nothing, Limit, Happens, Calls, Marks, events_of, calls_of}
+use Rattle.uart_language.specs.Sayings.{Saying, Nothing, Limit, Happens, Calls, Marks, events_said, calls_said}
 use Rattle.uart_language.specs.Script.{Plan, limit_from, default_limit}
 use Rattle.uart_language.specs.Items.{item_at, header_at}
-use Rattle.uart_language.specs.Reading.{Fault, sayings_from, with_saying, planned, from_lines, script_of, Refuses, Builds, Parses, added}
+use Rattle.uart_language.specs.Reading.{Fault, sayings_from, with_saying, planned, from_lines, script_of, Refuses, BuildsPlan, Parses, added}
 use Rattle.uart_language.proofs.Lines.{lines_first, is_end}
 
 abbrev said : Saying → Result Saying Cause
@@ -67,7 +67,7 @@ all_read number bytes (Err f) e h = let none = ap fault_of (no_lines number byte
 
 -- the script that plan becomes by the lines that are left
 abbrev pub ends_in : Plan → Result (List Saying) Fault → Result Plan Fault
-ends_in plan (Ok sayings) = Ok (record plan { limit = limit_from plan.limit sayings; events = plan.events ++ flat_map events_of sayings; calls = plan.calls ++ flat_map calls_of sayings })
+ends_in plan (Ok sayings) = Ok (record plan { limit = limit_from plan.limit sayings; events = plan.events ++ flat_map events_said sayings; calls = plan.calls ++ flat_map calls_said sayings })
 ends_in plan (Err e) = Err e
 
 limit_after : (limit : ℕ) (s : Saying) (sayings : List Saying) → limit_from limit (s ∷ sayings) ≡ limit_from (limit_from limit (s ∷ [])) sayings
@@ -79,10 +79,10 @@ limit_after limit Marks sayings = refl
 
 pub grows : (plan : Plan) (s : Saying) (sayings : Result (List Saying) Fault) → ends_in plan (with_saying s sayings) ≡ ends_in (added plan s) sayings
 grows plan s (Ok sayings) =
-    let es : plan.events ++ flat_map events_of (s ∷ sayings) ≡ (plan.events ++ events_of s) ++ flat_map events_of sayings =
-    ap (λ (x : List Event). plan.events ++ x) (flat_map-cons events_of s sayings) ∙ sym (append_assoc plan.events (events_of s) (flat_map events_of sayings)) in
-    let cs : plan.calls ++ flat_map calls_of (s ∷ sayings) ≡ (plan.calls ++ calls_of s) ++ flat_map calls_of sayings =
-    ap (λ (x : List Call). plan.calls ++ x) (flat_map-cons calls_of s sayings) ∙ sym (append_assoc plan.calls (calls_of s) (flat_map calls_of sayings)) in
+    let es : plan.events ++ flat_map events_said (s ∷ sayings) ≡ (plan.events ++ events_said s) ++ flat_map events_said sayings =
+    ap (λ (x : List Event). plan.events ++ x) (flat_map-cons events_said s sayings) ∙ sym (append_assoc plan.events (events_said s) (flat_map events_said sayings)) in
+    let cs : plan.calls ++ flat_map calls_said (s ∷ sayings) ≡ (plan.calls ++ calls_said s) ++ flat_map calls_said sayings =
+    ap (λ (x : List Call). plan.calls ++ x) (flat_map-cons calls_said s sayings) ∙ sym (append_assoc plan.calls (calls_said s) (flat_map calls_said sayings)) in
     let ls : limit_from plan.limit (s ∷ sayings) ≡ limit_from (limit_from plan.limit (s ∷ [])) sayings = limit_after plan.limit s sayings in
     cc
 grows plan s (Err e) = refl
@@ -109,7 +109,7 @@ pub build_refuses : (plan : Plan) (part : Result (List Saying) Fault) (whole : R
 build_refuses plan part whole (errors.Refused line cause) h r = sym h ∙ ap (ends_in plan) r
 build_refuses plan part whole errors.OutOfMemory h r = r
 
-pub builds_refused : (e : ScriptError) (whole : Result Plan Fault) → Refuses e whole → Builds (Err e) whole
+pub builds_refused : (e : ScriptError) (whole : Result Plan Fault) → Refuses e whole → BuildsPlan (Err e) whole
 builds_refused (errors.Refused line cause) whole r = r
 builds_refused errors.OutOfMemory whole r = tt
 
@@ -152,10 +152,10 @@ is_script header (Ok sayings) e = refl
 is_script header (Err f) e = absurd cc
 
 -- where there is a script, out of memory says no more
-parses : (r : Result Script ScriptError) (read : Result Plan Fault) → IsOk read → Builds r read → Parses r read
+parses : (r : Result Script ScriptError) (read : Result Plan Fault) → IsOk read → BuildsPlan r read → Parses r read
 parses (Ok s) read ok h = h
 parses (Err (errors.Refused line cause)) read ok h = h
 parses (Err errors.OutOfMemory) read ok h = ok
 
-pub all_parsed : (header : Header) (sayings : Result (List Saying) Fault) (whole : Result Plan Fault) (r : Result Script ScriptError) → whole ≡ planned header sayings → IsOk sayings → Builds r (planned header sayings) → Parses r whole
+pub all_parsed : (header : Header) (sayings : Result (List Saying) Fault) (whole : Result Plan Fault) (r : Result Script ScriptError) → whole ≡ planned header sayings → IsOk sayings → BuildsPlan r (planned header sayings) → Parses r whole
 all_parsed header sayings whole r h ok b = rw h (parses r _ (is_script header sayings ok) b)

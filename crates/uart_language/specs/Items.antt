@@ -16,7 +16,7 @@ use Rattle.uart_language.specs.declared.words.Word.TheVariants as word
 use Rattle.uart_language.specs.Text.{words_of, word_at, has_bad_byte}
 use Rattle.uart_language.specs.Fields.{◌>>=◌, number_in, byte_in, lines_in, bytes_in, text_in, errors_in, chip_in, cut_in, level_in, rate_in, cts_in, interrupts_in, word_length_in}
 use Rattle.uart_language.specs.Words.{word_of, has_count, is_placed}
-use Rattle.uart_language.specs.Sayings.{Saying, Nothing, Limit, Happens, Calls, Marks, configured, bytes_of, text_of, plain}
+use Rattle.uart_language.specs.Sayings.{Saying, Nothing, Limit, Happens, Calls, Marks, configured, array_of, text_of, plain}
 
 -- init F BAUD C HH BITS
 unfoldable pub config_in : List (List ℕ) → Result Config Cause
@@ -79,13 +79,13 @@ call_of word.Read ws = do
   Ok (call.Read n)
 call_of word.Send ws = do
   bytes ← bytes_in (word_at 1 ws)
-  Ok (call.Send (bytes_of bytes))
+  Ok (call.Send (array_of bytes))
 call_of word.SendExact ws = do
   bytes ← bytes_in (word_at 1 ws)
-  Ok (call.SendExact (bytes_of bytes))
+  Ok (call.SendExact (array_of bytes))
 call_of word.Write ws = do
   bytes ← bytes_in (word_at 1 ws)
-  Ok (call.Write (bytes_of bytes))
+  Ok (call.Write (array_of bytes))
 call_of word.Text ws = do
   bytes ← text_in (word_at 1 ws)
   Ok (call.Text (text_of bytes))
@@ -112,16 +112,16 @@ item_of word ws = do
   Ok (Calls c)
 
 -- the first word, if it stands in its place before as many words as it takes
-abbrev pub placed : ℕ → List (List ℕ) → Option Word → Result Word Cause
-placed number ws None = if is_placed number None then Err UnknownWord else Err Misplaced
-placed number ws (Some word) =
+abbrev pub placed_word : ℕ → List (List ℕ) → Option Word → Result Word Cause
+placed_word number ws None = if is_placed number None then Err UnknownWord else Err Misplaced
+placed_word number ws (Some word) =
     if is_placed number (Some word) then (if has_count word (length ws) then Ok word else Err WrongCount)
     else Err Misplaced
 
 unfoldable pub starts_with : ℕ → List ℕ → Result Word Cause
 starts_with number line =
     if has_bad_byte line then Err BadByte
-    else placed number (words_of line) (word_of (word_at 0 (words_of line)))
+    else placed_word number (words_of line) (word_of (word_at 0 (words_of line)))
 
 -- a line after the first
 unfoldable pub item_at : ℕ → List ℕ → Result Saying Cause

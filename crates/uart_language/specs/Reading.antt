@@ -8,7 +8,7 @@ use Rattle.uart_language.specs.declared.items.Header.{Header}
 use Rattle.uart_language.specs.declared.parsing.Script.{Script}
 use Rattle.uart_language.specs.Text.{lines_of}
 use Rattle.uart_language.specs.Fields.{◌>>=◌}
-use Rattle.uart_language.specs.Sayings.{Saying, events_of, calls_of}
+use Rattle.uart_language.specs.Sayings.{Saying, events_said, calls_said}
 use Rattle.uart_language.specs.Script.{Plan, limit_from, default_limit, plan_of}
 use Rattle.uart_language.specs.Items.{header_at, item_at}
 
@@ -45,8 +45,8 @@ plan_by header sayings = record {
   wire_capacity = header.wire_capacity;
   cuts = header.cuts;
   limit = limit_from default_limit sayings;
-  events = flat_map events_of sayings;
-  calls = flat_map calls_of sayings;
+  events = flat_map events_said sayings;
+  calls = flat_map calls_said sayings;
 }
 
 unfoldable pub planned : Header → Result (List Saying) Fault → Result Plan Fault
@@ -77,10 +77,10 @@ Checks (Ok done) read = IsOk read
 Checks (Err e) read = Refuses e read
 
 -- the script, or the line that is told, or out of memory
-abbrev pub Builds : Result Script ScriptError → Result Plan Fault → Type 0
-Builds (Ok s) read = read ≡ Ok (plan_of s)
-Builds (Err (errors.Refused line cause)) read = read ≡ Err (record { line = line; cause = cause })
-Builds (Err errors.OutOfMemory) read = Unit {0}
+abbrev pub BuildsPlan : Result Script ScriptError → Result Plan Fault → Type 0
+BuildsPlan (Ok s) read = read ≡ Ok (plan_of s)
+BuildsPlan (Err (errors.Refused line cause)) read = read ≡ Err (record { line = line; cause = cause })
+BuildsPlan (Err errors.OutOfMemory) read = Unit {0}
 
 -- the same, out of memory only at a script
 abbrev pub Parses : Result Script ScriptError → Result Plan Fault → Type 0
@@ -90,4 +90,4 @@ Parses (Err errors.OutOfMemory) read = IsOk read
 
 -- a script with one more line
 abbrev pub added : Plan → Saying → Plan
-added plan said = record plan { limit = limit_from plan.limit (said ∷ []); events = plan.events ++ events_of said; calls = plan.calls ++ calls_of said }
+added plan said = record plan { limit = limit_from plan.limit (said ∷ []); events = plan.events ++ events_said said; calls = plan.calls ++ calls_said said }

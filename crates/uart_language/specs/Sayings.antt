@@ -22,15 +22,15 @@ pub data Saying : Type 0 where
   Calls : Call → Saying
   Marks : Saying
 
-abbrev pub events_of : Saying → List Event
-events_of (Happens e) = e ∷ []
-events_of Marks = event.Mark ∷ []
-events_of other = []
+abbrev pub events_said : Saying → List Event
+events_said (Happens e) = e ∷ []
+events_said Marks = event.Mark ∷ []
+events_said other = []
 
-abbrev pub calls_of : Saying → List Call
-calls_of (Calls c) = c ∷ []
-calls_of Marks = call.Next ∷ []
-calls_of other = []
+abbrev pub calls_said : Saying → List Call
+calls_said (Calls c) = c ∷ []
+calls_said Marks = call.Next ∷ []
+calls_said other = []
 
 -- a configuration by the fields of an `init` line, the rest as in the default one
 abbrev pub configured : Option FifoTriggerLevel → BaudRate → Bool → IER → WordLength → Config
@@ -46,8 +46,8 @@ configured level rate cts interrupts word_length = record {
   check_cts_before_sending = cts;
 }
 
-abbrev pub bytes_of : List ℕ → ArrayVec ℕ
-bytes_of bytes = record { items = bytes }
+abbrev pub array_of : List ℕ → ArrayVec ℕ
+array_of bytes = record { items = bytes }
 
 -- a text of these bytes; of the room that it leaves unused nothing is said
 abbrev pub text_of : List ℕ → ArrayString
@@ -95,7 +95,7 @@ pub data Means (number : ℕ) : List (List ℕ) → Saying → Type 0 where
   receive : {N : List ℕ} {n : ℕ} → number_in 0 64 N ≡ Ok n → Means number (codes "receive" ∷ N ∷ []) (Calls (call.Receive n))
   receive_exact : {N : List ℕ} {n : ℕ} → number_in 0 64 N ≡ Ok n → Means number (codes "receive-exact" ∷ N ∷ []) (Calls (call.ReceiveExact n))
   read : {N : List ℕ} {n : ℕ} → number_in 0 64 N ≡ Ok n → Means number (codes "read" ∷ N ∷ []) (Calls (call.Read n))
-  send : {HEX bytes : List ℕ} → bytes_in HEX ≡ Ok bytes → Means number (codes "send" ∷ HEX ∷ []) (Calls (call.Send (bytes_of bytes)))
-  send_exact : {HEX bytes : List ℕ} → bytes_in HEX ≡ Ok bytes → Means number (codes "send-exact" ∷ HEX ∷ []) (Calls (call.SendExact (bytes_of bytes)))
-  write : {HEX bytes : List ℕ} → bytes_in HEX ≡ Ok bytes → Means number (codes "write" ∷ HEX ∷ []) (Calls (call.Write (bytes_of bytes)))
+  send : {HEX bytes : List ℕ} → bytes_in HEX ≡ Ok bytes → Means number (codes "send" ∷ HEX ∷ []) (Calls (call.Send (array_of bytes)))
+  send_exact : {HEX bytes : List ℕ} → bytes_in HEX ≡ Ok bytes → Means number (codes "send-exact" ∷ HEX ∷ []) (Calls (call.SendExact (array_of bytes)))
+  write : {HEX bytes : List ℕ} → bytes_in HEX ≡ Ok bytes → Means number (codes "write" ∷ HEX ∷ []) (Calls (call.Write (array_of bytes)))
   text : {HEX bytes : List ℕ} → text_in HEX ≡ Ok bytes → Means number (codes "text" ∷ HEX ∷ []) (Calls (call.Text (text_of bytes)))

@@ -15,7 +15,7 @@ use Rattle.uart_calls.specs.Calls.{IsRunnable}
 use Rattle.uart_language.specs.Text.{lines_of, words_of, word_at, has_bad_byte}
 use Rattle.uart_language.specs.Fields.{number_in, chip_in}
 use Rattle.uart_language.specs.Words.{word_of, has_count, is_placed, fields_of}
-use Rattle.uart_language.specs.Sayings.{Saying, Nothing, Limit, events_of, calls_of, plain, Means}
+use Rattle.uart_language.specs.Sayings.{Saying, Nothing, Limit, events_said, calls_said, plain, Means}
 
 -- ---- the script
 
@@ -91,8 +91,8 @@ pub record IsScript (bytes : List ℕ) (plan : Plan) : Type 0 where
   pub header : IsHeader first plan.chip plan.ticks plan.wire_capacity plan.cuts
   pub body : SayInOrder 2 others sayings
   pub limit : plan.limit ≡ limit_from default_limit sayings
-  pub events : plan.events ≡ flat_map events_of sayings
-  pub calls : plan.calls ≡ flat_map calls_of sayings
+  pub events : plan.events ≡ flat_map events_said sayings
+  pub calls : plan.calls ≡ flat_map calls_said sayings
 
 -- ---- the first faulty line
 
@@ -159,15 +159,15 @@ pub record IsParsed (bytes : List ℕ) (result : Result Script ScriptError) : Ty
 -- ---- what every script keeps
 
 -- error bits are 2 to 4 of LSR, and modem lines are 4 to 7 of MSR
-abbrev pub IsSound : Event → Type 0
-IsSound (event.Arrive byte errors) = bit_and errors 0x1C ≡ errors
-IsSound (event.Lines lines) = bit_and lines 0xF0 ≡ lines
-IsSound other = ⊤
+abbrev pub IsLegal : Event → Type 0
+IsLegal (event.Arrive byte errors) = bit_and errors 0x1C ≡ errors
+IsLegal (event.Lines lines) = bit_and lines 0xF0 ≡ lines
+IsLegal other = ⊤
 
--- its numbers are in their ranges, its events sound and its calls runnable, so that it can be played
+-- its numbers are in their ranges, its events legal and its calls runnable, so that it can be played
 pub record IsPlayable (plan : Plan) : Type 0 where
   pub ticks : (1 ≤ plan.ticks) × (plan.ticks ≤ 1000)
   pub wire_capacity : plan.wire_capacity ≤ 65536
   pub limit : (1 ≤ plan.limit) × (plan.limit ≤ 1000000)
-  pub events : All IsSound plan.events
+  pub events : All IsLegal plan.events
   pub calls : All IsRunnable plan.calls

@@ -6,7 +6,7 @@ ghost use Rattle.uart_language.specs.Text.{lines_of};
 ghost use Rattle.uart_language.specs.Items.{saying_of};
 ghost use Rattle.uart_language.specs.Sayings.{plain};
 ghost use Rattle.uart_language.specs.Script.{plan_of, IsParsed};
-ghost use Rattle.uart_language.specs.Reading.{sayings_from, with_saying, added, planned, script_of, Refuses, Checks, Builds};
+ghost use Rattle.uart_language.specs.Reading.{sayings_from, with_saying, added, planned, script_of, Refuses, Checks, BuildsPlan};
 
 use super::cause::{Cause, ScriptError};
 use super::items::{Header, Item, header_at, item_at};
@@ -141,7 +141,7 @@ fn check(bytes: &[u8]) -> Result<(), ScriptError>
 
 /// The script of a header and the lines after it.
 fn build(alloc: Global, header: Header, bytes: &[u8]) -> Result<Script, ScriptError>
-    ensures { Builds result (planned header (sayings_from 2 (lines_of bytes.now))) }
+    ensures { BuildsPlan result (planned header (sayings_from 2 (lines_of bytes.now))) }
 {
     let mut script = Script {
         header,

@@ -43,7 +43,7 @@ abbrev pub ConsumesAtMost : ℕ → Option (List ℕ) → Option (List ℕ) → 
 ConsumesAtMost most old new = (bytes : List ℕ) × Consumes old new bytes × (length bytes ≤ most)
 
 -- the text is all of the input, or its first 65,537 bytes
-pub record IsWhole (old new : Option (List ℕ)) (text : List ℕ) : Type 0 where
+pub record IsReadText (old new : Option (List ℕ)) (text : List ℕ) : Type 0 where
   pub consumes : Consumes old new text
   pub to_end : length text < 65537 → IsAtEnd new
 

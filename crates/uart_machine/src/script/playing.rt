@@ -9,7 +9,7 @@ ghost use Rattle.uart_chip.specs.Machine.{fresh, cutting};
 ghost use Rattle.uart_device.specs.Conserved.{waiting};
 ghost use Rattle.uart_language.specs.Output.{printed};
 ghost use Rattle.uart_machine.specs.ScriptOutput.{IsFirst, IsOutput};
-ghost use Rattle.uart_machine.specs.Play.{ConsumesAtMost, is_read_fault, is_write_fault, IsWhole, IsReading, WritesFront, Outcome, WritesNothing, play_error};
+ghost use Rattle.uart_machine.specs.Play.{ConsumesAtMost, is_read_fault, is_write_fault, IsReadText, IsReading, WritesFront, Outcome, WritesNothing, play_error};
 
 use super::streams::{Fault, Input, Output};
 use std::alloc::{AllocError, Global};
@@ -64,7 +64,7 @@ const MOST_READ: usize = MOST_BYTES + 1;
 
 /// Reads to the end of the input, or `MOST_READ` bytes.
 fn read_all<R: Input>(alloc: Global, reader: &mut R) -> Result<Vec<u8>, PlayError>
-    ensures whole { IfOk result (λ text. IsWhole (R.remaining reader.old) (R.remaining reader.new) text.items) }
+    ensures whole { IfOk result (λ text. IsReadText (R.remaining reader.old) (R.remaining reader.new) text.items) }
     ensures most { ConsumesAtMost MOST_READ (R.remaining reader.old) (R.remaining reader.new) }
     ensures fault { R.has_failed reader.new ≡ (R.has_failed reader.old || is_read_fault result) }
     ensures kind { IfErr result IsReading }
