@@ -10,10 +10,11 @@ use Rattle.uart_calls.specs.declared.call.Call.TheVariants as call
 use Rattle.uart_language.specs.declared.cause.Cause.{Cause}
 use Rattle.uart_language.specs.declared.cause.Cause.TheVariants.{BadByte, Misplaced, UnknownWord, WrongCount, BadWord}
 use Rattle.uart_language.specs.declared.items.Header.{Header}
+use Rattle.uart_language.specs.declared.limits.TheConstants.{MOST_LINES}
 use Rattle.uart_language.specs.declared.words.Word.{Word}
 use Rattle.uart_language.specs.declared.words.Word.TheVariants as word
 use Rattle.uart_language.specs.Text.{words_of, word_at, has_bad_byte}
-use Rattle.uart_language.specs.Fields.{◌>>=◌, number_in, byte_in, lines_in, bytes_in, text_in, errors_in, chip_in, cut_in, level_in, rate_in, cts_in, interrupts_in, word_length_in}
+use Rattle.uart_language.specs.Fields.{◌>>=◌, count_in, limit_in, ticks_in, char_ticks_in, wire_capacity_in, byte_in, lines_in, bytes_in, text_in, errors_in, chip_in, cut_in, level_in, rate_in, cts_in, interrupts_in, word_length_in}
 use Rattle.uart_language.specs.Words.{name_of, word_of, fault_of, fields_of, has_count, is_placed}
 use Rattle.uart_language.specs.Sayings.{Nothing, Limit, Calls, Happens, configured, array_of, text_of}
 use Rattle.uart_language.specs.Script.{IsHeader, option_words, fault_where, first_of, field_faults, word_faults, fault_at}
@@ -101,15 +102,15 @@ unfolding item_of call_of
 item_fault word.Chip name rest c other = absurd (other refl)
 item_fault word.Init name rest c other = config_fault name rest c
 item_fault word.Arrive name rest c other = arrival_fault name rest c
-item_fault word.Limit name rest c other = field_fault (number_in 1 1000000) (λ k. Limit k) name rest c
-item_fault word.Tick name rest c other = field_fault (number_in 0 65535) (λ k. Happens (event.Ticks k)) name rest c
+item_fault word.Limit name rest c other = field_fault limit_in (λ k. Limit k) name rest c
+item_fault word.Tick name rest c other = field_fault ticks_in (λ k. Happens (event.Ticks k)) name rest c
 item_fault word.Lines name rest c other = field_fault (lines_in) (λ v. Happens (event.Lines v)) name rest c
 item_fault word.TrySend name rest c other = call_field_fault (byte_in) (call.TrySend) name rest c
 item_fault word.Enable name rest c other = call_field_fault (interrupts_in) (call.Enable) name rest c
 item_fault word.Disable name rest c other = call_field_fault (interrupts_in) (call.Disable) name rest c
-item_fault word.Receive name rest c other = call_field_fault (number_in 0 64) (call.Receive) name rest c
-item_fault word.ReceiveExact name rest c other = call_field_fault (number_in 0 64) (call.ReceiveExact) name rest c
-item_fault word.Read name rest c other = call_field_fault (number_in 0 64) (call.Read) name rest c
+item_fault word.Receive name rest c other = call_field_fault count_in (call.Receive) name rest c
+item_fault word.ReceiveExact name rest c other = call_field_fault count_in (call.ReceiveExact) name rest c
+item_fault word.Read name rest c other = call_field_fault count_in (call.Read) name rest c
 item_fault word.Send name rest c other = call_field_fault (bytes_in) (λ x. call.Send (array_of x)) name rest c
 item_fault word.SendExact name rest c other = call_field_fault (bytes_in) (λ x. call.SendExact (array_of x)) name rest c
 item_fault word.Write name rest c other = call_field_fault (bytes_in) (λ x. call.Write (array_of x)) name rest c
@@ -149,9 +150,9 @@ line_fault_by number line false true le = refl
 line_fault_by number line false false le = word_fault number _ (words_of line) le
 
 -- the fault of a line after the first
-pub line_fault : (number : ℕ) (line : List ℕ) → 2 ≤ number → number ≤ 4096 → fault_of (item_at number line) ≡ fault_at number line
+pub line_fault : (number : ℕ) (line : List ℕ) → 2 ≤ number → number ≤ MOST_LINES → fault_of (item_at number line) ≡ fault_at number line
 unfolding item_at starts_with
-line_fault number line le most = rw (le-ltb 4096 number most) (line_fault_by number line _ _ le)
+line_fault number line le most = rw (le-ltb MOST_LINES number most) (line_fault_by number line _ _ le)
 
 -- ---- the first line
 
@@ -168,8 +169,8 @@ header_words_fault [] c = absurd cc
 header_words_fault (name ∷ []) c = absurd cc
 header_words_fault (name ∷ NAME ∷ []) c = absurd cc
 header_words_fault (name ∷ NAME ∷ T ∷ []) c = absurd cc
-header_words_fault (name ∷ NAME ∷ T ∷ W ∷ []) c = three_fault (chip_in NAME) (number_in 1 1000 T) (number_in 0 65536 W) (λ chip ticks capacity. header_of chip ticks capacity false)
-header_words_fault (name ∷ NAME ∷ T ∷ W ∷ C ∷ []) c = four_fault (chip_in NAME) (number_in 1 1000 T) (number_in 0 65536 W) (cut_in C) header_of
+header_words_fault (name ∷ NAME ∷ T ∷ W ∷ []) c = three_fault (chip_in NAME) (char_ticks_in T) (wire_capacity_in W) (λ chip ticks capacity. header_of chip ticks capacity false)
+header_words_fault (name ∷ NAME ∷ T ∷ W ∷ C ∷ []) c = four_fault (chip_in NAME) (char_ticks_in T) (wire_capacity_in W) (cut_in C) header_of
 header_words_fault (name ∷ NAME ∷ T ∷ W ∷ C ∷ X ∷ rest) c = absurd (four_or_five (length rest) c)
 
 first_word_fault : (first : Option Word) (ws : List (List ℕ)) → fault_of (placed_word 1 ws first >>= (λ w. header_in ws)) ≡ first_of (word_faults 1 first ws)
@@ -225,10 +226,10 @@ words_are_header line (name ∷ []) h w b n c e = absurd cc
 words_are_header line (name ∷ NAME ∷ []) h w b n c e = absurd cc
 words_are_header line (name ∷ NAME ∷ T ∷ []) h w b n c e = absurd cc
 words_are_header line (name ∷ NAME ∷ T ∷ W ∷ []) h w b n c e =
-    let r = three_ok (chip_in NAME) (number_in 1 1000 T) (number_in 0 65536 W) (λ chip ticks capacity. header_of chip ticks capacity false) h e in
+    let r = three_ok (chip_in NAME) (char_ticks_in T) (wire_capacity_in W) (λ chip ticks capacity. header_of chip ticks capacity false) h e in
     subst (λ (x : Header). IsHeader line x.chip x.ticks x.wire_capacity x.cuts) r.6 (record { NAME = NAME; T = T; W = W; printable = b; words = w ∙ ap (λ x. x ∷ NAME ∷ T ∷ W ∷ []) (sym n); chip_is = r.3; ticks_is = r.4; wire_capacity_is = r.5 })
 words_are_header line (name ∷ NAME ∷ T ∷ W ∷ C ∷ []) h w b n c e =
-    let r = four_ok (chip_in NAME) (number_in 1 1000 T) (number_in 0 65536 W) (cut_in C) header_of h e in
+    let r = four_ok (chip_in NAME) (char_ticks_in T) (wire_capacity_in W) (cut_in C) header_of h e in
     let o = is_cut C r.3 r.7 in
     subst (λ (x : Header). IsHeader line x.chip x.ticks x.wire_capacity x.cuts) r.8
     (record { NAME = NAME; T = T; W = W; printable = b; words = w ∙ (ap (λ x. x ∷ NAME ∷ T ∷ W ∷ C ∷ []) (sym n) ∙ ap (λ rest. codes "chip" ∷ NAME ∷ T ∷ W ∷ rest) o); chip_is = r.4; ticks_is = r.5; wire_capacity_is = r.6 })

@@ -17,7 +17,7 @@ use Rattle.uart_language.specs.declared.cause.Cause.TheVariants.{BadByte, Mispla
 use Rattle.uart_language.specs.declared.words.Word.{Word}
 use Rattle.uart_language.specs.declared.words.Word.TheVariants as word
 use Rattle.uart_language.specs.Text.{words_of, word_at, has_bad_byte}
-use Rattle.uart_language.specs.Fields.{◌>>=◌, number_in, byte_in, lines_in, bytes_in, text_in, errors_in, level_in, rate_in, cts_in, interrupts_in, word_length_in}
+use Rattle.uart_language.specs.Fields.{◌>>=◌, count_in, limit_in, ticks_in, byte_in, lines_in, bytes_in, text_in, errors_in, level_in, rate_in, cts_in, interrupts_in, word_length_in}
 use Rattle.uart_language.specs.Words.{name_of, words, word_of, has_count, is_placed}
 use Rattle.uart_language.specs.Sayings.{Saying, Nothing, Limit, Happens, Calls, Marks, configured, array_of, text_of, Means}
 use Rattle.uart_language.specs.Sayings as row
@@ -152,7 +152,7 @@ pub is_meant : (number : ℕ) (w : Word) (rest : List (List ℕ)) (s : Saying) �
     → item_of w (name_of w ∷ rest) ≡ Ok s → Means number (name_of w ∷ rest) s
 unfolding item_of call_of
 is_meant number word.Chip rest s le p c e = absurd (omega (arith, eqb-true _ _ p))
-is_meant number word.Limit rest s le p c e = field number _ (number_in 1 1000000) (λ k. Limit k) rest s c e (λ W x h. row.limit (eqb-true _ _ p) h)
+is_meant number word.Limit rest s le p c e = field number _ limit_in (λ k. Limit k) rest s c e (λ W x h. row.limit (eqb-true _ _ p) h)
 is_meant number word.Arrive rest s le p c e = arrival number rest s c e
 is_meant number word.Init rest s le p c e = config number rest s c e
 is_meant number word.Access rest s le p c e = bare number _ rest s (Happens event.Access) c e row.access
@@ -176,14 +176,14 @@ is_meant number word.Spr rest s le p c e = bare number _ rest s (Calls call.Spr)
 is_meant number word.DllDlm rest s le p c e = bare number _ rest s (Calls call.DllDlm) c e row.dll_dlm
 is_meant number word.Fifo rest s le p c e = bare number _ rest s (Calls call.FifoEnabled) c e row.fifo
 is_meant number word.Dump rest s le p c e = bare number _ rest s (Calls call.Dump) c e row.dump
-is_meant number word.Tick rest s le p c e = field number _ (number_in 0 65535) (λ k. Happens (event.Ticks k)) rest s c e (λ W x h. row.tick h)
+is_meant number word.Tick rest s le p c e = field number _ ticks_in (λ k. Happens (event.Ticks k)) rest s c e (λ W x h. row.tick h)
 is_meant number word.Lines rest s le p c e = field number _ (lines_in) (λ v. Happens (event.Lines v)) rest s c e (λ W x h. row.lines h)
 is_meant number word.TrySend rest s le p c e = call_field number _ (byte_in) (call.TrySend) rest s c e (λ W x h. row.try_send h)
 is_meant number word.Enable rest s le p c e = call_field number _ (interrupts_in) (call.Enable) rest s c e (λ W x h. row.enable h)
 is_meant number word.Disable rest s le p c e = call_field number _ (interrupts_in) (call.Disable) rest s c e (λ W x h. row.disable h)
-is_meant number word.Receive rest s le p c e = call_field number _ (number_in 0 64) (call.Receive) rest s c e (λ W x h. row.receive h)
-is_meant number word.ReceiveExact rest s le p c e = call_field number _ (number_in 0 64) (call.ReceiveExact) rest s c e (λ W x h. row.receive_exact h)
-is_meant number word.Read rest s le p c e = call_field number _ (number_in 0 64) (call.Read) rest s c e (λ W x h. row.read h)
+is_meant number word.Receive rest s le p c e = call_field number _ count_in (call.Receive) rest s c e (λ W x h. row.receive h)
+is_meant number word.ReceiveExact rest s le p c e = call_field number _ count_in (call.ReceiveExact) rest s c e (λ W x h. row.receive_exact h)
+is_meant number word.Read rest s le p c e = call_field number _ count_in (call.Read) rest s c e (λ W x h. row.read h)
 is_meant number word.Send rest s le p c e = call_field number _ (bytes_in) (λ x. call.Send (array_of x)) rest s c e (λ W x h. row.send h)
 is_meant number word.SendExact rest s le p c e = call_field number _ (bytes_in) (λ x. call.SendExact (array_of x)) rest s c e (λ W x h. row.send_exact h)
 is_meant number word.Write rest s le p c e = call_field number _ (bytes_in) (λ x. call.Write (array_of x)) rest s c e (λ W x h. row.write h)

@@ -12,6 +12,7 @@ use Rattle.uart_spec.specs.declared.config.BaudRate.TheVariants as rate
 use Rattle.uart_spec.specs.BaudRate.{to_integer}
 use Rattle.uart_language.specs.declared.cause.Cause.{Cause}
 use Rattle.uart_language.specs.declared.cause.Cause.TheVariants.{BadWord}
+use Rattle.uart_language.specs.declared.limits.TheConstants.{MOST_LIMIT, MOST_RATE}
 use Rattle.uart_language.specs.Fields.{◌>>=◌, is_number, number_in, lines_in, errors_in, rate_of, rate_in}
 use Rattle.uart_calls.specs.Calls.{IsRunnable}
 use Rattle.uart_language.specs.Sayings.{Saying, Nothing, Limit, Happens, Calls, Marks, Means, events_said, calls_said}
@@ -79,9 +80,9 @@ rate_positive n le =
 -- a rate that was read is not zero
 rate_read : (word : List ℕ) (rate : BaudRate) → rate_in word ≡ Ok rate → 0 < to_integer rate
 unfolding rate_in
-rate_read word rate e = rate_by (number_in 1 4294967295 word) refl e where
-  rate_by : (r : Result ℕ Cause) → number_in 1 4294967295 word ≡ r → (r >>= (λ n. Ok (rate_of n))) ≡ Ok rate → 0 < to_integer rate
-  rate_by (Ok n) h e = let is : rate_of n ≡ rate = cc in subst (λ (x : BaudRate). 0 < to_integer x) is (rate_positive n (number_range 1 4294967295 word n h).0).number
+rate_read word rate e = rate_by (number_in 1 MOST_RATE word) refl e where
+  rate_by : (r : Result ℕ Cause) → number_in 1 MOST_RATE word ≡ r → (r >>= (λ n. Ok (rate_of n))) ≡ Ok rate → 0 < to_integer rate
+  rate_by (Ok n) h e = let is : rate_of n ≡ rate = cc in subst (λ (x : BaudRate). 0 < to_integer x) is (rate_positive n (number_range 1 MOST_RATE word n h).0).number
   rate_by (Err c) h e = absurd cc
 
 -- ---- lines
@@ -89,13 +90,13 @@ rate_read word rate e = rate_by (number_in 1 4294967295 word) refl e where
 -- what a line says is in its range, legal and runnable
 abbrev IsGood : Saying → Type 0
 IsGood Nothing = Unit {0}
-IsGood (Limit n) = (1 ≤ n) × (n ≤ 1000000)
+IsGood (Limit n) = (1 ≤ n) × (n ≤ MOST_LIMIT)
 IsGood (Happens e) = IsLegal e
 IsGood (Calls c) = IsRunnable c
 IsGood Marks = Unit {0}
 
 means_good : {number : ℕ} {ws : List (List ℕ)} {said : Saying} → Means number ws said → IsGood said
-means_good (row.limit {N = N} {n = n} e h) = number_range 1 1000000 N n h
+means_good (row.limit {N = N} {n = n} e h) = number_range 1 MOST_LIMIT N n h
 means_good (row.arrive h) = refl
 means_good (row.arrive_faulty {E = E} h e) = (errors_legal E).bits _ e
 means_good (row.lines {H = H} h) = lines_legal H _ h
@@ -111,7 +112,7 @@ says_good (printable b m) = means_good m
 
 -- ---- all lines
 
-limit_good : (number : ℕ) (lines : List (List ℕ)) (sayings : List Saying) (limit : ℕ) → (1 ≤ limit) × (limit ≤ 1000000) → SayInOrder number lines sayings → (1 ≤ limit_from limit sayings) × (limit_from limit sayings ≤ 1000000)
+limit_good : (number : ℕ) (lines : List (List ℕ)) (sayings : List Saying) (limit : ℕ) → (1 ≤ limit) × (limit ≤ MOST_LIMIT) → SayInOrder number lines sayings → (1 ≤ limit_from limit sayings) × (limit_from limit sayings ≤ MOST_LIMIT)
 limit_good number [] [] limit r h = r
 limit_good number [] (s ∷ sayings) limit r h = absurd h
 limit_good number (line ∷ lines) [] limit r h = absurd h
@@ -147,7 +148,7 @@ pub playable : (bytes : List ℕ) (plan : Plan) → IsScript bytes plan → IsPl
 playable bytes plan s = record {
   ticks = number_range 1 1000 s.header.T plan.ticks s.header.ticks_is;
   wire_capacity = (number_range 0 65536 s.header.W plan.wire_capacity s.header.wire_capacity_is).1;
-  limit = rw s.limit (limit_good 2 s.others s.sayings 1000000 (omega arith, omega arith) s.body);
+  limit = rw s.limit (limit_good 2 s.others s.sayings MOST_LIMIT (omega arith, omega arith) s.body);
   events = rw s.events (all_parts IsLegal events_said events_good 2 s.others s.sayings s.body);
   calls = rw s.calls (all_parts IsRunnable calls_said calls_good 2 s.others s.sayings s.body);
 }

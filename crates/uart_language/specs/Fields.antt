@@ -15,6 +15,7 @@ use Rattle.uart_chip.specs.declared.event.Chip.{Chip}
 use Rattle.uart_chip.specs.declared.event.Chip.TheVariants.{Uart16550A, Uart16450}
 use Rattle.uart_language.specs.declared.cause.Cause.{Cause}
 use Rattle.uart_language.specs.declared.cause.Cause.TheVariants.{BadWord, BadNumber, BadHex, TooManyBytes, BadText}
+use Rattle.uart_language.specs.declared.limits.TheConstants.{MOST_LIMIT, MOST_TICKS, MOST_RATE}
 
 -- what follows a value, or the fault before it
 infixl 10 ◌>>=◌
@@ -31,6 +32,26 @@ unfoldable pub number_in : ℕ → ℕ → List ℕ → Result ℕ Cause
 number_in least most word =
     if is_number word && nat_le least (digits_value 10 word) && nat_le (digits_value 10 word) most
     then Ok (digits_value 10 word) else Err BadNumber
+
+-- N of a call: how many bytes it has room for
+abbrev pub count_in : List ℕ → Result ℕ Cause
+count_in word = number_in 0 64 word
+
+-- N of `limit`: the driver's limit
+abbrev pub limit_in : List ℕ → Result ℕ Cause
+limit_in word = number_in 1 MOST_LIMIT word
+
+-- N of `tick`: how many ticks pass
+abbrev pub ticks_in : List ℕ → Result ℕ Cause
+ticks_in word = number_in 0 MOST_TICKS word
+
+-- T: how many ticks a character takes to leave the chip
+abbrev pub char_ticks_in : List ℕ → Result ℕ Cause
+char_ticks_in word = number_in 1 1000 word
+
+-- W: how many bytes the wire has room for
+abbrev pub wire_capacity_in : List ℕ → Result ℕ Cause
+wire_capacity_in word = number_in 0 65536 word
 
 -- HH: two hexadecimal digits of either case
 unfoldable pub byte_in : List ℕ → Result ℕ Cause
@@ -115,7 +136,7 @@ rate_of n =
 -- BAUD: the bits a second
 unfoldable pub rate_in : List ℕ → Result BaudRate Cause
 rate_in word = do
-  n ← number_in 1 4294967295 word
+  n ← number_in 1 MOST_RATE word
   Ok (rate_of n)
 
 -- C: whether the driver checks CTS

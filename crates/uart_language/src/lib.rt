@@ -8,6 +8,7 @@
 mod cause;
 mod fields;
 mod items;
+pub mod limits;
 mod parsing;
 mod rendering;
 mod text;
@@ -15,6 +16,6 @@ mod words;
 
 pub use cause::{Cause, ScriptError};
 pub use items::{Header, Item};
-pub use parsing::{MOST_BYTES, Script, parse};
+pub use parsing::{Script, parse};
 pub use rendering::render;
 pub use words::Word;

@@ -10,20 +10,12 @@ ghost use Rattle.uart_language.specs.Reading.{sayings_from, with_saying, added, 
 
 use super::cause::{Cause, ScriptError};
 use super::items::{Header, Item, header_at, item_at};
+use super::limits::{DEFAULT_LIMIT, MOST_BYTES, MOST_LINES};
 use super::text::first_line;
 use std::alloc::{AllocError, Global};
 use std::num::NonZeroU64;
 use uart_calls::Call;
 use uart_chip::{Chip, Event};
-
-/// The longest script, in bytes.
-pub const MOST_BYTES: usize = 65_536;
-
-/// The longest script, in lines.
-const MOST_LINES: u32 = 4_096;
-
-/// The driver's limit where no line gives one.
-const DEFAULT_LIMIT: u64 = 1_000_000;
 
 /// A script: a chip, what happens to it, and the calls that are made.
 #[derive(Drop)]

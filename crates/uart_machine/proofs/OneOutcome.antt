@@ -25,9 +25,6 @@ use Rattle.uart_calls.specs.declared.call.Answer.TheVariants.{Done, Flag}
 use Rattle.uart_chip.specs.Machine.{MachineState, MachineStep, at_mark}
 use Rattle.uart_calls.specs.Calls.{IsRunnable}
 use Rattle.uart_run.specs.Run.{State, machine_of, Called, CallStep, Link, Chain, calls_of, answers_of, IsRun}
-use Rattle.uart_chip.specs.Transmitter.{held}
-use Rattle.uart_device.specs.Conserved.{waiting}
-use Rattle.uart_language.specs.Output.{printed}
 use Rattle.uart_language.specs.Script.{Plan, IsScript}
 use Rattle.uart_machine.specs.ScriptOutput.{IsFirst, output_of}
 use Rattle.uart_language.specs.Reading.{Fault}
@@ -164,13 +161,6 @@ plan_one input p q h k = ap (inside p) (sym (script_is_read input p h) ∙ scrip
 firsts_same : (plan : Plan) (s x : State) → IsFirst plan s → IsFirst plan x → IsSameState s x
 firsts_same plan s x p q = (p.driver ∙ sym q.driver, p.machine ∙ sym q.machine)
 
--- an output shows the machine alone
-last_same : (answers : List Answer) (t y : State) → machine_of t ≡ machine_of y → output_of answers t ≡ output_of answers y
-last_same answers t y same =
-    ap
-    (λ (m : MachineState). printed answers m.chip.transmitter.wire (held m.chip.transmitter) (waiting m) m.chip.receiver.marks)
-    same
-
 -- what was played of one input has one output
 played_one : (input : List ℕ) (writes other_writes : List ℕ → Type 0) (p : IsPlayed input writes) (q : IsPlayed input other_writes) →
     p.output ≡ q.output
@@ -181,7 +171,7 @@ played_one input writes other_writes p q =
     let start = firsts_same p.plan p.printed.first q.printed.first p.printed.begins (subst F (sym same) q.printed.begins) in
     let r = runs_one p.printed.first p.printed.last q.printed.first q.printed.last p.plan.calls p.printed.answers q.printed.answers
     (playable input p.plan p.script).calls p.printed.ran (subst R (sym same) q.printed.ran) start in
-    p.printed.is ∙ ap (λ answers. output_of answers p.printed.last) r.0 ∙ last_same q.printed.answers p.printed.last q.printed.last r.1.1
+    p.printed.is ∙ ap (λ answers. output_of answers (machine_of p.printed.last)) r.0 ∙ ap (output_of q.printed.answers) r.1.1
     ∙ sym q.printed.is
 
 pub outputs_one : (input : List ℕ) (old new other_old other_new : Option (List ℕ)) → Outcome input (Ok tt) old new →

@@ -6,11 +6,12 @@ use Rattle.uart_language.specs.declared.cause.Cause.{Cause}
 use Rattle.uart_language.specs.declared.cause.ScriptError.{ScriptError}
 use Rattle.uart_language.specs.declared.cause.ScriptError.TheVariants as errors
 use Rattle.uart_language.specs.Script.{Plan, IsScript, IsFaulty, long, empty, faulty, IsParsed}
+use Rattle.uart_machine.specs.declared.script.playing.TheConstants.{MOST_READ}
 use Rattle.uart_machine.specs.ScriptOutput.{IsOutput}
 use Rattle.uart_machine.specs.Play.{IsReadText, IsPlayed, Outcome, play_error}
 
 -- a text that did not fill its room is the whole input
-whole_is : (input rest text : List ℕ) → IsReadText (Some input) (Some rest) text → length text < 65537 → input ≡ text
+whole_is : (input rest text : List ℕ) → IsReadText (Some input) (Some rest) text → length text < MOST_READ → input ≡ text
 whole_is input rest text w lt = w.consumes ∙ ap (λ (x : List ℕ). text ++ x) (w.to_end lt) ∙ append-nil text
 
 same_fault : (input rest text : List ℕ) (line : ℕ) (cause : Cause) → IsReadText (Some input) (Some rest) text → IsFaulty text line cause → IsFaulty input line cause

@@ -5,10 +5,8 @@ ghost use Rattle.std.specs.Io.KnownBytes.{Appends, IsAtEnd};
 ghost use Rattle.uart_machine.specs.declared.script.playing.PlayError.TheVariants.{OutOfMemory};
 ghost use Rattle.uart_language.specs.Script.{plan_of, IsPlayable};
 ghost use Rattle.uart_chip.specs.Transmitter.{held};
-ghost use Rattle.uart_chip.specs.Machine.{fresh, cutting};
 ghost use Rattle.uart_device.specs.Conserved.{waiting};
-ghost use Rattle.uart_language.specs.Output.{printed};
-ghost use Rattle.uart_machine.specs.ScriptOutput.{IsFirst, IsOutput};
+ghost use Rattle.uart_machine.specs.ScriptOutput.{first_machine, output_of, IsFirst, IsOutput};
 ghost use Rattle.uart_machine.specs.Play.{ConsumesAtMost, is_read_fault, is_write_fault, IsReadText, IsReading, WritesFront, Outcome, WritesNothing, play_error};
 
 use super::streams::{Fault, Input, Output};
@@ -18,7 +16,8 @@ use uart_16550::{Uart16550, Uart16550Tty};
 use uart_calls::Answer;
 use uart_chip::ArrivalMark;
 use uart_device::Device16550;
-use uart_language::{Cause, MOST_BYTES, Script, ScriptError, parse, render};
+use uart_language::limits::MOST_BYTES;
+use uart_language::{Cause, Script, ScriptError, parse, render};
 use uart_run::run;
 
 /// Why a script was not played to its end.
@@ -62,6 +61,9 @@ impl From<AllocError> for PlayError {
 /// How many bytes are read at most: one more than the longest script has.
 const MOST_READ: usize = MOST_BYTES + 1;
 
+/// How many bytes a read asks for at most.
+const CHUNK: usize = 512;
+
 /// Reads to the end of the input, or `MOST_READ` bytes.
 fn read_all<R: Input>(alloc: Global, reader: &mut R) -> Result<Vec<u8>, PlayError>
     ensures whole { IfOk result (λ text. IsReadText (R.remaining reader.old) (R.remaining reader.new) text.items) }
@@ -70,9 +72,9 @@ fn read_all<R: Input>(alloc: Global, reader: &mut R) -> Result<Vec<u8>, PlayErro
     ensures kind { IfErr result IsReading }
 {
     let mut text = Vec::new(alloc);
-    let mut chunk = [0u8; 512];
+    let mut chunk = [0u8; CHUNK];
     while text.len() < MOST_READ {
-        let room = (MOST_READ - text.len()).min(512);
+        let room = (MOST_READ - text.len()).min(CHUNK);
         match reader.read(&mut chunk[..room]) {
             Err(_) => return Err(PlayError::ReadFault),
             Ok(0) => return Ok(text),
@@ -106,7 +108,7 @@ fn write_all<W: Output>(writer: &mut W, bytes: &[u8]) -> Result<(), Fault>
 // The script's machine.
 fn machine_for(alloc: Global, script: &Script) -> Result<Device16550, AllocError>
     requires { IsPlayable (plan_of script.now) }
-    ensures { IfOk result (λ machine. machine ≡ cutting (plan_of script.now).cuts (fresh (plan_of script.now).chip (plan_of script.now).ticks (plan_of script.now).wire_capacity (plan_of script.now).events)) }
+    ensures { IfOk result (λ machine. machine ≡ first_machine (plan_of script.now)) }
 {
     let schedule = script.events().to_vec(alloc)?;
     let wire_capacity = script.wire_capacity();
@@ -202,7 +204,7 @@ fn printed_for(
     answers: &[Answer],
     machine: &Device16550,
 ) -> Result<Vec<u8>, AllocError>
-    ensures { IfOk result (λ output. output.items ≡ printed answers.now machine.now.chip.transmitter.wire (held machine.now.chip.transmitter) (waiting machine.now) machine.now.chip.receiver.marks) }
+    ensures { IfOk result (λ output. output.items ≡ output_of answers.now machine.now) }
 {
     let held = held_of(alloc, machine)?;
     let waiting = waiting_of(alloc, machine)?;

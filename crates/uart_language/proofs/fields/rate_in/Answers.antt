@@ -4,6 +4,7 @@ use Rattle.uart_spec.specs.declared.config.BaudRate.{BaudRate}
 use Rattle.uart_spec.specs.declared.config.BaudRate.TheVariants.{Baud115200, Baud57600, Baud38400, Baud9600, Baud4800, Baud2400, Baud1200, Baud600, Baud300, Baud150, Baud110, Custom}
 use Rattle.uart_spec.specs.BaudRate.{to_integer, IsNamed}
 use Rattle.uart_language.specs.declared.cause.Cause.{Cause}
+use Rattle.uart_language.specs.declared.limits.TheConstants.{MOST_RATE}
 use Rattle.uart_language.specs.Fields.{number_in, rate_of, rate_in}
 use Rattle.uart_language.proofs.fields.rate_in.Goals as goal
 
@@ -27,7 +28,7 @@ read rate = Ok rate
 abbrev number : ℕ → Result ℕ Cause
 number n = Ok n
 
-is_read : (word : List ℕ) (n : ℕ) (rate : BaudRate) → number n ≡ number_in 1 4294967295 word → rate ≡ rate_of n → read rate ≡ rate_in word
+is_read : (word : List ℕ) (n : ℕ) (rate : BaudRate) → number n ≡ number_in 1 MOST_RATE word → rate ≡ rate_of n → read rate ≡ rate_in word
 unfolding rate_in
 is_read word n rate e r = rw (← e, r) refl
 
