@@ -1,5 +1,5 @@
 -- Reading digits one after the other, as a loop does.
-use Rattle.std.proofs.Common.{◌≡◌, ℕ, suc, ◌+◌, ◌-◌, ◌*◌, ◌^◌, ◌<◌, ◌≤◌, Bool, true, false, ◌&&◌, List, [], ◌∷◌, ◌++◌, length, get_or, take, drop, refl, sym, ap, subst, ◌∙◌, arith, add-one, drop-cons, append_assoc}
+use Rattle.std.proofs.Common.{◌≡◌, ℕ, suc, ◌+◌, ◌-◌, ◌*◌, ◌^◌, ◌<◌, ◌≤◌, Bool, true, false, List, [], ◌∷◌, ◌++◌, length, get_or, take, drop, refl, sym, ap, subst, ◌∙◌, arith, add-one, drop-cons, append_assoc}
 use Rattle.std.specs.List.{list_all}
 use Rattle.std.specs.Char.{is_ascii_digit, is_ascii_hexdigit, digit_value}
 use Rattle.std.specs.Str.Parse.{digits_value, digits_value_after}
@@ -8,17 +8,14 @@ use Rattle.std.proofs.lemmas.Nat.{pow-add}
 use Rattle.std.proofs.lemmas.List.{append-nil, nil_from_length, take_all, length-drop, length-append}
 use Rattle.std.specs.Str.{IsUtf8, is_utf8}
 use Rattle.std.proofs.lemmas.Str.{is_utf8-from_IsUtf8, IsUtf8-from_is_utf8}
-use Rattle.std.proofs.Common.{Result, Ok, Err, inl, inr, ◌⊎◌}
-use Rattle.uart_language.specs.declared.cause.Cause.{Cause}
+use Rattle.std.proofs.Common.{Err, inl, inr}
+use Rattle.std.proofs.lemmas.Bool.{and_parts, cases_Bool}
 use Rattle.uart_language.specs.declared.cause.Cause.TheVariants.{BadText}
 use Rattle.uart_language.specs.Fields.{pairs_of, bytes_in, text_in}
-
-both : (a b : Bool) → (a && b) ≡ true → (a ≡ true) × (b ≡ true)
-both true b e = (refl, e)
-both false b e = absurd cc
+use Rattle.uart_language.proofs.Results.{read}
 
 pub head_is : (p : ℕ → Bool) (x : ℕ) (xs : List ℕ) → list_all p (x ∷ xs) ≡ true → (p x ≡ true) × (list_all p xs ≡ true)
-head_is p x xs e = both (p x) (list_all p xs) e
+head_is p x xs e = and_parts (p x) (list_all p xs) e
 
 -- what is read of a number before place i
 pub record DigitsRead (word : List ℕ) (value i : ℕ) : Type 0 where
@@ -81,9 +78,6 @@ are_read word bytes [] h r = sym (append-nil bytes) ∙ r.same
 are_read word bytes (a ∷ []) h r = sym (append-nil bytes) ∙ r.same
 are_read word bytes (a ∷ b ∷ rest) h r = absurd (omega arith)
 
-abbrev read : List ℕ → Result (List ℕ) Cause
-read bytes = Ok bytes
-
 pub text_is : (word bytes at text start new : List ℕ) → read bytes ≡ bytes_in word → at ≡ bytes → (text ≡ at) × IsUtf8 at → start ≡ [] → new ≡ start ++ text → read new ≡ text_in word
 unfolding text_in
 text_is word bytes at text start new e a t s n =
@@ -91,13 +85,9 @@ text_is word bytes at text start new e a t s n =
     let same : new ≡ bytes = n ∙ ap (λ (x : List ℕ). x ++ text) s ∙ t.0 ∙ a in
     rw (← e, utf8, same) refl
 
-either : (b : Bool) → (b ≡ true) ⊎ (b ≡ false)
-either true = inl refl
-either false = inr refl
-
 pub no_text : (word bytes at : List ℕ) → read bytes ≡ bytes_in word → at ≡ bytes → (IsUtf8 at → ⊥) → Err BadText ≡ text_in word
 unfolding text_in
-no_text word bytes at e a h = elim (either (is_utf8 at)) [
+no_text word bytes at e a h = elim (cases_Bool (is_utf8 at)) [
   | inl passes ↦ absurd (h (IsUtf8-from_is_utf8 at passes))
   | inr fails ↦ let utf8 : is_utf8 bytes ≡ false = rw (← a) fails in rw (← e, utf8) refl
 ]

@@ -14,16 +14,11 @@ use Rattle.uart_language.specs.Script.{Plan, SayInOrder, IsScript, fault_at, Are
 use Rattle.uart_language.specs.Items.{item_at, header_at}
 use Rattle.uart_language.specs.Reading.{Fault, on_line, numbered, before, sayings_from, plan_by, planned, from_lines, script_of}
 use Rattle.uart_language.proofs.Lines.{lines_first, is_end}
+use Rattle.uart_language.proofs.Results.{bind_ok}
 use Rattle.uart_language.proofs.Meanings.{says_what_is_read, reads_what_is_said}
 use Rattle.uart_language.proofs.Faults.{line_fault, header_fault, says_header, reads_header}
 
 -- ---- values and faults
-
-abbrev ok : {A : Type 0} → A → Result A Fault
-ok x = Ok x
-
-abbrev err : {A : Type 0} → Fault → Result A Fault
-err f = Err f
 
 abbrev pub fault : ℕ → Cause → Fault
 fault number cause = record { line = number; cause = cause }
@@ -150,10 +145,6 @@ first_is start (l ∷ front) line after number c le none e told =
     rw (said.1, first_is (start + 1) front line after number c (omega arith) none.1 (omega (arith, e)) told) refl
 
 -- ---- a whole script
-
-bind_ok : {A B : Type 0} (r : Result A Fault) (f : A → Result B Fault) (y : B) → (r >>= f) ≡ Ok y → (x : A) × (r ≡ Ok x) × (f x ≡ Ok y)
-bind_ok (Ok x) f y e = (x, refl, e)
-bind_ok (Err c) f y e = absurd cc
 
 on_line_ok : {A : Type 0} (number : ℕ) (r : Result A Cause) (x : A) → on_line number r ≡ Ok x → r ≡ Ok x
 on_line_ok number (Ok y) x e = cc

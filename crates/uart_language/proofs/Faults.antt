@@ -1,8 +1,8 @@
 -- The parser tells the fault of a line that the definition of the language tells.
-use Rattle.std.proofs.Common.{◌≡◌, ℕ, suc, ◌≤◌, Bool, true, false, not, cond, eqb, ◌&&◌, ◌||◌, List, [], ◌∷◌, length, drop, Option, Some, None, Result, Ok, Err, refl, sym, ap, subst, ◌∙◌, arith, inl, inr}
+use Rattle.std.proofs.Common.{◌≡◌, ℕ, suc, ◌≤◌, Bool, true, false, not, cond, eqb, ◌&&◌, List, [], ◌∷◌, length, drop, Option, Some, None, Result, Ok, Err, refl, sym, ap, subst, ◌∙◌, arith}
 use Rattle.std.specs.Prelude.{codes, bytes_eq}
 use Rattle.std.proofs.lemmas.Slice.Eq.{bytes_eq-Decides}
-use Rattle.std.proofs.lemmas.Bool.{eqb-true, le-ltb, or_cases}
+use Rattle.std.proofs.lemmas.Bool.{eqb-true, le-ltb}
 use Rattle.uart_chip.specs.declared.event.Chip.{Chip}
 use Rattle.uart_chip.specs.declared.event.Event.TheVariants as event
 use Rattle.uart_calls.specs.declared.call.Call.{Call}
@@ -19,7 +19,7 @@ use Rattle.uart_language.specs.Words.{name_of, word_of, fault_of, fields_of, has
 use Rattle.uart_language.specs.Sayings.{Nothing, Limit, Calls, Happens, configured, array_of, text_of}
 use Rattle.uart_language.specs.Script.{IsHeader, option_words, fault_where, first_of, field_faults, word_faults, fault_at}
 use Rattle.uart_language.specs.Items.{config_in, arrival_in, call_of, item_of, placed_word, starts_with, item_at, header_in, header_at}
-use Rattle.uart_language.proofs.Meanings.{not_first, name_is}
+use Rattle.uart_language.proofs.Meanings.{not_first, neither, name_is}
 
 -- ---- the fields of a line
 
@@ -29,8 +29,7 @@ made_fault (Err c) make = refl
 
 -- what is made of a value is faulty where the value is
 call_made_fault : {A : Type 0} (r : Result A Cause) (make : A → Call) → fault_of (r >>= (λ x. Ok (make x)) >>= (λ c. Ok (Calls c))) ≡ fault_of r
-call_made_fault (Ok x) make = refl
-call_made_fault (Err c) make = refl
+call_made_fault r make = made_fault (r >>= (λ x. Ok (make x))) Calls ∙ made_fault r make
 
 alone : (fault : Option Cause) → first_of (fault ∷ []) ≡ fault
 alone None = refl
@@ -55,11 +54,7 @@ four_fault (Err f) b c d make = refl
 
 five_fault : {A B C D E F : Type 0} (a : Result A Cause) (b : Result B Cause) (c : Result C Cause) (d : Result D Cause) (e : Result E Cause) (make : A → B → C → D → E → F)
     → fault_of (a >>= (λ x. b >>= (λ y. c >>= (λ z. d >>= (λ u. e >>= (λ v. Ok (make x y z u v))))))) ≡ first_of (fault_of a ∷ fault_of b ∷ fault_of c ∷ fault_of d ∷ fault_of e ∷ [])
-five_fault (Ok x) b c d e make = rest_fault b c d e (make x) where
-  rest_fault : {B C D E F : Type 0} (b : Result B Cause) (c : Result C Cause) (d : Result D Cause) (e : Result E Cause) (make : B → C → D → E → F)
-      → fault_of (b >>= (λ y. c >>= (λ z. d >>= (λ u. e >>= (λ v. Ok (make y z u v)))))) ≡ first_of (fault_of b ∷ fault_of c ∷ fault_of d ∷ fault_of e ∷ [])
-  rest_fault (Ok y) c d e make = three_fault c d e (make y)
-  rest_fault (Err f) c d e make = refl
+five_fault (Ok x) b c d e make = four_fault b c d e (make x)
 five_fault (Err f) b c d e make = refl
 
 -- a word that one field follows
@@ -71,19 +66,14 @@ field_fault reader make name (W ∷ V ∷ rest) c = absurd (omega (arith, eqb-tr
 
 call_field_fault : {A : Type 0} (reader : List ℕ → Result A Cause) (make : A → Call) (name : List ℕ) (rest : List (List ℕ)) → eqb (suc (length rest)) 2 ≡ true
     → fault_of (reader (word_at 1 (name ∷ rest)) >>= (λ x. Ok (make x)) >>= (λ c. Ok (Calls c))) ≡ first_of (field_faults ((λ w. fault_of (reader w)) ∷ []) rest)
-call_field_fault reader make name [] c = absurd cc
-call_field_fault reader make name (W ∷ []) c = call_made_fault (reader W) make ∙ sym (alone (fault_of (reader W)))
-call_field_fault reader make name (W ∷ V ∷ rest) c = absurd (omega (arith, eqb-true _ _ c))
-
-pub too_many : (n : ℕ) → (eqb (suc (suc (suc (suc n)))) 2 || eqb (suc (suc (suc (suc n)))) 3) ≡ true → ⊥
-too_many n c = elim (or_cases (eqb (suc (suc (suc (suc n)))) 2) (eqb (suc (suc (suc (suc n)))) 3) c) [ inl a ↦ omega (arith, eqb-true _ _ a) | inr b ↦ omega (arith, eqb-true _ _ b) ]
+call_field_fault reader make name rest c = made_fault (reader (word_at 1 (name ∷ rest)) >>= (λ x. Ok (make x))) Calls ∙ field_fault reader make name rest c
 
 arrival_fault : (name : List ℕ) (rest : List (List ℕ)) → has_count word.Arrive (suc (length rest)) ≡ true → fault_of (item_of word.Arrive (name ∷ rest)) ≡ first_of (field_faults (fields_of word.Arrive) rest)
 unfolding item_of arrival_in
 arrival_fault name [] c = absurd cc
 arrival_fault name (HH ∷ []) c = made_fault (byte_in HH >>= (λ b. Ok (event.Arrive b 0))) Happens ∙ made_fault (byte_in HH) (λ b. event.Arrive b 0) ∙ sym (alone (fault_of (byte_in HH)))
 arrival_fault name (HH ∷ E ∷ []) c = made_fault (byte_in HH >>= (λ b. errors_in E >>= (λ x. Ok (event.Arrive b x)))) Happens ∙ two_fault (byte_in HH) (errors_in E) event.Arrive
-arrival_fault name (HH ∷ E ∷ X ∷ rest) c = absurd (too_many (length rest) c)
+arrival_fault name (HH ∷ E ∷ X ∷ rest) c = absurd (neither (suc (suc (suc (suc (length rest))))) 2 3 (omega arith) (omega arith) c)
 
 config_fault : (name : List ℕ) (rest : List (List ℕ)) → has_count word.Init (suc (length rest)) ≡ true → fault_of (item_of word.Init (name ∷ rest)) ≡ first_of (field_faults (fields_of word.Init) rest)
 unfolding item_of call_of config_in
@@ -160,8 +150,9 @@ line_fault number line le most = rw (le-ltb MOST_LINES number most) (line_fault_
 abbrev pub header_of : Chip → ℕ → ℕ → Bool → Header
 header_of chip ticks capacity cuts = record { chip = chip; ticks = ticks; wire_capacity = capacity; cuts = cuts }
 
-four_or_five : (n : ℕ) → (eqb (suc (suc (suc (suc (suc (suc n)))))) 4 || eqb (suc (suc (suc (suc (suc (suc n)))))) 5) ≡ true → ⊥
-four_or_five n c = elim (or_cases (eqb (suc (suc (suc (suc (suc (suc n)))))) 4) (eqb (suc (suc (suc (suc (suc (suc n)))))) 5) c) [ inl a ↦ omega (arith, eqb-true _ _ a) | inr b ↦ omega (arith, eqb-true _ _ b) ]
+-- a chip line has four words, or five
+more_words : (n : ℕ) → has_count word.Chip (suc (suc (suc (suc (suc (suc n)))))) ≡ true → ⊥
+more_words n c = neither (suc (suc (suc (suc (suc (suc n)))))) 4 5 (omega arith) (omega arith) c
 
 header_words_fault : (ws : List (List ℕ)) → has_count word.Chip (length ws) ≡ true → fault_of (header_in ws) ≡ first_of (field_faults (fields_of word.Chip) (drop 1 ws))
 unfolding header_in
@@ -171,7 +162,7 @@ header_words_fault (name ∷ NAME ∷ []) c = absurd cc
 header_words_fault (name ∷ NAME ∷ T ∷ []) c = absurd cc
 header_words_fault (name ∷ NAME ∷ T ∷ W ∷ []) c = three_fault (chip_in NAME) (char_ticks_in T) (wire_capacity_in W) (λ chip ticks capacity. header_of chip ticks capacity false)
 header_words_fault (name ∷ NAME ∷ T ∷ W ∷ C ∷ []) c = four_fault (chip_in NAME) (char_ticks_in T) (wire_capacity_in W) (cut_in C) header_of
-header_words_fault (name ∷ NAME ∷ T ∷ W ∷ C ∷ X ∷ rest) c = absurd (four_or_five (length rest) c)
+header_words_fault (name ∷ NAME ∷ T ∷ W ∷ C ∷ X ∷ rest) c = absurd (more_words (length rest) c)
 
 first_word_fault : (first : Option Word) (ws : List (List ℕ)) → fault_of (placed_word 1 ws first >>= (λ w. header_in ws)) ≡ first_of (word_faults 1 first ws)
 first_word_fault None ws = refl
@@ -233,7 +224,7 @@ words_are_header line (name ∷ NAME ∷ T ∷ W ∷ C ∷ []) h w b n c e =
     let o = is_cut C r.3 r.7 in
     subst (λ (x : Header). IsHeader line x.chip x.ticks x.wire_capacity x.cuts) r.8
     (record { NAME = NAME; T = T; W = W; printable = b; words = w ∙ (ap (λ x. x ∷ NAME ∷ T ∷ W ∷ C ∷ []) (sym n) ∙ ap (λ rest. codes "chip" ∷ NAME ∷ T ∷ W ∷ rest) o); chip_is = r.4; ticks_is = r.5; wire_capacity_is = r.6 })
-words_are_header line (name ∷ NAME ∷ T ∷ W ∷ C ∷ X ∷ rest) h w b n c e = absurd (four_or_five (length rest) c)
+words_are_header line (name ∷ NAME ∷ T ∷ W ∷ C ∷ X ∷ rest) h w b n c e = absurd (more_words (length rest) c)
 
 counted : {A : Type 0} (c : Bool) (r : Result A Cause) (x : A) → (cond c (Ok word.Chip) (Err WrongCount) >>= (λ w. r)) ≡ Ok x → (c ≡ true) × (r ≡ Ok x)
 counted true r x e = (refl, e)

@@ -1,4 +1,5 @@
 pub mod Lines
+pub mod Results
 pub mod Digits
 pub mod Readings
 pub mod Meanings

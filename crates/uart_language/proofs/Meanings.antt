@@ -1,5 +1,5 @@
 -- The parser reads a line as the definition of the language says.
-use Rattle.std.proofs.Common.{◌≡◌, ℕ, suc, ◌≤◌, Bool, true, false, cond, eqb, ◌||◌, List, [], ◌∷◌, length, Option, Some, None, Result, Ok, Err, refl, sym, subst, arith, inl, inr}
+use Rattle.std.proofs.Common.{◌≡◌, ℕ, suc, ◌<◌, ◌≤◌, Bool, true, false, cond, eqb, ◌||◌, List, [], ◌∷◌, length, Option, Some, None, Result, Ok, Err, refl, sym, subst, arith, inl, inr}
 use Rattle.std.specs.Prelude.{codes, bytes_eq, find}
 use Rattle.std.proofs.Math.Dec.{eqb-suc-zero}
 use Rattle.std.proofs.lemmas.Bool.{eqb-true, ne_eqb, or_cases}
@@ -23,6 +23,7 @@ use Rattle.uart_language.specs.Sayings.{Saying, Nothing, Limit, Happens, Calls, 
 use Rattle.uart_language.specs.Sayings as row
 use Rattle.uart_language.specs.Script.{Says, blank, printable}
 use Rattle.uart_language.specs.Items.{config_in, arrival_in, call_of, item_of, placed_word, starts_with, item_at}
+use Rattle.uart_language.proofs.Results.{read, bind_ok}
 
 -- ---- what the words mean is what is read
 
@@ -75,9 +76,6 @@ is_read {number = number} le row.dump = rw (not_first number le) refl
 
 -- ---- what is read is what the words mean
 
-abbrev read : {A : Type 0} → A → Result A Cause
-read x = Ok x
-
 ok_is : {A : Type 0} {x y : A} → read x ≡ Ok y → x ≡ y
 ok_is e = cc
 
@@ -104,6 +102,13 @@ module _ (number : ℕ) (name : List ℕ) where
     binds (Ok x) make s e = e
     binds (Err c) make s e = e
 
+-- a number is neither of two that are below it
+pub neither : (n a b : ℕ) → a < n → b < n → (eqb n a || eqb n b) ≡ true → ⊥
+neither n a b low_a low_b e = elim (or_cases (eqb n a) (eqb n b) e) [
+  | inl is_a ↦ omega (arith, low_a, eqb-true _ _ is_a)
+  | inr is_b ↦ omega (arith, low_b, eqb-true _ _ is_b)
+]
+
 -- arrive HH E
 arrival_meant : (number : ℕ) (HH E : List ℕ) (b e : Result ℕ Cause) (s : Saying) → byte_in HH ≡ b → errors_in E ≡ e
     → (b >>= (λ byte. e >>= (λ errors. read (event.Arrive byte errors))) >>= (λ a. Ok (Happens a))) ≡ Ok s → Means number (codes "arrive" ∷ HH ∷ E ∷ []) s
@@ -120,9 +125,7 @@ arrival number (HH ∷ []) s c e = field number (codes "arrive") byte_in (λ b. 
   alone (Ok x) s e = e
   alone (Err c) s e = e
 arrival number (HH ∷ E ∷ []) s c e = arrival_meant number HH E (byte_in HH) (errors_in E) s refl refl e
-arrival number (HH ∷ E ∷ X ∷ rest) s c e = absurd (too_many (length rest) c) where
-  too_many : (n : ℕ) → (eqb (suc (suc (suc (suc n)))) 2 || eqb (suc (suc (suc (suc n)))) 3) ≡ true → ⊥
-  too_many n c = elim (or_cases (eqb (suc (suc (suc (suc n)))) 2) (eqb (suc (suc (suc (suc n)))) 3) c) [ inl a ↦ omega (arith, eqb-true _ _ a) | inr b ↦ omega (arith, eqb-true _ _ b) ]
+arrival number (HH ∷ E ∷ X ∷ rest) s c e = absurd (neither (suc (suc (suc (suc (length rest))))) 2 3 (omega arith) (omega arith) c)
 
 -- init F BAUD C HH BITS, from the five fields
 init_meant : (number : ℕ) (F BAUD C HH BITS : List ℕ) (f : Result (Option FifoTriggerLevel) Cause) (b : Result BaudRate Cause) (t : Result Bool Cause) (h : Result IER Cause) (l : Result WordLength Cause) (s : Saying)
@@ -221,11 +224,6 @@ no_word false x e = absurd cc
 placed_is : (number : ℕ) (ws : List (List ℕ)) (first : Option Word) (w : Word) → placed_word number ws first ≡ Ok w → IsPlaced number ws first w
 placed_is number ws None w e = absurd (no_word (is_placed number None) w e)
 placed_is number ws (Some v) w e = placed_by number ws v w _ _ refl refl e
-
--- what was read before the rest
-bind_ok : {A B : Type 0} (r : Result A Cause) (f : A → Result B Cause) (y : B) → (r >>= f) ≡ Ok y → (x : A) × (r ≡ Ok x) × (f x ≡ Ok y)
-bind_ok (Ok x) f y e = (x, refl, e)
-bind_ok (Err c) f y e = absurd cc
 
 pub means_what_is_read : (number : ℕ) (ws : List (List ℕ)) (s : Saying) → 2 ≤ number → read_of number ws ≡ Ok s → Means number ws s
 unfolding word_of

@@ -1,11 +1,11 @@
 -- Every script can be played: its numbers are in their ranges, its events are legal and its calls runnable.
-use Rattle.std.proofs.Common.{◌≡◌, ℕ, zero, suc, ◌+◌, ◌*◌, ◌<◌, ◌≤◌, Bool, true, false, cond, leb, eqb, ◌&&◌, List, [], ◌∷◌, length, Result, Ok, Err, refl, sym, subst, arith, bit_and}
+use Rattle.std.proofs.Common.{◌≡◌, ℕ, suc, ◌+◌, ◌*◌, ◌<◌, ◌≤◌, Bool, true, false, cond, leb, eqb, ◌&&◌, List, [], ◌∷◌, length, Result, Ok, Err, refl, sym, subst, arith, bit_and}
 use Rattle.std.specs.Prelude.{All, flat_map}
 use Rattle.std.specs.Char.{is_ascii_hexdigit, digit_value}
 use Rattle.std.specs.Str.Parse.{digits_value}
 use Rattle.std.proofs.lemmas.Bool.{agree_below_at, eqb-true, leb-true, and_parts}
 use Rattle.std.proofs.lemmas.Bool.Decides.{nat_tests}
-use Rattle.std.proofs.lemmas.List.Elements.{All-append}
+use Rattle.std.proofs.lemmas.List.Elements.{All-nil, All-cons, All-append}
 use Rattle.std.proofs.lemmas.List.Concat.{flat_map-cons}
 use Rattle.uart_spec.specs.declared.config.BaudRate.{BaudRate}
 use Rattle.uart_spec.specs.declared.config.BaudRate.TheVariants as rate
@@ -119,12 +119,8 @@ limit_good number (line ∷ lines) [] limit r h = absurd h
 limit_good number (line ∷ lines) (Limit n ∷ sayings) limit r h = limit_good (number + 1) lines sayings n (says_good h.0) h.1
 limit_good number (line ∷ lines) (s ∷ sayings) limit r h = limit_good (number + 1) lines sayings limit r h.1
 
-All-nil : {X : Type 0} (P : X → Type 0) → All P []
-All-nil P k d lt = absurd (omega arith)
-
 All-one : {X : Type 0} (P : X → Type 0) (x : X) → P x → All P (x ∷ [])
-All-one P x p zero d lt = p
-All-one P x p (suc k) d lt = absurd (omega arith)
+All-one P x p = All-cons P x [] p (All-nil P)
 
 events_good : (s : Saying) → IsGood s → All IsLegal (events_said s)
 events_good (Happens e) g = All-one IsLegal e g

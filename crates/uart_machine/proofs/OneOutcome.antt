@@ -1,6 +1,7 @@
 -- A run has one outcome, and a script one output.
-use Rattle.std.proofs.Common.{◌≡◌, ℕ, suc, List, [], ◌∷◌, Option, Result, Ok, Err, refl, sym, ◌∙◌, ap, subst, arith, length}
+use Rattle.std.proofs.Common.{◌≡◌, ℕ, List, [], ◌∷◌, Option, Result, Ok, Err, refl, sym, ◌∙◌, ap, subst, arith, length}
 use Rattle.std.specs.Prelude.{All}
+use Rattle.std.proofs.lemmas.List.Elements.{All-head, All-tail}
 use Rattle.std.specs.Io.KnownBytes.{Appends}
 use Rattle.uart_spec.specs.declared.errors.StalledError.{StalledError}
 use Rattle.uart_16550.specs.Choice.{LeavesNoChoice, IsFunction, IsSame}
@@ -114,16 +115,7 @@ module _ (s t x y : State) (a b : Answer) (same : IsSameState s x) where
   step_one (call.Text text) ok p q = by _ _ (saving_leaves_no_choice (SavingCall.write_text text.bytes)) p.1 q.1
 
 -- lists of calls
--- each can be run
-abbrev AllRun : List Call → Type 0
-AllRun [] = Unit {0}
-AllRun (c ∷ cs) = IsRunnable c × AllRun cs
-
-all_run : (cs : List Call) → All IsRunnable cs → AllRun cs
-all_run [] all = tt
-all_run (c ∷ cs) all = (all 0 c (omega arith), all_run cs (λ k d within. all (suc k) d (omega (arith, within))))
-
-chains_one : (s t x y : State) (ps qs : List Link) → AllRun (calls_of ps) → calls_of ps ≡ calls_of qs → Chain s ps t → Chain x qs y →
+chains_one : (s t x y : State) (ps qs : List Link) → All IsRunnable (calls_of ps) → calls_of ps ≡ calls_of qs → Chain s ps t → Chain x qs y →
     IsSameState s x →
     (answers_of ps ≡ answers_of qs) × IsSameState t y
 chains_one s t x y [] [] all same p q start =
@@ -137,15 +129,15 @@ chains_one s t x y (p ∷ ps) (q ∷ qs) all same h k start =
     let Y : State → Type 0 = λ z. IsSameState s z in
     let C : Call → Type 0 = λ c. CallStep q.before c q.answer q.after in
     let here : IsSameState p.before q.before = subst T (sym h.0) (subst Y (sym k.0) start) in
-    let first = step_one p.before p.after q.before q.after p.answer q.answer here p.call all.0 h.1 (subst C (sym (same_first same)) k.1) in
-    let rest = chains_one p.after t q.after y ps qs all.1 (same_others same) h.2 k.2 first.1 in
+    let first = step_one p.before p.after q.before q.after p.answer q.answer here p.call (All-head IsRunnable p.call (calls_of ps) all) h.1 (subst C (sym (same_first same)) k.1) in
+    let rest = chains_one p.after t q.after y ps qs (All-tail IsRunnable p.call (calls_of ps) all) (same_others same) h.2 k.2 first.1 in
     (ap (λ a. a ∷ answers_of ps) first.0 ∙ ap (λ later. q.answer ∷ later) rest.0, rest.1)
 
 pub runs_one : (s t x y : State) (calls : List Call) (answers other_answers : List Answer) → All IsRunnable calls →
     IsRun s calls answers t → IsRun x calls other_answers y → IsSameState s x → (answers ≡ other_answers) × IsSameState t y
 runs_one s t x y calls answers other_answers all p q start =
-    let A : List Call → Type 0 = λ cs. AllRun cs in
-    let r = chains_one s t x y p.links q.links (subst A (sym p.calls_same) (all_run calls all))
+    let A : List Call → Type 0 = λ cs. All IsRunnable cs in
+    let r = chains_one s t x y p.links q.links (subst A (sym p.calls_same) all)
     (p.calls_same ∙ sym q.calls_same) p.chain q.chain start in
     (sym p.answers_same ∙ r.0 ∙ q.answers_same, r.1)
 
