@@ -84,38 +84,30 @@ text_in word = do
   bytes ← bytes_in word
   if is_utf8 bytes then Ok bytes else Err BadText
 
+-- what stands beside the word in a table
+abbrev pub among : {A : Type 0} → List (List ℕ × A) → List ℕ → Result A Cause
+among [] word = Err BadWord
+among (row ∷ rows) word = if bytes_eq word row.0 then Ok row.1 else among rows word
+
 -- E: a parity error p, a framing error f and a break b are the bits 04, 08 and 10 of LSR
 unfoldable pub errors_in : List ℕ → Result ℕ Cause
-errors_in word =
-    if bytes_eq word (codes "p") then Ok 0x04
-    else if bytes_eq word (codes "f") then Ok 0x08
-    else if bytes_eq word (codes "b") then Ok 0x10
-    else if bytes_eq word (codes "pf") then Ok 0x0C
-    else if bytes_eq word (codes "pb") then Ok 0x14
-    else if bytes_eq word (codes "fb") then Ok 0x18
-    else if bytes_eq word (codes "pfb") then Ok 0x1C
-    else Err BadWord
+errors_in word = among (
+    (codes "p", 0x04) ∷ (codes "f", 0x08) ∷ (codes "b", 0x10) ∷ (codes "pf", 0x0C) ∷ (codes "pb", 0x14) ∷ (codes "fb", 0x18)
+    ∷ (codes "pfb", 0x1C) ∷ []) word
 
 -- the chip
 unfoldable pub chip_in : List ℕ → Result Chip Cause
-chip_in word =
-    if bytes_eq word (codes "16550a") then Ok Uart16550A
-    else if bytes_eq word (codes "16450") then Ok Uart16450
-    else Err BadWord
+chip_in word = among ((codes "16550a", Uart16550A) ∷ (codes "16450", Uart16450) ∷ []) word
 
 -- the option that may end the first line
 unfoldable pub cut_in : List ℕ → Result Bool Cause
-cut_in word = if bytes_eq word (codes "cut") then Ok true else Err BadWord
+cut_in word = among ((codes "cut", true) ∷ []) word
 
 -- F: the trigger level of the receiver FIFO
 unfoldable pub level_in : List ℕ → Result (Option FifoTriggerLevel) Cause
-level_in word =
-    if bytes_eq word (codes "off") then Ok None
-    else if bytes_eq word (codes "1") then Ok (Some One)
-    else if bytes_eq word (codes "4") then Ok (Some Four)
-    else if bytes_eq word (codes "8") then Ok (Some Eight)
-    else if bytes_eq word (codes "14") then Ok (Some Fourteen)
-    else Err BadWord
+level_in word = among (
+    (codes "off", None) ∷ (codes "1", Some One) ∷ (codes "4", Some Four) ∷ (codes "8", Some Eight)
+    ∷ (codes "14", Some Fourteen) ∷ []) word
 
 -- the baud rate of a number: the case with a name, where there is one
 abbrev pub rate_of : ℕ → BaudRate
@@ -141,10 +133,7 @@ rate_in word = do
 
 -- C: whether the driver checks CTS
 unfoldable pub cts_in : List ℕ → Result Bool Cause
-cts_in word =
-    if bytes_eq word (codes "cts") then Ok true
-    else if bytes_eq word (codes "nocts") then Ok false
-    else Err BadWord
+cts_in word = among ((codes "cts", true) ∷ (codes "nocts", false) ∷ []) word
 
 -- HH: the bits of IER
 unfoldable pub interrupts_in : List ℕ → Result IER Cause
