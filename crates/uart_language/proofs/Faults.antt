@@ -27,7 +27,7 @@ made_fault : {A B : Type 0} (r : Result A Cause) (make : A → B) → fault_of (
 made_fault (Ok x) make = refl
 made_fault (Err c) make = refl
 
--- what is made of a value is faulty where the value is
+-- what is made of a value is faulty if the value is
 call_made_fault : {A : Type 0} (r : Result A Cause) (make : A → Call) → fault_of (r >>= (λ x. Ok (make x)) >>= (λ c. Ok (Calls c))) ≡ fault_of r
 call_made_fault r make = made_fault (r >>= (λ x. Ok (make x))) Calls ∙ made_fault r make
 

@@ -206,7 +206,7 @@ pub name_is : (text : List ℕ) (w : Word) → word_of text ≡ Some w → name_
 unfolding word_of
 name_is text w e = (bytes_eq-Decides (name_of w) text).0 (found (λ w. bytes_eq (name_of w) text) words w e)
 
--- a word that stands in its place before as many words as it takes
+-- a word that is in its place before as many words as it takes
 pub record IsPlaced (number : ℕ) (ws : List (List ℕ)) (first : Option Word) (w : Word) : Type 0 where
   pub word_is : first ≡ Some w
   pub place : is_placed number (Some w) ≡ true

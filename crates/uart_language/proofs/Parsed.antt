@@ -1,4 +1,4 @@
--- What parsing answers, by what the parser reads.
+-- What parsing returns, by what the parser reads.
 use Rattle.std.proofs.Common.{◌≡◌, ℕ, List, Result, Ok, Err, refl, ap, subst}
 use Rattle.std.specs.Prelude.{IsOk}
 use Rattle.uart_language.specs.declared.cause.Cause.{Cause}

@@ -152,7 +152,7 @@ unfolding planned
 is_script header (Ok sayings) e = refl
 is_script header (Err f) e = absurd cc
 
--- where there is a script, out of memory says no more
+-- if there is a script, out of memory says no more
 parses : (r : Result Script ScriptError) (read : Result Plan Fault) → IsOk read → BuildsPlan r read → Parses r read
 parses (Ok s) read ok h = h
 parses (Err (errors.Refused line cause)) read ok h = h

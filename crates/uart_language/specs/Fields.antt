@@ -84,7 +84,7 @@ text_in word = do
   bytes ← bytes_in word
   if is_utf8 bytes then Ok bytes else Err BadText
 
--- what stands beside the word in a table
+-- what is beside the word in a table
 abbrev pub among : {A : Type 0} → List (List ℕ × A) → List ℕ → Result A Cause
 among [] word = Err BadWord
 among (row ∷ rows) word = if bytes_eq word row.0 then Ok row.1 else among rows word
@@ -109,7 +109,7 @@ level_in word = among (
     (codes "off", None) ∷ (codes "1", Some One) ∷ (codes "4", Some Four) ∷ (codes "8", Some Eight)
     ∷ (codes "14", Some Fourteen) ∷ []) word
 
--- the baud rate of a number: the case with a name, where there is one
+-- the baud rate of a number: the case with a name, if there is one
 abbrev pub rate_of : ℕ → BaudRate
 rate_of n =
     if n == 115200 then rate.Baud115200

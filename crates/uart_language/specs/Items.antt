@@ -111,7 +111,7 @@ item_of word ws = do
   c ← call_of word ws
   Ok (Calls c)
 
--- the first word, if it stands in its place before as many words as it takes
+-- the first word, if it is in its place before as many words as it takes
 abbrev pub placed_word : ℕ → List (List ℕ) → Option Word → Result Word Cause
 placed_word number ws None = if is_placed number None then Err UnknownWord else Err Misplaced
 placed_word number ws (Some word) =

@@ -65,7 +65,7 @@ from_lines (first ∷ others) = do
 unfoldable pub script_of : List ℕ → Result Plan Fault
 script_of bytes = if nat_lt MOST_BYTES (length bytes) then Err (record { line = 0; cause = TooLong }) else from_lines (lines_of bytes)
 
--- ---- what the parser answers
+-- ---- what the parser returns
 
 -- this line is told as the first faulty one
 abbrev pub Refuses : {A : Type 0} → ScriptError → Result A Fault → Type 0

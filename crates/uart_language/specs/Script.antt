@@ -54,7 +54,7 @@ plan_of s = record {
   calls = map plain s.calls.items;
 }
 
--- the word of the option, where it is on
+-- the word of the option, if it is on
 abbrev pub option_words : Bool → List (List ℕ)
 option_words false = []
 option_words true = codes "cut" ∷ []
@@ -93,7 +93,7 @@ pub record IsScript (bytes : List ℕ) (plan : Plan) : Type 0 where
 
 -- ---- the first faulty line
 
--- a fault, where the test says so
+-- a fault, if the test says so
 abbrev pub fault_where : Bool → Cause → Option Cause
 fault_where test cause = if test then Some cause else None
 
@@ -103,7 +103,7 @@ first_of [] = None
 first_of (None ∷ faults) = first_of faults
 first_of (Some cause ∷ faults) = Some cause
 
--- what is wrong with the words after the first, each by the field that stands at its place
+-- what is wrong with the words after the first, each by the field at its place
 abbrev pub field_faults : List (List ℕ → Option Cause) → List (List ℕ) → List (Option Cause)
 field_faults [] rest = []
 field_faults (field ∷ fields) [] = []
@@ -144,9 +144,9 @@ pub data IsFaulty (bytes : List ℕ) (number : ℕ) (cause : Cause) : Type 0 whe
   empty : bytes ≡ [] → number ≡ 1 → cause ≡ Misplaced → IsFaulty bytes number cause
   faulty : length bytes ≤ MOST_BYTES → IsFirstFault 1 (lines_of bytes) number cause → IsFaulty bytes number cause
 
--- ---- what parsing answers
+-- ---- what parsing returns
 
--- The one script that the bytes are; or their first fault, exactly where they are none; or want of memory, and that only
+-- The one script that the bytes are; or their first fault, exactly if they are none; or out of memory, and that only
 -- of a script.
 pub record IsParsed (bytes : List ℕ) (result : Result Script ScriptError) : Type 0 where
   pub script : IfOk result (λ s. IsScript bytes (plan_of s))

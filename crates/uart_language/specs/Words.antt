@@ -5,7 +5,7 @@ use Rattle.uart_language.specs.declared.words.Word.{Word}
 use Rattle.uart_language.specs.declared.words.Word.TheVariants as word
 use Rattle.uart_language.specs.Fields.{count_in, limit_in, ticks_in, char_ticks_in, wire_capacity_in, byte_in, lines_in, bytes_in, text_in, errors_in, chip_in, cut_in, level_in, rate_in, cts_in, interrupts_in, word_length_in}
 
--- a word as it stands in a script
+-- a word as it is written in a script
 abbrev pub name_of : Word → List ℕ
 name_of word.Chip = codes "chip"
 name_of word.Limit = codes "limit"
@@ -52,7 +52,7 @@ words = word.Chip ∷ word.Limit ∷ word.Tick ∷ word.Arrive ∷ word.Lines �
 unfoldable pub word_of : List ℕ → Option Word
 word_of text = find (λ w. bytes_eq (name_of w) text) words
 
--- what is wrong with a field, where it is faulty
+-- what is wrong with a field, if it is faulty
 abbrev pub fault_of : {A E : Type 0} → Result A E → Option E
 fault_of (Ok x) = None
 fault_of (Err e) = Some e

@@ -14,7 +14,7 @@ use thiserror::Error;
 pub enum Cause {
     /// A byte outside of 20 to 7E.
     BadByte,
-    /// The first line is no `chip` line, or `chip` or `limit` stands elsewhere.
+    /// The first line is no `chip` line, or `chip` or `limit` begins another.
     Misplaced,
     /// The line's first word is none of the language.
     UnknownWord,

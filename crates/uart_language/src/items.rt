@@ -121,7 +121,7 @@ fn item_of(word: Word, line: &[u8]) -> Result<Item, Cause>
     }
 }
 
-/// The first word of a line, if it stands in its place before as many words as it takes.
+/// The first word of a line, if it is in its place before as many words as it takes.
 #[tactic(auto, unfolding(crate::specs::Items::starts_with))]
 fn first_word(number: u32, line: &[u8]) -> Result<Word, Cause>
     ensures { result ≡ starts_with number line.now }

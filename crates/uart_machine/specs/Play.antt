@@ -61,7 +61,7 @@ pub record IsPlayed (input : List ℕ) (writes : List ℕ → Type 0) : Type 0 w
   pub written : writes output
 
 -- What playing an input comes to: its whole output, or the first fault of an input that is no script, or a beginning of its
--- output where the writer failed.
+-- output if the writer failed.
 abbrev pub Outcome : List ℕ → Result (Unit {0}) PlayError → Option (List ℕ) → Option (List ℕ) → Type 0
 Outcome input (Ok done) old new = IsPlayed input (Appends old new)
 Outcome input (Err (errors.Refused line cause)) old new = IsFaulty input line cause

@@ -212,7 +212,7 @@ fn printed_for(
     render(alloc, answers, machine.wire(), &held, &waiting, &marks)
 }
 
-// Runs a script, and tells what is printed for it.
+// Runs a script, and returns what is printed for it.
 fn output_for(alloc: Global, script: &Script) -> Result<Vec<u8>, AllocError>
     requires { IsPlayable (plan_of script.now) }
     ensures { IfOk result (λ output. IsOutput (plan_of script.now) output.items) }
@@ -234,14 +234,14 @@ pub fn play<R: Input, W: Output>(
     reader: &mut R,
     writer: &mut W,
 ) -> Result<(), PlayError>
-    // What an input comes to, where its bytes are known.
+    // What an input comes to, if its bytes are known.
     ensures outcome { IfSome (R.remaining reader.old) (λ input. Outcome input result (W.contents writer.old) (W.contents writer.new)) }
     ensures whole { OnOk result (IsAtEnd (R.remaining reader.new)) }
     ensures most { ConsumesAtMost MOST_READ (R.remaining reader.old) (R.remaining reader.new) }
 
     ensures nothing { WritesNothing result (W.contents writer.old) (W.contents writer.new) }
 
-    // A read fault comes exactly where the reader failed, a write fault exactly where the writer did.
+    // A read fault comes exactly if the reader failed, a write fault exactly if the writer did.
     ensures reader_fault { R.has_failed reader.new ≡ (R.has_failed reader.old || is_read_fault result) }
     ensures writer_fault { W.has_failed writer.new ≡ (W.has_failed writer.old || is_write_fault result) }
 {

@@ -7,7 +7,7 @@ use Rattle.uart_language.specs.declared.limits.TheConstants.{MOST_RATE}
 use Rattle.uart_language.specs.Fields.{number_in, rate_of, rate_in}
 use Rattle.uart_language.proofs.fields.rate_in.Goals as goal
 
--- the named case of the number, where there is one
+-- the named case of the number, if there is one
 abbrev IsOf : ℕ → BaudRate → Type 0
 IsOf n rate = (named : BaudRate) → IsNamed named → to_integer named ≡ n → rate ≡ named
 
