@@ -1,6 +1,7 @@
 -- A run has one outcome, and a script one output.
-use Rattle.std.proofs.Common.{◌≡◌, ℕ, suc, List, [], ◌∷◌, Option, Result, Ok, Err, refl, sym, ◌∙◌, ap, subst, arith, length}
+use Rattle.std.proofs.Common.{◌≡◌, ℕ, List, [], ◌∷◌, Option, Result, Ok, Err, refl, sym, ◌∙◌, ap, subst, arith, length}
 use Rattle.std.specs.Prelude.{All}
+use Rattle.std.proofs.lemmas.List.Elements.{All-head, All-tail}
 use Rattle.std.specs.Io.KnownBytes.{Appends}
 use Rattle.uart_16550.specs.Choice.{LeavesNoChoice, IsFunction, IsSame}
 use Rattle.uart_16550.specs.Tty.{inner_of}
@@ -15,16 +16,13 @@ use Rattle.uart_calls.specs.Calls.{IsRunnable}
 use Rattle.uart_calls.specs.Meaning.{Meaning, Called, meaning}
 use Rattle.uart_calls.proofs.NoChoice.{meaning_leaves_no_choice}
 use Rattle.uart_run.specs.Run.{State, machine_of, CallStep, Link, Chain, calls_of, answers_of, IsRun}
-use Rattle.uart_chip.specs.Transmitter.{held}
-use Rattle.uart_device.specs.Conserved.{waiting}
-use Rattle.uart_language.specs.Output.{printed}
 use Rattle.uart_language.specs.Script.{Plan, IsScript}
 use Rattle.uart_machine.specs.ScriptOutput.{IsFirst, output_of}
-use Rattle.uart_language.specs.ScriptReading.{Fault}
+use Rattle.uart_language.specs.Reading.{Fault}
 use Rattle.uart_machine.specs.Play.{IsPlayed, Outcome}
 use Rattle.uart_machine.specs.OneOutcome.{IsSameState}
-use Rattle.uart_language.proofs.ScriptExact.{script_is_read}
-use Rattle.uart_language.proofs.ScriptPlayable.{playable}
+use Rattle.uart_language.proofs.Exact.{script_is_read}
+use Rattle.uart_language.proofs.Playable.{playable}
 
 -- the machine's step is a function
 machine_is_function : IsFunction MachineStep
@@ -47,16 +45,7 @@ step_one s t x y a b same c ok p q =
     called_one (meaning c) (meaning_leaves_no_choice c ok) a b (inner_of s) (inner_of t) (inner_of x) (inner_of y) p q same
 
 -- lists of calls
--- each can be run
-abbrev AllRun : List Call → Type 0
-AllRun [] = Unit {0}
-AllRun (c ∷ cs) = IsRunnable c × AllRun cs
-
-all_run : (cs : List Call) → All IsRunnable cs → AllRun cs
-all_run [] all = tt
-all_run (c ∷ cs) all = (all 0 c (omega arith), all_run cs (λ k d within. all (suc k) d (omega (arith, within))))
-
-chains_one : (s t x y : State) (ps qs : List Link) → AllRun (calls_of ps) → calls_of ps ≡ calls_of qs → Chain s ps t → Chain x qs y →
+chains_one : (s t x y : State) (ps qs : List Link) → All IsRunnable (calls_of ps) → calls_of ps ≡ calls_of qs → Chain s ps t → Chain x qs y →
     IsSameState s x →
     (answers_of ps ≡ answers_of qs) × IsSameState t y
 chains_one s t x y [] [] all same p q start =
@@ -70,15 +59,15 @@ chains_one s t x y (p ∷ ps) (q ∷ qs) all same h k start =
     let Y : State → Type 0 = λ z. IsSameState s z in
     let C : Call → Type 0 = λ c. CallStep q.before c q.answer q.after in
     let here : IsSameState p.before q.before = subst T (sym h.0) (subst Y (sym k.0) start) in
-    let first = step_one p.before p.after q.before q.after p.answer q.answer here p.call all.0 h.1 (subst C (sym (same_first same)) k.1) in
-    let rest = chains_one p.after t q.after y ps qs all.1 (same_others same) h.2 k.2 first.1 in
+    let first = step_one p.before p.after q.before q.after p.answer q.answer here p.call (All-head IsRunnable p.call (calls_of ps) all) h.1 (subst C (sym (same_first same)) k.1) in
+    let rest = chains_one p.after t q.after y ps qs (All-tail IsRunnable p.call (calls_of ps) all) (same_others same) h.2 k.2 first.1 in
     (ap (λ a. a ∷ answers_of ps) first.0 ∙ ap (λ later. q.answer ∷ later) rest.0, rest.1)
 
 pub runs_one : (s t x y : State) (calls : List Call) (answers other_answers : List Answer) → All IsRunnable calls →
     IsRun s calls answers t → IsRun x calls other_answers y → IsSameState s x → (answers ≡ other_answers) × IsSameState t y
 runs_one s t x y calls answers other_answers all p q start =
-    let A : List Call → Type 0 = λ cs. AllRun cs in
-    let r = chains_one s t x y p.links q.links (subst A (sym p.calls_same) (all_run calls all))
+    let A : List Call → Type 0 = λ cs. All IsRunnable cs in
+    let r = chains_one s t x y p.links q.links (subst A (sym p.calls_same) all)
     (p.calls_same ∙ sym q.calls_same) p.chain q.chain start in
     (sym p.answers_same ∙ r.0 ∙ q.answers_same, r.1)
 
@@ -94,13 +83,6 @@ plan_one input p q h k = ap (inside p) (sym (script_is_read input p h) ∙ scrip
 firsts_same : (plan : Plan) (s x : State) → IsFirst plan s → IsFirst plan x → IsSameState s x
 firsts_same plan s x p q = (p.driver ∙ sym q.driver, p.machine ∙ sym q.machine)
 
--- an output shows the machine alone
-last_same : (answers : List Answer) (t y : State) → machine_of t ≡ machine_of y → output_of answers t ≡ output_of answers y
-last_same answers t y same =
-    ap
-    (λ (m : MachineState). printed answers m.chip.transmitter.wire (held m.chip.transmitter) (waiting m) m.chip.receiver.marks)
-    same
-
 -- what was played of one input has one output
 played_one : (input : List ℕ) (writes other_writes : List ℕ → Type 0) (p : IsPlayed input writes) (q : IsPlayed input other_writes) →
     p.output ≡ q.output
@@ -111,7 +93,7 @@ played_one input writes other_writes p q =
     let start = firsts_same p.plan p.printed.first q.printed.first p.printed.begins (subst F (sym same) q.printed.begins) in
     let r = runs_one p.printed.first p.printed.last q.printed.first q.printed.last p.plan.calls p.printed.answers q.printed.answers
     (playable input p.plan p.script).calls p.printed.ran (subst R (sym same) q.printed.ran) start in
-    p.printed.is ∙ ap (λ answers. output_of answers p.printed.last) r.0 ∙ last_same q.printed.answers p.printed.last q.printed.last r.1.1
+    p.printed.is ∙ ap (λ answers. output_of answers (machine_of p.printed.last)) r.0 ∙ ap (output_of q.printed.answers) r.1.1
     ∙ sym q.printed.is
 
 pub outputs_one : (input : List ℕ) (old new other_old other_new : Option (List ℕ)) → Outcome input (Ok tt) old new →

@@ -6,7 +6,7 @@ ghost use Rattle.uart_machine.specs.OneOutcome.{RunsHaveOneOutcome, ScriptsHaveO
 pub use uart_calls::laws::meanings_leave_no_choice;
 pub use uart_run::laws::idle_keeps_ready;
 
-/// What `run` answers, and the state that it leaves, are a function of the calls and the state before.
+/// The answers of `run`, and the state that it leaves, are a function of the calls and the state before.
 pub fn runs_have_one_outcome()
     ensures { RunsHaveOneOutcome }
 {}

@@ -5,24 +5,20 @@ use Rattle.std.proofs.lemmas.Bool.{cases_lt, ltb-true, ltb-false, lt-ltb, le-ltb
 use Rattle.uart_language.specs.declared.cause.Cause.{Cause}
 use Rattle.uart_language.specs.declared.cause.Cause.TheVariants.{Misplaced, TooLong}
 use Rattle.uart_language.specs.declared.items.Header.{Header}
+use Rattle.uart_language.specs.declared.limits.TheConstants.{MOST_BYTES, MOST_LINES}
 use Rattle.uart_language.specs.Text.{lines_of}
 use Rattle.uart_language.specs.Fields.{◌>>=◌}
 use Rattle.uart_language.specs.Words.{fault_of}
-use Rattle.uart_language.specs.ScriptLines.{Saying}
+use Rattle.uart_language.specs.Sayings.{Saying}
 use Rattle.uart_language.specs.Script.{Plan, SayInOrder, IsScript, fault_at, AreFaultless, IsFirstFault, IsFaulty, long, empty, faulty}
 use Rattle.uart_language.specs.Items.{item_at, header_at}
-use Rattle.uart_language.specs.ScriptReading.{Fault, on_line, numbered, before, sayings_from, plan_by, planned, from_lines, script_of}
-use Rattle.uart_language.proofs.ScriptLines.{lines_first, is_end}
-use Rattle.uart_language.proofs.ScriptMeanings.{says_what_is_read, reads_what_is_said}
-use Rattle.uart_language.proofs.ScriptFaults.{line_fault, header_fault, says_header, reads_header}
+use Rattle.uart_language.specs.Reading.{Fault, on_line, numbered, before, sayings_from, plan_by, planned, from_lines, script_of}
+use Rattle.uart_language.proofs.Lines.{lines_first, is_end}
+use Rattle.uart_language.proofs.Results.{bind_ok}
+use Rattle.uart_language.proofs.Meanings.{says_what_is_read, reads_what_is_said}
+use Rattle.uart_language.proofs.Faults.{line_fault, header_fault, says_header, reads_header}
 
 -- ---- values and faults
-
-abbrev ok : {A : Type 0} → A → Result A Fault
-ok x = Ok x
-
-abbrev err : {A : Type 0} → Fault → Result A Fault
-err f = Err f
 
 abbrev pub fault : ℕ → Cause → Fault
 fault number cause = record { line = number; cause = cause }
@@ -43,11 +39,11 @@ numbered_ok number line true r s e = absurd cc
 numbered_ok number line false (Ok x) s e = (refl, cc)
 numbered_ok number line false (Err c) s e = absurd cc
 
-is_line : (number : ℕ) (line : List ℕ) (s : Saying) → numbered number line ≡ Ok s → (number ≤ 4096) × (item_at number line ≡ Ok s)
-is_line number line s e = let r = numbered_ok number line _ (item_at number line) s e in (ltb-false 4096 number r.0, r.1)
+is_line : (number : ℕ) (line : List ℕ) (s : Saying) → numbered number line ≡ Ok s → (number ≤ MOST_LINES) × (item_at number line ≡ Ok s)
+is_line number line s e = let r = numbered_ok number line _ (item_at number line) s e in (ltb-false MOST_LINES number r.0, r.1)
 
-numbered_is : (number : ℕ) (line : List ℕ) → number ≤ 4096 → numbered number line ≡ on_line number (item_at number line)
-numbered_is number line most = rw (le-ltb 4096 number most) refl
+numbered_is : (number : ℕ) (line : List ℕ) → number ≤ MOST_LINES → numbered number line ≡ on_line number (item_at number line)
+numbered_is number line most = rw (le-ltb MOST_LINES number most) refl
 
 abbrev at_line : ℕ → Option Cause → Option Fault
 at_line number None = None
@@ -58,8 +54,8 @@ on_line_fault number (Ok x) = refl
 on_line_fault number (Err c) = refl
 
 numbered_fault : (number : ℕ) (line : List ℕ) → 2 ≤ number → fault_of (numbered number line) ≡ at_line number (fault_at number line)
-numbered_fault number line le = elim (cases_lt 4096 number) [
-  | inl lt ↦ rw (lt-ltb 4096 number lt) refl
+numbered_fault number line le = elim (cases_lt MOST_LINES number) [
+  | inl lt ↦ rw (lt-ltb MOST_LINES number lt) refl
   | inr most ↦ ap fault_of (numbered_is number line most) ∙ on_line_fault number (item_at number line) ∙ ap (at_line number) (line_fault number line le most)
 ]
 
@@ -92,7 +88,7 @@ before_err (Ok s) (Err g) f e = inr (s, refl, cc)
 before_err (Err g) rest f e = inl cc
 
 -- what is read of lines is what they say, and they are not too many
-all_said : (number : ℕ) (lines : List (List ℕ)) (sayings : List Saying) → 2 ≤ number → number ≤ 4097 → sayings_from number lines ≡ Ok sayings → SayInOrder number lines sayings × (number + length lines ≤ 4097)
+all_said : (number : ℕ) (lines : List (List ℕ)) (sayings : List Saying) → 2 ≤ number → number ≤ MOST_LINES + 1 → sayings_from number lines ≡ Ok sayings → SayInOrder number lines sayings × (number + length lines ≤ MOST_LINES + 1)
 unfolding sayings_from
 all_said number [] sayings le most e = let none : [] ≡ sayings = cc in (subst (λ (x : List Saying). SayInOrder number [] x) none tt, omega arith)
 all_said number (line ∷ lines) sayings le most e =
@@ -101,7 +97,7 @@ all_said number (line ∷ lines) sayings le most e =
     let rest = all_said (number + 1) lines r.1 (omega arith) (omega (arith, first.0)) r.3 in
     (subst (λ (x : List Saying). SayInOrder number (line ∷ lines) x) r.4 (says_what_is_read number line r.0 le first.1, rest.0), omega (arith, rest.1))
 
-all_read : (number : ℕ) (lines : List (List ℕ)) (sayings : List Saying) → 2 ≤ number → number + length lines ≤ 4097 → SayInOrder number lines sayings → sayings_from number lines ≡ Ok sayings
+all_read : (number : ℕ) (lines : List (List ℕ)) (sayings : List Saying) → 2 ≤ number → number + length lines ≤ MOST_LINES + 1 → SayInOrder number lines sayings → sayings_from number lines ≡ Ok sayings
 unfolding sayings_from
 all_read number [] [] le most h = refl
 all_read number [] (s ∷ sayings) le most h = absurd h
@@ -150,10 +146,6 @@ first_is start (l ∷ front) line after number c le none e told =
 
 -- ---- a whole script
 
-bind_ok : {A B : Type 0} (r : Result A Fault) (f : A → Result B Fault) (y : B) → (r >>= f) ≡ Ok y → (x : A) × (r ≡ Ok x) × (f x ≡ Ok y)
-bind_ok (Ok x) f y e = (x, refl, e)
-bind_ok (Err c) f y e = absurd cc
-
 on_line_ok : {A : Type 0} (number : ℕ) (r : Result A Cause) (x : A) → on_line number r ≡ Ok x → r ≡ Ok x
 on_line_ok number (Ok y) x e = cc
 on_line_ok number (Err c) x e = absurd cc
@@ -168,7 +160,7 @@ unfolding planned
 planned_err header (Ok sayings) f e = absurd cc
 planned_err header (Err g) f e = cc
 
-is_script_by : (bytes first : List ℕ) (others : List (List ℕ)) (plan : Plan) → length bytes ≤ 65536 → lines_of bytes ≡ first ∷ others → from_lines (first ∷ others) ≡ Ok plan → IsScript bytes plan
+is_script_by : (bytes first : List ℕ) (others : List (List ℕ)) (plan : Plan) → length bytes ≤ MOST_BYTES → lines_of bytes ≡ first ∷ others → from_lines (first ∷ others) ≡ Ok plan → IsScript bytes plan
 unfolding from_lines
 is_script_by bytes first others plan fits l e =
     let h = bind_ok (on_line 1 (header_at first)) (λ header. planned header (sayings_from 2 others)) plan e in
@@ -188,7 +180,7 @@ is_script_by bytes first others plan fits l e =
       calls = refl;
     })
 
-script_by_lines : (bytes : List ℕ) (lines : List (List ℕ)) (plan : Plan) → length bytes ≤ 65536 → lines_of bytes ≡ lines → from_lines lines ≡ Ok plan → IsScript bytes plan
+script_by_lines : (bytes : List ℕ) (lines : List (List ℕ)) (plan : Plan) → length bytes ≤ MOST_BYTES → lines_of bytes ≡ lines → from_lines lines ≡ Ok plan → IsScript bytes plan
 unfolding from_lines
 script_by_lines bytes [] plan fits l e = absurd cc
 script_by_lines bytes (first ∷ others) plan fits l e = is_script_by bytes first others plan fits l e
@@ -207,7 +199,7 @@ pub script_is_read : (bytes : List ℕ) (plan : Plan) → IsScript bytes plan �
 unfolding script_of from_lines planned
 script_is_read bytes plan s =
     let read = all_read 2 s.others s.sayings (omega arith) (omega (arith, s.few)) s.body in
-    rw (le-ltb 65536 (length bytes) s.fits, s.lines, reads_header s.first plan.chip plan.ticks plan.wire_capacity plan.cuts s.header, read, ← s.limit, ← s.events, ← s.calls) refl
+    rw (le-ltb MOST_BYTES (length bytes) s.fits, s.lines, reads_header s.first plan.chip plan.ticks plan.wire_capacity plan.cuts s.header, read, ← s.limit, ← s.events, ← s.calls) refl
 
 no_lines : (bytes : List ℕ) → lines_of bytes ≡ [] → bytes ≡ []
 no_lines [] e = refl
@@ -221,12 +213,12 @@ lines_told first others (Err c) f h e = let told : fault 1 c ≡ f = cc in subst
 lines_told first others (Ok header) f h e =
     later_is_told 1 first others f.line f.cause (sym (header_fault first) ∙ ap fault_of h) (told_is_first 2 others f (omega arith) (planned_err header (sayings_from 2 others) f e))
 
-faulty_by_lines : (bytes : List ℕ) (lines : List (List ℕ)) (f : Fault) → length bytes ≤ 65536 → lines_of bytes ≡ lines → from_lines lines ≡ Err f → IsFaulty bytes f.line f.cause
+faulty_by_lines : (bytes : List ℕ) (lines : List (List ℕ)) (f : Fault) → length bytes ≤ MOST_BYTES → lines_of bytes ≡ lines → from_lines lines ≡ Err f → IsFaulty bytes f.line f.cause
 unfolding from_lines
 faulty_by_lines bytes [] f fits l e = let told : fault 1 Misplaced ≡ f = cc in empty (no_lines bytes l) (ap (λ (x : Fault). x.line) (sym told)) (ap (λ (x : Fault). x.cause) (sym told))
 faulty_by_lines bytes (first ∷ others) f fits l e = faulty fits (rw l (lines_told first others (header_at first) f refl e))
 
-faulty_by : (bytes : List ℕ) (f : Fault) (long_text : Bool) → ltb 65536 (length bytes) ≡ long_text → cond long_text (Err (fault 0 TooLong)) (from_lines (lines_of bytes)) ≡ Err f → IsFaulty bytes f.line f.cause
+faulty_by : (bytes : List ℕ) (f : Fault) (long_text : Bool) → ltb MOST_BYTES (length bytes) ≡ long_text → cond long_text (Err (fault 0 TooLong)) (from_lines (lines_of bytes)) ≡ Err f → IsFaulty bytes f.line f.cause
 faulty_by bytes f true l e = let told : fault 0 TooLong ≡ f = cc in long (ltb-true _ _ l) (ap (λ (x : Fault). x.line) (sym told)) (ap (λ (x : Fault). x.cause) (sym told))
 faulty_by bytes f false l e = faulty_by_lines bytes (lines_of bytes) f (ltb-false _ _ l) refl e
 
@@ -247,6 +239,6 @@ first_told (first ∷ front) line after number c none e told =
 -- the first fault of bytes that are no script is told
 pub fault_is_told : (bytes : List ℕ) (number : ℕ) (c : Cause) → IsFaulty bytes number c → script_of bytes ≡ Err (fault number c)
 unfolding script_of from_lines lines_of
-fault_is_told bytes number c (long lt n e) = rw (lt-ltb 65536 (length bytes) lt, n, e) refl
+fault_is_told bytes number c (long lt n e) = rw (lt-ltb MOST_BYTES (length bytes) lt, n, e) refl
 fault_is_told bytes number c (empty b n e) = rw (b, n, e) refl
-fault_is_told bytes number c (faulty fits f) = rw (le-ltb 65536 (length bytes) fits, f.cut) (first_told f.before f.line f.after number c f.faultless f.number_is f.faulty)
+fault_is_told bytes number c (faulty fits f) = rw (le-ltb MOST_BYTES (length bytes) fits, f.cut) (first_told f.before f.line f.after number c f.faultless f.number_is f.faulty)

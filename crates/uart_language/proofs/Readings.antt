@@ -12,14 +12,15 @@ use Rattle.uart_language.specs.declared.cause.Cause.TheVariants.{TooLong, Mispla
 use Rattle.uart_language.specs.declared.cause.ScriptError.{ScriptError}
 use Rattle.uart_language.specs.declared.cause.ScriptError.TheVariants as errors
 use Rattle.uart_language.specs.declared.items.Header.{Header}
+use Rattle.uart_language.specs.declared.limits.TheConstants.{MOST_BYTES, MOST_LINES, DEFAULT_LIMIT}
 use Rattle.uart_language.specs.declared.parsing.Script.{Script}
 use Rattle.uart_language.specs.Text.{lines_of}
 use Rattle.uart_language.specs.Words.{fault_of}
-use Rattle.uart_language.specs.ScriptLines.{Saying, Nothing, Limit, Happens, Calls, Marks, events_of, calls_of}
-use Rattle.uart_language.specs.Script.{Plan, limit_from, default_limit}
+use Rattle.uart_language.specs.Sayings.{Saying, Nothing, Limit, Happens, Calls, Marks, events_said, calls_said}
+use Rattle.uart_language.specs.Script.{Plan, limit_from}
 use Rattle.uart_language.specs.Items.{item_at, header_at}
-use Rattle.uart_language.specs.ScriptReading.{Fault, sayings_from, with_saying, planned, from_lines, script_of, Refuses, Builds, Parses, added}
-use Rattle.uart_language.proofs.ScriptLines.{lines_first, is_end}
+use Rattle.uart_language.specs.Reading.{Fault, sayings_from, with_saying, planned, from_lines, script_of, Refuses, BuildsPlan, Parses, added}
+use Rattle.uart_language.proofs.Lines.{lines_first, is_end}
 
 abbrev said : Saying → Result Saying Cause
 said s = Ok s
@@ -27,19 +28,19 @@ said s = Ok s
 abbrev refused : Cause → Result Saying Cause
 refused c = Err c
 
-pub too_long : (number : ℕ) (bytes : List ℕ) → 0 < length bytes → 4096 < number → sayings_from number (lines_of bytes) ≡ Err (record { line = number; cause = TooLong })
+pub too_long : (number : ℕ) (bytes : List ℕ) → 0 < length bytes → MOST_LINES < number → sayings_from number (lines_of bytes) ≡ Err (record { line = number; cause = TooLong })
 unfolding sayings_from
-too_long number bytes some lt = rw (lines_first bytes (position_or_len is_end bytes) some refl, lt-ltb 4096 number lt) refl
+too_long number bytes some lt = rw (lines_first bytes (position_or_len is_end bytes) some refl, lt-ltb MOST_LINES number lt) refl
 
-pub next_is : (number : ℕ) (all line : List ℕ) (rest : List ℕ) (s : Saying) → lines_of all ≡ line ∷ lines_of rest → number ≤ 4096 → said s ≡ item_at number line
+pub next_is : (number : ℕ) (all line : List ℕ) (rest : List ℕ) (s : Saying) → lines_of all ≡ line ∷ lines_of rest → number ≤ MOST_LINES → said s ≡ item_at number line
     → sayings_from number (lines_of all) ≡ with_saying s (sayings_from (number + 1) (lines_of rest))
 unfolding sayings_from
-next_is number all line rest s e le r = rw (e, le-ltb 4096 number le, ← r) refl
+next_is number all line rest s e le r = rw (e, le-ltb MOST_LINES number le, ← r) refl
 
-pub next_fails : (number : ℕ) (all line : List ℕ) (rest : List ℕ) (c : Cause) → lines_of all ≡ line ∷ lines_of rest → number ≤ 4096 → refused c ≡ item_at number line
+pub next_fails : (number : ℕ) (all line : List ℕ) (rest : List ℕ) (c : Cause) → lines_of all ≡ line ∷ lines_of rest → number ≤ MOST_LINES → refused c ≡ item_at number line
     → sayings_from number (lines_of all) ≡ Err (record { line = number; cause = c })
 unfolding sayings_from
-next_fails number all line rest c e le r = rw (e, le-ltb 4096 number le, ← r) refl
+next_fails number all line rest c e le r = rw (e, le-ltb MOST_LINES number le, ← r) refl
 
 pub fault_after : (s : Saying) (sayings : Result (List Saying) Fault) → fault_of (with_saying s sayings) ≡ fault_of sayings
 fault_after s (Ok sayings) = refl
@@ -67,7 +68,7 @@ all_read number bytes (Err f) e h = let none = ap fault_of (no_lines number byte
 
 -- the script that plan becomes by the lines that are left
 abbrev pub ends_in : Plan → Result (List Saying) Fault → Result Plan Fault
-ends_in plan (Ok sayings) = Ok (record plan { limit = limit_from plan.limit sayings; events = plan.events ++ flat_map events_of sayings; calls = plan.calls ++ flat_map calls_of sayings })
+ends_in plan (Ok sayings) = Ok (record plan { limit = limit_from plan.limit sayings; events = plan.events ++ flat_map events_said sayings; calls = plan.calls ++ flat_map calls_said sayings })
 ends_in plan (Err e) = Err e
 
 limit_after : (limit : ℕ) (s : Saying) (sayings : List Saying) → limit_from limit (s ∷ sayings) ≡ limit_from (limit_from limit (s ∷ [])) sayings
@@ -79,16 +80,16 @@ limit_after limit Marks sayings = refl
 
 pub grows : (plan : Plan) (s : Saying) (sayings : Result (List Saying) Fault) → ends_in plan (with_saying s sayings) ≡ ends_in (added plan s) sayings
 grows plan s (Ok sayings) =
-    let es : plan.events ++ flat_map events_of (s ∷ sayings) ≡ (plan.events ++ events_of s) ++ flat_map events_of sayings =
-    ap (λ (x : List Event). plan.events ++ x) (flat_map-cons events_of s sayings) ∙ sym (append_assoc plan.events (events_of s) (flat_map events_of sayings)) in
-    let cs : plan.calls ++ flat_map calls_of (s ∷ sayings) ≡ (plan.calls ++ calls_of s) ++ flat_map calls_of sayings =
-    ap (λ (x : List Call). plan.calls ++ x) (flat_map-cons calls_of s sayings) ∙ sym (append_assoc plan.calls (calls_of s) (flat_map calls_of sayings)) in
+    let es : plan.events ++ flat_map events_said (s ∷ sayings) ≡ (plan.events ++ events_said s) ++ flat_map events_said sayings =
+    ap (λ (x : List Event). plan.events ++ x) (flat_map-cons events_said s sayings) ∙ sym (append_assoc plan.events (events_said s) (flat_map events_said sayings)) in
+    let cs : plan.calls ++ flat_map calls_said (s ∷ sayings) ≡ (plan.calls ++ calls_said s) ++ flat_map calls_said sayings =
+    ap (λ (x : List Call). plan.calls ++ x) (flat_map-cons calls_said s sayings) ∙ sym (append_assoc plan.calls (calls_said s) (flat_map calls_said sayings)) in
     let ls : limit_from plan.limit (s ∷ sayings) ≡ limit_from (limit_from plan.limit (s ∷ [])) sayings = limit_after plan.limit s sayings in
     cc
 grows plan s (Err e) = refl
 
 abbrev pub empty_plan : Header → Plan
-empty_plan header = record { chip = header.chip; ticks = header.ticks; wire_capacity = header.wire_capacity; cuts = header.cuts; limit = default_limit; events = []; calls = [] }
+empty_plan header = record { chip = header.chip; ticks = header.ticks; wire_capacity = header.wire_capacity; cuts = header.cuts; limit = DEFAULT_LIMIT; events = []; calls = [] }
 
 pub starts : (header : Header) (sayings : Result (List Saying) Fault) → ends_in (empty_plan header) sayings ≡ planned header sayings
 unfolding planned
@@ -109,7 +110,7 @@ pub build_refuses : (plan : Plan) (part : Result (List Saying) Fault) (whole : R
 build_refuses plan part whole (errors.Refused line cause) h r = sym h ∙ ap (ends_in plan) r
 build_refuses plan part whole errors.OutOfMemory h r = r
 
-pub builds_refused : (e : ScriptError) (whole : Result Plan Fault) → Refuses e whole → Builds (Err e) whole
+pub builds_refused : (e : ScriptError) (whole : Result Plan Fault) → Refuses e whole → BuildsPlan (Err e) whole
 builds_refused (errors.Refused line cause) whole r = r
 builds_refused errors.OutOfMemory whole r = tt
 
@@ -121,22 +122,22 @@ header_read h = Ok h
 abbrev header_refused : Cause → Result Header Cause
 header_refused c = Err c
 
-pub whole_too_long : (bytes : List ℕ) → 65536 < length bytes → script_of bytes ≡ Err (record { line = 0; cause = TooLong })
+pub whole_too_long : (bytes : List ℕ) → MOST_BYTES < length bytes → script_of bytes ≡ Err (record { line = 0; cause = TooLong })
 unfolding script_of
-whole_too_long bytes lt = rw (lt-ltb 65536 (length bytes) lt) refl
+whole_too_long bytes lt = rw (lt-ltb MOST_BYTES (length bytes) lt) refl
 
 pub no_first_line : (bytes : List ℕ) → true ≡ eqb (length bytes) 0 → script_of bytes ≡ Err (record { line = 1; cause = Misplaced })
 unfolding script_of from_lines lines_of
 no_first_line [] e = refl
 no_first_line (b ∷ bytes) e = absurd (omega (arith, eqb-true _ _ (sym e)))
 
-pub first_line_fails : (bytes line rest : List ℕ) (c : Cause) → length bytes ≤ 65536 → lines_of bytes ≡ line ∷ lines_of rest → header_refused c ≡ header_at line → script_of bytes ≡ Err (record { line = 1; cause = c })
+pub first_line_fails : (bytes line rest : List ℕ) (c : Cause) → length bytes ≤ MOST_BYTES → lines_of bytes ≡ line ∷ lines_of rest → header_refused c ≡ header_at line → script_of bytes ≡ Err (record { line = 1; cause = c })
 unfolding script_of from_lines
-first_line_fails bytes line rest c le e h = rw (le-ltb 65536 (length bytes) le, e, ← h) refl
+first_line_fails bytes line rest c le e h = rw (le-ltb MOST_BYTES (length bytes) le, e, ← h) refl
 
-pub first_line_is : (bytes line rest : List ℕ) (header : Header) → length bytes ≤ 65536 → lines_of bytes ≡ line ∷ lines_of rest → header_read header ≡ header_at line → script_of bytes ≡ planned header (sayings_from 2 (lines_of rest))
+pub first_line_is : (bytes line rest : List ℕ) (header : Header) → length bytes ≤ MOST_BYTES → lines_of bytes ≡ line ∷ lines_of rest → header_read header ≡ header_at line → script_of bytes ≡ planned header (sayings_from 2 (lines_of rest))
 unfolding script_of from_lines
-first_line_is bytes line rest header le e h = rw (le-ltb 65536 (length bytes) le, e, ← h) refl
+first_line_is bytes line rest header le e h = rw (le-ltb MOST_BYTES (length bytes) le, e, ← h) refl
 
 later_fails : (header : Header) (sayings : Result (List Saying) Fault) (e : ScriptError) → Refuses e sayings → Parses (Err e) (planned header sayings)
 unfolding planned
@@ -151,11 +152,11 @@ unfolding planned
 is_script header (Ok sayings) e = refl
 is_script header (Err f) e = absurd cc
 
--- where there is a script, out of memory says no more
-parses : (r : Result Script ScriptError) (read : Result Plan Fault) → IsOk read → Builds r read → Parses r read
+-- if there is a script, out of memory says no more
+parses : (r : Result Script ScriptError) (read : Result Plan Fault) → IsOk read → BuildsPlan r read → Parses r read
 parses (Ok s) read ok h = h
 parses (Err (errors.Refused line cause)) read ok h = h
 parses (Err errors.OutOfMemory) read ok h = ok
 
-pub all_parsed : (header : Header) (sayings : Result (List Saying) Fault) (whole : Result Plan Fault) (r : Result Script ScriptError) → whole ≡ planned header sayings → IsOk sayings → Builds r (planned header sayings) → Parses r whole
+pub all_parsed : (header : Header) (sayings : Result (List Saying) Fault) (whole : Result Plan Fault) (r : Result Script ScriptError) → whole ≡ planned header sayings → IsOk sayings → BuildsPlan r (planned header sayings) → Parses r whole
 all_parsed header sayings whole r h ok b = rw h (parses r _ (is_script header sayings ok) b)

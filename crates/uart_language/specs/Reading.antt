@@ -5,11 +5,12 @@ use Rattle.uart_language.specs.declared.cause.Cause.TheVariants.{Misplaced, TooL
 use Rattle.uart_language.specs.declared.cause.ScriptError.{ScriptError}
 use Rattle.uart_language.specs.declared.cause.ScriptError.TheVariants as errors
 use Rattle.uart_language.specs.declared.items.Header.{Header}
+use Rattle.uart_language.specs.declared.limits.TheConstants.{MOST_BYTES, MOST_LINES, DEFAULT_LIMIT}
 use Rattle.uart_language.specs.declared.parsing.Script.{Script}
 use Rattle.uart_language.specs.Text.{lines_of}
 use Rattle.uart_language.specs.Fields.{◌>>=◌}
-use Rattle.uart_language.specs.ScriptLines.{Saying, events_of, calls_of}
-use Rattle.uart_language.specs.Script.{Plan, limit_from, default_limit, plan_of}
+use Rattle.uart_language.specs.Sayings.{Saying, events_said, calls_said}
+use Rattle.uart_language.specs.Script.{Plan, limit_from, plan_of}
 use Rattle.uart_language.specs.Items.{header_at, item_at}
 
 -- a fault and the number of its line
@@ -23,7 +24,7 @@ on_line number (Ok x) = Ok x
 on_line number (Err c) = Err (record { line = number; cause = c })
 
 abbrev pub numbered : ℕ → List ℕ → Result Saying Fault
-numbered number line = on_line number (if nat_lt 4096 number then Err TooLong else item_at number line)
+numbered number line = on_line number (if nat_lt MOST_LINES number then Err TooLong else item_at number line)
 
 abbrev pub with_saying : Saying → Result (List Saying) Fault → Result (List Saying) Fault
 with_saying said (Ok sayings) = Ok (said ∷ sayings)
@@ -44,9 +45,9 @@ plan_by header sayings = record {
   ticks = header.ticks;
   wire_capacity = header.wire_capacity;
   cuts = header.cuts;
-  limit = limit_from default_limit sayings;
-  events = flat_map events_of sayings;
-  calls = flat_map calls_of sayings;
+  limit = limit_from DEFAULT_LIMIT sayings;
+  events = flat_map events_said sayings;
+  calls = flat_map calls_said sayings;
 }
 
 unfoldable pub planned : Header → Result (List Saying) Fault → Result Plan Fault
@@ -62,9 +63,9 @@ from_lines (first ∷ others) = do
 
 -- the script that bytes are, or the first faulty line and its cause
 unfoldable pub script_of : List ℕ → Result Plan Fault
-script_of bytes = if nat_lt 65536 (length bytes) then Err (record { line = 0; cause = TooLong }) else from_lines (lines_of bytes)
+script_of bytes = if nat_lt MOST_BYTES (length bytes) then Err (record { line = 0; cause = TooLong }) else from_lines (lines_of bytes)
 
--- ---- what the parser answers
+-- ---- what the parser returns
 
 -- this line is told as the first faulty one
 abbrev pub Refuses : {A : Type 0} → ScriptError → Result A Fault → Type 0
@@ -77,10 +78,10 @@ Checks (Ok done) read = IsOk read
 Checks (Err e) read = Refuses e read
 
 -- the script, or the line that is told, or out of memory
-abbrev pub Builds : Result Script ScriptError → Result Plan Fault → Type 0
-Builds (Ok s) read = read ≡ Ok (plan_of s)
-Builds (Err (errors.Refused line cause)) read = read ≡ Err (record { line = line; cause = cause })
-Builds (Err errors.OutOfMemory) read = Unit {0}
+abbrev pub BuildsPlan : Result Script ScriptError → Result Plan Fault → Type 0
+BuildsPlan (Ok s) read = read ≡ Ok (plan_of s)
+BuildsPlan (Err (errors.Refused line cause)) read = read ≡ Err (record { line = line; cause = cause })
+BuildsPlan (Err errors.OutOfMemory) read = Unit {0}
 
 -- the same, out of memory only at a script
 abbrev pub Parses : Result Script ScriptError → Result Plan Fault → Type 0
@@ -90,4 +91,4 @@ Parses (Err errors.OutOfMemory) read = IsOk read
 
 -- a script with one more line
 abbrev pub added : Plan → Saying → Plan
-added plan said = record plan { limit = limit_from plan.limit (said ∷ []); events = plan.events ++ events_of said; calls = plan.calls ++ calls_of said }
+added plan said = record plan { limit = limit_from plan.limit (said ∷ []); events = plan.events ++ events_said said; calls = plan.calls ++ calls_said said }

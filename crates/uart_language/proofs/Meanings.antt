@@ -1,5 +1,5 @@
 -- The parser reads a line as the definition of the language says.
-use Rattle.std.proofs.Common.{◌≡◌, ℕ, suc, ◌≤◌, Bool, true, false, cond, eqb, ◌||◌, List, [], ◌∷◌, length, Option, Some, None, Result, Ok, Err, refl, sym, subst, arith, inl, inr}
+use Rattle.std.proofs.Common.{◌≡◌, ℕ, suc, ◌<◌, ◌≤◌, Bool, true, false, cond, eqb, ◌||◌, List, [], ◌∷◌, length, Option, Some, None, Result, Ok, Err, refl, sym, subst, arith, inl, inr}
 use Rattle.std.specs.Prelude.{codes, bytes_eq, find}
 use Rattle.std.proofs.Math.Dec.{eqb-suc-zero}
 use Rattle.std.proofs.lemmas.Bool.{eqb-true, ne_eqb, or_cases}
@@ -17,18 +17,19 @@ use Rattle.uart_language.specs.declared.cause.Cause.TheVariants.{BadByte, Mispla
 use Rattle.uart_language.specs.declared.words.Word.{Word}
 use Rattle.uart_language.specs.declared.words.Word.TheVariants as word
 use Rattle.uart_language.specs.Text.{words_of, word_at, has_bad_byte}
-use Rattle.uart_language.specs.Fields.{◌>>=◌, number_in, byte_in, lines_in, bytes_in, text_in, errors_in, level_in, rate_in, cts_in, interrupts_in, word_length_in}
+use Rattle.uart_language.specs.Fields.{◌>>=◌, count_in, limit_in, ticks_in, byte_in, lines_in, bytes_in, text_in, errors_in, level_in, rate_in, cts_in, interrupts_in, word_length_in}
 use Rattle.uart_language.specs.Words.{name_of, words, word_of, has_count, is_placed}
-use Rattle.uart_language.specs.ScriptLines.{Saying, Nothing, Limit, Happens, Calls, Marks, configured, bytes_of, text_of, Means}
-use Rattle.uart_language.specs.ScriptLines as row
+use Rattle.uart_language.specs.Sayings.{Saying, Nothing, Limit, Happens, Calls, Marks, configured, array_of, text_of, Means}
+use Rattle.uart_language.specs.Sayings as row
 use Rattle.uart_language.specs.Script.{Says, blank, printable}
-use Rattle.uart_language.specs.Items.{config_in, arrival_in, call_of, item_of, placed, starts_with, item_at}
+use Rattle.uart_language.specs.Items.{config_in, arrival_in, call_of, item_of, placed_word, starts_with, item_at}
+use Rattle.uart_language.proofs.Results.{read, bind_ok}
 
 -- ---- what the words mean is what is read
 
 -- what the words of a line are read as
 abbrev read_of : ℕ → List (List ℕ) → Result Saying Cause
-read_of number ws = placed number ws (word_of (word_at 0 ws)) >>= (λ word. item_of word ws)
+read_of number ws = placed_word number ws (word_of (word_at 0 ws)) >>= (λ word. item_of word ws)
 
 pub not_first : (number : ℕ) → 2 ≤ number → eqb number 1 ≡ false
 not_first number le = ne_eqb number 1 (λ e. omega arith)
@@ -75,9 +76,6 @@ is_read {number = number} le row.dump = rw (not_first number le) refl
 
 -- ---- what is read is what the words mean
 
-abbrev read : {A : Type 0} → A → Result A Cause
-read x = Ok x
-
 ok_is : {A : Type 0} {x y : A} → read x ≡ Ok y → x ≡ y
 ok_is e = cc
 
@@ -104,6 +102,13 @@ module _ (number : ℕ) (name : List ℕ) where
     binds (Ok x) make s e = e
     binds (Err c) make s e = e
 
+-- a number is neither of two that are below it
+pub neither : (n a b : ℕ) → a < n → b < n → (eqb n a || eqb n b) ≡ true → ⊥
+neither n a b low_a low_b e = elim (or_cases (eqb n a) (eqb n b) e) [
+  | inl is_a ↦ omega (arith, low_a, eqb-true _ _ is_a)
+  | inr is_b ↦ omega (arith, low_b, eqb-true _ _ is_b)
+]
+
 -- arrive HH E
 arrival_meant : (number : ℕ) (HH E : List ℕ) (b e : Result ℕ Cause) (s : Saying) → byte_in HH ≡ b → errors_in E ≡ e
     → (b >>= (λ byte. e >>= (λ errors. read (event.Arrive byte errors))) >>= (λ a. Ok (Happens a))) ≡ Ok s → Means number (codes "arrive" ∷ HH ∷ E ∷ []) s
@@ -120,9 +125,7 @@ arrival number (HH ∷ []) s c e = field number (codes "arrive") byte_in (λ b. 
   alone (Ok x) s e = e
   alone (Err c) s e = e
 arrival number (HH ∷ E ∷ []) s c e = arrival_meant number HH E (byte_in HH) (errors_in E) s refl refl e
-arrival number (HH ∷ E ∷ X ∷ rest) s c e = absurd (too_many (length rest) c) where
-  too_many : (n : ℕ) → (eqb (suc (suc (suc (suc n)))) 2 || eqb (suc (suc (suc (suc n)))) 3) ≡ true → ⊥
-  too_many n c = elim (or_cases (eqb (suc (suc (suc (suc n)))) 2) (eqb (suc (suc (suc (suc n)))) 3) c) [ inl a ↦ omega (arith, eqb-true _ _ a) | inr b ↦ omega (arith, eqb-true _ _ b) ]
+arrival number (HH ∷ E ∷ X ∷ rest) s c e = absurd (neither (suc (suc (suc (suc (length rest))))) 2 3 (omega arith) (omega arith) c)
 
 -- init F BAUD C HH BITS, from the five fields
 init_meant : (number : ℕ) (F BAUD C HH BITS : List ℕ) (f : Result (Option FifoTriggerLevel) Cause) (b : Result BaudRate Cause) (t : Result Bool Cause) (h : Result IER Cause) (l : Result WordLength Cause) (s : Saying)
@@ -152,7 +155,7 @@ pub is_meant : (number : ℕ) (w : Word) (rest : List (List ℕ)) (s : Saying) �
     → item_of w (name_of w ∷ rest) ≡ Ok s → Means number (name_of w ∷ rest) s
 unfolding item_of call_of
 is_meant number word.Chip rest s le p c e = absurd (omega (arith, eqb-true _ _ p))
-is_meant number word.Limit rest s le p c e = field number _ (number_in 1 1000000) (λ k. Limit k) rest s c e (λ W x h. row.limit (eqb-true _ _ p) h)
+is_meant number word.Limit rest s le p c e = field number _ limit_in (λ k. Limit k) rest s c e (λ W x h. row.limit (eqb-true _ _ p) h)
 is_meant number word.Arrive rest s le p c e = arrival number rest s c e
 is_meant number word.Init rest s le p c e = config number rest s c e
 is_meant number word.Access rest s le p c e = bare number _ rest s (Happens event.Access) c e row.access
@@ -176,17 +179,17 @@ is_meant number word.Spr rest s le p c e = bare number _ rest s (Calls call.Spr)
 is_meant number word.DllDlm rest s le p c e = bare number _ rest s (Calls call.DllDlm) c e row.dll_dlm
 is_meant number word.Fifo rest s le p c e = bare number _ rest s (Calls call.FifoEnabled) c e row.fifo
 is_meant number word.Dump rest s le p c e = bare number _ rest s (Calls call.Dump) c e row.dump
-is_meant number word.Tick rest s le p c e = field number _ (number_in 0 65535) (λ k. Happens (event.Ticks k)) rest s c e (λ W x h. row.tick h)
+is_meant number word.Tick rest s le p c e = field number _ ticks_in (λ k. Happens (event.Ticks k)) rest s c e (λ W x h. row.tick h)
 is_meant number word.Lines rest s le p c e = field number _ (lines_in) (λ v. Happens (event.Lines v)) rest s c e (λ W x h. row.lines h)
 is_meant number word.TrySend rest s le p c e = call_field number _ (byte_in) (call.TrySend) rest s c e (λ W x h. row.try_send h)
 is_meant number word.Enable rest s le p c e = call_field number _ (interrupts_in) (call.Enable) rest s c e (λ W x h. row.enable h)
 is_meant number word.Disable rest s le p c e = call_field number _ (interrupts_in) (call.Disable) rest s c e (λ W x h. row.disable h)
-is_meant number word.Receive rest s le p c e = call_field number _ (number_in 0 64) (call.Receive) rest s c e (λ W x h. row.receive h)
-is_meant number word.ReceiveExact rest s le p c e = call_field number _ (number_in 0 64) (call.ReceiveExact) rest s c e (λ W x h. row.receive_exact h)
-is_meant number word.Read rest s le p c e = call_field number _ (number_in 0 64) (call.Read) rest s c e (λ W x h. row.read h)
-is_meant number word.Send rest s le p c e = call_field number _ (bytes_in) (λ x. call.Send (bytes_of x)) rest s c e (λ W x h. row.send h)
-is_meant number word.SendExact rest s le p c e = call_field number _ (bytes_in) (λ x. call.SendExact (bytes_of x)) rest s c e (λ W x h. row.send_exact h)
-is_meant number word.Write rest s le p c e = call_field number _ (bytes_in) (λ x. call.Write (bytes_of x)) rest s c e (λ W x h. row.write h)
+is_meant number word.Receive rest s le p c e = call_field number _ count_in (call.Receive) rest s c e (λ W x h. row.receive h)
+is_meant number word.ReceiveExact rest s le p c e = call_field number _ count_in (call.ReceiveExact) rest s c e (λ W x h. row.receive_exact h)
+is_meant number word.Read rest s le p c e = call_field number _ count_in (call.Read) rest s c e (λ W x h. row.read h)
+is_meant number word.Send rest s le p c e = call_field number _ (bytes_in) (λ x. call.Send (array_of x)) rest s c e (λ W x h. row.send h)
+is_meant number word.SendExact rest s le p c e = call_field number _ (bytes_in) (λ x. call.SendExact (array_of x)) rest s c e (λ W x h. row.send_exact h)
+is_meant number word.Write rest s le p c e = call_field number _ (bytes_in) (λ x. call.Write (array_of x)) rest s c e (λ W x h. row.write h)
 is_meant number word.Text rest s le p c e = call_field number _ (text_in) (λ x. call.Text (text_of x)) rest s c e (λ W x h. row.text h)
 
 -- ---- the first word
@@ -203,7 +206,7 @@ pub name_is : (text : List ℕ) (w : Word) → word_of text ≡ Some w → name_
 unfolding word_of
 name_is text w e = (bytes_eq-Decides (name_of w) text).0 (found (λ w. bytes_eq (name_of w) text) words w e)
 
--- a word that stands in its place before as many words as it takes
+-- a word that is in its place before as many words as it takes
 pub record IsPlaced (number : ℕ) (ws : List (List ℕ)) (first : Option Word) (w : Word) : Type 0 where
   pub word_is : first ≡ Some w
   pub place : is_placed number (Some w) ≡ true
@@ -218,22 +221,17 @@ no_word : {A : Type 0} (b : Bool) (x : A) → cond b (Err UnknownWord) (Err Misp
 no_word true x e = absurd cc
 no_word false x e = absurd cc
 
-placed_is : (number : ℕ) (ws : List (List ℕ)) (first : Option Word) (w : Word) → placed number ws first ≡ Ok w → IsPlaced number ws first w
+placed_is : (number : ℕ) (ws : List (List ℕ)) (first : Option Word) (w : Word) → placed_word number ws first ≡ Ok w → IsPlaced number ws first w
 placed_is number ws None w e = absurd (no_word (is_placed number None) w e)
 placed_is number ws (Some v) w e = placed_by number ws v w _ _ refl refl e
-
--- what was read before the rest
-bind_ok : {A B : Type 0} (r : Result A Cause) (f : A → Result B Cause) (y : B) → (r >>= f) ≡ Ok y → (x : A) × (r ≡ Ok x) × (f x ≡ Ok y)
-bind_ok (Ok x) f y e = (x, refl, e)
-bind_ok (Err c) f y e = absurd cc
 
 pub means_what_is_read : (number : ℕ) (ws : List (List ℕ)) (s : Saying) → 2 ≤ number → read_of number ws ≡ Ok s → Means number ws s
 unfolding word_of
 means_what_is_read number [] s le e =
-    let first = bind_ok (placed number [] None) (λ w. item_of w []) s e in
+    let first = bind_ok (placed_word number [] None) (λ w. item_of w []) s e in
     absurd (no_word (is_placed number None) first.0 first.1)
 means_what_is_read number (text ∷ rest) s le e =
-    let first = bind_ok (placed number (text ∷ rest) (word_of text)) (λ w. item_of w (text ∷ rest)) s e in
+    let first = bind_ok (placed_word number (text ∷ rest) (word_of text)) (λ w. item_of w (text ∷ rest)) s e in
     let p = placed_is number (text ∷ rest) (word_of text) first.0 first.1 in
     let name : name_of first.0 ≡ text = name_is text first.0 p.word_is in
     subst (λ x. Means number (x ∷ rest) s) name (is_meant number first.0 rest s le p.place p.count (subst (λ x. item_of first.0 (x ∷ rest) ≡ Ok s) (sym name) first.2))
@@ -241,7 +239,7 @@ means_what_is_read number (text ∷ rest) s le e =
 -- ---- a line after the first
 
 says_by : (number : ℕ) (line : List ℕ) (s : Saying) (none bad : Bool) → 2 ≤ number → eqb (length line) 0 ≡ none → has_bad_byte line ≡ bad
-    → cond none (read Nothing) (cond bad (Err BadByte) (placed number (words_of line) (word_of (word_at 0 (words_of line)))) >>= (λ w. item_of w (words_of line))) ≡ Ok s → Says number line s
+    → cond none (read Nothing) (cond bad (Err BadByte) (placed_word number (words_of line) (word_of (word_at 0 (words_of line)))) >>= (λ w. item_of w (words_of line))) ≡ Ok s → Says number line s
 says_by number line s true bad le n b e = blank (nil_from_length line (eqb-true _ _ n)) (sym (ok_is e))
 says_by number line s false true le n b e = absurd cc
 says_by number line s false false le n b e = printable b (means_what_is_read number (words_of line) s le e)
@@ -253,7 +251,7 @@ says_what_is_read number line s le e = says_by number line s _ _ le refl refl e
 is_read_by : (number : ℕ) (line : List ℕ) (s : Saying) → 2 ≤ number → has_bad_byte line ≡ false → read_of number (words_of line) ≡ Ok s → item_at number line ≡ Ok s
 unfolding item_at starts_with word_of
 is_read_by number [] s le b e =
-    let first = bind_ok (placed number ([] ∷ []) None) (λ w. item_of w ([] ∷ [])) s e in
+    let first = bind_ok (placed_word number ([] ∷ []) None) (λ w. item_of w ([] ∷ [])) s e in
     absurd (no_word (is_placed number None) first.0 first.1)
 is_read_by number (byte ∷ line) s le b e = rw (b, eqb-suc-zero (length line)) e
 

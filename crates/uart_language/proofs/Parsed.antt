@@ -1,4 +1,4 @@
--- What parsing answers, by what the parser reads.
+-- What parsing returns, by what the parser reads.
 use Rattle.std.proofs.Common.{◌≡◌, ℕ, List, Result, Ok, Err, refl, ap, subst}
 use Rattle.std.specs.Prelude.{IsOk}
 use Rattle.uart_language.specs.declared.cause.Cause.{Cause}
@@ -6,8 +6,8 @@ use Rattle.uart_language.specs.declared.cause.ScriptError.{ScriptError}
 use Rattle.uart_language.specs.declared.cause.ScriptError.TheVariants as errors
 use Rattle.uart_language.specs.declared.parsing.Script.{Script}
 use Rattle.uart_language.specs.Script.{Plan, plan_of, IsFaulty, IsParsed}
-use Rattle.uart_language.specs.ScriptReading.{Fault, script_of, Refuses, Parses}
-use Rattle.uart_language.proofs.ScriptExact.{fault, is_script, script_is_read, is_faulty, fault_is_told}
+use Rattle.uart_language.specs.Reading.{Fault, script_of, Refuses, Parses}
+use Rattle.uart_language.proofs.Exact.{fault, is_script, script_is_read, is_faulty, fault_is_told}
 
 same_plan : (r : Result Plan Fault) (a b : Plan) → r ≡ Ok a → r ≡ Ok b → a ≡ b
 same_plan (Ok x) a b p q = cc

@@ -33,21 +33,21 @@ end_is bytes r e = elim (cases_lt (position_or_len is_end bytes) (length bytes))
   | inr le ↦ rw (e, le-ltb _ _ le) (omega (arith, position-le bytes))
 ]
 
-abbrev pub first_of : List ℕ → ℕ → List (List ℕ)
-first_of bytes end = take end bytes ∷ lines_of (drop (suc end) bytes)
+abbrev pub cut_at : List ℕ → ℕ → List (List ℕ)
+cut_at bytes end = take end bytes ∷ lines_of (drop (suc end) bytes)
 
 onto : (b : ℕ) (line : List ℕ) (lines : List (List ℕ)) (all : List (List ℕ)) → all ≡ line ∷ lines → onto_first b all ≡ (b ∷ line) ∷ lines
 onto b line lines all e = rw e refl
 
-lines_cut : (b : ℕ) (bytes : List ℕ) → lines_of (b ∷ bytes) ≡ first_of (b ∷ bytes) (end_of (b ∷ bytes))
+lines_cut : (b : ℕ) (bytes : List ℕ) → lines_of (b ∷ bytes) ≡ cut_at (b ∷ bytes) (end_of (b ∷ bytes))
 unfolding lines_of end_of
-lines_cut b [] = elim (is_end b) as (λ t. cond t ([] ∷ []) ((b ∷ []) ∷ []) ≡ first_of (b ∷ []) (cond t 0 1)) [ true ↦ refl | false ↦ refl ]
+lines_cut b [] = elim (is_end b) as (λ t. cond t ([] ∷ []) ((b ∷ []) ∷ []) ≡ cut_at (b ∷ []) (cond t 0 1)) [ true ↦ refl | false ↦ refl ]
 lines_cut b (c ∷ bytes) =
     let m = end_of (c ∷ bytes) in
-    let h : lines_of (c ∷ bytes) ≡ first_of (c ∷ bytes) m = lines_cut c bytes in
-    elim (is_end b) as (λ t. cond t ([] ∷ lines_of (c ∷ bytes)) (onto_first b (lines_of (c ∷ bytes))) ≡ first_of (b ∷ c ∷ bytes) (cond t 0 (suc m))) [ true ↦ refl | false ↦ onto b _ _ _ h ]
+    let h : lines_of (c ∷ bytes) ≡ cut_at (c ∷ bytes) m = lines_cut c bytes in
+    elim (is_end b) as (λ t. cond t ([] ∷ lines_of (c ∷ bytes)) (onto_first b (lines_of (c ∷ bytes))) ≡ cut_at (b ∷ c ∷ bytes) (cond t 0 (suc m))) [ true ↦ refl | false ↦ onto b _ _ _ h ]
 
-pub lines_first : (bytes : List ℕ) (end : ℕ) → 0 < length bytes → end ≡ position_or_len is_end bytes → lines_of bytes ≡ first_of bytes end
+pub lines_first : (bytes : List ℕ) (end : ℕ) → 0 < length bytes → end ≡ position_or_len is_end bytes → lines_of bytes ≡ cut_at bytes end
 lines_first [] end some e = absurd (omega arith)
 lines_first (b ∷ bytes) end some e = rw (e, ← end_of-is (b ∷ bytes)) (lines_cut b bytes)
 
