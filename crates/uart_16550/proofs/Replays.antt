@@ -1,9 +1,11 @@
 -- What a tape shows of the calls over it.
-use Rattle.std.proofs.Common.{◌≡◌, Bool, true, false, ◌&&◌, List, [], ◌∷◌, ◌++◌, refl, sym, ◌∙◌, ap, append_assoc, append-nil, nat_lt, length}
+use Rattle.std.proofs.Common.{◌≡◌, Bool, true, false, ◌&&◌, List, [], ◌∷◌, ◌++◌, refl, sym, ◌∙◌, ap, append_assoc, append-nil, nat_lt}
+use Rattle.std.proofs.Common.{length}
 use Rattle.uart_spec.specs.Access.{Access, Path}
 use Rattle.uart_16550.specs.Grammar.{Language}
 use Rattle.uart_16550.specs.Driver.{Made, Did, Doing, Saving}
-use Rattle.uart_16550.specs.Replay.{Tape, Plays, FedBy, TapesShow, Replayed, room}
+use Rattle.uart_16550.specs.declared.replay.TheConstants.{REPLAY_ROOM}
+use Rattle.uart_16550.specs.Replay.{Tape, Plays, FedBy, TapesShow, Replayed}
 use Rattle.uart_16550.specs.declared.driver.Uart16550.{Uart16550}
 use Rattle.uart_16550.proofs.Doings.{did_made}
 
@@ -14,7 +16,7 @@ whole_before false c h = h
 pub still_whole : (a b : Tape) (l : List Access) → Path Plays a l b → b.whole ≡ true → a.whole ≡ true
 still_whole a b [] p h = sym (ap (λ (t : Tape). t.whole) p) ∙ h
 still_whole a b (access ∷ accesses) p h =
-    whole_before a.whole (nat_lt (length a.made) room) (sym p.1.whole ∙ still_whole p.0 b accesses p.2 h)
+    whole_before a.whole (nat_lt (length a.made) REPLAY_ROOM) (sym p.1.whole ∙ still_whole p.0 b accesses p.2 h)
 
 -- its reads were answered by the first tape, in turn
 pub fed_path : (a b : Tape) (l : List Access) → Path Plays a l b → FedBy a.answers l b.answers

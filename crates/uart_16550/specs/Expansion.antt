@@ -1,14 +1,31 @@
 -- What a terminal sends for a text.
-use Rattle.std.specs.Prelude.{◌≡◌, ◌<◌, ℕ, List, [], ◌∷◌, ◌++◌, ◌==◌, ◌||◌, Result, Ok, Err, length, take, min, ◌-◌, ◌^◌, if◌then◌else◌}
+use Rattle.std.specs.Prelude.{◌≡◌, ◌<◌, ℕ, List, [], ◌∷◌, ◌++◌, ◌==◌, ◌||◌, Result, Ok, Err, length, take, min, ◌-◌}
+use Rattle.std.specs.Prelude.{◌^◌, if◌then◌else◌}
 use Rattle.uart_spec.specs.declared.errors.StalledError.{StalledError}
 use Rattle.uart_16550.specs.Grammar.{Language, Then, InOrder, AllMisses}
 use Rattle.uart_16550.specs.Transmit.{Round, SendMiss}
 
+-- the characters that are not sent as they are, and those that are sent for them
+abbrev pub backspace : ℕ
+backspace = 8
+
+abbrev pub line_feed : ℕ
+line_feed = 10
+
+abbrev pub carriage_return : ℕ
+carriage_return = 13
+
+abbrev pub space : ℕ
+space = 32
+
+abbrev pub delete : ℕ
+delete = 127
+
 -- backspace and delete take the last character away, and a line feed brings a carriage return with it
 abbrev pub expansion_of : ℕ → List ℕ
 expansion_of byte =
-    if byte == 8 || byte == 127 then 8 ∷ 32 ∷ 8 ∷ []
-    else if byte == 10 then 13 ∷ 10 ∷ []
+    if byte == backspace || byte == delete then backspace ∷ space ∷ backspace ∷ []
+    else if byte == line_feed then carriage_return ∷ line_feed ∷ []
     else byte ∷ []
 
 -- the expansion of each byte, in order

@@ -50,8 +50,8 @@ pub record Asks (register bits : ℕ) (outcome : Bool) (s : Settings) (l : List 
   pub is : l ≡ Read register answer ∷ []
 
 -- one read of the register, whatever it answers
-abbrev pub Reads : ℕ → Language
-Reads register s l = (answer : ℕ) × (l ≡ Read register answer ∷ [])
+abbrev pub ReadsRegister : ℕ → Language
+ReadsRegister register s l = (answer : ℕ) × (l ≡ Read register answer ∷ [])
 
 -- the first where the setting is on, else the second
 abbrev pub IfChecks : Language → Language → Language

@@ -1,15 +1,25 @@
 -- The loopback test, access by access.
-use Rattle.std.specs.Prelude.{◌≡◌, ◌≢◌, ◌==◌, ◌&&◌, not, ℕ, Bool, true, false, List, [], ◌∷◌, ◌++◌, Result, Ok, Err, Option, Some, None, length, map, ◌⊎◌, if◌then◌else◌, codes}
+use Rattle.std.specs.Prelude.{◌≡◌, ◌≢◌, ◌==◌, ◌&&◌, not, ℕ, Bool, true, false, List, [], ◌∷◌, ◌++◌, Result, Ok, Err}
+use Rattle.std.specs.Prelude.{Option, Some, None, length, map, ◌⊎◌, codes}
 use Rattle.std.specs.Int.RustNames.{bit_and, bit_or}
 use Rattle.bitflags.specs.Sets.{without}
-use Rattle.uart_spec.specs.Bits.{has}
+use Rattle.uart_spec.specs.Bits.{has, flag}
 use Rattle.uart_spec.specs.declared.errors.StalledError.{StalledError}
 use Rattle.uart_spec.specs.declared.errors.LoopbackError.{LoopbackError}
-use Rattle.uart_spec.specs.declared.errors.LoopbackError.TheVariants.{Stalled, SendError, UnexpectedLoopbackByte, UnexpectedLoopbackMsg}
+use Rattle.uart_spec.specs.declared.errors.LoopbackError.TheVariants.{
+  Stalled,
+  SendError,
+  UnexpectedLoopbackByte,
+  UnexpectedLoopbackMsg,
+}
+use Rattle.uart_spec.specs.declared.registers.offsets.TheConstants as offsets
+use Rattle.uart_spec.specs.declared.registers.line_status.TheConstants.LSR
+use Rattle.uart_spec.specs.declared.registers.modem_control.TheConstants.MCR
+use Rattle.uart_spec.specs.declared.registers.modem_status.TheConstants.MSR
 use Rattle.uart_spec.specs.Access.{Read, Write}
 use Rattle.uart_16550.specs.Grammar.{Language, Only, Then, InOrder, FewMisses, AllMisses, IfFifo}
 use Rattle.uart_16550.specs.Receive.{Hit, Miss, Awaited, ReceivesExact}
-use Rattle.uart_16550.specs.Transmit.{SendMiss, Round, SendsAll, SendsExact, TrySends, Waits}
+use Rattle.uart_16550.specs.Transmit.{SendMiss, Round, SendsAll, SendsExact, TrySends, WaitsFor}
 use Rattle.uart_16550.specs.Init.{SetsFifo}
 use Rattle.uart_16550.specs.Driver.{Fields, Doing, Saving, Plain, Sets, Next, with_fifo, with_saved}
 
@@ -25,9 +35,9 @@ abbrev pub TakesOne : Language
 TakesOne s l = (byte : ℕ) × Hit byte s l
 
 -- what waited from before is received until nothing waits; or there was a byte as many times as the limit
-abbrev pub Drains : Bool → Language
-Drains true = Then (FewMisses TakesOne) Miss
-Drains false = AllMisses TakesOne
+abbrev pub DrainsLoopback : Bool → Language
+DrainsLoopback true = Then (FewMisses TakesOne) Miss
+DrainsLoopback false = AllMisses TakesOne
 
 -- one byte is sent at once, and comes back
 abbrev pub SendsTestByte : Language
@@ -60,14 +70,18 @@ WholeEchoes sent got s l = (length got ≡ length sent) × Then (SendsAll sent) 
 
 abbrev pub WholeFails : (sent : List ℕ) → Language
 WholeFails sent s l = ((e : StalledError) × SendsExact {T = Unit {0}} sent (Err e) s l)
-    ⊎ ((e : StalledError) × (got : List ℕ) × Then (SendsAll sent) (ReceivesExact {T = Unit {0}} (length sent) got (Err e)) s l)
+    ⊎ ((e : StalledError) × (got : List ℕ)
+    × Then (SendsAll sent) (ReceivesExact {T = Unit {0}} (length sent) got (Err e)) s l)
 
 -- without one each is sent and received by itself
 abbrev pub EachEchoes : (sent got : List ℕ) → Language
-EachEchoes sent got s l = (pairs : List (ℕ × ℕ)) × (map (λ pair. pair.0) pairs ≡ sent) × (map (λ pair. pair.1) pairs ≡ got) × InOrder Echo pairs s l
+EachEchoes sent got s l =
+    (pairs : List (ℕ × ℕ)) × (map (λ pair. pair.0) pairs ≡ sent) × (map (λ pair. pair.1) pairs ≡ got)
+    × InOrder Echo pairs s l
 
 abbrev pub EachFails : (sent : List ℕ) → Language
-EachFails sent s l = (pairs : List (ℕ × ℕ)) × (byte : ℕ) × (rest : List ℕ) × (map (λ pair. pair.0) pairs ++ (byte ∷ rest) ≡ sent)
+EachFails sent s l =
+    (pairs : List (ℕ × ℕ)) × (byte : ℕ) × (rest : List ℕ) × (map (λ pair. pair.0) pairs ++ (byte ∷ rest) ≡ sent)
     × Then (InOrder Echo pairs) (EchoFails byte) s l
 
 -- what came back for these bytes, or nothing where a wait was in vain
@@ -89,18 +103,16 @@ ExchangesMessage (Err (SendError e)) s l = ⊥
 ExchangesMessage (Err Stalled) s l = HasEchoedAll test_message None s l
 ExchangesMessage (Err (UnexpectedLoopbackByte expected actual)) s l = ⊥
 ExchangesMessage (Err (UnexpectedLoopbackMsg expected actual)) s l =
-    (expected ≡ test_message) × (actual ≢ test_message) × (length actual ≡ 16) × HasEchoedAll test_message (Some actual) s l
+    (expected ≡ test_message) × (actual ≢ test_message) × (length actual ≡ length test_message)
+    × HasEchoedAll test_message (Some actual) s l
 
 -- inside the loopback: the drain, the byte, the message, up to the first fault
 abbrev pub Exchanges : {T : Type 0} → Result T LoopbackError → Language
-Exchanges (Ok x) s l = Then (Drains true) (Then (ExchangesByte (Ok x)) (ExchangesMessage (Ok x))) s l
-Exchanges (Err e) s l = ((e ≡ Stalled) × Drains false s l)
-    ⊎ (Then (Drains true) (ExchangesByte {T = Unit {0}} (Err e)) s l
-    ⊎ Then (Drains true) (Then (ExchangesByte {T = Unit {0}} (Ok tt)) (ExchangesMessage {T = Unit {0}} (Err e))) s l)
-
--- these bits where the flag is set, else none
-abbrev pub flag : Bool → ℕ → ℕ
-flag on bits = if on then bits else 0
+Exchanges (Ok x) s l = Then (DrainsLoopback true) (Then (ExchangesByte (Ok x)) (ExchangesMessage (Ok x))) s l
+Exchanges (Err e) s l = ((e ≡ Stalled) × DrainsLoopback false s l)
+    ⊎ (Then (DrainsLoopback true) (ExchangesByte {T = Unit {0}} (Err e)) s l
+    ⊎ Then (DrainsLoopback true)
+    (Then (ExchangesByte {T = Unit {0}} (Ok tt)) (ExchangesMessage {T = Unit {0}} (Err e))) s l)
 
 -- the line differs
 abbrev pub differs : ℕ → ℕ → ℕ → Bool
@@ -109,13 +121,16 @@ differs before now line = not (bit_and before line == bit_and now line)
 -- the changes between two readings of MSR, as their bits: of RI only its trailing edge
 abbrev pub line_changes : (before now : ℕ) → ℕ
 line_changes before now =
-    bit_or (bit_or (flag (differs before now 16) 1) (flag (differs before now 32) 2))
-    (bit_or (flag (has before 64 && not (has now 64)) 4) (flag (differs before now 128) 8))
+    bit_or (bit_or (flag (differs before now MSR.CTS.0) MSR.DELTA_CTS.0)
+    (flag (differs before now MSR.DSR.0) MSR.DELTA_DSR.0))
+    (bit_or (flag (has before MSR.RI.0 && not (has now MSR.RI.0)) MSR.TRAILING_EDGE_RI.0)
+    (flag (differs before now MSR.CD.0) MSR.DELTA_CD.0))
 
 -- from the lines read to the FIFO step, in loopback
 abbrev pub Enters : (before : ℕ) → (fifo : Bool) → Doing
 Enters before fifo f l after =
-    Next (Saving (Then (Only (Read 6 before ∷ Write 1 0 ∷ Write 4 16 ∷ [])) (SetsFifo f.config.fifo_trigger_level fifo)))
+    Next (Saving (Then (Only (Read offsets.MSR before ∷ Write offsets.IER 0 ∷ Write offsets.MCR MCR.LOOP_BACK.0 ∷ []))
+    (SetsFifo f.config.fifo_trigger_level fifo)))
     (Sets (with_fifo fifo)) f l after
 
 -- these changes are saved beside those saved before, and the saved errors are those noted
@@ -125,14 +140,15 @@ with_changes noted changes f = with_saved noted (bit_or f.msr changes) f
 -- loopback is left, MCR and IER are written back, changes of the lines are saved, and the saved errors are those noted
 abbrev pub Leaves : (mcr ier before noted : ℕ) → Doing
 Leaves mcr ier before noted f l after = (now : ℕ) ×
-    Next (Saving (Only (Write 4 (without 8 mcr 8) ∷ [])))
-    (Next (Plain (Only (Read 6 now ∷ [])))
-    (Next (Saving (Only (Write 4 mcr ∷ Write 1 ier ∷ [])))
+    Next (Saving (Only (Write offsets.MCR (without 8 mcr MCR.OUT_2_INT_ENABLE.0) ∷ [])))
+    (Next (Plain (Only (Read offsets.MSR now ∷ [])))
+    (Next (Saving (Only (Write offsets.MCR mcr ∷ Write offsets.IER ier ∷ [])))
     (Sets (with_changes noted (line_changes before now))))) f l after
 
 -- MCR and IER are read, and then the transmitter is awaited
 abbrev pub BeginsTest : (mcr ier : ℕ) → Bool → Language
-BeginsTest mcr ier empty = Then (Only (Read 4 mcr ∷ Read 1 ier ∷ [])) (Waits 64 empty)
+BeginsTest mcr ier empty =
+    Then (Only (Read offsets.MCR mcr ∷ Read offsets.IER ier ∷ [])) (WaitsFor LSR.TRANSMITTER_EMPTY.0 empty)
 
 -- after the first wait, whose end leaves the errors to be noted
 abbrev pub Tests : {T : Type 0} → (mcr ier : ℕ) → Result T LoopbackError → Doing

@@ -6,8 +6,9 @@ use Rattle.std.specs.declared.num.NonZeroUsize.{NonZeroUsize}
 use Rattle.std.specs.declared.num.NonZeroU8.{NonZeroU8}
 use Rattle.uart_spec.specs.declared.errors.InvalidAddressError.{InvalidAddressError}
 use Rattle.uart_spec.specs.declared.errors.InvalidAddressError.TheVariants.{InvalidBaseAddress, InvalidStride}
+use Rattle.uart_spec.specs.declared.registers.offsets.TheConstants as offsets
 use Rattle.uart_spec.specs.Access.{Access}
-use Rattle.uart_16550.specs.Backend.{placed}
+use Rattle.uart_16550.specs.Backend.{access_at}
 
 -- the address of the first register, how many bytes apart the registers lie, and the object that reaches the memory
 pub record Mapped (M : Type 0) : Type 0 where
@@ -22,7 +23,7 @@ address_of base stride offset = base + offset * stride
 -- the stride is a power of two, and the last register's address is an address
 pub record IsMapping (base stride : ℕ) : Type 0 where
   pub power : IsTrue (is_power_of_two stride)
-  pub in_range : address_of base stride 7 < 2 ^ 64
+  pub in_range : address_of base stride offsets.SPR < 2 ^ 64
 
 -- the registers lie in memory from this address on, this many bytes apart, and this object reaches them
 pub record IsInMemory {M : Type 0} (mapped : Mapped M) (address : NonZeroUsize) (apart : ℕ) (object : M) : Type 0 where
@@ -35,10 +36,12 @@ pub record IsInMemory {M : Type 0} (mapped : Mapped M) (address : NonZeroUsize) 
 abbrev pub IsMappingRefusal : (address apart : ℕ) → InvalidAddressError → Type 0
 IsMappingRefusal address apart (InvalidStride s) = (s ≡ apart) × (is_power_of_two apart ≡ false)
 IsMappingRefusal address apart (InvalidBaseAddress a) =
-    (a ≡ address) × IsTrue (is_power_of_two apart) × (2 ^ 64 ≤ address_of address apart 7)
+    (a ≡ address) × IsTrue (is_power_of_two apart) × (2 ^ 64 ≤ address_of address apart offsets.SPR)
 
 -- the object makes the access at the address base + offset * stride, and base and stride stay
-pub record MemoryStep {M : Type 0} (step : M → Access → M → Type 0) (old : Mapped M) (access : Access) (new : Mapped M) : Type 0 where
-  pub made : step old.access (placed (address_of (non_zero_usize_get old.base) (non_zero_u8_get old.stride)) access) new.access
+pub record MemoryStep {M : Type 0} (step : M → Access → M → Type 0) (old : Mapped M) (access : Access)
+    (new : Mapped M) : Type 0 where
+  pub made : step old.access
+      (access_at (address_of (non_zero_usize_get old.base) (non_zero_u8_get old.stride)) access) new.access
   pub base : new.base ≡ old.base
   pub stride : new.stride ≡ old.stride

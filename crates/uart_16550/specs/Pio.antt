@@ -2,17 +2,22 @@
 use Rattle.std.specs.Prelude.{◌≡◌, ℕ, ◌+◌, ◌<◌, ◌≤◌}
 use Rattle.uart_spec.specs.declared.errors.InvalidAddressError.{InvalidAddressError}
 use Rattle.uart_spec.specs.declared.errors.InvalidAddressError.TheVariants.{InvalidBaseAddress}
+use Rattle.uart_spec.specs.declared.registers.offsets.TheConstants as offsets
 use Rattle.uart_spec.specs.Access.{Access}
-use Rattle.uart_16550.specs.Backend.{placed}
+use Rattle.uart_16550.specs.Backend.{access_at}
 
 -- the port of the first register, and the object that reaches the ports
 pub record Ports (P : Type 0) : Type 0 where
   pub base : ℕ
   pub access : P
 
--- the last register's port is one of the 65,536 ports
+-- there are 65,536 ports
+abbrev pub last_port : ℕ
+last_port = 65535
+
+-- the last register's port is one of them
 abbrev pub IsPortBase : ℕ → Type 0
-IsPortBase base = base + 7 ≤ 65535
+IsPortBase base = base + offsets.SPR ≤ last_port
 
 -- the registers lie at the ports from this one on, and this object reaches them
 pub record IsAtPorts {P : Type 0} (ports : Ports P) (port : ℕ) (object : P) : Type 0 where
@@ -23,9 +28,10 @@ pub record IsAtPorts {P : Type 0} (ports : Ports P) (port : ℕ) (object : P) : 
 -- why no registers can lie at the ports from this one on: the last of them would lie beyond the last port
 pub record IsPortRefusal (port : ℕ) (e : InvalidAddressError) : Type 0 where
   pub is : e ≡ InvalidBaseAddress port
-  pub beyond : 65535 < port + 7
+  pub beyond : last_port < port + offsets.SPR
 
 -- the object makes the access at the port base + offset, and the base stays
-pub record PortStep {P : Type 0} (step : P → Access → P → Type 0) (old : Ports P) (access : Access) (new : Ports P) : Type 0 where
-  pub made : step old.access (placed (λ offset. old.base + offset) access) new.access
+pub record PortStep {P : Type 0} (step : P → Access → P → Type 0) (old : Ports P) (access : Access)
+    (new : Ports P) : Type 0 where
+  pub made : step old.access (access_at (λ offset. old.base + offset) access) new.access
   pub base : new.base ≡ old.base

@@ -1,20 +1,23 @@
 -- The lists of the receiving calls.
-use Rattle.std.specs.Prelude.{◌≡◌, ◌<◌, ℕ, Bool, true, false, List, [], ◌∷◌, Result, Ok, Err, Option, Some, None, length, take, ◌⊎◌}
+use Rattle.std.specs.Prelude.{◌≡◌, ◌<◌, ℕ, Bool, true, false, List, [], ◌∷◌, Result, Ok, Err, Option, Some, None}
+use Rattle.std.specs.Prelude.{length, take, ◌⊎◌}
 use Rattle.uart_spec.specs.declared.errors.StalledError.{StalledError}
+use Rattle.uart_spec.specs.declared.registers.offsets.TheConstants as offsets
+use Rattle.uart_spec.specs.declared.registers.line_status.TheConstants.LSR
 use Rattle.uart_spec.specs.Access.{Read}
 use Rattle.uart_16550.specs.Grammar.{Language, Only, Then, InOrder, FewMisses, AllMisses, Asks}
 
 -- a look at LSR that shows data, and the byte taken
 abbrev pub Hit : ℕ → Language
-Hit byte = Then (Asks 5 1 true) (Only (Read 0 byte ∷ []))
+Hit byte = Then (Asks offsets.LSR LSR.DATA_READY.0 true) (Only (Read offsets.DATA byte ∷ []))
 
 -- a look that shows none
 abbrev pub Miss : Language
-Miss = Asks 5 1 false
+Miss = Asks offsets.LSR LSR.DATA_READY.0 false
 
 -- `ready_to_receive`
 abbrev pub ReadyToReceive : {T E : Type 0} → Result T E → Language
-ReadyToReceive (Ok x) = Asks 5 1 true
+ReadyToReceive (Ok x) = Asks offsets.LSR LSR.DATA_READY.0 true
 ReadyToReceive (Err e) = Miss
 
 -- `try_receive_byte`
@@ -24,7 +27,8 @@ TryReceive (Err e) = Miss
 
 -- `receive_bytes` into n slots: these bytes fill all slots, or a miss follows them
 abbrev pub Receives : ℕ → List ℕ → Language
-Receives n bytes s l = ((length bytes ≡ n) × InOrder Hit bytes s l) ⊎ ((length bytes < n) × Then (InOrder Hit bytes) Miss s l)
+Receives n bytes s l =
+    ((length bytes ≡ n) × InOrder Hit bytes s l) ⊎ ((length bytes < n) × Then (InOrder Hit bytes) Miss s l)
 
 -- a byte, after fewer misses in a row than the limit
 abbrev pub Awaited : ℕ → Language
@@ -48,4 +52,5 @@ filled (Err e) slots = take e.done slots
 -- `receive_bytes_exact` into n slots: all are filled, each after its own wait; or those so far, and then a wait in vain
 abbrev pub ReceivesExact : {T : Type 0} → ℕ → List ℕ → Result T StalledError → Language
 ReceivesExact n bytes (Ok x) s l = (length bytes ≡ n) × InOrder Awaited bytes s l
-ReceivesExact n bytes (Err e) s l = (length bytes < n) × (e.done ≡ length bytes) × Then (InOrder Awaited bytes) (AllMisses Miss) s l
+ReceivesExact n bytes (Err e) s l =
+    (length bytes < n) × (e.done ≡ length bytes) × Then (InOrder Awaited bytes) (AllMisses Miss) s l

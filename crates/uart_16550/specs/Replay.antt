@@ -6,6 +6,7 @@ use Rattle.uart_16550.specs.Grammar.{Language}
 use Rattle.uart_16550.specs.Driver.{Did, Doing, Made, fields}
 use Rattle.uart_16550.specs.Choice.{answers}
 use Rattle.uart_16550.specs.declared.driver.Uart16550.{Uart16550}
+use Rattle.uart_16550.specs.declared.replay.TheConstants.{REPLAY_ROOM}
 use Rattle.uart_16550.specs.declared.replay.Entry.{Entry}
 use Rattle.uart_16550.specs.declared.replay.Entry.TheVariants.{Read as ReadEntry, Write as WriteEntry}
 
@@ -20,14 +21,10 @@ pub record Tape : Type 0 where
   pub made : List Access
   pub whole : Bool
 
--- how many accesses are kept
-abbrev pub room : ℕ
-room = 512
-
 -- a read takes the next answer, or 0 if none is left; and the access is kept, as long as there is room
 pub record Plays (old : Tape) (access : Access) (new : Tape) : Type 0 where
   pub answers : AnswersInTurn old.answers access new.answers
-  pub whole : new.whole ≡ (old.whole && nat_lt (length old.made) room)
+  pub whole : new.whole ≡ (old.whole && nat_lt (length old.made) REPLAY_ROOM)
   pub made : new.whole ≡ true → new.made ≡ old.made ++ access ∷ []
 
 -- the reads of a list are answered in turn, and these answers are left

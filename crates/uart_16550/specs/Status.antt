@@ -9,7 +9,14 @@ use Rattle.uart_spec.specs.declared.config.Config.{Config}
 use Rattle.uart_spec.specs.declared.config.BaudRate.{BaudRate}
 use Rattle.uart_spec.specs.declared.errors.NonIntegerBaudRateError.{NonIntegerBaudRateError}
 use Rattle.uart_spec.specs.declared.errors.RemoteReadyToReceiveError.{RemoteReadyToReceiveError}
-use Rattle.uart_spec.specs.declared.errors.RemoteReadyToReceiveError.TheVariants.{NoRemoteConnectedNoDSR, NoRemoteConnectedNoCD, RemoteNotClearToSend}
+use Rattle.uart_spec.specs.declared.errors.RemoteReadyToReceiveError.TheVariants.{
+  NoRemoteConnectedNoDSR,
+  NoRemoteConnectedNoCD,
+  RemoteNotClearToSend,
+}
+use Rattle.uart_spec.specs.declared.registers.offsets.TheConstants as offsets
+use Rattle.uart_spec.specs.declared.registers.line_control.TheConstants.LCR
+use Rattle.uart_spec.specs.declared.registers.modem_status.TheConstants.MSR
 use Rattle.uart_spec.specs.Access.{Access, Read, Write}
 use Rattle.uart_16550.specs.Grammar.{Language}
 use Rattle.uart_16550.specs.Driver.{Fields, Doing, saving, with_saved, with_interrupts}
@@ -17,26 +24,30 @@ use Rattle.uart_16550.specs.declared.dump.ConfigRegisterDump.{ConfigRegisterDump
 
 -- `lsr`: one read, answered joined with the saved bits, which are then none
 abbrev pub TakesLsr : ℕ → Doing
-TakesLsr result f l after = (status : ℕ) × (l ≡ Read 5 status ∷ []) × (result ≡ bit_or status f.lsr) × (after ≡ with_saved 0 f.msr f)
+TakesLsr result f l after =
+    (status : ℕ) × (l ≡ Read offsets.LSR status ∷ []) × (result ≡ bit_or status f.lsr) × (after ≡ with_saved 0 f.msr f)
 
 -- `msr` likewise
 abbrev pub TakesMsr : ℕ → Doing
-TakesMsr result f l after = (status : ℕ) × (l ≡ Read 6 status ∷ []) × (result ≡ bit_or status f.msr) × (after ≡ with_saved f.lsr 0 f)
+TakesMsr result f l after =
+    (status : ℕ) × (l ≡ Read offsets.MSR status ∷ []) × (result ≡ bit_or status f.msr) × (after ≡ with_saved f.lsr 0 f)
 
 -- DSR and CTS are set, or the one told is clear
 abbrev pub ShowsConnection : {T : Type 0} → Result T RemoteReadyToReceiveError → ℕ → Type 0
-ShowsConnection (Ok x) status = (has status 32 ≡ true) × (has status 16 ≡ true)
-ShowsConnection (Err NoRemoteConnectedNoDSR) status = has status 32 ≡ false
+ShowsConnection (Ok x) status = (has status MSR.DSR.0 ≡ true) × (has status MSR.CTS.0 ≡ true)
+ShowsConnection (Err NoRemoteConnectedNoDSR) status = has status MSR.DSR.0 ≡ false
 ShowsConnection (Err NoRemoteConnectedNoCD) status = ⊥
-ShowsConnection (Err RemoteNotClearToSend) status = (has status 32 ≡ true) × (has status 16 ≡ false)
+ShowsConnection (Err RemoteNotClearToSend) status = (has status MSR.DSR.0 ≡ true) × (has status MSR.CTS.0 ≡ false)
 
 -- `check_connected`: one read of MSR
 abbrev pub Connects : {T : Type 0} → Result T RemoteReadyToReceiveError → Language
-Connects result s l = (status : ℕ) × ShowsConnection result status × (l ≡ Read 6 status ∷ [])
+Connects result s l = (status : ℕ) × ShowsConnection result status × (l ≡ Read offsets.MSR status ∷ [])
 
 -- the divisor latch is read under DLAB, and LCR written back
 abbrev pub divisor_accesses : (lcr low high : ℕ) → List Access
-divisor_accesses lcr low high = Read 3 lcr ∷ Write 3 (bit_or lcr 128) ∷ Read 0 low ∷ Read 1 high ∷ Write 3 lcr ∷ []
+divisor_accesses lcr low high =
+    Read offsets.LCR lcr ∷ Write offsets.LCR (bit_or lcr LCR.DLAB.0) ∷ Read offsets.DLL low ∷ Read offsets.DLM high ∷
+    Write offsets.LCR lcr ∷ []
 
 -- `dll_dlm`
 abbrev pub ReadsDivisor : (low high : ℕ) → Language
@@ -44,18 +55,23 @@ ReadsDivisor low high s l = (lcr : ℕ) × (l ≡ divisor_accesses lcr low high)
 
 -- the interrupts are stored in the configuration and written
 abbrev pub StoresInterrupts : ℕ → Doing
-StoresInterrupts bits f l after = (l ≡ Write 1 bits ∷ []) × (after ≡ with_interrupts bits f)
+StoresInterrupts bits f l after = (l ≡ Write offsets.IER bits ∷ []) × (after ≡ with_interrupts bits f)
 
 -- `enable_interrupts`, `disable_interrupts`: IER is read, and what it becomes is stored and written
 abbrev pub Enables : ℕ → Doing
-Enables bits f l after = (ier : ℕ) × (l ≡ Read 1 ier ∷ Write 1 (bit_or ier bits) ∷ []) × (after ≡ with_interrupts (bit_or ier bits) f)
+Enables bits f l after = (ier : ℕ) × (l ≡ Read offsets.IER ier ∷ Write offsets.IER (bit_or ier bits) ∷ [])
+    × (after ≡ with_interrupts (bit_or ier bits) f)
 
 abbrev pub Disables : ℕ → Doing
-Disables bits f l after = (ier : ℕ) × (l ≡ Read 1 ier ∷ Write 1 (without 8 ier bits) ∷ []) × (after ≡ with_interrupts (without 8 ier bits) f)
+Disables bits f l after = (ier : ℕ) × (l ≡ Read offsets.IER ier ∷ Write offsets.IER (without 8 ier bits) ∷ [])
+    × (after ≡ with_interrupts (without 8 ier bits) f)
 
 -- the seven registers after the divisor latch, in this order
 abbrev pub dump_reads : (lsr msr : ℕ) → ConfigRegisterDump → List Access
-dump_reads lsr msr dump = Read 1 dump.ier.0 ∷ Read 2 dump.isr.0 ∷ Read 3 dump.lcr.0 ∷ Read 4 dump.mcr.0 ∷ Read 5 lsr ∷ Read 6 msr ∷ Read 7 dump.spr ∷ []
+dump_reads lsr msr dump =
+    Read offsets.IER dump.ier.0 ∷ Read offsets.ISR dump.isr.0 ∷ Read offsets.LCR dump.lcr.0 ∷
+    Read offsets.MCR dump.mcr.0 ∷
+    Read offsets.LSR lsr ∷ Read offsets.MSR msr ∷ Read offsets.SPR dump.spr ∷ []
 
 -- `config_register_dump`: what was read, LSR and MSR joined with the saved bits, which stay
 pub record Dumps (dump : ConfigRegisterDump) (f : Fields) (l : List Access) (after : Fields) : Type 0 where
@@ -76,4 +92,5 @@ abbrev pub IsDumpRate : Config → ConfigRegisterDump → Result BaudRate NonInt
 IsDumpRate config dump (Ok rate) =
     IsBaudRateAnswer config.frequency (divisor_of dump) config.prescaler_division_factor (Ok (to_integer rate))
     × ((named : BaudRate) → IsNamed named → to_integer named ≡ to_integer rate → rate ≡ named)
-IsDumpRate config dump (Err e) = IsBaudRateAnswer config.frequency (divisor_of dump) config.prescaler_division_factor (Err e)
+IsDumpRate config dump (Err e) =
+    IsBaudRateAnswer config.frequency (divisor_of dump) config.prescaler_division_factor (Err e)

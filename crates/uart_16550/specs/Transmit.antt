@@ -1,23 +1,33 @@
 -- The lists of the sending calls.
-use Rattle.std.specs.Prelude.{◌≡◌, ◌<◌, ℕ, Bool, true, false, List, [], ◌∷◌, ◌+◌, Result, Ok, Err, Option, Some, None, length, ◌⊎◌, map, take, drop, min, if◌then◌else◌}
+use Rattle.std.specs.Prelude.{◌≡◌, ◌<◌, ℕ, Bool, true, false, List, [], ◌∷◌, ◌+◌, Result, Ok, Err, Option, Some, None}
+use Rattle.std.specs.Prelude.{length, ◌⊎◌, map, take, drop, min, if◌then◌else◌}
 use Rattle.uart_spec.specs.declared.errors.ByteSendError.{ByteSendError}
 use Rattle.uart_spec.specs.declared.errors.ByteSendError.TheVariants.{NoCapacity, RemoteNotClearToSend}
 use Rattle.uart_spec.specs.declared.errors.StalledError.{StalledError}
+use Rattle.uart_spec.specs.declared.registers.offsets.TheConstants as offsets
+use Rattle.uart_spec.specs.declared.registers.line_status.TheConstants.LSR
+use Rattle.uart_spec.specs.declared.registers.modem_control.TheConstants.MCR
+use Rattle.uart_spec.specs.declared.registers.modem_status.TheConstants.MSR
+use Rattle.uart_spec.specs.declared.baud.TheConstants.{FIFO_SIZE}
 use Rattle.uart_spec.specs.Access.{Access, Write}
-use Rattle.uart_16550.specs.Grammar.{Language, Settings, Only, Then, InOrder, FewMisses, AllMisses, Asks, IfChecks, Never}
+use Rattle.uart_16550.specs.Grammar.{Language, Settings, Only, Then, InOrder, FewMisses, AllMisses, Asks, IfChecks}
+use Rattle.uart_16550.specs.Grammar.{Never}
 
 -- the modem lines allow to send or forbid it: in loopback they mean nothing
 abbrev pub LinesAllow : Bool → Language
-LinesAllow allowed s l = ((allowed ≡ true) × Asks 4 16 true s l) ⊎ Then (Asks 4 16 false) (Asks 6 16 allowed) s l
+LinesAllow allowed s l =
+    ((allowed ≡ true) × Asks offsets.MCR MCR.LOOP_BACK.0 true s l)
+    ⊎ Then (Asks offsets.MCR MCR.LOOP_BACK.0 false) (Asks offsets.MSR MSR.CTS.0 allowed) s l
 
 -- a send check that hits: the holding register is empty, and with CTS checking the remote is clear to send
 abbrev pub SendHit : Language
-SendHit = IfChecks (Then (Asks 5 32 true) (LinesAllow true)) (Asks 5 32 true)
+SendHit = IfChecks (Then (Asks offsets.LSR LSR.THR_EMPTY.0 true) (LinesAllow true))
+    (Asks offsets.LSR LSR.THR_EMPTY.0 true)
 
 -- a send check that misses for this reason
 abbrev pub SendRefused : ByteSendError → Language
-SendRefused NoCapacity = Asks 5 32 false
-SendRefused RemoteNotClearToSend = IfChecks (Then (Asks 5 32 true) (LinesAllow false)) Never
+SendRefused NoCapacity = Asks offsets.LSR LSR.THR_EMPTY.0 false
+SendRefused RemoteNotClearToSend = IfChecks (Then (Asks offsets.LSR LSR.THR_EMPTY.0 true) (LinesAllow false)) Never
 
 -- a send check that misses
 abbrev pub SendMiss : Language
@@ -30,15 +40,15 @@ ReadyToSend (Err e) = SendRefused e
 
 -- a write of each byte to DATA
 abbrev pub data_writes : List ℕ → List Access
-data_writes bytes = map (λ byte. Write 0 byte) bytes
+data_writes bytes = map (λ byte. Write offsets.DATA byte) bytes
 
 -- a send check that hits, and these bytes written
 abbrev pub Burst : List ℕ → Language
 Burst bytes = Then SendHit (Only (data_writes bytes))
 
--- how many bytes one burst may take: a FIFO's 16, or the holding register's one
+-- how many bytes one burst may take: as many as the FIFO holds, or the holding register's one
 abbrev pub burst_limit : Bool → ℕ
-burst_limit fifo = if fifo then 16 else 1
+burst_limit fifo = if fifo then FIFO_SIZE else 1
 
 -- how many of these bytes one burst takes
 abbrev pub burst_size : Settings → List ℕ → ℕ
@@ -69,7 +79,8 @@ SendsSome bytes None s l = AllMisses SendMiss s l
 abbrev pub IsCut : Settings → List ℕ → List (List ℕ) → List ℕ → Type 0
 IsCut s bytes [] rest = rest ≡ bytes
 IsCut s bytes (piece ∷ pieces) rest =
-    (0 < length bytes) × (piece ≡ take (burst_size s bytes) bytes) × IsCut s (drop (burst_size s bytes) bytes) pieces rest
+    (0 < length bytes) × (piece ≡ take (burst_size s bytes) bytes)
+    × IsCut s (drop (burst_size s bytes) bytes) pieces rest
 
 -- all of the bytes are sent, burst by burst
 abbrev pub SendsAll : List ℕ → Language
@@ -79,7 +90,8 @@ SendsAll bytes s l = (pieces : List (List ℕ)) × IsCut s bytes pieces [] × In
 abbrev pub SendsExact : {T : Type 0} → List ℕ → Result T StalledError → Language
 SendsExact bytes (Ok x) s l = SendsAll bytes s l
 SendsExact bytes (Err e) s l =
-    (pieces : List (List ℕ)) × (rest : List ℕ) × IsCut s bytes pieces rest × (0 < length rest) × (e.done + length rest ≡ length bytes)
+    (pieces : List (List ℕ)) × (rest : List ℕ) × IsCut s bytes pieces rest × (0 < length rest)
+    × (e.done + length rest ≡ length bytes)
     × Then (InOrder Round pieces) (AllMisses SendMiss) s l
 
 -- `try_send_byte`: the `send_bytes` of one byte
@@ -89,6 +101,6 @@ TrySends byte (Err NoCapacity) = Sends (byte ∷ []) 0
 TrySends byte (Err RemoteNotClearToSend) = Never
 
 -- a wait for these bits of LSR: fewer looks without them than the limit and then one with them; or as many in vain
-abbrev pub Waits : ℕ → Bool → Language
-Waits bits true = Then (FewMisses (Asks 5 bits false)) (Asks 5 bits true)
-Waits bits false = AllMisses (Asks 5 bits false)
+abbrev pub WaitsFor : ℕ → Bool → Language
+WaitsFor bits true = Then (FewMisses (Asks offsets.LSR bits false)) (Asks offsets.LSR bits true)
+WaitsFor bits false = AllMisses (Asks offsets.LSR bits false)

@@ -2,6 +2,7 @@
 ghost use Rattle.std.specs.Prelude.{◌≡◌, ◌≢◌, ◌<◌, [], ◌∷◌};
 ghost use Rattle.std.specs.Borrow.{Lends, sem};
 ghost use Rattle.std.specs.Int.NonZero.{non_zero_u64_get};
+ghost use Rattle.uart_spec.specs.declared.registers.offsets.TheConstants as offsets;
 ghost use Rattle.uart_spec.specs.Access.{Access, Read, Write};
 ghost use Rattle.uart_16550.specs.Grammar.{Only};
 ghost use Rattle.uart_16550.specs.Driver.{Made, Did, Plain, Sets, IsFresh, backend_of, fields, with_limit};
@@ -25,12 +26,6 @@ pub const DEFAULT_SPIN_LIMIT: u64 = 1_000_000;
 // Slices are sent and received in pieces of this size, each in a copy: no access can change the copy, so the compiler may keep
 // a backend's fields in registers meanwhile. Of the slice itself it does not know that.
 const PIECE_SIZE: usize = 128;
-
-// Overrun, parity, framing and break: reading LSR clears them in the chip.
-const SAVED_LSR_BITS: u8 = 0x1e;
-
-// The four changes of modem lines: reading MSR clears them in the chip.
-const SAVED_MSR_BITS: u8 = 0x0f;
 
 /// A driver for one serial chip of the 16550 family, over any backend.
 #[derive(Debug, Drop)]
@@ -114,30 +109,28 @@ impl<B: Backend> Uart16550<B> {
     // Reads a register of which no bits are saved.
     pub(crate) fn read_register(&mut self, offset: usize) -> u8
         requires low { offset < 8 }
-        requires not_lsr { offset ≢ 5 }
-        requires not_msr { offset ≢ 6 }
+        requires not_lsr { offset ≢ offsets.LSR }
+        requires not_msr { offset ≢ offsets.MSR }
         ensures { Made B.step (Only (Read offset result ∷ [])) self.old self.new }
     {
         self.backend.read(offset as u8)
     }
 
-    // Reads LSR, and saves its errors.
+    // Reads LSR, and saves the errors that this clears in the chip.
     pub(crate) fn read_lsr(&mut self) -> LSR
-        ensures { Made B.step (Only (Read 5 result.0 ∷ [])) self.old self.new }
+        ensures { Made B.step (Only (Read offsets.LSR result.0 ∷ [])) self.old self.new }
     {
         let lsr = LSR::from_bits_retain(self.backend.read(offsets::LSR as u8));
-        let errors = LSR::from_bits_retain(SAVED_LSR_BITS);
-        self.saved_lsr.insert(lsr.intersection(errors));
+        self.saved_lsr.insert(lsr.intersection(LSR::LINE_ERRORS));
         lsr
     }
 
-    // Reads MSR, and saves its changes.
+    // Reads MSR, and saves the changes that this clears in the chip.
     pub(crate) fn read_msr(&mut self) -> MSR
-        ensures { Made B.step (Only (Read 6 result.0 ∷ [])) self.old self.new }
+        ensures { Made B.step (Only (Read offsets.MSR result.0 ∷ [])) self.old self.new }
     {
         let msr = MSR::from_bits_retain(self.backend.read(offsets::MSR as u8));
-        let changes = MSR::from_bits_retain(SAVED_MSR_BITS);
-        self.saved_msr.insert(msr.intersection(changes));
+        self.saved_msr.insert(msr.intersection(MSR::CHANGES));
         msr
     }
 

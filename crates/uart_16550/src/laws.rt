@@ -8,6 +8,7 @@ ghost use Rattle.uart_16550.specs.Choice.{Agree, AgreeSaving, HasOneOutcome, Has
 ghost use Rattle.uart_16550.specs.Driver.{Saving};
 ghost use Rattle.uart_16550.specs.DriverCalls.{ChangingCall, ChangingDoing, SavingCall, SavingLists};
 ghost use Rattle.uart_16550.specs.Replay.{Repeats, RepeatsSaving};
+ghost use Rattle.uart_16550.specs.declared.driver.TheConstants.{DEFAULT_SPIN_LIMIT};
 ghost use Rattle.uart_16550.specs.declared.dump.ConfigRegisterDump.{ConfigRegisterDump};
 
 use crate::backend::Backend;
@@ -39,6 +40,11 @@ pub fn calls_have_one_outcome<B: Backend>()
 pub fn replays_repeat_calls<B: Backend>()
     ensures saving { (call : SavingCall) → RepeatsSaving (SavingLists call) B.step }
     ensures changing { (call : ChangingCall) → Repeats (ChangingDoing call) B.step }
+{}
+
+/// The spin limit of a driver that was given none.
+pub fn default_spin_limit_is_this()
+    ensures { DEFAULT_SPIN_LIMIT ≡ 1000000 }
 {}
 
 /// Dumps are compared by their registers in this order, and the default has all bits clear.

@@ -5,7 +5,7 @@
 //! replay of its answers makes the same accesses ([`replays_repeat_calls`](crate::laws::replays_repeat_calls)).
 ghost use Rattle.std.specs.Prelude.{◌≡◌, true, false, ◌&&◌, [], ◌∷◌, ◌++◌, nat_lt, length, map, IfSome, IsNone};
 ghost use Rattle.uart_spec.specs.Access.{Read};
-ghost use Rattle.uart_16550.specs.Replay.{Plays, TapesShow, access_of, room};
+ghost use Rattle.uart_16550.specs.Replay.{Plays, TapesShow, access_of};
 
 use crate::backend::Backend;
 use arrayvec::ArrayVec;
@@ -74,7 +74,7 @@ impl<'a> Replay<'a> {
     // Keeps an access.
     fn keep(&mut self, entry: Entry)
         ensures answers { self.new.answers ≡ self.old.answers }
-        ensures whole { self.new.whole ≡ (self.old.whole && nat_lt (length self.old.made) room) }
+        ensures whole { self.new.whole ≡ (self.old.whole && nat_lt (length self.old.made) REPLAY_ROOM) }
         ensures made { self.new.whole ≡ true → self.new.made ≡ self.old.made ++ access_of entry ∷ [] }
     {
         if self.accesses.try_push(entry).is_err() {

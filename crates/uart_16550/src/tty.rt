@@ -5,7 +5,7 @@ ghost use Rattle.std.specs.Int.NonZero.{non_zero_usize_get};
 ghost use Rattle.uart_spec.specs.Config.{IsComputable};
 ghost use Rattle.uart_16550.specs.Driver.{Made};
 ghost use Rattle.uart_16550.specs.Expansion.{expansion, expansion_of, SendsEach, SendsText, SendsStr};
-ghost use Rattle.uart_16550.specs.Tty.{inner_of, TerminalMade, IsStarted, Builds, BuildsAt};
+ghost use Rattle.uart_16550.specs.Tty.{inner_of, TerminalMade, IsStarted, BuildsTerminal, BuildsTerminalAt};
 ghost use Rattle.uart_16550.specs.Pio.{IsAtPorts, IsPortRefusal, PortStep};
 ghost use Rattle.uart_16550.specs.Mmio.{IsInMemory, IsMappingRefusal, MemoryStep};
 ghost use Rattle.uart_16550.specs.contracts.driver.Uart16550.{the_row as driver_row};
@@ -64,7 +64,7 @@ impl<B: Backend + Drop> Uart16550Tty<B> {
     /// then dropped, in the state in which the refused call left it.
     pub fn new_with_backend(backend: B, config: Config) -> Result<Self, Uart16550TtyError>
         requires { IsComputable config }
-        ensures { Builds B.step backend config result }
+        ensures { BuildsTerminal B.step backend config result }
     {
         Self::start(Uart16550::new_with_backend(backend), config)
     }
@@ -93,7 +93,7 @@ impl<P: PortAccess + Drop> Uart16550Tty<PioBackend<P>> {
     /// then dropped.
     pub fn new_port(base_port: u16, access: P, config: Config) -> Result<Self, Uart16550TtyError>
         requires { IsComputable config }
-        ensures { BuildsAt (PortStep P.step) (λ ports. IsAtPorts ports base_port access) (IsPortRefusal base_port) config result }
+        ensures { BuildsTerminalAt (PortStep P.step) (λ ports. IsAtPorts ports base_port access) (IsPortRefusal base_port) config result }
     {
         match Uart16550::new_port(base_port, access) {
             Ok(driver) => Self::start(driver, config),
@@ -117,7 +117,8 @@ impl<M: ByteAccess + Drop> Uart16550Tty<MmioBackend<M>> {
         config: Config,
     ) -> Result<Self, Uart16550TtyError>
         requires { IsComputable config }
-        ensures { BuildsAt (MemoryStep M.step) (λ mapped. IsInMemory mapped base_address stride access) (IsMappingRefusal (non_zero_usize_get base_address) stride) config result }
+        ensures { BuildsTerminalAt (MemoryStep M.step) (λ mapped. IsInMemory mapped base_address stride access)
+            (IsMappingRefusal (non_zero_usize_get base_address) stride) config result }
     {
         match Uart16550::new_mmio(base_address, stride, access) {
             Ok(driver) => Self::start(driver, config),
@@ -133,7 +134,8 @@ impl<M: ByteAccess + Drop> Uart16550Tty<MmioBackend<M>> {
         config: Config,
     ) -> Result<Self, Uart16550TtyError>
         requires { IsComputable config }
-        ensures { BuildsAt (MemoryStep M.step) (λ mapped. IsInMemory mapped base_address stride access) (IsMappingRefusal (non_zero_usize_get base_address) stride) config result }
+        ensures { BuildsTerminalAt (MemoryStep M.step) (λ mapped. IsInMemory mapped base_address stride access)
+            (IsMappingRefusal (non_zero_usize_get base_address) stride) config result }
     {
         Self::new_mmio(base_address, stride, access, config)
     }

@@ -9,8 +9,8 @@ use Rattle.uart_spec.specs.declared.errors.StalledError.{StalledError}
 use Rattle.uart_spec.specs.Access.{Access, Read, Path}
 use Rattle.uart_16550.specs.Grammar.{Language, Settings, Only, Then, InOrder, Times, FewMisses, AllMisses, Asks}
 use Rattle.uart_16550.specs.Receive.{Hit, Miss, ReadyToReceive, TryReceive, Receives, Awaited, ReceivesSome, filled, ReceivesExact}
-use Rattle.uart_16550.specs.Transmit.{LinesAllow, SendHit, SendRefused, SendMiss, ReadyToSend, Burst, burst_size, Sends, Round, SendsSome, IsCut, SendsAll, SendsExact, TrySends, Waits}
-use Rattle.uart_chip.specs.Registers.{has_any}
+use Rattle.uart_16550.specs.Transmit.{LinesAllow, SendHit, SendRefused, SendMiss, ReadyToSend, Burst, burst_size, Sends, Round, SendsSome, IsCut, SendsAll, SendsExact, TrySends, WaitsFor}
+use Rattle.uart_spec.specs.Bits.{has_any}
 use Rattle.uart_chip.specs.Transmitter.{room}
 use Rattle.uart_chip.specs.Machine.{MachineState, MachineStep}
 use Rattle.uart_chip.proofs.Bits.{has_one}
@@ -225,7 +225,7 @@ try_sends_blocks s byte (Err NoCapacity) l t = sends_blocks s (byte ∷ []) 0 l 
 try_sends_blocks s byte (Err RemoteNotClearToSend) l t = absurd t
 
 -- a wait for bits of the line status
-pub waits_blocks : (s : Settings) (bits : ℕ) (outcome : Bool) → Makes s (Waits bits outcome) [] []
+pub waits_blocks : (s : Settings) (bits : ℕ) (outcome : Bool) → Makes s (WaitsFor bits outcome) [] []
 waits_blocks s bits true l t = makes_then s (FewMisses (Asks 5 bits false)) (Asks 5 bits true) [] [] [] [] (makes_few s (Asks 5 bits false) (makes_look s bits false)) (makes_look s bits true) l t
 waits_blocks s bits false l t = makes_all s (Asks 5 bits false) (makes_look s bits false) l t
 

@@ -2,9 +2,9 @@
 use Rattle.std.proofs.Common.{◌≡◌, ℕ, Bool, true, List, [], ◌∷◌, ◌++◌, append-nil, Option, Some, None, refl, sym, ◌∙◌, ap}
 use Rattle.uart_spec.specs.Access.{Access, Read, Path}
 use Rattle.uart_16550.specs.Grammar.{Settings, Asks}
-use Rattle.uart_16550.specs.Transmit.{Waits}
+use Rattle.uart_16550.specs.Transmit.{WaitsFor}
 use Rattle.uart_chip.specs.declared.transmitter.Shifting.{Shifting}
-use Rattle.uart_chip.specs.Registers.{has_any}
+use Rattle.uart_spec.specs.Bits.{has_any}
 use Rattle.uart_chip.specs.Transmitter.{TransmitterState, shift, refill, tick, out}
 use Rattle.uart_chip.specs.Chip.{line_status, is_transmitter_empty}
 use Rattle.uart_chip.specs.Machine.{MachineState, MachineStep, at_access}
@@ -88,7 +88,7 @@ empty_shown s l m n t path = looked (path_as m n l (Read 5 t.answer ∷ []) t.is
         rw same empty
 
 -- and so does a wait for it, that comes to its end
-pub wait_empties : (s : Settings) (l : List Access) (m n : MachineState) → Waits 64 true s l → Path MachineStep m l n → IsEmpty n.chip.transmitter
+pub wait_empties : (s : Settings) (l : List Access) (m n : MachineState) → WaitsFor 64 true s l → Path MachineStep m l n → IsEmpty n.chip.transmitter
 wait_empties s l m n h path =
     let q = path_split MachineStep m n h.front h.back (path_as m n l (h.front ++ h.back) h.whole path) in
     empty_shown s h.back q.0 n h.second q.2

@@ -4,10 +4,10 @@ use Rattle.uart_spec.specs.declared.errors.ByteSendError.{ByteSendError}
 use Rattle.uart_spec.specs.declared.errors.ByteSendError.TheVariants.{NoCapacity, RemoteNotClearToSend}
 use Rattle.uart_spec.specs.declared.errors.StalledError.{StalledError}
 use Rattle.uart_spec.specs.Access.{Access, Read, Write, Path}
-use Rattle.uart_16550.specs.Grammar.{Language, Settings, Only, Then, InOrder, Times, FewMisses, AllMisses, Asks, Reads, Never}
+use Rattle.uart_16550.specs.Grammar.{Language, Settings, Only, Then, InOrder, Times, FewMisses, AllMisses, Asks, ReadsRegister, Never}
 use Rattle.uart_16550.specs.Receive.{Hit, Miss, Awaited, ReceivesExact}
-use Rattle.uart_16550.specs.Transmit.{LinesAllow, SendHit, SendRefused, SendMiss, data_writes, Burst, Sends, Round, SendsAll, SendsExact, TrySends, Waits}
-use Rattle.uart_16550.specs.Init.{Discards, Drains}
+use Rattle.uart_16550.specs.Transmit.{LinesAllow, SendHit, SendRefused, SendMiss, data_writes, Burst, Sends, Round, SendsAll, SendsExact, TrySends, WaitsFor}
+use Rattle.uart_16550.specs.Init.{Discards, DrainsReceiver}
 use Rattle.uart_chip.specs.Chip.{is_dlab_set}
 use Rattle.uart_chip.specs.Machine.{MachineState, MachineStep}
 use Rattle.uart_run.proofs.Latches.{Kept, kept_in, kept_after, kept_after-append, kept_path}
@@ -61,10 +61,10 @@ keeps_if s false P Q p q l t = q l t
 pub keeps_asks : (s : Settings) (register bits : ℕ) (outcome : Bool) → AllKeep s (Asks register bits outcome)
 keeps_asks s register bits outcome l t = rw t.is (λ k d. refl)
 
-pub keeps_reads : (s : Settings) (register : ℕ) → AllKeep s (Reads register)
+pub keeps_reads : (s : Settings) (register : ℕ) → AllKeep s (ReadsRegister register)
 keeps_reads s register l t = rw t.1 (λ k d. refl)
 
-pub keeps_waits : (s : Settings) (bits : ℕ) (outcome : Bool) → AllKeep s (Waits bits outcome)
+pub keeps_waits : (s : Settings) (bits : ℕ) (outcome : Bool) → AllKeep s (WaitsFor bits outcome)
 keeps_waits s bits true = keeps_then s _ _ (keeps_few s _ (keeps_asks s 5 bits false)) (keeps_asks s 5 bits true)
 keeps_waits s bits false = keeps_all s _ (keeps_asks s 5 bits false)
 
@@ -87,7 +87,7 @@ keeps_receives_exact s n bytes (Err e) l t = keeps_then s _ _ (keeps_in_order s 
 keeps_discards : (s : Settings) → AllKeep s Discards
 keeps_discards s = keeps_then s _ _ (keeps_asks s 5 1 true) (keeps_reads s 0)
 
-pub keeps_drains : (s : Settings) → AllKeep s Drains
+pub keeps_drains : (s : Settings) → AllKeep s DrainsReceiver
 keeps_drains s l (inl t) = keeps_times s 17 Discards (keeps_discards s) l t
 keeps_drains s l (inr t) = keeps_then s _ _ (keeps_times s t.0 Discards (keeps_discards s)) (keeps_miss s) l t.2
 

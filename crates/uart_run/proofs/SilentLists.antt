@@ -2,9 +2,9 @@
 use Rattle.std.proofs.Common.{ℕ, zero, suc, Bool, true, false, inl, inr, List, [], ◌∷◌, ◌++◌, Option, Some, None, refl}
 use Rattle.uart_spec.specs.declared.registers.fifo_trigger_level.FifoTriggerLevel.{FifoTriggerLevel}
 use Rattle.uart_spec.specs.Access.{Access, Read, Write}
-use Rattle.uart_16550.specs.Grammar.{Language, Settings, Only, Then, Times, FewMisses, Asks, Reads}
+use Rattle.uart_16550.specs.Grammar.{Language, Settings, Only, Then, Times, FewMisses, Asks, ReadsRegister}
 use Rattle.uart_16550.specs.Driver.{Fields, Doing, Saving, Plain, Sets, Next, settings_of}
-use Rattle.uart_16550.specs.Init.{Keeps, ChecksPresence, SetsFifo, Discards, Drains}
+use Rattle.uart_16550.specs.Init.{Keeps, ChecksPresence, SetsFifo, Discards, DrainsReceiver}
 use Rattle.uart_device.proofs.Lasting.{AllSendNothing}
 
 -- ---- languages
@@ -36,7 +36,7 @@ pub silent_sets_fifo : (s : Settings) (level : Option FifoTriggerLevel) (on : Bo
 silent_sets_fifo s None on l t = rw t.1 (refl, tt)
 silent_sets_fifo s (Some level) on l t = silent_then s _ (Asks 2 192 on) (silent_only s (Write 2 _ ∷ []) (refl, tt)) (silent_asks s 2 192 on) l t
 
-silent_reads : (s : Settings) (register : ℕ) → IsSilent s (Reads register)
+silent_reads : (s : Settings) (register : ℕ) → IsSilent s (ReadsRegister register)
 silent_reads s register l t = rw t.1 (tt, tt)
 
 -- ---- pieces of `init`
@@ -52,7 +52,7 @@ silent_presence s l t =
 silent_discards : (s : Settings) → IsSilent s Discards
 silent_discards s = silent_then s _ _ (silent_asks s 5 1 true) (silent_reads s 0)
 
-pub silent_drains : (s : Settings) → IsSilent s Drains
+pub silent_drains : (s : Settings) → IsSilent s DrainsReceiver
 silent_drains s l (inl t) = silent_times s 17 Discards (silent_discards s) l t
 silent_drains s l (inr t) = silent_then s _ _ (silent_times s t.0 Discards (silent_discards s)) (silent_asks s 5 1 false) l t.2
 

@@ -1,6 +1,9 @@
 -- Accesses to the eight registers, paths of them, and the bits that the driver saves of their answers.
 use Rattle.std.specs.Prelude.{◌≡◌, ℕ, List, [], ◌∷◌, ◌==◌, if◌then◌else◌}
 use Rattle.std.specs.Int.RustNames.{bit_and, bit_or}
+use Rattle.uart_spec.specs.declared.registers.line_status.TheConstants.LSR
+use Rattle.uart_spec.specs.declared.registers.modem_status.TheConstants.MSR
+use Rattle.uart_spec.specs.declared.registers.offsets.TheConstants as offsets
 
 -- a read with its answer, or a write with its value
 pub data Access : Type 0 where
@@ -22,10 +25,10 @@ abbrev pub saved : ℕ → ℕ → List Access → ℕ
 saved register mask [] = 0
 saved register mask (access ∷ accesses) = bit_or (saved_of register mask access) (saved register mask accesses)
 
--- the line errors: LSR bits 1 to 4
+-- the line errors that reads of LSR showed
 abbrev pub saved_lsr : List Access → ℕ
-saved_lsr = saved 5 30
+saved_lsr = saved offsets.LSR LSR.LINE_ERRORS.0
 
--- the modem changes: MSR bits 0 to 3
+-- the changes of modem lines that reads of MSR showed
 abbrev pub saved_msr : List Access → ℕ
-saved_msr = saved 6 15
+saved_msr = saved offsets.MSR MSR.CHANGES.0

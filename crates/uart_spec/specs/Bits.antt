@@ -1,5 +1,6 @@
 -- Registers as sets of bit places, and fields of neighbouring places.
 use Rattle.std.specs.Prelude.{◌≡◌, ℕ, ◌+◌, ◌/◌, ◌%◌, ◌^◌, ◌<◌, ◌≤◌, Bool, ◌==◌, not, ◌↔◌, ◌⊎◌, Option, Some, List}
+use Rattle.std.specs.Prelude.{if◌then◌else◌}
 use Rattle.std.specs.Int.RustNames.{bit_and}
 use Rattle.bitflags.specs.Sets.{known_bits}
 
@@ -10,6 +11,10 @@ has value bits = bit_and value bits == bits
 -- the value has some of these bits
 abbrev pub has_any : ℕ → ℕ → Bool
 has_any value bits = not (bit_and value bits == 0)
+
+-- these bits if the flag is set, else none
+abbrev pub flag : Bool → ℕ → ℕ
+flag on bits = if on then bits else 0
 
 -- the number in the places of a field, which is so many places wide from its lowest one on
 abbrev pub field : (lowest width value : ℕ) → ℕ

@@ -26,12 +26,16 @@ ghost use Rattle.uart_spec.specs.declared.registers.frame.WordLength.{WordLength
 ghost use Rattle.uart_spec.specs.declared.registers.frame.WordLength.TheVariants.{FiveBits, SixBits, SevenBits, EightBits};
 ghost use Rattle.uart_spec.specs.declared.registers.interrupt_enable.IER.{IER};
 ghost use Rattle.uart_spec.specs.declared.registers.interrupt_status.ISR.{ISR};
-ghost use Rattle.uart_spec.specs.declared.registers.interrupt_type.InterruptType.TheVariants.{ReceiverLineStatus, ReceivedDataReady, ReceptionTimeout, TransmitterHoldingRegisterEmpty, ModemStatus, DmaReceptionEndOfTransfer, DmaTransmissionEndOfTransfer};
+ghost use Rattle.uart_spec.specs.declared.registers.interrupt_type.InterruptType.TheVariants.{ReceiverLineStatus, ReceivedDataReady};
+ghost use Rattle.uart_spec.specs.declared.registers.interrupt_type.InterruptType.TheVariants.{ReceptionTimeout};
+ghost use Rattle.uart_spec.specs.declared.registers.interrupt_type.InterruptType.TheVariants.{TransmitterHoldingRegisterEmpty, ModemStatus};
+ghost use Rattle.uart_spec.specs.declared.registers.interrupt_type.InterruptType.TheVariants.{DmaReceptionEndOfTransfer};
+ghost use Rattle.uart_spec.specs.declared.registers.interrupt_type.InterruptType.TheVariants.{DmaTransmissionEndOfTransfer};
 ghost use Rattle.uart_spec.specs.declared.registers.line_control.LCR.{LCR};
 ghost use Rattle.uart_spec.specs.declared.registers.line_status.LSR.{LSR};
 ghost use Rattle.uart_spec.specs.declared.registers.modem_control.MCR.{MCR};
 ghost use Rattle.uart_spec.specs.declared.registers.modem_status.MSR.{MSR};
-ghost use Rattle.uart_spec.specs.declared.registers.offsets.TheConstants as offset;
+ghost use Rattle.uart_spec.specs.declared.registers.offsets.TheConstants as offsets;
 ghost use Rattle.uart_spec.specs.declared.registers.prescaler_division.PSD.{PSD};
 
 use crate::config::{BaudRate, Config};
@@ -102,7 +106,8 @@ pub fn fields_are_in_order()
         ∷ ⟦<Parity as Ord>⟧.cmp a.parity b.parity
         ∷ bool_cmp a.check_cts_before_sending b.check_cts_before_sending
         ∷ []) }
-    ensures baud_rate_error { (a b : NonIntegerBaudRateError) → ⟦<NonIntegerBaudRateError as PartialOrd>⟧.partial_cmp a b ≡ partial_in_turn (
+    ensures baud_rate_error { (a b : NonIntegerBaudRateError) →
+        ⟦<NonIntegerBaudRateError as PartialOrd>⟧.partial_cmp a b ≡ partial_in_turn (
         ⟦<u32 as PartialOrd>⟧.partial_cmp a.frequency b.frequency
         ∷ ⟦<u32 as PartialOrd>⟧.partial_cmp a.divisor b.divisor
         ∷ ⟦<Option<u32> as PartialOrd>⟧.partial_cmp a.prescaler_division_factor b.prescaler_division_factor
@@ -119,16 +124,16 @@ pub fn constants_are_these()
     ensures clock { CLK_FREQUENCY_HZ ≡ 1843200 }
     ensures fifo { FIFO_SIZE ≡ 16 }
     ensures registers { NUM_REGISTERS ≡ 8 }
-    ensures data { offset.DATA ≡ 0 }
-    ensures ier { offset.IER ≡ 1 }
-    ensures isr { offset.ISR ≡ 2 }
-    ensures fcr { offset.FCR ≡ 2 }
-    ensures lcr { offset.LCR ≡ 3 }
-    ensures mcr { offset.MCR ≡ 4 }
-    ensures lsr { offset.LSR ≡ 5 }
-    ensures msr { offset.MSR ≡ 6 }
-    ensures spr { offset.SPR ≡ 7 }
-    ensures dll { offset.DLL ≡ 0 }
-    ensures dlm { offset.DLM ≡ 1 }
-    ensures psd { offset.PSD ≡ 6 }
+    ensures data { offsets.DATA ≡ 0 }
+    ensures ier { offsets.IER ≡ 1 }
+    ensures isr { offsets.ISR ≡ 2 }
+    ensures fcr { offsets.FCR ≡ 2 }
+    ensures lcr { offsets.LCR ≡ 3 }
+    ensures mcr { offsets.MCR ≡ 4 }
+    ensures lsr { offsets.LSR ≡ 5 }
+    ensures msr { offsets.MSR ≡ 6 }
+    ensures spr { offsets.SPR ≡ 7 }
+    ensures dll { offsets.DLL ≡ 0 }
+    ensures dlm { offsets.DLM ≡ 1 }
+    ensures psd { offsets.PSD ≡ 6 }
 {}

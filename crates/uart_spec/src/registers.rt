@@ -1,4 +1,5 @@
 //! The registers of a 16550: their offsets, their named bits and their fields.
+ghost use Rattle.std.specs.Prelude.{◌≡◌, ◌+◌};
 ghost use Rattle.uart_spec.specs.Bits.{NamesEachByte};
 
 use bitflags::Flags;
@@ -54,4 +55,18 @@ pub fn every_byte_is_a_value()
     ensures lsr { NamesEachByte ⟦<LSR as Flags>⟧.table }
     ensures msr { NamesEachByte ⟦<MSR as Flags>⟧.table }
     ensures psd { NamesEachByte ⟦<PSD as Flags>⟧.table }
+{}
+
+/// Which bits each mask joins. This is a law for callers to cite, and does nothing.
+pub fn masks_are_these()
+    ensures fifos_enabled { ISR.FIFOS_ENABLED.0 ≡ ISR.FIFOS_ENABLED0.0 + ISR.FIFOS_ENABLED1.0 }
+    ensures trigger_level { FCR.RX_FIFO_TRIGGER_LEVEL.0 ≡ FCR.RX_FIFO_TRIGGER_LEVEL0.0 + FCR.RX_FIFO_TRIGGER_LEVEL1.0 }
+    ensures word_length { LCR.WORD_LENGTH.0 ≡ LCR.WORD_LENGTH0.0 + LCR.WORD_LENGTH1.0 }
+    ensures character_errors { LSR.CHARACTER_ERRORS.0 ≡
+        LSR.PARITY_ERROR.0 + LSR.FRAMING_ERROR.0 + LSR.BREAK_INTERRUPT.0 }
+    ensures line_errors { LSR.LINE_ERRORS.0 ≡ LSR.OVERRUN_ERROR.0 + LSR.CHARACTER_ERRORS.0 }
+    ensures errors { LSR.ERRORS.0 ≡ LSR.LINE_ERRORS.0 + LSR.FIFO_DATA_ERROR.0 }
+    ensures changes { MSR.CHANGES.0 ≡
+        MSR.DELTA_CTS.0 + MSR.DELTA_DSR.0 + MSR.TRAILING_EDGE_RI.0 + MSR.DELTA_CD.0 }
+    ensures lines { MSR.LINES.0 ≡ MSR.CTS.0 + MSR.DSR.0 + MSR.RI.0 + MSR.CD.0 }
 {}

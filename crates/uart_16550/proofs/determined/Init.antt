@@ -1,5 +1,6 @@
 -- The presence check and the initialisation are determined.
-use Rattle.std.proofs.Common.{◌≡◌, ◌<◌, ◌+◌, ◌*◌, ◌/◌, ℕ, Bool, true, false, List, [], ◌∷◌, refl, sym, ◌∙◌, ap, subst, arith, inl, inr, ◌==◌, Result, Ok, Err, Option, Some, None}
+use Rattle.std.proofs.Common.{◌≡◌, ◌<◌, ◌+◌, ◌*◌, ◌/◌, ℕ, Bool, true, false, List, [], ◌∷◌, refl, sym, ◌∙◌, ap, subst, arith, inl, inr}
+use Rattle.std.proofs.Common.{◌==◌, Result, Ok, Err, Option, Some, None}
 use Rattle.std.proofs.Math.Nat.{mul-div_cancel_left, mul-pos}
 use Rattle.uart_spec.specs.Baud.{frequency_of, prescaler}
 use Rattle.uart_spec.specs.BaudRate.{to_integer}
@@ -10,13 +11,19 @@ use Rattle.uart_spec.specs.declared.errors.InvalidDivisorError.{InvalidDivisorEr
 use Rattle.uart_spec.specs.declared.errors.InvalidDivisorError.TheVariants.{NonInteger, OutOfRange}
 use Rattle.uart_spec.specs.declared.errors.InitError.{InitError}
 use Rattle.uart_spec.specs.declared.errors.InitError.TheVariants.{InvalidBaudRate, DeviceNotPresent, Stalled}
+use Rattle.uart_spec.specs.declared.registers.offsets.TheConstants as offsets
+use Rattle.uart_spec.specs.declared.registers.interrupt_status.TheConstants.ISR
+use Rattle.uart_spec.specs.declared.registers.line_status.TheConstants.LSR
 use Rattle.uart_spec.specs.Access.{Access, Read, Write}
-use Rattle.uart_16550.specs.Grammar.{Language, Settings, Only, Then, Reads}
+use Rattle.uart_16550.specs.Grammar.{Language, Settings, Only, Then, ReadsRegister}
 use Rattle.uart_16550.specs.Receive.{Miss}
-use Rattle.uart_16550.specs.Transmit.{Waits}
+use Rattle.uart_16550.specs.Transmit.{WaitsFor}
 use Rattle.uart_16550.specs.Driver.{Doing, Fields, Saving, Plain, Sets, Next, settings_of, with_config, with_fifo, with_saved}
-use Rattle.uart_16550.specs.Init.{Keeps, KeepsPatterns, ChecksPresence, line_writes, frame_bits, SetsFifo, Discards, Drains, Begins, Ends, DivisorOf, Inits}
-use Rattle.uart_16550.proofs.determined.Parting.{SameOrPart, Determined, so, so_is, so_write, so_reads, determined_so, determined_sym, determined_then, determined_front, determined_only, read_determined, reads_determined, asks_determined, asks_apart, asks_same, not_both}
+use Rattle.uart_16550.specs.Init.{first_pattern, second_pattern, Keeps, KeepsPatterns, ChecksPresence, line_writes, frame_bits, SetsFifo}
+use Rattle.uart_16550.specs.Init.{Discards, most_waiting, DrainsReceiver, raised_outputs, Begins, Ends, DivisorOf, Inits}
+use Rattle.uart_16550.proofs.determined.Parting.{SameOrPart, Determined, so, so_is, so_write, so_reads, determined_so, determined_sym}
+use Rattle.uart_16550.proofs.determined.Parting.{determined_then, determined_front, determined_only, read_determined, reads_determined}
+use Rattle.uart_16550.proofs.determined.Parting.{asks_determined, asks_apart, asks_same, not_both}
 use Rattle.uart_16550.proofs.determined.Repeated.{Misses, times_same, times_hit, times_all}
 use Rattle.uart_16550.proofs.determined.Receive.{miss_same}
 use Rattle.uart_16550.proofs.determined.Transmit.{waits_determined}
@@ -28,12 +35,15 @@ keeps_determined s pattern a b = record {
   at = λ l m p q. so_is p.2 q.2 (so (λ same. sym p.1 ∙ ap (λ (n : ℕ). n == pattern) same ∙ q.1) (so_write refl so_reads));
 }
 
-kept_then : (s : Settings) (a b : Bool) → Determined (a ≡ b) (Then (Keeps 66 true) (Keeps 115 a) s) (Then (Keeps 66 true) (Keeps 115 b) s)
-kept_then s a b = determined_then (keeps_determined s 66 true true) (λ x. keeps_determined s 115 a b)
+kept_then : (s : Settings) (a b : Bool) →
+    Determined (a ≡ b) (Then (Keeps first_pattern true) (Keeps second_pattern a) s)
+    (Then (Keeps first_pattern true) (Keeps second_pattern b) s)
+kept_then s a b = determined_then (keeps_determined s first_pattern true true) (λ x. keeps_determined s second_pattern a b)
 
 -- the first pattern is kept, and not kept
-kept_lost : (s : Settings) (a : Bool) → Determined ⊥ (Then (Keeps 66 true) (Keeps 115 a) s) (Keeps 66 false s)
-kept_lost s a = determined_front (determined_so not_both (keeps_determined s 66 true false))
+kept_lost : (s : Settings) (a : Bool) →
+    Determined ⊥ (Then (Keeps first_pattern true) (Keeps second_pattern a) s) (Keeps first_pattern false s)
+kept_lost s a = determined_front (determined_so not_both (keeps_determined s first_pattern true false))
 
 patterns_apart : (s : Settings) → Determined ⊥ (KeepsPatterns true s) (KeepsPatterns false s)
 patterns_apart s = record { at = at }
@@ -49,7 +59,7 @@ patterns_determined s false true = determined_sym (patterns_apart s)
 patterns_determined s false false = record { at = at }
   where
     at : (l m : List Access) → KeepsPatterns false s l → KeepsPatterns false s m → SameOrPart (false ≡ false) l m
-    at l m (inl p) (inl q) = (keeps_determined s 66 false false).at l m p q
+    at l m (inl p) (inl q) = (keeps_determined s first_pattern false false).at l m p q
     at l m (inl p) (inr q) = (determined_sym (kept_lost s false)).at l m p q
     at l m (inr p) (inl q) = so absurd ((kept_lost s false).at l m p q)
     at l m (inr p) (inr q) = (kept_then s false false).at l m p q
@@ -57,40 +67,45 @@ patterns_determined s false false = record { at = at }
 pub presence_determined : (s : Settings) (a b : Bool) → Determined (a ≡ b) (ChecksPresence a s) (ChecksPresence b s)
 presence_determined s a b = record { at = λ l m p q. (at p.0 q.0).at l m p.1 q.1 }
   where
-    at : (x y : ℕ) → Determined (a ≡ b) (Then (Only (Read 7 x ∷ [])) (Then (KeepsPatterns a) (Only (Write 7 x ∷ []))) s)
-        (Then (Only (Read 7 y ∷ [])) (Then (KeepsPatterns b) (Only (Write 7 y ∷ []))) s)
+    at : (x y : ℕ) → Determined (a ≡ b) (Then (Only (Read offsets.SPR x ∷ [])) (Then (KeepsPatterns a) (Only (Write offsets.SPR x ∷ []))) s)
+        (Then (Only (Read offsets.SPR y ∷ [])) (Then (KeepsPatterns b) (Only (Write offsets.SPR y ∷ []))) s)
     at x y =
-        determined_then (read_determined 7 x y)
+        determined_then (read_determined offsets.SPR x y)
         (λ same. determined_then (patterns_determined s a b)
-        (λ k. determined_so (λ t. k) (determined_only (ap (λ (n : ℕ). Write 7 n ∷ []) same))))
+        (λ k. determined_so (λ t. k) (determined_only (ap (λ (n : ℕ). Write offsets.SPR n ∷ []) same))))
 
 -- the FIFO step and the drain
 pub fifo_determined : (s : Settings) (level : Option FifoTriggerLevel) (a b : Bool) →
     Determined (a ≡ b) (SetsFifo level a s) (SetsFifo level b s)
 fifo_determined s None a b = record { at = λ l m p q. inl (p.0 ∙ sym q.0, p.1 ∙ sym q.1) }
-fifo_determined s (Some level) a b = determined_then (determined_only refl) (λ x. asks_determined 2 192 a b)
+fifo_determined s (Some level) a b = determined_then (determined_only refl) (λ x. asks_determined offsets.ISR ISR.FIFOS_ENABLED.0 a b)
 
 discards : (s : Settings) → Misses s Discards Miss
-discards s = record { same = determined_then (asks_same 5 1 true) (λ x. reads_determined s 0); apart = determined_front (asks_apart 5 1) }
+discards s =
+    record {
+      same = determined_then (asks_same offsets.LSR LSR.DATA_READY.0 true) (λ x. reads_determined s offsets.DATA);
+      apart = determined_front (asks_apart offsets.LSR LSR.DATA_READY.0);
+    }
 
-drains_same : (s : Settings) → Determined (Unit {0}) (Drains s) (Drains s)
+drains_same : (s : Settings) → Determined (Unit {0}) (DrainsReceiver s) (DrainsReceiver s)
 drains_same s = record { at = at }
   where
-    at : (l m : List Access) → Drains s l → Drains s m → SameOrPart (Unit {0}) l m
-    at l m (inl p) (inl q) = (times_same s Discards (discards s).same 17).at l m p q
-    at l m (inl p) (inr q) = (determined_sym (times_all s Discards Miss (discards s) q.0 17 q.1)).at l m p q.2
-    at l m (inr p) (inl q) = so absurd ((times_all s Discards Miss (discards s) p.0 17 p.1).at l m p.2 q)
+    at : (l m : List Access) → DrainsReceiver s l → DrainsReceiver s m → SameOrPart (Unit {0}) l m
+    at l m (inl p) (inl q) = (times_same s Discards (discards s).same most_waiting).at l m p q
+    at l m (inl p) (inr q) = (determined_sym (times_all s Discards Miss (discards s) q.0 most_waiting q.1)).at l m p q.2
+    at l m (inr p) (inl q) = so absurd ((times_all s Discards Miss (discards s) p.0 most_waiting p.1).at l m p.2 q)
     at l m (inr p) (inr q) = (times_hit s Discards Miss Miss (discards s) (discards s) (miss_same s) p.0 q.0).at l m p.2 q.2
 
 -- after the FIFO step
 abbrev Drained : Bool → Doing
-Drained fifo = Next (Sets (with_fifo fifo)) (Next (Plain Drains) (Saving (Only (Write 4 11 ∷ []))))
+Drained fifo = Next (Sets (with_fifo fifo)) (Next (Plain DrainsReceiver) (Saving (Only (Write offsets.MCR raised_outputs ∷ []))))
 
 drained_same : (f : Fields) (fifo : Bool) → Does (Unit {0}) f (Drained fifo) (Drained fifo)
 drained_same f fifo =
     does_next (does_set f (with_fifo fifo))
-    (λ x g. does_next (does_plain g Drains Drains (drains_same (settings_of g)))
-    (λ y h. does_saving h (Only (Write 4 11 ∷ [])) (Only (Write 4 11 ∷ [])) (determined_only refl)))
+    (λ x g. does_next (does_plain g DrainsReceiver DrainsReceiver (drains_same (settings_of g)))
+    (λ y h. does_saving h (Only (Write offsets.MCR raised_outputs ∷ [])) (Only (Write offsets.MCR raised_outputs ∷ []))
+    (determined_only refl)))
 
 drained_determined : (f : Fields) (a b : Bool) → a ≡ b → Does (a ≡ b) f (Drained a) (Drained b)
 drained_determined f a b same =
@@ -134,28 +149,34 @@ absent_same f config =
 -- the wait and the end
 ends_same : (f : Fields) (config : Config) → Does (Unit {0}) f (Ends config) (Ends config)
 ends_same f config =
-    let L = Then (Reads 5) (Then (Reads 2) (Reads 6)) in
-    let W = Only (Write 1 config.interrupts.0 ∷ []) in
+    let L = Then (ReadsRegister offsets.LSR) (Then (ReadsRegister offsets.ISR) (ReadsRegister offsets.MSR)) in
+    let W = Only (Write offsets.IER config.interrupts.0 ∷ []) in
     does_next (does_plain f L L
-    (let s = settings_of f in determined_then (reads_determined s 5)
-    (λ x. determined_then (reads_determined s 2) (λ y. reads_determined s 6))))
+    (let s = settings_of f in determined_then (reads_determined s offsets.LSR)
+    (λ x. determined_then (reads_determined s offsets.ISR) (λ y. reads_determined s offsets.MSR))))
     (λ x g. does_next (does_set g (with_saved 0 0)) (λ y h. does_saving h W W (determined_only refl)))
 
 abbrev Finishes : Config → Bool → Doing
-Finishes config true = Next (Saving (Waits 64 true)) (Ends config)
-Finishes config false = Saving (Waits 64 false)
+Finishes config true = Next (Saving (WaitsFor LSR.TRANSMITTER_EMPTY.0 true)) (Ends config)
+Finishes config false = Saving (WaitsFor LSR.TRANSMITTER_EMPTY.0 false)
 
 finishes_apart : (f : Fields) (config : Config) → Does ⊥ f (Finishes config true) (Finishes config false)
 finishes_apart f config =
-    does_front (does_saving f (Waits 64 true) (Waits 64 false) (determined_so not_both (waits_determined (settings_of f) 64 true false)))
+    does_front
+    (does_saving f (WaitsFor LSR.TRANSMITTER_EMPTY.0 true) (WaitsFor LSR.TRANSMITTER_EMPTY.0 false)
+    (determined_so not_both (waits_determined (settings_of f) LSR.TRANSMITTER_EMPTY.0 true false)))
 
 finishes_determined : (f : Fields) (config : Config) (x y : Bool) → Does (x ≡ y) f (Finishes config x) (Finishes config y)
 finishes_determined f config true true =
     does_so (λ t. refl)
-    (does_next (does_saving f (Waits 64 true) (Waits 64 true) (waits_determined (settings_of f) 64 true true)) (λ x g. ends_same g config))
+    (does_next
+    (does_saving f (WaitsFor LSR.TRANSMITTER_EMPTY.0 true) (WaitsFor LSR.TRANSMITTER_EMPTY.0 true)
+    (waits_determined (settings_of f) LSR.TRANSMITTER_EMPTY.0 true true)) (λ x g. ends_same g config))
 finishes_determined f config true false = does_so absurd (finishes_apart f config)
 finishes_determined f config false true = does_sym (finishes_apart f config)
-finishes_determined f config false false = does_saving f (Waits 64 false) (Waits 64 false) (waits_determined (settings_of f) 64 false false)
+finishes_determined f config false false =
+    does_saving f (WaitsFor LSR.TRANSMITTER_EMPTY.0 false) (WaitsFor LSR.TRANSMITTER_EMPTY.0 false)
+    (waits_determined (settings_of f) LSR.TRANSMITTER_EMPTY.0 false false)
 
 abbrev Tries : Config → ℕ → (fifo empty : Bool) → Doing
 Tries config divisor fifo empty = Next (Begins config divisor fifo) (Finishes config empty)

@@ -1,5 +1,6 @@
 -- The loopback test is determined.
-use Rattle.std.proofs.Common.{◌≡◌, ◌≢◌, ℕ, Bool, true, false, List, [], ◌∷◌, ◌++◌, refl, sym, ◌∙◌, ap, subst, arith, inl, inr, ◌⊎◌, ◌==◌, Result, Ok, Err, Option, Some, None, length, map, if◌then◌else◌}
+use Rattle.std.proofs.Common.{◌≡◌, ◌≢◌, ℕ, Bool, true, false, List, [], ◌∷◌, ◌++◌, refl, sym, ◌∙◌, ap, subst, arith, inl, inr, ◌⊎◌, ◌==◌}
+use Rattle.std.proofs.Common.{Result, Ok, Err, Option, Some, None, length, map, if◌then◌else◌}
 use Rattle.std.proofs.lemmas.Bool.Decides.{nat_tests}
 use Rattle.std.proofs.lemmas.List.{length-map}
 use Rattle.bitflags.specs.Sets.{without}
@@ -7,18 +8,28 @@ use Rattle.uart_spec.specs.declared.errors.StalledError.{StalledError}
 use Rattle.uart_spec.specs.declared.errors.ByteSendError.{ByteSendError}
 use Rattle.uart_spec.specs.declared.errors.LoopbackError.{LoopbackError}
 use Rattle.uart_spec.specs.declared.errors.LoopbackError.TheVariants.{Stalled, SendError, UnexpectedLoopbackByte, UnexpectedLoopbackMsg}
+use Rattle.uart_spec.specs.declared.registers.offsets.TheConstants as offsets
+use Rattle.uart_spec.specs.declared.registers.line_status.TheConstants.LSR
+use Rattle.uart_spec.specs.declared.registers.modem_control.TheConstants.MCR
 use Rattle.uart_spec.specs.Access.{Access, Read, Write}
 use Rattle.uart_16550.specs.Grammar.{Language, Settings, Only, Then, InOrder, AllMisses}
 use Rattle.uart_16550.specs.Receive.{Miss, Awaited, ReceivesExact}
 use Rattle.uart_16550.specs.Transmit.{Round, SendMiss, SendsAll, SendsExact, TrySends}
 use Rattle.uart_16550.specs.Init.{SetsFifo}
 use Rattle.uart_16550.specs.Driver.{Doing, Fields, Saving, Plain, Sets, Next, settings_of, with_fifo}
-use Rattle.uart_16550.specs.Loopback.{test_byte, test_message, TakesOne, Drains, SendsTestByte, ExchangesByte, Echo, EchoFails, WholeEchoes, WholeFails, EachEchoes, HasEchoedWhole, HasEchoedEach, HasEchoedAll, ExchangesMessage, Exchanges, Enters, Leaves, with_changes, line_changes, BeginsTest, Tests, IsStalled, TestsLoopback}
+use Rattle.uart_16550.specs.Loopback.{test_byte, test_message, TakesOne, DrainsLoopback, SendsTestByte, ExchangesByte, Echo, EchoFails}
+use Rattle.uart_16550.specs.Loopback.{WholeEchoes, WholeFails, EachEchoes, HasEchoedWhole, HasEchoedEach, HasEchoedAll, ExchangesMessage}
+use Rattle.uart_16550.specs.Loopback.{Exchanges, Enters, Leaves, with_changes, line_changes, BeginsTest, Tests, IsStalled, TestsLoopback}
 use Rattle.uart_16550.proofs.Languages.{then_later}
-use Rattle.uart_16550.proofs.determined.Parting.{SameOrPart, Determined, so, so_is, so_read, so_reads, determined_so, determined_sym, determined_then, determined_front, determined_among, determined_none, determined_only, determined_fifo, read_determined, not_both}
-use Rattle.uart_16550.proofs.determined.Repeated.{same_first, same_others, Misses, waits_end, wait_ends, wait_fails, Items, Alike, items_all}
-use Rattle.uart_16550.proofs.determined.Receive.{hits_determined, miss_same, miss_hit, vain_same, vain_awaited, awaited_determined, awaited_all, receives_exact_determined}
-use Rattle.uart_16550.proofs.determined.Transmit.{round_same, vain_round, unsent_same, waits_determined, try_send_determined, sends_all_same, sends_stall, sends_exact_determined}
+use Rattle.uart_16550.proofs.determined.Parting.{SameOrPart, Determined, so, so_is, so_read, so_reads, determined_so, determined_sym}
+use Rattle.uart_16550.proofs.determined.Parting.{determined_then, determined_front, determined_among, determined_none, determined_only}
+use Rattle.uart_16550.proofs.determined.Parting.{determined_fifo, read_determined, not_both}
+use Rattle.uart_16550.proofs.determined.Repeated.{same_first, same_others, Misses, waits_end, wait_ends, wait_fails, Items, Alike}
+use Rattle.uart_16550.proofs.determined.Repeated.{items_all}
+use Rattle.uart_16550.proofs.determined.Receive.{hits_determined, miss_same, miss_hit, vain_same, vain_awaited, awaited_determined}
+use Rattle.uart_16550.proofs.determined.Receive.{awaited_all, receives_exact_determined}
+use Rattle.uart_16550.proofs.determined.Transmit.{round_same, vain_round, unsent_same, waits_determined, try_send_determined}
+use Rattle.uart_16550.proofs.determined.Transmit.{sends_all_same, sends_stall, sends_exact_determined}
 use Rattle.uart_16550.proofs.determined.Init.{fifo_determined}
 use Rattle.uart_16550.proofs.determined.Doings.{Does, does_so, does_sym, does_next, does_front, does_saving, does_plain, does_set}
 
@@ -32,13 +43,13 @@ takes s = record {
   apart = record { at = λ l m p q. (determined_sym (miss_hit s p.0)).at l m p.1 q };
 }
 
-drains_apart : (s : Settings) → Determined ⊥ (Drains true s) (Drains false s)
+drains_apart : (s : Settings) → Determined ⊥ (DrainsLoopback true s) (DrainsLoopback false s)
 drains_apart s = wait_ends s TakesOne Miss (takes s)
 
-drains_true : (s : Settings) → Determined (Unit {0}) (Drains true s) (Drains true s)
+drains_true : (s : Settings) → Determined (Unit {0}) (DrainsLoopback true s) (DrainsLoopback true s)
 drains_true s = waits_end s TakesOne Miss Miss (takes s) (takes s) (miss_same s)
 
-drains_false : (s : Settings) → Determined (Unit {0}) (Drains false s) (Drains false s)
+drains_false : (s : Settings) → Determined (Unit {0}) (DrainsLoopback false s) (DrainsLoopback false s)
 drains_false s = wait_fails s TakesOne (takes s).same
 
 -- the test byte: refused, or what came back for it
@@ -326,9 +337,9 @@ exchanges_message_determined s a b = record {
 
 -- how far the exchange came
 abbrev Steps : Outcome → Settings → List Access → Type 0
-Steps r s l = ((r ≡ Err Stalled) × Drains false s l)
-    ⊎ (((e : LoopbackError) × (r ≡ Err e) × Then (Drains true) (ExchangesByte {T = Unit {0}} (Err e)) s l)
-    ⊎ Then (Drains true) (Then (ExchangesByte {T = Unit {0}} (Ok tt)) (ExchangesMessage r)) s l)
+Steps r s l = ((r ≡ Err Stalled) × DrainsLoopback false s l)
+    ⊎ (((e : LoopbackError) × (r ≡ Err e) × Then (DrainsLoopback true) (ExchangesByte {T = Unit {0}} (Err e)) s l)
+    ⊎ Then (DrainsLoopback true) (Then (ExchangesByte {T = Unit {0}} (Ok tt)) (ExchangesMessage r)) s l)
 
 steps_of : (r : Outcome) (s : Settings) (l : List Access) → Exchanges r s l → Steps r s l
 steps_of (Ok x) s l t = inr (inr t)
@@ -336,12 +347,12 @@ steps_of (Err e) s l (inl t) = inl (ap (λ (z : LoopbackError). let r : Outcome 
 steps_of (Err e) s l (inr (inl t)) = inr (inl (e, refl, t))
 steps_of (Err e) s l (inr (inr t)) = inr (inr t)
 
-undrained : (s : Settings) (Q : Language) → Determined ⊥ (Then (Drains true) Q s) (Drains false s)
-undrained s Q = determined_front {P = Drains true} {Q = Q} (drains_apart s)
+undrained : (s : Settings) (Q : Language) → Determined ⊥ (Then (DrainsLoopback true) Q s) (DrainsLoopback false s)
+undrained s Q = determined_front {P = DrainsLoopback true} {Q = Q} (drains_apart s)
 
 after_drain : {C : Type 0} (s : Settings) (Q R : Language) → Determined C (Q s) (R s) →
-    Determined C (Then (Drains true) Q s) (Then (Drains true) R s)
-after_drain s Q R h = determined_then {P = Drains true} {P' = Drains true} {Q = Q} {Q' = R} (drains_true s) (λ t. h)
+    Determined C (Then (DrainsLoopback true) Q s) (Then (DrainsLoopback true) R s)
+after_drain s Q R h = determined_then {P = DrainsLoopback true} {P' = DrainsLoopback true} {Q = Q} {Q' = R} (drains_true s) (λ t. h)
 
 abbrev ByteFails : LoopbackError → Language
 ByteFails e = ExchangesByte {T = Unit {0}} (Err e)
@@ -350,7 +361,7 @@ abbrev Goes : Outcome → Language
 Goes r = Then (ExchangesByte {T = Unit {0}} (Ok tt)) (ExchangesMessage r)
 
 byte_failed : (s : Settings) (e : LoopbackError) (r : Outcome) →
-    Determined ⊥ (Then (Drains true) (Goes r) s) (Then (Drains true) (ByteFails e) s)
+    Determined ⊥ (Then (DrainsLoopback true) (Goes r) s) (Then (DrainsLoopback true) (ByteFails e) s)
 byte_failed s e r =
     after_drain s (Goes r) (ByteFails e)
     (determined_front {P = ExchangesByte {T = Unit {0}} (Ok tt)} {Q = ExchangesMessage r}
@@ -378,7 +389,8 @@ exchanges_determined s a b = record { at = λ l m p q. at l m (steps_of a s l p)
 
 -- into the loopback
 entering : (s : Settings) (x y : ℕ) →
-    Determined (x ≡ y) (Only (Read 6 x ∷ Write 1 0 ∷ Write 4 16 ∷ []) s) (Only (Read 6 y ∷ Write 1 0 ∷ Write 4 16 ∷ []) s)
+    Determined (x ≡ y) (Only (Read offsets.MSR x ∷ Write offsets.IER 0 ∷ Write offsets.MCR MCR.LOOP_BACK.0 ∷ []) s)
+    (Only (Read offsets.MSR y ∷ Write offsets.IER 0 ∷ Write offsets.MCR MCR.LOOP_BACK.0 ∷ []) s)
 entering s x y = record { at = λ l m p q. so_is p.is q.is (so (λ r. r.0) (so_read (λ same. inl (tt {0}, refl)))) }
 
 set_fifos : (f : Fields) (a b : Bool) → a ≡ b → Does (Unit {0}) f (Sets (with_fifo a)) (Sets (with_fifo b))
@@ -388,8 +400,8 @@ set_fifos f a b same =
 enters_determined : (f : Fields) (x y : ℕ) (a b : Bool) → Does ((x ≡ y) × (a ≡ b)) f (Enters x a) (Enters y b)
 enters_determined f x y a b =
     let level = f.config.fifo_trigger_level in
-    let X = Only (Read 6 x ∷ Write 1 0 ∷ Write 4 16 ∷ []) in
-    let Y = Only (Read 6 y ∷ Write 1 0 ∷ Write 4 16 ∷ []) in
+    let X = Only (Read offsets.MSR x ∷ Write offsets.IER 0 ∷ Write offsets.MCR MCR.LOOP_BACK.0 ∷ []) in
+    let Y = Only (Read offsets.MSR y ∷ Write offsets.IER 0 ∷ Write offsets.MCR MCR.LOOP_BACK.0 ∷ []) in
     let s = settings_of f in
     let lists : Determined ((x ≡ y) × (a ≡ b)) (Then X (SetsFifo level a) s) (Then Y (SetsFifo level b) s) =
     determined_then (entering s x y) (λ same. determined_so (λ t. (same, t)) (fifo_determined s level a b)) in
@@ -402,23 +414,25 @@ enters_determined f x y a b =
 -- out of it
 Settles : (mcr ier before noted now : ℕ) → Doing
 Settles mcr ier before noted now =
-    Next (Saving (Only (Write 4 mcr ∷ Write 1 ier ∷ []))) (Sets (with_changes noted (line_changes before now)))
+    Next (Saving (Only (Write offsets.MCR mcr ∷ Write offsets.IER ier ∷ []))) (Sets (with_changes noted (line_changes before now)))
 
 settles_determined : (mcr ier before noted x y : ℕ) (f : Fields) → x ≡ y →
     Does (Unit {0}) f (Settles mcr ier before noted x) (Settles mcr ier before noted y)
 unfolding Settles
 settles_determined mcr ier before noted x y f same =
-    let W = Only (Write 4 mcr ∷ Write 1 ier ∷ []) in
+    let W = Only (Write offsets.MCR mcr ∷ Write offsets.IER ier ∷ []) in
     let M : ℕ → Type 0 = λ z. Does (Unit {0}) f (Settles mcr ier before noted x) (Settles mcr ier before noted z) in
     subst M same (does_next (does_saving f W W (determined_only refl)) (λ t g. does_set g (with_changes noted (line_changes before x))))
 
 leaving : (mcr ier before noted x y : ℕ) (f : Fields) → Does (Unit {0}) f
-    (Next (Saving (Only (Write 4 (without 8 mcr 8) ∷ []))) (Next (Plain (Only (Read 6 x ∷ []))) (Settles mcr ier before noted x)))
-    (Next (Saving (Only (Write 4 (without 8 mcr 8) ∷ []))) (Next (Plain (Only (Read 6 y ∷ []))) (Settles mcr ier before noted y)))
+    (Next (Saving (Only (Write offsets.MCR (without 8 mcr MCR.OUT_2_INT_ENABLE.0) ∷ [])))
+    (Next (Plain (Only (Read offsets.MSR x ∷ []))) (Settles mcr ier before noted x)))
+    (Next (Saving (Only (Write offsets.MCR (without 8 mcr MCR.OUT_2_INT_ENABLE.0) ∷ [])))
+    (Next (Plain (Only (Read offsets.MSR y ∷ []))) (Settles mcr ier before noted y)))
 leaving mcr ier before noted x y f =
-    let W = Only (Write 4 (without 8 mcr 8) ∷ []) in
+    let W = Only (Write offsets.MCR (without 8 mcr MCR.OUT_2_INT_ENABLE.0) ∷ []) in
     does_next (does_saving f W W (determined_only refl))
-    (λ t g. does_next (does_plain g (Only (Read 6 x ∷ [])) (Only (Read 6 y ∷ [])) (read_determined 6 x y))
+    (λ t g. does_next (does_plain g (Only (Read offsets.MSR x ∷ [])) (Only (Read offsets.MSR y ∷ [])) (read_determined offsets.MSR x y))
     (λ same h. settles_determined mcr ier before noted x y h same))
 
 leaves_same : (mcr ier before noted : ℕ) (f : Fields) → Does (Unit {0}) f (Leaves mcr ier before noted) (Leaves mcr ier before noted)
@@ -452,13 +466,15 @@ tests_at mcr ier mcr' ier' r t f p q =
 
 -- before the loopback
 opening : (s : Settings) (mcr ier mcr' ier' : ℕ) →
-    Determined ((mcr ≡ mcr') × (ier ≡ ier')) (Only (Read 4 mcr ∷ Read 1 ier ∷ []) s) (Only (Read 4 mcr' ∷ Read 1 ier' ∷ []) s)
+    Determined ((mcr ≡ mcr') × (ier ≡ ier')) (Only (Read offsets.MCR mcr ∷ Read offsets.IER ier ∷ []) s)
+    (Only (Read offsets.MCR mcr' ∷ Read offsets.IER ier' ∷ []) s)
 opening s mcr ier mcr' ier' = record { at = λ l m p q. so_is p.is q.is (so_read (λ same. so_reads)) }
 
 begins_test_determined : (s : Settings) (mcr ier mcr' ier' : ℕ) (x y : Bool) →
     Determined ((mcr ≡ mcr') × (ier ≡ ier') × (x ≡ y)) (BeginsTest mcr ier x s) (BeginsTest mcr' ier' y s)
 begins_test_determined s mcr ier mcr' ier' x y =
-    determined_then (opening s mcr ier mcr' ier') (λ same. determined_so (λ t. (same.0, same.1, t)) (waits_determined s 64 x y))
+    determined_then (opening s mcr ier mcr' ier')
+    (λ same. determined_so (λ t. (same.0, same.1, t)) (waits_determined s LSR.TRANSMITTER_EMPTY.0 x y))
 
 stalls : (r : Outcome) → IsStalled r → r ≡ Err Stalled
 stalls (Ok x) h = absurd h

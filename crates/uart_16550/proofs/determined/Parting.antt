@@ -1,10 +1,11 @@
 -- Lists that part at a read, and languages whose lists part only so.
-use Rattle.std.proofs.Common.{◌≡◌, ℕ, Bool, true, false, List, [], ◌∷◌, ◌++◌, refl, sym, ◌∙◌, ap, subst, append_assoc, append-nil, inl, inr, ◌⊎◌, MatchBool}
+use Rattle.std.proofs.Common.{◌≡◌, ℕ, Bool, true, false, List, [], ◌∷◌, ◌++◌, refl, sym, ◌∙◌, ap, subst, append_assoc, append-nil, inl, inr}
+use Rattle.std.proofs.Common.{◌⊎◌, MatchBool}
 use Rattle.std.proofs.Math.Decide.{ℕ_discrete}
 use Rattle.uart_spec.specs.Bits.{has}
 use Rattle.uart_spec.specs.Access.{Access, Read, Write}
 use Rattle.uart_16550.specs.Choice.{PartAtRead}
-use Rattle.uart_16550.specs.Grammar.{Language, Settings, Only, Then, Asks, Reads, IfChecks, IfFifo, Never}
+use Rattle.uart_16550.specs.Grammar.{Language, Settings, Only, Then, Asks, ReadsRegister, IfChecks, IfFifo, Never}
 
 -- two lists are one, and this holds; or they part at a read
 abbrev pub SameOrPart : Type 0 → List Access → List Access → Type 0
@@ -176,7 +177,7 @@ so_reads = so (λ r. r.0) (so_read (λ same. inl (tt {0}, refl)))
 pub read_determined : {s : Settings} (register a b : ℕ) → Determined (a ≡ b) (Only (Read register a ∷ []) s) (Only (Read register b ∷ []) s)
 read_determined register a b = record { at = λ l m p q. so_is p.is q.is so_reads }
 
-pub reads_determined : (s : Settings) (register : ℕ) → Determined (Unit {0}) (Reads register s) (Reads register s)
+pub reads_determined : (s : Settings) (register : ℕ) → Determined (Unit {0}) (ReadsRegister register s) (ReadsRegister register s)
 reads_determined s register = record { at = λ l m p q. so_is p.1 q.1 (so (λ same. tt {0}) so_reads) }
 
 pub asks_determined : {s : Settings} (register bits : ℕ) (x y : Bool) → Determined (x ≡ y) (Asks register bits x s) (Asks register bits y s)

@@ -2,27 +2,31 @@
 use Rattle.std.proofs.Common.{◌≡◌, ◌<◌, ℕ, true, false, List, refl, sym, ◌∙◌, ap, arith, inl, inr, Result, Ok, Err, length}
 use Rattle.uart_spec.specs.declared.errors.StalledError.{StalledError}
 use Rattle.uart_spec.specs.declared.errors.ByteReceiveError.{ByteReceiveError}
+use Rattle.uart_spec.specs.declared.registers.offsets.TheConstants as offsets
+use Rattle.uart_spec.specs.declared.registers.line_status.TheConstants.LSR
 use Rattle.uart_spec.specs.Access.{Access}
 use Rattle.uart_16550.specs.Grammar.{Settings, Then, InOrder, AllMisses}
 use Rattle.uart_16550.specs.Receive.{Hit, Miss, ReadyToReceive, TryReceive, Receives, Awaited, ReceivesExact}
-use Rattle.uart_16550.proofs.determined.Parting.{SameOrPart, Determined, so, determined_so, determined_sym, determined_then, determined_front, read_determined, asks_apart, asks_same}
-use Rattle.uart_16550.proofs.determined.Repeated.{Misses, Items, waits_end, wait_ends, wait_fails, items_all, items_more, items_short, alike_any, told}
+use Rattle.uart_16550.proofs.determined.Parting.{SameOrPart, Determined, so, determined_so, determined_sym, determined_then}
+use Rattle.uart_16550.proofs.determined.Parting.{determined_front, read_determined, asks_apart, asks_same}
+use Rattle.uart_16550.proofs.determined.Repeated.{Misses, Items, waits_end, wait_ends, wait_fails, items_all, items_more, items_short}
+use Rattle.uart_16550.proofs.determined.Repeated.{alike_any, told}
 
 pub hits_determined : (s : Settings) (a b : ℕ) → Determined (a ≡ b) (Hit a s) (Hit b s)
-hits_determined s a b = determined_then (asks_same 5 1 true) (λ x. read_determined 0 a b)
+hits_determined s a b = determined_then (asks_same offsets.LSR LSR.DATA_READY.0 true) (λ x. read_determined offsets.DATA a b)
 
 pub miss_same : (s : Settings) → Determined (Unit {0}) (Miss s) (Miss s)
-miss_same s = asks_same 5 1 false
+miss_same s = asks_same offsets.LSR LSR.DATA_READY.0 false
 
 pub miss_hit : (s : Settings) (a : ℕ) → Determined ⊥ (Miss s) (Hit a s)
-miss_hit s a = determined_sym (determined_front (asks_apart 5 1))
+miss_hit s a = determined_sym (determined_front (asks_apart offsets.LSR LSR.DATA_READY.0))
 
 pub ready_to_receive_determined : (s : Settings) (a b : Result (Unit {0}) ByteReceiveError) →
     Determined (a ≡ b) (ReadyToReceive a s) (ReadyToReceive b s)
-ready_to_receive_determined s (Ok x) (Ok y) = determined_so (λ t. refl) (asks_same 5 1 true)
-ready_to_receive_determined s (Ok x) (Err d) = determined_so absurd (asks_apart 5 1)
-ready_to_receive_determined s (Err d) (Ok y) = determined_sym (asks_apart 5 1)
-ready_to_receive_determined s (Err d) (Err f) = determined_so (λ t. refl) (asks_same 5 1 false)
+ready_to_receive_determined s (Ok x) (Ok y) = determined_so (λ t. refl) (asks_same offsets.LSR LSR.DATA_READY.0 true)
+ready_to_receive_determined s (Ok x) (Err d) = determined_so absurd (asks_apart offsets.LSR LSR.DATA_READY.0)
+ready_to_receive_determined s (Err d) (Ok y) = determined_sym (asks_apart offsets.LSR LSR.DATA_READY.0)
+ready_to_receive_determined s (Err d) (Err f) = determined_so (λ t. refl) (asks_same offsets.LSR LSR.DATA_READY.0 false)
 
 pub ok_same : {E : Type 0} (a b : ℕ) → a ≡ b → ◌≡◌ {A = Result ℕ E} (Ok a) (Ok b)
 ok_same {E} a b same = ap (λ (x : ℕ). let r : Result ℕ E = Ok x in r) same

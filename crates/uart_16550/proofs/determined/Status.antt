@@ -3,11 +3,18 @@ use Rattle.std.proofs.Common.{◌≡◌, ℕ, true, false, List, [], ◌++◌, r
 use Rattle.bitflags.specs.Sets.{without}
 use Rattle.uart_spec.specs.Bits.{has}
 use Rattle.uart_spec.specs.declared.errors.RemoteReadyToReceiveError.{RemoteReadyToReceiveError}
-use Rattle.uart_spec.specs.declared.errors.RemoteReadyToReceiveError.TheVariants.{NoRemoteConnectedNoDSR, NoRemoteConnectedNoCD, RemoteNotClearToSend}
+use Rattle.uart_spec.specs.declared.errors.RemoteReadyToReceiveError.TheVariants.{
+  NoRemoteConnectedNoDSR,
+  NoRemoteConnectedNoCD,
+  RemoteNotClearToSend,
+}
+use Rattle.uart_spec.specs.declared.registers.line_control.TheConstants.LCR
+use Rattle.uart_spec.specs.declared.registers.modem_status.TheConstants.MSR
 use Rattle.uart_spec.specs.Access.{Access}
 use Rattle.uart_16550.specs.Grammar.{Settings}
 use Rattle.uart_16550.specs.Driver.{Fields, with_interrupts, saving}
-use Rattle.uart_16550.specs.Status.{TakesLsr, TakesMsr, Connects, ShowsConnection, ReadsDivisor, divisor_accesses, Enables, Disables, Dumps, dump_reads}
+use Rattle.uart_16550.specs.Status.{TakesLsr, TakesMsr, Connects, ShowsConnection, ReadsDivisor, divisor_accesses, Enables, Disables, Dumps}
+use Rattle.uart_16550.specs.Status.{dump_reads}
 use Rattle.uart_16550.specs.declared.dump.ConfigRegisterDump.{ConfigRegisterDump}
 use Rattle.uart_16550.proofs.determined.Parting.{SameOrPart, Determined, so, so_is, so_read, so_write, so_reads, not_both}
 use Rattle.uart_16550.proofs.determined.Doings.{Does}
@@ -28,16 +35,16 @@ has_same a b bits same p q = not_both (sym p ∙ ap (λ (n : ℕ). has n bits) s
 -- one status, one answer
 connection_same : (a b : Result (Unit {0}) RemoteReadyToReceiveError) (x y : ℕ) → x ≡ y → ShowsConnection a x → ShowsConnection b y → a ≡ b
 connection_same (Ok t) (Ok w) x y same p q = refl
-connection_same (Ok t) (Err NoRemoteConnectedNoDSR) x y same p q = absurd (has_same x y 32 same p.0 q)
+connection_same (Ok t) (Err NoRemoteConnectedNoDSR) x y same p q = absurd (has_same x y MSR.DSR.0 same p.0 q)
 connection_same (Ok t) (Err NoRemoteConnectedNoCD) x y same p q = absurd q
-connection_same (Ok t) (Err RemoteNotClearToSend) x y same p q = absurd (has_same x y 16 same p.1 q.1)
-connection_same (Err NoRemoteConnectedNoDSR) (Ok w) x y same p q = absurd (has_same y x 32 (sym same) q.0 p)
+connection_same (Ok t) (Err RemoteNotClearToSend) x y same p q = absurd (has_same x y MSR.CTS.0 same p.1 q.1)
+connection_same (Err NoRemoteConnectedNoDSR) (Ok w) x y same p q = absurd (has_same y x MSR.DSR.0 (sym same) q.0 p)
 connection_same (Err NoRemoteConnectedNoDSR) (Err NoRemoteConnectedNoDSR) x y same p q = refl
 connection_same (Err NoRemoteConnectedNoDSR) (Err NoRemoteConnectedNoCD) x y same p q = absurd q
-connection_same (Err NoRemoteConnectedNoDSR) (Err RemoteNotClearToSend) x y same p q = absurd (has_same y x 32 (sym same) q.0 p)
+connection_same (Err NoRemoteConnectedNoDSR) (Err RemoteNotClearToSend) x y same p q = absurd (has_same y x MSR.DSR.0 (sym same) q.0 p)
 connection_same (Err NoRemoteConnectedNoCD) b x y same p q = absurd p
-connection_same (Err RemoteNotClearToSend) (Ok w) x y same p q = absurd (has_same y x 16 (sym same) q.1 p.1)
-connection_same (Err RemoteNotClearToSend) (Err NoRemoteConnectedNoDSR) x y same p q = absurd (has_same x y 32 same p.0 q)
+connection_same (Err RemoteNotClearToSend) (Ok w) x y same p q = absurd (has_same y x MSR.CTS.0 (sym same) q.1 p.1)
+connection_same (Err RemoteNotClearToSend) (Err NoRemoteConnectedNoDSR) x y same p q = absurd (has_same x y MSR.DSR.0 same p.0 q)
 connection_same (Err RemoteNotClearToSend) (Err NoRemoteConnectedNoCD) x y same p q = absurd q
 connection_same (Err RemoteNotClearToSend) (Err RemoteNotClearToSend) x y same p q = refl
 
@@ -51,7 +58,7 @@ divisor_read : {C : Type 0} (lcr lcr' low low' high high' : ℕ) (l m : List Acc
 divisor_read {C} lcr lcr' low low' high high' l m rest =
     so {C = (lcr ≡ lcr') × ((low ≡ low') × ((high ≡ high') × C))} (λ r. r.1)
     (so_read {a = lcr} {b = lcr'}
-    (λ same. so_write (ap (λ (n : ℕ). bit_or n 128) same)
+    (λ same. so_write (ap (λ (n : ℕ). bit_or n LCR.DLAB.0) same)
     (so_read {a = low} {b = low'} (λ x. so_read {a = high} {b = high'} (λ y. so_write same rest)))))
 
 pub divisor_determined : (s : Settings) (x y : ℕ × ℕ) → Determined (x ≡ y) (ReadsDivisor x.0 x.1 s) (ReadsDivisor y.0 y.1 s)

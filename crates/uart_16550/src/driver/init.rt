@@ -1,8 +1,9 @@
 //! The presence check and the initialisation.
 ghost use Rattle.std.specs.Prelude.{◌≡◌, ◌≢◌, ◌<◌, [], ◌∷◌};
 ghost use Rattle.uart_spec.specs.Config.{IsComputable};
-ghost use Rattle.uart_16550.specs.Grammar.{Only, Then, Reads};
-ghost use Rattle.uart_16550.specs.Init.{Keeps, KeepsPatterns, ChecksPresence, frame_bits, line_writes, fifo_bits, SetsFifo, Drains, Ends, Inits};
+ghost use Rattle.uart_16550.specs.Grammar.{Only, Then, ReadsRegister};
+ghost use Rattle.uart_16550.specs.Init.{Keeps, KeepsPatterns, ChecksPresence, frame_bits, line_writes, fifo_bits, SetsFifo, DrainsReceiver};
+ghost use Rattle.uart_16550.specs.Init.{Ends, Inits};
 ghost use Rattle.uart_16550.specs.Driver.{Made, Did, Plain, fields};
 
 use super::Uart16550;
@@ -11,6 +12,11 @@ use bitflags::Flags;
 use std::mem;
 use uart_spec::registers::{FCR, FifoTriggerLevel, ISR, LCR, LSR, MCR, MSR, offsets};
 use uart_spec::{Config, FIFO_SIZE, InitError, calc_divisor};
+
+// The patterns that the scratch register is tried with.
+const FIRST_PATTERN: u8 = 0x42;
+
+const SECOND_PATTERN: u8 = 0x73;
 
 // What a FIFO and the shift register hold.
 const MOST_WAITING: usize = FIFO_SIZE + 1;
@@ -51,10 +57,10 @@ impl<B: Backend> Uart16550<B> {
     fn keeps_patterns(&mut self) -> bool
         ensures { Made B.step (KeepsPatterns result) self.old self.new }
     {
-        if !self.keeps(0x42) {
+        if !self.keeps(FIRST_PATTERN) {
             return false;
         }
-        self.keeps(0x73)
+        self.keeps(SECOND_PATTERN)
     }
 
     /// Whether a device is there: its scratch register keeps what is written to it.
@@ -95,7 +101,7 @@ impl<B: Backend> Uart16550<B> {
 
     // Throws away what waits to be received.
     fn drain(&mut self)
-        ensures { Did B.step (Plain Drains) self.old self.new }
+        ensures { Did B.step (Plain DrainsReceiver) self.old self.new }
     {
         for _turn in 0..MOST_WAITING {
             let lsr = LSR::from_bits_retain(self.read_plain(offsets::LSR));
@@ -106,7 +112,7 @@ impl<B: Backend> Uart16550<B> {
         }
     }
 
-    // Reads the statuses and forgets them, and enables the configured interrupts.
+    // ReadsRegister the statuses and forgets them, and enables the configured interrupts.
     fn finish_init(&mut self)
         ensures { Did B.step (Ends (fields self.old).config) self.old self.new }
     {

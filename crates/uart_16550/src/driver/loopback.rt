@@ -1,6 +1,9 @@
 //! The loopback test.
 ghost use Rattle.std.specs.Prelude.{◌≡◌, length, IfSome};
-ghost use Rattle.uart_16550.specs.Loopback.{test_message, Drains, HasEchoed, HasEchoedWhole, HasEchoedEach, HasEchoedAll, ExchangesByte, ExchangesMessage, Exchanges, Enters, Leaves, TestsLoopback, flag, differs, line_changes};
+ghost use Rattle.uart_spec.specs.Bits.{flag};
+ghost use Rattle.uart_16550.specs.Loopback.{test_message, DrainsLoopback, HasEchoed, HasEchoedWhole, HasEchoedEach, HasEchoedAll};
+ghost use Rattle.uart_16550.specs.Loopback.{ExchangesByte, ExchangesMessage, Exchanges, Enters, Leaves, TestsLoopback, differs};
+ghost use Rattle.uart_16550.specs.Loopback.{line_changes};
 ghost use Rattle.uart_16550.specs.Driver.{Made, Did, fields};
 
 use super::Uart16550;
@@ -44,7 +47,7 @@ fn line_changes(before: MSR, now: MSR) -> MSR
 impl<B: Backend> Uart16550<B> {
     // Receives what waits from before, and tells whether that came to an end.
     fn drain_received(&mut self) -> bool
-        ensures { Made B.step (Drains result) self.old self.new }
+        ensures { Made B.step (DrainsLoopback result) self.old self.new }
     {
         for _turn in 0..self.spin_limit.get() {
             let Ok(_) = self.try_receive_byte() else {
@@ -84,7 +87,7 @@ impl<B: Backend> Uart16550<B> {
     // Sends the test message whole, and receives it whole.
     fn echo_whole(&mut self) -> Option<[u8; 16]>
         ensures made { Made B.step (HasEchoedWhole test_message result) self.old self.new }
-        ensures length { IfSome result (λ actual. length actual ≡ 16) }
+        ensures length { IfSome result (λ actual. length actual ≡ length test_message) }
     {
         let Ok(()) = self.send_bytes_exact(&TEST_MESSAGE) else {
             return None;
@@ -99,7 +102,7 @@ impl<B: Backend> Uart16550<B> {
     // Sends the test message byte by byte, and awaits each.
     fn echo_each(&mut self) -> Option<[u8; 16]>
         ensures made { Made B.step (HasEchoedEach test_message result) self.old self.new }
-        ensures length { IfSome result (λ actual. length actual ≡ 16) }
+        ensures length { IfSome result (λ actual. length actual ≡ length test_message) }
     {
         let mut actual = [0; 16];
         for (i, &byte) in TEST_MESSAGE.iter().enumerate() {
@@ -111,7 +114,7 @@ impl<B: Backend> Uart16550<B> {
     // Sends the test message and awaits it: whole where the FIFO is on, else byte by byte.
     fn echo_message(&mut self) -> Option<[u8; 16]>
         ensures made { Made B.step (HasEchoedAll test_message result) self.old self.new }
-        ensures length { IfSome result (λ actual. length actual ≡ 16) }
+        ensures length { IfSome result (λ actual. length actual ≡ length test_message) }
     {
         if self.fifo_enabled {
             return self.echo_whole();

@@ -1,5 +1,6 @@
 //! The register calls.
 ghost use Rattle.std.specs.Prelude.{◌≡◌, [], ◌∷◌};
+ghost use Rattle.uart_spec.specs.declared.registers.offsets.TheConstants as offsets;
 ghost use Rattle.uart_spec.specs.Access.{Read};
 ghost use Rattle.uart_16550.specs.Grammar.{Only};
 ghost use Rattle.uart_16550.specs.Status.{TakesLsr, TakesMsr, Connects, ReadsDivisor, StoresInterrupts, Enables, Disables, Dumps};
@@ -15,7 +16,7 @@ use uart_spec::registers::{DLL, DLM, IER, ISR, LCR, LSR, MCR, MSR, SPR, offsets}
 impl<B: Backend> Uart16550<B> {
     /// Reads the interrupt enable register.
     pub fn ier(&mut self) -> IER
-        ensures { Made B.step (Only (Read 1 result.0 ∷ [])) self.old self.new }
+        ensures { Made B.step (Only (Read offsets.IER result.0 ∷ [])) self.old self.new }
     {
         IER::from_bits_retain(self.read_register(offsets::IER))
     }
@@ -24,21 +25,21 @@ impl<B: Backend> Uart16550<B> {
     ///
     /// A read that shows a THR-empty interrupt acknowledges it.
     pub fn isr(&mut self) -> ISR
-        ensures { Made B.step (Only (Read 2 result.0 ∷ [])) self.old self.new }
+        ensures { Made B.step (Only (Read offsets.ISR result.0 ∷ [])) self.old self.new }
     {
         ISR::from_bits_retain(self.read_register(offsets::ISR))
     }
 
     /// Reads the line control register.
     pub fn lcr(&mut self) -> LCR
-        ensures { Made B.step (Only (Read 3 result.0 ∷ [])) self.old self.new }
+        ensures { Made B.step (Only (Read offsets.LCR result.0 ∷ [])) self.old self.new }
     {
         LCR::from_bits_retain(self.read_register(offsets::LCR))
     }
 
     /// Reads the modem control register.
     pub fn mcr(&mut self) -> MCR
-        ensures { Made B.step (Only (Read 4 result.0 ∷ [])) self.old self.new }
+        ensures { Made B.step (Only (Read offsets.MCR result.0 ∷ [])) self.old self.new }
     {
         MCR::from_bits_retain(self.read_register(offsets::MCR))
     }
@@ -65,7 +66,7 @@ impl<B: Backend> Uart16550<B> {
 
     /// Reads the scratch register, which the chip leaves to its users.
     pub fn spr(&mut self) -> SPR
-        ensures { Made B.step (Only (Read 7 result ∷ [])) self.old self.new }
+        ensures { Made B.step (Only (Read offsets.SPR result ∷ [])) self.old self.new }
     {
         self.read_register(offsets::SPR)
     }

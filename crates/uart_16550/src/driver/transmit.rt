@@ -1,7 +1,8 @@
 //! Sending.
 ghost use Rattle.std.specs.Prelude.{◌≡◌, ◌<◌, ◌≤◌, length, take, IfErr, IfSome};
 ghost use Rattle.uart_16550.specs.Grammar.{Only, Asks};
-ghost use Rattle.uart_16550.specs.Transmit.{LinesAllow, ReadyToSend, data_writes, burst_size, Sends, WaitsToSend, SendsSome, SendsExact, Waits, TrySends};
+ghost use Rattle.uart_16550.specs.Transmit.{LinesAllow, ReadyToSend, data_writes, burst_size, Sends, WaitsToSend, SendsSome, SendsExact};
+ghost use Rattle.uart_16550.specs.Transmit.{WaitsFor, TrySends};
 ghost use Rattle.uart_16550.specs.Expansion.{SendsSingly};
 ghost use Rattle.uart_16550.specs.Driver.{Made, settings};
 
@@ -105,7 +106,7 @@ impl<B: Backend> Uart16550<B> {
         Ok(())
     }
 
-    // Waits until bytes may be written. The first look stands by itself, since it mostly hits.
+    // WaitsFor until bytes may be written. The first look stands by itself, since it mostly hits.
     #[inline(always)]
     fn wait_to_send(&mut self) -> bool
         ensures { Made B.step (WaitsToSend result) self.old self.new }
@@ -123,7 +124,7 @@ impl<B: Backend> Uart16550<B> {
         false
     }
 
-    // Waits until a burst was sent, and answers how many bytes it took.
+    // WaitsFor until a burst was sent, and answers how many bytes it took.
     pub(crate) fn send_some(&mut self, bytes: &[u8]) -> Option<usize>
         requires { 0 < length bytes.now }
         ensures made { Made B.step (SendsSome bytes.now result) self.old self.new }
@@ -220,7 +221,7 @@ impl<B: Backend> Uart16550<B> {
 
     // Looks at LSR until it shows these bits.
     pub(crate) fn wait_for(&mut self, bits: LSR) -> bool
-        ensures { Made B.step (Waits bits.0 result) self.old self.new }
+        ensures { Made B.step (WaitsFor bits.0 result) self.old self.new }
     {
         for _turn in 0..self.spin_limit.get() {
             if self.read_lsr().contains(bits) {

@@ -5,6 +5,7 @@ use crate::Uart16550;
 use crate::backend::Backend;
 use crate::spec::InvalidAddressError;
 use crate::spec::InvalidAddressError::{InvalidBaseAddress, InvalidStride};
+use crate::spec::registers::offsets;
 use std::collections::HashSet;
 use std::num::NonZeroUsize;
 use std::test::Fail;
@@ -62,7 +63,7 @@ fn new_mmio_ends_with_the_last_address(rt: HostRuntime) -> Result<(), Fail> {
     ] {
         let base = NonZeroUsize::new(last).ok_or("base 0")?;
         let mut uart = Uart16550::new_mmio(base, stride, Recorder::new(SILENT))?;
-        uart.backend_mut().read(7);
+        uart.backend_mut().read(offsets::SPR as u8);
         let accesses = [Read(usize::MAX, 0xff)];
         assert_eq!(rt;
             uart.backend().access.log.entries(),
@@ -85,8 +86,8 @@ fn new_mmio_ends_with_the_last_address(rt: HostRuntime) -> Result<(), Fail> {
 #[test]
 fn ports_are_reached_one_by_one(rt: HostRuntime) -> Result<(), Fail> {
     let mut uart = Uart16550::new_port(0x3f8, Recorder::new(SILENT))?;
-    uart.backend_mut().write(7, 0x5a);
-    uart.backend_mut().read(5);
+    uart.backend_mut().write(offsets::SPR as u8, 0x5a);
+    uart.backend_mut().read(offsets::LSR as u8);
     let accesses = [Write(0x3ff, 0x5a), Read(0x3fd, 0xff)];
     assert_eq!(rt;
         uart.backend().access.log.entries(),

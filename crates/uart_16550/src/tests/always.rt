@@ -11,7 +11,7 @@ use crate::spec::ByteSendError::NoCapacity;
 use crate::spec::InitError::DeviceNotPresent;
 use crate::spec::LoopbackError;
 use crate::spec::RemoteReadyToReceiveError::NoRemoteConnectedNoDSR;
-use crate::spec::registers::{FifoTriggerLevel, IER, ISR, LCR, LSR, MCR, MSR};
+use crate::spec::registers::{FifoTriggerLevel, IER, ISR, LCR, LSR, MCR, MSR, offsets};
 use crate::{ConfigRegisterDump, Uart16550Tty};
 use bitflags::Flags;
 use std::process::Abort;
@@ -51,48 +51,56 @@ fn shown(byte: u8) -> ConfigRegisterDump {
 // The seven registers after the divisor latch.
 fn all_read(accesses: Accesses, byte: u8) -> Accesses {
     let first = accesses
-        .read(1, byte)
-        .read(2, byte)
-        .read(3, byte)
-        .read(4, byte);
-    first.read(5, byte).read(6, byte).read(7, byte)
+        .read(offsets::IER, byte)
+        .read(offsets::ISR, byte)
+        .read(offsets::LCR, byte)
+        .read(offsets::MCR, byte);
+    first
+        .read(offsets::LSR, byte)
+        .read(offsets::MSR, byte)
+        .read(offsets::SPR, byte)
 }
 
 // The divisor latch, where LCR, DLL and DLM show this.
 fn latch_read(lcr: u8, under_dlab: u8, byte: u8) -> Accesses {
     list()
-        .read(3, lcr)
-        .write(3, under_dlab)
-        .read(0, byte)
-        .read(1, byte)
-        .write(3, lcr)
+        .read(offsets::LCR, lcr)
+        .write(offsets::LCR, under_dlab)
+        .read(offsets::DLL, byte)
+        .read(offsets::DLM, byte)
+        .write(offsets::LCR, lcr)
 }
 
 #[test]
 fn looks_at_ff(rt: HostRuntime) {
     let absent = list()
-        .read(7, 0xff)
-        .write(7, 0x42)
-        .read(7, 0xff)
-        .write(7, 0xff);
+        .read(offsets::SPR, 0xff)
+        .write(offsets::SPR, 0x42)
+        .read(offsets::SPR, 0xff)
+        .write(offsets::SPR, 0xff);
     noisy(&rt, Call::CheckPresent, Flag(false), absent);
-    noisy(&rt, Call::CheckConnected, Done, list().read(6, 0xff));
+    noisy(
+        &rt,
+        Call::CheckConnected,
+        Done,
+        list().read(offsets::MSR, 0xff),
+    );
     noisy(&rt, Call::ReadyToReceive, Done, list().look(0xff));
     noisy(&rt, Call::ReadyToSend, Done, list().look(0xff));
     noisy(&rt, Call::ReadReady, Flag(true), list().look(0xff));
     noisy(&rt, Call::WriteReady, Flag(true), list().look(0xff));
-    let enabled = list().read(1, 0xff).write(1, 0xff);
+    let enabled = list().read(offsets::IER, 0xff).write(offsets::IER, 0xff);
     noisy(&rt, Call::EnableInterrupts(IER::THR_EMPTY), Done, enabled);
-    let disabled = list().read(1, 0xff).write(1, 0xfd);
+    let disabled = list().read(offsets::IER, 0xff).write(offsets::IER, 0xfd);
     noisy(&rt, Call::DisableInterrupts(IER::THR_EMPTY), Done, disabled);
     for (call, offset) in [
-        (Call::Ier, 1),
-        (Call::Isr, 2),
-        (Call::Lcr, 3),
-        (Call::Mcr, 4),
-        (Call::Lsr, 5),
-        (Call::Msr, 6),
-        (Call::Spr, 7),
+        (Call::Ier, offsets::IER),
+        (Call::Isr, offsets::ISR),
+        (Call::Lcr, offsets::LCR),
+        (Call::Mcr, offsets::MCR),
+        (Call::Lsr, offsets::LSR),
+        (Call::Msr, offsets::MSR),
+        (Call::Spr, offsets::SPR),
     ] {
         noisy(&rt, call, Register(0xff), list().read(offset, 0xff));
     }
@@ -108,7 +116,7 @@ fn looks_at_ff(rt: HostRuntime) {
 
 #[test]
 fn bytes_over_ff(rt: HostRuntime) {
-    let byte = list().look(0xff).read(0, 0xff);
+    let byte = list().look(0xff).read(offsets::DATA, 0xff);
     let three = || list().then(&byte).then(&byte).then(&byte);
     noisy(
         &rt,
@@ -140,10 +148,10 @@ fn bytes_over_ff(rt: HostRuntime) {
     noisy(&rt, Call::WriteText("\n"), Done, line());
     noisy(&rt, Call::WriteStr("\n"), Done, line());
     let absent = list()
-        .read(7, 0xff)
-        .write(7, 0x42)
-        .read(7, 0xff)
-        .write(7, 0xff);
+        .read(offsets::SPR, 0xff)
+        .write(offsets::SPR, 0x42)
+        .read(offsets::SPR, 0xff)
+        .write(offsets::SPR, 0xff);
     noisy(
         &rt,
         DEFAULT_INIT,
@@ -156,7 +164,7 @@ fn bytes_over_ff(rt: HostRuntime) {
 fn what_ff_showed_is_saved(rt: HostRuntime) {
     // Three bytes in six accesses; then LSR is FF, also where it shows nothing itself any more.
     let mut terminal = Uart16550Tty::from_inner(impatient(Constant(0xff)));
-    let byte = list().look(0xff).read(0, 0xff);
+    let byte = list().look(0xff).read(offsets::DATA, 0xff);
     let three = || list().then(&byte).then(&byte).then(&byte);
     compare(&rt, &mut terminal, Call::ReceiveBytes(3), Count(3), three());
     compare(
@@ -181,16 +189,16 @@ fn what_ff_showed_is_saved(rt: HostRuntime) {
 #[test]
 fn looks_at_00(rt: HostRuntime) {
     let absent = list()
-        .read(7, 0x00)
-        .write(7, 0x42)
-        .read(7, 0x00)
-        .write(7, 0x00);
+        .read(offsets::SPR, 0x00)
+        .write(offsets::SPR, 0x42)
+        .read(offsets::SPR, 0x00)
+        .write(offsets::SPR, 0x00);
     silent(&rt, Call::CheckPresent, Flag(false), absent);
     silent(
         &rt,
         Call::CheckConnected,
         NotConnected(NoRemoteConnectedNoDSR),
-        list().read(6, 0x00),
+        list().read(offsets::MSR, 0x00),
     );
     silent(&rt, Call::ReadyToReceive, NoData, list().look(0x00));
     silent(
@@ -201,18 +209,18 @@ fn looks_at_00(rt: HostRuntime) {
     );
     silent(&rt, Call::ReadReady, Flag(false), list().look(0x00));
     silent(&rt, Call::WriteReady, Flag(false), list().look(0x00));
-    let enabled = list().read(1, 0x00).write(1, 0x02);
+    let enabled = list().read(offsets::IER, 0x00).write(offsets::IER, 0x02);
     silent(&rt, Call::EnableInterrupts(IER::THR_EMPTY), Done, enabled);
-    let disabled = list().read(1, 0x00).write(1, 0x00);
+    let disabled = list().read(offsets::IER, 0x00).write(offsets::IER, 0x00);
     silent(&rt, Call::DisableInterrupts(IER::THR_EMPTY), Done, disabled);
     for (call, offset) in [
-        (Call::Ier, 1),
-        (Call::Isr, 2),
-        (Call::Lcr, 3),
-        (Call::Mcr, 4),
-        (Call::Lsr, 5),
-        (Call::Msr, 6),
-        (Call::Spr, 7),
+        (Call::Ier, offsets::IER),
+        (Call::Isr, offsets::ISR),
+        (Call::Lcr, offsets::LCR),
+        (Call::Mcr, offsets::MCR),
+        (Call::Lsr, offsets::LSR),
+        (Call::Msr, offsets::MSR),
+        (Call::Spr, offsets::SPR),
     ] {
         silent(&rt, call, Register(0x00), list().read(offset, 0x00));
     }
@@ -246,17 +254,20 @@ fn bytes_over_00(rt: HostRuntime) {
     silent(&rt, Call::WriteText("\n"), Stalled(0), stalled());
     silent(&rt, Call::WriteStr("\n"), Answer::FormatError, stalled());
     let absent = list()
-        .read(7, 0x00)
-        .write(7, 0x42)
-        .read(7, 0x00)
-        .write(7, 0x00);
+        .read(offsets::SPR, 0x00)
+        .write(offsets::SPR, 0x42)
+        .read(offsets::SPR, 0x00)
+        .write(offsets::SPR, 0x00);
     silent(
         &rt,
         DEFAULT_INIT,
         Answer::InitRefused(DeviceNotPresent),
         absent,
     );
-    let unread = list().read(4, 0x00).read(1, 0x00).looks(3, 0x00);
+    let unread = list()
+        .read(offsets::MCR, 0x00)
+        .read(offsets::IER, 0x00)
+        .looks(3, 0x00);
     let refusal = Answer::LoopbackRefused(LoopbackError::Stalled);
     silent(&rt, Call::TestLoopback, refusal, unread);
 }
@@ -268,11 +279,16 @@ fn calls_over_the_register_file(rt: HostRuntime) {
         &rt,
         Call::CheckConnected,
         NotConnected(NoRemoteConnectedNoDSR),
-        list().read(6, 0x00),
+        list().read(offsets::MSR, 0x00),
     );
     filed(&rt, Call::ReadyToReceive, NoData, list().look(0x60));
     filed(&rt, Call::ReadyToSend, Done, list().look(0x60));
-    filed(&rt, Call::Isr, Register(0x01), list().read(2, 0x01));
+    filed(
+        &rt,
+        Call::Isr,
+        Register(0x01),
+        list().read(offsets::ISR, 0x01),
+    );
     filed(&rt, Call::Lsr, Register(0x60), list().look(0x60));
     filed(&rt, Call::TryReceiveByte, NoData, list().look(0x60));
     filed(
@@ -307,8 +323,15 @@ fn calls_over_the_register_file(rt: HostRuntime) {
     let latch = || latch_read(0x00, 0x80, 0x00);
     filed(&rt, Call::DllDlm, Latch(0x00, 0x00), latch());
     // FCR shows in ISR; there is no loopback, so the byte does not come back.
-    let read = list().read(4, 0x00).read(1, 0x00).look(0x60).read(6, 0x00);
-    let entered = read.write(1, 0x00).write(4, 0x10).fifo(0xc7, 0xc1);
+    let read = list()
+        .read(offsets::MCR, 0x00)
+        .read(offsets::IER, 0x00)
+        .look(0x60)
+        .read(offsets::MSR, 0x00);
+    let entered = read
+        .write(offsets::IER, 0x00)
+        .write(offsets::MCR, 0x10)
+        .fifo(0xc7, 0xc1);
     let awaited = entered.look(0x60).look(0x60).data(b"B").looks(3, 0x60);
     let refusal = Answer::LoopbackRefused(LoopbackError::Stalled);
     filed(
@@ -333,13 +356,13 @@ fn small_calls_over_the_register_file(rt: HostRuntime) {
         (
             Call::EnableInterrupts(IER::empty()),
             Done,
-            list().read(1, 0x00).write(1, 0x00),
+            list().read(offsets::IER, 0x00).write(offsets::IER, 0x00),
             2,
         ),
         (
             Call::DisableInterrupts(IER::empty()),
             Done,
-            list().read(1, 0x00).write(1, 0x00),
+            list().read(offsets::IER, 0x00).write(offsets::IER, 0x00),
             2,
         ),
         (Call::Lsr, Register(0x60), list().look(0x60), 1),

@@ -7,6 +7,7 @@ use super::driving::{Call, Left, NOTHING, UNTOUCHED, perform, read_back, receivi
 use super::lists::list;
 use crate::spec::ByteSendError::NoCapacity;
 use crate::spec::StalledError;
+use crate::spec::registers::offsets;
 
 // More than one burst of 16 bytes: that, and the rest.
 const LONG: &[u8] = b"hello, world! 123";
@@ -36,10 +37,17 @@ fn single_bytes(rt: HostRuntime) {
         NotSent(NoCapacity),
         list().look(0xdf),
     );
-    let clear = list().look(0x20).read(4, 0x0b).read(6, 0x10).data(b"a");
+    let clear = list()
+        .look(0x20)
+        .read(offsets::MCR, 0x0b)
+        .read(offsets::MSR, 0x10)
+        .data(b"a");
     row(&rt, Checking, &[0x20, 0x0b, 0x10], send, Done, clear);
     // It does not report that the remote is not clear to send.
-    let not_clear = list().look(0x20).read(4, 0x0b).read(6, 0x20);
+    let not_clear = list()
+        .look(0x20)
+        .read(offsets::MCR, 0x0b)
+        .read(offsets::MSR, 0x20);
     row(
         &rt,
         Checking,
@@ -113,7 +121,10 @@ fn send_bytes(rt: HostRuntime) {
         Count(1),
         list().burst(b"h"),
     );
-    let clear = list().look(0x20).read(4, 0x0b).read(6, 0x10);
+    let clear = list()
+        .look(0x20)
+        .read(offsets::MCR, 0x0b)
+        .read(offsets::MSR, 0x10);
     row(
         &rt,
         Checking,
@@ -122,7 +133,10 @@ fn send_bytes(rt: HostRuntime) {
         Count(2),
         clear.data(b"hi"),
     );
-    let clear = list().look(0x20).read(4, 0x0b).read(6, 0x10);
+    let clear = list()
+        .look(0x20)
+        .read(offsets::MCR, 0x0b)
+        .read(offsets::MSR, 0x10);
     row(
         &rt,
         CheckingNoFifo,
@@ -131,7 +145,10 @@ fn send_bytes(rt: HostRuntime) {
         Count(1),
         clear.data(b"h"),
     );
-    let not_clear = list().look(0x20).read(4, 0x0b).read(6, 0x20);
+    let not_clear = list()
+        .look(0x20)
+        .read(offsets::MCR, 0x0b)
+        .read(offsets::MSR, 0x20);
     row(
         &rt,
         Checking,
@@ -140,7 +157,7 @@ fn send_bytes(rt: HostRuntime) {
         Count(0),
         not_clear,
     );
-    let looping = list().look(0x20).read(4, 0x1b).data(b"hi");
+    let looping = list().look(0x20).read(offsets::MCR, 0x1b).data(b"hi");
     row(&rt, Checking, &[0x20, 0x1b], call(b"hi"), Count(2), looping);
 }
 
@@ -228,16 +245,22 @@ fn send_bytes_exact_that_checks_cts(rt: HostRuntime) {
     let none = list()
         .look(0x00)
         .look(0x20)
-        .read(4, 0x0b)
-        .read(6, 0x20)
+        .read(offsets::MCR, 0x0b)
+        .read(offsets::MSR, 0x20)
         .look(0x00);
     row(&rt, Checking, misses, call(LONG), Stalled(0), none);
     // One burst, and then the remote is not clear to send any more.
     let answers = &[
         0x20, 0x0b, 0x10, 0x20, 0x0b, 0x00, 0x20, 0x0b, 0x00, 0x20, 0x0b, 0x00,
     ];
-    let some = || list().look(0x20).read(4, 0x0b).read(6, 0x10);
-    let miss = list().look(0x20).read(4, 0x0b).read(6, 0x00);
+    let some = || list()
+        .look(0x20)
+        .read(offsets::MCR, 0x0b)
+        .read(offsets::MSR, 0x10);
+    let miss = list()
+        .look(0x20)
+        .read(offsets::MCR, 0x0b)
+        .read(offsets::MSR, 0x00);
     let burst = some().data(FIRST).then(&miss).then(&miss).then(&miss);
     row(&rt, Checking, answers, call(LONG), Stalled(16), burst);
     let byte = some().data(b"h").then(&miss).then(&miss).then(&miss);
@@ -319,12 +342,26 @@ fn write(rt: HostRuntime) {
         list().looks(3, 0x00),
     );
     let answers = &[0x20, 0x0b, 0x00, 0x20, 0x0b, 0x10];
-    let clear = list().look(0x20).read(4, 0x0b).read(6, 0x00);
-    let clear = clear.look(0x20).read(4, 0x0b).read(6, 0x10).data(b"hi");
+    let clear = list()
+        .look(0x20)
+        .read(offsets::MCR, 0x0b)
+        .read(offsets::MSR, 0x00);
+    let clear = clear
+        .look(0x20)
+        .read(offsets::MCR, 0x0b)
+        .read(offsets::MSR, 0x10)
+        .data(b"hi");
     row(&rt, Checking, answers, call(b"hi"), Count(2), clear);
     let answers = &[0x20, 0x0b, 0x00, 0x00, 0x20, 0x0b, 0x00];
-    let stalled = list().look(0x20).read(4, 0x0b).read(6, 0x00).look(0x00);
-    let stalled = stalled.look(0x20).read(4, 0x0b).read(6, 0x00);
+    let stalled = list()
+        .look(0x20)
+        .read(offsets::MCR, 0x0b)
+        .read(offsets::MSR, 0x00)
+        .look(0x00);
+    let stalled = stalled
+        .look(0x20)
+        .read(offsets::MCR, 0x0b)
+        .read(offsets::MSR, 0x00);
     row(&rt, Checking, answers, call(b"hi"), Stalled(0), stalled);
 }
 
@@ -394,12 +431,16 @@ fn texts_stall(rt: HostRuntime) {
         some(),
     );
     let answers = &[0x20, 0x0b, 0x10, 0x00, 0x20, 0x0b, 0x00, 0x00];
-    let checked = list().look(0x20).read(4, 0x0b).read(6, 0x10).data(b"a");
+    let checked = list()
+        .look(0x20)
+        .read(offsets::MCR, 0x0b)
+        .read(offsets::MSR, 0x10)
+        .data(b"a");
     let checked = checked
         .look(0x00)
         .look(0x20)
-        .read(4, 0x0b)
-        .read(6, 0x00)
+        .read(offsets::MCR, 0x0b)
+        .read(offsets::MSR, 0x00)
         .look(0x00);
     row(
         &rt,

@@ -2,7 +2,7 @@
 use super::devices::{RegisterFile, driver};
 use super::examples::Memory;
 use crate::backend::Backend;
-use crate::spec::registers::{IER, ISR, LCR, LSR, MCR, MSR};
+use crate::spec::registers::{IER, ISR, LCR, LSR, MCR, MSR, offsets};
 use crate::spec::{BaudRate, Config};
 use crate::{ConfigRegisterDump, Uart16550};
 use bitflags::Flags;
@@ -22,7 +22,7 @@ fn send_bytes_exact_sends_all(rt: HostRuntime) {
 #[test]
 fn registers_are_shown(rt: HostRuntime) {
     let mut uart = driver(RegisterFile::new(true));
-    uart.backend_mut().write(7, 0x5a);
+    uart.backend_mut().write(offsets::SPR as u8, 0x5a);
     assert!(rt; uart.check_present());
     assert_eq!(rt; uart.init(Config::DEFAULT), Ok(()));
     let shown = ConfigRegisterDump {

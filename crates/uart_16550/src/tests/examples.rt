@@ -1,6 +1,6 @@
 //! A device of each kind, and a driver for it.
 ghost use Rattle.std.specs.Prelude.{⊤, codes};
-ghost use Rattle.uart_16550.specs.Examples.{CellStep, Shows};
+ghost use Rattle.uart_16550.specs.Examples.{CellStep, ConsoleStep};
 ghost use Rattle.uart_16550.specs.Transmit.{SendsExact};
 ghost use Rattle.uart_16550.specs.Driver.{Made};
 
@@ -81,7 +81,7 @@ pub struct Console {
 
 impl Backend for Console {
     // LSR answers that the transmitter is idle, and what is written to DATA is shown.
-    ghost step = { λ old access new. Shows old.shown.items access new.shown.items };
+    ghost step = { λ old access new. ConsoleStep old.shown.items access new.shown.items };
 
     fn read(&mut self, register_offset: u8) -> u8 {
         match register_offset as usize {

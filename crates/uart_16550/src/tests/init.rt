@@ -8,7 +8,7 @@ use super::lists::{Accesses, list};
 use crate::spec::BaudRate::{Baud300, Baud9600, Baud38400, Custom};
 use crate::spec::InitError::{DeviceNotPresent, InvalidBaudRate, Stalled};
 use crate::spec::registers::FifoTriggerLevel::{Eight, Four, Fourteen, One};
-use crate::spec::registers::{IER, Parity, WordLength};
+use crate::spec::registers::{IER, Parity, WordLength, offsets};
 use crate::spec::{Config, InvalidDivisorError, NonIntegerDivisorError};
 use bitflags::Flags;
 
@@ -32,7 +32,7 @@ fn init_makes_its_list(rt: HostRuntime) {
     let answers = &[
         0xa5, 0x42, 0x73, 0xc1, 0x01, 0x55, 0x00, 0x22, 0x60, 0x1e, 0xc1, 0x0f,
     ];
-    let drained = begun(0xc1).hit(0x55).look(0x00).write(4, 0x0b);
+    let drained = begun(0xc1).hit(0x55).look(0x00).write(offsets::MCR, 0x0b);
     let all = drained.look(0x22).look(0x60).end(0x1e, 0xc1, 0x0f, 0x00);
     let mut terminal = row(&rt, New, answers, Init(Some(Fourteen), Baud9600), Done, all);
     assert_eq!(rt; read_back(&mut terminal, Listed(&[])), SET_UP);
@@ -48,7 +48,7 @@ fn init_with_each_level(rt: HostRuntime) {
             .fifo(control, 0xc1);
         let all = begun
             .look(0x00)
-            .write(4, 0x0b)
+            .write(offsets::MCR, 0x0b)
             .look(0x40)
             .end(0x00, 0x00, 0x00, 0x00);
         row(&rt, New, answers, Init(Some(level), Baud9600), Done, all);
@@ -65,7 +65,7 @@ fn init_takes_the_fifo_to_be_on_where_isr_shows_both_bits(rt: HostRuntime) {
     ] {
         let all = begun(isr)
             .look(0x00)
-            .write(4, 0x0b)
+            .write(offsets::MCR, 0x0b)
             .look(0x40)
             .end(0x00, 0x00, 0x00, 0x00);
         let terminal = row(&rt, New, answers, Init(Some(Fourteen), Baud9600), Done, all);
@@ -77,10 +77,13 @@ fn init_takes_the_fifo_to_be_on_where_isr_shows_both_bits(rt: HostRuntime) {
 fn init_without_level(rt: HostRuntime) {
     // ISR is not asked, whatever it would answer.
     let answers = &[0xa5, 0x42, 0x73, 0x00, 0x40, 0x00, 0xc1, 0x00];
-    let begun = list().present(0xa5).line(0x80, 0x01, 0x03).write(2, 0x06);
+    let begun = list()
+        .present(0xa5)
+        .line(0x80, 0x01, 0x03)
+        .write(offsets::FCR, 0x06);
     let all = begun
         .look(0x00)
-        .write(4, 0x0b)
+        .write(offsets::MCR, 0x0b)
         .look(0x40)
         .end(0x00, 0xc1, 0x00, 0x00);
     let mut terminal = row(&rt, New, answers, Init(None, Baud300), Done, all);
@@ -107,10 +110,13 @@ fn init_with_another_frame(rt: HostRuntime) {
         ..Config::DEFAULT
     };
     assert_eq!(rt; uart.init(config), Ok(()));
-    let begun = list().present(0xa5).line(0x03, 0x00, 0x1e).write(2, 0x06);
+    let begun = list()
+        .present(0xa5)
+        .line(0x03, 0x00, 0x1e)
+        .write(offsets::FCR, 0x06);
     let all = begun
         .look(0x00)
-        .write(4, 0x0b)
+        .write(offsets::MCR, 0x0b)
         .look(0x40)
         .end(0x00, 0x00, 0x00, 0x05);
     assert_eq!(rt; uart.backend().log.entries(), all.entries());
@@ -125,7 +131,9 @@ fn init_drains_17_bytes_at_the_most(rt: HostRuntime) {
         b'h', 0x01, b'i', 0x01, b'j', 0x01, b'k', 0x01, b'l', 0x01, b'm', 0x01, b'n', 0x01, b'o',
         0x01, b'p', 0x01, b'q', 0x41, 0x01,
     ];
-    let drained = begun(0xc1).hits(b"abcdefghijklmnopq").write(4, 0x0b);
+    let drained = begun(0xc1)
+        .hits(b"abcdefghijklmnopq")
+        .write(offsets::MCR, 0x0b);
     let all = drained.look(0x41).end(0x01, 0x00, 0x00, 0x00);
     row(&rt, New, answers, Init(Some(Fourteen), Baud9600), Done, all);
 }
@@ -160,8 +168,11 @@ fn init_finds_no_device(rt: HostRuntime) {
         ..NOTHING
     };
     let call = Init(None, Baud38400);
-    let looked = || list().look(0x02).read(7, 0xa5).write(7, 0x42);
-    let first = looked().read(7, 0xa5).write(7, 0xa5);
+    let looked = || list()
+        .look(0x02)
+        .read(offsets::SPR, 0xa5)
+        .write(offsets::SPR, 0x42);
+    let first = looked().read(offsets::SPR, 0xa5).write(offsets::SPR, 0xa5);
     let answers = &[0x02, 0xa5, 0xa5];
     let mut terminal = row(&rt, New, answers, ReadyToReceive, NoData, list().look(0x02));
     compare(
@@ -173,10 +184,10 @@ fn init_finds_no_device(rt: HostRuntime) {
     );
     assert_eq!(rt; read_back(&mut terminal, Listed(&[])), left());
     let second = looked()
-        .read(7, 0x42)
-        .write(7, 0x73)
-        .read(7, 0x42)
-        .write(7, 0xa5);
+        .read(offsets::SPR, 0x42)
+        .write(offsets::SPR, 0x73)
+        .read(offsets::SPR, 0x42)
+        .write(offsets::SPR, 0xa5);
     let answers = &[0x02, 0xa5, 0x42, 0x42];
     let mut terminal = row(&rt, New, answers, ReadyToReceive, NoData, list().look(0x02));
     compare(
@@ -212,7 +223,7 @@ fn init_stalls(rt: HostRuntime) {
     let answers = &[0xa5, 0x42, 0x73, 0xc1, 0x08, 0x02, 0x20, 0x04];
     let polled = begun(0xc1)
         .look(0x08)
-        .write(4, 0x0b)
+        .write(offsets::MCR, 0x0b)
         .look(0x02)
         .look(0x20)
         .look(0x04);
@@ -226,7 +237,7 @@ fn init_stalls(rt: HostRuntime) {
     // A device without FIFO; the other refusal leaves it with the configuration that was asked for.
     let call = Init(Some(Fourteen), Baud38400);
     let begun = list().present(0x00).line(0x03, 0x00, 0x03).fifo(0xc7, 0x00);
-    let polled = begun.look(0x00).write(4, 0x0b).looks(3, 0x00);
+    let polled = begun.look(0x00).write(offsets::MCR, 0x0b).looks(3, 0x00);
     let mut terminal = row(
         &rt,
         New,

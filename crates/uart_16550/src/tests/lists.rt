@@ -1,6 +1,7 @@
 //! Lists of accesses, as they are recorded, and as tables write them down.
 pub use crate::replay::Entry;
 use crate::replay::REPLAY_ROOM;
+use crate::spec::registers::offsets;
 use arrayvec::ArrayVec;
 
 /// A list of accesses, which knows whether it had room for all of them.
@@ -55,7 +56,7 @@ impl Accesses {
         let mut last = None;
         for entry in self.entries.as_slice() {
             if let Entry::Write(place, value) = *entry {
-                if place == 3 {
+                if place == offsets::LCR {
                     is_latch = value >= 0x80;
                 }
                 if place == offset && !(is_latch && place < 2) {
@@ -80,27 +81,27 @@ impl Accesses {
 
     /// One read of LSR.
     pub fn look(self, lsr: u8) -> Self {
-        self.read(5, lsr)
+        self.read(offsets::LSR, lsr)
     }
 
     /// So many reads of LSR, each with this answer.
     pub fn looks(mut self, count: usize, lsr: u8) -> Self {
         for _turn in 0..count {
-            self.push(Entry::Read(5, lsr));
+            self.push(Entry::Read(offsets::LSR, lsr));
         }
         self
     }
 
     /// A look that shows data, and the byte taken.
     pub fn hit(self, byte: u8) -> Self {
-        self.look(0x01).read(0, byte)
+        self.look(0x01).read(offsets::DATA, byte)
     }
 
     /// The same for each of the bytes.
     pub fn hits(mut self, bytes: &[u8]) -> Self {
         for &byte in bytes {
-            self.push(Entry::Read(5, 0x01));
-            self.push(Entry::Read(0, byte));
+            self.push(Entry::Read(offsets::LSR, 0x01));
+            self.push(Entry::Read(offsets::DATA, byte));
         }
         self
     }
@@ -108,7 +109,7 @@ impl Accesses {
     /// A write of each byte to DATA.
     pub fn data(mut self, bytes: &[u8]) -> Self {
         for &byte in bytes {
-            self.push(Entry::Write(0, byte));
+            self.push(Entry::Write(offsets::DATA, byte));
         }
         self
     }
@@ -166,41 +167,44 @@ impl Accesses {
 
     /// A presence check that finds a device, whose scratch register held this.
     pub fn present(self, old: u8) -> Self {
-        self.read(7, old)
-            .write(7, 0x42)
-            .read(7, 0x42)
-            .write(7, 0x73)
-            .read(7, 0x73)
-            .write(7, old)
+        self.read(offsets::SPR, old)
+            .write(offsets::SPR, 0x42)
+            .read(offsets::SPR, 0x42)
+            .write(offsets::SPR, 0x73)
+            .read(offsets::SPR, 0x73)
+            .write(offsets::SPR, old)
     }
 
     /// Interrupts off, the divisor latch set, and the frame.
     pub fn line(self, dll: u8, dlm: u8, frame: u8) -> Self {
-        self.write(3, 0x00)
-            .write(1, 0x00)
-            .write(3, 0x80)
-            .write(0, dll)
-            .write(1, dlm)
-            .write(3, 0x00)
-            .write(3, frame)
+        self.write(offsets::LCR, 0x00)
+            .write(offsets::IER, 0x00)
+            .write(offsets::LCR, 0x80)
+            .write(offsets::DLL, dll)
+            .write(offsets::DLM, dlm)
+            .write(offsets::LCR, 0x00)
+            .write(offsets::LCR, frame)
     }
 
     /// FCR written, and ISR read to see whether the FIFO is on.
     pub fn fifo(self, control: u8, isr: u8) -> Self {
-        self.write(2, control).read(2, isr)
+        self.write(offsets::FCR, control).read(offsets::ISR, isr)
     }
 
     /// The end of an initialisation: LSR, ISR and MSR read, and IER written.
     pub fn end(self, lsr: u8, isr: u8, msr: u8, ier: u8) -> Self {
-        self.read(5, lsr).read(2, isr).read(6, msr).write(1, ier)
+        self.read(offsets::LSR, lsr)
+            .read(offsets::ISR, isr)
+            .read(offsets::MSR, msr)
+            .write(offsets::IER, ier)
     }
 
     /// The end of a loopback test: MCR written without OUT_2, MSR read, MCR and IER written back.
     pub fn leave(self, mcr_without_out_2: u8, msr: u8, mcr: u8, ier: u8) -> Self {
-        self.write(4, mcr_without_out_2)
-            .read(6, msr)
-            .write(4, mcr)
-            .write(1, ier)
+        self.write(offsets::MCR, mcr_without_out_2)
+            .read(offsets::MSR, msr)
+            .write(offsets::MCR, mcr)
+            .write(offsets::IER, ier)
     }
 }
 

@@ -8,24 +8,24 @@ use crate::spec::ByteSendError::{NoCapacity, RemoteNotClearToSend};
 use crate::spec::RemoteReadyToReceiveError::{
     NoRemoteConnectedNoDSR as NoDsr, RemoteNotClearToSend as NoCts,
 };
-use crate::spec::registers::{IER, ISR, LCR, LSR, MCR, MSR};
+use crate::spec::registers::{IER, ISR, LCR, LSR, MCR, MSR, offsets};
 use bitflags::Flags;
 
 #[test]
 fn presence(rt: HostRuntime) {
     let kept = list().present(0xa5);
     let second_lost = list()
-        .read(7, 0xa5)
-        .write(7, 0x42)
-        .read(7, 0x42)
-        .write(7, 0x73)
-        .read(7, 0x72)
-        .write(7, 0xa5);
+        .read(offsets::SPR, 0xa5)
+        .write(offsets::SPR, 0x42)
+        .read(offsets::SPR, 0x42)
+        .write(offsets::SPR, 0x73)
+        .read(offsets::SPR, 0x72)
+        .write(offsets::SPR, 0xa5);
     let first_lost = list()
-        .read(7, 0xa5)
-        .write(7, 0x42)
-        .read(7, 0x73)
-        .write(7, 0xa5);
+        .read(offsets::SPR, 0xa5)
+        .write(offsets::SPR, 0x42)
+        .read(offsets::SPR, 0x73)
+        .write(offsets::SPR, 0xa5);
     let call = Call::CheckPresent;
     row(&rt, New, &[0xa5, 0x42, 0x73], call, Flag(true), kept);
     row(
@@ -42,14 +42,21 @@ fn presence(rt: HostRuntime) {
 #[test]
 fn connection(rt: HostRuntime) {
     let call = Call::CheckConnected;
-    row(&rt, New, &[0x30], call, Done, list().read(6, 0x30));
+    row(
+        &rt,
+        New,
+        &[0x30],
+        call,
+        Done,
+        list().read(offsets::MSR, 0x30),
+    );
     row(
         &rt,
         New,
         &[0x20],
         call,
         NotConnected(NoCts),
-        list().read(6, 0x20),
+        list().read(offsets::MSR, 0x20),
     );
     row(
         &rt,
@@ -57,7 +64,7 @@ fn connection(rt: HostRuntime) {
         &[0xdf],
         call,
         NotConnected(NoDsr),
-        list().read(6, 0xdf),
+        list().read(offsets::MSR, 0xdf),
     );
     row(
         &rt,
@@ -65,7 +72,7 @@ fn connection(rt: HostRuntime) {
         &[0x00],
         call,
         NotConnected(NoDsr),
-        list().read(6, 0x00),
+        list().read(offsets::MSR, 0x00),
     );
 }
 
@@ -93,7 +100,10 @@ fn looks_for_data_and_for_room(rt: HostRuntime) {
 #[test]
 fn looks_for_room_that_check_cts(rt: HostRuntime) {
     let (send, write) = (Call::ReadyToSend, Call::WriteReady);
-    let clear = || list().look(0x20).read(4, 0xef).read(6, 0x10);
+    let clear = || list()
+        .look(0x20)
+        .read(offsets::MCR, 0xef)
+        .read(offsets::MSR, 0x10);
     row(&rt, Checking, &[0x20, 0xef, 0x10], send, Done, clear());
     row(
         &rt,
@@ -103,7 +113,10 @@ fn looks_for_room_that_check_cts(rt: HostRuntime) {
         Flag(true),
         clear(),
     );
-    let not_clear = || list().look(0x20).read(4, 0xef).read(6, 0xef);
+    let not_clear = || list()
+        .look(0x20)
+        .read(offsets::MCR, 0xef)
+        .read(offsets::MSR, 0xef);
     let refusal = NotSent(RemoteNotClearToSend);
     row(
         &rt,
@@ -122,7 +135,7 @@ fn looks_for_room_that_check_cts(rt: HostRuntime) {
         not_clear(),
     );
     // In loopback the lines mean nothing.
-    let looping = || list().look(0x20).read(4, 0x10);
+    let looping = || list().look(0x20).read(offsets::MCR, 0x10);
     row(&rt, Checking, &[0x20, 0x10], send, Done, looping());
     row(&rt, Checking, &[0x20, 0x10], write, Flag(true), looping());
     // Without room they are not looked at.
@@ -147,11 +160,11 @@ fn looks_for_room_that_check_cts(rt: HostRuntime) {
 #[test]
 fn interrupts(rt: HostRuntime) {
     let call = Call::EnableInterrupts(IER::THR_EMPTY);
-    let enabled = list().read(1, 0xf1).write(1, 0xf3);
+    let enabled = list().read(offsets::IER, 0xf1).write(offsets::IER, 0xf3);
     let terminal = row(&rt, New, &[0xf1], call, Done, enabled);
     assert_eq!(rt; terminal.inner().config().interrupts.bits(), 0xf3);
     let call = Call::DisableInterrupts(IER::DATA_READY);
-    let disabled = list().read(1, 0xf3).write(1, 0xf2);
+    let disabled = list().read(offsets::IER, 0xf3).write(offsets::IER, 0xf2);
     let terminal = row(&rt, New, &[0xf3], call, Done, disabled);
     assert_eq!(rt; terminal.inner().config().interrupts.bits(), 0xf2);
 }
@@ -177,11 +190,11 @@ fn registers(rt: HostRuntime) {
         );
     }
     let latch = list()
-        .read(3, 0x1b)
-        .write(3, 0x9b)
-        .read(0, 0x80)
-        .read(1, 0x01)
-        .write(3, 0x1b);
+        .read(offsets::LCR, 0x1b)
+        .write(offsets::LCR, 0x9b)
+        .read(offsets::DLL, 0x80)
+        .read(offsets::DLM, 0x01)
+        .write(offsets::LCR, 0x1b);
     row(
         &rt,
         New,
@@ -201,12 +214,15 @@ fn statuses_are_joined_with_what_was_saved(rt: HostRuntime) {
     compare(&rt, &mut terminal, Call::Lsr, Register(0x7e), once);
     let twice = list().look(0xfe).look(0x60).look(0x60);
     compare(&rt, &mut terminal, Call::Lsr, Register(0x60), twice);
-    let looked = list().read(6, 0xff);
+    let looked = list().read(offsets::MSR, 0xff);
     let answers = &[0xff, 0x30, 0x30];
     let mut terminal = row(&rt, New, answers, Call::CheckConnected, Done, looked);
-    let once = list().read(6, 0xff).read(6, 0x30);
+    let once = list().read(offsets::MSR, 0xff).read(offsets::MSR, 0x30);
     compare(&rt, &mut terminal, Call::Msr, Register(0x3f), once);
-    let twice = list().read(6, 0xff).read(6, 0x30).read(6, 0x30);
+    let twice = list()
+        .read(offsets::MSR, 0xff)
+        .read(offsets::MSR, 0x30)
+        .read(offsets::MSR, 0x30);
     compare(&rt, &mut terminal, Call::Msr, Register(0x30), twice);
 }
 
@@ -226,18 +242,18 @@ fn a_dump_shows_what_was_saved_and_keeps_it(rt: HostRuntime) {
     let dumped = || {
         list()
             .look(0xfe)
-            .read(3, 0x03)
-            .write(3, 0x83)
-            .read(0, 0x0c)
-            .read(1, 0x01)
-            .write(3, 0x03)
-            .read(1, 0x05)
-            .read(2, 0xc1)
-            .read(3, 0x03)
-            .read(4, 0x0b)
-            .read(5, 0x60)
-            .read(6, 0x31)
-            .read(7, 0xa5)
+            .read(offsets::LCR, 0x03)
+            .write(offsets::LCR, 0x83)
+            .read(offsets::DLL, 0x0c)
+            .read(offsets::DLM, 0x01)
+            .write(offsets::LCR, 0x03)
+            .read(offsets::IER, 0x05)
+            .read(offsets::ISR, 0xc1)
+            .read(offsets::LCR, 0x03)
+            .read(offsets::MCR, 0x0b)
+            .read(offsets::LSR, 0x60)
+            .read(offsets::MSR, 0x31)
+            .read(offsets::SPR, 0xa5)
     };
     let shown = ConfigRegisterDump {
         ier: IER::from_bits_retain(0x05),
@@ -264,6 +280,6 @@ fn a_dump_shows_what_was_saved_and_keeps_it(rt: HostRuntime) {
         Register(0x7e),
         dumped().look(0x60),
     );
-    let all = dumped().look(0x60).read(6, 0x30);
+    let all = dumped().look(0x60).read(offsets::MSR, 0x30);
     compare(&rt, &mut terminal, Call::Msr, Register(0x31), all);
 }

@@ -10,6 +10,7 @@ use crate::spec::ByteSendError::NoCapacity;
 use crate::spec::LoopbackError::{
     self, SendError, Stalled, UnexpectedLoopbackByte, UnexpectedLoopbackMsg,
 };
+use crate::spec::registers::offsets;
 
 const MESSAGE: &[u8; 16] = b"hello world!1337";
 
@@ -29,8 +30,14 @@ const WITHOUT_FIFO: Left = Left {
 
 // From the first access to the FIFO step, where the transmitter is empty at once.
 fn entered(isr: u8) -> Accesses {
-    let read = list().read(4, 0x0b).read(1, 0x05).look(0x40).read(6, 0xd0);
-    read.write(1, 0x00).write(4, 0x10).fifo(0xc7, isr)
+    let read = list()
+        .read(offsets::MCR, 0x0b)
+        .read(offsets::IER, 0x05)
+        .look(0x40)
+        .read(offsets::MSR, 0xd0);
+    read.write(offsets::IER, 0x00)
+        .write(offsets::MCR, 0x10)
+        .fifo(0xc7, isr)
 }
 
 // The same, and nothing to be drained, and the test byte back at once.
@@ -74,13 +81,16 @@ fn the_test_succeeds_with_fifo(rt: HostRuntime) {
         0x01, b'7', 0x13,
     ];
     let begun = list()
-        .read(4, 0x0b)
-        .read(1, 0x05)
+        .read(offsets::MCR, 0x0b)
+        .read(offsets::IER, 0x05)
         .look(0x02)
         .look(0x40)
-        .read(6, 0xd0);
-    let entered = begun.write(1, 0x00).write(4, 0x10).fifo(0xc7, 0xc1);
-    let drained = entered.look(0x09).read(0, 0x55).look(0x00);
+        .read(offsets::MSR, 0xd0);
+    let entered = begun
+        .write(offsets::IER, 0x00)
+        .write(offsets::MCR, 0x10)
+        .fifo(0xc7, 0xc1);
+    let drained = entered.look(0x09).read(offsets::DATA, 0x55).look(0x00);
     let byte = drained.burst(b"B").look(0x00).hit(b'B');
     let message = byte.look(0x00).burst(MESSAGE).looks(2, 0x00).hits(MESSAGE);
     let mut terminal = row(&rt, New, answers, TestLoopback, Done, left(message));
@@ -113,11 +123,15 @@ fn the_test_of_a_driver_without_level_asks_isr_nothing(rt: HostRuntime) {
         0x0b, 0x05, 0x40, 0xd0, 0x00, 0x20, 0x01, b'B', 0x20, 0x01, b'H', 0x20, 0x00, 0x00, 0x00,
         0x13,
     ];
-    let begun = list().read(4, 0x0b).read(1, 0x05).look(0x40).read(6, 0xd0);
+    let begun = list()
+        .read(offsets::MCR, 0x0b)
+        .read(offsets::IER, 0x05)
+        .look(0x40)
+        .read(offsets::MSR, 0xd0);
     let entered = begun
-        .write(1, 0x00)
-        .write(4, 0x10)
-        .write(2, 0x06)
+        .write(offsets::IER, 0x00)
+        .write(offsets::MCR, 0x10)
+        .write(offsets::FCR, 0x06)
         .look(0x00);
     let byte = entered.burst(b"B").hit(b'B').burst(b"h").hit(b'H');
     let stalled = left(byte.burst(b"e").looks(3, 0x00));
@@ -135,8 +149,8 @@ fn the_test_of_a_driver_without_level_asks_isr_nothing(rt: HostRuntime) {
 fn the_first_wait_stalls(rt: HostRuntime) {
     // Nothing was written, and what the polls saw is saved.
     let polled = list()
-        .read(4, 0x0b)
-        .read(1, 0x05)
+        .read(offsets::MCR, 0x0b)
+        .read(offsets::IER, 0x05)
         .look(0x02)
         .look(0x30)
         .look(0x04);
@@ -199,8 +213,8 @@ fn the_test_byte_is_refused_where_cts_is_checked(rt: HostRuntime) {
     let checked = entered(0xc1)
         .look(0x00)
         .look(0x20)
-        .read(4, 0x0b)
-        .read(6, 0x01);
+        .read(offsets::MCR, 0x0b)
+        .read(offsets::MSR, 0x01);
     let refusal = LoopbackRefused(SendError(NoCapacity));
     let mut terminal = row(&rt, Checking, answers, TestLoopback, refusal, left(checked));
     let state = Left {
@@ -217,10 +231,14 @@ fn the_test_byte_is_refused_where_cts_is_checked(rt: HostRuntime) {
     let byte = entered(0xc1)
         .look(0x00)
         .look(0x20)
-        .read(4, 0x10)
+        .read(offsets::MCR, 0x10)
         .data(b"B")
         .hit(b'B');
-    let message = byte.look(0x20).read(4, 0x10).data(MESSAGE).looks(3, 0x00);
+    let message = byte
+        .look(0x20)
+        .read(offsets::MCR, 0x10)
+        .data(MESSAGE)
+        .looks(3, 0x00);
     let refusal = LoopbackRefused(Stalled);
     let mut terminal = row(&rt, Checking, answers, TestLoopback, refusal, left(message));
     let state = Left {
@@ -319,9 +337,16 @@ fn another_message_comes_back(rt: HostRuntime) {
 fn worked_rows(rt: HostRuntime) {
     // FF always: 18 accesses.
     let mut terminal = Uart16550Tty::from_inner(impatient(Constant(0xff)));
-    let read = list().read(4, 0xff).read(1, 0xff).look(0xff).read(6, 0xff);
-    let entered = read.write(1, 0x00).write(4, 0x10).fifo(0xc7, 0xff);
-    let turn = list().look(0xff).read(0, 0xff);
+    let read = list()
+        .read(offsets::MCR, 0xff)
+        .read(offsets::IER, 0xff)
+        .look(0xff)
+        .read(offsets::MSR, 0xff);
+    let entered = read
+        .write(offsets::IER, 0x00)
+        .write(offsets::MCR, 0x10)
+        .fifo(0xc7, 0xff);
+    let turn = list().look(0xff).read(offsets::DATA, 0xff);
     let drained = entered.then(&turn).then(&turn).then(&turn);
     let all = drained.leave(0xf7, 0xff, 0xff, 0xff);
     assert_eq!(rt; all.count(), 18);
@@ -343,8 +368,15 @@ fn worked_rows(rt: HostRuntime) {
     assert_eq!(rt; read_back(&mut terminal, Constant(0x00)), state);
     // 00 00 40 00 01 00 20 01 43: 17 accesses.
     let answers = &[0x00, 0x00, 0x40, 0x00, 0x01, 0x00, 0x20, 0x01, 0x43];
-    let read = list().read(4, 0x00).read(1, 0x00).look(0x40).read(6, 0x00);
-    let entered = read.write(1, 0x00).write(4, 0x10).fifo(0xc7, 0x01);
+    let read = list()
+        .read(offsets::MCR, 0x00)
+        .read(offsets::IER, 0x00)
+        .look(0x40)
+        .read(offsets::MSR, 0x00);
+    let entered = read
+        .write(offsets::IER, 0x00)
+        .write(offsets::MCR, 0x10)
+        .fifo(0xc7, 0x01);
     let all = entered
         .look(0x00)
         .burst(b"B")

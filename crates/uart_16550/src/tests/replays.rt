@@ -4,6 +4,7 @@
 
 ghost use Rattle.std.specs.Prelude.{◌≡◌, [], ◌∷◌, length, take};
 ghost use Rattle.uart_spec.specs.Config.{IsComputable};
+ghost use Rattle.uart_spec.specs.declared.registers.offsets.TheConstants as offsets;
 ghost use Rattle.uart_spec.specs.Access.{Read};
 ghost use Rattle.uart_16550.specs.Grammar.{Only};
 ghost use Rattle.uart_16550.specs.Driver.{Saving};
@@ -19,7 +20,7 @@ ghost use Rattle.uart_16550.specs.Replay.{Replayed};
 
 use crate::embedded_io::{Read, ReadReady, Write, WriteReady};
 use crate::replay::{Entry, Replay};
-use crate::spec::registers::{DLL, DLM, IER, ISR, LCR, LSR, MCR, MSR, SPR};
+use crate::spec::registers::{DLL, DLM, IER, ISR, LCR, LSR, MCR, MSR, SPR, offsets};
 use crate::spec::{
     ByteReceiveError, ByteSendError, Config, InitError, LoopbackError, RemoteReadyToReceiveError,
     StalledError,
@@ -118,25 +119,25 @@ fn disable_interrupts(uart: &mut Uart16550<Replay<'_>>, interrupts: IER)
 }
 
 fn ier(uart: &mut Uart16550<Replay<'_>>) -> IER
-    ensures { Replayed (Saving (Only (Read 1 result.0 ∷ []))) uart.old uart.new }
+    ensures { Replayed (Saving (Only (Read offsets.IER result.0 ∷ []))) uart.old uart.new }
 {
     uart.ier()
 }
 
 fn isr(uart: &mut Uart16550<Replay<'_>>) -> ISR
-    ensures { Replayed (Saving (Only (Read 2 result.0 ∷ []))) uart.old uart.new }
+    ensures { Replayed (Saving (Only (Read offsets.ISR result.0 ∷ []))) uart.old uart.new }
 {
     uart.isr()
 }
 
 fn lcr(uart: &mut Uart16550<Replay<'_>>) -> LCR
-    ensures { Replayed (Saving (Only (Read 3 result.0 ∷ []))) uart.old uart.new }
+    ensures { Replayed (Saving (Only (Read offsets.LCR result.0 ∷ []))) uart.old uart.new }
 {
     uart.lcr()
 }
 
 fn mcr(uart: &mut Uart16550<Replay<'_>>) -> MCR
-    ensures { Replayed (Saving (Only (Read 4 result.0 ∷ []))) uart.old uart.new }
+    ensures { Replayed (Saving (Only (Read offsets.MCR result.0 ∷ []))) uart.old uart.new }
 {
     uart.mcr()
 }
@@ -154,7 +155,7 @@ fn msr(uart: &mut Uart16550<Replay<'_>>) -> MSR
 }
 
 fn spr(uart: &mut Uart16550<Replay<'_>>) -> SPR
-    ensures { Replayed (Saving (Only (Read 7 result ∷ []))) uart.old uart.new }
+    ensures { Replayed (Saving (Only (Read offsets.SPR result ∷ []))) uart.old uart.new }
 {
     uart.spr()
 }
@@ -226,10 +227,10 @@ fn a_replay_shows_what_a_call_does(rt: HostRuntime) {
     let mut uart = Uart16550::new_with_backend(Replay::new(&[0x00, 0x20]));
     assert_eq!(rt; send_bytes_exact(&mut uart, b"hi"), Ok(()));
     let accesses = [
-        Entry::Read(5, 0x00),
-        Entry::Read(5, 0x20),
-        Entry::Write(0, b'h'),
-        Entry::Write(0, b'i'),
+        Entry::Read(offsets::LSR, 0x00),
+        Entry::Read(offsets::LSR, 0x20),
+        Entry::Write(offsets::DATA, b'h'),
+        Entry::Write(offsets::DATA, b'i'),
     ];
     assert_eq!(rt; uart.backend().accesses(), Some(accesses.as_slice()));
 }

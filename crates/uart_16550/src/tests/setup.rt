@@ -5,6 +5,7 @@ use super::devices::{Constant, Listed, Recorder};
 use super::lists::{Accesses, Entry, list};
 use crate::backend::Backend;
 use crate::spec::Uart16550TtyError::{AddressError, InitError, TestError};
+use crate::spec::registers::offsets;
 use crate::spec::{
     BaudRate, Config, InitError as Refusal, InvalidAddressError, InvalidDivisorError,
     LoopbackError, Uart16550TtyError,
@@ -29,7 +30,7 @@ fn initialised() -> Accesses {
     let begun = list().present(0xa5).line(0x0c, 0x00, 0x03).fifo(0xc7, 0xc1);
     begun
         .look(0x00)
-        .write(4, 0x0b)
+        .write(offsets::MCR, 0x0b)
         .look(0x40)
         .end(0x00, 0x00, 0x00, 0x00)
 }
@@ -37,11 +38,14 @@ fn initialised() -> Accesses {
 // Those of the test after it, up to the test byte.
 fn looping() -> Accesses {
     let read = initialised()
-        .read(4, 0x0b)
-        .read(1, 0x00)
+        .read(offsets::MCR, 0x0b)
+        .read(offsets::IER, 0x00)
         .look(0x40)
-        .read(6, 0x00);
-    let entered = read.write(1, 0x00).write(4, 0x10).fifo(0xc7, 0xc1);
+        .read(offsets::MSR, 0x00);
+    let entered = read
+        .write(offsets::IER, 0x00)
+        .write(offsets::MCR, 0x10)
+        .fifo(0xc7, 0xc1);
     entered.look(0x00).burst(b"B")
 }
 
@@ -119,10 +123,10 @@ fn terminals_are_refused_by_init(rt: HostRuntime) {
     let (cause, accesses) = refusal(&[0xa5, 0xa5], Config::DEFAULT);
     assert_eq!(rt; cause, Some(InitError(Refusal::DeviceNotPresent)));
     let absent = list()
-        .read(7, 0xa5)
-        .write(7, 0x42)
-        .read(7, 0xa5)
-        .write(7, 0xa5);
+        .read(offsets::SPR, 0xa5)
+        .write(offsets::SPR, 0x42)
+        .read(offsets::SPR, 0xa5)
+        .write(offsets::SPR, 0xa5);
     assert_eq!(rt; accesses.entries(), absent.entries());
     let config = Config {
         baud_rate: BaudRate::Custom(1),

@@ -36,6 +36,11 @@ impl FCR {
     /// Bit 1 of the receiver trigger level.
     pub const RX_FIFO_TRIGGER_LEVEL1: FCR = FCR(1 << 7);
 
+    /// The field of the trigger level.
+    pub const RX_FIFO_TRIGGER_LEVEL: FCR = FCR(
+        FCR::RX_FIFO_TRIGGER_LEVEL0.0 | FCR::RX_FIFO_TRIGGER_LEVEL1.0,
+    );
+
     const FLAGS: &'static [Flag<FCR>] = &[
         Flag {
             name: "FIFO_ENABLE",

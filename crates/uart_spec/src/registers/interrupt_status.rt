@@ -38,6 +38,9 @@ impl ISR {
     /// not work.
     pub const FIFOS_ENABLED1: ISR = ISR(1 << 7);
 
+    /// Both bits that show that the FIFOs are on.
+    pub const FIFOS_ENABLED: ISR = ISR(ISR::FIFOS_ENABLED0.0 | ISR::FIFOS_ENABLED1.0);
+
     const FLAGS: &'static [Flag<ISR>] = &[
         Flag {
             name: "INTERRUPT_STATUS",
@@ -82,16 +85,16 @@ impl ISR {
 
     /// Whether an interrupt is pending.
     pub fn has_pending_interrupt(self) -> bool
-        ensures { result ≡ not (has self.0 1) }
+        ensures { result ≡ not (has self.0 ISR.INTERRUPT_STATUS.0) }
     {
         !self.contains(ISR::INTERRUPT_STATUS)
     }
 
     /// Whether the FIFOs are on and work.
     pub fn fifo_enabled(self) -> bool
-        ensures { result ≡ has self.0 192 }
+        ensures { result ≡ has self.0 ISR.FIFOS_ENABLED.0 }
     {
-        self.contains(ISR::FIFOS_ENABLED0.union(ISR::FIFOS_ENABLED1))
+        self.contains(ISR::FIFOS_ENABLED)
     }
 }
 

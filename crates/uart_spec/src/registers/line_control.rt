@@ -36,6 +36,9 @@ impl LCR {
     /// Divisor latch access bit: while it is set, offsets 0 and 1 are DLL and DLM.
     pub const DLAB: LCR = LCR(1 << 7);
 
+    /// The field of the word length.
+    pub const WORD_LENGTH: LCR = LCR(LCR::WORD_LENGTH0.0 | LCR::WORD_LENGTH1.0);
+
     const FLAGS: &'static [Flag<LCR>] = &[
         Flag {
             name: "WORD_LENGTH0",

@@ -33,6 +33,17 @@ impl LSR {
     /// Some character in the receiver FIFO has a parity error, a framing error or a break. Clear without FIFOs.
     pub const FIFO_DATA_ERROR: LSR = LSR(1 << 7);
 
+    /// The errors of the character in front: parity, framing and break.
+    pub const CHARACTER_ERRORS: LSR = LSR(
+        LSR::PARITY_ERROR.0 | LSR::FRAMING_ERROR.0 | LSR::BREAK_INTERRUPT.0,
+    );
+
+    /// The errors that a read clears: overrun, and those of the character in front.
+    pub const LINE_ERRORS: LSR = LSR(LSR::OVERRUN_ERROR.0 | LSR::CHARACTER_ERRORS.0);
+
+    /// Every bit that shows an error.
+    pub const ERRORS: LSR = LSR(LSR::LINE_ERRORS.0 | LSR::FIFO_DATA_ERROR.0);
+
     const FLAGS: &'static [Flag<LSR>] = &[
         Flag {
             name: "DATA_READY",
@@ -71,9 +82,9 @@ impl LSR {
     /// Whether an error is shown: an overrun, a parity error, a framing error or a break of the character in front, or an
     /// error of any character in the receiver FIFO.
     pub fn has_error(self) -> bool
-        ensures { result ≡ has_any self.0 0x9E }
+        ensures { result ≡ has_any self.0 LSR.ERRORS.0 }
     {
-        self.0 & 0b1001_1110 != 0
+        self.0 & LSR::ERRORS.0 != 0
     }
 }
 

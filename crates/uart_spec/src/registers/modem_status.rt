@@ -32,6 +32,14 @@ impl MSR {
     /// Carrier detect. Many cables do not drive this line.
     pub const CD: MSR = MSR(1 << 7);
 
+    /// The four changes, which a read clears.
+    pub const CHANGES: MSR = MSR(
+        MSR::DELTA_CTS.0 | MSR::DELTA_DSR.0 | MSR::TRAILING_EDGE_RI.0 | MSR::DELTA_CD.0,
+    );
+
+    /// The four lines.
+    pub const LINES: MSR = MSR(MSR::CTS.0 | MSR::DSR.0 | MSR::RI.0 | MSR::CD.0);
+
     const FLAGS: &'static [Flag<MSR>] = &[
         Flag {
             name: "DELTA_CTS",

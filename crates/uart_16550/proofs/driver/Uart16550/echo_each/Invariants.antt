@@ -9,6 +9,6 @@ invariant-loop-i g l = record {
   pairs : List (ℕ × ℕ);
   sent : map (λ pair. pair.0) pairs ≡ take l.i test_message;
   got : map (λ pair. pair.1) pairs ≡ take l.i l.actual;
-  slots : length l.actual ≡ 16;
+  slots : length l.actual ≡ length test_message;
   made : Made g.B.Backend.step (InOrder Echo pairs) l.fn.self l.self;
 }

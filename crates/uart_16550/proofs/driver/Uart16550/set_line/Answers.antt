@@ -1,10 +1,11 @@
 use Rattle.std.proofs.Common.{◌≡◌}
+use Rattle.uart_spec.specs.declared.registers.line_control.TheConstants.LCR
 use Rattle.uart_16550.proofs.Making.{made_among, made_only}
 use Rattle.uart_16550.proofs.driver.Uart16550.set_line.Goals as goal
 
 pub returns : goal.returns
 returns g c =
-    let dlab : c.bits.result ≡ 128 = c.bits.ensures tt in
+    let dlab : c.bits.result ≡ LCR.DLAB.0 = c.bits.ensures tt in
     let frame : c.bits-2.result ≡ c.args.frame.0 = c.bits-2.ensures tt in
     made_among (λ l t. record { is = rw (dlab, frame) at t.is })
     (made_only _ _ (made_only _ _ (made_only _ _ (made_only _ _ (made_only _ _ (made_only _ _
