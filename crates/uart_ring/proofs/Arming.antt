@@ -1,5 +1,7 @@
 -- That ring calls leave the THR-empty interrupt armed.
-use Rattle.std.proofs.Common.{◌≡◌, ◌<◌, ◌==◌, ◌||◌, ◌&&◌, ◌⊎◌, ⊤, ℕ, zero, suc, Bool, true, false, not, min, MatchBool, if◌then◌else◌, List, [], ◌∷◌, ◌++◌, length, take, drop, length-take, length-drop, append-nil, refl, arith, sym, ◌∙◌, ap, inl, inr, Option, Some, None, bit_and, bit_or}
+use Rattle.std.proofs.Common.{◌≡◌, ◌<◌, ◌==◌, ◌||◌, ◌&&◌, ◌⊎◌, ⊤, ℕ, zero, suc, Bool, true, false, not, min, MatchBool, if◌then◌else◌, List}
+use Rattle.std.proofs.Common.{[], ◌∷◌, ◌++◌, length, take, drop, length-take, length-drop, append-nil, refl, arith, sym, ◌∙◌, ap, inl, inr}
+use Rattle.std.proofs.Common.{Option, Some, None, bit_and, bit_or}
 use Rattle.std.proofs.lemmas.Bool.{false≢true}
 use Rattle.std.proofs.lemmas.Bool.Decides.{nat_tests}
 use Rattle.std.proofs.lemmas.Nat.Bits.{same_from_bits, bit_at_or, bit_at_and}
@@ -12,7 +14,15 @@ use Rattle.uart_spec.specs.declared.baud.TheConstants.{FIFO_SIZE}
 use Rattle.uart_spec.specs.declared.errors.ByteSendError.TheVariants.{NoCapacity, RemoteNotClearToSend}
 use Rattle.uart_spec.specs.declared.registers.interrupt_enable.TheConstants.IER
 use Rattle.uart_spec.specs.declared.registers.interrupt_type.InterruptType.{InterruptType}
-use Rattle.uart_spec.specs.declared.registers.interrupt_type.InterruptType.TheVariants.{ReceiverLineStatus, ReceivedDataReady, ReceptionTimeout, TransmitterHoldingRegisterEmpty, ModemStatus, DmaReceptionEndOfTransfer, DmaTransmissionEndOfTransfer}
+use Rattle.uart_spec.specs.declared.registers.interrupt_type.InterruptType.TheVariants.{
+  ReceiverLineStatus,
+  ReceivedDataReady,
+  ReceptionTimeout,
+  TransmitterHoldingRegisterEmpty,
+  ModemStatus,
+  DmaReceptionEndOfTransfer,
+  DmaTransmissionEndOfTransfer,
+}
 use Rattle.uart_spec.specs.declared.registers.line_status.TheConstants.LSR
 use Rattle.uart_spec.specs.declared.registers.offsets.TheConstants as offsets
 use Rattle.uart_16550.specs.Grammar.{Settings, Only, Then, Asks, InOrder}
@@ -20,12 +30,15 @@ use Rattle.uart_16550.specs.Driver.{Fields, Saving, settings_of}
 use Rattle.uart_16550.specs.Receive.{Receives, Hit}
 use Rattle.uart_16550.specs.Transmit.{Sends, SendHit, SendMiss, LinesAllow, burst_limit, data_writes}
 use Rattle.uart_16550.specs.Status.{Enables, Disables}
-use Rattle.uart_ring.specs.Ring.{RingFields, OnDriver, Stays, RingNext, RingTimes, IfAny, with_queued, with_paused, without_taken, unchanged, free, is_full}
+use Rattle.uart_ring.specs.Ring.{RingFields, OnDriver, Stays, RingNext, RingTimes, IfAny, with_queued, with_paused, without_taken}
+use Rattle.uart_ring.specs.Ring.{unchanged, free, is_full}
 use Rattle.uart_ring.specs.Transmit.{ArmsIfLeft, Pumps, Queues}
 use Rattle.uart_ring.specs.Receive.{PausesIfFull, FillsReceiveRing, EndsPause, Takes}
 use Rattle.uart_ring.specs.Status.{NotesLine, NotesModem, TakesLine, TakesModem}
 use Rattle.uart_ring.specs.Service.{ShowsInterrupt, Serves, ServesOne, Services}
-use Rattle.uart_ring.specs.Armed.{ThrEmpty, shows_thr_empty, due_after_read, after_access, after_accesses, KeepsIer, IsArmed, LeavesArmed, Arms}
+use Rattle.uart_ring.specs.Conserved.{Implies}
+use Rattle.uart_ring.specs.Armed.{ThrEmpty, shows_thr_empty, due_after_read, after_access, after_accesses, KeepsIer, IsArmed, LeavesArmed}
+use Rattle.uart_ring.specs.Armed.{Arms}
 use Rattle.uart_ring.proofs.Conserving.{Carries, received_carries, shows_carry, serves_one_carries, times_carry}
 
 -- ---- bits of IER
@@ -39,14 +52,25 @@ kept_joined : (ier : ℕ) → has (bit_or ier IER.DATA_READY.0) IER.THR_EMPTY.0 
 kept_joined ier = ap (λ n. n == 2) (spread ∙ or_zero_r (bit_and ier 2))
   where
     spread : bit_and (bit_or ier 1) 2 ≡ bit_or (bit_and ier 2) (bit_and 1 2)
-    spread = same_from_bits _ _ (λ i. rw (bit_at_and (bit_or ier 1) 2 i, bit_at_or ier 1 i, bit_at_or (bit_and ier 2) (bit_and 1 2) i, bit_at_and ier 2 i, bit_at_and 1 2 i) (omega arith))
+    spread = same_from_bits _ _ (λ i. rw (
+      bit_at_and (bit_or ier 1) 2 i,
+      bit_at_or ier 1 i,
+      bit_at_or (bit_and ier 2) (bit_and 1 2) i,
+      bit_at_and ier 2 i,
+      bit_at_and 1 2 i,
+    ) (omega arith))
 
 -- nor does another bit that is taken away
 kept_taken : (ier : ℕ) → has (without 8 ier IER.DATA_READY.0) IER.THR_EMPTY.0 ≡ has ier IER.THR_EMPTY.0
 kept_taken ier = ap (λ n. n == 2) together
   where
     together : bit_and (bit_and ier 254) 2 ≡ bit_and ier (bit_and 254 2)
-    together = same_from_bits _ _ (λ i. rw (bit_at_and (bit_and ier 254) 2 i, bit_at_and ier 254 i, bit_at_and ier (bit_and 254 2) i, bit_at_and 254 2 i) (omega arith))
+    together = same_from_bits _ _ (λ i. rw (
+      bit_at_and (bit_and ier 254) 2 i,
+      bit_at_and ier 254 i,
+      bit_at_and ier (bit_and 254 2) i,
+      bit_at_and 254 2 i,
+    ) (omega arith))
 
 -- ---- what lists tell
 
@@ -111,7 +135,8 @@ receives_others room bytes s l (inr (fewer, t)) =
 
 -- ---- sending makes it due
 
-writes_due : (known : ThrEmpty) (bytes : List ℕ) → (known.due ≡ true) ⊎ (0 < length bytes) → (after_accesses known (data_writes bytes)).due ≡ true
+writes_due : (known : ThrEmpty) (bytes : List ℕ) → (known.due ≡ true) ⊎ (0 < length bytes) →
+    (after_accesses known (data_writes bytes)).due ≡ true
 writes_due known [] (inl due) = due
 writes_due known [] (inr some) = absurd (omega (arith, some))
 writes_due known (byte ∷ bytes) h = writes_due (record { enabled = known.enabled; due = true }) bytes (inl refl)
@@ -125,26 +150,32 @@ asks_miss s off l (NoCapacity, t) = t
 asks_miss s off l (RemoteNotClearToSend, t) = absurd (rw off at t)
 
 -- after a send of some bytes: the transmitter had no room, or it holds them
-sent_due : (known : ThrEmpty) (s : Settings) (bytes : List ℕ) (sent : ℕ) (l : List Access) → s.checks ≡ false → Sends bytes sent s l → 0 < length bytes → (after_accesses known l).due ≡ true
+sent_due : (known : ThrEmpty) (s : Settings) (bytes : List ℕ) (sent : ℕ) (l : List Access) → s.checks ≡ false → Sends bytes sent s l →
+    0 < length bytes → (after_accesses known l).due ≡ true
 sent_due known s bytes sent l off (inl (none, zero, is)) some = absurd (omega (arith, none, some))
-sent_due known s bytes sent l off (inr (inl (any, zero, t))) some = let miss = asks_miss s off l t in rw miss.is (miss_due known miss.answer miss.shows)
+sent_due known s bytes sent l off (inr (inl (any, zero, t))) some = let miss = asks_miss s off l t in
+    rw miss.is (miss_due known miss.answer miss.shows)
 sent_due known s bytes sent l off (inr (inr (any, size, t))) some =
     let one : 0 < burst_limit s.fifo = elim s.fifo as (λ b. 0 < burst_limit b) [ true ↦ omega arith | false ↦ omega arith ] in
     let written : 0 < length (take sent bytes) = omega (arith, any, size, one, length-take sent bytes) in
-    rw (t.whole, t.second.is, after-append known t.front (data_writes (take sent bytes))) (writes_due (after_accesses known t.front) (take sent bytes) (inr written))
+    rw (t.whole, t.second.is, after-append known t.front (data_writes (take sent bytes)))
+    (writes_due (after_accesses known t.front) (take sent bytes) (inr written))
 
 -- ---- IER
 
-enabled_live : (known : ThrEmpty) (f : Fields) (l : List Access) (after : Fields) → Enables IER.THR_EMPTY.0 f l after → known.due ≡ true → IsLive (after_accesses known l)
+enabled_live : (known : ThrEmpty) (f : Fields) (l : List Access) (after : Fields) → Enables IER.THR_EMPTY.0 f l after → known.due ≡ true →
+    IsLive (after_accesses known l)
 enabled_live known f l after (ier, is, changed) due = rw is (joined ier, due)
 
 -- the other interrupts leave it as it is, if IER reads true
-resumed_live : (known : ThrEmpty) (f : Fields) (l : List Access) (after : Fields) → Enables IER.DATA_READY.0 f l after → KeepsIer known l → IsLive known → IsLive (after_accesses known l)
+resumed_live : (known : ThrEmpty) (f : Fields) (l : List Access) (after : Fields) → Enables IER.DATA_READY.0 f l after → KeepsIer known l →
+    IsLive known → IsLive (after_accesses known l)
 resumed_live known f l after (ier, is, changed) keeps live =
     let true_of : KeepsIer known (Read offsets.IER ier ∷ Write offsets.IER (bit_or ier IER.DATA_READY.0) ∷ []) = rw is at keeps in
     rw is (kept_joined ier ∙ true_of.0 refl live.0, live.1)
 
-paused_live : (known : ThrEmpty) (f : Fields) (l : List Access) (after : Fields) → Disables IER.DATA_READY.0 f l after → KeepsIer known l → IsLive known → IsLive (after_accesses known l)
+paused_live : (known : ThrEmpty) (f : Fields) (l : List Access) (after : Fields) → Disables IER.DATA_READY.0 f l after → KeepsIer known l →
+    IsLive known → IsLive (after_accesses known l)
 paused_live known f l after (ier, is, changed) keeps live =
     let true_of : KeepsIer known (Read offsets.IER ier ∷ Write offsets.IER (without 8 ier IER.DATA_READY.0) ∷ []) = rw is at keeps in
     rw is (kept_taken ier ∙ true_of.0 refl live.0, live.1)
@@ -152,16 +183,19 @@ paused_live known f l after (ier, is, changed) keeps live =
 -- ---- each piece
 
 -- what CTS checking was, it is
-unchecked : (f : RingFields) (l : List Access) (after : RingFields) → Carries f l after → f.driver.config.check_cts_before_sending ≡ false → after.driver.config.check_cts_before_sending ≡ false
+unchecked : (f : RingFields) (l : List Access) (after : RingFields) → Carries f l after →
+    f.driver.config.check_cts_before_sending ≡ false → after.driver.config.check_cts_before_sending ≡ false
 unchecked f l after c off = ap (λ (s : Settings). s.checks) c.settings ∙ off
 
 -- one after the other
-leaves_then : (f mid after : RingFields) (l m : List Access) → Carries f l mid → LeavesArmed f l mid → LeavesArmed mid m after → LeavesArmed f (l ++ m) after
+leaves_then : (f mid after : RingFields) (l m : List Access) → Carries f l mid → LeavesArmed f l mid → LeavesArmed mid m after →
+    LeavesArmed f (l ++ m) after
 leaves_then f mid after l m c first second = λ off known keeps armed.
     rw (after-append known l m)
-    (second (unchecked f l mid c off) (after_accesses known l) (keeps_rest known l m keeps) (first off known (keeps_first known l m keeps) armed))
+    (second (unchecked f l mid c off) (after_accesses known l) (keeps_rest known l m keeps)
+    (first off known (keeps_first known l m keeps) armed))
 
-leaves_stays : (f : RingFields) (l : List Access) (after : RingFields) → Stays f l after → LeavesArmed f l after
+leaves_stays : Implies Stays LeavesArmed
 leaves_stays f l after (is, same) = λ off known keeps armed. rw (is, same) armed
 
 -- the same waits to be sent, and what was live is live
@@ -173,52 +207,65 @@ leaves_live f l after items live = λ off known keeps armed. go known keeps arme
     go known keeps (inl none) = inl (items ∙ none)
     go known keeps (inr is) = inr (live known keeps is)
 
-leaves_others : (f : RingFields) (l : List Access) (after : RingFields) → after.transmit.items ≡ f.transmit.items → AllOtherReads l → LeavesArmed f l after
+leaves_others : (f : RingFields) (l : List Access) (after : RingFields) → after.transmit.items ≡ f.transmit.items → AllOtherReads l →
+    LeavesArmed f l after
 leaves_others f l after items others = leaves_live f l after items (λ known keeps live. live_others known l others live)
 
 -- a pump arms
-pub pumps_arm : (f : RingFields) (l : List Access) (after : RingFields) → Pumps f l after → Arms f l after
+pub pumps_arm : Implies Pumps Arms
 pumps_arm f l after (sent, (t, same)) = λ off known. go off known (drop sent f.transmit.items) refl t.second
   where
     items : after.transmit.items ≡ drop sent f.transmit.items
     items = ap (λ (g : RingFields). g.transmit.items) same
 
-    go : f.driver.config.check_cts_before_sending ≡ false → (known : ThrEmpty) (left : List ℕ) → drop sent f.transmit.items ≡ left → ArmsIfLeft left t.mid t.back after.driver → IsArmed (after_accesses known l) after
+    go : f.driver.config.check_cts_before_sending ≡ false → (known : ThrEmpty) (left : List ℕ) → drop sent f.transmit.items ≡ left →
+        ArmsIfLeft left t.mid t.back after.driver → IsArmed (after_accesses known l) after
     go off known [] e arms = inl (items ∙ e)
     go off known (byte ∷ bytes) e arms =
         let long : 0 < length (drop sent f.transmit.items) = rw e (omega arith) in
-        let some : 0 < length (take FIFO_SIZE f.transmit.items) = omega (arith, long, length-drop sent f.transmit.items, length-take FIFO_SIZE f.transmit.items) in
+        let some : 0 < length (take FIFO_SIZE f.transmit.items) = omega (
+          arith,
+          long,
+          length-drop sent f.transmit.items,
+          length-take FIFO_SIZE f.transmit.items,
+        ) in
         let due = sent_due known (settings_of f.driver) (take FIFO_SIZE f.transmit.items) sent t.front off t.first.0 some in
-        inr (rw (t.whole, after-append known t.front t.back) (enabled_live (after_accesses known t.front) t.mid t.back after.driver arms due))
+        inr (rw (t.whole, after-append known t.front t.back)
+        (enabled_live (after_accesses known t.front) t.mid t.back after.driver arms due))
 
-pumps_leave : (f : RingFields) (l : List Access) (after : RingFields) → Pumps f l after → LeavesArmed f l after
+pumps_leave : Implies Pumps LeavesArmed
 pumps_leave f l after t = λ off known keeps armed. pumps_arm f l after t off known
 
-pauses_leave : (f : RingFields) (l : List Access) (after : RingFields) → PausesIfFull f l after → LeavesArmed f l after
+pauses_leave : Implies PausesIfFull LeavesArmed
 pauses_leave f l after t = go (is_full f.receive) t
   where
-    go : (full : Bool) → MatchBool full (OnDriver (Disables IER.DATA_READY.0) (with_paused true) f l after) (Stays f l after) → LeavesArmed f l after
-    go true t = leaves_live f l after (ap (λ (g : RingFields). g.transmit.items) t.1) (λ known keeps live. paused_live known f.driver l after.driver t.0 keeps live)
+    go : (full : Bool) → MatchBool full (OnDriver (Disables IER.DATA_READY.0) (with_paused true) f l after) (Stays f l after) →
+        LeavesArmed f l after
+    go true t = leaves_live f l after (ap (λ (g : RingFields). g.transmit.items) t.1)
+        (λ known keeps live. paused_live known f.driver l after.driver t.0 keeps live)
     go false t = leaves_stays f l after t
 
-ends_pause_leaves : (f : RingFields) (l : List Access) (after : RingFields) → EndsPause f l after → LeavesArmed f l after
+ends_pause_leaves : Implies EndsPause LeavesArmed
 ends_pause_leaves f l after t = go f.is_paused t
   where
-    go : (paused : Bool) → MatchBool paused (OnDriver (Enables IER.DATA_READY.0) (with_paused false) f l after) (Stays f l after) → LeavesArmed f l after
-    go true t = leaves_live f l after (ap (λ (g : RingFields). g.transmit.items) t.1) (λ known keeps live. resumed_live known f.driver l after.driver t.0 keeps live)
+    go : (paused : Bool) → MatchBool paused (OnDriver (Enables IER.DATA_READY.0) (with_paused false) f l after) (Stays f l after) →
+        LeavesArmed f l after
+    go true t = leaves_live f l after (ap (λ (g : RingFields). g.transmit.items) t.1)
+        (λ known keeps live. resumed_live known f.driver l after.driver t.0 keeps live)
     go false t = leaves_stays f l after t
 
-fills_leave : (f : RingFields) (l : List Access) (after : RingFields) → FillsReceiveRing f l after → LeavesArmed f l after
+fills_leave : Implies FillsReceiveRing LeavesArmed
 fills_leave f l after (bytes, t) =
     let items : t.mid.transmit.items ≡ f.transmit.items = ap (λ (g : RingFields). g.transmit.items) t.first.1 in
     let first = leaves_others f t.front t.mid items (receives_others _ bytes (settings_of f.driver) t.front t.first.0.0) in
-    rw t.whole (leaves_then f t.mid after t.front t.back (received_carries bytes f t.front t.mid t.first) first (pauses_leave t.mid t.back after t.second))
+    rw t.whole (leaves_then f t.mid after t.front t.back (received_carries _ bytes f t.front t.mid t.first) first
+    (pauses_leave t.mid t.back after t.second))
 
-notes_line_leave : (f : RingFields) (l : List Access) (after : RingFields) → NotesLine f l after → LeavesArmed f l after
+notes_line_leave : Implies NotesLine LeavesArmed
 notes_line_leave f l after (status, ((read, is, shown, changed), same)) =
     leaves_others f l after (ap (λ (g : RingFields). g.transmit.items) same) (rw is (refl, tt))
 
-notes_modem_leave : (f : RingFields) (l : List Access) (after : RingFields) → NotesModem f l after → LeavesArmed f l after
+notes_modem_leave : Implies NotesModem LeavesArmed
 notes_modem_leave f l after (status, ((read, is, shown, changed), same)) =
     leaves_others f l after (ap (λ (g : RingFields). g.transmit.items) same) (rw is (refl, tt))
 
@@ -236,7 +283,8 @@ not_thr_empty isr other = go (field 0 1 isr == 0) (field 1 3 isr == 1) refl refl
         let code : field 1 3 isr ≡ 1 = grind (arith, nat_tests) in
         absurd (other (pending, code))
 
-isr_leaves : (interrupt : Option InterruptType) (f : RingFields) (l : List Access) (after : RingFields) → (interrupt ≡ Some TransmitterHoldingRegisterEmpty → ⊥) →
+isr_leaves : (interrupt : Option InterruptType) (f : RingFields) (l : List Access) (after : RingFields) →
+    (interrupt ≡ Some TransmitterHoldingRegisterEmpty → ⊥) →
     OnDriver (ShowsInterrupt interrupt) unchanged f l after → LeavesArmed f l after
 isr_leaves interrupt f l after other ((isr, shown, t), same) =
     leaves_live f l after (ap (λ (g : RingFields). g.transmit.items) same) live
@@ -248,13 +296,15 @@ isr_leaves interrupt f l after other ((isr, shown, t), same) =
     live known keeps is = rw (t.0.is, silent) is
 
 -- what is served after a read of ISR that did not acknowledge it
-served : (interrupt : InterruptType) (f : RingFields) (l : List Access) (after : RingFields) → (Some interrupt ≡ Some TransmitterHoldingRegisterEmpty → ⊥) →
-    ((g : RingFields) (m : List Access) (end : RingFields) → Serves interrupt g m end → LeavesArmed g m end) →
+served : (interrupt : InterruptType) (f : RingFields) (l : List Access) (after : RingFields) →
+    (Some interrupt ≡ Some TransmitterHoldingRegisterEmpty → ⊥) →
+    Implies (Serves interrupt) LeavesArmed →
     RingNext (OnDriver (ShowsInterrupt (Some interrupt)) unchanged) (Serves interrupt) f l after → LeavesArmed f l after
 served interrupt f l after other leaves t =
-    rw t.whole (leaves_then f t.mid after t.front t.back (shows_carry _ f t.front t.mid t.first) (isr_leaves _ f t.front t.mid other t.first) (leaves t.mid t.back after t.second))
+    rw t.whole (leaves_then f t.mid after t.front t.back (shows_carry _ f t.front t.mid t.first)
+    (isr_leaves _ f t.front t.mid other t.first) (leaves t.mid t.back after t.second))
 
-serves_one_leaves : (f : RingFields) (l : List Access) (after : RingFields) → ServesOne f l after → LeavesArmed f l after
+serves_one_leaves : Implies ServesOne LeavesArmed
 serves_one_leaves f l after (ReceiverLineStatus, t) = served ReceiverLineStatus f l after (λ e. cc) notes_line_leave t
 serves_one_leaves f l after (ReceivedDataReady, t) = served ReceivedDataReady f l after (λ e. cc) fills_leave t
 serves_one_leaves f l after (ReceptionTimeout, t) = served ReceptionTimeout f l after (λ e. cc) fills_leave t
@@ -263,44 +313,48 @@ serves_one_leaves f l after (DmaReceptionEndOfTransfer, t) = served DmaReception
 serves_one_leaves f l after (DmaTransmissionEndOfTransfer, t) = served DmaTransmissionEndOfTransfer f l after (λ e. cc) leaves_stays t
 serves_one_leaves f l after (TransmitterHoldingRegisterEmpty, t) = λ off known keeps armed.
     rw (t.whole, after-append known t.front t.back)
-    (pumps_arm t.mid t.back after t.second (unchecked f t.front t.mid (shows_carry _ f t.front t.mid t.first) off) (after_accesses known t.front))
+    (pumps_arm t.mid t.back after t.second (unchecked f t.front t.mid (shows_carry _ f t.front t.mid t.first) off)
+    (after_accesses known t.front))
 
-times_leave : (n : ℕ) (f : RingFields) (l : List Access) (after : RingFields) → RingTimes n ServesOne f l after → LeavesArmed f l after
+times_leave : (n : ℕ) → Implies (RingTimes n ServesOne) LeavesArmed
 times_leave zero f l after t = leaves_stays f l after t
 times_leave (suc n) f l after t =
-    rw t.whole (leaves_then f t.mid after t.front t.back (serves_one_carries f t.front t.mid t.first) (serves_one_leaves f t.front t.mid t.first) (times_leave n t.mid t.back after t.second))
+    rw t.whole (leaves_then f t.mid after t.front t.back (serves_one_carries f t.front t.mid t.first)
+    (serves_one_leaves f t.front t.mid t.first) (times_leave n t.mid t.back after t.second))
 
 -- ---- each call
 
-pub services_leave : (count : ℕ) (f : RingFields) (l : List Access) (after : RingFields) → Services count f l after → LeavesArmed f l after
+pub services_leave : (count : ℕ) → Implies (Services count) LeavesArmed
 services_leave count f l after (inl (fewer, t)) =
-    rw t.whole (leaves_then f t.mid after t.front t.back (times_carry count f t.front t.mid t.first) (times_leave count f t.front t.mid t.first) (isr_leaves None t.mid t.back after (λ e. cc) t.second))
+    rw t.whole (leaves_then f t.mid after t.front t.back (times_carry count f t.front t.mid t.first)
+    (times_leave count f t.front t.mid t.first) (isr_leaves None t.mid t.back after (λ e. cc) t.second))
 services_leave count f l after (inr (all, t)) = times_leave count f l after t
 
-any_pumps_arm : (count : ℕ) (f : RingFields) (l : List Access) (after : RingFields) → 0 < count → IfAny count Pumps f l after → Arms f l after
+any_pumps_arm : (count : ℕ) (f : RingFields) (l : List Access) (after : RingFields) → 0 < count → IfAny count Pumps f l after →
+    Arms f l after
 any_pumps_arm zero f l after some t = absurd (omega (arith, some))
 any_pumps_arm (suc n) f l after some t = pumps_arm f l after t
 
 -- nothing is queued, or what is queued is pumped
-pub queues_leave : (bytes : List ℕ) (count : ℕ) (f : RingFields) (l : List Access) (after : RingFields) → Queues bytes count f l after → LeavesArmed f l after
+pub queues_leave : (bytes : List ℕ) (count : ℕ) → Implies (Queues bytes count) LeavesArmed
 queues_leave bytes zero f l after (is, (none, same)) =
     leaves_live f l after (ap (λ (g : RingFields). g.transmit.items) same ∙ append-nil f.transmit.items) (λ known keeps live. rw none live)
 queues_leave bytes (suc n) f l after (is, t) = λ off known keeps armed. pumps_arm (with_queued (take (suc n) bytes) f) l after t off known
 
-pub queues_arm : (bytes : List ℕ) (count : ℕ) → 0 < count → (f : RingFields) (l : List Access) (after : RingFields) → Queues bytes count f l after → Arms f l after
+pub queues_arm : (bytes : List ℕ) (count : ℕ) → 0 < count → Implies (Queues bytes count) Arms
 queues_arm bytes count some f l after (is, t) = any_pumps_arm count (with_queued (take count bytes) f) l after some t
 
-any_ends_pause_leaves : (count : ℕ) (f : RingFields) (l : List Access) (after : RingFields) → IfAny count EndsPause f l after → LeavesArmed f l after
+any_ends_pause_leaves : (count : ℕ) → Implies (IfAny count EndsPause) LeavesArmed
 any_ends_pause_leaves zero f l after t = leaves_stays f l after t
 any_ends_pause_leaves (suc n) f l after t = ends_pause_leaves f l after t
 
-pub takes_leave : (slots : ℕ) (bytes : List ℕ) (f : RingFields) (l : List Access) (after : RingFields) → Takes slots bytes f l after → LeavesArmed f l after
+pub takes_leave : (slots : ℕ) (bytes : List ℕ) → Implies (Takes slots bytes) LeavesArmed
 takes_leave slots bytes f l after (is, t) = any_ends_pause_leaves (length bytes) (without_taken (length bytes) f) l after t
 
-pub takes_line_leave : (line : ℕ) (f : RingFields) (l : List Access) (after : RingFields) → TakesLine line f l after → LeavesArmed f l after
+pub takes_line_leave : (line : ℕ) → Implies (TakesLine line) LeavesArmed
 takes_line_leave line f l after (status, told, ((read, is, shown, changed), same)) =
     leaves_others f l after (ap (λ (g : RingFields). g.transmit.items) same) (rw is (refl, tt))
 
-pub takes_modem_leave : (modem : ℕ) (f : RingFields) (l : List Access) (after : RingFields) → TakesModem modem f l after → LeavesArmed f l after
+pub takes_modem_leave : (modem : ℕ) → Implies (TakesModem modem) LeavesArmed
 takes_modem_leave modem f l after (status, told, ((read, is, shown, changed), same)) =
     leaves_others f l after (ap (λ (g : RingFields). g.transmit.items) same) (rw is (refl, tt))

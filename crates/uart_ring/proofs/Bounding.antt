@@ -1,11 +1,20 @@
 -- That ring calls make few accesses.
-use Rattle.std.proofs.Common.{◌≡◌, ◌≤◌, ◌<◌, ◌+◌, ◌*◌, ℕ, zero, suc, Bool, true, false, min, MatchBool, List, [], ◌∷◌, ◌++◌, length, take, map, length-append, length-take, refl, arith, ap, ◌∙◌, inl, inr}
+use Rattle.std.proofs.Common.{◌≡◌, ◌≤◌, ◌<◌, ◌+◌, ◌*◌, ℕ, zero, suc, Bool, true, false, min, MatchBool, List, [], ◌∷◌, ◌++◌, length, take}
+use Rattle.std.proofs.Common.{map, length-append, length-take, refl, arith, ap, ◌∙◌, inl, inr}
 use Rattle.uart_spec.specs.Access.{Access}
 use Rattle.uart_spec.specs.declared.baud.TheConstants.{FIFO_SIZE}
 use Rattle.uart_spec.specs.declared.errors.ByteSendError.TheVariants.{NoCapacity, RemoteNotClearToSend}
 use Rattle.uart_spec.specs.declared.registers.interrupt_enable.TheConstants.IER
 use Rattle.uart_spec.specs.declared.registers.interrupt_type.InterruptType.{InterruptType}
-use Rattle.uart_spec.specs.declared.registers.interrupt_type.InterruptType.TheVariants.{ReceiverLineStatus, ReceivedDataReady, ReceptionTimeout, TransmitterHoldingRegisterEmpty, ModemStatus, DmaReceptionEndOfTransfer, DmaTransmissionEndOfTransfer}
+use Rattle.uart_spec.specs.declared.registers.interrupt_type.InterruptType.TheVariants.{
+  ReceiverLineStatus,
+  ReceivedDataReady,
+  ReceptionTimeout,
+  TransmitterHoldingRegisterEmpty,
+  ModemStatus,
+  DmaReceptionEndOfTransfer,
+  DmaTransmissionEndOfTransfer,
+}
 use Rattle.uart_spec.specs.declared.registers.line_status.TheConstants.LSR
 use Rattle.uart_spec.specs.declared.registers.offsets.TheConstants as offsets
 use Rattle.uart_16550.specs.Grammar.{Settings, Then, Asks, InOrder}
@@ -13,11 +22,14 @@ use Rattle.uart_16550.specs.Driver.{Fields, settings_of}
 use Rattle.uart_16550.specs.Receive.{Receives, Hit}
 use Rattle.uart_16550.specs.Transmit.{Sends, SendHit, SendMiss, LinesAllow, burst_limit, burst_size, data_writes}
 use Rattle.uart_16550.specs.Status.{Enables, Disables}
-use Rattle.uart_ring.specs.Ring.{RingFields, OnDriver, Stays, RingNext, RingTimes, IfAny, with_queued, with_paused, without_taken, unchanged, free, is_full}
+use Rattle.uart_ring.specs.Ring.{RingFields, OnDriver, Stays, RingNext, RingTimes, IfAny, with_queued, with_paused, without_taken}
+use Rattle.uart_ring.specs.Ring.{unchanged, free, is_full}
 use Rattle.uart_ring.specs.Transmit.{ArmsIfLeft, Pumps, Queues}
 use Rattle.uart_ring.specs.Receive.{PausesIfFull, FillsReceiveRing, EndsPause, Takes}
 use Rattle.uart_ring.specs.Status.{TakesLine, TakesModem}
-use Rattle.uart_ring.specs.Service.{ShowsInterrupt, Serves, ServesOne, Services}
+use Rattle.uart_ring.specs.Service.{Serves, ServesOne, Services}
+use Rattle.uart_ring.specs.Conserved.{Implies}
+use Rattle.uart_ring.specs.Bounded.{MakesAtMost, most_of_change, most_of_pump, most_of_receiving, most_of_service}
 
 -- two lists in turn
 both : (l m k : List Access) (x y : ℕ) → l ≡ m ++ k → length m ≤ x → length k ≤ y → length l ≤ x + y
@@ -35,7 +47,8 @@ lines_size allowed s l (inr t) = both l t.front t.back 1 1 t.whole (asks_size _ 
 hit_size : (s : Settings) (l : List Access) → SendHit s l → length l ≤ 3
 hit_size s l t = go s.checks t
   where
-    go : (checks : Bool) → MatchBool checks (Then (Asks offsets.LSR LSR.THR_EMPTY.0 true) (LinesAllow true) s l) (Asks offsets.LSR LSR.THR_EMPTY.0 true s l) → length l ≤ 3
+    go : (checks : Bool) → MatchBool checks (Then (Asks offsets.LSR LSR.THR_EMPTY.0 true) (LinesAllow true) s l)
+        (Asks offsets.LSR LSR.THR_EMPTY.0 true s l) → length l ≤ 3
     go true t = both l t.front t.back 1 2 t.whole (asks_size _ _ _ s t.front t.first) (lines_size true s t.back t.second)
     go false t = omega (arith, asks_size _ _ _ s l t)
 
@@ -51,23 +64,45 @@ writes_size : (bytes : List ℕ) → length (data_writes bytes) ≡ length bytes
 writes_size [] = refl
 writes_size (byte ∷ bytes) = ap suc (writes_size bytes)
 
-sends_size : (bytes : List ℕ) (sent : ℕ) (s : Settings) (l : List Access) → length bytes ≤ FIFO_SIZE → Sends bytes sent s l → length l ≤ 3 + FIFO_SIZE
+sends_size : (bytes : List ℕ) (sent : ℕ) (s : Settings) (l : List Access) → length bytes ≤ FIFO_SIZE → Sends bytes sent s l →
+    length l ≤ 3 + FIFO_SIZE
 sends_size bytes sent s l few (inl t) = omega (arith, ap length t.2)
 sends_size bytes sent s l few (inr (inl t)) = omega (arith, miss_size s l t.2)
 sends_size bytes sent s l few (inr (inr t)) =
-    let written : length t.2.back ≤ FIFO_SIZE = omega (arith, few, ap length t.2.second.is, writes_size (take sent bytes), length-take sent bytes) in
+    let written : length t.2.back ≤ FIFO_SIZE = omega (
+      arith,
+      few,
+      ap length t.2.second.is,
+      writes_size (take sent bytes),
+      length-take sent bytes,
+    ) in
     both l t.2.front t.2.back 3 FIFO_SIZE t.2.whole (hit_size s t.2.front t.2.first) written
 
 hits_size : (bytes : List ℕ) (s : Settings) (l : List Access) → InOrder Hit bytes s l → length l ≡ 2 * length bytes
 hits_size [] s l t = ap length t.is
 hits_size (byte ∷ bytes) s l t =
-    let one : length t.front ≡ 2 = omega (arith, ap length t.first.whole, length-append t.first.front t.first.back, ap length t.first.first.is, ap length t.first.second.is) in
+    let one : length t.front ≡ 2 = omega (
+      arith,
+      ap length t.first.whole,
+      length-append t.first.front t.first.back,
+      ap length t.first.first.is,
+      ap length t.first.second.is,
+    ) in
     omega (arith, ap length t.whole, length-append t.front t.back, one, hits_size bytes s t.back t.second)
 
-receives_size : (room : ℕ) (bytes : List ℕ) (s : Settings) (l : List Access) → room ≤ FIFO_SIZE → Receives room bytes s l → length l ≤ 2 * FIFO_SIZE
+receives_size : (room : ℕ) (bytes : List ℕ) (s : Settings) (l : List Access) → room ≤ FIFO_SIZE → Receives room bytes s l →
+    length l ≤ 2 * FIFO_SIZE
 receives_size room bytes s l few (inl (all, t)) = omega (arith, few, all, hits_size bytes s l t)
 receives_size room bytes s l few (inr (fewer, t)) =
-    omega (arith, few, fewer, ap length t.whole, length-append t.front t.back, hits_size bytes s t.front t.first, asks_size _ _ _ s t.back t.second)
+    omega (
+      arith,
+      few,
+      fewer,
+      ap length t.whole,
+      length-append t.front t.back,
+      hits_size bytes s t.front t.first,
+      asks_size _ _ _ s t.back t.second,
+    )
 
 enables_size : (bits : ℕ) (f : Fields) (l : List Access) (after : Fields) → Enables bits f l after → length l ≤ 2
 enables_size bits f l after (ier, is, changed) = omega (arith, ap length is)
@@ -81,33 +116,37 @@ arms_size (byte ∷ bytes) f l after t = enables_size _ f l after t
 
 -- ---- each piece
 
-pumps_size : (f : RingFields) (l : List Access) (after : RingFields) → Pumps f l after → length l ≤ 21
+pumps_size : Implies Pumps (MakesAtMost most_of_pump)
 pumps_size f l after (sent, (t, same)) =
     let burst = take FIFO_SIZE f.transmit.items in
     let few : length burst ≤ FIFO_SIZE = omega (arith, length-take FIFO_SIZE f.transmit.items) in
-    both l t.front t.back 19 2 t.whole (sends_size burst sent (settings_of f.driver) t.front few t.first.0) (arms_size (drop sent f.transmit.items) t.mid t.back after.driver t.second)
+    both l t.front t.back (3 + FIFO_SIZE) most_of_change t.whole (sends_size burst sent (settings_of f.driver) t.front few t.first.0)
+    (arms_size (drop sent f.transmit.items) t.mid t.back after.driver t.second)
 
-pauses_size : (f : RingFields) (l : List Access) (after : RingFields) → PausesIfFull f l after → length l ≤ 2
+pauses_size : Implies PausesIfFull (MakesAtMost most_of_change)
 pauses_size f l after t = go (is_full f.receive) t
   where
-    go : (full : Bool) → MatchBool full (OnDriver (Disables IER.DATA_READY.0) (with_paused true) f l after) (Stays f l after) → length l ≤ 2
+    go : (full : Bool) → MatchBool full (OnDriver (Disables IER.DATA_READY.0) (with_paused true) f l after) (Stays f l after) →
+        length l ≤ most_of_change
     go true t = disables_size _ f.driver l after.driver t.0
     go false t = omega (arith, ap length t.0)
 
-ends_pause_size : (f : RingFields) (l : List Access) (after : RingFields) → EndsPause f l after → length l ≤ 2
+ends_pause_size : Implies EndsPause (MakesAtMost most_of_change)
 ends_pause_size f l after t = go f.is_paused t
   where
-    go : (paused : Bool) → MatchBool paused (OnDriver (Enables IER.DATA_READY.0) (with_paused false) f l after) (Stays f l after) → length l ≤ 2
+    go : (paused : Bool) → MatchBool paused (OnDriver (Enables IER.DATA_READY.0) (with_paused false) f l after) (Stays f l after) →
+        length l ≤ most_of_change
     go true t = enables_size _ f.driver l after.driver t.0
     go false t = omega (arith, ap length t.0)
 
-fills_size : (f : RingFields) (l : List Access) (after : RingFields) → FillsReceiveRing f l after → length l ≤ 34
+fills_size : Implies FillsReceiveRing (MakesAtMost most_of_receiving)
 fills_size f l after (bytes, t) =
     let room = min FIFO_SIZE (free f.receive) in
     let few : room ≤ FIFO_SIZE = omega arith in
-    both l t.front t.back 32 2 t.whole (receives_size room bytes (settings_of f.driver) t.front few t.first.0.0) (pauses_size t.mid t.back after t.second)
+    both l t.front t.back (2 * FIFO_SIZE) most_of_change t.whole (receives_size room bytes (settings_of f.driver) t.front few t.first.0.0)
+    (pauses_size t.mid t.back after t.second)
 
-serves_size : (interrupt : InterruptType) (f : RingFields) (l : List Access) (after : RingFields) → Serves interrupt f l after → length l ≤ 34
+serves_size : (interrupt : InterruptType) → Implies (Serves interrupt) (MakesAtMost most_of_receiving)
 serves_size ReceiverLineStatus f l after (status, ((read, is, shown, changed), same)) = omega (arith, ap length is)
 serves_size ReceivedDataReady f l after t = fills_size f l after t
 serves_size ReceptionTimeout f l after t = fills_size f l after t
@@ -116,37 +155,43 @@ serves_size ModemStatus f l after (status, ((read, is, shown, changed), same)) =
 serves_size DmaReceptionEndOfTransfer f l after t = omega (arith, ap length t.0)
 serves_size DmaTransmissionEndOfTransfer f l after t = omega (arith, ap length t.0)
 
-serves_one_size : (f : RingFields) (l : List Access) (after : RingFields) → ServesOne f l after → length l ≤ 35
+serves_one_size : Implies ServesOne (MakesAtMost (1 + most_of_receiving))
 serves_one_size f l after (interrupt, t) =
     let read : length t.front ≤ 1 = omega (arith, ap length t.first.0.2.0.is) in
-    both l t.front t.back 1 34 t.whole read (serves_size interrupt t.mid t.back after t.second)
+    both l t.front t.back 1 most_of_receiving t.whole read (serves_size interrupt t.mid t.back after t.second)
 
-times_size : (n : ℕ) (f : RingFields) (l : List Access) (after : RingFields) → RingTimes n ServesOne f l after → length l ≤ n * 35
+times_size : (n : ℕ) → Implies (RingTimes n ServesOne) (MakesAtMost (n * (1 + most_of_receiving)))
 times_size zero f l after t = omega (arith, ap length t.0)
 times_size (suc n) f l after t =
-    omega (arith, ap length t.whole, length-append t.front t.back, serves_one_size f t.front t.mid t.first, times_size n t.mid t.back after t.second)
+    omega (
+      arith,
+      ap length t.whole,
+      length-append t.front t.back,
+      serves_one_size f t.front t.mid t.first,
+      times_size n t.mid t.back after t.second,
+    )
 
 -- ---- each call
 
-pub services_size : (count : ℕ) (f : RingFields) (l : List Access) (after : RingFields) → Services count f l after → length l ≤ 280
+pub services_size : (count : ℕ) → Implies (Services count) (MakesAtMost most_of_service)
 services_size count f l after (inl (fewer, t)) =
     let read : length t.back ≤ 1 = omega (arith, ap length t.second.0.2.0.is) in
     omega (arith, fewer, ap length t.whole, length-append t.front t.back, times_size count f t.front t.mid t.first, read)
 services_size count f l after (inr (all, t)) = omega (arith, all, times_size count f l after t)
 
-pub queues_size : (bytes : List ℕ) (count : ℕ) (f : RingFields) (l : List Access) (after : RingFields) → Queues bytes count f l after → length l ≤ 21
+pub queues_size : (bytes : List ℕ) (count : ℕ) → Implies (Queues bytes count) (MakesAtMost most_of_pump)
 queues_size bytes zero f l after (is, t) = omega (arith, ap length t.0)
 queues_size bytes (suc n) f l after (is, t) = pumps_size (with_queued (take (suc n) bytes) f) l after t
 
-any_ends_pause_size : (count : ℕ) (f : RingFields) (l : List Access) (after : RingFields) → IfAny count EndsPause f l after → length l ≤ 2
+any_ends_pause_size : (count : ℕ) → Implies (IfAny count EndsPause) (MakesAtMost most_of_change)
 any_ends_pause_size zero f l after t = omega (arith, ap length t.0)
 any_ends_pause_size (suc n) f l after t = ends_pause_size f l after t
 
-pub takes_size : (slots : ℕ) (bytes : List ℕ) (f : RingFields) (l : List Access) (after : RingFields) → Takes slots bytes f l after → length l ≤ 2
+pub takes_size : (slots : ℕ) (bytes : List ℕ) → Implies (Takes slots bytes) (MakesAtMost most_of_change)
 takes_size slots bytes f l after (is, t) = any_ends_pause_size (length bytes) (without_taken (length bytes) f) l after t
 
-pub takes_line_size : (line : ℕ) (f : RingFields) (l : List Access) (after : RingFields) → TakesLine line f l after → length l ≤ 1
+pub takes_line_size : (line : ℕ) → Implies (TakesLine line) (MakesAtMost 1)
 takes_line_size line f l after (status, told, ((read, is, shown, changed), same)) = omega (arith, ap length is)
 
-pub takes_modem_size : (modem : ℕ) (f : RingFields) (l : List Access) (after : RingFields) → TakesModem modem f l after → length l ≤ 1
+pub takes_modem_size : (modem : ℕ) → Implies (TakesModem modem) (MakesAtMost 1)
 takes_modem_size modem f l after (status, told, ((read, is, shown, changed), same)) = omega (arith, ap length is)

@@ -1,5 +1,7 @@
 -- That ring calls conserve bytes, line errors and changes of the modem lines.
-use Rattle.std.proofs.Common.{◌≡◌, ◌≤◌, ◌-◌, ◌==◌, ◌⊎◌, ℕ, zero, suc, Bool, true, false, min, MatchBool, List, [], ◌∷◌, ◌++◌, length, take, drop, append_assoc, append-nil, take-append-drop, length-take, refl, arith, sym, ◌∙◌, ap, subst, inl, inr, Option, bit_and, bit_or, if◌then◌else◌}
+use Rattle.std.proofs.Common.{◌≡◌, ◌≤◌, ◌-◌, ◌==◌, ◌⊎◌, ℕ, zero, suc, Bool, true, false, min, MatchBool, List, [], ◌∷◌, ◌++◌, length, take}
+use Rattle.std.proofs.Common.{drop, append_assoc, append-nil, take-append-drop, length-take, refl, arith, sym, ◌∙◌, ap, subst, inl, inr}
+use Rattle.std.proofs.Common.{Option, bit_and, bit_or, if◌then◌else◌}
 use Rattle.std.proofs.lemmas.List.{take-take, drop_min}
 use Rattle.std.proofs.lemmas.Nat.Bits.{same_from_bits, bit_at_or, bit_at_and}
 use Rattle.std.specs.Int.Bits.{and_zero_l}
@@ -9,7 +11,15 @@ use Rattle.uart_spec.specs.declared.baud.TheConstants.{FIFO_SIZE}
 use Rattle.uart_spec.specs.declared.errors.ByteSendError.TheVariants.{NoCapacity, RemoteNotClearToSend}
 use Rattle.uart_spec.specs.declared.registers.interrupt_enable.TheConstants.IER
 use Rattle.uart_spec.specs.declared.registers.interrupt_type.InterruptType.{InterruptType}
-use Rattle.uart_spec.specs.declared.registers.interrupt_type.InterruptType.TheVariants.{ReceiverLineStatus, ReceivedDataReady, ReceptionTimeout, TransmitterHoldingRegisterEmpty, ModemStatus, DmaReceptionEndOfTransfer, DmaTransmissionEndOfTransfer}
+use Rattle.uart_spec.specs.declared.registers.interrupt_type.InterruptType.TheVariants.{
+  ReceiverLineStatus,
+  ReceivedDataReady,
+  ReceptionTimeout,
+  TransmitterHoldingRegisterEmpty,
+  ModemStatus,
+  DmaReceptionEndOfTransfer,
+  DmaTransmissionEndOfTransfer,
+}
 use Rattle.uart_spec.specs.declared.registers.line_status.TheConstants.LSR
 use Rattle.uart_spec.specs.declared.registers.modem_status.TheConstants.MSR
 use Rattle.uart_spec.specs.declared.registers.offsets.TheConstants as offsets
@@ -19,47 +29,80 @@ use Rattle.uart_16550.specs.Receive.{Receives, Hit, Miss}
 use Rattle.uart_16550.specs.Transmit.{Sends, SendHit, SendMiss, LinesAllow, data_writes}
 use Rattle.uart_16550.specs.Status.{TakesLsr, TakesMsr, Enables, Disables}
 use Rattle.uart_16550.proofs.Paths.{or_assoc, saved-append}
-use Rattle.uart_ring.specs.Ring.{RingFields, OnDriver, Stays, RingNext, RingTimes, IfAny, with_driver, with_queued, with_received, with_paused, without_sent, without_taken, with_line, with_modem, unchanged, free, is_full}
+use Rattle.uart_ring.specs.Ring.{RingFields, OnDriver, Stays, RingNext, RingTimes, IfAny, with_driver, with_queued, with_received}
+use Rattle.uart_ring.specs.Ring.{with_paused, without_sent, without_taken, with_line, with_modem, unchanged, free, is_full}
 use Rattle.uart_ring.specs.Transmit.{ArmsIfLeft, Pumps, Queues}
 use Rattle.uart_ring.specs.Receive.{PausesIfFull, FillsReceiveRing, EndsPause, Takes}
 use Rattle.uart_ring.specs.Status.{NotesLine, NotesModem, TakesLine, TakesModem}
 use Rattle.uart_ring.specs.Service.{ShowsInterrupt, Serves, ServesOne, Services}
-use Rattle.uart_ring.specs.Conserved.{data_written, data_read, untold_line, untold_modem, Conserves}
+use Rattle.uart_ring.specs.Conserved.{data_written, data_read, untold_line, untold_modem, Conserves, Implies}
 
 -- ---- bits
 
 -- what is untold after more was saved
-more_saved : (noted kept more mask : ℕ) → bit_and more mask ≡ more → bit_and (bit_or noted (bit_or kept more)) mask ≡ bit_or (bit_and (bit_or noted kept) mask) more
+more_saved : (noted kept more mask : ℕ) → bit_and more mask ≡ more → bit_and (bit_or noted (bit_or kept more)) mask ≡ bit_or
+    (bit_and (bit_or noted kept) mask) more
 more_saved noted kept more mask within =
-    sym (ap (λ n. bit_and n mask) (or_assoc noted kept more)) ∙ (and_or (bit_or noted kept) more mask ∙ ap (bit_or (bit_and (bit_or noted kept) mask)) within)
+    sym (ap (λ n. bit_and n mask) (or_assoc noted kept more)) ∙ (and_or (bit_or noted kept) more mask
+    ∙ ap (bit_or (bit_and (bit_or noted kept) mask)) within)
   where
     and_or : (a b m : ℕ) → bit_and (bit_or a b) m ≡ bit_or (bit_and a m) (bit_and b m)
-    and_or a b m = same_from_bits _ _ (λ i. rw (bit_at_and (bit_or a b) m i, bit_at_or a b i, bit_at_or (bit_and a m) (bit_and b m) i, bit_at_and a m i, bit_at_and b m i) (omega arith))
+    and_or a b m = same_from_bits _ _ (λ i. rw (
+      bit_at_and (bit_or a b) m i,
+      bit_at_or a b i,
+      bit_at_or (bit_and a m) (bit_and b m) i,
+      bit_at_and a m i,
+      bit_at_and b m i,
+    ) (omega arith))
 
 -- what is untold after a status was noted, joined with what was kept of it
-now_noted : (noted kept status mask : ℕ) → bit_and (bit_or (bit_or noted (bit_and (bit_or status kept) mask)) 0) mask ≡ bit_or (bit_and (bit_or noted kept) mask) (bit_or (bit_and status mask) 0)
+now_noted : (noted kept status mask : ℕ) → bit_and (bit_or (bit_or noted (bit_and (bit_or status kept) mask)) 0) mask ≡ bit_or
+    (bit_and (bit_or noted kept) mask) (bit_or (bit_and status mask) 0)
 now_noted noted kept status mask =
     rw (or_zero_r (bit_or noted (bit_and (bit_or status kept) mask)), or_zero_r (bit_and status mask)) (same_from_bits _ _ (λ i.
-    rw (bit_at_and (bit_or noted (bit_and (bit_or status kept) mask)) mask i, bit_at_or noted (bit_and (bit_or status kept) mask) i, bit_at_and (bit_or status kept) mask i, bit_at_or status kept i,
-      bit_at_or (bit_and (bit_or noted kept) mask) (bit_and status mask) i, bit_at_and (bit_or noted kept) mask i, bit_at_or noted kept i, bit_at_and status mask i) (omega arith)))
+    rw (
+      bit_at_and (bit_or noted (bit_and (bit_or status kept) mask)) mask i,
+      bit_at_or noted (bit_and (bit_or status kept) mask) i,
+      bit_at_and (bit_or status kept) mask i,
+      bit_at_or status kept i,
+      bit_at_or (bit_and (bit_or noted kept) mask) (bit_and status mask) i,
+      bit_at_and (bit_or noted kept) mask i,
+      bit_at_or noted kept i,
+      bit_at_and status mask i,
+    ) (omega arith)))
 
 -- what is told with a status, joined with what was kept and noted of it
-now_told : (noted kept status mask : ℕ) → bit_and (bit_or (bit_or status kept) noted) mask ≡ bit_or (bit_and (bit_or noted kept) mask) (bit_or (bit_and status mask) 0)
+now_told : (noted kept status mask : ℕ) → bit_and (bit_or (bit_or status kept) noted) mask ≡ bit_or (bit_and (bit_or noted kept) mask)
+    (bit_or (bit_and status mask) 0)
 now_told noted kept status mask =
     rw (or_zero_r (bit_and status mask)) (same_from_bits _ _ (λ i.
-    rw (bit_at_and (bit_or (bit_or status kept) noted) mask i, bit_at_or (bit_or status kept) noted i, bit_at_or status kept i,
-      bit_at_or (bit_and (bit_or noted kept) mask) (bit_and status mask) i, bit_at_and (bit_or noted kept) mask i, bit_at_or noted kept i, bit_at_and status mask i) (omega arith)))
+    rw (
+      bit_at_and (bit_or (bit_or status kept) noted) mask i,
+      bit_at_or (bit_or status kept) noted i,
+      bit_at_or status kept i,
+      bit_at_or (bit_and (bit_or noted kept) mask) (bit_and status mask) i,
+      bit_at_and (bit_or noted kept) mask i,
+      bit_at_or noted kept i,
+      bit_at_and status mask i,
+    ) (omega arith)))
 
 -- what is saved lies within the mask
 within_or : (a b mask : ℕ) → bit_and a mask ≡ a → bit_and b mask ≡ b → bit_and (bit_or a b) mask ≡ bit_or a b
 within_or a b mask p q =
-    same_from_bits _ _ (λ i. rw (bit_at_and (bit_or a b) mask i, bit_at_or a b i, bit_at_or (bit_and a mask) (bit_and b mask) i, bit_at_and a mask i, bit_at_and b mask i) (omega arith))
+    same_from_bits _ _ (λ i. rw (
+      bit_at_and (bit_or a b) mask i,
+      bit_at_or a b i,
+      bit_at_or (bit_and a mask) (bit_and b mask) i,
+      bit_at_and a mask i,
+      bit_at_and b mask i,
+    ) (omega arith))
     ∙ (λ i. bit_or (p i) (q i))
 
 saved-within : (register mask : ℕ) (l : List Access) → bit_and (saved register mask l) mask ≡ saved register mask l
 saved-within register mask [] = and_zero_l mask
 saved-within register mask (Read offset answer ∷ l) =
-    within_or (saved_of register mask (Read offset answer)) (saved register mask l) mask (one (offset == register)) (saved-within register mask l)
+    within_or (saved_of register mask (Read offset answer)) (saved register mask l) mask (one (offset == register))
+    (saved-within register mask l)
   where
     twice : (a m : ℕ) → bit_and (bit_and a m) m ≡ bit_and a m
     twice a m = same_from_bits _ _ (λ i. rw (bit_at_and (bit_and a m) m i, bit_at_and a m i) (omega arith))
@@ -67,7 +110,8 @@ saved-within register mask (Read offset answer ∷ l) =
     one : (b : Bool) → bit_and (if b then bit_and answer mask else 0) mask ≡ (if b then bit_and answer mask else 0)
     one true = twice answer mask
     one false = and_zero_l mask
-saved-within register mask (Write offset value ∷ l) = within_or 0 (saved register mask l) mask (and_zero_l mask) (saved-within register mask l)
+saved-within register mask (Write offset value ∷ l) = within_or 0 (saved register mask l) mask (and_zero_l mask)
+    (saved-within register mask l)
 
 -- ---- lists of accesses
 
@@ -95,18 +139,22 @@ moves-then l m ws vs rs us a b = record {
 nothing : Moves [] [] []
 nothing = record { written_is = refl; read_is = refl }
 
-asks_moves : (register bits : ℕ) (outcome : Bool) (s : Settings) (l : List Access) → (register == offsets.DATA) ≡ false → Asks register bits outcome s l → Moves [] [] l
+asks_moves : (register bits : ℕ) (outcome : Bool) (s : Settings) (l : List Access) → (register == offsets.DATA) ≡ false →
+    Asks register bits outcome s l → Moves [] [] l
 asks_moves register bits outcome s l other t = rw t.is (record { written_is = refl; read_is = rw other refl })
 
 lines_move : (allowed : Bool) (s : Settings) (l : List Access) → LinesAllow allowed s l → Moves [] [] l
 lines_move allowed s l (inl t) = asks_moves _ _ _ s l refl t.1
-lines_move allowed s l (inr t) = rw t.whole (moves-then t.front t.back [] [] [] [] (asks_moves _ _ _ s t.front refl t.first) (asks_moves _ _ _ s t.back refl t.second))
+lines_move allowed s l (inr t) = rw t.whole (moves-then t.front t.back [] [] [] [] (asks_moves _ _ _ s t.front refl t.first)
+    (asks_moves _ _ _ s t.back refl t.second))
 
 hit_moves : (s : Settings) (l : List Access) → SendHit s l → Moves [] [] l
 hit_moves s l t = go s.checks t
   where
-    go : (checks : Bool) → MatchBool checks (Then (Asks offsets.LSR LSR.THR_EMPTY.0 true) (LinesAllow true) s l) (Asks offsets.LSR LSR.THR_EMPTY.0 true s l) → Moves [] [] l
-    go true t = rw t.whole (moves-then t.front t.back [] [] [] [] (asks_moves _ _ _ s t.front refl t.first) (lines_move true s t.back t.second))
+    go : (checks : Bool) → MatchBool checks (Then (Asks offsets.LSR LSR.THR_EMPTY.0 true) (LinesAllow true) s l)
+        (Asks offsets.LSR LSR.THR_EMPTY.0 true s l) → Moves [] [] l
+    go true t = rw t.whole (moves-then t.front t.back [] [] [] [] (asks_moves _ _ _ s t.front refl t.first)
+        (lines_move true s t.back t.second))
     go false t = asks_moves _ _ _ s l refl t
 
 miss_moves : (s : Settings) (l : List Access) → SendMiss s l → Moves [] [] l
@@ -114,12 +162,17 @@ miss_moves s l (NoCapacity, t) = asks_moves _ _ _ s l refl t
 miss_moves s l (RemoteNotClearToSend, t) = go s.checks t
   where
     go : (checks : Bool) → MatchBool checks (Then (Asks offsets.LSR LSR.THR_EMPTY.0 true) (LinesAllow false) s l) ⊥ → Moves [] [] l
-    go true t = rw t.whole (moves-then t.front t.back [] [] [] [] (asks_moves _ _ _ s t.front refl t.first) (lines_move false s t.back t.second))
+    go true t = rw t.whole (moves-then t.front t.back [] [] [] [] (asks_moves _ _ _ s t.front refl t.first)
+        (lines_move false s t.back t.second))
     go false t = absurd t
 
 writes_move : (bytes : List ℕ) → Moves bytes [] (data_writes bytes)
 writes_move [] = nothing
-writes_move (byte ∷ bytes) = let rest = writes_move bytes in record { written_is = ap (λ xs. byte ∷ xs) rest.written_is; read_is = rest.read_is }
+writes_move (byte ∷ bytes) = let rest = writes_move bytes in record {
+  written_is = ap (λ xs. byte ∷ xs) rest.written_is;
+  read_is =
+      rest.read_is;
+}
 
 no_bytes : (bytes : List ℕ) → length bytes ≡ 0 → bytes ≡ []
 no_bytes [] e = refl
@@ -129,12 +182,14 @@ sends_move : (bytes : List ℕ) (sent : ℕ) (s : Settings) (l : List Access) �
 sends_move bytes sent s l (inl (none, zero, is)) = rw (zero, is) nothing
 sends_move bytes sent s l (inr (inl (some, zero, t))) = rw zero (miss_moves s l t)
 sends_move bytes sent s l (inr (inr (some, size, t))) =
-    rw (t.whole, t.second.is) (moves-then t.front (data_writes (take sent bytes)) [] (take sent bytes) [] [] (hit_moves s t.front t.first) (writes_move (take sent bytes)))
+    rw (t.whole, t.second.is) (moves-then t.front (data_writes (take sent bytes)) [] (take sent bytes) [] [] (hit_moves s t.front t.first)
+    (writes_move (take sent bytes)))
 
 hits_move : (bytes : List ℕ) (s : Settings) (l : List Access) → InOrder Hit bytes s l → Moves [] bytes l
 hits_move [] s l t = rw t.is nothing
 hits_move (byte ∷ bytes) s l t =
-    let one : Moves [] (byte ∷ []) t.front = rw (t.first.whole, t.first.first.is, t.first.second.is) (record { written_is = refl; read_is = refl }) in
+    let one : Moves [] (byte ∷ []) t.front = rw (t.first.whole, t.first.first.is, t.first.second.is)
+    (record { written_is = refl; read_is = refl }) in
     rw t.whole (moves-then t.front t.back [] [] (byte ∷ []) bytes one (hits_move bytes s t.back t.second))
 
 receives_move : (room : ℕ) (bytes : List ℕ) (s : Settings) (l : List Access) → Receives room bytes s l → Moves [] bytes l
@@ -152,15 +207,25 @@ record Saves (written read : List ℕ) (f : Fields) (l : List Access) (after : F
   pub lsr : after.lsr ≡ bit_or f.lsr (saved_lsr l)
   pub msr : after.msr ≡ bit_or f.msr (saved_msr l)
 
-saving_saves : (written read : List ℕ) (f : Fields) (l : List Access) (after : Fields) → Moves written read l → after ≡ saving f l → Saves written read f l after
-saving_saves written read f l after moves is = record { moves = moves; settings = ap settings_of is; lsr = ap (λ g. g.lsr) is; msr = ap (λ g. g.msr) is }
+saving_saves : (written read : List ℕ) (f : Fields) (l : List Access) (after : Fields) → Moves written read l → after ≡ saving f l →
+    Saves written read f l after
+saving_saves written read f l after moves is = record {
+  moves = moves;
+  settings = ap settings_of is;
+  lsr = ap (λ g. g.lsr) is;
+  msr =
+      ap (λ g. g.msr) is;
+}
 
-saves-then : (f mid after : Fields) (l m : List Access) (ws vs rs us : List ℕ) → Saves ws rs f l mid → Saves vs us mid m after → Saves (ws ++ vs) (rs ++ us) f (l ++ m) after
+saves-then : (f mid after : Fields) (l m : List Access) (ws vs rs us : List ℕ) → Saves ws rs f l mid → Saves vs us mid m after →
+    Saves (ws ++ vs) (rs ++ us) f (l ++ m) after
 saves-then f mid after l m ws vs rs us a b = record {
   moves = moves-then l m ws vs rs us a.moves b.moves;
   settings = b.settings ∙ a.settings;
-  lsr = b.lsr ∙ (ap (λ n. bit_or n (saved_lsr m)) a.lsr ∙ (or_assoc f.lsr (saved_lsr l) (saved_lsr m) ∙ ap (bit_or f.lsr) (sym (saved-append 5 30 l m))));
-  msr = b.msr ∙ (ap (λ n. bit_or n (saved_msr m)) a.msr ∙ (or_assoc f.msr (saved_msr l) (saved_msr m) ∙ ap (bit_or f.msr) (sym (saved-append 6 15 l m))));
+  lsr = b.lsr ∙ (ap (λ n. bit_or n (saved_lsr m)) a.lsr ∙ (or_assoc f.lsr (saved_lsr l) (saved_lsr m)
+      ∙ ap (bit_or f.lsr) (sym (saved-append 5 30 l m))));
+  msr = b.msr ∙ (ap (λ n. bit_or n (saved_msr m)) a.msr ∙ (or_assoc f.msr (saved_msr l) (saved_msr m)
+      ∙ ap (bit_or f.msr) (sym (saved-append 6 15 l m))));
 }
 
 enables_saves : (bits : ℕ) (f : Fields) (l : List Access) (after : Fields) → Enables bits f l after → Saves [] [] f l after
@@ -196,15 +261,19 @@ pub record Carries (f : RingFields) (l : List Access) (after : RingFields) : Typ
 
 carries-then : (f mid after : RingFields) (l m : List Access) → Carries f l mid → Carries mid m after → Carries f (l ++ m) after
 carries-then f mid after l m a b = record {
-  sent = a.sent ∙ (ap (λ xs. data_written l ++ xs) b.sent ∙ (sym (append_assoc (data_written l) (data_written m) after.transmit.items) ∙ ap (λ xs. xs ++ after.transmit.items) (sym (data_written-append l m))));
-  received = b.received ∙ (ap (λ xs. xs ++ data_read m) a.received ∙ (append_assoc f.receive.items (data_read l) (data_read m) ∙ ap (λ xs. f.receive.items ++ xs) (sym (data_read-append l m))));
-  line = b.line ∙ (ap (λ n. bit_or n (saved_lsr m)) a.line ∙ (or_assoc (untold_line f) (saved_lsr l) (saved_lsr m) ∙ ap (bit_or (untold_line f)) (sym (saved-append 5 30 l m))));
-  modem = b.modem ∙ (ap (λ n. bit_or n (saved_msr m)) a.modem ∙ (or_assoc (untold_modem f) (saved_msr l) (saved_msr m) ∙ ap (bit_or (untold_modem f)) (sym (saved-append 6 15 l m))));
+  sent = a.sent ∙ (ap (λ xs. data_written l ++ xs) b.sent ∙ (sym (append_assoc (data_written l) (data_written m) after.transmit.items)
+      ∙ ap (λ xs. xs ++ after.transmit.items) (sym (data_written-append l m))));
+  received = b.received ∙ (ap (λ xs. xs ++ data_read m) a.received ∙ (append_assoc f.receive.items (data_read l) (data_read m)
+      ∙ ap (λ xs. f.receive.items ++ xs) (sym (data_read-append l m))));
+  line = b.line ∙ (ap (λ n. bit_or n (saved_lsr m)) a.line ∙ (or_assoc (untold_line f) (saved_lsr l) (saved_lsr m)
+      ∙ ap (bit_or (untold_line f)) (sym (saved-append 5 30 l m))));
+  modem = b.modem ∙ (ap (λ n. bit_or n (saved_msr m)) a.modem ∙ (or_assoc (untold_modem f) (saved_msr l) (saved_msr m)
+      ∙ ap (bit_or (untold_modem f)) (sym (saved-append 6 15 l m))));
   rooms = (b.rooms.0 ∙ a.rooms.0, b.rooms.1 ∙ a.rooms.1);
   settings = b.settings ∙ a.settings;
 }
 
-stays_carries : (f : RingFields) (l : List Access) (after : RingFields) → Stays f l after → Carries f l after
+stays_carries : Implies Stays Carries
 stays_carries f l after (is, same) = rw (is, same) (record {
   sent = refl;
   received = sym (append-nil f.receive.items);
@@ -215,14 +284,17 @@ stays_carries f l after (is, same) = rw (is, same) (record {
 })
 
 -- the driver did so, and the other fields became these
-carries_driver : (f e : RingFields) (l : List Access) (after : RingFields) (written read : List ℕ) → Saves written read f.driver l after.driver → after ≡ with_driver after.driver e →
+carries_driver : (f e : RingFields) (l : List Access) (after : RingFields) (written read : List ℕ) →
+    Saves written read f.driver l after.driver → after ≡ with_driver after.driver e →
     f.transmit.items ≡ written ++ e.transmit.items → e.receive.items ≡ f.receive.items ++ read → e.line ≡ f.line → e.modem ≡ f.modem →
     e.transmit.capacity ≡ f.transmit.capacity → e.receive.capacity ≡ f.receive.capacity → Carries f l after
 carries_driver f e l after written read s same sent received line modem tx_room rx_room = record {
   sent = sent ∙ (λ i. sym s.moves.written_is i ++ (same' i).transmit.items);
   received = ap (λ (g : RingFields). g.receive.items) same ∙ (received ∙ ap (λ xs. f.receive.items ++ xs) (sym s.moves.read_is));
-  line = ap (λ n. bit_and (bit_or n after.driver.lsr) 30) (ap (λ (g : RingFields). g.line) same ∙ line) ∙ (ap (λ n. bit_and (bit_or f.line n) 30) s.lsr ∙ more_saved f.line f.driver.lsr (saved_lsr l) 30 (saved-within 5 30 l));
-  modem = ap (λ n. bit_and (bit_or n after.driver.msr) 15) (ap (λ (g : RingFields). g.modem) same ∙ modem) ∙ (ap (λ n. bit_and (bit_or f.modem n) 15) s.msr ∙ more_saved f.modem f.driver.msr (saved_msr l) 15 (saved-within 6 15 l));
+  line = ap (λ n. bit_and (bit_or n after.driver.lsr) 30) (ap (λ (g : RingFields). g.line) same ∙ line)
+      ∙ (ap (λ n. bit_and (bit_or f.line n) 30) s.lsr ∙ more_saved f.line f.driver.lsr (saved_lsr l) 30 (saved-within 5 30 l));
+  modem = ap (λ n. bit_and (bit_or n after.driver.msr) 15) (ap (λ (g : RingFields). g.modem) same ∙ modem)
+      ∙ (ap (λ n. bit_and (bit_or f.modem n) 15) s.msr ∙ more_saved f.modem f.driver.msr (saved_msr l) 15 (saved-within 6 15 l));
   rooms = (ap (λ (g : RingFields). g.transmit.capacity) same ∙ tx_room, ap (λ (g : RingFields). g.receive.capacity) same ∙ rx_room);
   settings = s.settings;
 }
@@ -231,10 +303,13 @@ carries_driver f e l after written read s same sent received line modem tx_room 
     same' = sym same
 
 -- the same where nothing moves in the rings
-carries_still : (f e : RingFields) (l : List Access) (after : RingFields) → Saves [] [] f.driver l after.driver → after ≡ with_driver after.driver e →
+carries_still : (f e : RingFields) (l : List Access) (after : RingFields) → Saves [] [] f.driver l after.driver →
+    after ≡ with_driver after.driver e →
     e.transmit ≡ f.transmit → e.receive ≡ f.receive → e.line ≡ f.line → e.modem ≡ f.modem → Carries f l after
 carries_still f e l after s same transmit receive line modem =
-    carries_driver f e l after [] [] s same (ap (λ b. b.items) (sym transmit)) (ap (λ b. b.items) receive ∙ sym (append-nil f.receive.items)) line modem (ap (λ b. b.capacity) transmit) (ap (λ b. b.capacity) receive)
+    carries_driver f e l after [] [] s same (ap (λ b. b.items) (sym transmit))
+    (ap (λ b. b.items) receive ∙ sym (append-nil f.receive.items)) line modem (ap (λ b. b.capacity) transmit)
+    (ap (λ b. b.capacity) receive)
 
 -- ---- each piece
 
@@ -243,41 +318,48 @@ sent_within bytes sent s l (inl t) = omega (arith, t.1)
 sent_within bytes sent s l (inr (inl t)) = omega (arith, t.1)
 sent_within bytes sent s l (inr (inr t)) = omega (arith, t.1)
 
-pumps_carry : (f : RingFields) (l : List Access) (after : RingFields) → Pumps f l after → Carries f l after
+pumps_carry : Implies Pumps Carries
 pumps_carry f l after (sent, (t, same)) =
     let bytes = f.transmit.items in
     let s = settings_of f.driver in
     let few : sent ≤ length (take FIFO_SIZE bytes) = sent_within (take FIFO_SIZE bytes) sent s t.front t.first.0 in
-    let front : take sent (take FIFO_SIZE bytes) ≡ take sent bytes = take-take sent FIFO_SIZE bytes (omega (arith, few, length-take FIFO_SIZE bytes)) in
+    let front : take sent (take FIFO_SIZE bytes) ≡ take sent bytes = take-take sent FIFO_SIZE bytes
+    (omega (arith, few, length-take FIFO_SIZE bytes)) in
     let first = saving_saves _ _ f.driver t.front t.mid (sends_move (take FIFO_SIZE bytes) sent s t.front t.first.0) t.first.1 in
-    let both = saves-then f.driver t.mid after.driver t.front t.back _ _ _ _ first (arms_saves (drop sent bytes) t.mid t.back after.driver t.second) in
+    let both = saves-then f.driver t.mid after.driver t.front t.back _ _ _ _ first
+    (arms_saves (drop sent bytes) t.mid t.back after.driver t.second) in
     let split : bytes ≡ (take sent (take FIFO_SIZE bytes) ++ []) ++ drop sent bytes =
-    sym (take-append-drop sent bytes) ∙ ap (λ xs. xs ++ drop sent bytes) (sym front ∙ sym (append-nil (take sent (take FIFO_SIZE bytes)))) in
-    rw t.whole (carries_driver f (without_sent sent f) (t.front ++ t.back) after _ _ both same split (sym (append-nil f.receive.items)) refl refl refl refl)
+    sym (take-append-drop sent bytes) ∙ ap (λ xs. xs ++ drop sent bytes) (sym front
+    ∙ sym (append-nil (take sent (take FIFO_SIZE bytes)))) in
+    rw t.whole (carries_driver f (without_sent sent f) (t.front ++ t.back) after _ _ both same split
+    (sym (append-nil f.receive.items)) refl refl refl refl)
 
-pauses_carry : (f : RingFields) (l : List Access) (after : RingFields) → PausesIfFull f l after → Carries f l after
+pauses_carry : Implies PausesIfFull Carries
 pauses_carry f l after t = go (is_full f.receive) t
   where
-    go : (full : Bool) → MatchBool full (OnDriver (Disables IER.DATA_READY.0) (with_paused true) f l after) (Stays f l after) → Carries f l after
+    go : (full : Bool) → MatchBool full (OnDriver (Disables IER.DATA_READY.0) (with_paused true) f l after) (Stays f l after) →
+        Carries f l after
     go true t = carries_still f (with_paused true f) l after (disables_saves _ f.driver l after.driver t.0) t.1 refl refl refl refl
     go false t = stays_carries f l after t
 
-ends_pause_carries : (f : RingFields) (l : List Access) (after : RingFields) → EndsPause f l after → Carries f l after
+ends_pause_carries : Implies EndsPause Carries
 ends_pause_carries f l after t = go f.is_paused t
   where
-    go : (paused : Bool) → MatchBool paused (OnDriver (Enables IER.DATA_READY.0) (with_paused false) f l after) (Stays f l after) → Carries f l after
+    go : (paused : Bool) → MatchBool paused (OnDriver (Enables IER.DATA_READY.0) (with_paused false) f l after) (Stays f l after) →
+        Carries f l after
     go true t = carries_still f (with_paused false f) l after (enables_saves _ f.driver l after.driver t.0) t.1 refl refl refl refl
     go false t = stays_carries f l after t
 
-pub received_carries : (bytes : List ℕ) (f : RingFields) (l : List Access) (after : RingFields) → OnDriver (Saving (Receives (min FIFO_SIZE (free f.receive)) bytes)) (with_received bytes) f l after → Carries f l after
-received_carries bytes f l after ((fits, saved), same) =
-    let moves = receives_move (min FIFO_SIZE (free f.receive)) bytes (settings_of f.driver) l fits in
+pub received_carries : (room : ℕ) (bytes : List ℕ) → Implies (OnDriver (Saving (Receives room bytes)) (with_received bytes)) Carries
+received_carries room bytes f l after ((fits, saved), same) =
+    let moves = receives_move room bytes (settings_of f.driver) l fits in
     let saves = saving_saves [] bytes f.driver l after.driver moves saved in
     carries_driver f (with_received bytes f) l after [] bytes saves same refl refl refl refl refl refl
 
-fills_carry : (f : RingFields) (l : List Access) (after : RingFields) → FillsReceiveRing f l after → Carries f l after
+fills_carry : Implies FillsReceiveRing Carries
 fills_carry f l after (bytes, t) =
-    rw t.whole (carries-then f t.mid after t.front t.back (received_carries bytes f t.front t.mid t.first) (pauses_carry t.mid t.back after t.second))
+    rw t.whole (carries-then f t.mid after t.front t.back (received_carries _ bytes f t.front t.mid t.first)
+    (pauses_carry t.mid t.back after t.second))
 
 -- a status is read, and nothing else changes but what is noted and kept of it
 lsr_moves : (status : ℕ) (f : Fields) (l : List Access) (after : Fields) → TakesLsr status f l after → Moves [] [] l
@@ -286,7 +368,7 @@ lsr_moves status f l after (read, is, shown, changed) = rw is (record { written_
 msr_moves : (status : ℕ) (f : Fields) (l : List Access) (after : Fields) → TakesMsr status f l after → Moves [] [] l
 msr_moves status f l after (read, is, shown, changed) = rw is (record { written_is = refl; read_is = refl })
 
-notes_line_carries : (f : RingFields) (l : List Access) (after : RingFields) → NotesLine f l after → Carries f l after
+notes_line_carries : Implies NotesLine Carries
 notes_line_carries f l after (status, ((read, is, shown, changed), same)) =
     let told : untold_line after ≡ bit_or (untold_line f) (saved_lsr l) =
     rw (ap (λ (g : RingFields). g.line) same, ap (λ (g : Fields). g.lsr) changed, shown, is) (now_noted f.line f.driver.lsr read 30) in
@@ -301,7 +383,7 @@ notes_line_carries f l after (status, ((read, is, shown, changed), same)) =
       settings = ap settings_of changed;
     }
 
-notes_modem_carries : (f : RingFields) (l : List Access) (after : RingFields) → NotesModem f l after → Carries f l after
+notes_modem_carries : Implies NotesModem Carries
 notes_modem_carries f l after (status, ((read, is, shown, changed), same)) =
     let told : untold_modem after ≡ bit_or (untold_modem f) (saved_msr l) =
     rw (ap (λ (g : RingFields). g.modem) same, ap (λ (g : Fields). g.msr) changed, shown, is) (now_noted f.modem f.driver.msr read 15) in
@@ -316,7 +398,7 @@ notes_modem_carries f l after (status, ((read, is, shown, changed), same)) =
       settings = ap settings_of changed;
     }
 
-serves_carry : (interrupt : InterruptType) (f : RingFields) (l : List Access) (after : RingFields) → Serves interrupt f l after → Carries f l after
+serves_carry : (interrupt : InterruptType) → Implies (Serves interrupt) Carries
 serves_carry ReceiverLineStatus f l after t = notes_line_carries f l after t
 serves_carry ReceivedDataReady f l after t = fills_carry f l after t
 serves_carry ReceptionTimeout f l after t = fills_carry f l after t
@@ -325,24 +407,26 @@ serves_carry ModemStatus f l after t = notes_modem_carries f l after t
 serves_carry DmaReceptionEndOfTransfer f l after t = stays_carries f l after t
 serves_carry DmaTransmissionEndOfTransfer f l after t = stays_carries f l after t
 
-pub shows_carry : (interrupt : Option InterruptType) (f : RingFields) (l : List Access) (after : RingFields) → OnDriver (ShowsInterrupt interrupt) unchanged f l after → Carries f l after
+pub shows_carry : (interrupt : Option InterruptType) → Implies (OnDriver (ShowsInterrupt interrupt) unchanged) Carries
 shows_carry interrupt f l after ((isr, shown, t), same) =
     let moves : Moves [] [] l = rw t.0.is (record { written_is = refl; read_is = refl }) in
     carries_still f f l after (saving_saves [] [] f.driver l after.driver moves t.1) same refl refl refl refl
 
-pub serves_one_carries : (f : RingFields) (l : List Access) (after : RingFields) → ServesOne f l after → Carries f l after
+pub serves_one_carries : Implies ServesOne Carries
 serves_one_carries f l after (interrupt, t) =
-    rw t.whole (carries-then f t.mid after t.front t.back (shows_carry _ f t.front t.mid t.first) (serves_carry interrupt t.mid t.back after t.second))
+    rw t.whole (carries-then f t.mid after t.front t.back (shows_carry _ f t.front t.mid t.first)
+    (serves_carry interrupt t.mid t.back after t.second))
 
-pub times_carry : (n : ℕ) (f : RingFields) (l : List Access) (after : RingFields) → RingTimes n ServesOne f l after → Carries f l after
+pub times_carry : (n : ℕ) → Implies (RingTimes n ServesOne) Carries
 times_carry zero f l after t = stays_carries f l after t
 times_carry (suc n) f l after t =
-    rw t.whole (carries-then f t.mid after t.front t.back (serves_one_carries f t.front t.mid t.first) (times_carry n t.mid t.back after t.second))
+    rw t.whole (carries-then f t.mid after t.front t.back (serves_one_carries f t.front t.mid t.first)
+    (times_carry n t.mid t.back after t.second))
 
 -- ---- each call
 
 -- what a call conserves that accepts nothing, gives nothing and tells nothing
-carried : (f : RingFields) (l : List Access) (after : RingFields) → Carries f l after → Conserves [] [] 0 0 f l after
+carried : Implies Carries (Conserves [] [] 0 0)
 carried f l after c = record {
   sent = sym c.sent ∙ sym (append-nil f.transmit.items);
   received = c.received;
@@ -352,16 +436,17 @@ carried f l after c = record {
   settings = c.settings;
 }
 
-pub services_conserve : (count : ℕ) (f : RingFields) (l : List Access) (after : RingFields) → Services count f l after → Conserves [] [] 0 0 f l after
+pub services_conserve : (count : ℕ) → Implies (Services count) (Conserves [] [] 0 0)
 services_conserve count f l after (inl (fewer, t)) =
-    carried f l after (rw t.whole (carries-then f t.mid after t.front t.back (times_carry count f t.front t.mid t.first) (shows_carry _ t.mid t.back after t.second)))
+    carried f l after (rw t.whole (carries-then f t.mid after t.front t.back (times_carry count f t.front t.mid t.first)
+    (shows_carry _ t.mid t.back after t.second)))
 services_conserve count f l after (inr (all, t)) = carried f l after (times_carry count f l after t)
 
-any_pumps_carry : (count : ℕ) (f : RingFields) (l : List Access) (after : RingFields) → IfAny count Pumps f l after → Carries f l after
+any_pumps_carry : (count : ℕ) → Implies (IfAny count Pumps) Carries
 any_pumps_carry zero f l after t = stays_carries f l after t
 any_pumps_carry (suc n) f l after t = pumps_carry f l after t
 
-pub queues_conserve : (bytes : List ℕ) (count : ℕ) (f : RingFields) (l : List Access) (after : RingFields) → Queues bytes count f l after → Conserves (take count bytes) [] 0 0 f l after
+pub queues_conserve : (bytes : List ℕ) (count : ℕ) → Implies (Queues bytes count) (Conserves (take count bytes) [] 0 0)
 queues_conserve bytes count f l after (is, t) =
     let c = any_pumps_carry count (with_queued (take count bytes) f) l after t in
     record {
@@ -373,7 +458,7 @@ queues_conserve bytes count f l after (is, t) =
       settings = c.settings;
     }
 
-any_ends_pause_carries : (count : ℕ) (f : RingFields) (l : List Access) (after : RingFields) → IfAny count EndsPause f l after → Carries f l after
+any_ends_pause_carries : (count : ℕ) → Implies (IfAny count EndsPause) Carries
 any_ends_pause_carries zero f l after t = stays_carries f l after t
 any_ends_pause_carries (suc n) f l after t = ends_pause_carries f l after t
 
@@ -384,39 +469,40 @@ taken_first slots items bytes is =
     let rest : drop (length bytes) items ≡ drop slots items = ap (λ n. drop n items) size ∙ drop_min slots items in
     (λ i. is i ++ rest i) ∙ take-append-drop slots items
 
-pub takes_conserve : (slots : ℕ) (bytes : List ℕ) (f : RingFields) (l : List Access) (after : RingFields) → Takes slots bytes f l after → Conserves [] bytes 0 0 f l after
+pub takes_conserve : (slots : ℕ) (bytes : List ℕ) → Implies (Takes slots bytes) (Conserves [] bytes 0 0)
 takes_conserve slots bytes f l after (is, t) =
     let c = any_ends_pause_carries (length bytes) (without_taken (length bytes) f) l after t in
     let items = f.receive.items in
     record {
       sent = sym c.sent ∙ sym (append-nil f.transmit.items);
-      received = ap (λ xs. bytes ++ xs) c.received ∙ (sym (append_assoc bytes (drop (length bytes) items) (data_read l)) ∙ ap (λ xs. xs ++ data_read l) (taken_first slots items bytes is));
+      received = ap (λ xs. bytes ++ xs) c.received ∙ (sym (append_assoc bytes (drop (length bytes) items) (data_read l))
+          ∙ ap (λ xs. xs ++ data_read l) (taken_first slots items bytes is));
       line_told = c.line;
       modem_told = c.modem;
       rooms = c.rooms;
       settings = c.settings;
     }
 
-pub takes_line_conserve : (line : ℕ) (f : RingFields) (l : List Access) (after : RingFields) → TakesLine line f l after → Conserves [] [] line 0 f l after
+pub takes_line_conserve : (line : ℕ) → Implies (TakesLine line) (Conserves [] [] line 0)
 takes_line_conserve line f l after (status, told, ((read, is, shown, changed), same)) = record {
   sent = rw is (ap (λ (g : RingFields). g.transmit.items) same ∙ sym (append-nil f.transmit.items));
   received = rw is (ap (λ (g : RingFields). g.receive.items) same ∙ sym (append-nil f.receive.items));
   line_told =
-    rw (told, shown, ap (λ (g : RingFields). g.line) same, ap (λ (g : Fields). g.lsr) changed, is)
-    (or_zero_r _ ∙ now_told f.line f.driver.lsr read 30);
+      rw (told, shown, ap (λ (g : RingFields). g.line) same, ap (λ (g : Fields). g.lsr) changed, is)
+      (or_zero_r _ ∙ now_told f.line f.driver.lsr read 30);
   modem_told = rw (ap (λ (g : RingFields). g.modem) same, ap (λ (g : Fields). g.msr) changed, is) (sym (or_zero_r (untold_modem f)));
   rooms = (ap (λ (g : RingFields). g.transmit.capacity) same, ap (λ (g : RingFields). g.receive.capacity) same);
   settings = ap settings_of changed;
 }
 
-pub takes_modem_conserve : (modem : ℕ) (f : RingFields) (l : List Access) (after : RingFields) → TakesModem modem f l after → Conserves [] [] 0 modem f l after
+pub takes_modem_conserve : (modem : ℕ) → Implies (TakesModem modem) (Conserves [] [] 0 modem)
 takes_modem_conserve modem f l after (status, told, ((read, is, shown, changed), same)) = record {
   sent = rw is (ap (λ (g : RingFields). g.transmit.items) same ∙ sym (append-nil f.transmit.items));
   received = rw is (ap (λ (g : RingFields). g.receive.items) same ∙ sym (append-nil f.receive.items));
   line_told = rw (ap (λ (g : RingFields). g.line) same, ap (λ (g : Fields). g.lsr) changed, is) (sym (or_zero_r (untold_line f)));
   modem_told =
-    rw (told, shown, ap (λ (g : RingFields). g.modem) same, ap (λ (g : Fields). g.msr) changed, is)
-    (or_zero_r _ ∙ now_told f.modem f.driver.msr read 15);
+      rw (told, shown, ap (λ (g : RingFields). g.modem) same, ap (λ (g : Fields). g.msr) changed, is)
+      (or_zero_r _ ∙ now_told f.modem f.driver.msr read 15);
   rooms = (ap (λ (g : RingFields). g.transmit.capacity) same, ap (λ (g : RingFields). g.receive.capacity) same);
   settings = ap settings_of changed;
 }

@@ -3,7 +3,8 @@ use Rattle.std.proofs.Common.{◌≡◌, ◌<◌, ◌≤◌, ◌+◌, ℕ, zero,
 use Rattle.uart_spec.specs.Access.{Access}
 use Rattle.uart_16550.specs.Driver.{Did, Doing, fields}
 use Rattle.uart_16550.proofs.Paths.{path_then}
-use Rattle.uart_ring.specs.Ring.{RingFields, RingDoing, RingDid, ring_fields, ring_backend_of, OnDriver, Stays, RingNext, RingTimes, IfAny, with_driver}
+use Rattle.uart_ring.specs.Ring.{RingFields, RingDoing, RingDid, ring_fields, ring_backend_of, OnDriver, Stays, RingNext, RingTimes, IfAny}
+use Rattle.uart_ring.specs.Ring.{with_driver}
 use Rattle.uart_ring.specs.declared.ring.Uart16550Ring.{Uart16550Ring}
 
 -- the driver did this, and the other fields changed so
@@ -12,7 +13,8 @@ pub ring_did : {B : Type 0} {step : B → Access → B → Type 0} {G : Doing} (
 ring_did change a b p same = record { list = p.list; path = p.path; does = (p.does, same) }
 
 -- one doing and then another
-pub ring_then : {B : Type 0} {step : B → Access → B → Type 0} {G H : RingDoing} {a b c : Uart16550Ring B} → RingDid step G a b → RingDid step H b c → RingDid step (RingNext G H) a c
+pub ring_then : {B : Type 0} {step : B → Access → B → Type 0} {G H : RingDoing} {a b c : Uart16550Ring B} → RingDid step G a b →
+    RingDid step H b c → RingDid step (RingNext G H) a c
 ring_then {step} {a} {b} {c} p q = record {
   list = p.list ++ q.list;
   path = path_then step (ring_backend_of a) (ring_backend_of b) (ring_backend_of c) p.list q.list p.path q.path;
@@ -21,7 +23,8 @@ ring_then {step} {a} {b} {c} p q = record {
 
 -- what is done is among more
 pub ring_among : {B : Type 0} {step : B → Access → B → Type 0} {G H : RingDoing} {a b : Uart16550Ring B} →
-    ((l : List Access) → G (ring_fields a) l (ring_fields b) → H (ring_fields a) l (ring_fields b)) → RingDid step G a b → RingDid step H a b
+    ((l : List Access) → G (ring_fields a) l (ring_fields b) → H (ring_fields a) l (ring_fields b)) → RingDid step G a b →
+    RingDid step H a b
 ring_among h p = record { list = p.list; path = p.path; does = h p.list p.does }
 
 -- nothing at all
@@ -29,7 +32,8 @@ pub ring_none : {B : Type 0} {step : B → Access → B → Type 0} {a : Uart165
 ring_none = record { list = []; path = refl; does = (refl, refl) }
 
 -- one time more
-times_more : (n : ℕ) (G : RingDoing) (f g h : RingFields) (l m : List Access) → RingTimes n G f l g → G g m h → RingTimes (n + 1) G f (l ++ m) h
+times_more : (n : ℕ) (G : RingDoing) (f g h : RingFields) (l m : List Access) → RingTimes n G f l g → G g m h →
+    RingTimes (n + 1) G f (l ++ m) h
 times_more zero G f g h l m p q =
     let same : f ≡ g = sym p.1 in
     let D : RingFields → Type 0 = λ e. G e m h in
@@ -45,15 +49,19 @@ times_more (suc n) G f g h l m p q =
       second = rw (add-one n) at rest;
     })
 
-pub ring_times : {B : Type 0} {step : B → Access → B → Type 0} (n : ℕ) (G : RingDoing) {a b c : Uart16550Ring B} → RingDid step (RingTimes n G) a b → RingDid step G b c → RingDid step (RingTimes (n + 1) G) a c
+pub ring_times : {B : Type 0} {step : B → Access → B → Type 0} (n : ℕ) (G : RingDoing) {a b c : Uart16550Ring B} →
+    RingDid step (RingTimes n G) a b → RingDid step G b c → RingDid step (RingTimes (n + 1) G) a c
 ring_times n G {a} {b} {c} p q =
-    ring_among (λ l t. let mid = t.mid in rw t.whole (times_more n G (ring_fields a) mid (ring_fields c) t.front t.back t.first t.second)) (ring_then p q)
+    ring_among (λ l t. let mid = t.mid in rw t.whole (times_more n G (ring_fields a) mid (ring_fields c) t.front t.back t.first t.second))
+    (ring_then p q)
 
 -- where there are any, and where there are none
-pub any_some : (count : ℕ) (G : RingDoing) (f : RingFields) (l : List Access) (after : RingFields) → 0 < count → G f l after → IfAny count G f l after
+pub any_some : (count : ℕ) (G : RingDoing) (f : RingFields) (l : List Access) (after : RingFields) → 0 < count → G f l after →
+    IfAny count G f l after
 any_some zero G f l after some does = absurd (omega (arith, some))
 any_some (suc n) G f l after some does = does
 
-pub any_none : (count : ℕ) (G : RingDoing) (f : RingFields) (l : List Access) (after : RingFields) → count ≤ 0 → Stays f l after → IfAny count G f l after
+pub any_none : (count : ℕ) (G : RingDoing) (f : RingFields) (l : List Access) (after : RingFields) → count ≤ 0 → Stays f l after →
+    IfAny count G f l after
 any_none zero G f l after none stays = stays
 any_none (suc n) G f l after none stays = absurd (omega (arith, none))

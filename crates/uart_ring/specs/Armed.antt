@@ -1,4 +1,4 @@
--- Why bytes never wait in the transmit ring with no interrupt to come: what the accesses tell of the THR-empty interrupt.
+-- Why bytes never wait in the transmit ring with no interrupt to come: what accesses tell of the THR-empty interrupt.
 use Rattle.std.specs.Prelude.{◌≡◌, ◌==◌, ◌⊎◌, ℕ, Bool, true, false, not, ◌&&◌, ◌||◌, ⊤, List, [], ◌∷◌, if◌then◌else◌}
 use Rattle.uart_spec.specs.Access.{Access, Read, Write}
 use Rattle.uart_spec.specs.Bits.{has, field}
@@ -9,8 +9,8 @@ use Rattle.uart_spec.specs.declared.registers.line_status.TheConstants.LSR
 use Rattle.uart_spec.specs.declared.registers.offsets.TheConstants as offsets
 use Rattle.uart_ring.specs.Ring.{RingDoing, RingFields}
 
--- what is known of the chip's THR-empty interrupt: that it is enabled; that it is due, that is, pending, or to come once the chip
--- has sent what it holds
+-- what is known of the chip's THR-empty interrupt: that it is enabled; that it is due, that is, pending, or to come once
+-- the chip has sent what it holds
 pub record ThrEmpty : Type 0 where
   pub enabled : Bool
   pub due : Bool
@@ -26,8 +26,8 @@ due_after_read offset answer due =
     else if offset == offsets.ISR then not (shows_thr_empty answer) && due
     else due
 
--- what is known after an access: a byte that was written to DATA is held, IER keeps what is written to it, and after a write
--- of another register nothing is known
+-- what is known after an access: a byte that was written to DATA is held, IER keeps what is written to it, and after a
+-- write of another register nothing is known
 abbrev pub after_access : ThrEmpty → Access → ThrEmpty
 after_access known (Read offset answer) =
     record { enabled = known.enabled; due = due_after_read offset answer known.due }

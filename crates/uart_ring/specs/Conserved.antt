@@ -1,4 +1,5 @@
--- What ring calls conserve, whatever the backend answers: bytes on their way out and in, line errors, changes of the modem lines.
+-- What ring calls conserve, whatever the backend answers: bytes on their way out and in, line errors, and changes of the
+-- modem lines.
 use Rattle.std.specs.Prelude.{◌≡◌, ◌==◌, ℕ, List, [], ◌∷◌, ◌++◌, bit_and, bit_or, if◌then◌else◌}
 use Rattle.uart_spec.specs.Access.{Access, Read, Write, saved_lsr, saved_msr}
 use Rattle.uart_spec.specs.declared.registers.line_status.TheConstants.LSR
@@ -11,12 +12,14 @@ use Rattle.uart_ring.specs.Ring.{RingDoing, RingFields}
 abbrev pub data_written : List Access → List ℕ
 data_written [] = []
 data_written (Read offset answer ∷ accesses) = data_written accesses
-data_written (Write offset value ∷ accesses) = (if offset == offsets.DATA then value ∷ [] else []) ++ data_written accesses
+data_written (Write offset value ∷ accesses) =
+    (if offset == offsets.DATA then value ∷ [] else []) ++ data_written accesses
 
 -- the bytes that were read from DATA, in order
 abbrev pub data_read : List Access → List ℕ
 data_read [] = []
-data_read (Read offset answer ∷ accesses) = (if offset == offsets.DATA then answer ∷ [] else []) ++ data_read accesses
+data_read (Read offset answer ∷ accesses) =
+    (if offset == offsets.DATA then answer ∷ [] else []) ++ data_read accesses
 data_read (Write offset value ∷ accesses) = data_read accesses
 
 -- the line errors that are still to be told: those that the rings noted and those that the driver saved
@@ -28,7 +31,8 @@ abbrev pub untold_modem : RingFields → ℕ
 untold_modem f = bit_and (bit_or f.modem f.driver.msr) MSR.CHANGES.0
 
 -- a call that accepted some bytes, gave some bytes, and told what LSR and MSR showed
-pub record Conserves (accepted given : List ℕ) (line modem : ℕ) (f : RingFields) (l : List Access) (after : RingFields) : Type 0 where
+pub record Conserves (accepted given : List ℕ) (line modem : ℕ)
+    (f : RingFields) (l : List Access) (after : RingFields) : Type 0 where
   -- what was written, and what is still to be sent, is what was there and what was accepted
   pub sent : data_written l ++ after.transmit.items ≡ f.transmit.items ++ accepted
   -- what was given, and what is still to be taken, is what was there and what was read

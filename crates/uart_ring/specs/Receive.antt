@@ -5,7 +5,8 @@ use Rattle.uart_spec.specs.declared.registers.interrupt_enable.TheConstants.IER
 use Rattle.uart_16550.specs.Driver.{Saving}
 use Rattle.uart_16550.specs.Receive.{Receives}
 use Rattle.uart_16550.specs.Status.{Enables, Disables}
-use Rattle.uart_ring.specs.Ring.{RingDoing, OnDriver, Stays, RingNext, IfAny, free, is_full, with_received, without_taken, with_paused}
+use Rattle.uart_ring.specs.Ring.{RingDoing, OnDriver, Stays, RingNext, IfAny, free, is_full}
+use Rattle.uart_ring.specs.Ring.{with_received, without_taken, with_paused}
 
 -- if the receive ring is full, DATA_READY is disabled and receiving is paused
 abbrev pub PausesIfFull : RingDoing
@@ -16,15 +17,16 @@ PausesIfFull f l after =
 abbrev pub FillsReceiveRing : RingDoing
 FillsReceiveRing f l after =
     (bytes : List ℕ)
-    × RingNext (OnDriver (Saving (Receives (min FIFO_SIZE (free f.receive)) bytes)) (with_received bytes)) PausesIfFull f l after
+    × RingNext (OnDriver (Saving (Receives (min FIFO_SIZE (free f.receive)) bytes)) (with_received bytes)) PausesIfFull
+    f l after
 
 -- if receiving is paused, DATA_READY is enabled, and the pause ends
 abbrev pub EndsPause : RingDoing
 EndsPause f l after =
     MatchBool f.is_paused (OnDriver (Enables IER.DATA_READY.0) (with_paused false) f l after) (Stays f l after)
 
--- `take` into so many slots gives these bytes: from the front of the receive ring, as many as there are slots for; if there are
--- any, a pause ends
+-- `take` into so many slots gives these bytes: from the front of the receive ring, as many as there are slots for; if
+-- there are any, a pause ends
 abbrev pub Takes : ℕ → List ℕ → RingDoing
 Takes slots bytes f l after =
     (bytes ≡ take slots f.receive.items) × IfAny (length bytes) EndsPause (without_taken (length bytes) f) l after

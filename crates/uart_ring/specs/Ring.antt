@@ -35,8 +35,8 @@ driver_of r = r.uart
 abbrev pub ring_backend_of : {B : Type 0} → Uart16550Ring B → B
 ring_backend_of r = backend_of r.uart
 
--- the rings beside their backend: the driver's fields, the two rings, the bits that were noted of LSR and MSR, and whether
--- receiving is paused
+-- the rings beside their backend: the driver's fields, the two rings, the bits that were noted of LSR and MSR, and
+-- whether receiving is paused
 pub record RingFields : Type 0 where
   pub driver : Fields
   pub transmit : Buffer ℕ
@@ -72,7 +72,8 @@ abbrev pub RingDoing : Type 1
 RingDoing = RingFields → List Access → RingFields → Type 0
 
 -- the ring call did this, on a path of the backend's steps
-pub record RingDid {B : Type 0} (step : B → Access → B → Type 0) (G : RingDoing) (old new : Uart16550Ring B) : Type 0 where
+pub record RingDid {B : Type 0} (step : B → Access → B → Type 0) (G : RingDoing)
+    (old new : Uart16550Ring B) : Type 0 where
   pub list : List Access
   pub path : Path step (ring_backend_of old) list (ring_backend_of new)
   pub does : G (ring_fields old) list (ring_fields new)

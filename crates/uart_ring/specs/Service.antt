@@ -4,7 +4,15 @@ use Rattle.uart_spec.specs.Access.{Read}
 use Rattle.uart_spec.specs.Bits.{IsOnlyIfAny}
 use Rattle.uart_spec.specs.Interrupts.{Identifies}
 use Rattle.uart_spec.specs.declared.registers.interrupt_type.InterruptType.{InterruptType}
-use Rattle.uart_spec.specs.declared.registers.interrupt_type.InterruptType.TheVariants.{ReceiverLineStatus, ReceivedDataReady, ReceptionTimeout, TransmitterHoldingRegisterEmpty, ModemStatus, DmaReceptionEndOfTransfer, DmaTransmissionEndOfTransfer}
+use Rattle.uart_spec.specs.declared.registers.interrupt_type.InterruptType.TheVariants.{
+  ReceiverLineStatus,
+  ReceivedDataReady,
+  ReceptionTimeout,
+  TransmitterHoldingRegisterEmpty,
+  ModemStatus,
+  DmaReceptionEndOfTransfer,
+  DmaTransmissionEndOfTransfer,
+}
 use Rattle.uart_spec.specs.declared.registers.offsets.TheConstants as offsets
 use Rattle.uart_16550.specs.Grammar.{Only}
 use Rattle.uart_16550.specs.Driver.{Doing, Saving}
@@ -38,5 +46,6 @@ ServesOne f l after =
 -- `service`: fewer interrupts than the most were served, and then none was shown; or the most were
 abbrev pub Services : ℕ → RingDoing
 Services count f l after =
-    ((count < MAX_INTERRUPTS) × RingNext (RingTimes count ServesOne) (OnDriver (ShowsInterrupt None) unchanged) f l after)
+    ((count < MAX_INTERRUPTS)
+    × RingNext (RingTimes count ServesOne) (OnDriver (ShowsInterrupt None) unchanged) f l after)
     ⊎ ((count ≡ MAX_INTERRUPTS) × RingTimes count ServesOne f l after)

@@ -12,13 +12,12 @@ mod transmit;
 
 use bitflags::Flags;
 use circular_buffer::HeapCircularBuffer;
+pub use service::MAX_INTERRUPTS;
 use std::alloc::Global;
 use thiserror::Error;
 use uart_16550::Uart16550;
 use uart_16550::backend::Backend;
 use uart_spec::registers::{LSR, MSR};
-
-pub use service::MAX_INTERRUPTS;
 
 /// The most bytes that a ring can be made for.
 pub const MAX_CAPACITY: usize = 4096;

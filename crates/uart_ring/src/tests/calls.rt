@@ -129,7 +129,15 @@ fn receiving_is_paused_by_a_full_ring(rt: HostRuntime) -> Result<(), Fail> {
 fn line_errors_are_noted(rt: HostRuntime) -> Result<(), Fail> {
     // Serving sees an overrun. While bytes are received, a look sees a parity error, which the driver saves.
     let answers = [
-        LINE_STATUS, 0x63, DATA_READY, 0x65, 0x42, EMPTY, NONE, 0x60, 0x60,
+        LINE_STATUS,
+        0x63,
+        DATA_READY,
+        0x65,
+        0x42,
+        EMPTY,
+        NONE,
+        0x60,
+        0x60,
     ];
     let mut ring = rings(&rt, &answers, 32, 4)?;
     assert_eq!(rt; ring.service(), 2);
@@ -208,8 +216,9 @@ fn a_refusal_returns_the_driver(rt: HostRuntime) {
 fn the_driver_is_reached(rt: HostRuntime) -> Result<(), Fail> {
     let answers = [0x00, FULL, 0x05];
     let mut ring = rings(&rt, &answers, MAX_CAPACITY, 1)?;
-    ring.inner_mut()
-        .enable_interrupts(registers::IER::DATA_READY.union(registers::IER::RECEIVER_LINE_STATUS));
+    ring.inner_mut().enable_interrupts(registers::IER::DATA_READY.union(
+        registers::IER::RECEIVER_LINE_STATUS,
+    ));
     assert_eq!(rt; ring.queue(b"lost"), 4);
     assert_eq!(rt; ring.inner().config().interrupts.bits(), 0x07);
     let uart = ring.into_inner();
@@ -228,7 +237,10 @@ fn the_driver_is_reached(rt: HostRuntime) -> Result<(), Fail> {
 fn refusals_have_texts(rt: HostRuntime) -> Result<(), Fail> {
     let alloc = rt.alloc();
     for (cause, text) in [
-        (RingError::BadCapacity, "a ring has room for 1 to 4096 bytes"),
+        (
+            RingError::BadCapacity,
+            "a ring has room for 1 to 4096 bytes",
+        ),
         (RingError::OutOfMemory, "out of memory"),
     ] {
         assert_eq!(rt; format!(in alloc; "{cause}")?.as_str(), text);

@@ -104,11 +104,45 @@ impl<B: Backend + Drop> Port<B> {
 #[test]
 fn a_port_that_is_served_by_interrupts(rt: HostRuntime) -> Result<(), Fail> {
     let answers = [
-        0xa5, 0x42, 0x73, 0xc1, 0x00, 0x40, 0x00, 0xc1, 0x00, // `init`
-        EMPTY, 0x0b, 0x00, 0x0d, // a write, while the remote is not clear to send
-        MODEM_STATUS, 0x11, NONE, EMPTY, 0x10, 0x0f, 0x0d, // it is clear again
-        THR_EMPTY, EMPTY, 0x0b, 0x10, 0x0f, NONE, EMPTY, 0x10, // so the bytes are sent
-        LINE_STATUS, 0x63, DATA_READY, WAITS, 0x6f, WAITS, 0x6b, EMPTY, NONE, EMPTY, 0x10, // an overrun
+        0xa5,
+        0x42,
+        0x73,
+        0xc1,
+        0x00,
+        0x40,
+        0x00,
+        0xc1,
+        0x00, // `init`
+        EMPTY,
+        0x0b,
+        0x00,
+        0x0d, // a write, while the remote is not clear to send
+        MODEM_STATUS,
+        0x11,
+        NONE,
+        EMPTY,
+        0x10,
+        0x0f,
+        0x0d, // it is clear again
+        THR_EMPTY,
+        EMPTY,
+        0x0b,
+        0x10,
+        0x0f,
+        NONE,
+        EMPTY,
+        0x10, // so the bytes are sent
+        LINE_STATUS,
+        0x63,
+        DATA_READY,
+        WAITS,
+        0x6f,
+        WAITS,
+        0x6b,
+        EMPTY,
+        NONE,
+        EMPTY,
+        0x10, // an overrun
     ];
     let mut port = Port::start(rt.alloc(), Replay::new(&answers))?;
     assert_eq!(rt; port.write(b"hello"), 5);

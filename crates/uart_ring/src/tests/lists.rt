@@ -16,12 +16,19 @@ pub const WAITS: u8 = 0x61;
 
 /// ISR: no interrupt is pending, with the FIFO on; and each that may be.
 pub const NONE: u8 = 0xc1;
+
 pub const LINE_STATUS: u8 = 0xc6;
+
 pub const DATA_READY: u8 = 0xc4;
+
 pub const TIMEOUT: u8 = 0xcc;
+
 pub const THR_EMPTY: u8 = 0xc2;
+
 pub const MODEM_STATUS: u8 = 0xc0;
+
 pub const DMA_RECEPTION: u8 = 0xce;
+
 pub const DMA_TRANSMISSION: u8 = 0xca;
 
 /// One access, or those of a burst.
