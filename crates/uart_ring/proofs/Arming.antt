@@ -33,13 +33,13 @@ use Rattle.uart_16550.specs.Status.{Enables, Disables}
 use Rattle.uart_ring.specs.Ring.{RingFields, OnDriver, Stays, RingNext, RingTimes, IfAny, with_queued, with_paused, without_taken}
 use Rattle.uart_ring.specs.Ring.{unchanged, free, is_full}
 use Rattle.uart_ring.specs.Transmit.{ArmsIfLeft, Pumps, Queues}
-use Rattle.uart_ring.specs.Receive.{PausesIfFull, FillsReceiveRing, EndsPause, Takes}
+use Rattle.uart_ring.specs.Receive.{PausesIfFull, FillsReceiveRing, EndsPause, TakesBytes}
 use Rattle.uart_ring.specs.Status.{NotesLine, NotesModem, TakesLine, TakesModem}
-use Rattle.uart_ring.specs.Service.{ShowsInterrupt, Serves, ServesOne, Services}
-use Rattle.uart_ring.specs.Conserved.{Implies}
-use Rattle.uart_ring.specs.Armed.{ThrEmpty, shows_thr_empty, due_after_read, after_access, after_accesses, KeepsIer, IsArmed, LeavesArmed}
+use Rattle.uart_ring.specs.Service.{ShowsInterrupt, ServesInterrupt, ServesOne, Services}
+use Rattle.uart_ring.specs.Lossless.{Implies}
+use Rattle.uart_ring.specs.Armed.{ThrEmpty, shows_thr_empty, due_after_read, known_after, known_after_all, KeepsIer, IsArmed, LeavesArmed}
 use Rattle.uart_ring.specs.Armed.{Arms}
-use Rattle.uart_ring.proofs.Conserving.{Carries, received_carries, shows_carry, serves_one_carries, times_carry}
+use Rattle.uart_ring.proofs.Losses.{Carries, received_carries, shows_carry, serves_one_carries, times_carry}
 
 -- ---- bits of IER
 
@@ -78,17 +78,17 @@ or_true : (b : Bool) → (b || true) ≡ true
 or_true true = refl
 or_true false = refl
 
-after-append : (known : ThrEmpty) (l m : List Access) → after_accesses known (l ++ m) ≡ after_accesses (after_accesses known l) m
+after-append : (known : ThrEmpty) (l m : List Access) → known_after_all known (l ++ m) ≡ known_after_all (known_after_all known l) m
 after-append known [] m = refl
-after-append known (access ∷ l) m = after-append (after_access known access) l m
+after-append known (access ∷ l) m = after-append (known_after known access) l m
 
 keeps_first : (known : ThrEmpty) (l m : List Access) → KeepsIer known (l ++ m) → KeepsIer known l
 keeps_first known [] m t = tt
-keeps_first known (access ∷ l) m t = (t.0, keeps_first (after_access known access) l m t.1)
+keeps_first known (access ∷ l) m t = (t.0, keeps_first (known_after known access) l m t.1)
 
-keeps_rest : (known : ThrEmpty) (l m : List Access) → KeepsIer known (l ++ m) → KeepsIer (after_accesses known l) m
+keeps_rest : (known : ThrEmpty) (l m : List Access) → KeepsIer known (l ++ m) → KeepsIer (known_after_all known l) m
 keeps_rest known [] m t = t
-keeps_rest known (access ∷ l) m t = keeps_rest (after_access known access) l m t.1
+keeps_rest known (access ∷ l) m t = keeps_rest (known_after known access) l m t.1
 
 -- the interrupt is enabled and due
 abbrev IsLive : ThrEmpty → Type 0
@@ -115,10 +115,10 @@ still_due offset answer due other is = rw (other, is) (go (offset == offsets.LSR
     go true = or_true (not (has answer LSR.THR_EMPTY.0))
     go false = refl
 
-live_others : (known : ThrEmpty) (l : List Access) → AllOtherReads l → IsLive known → IsLive (after_accesses known l)
+live_others : (known : ThrEmpty) (l : List Access) → AllOtherReads l → IsLive known → IsLive (known_after_all known l)
 live_others known [] p live = live
 live_others known (Read offset answer ∷ l) p live =
-    live_others (after_access known (Read offset answer)) l p.1 (live.0, still_due offset answer known.due p.0 live.1)
+    live_others (known_after known (Read offset answer)) l p.1 (live.0, still_due offset answer known.due p.0 live.1)
 live_others known (Write offset value ∷ l) p live = absurd p.0
 
 hits_others : (bytes : List ℕ) (s : Settings) (l : List Access) → InOrder Hit bytes s l → AllOtherReads l
@@ -136,13 +136,13 @@ receives_others room bytes s l (inr (fewer, t)) =
 -- ---- sending makes it due
 
 writes_due : (known : ThrEmpty) (bytes : List ℕ) → (known.due ≡ true) ⊎ (0 < length bytes) →
-    (after_accesses known (data_writes bytes)).due ≡ true
+    (known_after_all known (data_writes bytes)).due ≡ true
 writes_due known [] (inl due) = due
 writes_due known [] (inr some) = absurd (omega (arith, some))
 writes_due known (byte ∷ bytes) h = writes_due (record { enabled = known.enabled; due = true }) bytes (inl refl)
 
 -- a look that shows no room makes it due
-miss_due : (known : ThrEmpty) (answer : ℕ) → has answer LSR.THR_EMPTY.0 ≡ false → (after_access known (Read offsets.LSR answer)).due ≡ true
+miss_due : (known : ThrEmpty) (answer : ℕ) → has answer LSR.THR_EMPTY.0 ≡ false → (known_after known (Read offsets.LSR answer)).due ≡ true
 miss_due known answer shows = rw shows refl
 
 asks_miss : (s : Settings) → s.checks ≡ false → (l : List Access) → SendMiss s l → Asks offsets.LSR LSR.THR_EMPTY.0 false s l
@@ -151,7 +151,7 @@ asks_miss s off l (RemoteNotClearToSend, t) = absurd (rw off at t)
 
 -- after a send of some bytes: the transmitter had no room, or it holds them
 sent_due : (known : ThrEmpty) (s : Settings) (bytes : List ℕ) (sent : ℕ) (l : List Access) → s.checks ≡ false → Sends bytes sent s l →
-    0 < length bytes → (after_accesses known l).due ≡ true
+    0 < length bytes → (known_after_all known l).due ≡ true
 sent_due known s bytes sent l off (inl (none, zero, is)) some = absurd (omega (arith, none, some))
 sent_due known s bytes sent l off (inr (inl (any, zero, t))) some = let miss = asks_miss s off l t in
     rw miss.is (miss_due known miss.answer miss.shows)
@@ -159,23 +159,23 @@ sent_due known s bytes sent l off (inr (inr (any, size, t))) some =
     let one : 0 < burst_limit s.fifo = elim s.fifo as (λ b. 0 < burst_limit b) [ true ↦ omega arith | false ↦ omega arith ] in
     let written : 0 < length (take sent bytes) = omega (arith, any, size, one, length-take sent bytes) in
     rw (t.whole, t.second.is, after-append known t.front (data_writes (take sent bytes)))
-    (writes_due (after_accesses known t.front) (take sent bytes) (inr written))
+    (writes_due (known_after_all known t.front) (take sent bytes) (inr written))
 
 -- ---- IER
 
 enabled_live : (known : ThrEmpty) (f : Fields) (l : List Access) (after : Fields) → Enables IER.THR_EMPTY.0 f l after → known.due ≡ true →
-    IsLive (after_accesses known l)
+    IsLive (known_after_all known l)
 enabled_live known f l after (ier, is, changed) due = rw is (joined ier, due)
 
 -- the other interrupts leave it as it is, if IER reads true
 resumed_live : (known : ThrEmpty) (f : Fields) (l : List Access) (after : Fields) → Enables IER.DATA_READY.0 f l after → KeepsIer known l →
-    IsLive known → IsLive (after_accesses known l)
+    IsLive known → IsLive (known_after_all known l)
 resumed_live known f l after (ier, is, changed) keeps live =
     let true_of : KeepsIer known (Read offsets.IER ier ∷ Write offsets.IER (bit_or ier IER.DATA_READY.0) ∷ []) = rw is at keeps in
     rw is (kept_joined ier ∙ true_of.0 refl live.0, live.1)
 
 paused_live : (known : ThrEmpty) (f : Fields) (l : List Access) (after : Fields) → Disables IER.DATA_READY.0 f l after → KeepsIer known l →
-    IsLive known → IsLive (after_accesses known l)
+    IsLive known → IsLive (known_after_all known l)
 paused_live known f l after (ier, is, changed) keeps live =
     let true_of : KeepsIer known (Read offsets.IER ier ∷ Write offsets.IER (without 8 ier IER.DATA_READY.0) ∷ []) = rw is at keeps in
     rw is (kept_taken ier ∙ true_of.0 refl live.0, live.1)
@@ -192,7 +192,7 @@ leaves_then : (f mid after : RingFields) (l m : List Access) → Carries f l mid
     LeavesArmed f (l ++ m) after
 leaves_then f mid after l m c first second = λ off known keeps armed.
     rw (after-append known l m)
-    (second (unchecked f l mid c off) (after_accesses known l) (keeps_rest known l m keeps)
+    (second (unchecked f l mid c off) (known_after_all known l) (keeps_rest known l m keeps)
     (first off known (keeps_first known l m keeps) armed))
 
 leaves_stays : Implies Stays LeavesArmed
@@ -200,10 +200,10 @@ leaves_stays f l after (is, same) = λ off known keeps armed. rw (is, same) arme
 
 -- the same waits to be sent, and what was live is live
 leaves_live : (f : RingFields) (l : List Access) (after : RingFields) → after.transmit.items ≡ f.transmit.items →
-    ((known : ThrEmpty) → KeepsIer known l → IsLive known → IsLive (after_accesses known l)) → LeavesArmed f l after
+    ((known : ThrEmpty) → KeepsIer known l → IsLive known → IsLive (known_after_all known l)) → LeavesArmed f l after
 leaves_live f l after items live = λ off known keeps armed. go known keeps armed
   where
-    go : (known : ThrEmpty) → KeepsIer known l → IsArmed known f → IsArmed (after_accesses known l) after
+    go : (known : ThrEmpty) → KeepsIer known l → IsArmed known f → IsArmed (known_after_all known l) after
     go known keeps (inl none) = inl (items ∙ none)
     go known keeps (inr is) = inr (live known keeps is)
 
@@ -219,7 +219,7 @@ pumps_arm f l after (sent, (t, same)) = λ off known. go off known (drop sent f.
     items = ap (λ (g : RingFields). g.transmit.items) same
 
     go : f.driver.config.check_cts_before_sending ≡ false → (known : ThrEmpty) (left : List ℕ) → drop sent f.transmit.items ≡ left →
-        ArmsIfLeft left t.mid t.back after.driver → IsArmed (after_accesses known l) after
+        ArmsIfLeft left t.mid t.back after.driver → IsArmed (known_after_all known l) after
     go off known [] e arms = inl (items ∙ e)
     go off known (byte ∷ bytes) e arms =
         let long : 0 < length (drop sent f.transmit.items) = rw e (omega arith) in
@@ -231,7 +231,7 @@ pumps_arm f l after (sent, (t, same)) = λ off known. go off known (drop sent f.
         ) in
         let due = sent_due known (settings_of f.driver) (take FIFO_SIZE f.transmit.items) sent t.front off t.first.0 some in
         inr (rw (t.whole, after-append known t.front t.back)
-        (enabled_live (after_accesses known t.front) t.mid t.back after.driver arms due))
+        (enabled_live (known_after_all known t.front) t.mid t.back after.driver arms due))
 
 pumps_leave : Implies Pumps LeavesArmed
 pumps_leave f l after t = λ off known keeps armed. pumps_arm f l after t off known
@@ -292,14 +292,14 @@ isr_leaves interrupt f l after other ((isr, shown, t), same) =
     silent : shows_thr_empty isr ≡ false
     silent = not_thr_empty isr (λ h. other ((shown TransmitterHoldingRegisterEmpty).1 h))
 
-    live : (known : ThrEmpty) → KeepsIer known l → IsLive known → IsLive (after_accesses known l)
+    live : (known : ThrEmpty) → KeepsIer known l → IsLive known → IsLive (known_after_all known l)
     live known keeps is = rw (t.0.is, silent) is
 
 -- what is served after a read of ISR that did not acknowledge it
 served : (interrupt : InterruptType) (f : RingFields) (l : List Access) (after : RingFields) →
     (Some interrupt ≡ Some TransmitterHoldingRegisterEmpty → ⊥) →
-    Implies (Serves interrupt) LeavesArmed →
-    RingNext (OnDriver (ShowsInterrupt (Some interrupt)) unchanged) (Serves interrupt) f l after → LeavesArmed f l after
+    Implies (ServesInterrupt interrupt) LeavesArmed →
+    RingNext (OnDriver (ShowsInterrupt (Some interrupt)) unchanged) (ServesInterrupt interrupt) f l after → LeavesArmed f l after
 served interrupt f l after other leaves t =
     rw t.whole (leaves_then f t.mid after t.front t.back (shows_carry _ f t.front t.mid t.first)
     (isr_leaves _ f t.front t.mid other t.first) (leaves t.mid t.back after t.second))
@@ -314,7 +314,7 @@ serves_one_leaves f l after (DmaTransmissionEndOfTransfer, t) = served DmaTransm
 serves_one_leaves f l after (TransmitterHoldingRegisterEmpty, t) = λ off known keeps armed.
     rw (t.whole, after-append known t.front t.back)
     (pumps_arm t.mid t.back after t.second (unchecked f t.front t.mid (shows_carry _ f t.front t.mid t.first) off)
-    (after_accesses known t.front))
+    (known_after_all known t.front))
 
 times_leave : (n : ℕ) → Implies (RingTimes n ServesOne) LeavesArmed
 times_leave zero f l after t = leaves_stays f l after t
@@ -348,7 +348,7 @@ any_ends_pause_leaves : (count : ℕ) → Implies (IfAny count EndsPause) Leaves
 any_ends_pause_leaves zero f l after t = leaves_stays f l after t
 any_ends_pause_leaves (suc n) f l after t = ends_pause_leaves f l after t
 
-pub takes_leave : (slots : ℕ) (bytes : List ℕ) → Implies (Takes slots bytes) LeavesArmed
+pub takes_leave : (slots : ℕ) (bytes : List ℕ) → Implies (TakesBytes slots bytes) LeavesArmed
 takes_leave slots bytes f l after (is, t) = any_ends_pause_leaves (length bytes) (without_taken (length bytes) f) l after t
 
 pub takes_line_leave : (line : ℕ) → Implies (TakesLine line) LeavesArmed

@@ -25,10 +25,10 @@ use Rattle.uart_16550.specs.Status.{Enables, Disables}
 use Rattle.uart_ring.specs.Ring.{RingFields, OnDriver, Stays, RingNext, RingTimes, IfAny, with_queued, with_paused, without_taken}
 use Rattle.uart_ring.specs.Ring.{unchanged, free, is_full}
 use Rattle.uart_ring.specs.Transmit.{ArmsIfLeft, Pumps, Queues}
-use Rattle.uart_ring.specs.Receive.{PausesIfFull, FillsReceiveRing, EndsPause, Takes}
+use Rattle.uart_ring.specs.Receive.{PausesIfFull, FillsReceiveRing, EndsPause, TakesBytes}
 use Rattle.uart_ring.specs.Status.{TakesLine, TakesModem}
-use Rattle.uart_ring.specs.Service.{Serves, ServesOne, Services}
-use Rattle.uart_ring.specs.Conserved.{Implies}
+use Rattle.uart_ring.specs.Service.{ServesInterrupt, ServesOne, Services}
+use Rattle.uart_ring.specs.Lossless.{Implies}
 use Rattle.uart_ring.specs.Bounded.{MakesAtMost, most_of_change, most_of_pump, most_of_receiving, most_of_service}
 
 -- two lists in turn
@@ -146,7 +146,7 @@ fills_size f l after (bytes, t) =
     both l t.front t.back (2 * FIFO_SIZE) most_of_change t.whole (receives_size room bytes (settings_of f.driver) t.front few t.first.0.0)
     (pauses_size t.mid t.back after t.second)
 
-serves_size : (interrupt : InterruptType) → Implies (Serves interrupt) (MakesAtMost most_of_receiving)
+serves_size : (interrupt : InterruptType) → Implies (ServesInterrupt interrupt) (MakesAtMost most_of_receiving)
 serves_size ReceiverLineStatus f l after (status, ((read, is, shown, changed), same)) = omega (arith, ap length is)
 serves_size ReceivedDataReady f l after t = fills_size f l after t
 serves_size ReceptionTimeout f l after t = fills_size f l after t
@@ -187,7 +187,7 @@ any_ends_pause_size : (count : ℕ) → Implies (IfAny count EndsPause) (MakesAt
 any_ends_pause_size zero f l after t = omega (arith, ap length t.0)
 any_ends_pause_size (suc n) f l after t = ends_pause_size f l after t
 
-pub takes_size : (slots : ℕ) (bytes : List ℕ) → Implies (Takes slots bytes) (MakesAtMost most_of_change)
+pub takes_size : (slots : ℕ) (bytes : List ℕ) → Implies (TakesBytes slots bytes) (MakesAtMost most_of_change)
 takes_size slots bytes f l after (is, t) = any_ends_pause_size (length bytes) (without_taken (length bytes) f) l after t
 
 pub takes_line_size : (line : ℕ) → Implies (TakesLine line) (MakesAtMost 1)

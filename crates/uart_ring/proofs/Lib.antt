@@ -1,5 +1,5 @@
 pub mod RingDoings
 pub mod Transfers
-pub mod Conserving
+pub mod Losses
 pub mod Arming
 pub mod Bounding

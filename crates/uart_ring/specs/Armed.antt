@@ -28,17 +28,17 @@ due_after_read offset answer due =
 
 -- what is known after an access: a byte that was written to DATA is held, IER keeps what is written to it, and after a
 -- write of another register nothing is known
-abbrev pub after_access : ThrEmpty → Access → ThrEmpty
-after_access known (Read offset answer) =
+abbrev pub known_after : ThrEmpty → Access → ThrEmpty
+known_after known (Read offset answer) =
     record { enabled = known.enabled; due = due_after_read offset answer known.due }
-after_access known (Write offset value) =
+known_after known (Write offset value) =
     if offset == offsets.DATA then record { enabled = known.enabled; due = true }
     else if offset == offsets.IER then record { enabled = has value IER.THR_EMPTY.0; due = known.due }
     else record { enabled = false; due = false }
 
-abbrev pub after_accesses : ThrEmpty → List Access → ThrEmpty
-after_accesses known [] = known
-after_accesses known (access ∷ accesses) = after_accesses (after_access known access) accesses
+abbrev pub known_after_all : ThrEmpty → List Access → ThrEmpty
+known_after_all known [] = known
+known_after_all known (access ∷ accesses) = known_after_all (known_after known access) accesses
 
 -- a read of IER shows THR_EMPTY if it is known to be enabled
 abbrev pub IsTrueOfIer : ThrEmpty → Access → Type 0
@@ -48,7 +48,7 @@ IsTrueOfIer known (Write offset value) = ⊤
 -- each read of IER does
 abbrev pub KeepsIer : ThrEmpty → List Access → Type 0
 KeepsIer known [] = ⊤
-KeepsIer known (access ∷ accesses) = IsTrueOfIer known access × KeepsIer (after_access known access) accesses
+KeepsIer known (access ∷ accesses) = IsTrueOfIer known access × KeepsIer (known_after known access) accesses
 
 -- nothing waits to be sent, or the THR-empty interrupt is enabled and due
 abbrev pub IsArmed : ThrEmpty → RingFields → Type 0
@@ -58,9 +58,9 @@ IsArmed known f = (f.transmit.items ≡ []) ⊎ ((known.enabled ≡ true) × (kn
 abbrev pub LeavesArmed : RingDoing
 LeavesArmed f l after =
     f.driver.config.check_cts_before_sending ≡ false → (known : ThrEmpty) → KeepsIer known l →
-    IsArmed known f → IsArmed (after_accesses known l) after
+    IsArmed known f → IsArmed (known_after_all known l) after
 
 -- a call that does not check CTS leaves it so, however it finds it
 abbrev pub Arms : RingDoing
 Arms f l after =
-    f.driver.config.check_cts_before_sending ≡ false → (known : ThrEmpty) → IsArmed (after_accesses known l) after
+    f.driver.config.check_cts_before_sending ≡ false → (known : ThrEmpty) → IsArmed (known_after_all known l) after

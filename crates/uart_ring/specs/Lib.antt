@@ -3,6 +3,6 @@ pub mod Transmit
 pub mod Receive
 pub mod Status
 pub mod Service
-pub mod Conserved
+pub mod Lossless
 pub mod Armed
 pub mod Bounded

@@ -27,6 +27,6 @@ EndsPause f l after =
 
 -- `take` into so many slots gives these bytes: from the front of the receive ring, as many as there are slots for; if
 -- there are any, a pause ends
-abbrev pub Takes : ℕ → List ℕ → RingDoing
-Takes slots bytes f l after =
+abbrev pub TakesBytes : ℕ → List ℕ → RingDoing
+TakesBytes slots bytes f l after =
     (bytes ≡ take slots f.receive.items) × IfAny (length bytes) EndsPause (without_taken (length bytes) f) l after

@@ -28,20 +28,20 @@ ShowsInterrupt interrupt f l after =
     (isr : ℕ) × IsOnlyIfAny (Identifies isr) interrupt × Saving (Only (Read offsets.ISR isr ∷ [])) f l after
 
 -- how an interrupt is served
-abbrev pub Serves : InterruptType → RingDoing
-Serves ReceiverLineStatus = NotesLine
-Serves ReceivedDataReady = FillsReceiveRing
-Serves ReceptionTimeout = FillsReceiveRing
-Serves TransmitterHoldingRegisterEmpty = Pumps
-Serves ModemStatus = NotesModem
-Serves DmaReceptionEndOfTransfer = Stays
-Serves DmaTransmissionEndOfTransfer = Stays
+abbrev pub ServesInterrupt : InterruptType → RingDoing
+ServesInterrupt ReceiverLineStatus = NotesLine
+ServesInterrupt ReceivedDataReady = FillsReceiveRing
+ServesInterrupt ReceptionTimeout = FillsReceiveRing
+ServesInterrupt TransmitterHoldingRegisterEmpty = Pumps
+ServesInterrupt ModemStatus = NotesModem
+ServesInterrupt DmaReceptionEndOfTransfer = Stays
+ServesInterrupt DmaTransmissionEndOfTransfer = Stays
 
 -- an interrupt is shown, and then served
 abbrev pub ServesOne : RingDoing
 ServesOne f l after =
     (interrupt : InterruptType)
-    × RingNext (OnDriver (ShowsInterrupt (Some interrupt)) unchanged) (Serves interrupt) f l after
+    × RingNext (OnDriver (ShowsInterrupt (Some interrupt)) unchanged) (ServesInterrupt interrupt) f l after
 
 -- `service`: fewer interrupts than the most were served, and then none was shown; or the most were
 abbrev pub Services : ℕ → RingDoing

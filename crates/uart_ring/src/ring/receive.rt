@@ -1,7 +1,7 @@
 //! From the chip to the receive ring, and from there to the caller.
 ghost use Rattle.std.specs.Prelude.{◌≡◌, length, take, drop, min};
 ghost use Rattle.uart_ring.specs.Ring.{RingDid, ring_fields};
-ghost use Rattle.uart_ring.specs.Receive.{PausesIfFull, FillsReceiveRing, Takes};
+ghost use Rattle.uart_ring.specs.Receive.{PausesIfFull, FillsReceiveRing, TakesBytes};
 
 use super::Uart16550Ring;
 use uart_16550::backend::Backend;
@@ -36,7 +36,7 @@ impl<B: Backend> Uart16550Ring<B> {
     /// If there are any and receiving is paused, the DATA_READY interrupt is enabled again, and the pause ends. Otherwise this
     /// makes no access.
     pub fn take(&mut self, slots: &mut [u8]) -> usize
-        ensures did { RingDid B.step (Takes (length slots.old) (take result slots.new)) self.old self.new }
+        ensures did { RingDid B.step (TakesBytes (length slots.old) (take result slots.new)) self.old self.new }
         ensures count { result ≡ min (length slots.old) (length (ring_fields self.old).receive.items) }
         ensures rest { drop result slots.new ≡ drop result slots.old }
     {

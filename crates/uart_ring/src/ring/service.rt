@@ -1,7 +1,7 @@
 //! Serving interrupts.
 ghost use Rattle.std.specs.Prelude.{◌≤◌};
 ghost use Rattle.uart_ring.specs.Ring.{OnDriver, RingDid, unchanged};
-ghost use Rattle.uart_ring.specs.Service.{ShowsInterrupt, Serves, Services};
+ghost use Rattle.uart_ring.specs.Service.{ShowsInterrupt, ServesInterrupt, Services};
 
 use super::Uart16550Ring;
 use uart_16550::backend::Backend;
@@ -20,7 +20,7 @@ impl<B: Backend> Uart16550Ring<B> {
 
     // Serves one interrupt.
     fn serve(&mut self, interrupt: InterruptType)
-        ensures { RingDid B.step (Serves interrupt) self.old self.new }
+        ensures { RingDid B.step (ServesInterrupt interrupt) self.old self.new }
     {
         match interrupt {
             InterruptType::ReceiverLineStatus => self.note_line(),

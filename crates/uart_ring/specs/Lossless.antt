@@ -1,5 +1,5 @@
--- What ring calls conserve, whatever the backend answers: bytes on their way out and in, line errors, and changes of the
--- modem lines.
+-- What ring calls do not lose, whatever the backend answers: bytes on their way out and in, line errors, and changes of
+-- the modem lines.
 use Rattle.std.specs.Prelude.{◌≡◌, ◌==◌, ℕ, List, [], ◌∷◌, ◌++◌, bit_and, bit_or, if◌then◌else◌}
 use Rattle.uart_spec.specs.Access.{Access, Read, Write, saved_lsr, saved_msr}
 use Rattle.uart_spec.specs.declared.registers.line_status.TheConstants.LSR
@@ -31,7 +31,7 @@ abbrev pub untold_modem : RingFields → ℕ
 untold_modem f = bit_and (bit_or f.modem f.driver.msr) MSR.CHANGES.0
 
 -- a call that accepted some bytes, gave some bytes, and told what LSR and MSR showed
-pub record Conserves (accepted given : List ℕ) (line modem : ℕ)
+pub record LosesNothing (accepted given : List ℕ) (line modem : ℕ)
     (f : RingFields) (l : List Access) (after : RingFields) : Type 0 where
   -- what was written, and what is still to be sent, is what was there and what was accepted
   pub sent : data_written l ++ after.transmit.items ≡ f.transmit.items ++ accepted

@@ -1,4 +1,4 @@
--- That ring calls conserve bytes, line errors and changes of the modem lines.
+-- That ring calls lose no bytes, line errors or changes of the modem lines.
 use Rattle.std.proofs.Common.{◌≡◌, ◌≤◌, ◌-◌, ◌==◌, ◌⊎◌, ℕ, zero, suc, Bool, true, false, min, MatchBool, List, [], ◌∷◌, ◌++◌, length, take}
 use Rattle.std.proofs.Common.{drop, append_assoc, append-nil, take-append-drop, length-take, refl, arith, sym, ◌∙◌, ap, subst, inl, inr}
 use Rattle.std.proofs.Common.{Option, bit_and, bit_or, if◌then◌else◌}
@@ -32,10 +32,10 @@ use Rattle.uart_16550.proofs.Paths.{or_assoc, saved-append}
 use Rattle.uart_ring.specs.Ring.{RingFields, OnDriver, Stays, RingNext, RingTimes, IfAny, with_driver, with_queued, with_received}
 use Rattle.uart_ring.specs.Ring.{with_paused, without_sent, without_taken, with_line, with_modem, unchanged, free, is_full}
 use Rattle.uart_ring.specs.Transmit.{ArmsIfLeft, Pumps, Queues}
-use Rattle.uart_ring.specs.Receive.{PausesIfFull, FillsReceiveRing, EndsPause, Takes}
+use Rattle.uart_ring.specs.Receive.{PausesIfFull, FillsReceiveRing, EndsPause, TakesBytes}
 use Rattle.uart_ring.specs.Status.{NotesLine, NotesModem, TakesLine, TakesModem}
-use Rattle.uart_ring.specs.Service.{ShowsInterrupt, Serves, ServesOne, Services}
-use Rattle.uart_ring.specs.Conserved.{data_written, data_read, untold_line, untold_modem, Conserves, Implies}
+use Rattle.uart_ring.specs.Service.{ShowsInterrupt, ServesInterrupt, ServesOne, Services}
+use Rattle.uart_ring.specs.Lossless.{data_written, data_read, untold_line, untold_modem, LosesNothing, Implies}
 
 -- ---- bits
 
@@ -398,7 +398,7 @@ notes_modem_carries f l after (status, ((read, is, shown, changed), same)) =
       settings = ap settings_of changed;
     }
 
-serves_carry : (interrupt : InterruptType) → Implies (Serves interrupt) Carries
+serves_carry : (interrupt : InterruptType) → Implies (ServesInterrupt interrupt) Carries
 serves_carry ReceiverLineStatus f l after t = notes_line_carries f l after t
 serves_carry ReceivedDataReady f l after t = fills_carry f l after t
 serves_carry ReceptionTimeout f l after t = fills_carry f l after t
@@ -425,8 +425,8 @@ times_carry (suc n) f l after t =
 
 -- ---- each call
 
--- what a call conserves that accepts nothing, gives nothing and tells nothing
-carried : Implies Carries (Conserves [] [] 0 0)
+-- a call that accepts nothing, gives nothing and tells nothing
+carried : Implies Carries (LosesNothing [] [] 0 0)
 carried f l after c = record {
   sent = sym c.sent ∙ sym (append-nil f.transmit.items);
   received = c.received;
@@ -436,18 +436,18 @@ carried f l after c = record {
   settings = c.settings;
 }
 
-pub services_conserve : (count : ℕ) → Implies (Services count) (Conserves [] [] 0 0)
-services_conserve count f l after (inl (fewer, t)) =
+pub services_lose_nothing : (count : ℕ) → Implies (Services count) (LosesNothing [] [] 0 0)
+services_lose_nothing count f l after (inl (fewer, t)) =
     carried f l after (rw t.whole (carries-then f t.mid after t.front t.back (times_carry count f t.front t.mid t.first)
     (shows_carry _ t.mid t.back after t.second)))
-services_conserve count f l after (inr (all, t)) = carried f l after (times_carry count f l after t)
+services_lose_nothing count f l after (inr (all, t)) = carried f l after (times_carry count f l after t)
 
 any_pumps_carry : (count : ℕ) → Implies (IfAny count Pumps) Carries
 any_pumps_carry zero f l after t = stays_carries f l after t
 any_pumps_carry (suc n) f l after t = pumps_carry f l after t
 
-pub queues_conserve : (bytes : List ℕ) (count : ℕ) → Implies (Queues bytes count) (Conserves (take count bytes) [] 0 0)
-queues_conserve bytes count f l after (is, t) =
+pub queues_lose_nothing : (bytes : List ℕ) (count : ℕ) → Implies (Queues bytes count) (LosesNothing (take count bytes) [] 0 0)
+queues_lose_nothing bytes count f l after (is, t) =
     let c = any_pumps_carry count (with_queued (take count bytes) f) l after t in
     record {
       sent = sym c.sent;
@@ -469,8 +469,8 @@ taken_first slots items bytes is =
     let rest : drop (length bytes) items ≡ drop slots items = ap (λ n. drop n items) size ∙ drop_min slots items in
     (λ i. is i ++ rest i) ∙ take-append-drop slots items
 
-pub takes_conserve : (slots : ℕ) (bytes : List ℕ) → Implies (Takes slots bytes) (Conserves [] bytes 0 0)
-takes_conserve slots bytes f l after (is, t) =
+pub takes_lose_nothing : (slots : ℕ) (bytes : List ℕ) → Implies (TakesBytes slots bytes) (LosesNothing [] bytes 0 0)
+takes_lose_nothing slots bytes f l after (is, t) =
     let c = any_ends_pause_carries (length bytes) (without_taken (length bytes) f) l after t in
     let items = f.receive.items in
     record {
@@ -483,8 +483,8 @@ takes_conserve slots bytes f l after (is, t) =
       settings = c.settings;
     }
 
-pub takes_line_conserve : (line : ℕ) → Implies (TakesLine line) (Conserves [] [] line 0)
-takes_line_conserve line f l after (status, told, ((read, is, shown, changed), same)) = record {
+pub takes_line_loses_nothing : (line : ℕ) → Implies (TakesLine line) (LosesNothing [] [] line 0)
+takes_line_loses_nothing line f l after (status, told, ((read, is, shown, changed), same)) = record {
   sent = rw is (ap (λ (g : RingFields). g.transmit.items) same ∙ sym (append-nil f.transmit.items));
   received = rw is (ap (λ (g : RingFields). g.receive.items) same ∙ sym (append-nil f.receive.items));
   line_told =
@@ -495,8 +495,8 @@ takes_line_conserve line f l after (status, told, ((read, is, shown, changed), s
   settings = ap settings_of changed;
 }
 
-pub takes_modem_conserve : (modem : ℕ) → Implies (TakesModem modem) (Conserves [] [] 0 modem)
-takes_modem_conserve modem f l after (status, told, ((read, is, shown, changed), same)) = record {
+pub takes_modem_loses_nothing : (modem : ℕ) → Implies (TakesModem modem) (LosesNothing [] [] 0 modem)
+takes_modem_loses_nothing modem f l after (status, told, ((read, is, shown, changed), same)) = record {
   sent = rw is (ap (λ (g : RingFields). g.transmit.items) same ∙ sym (append-nil f.transmit.items));
   received = rw is (ap (λ (g : RingFields). g.receive.items) same ∙ sym (append-nil f.receive.items));
   line_told = rw (ap (λ (g : RingFields). g.line) same, ap (λ (g : Fields). g.lsr) changed, is) (sym (or_zero_r (untold_line f)));
