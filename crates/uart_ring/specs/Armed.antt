@@ -9,8 +9,8 @@ use Rattle.uart_spec.specs.declared.registers.line_status.TheConstants.LSR
 use Rattle.uart_spec.specs.declared.registers.offsets.TheConstants as offsets
 use Rattle.uart_ring.specs.Ring.{RingDoing, RingFields}
 
--- what is known of the chip's THR-empty interrupt: that it is enabled; that it is due, that is, pending, or to come once
--- the chip has sent what it holds
+-- what is known of the chip's THR-empty interrupt: that it is enabled; that it is due, that is, pending, or to come
+-- once the chip has sent what it holds
 pub record ThrEmpty : Type 0 where
   pub enabled : Bool
   pub due : Bool

@@ -20,8 +20,8 @@ Pumps f l after =
     × OnDriver (Next (Saving (Sends (take FIFO_SIZE f.transmit.items) sent)) (ArmsIfLeft (drop sent f.transmit.items)))
     (without_sent sent) f l after
 
--- `queue`: bytes from the front are put at the end of the transmit ring, as many as it has room for; if there are any, a
--- pump
+-- `queue`: bytes from the front are put at the end of the transmit ring, as many as it has room for; if there are any,
+-- a pump
 abbrev pub Queues : List ℕ → ℕ → RingDoing
 Queues bytes count f l after =
     (count ≡ min (length bytes) (free f.transmit)) × IfAny count Pumps (with_queued (take count bytes) f) l after

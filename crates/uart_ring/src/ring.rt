@@ -123,7 +123,8 @@ impl<B: Backend> Uart16550Ring<B> {
     /// What such a call sends or receives goes past the rings. One that changes which interrupts are enabled can undo what the
     /// rings rely on: DATA_READY is theirs while receiving is paused, THR_EMPTY always.
     pub fn inner_mut(&mut self) -> &mut Uart16550<B>
-        ensures* writes_back { sem 𝓛 (Lends (the_row B.row) (driver_row B.row) self.entry result (λ uart. record self.old { uart = uart })) }
+        ensures* writes_back { sem 𝓛 (Lends (the_row B.row) (driver_row B.row) self.entry result
+            (λ uart. record self.old { uart = uart })) }
         ensures value { result.now ≡ driver_of self.old }
     {
         &mut self.uart

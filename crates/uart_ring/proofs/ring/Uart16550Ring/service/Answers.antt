@@ -1,4 +1,5 @@
 use Rattle.std.proofs.Common.{◌≡◌, refl, inl, inr, arith}
+use Rattle.uart_ring.specs.declared.ring.service.TheConstants.{MAX_INTERRUPTS}
 use Rattle.uart_ring.specs.Service.{ServesOne}
 use Rattle.uart_ring.proofs.RingDoings.{ring_none, ring_then, ring_among, ring_times}
 use Rattle.uart_ring.proofs.ring.Uart16550Ring.service.Goals as goal
@@ -13,5 +14,5 @@ loop-count-preserved g c = ring_times _ ServesOne c.loop-count.invariant (ring_a
 
 pub returns-clause-did : goal.returns-clause-did
 returns-clause-did g c =
-    let all : c.loop-count.count ≡ 8 = omega arith in
+    let all : c.loop-count.count ≡ MAX_INTERRUPTS = omega arith in
     ring_among (λ l t. inr (refl, t)) (rw all at c.loop-count.invariant)
