@@ -3,3 +3,4 @@ pub mod Transfers
 pub mod Losses
 pub mod Arming
 pub mod Bounding
+pub mod Choices

@@ -6,3 +6,4 @@ pub mod Service
 pub mod Lossless
 pub mod Armed
 pub mod Bounded
+pub mod Choice

@@ -9,6 +9,7 @@ ghost use Rattle.uart_ring.specs.Status.{TakesLine, TakesModem};
 ghost use Rattle.uart_ring.specs.Service.{Services};
 ghost use Rattle.uart_ring.specs.Lossless.{LosesNothing, Implies};
 ghost use Rattle.uart_ring.specs.Armed.{Arms, LeavesArmed};
+ghost use Rattle.uart_ring.specs.Choice.{LeavesNoRingChoice};
 ghost use Rattle.uart_ring.specs.Bounded.{MakesAtMost, most_of_change, most_of_pump, most_of_service};
 
 /// No byte is lost between the rings and DATA, and nothing that LSR and MSR showed: what was written to DATA and what is left in the
@@ -40,4 +41,14 @@ pub fn ring_calls_are_bounded()
     ensures service { (count : ℕ) → Implies (Services count) (MakesAtMost most_of_service) }
     ensures take_line { (line : ℕ) → Implies (TakesLine line) (MakesAtMost 1) }
     ensures take_modem { (modem : ℕ) → Implies (TakesModem modem) (MakesAtMost 1) }
+{}
+
+/// The contract of each ring call leaves no choice: what its reads answered so far decides the next access, and in the end what is
+/// returned, what is in the rings, and what is in the driver's fields.
+pub fn ring_calls_leave_no_choice()
+    ensures queue { (bytes : List ℕ) → LeavesNoRingChoice (Queues bytes) }
+    ensures take { (slots : ℕ) → LeavesNoRingChoice (TakesBytes slots) }
+    ensures service { LeavesNoRingChoice Services }
+    ensures take_line { LeavesNoRingChoice TakesLine }
+    ensures take_modem { LeavesNoRingChoice TakesModem }
 {}

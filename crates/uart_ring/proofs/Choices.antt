@@ -1,0 +1,326 @@
+-- That ring calls leave no choice.
+use Rattle.std.proofs.Common.{◌≡◌, ◌<◌, ℕ, zero, suc, Bool, true, false, min, MatchBool, List, [], ◌∷◌, ◌++◌, length, take, drop}
+use Rattle.std.proofs.Common.{append_assoc, refl, arith}
+use Rattle.std.proofs.Common.{sym, ◌∙◌, ap, subst, inl, inr, ◌⊎◌, Option, Some, None, bit_and, bit_or}
+use Rattle.uart_spec.specs.Access.{Access, Read}
+use Rattle.uart_spec.specs.Bits.{IsOnlyIfAny}
+use Rattle.uart_spec.specs.Interrupts.{Identifies}
+use Rattle.uart_spec.specs.declared.baud.TheConstants.{FIFO_SIZE}
+use Rattle.uart_spec.specs.declared.registers.interrupt_enable.TheConstants.IER
+use Rattle.uart_spec.specs.declared.registers.interrupt_type.InterruptType.{InterruptType}
+use Rattle.uart_spec.specs.declared.registers.interrupt_type.InterruptType.TheVariants.{
+  ReceiverLineStatus,
+  ReceivedDataReady,
+  ReceptionTimeout,
+  TransmitterHoldingRegisterEmpty,
+  ModemStatus,
+  DmaReceptionEndOfTransfer,
+  DmaTransmissionEndOfTransfer,
+}
+use Rattle.uart_spec.specs.declared.registers.line_status.TheConstants.LSR
+use Rattle.uart_spec.specs.declared.registers.modem_status.TheConstants.MSR
+use Rattle.uart_spec.specs.declared.registers.offsets.TheConstants as offsets
+use Rattle.uart_16550.specs.Choice.{PartAtRead}
+use Rattle.uart_16550.specs.Grammar.{Only}
+use Rattle.uart_16550.specs.Driver.{Doing, Fields, Next, Saving, settings_of}
+use Rattle.uart_16550.specs.Receive.{Receives}
+use Rattle.uart_16550.specs.Status.{Disables, Enables, TakesLsr, TakesMsr}
+use Rattle.uart_16550.specs.Transmit.{Sends}
+use Rattle.uart_16550.proofs.determined.Parting.{SameOrPart, read_determined, so, so_front, so_sym, so_then}
+use Rattle.uart_16550.proofs.determined.Doings.{Does, does_next, does_saving, does_so}
+use Rattle.uart_16550.proofs.determined.Receive.{receives_determined}
+use Rattle.uart_16550.proofs.determined.Status.{disables_determined, enables_determined, takes_lsr_determined, takes_msr_determined}
+use Rattle.uart_16550.proofs.determined.Transmit.{sends_determined}
+use Rattle.uart_ring.specs.Ring.{RingDoing, RingFields, OnDriver, Stays, RingNext, RingTimes, IfAny, unchanged, with_driver, with_queued}
+use Rattle.uart_ring.specs.Ring.{with_received, with_paused, with_line, with_modem, without_sent, without_taken, free, is_full}
+use Rattle.uart_ring.specs.Transmit.{ArmsIfLeft, Pumps, Queues}
+use Rattle.uart_ring.specs.Receive.{EndsPause, FillsReceiveRing, PausesIfFull, TakesBytes}
+use Rattle.uart_ring.specs.Status.{NotesLine, NotesModem, TakesLine, TakesModem}
+use Rattle.uart_ring.specs.Service.{ServesInterrupt, ServesOne, Services, ShowsInterrupt}
+use Rattle.uart_ring.specs.Choice.{LeavesNoRingChoice}
+
+-- from these fields, each list of the first and each of the second are one list, with the same fields after it, and this holds; or
+-- they part at a read
+record RingDoes (C : Type 0) (f : RingFields) (G H : RingDoing) : Type 0 where
+  pub at : (l m : List Access) (a b : RingFields) → G f l a → H f m b → SameOrPart (C × (a ≡ b)) l m
+
+-- the law, from what every two outcomes come to
+no_choice : {R : Type 0} {G : R → RingDoing} → ((f : RingFields) (a b : R) → RingDoes (a ≡ b) f (G a) (G b)) → LeavesNoRingChoice G
+no_choice {R} {G} h f a b l m after after' p q = law ((h f a b).at l m after after' p q)
+  where
+    law : SameOrPart ((a ≡ b) × (after ≡ after')) l m → ((a ≡ b) × (l ≡ m) × (after ≡ after')) ⊎ PartAtRead l m
+    law (inl same) = inl (same.0.0, same.1, same.0.1)
+    law (inr part) = inr part
+
+ring_so : {C D : Type 0} {f : RingFields} {G H : RingDoing} → (C → D) → RingDoes C f G H → RingDoes D f G H
+ring_so k h = record { at = λ l m a b p q. so (λ r. (k r.0, r.1)) (h.at l m a b p q) }
+
+ring_sym : {C : Type 0} {f : RingFields} {G H : RingDoing} → RingDoes ⊥ f G H → RingDoes C f H G
+ring_sym h = record { at = λ l m a b p q. so_sym (so (λ r. r.0) (h.at m l b a q p)) }
+
+-- the driver did the one or the other
+on_driver : {C : Type 0} {f : RingFields} {G H : Doing} (change other : RingFields → RingFields) → Does C f.driver G H →
+    (C → change f ≡ other f) → RingDoes C f (OnDriver G change) (OnDriver H other)
+on_driver change other h same = record {
+  at = λ l m a b p q. so (λ r. (r.0, p.1 ∙ ((λ i. with_driver (r.1 i) (same r.0 i)) ∙ sym q.1))) (h.at l m a.driver b.driver p.0 q.0);
+}
+
+stays_same : (f : RingFields) → RingDoes (Unit {0}) f Stays Stays
+stays_same f = record { at = λ l m a b p q. inl ((tt, p.1 ∙ sym q.1), p.0 ∙ sym q.0) }
+
+-- one after the other: the second may rest on what the first decides
+ring_next : {C D : Type 0} {f : RingFields} {G G' H H' : RingDoing} → RingDoes C f G G' →
+    (C → (mid : RingFields) → RingDoes D mid H H') → RingDoes D f (RingNext G H) (RingNext G' H')
+ring_next {C} {D} {f} {G} {G'} {H} {H'} p q = record {
+  at = λ l m a b t w.
+      so_then t.whole w.whole (p.at t.front w.front t.mid w.mid t.first w.first)
+      (λ r. let N : RingFields → Type 0 = λ mid. H' mid w.back b in
+      (q r.0 t.mid).at t.back w.back a b t.second (subst N (sym r.1) w.second));
+}
+
+ring_front : {D : Type 0} {f : RingFields} {G H K : RingDoing} → RingDoes ⊥ f G K → RingDoes D f (RingNext G H) K
+ring_front h = record { at = λ l m a b t w. so_front t.back t.whole (so (λ r. r.0) (h.at t.front m t.mid b t.first w)) }
+
+-- ---- each piece
+
+arms_same : (left : List ℕ) (f : Fields) → Does (Unit {0}) f (ArmsIfLeft left) (ArmsIfLeft left)
+arms_same [] f = does_so (λ r. tt) (disables_determined IER.THR_EMPTY.0 f tt tt)
+arms_same (byte ∷ bytes) f = does_so (λ r. tt) (enables_determined IER.THR_EMPTY.0 f tt tt)
+
+arms_alike : (xs ys : List ℕ) → xs ≡ ys → (f : Fields) → Does (Unit {0}) f (ArmsIfLeft xs) (ArmsIfLeft ys)
+arms_alike xs ys e f = let P : List ℕ → Type 0 = λ zs. Does (Unit {0}) f (ArmsIfLeft xs) (ArmsIfLeft zs) in subst P e (arms_same xs f)
+
+pumps_same : (f : RingFields) → RingDoes (Unit {0}) f Pumps Pumps
+pumps_same f = record {
+  at = λ l m a b p q. so (λ r. (tt, r.1)) ((on_driver (without_sent p.0) (without_sent q.0) (sends p.0 q.0)
+      (λ e. ap (λ n. without_sent n f) e)).at l m a b p.1 q.1);
+}
+  where
+    bytes : List ℕ
+    bytes = f.transmit.items
+
+    sends : (j k : ℕ) → Does (j ≡ k) f.driver (Next (Saving (Sends (take FIFO_SIZE f.transmit.items) j))
+        (ArmsIfLeft (drop j f.transmit.items)))
+        (Next (Saving (Sends (take FIFO_SIZE f.transmit.items) k)) (ArmsIfLeft (drop k f.transmit.items)))
+    sends j k =
+        does_next (does_saving f.driver (Sends (take FIFO_SIZE f.transmit.items) j) (Sends (take FIFO_SIZE f.transmit.items) k)
+        (sends_determined (settings_of f.driver) (take FIFO_SIZE f.transmit.items) j k))
+        (λ e mid. does_so (λ t. e) (arms_alike (drop j f.transmit.items) (drop k f.transmit.items)
+        (ap (λ n. drop n f.transmit.items) e) mid))
+
+pauses_same : (f : RingFields) → RingDoes (Unit {0}) f PausesIfFull PausesIfFull
+pauses_same f = go (is_full f.receive)
+  where
+    go : (full : Bool) → RingDoes (Unit {0}) f (λ g l a. MatchBool full (OnDriver (Disables IER.DATA_READY.0) (with_paused true) g l a)
+        (Stays g l a))
+        (λ g l a. MatchBool full (OnDriver (Disables IER.DATA_READY.0) (with_paused true) g l a) (Stays g l a))
+    go true = ring_so (λ r. tt) (on_driver (with_paused true) (with_paused true) (disables_determined IER.DATA_READY.0 f.driver tt tt)
+        (λ r. refl))
+    go false = stays_same f
+
+ends_pause_same : (f : RingFields) → RingDoes (Unit {0}) f EndsPause EndsPause
+ends_pause_same f = go f.is_paused
+  where
+    go : (paused : Bool) → RingDoes (Unit {0}) f (λ g l a. MatchBool paused (OnDriver (Enables IER.DATA_READY.0) (with_paused false) g l a)
+        (Stays g l a))
+        (λ g l a. MatchBool paused (OnDriver (Enables IER.DATA_READY.0) (with_paused false) g l a) (Stays g l a))
+    go true = ring_so (λ r. tt) (on_driver (with_paused false) (with_paused false) (enables_determined IER.DATA_READY.0 f.driver tt tt)
+        (λ r. refl))
+    go false = stays_same f
+
+fills_same : (f : RingFields) → RingDoes (Unit {0}) f FillsReceiveRing FillsReceiveRing
+fills_same f = record { at = λ l m a b p q. (both p.0 q.0).at l m a b p.1 q.1 }
+  where
+    room : ℕ
+    room = min FIFO_SIZE (free f.receive)
+
+    both : (xs ys : List ℕ) → RingDoes (Unit {0}) f (RingNext (OnDriver (Saving (Receives (min FIFO_SIZE (free f.receive)) xs))
+        (with_received xs)) PausesIfFull)
+        (RingNext (OnDriver (Saving (Receives (min FIFO_SIZE (free f.receive)) ys)) (with_received ys)) PausesIfFull)
+    both xs ys =
+        ring_next (on_driver (with_received xs) (with_received ys)
+        (does_saving f.driver (Receives (min FIFO_SIZE (free f.receive)) xs) (Receives (min FIFO_SIZE (free f.receive)) ys)
+        (receives_determined (settings_of f.driver) (min FIFO_SIZE (free f.receive)) xs ys))
+        (λ e. ap (λ zs. with_received zs f) e)) (λ e mid. pauses_same mid)
+
+notes_line_same : (f : RingFields) → RingDoes (Unit {0}) f NotesLine NotesLine
+notes_line_same f = record {
+  at = λ l m a b p q. so (λ r. (tt, r.1)) ((on_driver (with_line (bit_or f.line (bit_and p.0 LSR.LINE_ERRORS.0)))
+      (with_line (bit_or f.line (bit_and q.0 LSR.LINE_ERRORS.0)))
+      (takes_lsr_determined f.driver p.0 q.0) (λ e. ap (λ n. with_line (bit_or f.line
+      (bit_and n LSR.LINE_ERRORS.0)) f) e)).at l m a b p.1 q.1);
+}
+
+notes_modem_same : (f : RingFields) → RingDoes (Unit {0}) f NotesModem NotesModem
+notes_modem_same f = record {
+  at = λ l m a b p q. so (λ r. (tt, r.1)) ((on_driver (with_modem (bit_or f.modem (bit_and p.0 MSR.CHANGES.0)))
+      (with_modem (bit_or f.modem (bit_and q.0 MSR.CHANGES.0)))
+      (takes_msr_determined f.driver p.0 q.0) (λ e. ap (λ n. with_modem (bit_or f.modem
+      (bit_and n MSR.CHANGES.0)) f) e)).at l m a b p.1 q.1);
+}
+
+serves_same : (interrupt : InterruptType) (f : RingFields) → RingDoes (Unit {0}) f (ServesInterrupt interrupt) (ServesInterrupt interrupt)
+serves_same ReceiverLineStatus f = notes_line_same f
+serves_same ReceivedDataReady f = fills_same f
+serves_same ReceptionTimeout f = fills_same f
+serves_same TransmitterHoldingRegisterEmpty f = pumps_same f
+serves_same ModemStatus f = notes_modem_same f
+serves_same DmaReceptionEndOfTransfer f = stays_same f
+serves_same DmaTransmissionEndOfTransfer f = stays_same f
+
+serves_alike : (x y : InterruptType) → x ≡ y → (f : RingFields) → RingDoes (Unit {0}) f (ServesInterrupt x) (ServesInterrupt y)
+serves_alike x y e f = let P : InterruptType → Type 0 = λ z. RingDoes (Unit {0}) f (ServesInterrupt x) (ServesInterrupt z) in
+    subst P e (serves_same x f)
+
+-- ---- service
+
+-- one value of ISR shows one interrupt, or none
+shown_same : (isr : ℕ) (x y : Option InterruptType) → IsOnlyIfAny (Identifies isr) x → IsOnlyIfAny (Identifies isr) y → x ≡ y
+shown_same isr x (Some j) p q = (p j).1 ((q j).0 refl)
+shown_same isr (Some i) None p q = sym ((q i).1 ((p i).0 refl))
+shown_same isr None None p q = refl
+
+shows_same : (x y : Option InterruptType) (f : Fields) → Does (x ≡ y) f (ShowsInterrupt x) (ShowsInterrupt y)
+shows_same x y f = record {
+  at = λ l m a b p q. so (λ r. (shown p.0 q.0 r.0 p.1 q.1, r.1)) ((does_saving f (Only (Read offsets.ISR p.0 ∷ []))
+      (Only (Read offsets.ISR q.0 ∷ []))
+      (read_determined offsets.ISR p.0 q.0)).at l m a b p.2 q.2);
+}
+  where
+    shown : (i j : ℕ) → i ≡ j → IsOnlyIfAny (Identifies i) x → IsOnlyIfAny (Identifies j) y → x ≡ y
+    shown i j e p q = let P : ℕ → Type 0 = λ n. IsOnlyIfAny (Identifies n) y in shown_same i x y p (subst P (sym e) q)
+
+-- one read of ISR
+abbrev ReadsIsr : Option InterruptType → RingDoing
+ReadsIsr interrupt = OnDriver (ShowsInterrupt interrupt) unchanged
+
+reads_same : (x y : Option InterruptType) (f : RingFields) → RingDoes (x ≡ y) f (ReadsIsr x) (ReadsIsr y)
+reads_same x y f = on_driver unchanged unchanged (shows_same x y f.driver) (λ e. refl)
+
+inside : (x y : InterruptType) → Some x ≡ Some y → x ≡ y
+inside x y e = cc
+
+serves_one_same : (f : RingFields) → RingDoes (Unit {0}) f ServesOne ServesOne
+serves_one_same f = record { at = λ l m a b p q. (both p.0 q.0).at l m a b p.1 q.1 }
+  where
+    both : (x y : InterruptType) → RingDoes (Unit {0}) f (RingNext (ReadsIsr (Some x)) (ServesInterrupt x))
+        (RingNext (ReadsIsr (Some y)) (ServesInterrupt y))
+    both x y = ring_next (reads_same (Some x) (Some y) f) (λ e mid. serves_alike x y (inside x y e) mid)
+
+-- an interrupt is shown, or none
+apart : (f : RingFields) → RingDoes ⊥ f ServesOne (ReadsIsr None)
+apart f = record { at = λ l m a b p q. (ring_front (read_apart p.0)).at l m a b p.1 q }
+  where
+    read_apart : (x : InterruptType) → RingDoes ⊥ f (ReadsIsr (Some x)) (ReadsIsr None)
+    read_apart x = ring_so (λ e. cc) (reads_same (Some x) None f)
+
+-- nothing and then something is that; and what comes after two comes after the second of them
+stays_then : (G : RingDoing) (f : RingFields) (l : List Access) (a : RingFields) → RingNext Stays G f l a → G f l a
+stays_then G f l a t =
+    let whole : l ≡ t.back = t.whole ∙ ap (λ xs. xs ++ t.back) t.first.0 in
+    let P : RingFields → Type 0 = λ g. G g l a in
+    subst P t.first.1 (rw whole t.second)
+
+then_later : (G H K : RingDoing) (f : RingFields) (l : List Access) (a : RingFields) → RingNext (RingNext G H) K f l a →
+    RingNext G (RingNext H K) f l a
+then_later G H K f l a t = record {
+  front = t.first.front;
+  back = t.first.back ++ t.back;
+  mid = t.first.mid;
+  whole = rw (t.whole, t.first.whole) (append_assoc t.first.front t.first.back t.back);
+  first = t.first.first;
+  second = record { front = t.first.back; back = t.back; mid = t.mid; whole = refl; first = t.first.second; second = t.second };
+}
+
+-- so many were served, and then none was shown
+abbrev Stops : ℕ → RingDoing
+Stops n = RingNext (RingTimes n ServesOne) (ReadsIsr None)
+
+stops_later : (n : ℕ) (f : RingFields) (l : List Access) (a : RingFields) → Stops (suc n) f l a → RingNext ServesOne (Stops n) f l a
+stops_later n f l a t = then_later ServesOne (RingTimes n ServesOne) (ReadsIsr None) f l a t
+
+times_same : (n : ℕ) (f : RingFields) → RingDoes (Unit {0}) f (RingTimes n ServesOne) (RingTimes n ServesOne)
+times_same zero f = stays_same f
+times_same (suc n) f = ring_next (serves_one_same f) (λ t mid. times_same n mid)
+
+-- one of them went on
+goes_on : {D : Type 0} (G : RingDoing) (f : RingFields) → RingDoes D f (RingNext ServesOne G) (Stops zero)
+goes_on G f = record { at = λ l m a b p q. (ring_front (apart f)).at l m a b p (stays_then (ReadsIsr None) f m b q) }
+
+stops_same : (n k : ℕ) (f : RingFields) → RingDoes (n ≡ k) f (Stops n) (Stops k)
+stops_same zero zero f = ring_next (stays_same f) (λ t mid. ring_so (λ e. refl) (reads_same None None mid))
+stops_same zero (suc k) f = ring_sym (record { at = λ l m a b p q. (goes_on (Stops k) f).at l m a b (stops_later k f l a p) q })
+stops_same (suc n) zero f = record { at = λ l m a b p q. (goes_on (Stops n) f).at l m a b (stops_later n f l a p) q }
+stops_same (suc n) (suc k) f = record {
+  at = λ l m a b p q.
+      (ring_next (serves_one_same f) (λ t mid. ring_so (λ e. ap suc e) (stops_same n k mid))).at l m a b (stops_later n f l a p)
+      (stops_later k f m b q);
+}
+
+-- fewer were served, and then none was shown
+stops_before : (n k : ℕ) → n < k → (f : RingFields) → RingDoes ⊥ f (Stops n) (RingTimes k ServesOne)
+stops_before n zero few f = absurd (omega (arith, few))
+stops_before zero (suc k) few f = ring_sym (goes_on (RingTimes k ServesOne) f)
+stops_before (suc n) (suc k) few f = record {
+  at = λ l m a b p q. (ring_next (serves_one_same f) (λ t mid. stops_before n k (omega (arith, few)) mid)).at l m a b
+      (stops_later n f l a p) q;
+}
+
+services_same : (f : RingFields) (x y : ℕ) → RingDoes (x ≡ y) f (Services x) (Services y)
+services_same f x y = record { at = at }
+  where
+    full : (x y : ℕ) → x ≡ 8 → y ≡ 8 → (l m : List Access) (a b : RingFields) → RingTimes x ServesOne f l a → RingTimes y ServesOne f m b →
+        SameOrPart ((x ≡ y) × (a ≡ b)) l m
+    full x y e d l m a b p q =
+        let P : ℕ → Type 0 = λ n. RingTimes n ServesOne f l a in
+        let Q : ℕ → Type 0 = λ n. RingTimes n ServesOne f m b in
+        so (λ r. (e ∙ sym d, r.1)) ((times_same 8 f).at l m a b (subst P e p) (subst Q d q))
+
+    at : (l m : List Access) (a b : RingFields) → Services x f l a → Services y f m b → SameOrPart ((x ≡ y) × (a ≡ b)) l m
+    at l m a b (inl p) (inl q) = (stops_same x y f).at l m a b p.1 q.1
+    at l m a b (inl p) (inr q) = so (λ r. absurd r.0) ((stops_before x y (omega (arith, p.0, q.0)) f).at l m a b p.1 q.1)
+    at l m a b (inr p) (inl q) = so_sym (so (λ r. r.0) ((stops_before y x (omega (arith, p.0, q.0)) f).at m l b a q.1 p.1))
+    at l m a b (inr p) (inr q) = full x y p.0 q.0 l m a b p.1 q.1
+
+pub services_leave_no_choice : LeavesNoRingChoice Services
+services_leave_no_choice = no_choice services_same
+
+-- ---- the other calls
+
+any_same : (count : ℕ) (G : RingDoing) (f : RingFields) → RingDoes (Unit {0}) f G G → RingDoes (Unit {0}) f (IfAny count G) (IfAny count G)
+any_same zero G f h = stays_same f
+any_same (suc n) G f h = h
+
+pub queues_leave_no_choice : (bytes : List ℕ) → LeavesNoRingChoice (Queues bytes)
+queues_leave_no_choice bytes = no_choice (λ f x y. record { at = λ l m a b p q. at f x y l m a b (p.0 ∙ sym q.0) p.1 q.1 })
+  where
+    at : (f : RingFields) (x y : ℕ) (l m : List Access) (a b : RingFields) → x ≡ y → IfAny x Pumps (with_queued (take x bytes) f) l a →
+        IfAny y Pumps (with_queued (take y bytes) f) m b →
+        SameOrPart ((x ≡ y) × (a ≡ b)) l m
+    at f x y l m a b e p q =
+        let g = with_queued (take x bytes) f in
+        let P : ℕ → Type 0 = λ n. IfAny n Pumps (with_queued (take n bytes) f) m b in
+        so (λ r. (e, r.1)) ((any_same x Pumps g (pumps_same g)).at l m a b p (subst P (sym e) q))
+
+pub takes_leave_no_choice : (slots : ℕ) → LeavesNoRingChoice (TakesBytes slots)
+takes_leave_no_choice slots = no_choice (λ f x y. record { at = λ l m a b p q. at f x y l m a b (p.0 ∙ sym q.0) p.1 q.1 })
+  where
+    at : (f : RingFields) (x y : List ℕ) (l m : List Access) (a b : RingFields) → x ≡ y →
+        IfAny (length x) EndsPause (without_taken (length x) f) l a →
+        IfAny (length y) EndsPause (without_taken (length y) f) m b → SameOrPart ((x ≡ y) × (a ≡ b)) l m
+    at f x y l m a b e p q =
+        let g = without_taken (length x) f in
+        let P : List ℕ → Type 0 = λ zs. IfAny (length zs) EndsPause (without_taken (length zs) f) m b in
+        so (λ r. (e, r.1)) ((any_same (length x) EndsPause g (ends_pause_same g)).at l m a b p (subst P (sym e) q))
+
+pub takes_line_leaves_no_choice : LeavesNoRingChoice TakesLine
+takes_line_leaves_no_choice = no_choice (λ f x y. record {
+  at = λ l m a b p q. so (λ r. (p.1 ∙ (ap (λ n. bit_or n f.line) r.0 ∙ sym q.1), r.1))
+      ((on_driver (with_line 0) (with_line 0) (takes_lsr_determined f.driver p.0 q.0) (λ e. refl)).at l m a b p.2 q.2);
+})
+
+pub takes_modem_leaves_no_choice : LeavesNoRingChoice TakesModem
+takes_modem_leaves_no_choice = no_choice (λ f x y. record {
+  at = λ l m a b p q. so (λ r. (p.1 ∙ (ap (λ n. bit_or n f.modem) r.0 ∙ sym q.1), r.1))
+      ((on_driver (with_modem 0) (with_modem 0) (takes_msr_determined f.driver p.0 q.0) (λ e. refl)).at l m a b p.2 q.2);
+})
