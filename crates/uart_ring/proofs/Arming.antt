@@ -4,7 +4,6 @@ use Rattle.std.proofs.Common.{[], ◌∷◌, ◌++◌, length, take, drop, lengt
 use Rattle.std.proofs.Common.{Option, Some, None, bit_and, bit_or}
 use Rattle.std.proofs.lemmas.Bool.{false≢true}
 use Rattle.std.proofs.lemmas.Bool.Decides.{nat_tests}
-use Rattle.std.proofs.lemmas.Nat.Bits.{same_from_bits, bit_at_or, bit_at_and}
 use lib.Bits.{or_zero_r}
 use Rattle.bitflags.specs.Sets.{without}
 use Rattle.uart_spec.specs.Access.{Access, Read, Write}
@@ -39,38 +38,21 @@ use Rattle.uart_ring.specs.Service.{ShowsInterrupt, ServesInterrupt, ServesOne, 
 use Rattle.uart_ring.specs.Lossless.{Implies}
 use Rattle.uart_ring.specs.Armed.{ThrEmpty, shows_thr_empty, due_after_read, known_after, known_after_all, KeepsIer, IsArmed, LeavesArmed}
 use Rattle.uart_ring.specs.Armed.{Arms}
+use Rattle.uart_ring.proofs.RegisterBits.{and_or, and_assoc, or_and}
 use Rattle.uart_ring.proofs.Losses.{Carries, received_carries, shows_carry, serves_one_carries, times_carry}
 
 -- ---- bits of IER
 
 -- a bit that is joined is there
 joined : (ier : ℕ) → has (bit_or ier IER.THR_EMPTY.0) IER.THR_EMPTY.0 ≡ true
-joined ier = ap (λ n. n == 2) (same_from_bits _ _ (λ i. rw (bit_at_and (bit_or ier 2) 2 i, bit_at_or ier 2 i) (omega arith)))
+joined ier = ap (λ n. n == IER.THR_EMPTY.0) (or_and ier IER.THR_EMPTY.0)
 
--- another bit that is joined changes nothing
+-- another bit that is joined or taken away changes nothing
 kept_joined : (ier : ℕ) → has (bit_or ier IER.DATA_READY.0) IER.THR_EMPTY.0 ≡ has ier IER.THR_EMPTY.0
-kept_joined ier = ap (λ n. n == 2) (spread ∙ or_zero_r (bit_and ier 2))
-  where
-    spread : bit_and (bit_or ier 1) 2 ≡ bit_or (bit_and ier 2) (bit_and 1 2)
-    spread = same_from_bits _ _ (λ i. rw (
-      bit_at_and (bit_or ier 1) 2 i,
-      bit_at_or ier 1 i,
-      bit_at_or (bit_and ier 2) (bit_and 1 2) i,
-      bit_at_and ier 2 i,
-      bit_at_and 1 2 i,
-    ) (omega arith))
+kept_joined ier = ap (λ n. n == IER.THR_EMPTY.0) (and_or ier IER.DATA_READY.0 IER.THR_EMPTY.0 ∙ or_zero_r (bit_and ier IER.THR_EMPTY.0))
 
--- nor does another bit that is taken away
 kept_taken : (ier : ℕ) → has (without 8 ier IER.DATA_READY.0) IER.THR_EMPTY.0 ≡ has ier IER.THR_EMPTY.0
-kept_taken ier = ap (λ n. n == 2) together
-  where
-    together : bit_and (bit_and ier 254) 2 ≡ bit_and ier (bit_and 254 2)
-    together = same_from_bits _ _ (λ i. rw (
-      bit_at_and (bit_and ier 254) 2 i,
-      bit_at_and ier 254 i,
-      bit_at_and ier (bit_and 254 2) i,
-      bit_at_and 254 2 i,
-    ) (omega arith))
+kept_taken ier = ap (λ n. n == IER.THR_EMPTY.0) (and_assoc ier (without 8 255 IER.DATA_READY.0) IER.THR_EMPTY.0)
 
 -- ---- what lists tell
 
@@ -273,14 +255,14 @@ notes_modem_leave f l after (status, ((read, is, shown, changed), same)) =
 
 -- ISR shows another interrupt, or none
 not_thr_empty : (isr : ℕ) → (Identifies isr TransmitterHoldingRegisterEmpty → ⊥) → shows_thr_empty isr ≡ false
-not_thr_empty isr other = go (field 0 1 isr == 0) (field 1 3 isr == 1) refl refl
+not_thr_empty isr other = go (field 0 1 isr == 0) (field 1 3 isr == interrupt_code TransmitterHoldingRegisterEmpty) refl refl
   where
-    go : (a b : Bool) → (field 0 1 isr == 0) ≡ a → (field 1 3 isr == 1) ≡ b → (a && b) ≡ false
+    go : (a b : Bool) → (field 0 1 isr == 0) ≡ a → (field 1 3 isr == interrupt_code TransmitterHoldingRegisterEmpty) ≡ b → (a && b) ≡ false
     go false b p q = refl
     go true false p q = refl
     go true true p q =
         let pending : field 0 1 isr ≡ 0 = grind (arith, nat_tests) in
-        let code : field 1 3 isr ≡ 1 = grind (arith, nat_tests) in
+        let code : field 1 3 isr ≡ interrupt_code TransmitterHoldingRegisterEmpty = grind (arith, nat_tests) in
         absurd (other (pending, code))
 
 isr_leaves : (interrupt : Option InterruptType) (f : RingFields) (l : List Access) (after : RingFields) →

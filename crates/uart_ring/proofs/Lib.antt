@@ -1,5 +1,6 @@
 pub mod RingDoings
 pub mod Transfers
+pub mod RegisterBits
 pub mod Losses
 pub mod Arming
 pub mod Bounding

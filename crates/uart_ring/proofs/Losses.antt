@@ -3,10 +3,8 @@ use Rattle.std.proofs.Common.{◌≡◌, ◌≤◌, ◌-◌, ◌==◌, ◌⊎◌
 use Rattle.std.proofs.Common.{drop, append_assoc, append-nil, take-append-drop, length-take, refl, arith, sym, ◌∙◌, ap, subst, inl, inr}
 use Rattle.std.proofs.Common.{Option, bit_and, bit_or, if◌then◌else◌}
 use Rattle.std.proofs.lemmas.List.{take-take, drop_min}
-use Rattle.std.proofs.lemmas.Nat.Bits.{same_from_bits, bit_at_or, bit_at_and}
-use Rattle.std.specs.Int.Bits.{and_zero_l}
 use lib.Bits.{or_zero_r}
-use Rattle.uart_spec.specs.Access.{Access, Read, Write, saved, saved_of, saved_lsr, saved_msr}
+use Rattle.uart_spec.specs.Access.{Access, Read, Write, saved_lsr, saved_msr}
 use Rattle.uart_spec.specs.declared.baud.TheConstants.{FIFO_SIZE}
 use Rattle.uart_spec.specs.declared.errors.ByteSendError.TheVariants.{NoCapacity, RemoteNotClearToSend}
 use Rattle.uart_spec.specs.declared.registers.interrupt_enable.TheConstants.IER
@@ -28,90 +26,16 @@ use Rattle.uart_16550.specs.Driver.{Fields, Doing, Saving, Next, saving, setting
 use Rattle.uart_16550.specs.Receive.{Receives, Hit, Miss}
 use Rattle.uart_16550.specs.Transmit.{Sends, SendHit, SendMiss, LinesAllow, data_writes}
 use Rattle.uart_16550.specs.Status.{TakesLsr, TakesMsr, Enables, Disables}
-use Rattle.uart_16550.proofs.Paths.{or_assoc, saved-append}
+use Rattle.uart_16550.proofs.Paths.{or_assoc}
 use Rattle.uart_ring.specs.Ring.{RingFields, OnDriver, Stays, RingNext, RingTimes, IfAny, with_driver, with_queued, with_received}
 use Rattle.uart_ring.specs.Ring.{with_paused, without_sent, without_taken, with_line, with_modem, unchanged, free, is_full}
 use Rattle.uart_ring.specs.Transmit.{ArmsIfLeft, Pumps, Queues}
 use Rattle.uart_ring.specs.Receive.{PausesIfFull, FillsReceiveRing, EndsPause, TakesBytes}
 use Rattle.uart_ring.specs.Status.{NotesLine, NotesModem, TakesLine, TakesModem}
 use Rattle.uart_ring.specs.Service.{ShowsInterrupt, ServesInterrupt, ServesOne, Services}
+use Rattle.uart_ring.proofs.RegisterBits.{more_saved, now_noted, now_told, saved_lsr-append, saved_msr-append, saved_lsr-within}
+use Rattle.uart_ring.proofs.RegisterBits.{saved_msr-within}
 use Rattle.uart_ring.specs.Lossless.{data_written, data_read, untold_line, untold_modem, LosesNothing, Implies}
-
--- ---- bits
-
--- what is untold after more was saved
-more_saved : (noted kept more mask : ℕ) → bit_and more mask ≡ more → bit_and (bit_or noted (bit_or kept more)) mask ≡ bit_or
-    (bit_and (bit_or noted kept) mask) more
-more_saved noted kept more mask within =
-    sym (ap (λ n. bit_and n mask) (or_assoc noted kept more)) ∙ (and_or (bit_or noted kept) more mask
-    ∙ ap (bit_or (bit_and (bit_or noted kept) mask)) within)
-  where
-    and_or : (a b m : ℕ) → bit_and (bit_or a b) m ≡ bit_or (bit_and a m) (bit_and b m)
-    and_or a b m = same_from_bits _ _ (λ i. rw (
-      bit_at_and (bit_or a b) m i,
-      bit_at_or a b i,
-      bit_at_or (bit_and a m) (bit_and b m) i,
-      bit_at_and a m i,
-      bit_at_and b m i,
-    ) (omega arith))
-
--- what is untold after a status was noted, joined with what was kept of it
-now_noted : (noted kept status mask : ℕ) → bit_and (bit_or (bit_or noted (bit_and (bit_or status kept) mask)) 0) mask ≡ bit_or
-    (bit_and (bit_or noted kept) mask) (bit_or (bit_and status mask) 0)
-now_noted noted kept status mask =
-    rw (or_zero_r (bit_or noted (bit_and (bit_or status kept) mask)), or_zero_r (bit_and status mask)) (same_from_bits _ _ (λ i.
-    rw (
-      bit_at_and (bit_or noted (bit_and (bit_or status kept) mask)) mask i,
-      bit_at_or noted (bit_and (bit_or status kept) mask) i,
-      bit_at_and (bit_or status kept) mask i,
-      bit_at_or status kept i,
-      bit_at_or (bit_and (bit_or noted kept) mask) (bit_and status mask) i,
-      bit_at_and (bit_or noted kept) mask i,
-      bit_at_or noted kept i,
-      bit_at_and status mask i,
-    ) (omega arith)))
-
--- what is told with a status, joined with what was kept and noted of it
-now_told : (noted kept status mask : ℕ) → bit_and (bit_or (bit_or status kept) noted) mask ≡ bit_or (bit_and (bit_or noted kept) mask)
-    (bit_or (bit_and status mask) 0)
-now_told noted kept status mask =
-    rw (or_zero_r (bit_and status mask)) (same_from_bits _ _ (λ i.
-    rw (
-      bit_at_and (bit_or (bit_or status kept) noted) mask i,
-      bit_at_or (bit_or status kept) noted i,
-      bit_at_or status kept i,
-      bit_at_or (bit_and (bit_or noted kept) mask) (bit_and status mask) i,
-      bit_at_and (bit_or noted kept) mask i,
-      bit_at_or noted kept i,
-      bit_at_and status mask i,
-    ) (omega arith)))
-
--- what is saved lies within the mask
-within_or : (a b mask : ℕ) → bit_and a mask ≡ a → bit_and b mask ≡ b → bit_and (bit_or a b) mask ≡ bit_or a b
-within_or a b mask p q =
-    same_from_bits _ _ (λ i. rw (
-      bit_at_and (bit_or a b) mask i,
-      bit_at_or a b i,
-      bit_at_or (bit_and a mask) (bit_and b mask) i,
-      bit_at_and a mask i,
-      bit_at_and b mask i,
-    ) (omega arith))
-    ∙ (λ i. bit_or (p i) (q i))
-
-saved-within : (register mask : ℕ) (l : List Access) → bit_and (saved register mask l) mask ≡ saved register mask l
-saved-within register mask [] = and_zero_l mask
-saved-within register mask (Read offset answer ∷ l) =
-    within_or (saved_of register mask (Read offset answer)) (saved register mask l) mask (one (offset == register))
-    (saved-within register mask l)
-  where
-    twice : (a m : ℕ) → bit_and (bit_and a m) m ≡ bit_and a m
-    twice a m = same_from_bits _ _ (λ i. rw (bit_at_and (bit_and a m) m i, bit_at_and a m i) (omega arith))
-
-    one : (b : Bool) → bit_and (if b then bit_and answer mask else 0) mask ≡ (if b then bit_and answer mask else 0)
-    one true = twice answer mask
-    one false = and_zero_l mask
-saved-within register mask (Write offset value ∷ l) = within_or 0 (saved register mask l) mask (and_zero_l mask)
-    (saved-within register mask l)
 
 -- ---- lists of accesses
 
@@ -223,9 +147,9 @@ saves-then f mid after l m ws vs rs us a b = record {
   moves = moves-then l m ws vs rs us a.moves b.moves;
   settings = b.settings ∙ a.settings;
   lsr = b.lsr ∙ (ap (λ n. bit_or n (saved_lsr m)) a.lsr ∙ (or_assoc f.lsr (saved_lsr l) (saved_lsr m)
-      ∙ ap (bit_or f.lsr) (sym (saved-append 5 30 l m))));
+      ∙ ap (bit_or f.lsr) (sym (saved_lsr-append l m))));
   msr = b.msr ∙ (ap (λ n. bit_or n (saved_msr m)) a.msr ∙ (or_assoc f.msr (saved_msr l) (saved_msr m)
-      ∙ ap (bit_or f.msr) (sym (saved-append 6 15 l m))));
+      ∙ ap (bit_or f.msr) (sym (saved_msr-append l m))));
 }
 
 enables_saves : (bits : ℕ) (f : Fields) (l : List Access) (after : Fields) → Enables bits f l after → Saves [] [] f l after
@@ -266,9 +190,9 @@ carries-then f mid after l m a b = record {
   received = b.received ∙ (ap (λ xs. xs ++ data_read m) a.received ∙ (append_assoc f.receive.items (data_read l) (data_read m)
       ∙ ap (λ xs. f.receive.items ++ xs) (sym (data_read-append l m))));
   line = b.line ∙ (ap (λ n. bit_or n (saved_lsr m)) a.line ∙ (or_assoc (untold_line f) (saved_lsr l) (saved_lsr m)
-      ∙ ap (bit_or (untold_line f)) (sym (saved-append 5 30 l m))));
+      ∙ ap (bit_or (untold_line f)) (sym (saved_lsr-append l m))));
   modem = b.modem ∙ (ap (λ n. bit_or n (saved_msr m)) a.modem ∙ (or_assoc (untold_modem f) (saved_msr l) (saved_msr m)
-      ∙ ap (bit_or (untold_modem f)) (sym (saved-append 6 15 l m))));
+      ∙ ap (bit_or (untold_modem f)) (sym (saved_msr-append l m))));
   rooms = (b.rooms.0 ∙ a.rooms.0, b.rooms.1 ∙ a.rooms.1);
   settings = b.settings ∙ a.settings;
 }
@@ -291,10 +215,12 @@ carries_driver : (f e : RingFields) (l : List Access) (after : RingFields) (writ
 carries_driver f e l after written read s same sent received line modem tx_room rx_room = record {
   sent = sent ∙ (λ i. sym s.moves.written_is i ++ (same' i).transmit.items);
   received = ap (λ (g : RingFields). g.receive.items) same ∙ (received ∙ ap (λ xs. f.receive.items ++ xs) (sym s.moves.read_is));
-  line = ap (λ n. bit_and (bit_or n after.driver.lsr) 30) (ap (λ (g : RingFields). g.line) same ∙ line)
-      ∙ (ap (λ n. bit_and (bit_or f.line n) 30) s.lsr ∙ more_saved f.line f.driver.lsr (saved_lsr l) 30 (saved-within 5 30 l));
-  modem = ap (λ n. bit_and (bit_or n after.driver.msr) 15) (ap (λ (g : RingFields). g.modem) same ∙ modem)
-      ∙ (ap (λ n. bit_and (bit_or f.modem n) 15) s.msr ∙ more_saved f.modem f.driver.msr (saved_msr l) 15 (saved-within 6 15 l));
+  line = ap (λ n. bit_and (bit_or n after.driver.lsr) LSR.LINE_ERRORS.0) (ap (λ (g : RingFields). g.line) same ∙ line)
+      ∙ (ap (λ n. bit_and (bit_or f.line n) LSR.LINE_ERRORS.0) s.lsr ∙ more_saved f.line f.driver.lsr (saved_lsr l) LSR.LINE_ERRORS.0
+      (saved_lsr-within l));
+  modem = ap (λ n. bit_and (bit_or n after.driver.msr) MSR.CHANGES.0) (ap (λ (g : RingFields). g.modem) same ∙ modem)
+      ∙ (ap (λ n. bit_and (bit_or f.modem n) MSR.CHANGES.0) s.msr ∙ more_saved f.modem f.driver.msr (saved_msr l) MSR.CHANGES.0
+      (saved_msr-within l));
   rooms = (ap (λ (g : RingFields). g.transmit.capacity) same ∙ tx_room, ap (λ (g : RingFields). g.receive.capacity) same ∙ rx_room);
   settings = s.settings;
 }
@@ -361,17 +287,11 @@ fills_carry f l after (bytes, t) =
     rw t.whole (carries-then f t.mid after t.front t.back (received_carries _ bytes f t.front t.mid t.first)
     (pauses_carry t.mid t.back after t.second))
 
--- a status is read, and nothing else changes but what is noted and kept of it
-lsr_moves : (status : ℕ) (f : Fields) (l : List Access) (after : Fields) → TakesLsr status f l after → Moves [] [] l
-lsr_moves status f l after (read, is, shown, changed) = rw is (record { written_is = refl; read_is = refl })
-
-msr_moves : (status : ℕ) (f : Fields) (l : List Access) (after : Fields) → TakesMsr status f l after → Moves [] [] l
-msr_moves status f l after (read, is, shown, changed) = rw is (record { written_is = refl; read_is = refl })
-
 notes_line_carries : Implies NotesLine Carries
 notes_line_carries f l after (status, ((read, is, shown, changed), same)) =
     let told : untold_line after ≡ bit_or (untold_line f) (saved_lsr l) =
-    rw (ap (λ (g : RingFields). g.line) same, ap (λ (g : Fields). g.lsr) changed, shown, is) (now_noted f.line f.driver.lsr read 30) in
+    rw (ap (λ (g : RingFields). g.line) same, ap (λ (g : Fields). g.lsr) changed, shown, is)
+    (now_noted f.line f.driver.lsr read LSR.LINE_ERRORS.0) in
     let kept : untold_modem after ≡ bit_or (untold_modem f) (saved_msr l) =
     rw (ap (λ (g : RingFields). g.modem) same, ap (λ (g : Fields). g.msr) changed, is) (sym (or_zero_r (untold_modem f))) in
     record {
@@ -386,7 +306,8 @@ notes_line_carries f l after (status, ((read, is, shown, changed), same)) =
 notes_modem_carries : Implies NotesModem Carries
 notes_modem_carries f l after (status, ((read, is, shown, changed), same)) =
     let told : untold_modem after ≡ bit_or (untold_modem f) (saved_msr l) =
-    rw (ap (λ (g : RingFields). g.modem) same, ap (λ (g : Fields). g.msr) changed, shown, is) (now_noted f.modem f.driver.msr read 15) in
+    rw (ap (λ (g : RingFields). g.modem) same, ap (λ (g : Fields). g.msr) changed, shown, is)
+    (now_noted f.modem f.driver.msr read MSR.CHANGES.0) in
     let kept : untold_line after ≡ bit_or (untold_line f) (saved_lsr l) =
     rw (ap (λ (g : RingFields). g.line) same, ap (λ (g : Fields). g.lsr) changed, is) (sym (or_zero_r (untold_line f))) in
     record {
@@ -489,7 +410,7 @@ takes_line_loses_nothing line f l after (status, told, ((read, is, shown, change
   received = rw is (ap (λ (g : RingFields). g.receive.items) same ∙ sym (append-nil f.receive.items));
   line_told =
       rw (told, shown, ap (λ (g : RingFields). g.line) same, ap (λ (g : Fields). g.lsr) changed, is)
-      (or_zero_r _ ∙ now_told f.line f.driver.lsr read 30);
+      (or_zero_r _ ∙ now_told f.line f.driver.lsr read LSR.LINE_ERRORS.0);
   modem_told = rw (ap (λ (g : RingFields). g.modem) same, ap (λ (g : Fields). g.msr) changed, is) (sym (or_zero_r (untold_modem f)));
   rooms = (ap (λ (g : RingFields). g.transmit.capacity) same, ap (λ (g : RingFields). g.receive.capacity) same);
   settings = ap settings_of changed;
@@ -502,7 +423,7 @@ takes_modem_loses_nothing modem f l after (status, told, ((read, is, shown, chan
   line_told = rw (ap (λ (g : RingFields). g.line) same, ap (λ (g : Fields). g.lsr) changed, is) (sym (or_zero_r (untold_line f)));
   modem_told =
       rw (told, shown, ap (λ (g : RingFields). g.modem) same, ap (λ (g : Fields). g.msr) changed, is)
-      (or_zero_r _ ∙ now_told f.modem f.driver.msr read 15);
+      (or_zero_r _ ∙ now_told f.modem f.driver.msr read MSR.CHANGES.0);
   rooms = (ap (λ (g : RingFields). g.transmit.capacity) same, ap (λ (g : RingFields). g.receive.capacity) same);
   settings = ap settings_of changed;
 }
