@@ -1,28 +1,39 @@
 -- Bits of registers that are put together.
-use Rattle.std.proofs.Common.{◌≡◌, ℕ, zero, suc, ◌*◌, ◌%◌, ◌^◌, ◌<◌, max, min, Bool, true, false, not, ◌==◌, ◌||◌, ◌&&◌, refl, arith, sym, ◌∙◌, ap, bit_and, bit_or, ◌+◌}
+use Rattle.std.proofs.Common.{◌≡◌, ℕ, zero, suc, ◌*◌, ◌%◌, ◌^◌, ◌<◌, max, min, Bool, true, false, not, ◌==◌, ◌||◌, ◌&&◌, refl, arith, sym}
+use Rattle.std.proofs.Common.{◌∙◌, ap, bit_and, bit_or, ◌+◌}
 use Rattle.std.proofs.lemmas.Grind.{common_steps}
 use Rattle.std.specs.Int.{bit_at}
 use Rattle.std.proofs.lemmas.Nat.Bits.{same_from_bits, bit_at_or, bit_at_and, and_pow, bit_at-lt}
 use Rattle.std.proofs.lemmas.Nat.{pow_pos}
 use Rattle.std.specs.Int.Bits.{and_zero_l}
 use lib.Bits.{or_zero_r}
-use Rattle.uart_spec.specs.Bits.{has, field}
-use Rattle.uart_chip.specs.Registers.{has_any, flag, lcr_dlab, lcr_word_length}
-use Rattle.uart_chip.specs.Chip.{word_length, cut_to}
+use Rattle.uart_spec.specs.Bits.{has, has_any, field, IsOnly, flag}
+use Rattle.uart_spec.specs.Fields.{trigger_code, HasTrigger}
+use Rattle.uart_spec.specs.declared.registers.fifo_trigger_level.FifoTriggerLevel.{FifoTriggerLevel}
+use Rattle.uart_spec.specs.declared.registers.line_control.TheConstants.LCR
+use Rattle.uart_chip.specs.Chip.{word_length, cut_to, level_of, trigger_level}
 
 -- ---- joins
 
 pub or_assoc : (a b c : ℕ) → bit_or (bit_or a b) c ≡ bit_or a (bit_or b c)
-or_assoc a b c = same_from_bits _ _ (λ i. rw (bit_at_or (bit_or a b) c i, bit_at_or a b i, bit_at_or a (bit_or b c) i, bit_at_or b c i) (omega arith))
+or_assoc a b c =
+    same_from_bits _ _ (λ i. rw (bit_at_or (bit_or a b) c i, bit_at_or a b i, bit_at_or a (bit_or b c) i, bit_at_or b c i) (omega arith))
 
 -- a mask of a join
 pub and_or : (a b mask : ℕ) → bit_and (bit_or a b) mask ≡ bit_or (bit_and a mask) (bit_and b mask)
 and_or a b mask =
-    same_from_bits _ _ (λ i. rw (bit_at_and (bit_or a b) mask i, bit_at_or a b i, bit_at_or (bit_and a mask) (bit_and b mask) i, bit_at_and a mask i, bit_at_and b mask i) (omega arith))
+    same_from_bits _ _
+    (λ i. rw (
+      bit_at_and (bit_or a b) mask i,
+      bit_at_or a b i,
+      bit_at_or (bit_and a mask) (bit_and b mask) i,
+      bit_at_and a mask i,
+      bit_at_and b mask i,
+    ) (omega arith))
 
 -- the divisor latch has nothing to do with the word length
-pub word_same : (lcr : ℕ) → word_length (bit_or lcr lcr_dlab) ≡ word_length lcr
-word_same lcr = ap (λ (more : ℕ). 5 + more) (and_or lcr lcr_dlab lcr_word_length ∙ or_zero_r (bit_and lcr lcr_word_length))
+pub word_same : (lcr : ℕ) → word_length (bit_or lcr LCR.DLAB.0) ≡ word_length lcr
+word_same lcr = ap (λ (more : ℕ). 5 + more) (and_or lcr LCR.DLAB.0 LCR.WORD_LENGTH.0 ∙ or_zero_r (bit_and lcr LCR.WORD_LENGTH.0))
 
 -- ---- one bit
 
@@ -71,12 +82,14 @@ has_or k a b =
 -- a mask that has the bit leaves it as it is
 pub has_and : (k a mask : ℕ) → bit_at mask k ≡ 1 → has_any (bit_and a mask) (2 ^ k) ≡ has_any a (2 ^ k)
 has_and k a mask e =
-    has_bit k (bit_and a mask) ∙ (ap (λ v. v == 1) (bit_at_and a mask k) ∙ (min_one (bit_at a k) (bit_at mask k) (bit_at-lt a k) e ∙ sym (has_bit k a)))
+    has_bit k (bit_and a mask) ∙
+    (ap (λ v. v == 1) (bit_at_and a mask k) ∙ (min_one (bit_at a k) (bit_at mask k) (bit_at-lt a k) e ∙ sym (has_bit k a)))
 
 -- a mask that lacks the bit takes it away
 pub has_not : (k a mask : ℕ) → bit_at mask k ≡ 0 → has_any (bit_and a mask) (2 ^ k) ≡ false
 has_not k a mask e =
-    has_bit k (bit_and a mask) ∙ (ap (λ v. v == 1) (bit_at_and a mask k) ∙ (ap (λ v. min (bit_at a k) v == 1) e ∙ grind (arith, common_steps)))
+    has_bit k (bit_and a mask) ∙
+    (ap (λ v. v == 1) (bit_at_and a mask k) ∙ (ap (λ v. min (bit_at a k) v == 1) e ∙ grind (arith, common_steps)))
 
 pub has_none : (k : ℕ) → has_any 0 (2 ^ k) ≡ false
 has_none k = ap (λ v. not (v == 0)) (and_zero_l (2 ^ k))
@@ -87,10 +100,24 @@ has_flag false bits mask = ap (λ v. not (v == 0)) (and_zero_l mask)
 
 -- ---- the word length
 
-field_bits : (value : ℕ) → field 0 2 value ≡ bit_and value lcr_word_length
+field_bits : (value : ℕ) → field 0 2 value ≡ bit_and value LCR.WORD_LENGTH.0
 field_bits value = grind (arith, common_steps)
 
 -- with this code in LCR a byte is cut so
-pub cut_with : (cuts : Bool) (lcr code byte : ℕ) → cuts ≡ true → field 0 2 lcr ≡ code → byte % 2 ^ (5 + code) ≡ cut_to cuts (word_length lcr) byte
+pub cut_with : (cuts : Bool) (lcr code byte : ℕ) → cuts ≡ true → field 0 2 lcr ≡ code →
+    byte % 2 ^ (5 + code) ≡ cut_to cuts (word_length lcr) byte
 cut_with cuts lcr code byte on e =
     sym (ap (λ (b : Bool). cut_to b (word_length lcr) byte) on ∙ ap (λ (more : ℕ). byte % 2 ^ (5 + more)) (sym (field_bits lcr) ∙ e))
+
+-- ---- the trigger level
+
+coded : (code : ℕ) → code < 4 → code ≡ trigger_code (level_of code)
+coded zero h = refl
+coded (suc zero) h = refl
+coded (suc (suc zero)) h = refl
+coded (suc (suc (suc zero))) h = refl
+coded (suc (suc (suc (suc n)))) h = absurd (omega arith)
+
+-- the only level whose code is in FCR
+pub only_level : (fcr : ℕ) (level : FifoTriggerLevel) → IsOnly (HasTrigger 6 fcr) level → level ≡ trigger_level fcr
+only_level fcr level only = (only (trigger_level fcr)).1 (coded (field 6 2 fcr) (grind (arith, common_steps)))

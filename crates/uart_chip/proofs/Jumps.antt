@@ -1,5 +1,6 @@
 -- Ticks in turns come to the same as ticks.
-use Rattle.std.proofs.Common.{◌≡◌, ℕ, zero, suc, ◌+◌, ◌-◌, min, max, ◌≤◌, ◌<◌, Bool, true, false, nat_lt, List, [], ◌∷◌, ◌++◌, length, Option, Some, None, refl, arith, sym, ◌∙◌, ap, subst, if◌then◌else◌}
+use Rattle.std.proofs.Common.{◌≡◌, ℕ, zero, suc, ◌+◌, ◌-◌, min, max, ◌≤◌, ◌<◌, Bool, true, false, nat_lt, List, [], ◌∷◌, ◌++◌, length}
+use Rattle.std.proofs.Common.{Option, Some, None, refl, arith, sym, ◌∙◌, ap, subst, if◌then◌else◌}
 use Rattle.std.proofs.lemmas.Grind.{common_steps}
 use Rattle.uart_chip.specs.declared.transmitter.Shifting.{Shifting}
 use Rattle.uart_chip.specs.Transmitter as transmitter
@@ -90,10 +91,14 @@ tick_skip n c h =
     let loopback : Bool = is_loopback c.latches in
     let t : TransmitterState = c.transmitter in
     let a = still-tick loopback n t.shift_place t.queue t h in
-    let b : receiver.tick c.fifo (looped_byte loopback (place_after n t.shift_place)) (count_up n c.receiver) ≡ count_up (suc n) c.receiver =
+    let b : receiver.tick c.fifo (looped_byte loopback (place_after n t.shift_place)) (count_up n c.receiver) ≡
+    count_up (suc n) c.receiver =
     ap (λ looped. receiver.tick c.fifo looped (count_up n c.receiver)) (still-looped loopback n t.shift_place t.queue t h) ∙
     count_up-next n c.receiver in
-    ap (λ (u : TransmitterState). record c { transmitter = u; receiver = receiver.tick c.fifo (looped_byte loopback (place_after n t.shift_place)) (count_up n c.receiver) }) a ∙
+    ap (λ (u : TransmitterState). record c {
+      transmitter = u;
+      receiver = receiver.tick c.fifo (looped_byte loopback (place_after n t.shift_place)) (count_up n c.receiver);
+    }) a ∙
     ap (λ (r : ReceiverState). record c { transmitter = count_down (suc n) t; receiver = r }) b
 
 place-same : (place : Option Shifting) → place_after 0 place ≡ place
@@ -106,7 +111,8 @@ place-same (Some s) = ap (λ (k : ℕ). with_left s k) (same s.ticks_left)
 -- ticks in which nothing moves
 pub ticks_skip : (n : ℕ) (c : ChipState) → StillFor n (next_move (is_loopback c.latches) c.transmitter) → ticks n c ≡ skip n c
 ticks_skip zero c h =
-    ap (λ (place : Option Shifting). record c { transmitter = record c.transmitter { shift_place = place } }) (sym (place-same c.transmitter.shift_place))
+    ap (λ (place : Option Shifting). record c { transmitter = record c.transmitter { shift_place = place } })
+    (sym (place-same c.transmitter.shift_place))
 ticks_skip (suc n) c h = ap tick (ticks_skip n c (still-less n _ h)) ∙ tick_skip n c h
 
 -- ---- when something moves

@@ -1,11 +1,15 @@
 -- Which machines can be built, and which refusal comes first.
-use Rattle.std.specs.Prelude.{ℕ, Bool, true, false, not, ◌&&◌, ◌==◌, nat_le, nat_lt, bit_and, List, Option, Some, position, if◌then◌else◌}
+use Rattle.std.specs.Prelude.{ℕ, Bool, true, false, not, ◌&&◌, ◌==◌, nat_le, nat_lt, bit_and, List, Option, Some}
+use Rattle.std.specs.Prelude.{position, if◌then◌else◌}
 use Rattle.std.specs.Option.{option_map, option_or}
 use Rattle.uart_chip.specs.declared.event.Event.{Event}
-use Rattle.uart_chip.specs.declared.event.Event.TheVariants.{Ticks, Arrive, Lines, Access as Gate, Mark}
+use Rattle.uart_chip.specs.declared.event.Event.TheVariants.{Arrive, Lines}
 use Rattle.uart_chip.specs.declared.event.BuildError.{BuildError}
+use Rattle.uart_chip.specs.declared.event.TheConstants.{MAX_CHAR_TICKS, MAX_WIRE_CAPACITY}
 use Rattle.uart_chip.specs.declared.event.BuildError.TheVariants.{BadTicks, BadWire, BadErrors, BadLines}
-use Rattle.uart_chip.specs.Registers.{lsr_character_errors, msr_lines}
+use Rattle.uart_spec.specs.declared.registers.line_status.TheConstants.LSR
+use Rattle.uart_spec.specs.declared.registers.modem_status.TheConstants.MSR
+use Rattle.uart_chip.specs.Masks.{IsWithin}
 
 -- some bit lies outside of the mask
 abbrev pub is_outside : ℕ → ℕ → Bool
@@ -13,31 +17,30 @@ is_outside value mask = not (bit_and value mask == value)
 
 -- an arrival with a bit that is no error of a character
 abbrev pub has_bad_errors : Event → Bool
-has_bad_errors (Arrive byte errors) = is_outside errors lsr_character_errors
-has_bad_errors (Ticks n) = false
-has_bad_errors (Lines inputs) = false
-has_bad_errors Gate = false
-has_bad_errors Mark = false
+has_bad_errors (Arrive byte errors) = is_outside errors LSR.CHARACTER_ERRORS.0
+has_bad_errors _ = false
 
 -- a change of the lines with a bit that is no line
 abbrev pub has_bad_lines : Event → Bool
-has_bad_lines (Lines inputs) = is_outside inputs msr_lines
-has_bad_lines (Ticks n) = false
-has_bad_lines (Arrive byte errors) = false
-has_bad_lines Gate = false
-has_bad_lines Mark = false
+has_bad_lines (Lines inputs) = is_outside inputs MSR.LINES.0
+has_bad_lines _ = false
+
+-- the event has no such bit
+abbrev pub IsLegal : Event → Type 0
+IsLegal (Arrive byte errors) = IsWithin errors LSR.CHARACTER_ERRORS.0
+IsLegal (Lines inputs) = IsWithin inputs MSR.LINES.0
+IsLegal _ = Unit {0}
 
 -- an arrival
 abbrev pub is_arrival : Event → Bool
 is_arrival (Arrive byte errors) = true
-is_arrival (Ticks n) = false
-is_arrival (Lines inputs) = false
-is_arrival Gate = false
-is_arrival Mark = false
+is_arrival _ = false
 
 -- why no machine is built, whatever memory there is: the first reason in this order
 abbrev pub refusal : ℕ → ℕ → List Event → Option BuildError
 refusal char_ticks capacity events =
-    if not (nat_le 1 char_ticks && nat_le char_ticks 1000) then Some BadTicks
-    else if nat_lt 65536 capacity then Some BadWire
-    else option_or (option_map BadErrors (position has_bad_errors events)) (option_map BadLines (position has_bad_lines events))
+    let errors = option_map BadErrors (position has_bad_errors events) in
+    let lines = option_map BadLines (position has_bad_lines events) in
+    if not (nat_le 1 char_ticks && nat_le char_ticks MAX_CHAR_TICKS) then Some BadTicks
+    else if nat_lt MAX_WIRE_CAPACITY capacity then Some BadWire
+    else option_or errors lines

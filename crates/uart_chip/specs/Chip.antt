@@ -1,27 +1,56 @@
 -- The chip: its registers, what an access does, and what happens between accesses.
-use Rattle.std.specs.Prelude.{ℕ, ◌+◌, ◌*◌, ◌%◌, ◌^◌, zero, suc, Bool, true, false, not, ◌&&◌, List, [], ◌∷◌, length, Option, Some, None, nat_lt, if◌then◌else◌, ◌==◌, bit_and, bit_or}
+use Rattle.std.specs.Prelude.{ℕ, ◌+◌, ◌*◌, ◌%◌, ◌^◌, zero, suc, Bool, true, false, not, ◌&&◌, List, [], ◌∷◌, length}
+use Rattle.std.specs.Prelude.{Option, Some, None, nat_lt, if◌then◌else◌, ◌==◌, bit_and, bit_or}
 use Rattle.std.specs.List.{list_any}
-use Rattle.uart_chip.specs.declared.chip.Latches.{Latches}
 use Rattle.uart_chip.specs.declared.transmitter.Shifting.{Shifting}
 use Rattle.uart_chip.specs.declared.event.Chip.{Chip}
 use Rattle.uart_chip.specs.declared.event.Chip.TheVariants.{Uart16550A, Uart16450}
-use Rattle.uart_chip.specs.declared.modem.Modem.{Modem}
-use Rattle.uart_chip.specs.Registers.{has_any, flag, offset_data, offset_ier, offset_isr, offset_fcr, offset_lcr, offset_mcr, offset_lsr, offset_msr, offset_scr, ier_data_ready, ier_thr_empty, ier_line_status, ier_modem_status, ier_bits, isr_modem_status, isr_none, isr_thr_empty, isr_data_ready, isr_line_status, isr_timeout, isr_fifo, fcr_enable, fcr_receiver_reset, fcr_transmitter_reset, fcr_trigger, lcr_dlab, lcr_word_length, mcr_loopback, mcr_bits, lsr_data_ready, lsr_overrun, lsr_errors, lsr_thr_empty, lsr_transmitter_empty, lsr_fifo_error}
+use Rattle.uart_spec.specs.Bits.{has_any, field, flag}
+use Rattle.uart_spec.specs.Fields.{trigger_code}
+use Rattle.uart_spec.specs.Interrupts.{interrupt_code}
+use Rattle.uart_spec.specs.declared.registers.fifo_trigger_level.FifoTriggerLevel.{FifoTriggerLevel}
+use Rattle.uart_spec.specs.declared.registers.fifo_trigger_level.FifoTriggerLevel.TheVariants.{One, Four, Eight}
+use Rattle.uart_spec.specs.declared.registers.fifo_trigger_level.FifoTriggerLevel.TheVariants.{Fourteen}
+use Rattle.uart_spec.specs.declared.registers.interrupt_type.InterruptType.{InterruptType}
+use Rattle.uart_spec.specs.declared.registers.interrupt_type.InterruptType.TheVariants.{ReceiverLineStatus}
+use Rattle.uart_spec.specs.declared.registers.interrupt_type.InterruptType.TheVariants.{ReceivedDataReady}
+use Rattle.uart_spec.specs.declared.registers.interrupt_type.InterruptType.TheVariants.{ReceptionTimeout}
+use Rattle.uart_spec.specs.declared.registers.interrupt_type.InterruptType.TheVariants.{TransmitterHoldingRegisterEmpty}
+use Rattle.uart_spec.specs.declared.registers.interrupt_type.InterruptType.TheVariants.{ModemStatus}
+use Rattle.uart_spec.specs.declared.registers.interrupt_enable.TheConstants.IER
+use Rattle.uart_spec.specs.declared.registers.interrupt_status.TheConstants.ISR
+use Rattle.uart_spec.specs.declared.registers.fifo_control.TheConstants.FCR
+use Rattle.uart_spec.specs.declared.registers.line_control.TheConstants.LCR
+use Rattle.uart_spec.specs.declared.registers.modem_control.TheConstants.MCR
+use Rattle.uart_spec.specs.declared.registers.line_status.TheConstants.LSR
+use Rattle.uart_spec.specs.declared.registers.offsets.TheConstants as offsets
+use Rattle.uart_chip.specs.Masks.{ier_bits, mcr_bits}
 use Rattle.uart_chip.specs.Transmitter as transmitter
 use Rattle.uart_chip.specs.Transmitter.{TransmitterState, looped_byte, load}
 use Rattle.uart_chip.specs.Receiver as receiver
-use Rattle.uart_chip.specs.Receiver.{ReceiverState, take_front, front_errors, unreported, has_errors, report, clear, is_data_pending, is_timed_out}
+use Rattle.uart_chip.specs.Receiver.{ReceiverState, take_front, front_errors, unreported, has_errors, report, clear}
+use Rattle.uart_chip.specs.Receiver.{is_data_pending, is_timed_out}
 use Rattle.uart_chip.specs.Modem as modem
-use Rattle.uart_chip.specs.Modem.{renew}
+use Rattle.uart_chip.specs.Modem.{ModemState, renew}
 
--- the model says whether there is a FIFO at all, fifo whether it is on, cuts whether characters are cut to the word length
+-- the registers that keep what is written, as bytes
+pub record LatchesState : Type 0 where
+  pub ier : ℕ
+  pub lcr : ℕ
+  pub mcr : ℕ
+  pub scr : ℕ
+  pub dll : ℕ
+  pub dlm : ℕ
+
+-- the model says whether there is a FIFO at all, fifo whether it is on, and cuts whether characters are cut to the word
+-- length
 pub record ChipState : Type 0 where
   pub model : Chip
-  pub latches : Latches
+  pub latches : LatchesState
   pub fifo : Bool
   pub transmitter : TransmitterState
   pub receiver : ReceiverState
-  pub modem : Modem
+  pub modem : ModemState
   pub cuts : Bool
 
 -- a chip after power on, with so many arrivals to come
@@ -38,20 +67,20 @@ fresh model char_ticks capacity arrivals =
     }
 
 -- offsets 0 and 1 reach the divisor latch
-abbrev pub is_dlab_set : Latches → Bool
-is_dlab_set l = has_any l.lcr lcr_dlab
+abbrev pub is_dlab_set : LatchesState → Bool
+is_dlab_set l = has_any l.lcr LCR.DLAB.0
 
 -- what leaves the transmitter comes back to the receiver
-abbrev pub is_loopback : Latches → Bool
-is_loopback l = has_any l.mcr mcr_loopback
+abbrev pub is_loopback : LatchesState → Bool
+is_loopback l = has_any l.mcr MCR.LOOP_BACK.0
 
 -- the divisor latch
-abbrev pub divisor : Latches → ℕ
+abbrev pub divisor : LatchesState → ℕ
 divisor l = 256 * l.dlm + l.dll
 
 -- the word length: 5 to 8 data bits a character
 abbrev pub word_length : (lcr : ℕ) → ℕ
-word_length lcr = 5 + bit_and lcr lcr_word_length
+word_length lcr = 5 + bit_and lcr LCR.WORD_LENGTH.0
 
 -- a byte as a character of this word length, if characters are cut
 abbrev pub cut_to : (cuts : Bool) → (length byte : ℕ) → ℕ
@@ -79,7 +108,8 @@ ticks (suc n) c = tick (ticks n c)
 
 -- a character arrives
 abbrev pub arrive : ℕ → ℕ → ChipState → ChipState
-arrive byte errors c = record c { receiver = receiver.arrive (is_loopback c.latches) c.fifo (cut_of c byte) errors c.receiver }
+arrive byte errors c =
+    record c { receiver = receiver.arrive (is_loopback c.latches) c.fifo (cut_of c byte) errors c.receiver }
 
 -- the modem's inputs change
 abbrev pub change_lines : ℕ → ChipState → ChipState
@@ -96,53 +126,80 @@ is_transmitter_empty (x ∷ xs) place = false
 -- the line status register
 abbrev pub line_status : ChipState → ℕ
 line_status c =
-    bit_or (bit_or (bit_or (flag (nat_lt 0 (length c.receiver.queue)) lsr_data_ready) (flag c.receiver.is_overrun lsr_overrun))
-    (bit_or (front_errors c.receiver.queue c.receiver.is_front_reported) (flag (length c.transmitter.queue == 0) lsr_thr_empty)))
-    (bit_or (flag (is_transmitter_empty c.transmitter.queue c.transmitter.shift_place) lsr_transmitter_empty)
-    (flag (c.fifo && list_any has_errors (unreported c.receiver.queue c.receiver.is_front_reported)) lsr_fifo_error))
+    let data_ready = flag (nat_lt 0 (length c.receiver.queue)) LSR.DATA_READY.0 in
+    let overrun = flag c.receiver.is_overrun LSR.OVERRUN_ERROR.0 in
+    let errors = front_errors c.receiver.queue c.receiver.is_front_reported in
+    let thr_empty = flag (length c.transmitter.queue == 0) LSR.THR_EMPTY.0 in
+    let is_empty = is_transmitter_empty c.transmitter.queue c.transmitter.shift_place in
+    let transmitter_empty = flag is_empty LSR.TRANSMITTER_EMPTY.0 in
+    let has_error = list_any has_errors (unreported c.receiver.queue c.receiver.is_front_reported) in
+    let fifo_error = flag (c.fifo && has_error) LSR.FIFO_DATA_ERROR.0 in
+    bit_or (bit_or (bit_or data_ready overrun) (bit_or errors thr_empty)) (bit_or transmitter_empty fifo_error)
 
--- the code of the interrupt of the highest priority
-abbrev pub interrupt : ChipState → ℕ
+-- the interrupt of the highest priority among those that are enabled and pending
+abbrev pub interrupt : ChipState → Option InterruptType
 interrupt c =
-    if has_any c.latches.ier ier_line_status && has_any (line_status c) lsr_errors then isr_line_status
-    else if has_any c.latches.ier ier_data_ready && is_data_pending c.fifo c.receiver then isr_data_ready
-    else if has_any c.latches.ier ier_data_ready && is_timed_out c.fifo c.receiver then isr_timeout
-    else if has_any c.latches.ier ier_thr_empty && c.transmitter.is_thr_pending then isr_thr_empty
-    else if has_any c.latches.ier ier_modem_status && not (c.modem.deltas == 0) then isr_modem_status
-    else isr_none
+    if has_any c.latches.ier IER.RECEIVER_LINE_STATUS.0 && has_any (line_status c) LSR.LINE_ERRORS.0
+    then Some ReceiverLineStatus
+    else if has_any c.latches.ier IER.DATA_READY.0 && is_data_pending c.fifo c.receiver then Some ReceivedDataReady
+    else if has_any c.latches.ier IER.DATA_READY.0 && is_timed_out c.fifo c.receiver then Some ReceptionTimeout
+    else if has_any c.latches.ier IER.THR_EMPTY.0 && c.transmitter.is_thr_pending
+    then Some TransmitterHoldingRegisterEmpty
+    else if has_any c.latches.ier IER.MODEM_STATUS.0 && not (c.modem.deltas == 0) then Some ModemStatus
+    else None
+
+-- ISR for an interrupt: its code in bits 1 to 3, or bit 0 where none is pending
+abbrev pub identification : Option InterruptType → ℕ
+identification None = ISR.INTERRUPT_STATUS.0
+identification (Some interrupt) = 2 * interrupt_code interrupt
+
+-- the interrupt that a read of ISR withdraws
+abbrev pub is_thr_empty : Option InterruptType → Bool
+is_thr_empty (Some TransmitterHoldingRegisterEmpty) = true
+is_thr_empty _ = false
+
+-- THR-empty is pending, or is not
+abbrev pub with_thr_pending : Bool → ChipState → ChipState
+with_thr_pending pending c = record c { transmitter = record c.transmitter { is_thr_pending = pending } }
 
 -- ---- a read
 
 -- what a read of the register answers
 abbrev pub answer : ℕ → ChipState → ℕ
 answer offset c =
-    if offset == offset_data then (if is_dlab_set c.latches then c.latches.dll else (take_front c.receiver.queue c.receiver).last_byte)
-    else if offset == offset_ier then (if is_dlab_set c.latches then c.latches.dlm else c.latches.ier)
-    else if offset == offset_isr then bit_or (interrupt c) (flag c.fifo isr_fifo)
-    else if offset == offset_lcr then c.latches.lcr
-    else if offset == offset_mcr then c.latches.mcr
-    else if offset == offset_lsr then line_status c
-    else if offset == offset_msr then bit_or c.modem.lines c.modem.deltas
+    if offset == offsets.DATA
+    then (if is_dlab_set c.latches then c.latches.dll else (take_front c.receiver.queue c.receiver).last_byte)
+    else if offset == offsets.IER then (if is_dlab_set c.latches then c.latches.dlm else c.latches.ier)
+    else if offset == offsets.ISR then bit_or (identification (interrupt c)) (flag c.fifo ISR.FIFOS_ENABLED.0)
+    else if offset == offsets.LCR then c.latches.lcr
+    else if offset == offsets.MCR then c.latches.mcr
+    else if offset == offsets.LSR then line_status c
+    else if offset == offsets.MSR then bit_or c.modem.lines c.modem.deltas
     else c.latches.scr
 
 -- what a read of the register leaves
 abbrev pub after_read : ℕ → ChipState → ChipState
 after_read offset c =
-    if offset == offset_data then (if is_dlab_set c.latches then c else record c { receiver = take_front c.receiver.queue c.receiver })
-    else if offset == offset_isr then (if interrupt c == isr_thr_empty then record c { transmitter = record c.transmitter { is_thr_pending = false } } else c)
-    else if offset == offset_lsr then record c { receiver = report c.receiver }
-    else if offset == offset_msr then record c { modem = record c.modem { deltas = 0 } }
+    if offset == offsets.DATA
+    then (if is_dlab_set c.latches then c else record c { receiver = take_front c.receiver.queue c.receiver })
+    else if offset == offsets.ISR then (if is_thr_empty (interrupt c) then with_thr_pending false c else c)
+    else if offset == offsets.LSR then record c { receiver = report c.receiver }
+    else if offset == offsets.MSR then record c { modem = record c.modem { deltas = 0 } }
     else c
 
 -- ---- a write
 
--- how many characters the trigger bits ask for
-abbrev pub trigger_of : ℕ → ℕ
-trigger_of value =
-    if bit_and value fcr_trigger == 0 then 1
-    else if bit_and value fcr_trigger == 64 then 4
-    else if bit_and value fcr_trigger == 128 then 8
-    else 14
+-- the trigger level with this code
+abbrev pub level_of : (code : ℕ) → FifoTriggerLevel
+level_of code =
+    if code == trigger_code One then One
+    else if code == trigger_code Four then Four
+    else if code == trigger_code Eight then Eight
+    else Fourteen
+
+-- the trigger level that FCR asks for
+abbrev pub trigger_level : (fcr : ℕ) → FifoTriggerLevel
+trigger_level fcr = level_of (field 6 2 fcr)
 
 -- the FIFO is switched on or off, which empties both queues
 abbrev pub switch : Bool → ChipState → ChipState
@@ -150,15 +207,17 @@ switch on c = record c { fifo = on; receiver = clear c.receiver; transmitter = r
 
 -- the receiver is reset where the bit asks for it
 abbrev pub reset_receiver : ℕ → ChipState → ChipState
-reset_receiver value c = if has_any value fcr_receiver_reset then record c { receiver = clear c.receiver } else c
+reset_receiver value c = if has_any value FCR.RX_FIFO_RESET.0 then record c { receiver = clear c.receiver } else c
 
 -- the transmitter is reset where the bit asks for it
 abbrev pub reset_transmitter : ℕ → ChipState → ChipState
 reset_transmitter value c =
-    if has_any value fcr_transmitter_reset then record c { transmitter = record c.transmitter { queue = []; is_thr_pending = true } } else c
+    if has_any value FCR.TX_FIFO_RESET.0
+    then record c { transmitter = record c.transmitter { queue = []; is_thr_pending = true } }
+    else c
 
 -- the trigger is set
-abbrev pub set_trigger : ℕ → ChipState → ChipState
+abbrev pub set_trigger : FifoTriggerLevel → ChipState → ChipState
 set_trigger trigger c = record c { receiver = record c.receiver { trigger = trigger } }
 
 -- the two are equal
@@ -169,8 +228,9 @@ is_same false b = not b
 -- a write of the FIFO control register of a chip with FIFO: the switch, then the resets and the trigger where it is on
 abbrev pub set_fifo : ℕ → ChipState → ChipState
 set_fifo value c =
-    let d = if is_same c.fifo (has_any value fcr_enable) then c else switch (has_any value fcr_enable) c in
-    if has_any value fcr_enable then set_trigger (trigger_of value) (reset_transmitter value (reset_receiver value d)) else d
+    let on = has_any value FCR.FIFO_ENABLE.0 in
+    let d = if is_same c.fifo on then c else switch on c in
+    if on then set_trigger (trigger_level value) (reset_transmitter value (reset_receiver value d)) else d
 
 -- a write of the FIFO control register
 abbrev pub control : Chip → ℕ → ChipState → ChipState
@@ -178,26 +238,40 @@ control Uart16450 value c = c
 control Uart16550A value c = set_fifo value c
 
 -- a write of a register that only keeps what is written
-abbrev pub with_latches : Latches → ChipState → ChipState
+abbrev pub with_latches : LatchesState → ChipState → ChipState
 with_latches l c = record c { latches = l }
 
 -- a write of the interrupt enable register: THR-empty is pending where it is newly enabled and the THR is empty
 abbrev pub enable : ℕ → ChipState → ChipState
 enable value c =
+    let is_enabled = has_any c.latches.ier IER.THR_EMPTY.0 in
+    let is_told = not is_enabled && (has_any value IER.THR_EMPTY.0 && (length c.transmitter.queue == 0)) in
     record c {
       latches = record c.latches { ier = bit_and value ier_bits };
       transmitter = record c.transmitter {
-        is_thr_pending = if not (has_any c.latches.ier ier_thr_empty) && (has_any value ier_thr_empty && (length c.transmitter.queue == 0)) then true else c.transmitter.is_thr_pending;
+        is_thr_pending = if is_told then true else c.transmitter.is_thr_pending;
       };
     }
+
+-- a write of the modem control register, of what it keeps
+abbrev pub control_modem : ℕ → ChipState → ChipState
+control_modem mcr c = record c { latches = record c.latches { mcr = mcr }; modem = renew mcr c.modem }
+
+-- a write of the data register
+abbrev pub write_data : ℕ → ChipState → ChipState
+write_data value c =
+    if is_dlab_set c.latches
+    then with_latches (record c.latches { dll = value }) c
+    else record c { transmitter = load c.fifo (cut_of c value) c.transmitter }
 
 -- what a write of the register leaves
 abbrev pub after_write : ℕ → ℕ → ChipState → ChipState
 after_write offset value c =
-    if offset == offset_data then (if is_dlab_set c.latches then with_latches (record c.latches { dll = value }) c else record c { transmitter = load c.fifo (cut_of c value) c.transmitter })
-    else if offset == offset_ier then (if is_dlab_set c.latches then with_latches (record c.latches { dlm = value }) c else enable value c)
-    else if offset == offset_fcr then control c.model value c
-    else if offset == offset_lcr then with_latches (record c.latches { lcr = value }) c
-    else if offset == offset_mcr then record c { latches = record c.latches { mcr = bit_and value mcr_bits }; modem = renew (bit_and value mcr_bits) c.modem }
-    else if offset == offset_scr then with_latches (record c.latches { scr = value }) c
+    if offset == offsets.DATA then write_data value c
+    else if offset == offsets.IER
+    then (if is_dlab_set c.latches then with_latches (record c.latches { dlm = value }) c else enable value c)
+    else if offset == offsets.FCR then control c.model value c
+    else if offset == offsets.LCR then with_latches (record c.latches { lcr = value }) c
+    else if offset == offsets.MCR then control_modem (bit_and value mcr_bits) c
+    else if offset == offsets.SPR then with_latches (record c.latches { scr = value }) c
     else c

@@ -1,5 +1,6 @@
 -- Ticks in turns: when a character moves next, what passes until then, and how many turns there may be.
-use Rattle.std.specs.Prelude.{ℕ, ◌+◌, ◌-◌, min, max, zero, suc, Bool, List, [], ◌∷◌, length, Option, Some, None, nat_lt, if◌then◌else◌}
+use Rattle.std.specs.Prelude.{ℕ, ◌+◌, ◌-◌, min, max, zero, suc, Bool, List, [], ◌∷◌, length, Option, Some, None, nat_lt}
+use Rattle.std.specs.Prelude.{if◌then◌else◌}
 use Rattle.uart_chip.specs.declared.transmitter.Shifting.{Shifting}
 use Rattle.uart_chip.specs.Transmitter.{TransmitterState}
 use Rattle.uart_chip.specs.Receiver.{ReceiverState}

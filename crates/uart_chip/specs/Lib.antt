@@ -1,4 +1,4 @@
-pub mod Registers
+pub mod Masks
 pub mod Transmitter
 pub mod Receiver
 pub mod Modem

@@ -16,10 +16,7 @@ pub record MachineState : Type 0 where
 abbrev pub arrivals : List Event → ℕ
 arrivals [] = 0
 arrivals (Arrive byte errors ∷ events) = 1 + arrivals events
-arrivals (Ticks n ∷ events) = arrivals events
-arrivals (Lines inputs ∷ events) = arrivals events
-arrivals (Gate ∷ events) = arrivals events
-arrivals (Mark ∷ events) = arrivals events
+arrivals (_ ∷ events) = arrivals events
 
 -- a machine after power on, with its whole schedule ahead
 abbrev pub fresh : Chip → ℕ → ℕ → List Event → MachineState
@@ -35,26 +32,22 @@ abbrev pub perform : Event → ChipState → ChipState
 perform (Ticks n) c = ticks n c
 perform (Arrive byte errors) c = arrive byte errors c
 perform (Lines inputs) c = change_lines inputs c
-perform Gate c = c
-perform Mark c = c
+perform _ c = c
 
--- the chip as an access finds it: the events up to the first Access were performed, or up to a Mark or the end and one tick more
+-- the chip as an access finds it: the events up to the first Access were performed, or up to a Mark or the end and one
+-- tick more
 abbrev pub before_access : List Event → ChipState → ChipState
 before_access [] c = tick c
-before_access (Ticks n ∷ events) c = before_access events (ticks n c)
-before_access (Arrive byte errors ∷ events) c = before_access events (arrive byte errors c)
-before_access (Lines inputs ∷ events) c = before_access events (change_lines inputs c)
 before_access (Gate ∷ events) c = c
 before_access (Mark ∷ events) c = tick c
+before_access (event ∷ events) c = before_access events (perform event c)
 
 -- the events that an access leaves: an Access is taken, a Mark stays
 abbrev pub after_access : List Event → List Event
 after_access [] = []
-after_access (Ticks n ∷ events) = after_access events
-after_access (Arrive byte errors ∷ events) = after_access events
-after_access (Lines inputs ∷ events) = after_access events
 after_access (Gate ∷ events) = events
 after_access (Mark ∷ events) = Mark ∷ events
+after_access (_ ∷ events) = after_access events
 
 -- the machine as an access finds it
 abbrev pub at_access : MachineState → MachineState
@@ -63,20 +56,14 @@ at_access m = record { chip = before_access m.ahead m.chip; ahead = after_access
 -- the chip after the events up to the next Mark or the end
 abbrev pub before_mark : List Event → ChipState → ChipState
 before_mark [] c = c
-before_mark (Ticks n ∷ events) c = before_mark events (ticks n c)
-before_mark (Arrive byte errors ∷ events) c = before_mark events (arrive byte errors c)
-before_mark (Lines inputs ∷ events) c = before_mark events (change_lines inputs c)
-before_mark (Gate ∷ events) c = before_mark events c
 before_mark (Mark ∷ events) c = c
+before_mark (event ∷ events) c = before_mark events (perform event c)
 
 -- the events after the next Mark
 abbrev pub after_mark : List Event → List Event
 after_mark [] = []
-after_mark (Ticks n ∷ events) = after_mark events
-after_mark (Arrive byte errors ∷ events) = after_mark events
-after_mark (Lines inputs ∷ events) = after_mark events
-after_mark (Gate ∷ events) = after_mark events
 after_mark (Mark ∷ events) = events
+after_mark (_ ∷ events) = after_mark events
 
 -- the machine after the next Mark was taken
 abbrev pub at_mark : MachineState → MachineState

@@ -1,12 +1,18 @@
 -- The receiver: a queue of characters, and what became of each that arrived.
-use Rattle.std.specs.Prelude.{ℕ, ◌+◌, ◌*◌, min, Bool, true, false, ◌&&◌, List, [], ◌∷◌, ◌++◌, map, length, drop, replicate, slice_set, slice_index_or, Option, Some, None, nat_lt, nat_le, if◌then◌else◌, ◌==◌, bit_and}
+use Rattle.std.specs.Prelude.{ℕ, ◌+◌, ◌*◌, min, Bool, true, false, ◌&&◌, List, [], ◌∷◌, ◌++◌, map, length, drop}
+use Rattle.std.specs.Prelude.{replicate, slice_set, slice_index_or, Option, Some, None, nat_lt, nat_le, if◌then◌else◌}
+use Rattle.std.specs.Prelude.{◌==◌, bit_and}
 use Rattle.uart_chip.specs.declared.receiver.Character.{Character}
 use Rattle.uart_chip.specs.declared.receiver.Origin.{Origin}
 use Rattle.uart_chip.specs.declared.receiver.Origin.TheVariants.{Arrived, Looped}
 use Rattle.uart_chip.specs.declared.event.ArrivalMark.{ArrivalMark}
 use Rattle.uart_chip.specs.declared.event.ArrivalMark.TheVariants.{Pending, Waiting, Read, Discarded, Dropped}
 use Rattle.uart_chip.specs.Transmitter.{room}
-use Rattle.uart_chip.specs.Registers.{has_any, lsr_character_errors}
+use Rattle.uart_spec.specs.Bits.{has_any}
+use Rattle.uart_spec.specs.declared.registers.fifo_trigger_level.FifoTriggerLevel.{FifoTriggerLevel}
+use Rattle.uart_spec.specs.declared.registers.fifo_trigger_level.FifoTriggerLevel.TheVariants.{One, Four, Eight}
+use Rattle.uart_spec.specs.declared.registers.fifo_trigger_level.FifoTriggerLevel.TheVariants.{Fourteen}
+use Rattle.uart_spec.specs.declared.registers.line_status.TheConstants.LSR
 
 -- the marks are of the arrivals of the schedule, of which so many have arrived
 pub record ReceiverState : Type 0 where
@@ -16,7 +22,7 @@ pub record ReceiverState : Type 0 where
   pub last_byte : ℕ
   pub timeout_ticks : ℕ
   pub timeout_limit : ℕ
-  pub trigger : ℕ
+  pub trigger : FifoTriggerLevel
   pub arrived : ℕ
   pub marks : List ArrivalMark
   pub is_stray_lost : Bool
@@ -31,7 +37,7 @@ fresh char_ticks arrivals =
       last_byte = 0;
       timeout_ticks = 0;
       timeout_limit = 4 * char_ticks;
-      trigger = 1;
+      trigger = One;
       arrived = 0;
       marks = replicate arrivals Pending;
       is_stray_lost = false;
@@ -100,9 +106,10 @@ tick fifo looped r = grow_timeout (come_back fifo looped r)
 -- the next arrival of the schedule: in loopback it is discarded, else it comes in
 abbrev pub arrive : Bool → Bool → ℕ → ℕ → ReceiverState → ReceiverState
 arrive loopback fifo byte errors r =
+    let new : Character = record { byte = byte; errors = errors; origin = Arrived r.arrived } in
     if loopback
     then record r { arrived = r.arrived + 1; marks = slice_set r.marks r.arrived Discarded }
-    else come_in fifo (record { byte = byte; errors = errors; origin = Arrived r.arrived }) (record r { arrived = r.arrived + 1 })
+    else come_in fifo new (record r { arrived = r.arrived + 1 })
 
 -- the front of the queue is taken
 abbrev pub take_front : List Character → ReceiverState → ReceiverState
@@ -119,7 +126,7 @@ take_front (front ∷ others) r =
 -- the errors of the front, unless they were reported
 abbrev pub front_errors : List Character → Bool → ℕ
 front_errors [] reported = 0
-front_errors (front ∷ others) reported = if reported then 0 else bit_and front.errors lsr_character_errors
+front_errors (front ∷ others) reported = if reported then 0 else bit_and front.errors LSR.CHARACTER_ERRORS.0
 
 -- the characters whose errors were not reported yet
 abbrev pub unreported : List Character → Bool → List Character
@@ -127,11 +134,14 @@ unreported queue reported = if reported then drop 1 queue else queue
 
 -- the character has a parity or framing error or is a break
 abbrev pub has_errors : Character → Bool
-has_errors character = has_any character.errors lsr_character_errors
+has_errors character = has_any character.errors LSR.CHARACTER_ERRORS.0
 
 -- the line status was read
 abbrev pub report : ReceiverState → ReceiverState
-report r = record r { is_overrun = false; is_front_reported = if length r.queue == 0 then r.is_front_reported else true }
+report r = record r {
+  is_overrun = false;
+  is_front_reported = if length r.queue == 0 then r.is_front_reported else true;
+}
 
 -- the marks of these characters become Discarded
 abbrev pub discard : List Character → List ArrivalMark → List ArrivalMark
@@ -142,9 +152,16 @@ discard (character ∷ characters) marks = discard characters (set_mark characte
 abbrev pub clear : ReceiverState → ReceiverState
 clear r = record r { queue = []; marks = discard r.queue r.marks }
 
+-- how many characters a trigger level asks for
+abbrev pub characters_of : FifoTriggerLevel → ℕ
+characters_of One = 1
+characters_of Four = 4
+characters_of Eight = 8
+characters_of Fourteen = 14
+
 -- as many characters wait as the trigger says, or any without FIFO
 abbrev pub is_data_pending : Bool → ReceiverState → Bool
-is_data_pending fifo r = if fifo then nat_le r.trigger (length r.queue) else nat_lt 0 (length r.queue)
+is_data_pending fifo r = if fifo then nat_le (characters_of r.trigger) (length r.queue) else nat_lt 0 (length r.queue)
 
 -- characters wait in the FIFO, and none came or was taken for four character times
 abbrev pub is_timed_out : Bool → ReceiverState → Bool

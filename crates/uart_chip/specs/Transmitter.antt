@@ -1,5 +1,6 @@
 -- The transmitter: a queue, the place from which a character is shifted out, and the wire.
-use Rattle.std.specs.Prelude.{ℕ, ◌+◌, ◌-◌, ◌^◌, min, Bool, true, false, List, [], ◌∷◌, ◌++◌, length, Option, Some, None, nat_lt, if◌then◌else◌}
+use Rattle.std.specs.Prelude.{ℕ, ◌+◌, ◌-◌, ◌^◌, min, Bool, true, false, List, [], ◌∷◌, ◌++◌, length, Option, Some, None}
+use Rattle.std.specs.Prelude.{nat_lt, if◌then◌else◌}
 use Rattle.uart_chip.specs.declared.transmitter.Shifting.{Shifting}
 
 -- the queue is what a write of the data register fills; a character takes char_ticks in the shift place
@@ -29,7 +30,8 @@ fresh char_ticks capacity =
 abbrev pub shift : Bool → Option Shifting → TransmitterState → TransmitterState
 shift loopback None t = t
 shift loopback (Some s) t =
-    if nat_lt 1 s.ticks_left then record t { shift_place = Some (record { byte = s.byte; ticks_left = s.ticks_left - 1 }) }
+    if nat_lt 1 s.ticks_left
+    then record t { shift_place = Some (record { byte = s.byte; ticks_left = s.ticks_left - 1 }) }
     else if loopback then record t { shift_place = None }
     else if nat_lt (length t.wire) t.capacity then record t { shift_place = None; wire = t.wire ++ s.byte ∷ [] }
     else t
@@ -44,8 +46,10 @@ looped_byte false place = None
 abbrev pub refill : Option Shifting → List ℕ → TransmitterState → TransmitterState
 refill (Some s) queue t = t
 refill None [] t = t
-refill None (x ∷ []) t = record t { queue = []; shift_place = Some (record { byte = x; ticks_left = t.char_ticks }); is_thr_pending = true }
-refill None (x ∷ y ∷ xs) t = record t { queue = y ∷ xs; shift_place = Some (record { byte = x; ticks_left = t.char_ticks }) }
+refill None (x ∷ []) t =
+    record t { queue = []; shift_place = Some (record { byte = x; ticks_left = t.char_ticks }); is_thr_pending = true }
+refill None (x ∷ y ∷ xs) t =
+    record t { queue = y ∷ xs; shift_place = Some (record { byte = x; ticks_left = t.char_ticks }) }
 
 -- one tick
 abbrev pub tick : Bool → TransmitterState → TransmitterState

@@ -3,34 +3,34 @@ ghost use Rattle.std.specs.Prelude.{◌≡◌, ◌<◌, ◌≤◌, ◌+◌, [], 
 ghost use Rattle.uart_chip.specs.Chip as spec;
 ghost use Rattle.uart_chip.specs.Machine.{arrivals, perform};
 ghost use Rattle.uart_chip.specs.Jumps.{skip, moves};
+ghost use Rattle.uart_chip.specs.declared.event.TheConstants.{MAX_CHAR_TICKS};
+ghost use Rattle.uart_spec.specs.declared.registers.offsets.TheConstants as offsets;
 
 use crate::event::{Chip, Event};
+use crate::masks::{flag, kept_interrupts, kept_modem_control};
 use crate::modem::Modem;
 use crate::receiver::Receiver;
-use crate::registers::{
-    FCR_ENABLE, FCR_RECEIVER_RESET, FCR_TRANSMITTER_RESET, FCR_TRIGGER, IER_BITS, IER_DATA_READY,
-    IER_LINE_STATUS, IER_MODEM_STATUS, IER_THR_EMPTY, ISR_DATA_READY, ISR_FIFO, ISR_LINE_STATUS,
-    ISR_MODEM_STATUS, ISR_NONE, ISR_THR_EMPTY, ISR_TIMEOUT, LCR_DLAB, LCR_WORD_LENGTH,
-    LSR_DATA_READY, LSR_ERRORS, LSR_FIFO_ERROR, LSR_OVERRUN, LSR_THR_EMPTY, LSR_TRANSMITTER_EMPTY,
-    MCR_BITS, MCR_LOOPBACK, flag, has_any, offsets,
-};
 use crate::transmitter::Transmitter;
+use bitflags::Flags;
 use std::alloc::{AllocError, Global};
 use std::marker::Model;
-use uart_spec::registers::WordLength;
+use uart_spec::registers::{
+    DLL, DLM, FCR, FifoTriggerLevel, IER, ISR, InterruptType, LCR, LSR, MCR, MSR, SPR, WordLength,
+    offsets,
+};
 
 /// The registers that keep what is written.
 #[derive(Clone, Copy)]
 pub struct Latches {
-    pub ier: u8,
-    pub lcr: u8,
-    pub mcr: u8,
-    pub scr: u8,
-    pub dll: u8,
-    pub dlm: u8,
+    ier: IER,
+    lcr: LCR,
+    mcr: MCR,
+    scr: SPR,
+    dll: DLL,
+    dlm: DLM,
 }
 
-/// The chip apart from its schedule.
+/// A chip of either model, without a schedule. Under a schedule it is a `Device16550`, in the crate above.
 #[derive(Drop)]
 pub struct Uart {
     model: Chip,
@@ -47,19 +47,43 @@ impl Model for Uart {
 
     ghost Value = { ChipState };
 
-    ghost view = { λ c. record { model = c.model; latches = c.latches; fifo = c.fifo; transmitter = c.transmitter; receiver = c.receiver; modem = c.modem; cuts = c.cuts } };
+    // A register is seen as the byte that it holds.
+    ghost view = { λ c. record {
+      model = c.model;
+      latches = record { ier = c.latches.ier.0; lcr = c.latches.lcr.0; mcr = c.latches.mcr.0; scr = c.latches.scr; dll = c.latches.dll; dlm = c.latches.dlm };
+      fifo = c.fifo;
+      transmitter = c.transmitter;
+      receiver = c.receiver;
+      modem = c.modem;
+      cuts = c.cuts;
+    } };
 }
 
-// How many characters the trigger bits ask for.
-fn trigger_of(value: u8) -> usize
-    ensures { result ≡ spec.trigger_of value }
+// A read of ISR that shows this interrupt withdraws it.
+fn is_thr_empty(interrupt: Option<InterruptType>) -> bool
+    ensures { result ≡ spec.is_thr_empty interrupt }
 {
-    match value & FCR_TRIGGER {
-        0x00 => 1,
-        0x40 => 4,
-        0x80 => 8,
-        _ => 14,
+    matches!(
+        interrupt,
+        Some(InterruptType::TransmitterHoldingRegisterEmpty)
+    )
+}
+
+// ISR without the bits that show the FIFO.
+fn identification(interrupt: Option<InterruptType>) -> ISR
+    ensures { result.0 ≡ spec.identification interrupt }
+{
+    match interrupt {
+        None => ISR::INTERRUPT_STATUS,
+        Some(interrupt) => ISR::from_bits_retain(interrupt.to_bits()),
     }
+}
+
+// The trigger level that FCR asks for.
+fn trigger_level(fcr: FCR) -> FifoTriggerLevel
+    ensures { result ≡ spec.trigger_level fcr.0 }
+{
+    fcr.fifo_trigger_level()
 }
 
 impl Uart {
@@ -72,7 +96,7 @@ impl Uart {
         arrivals: usize,
         cuts: bool,
     ) -> Result<Self, AllocError>
-        requires { char_ticks ≤ 1000 }
+        requires { char_ticks ≤ MAX_CHAR_TICKS }
         ensures { IfOk result (λ c. c ≡ record (spec.fresh model char_ticks capacity arrivals) { cuts = cuts }) }
     {
         let transmitter = Transmitter::new(alloc, char_ticks, capacity)?;
@@ -80,9 +104,9 @@ impl Uart {
         Ok(Self {
             model,
             latches: Latches {
-                ier: 0,
-                lcr: 0,
-                mcr: 0,
+                ier: IER::empty(),
+                lcr: LCR::empty(),
+                mcr: MCR::empty(),
                 scr: 0,
                 dll: 0,
                 dlm: 0,
@@ -122,7 +146,7 @@ impl Uart {
     fn is_dlab_set(&self) -> bool
         ensures { result ≡ spec.is_dlab_set self.now.latches }
     {
-        has_any(self.latches.lcr, LCR_DLAB)
+        self.latches.lcr.intersects(LCR::DLAB)
     }
 
     // A byte as it is sent and received: if the option is on, its data bits alone.
@@ -132,7 +156,7 @@ impl Uart {
         if !self.cuts {
             return byte;
         }
-        match WordLength::from_raw_bits(self.latches.lcr) {
+        match self.latches.lcr.word_length() {
             WordLength::FiveBits => byte % (1 << 5),
             WordLength::SixBits => byte % (1 << 6),
             WordLength::SevenBits => byte % (1 << 7),
@@ -143,7 +167,7 @@ impl Uart {
     fn is_loopback(&self) -> bool
         ensures { result ≡ spec.is_loopback self.now.latches }
     {
-        has_any(self.latches.mcr, MCR_LOOPBACK)
+        self.latches.mcr.intersects(MCR::LOOP_BACK)
     }
 
     pub fn tick(&mut self)
@@ -199,8 +223,8 @@ impl Uart {
     fn change_lines(&mut self, inputs: u8)
         ensures { self.new ≡ spec.change_lines inputs self.old }
     {
-        self.modem.inputs = inputs;
-        self.modem.renew(self.latches.mcr);
+        self.modem
+            .change_inputs(self.latches.mcr, MSR::from_bits_retain(inputs));
     }
 
     /// Performs an event of the schedule; Access and Mark do nothing by themselves.
@@ -218,36 +242,43 @@ impl Uart {
         }
     }
 
-    fn line_status(&self) -> u8
-        ensures { result ≡ spec.line_status self.now }
+    fn line_status(&self) -> LSR
+        ensures { result.0 ≡ spec.line_status self.now }
     {
-        ((flag(!self.receiver.is_empty(), LSR_DATA_READY)
-            | flag(self.receiver.is_overrun(), LSR_OVERRUN))
-            | (self.receiver.front_errors() | flag(self.transmitter.is_thr_empty(), LSR_THR_EMPTY)))
-            | (flag(self.transmitter.is_empty(), LSR_TRANSMITTER_EMPTY)
-                | flag(
-                    self.fifo && self.receiver.has_unreported_errors(),
-                    LSR_FIFO_ERROR,
-                ))
+        let data_ready = flag(!self.receiver.is_empty(), LSR::DATA_READY);
+        let overrun = flag(self.receiver.is_overrun(), LSR::OVERRUN_ERROR);
+        let errors = self.receiver.front_errors();
+        let thr_empty = flag(self.transmitter.is_thr_empty(), LSR::THR_EMPTY);
+        let transmitter_empty = flag(self.transmitter.is_empty(), LSR::TRANSMITTER_EMPTY);
+        let fifo_error = flag(
+            self.fifo && self.receiver.has_unreported_errors(),
+            LSR::FIFO_DATA_ERROR,
+        );
+        data_ready
+            .union(overrun)
+            .union(errors.union(thr_empty))
+            .union(transmitter_empty.union(fifo_error))
     }
 
-    // The code of the interrupt of the highest priority.
-    fn interrupt(&self) -> u8
+    // The interrupt of the highest priority among those that are enabled and pending.
+    fn interrupt(&self) -> Option<InterruptType>
         ensures { result ≡ spec.interrupt self.now }
     {
         let enabled = self.latches.ier;
-        if has_any(enabled, IER_LINE_STATUS) && has_any(self.line_status(), LSR_ERRORS) {
-            ISR_LINE_STATUS
-        } else if has_any(enabled, IER_DATA_READY) && self.receiver.is_data_pending(self.fifo) {
-            ISR_DATA_READY
-        } else if has_any(enabled, IER_DATA_READY) && self.receiver.is_timed_out(self.fifo) {
-            ISR_TIMEOUT
-        } else if has_any(enabled, IER_THR_EMPTY) && self.transmitter.is_thr_pending() {
-            ISR_THR_EMPTY
-        } else if has_any(enabled, IER_MODEM_STATUS) && self.modem.deltas != 0 {
-            ISR_MODEM_STATUS
+        if enabled.intersects(IER::RECEIVER_LINE_STATUS)
+            && self.line_status().intersects(LSR::LINE_ERRORS)
+        {
+            Some(InterruptType::ReceiverLineStatus)
+        } else if enabled.intersects(IER::DATA_READY) && self.receiver.is_data_pending(self.fifo) {
+            Some(InterruptType::ReceivedDataReady)
+        } else if enabled.intersects(IER::DATA_READY) && self.receiver.is_timed_out(self.fifo) {
+            Some(InterruptType::ReceptionTimeout)
+        } else if enabled.intersects(IER::THR_EMPTY) && self.transmitter.is_thr_pending() {
+            Some(InterruptType::TransmitterHoldingRegisterEmpty)
+        } else if enabled.intersects(IER::MODEM_STATUS) && self.modem.has_changes() {
+            Some(InterruptType::ModemStatus)
         } else {
-            ISR_NONE
+            None
         }
     }
 
@@ -257,30 +288,26 @@ impl Uart {
         ensures answers { result ≡ spec.answer offset self.old }
         ensures after { self.new ≡ spec.after_read offset self.old }
     {
-        match offset {
+        match offset as usize {
             offsets::DATA => self.read_data(),
             offsets::IER if self.is_dlab_set() => self.latches.dlm,
-            offsets::IER => self.latches.ier,
+            offsets::IER => self.latches.ier.bits(),
             offsets::ISR => self.read_interrupt(),
-            offsets::LCR => self.latches.lcr,
-            offsets::MCR => self.latches.mcr,
+            offsets::LCR => self.latches.lcr.bits(),
+            offsets::MCR => self.latches.mcr.bits(),
             offsets::LSR => {
                 let status = self.line_status();
                 self.receiver.report();
-                status
+                status.bits()
             }
-            offsets::MSR => {
-                let status = self.modem.lines | self.modem.deltas;
-                self.modem.deltas = 0;
-                status
-            }
+            offsets::MSR => self.modem.read().bits(),
             _ => self.latches.scr,
         }
     }
 
     fn read_data(&mut self) -> u8
-        ensures answers { result ≡ spec.answer 0 self.old }
-        ensures after { self.new ≡ spec.after_read 0 self.old }
+        ensures answers { result ≡ spec.answer offsets.DATA self.old }
+        ensures after { self.new ≡ spec.after_read offsets.DATA self.old }
     {
         if self.is_dlab_set() {
             return self.latches.dll;
@@ -290,14 +317,15 @@ impl Uart {
 
     // The read that tells THR-empty withdraws it.
     fn read_interrupt(&mut self) -> u8
-        ensures answers { result ≡ spec.answer 2 self.old }
-        ensures after { self.new ≡ spec.after_read 2 self.old }
+        ensures answers { result ≡ spec.answer offsets.ISR self.old }
+        ensures after { self.new ≡ spec.after_read offsets.ISR self.old }
     {
-        let code = self.interrupt();
-        if code == ISR_THR_EMPTY {
+        let interrupt = self.interrupt();
+        if is_thr_empty(interrupt) {
             self.transmitter.set_thr_pending(false);
         }
-        code | flag(self.fifo, ISR_FIFO)
+        let fifo = flag(self.fifo, ISR::FIFOS_ENABLED);
+        identification(interrupt).union(fifo).bits()
     }
 
     /// The effect of a write of the register.
@@ -305,41 +333,41 @@ impl Uart {
         requires { offset < 8 }
         ensures { self.new ≡ spec.after_write offset value self.old }
     {
-        match offset {
+        match offset as usize {
             offsets::DATA if self.is_dlab_set() => self.latches.dll = value,
             offsets::DATA => {
                 let byte = self.cut(value);
                 self.transmitter.load(self.fifo, byte);
             }
             offsets::IER if self.is_dlab_set() => self.latches.dlm = value,
-            offsets::IER => self.enable(value),
-            offsets::FCR => self.control(value),
-            offsets::LCR => self.latches.lcr = value,
+            offsets::IER => self.enable(IER::from_bits_retain(value)),
+            offsets::FCR => self.control(FCR::from_bits_retain(value)),
+            offsets::LCR => self.latches.lcr = LCR::from_bits_retain(value),
             offsets::MCR => {
-                self.latches.mcr = value & MCR_BITS;
+                self.latches.mcr = kept_modem_control(MCR::from_bits_retain(value));
                 self.modem.renew(self.latches.mcr);
             }
-            offsets::SCR => self.latches.scr = value,
+            offsets::SPR => self.latches.scr = value,
             _ => {}
         }
     }
 
     // A write of the interrupt enable register.
-    fn enable(&mut self, value: u8)
-        ensures { self.new ≡ spec.enable value self.old }
+    fn enable(&mut self, interrupts: IER)
+        ensures { self.new ≡ spec.enable interrupts.0 self.old }
     {
-        if !has_any(self.latches.ier, IER_THR_EMPTY)
-            && has_any(value, IER_THR_EMPTY)
+        if !self.latches.ier.intersects(IER::THR_EMPTY)
+            && interrupts.intersects(IER::THR_EMPTY)
             && self.transmitter.is_thr_empty()
         {
             self.transmitter.set_thr_pending(true);
         }
-        self.latches.ier = value & IER_BITS;
+        self.latches.ier = kept_interrupts(interrupts);
     }
 
     // A write of the FIFO control register.
-    fn control(&mut self, value: u8)
-        ensures { self.new ≡ spec.control self.old.model value self.old }
+    fn control(&mut self, value: FCR)
+        ensures { self.new ≡ spec.control self.old.model value.0 self.old }
     {
         match self.model {
             Chip::Uart16450 => {}
@@ -347,22 +375,22 @@ impl Uart {
         }
     }
 
-    fn set_fifo(&mut self, value: u8)
-        ensures { self.new ≡ spec.set_fifo value self.old }
+    fn set_fifo(&mut self, value: FCR)
+        ensures { self.new ≡ spec.set_fifo value.0 self.old }
     {
-        let on = has_any(value, FCR_ENABLE);
+        let on = value.intersects(FCR::FIFO_ENABLE);
         if self.fifo != on {
             self.switch(on);
         }
         if on {
-            if has_any(value, FCR_RECEIVER_RESET) {
+            if value.intersects(FCR::RX_FIFO_RESET) {
                 self.receiver.clear();
             }
-            if has_any(value, FCR_TRANSMITTER_RESET) {
+            if value.intersects(FCR::TX_FIFO_RESET) {
                 self.transmitter.clear();
                 self.transmitter.set_thr_pending(true);
             }
-            self.receiver.set_trigger(trigger_of(value));
+            self.receiver.set_trigger(trigger_level(value));
         }
     }
 

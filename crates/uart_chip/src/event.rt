@@ -3,14 +3,17 @@
 ghost use Rattle.std.specs.Prelude.{◌≡◌, count_by, position};
 ghost use Rattle.uart_chip.specs.Build as spec;
 
-use crate::registers::{LSR_CHARACTER_ERRORS, MSR_LINES};
+use bitflags::Flags;
 use thiserror::Error;
+use uart_spec::registers::{LSR, MSR};
 
-const MAX_CHAR_TICKS: u16 = 1000;
+/// The most ticks that a character may take to be shifted out.
+pub const MAX_CHAR_TICKS: u16 = 1000;
 
-const MAX_WIRE_CAPACITY: usize = 65_536;
+/// The most bytes that a wire may have room for.
+pub const MAX_WIRE_CAPACITY: usize = 65_536;
 
-/// Which chip the machine is.
+/// The model of a chip. The chip itself is [`Uart`](crate::Uart).
 #[derive(Clone, Copy, Debug, PartialEq, Eq)]
 pub enum Chip {
     /// With queues of 16 characters, which the FIFO control register switches on.
@@ -41,7 +44,10 @@ impl Event {
         ensures { result ≡ spec.has_bad_errors self.now }
     {
         match self {
-            Event::Arrive { errors, .. } => *errors & LSR_CHARACTER_ERRORS != *errors,
+            Event::Arrive { errors, .. } => {
+                let errors = LSR::from_bits_retain(*errors);
+                errors.intersection(LSR::CHARACTER_ERRORS) != errors
+            }
             _ => false,
         }
     }
@@ -51,7 +57,10 @@ impl Event {
         ensures { result ≡ spec.has_bad_lines self.now }
     {
         match self {
-            Event::Lines(inputs) => *inputs & MSR_LINES != *inputs,
+            Event::Lines(inputs) => {
+                let inputs = MSR::from_bits_retain(*inputs);
+                inputs.intersection(MSR::LINES) != inputs
+            }
             _ => false,
         }
     }
@@ -117,9 +126,9 @@ pub enum ArrivalMark {
 /// Why no machine was built. The first reason in this order is told.
 #[derive(Clone, Copy, Debug, PartialEq, Eq, Error)]
 pub enum BuildError {
-    #[error("a character takes 1 to 1000 ticks")]
+    #[error("a character takes 1 to {max} ticks", max = MAX_CHAR_TICKS)]
     BadTicks,
-    #[error("the wire has room for at most 65536 bytes")]
+    #[error("the wire has room for at most {max} bytes", max = MAX_WIRE_CAPACITY)]
     BadWire,
     #[error("event {0}: an arrival has other error bits than parity, framing and break")]
     BadErrors(usize),

@@ -5,14 +5,16 @@
 
 mod chip;
 mod event;
+mod masks;
 mod modem;
 mod queue;
 mod receiver;
-mod registers;
 mod transmitter;
 
-pub use chip::{Latches, Uart};
-pub use event::{ArrivalMark, BuildError, Chip, Event, arrivals, refusal};
+pub use chip::Uart;
+pub use event::{
+    ArrivalMark, BuildError, Chip, Event, MAX_CHAR_TICKS, MAX_WIRE_CAPACITY, arrivals, refusal,
+};
 pub use modem::Modem;
 pub use receiver::{Character, Origin, Receiver};
 pub use transmitter::{Shifting, Transmitter};

@@ -1,37 +1,65 @@
 //! The modem lines, and which of them changed.
-ghost use Rattle.std.specs.Prelude.{◌≡◌};
+ghost use Rattle.std.specs.Prelude.{◌≡◌, ◌==◌, not, bit_or};
 ghost use Rattle.uart_chip.specs.Modem as spec;
 
-use crate::registers::{
-    MCR_DTR, MCR_LOOPBACK, MCR_OUT_1, MCR_OUT_2, MCR_RTS, MSR_CD, MSR_CTS, MSR_DELTA_CD,
-    MSR_DELTA_CTS, MSR_DELTA_DSR, MSR_DSR, MSR_RI, MSR_TRAILING_EDGE_RI, flag, has_any,
-};
+use crate::masks::flag;
+use bitflags::Flags;
+use std::marker::Model;
+use uart_spec::registers::{MCR, MSR};
 
 /// The modem's inputs, the lines that the status register shows, and their changes since its last read.
-#[derive(Clone, Copy)]
+#[derive(Drop)]
 pub struct Modem {
-    pub inputs: u8,
-    pub lines: u8,
-    pub deltas: u8,
+    inputs: MSR,
+    lines: MSR,
+    deltas: MSR,
+}
+
+impl Model for Modem {
+    ghost use Rattle.uart_chip.specs.Modem.{ModemState};
+
+    ghost Value = { ModemState };
+
+    ghost view = { λ m. record { inputs = m.inputs.0; lines = m.lines.0; deltas = m.deltas.0 } };
+}
+
+fn is_changed(old: MSR, new: MSR, line: MSR) -> bool
+    ensures { result ≡ spec.is_changed old.0 new.0 line.0 }
+{
+    old.intersection(line) != new.intersection(line)
 }
 
 // The changes between two states of the lines: of RI only from set to clear.
-fn changes(old: u8, new: u8) -> u8
-    ensures { result ≡ spec.changes old new }
+fn changes(old: MSR, new: MSR) -> MSR
+    ensures { result.0 ≡ spec.changes old.0 new.0 }
 {
-    let is_changed = |line: u8| old & line != new & line;
-    let ring_ended = has_any(old, MSR_RI) && !has_any(new, MSR_RI);
-    (flag(is_changed(MSR_CTS), MSR_DELTA_CTS) | flag(is_changed(MSR_DSR), MSR_DELTA_DSR))
-        | (flag(ring_ended, MSR_TRAILING_EDGE_RI) | flag(is_changed(MSR_CD), MSR_DELTA_CD))
+    let cts = flag(is_changed(old, new, MSR::CTS), MSR::DELTA_CTS);
+    let dsr = flag(is_changed(old, new, MSR::DSR), MSR::DELTA_DSR);
+    let ri = flag(
+        old.intersects(MSR::RI) && !new.intersects(MSR::RI),
+        MSR::TRAILING_EDGE_RI,
+    );
+    let cd = flag(is_changed(old, new, MSR::CD), MSR::DELTA_CD);
+    cts.union(dsr).union(ri.union(cd))
 }
 
-// The lines under a modem control register: in loopback its outputs stand in place of the inputs.
-fn lines_under(mcr: u8, inputs: u8) -> u8
-    ensures { result ≡ spec.lines_under mcr inputs }
+// In loopback the outputs are in place of the inputs.
+fn looped_lines(mcr: MCR) -> MSR
+    ensures { result.0 ≡ spec.looped_lines mcr.0 }
 {
-    if has_any(mcr, MCR_LOOPBACK) {
-        (flag(has_any(mcr, MCR_RTS), MSR_CTS) | flag(has_any(mcr, MCR_DTR), MSR_DSR))
-            | (flag(has_any(mcr, MCR_OUT_1), MSR_RI) | flag(has_any(mcr, MCR_OUT_2), MSR_CD))
+    let cts = flag(mcr.intersects(MCR::RTS), MSR::CTS);
+    let dsr = flag(mcr.intersects(MCR::DTR), MSR::DSR);
+    let ri = flag(mcr.intersects(MCR::OUT_1), MSR::RI);
+    let cd = flag(mcr.intersects(MCR::OUT_2_INT_ENABLE), MSR::CD);
+    cts.union(dsr).union(ri.union(cd))
+}
+
+// The lines under a modem control register.
+fn lines_under(mcr: MCR, inputs: MSR) -> MSR
+    ensures { result.0 ≡ spec.lines_under mcr.0 inputs.0 }
+{
+    if mcr.intersects(MCR::LOOP_BACK) {
+        looped_lines(mcr)
     } else {
         inputs
     }
@@ -43,18 +71,42 @@ impl Modem {
         ensures { result ≡ spec.fresh }
     {
         Self {
-            inputs: 0,
-            lines: 0,
-            deltas: 0,
+            inputs: MSR::empty(),
+            lines: MSR::empty(),
+            deltas: MSR::empty(),
         }
     }
 
     /// Renews the lines under this modem control register.
-    pub fn renew(&mut self, mcr: u8)
-        ensures { self.new ≡ spec.renew mcr self.old }
+    pub fn renew(&mut self, mcr: MCR)
+        ensures { self.new ≡ spec.renew mcr.0 self.old }
     {
         let lines = lines_under(mcr, self.inputs);
-        self.deltas |= changes(self.lines, lines);
+        self.deltas = self.deltas.union(changes(self.lines, lines));
         self.lines = lines;
+    }
+
+    /// The inputs become these.
+    pub fn change_inputs(&mut self, mcr: MCR, inputs: MSR)
+        ensures { self.new ≡ spec.renew mcr.0 (record self.old { inputs = inputs.0 }) }
+    {
+        self.inputs = inputs;
+        self.renew(mcr);
+    }
+
+    /// A read of the modem status register, which clears the changes.
+    pub fn read(&mut self) -> MSR
+        ensures answers { result.0 ≡ bit_or self.old.lines self.old.deltas }
+        ensures after { self.new ≡ record self.old { deltas = 0 } }
+    {
+        let status = self.lines.union(self.deltas);
+        self.deltas = MSR::empty();
+        status
+    }
+
+    pub fn has_changes(&self) -> bool
+        ensures { result ≡ not (self.now.deltas == 0) }
+    {
+        !self.deltas.is_empty()
     }
 }

@@ -4,14 +4,16 @@ ghost use Rattle.std.specs.List.{list_any};
 ghost use Rattle.uart_chip.specs.Receiver as spec;
 ghost use Rattle.uart_chip.specs.Receiver.{unreported, has_errors, front_errors, waiting};
 ghost use Rattle.uart_chip.specs.Jumps.{count_up};
+ghost use Rattle.uart_chip.specs.declared.event.TheConstants.{MAX_CHAR_TICKS};
 
 use crate::event::ArrivalMark;
 use crate::queue::{put, room_of};
-use crate::registers::{LSR_CHARACTER_ERRORS, has_any};
+use bitflags::Flags;
 use circular_buffer::HeapCircularBuffer;
 use std::alloc::{AllocError, Global};
 use std::marker::Model;
 use uart_spec::FIFO_SIZE;
+use uart_spec::registers::{FifoTriggerLevel, LSR};
 
 /// Where a character comes from: it is an arrival of the schedule, or it came back in loopback.
 #[derive(Clone, Copy, Default)]
@@ -38,7 +40,7 @@ pub struct Receiver {
     last_byte: u8,
     timeout_ticks: u16,
     timeout_limit: u16,
-    trigger: usize,
+    trigger: FifoTriggerLevel,
     arrived: usize,
     marks: Vec<ArrivalMark>,
     is_stray_lost: bool,
@@ -51,9 +53,29 @@ impl Model for Receiver {
 
     ghost Value = { ReceiverState };
 
-    ghost view = { λ r. record { queue = r.queue.items; is_overrun = r.is_overrun; is_front_reported = r.is_front_reported; last_byte = r.last_byte; timeout_ticks = r.timeout_ticks; timeout_limit = r.timeout_limit; trigger = r.trigger; arrived = r.arrived; marks = r.marks.items; is_stray_lost = r.is_stray_lost } };
+    ghost view = { λ r. record {
+      queue = r.queue.items;
+      is_overrun = r.is_overrun;
+      is_front_reported = r.is_front_reported;
+      last_byte = r.last_byte;
+      timeout_ticks = r.timeout_ticks;
+      timeout_limit = r.timeout_limit;
+      trigger = r.trigger;
+      arrived = r.arrived;
+      marks = r.marks.items;
+      is_stray_lost = r.is_stray_lost;
+    } };
 
     ghost invariant = { λ r. r.queue.capacity ≡ room true };
+}
+
+impl Character {
+    // It has a parity or framing error or is a break.
+    fn has_errors(&self) -> bool
+        ensures { result ≡ has_errors self.now }
+    {
+        LSR::from_bits_retain(self.errors).intersects(LSR::CHARACTER_ERRORS)
+    }
 }
 
 impl Origin {
@@ -64,6 +86,18 @@ impl Origin {
             Origin::Looped => true,
             Origin::Arrived(_) => false,
         }
+    }
+}
+
+// How many characters a trigger level asks for.
+fn characters_of(level: FifoTriggerLevel) -> usize
+    ensures { result ≡ spec.characters_of level }
+{
+    match level {
+        FifoTriggerLevel::One => 1,
+        FifoTriggerLevel::Four => 4,
+        FifoTriggerLevel::Eight => 8,
+        FifoTriggerLevel::Fourteen => 14,
     }
 }
 
@@ -91,7 +125,7 @@ impl Receiver {
     /// A receiver to which nothing has come yet, with this many arrivals to come. The memory of its queue and of the marks is
     /// reserved here.
     pub fn new(alloc: Global, char_ticks: u16, arrivals: usize) -> Result<Self, AllocError>
-        requires { char_ticks ≤ 1000 }
+        requires { char_ticks ≤ MAX_CHAR_TICKS }
         ensures { IfOk result (λ r. r ≡ spec.fresh char_ticks arrivals) }
     {
         let queue = HeapCircularBuffer::with_capacity(alloc, FIFO_SIZE)?;
@@ -106,7 +140,7 @@ impl Receiver {
             last_byte: 0,
             timeout_ticks: 0,
             timeout_limit: 4 * char_ticks,
-            trigger: 1,
+            trigger: FifoTriggerLevel::One,
             arrived: 0,
             marks,
             is_stray_lost: false,
@@ -239,7 +273,7 @@ impl Receiver {
         self.queue.clear();
     }
 
-    pub fn set_trigger(&mut self, trigger: usize)
+    pub fn set_trigger(&mut self, trigger: FifoTriggerLevel)
         ensures { self.new ≡ record self.old { trigger = trigger } }
     {
         self.trigger = trigger;
@@ -258,12 +292,14 @@ impl Receiver {
     }
 
     /// The errors of the front, unless they were reported.
-    pub fn front_errors(&self) -> u8
-        ensures { result ≡ front_errors self.now.queue self.now.is_front_reported }
+    pub fn front_errors(&self) -> LSR
+        ensures { result.0 ≡ front_errors self.now.queue self.now.is_front_reported }
     {
         match self.queue.front() {
-            Some(front) if !self.is_front_reported => front.errors & LSR_CHARACTER_ERRORS,
-            _ => 0,
+            Some(front) if !self.is_front_reported => {
+                LSR::from_bits_retain(front.errors).intersection(LSR::CHARACTER_ERRORS)
+            }
+            _ => LSR::empty(),
         }
     }
 
@@ -275,7 +311,7 @@ impl Receiver {
         if self.is_front_reported {
             characters.next();
         }
-        characters.any(|character| has_any(character.errors, LSR_CHARACTER_ERRORS))
+        characters.any(|character| character.has_errors())
     }
 
     /// As many characters wait as the trigger says, or any without FIFO.
@@ -283,7 +319,7 @@ impl Receiver {
         ensures { result ≡ spec.is_data_pending fifo self.now }
     {
         if fifo {
-            self.trigger <= self.queue.len()
+            characters_of(self.trigger) <= self.queue.len()
         } else {
             !self.queue.is_empty()
         }

@@ -36,7 +36,15 @@ impl Model for Transmitter {
 
     ghost Value = { TransmitterState };
 
-    ghost view = { λ t. record { queue = t.queue.items; shift_place = t.shift_place; wire = t.wire.items; capacity = t.capacity; char_ticks = t.char_ticks; overflows = t.overflows; is_thr_pending = t.is_thr_pending } };
+    ghost view = { λ t. record {
+      queue = t.queue.items;
+      shift_place = t.shift_place;
+      wire = t.wire.items;
+      capacity = t.capacity;
+      char_ticks = t.char_ticks;
+      overflows = t.overflows;
+      is_thr_pending = t.is_thr_pending;
+    } };
 
     ghost invariant = { λ t. (t.queue.capacity ≡ room true) × (t.capacity ≤ vec_capacity t.wire) };
 }

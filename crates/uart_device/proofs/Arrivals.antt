@@ -1,5 +1,6 @@
 -- A character that arrives outside of loopback, and one that is taken.
-use Rattle.std.proofs.Common.{◌≡◌, ◌≢◌, ℕ, ◌+◌, ◌≤◌, ◌<◌, Bool, true, false, inl, inr, nat_lt, List, [], ◌∷◌, ◌++◌, length, length-append, refl, arith, sym, ◌∙◌, ap, slice_set, get_or-set_same, get_or-set_other, if◌then◌else◌}
+use Rattle.std.proofs.Common.{◌≡◌, ◌≢◌, ℕ, ◌+◌, ◌≤◌, ◌<◌, Bool, true, false, inl, inr, nat_lt, List, [], ◌∷◌, ◌++◌, length, length-append}
+use Rattle.std.proofs.Common.{refl, arith, sym, ◌∙◌, ap, slice_set, get_or-set_same, get_or-set_other, if◌then◌else◌}
 use Rattle.uart_chip.specs.declared.event.ArrivalMark.TheVariants.{Pending, Waiting, Read, Dropped}
 use Rattle.uart_chip.specs.declared.receiver.Character.{Character}
 use Rattle.uart_chip.specs.declared.receiver.Origin.{Origin}
@@ -17,7 +18,8 @@ only_pending r s f (inr h) = f h
 
 -- ---- an arrival
 
-receives-room : (fifo : Bool) (r s : ReceiverState) (new : Character) → IsMarked fifo r → new.origin ≡ Arrived r.arrived → r.arrived < length r.marks →
+receives-room : (fifo : Bool) (r s : ReceiverState) (new : Character) → IsMarked fifo r → new.origin ≡ Arrived r.arrived →
+    r.arrived < length r.marks →
     s.queue ≡ r.queue ++ new ∷ [] → s.marks ≡ slice_set r.marks r.arrived Waiting → s.is_stray_lost ≡ r.is_stray_lost →
     s.arrived ≡ r.arrived + 1 → s.is_overrun ≡ r.is_overrun → Receives fifo r s (new ∷ []) [] 0
 receives-room fifo r s new w o k queue marks stray arrived overrun = record {
@@ -46,9 +48,11 @@ receives-full r s new w o k queue marks stray arrived overrun =
       was_owed = λ h. inr (record { origin = Arrived r.arrived; stood = rw pending refl; lost = rw gone refl });
     }
 
-receives-replaced : (r s : ReceiverState) (old new : Character) (o : Origin) → IsMarked false r → new.origin ≡ Arrived r.arrived → r.arrived < length r.marks →
+receives-replaced : (r s : ReceiverState) (old new : Character) (o : Origin) → IsMarked false r → new.origin ≡ Arrived r.arrived →
+    r.arrived < length r.marks →
     old.origin ≡ o → r.queue ≡ old ∷ [] → s.queue ≡ new ∷ [] → s.marks ≡ slice_set (set_mark o Dropped r.marks) r.arrived Waiting →
-    s.is_stray_lost ≡ (if is_looped o then true else r.is_stray_lost) → s.arrived ≡ r.arrived + 1 → s.is_overrun ≡ true → Receives false r s (new ∷ []) [] 0
+    s.is_stray_lost ≡ (if is_looped o then true else r.is_stray_lost) → s.arrived ≡ r.arrived + 1 → s.is_overrun ≡ true →
+    Receives false r s (new ∷ []) [] 0
 receives-replaced r s old new o w n k p i queue marks stray arrived overrun = record {
   number = arrived;
   fuller = rw (i, queue) (omega arith);
@@ -57,14 +61,18 @@ receives-replaced r s old new o w n k p i queue marks stray arrived overrun = re
   was_owed = λ h. inr (fell o p marks stray);
 }
   where
-    fell : (o : Origin) → old.origin ≡ o → s.marks ≡ slice_set (set_mark o Dropped r.marks) r.arrived Waiting → s.is_stray_lost ≡ (if is_looped o then true else r.is_stray_lost) → Drop r s
+    fell : (o : Origin) → old.origin ≡ o → s.marks ≡ slice_set (set_mark o Dropped r.marks) r.arrived Waiting →
+        s.is_stray_lost ≡ (if is_looped o then true else r.is_stray_lost) → Drop r s
     fell (Arrived j) p marks stray =
         let wait = rw (i, p) at w.wait in
         let below : j < r.arrived = wait.0.0 in
         let waiting : mark_at r.marks j ≡ Waiting = wait.0.1 in
         let sooner : j ≢ r.arrived = omega arith in
         let in_marks : j < length r.marks = omega arith in
-        let dropped : mark_at s.marks j ≡ Dropped = rw marks (get_or-set_other (slice_set r.marks j Dropped) r.arrived j Waiting Pending sooner ∙ get_or-set_same r.marks j Dropped Pending in_marks) in
+        let dropped : mark_at s.marks j ≡ Dropped =
+        rw marks
+        (get_or-set_other (slice_set r.marks j Dropped) r.arrived j Waiting Pending sooner ∙
+        get_or-set_same r.marks j Dropped Pending in_marks) in
         record { origin = Arrived j; stood = rw waiting refl; lost = rw dropped refl }
     fell Looped p marks stray =
         let wait = rw (i, p) at w.wait in
@@ -76,12 +84,14 @@ pub receives-arrive : (fifo : Bool) (r : ReceiverState) (byte errors : ℕ) → 
     Receives fifo r (arrive false fifo byte errors r) (record { byte = byte; errors = errors; origin = Arrived r.arrived } ∷ []) [] 0
 receives-arrive true r byte errors w k = go (nat_lt (length r.queue) 16) refl
   where
-    go : (b : Bool) → nat_lt (length r.queue) 16 ≡ b → Receives true r (arrive false true byte errors r) (record { byte = byte; errors = errors; origin = Arrived r.arrived } ∷ []) [] 0
+    go : (b : Bool) → nat_lt (length r.queue) 16 ≡ b →
+        Receives true r (arrive false true byte errors r) (record { byte = byte; errors = errors; origin = Arrived r.arrived } ∷ []) [] 0
     go true e = rw e (receives-room true r _ _ w refl k refl refl refl refl refl)
     go false e = rw e (receives-full r _ _ w refl k refl refl refl refl refl)
 receives-arrive false r byte errors w k = go r.queue refl w.in_room
   where
-    go : (queue : List Character) → r.queue ≡ queue → length r.queue ≤ 1 → Receives false r (arrive false false byte errors r) (record { byte = byte; errors = errors; origin = Arrived r.arrived } ∷ []) [] 0
+    go : (queue : List Character) → r.queue ≡ queue → length r.queue ≤ 1 →
+        Receives false r (arrive false false byte errors r) (record { byte = byte; errors = errors; origin = Arrived r.arrived } ∷ []) [] 0
     go [] e h =
         let t : nat_lt (length r.queue) 1 ≡ true = rw e refl in
         rw t (receives-room false r _ _ w refl k refl refl refl refl refl)
@@ -95,7 +105,8 @@ receives-arrive false r byte errors w k = go r.queue refl w.in_room
 
 -- ---- the front is taken
 
-pub receives-front : (fifo : Bool) (r : ReceiverState) (front : Character) (others : List Character) → IsMarked fifo r → r.queue ≡ front ∷ others →
+pub receives-front : (fifo : Bool) (r : ReceiverState) (front : Character) (others : List Character) → IsMarked fifo r →
+    r.queue ≡ front ∷ others →
     Receives fifo r (take_front (front ∷ others) r) [] (front ∷ []) 0
 receives-front fifo r front others w i =
     let s : ReceiverState = take_front (front ∷ others) r in

@@ -1,7 +1,11 @@
 -- The accesses of a session in blocks, and what each block writes to the data register and reads from it.
 use Rattle.std.specs.Prelude.{◌≡◌, ℕ, ◌≤◌, Bool, true, ◌||◌, ◌==◌, List, [], ◌∷◌, ◌++◌, length, map, bit_or}
+use Rattle.std.specs.List.{AllByRecursion}
 use Rattle.uart_spec.specs.Access.{Access, Read, Write}
-use Rattle.uart_chip.specs.Registers.{has_any}
+use Rattle.uart_spec.specs.Bits.{has_any}
+use Rattle.uart_spec.specs.declared.registers.line_control.TheConstants.LCR
+use Rattle.uart_spec.specs.declared.registers.line_status.TheConstants.LSR
+use Rattle.uart_spec.specs.declared.registers.offsets.TheConstants as offsets
 use Rattle.uart_chip.specs.Transmitter.{room}
 
 -- a look at the line status; one that shows data, and the byte taken; one that shows room, with checks of the modem lines, and the bytes
@@ -15,11 +19,13 @@ pub data Block : Type 0 where
 
 -- the accesses of a block
 abbrev pub accesses_of : Block → List Access
-accesses_of (Look line) = Read 5 line ∷ []
-accesses_of (Hit line byte) = Read 5 line ∷ Read 0 byte ∷ []
-accesses_of (Burst line checks bytes) = Read 5 line ∷ (checks ++ map (Write 0) bytes)
+accesses_of (Look line) = Read offsets.LSR line ∷ []
+accesses_of (Hit line byte) = Read offsets.LSR line ∷ Read offsets.DATA byte ∷ []
+accesses_of (Burst line checks bytes) = Read offsets.LSR line ∷ (checks ++ map (Write offsets.DATA) bytes)
 accesses_of (Other access) = access ∷ []
-accesses_of (Divisor lcr low high) = Read 3 lcr ∷ Write 3 (bit_or lcr 128) ∷ Read 0 low ∷ Read 1 high ∷ Write 3 lcr ∷ []
+accesses_of (Divisor lcr low high) =
+    Read offsets.LCR lcr ∷ Write offsets.LCR (bit_or lcr LCR.DLAB.0) ∷ Read offsets.DLL low ∷ Read offsets.DLM high ∷
+    Write offsets.LCR lcr ∷ []
 
 -- the accesses of some blocks, one after the other
 abbrev pub flat : List Block → List Access
@@ -28,26 +34,27 @@ flat (block ∷ blocks) = accesses_of block ++ flat blocks
 
 -- an access that touches neither the data nor the line status nor a mode
 abbrev pub is_quiet : Access → Bool
-is_quiet (Read offset answer) = (offset == 1) || ((offset == 2) || ((offset == 3) || ((offset == 4) || ((offset == 6) || (offset == 7)))))
-is_quiet (Write offset value) = (offset == 1) || (offset == 7)
+is_quiet (Read offset answer) =
+    (offset == offsets.IER) ||
+    ((offset == offsets.ISR) ||
+    ((offset == offsets.LCR) || ((offset == offsets.MCR) || ((offset == offsets.MSR) || (offset == offsets.SPR)))))
+is_quiet (Write offset value) = (offset == offsets.IER) || (offset == offsets.SPR)
 
 -- only such accesses
 abbrev pub AllQuiet : List Access → Type 0
-AllQuiet [] = Unit {0}
-AllQuiet (access ∷ accesses) = (is_quiet access ≡ true) × AllQuiet accesses
+AllQuiet accesses = AllByRecursion (λ (access : Access). is_quiet access ≡ true) accesses
 
 -- a block as a driver makes it that takes the FIFO to be on or off
 abbrev pub IsFit : Bool → Block → Type 0
 IsFit fifo (Look line) = Unit {0}
-IsFit fifo (Hit line byte) = has_any line 1 ≡ true
-IsFit fifo (Burst line checks bytes) = (has_any line 32 ≡ true) × AllQuiet checks × (length bytes ≤ room fifo)
+IsFit fifo (Hit line byte) = has_any line LSR.DATA_READY.0 ≡ true
+IsFit fifo (Burst line checks bytes) = (has_any line LSR.THR_EMPTY.0 ≡ true) × AllQuiet checks × (length bytes ≤ room fifo)
 IsFit fifo (Other access) = is_quiet access ≡ true
 IsFit fifo (Divisor lcr low high) = Unit {0}
 
 -- each of these blocks fits
 abbrev pub AllFit : Bool → List Block → Type 0
-AllFit fifo [] = Unit {0}
-AllFit fifo (block ∷ blocks) = IsFit fifo block × AllFit fifo blocks
+AllFit fifo blocks = AllByRecursion (IsFit fifo) blocks
 
 -- the bytes written to the data register
 abbrev pub written_in : Block → List ℕ

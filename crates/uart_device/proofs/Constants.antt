@@ -1,6 +1,7 @@
 -- No event and no access changes how long a character takes, or how much the wire takes.
 use Rattle.std.proofs.Common.{◌≡◌, ℕ, Bool, true, false, ◌==◌, nat_lt, List, [], ◌∷◌, length, Option, Some, None, refl, if◌then◌else◌}
 use Rattle.uart_spec.specs.Access.{Access, Read, Write, Path}
+use Rattle.uart_spec.specs.declared.registers.offsets.TheConstants as offsets
 use Rattle.uart_chip.specs.declared.transmitter.Shifting.{Shifting}
 use Rattle.uart_chip.specs.Transmitter.{TransmitterState, shift, refill, load, room}
 use Rattle.uart_chip.specs.Chip.{ChipState, cut_of, is_dlab_set, after_write}
@@ -20,9 +21,11 @@ module _ (t : TransmitterState) where
   shift-pace : (loopback : Bool) (place : Option Shifting) (u : TransmitterState) → SamePace t u → SamePace t (shift loopback place u)
   shift-pace loopback None u p = p
   shift-pace loopback (Some s) u p =
-      let placed : (place : Option Shifting) → SamePace t (record u { shift_place = place }) = λ place. record { capacity = p.capacity; char_ticks = p.char_ticks } in
+      let placed : (place : Option Shifting) → SamePace t (record u { shift_place = place }) =
+      λ place. record { capacity = p.capacity; char_ticks = p.char_ticks } in
       one_of _ _ (nat_lt 1 s.ticks_left) (placed _)
-      (one_of _ _ loopback (placed None) (one_of _ _ (nat_lt (length u.wire) u.capacity) (record { capacity = p.capacity; char_ticks = p.char_ticks }) p))
+      (one_of _ _ loopback (placed None)
+      (one_of _ _ (nat_lt (length u.wire) u.capacity) (record { capacity = p.capacity; char_ticks = p.char_ticks }) p))
 
   refill-pace : (place : Option Shifting) (queue : List ℕ) (u : TransmitterState) → SamePace t u → SamePace t (refill place queue u)
   refill-pace (Some s) queue u p = p
@@ -36,30 +39,41 @@ module _ (t : TransmitterState) where
       pending = λ u pending p. record { capacity = p.capacity; char_ticks = p.char_ticks };
       cleared = λ u pending p. record { capacity = p.capacity; char_ticks = p.char_ticks };
     };
-    in_tick = λ loopback u p. let v : TransmitterState = shift loopback u.shift_place u in refill-pace v.shift_place v.queue v (shift-pace loopback u.shift_place u p);
+    in_tick =
+        λ loopback u p. let v : TransmitterState = shift loopback u.shift_place u in
+        refill-pace v.shift_place v.queue v (shift-pace loopback u.shift_place u p);
   }
 
   load-pace : (fifo : Bool) (byte : ℕ) (u : TransmitterState) → SamePace t u → SamePace t (load fifo byte u)
   load-pace fifo byte u p =
-      one_of _ _ (nat_lt (length u.queue) (room fifo)) (record { capacity = p.capacity; char_ticks = p.char_ticks }) (record { capacity = p.capacity; char_ticks = p.char_ticks })
+      one_of _ _ (nat_lt (length u.queue) (room fifo)) (record { capacity = p.capacity; char_ticks = p.char_ticks })
+      (record { capacity = p.capacity; char_ticks = p.char_ticks })
 
   write-pace : (offset value : ℕ) (c : ChipState) → SamePace t c.transmitter → SamePace t (after_write offset value c).transmitter
-  write-pace offset value c p = go (offset == 0) refl
+  write-pace offset value c p = go (offset == offsets.DATA) refl
     where
-      go : (b : Bool) → (offset == 0) ≡ b → SamePace t (after_write offset value c).transmitter
+      go : (b : Bool) → (offset == offsets.DATA) ≡ b → SamePace t (after_write offset value c).transmitter
       go false e = lasts-write (SamePace t) pace_lasts.in_accesses offset value c e p
       go true e = rw e (latched (is_dlab_set c.latches))
         where
-          latched : (b : Bool) → SamePace t (if b then record c { latches = record c.latches { dll = value } } else record c { transmitter = load c.fifo (cut_of c value) c.transmitter }).transmitter
+          latched : (b : Bool) →
+              SamePace t
+              (if b then record c { latches = record c.latches { dll = value } }
+              else record c { transmitter = load c.fifo (cut_of c value) c.transmitter }).transmitter
           latched true = p
           latched false = load-pace c.fifo (cut_of c value) c.transmitter p
 
-  pub same_pace-path : (made : List Access) (m n : MachineState) → SamePace t m.chip.transmitter → Path MachineStep m made n → SamePace t n.chip.transmitter
+  pub same_pace-path : (made : List Access) (m n : MachineState) → SamePace t m.chip.transmitter → Path MachineStep m made n →
+      SamePace t n.chip.transmitter
   same_pace-path [] m n p path = rw path p
   same_pace-path (Read offset value ∷ made) m n p (mid, step, rest) =
-      same_pace-path made mid n (rw step.0 (lasts-read (SamePace t) pace_lasts.in_accesses offset (at_access m).chip (lasts-before (SamePace t) pace_lasts m.ahead m.chip p))) rest
+      same_pace-path made mid n
+      (rw step.0
+      (lasts-read (SamePace t) pace_lasts.in_accesses offset (at_access m).chip
+      (lasts-before (SamePace t) pace_lasts m.ahead m.chip p))) rest
   same_pace-path (Write offset value ∷ made) m n p (mid, step, rest) =
-      same_pace-path made mid n (rw step (write-pace offset value (at_access m).chip (lasts-before (SamePace t) pace_lasts m.ahead m.chip p))) rest
+      same_pace-path made mid n
+      (rw step (write-pace offset value (at_access m).chip (lasts-before (SamePace t) pace_lasts m.ahead m.chip p))) rest
 
 pub same_pace : (made : List Access) (m n : MachineState) → Path MachineStep m made n → SamePace m.chip.transmitter n.chip.transmitter
 same_pace made m n path = same_pace-path m.chip.transmitter made m n (record { capacity = refl; char_ticks = refl }) path

@@ -14,7 +14,8 @@ use Rattle.uart_device.proofs.Sounds.{whole_perform}
 pub whole_ticks : (n : ℕ) (c d : ChipState) (events : List Event) → d ≡ ticks n c → IsWhole (record { chip = c; ahead = events }) →
     IsWhole (record { chip = d; ahead = events })
 whole_ticks n c d events e w =
-    rw e (whole_perform (Ticks n) events c (record { sound = record { chip = w.sound.chip; foreseen = w.sound.foreseen; legal = w.sound.legal }; bytes = w.bytes }))
+    rw e (whole_perform (Ticks n) events c
+    (record { sound = record { chip = w.sound.chip; foreseen = w.sound.foreseen; legal = (tt, w.sound.legal) }; bytes = w.bytes }))
 
 -- one in the shift place and 16 in the queue, or a free place and 16 in the queue
 pub moves-most : (fifo : Bool) (t : TransmitterState) → IsSoundTransmitter fifo t → moves t ≤ 17

@@ -1,16 +1,20 @@
 -- What lasts of the transmitter while no byte is written: shown once for any property of it.
 use Rattle.std.proofs.Common.{◌≡◌, ℕ, zero, suc, Bool, true, false, ◌==◌, List, [], ◌∷◌, if◌then◌else◌}
+use Rattle.std.specs.List.{AllByRecursion}
 use Rattle.uart_spec.specs.Access.{Access, Read, Write, Path}
 use Rattle.uart_chip.specs.declared.event.Chip.{Chip}
 use Rattle.uart_chip.specs.declared.event.Chip.TheVariants.{Uart16550A, Uart16450}
 use Rattle.uart_chip.specs.declared.event.Event.{Event}
-use Rattle.uart_chip.specs.declared.event.Event.TheVariants.{Ticks, Arrive, Lines, Access as Gate, Mark}
-use Rattle.uart_chip.specs.Registers.{has_any, offset_data, offset_ier, offset_isr, offset_fcr, offset_lcr, offset_mcr, offset_lsr, offset_msr, offset_scr, isr_thr_empty, fcr_enable, fcr_receiver_reset, fcr_transmitter_reset}
+use Rattle.uart_chip.specs.declared.event.Event.TheVariants.{Ticks, Access as Gate, Mark}
+use Rattle.uart_spec.specs.Bits.{has_any}
+use Rattle.uart_spec.specs.declared.registers.fifo_control.TheConstants.FCR
+use Rattle.uart_spec.specs.declared.registers.offsets.TheConstants as offsets
 use Rattle.uart_chip.specs.Transmitter as transmitter
 use Rattle.uart_chip.specs.Transmitter.{TransmitterState}
 use Rattle.uart_chip.specs.Receiver.{clear}
-use Rattle.uart_chip.specs.Chip.{ChipState, is_dlab_set, is_loopback, tick, ticks, arrive, change_lines, interrupt, after_read, after_write, trigger_of, switch, reset_receiver, reset_transmitter, set_trigger, is_same, set_fifo, control}
-use Rattle.uart_chip.specs.Machine.{MachineState, MachineStep, before_access, at_access}
+use Rattle.uart_chip.specs.Chip.{ChipState, is_dlab_set, is_loopback, tick, ticks, interrupt, is_thr_empty, after_read, after_write}
+use Rattle.uart_chip.specs.Chip.{trigger_level, switch, reset_receiver, reset_transmitter, set_trigger, is_same, set_fifo, control}
+use Rattle.uart_chip.specs.Machine.{MachineState, MachineStep, perform, before_access, at_access}
 
 -- a property lasts where the queue is emptied and where the interrupt flag changes: that is all that an access does which sends nothing
 pub record LastsInAccesses (P : TransmitterState → Type 0) : Type 0 where
@@ -25,12 +29,11 @@ pub record Lasts (P : TransmitterState → Type 0) : Type 0 where
 -- an access that sends nothing: a read, or a write of another register than that of the data
 abbrev pub SendsNothing : Access → Type 0
 SendsNothing (Read offset value) = Unit {0}
-SendsNothing (Write offset value) = (offset == offset_data) ≡ false
+SendsNothing (Write offset value) = (offset == offsets.DATA) ≡ false
 
 -- only such accesses
 abbrev pub AllSendNothing : List Access → Type 0
-AllSendNothing [] = Unit {0}
-AllSendNothing (access ∷ accesses) = SendsNothing access × AllSendNothing accesses
+AllSendNothing accesses = AllByRecursion SendsNothing accesses
 
 -- ---- effects
 
@@ -43,35 +46,40 @@ module _ (P : TransmitterState → Type 0) where
 module _ (P : TransmitterState → Type 0) (w : LastsInAccesses P) where
   pub lasts-read : (offset : ℕ) (c : ChipState) → P c.transmitter → P (after_read offset c).transmitter
   lasts-read offset c p =
-      either P _ _ (offset == offset_data) (either P _ _ (is_dlab_set c.latches) p p)
-      (either P _ _ (offset == offset_isr) (either P _ _ (interrupt c == isr_thr_empty) (w.pending c.transmitter false p) p)
-      (either P _ _ (offset == offset_lsr) p (either P _ _ (offset == offset_msr) p p)))
+      either P _ _ (offset == offsets.DATA) (either P _ _ (is_dlab_set c.latches) p p)
+      (either P _ _ (offset == offsets.ISR) (either P _ _ (is_thr_empty (interrupt c)) (w.pending c.transmitter false p) p)
+      (either P _ _ (offset == offsets.LSR) p (either P _ _ (offset == offsets.MSR) p p)))
 
   lasts-fifo : (value : ℕ) (c : ChipState) → P c.transmitter → P (set_fifo value c).transmitter
   lasts-fifo value c p =
-      let on : Bool = has_any value fcr_enable in
+      let on : Bool = has_any value FCR.FIFO_ENABLE.0 in
       let d : ChipState = if is_same c.fifo on then c else switch on c in
-      let switched : P d.transmitter = either P c (switch on c) (is_same c.fifo on) p (w.cleared c.transmitter c.transmitter.is_thr_pending p) in
+      let switched : P d.transmitter =
+      either P c (switch on c) (is_same c.fifo on) p (w.cleared c.transmitter c.transmitter.is_thr_pending p) in
       let e : ChipState = reset_receiver value d in
-      let received : P e.transmitter = either P (record d { receiver = clear d.receiver }) d (has_any value fcr_receiver_reset) switched switched in
+      let received : P e.transmitter =
+      either P (record d { receiver = clear d.receiver }) d (has_any value FCR.RX_FIFO_RESET.0) switched switched in
       let f : ChipState = reset_transmitter value e in
       let emptied : ChipState = record e { transmitter = record e.transmitter { queue = []; is_thr_pending = true } } in
-      let reset : P f.transmitter = either P emptied e (has_any value fcr_transmitter_reset) (w.cleared e.transmitter true received) received in
-      either P (set_trigger (trigger_of value) f) d on reset switched
+      let reset : P f.transmitter =
+      either P emptied e (has_any value FCR.TX_FIFO_RESET.0) (w.cleared e.transmitter true received) received in
+      either P (set_trigger (trigger_level value) f) d on reset switched
 
   lasts-control : (model : Chip) (value : ℕ) (c : ChipState) → P c.transmitter → P (control model value c).transmitter
   lasts-control Uart16450 value c p = p
   lasts-control Uart16550A value c p = lasts-fifo value c p
 
   -- another register is written than that of the data
-  pub lasts-write : (offset value : ℕ) (c : ChipState) → (offset == offset_data) ≡ false → P c.transmitter → P (after_write offset value c).transmitter
+  pub lasts-write : (offset value : ℕ) (c : ChipState) → (offset == offsets.DATA) ≡ false → P c.transmitter →
+      P (after_write offset value c).transmitter
   lasts-write offset value c other p =
-      rw other (either P _ _ (offset == offset_ier) (either P _ _ (is_dlab_set c.latches) p (w.pending c.transmitter _ p))
-      (either P _ _ (offset == offset_fcr) (lasts-control c.model value c p)
-      (either P _ _ (offset == offset_lcr) p (either P _ _ (offset == offset_mcr) p (either P _ _ (offset == offset_scr) p p)))))
+      rw other (either P _ _ (offset == offsets.IER) (either P _ _ (is_dlab_set c.latches) p (w.pending c.transmitter _ p))
+      (either P _ _ (offset == offsets.FCR) (lasts-control c.model value c p)
+      (either P _ _ (offset == offsets.LCR) p (either P _ _ (offset == offsets.MCR) p (either P _ _ (offset == offsets.SPR) p p)))))
 
   -- under DLAB the divisor latch is written
-  pub lasts-latch : (value : ℕ) (c : ChipState) → is_dlab_set c.latches ≡ true → P c.transmitter → P (after_write 0 value c).transmitter
+  pub lasts-latch : (value : ℕ) (c : ChipState) → is_dlab_set c.latches ≡ true → P c.transmitter →
+      P (after_write offsets.DATA value c).transmitter
   lasts-latch value c on p = rw on p
 
 -- ---- events, and accesses after them
@@ -84,18 +92,23 @@ module _ (P : TransmitterState → Type 0) (w : Lasts P) where
   lasts-ticks zero c p = p
   lasts-ticks (suc n) c p = lasts-tick (ticks n c) (lasts-ticks n c p)
 
+  lasts-perform : (event : Event) (c : ChipState) → P c.transmitter → P (perform event c).transmitter
+  lasts-perform (Ticks n) c p = lasts-ticks n c p
+  lasts-perform _ c p = p
+
   pub lasts-before : (events : List Event) (c : ChipState) → P c.transmitter → P (before_access events c).transmitter
   lasts-before [] c p = lasts-tick c p
-  lasts-before (Ticks n ∷ events) c p = lasts-before events (ticks n c) (lasts-ticks n c p)
-  lasts-before (Arrive byte errors ∷ events) c p = lasts-before events (arrive byte errors c) p
-  lasts-before (Lines inputs ∷ events) c p = lasts-before events (change_lines inputs c) p
   lasts-before (Gate ∷ events) c p = p
   lasts-before (Mark ∷ events) c p = lasts-tick c p
+  lasts-before (event ∷ events) c p = lasts-before events (perform event c) (lasts-perform event c p)
 
-  lasts-step : (access : Access) (m n : MachineState) → SendsNothing access → P m.chip.transmitter → MachineStep m access n → P n.chip.transmitter
+  lasts-step : (access : Access) (m n : MachineState) → SendsNothing access → P m.chip.transmitter → MachineStep m access n →
+      P n.chip.transmitter
   lasts-step (Read offset value) m n q p s = rw s.0 (lasts-read P w.in_accesses offset (at_access m).chip (lasts-before m.ahead m.chip p))
-  lasts-step (Write offset value) m n q p s = rw s (lasts-write P w.in_accesses offset value (at_access m).chip q (lasts-before m.ahead m.chip p))
+  lasts-step (Write offset value) m n q p s =
+      rw s (lasts-write P w.in_accesses offset value (at_access m).chip q (lasts-before m.ahead m.chip p))
 
-  pub lasts-path : (made : List Access) (m n : MachineState) → AllSendNothing made → P m.chip.transmitter → Path MachineStep m made n → P n.chip.transmitter
+  pub lasts-path : (made : List Access) (m n : MachineState) → AllSendNothing made → P m.chip.transmitter → Path MachineStep m made n →
+      P n.chip.transmitter
   lasts-path [] m n q p path = rw path p
   lasts-path (access ∷ made) m n q p path = lasts-path made path.0 n q.1 (lasts-step access m path.0 q.0 p path.1) path.2

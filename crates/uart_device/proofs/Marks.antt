@@ -1,5 +1,6 @@
 -- Marks of arrivals that are set, one by one.
-use Rattle.std.proofs.Common.{◌≡◌, ◌≢◌, ℕ, ◌+◌, ◌≤◌, ◌<◌, Bool, true, false, nat_lt, nat_eq, List, [], ◌∷◌, ◌++◌, length, refl, arith, sym, ◌∙◌, slice_set, get_or-set_same, get_or-set_other}
+use Rattle.std.proofs.Common.{◌≡◌, ◌≢◌, ℕ, ◌+◌, ◌≤◌, ◌<◌, Bool, true, false, nat_lt, nat_eq, List, [], ◌∷◌, ◌++◌, length, refl, arith, sym}
+use Rattle.std.proofs.Common.{◌∙◌, slice_set, get_or-set_same, get_or-set_other}
 use Rattle.std.proofs.lemmas.List.{length-set}
 use Rattle.std.proofs.lemmas.Grind.{common_steps}
 use Rattle.uart_chip.specs.declared.event.ArrivalMark.{ArrivalMark}
@@ -8,14 +9,15 @@ use Rattle.uart_chip.specs.declared.receiver.Character.{Character}
 use Rattle.uart_chip.specs.declared.receiver.Origin.{Origin}
 use Rattle.uart_chip.specs.declared.receiver.Origin.TheVariants.{Arrived, Looped}
 use Rattle.uart_chip.specs.Receiver.{mark_at, set_mark}
-use Rattle.uart_device.specs.Sound.{Waits, AllWait, OtherOrigin, NoneIs, NoneHas, Distinct}
+use Rattle.uart_device.specs.Sound.{IsInQueue, AllInQueue, OtherOrigin, NoneIs, NoneHas, Distinct}
 
 pub length-set_mark : (o : Origin) (m : ArrivalMark) (marks : List ArrivalMark) → length (set_mark o m marks) ≡ length marks
 length-set_mark (Arrived k) m marks = length-set marks k m
 length-set_mark Looped m marks = refl
 
 -- a mark that is set becomes nothing but that
-pub mark_at-set_not : (marks : List ArrivalMark) (k : ℕ) (m other : ArrivalMark) (j : ℕ) → m ≢ other → mark_at marks j ≢ other → mark_at (slice_set marks k m) j ≢ other
+pub mark_at-set_not : (marks : List ArrivalMark) (k : ℕ) (m other : ArrivalMark) (j : ℕ) → m ≢ other → mark_at marks j ≢ other →
+    mark_at (slice_set marks k m) j ≢ other
 mark_at-set_not marks k m other j new old = go (nat_eq j k) refl
   where
     inside : j ≡ k → (b : Bool) → nat_lt k (length marks) ≡ b → mark_at (slice_set marks k m) j ≢ other
@@ -31,57 +33,63 @@ mark_at-set_not marks k m other j new old = go (nat_eq j k) refl
     go true g = let same : j ≡ k = grind arith in inside same (nat_lt k (length marks)) refl
     go false g = let apart : j ≢ k = grind arith in rw (get_or-set_other marks k j m Pending apart) old
 
-pub mark_at-set_mark_not : (o : Origin) (m other : ArrivalMark) (marks : List ArrivalMark) (j : ℕ) → m ≢ other → mark_at marks j ≢ other → mark_at (set_mark o m marks) j ≢ other
+pub mark_at-set_mark_not : (o : Origin) (m other : ArrivalMark) (marks : List ArrivalMark) (j : ℕ) → m ≢ other → mark_at marks j ≢ other →
+    mark_at (set_mark o m marks) j ≢ other
 mark_at-set_mark_not (Arrived k) m other marks j new old = mark_at-set_not marks k m other j new old
 mark_at-set_mark_not Looped m other marks j new old = old
 
 -- ---- what waits
 
 -- the numbers of those that wait are below those to come
-pub none_to_come : (arrived : ℕ) (marks : List ArrivalMark) (stray : Bool) (queue : List Character) → AllWait arrived marks stray queue → NoneIs arrived queue
+pub none_to_come : (arrived : ℕ) (marks : List ArrivalMark) (stray : Bool) (queue : List Character) → AllInQueue arrived marks stray queue →
+    NoneIs arrived queue
 none_to_come arrived marks stray [] h = tt
 none_to_come arrived marks stray (x ∷ xs) h = (other x.origin h.0, none_to_come arrived marks stray xs h.1)
   where
-    other : (o : Origin) → Waits arrived marks stray o → OtherOrigin arrived o
+    other : (o : Origin) → IsInQueue arrived marks stray o → OtherOrigin arrived o
     other (Arrived k) h = omega (arith, h.0)
     other Looped h = tt
 
 -- another's mark is set
-pub all_wait-set : (arrived : ℕ) (marks : List ArrivalMark) (stray : Bool) (k : ℕ) (m : ArrivalMark) (queue : List Character) →
-    NoneIs k queue → AllWait arrived marks stray queue → AllWait arrived (slice_set marks k m) stray queue
-all_wait-set arrived marks stray k m [] d h = tt
-all_wait-set arrived marks stray k m (x ∷ xs) d h = (one x.origin d.0 h.0, all_wait-set arrived marks stray k m xs d.1 h.1)
+pub all_in_queue-set : (arrived : ℕ) (marks : List ArrivalMark) (stray : Bool) (k : ℕ) (m : ArrivalMark) (queue : List Character) →
+    NoneIs k queue → AllInQueue arrived marks stray queue → AllInQueue arrived (slice_set marks k m) stray queue
+all_in_queue-set arrived marks stray k m [] d h = tt
+all_in_queue-set arrived marks stray k m (x ∷ xs) d h = (one x.origin d.0 h.0, all_in_queue-set arrived marks stray k m xs d.1 h.1)
   where
-    one : (o : Origin) → OtherOrigin k o → Waits arrived marks stray o → Waits arrived (slice_set marks k m) stray o
+    one : (o : Origin) → OtherOrigin k o → IsInQueue arrived marks stray o → IsInQueue arrived (slice_set marks k m) stray o
     one (Arrived j) d h = (h.0, get_or-set_other marks k j m Pending d ∙ h.1)
     one Looped d h = h
 
-pub all_wait-set_mark : (arrived : ℕ) (marks : List ArrivalMark) (stray : Bool) (o : Origin) (m : ArrivalMark) (queue : List Character) →
-    NoneHas o queue → AllWait arrived marks stray queue → AllWait arrived (set_mark o m marks) stray queue
-all_wait-set_mark arrived marks stray (Arrived k) m queue d h = all_wait-set arrived marks stray k m queue d h
-all_wait-set_mark arrived marks stray Looped m queue d h = h
+pub all_in_queue-set_mark : (arrived : ℕ) (marks : List ArrivalMark) (stray : Bool) (o : Origin) (m : ArrivalMark)
+    (queue : List Character) →
+    NoneHas o queue → AllInQueue arrived marks stray queue → AllInQueue arrived (set_mark o m marks) stray queue
+all_in_queue-set_mark arrived marks stray (Arrived k) m queue d h = all_in_queue-set arrived marks stray k m queue d h
+all_in_queue-set_mark arrived marks stray Looped m queue d h = h
 
 -- one more has arrived
-pub all_wait-next : (arrived : ℕ) (marks : List ArrivalMark) (stray : Bool) (queue : List Character) → AllWait arrived marks stray queue → AllWait (arrived + 1) marks stray queue
-all_wait-next arrived marks stray [] h = tt
-all_wait-next arrived marks stray (x ∷ xs) h = (one x.origin h.0, all_wait-next arrived marks stray xs h.1)
+pub all_in_queue-next : (arrived : ℕ) (marks : List ArrivalMark) (stray : Bool) (queue : List Character) →
+    AllInQueue arrived marks stray queue → AllInQueue (arrived + 1) marks stray queue
+all_in_queue-next arrived marks stray [] h = tt
+all_in_queue-next arrived marks stray (x ∷ xs) h = (one x.origin h.0, all_in_queue-next arrived marks stray xs h.1)
   where
-    one : (o : Origin) → Waits arrived marks stray o → Waits (arrived + 1) marks stray o
+    one : (o : Origin) → IsInQueue arrived marks stray o → IsInQueue (arrived + 1) marks stray o
     one (Arrived j) h = (omega (arith, h.0), h.1)
     one Looped h = h
 
 -- a looped character came, so none is lost since
-pub all_wait-found : (arrived : ℕ) (marks : List ArrivalMark) (stray : Bool) (queue : List Character) → AllWait arrived marks stray queue → AllWait arrived marks false queue
-all_wait-found arrived marks stray [] h = tt
-all_wait-found arrived marks stray (x ∷ xs) h = (one x.origin h.0, all_wait-found arrived marks stray xs h.1)
+pub all_in_queue-found : (arrived : ℕ) (marks : List ArrivalMark) (stray : Bool) (queue : List Character) →
+    AllInQueue arrived marks stray queue → AllInQueue arrived marks false queue
+all_in_queue-found arrived marks stray [] h = tt
+all_in_queue-found arrived marks stray (x ∷ xs) h = (one x.origin h.0, all_in_queue-found arrived marks stray xs h.1)
   where
-    one : (o : Origin) → Waits arrived marks stray o → Waits arrived marks false o
+    one : (o : Origin) → IsInQueue arrived marks stray o → IsInQueue arrived marks false o
     one (Arrived j) h = h
     one Looped h = refl
 
-pub all_wait-append : (arrived : ℕ) (marks : List ArrivalMark) (stray : Bool) (xs ys : List Character) → AllWait arrived marks stray xs → AllWait arrived marks stray ys → AllWait arrived marks stray (xs ++ ys)
-all_wait-append arrived marks stray [] ys h k = k
-all_wait-append arrived marks stray (x ∷ xs) ys h k = (h.0, all_wait-append arrived marks stray xs ys h.1 k)
+pub all_in_queue-append : (arrived : ℕ) (marks : List ArrivalMark) (stray : Bool) (xs ys : List Character) →
+    AllInQueue arrived marks stray xs → AllInQueue arrived marks stray ys → AllInQueue arrived marks stray (xs ++ ys)
+all_in_queue-append arrived marks stray [] ys h k = k
+all_in_queue-append arrived marks stray (x ∷ xs) ys h k = (h.0, all_in_queue-append arrived marks stray xs ys h.1 k)
 
 -- ---- each once
 
@@ -98,7 +106,8 @@ none_is-back k [] ys h = h
 none_is-back k (x ∷ xs) ys h = none_is-back k xs ys h.1
 
 -- a character with a number of its own is put last
-pub distinct-next : (queue : List Character) (new : Character) (k : ℕ) → new.origin ≡ Arrived k → NoneIs k queue → Distinct queue → Distinct (queue ++ new ∷ [])
+pub distinct-next : (queue : List Character) (new : Character) (k : ℕ) → new.origin ≡ Arrived k → NoneIs k queue → Distinct queue →
+    Distinct (queue ++ new ∷ [])
 distinct-next [] new k o n d = (rw o tt, tt)
 distinct-next (x ∷ xs) new k o n d = (more x.origin n.0 d.0, distinct-next xs new k o n.1 d.1)
   where
@@ -129,30 +138,40 @@ Settled arrived marks = (number : ℕ) → number < arrived → mark_at marks nu
 abbrev pub NoOther : List Character → List ArrivalMark → Type 0
 NoOther queue marks = (number : ℕ) → NoneIs number queue → mark_at marks number ≢ Waiting
 
-pub to_come-next : (arrived : ℕ) (marks : List ArrivalMark) (m : ArrivalMark) → ToCome arrived marks → ToCome (arrived + 1) (slice_set marks arrived m)
-to_come-next arrived marks m h k l = let apart : k ≢ arrived = omega arith in get_or-set_other marks arrived k m Pending apart ∙ h k (omega arith)
+pub to_come-next : (arrived : ℕ) (marks : List ArrivalMark) (m : ArrivalMark) → ToCome arrived marks →
+    ToCome (arrived + 1) (slice_set marks arrived m)
+to_come-next arrived marks m h k l =
+    let apart : k ≢ arrived = omega arith in get_or-set_other marks arrived k m Pending apart ∙ h k (omega arith)
 
 -- the mark of one that waits is set
-pub to_come-set : (arrived : ℕ) (marks old : List ArrivalMark) (stray : Bool) (o : Origin) (m : ArrivalMark) → Waits arrived old stray o → ToCome arrived marks → ToCome arrived (set_mark o m marks)
-to_come-set arrived marks old stray (Arrived j) m w h k l = let apart : k ≢ j = omega (arith, w.0) in get_or-set_other marks j k m Pending apart ∙ h k l
+pub to_come-set : (arrived : ℕ) (marks old : List ArrivalMark) (stray : Bool) (o : Origin) (m : ArrivalMark) →
+    IsInQueue arrived old stray o → ToCome arrived marks → ToCome arrived (set_mark o m marks)
+to_come-set arrived marks old stray (Arrived j) m w h k l =
+    let apart : k ≢ j = omega (arith, w.0) in get_or-set_other marks j k m Pending apart ∙ h k l
 to_come-set arrived marks old stray Looped m w h k l = h k l
 
-pub settled-next : (arrived : ℕ) (marks : List ArrivalMark) (m : ArrivalMark) → arrived < length marks → m ≢ Pending → Settled arrived marks → Settled (arrived + 1) (slice_set marks arrived m)
+pub settled-next : (arrived : ℕ) (marks : List ArrivalMark) (m : ArrivalMark) → arrived < length marks → m ≢ Pending →
+    Settled arrived marks → Settled (arrived + 1) (slice_set marks arrived m)
 settled-next arrived marks m within new h k l = go (nat_eq k arrived) refl
   where
     go : (b : Bool) → nat_eq k arrived ≡ b → mark_at (slice_set marks arrived m) k ≢ Pending
     go true e = let same : k ≡ arrived = grind arith in rw (same, get_or-set_same marks arrived m Pending within) new
-    go false e = let apart : k ≢ arrived = grind arith in let below : k < arrived = omega arith in rw (get_or-set_other marks arrived k m Pending apart) (h k below)
+    go false e =
+        let apart : k ≢ arrived = grind arith in let below : k < arrived = omega arith in
+        rw (get_or-set_other marks arrived k m Pending apart) (h k below)
 
-pub settled-set : (arrived : ℕ) (marks : List ArrivalMark) (o : Origin) (m : ArrivalMark) → m ≢ Pending → Settled arrived marks → Settled arrived (set_mark o m marks)
+pub settled-set : (arrived : ℕ) (marks : List ArrivalMark) (o : Origin) (m : ArrivalMark) → m ≢ Pending → Settled arrived marks →
+    Settled arrived (set_mark o m marks)
 settled-set arrived marks o m new h k l = mark_at-set_mark_not o m Pending marks k new (h k l)
 
 -- a mark is set that says that it does not wait
-pub no_other-set : (queue : List Character) (marks : List ArrivalMark) (o : Origin) (m : ArrivalMark) → m ≢ Waiting → NoOther queue marks → NoOther queue (set_mark o m marks)
+pub no_other-set : (queue : List Character) (marks : List ArrivalMark) (o : Origin) (m : ArrivalMark) → m ≢ Waiting → NoOther queue marks →
+    NoOther queue (set_mark o m marks)
 no_other-set queue marks o m new h k n = mark_at-set_mark_not o m Waiting marks k new (h k n)
 
 -- the front is taken away, and its mark says so
-pub no_other-rest : (front : Character) (others : List Character) (marks : List ArrivalMark) (m : ArrivalMark) → m ≢ Waiting → NoOther (front ∷ others) marks →
+pub no_other-rest : (front : Character) (others : List Character) (marks : List ArrivalMark) (m : ArrivalMark) → m ≢ Waiting →
+    NoOther (front ∷ others) marks →
     NoOther others (set_mark front.origin m marks)
 no_other-rest front others marks m new h k n = go front.origin (λ o. h k (o, n))
   where

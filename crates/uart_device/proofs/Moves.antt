@@ -1,7 +1,8 @@
 -- Each character that came in waits, was taken, or was dropped.
-use Rattle.std.proofs.Common.{◌≡◌, ◌≢◌, ℕ, ◌+◌, ◌≤◌, ◌<◌, Bool, true, false, not, nat_eq, List, [], ◌∷◌, ◌++◌, length, append_assoc, append-nil, refl, arith, sym, ◌∙◌, ap, if◌then◌else◌, slice_set, get_or-set_same, get_or-set_other}
+use Rattle.std.proofs.Common.{◌≡◌, ◌≢◌, ℕ, ◌+◌, ◌≤◌, ◌<◌, Bool, true, false, not, nat_eq, List, [], ◌∷◌, ◌++◌, length, append_assoc}
+use Rattle.std.proofs.Common.{append-nil, refl, arith, sym, ◌∙◌, ap, if◌then◌else◌, slice_set, get_or-set_same, get_or-set_other}
 use Rattle.std.proofs.lemmas.List.{length-set}
-use Rattle.std.specs.List.{filter}
+use Rattle.std.specs.List.{filter, AllByRecursion}
 use Rattle.std.proofs.lemmas.List.Elements.{filter-append}
 use Rattle.std.proofs.lemmas.Grind.{common_steps}
 use Rattle.uart_chip.specs.declared.event.ArrivalMark.{ArrivalMark}
@@ -11,17 +12,19 @@ use Rattle.uart_chip.specs.declared.receiver.Origin.{Origin}
 use Rattle.uart_chip.specs.declared.receiver.Origin.TheVariants.{Arrived, Looped}
 use Rattle.uart_chip.specs.Transmitter.{room}
 use Rattle.uart_chip.specs.Receiver.{ReceiverState, mark_at, set_mark, is_looped}
-use Rattle.uart_device.specs.Sound.{Waits, AllWait, IsMarked}
+use Rattle.uart_device.specs.Sound.{IsInQueue, AllInQueue, IsMarked}
 use Rattle.uart_device.specs.Conserved.{is_dropped, origin_stands, stands}
-use Rattle.uart_device.proofs.Marks.{none_to_come, all_wait-set, all_wait-next, all_wait-append}
+use Rattle.uart_device.proofs.Marks.{none_to_come, all_in_queue-set, all_in_queue-next, all_in_queue-append}
 
 -- ---- what waits was not dropped
 
-pub waits_stands : (arrived : ℕ) (marks : List ArrivalMark) (stray : Bool) (o : Origin) → Waits arrived marks stray o → origin_stands marks stray o ≡ true
+pub waits_stands : (arrived : ℕ) (marks : List ArrivalMark) (stray : Bool) (o : Origin) → IsInQueue arrived marks stray o →
+    origin_stands marks stray o ≡ true
 waits_stands arrived marks stray (Arrived k) h = rw h.1 refl
 waits_stands arrived marks stray Looped h = rw h refl
 
-pub filter-waits : (r : ReceiverState) (arrived : ℕ) (characters : List Character) → AllWait arrived r.marks r.is_stray_lost characters → filter (stands r) characters ≡ characters
+pub filter-waits : (r : ReceiverState) (arrived : ℕ) (characters : List Character) → AllInQueue arrived r.marks r.is_stray_lost characters →
+    filter (stands r) characters ≡ characters
 filter-waits r arrived [] h = refl
 filter-waits r arrived (character ∷ characters) h =
     let e : stands r character ≡ true = waits_stands arrived r.marks r.is_stray_lost character.origin h.0 in
@@ -31,8 +34,7 @@ filter-waits r arrived (character ∷ characters) h =
 
 -- none of these came back in loopback
 abbrev pub NoneLooped : List Character → Type 0
-NoneLooped [] = Unit {0}
-NoneLooped (character ∷ characters) = (is_looped character.origin ≡ false) × NoneLooped characters
+NoneLooped characters = AllByRecursion (λ (character : Character). is_looped character.origin ≡ false) characters
 
 -- no looped character can be lost from now on
 abbrev pub CannotStray : Bool → ReceiverState → Type 0
@@ -45,8 +47,7 @@ IsFinal fifo r (Arrived k) = mark_at r.marks k ≡ Read
 IsFinal fifo r Looped = CannotStray fifo r
 
 abbrev pub AllFinal : Bool → ReceiverState → List Character → Type 0
-AllFinal fifo r [] = Unit {0}
-AllFinal fifo r (character ∷ characters) = IsFinal fifo r character.origin × AllFinal fifo r characters
+AllFinal fifo r characters = AllByRecursion (λ (character : Character). IsFinal fifo r character.origin) characters
 
 -- from r to s these came in, and those were taken
 pub record Moved (fifo : Bool) (r s : ReceiverState) (entering takes : List Character) : Type 0 where
@@ -63,23 +64,27 @@ pub final_stands : (fifo : Bool) (r : ReceiverState) (o : Origin) → IsFinal fi
 final_stands fifo r (Arrived k) h = rw h refl
 final_stands fifo r Looped h = rw (stray_false fifo r h) refl
 
-pub filter-final : (fifo : Bool) (r : ReceiverState) (characters : List Character) → AllFinal fifo r characters → filter (stands r) characters ≡ characters
+pub filter-final : (fifo : Bool) (r : ReceiverState) (characters : List Character) → AllFinal fifo r characters →
+    filter (stands r) characters ≡ characters
 filter-final fifo r [] h = refl
 filter-final fifo r (character ∷ characters) h =
     let e : stands r character ≡ true = final_stands fifo r character.origin h.0 in
     rw e (ap (λ xs. character ∷ xs) (filter-final fifo r characters h.1))
 
-pub all_final-later : (fifo : Bool) (r s : ReceiverState) (characters : List Character) → ((o : Origin) → IsFinal fifo r o → IsFinal fifo s o) →
+pub all_final-later : (fifo : Bool) (r s : ReceiverState) (characters : List Character) →
+    ((o : Origin) → IsFinal fifo r o → IsFinal fifo s o) →
     AllFinal fifo r characters → AllFinal fifo s characters
 all_final-later fifo r s [] f h = tt
 all_final-later fifo r s (character ∷ characters) f h = (f character.origin h.0, all_final-later fifo r s characters f h.1)
 
-pub all_final-append : (fifo : Bool) (r : ReceiverState) (xs ys : List Character) → AllFinal fifo r xs → AllFinal fifo r ys → AllFinal fifo r (xs ++ ys)
+pub all_final-append : (fifo : Bool) (r : ReceiverState) (xs ys : List Character) → AllFinal fifo r xs → AllFinal fifo r ys →
+    AllFinal fifo r (xs ++ ys)
 all_final-append fifo r [] ys h k = k
 all_final-append fifo r (x ∷ xs) ys h k = (h.0, all_final-append fifo r xs ys h.1 k)
 
 -- a test that passes less may be made of what another passed
-pub filter-twice : (p q : Character → Bool) → ((character : Character) → q character ≡ true → p character ≡ true) → (xs : List Character) → filter q xs ≡ filter q (filter p xs)
+pub filter-twice : (p q : Character → Bool) → ((character : Character) → q character ≡ true → p character ≡ true) → (xs : List Character) →
+    filter q xs ≡ filter q (filter p xs)
 filter-twice p q f [] = refl
 filter-twice p q f (x ∷ xs) = go (p x) (q x) refl refl (filter-twice p q f xs)
   where
@@ -89,17 +94,24 @@ filter-twice p q f (x ∷ xs) = go (p x) (q x) refl refl (filter-twice p q f xs)
     go false false e g ih = rw (e, g) ih
     go false true e g ih = let h : p x ≡ true = f x g in absurd (cc)
 
-pub moved_trans : (fifo : Bool) (r s t : ReceiverState) (e f xs ys : List Character) → Moved fifo r s e xs → Moved fifo s t f ys → Moved fifo r t (e ++ f) (xs ++ ys)
+pub moved_trans : (fifo : Bool) (r s t : ReceiverState) (e f xs ys : List Character) → Moved fifo r s e xs → Moved fifo s t f ys →
+    Moved fifo r t (e ++ f) (xs ++ ys)
 moved_trans fifo r s t e f xs ys a b = record {
   stay =
-      let twice : filter (stands t) (r.queue ++ e) ≡ filter (stands t) (filter (stands s) (r.queue ++ e)) = filter-twice (stands s) (stands t) (λ i h. b.falls i.origin h) (r.queue ++ e) in
+      let twice : filter (stands t) (r.queue ++ e) ≡ filter (stands t) (filter (stands s) (r.queue ++ e)) =
+      filter-twice (stands s) (stands t) (λ i h. b.falls i.origin h) (r.queue ++ e) in
       let final : filter (stands t) xs ≡ xs = filter-final fifo t xs (all_final-later fifo s t xs b.final a.taken_final) in
-      let split : filter (stands t) (s.queue ++ f) ≡ filter (stands t) s.queue ++ filter (stands t) f = filter-append (stands t) s.queue f in
-      let front : filter (stands t) (xs ++ s.queue) ≡ filter (stands t) xs ++ filter (stands t) s.queue = filter-append (stands t) xs s.queue in
-      let whole : filter (stands t) ((r.queue ++ e) ++ f) ≡ filter (stands t) (r.queue ++ e) ++ filter (stands t) f = filter-append (stands t) (r.queue ++ e) f in
-      let step : filter (stands t) (r.queue ++ e) ≡ xs ++ filter (stands t) s.queue = twice ∙ (ap (filter (stands t)) a.stay ∙ (front ∙ ap (λ zs. zs ++ filter (stands t) s.queue) final)) in
+      let split : filter (stands t) (s.queue ++ f) ≡ filter (stands t) s.queue ++ filter (stands t) f =
+      filter-append (stands t) s.queue f in
+      let front : filter (stands t) (xs ++ s.queue) ≡ filter (stands t) xs ++ filter (stands t) s.queue =
+      filter-append (stands t) xs s.queue in
+      let whole : filter (stands t) ((r.queue ++ e) ++ f) ≡ filter (stands t) (r.queue ++ e) ++ filter (stands t) f =
+      filter-append (stands t) (r.queue ++ e) f in
+      let step : filter (stands t) (r.queue ++ e) ≡ xs ++ filter (stands t) s.queue =
+      twice ∙ (ap (filter (stands t)) a.stay ∙ (front ∙ ap (λ zs. zs ++ filter (stands t) s.queue) final)) in
       ap (filter (stands t)) (sym (append_assoc r.queue e f)) ∙ (whole ∙ (ap (λ zs. zs ++ filter (stands t) f) step ∙
-      (append_assoc xs (filter (stands t) s.queue) (filter (stands t) f) ∙ (ap (λ zs. xs ++ zs) (sym split ∙ b.stay) ∙ sym (append_assoc xs ys t.queue)))));
+      (append_assoc xs (filter (stands t) s.queue) (filter (stands t) f) ∙
+      (ap (λ zs. xs ++ zs) (sym split ∙ b.stay) ∙ sym (append_assoc xs ys t.queue)))));
   falls = λ o h. a.falls o (b.falls o h);
   final = λ o h. b.final o (a.final o h);
   taken_final = all_final-append fifo t xs ys (all_final-later fifo s t xs b.final a.taken_final) b.taken_final;
@@ -120,8 +132,10 @@ read-set marks k m j h g =
     let other : j ≢ k = λ e. h (ap (mark_at marks) (sym e) ∙ g) in
     get_or-set_other marks k j m Pending other ∙ g
 
-pub falls-mark : (r s : ReceiverState) (k : ℕ) (m : ArrivalMark) → is_dropped (mark_at r.marks k) ≡ false → s.marks ≡ slice_set r.marks k m →
-    s.is_stray_lost ≡ r.is_stray_lost → (o : Origin) → origin_stands s.marks s.is_stray_lost o ≡ true → origin_stands r.marks r.is_stray_lost o ≡ true
+pub falls-mark : (r s : ReceiverState) (k : ℕ) (m : ArrivalMark) → is_dropped (mark_at r.marks k) ≡ false →
+    s.marks ≡ slice_set r.marks k m →
+    s.is_stray_lost ≡ r.is_stray_lost → (o : Origin) → origin_stands s.marks s.is_stray_lost o ≡ true →
+    origin_stands r.marks r.is_stray_lost o ≡ true
 falls-mark r s k m h e f (Arrived j) g = falls-set r.marks k m j h (rw e at g)
 falls-mark r s k m h e f Looped g = rw f at g
 
@@ -134,25 +148,34 @@ pub none_looped-append : (xs ys : List Character) → NoneLooped xs → NoneLoop
 none_looped-append [] ys h k = k
 none_looped-append (x ∷ xs) ys h k = (h.0, none_looped-append xs ys h.1 k)
 
-pub cannot_stray-more : (fifo : Bool) (r s : ReceiverState) (new : Character) → new.origin ≡ Arrived r.arrived → s.queue ≡ r.queue ++ new ∷ [] →
+pub cannot_stray-more : (fifo : Bool) (r s : ReceiverState) (new : Character) → new.origin ≡ Arrived r.arrived →
+    s.queue ≡ r.queue ++ new ∷ [] →
     s.is_stray_lost ≡ r.is_stray_lost → CannotStray fifo r → CannotStray fifo s
 cannot_stray-more true r s new o i e c = e ∙ c
 cannot_stray-more false r s new o i e c = (e ∙ c.0, rw i (none_looped-append r.queue (new ∷ []) c.1 (rw o refl, tt)))
 
 -- the step of a character that comes in with room
-pub moved_room : (fifo : Bool) (r s : ReceiverState) (new : Character) → IsMarked fifo r → new.origin ≡ Arrived r.arrived → r.arrived < length r.marks →
-    s.queue ≡ r.queue ++ new ∷ [] → s.marks ≡ slice_set r.marks r.arrived Waiting → s.is_stray_lost ≡ r.is_stray_lost → s.arrived ≡ r.arrived + 1 →
+pub moved_room : (fifo : Bool) (r s : ReceiverState) (new : Character) → IsMarked fifo r → new.origin ≡ Arrived r.arrived →
+    r.arrived < length r.marks →
+    s.queue ≡ r.queue ++ new ∷ [] → s.marks ≡ slice_set r.marks r.arrived Waiting → s.is_stray_lost ≡ r.is_stray_lost →
+    s.arrived ≡ r.arrived + 1 →
     Moved fifo r s (new ∷ []) []
 moved_room fifo r s new w o k queue marks stray arrived =
-    let old : AllWait (r.arrived + 1) (slice_set r.marks r.arrived Waiting) r.is_stray_lost r.queue =
-    all_wait-set (r.arrived + 1) r.marks r.is_stray_lost r.arrived Waiting r.queue (none_to_come r.arrived r.marks r.is_stray_lost r.queue w.wait) (all_wait-next r.arrived r.marks r.is_stray_lost r.queue w.wait) in
-    let here : Waits (r.arrived + 1) (slice_set r.marks r.arrived Waiting) r.is_stray_lost new.origin = rw o (omega arith, get_or-set_same r.marks r.arrived Waiting Pending k) in
-    let all : AllWait s.arrived s.marks s.is_stray_lost (r.queue ++ new ∷ []) = rw (arrived, marks, stray) (all_wait-append _ _ _ r.queue (new ∷ []) old (here, tt)) in
+    let old : AllInQueue (r.arrived + 1) (slice_set r.marks r.arrived Waiting) r.is_stray_lost r.queue =
+    all_in_queue-set (r.arrived + 1) r.marks r.is_stray_lost r.arrived Waiting r.queue
+    (none_to_come r.arrived r.marks r.is_stray_lost r.queue w.wait)
+    (all_in_queue-next r.arrived r.marks r.is_stray_lost r.queue w.wait) in
+    let here : IsInQueue (r.arrived + 1) (slice_set r.marks r.arrived Waiting) r.is_stray_lost new.origin =
+    rw o (omega arith, get_or-set_same r.marks r.arrived Waiting Pending k) in
+    let all : AllInQueue s.arrived s.marks s.is_stray_lost (r.queue ++ new ∷ []) =
+    rw (arrived, marks, stray) (all_in_queue-append _ _ _ r.queue (new ∷ []) old (here, tt)) in
     let pending : mark_at r.marks r.arrived ≡ Pending = w.to_come r.arrived (omega arith) in
     record {
       stay = filter-waits s s.arrived (r.queue ++ new ∷ []) all ∙ sym queue;
       falls = falls-mark r s r.arrived Waiting (ap is_dropped pending) marks stray;
-      final = λ where_from g. final-set fifo r s r.arrived Waiting (λ e. absurd (cc)) marks where_from (λ c. cannot_stray-more fifo r s new o queue stray c) g;
+      final =
+          λ where_from g. final-set fifo r s r.arrived Waiting (λ e. absurd (cc)) marks where_from
+          (λ c. cannot_stray-more fifo r s new o queue stray c) g;
       taken_final = tt;
     }
 
@@ -161,8 +184,9 @@ pub moved_full : (r s : ReceiverState) (new : Character) → IsMarked true r →
     s.queue ≡ r.queue → s.marks ≡ slice_set r.marks r.arrived Dropped → s.is_stray_lost ≡ r.is_stray_lost → Moved true r s (new ∷ []) []
 moved_full r s new w o k queue marks stray =
     let pending : mark_at r.marks r.arrived ≡ Pending = w.to_come r.arrived (omega arith) in
-    let old : AllWait r.arrived (slice_set r.marks r.arrived Dropped) r.is_stray_lost r.queue =
-    all_wait-set r.arrived r.marks r.is_stray_lost r.arrived Dropped r.queue (none_to_come r.arrived r.marks r.is_stray_lost r.queue w.wait) w.wait in
+    let old : AllInQueue r.arrived (slice_set r.marks r.arrived Dropped) r.is_stray_lost r.queue =
+    all_in_queue-set r.arrived r.marks r.is_stray_lost r.arrived Dropped r.queue
+    (none_to_come r.arrived r.marks r.is_stray_lost r.queue w.wait) w.wait in
     let stay_old : filter (stands s) r.queue ≡ r.queue = filter-waits s r.arrived r.queue (rw (marks, stray) old) in
     let out : stands s new ≡ false = rw (o, marks, get_or-set_same r.marks r.arrived Dropped Pending k) refl in
     let none : filter (stands s) (new ∷ []) ≡ [] = rw out refl in
@@ -173,7 +197,8 @@ moved_full r s new w o k queue marks stray =
       taken_final = tt;
     }
 
-pub cannot_stray-less : (fifo : Bool) (r s : ReceiverState) (front : Character) → r.queue ≡ front ∷ s.queue → s.is_stray_lost ≡ r.is_stray_lost →
+pub cannot_stray-less : (fifo : Bool) (r s : ReceiverState) (front : Character) → r.queue ≡ front ∷ s.queue →
+    s.is_stray_lost ≡ r.is_stray_lost →
     CannotStray fifo r → CannotStray fifo s
 cannot_stray-less true r s front i e c = e ∙ c
 cannot_stray-less false r s front i e c = let all = rw i at c.1 in (e ∙ c.0, all.1)
@@ -189,7 +214,8 @@ cannot_stray-taken false r s front i h e = (e, only s.queue (let n = rw i at h i
     only (x ∷ xs) h = absurd (omega arith)
 
 -- the front is taken
-pub moved_taken : (fifo : Bool) (r s : ReceiverState) (front : Character) (o : Origin) → IsMarked fifo r → front.origin ≡ o → r.queue ≡ front ∷ s.queue →
+pub moved_taken : (fifo : Bool) (r s : ReceiverState) (front : Character) (o : Origin) → IsMarked fifo r → front.origin ≡ o →
+    r.queue ≡ front ∷ s.queue →
     s.marks ≡ set_mark o Read r.marks → s.is_stray_lost ≡ r.is_stray_lost → Moved fifo r s [] (front ∷ [])
 moved_taken fifo r s front (Arrived k) w o i marks stray =
     let wait = rw i at w.wait in
@@ -197,7 +223,8 @@ moved_taken fifo r s front (Arrived k) w o i marks stray =
     let distinct = rw i at w.distinct in
     let others = rw o at distinct.0 in
     let within : k < length r.marks = omega (arith, here.0, w.counted) in
-    let rest : AllWait r.arrived (slice_set r.marks k Read) r.is_stray_lost s.queue = all_wait-set r.arrived r.marks r.is_stray_lost k Read s.queue others wait.1 in
+    let rest : AllInQueue r.arrived (slice_set r.marks k Read) r.is_stray_lost s.queue =
+    all_in_queue-set r.arrived r.marks r.is_stray_lost k Read s.queue others wait.1 in
     let stay_rest : filter (stands s) s.queue ≡ s.queue = filter-waits s r.arrived s.queue (rw (marks, stray) rest) in
     let in_front : stands s front ≡ true = rw (o, marks, get_or-set_same r.marks k Read Pending within) refl in
     let whole : filter (stands s) (front ∷ s.queue) ≡ front ∷ s.queue = rw in_front (ap (λ xs. front ∷ xs) stay_rest) in
@@ -238,7 +265,8 @@ moved_taken fifo r s front Looped w o i marks stray =
     same_final Looped g = cannot_stray-less fifo r s front i stray g
 
 -- the step of a character that takes the place of the one that waits
-pub moved_replaced : (r s : ReceiverState) (old new : Character) (o : Origin) → IsMarked false r → new.origin ≡ Arrived r.arrived → r.arrived < length r.marks →
+pub moved_replaced : (r s : ReceiverState) (old new : Character) (o : Origin) → IsMarked false r → new.origin ≡ Arrived r.arrived →
+    r.arrived < length r.marks →
     old.origin ≡ o → r.queue ≡ old ∷ [] → s.queue ≡ new ∷ [] → s.marks ≡ slice_set (set_mark o Dropped r.marks) r.arrived Waiting →
     s.is_stray_lost ≡ (if is_looped o then true else r.is_stray_lost) → Moved false r s (new ∷ []) []
 moved_replaced r s old new (Arrived k) w n within o i j marks stray =
@@ -251,7 +279,8 @@ moved_replaced r s old new (Arrived k) w n within o i j marks stray =
     let pending1 : mark_at first r.arrived ≡ Pending = get_or-set_other r.marks k r.arrived Dropped Pending later ∙ pending in
     let sooner : k ≢ r.arrived = omega arith in
     let in_marks : k < length r.marks = omega arith in
-    let dropped : mark_at s.marks k ≡ Dropped = rw marks (get_or-set_other first r.arrived k Waiting Pending sooner ∙ get_or-set_same r.marks k Dropped Pending in_marks) in
+    let dropped : mark_at s.marks k ≡ Dropped =
+    rw marks (get_or-set_other first r.arrived k Waiting Pending sooner ∙ get_or-set_same r.marks k Dropped Pending in_marks) in
     let within1 : r.arrived < length first = rw length-set within in
     let comes : mark_at s.marks r.arrived ≡ Waiting = rw marks (get_or-set_same first r.arrived Waiting Pending within1) in
     let out : stands s old ≡ false = rw (o, dropped) refl in
@@ -263,16 +292,20 @@ moved_replaced r s old new (Arrived k) w n within o i j marks stray =
       taken_final = tt;
     }
   where
-    falls_both : (from : Origin) → origin_stands s.marks s.is_stray_lost from ≡ true → mark_at (slice_set r.marks k Dropped) r.arrived ≡ Pending →
+    falls_both : (from : Origin) → origin_stands s.marks s.is_stray_lost from ≡ true →
+        mark_at (slice_set r.marks k Dropped) r.arrived ≡ Pending →
         mark_at r.marks k ≡ Waiting → origin_stands r.marks r.is_stray_lost from ≡ true
     falls_both (Arrived q) g p h =
-        falls-set r.marks k Dropped q (ap is_dropped h) (falls-set (slice_set r.marks k Dropped) r.arrived Waiting q (ap is_dropped p) (rw marks at g))
+        falls-set r.marks k Dropped q (ap is_dropped h)
+        (falls-set (slice_set r.marks k Dropped) r.arrived Waiting q (ap is_dropped p) (rw marks at g))
     falls_both Looped g p h = rw stray at g
 
     final_both : (from : Origin) → IsFinal false r from → mark_at (slice_set r.marks k Dropped) r.arrived ≡ Pending →
         mark_at r.marks k ≡ Waiting → IsFinal false s from
     final_both (Arrived q) g p h =
-        rw marks (read-set (slice_set r.marks k Dropped) r.arrived Waiting q (λ e. absurd (cc)) (read-set r.marks k Dropped q (λ e. absurd (cc)) g))
+        rw marks
+        (read-set (slice_set r.marks k Dropped) r.arrived Waiting q (λ e. absurd (cc))
+        (read-set r.marks k Dropped q (λ e. absurd (cc)) g))
     final_both Looped g p h = (stray ∙ g.0, rw j (rw n refl, tt))
 moved_replaced r s old new Looped w n within o i j marks stray =
     let pending : mark_at r.marks r.arrived ≡ Pending = w.to_come r.arrived (omega arith) in

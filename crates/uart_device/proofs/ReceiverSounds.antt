@@ -1,16 +1,22 @@
 -- Whatever happens to a receiver, it stays sound.
-use Rattle.std.proofs.Common.{◌≡◌, ◌≢◌, ℕ, ◌+◌, ◌≤◌, ◌<◌, Bool, true, false, nat_lt, List, [], ◌∷◌, ◌++◌, length, Option, Some, None, refl, arith, ◌∙◌, ap, slice_set, get_or-set_same, length-append, if◌then◌else◌, zero-le}
+use Rattle.std.proofs.Common.{◌≡◌, ◌≢◌, ℕ, ◌+◌, ◌≤◌, ◌<◌, Bool, true, false, nat_lt, List, [], ◌∷◌, ◌++◌, length, Option, Some, None, refl}
+use Rattle.std.proofs.Common.{arith, ◌∙◌, ap, slice_set, get_or-set_same, length-append, if◌then◌else◌, zero-le}
 use Rattle.std.proofs.lemmas.List.{length-set}
 use Rattle.std.proofs.lemmas.Grind.{common_steps}
 use Rattle.uart_chip.specs.declared.event.ArrivalMark.{ArrivalMark}
 use Rattle.uart_chip.specs.declared.event.ArrivalMark.TheVariants.{Pending, Waiting, Read, Discarded, Dropped}
 use Rattle.uart_chip.specs.declared.receiver.Character.{Character}
 use Rattle.uart_chip.specs.declared.receiver.Origin.TheVariants.{Arrived, Looped}
-use Rattle.uart_chip.specs.Registers.{IsWithin, lsr_character_errors}
+use Rattle.uart_spec.specs.declared.registers.fifo_trigger_level.FifoTriggerLevel.{FifoTriggerLevel}
+use Rattle.uart_spec.specs.declared.registers.line_status.TheConstants.LSR
+use Rattle.uart_chip.specs.Masks.{IsWithin}
 use Rattle.uart_chip.specs.Transmitter.{room}
-use Rattle.uart_chip.specs.Receiver.{ReceiverState, set_mark, replace, come_back, grow_timeout, tick, arrive, take_front, report, discard, clear}
-use Rattle.uart_device.specs.Sound.{Waits, AllWait, NoneIs, Distinct, AllErrorsLegal, IsTrigger, IsSoundReceiver}
-use Rattle.uart_device.proofs.Marks.{length-set_mark, none_to_come, all_wait-set, all_wait-set_mark, all_wait-next, all_wait-found, all_wait-append, distinct-next, distinct-looped, ToCome, Settled, NoOther, to_come-next, to_come-set, settled-next, settled-set, no_other-set, no_other-rest, no_other-next}
+use Rattle.uart_chip.specs.Receiver.{ReceiverState, set_mark, replace, come_back, grow_timeout, tick, arrive, take_front, report, discard}
+use Rattle.uart_chip.specs.Receiver.{clear}
+use Rattle.uart_device.specs.Sound.{IsInQueue, AllInQueue, NoneIs, Distinct, AllErrorsLegal, IsSoundReceiver}
+use Rattle.uart_device.proofs.Marks.{length-set_mark, none_to_come, all_in_queue-set, all_in_queue-set_mark, all_in_queue-next}
+use Rattle.uart_device.proofs.Marks.{all_in_queue-found, all_in_queue-append, distinct-next, distinct-looped, ToCome, Settled, NoOther}
+use Rattle.uart_device.proofs.Marks.{to_come-next, to_come-set, settled-next, settled-set, no_other-set, no_other-rest, no_other-next}
 
 -- the receiver is sound after a move, of so many arrivals, as many to come
 pub record Safe (fifo : Bool) (arrived : ℕ) (r s : ReceiverState) : Type 0 where
@@ -19,7 +25,8 @@ pub record Safe (fifo : Bool) (arrived : ℕ) (r s : ReceiverState) : Type 0 whe
   pub known : length s.marks ≡ length r.marks
   pub limit : s.timeout_limit ≡ r.timeout_limit
 
-pub safe_if : (fifo : Bool) (arrived : ℕ) (r x y : ReceiverState) (b : Bool) → (b ≡ true → Safe fifo arrived r x) → (b ≡ false → Safe fifo arrived r y) → Safe fifo arrived r (if b then x else y)
+pub safe_if : (fifo : Bool) (arrived : ℕ) (r x y : ReceiverState) (b : Bool) → (b ≡ true → Safe fifo arrived r x) →
+    (b ≡ false → Safe fifo arrived r y) → Safe fifo arrived r (if b then x else y)
 safe_if fifo arrived r x y true p q = p refl
 safe_if fifo arrived r x y false p q = q refl
 
@@ -28,16 +35,19 @@ safe_if fifo arrived r x y false p q = q refl
 length-next : (queue : List Character) (new : Character) (n : ℕ) → nat_lt (length queue) n ≡ true → length (queue ++ new ∷ []) ≤ n
 length-next queue new n e = let free : length queue < n = grind (arith, common_steps) in simp length-append (omega arith)
 
-legal-next : (queue : List Character) (new : Character) → IsWithin new.errors lsr_character_errors → AllErrorsLegal queue → AllErrorsLegal (queue ++ new ∷ [])
+legal-next : (queue : List Character) (new : Character) → IsWithin new.errors LSR.CHARACTER_ERRORS.0 → AllErrorsLegal queue →
+    AllErrorsLegal (queue ++ new ∷ [])
 legal-next [] new n h = (n, tt)
 legal-next (x ∷ xs) new n h = (h.0, legal-next xs new n h.1)
 
-counted-next : (arrived k : ℕ) (m : ArrivalMark) (marks : List ArrivalMark) → arrived < length marks → arrived + 1 ≤ length (slice_set marks k m)
+counted-next : (arrived k : ℕ) (m : ArrivalMark) (marks : List ArrivalMark) → arrived < length marks →
+    arrived + 1 ≤ length (slice_set marks k m)
 counted-next arrived k m marks h = simp length-set (omega arith)
 
 -- ---- an arrival
 
-safe_arrival_room : (fifo : Bool) (r : ReceiverState) (byte errors : ℕ) (reported : Bool) → IsSoundReceiver fifo r → r.arrived < length r.marks → IsWithin errors lsr_character_errors →
+safe_arrival_room : (fifo : Bool) (r : ReceiverState) (byte errors : ℕ) (reported : Bool) → IsSoundReceiver fifo r →
+    r.arrived < length r.marks → IsWithin errors LSR.CHARACTER_ERRORS.0 →
     nat_lt (length r.queue) (room fifo) ≡ true →
     Safe fifo (r.arrived + 1) r (record r {
       queue = r.queue ++ record { byte = byte; errors = errors; origin = Arrived r.arrived } ∷ [];
@@ -49,13 +59,16 @@ safe_arrival_room : (fifo : Bool) (r : ReceiverState) (byte errors : ℕ) (repor
 safe_arrival_room fifo r byte errors reported w k l e =
     let new : Character = record { byte = byte; errors = errors; origin = Arrived r.arrived } in
     let none : NoneIs r.arrived r.queue = none_to_come r.arrived r.marks r.is_stray_lost r.queue w.marked.wait in
-    let old : AllWait (r.arrived + 1) (slice_set r.marks r.arrived Waiting) r.is_stray_lost r.queue =
-    all_wait-set (r.arrived + 1) r.marks r.is_stray_lost r.arrived Waiting r.queue none (all_wait-next r.arrived r.marks r.is_stray_lost r.queue w.marked.wait) in
-    let here : Waits (r.arrived + 1) (slice_set r.marks r.arrived Waiting) r.is_stray_lost (Arrived r.arrived) = (omega arith, get_or-set_same r.marks r.arrived Waiting Pending k) in
+    let old : AllInQueue (r.arrived + 1) (slice_set r.marks r.arrived Waiting) r.is_stray_lost r.queue =
+    all_in_queue-set (r.arrived + 1) r.marks r.is_stray_lost r.arrived Waiting r.queue none
+    (all_in_queue-next r.arrived r.marks r.is_stray_lost r.queue w.marked.wait) in
+    let here : IsInQueue (r.arrived + 1) (slice_set r.marks r.arrived Waiting) r.is_stray_lost (Arrived r.arrived) =
+    (omega arith, get_or-set_same r.marks r.arrived Waiting Pending k) in
     record {
       sound = record {
         marked = record {
-          wait = all_wait-append (r.arrived + 1) (slice_set r.marks r.arrived Waiting) r.is_stray_lost r.queue (new ∷ []) old (here, tt);
+          wait =
+              all_in_queue-append (r.arrived + 1) (slice_set r.marks r.arrived Waiting) r.is_stray_lost r.queue (new ∷ []) old (here, tt);
           distinct = distinct-next r.queue new r.arrived refl none w.marked.distinct;
           to_come = to_come-next r.arrived r.marks Waiting w.marked.to_come;
           in_room = length-next r.queue new (room fifo) e;
@@ -64,7 +77,6 @@ safe_arrival_room fifo r byte errors reported w k l e =
         settled = settled-next r.arrived r.marks Waiting k (λ e. cc) w.settled;
         no_other = no_other-next r.queue new r.marks Waiting w.no_other;
         legal = legal-next r.queue new l w.legal;
-        levels = w.levels;
         idle = zero-le;
       };
       number = refl;
@@ -73,14 +85,18 @@ safe_arrival_room fifo r byte errors reported w k l e =
     }
 
 -- what waits stays, and the arrival is lost
-safe_arrival_lost : (fifo : Bool) (r : ReceiverState) (m : ArrivalMark) (overrun : Bool) (idle : ℕ) → IsSoundReceiver fifo r → r.arrived < length r.marks → m ≢ Pending → m ≢ Waiting → idle ≤ r.timeout_limit →
-    Safe fifo (r.arrived + 1) r (record r { is_overrun = overrun; timeout_ticks = idle; arrived = r.arrived + 1; marks = slice_set r.marks r.arrived m })
+safe_arrival_lost : (fifo : Bool) (r : ReceiverState) (m : ArrivalMark) (overrun : Bool) (idle : ℕ) → IsSoundReceiver fifo r →
+    r.arrived < length r.marks → m ≢ Pending → m ≢ Waiting → idle ≤ r.timeout_limit →
+    Safe fifo (r.arrived + 1) r
+    (record r { is_overrun = overrun; timeout_ticks = idle; arrived = r.arrived + 1; marks = slice_set r.marks r.arrived m })
 safe_arrival_lost fifo r m overrun idle w k p q i =
     let none : NoneIs r.arrived r.queue = none_to_come r.arrived r.marks r.is_stray_lost r.queue w.marked.wait in
     record {
       sound = record {
         marked = record {
-          wait = all_wait-set (r.arrived + 1) r.marks r.is_stray_lost r.arrived m r.queue none (all_wait-next r.arrived r.marks r.is_stray_lost r.queue w.marked.wait);
+          wait =
+              all_in_queue-set (r.arrived + 1) r.marks r.is_stray_lost r.arrived m r.queue none
+              (all_in_queue-next r.arrived r.marks r.is_stray_lost r.queue w.marked.wait);
           distinct = w.marked.distinct;
           to_come = to_come-next r.arrived r.marks m w.marked.to_come;
           in_room = w.marked.in_room;
@@ -89,7 +105,6 @@ safe_arrival_lost fifo r m overrun idle w k p q i =
         settled = settled-next r.arrived r.marks m k p w.settled;
         no_other = no_other-set r.queue r.marks (Arrived r.arrived) m q w.no_other;
         legal = w.legal;
-        levels = w.levels;
         idle = i;
       };
       number = refl;
@@ -98,7 +113,8 @@ safe_arrival_lost fifo r m overrun idle w k p q i =
     }
 
 -- the one that waits is replaced
-safe_arrival_replaced : (fifo : Bool) (r : ReceiverState) (byte errors : ℕ) (old : Character) (stray : Bool) → IsSoundReceiver fifo r → r.arrived < length r.marks → IsWithin errors lsr_character_errors →
+safe_arrival_replaced : (fifo : Bool) (r : ReceiverState) (byte errors : ℕ) (old : Character) (stray : Bool) → IsSoundReceiver fifo r →
+    r.arrived < length r.marks → IsWithin errors LSR.CHARACTER_ERRORS.0 →
     r.queue ≡ old ∷ [] →
     Safe fifo (r.arrived + 1) r (record r {
       queue = record { byte = byte; errors = errors; origin = Arrived r.arrived } ∷ [];
@@ -114,7 +130,7 @@ safe_arrival_replaced fifo r byte errors old stray w k l e =
     let marks : List ArrivalMark = set_mark old.origin Dropped r.marks in
     let same : length marks ≡ length r.marks = length-set_mark old.origin Dropped r.marks in
     let within : r.arrived < length marks = omega arith in
-    let waits : AllWait r.arrived r.marks r.is_stray_lost (old ∷ []) = rw e at w.marked.wait in
+    let waits : AllInQueue r.arrived r.marks r.is_stray_lost (old ∷ []) = rw e at w.marked.wait in
     let others : NoOther (old ∷ []) r.marks = rw e at w.no_other in
     let one : length (old ∷ []) ≤ room fifo = rw e at w.marked.in_room in
     record {
@@ -122,14 +138,16 @@ safe_arrival_replaced fifo r byte errors old stray w k l e =
         marked = record {
           wait = ((omega arith, get_or-set_same marks r.arrived Waiting Pending within), tt);
           distinct = (tt, tt);
-          to_come = to_come-next r.arrived marks Waiting (to_come-set r.arrived r.marks r.marks r.is_stray_lost old.origin Dropped waits.0 w.marked.to_come);
+          to_come =
+              to_come-next r.arrived marks Waiting
+              (to_come-set r.arrived r.marks r.marks r.is_stray_lost old.origin Dropped waits.0 w.marked.to_come);
           in_room = one;
           counted = counted-next r.arrived r.arrived Waiting marks within;
         };
-        settled = settled-next r.arrived marks Waiting within (λ e. cc) (settled-set r.arrived r.marks old.origin Dropped (λ e. cc) w.settled);
+        settled =
+            settled-next r.arrived marks Waiting within (λ e. cc) (settled-set r.arrived r.marks old.origin Dropped (λ e. cc) w.settled);
         no_other = no_other-next [] new marks Waiting (no_other-rest old [] r.marks Dropped (λ e. cc) others);
         legal = (l, tt);
-        levels = w.levels;
         idle = zero-le;
       };
       number = refl;
@@ -146,7 +164,8 @@ none_full : (fifo : Bool) → nat_lt 0 (room fifo) ≡ false → ⊥
 none_full true e = cc
 none_full false e = cc
 
-pub safe_arrive : (loopback fifo : Bool) (r : ReceiverState) (byte errors : ℕ) → IsSoundReceiver fifo r → r.arrived < length r.marks → IsWithin errors lsr_character_errors →
+pub safe_arrive : (loopback fifo : Bool) (r : ReceiverState) (byte errors : ℕ) → IsSoundReceiver fifo r → r.arrived < length r.marks →
+    IsWithin errors LSR.CHARACTER_ERRORS.0 →
     Safe fifo (r.arrived + 1) r (arrive loopback fifo byte errors r)
 safe_arrive true fifo r byte errors w k l = safe_arrival_lost fifo r Discarded r.is_overrun r.timeout_ticks w k (λ e. cc) (λ e. cc) w.idle
 safe_arrive false fifo r byte errors w k l =
@@ -155,7 +174,8 @@ safe_arrive false fifo r byte errors w k l =
     (λ off. swap r.queue refl full (one_waits fifo r.queue off w.marked.in_room)))
   where
     swap : (queue : List Character) → r.queue ≡ queue → nat_lt (length r.queue) (room fifo) ≡ false → length r.queue ≤ 1 →
-        Safe fifo (r.arrived + 1) r (replace r.queue (record { byte = byte; errors = errors; origin = Arrived r.arrived }) (record r { arrived = r.arrived + 1 }))
+        Safe fifo (r.arrived + 1) r
+        (replace r.queue (record { byte = byte; errors = errors; origin = Arrived r.arrived }) (record r { arrived = r.arrived + 1 }))
     swap [] e full one = let h : nat_lt 0 (room fifo) ≡ false = rw e at full in absurd (none_full fifo h)
     swap (old ∷ []) e full one =
         let new : Character = record { byte = byte; errors = errors; origin = Arrived r.arrived } in
@@ -166,7 +186,8 @@ safe_arrive false fifo r byte errors w k l =
 
 -- ---- a looped character
 
-safe_looped_room : (fifo : Bool) (r : ReceiverState) (byte : ℕ) (reported : Bool) → IsSoundReceiver fifo r → nat_lt (length r.queue) (room fifo) ≡ true →
+safe_looped_room : (fifo : Bool) (r : ReceiverState) (byte : ℕ) (reported : Bool) → IsSoundReceiver fifo r →
+    nat_lt (length r.queue) (room fifo) ≡ true →
     Safe fifo r.arrived r (record r {
       queue = r.queue ++ record { byte = byte; errors = 0; origin = Looped } ∷ [];
       is_front_reported = reported;
@@ -175,11 +196,11 @@ safe_looped_room : (fifo : Bool) (r : ReceiverState) (byte : ℕ) (reported : Bo
     })
 safe_looped_room fifo r byte reported w e =
     let new : Character = record { byte = byte; errors = 0; origin = Looped } in
-    let found : AllWait r.arrived r.marks false r.queue = all_wait-found r.arrived r.marks r.is_stray_lost r.queue w.marked.wait in
+    let found : AllInQueue r.arrived r.marks false r.queue = all_in_queue-found r.arrived r.marks r.is_stray_lost r.queue w.marked.wait in
     record {
       sound = record {
         marked = record {
-          wait = all_wait-append r.arrived r.marks false r.queue (new ∷ []) found (refl, tt);
+          wait = all_in_queue-append r.arrived r.marks false r.queue (new ∷ []) found (refl, tt);
           distinct = distinct-looped r.queue new refl w.marked.distinct;
           to_come = w.marked.to_come;
           in_room = length-next r.queue new (room fifo) e;
@@ -188,7 +209,6 @@ safe_looped_room fifo r byte reported w e =
         settled = w.settled;
         no_other = no_other-next r.queue new r.marks Waiting w.no_other;
         legal = legal-next r.queue new refl w.legal;
-        levels = w.levels;
         idle = zero-le;
       };
       number = refl;
@@ -196,11 +216,12 @@ safe_looped_room fifo r byte reported w e =
       limit = refl;
     }
 
-safe_looped_lost : (fifo : Bool) (r : ReceiverState) → IsSoundReceiver fifo r → Safe fifo r.arrived r (record r { is_overrun = true; timeout_ticks = 0; is_stray_lost = false })
+safe_looped_lost : (fifo : Bool) (r : ReceiverState) → IsSoundReceiver fifo r →
+    Safe fifo r.arrived r (record r { is_overrun = true; timeout_ticks = 0; is_stray_lost = false })
 safe_looped_lost fifo r w = record {
   sound = record {
     marked = record {
-      wait = all_wait-found r.arrived r.marks r.is_stray_lost r.queue w.marked.wait;
+      wait = all_in_queue-found r.arrived r.marks r.is_stray_lost r.queue w.marked.wait;
       distinct = w.marked.distinct;
       to_come = w.marked.to_come;
       in_room = w.marked.in_room;
@@ -209,7 +230,6 @@ safe_looped_lost fifo r w = record {
     settled = w.settled;
     no_other = w.no_other;
     legal = w.legal;
-    levels = w.levels;
     idle = zero-le;
   };
   number = refl;
@@ -230,7 +250,7 @@ safe_looped_replaced fifo r byte old w e =
     let new : Character = record { byte = byte; errors = 0; origin = Looped } in
     let marks : List ArrivalMark = set_mark old.origin Dropped r.marks in
     let same : length marks ≡ length r.marks = length-set_mark old.origin Dropped r.marks in
-    let waits : AllWait r.arrived r.marks r.is_stray_lost (old ∷ []) = rw e at w.marked.wait in
+    let waits : AllInQueue r.arrived r.marks r.is_stray_lost (old ∷ []) = rw e at w.marked.wait in
     let others : NoOther (old ∷ []) r.marks = rw e at w.no_other in
     let one : length (old ∷ []) ≤ room fifo = rw e at w.marked.in_room in
     record {
@@ -245,7 +265,6 @@ safe_looped_replaced fifo r byte old w e =
         settled = settled-set r.arrived r.marks old.origin Dropped (λ e. cc) w.settled;
         no_other = no_other-next [] new marks Waiting (no_other-rest old [] r.marks Dropped (λ e. cc) others);
         legal = (refl, tt);
-        levels = w.levels;
         idle = zero-le;
       };
       number = refl;
@@ -253,7 +272,8 @@ safe_looped_replaced fifo r byte old w e =
       limit = refl;
     }
 
-pub safe_come_back : (fifo : Bool) (place : Option ℕ) (r : ReceiverState) → IsSoundReceiver fifo r → Safe fifo r.arrived r (come_back fifo place r)
+pub safe_come_back : (fifo : Bool) (place : Option ℕ) (r : ReceiverState) → IsSoundReceiver fifo r →
+    Safe fifo r.arrived r (come_back fifo place r)
 safe_come_back fifo None r w = record { sound = w; number = refl; known = refl; limit = refl }
 safe_come_back fifo (Some byte) r w =
     safe_if fifo r.arrived r _ _ (nat_lt (length r.queue) (room fifo)) (safe_looped_room fifo r byte _ w)
@@ -287,7 +307,6 @@ safe_tick fifo place r w = idle (come_back fifo place r) (safe_come_back fifo pl
         settled = a.sound.settled;
         no_other = a.sound.no_other;
         legal = a.sound.legal;
-        levels = a.sound.levels;
         idle = omega arith;
       };
       number = a.number;
@@ -306,7 +325,7 @@ safe_take_front fifo r w = go r.queue refl
         rw f (record { sound = w; number = refl; known = refl; limit = refl })
     go (front ∷ others) e =
         let f : take_front r.queue r ≡ take_front (front ∷ others) r = ap (λ (xs : List Character). take_front xs r) e in
-        let waits : AllWait r.arrived r.marks r.is_stray_lost (front ∷ others) = rw e at w.marked.wait in
+        let waits : AllInQueue r.arrived r.marks r.is_stray_lost (front ∷ others) = rw e at w.marked.wait in
         let distinct : Distinct (front ∷ others) = rw e at w.marked.distinct in
         let rest : NoOther (front ∷ others) r.marks = rw e at w.no_other in
         let legal : AllErrorsLegal (front ∷ others) = rw e at w.legal in
@@ -315,7 +334,7 @@ safe_take_front fifo r w = go r.queue refl
         rw f (record {
           sound = record {
             marked = record {
-              wait = all_wait-set_mark r.arrived r.marks r.is_stray_lost front.origin Read others distinct.0 waits.1;
+              wait = all_in_queue-set_mark r.arrived r.marks r.is_stray_lost front.origin Read others distinct.0 waits.1;
               distinct = distinct.1;
               to_come = to_come-set r.arrived r.marks r.marks r.is_stray_lost front.origin Read waits.0 w.marked.to_come;
               in_room = omega (arith, few);
@@ -324,7 +343,6 @@ safe_take_front fifo r w = go r.queue refl
             settled = settled-set r.arrived r.marks front.origin Read (λ e. cc) w.settled;
             no_other = no_other-rest front others r.marks Read (λ e. cc) rest;
             legal = legal.1;
-            levels = w.levels;
             idle = zero-le;
           };
           number = refl;
@@ -338,14 +356,18 @@ length-discard : (queue : List Character) (marks : List ArrivalMark) → length 
 length-discard [] marks = refl
 length-discard (x ∷ xs) marks = length-discard xs (set_mark x.origin Discarded marks) ∙ length-set_mark x.origin Discarded marks
 
-to_come-discard : (queue : List Character) (arrived : ℕ) (marks old : List ArrivalMark) (stray : Bool) → AllWait arrived old stray queue → ToCome arrived marks → ToCome arrived (discard queue marks)
+to_come-discard : (queue : List Character) (arrived : ℕ) (marks old : List ArrivalMark) (stray : Bool) →
+    AllInQueue arrived old stray queue → ToCome arrived marks → ToCome arrived (discard queue marks)
 to_come-discard [] arrived marks old stray w h = h
 to_come-discard (x ∷ xs) arrived marks old stray w h =
-    to_come-discard xs arrived (set_mark x.origin Discarded marks) old stray w.1 (to_come-set arrived marks old stray x.origin Discarded w.0 h)
+    to_come-discard xs arrived (set_mark x.origin Discarded marks) old stray w.1
+    (to_come-set arrived marks old stray x.origin Discarded w.0 h)
 
-settled-discard : (queue : List Character) (arrived : ℕ) (marks : List ArrivalMark) → Settled arrived marks → Settled arrived (discard queue marks)
+settled-discard : (queue : List Character) (arrived : ℕ) (marks : List ArrivalMark) → Settled arrived marks →
+    Settled arrived (discard queue marks)
 settled-discard [] arrived marks h = h
-settled-discard (x ∷ xs) arrived marks h = settled-discard xs arrived (set_mark x.origin Discarded marks) (settled-set arrived marks x.origin Discarded (λ e. cc) h)
+settled-discard (x ∷ xs) arrived marks h =
+    settled-discard xs arrived (set_mark x.origin Discarded marks) (settled-set arrived marks x.origin Discarded (λ e. cc) h)
 
 no_other-discard : (queue : List Character) (marks : List ArrivalMark) → NoOther queue marks → NoOther [] (discard queue marks)
 no_other-discard [] marks h = h
@@ -367,7 +389,6 @@ safe_clear fifo on r w =
         settled = settled-discard r.queue r.arrived r.marks w.settled;
         no_other = no_other-discard r.queue r.marks w.no_other;
         legal = tt;
-        levels = w.levels;
         idle = w.idle;
       };
       number = refl;
@@ -379,20 +400,31 @@ safe_clear fifo on r w =
 
 pub sound_report : (fifo : Bool) (r : ReceiverState) → IsSoundReceiver fifo r → IsSoundReceiver fifo (report r)
 sound_report fifo r w = record {
-  marked = record { wait = w.marked.wait; distinct = w.marked.distinct; to_come = w.marked.to_come; in_room = w.marked.in_room; counted = w.marked.counted };
+  marked = record {
+    wait = w.marked.wait;
+    distinct = w.marked.distinct;
+    to_come = w.marked.to_come;
+    in_room = w.marked.in_room;
+    counted = w.marked.counted;
+  };
   settled = w.settled;
   no_other = w.no_other;
   legal = w.legal;
-  levels = w.levels;
   idle = w.idle;
 }
 
-pub sound_trigger : (fifo : Bool) (r : ReceiverState) (n : ℕ) → IsTrigger n → IsSoundReceiver fifo r → IsSoundReceiver fifo (record r { trigger = n })
-sound_trigger fifo r n l w = record {
-  marked = record { wait = w.marked.wait; distinct = w.marked.distinct; to_come = w.marked.to_come; in_room = w.marked.in_room; counted = w.marked.counted };
+pub sound_trigger : (fifo : Bool) (r : ReceiverState) (level : FifoTriggerLevel) → IsSoundReceiver fifo r →
+    IsSoundReceiver fifo (record r { trigger = level })
+sound_trigger fifo r level w = record {
+  marked = record {
+    wait = w.marked.wait;
+    distinct = w.marked.distinct;
+    to_come = w.marked.to_come;
+    in_room = w.marked.in_room;
+    counted = w.marked.counted;
+  };
   settled = w.settled;
   no_other = w.no_other;
   legal = w.legal;
-  levels = l;
   idle = w.idle;
 }

@@ -1,12 +1,14 @@
 -- What a stretch of a session does to the receiver: characters come in and are taken, and a drop shows in the overrun flag.
-use Rattle.std.proofs.Common.{◌≡◌, ◌≢◌, ℕ, ◌+◌, ◌≤◌, Bool, true, false, not, ◌||◌, ◌⊎◌, inl, inr, List, [], ◌++◌, length, length-append, append-nil, refl, arith, sym, ◌∙◌, bit_or}
+use Rattle.std.proofs.Common.{◌≡◌, ◌≢◌, ℕ, ◌+◌, ◌≤◌, Bool, true, false, not, ◌||◌, ◌⊎◌, inl, inr, List, [], ◌++◌, length, length-append}
+use Rattle.std.proofs.Common.{append-nil, refl, arith, sym, ◌∙◌, bit_or}
 use Rattle.std.specs.List.{filter}
 use Rattle.uart_chip.specs.declared.event.ArrivalMark.{ArrivalMark}
 use Rattle.uart_chip.specs.declared.event.ArrivalMark.TheVariants.{Pending, Waiting, Read, Discarded, Dropped}
 use Rattle.uart_chip.specs.declared.receiver.Character.{Character}
 use Rattle.uart_chip.specs.declared.receiver.Origin.{Origin}
 use Rattle.uart_chip.specs.declared.receiver.Origin.TheVariants.{Arrived, Looped}
-use Rattle.uart_chip.specs.Registers.{has_any}
+use Rattle.uart_spec.specs.Bits.{has_any}
+use Rattle.uart_spec.specs.declared.registers.line_status.TheConstants.LSR
 use Rattle.uart_chip.specs.Receiver.{ReceiverState, mark_at, set_mark}
 use Rattle.uart_device.specs.Sound.{IsMarked}
 use Rattle.uart_device.specs.Conserved.{is_dropped, origin_stands, stands}
@@ -51,7 +53,8 @@ dropped_is Discarded e = absurd (cc)
 dropped_is Dropped e = refl
 
 -- a mark is set that is none of a drop
-pub no_drop-set : (r s : ReceiverState) (o : Origin) (m : ArrivalMark) → m ≢ Dropped → s.marks ≡ set_mark o m r.marks → s.is_stray_lost ≡ r.is_stray_lost → Drop r s → ⊥
+pub no_drop-set : (r s : ReceiverState) (o : Origin) (m : ArrivalMark) → m ≢ Dropped → s.marks ≡ set_mark o m r.marks →
+    s.is_stray_lost ≡ r.is_stray_lost → Drop r s → ⊥
 no_drop-set r s o m new marks stray d = go d.origin d.stood d.lost
   where
     go : (from : Origin) → origin_stands r.marks r.is_stray_lost from ≡ true → origin_stands s.marks s.is_stray_lost from ≡ false → ⊥
@@ -64,7 +67,7 @@ no_drop-set r s o m new marks stray d = go d.origin d.stood d.lost
 
 -- these bits of the line status show it, or it would still be shown
 abbrev pub Shows : ℕ → ReceiverState → Type 0
-Shows seen r = (has_any seen 2 ≡ true) ⊎ (r.is_overrun ≡ true)
+Shows seen r = (has_any seen LSR.OVERRUN_ERROR.0 ≡ true) ⊎ (r.is_overrun ≡ true)
 
 -- it was pending, or a drop lies between
 abbrev pub Owed : ReceiverState → ReceiverState → Type 0
@@ -91,14 +94,15 @@ or_either : (a b : Bool) → (a || b) ≡ true → (a ≡ true) ⊎ (b ≡ true)
 or_either true b e = inl refl
 or_either false b e = inr e
 
-pub shows_first : (a b : ℕ) (r : ReceiverState) → has_any a 2 ≡ true → Shows (bit_or a b) r
-shows_first a b r e = inl (has_or 1 a b ∙ or_left (has_any a 2) (has_any b 2) e)
+pub shows_first : (a b : ℕ) (r : ReceiverState) → has_any a LSR.OVERRUN_ERROR.0 ≡ true → Shows (bit_or a b) r
+shows_first a b r e = inl (has_or 1 a b ∙ or_left (has_any a LSR.OVERRUN_ERROR.0) (has_any b LSR.OVERRUN_ERROR.0) e)
 
 pub shows_second : (a b : ℕ) (r : ReceiverState) → Shows b r → Shows (bit_or a b) r
-shows_second a b r (inl e) = inl (has_or 1 a b ∙ or_right (has_any a 2) (has_any b 2) e)
+shows_second a b r (inl e) = inl (has_or 1 a b ∙ or_right (has_any a LSR.OVERRUN_ERROR.0) (has_any b LSR.OVERRUN_ERROR.0) e)
 shows_second a b r (inr e) = inr e
 
-pub receives-trans : (fifo : Bool) (r s t : ReceiverState) (f g xs ys : List Character) (a b : ℕ) → Receives fifo r s f xs a → Receives fifo s t g ys b →
+pub receives-trans : (fifo : Bool) (r s t : ReceiverState) (f g xs ys : List Character) (a b : ℕ) → Receives fifo r s f xs a →
+    Receives fifo s t g ys b →
     Receives fifo r t (f ++ g) (xs ++ ys) (bit_or a b)
 receives-trans fifo r s t f g xs ys a b p q = record {
   number = simp length-append (omega (arith, p.number, q.number));
@@ -129,9 +133,9 @@ receives-trans fifo r s t f g xs ys a b p q = record {
     from_second (inr h) = inr (drop_second fifo r s t f xs p.moved h)
 
     owed_then : Shows (bit_or a b) t → Owed r t
-    owed_then (inl h) = either (or_either (has_any a 2) (has_any b 2) (sym (has_or 1 a b) ∙ h))
+    owed_then (inl h) = either (or_either (has_any a LSR.OVERRUN_ERROR.0) (has_any b LSR.OVERRUN_ERROR.0) (sym (has_or 1 a b) ∙ h))
       where
-        either : (has_any a 2 ≡ true) ⊎ (has_any b 2 ≡ true) → Owed r t
+        either : (has_any a LSR.OVERRUN_ERROR.0 ≡ true) ⊎ (has_any b LSR.OVERRUN_ERROR.0 ≡ true) → Owed r t
         either (inl h) = from_first (p.was_owed (inl h))
         either (inr h) = from_second (q.was_owed (inl h))
     owed_then (inr h) = from_second (q.was_owed (inr h))
@@ -147,7 +151,8 @@ pub record SameCharacters (r s : ReceiverState) : Type 0 where
 
 moved_same : (fifo : Bool) (r s : ReceiverState) → IsMarked fifo r → SameCharacters r s → Moved fifo r s [] []
 moved_same fifo r s w k = record {
-  stay = let all : filter (stands s) r.queue ≡ r.queue = filter-waits s r.arrived r.queue (rw (k.marks, k.stray) w.wait) in rw (k.queue, append-nil r.queue) all;
+  stay = let all : filter (stands s) r.queue ≡ r.queue =
+      filter-waits s r.arrived r.queue (rw (k.marks, k.stray) w.wait) in rw (k.queue, append-nil r.queue) all;
   falls = λ o h. rw (k.marks, k.stray) at h;
   final = λ o h. same_final o h;
   taken_final = tt;
@@ -177,7 +182,8 @@ receives-same fifo r s seen w k f g = record {
     to (inr h) = absurd (no_drop-same r s k.marks k.stray h)
 
 -- the overrun flag stays too, and the line status is not read
-pub receives-still : (fifo : Bool) (r s : ReceiverState) → IsMarked fifo r → SameCharacters r s → s.is_overrun ≡ r.is_overrun → Receives fifo r s [] [] 0
+pub receives-still : (fifo : Bool) (r s : ReceiverState) → IsMarked fifo r → SameCharacters r s → s.is_overrun ≡ r.is_overrun →
+    Receives fifo r s [] [] 0
 receives-still fifo r s w k e = receives-same fifo r s 0 w k (λ h. inr (e ∙ h)) (λ h. back h)
   where
     back : Shows 0 s → r.is_overrun ≡ true

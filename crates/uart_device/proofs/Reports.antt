@@ -1,14 +1,16 @@
 -- What a stretch of a session tells of line errors: those of each character that is taken were shown by a look, or had been shown before.
-use Rattle.std.proofs.Common.{◌≡◌, ℕ, ◌+◌, ◌<◌, min, max, Bool, true, false, ◌==◌, ◌⊎◌, inl, inr, nat_lt, List, [], ◌∷◌, ◌++◌, length, Option, Some, refl, arith, sym, ◌∙◌, ap, subst, if◌then◌else◌, bit_and, bit_or}
+use Rattle.std.proofs.Common.{◌≡◌, ℕ, ◌+◌, ◌<◌, min, max, Bool, true, false, ◌==◌, ◌⊎◌, inl, inr, nat_lt, List, [], ◌∷◌, ◌++◌, length}
+use Rattle.std.proofs.Common.{Option, Some, refl, arith, sym, ◌∙◌, ap, subst, if◌then◌else◌, bit_and, bit_or}
 use Rattle.std.proofs.lemmas.Grind.{common_steps}
 use Rattle.std.proofs.lemmas.Nat.{and_assoc}
 use Rattle.std.proofs.lemmas.Nat.Bits.{same_from_bits, bit_at_or, bit_at_and}
 use Rattle.std.specs.Int.{bit_at}
 use Rattle.std.specs.Int.Bits.{and_self}
 use lib.Bits.{or_zero_r}
+use Rattle.uart_spec.specs.declared.registers.line_status.TheConstants.LSR
 use Rattle.uart_chip.specs.declared.receiver.Character.{Character}
 use Rattle.uart_chip.specs.declared.receiver.Origin.TheVariants.{Arrived}
-use Rattle.uart_chip.specs.Registers.{IsWithin}
+use Rattle.uart_chip.specs.Masks.{IsWithin}
 use Rattle.uart_chip.specs.Transmitter.{room}
 use Rattle.uart_chip.specs.Receiver.{ReceiverState, front_errors, arrive, replace, report, take_front}
 use Rattle.uart_chip.specs.Chip.{ChipState, line_status}
@@ -73,7 +75,8 @@ told-more : (old : Option Character) (a b : ℕ) (f : Character) → Told old a 
 told-more old a b f (inl e) = inl e
 told-more old a b f (inr e) = inr (within-left f.errors a b e)
 
-taken_told-more : (fifo : Bool) (old : Option Character) (a b : ℕ) (s t : ReceiverState) → (s.is_overrun ≡ true → Shows b t) → (fs : List Character) →
+taken_told-more : (fifo : Bool) (old : Option Character) (a b : ℕ) (s t : ReceiverState) → (s.is_overrun ≡ true → Shows b t) →
+    (fs : List Character) →
     TakenTold fifo old a s fs → TakenTold fifo old (bit_or a b) t fs
 taken_told-more fifo old a b s t h [] k = tt
 taken_told-more fifo old a b s t h (f ∷ fs) k = (one k.0, taken_told-more fifo old a b s t h fs k.1)
@@ -86,19 +89,22 @@ taken_told-more fifo old a b s t h (f ∷ fs) k = (one k.0, taken_told-more fifo
     one (inl e) = inl (told-more old a b f e)
     one (inr e) = inr (e.0, shown e.1)
 
-taken_told-append : (fifo : Bool) (old : Option Character) (seen : ℕ) (s : ReceiverState) (fs gs : List Character) → TakenTold fifo old seen s fs → TakenTold fifo old seen s gs →
+taken_told-append : (fifo : Bool) (old : Option Character) (seen : ℕ) (s : ReceiverState) (fs gs : List Character) →
+    TakenTold fifo old seen s fs → TakenTold fifo old seen s gs →
     TakenTold fifo old seen s (fs ++ gs)
 taken_told-append fifo old seen s [] gs h k = k
 taken_told-append fifo old seen s (f ∷ fs) gs h k = (h.0, taken_told-append fifo old seen s fs gs h.1 k)
 
 -- the overrun flag at s is shown from there on
-pub reports-trans : (fifo : Bool) (r s t : ReceiverState) (xs ys : List Character) (a b : ℕ) → (s.is_overrun ≡ true → Shows b t) → Reports fifo r s xs a → Reports fifo s t ys b →
+pub reports-trans : (fifo : Bool) (r s t : ReceiverState) (xs ys : List Character) (a b : ℕ) → (s.is_overrun ≡ true → Shows b t) →
+    Reports fifo r s xs a → Reports fifo s t ys b →
     Reports fifo r t (xs ++ ys) (bit_or a b)
 reports-trans fifo r s t xs ys a b later p q = record {
   still = λ e h. q.still (second xs e) (p.still (first xs e) h);
   front = λ old before h. rw (← or_assoc before a b) (q.front old (bit_or before a) (p.front old before h));
   taken = λ old before h. rw (← or_assoc before a b) (taken_told-append fifo old (bit_or (bit_or before a) b) t xs ys
-      (taken_told-more fifo old (bit_or before a) b s t later xs (p.taken old before h)) (q.taken old (bit_or before a) (p.front old before h)));
+      (taken_told-more fifo old (bit_or before a) b s t later xs (p.taken old before h))
+      (q.taken old (bit_or before a) (p.front old before h)));
 }
   where
     first : (xs : List Character) → xs ++ ys ≡ [] → xs ≡ []
@@ -113,7 +119,8 @@ reports-trans fifo r s t xs ys a b later p q = record {
 
 -- a front that is reported afterwards was the front and reported before
 pub reports-from : (fifo : Bool) (r s : ReceiverState) → (IsReported fifo r → IsReported fifo s) →
-    ((f : Character) (others : List Character) → s.is_front_reported ≡ true → s.queue ≡ f ∷ others → (r.is_front_reported ≡ true) × ((rest : List Character) × (r.queue ≡ f ∷ rest))) →
+    ((f : Character) (others : List Character) → s.is_front_reported ≡ true → s.queue ≡ f ∷ others →
+    (r.is_front_reported ≡ true) × ((rest : List Character) × (r.queue ≡ f ∷ rest))) →
     Reports fifo r s [] 0
 reports-from fifo r s still back = record {
   still = λ e h. still h;
@@ -121,8 +128,11 @@ reports-from fifo r s still back = record {
   taken = λ old before h. tt;
 }
 
-pub reports-same : (fifo : Bool) (r s : ReceiverState) → s.queue ≡ r.queue → s.is_front_reported ≡ r.is_front_reported → s.is_overrun ≡ r.is_overrun → Reports fifo r s [] 0
-reports-same fifo r s i p o = reports-from fifo r s (λ h. record { some = rw i h.some; reported = rw (p, o) h.reported }) (λ f others e j. (sym p ∙ e, (others, sym i ∙ j)))
+pub reports-same : (fifo : Bool) (r s : ReceiverState) → s.queue ≡ r.queue → s.is_front_reported ≡ r.is_front_reported →
+    s.is_overrun ≡ r.is_overrun → Reports fifo r s [] 0
+reports-same fifo r s i p o =
+    reports-from fifo r s (λ h. record { some = rw i h.some; reported = rw (p, o) h.reported })
+    (λ f others e j. (sym p ∙ e, (others, sym i ∙ j)))
 
 pub reports-refl : (fifo : Bool) (r : ReceiverState) → Reports fifo r r [] 0
 reports-refl fifo r = reports-same fifo r r refl refl refl
@@ -142,7 +152,8 @@ reports-room fifo r s new i p o = reports-from fifo r s (λ h. still r.queue ref
         let same : s.is_front_reported ≡ r.is_front_reported = p ∙ rw (q, some_first front rest) refl in
         record { some = rw (i, q) (omega arith); reported = rw (same, o) h.reported }
 
-    back : (queue : List Character) → r.queue ≡ queue → (f : Character) (others : List Character) → s.is_front_reported ≡ true → s.queue ≡ f ∷ others →
+    back : (queue : List Character) → r.queue ≡ queue → (f : Character) (others : List Character) → s.is_front_reported ≡ true →
+        s.queue ≡ f ∷ others →
         (r.is_front_reported ≡ true) × ((rest : List Character) × (r.queue ≡ f ∷ rest))
     back [] q f others e j = let x : false ≡ true = rw q at (sym p ∙ e) in absurd (cc)
     back (front ∷ rest) q f others e j =
@@ -152,14 +163,19 @@ reports-room fifo r s new i p o = reports-from fifo r s (λ h. still r.queue ref
         (x, (rest, q ∙ ap (λ v. v ∷ rest) z))
 
 reports-full : (r s : ReceiverState) → s.queue ≡ r.queue → s.is_front_reported ≡ r.is_front_reported → Reports true r s [] 0
-reports-full r s i p = reports-from true r s (λ h. record { some = rw i h.some; reported = kept h.reported }) (λ f others e j. (sym p ∙ e, (others, sym i ∙ j)))
+reports-full r s i p =
+    reports-from true r s (λ h. record { some = rw i h.some; reported = kept h.reported })
+    (λ f others e j. (sym p ∙ e, (others, sym i ∙ j)))
   where
-    kept : (r.is_front_reported ≡ true) ⊎ ((true ≡ false) × (r.is_overrun ≡ true)) → (s.is_front_reported ≡ true) ⊎ ((true ≡ false) × (s.is_overrun ≡ true))
+    kept : (r.is_front_reported ≡ true) ⊎ ((true ≡ false) × (r.is_overrun ≡ true)) →
+        (s.is_front_reported ≡ true) ⊎ ((true ≡ false) × (s.is_overrun ≡ true))
     kept (inl e) = inl (p ∙ e)
     kept (inr e) = absurd (cc (e.0))
 
-reports-replaced : (r s : ReceiverState) (new : Character) → s.queue ≡ new ∷ [] → s.is_front_reported ≡ false → s.is_overrun ≡ true → Reports false r s [] 0
-reports-replaced r s new i p o = reports-from false r s (λ h. record { some = rw i (omega arith); reported = inr (refl, o) }) (λ f others e j. absurd (cc))
+reports-replaced : (r s : ReceiverState) (new : Character) → s.queue ≡ new ∷ [] → s.is_front_reported ≡ false → s.is_overrun ≡ true →
+    Reports false r s [] 0
+reports-replaced r s new i p o =
+    reports-from false r s (λ h. record { some = rw i (omega arith); reported = inr (refl, o) }) (λ f others e j. absurd (cc))
 
 pub reports-arrive : (fifo : Bool) (r : ReceiverState) (byte errors : ℕ) → Reports fifo r (arrive false fifo byte errors r) [] 0
 reports-arrive fifo r byte errors = go (nat_lt (length r.queue) (room fifo)) refl
@@ -169,12 +185,15 @@ reports-arrive fifo r byte errors = go (nat_lt (length r.queue) (room fifo)) ref
     full false q e = rw (e, q) (swap r.queue refl (rw q at e))
       where
         swap : (queue : List Character) → r.queue ≡ queue → nat_lt (length r.queue) 1 ≡ false →
-            Reports false r (replace r.queue (record { byte = byte; errors = errors; origin = Arrived r.arrived }) (record r { arrived = r.arrived + 1 })) [] 0
+            Reports false r
+            (replace r.queue (record { byte = byte; errors = errors; origin = Arrived r.arrived })
+            (record r { arrived = r.arrived + 1 })) [] 0
         swap [] i e = let h : nat_lt 0 1 ≡ false = rw i at e in absurd (cc)
         swap (old ∷ others) i e =
             let later : ReceiverState = record r { arrived = r.arrived + 1 } in
             let came : Character = record { byte = byte; errors = errors; origin = Arrived r.arrived } in
-            let f : replace r.queue came later ≡ replace (old ∷ others) came later = ap (λ (xs : List Character). replace xs came later) i in
+            let f : replace r.queue came later ≡ replace (old ∷ others) came later =
+            ap (λ (xs : List Character). replace xs came later) i in
             rw f (reports-replaced r (replace (old ∷ others) came later) came refl refl refl)
 
     go : (b : Bool) → nat_lt (length r.queue) (room fifo) ≡ b → Reports fifo r (arrive false fifo byte errors r) [] 0
@@ -198,28 +217,31 @@ status_errors c =
     within-left e _ _ (within-right e _ _ (within-left e e _ (and_self e)))
 
 pub reports-look : (fifo : Bool) (c : ChipState) (line : ℕ) → AllErrorsLegal c.receiver.queue → line ≡ line_status c →
-    Reports fifo c.receiver (report c.receiver) [] (bit_or (bit_and line 30) 0)
+    Reports fifo c.receiver (report c.receiver) [] (bit_or (bit_and line LSR.LINE_ERRORS.0) 0)
 reports-look fifo c line legal l = record {
   still = λ e h. report_reported fifo c.receiver h.some;
   front = λ old before h. record { told = λ f others e i. go c.receiver.is_front_reported refl old before h f others i };
   taken = λ old before h. tt;
 }
   where
-    go : (b : Bool) → c.receiver.is_front_reported ≡ b → (old : Option Character) (before : ℕ) → FrontTold old before c.receiver → (f : Character) (others : List Character) →
-        c.receiver.queue ≡ f ∷ others → Told old (bit_or before (bit_or (bit_and line 30) 0)) f
-    go true q old before h f others i = told-more old before (bit_or (bit_and line 30) 0) f (h.told f others q i)
+    go : (b : Bool) → c.receiver.is_front_reported ≡ b → (old : Option Character) (before : ℕ) → FrontTold old before c.receiver →
+        (f : Character) (others : List Character) →
+        c.receiver.queue ≡ f ∷ others → Told old (bit_or before (bit_or (bit_and line LSR.LINE_ERRORS.0) 0)) f
+    go true q old before h f others i = told-more old before (bit_or (bit_and line LSR.LINE_ERRORS.0) 0) f (h.told f others q i)
     go false q old before h f others i =
         let legals : AllErrorsLegal (f ∷ others) = rw i at legal in
         let few : IsWithin f.errors 28 = legals.0 in
         let shown : front_errors c.receiver.queue c.receiver.is_front_reported ≡ f.errors = rw (q, i) few in
         let held : IsWithin f.errors line = rw l (subst (λ e. IsWithin e (line_status c)) shown (status_errors c)) in
-        let saved : IsWithin f.errors 30 = within-left f.errors 28 2 few in
-        let all : IsWithin f.errors (bit_and line 30) = within-both f.errors line 30 held saved in
-        inr (within-right f.errors before (bit_or (bit_and line 30) 0) (within-left f.errors (bit_and line 30) 0 all))
+        let saved : IsWithin f.errors LSR.LINE_ERRORS.0 = within-left f.errors LSR.CHARACTER_ERRORS.0 LSR.OVERRUN_ERROR.0 few in
+        let all : IsWithin f.errors (bit_and line LSR.LINE_ERRORS.0) = within-both f.errors line LSR.LINE_ERRORS.0 held saved in
+        inr (within-right f.errors before (bit_or (bit_and line LSR.LINE_ERRORS.0) 0)
+        (within-left f.errors (bit_and line LSR.LINE_ERRORS.0) 0 all))
 
 -- ---- the front is taken
 
-pub reports-front : (fifo : Bool) (r : ReceiverState) (front : Character) (others : List Character) → IsReported fifo r → r.queue ≡ front ∷ others →
+pub reports-front : (fifo : Bool) (r : ReceiverState) (front : Character) (others : List Character) → IsReported fifo r →
+    r.queue ≡ front ∷ others →
     Reports fifo r (take_front (front ∷ others) r) (front ∷ []) 0
 reports-front fifo r front others w i = record {
   still = λ e h. absurd (cc);
@@ -227,7 +249,8 @@ reports-front fifo r front others w i = record {
   taken = λ old before h. (rw (or_zero_r before) (one old before h w.reported), tt);
 }
   where
-    one : (old : Option Character) (before : ℕ) → FrontTold old before r → (r.is_front_reported ≡ true) ⊎ ((fifo ≡ false) × (r.is_overrun ≡ true)) →
+    one : (old : Option Character) (before : ℕ) → FrontTold old before r →
+        (r.is_front_reported ≡ true) ⊎ ((fifo ≡ false) × (r.is_overrun ≡ true)) →
         Told old before front ⊎ ((fifo ≡ false) × Shows before (take_front (front ∷ others) r))
     one old before h (inl e) = inl (h.told front others e i)
     one old before h (inr e) = inr (e.0, inr e.1)

@@ -1,5 +1,6 @@
 -- What a stretch of a session does to the transmitter: bytes are written, move on, and none is lost.
-use Rattle.std.proofs.Common.{◌≡◌, ℕ, ◌+◌, ◌≤◌, ◌<◌, Bool, false, List, [], ◌∷◌, ◌++◌, length, length-append, append_assoc, append-nil, Option, Some, None, refl, arith, sym, ◌∙◌, ap}
+use Rattle.std.proofs.Common.{◌≡◌, ℕ, ◌+◌, ◌≤◌, ◌<◌, Bool, false, List, [], ◌∷◌, ◌++◌, length, length-append, append_assoc, append-nil}
+use Rattle.std.proofs.Common.{Option, Some, None, refl, arith, sym, ◌∙◌, ap}
 use Rattle.std.proofs.lemmas.Grind.{common_steps}
 use Rattle.uart_chip.specs.declared.transmitter.Shifting.{Shifting}
 use Rattle.uart_chip.specs.Transmitter.{TransmitterState, shift, refill, tick, load, out, room}
@@ -34,7 +35,8 @@ sends-shift (Some s) t e = record {
   place = grind (arith, common_steps);
 }
 
-sends-refill : (place : Option Shifting) (queue : List ℕ) (t : TransmitterState) → t.shift_place ≡ place → t.queue ≡ queue → Sends t (refill place queue t) []
+sends-refill : (place : Option Shifting) (queue : List ℕ) (t : TransmitterState) → t.shift_place ≡ place → t.queue ≡ queue →
+    Sends t (refill place queue t) []
 sends-refill (Some s) queue t e f = sends-refl t
 sends-refill None [] t e f = sends-refl t
 sends-refill None (x ∷ []) t e f = record {

@@ -1,22 +1,29 @@
 -- Every event and every access leaves a machine sound.
-use Rattle.std.proofs.Common.{◌≡◌, ℕ, zero, suc, ◌+◌, ◌*◌, ◌<◌, Bool, true, false, ◌==◌, nat_lt, List, [], ◌∷◌, length, Option, Some, None, refl, arith, sym, ◌∙◌, ap, bit_and, inl, inr, if◌then◌else◌}
+use Rattle.std.proofs.Common.{◌≡◌, ℕ, zero, suc, ◌+◌, ◌*◌, ◌<◌, Bool, true, false, ◌==◌, nat_lt, List, [], ◌∷◌, length, Option, Some, None}
+use Rattle.std.proofs.Common.{refl, arith, sym, ◌∙◌, ap, bit_and, if◌then◌else◌}
 use Rattle.std.proofs.lemmas.Grind.{common_steps}
-use Rattle.uart_chip.specs.declared.chip.Latches.{Latches}
 use Rattle.uart_chip.specs.declared.event.Chip.{Chip}
 use Rattle.uart_chip.specs.declared.event.Chip.TheVariants.{Uart16550A, Uart16450}
 use Rattle.uart_chip.specs.declared.event.Event.{Event}
 use Rattle.uart_chip.specs.declared.event.Event.TheVariants.{Ticks, Arrive, Lines, Access as Gate, Mark}
 use Rattle.uart_spec.specs.Access.{Access, Read, Write, Path}
-use Rattle.uart_chip.specs.Registers.{has_any, IsWithin, offset_data, offset_ier, offset_isr, offset_fcr, offset_lcr, offset_mcr, offset_lsr, offset_msr, offset_scr, ier_bits, mcr_bits, isr_thr_empty, fcr_enable, fcr_receiver_reset, fcr_transmitter_reset, fcr_trigger, lsr_character_errors, msr_lines}
+use Rattle.uart_spec.specs.Bits.{has_any}
+use Rattle.uart_spec.specs.declared.registers.fifo_control.TheConstants.FCR
+use Rattle.uart_spec.specs.declared.registers.line_status.TheConstants.LSR
+use Rattle.uart_spec.specs.declared.registers.modem_status.TheConstants.MSR
+use Rattle.uart_spec.specs.declared.registers.offsets.TheConstants as offsets
+use Rattle.uart_chip.specs.Masks.{IsWithin, ier_bits, mcr_bits}
 use Rattle.uart_chip.specs.declared.transmitter.Shifting.{Shifting}
 use Rattle.uart_chip.specs.Transmitter as transmitter
 use Rattle.uart_chip.specs.Transmitter.{TransmitterState, looped_byte, load}
 use Rattle.uart_chip.specs.Receiver as receiver
 use Rattle.uart_chip.specs.Receiver.{ReceiverState, take_front, report, clear}
 use Rattle.uart_chip.specs.Modem.{renew}
-use Rattle.uart_chip.specs.Chip.{ChipState, cut_of, is_dlab_set, is_loopback, tick, ticks, arrive, change_lines, interrupt, after_read, after_write, trigger_of, switch, reset_receiver, reset_transmitter, set_trigger, is_same, set_fifo, control, with_latches, enable}
+use Rattle.uart_chip.specs.Chip.{LatchesState, ChipState, cut_of, is_dlab_set, is_loopback, tick, ticks, arrive, change_lines, interrupt}
+use Rattle.uart_chip.specs.Chip.{is_thr_empty, after_read, after_write, trigger_level, switch, reset_receiver, reset_transmitter}
+use Rattle.uart_chip.specs.Chip.{set_trigger, is_same, set_fifo, control, with_latches, enable, control_modem}
 use Rattle.uart_chip.specs.Machine.{MachineState, MachineStep, arrivals, perform, at_access, at_mark}
-use Rattle.uart_device.specs.Sound.{IsTrigger, IsSoundTransmitter, IsSoundLatches, IsSoundChip, HoldBytes, AllLegal, IsSound, IsWhole}
+use Rattle.uart_device.specs.Sound.{IsSoundTransmitter, IsSoundLatches, IsSoundChip, HoldBytes, AllLegal, IsSound, IsWhole}
 use Rattle.uart_device.proofs.Within.{within_and, within-le}
 use Rattle.uart_device.proofs.ReceiverSounds.{Safe, safe_tick, safe_arrive, safe_take_front, safe_clear, sound_report, sound_trigger}
 use Rattle.uart_device.proofs.TransmitterSounds.{sound_tick as sound_shift_tick, sound_load, sound_clear, sound_pending, sound_renew}
@@ -27,7 +34,8 @@ pub record Steady (arrived : ℕ) (c d : ChipState) : Type 0 where
   pub number : d.receiver.arrived ≡ arrived
   pub known : length d.receiver.marks ≡ length c.receiver.marks
 
-pub steady_if : (arrived : ℕ) (c x y : ChipState) (b : Bool) → Steady arrived c x → Steady arrived c y → Steady arrived c (if b then x else y)
+pub steady_if : (arrived : ℕ) (c x y : ChipState) (b : Bool) → Steady arrived c x → Steady arrived c y →
+    Steady arrived c (if b then x else y)
 steady_if arrived c x y true p q = p
 steady_if arrived c x y false p q = q
 
@@ -40,7 +48,8 @@ steady_trans arrived c d e p q = record { sound = q.sound; number = q.number ∙
 -- ---- one part changes
 
 -- the receiver
-pub steady_receiver : (arrived : ℕ) (c : ChipState) (s : ReceiverState) → IsSoundChip c → Safe c.fifo arrived c.receiver s → Steady arrived c (record c { receiver = s })
+pub steady_receiver : (arrived : ℕ) (c : ChipState) (s : ReceiverState) → IsSoundChip c → Safe c.fifo arrived c.receiver s →
+    Steady arrived c (record c { receiver = s })
 steady_receiver arrived c s w a = record {
   sound = record {
     receiver = a.sound;
@@ -55,7 +64,8 @@ steady_receiver arrived c s w a = record {
 }
 
 -- the transmitter
-pub steady_transmitter : (c : ChipState) (t : TransmitterState) → IsSoundChip c → IsSoundTransmitter c.fifo t → t.char_ticks ≡ c.transmitter.char_ticks →
+pub steady_transmitter : (c : ChipState) (t : TransmitterState) → IsSoundChip c → IsSoundTransmitter c.fifo t →
+    t.char_ticks ≡ c.transmitter.char_ticks →
     Steady c.receiver.arrived c (record c { transmitter = t })
 steady_transmitter c t w a e = record {
   sound = record {
@@ -71,9 +81,16 @@ steady_transmitter c t w a e = record {
 }
 
 -- the latches
-pub steady_latches : (c : ChipState) (l : Latches) → IsSoundChip c → IsSoundLatches l → Steady c.receiver.arrived c (with_latches l c)
+pub steady_latches : (c : ChipState) (l : LatchesState) → IsSoundChip c → IsSoundLatches l → Steady c.receiver.arrived c (with_latches l c)
 steady_latches c l w a = record {
-  sound = record { receiver = w.receiver; transmitter = w.transmitter; modem = w.modem; latches = a; implemented = w.implemented; limit = w.limit };
+  sound = record {
+    receiver = w.receiver;
+    transmitter = w.transmitter;
+    modem = w.modem;
+    latches = a;
+    implemented = w.implemented;
+    limit = w.limit;
+  };
   number = refl;
   known = refl;
 }
@@ -81,16 +98,19 @@ steady_latches c l w a = record {
 -- ---- events
 
 -- a tick
-char_ticks-shift : (loopback : Bool) (place : Option Shifting) (t : TransmitterState) → (transmitter.shift loopback place t).char_ticks ≡ t.char_ticks
+char_ticks-shift : (loopback : Bool) (place : Option Shifting) (t : TransmitterState) →
+    (transmitter.shift loopback place t).char_ticks ≡ t.char_ticks
 char_ticks-shift loopback None t = refl
 char_ticks-shift loopback (Some s) t =
     either _ _ (nat_lt 1 s.ticks_left) refl (either _ _ loopback refl (either _ _ (nat_lt (length t.wire) t.capacity) refl refl))
   where
-    either : (x y : TransmitterState) (b : Bool) → x.char_ticks ≡ t.char_ticks → y.char_ticks ≡ t.char_ticks → (if b then x else y).char_ticks ≡ t.char_ticks
+    either : (x y : TransmitterState) (b : Bool) → x.char_ticks ≡ t.char_ticks → y.char_ticks ≡ t.char_ticks →
+        (if b then x else y).char_ticks ≡ t.char_ticks
     either x y true p q = p
     either x y false p q = q
 
-char_ticks-refill : (place : Option Shifting) (queue : List ℕ) (t : TransmitterState) → (transmitter.refill place queue t).char_ticks ≡ t.char_ticks
+char_ticks-refill : (place : Option Shifting) (queue : List ℕ) (t : TransmitterState) →
+    (transmitter.refill place queue t).char_ticks ≡ t.char_ticks
 char_ticks-refill (Some s) queue t = refl
 char_ticks-refill None [] t = refl
 char_ticks-refill None (x ∷ []) t = refl
@@ -114,17 +134,21 @@ steady_tick c w =
 
 pub steady_ticks : (n : ℕ) (c : ChipState) → IsSoundChip c → Steady c.receiver.arrived c (ticks n c)
 steady_ticks zero c w = steady_refl c w
-steady_ticks (suc n) c w = let a = steady_ticks n c w in steady_trans c.receiver.arrived c (ticks n c) (ticks (suc n) c) a (steady_tick (ticks n c) a.sound)
+steady_ticks (suc n) c w =
+    let a = steady_ticks n c w in steady_trans c.receiver.arrived c (ticks n c) (ticks (suc n) c) a (steady_tick (ticks n c) a.sound)
 
 -- an arrival
-pub steady_arrive : (byte errors : ℕ) (c : ChipState) → IsSoundChip c → c.receiver.arrived < length c.receiver.marks → IsWithin errors lsr_character_errors →
+pub steady_arrive : (byte errors : ℕ) (c : ChipState) → IsSoundChip c → c.receiver.arrived < length c.receiver.marks →
+    IsWithin errors LSR.CHARACTER_ERRORS.0 →
     Steady (c.receiver.arrived + 1) c (arrive byte errors c)
 steady_arrive byte errors c w k l =
     let loopback : Bool = is_loopback c.latches in
-    steady_receiver (c.receiver.arrived + 1) c (receiver.arrive loopback c.fifo (cut_of c byte) errors c.receiver) w (safe_arrive loopback c.fifo c.receiver (cut_of c byte) errors w.receiver k l)
+    steady_receiver (c.receiver.arrived + 1) c (receiver.arrive loopback c.fifo (cut_of c byte) errors c.receiver) w
+    (safe_arrive loopback c.fifo c.receiver (cut_of c byte) errors w.receiver k l)
 
 -- a change of the lines
-pub steady_lines : (inputs : ℕ) (c : ChipState) → IsSoundChip c → IsWithin inputs msr_lines → Steady c.receiver.arrived c (change_lines inputs c)
+pub steady_lines : (inputs : ℕ) (c : ChipState) → IsSoundChip c → IsWithin inputs MSR.LINES.0 →
+    Steady c.receiver.arrived c (change_lines inputs c)
 steady_lines inputs c w i = record {
   sound = record {
     receiver = w.receiver;
@@ -143,12 +167,17 @@ steady_lines inputs c w i = record {
 pub steady_read : (offset : ℕ) (c : ChipState) → IsSoundChip c → Steady c.receiver.arrived c (after_read offset c)
 steady_read offset c w =
     let n : ℕ = c.receiver.arrived in
-    steady_if n c _ _ (offset == offset_data)
-    (steady_if n c _ _ (is_dlab_set c.latches) (steady_refl c w) (steady_receiver n c (take_front c.receiver.queue c.receiver) w (safe_take_front c.fifo c.receiver w.receiver)))
-    (steady_if n c _ _ (offset == offset_isr)
-    (steady_if n c _ _ (interrupt c == isr_thr_empty) (steady_transmitter c (record c.transmitter { is_thr_pending = false }) w (sound_pending c.fifo false c.transmitter w.transmitter) refl) (steady_refl c w))
-    (steady_if n c _ _ (offset == offset_lsr) (steady_receiver n c (report c.receiver) w (record { sound = sound_report c.fifo c.receiver w.receiver; number = refl; known = refl; limit = refl }))
-    (steady_if n c _ _ (offset == offset_msr) (unchanged) (steady_refl c w))))
+    steady_if n c _ _ (offset == offsets.DATA)
+    (steady_if n c _ _ (is_dlab_set c.latches) (steady_refl c w)
+    (steady_receiver n c (take_front c.receiver.queue c.receiver) w (safe_take_front c.fifo c.receiver w.receiver)))
+    (steady_if n c _ _ (offset == offsets.ISR)
+    (steady_if n c _ _ (is_thr_empty (interrupt c))
+    (steady_transmitter c (record c.transmitter { is_thr_pending = false }) w
+    (sound_pending c.fifo false c.transmitter w.transmitter) refl) (steady_refl c w))
+    (steady_if n c _ _ (offset == offsets.LSR)
+    (steady_receiver n c (report c.receiver) w
+    (record { sound = sound_report c.fifo c.receiver w.receiver; number = refl; known = refl; limit = refl }))
+    (steady_if n c _ _ (offset == offsets.MSR) (unchanged) (steady_refl c w))))
   where
     unchanged : Steady c.receiver.arrived c (record c { modem = record c.modem { deltas = 0 } })
     unchanged = record {
@@ -165,15 +194,6 @@ steady_read offset c w =
     }
 
 -- ---- the FIFO control register
-
-trigger_levels : (value : ℕ) → IsTrigger (trigger_of value)
-trigger_levels value = go (bit_and value fcr_trigger == 0) (bit_and value fcr_trigger == 64) (bit_and value fcr_trigger == 128)
-  where
-    go : (a b d : Bool) → IsTrigger (if a then 1 else if b then 4 else if d then 8 else 14)
-    go true b d = inl refl
-    go false true d = inr (inl refl)
-    go false false true = inr (inr (inl refl))
-    go false false false = inr (inr (inr refl))
 
 pub steady_switch : (on : Bool) (c : ChipState) → IsSoundChip c → c.model ≡ Uart16550A → Steady c.receiver.arrived c (switch on c)
 steady_switch on c w has_fifo =
@@ -194,23 +214,33 @@ steady_switch on c w has_fifo =
 pub steady_fifo : (value : ℕ) (c : ChipState) → IsSoundChip c → c.model ≡ Uart16550A → Steady c.receiver.arrived c (set_fifo value c)
 steady_fifo value c w has_fifo =
     let n : ℕ = c.receiver.arrived in
-    let on : Bool = has_any value fcr_enable in
+    let on : Bool = has_any value FCR.FIFO_ENABLE.0 in
     let d : ChipState = if is_same c.fifo on then c else switch on c in
     let a : Steady n c d = steady_if n c c (switch on c) (is_same c.fifo on) (steady_refl c w) (steady_switch on c w has_fifo) in
     let e : ChipState = reset_receiver value d in
     let b : Steady d.receiver.arrived d e =
-    steady_if d.receiver.arrived d (record d { receiver = clear d.receiver }) d (has_any value fcr_receiver_reset)
-    (steady_receiver d.receiver.arrived d (clear d.receiver) a.sound (safe_clear d.fifo d.fifo d.receiver a.sound.receiver)) (steady_refl d a.sound) in
+    steady_if d.receiver.arrived d (record d { receiver = clear d.receiver }) d (has_any value FCR.RX_FIFO_RESET.0)
+    (steady_receiver d.receiver.arrived d (clear d.receiver) a.sound (safe_clear d.fifo d.fifo d.receiver a.sound.receiver))
+    (steady_refl d a.sound) in
     let f : ChipState = reset_transmitter value e in
     let g : Steady e.receiver.arrived e f =
-    steady_if e.receiver.arrived e (record e { transmitter = record e.transmitter { queue = []; is_thr_pending = true } }) e (has_any value fcr_transmitter_reset)
-    (steady_transmitter e (record e.transmitter { queue = []; is_thr_pending = true }) b.sound (sound_clear e.fifo e.fifo true e.transmitter b.sound.transmitter) refl) (steady_refl e b.sound) in
-    let h : Steady f.receiver.arrived f (set_trigger (trigger_of value) f) =
-    steady_receiver f.receiver.arrived f (record f.receiver { trigger = trigger_of value }) g.sound
-    (record { sound = sound_trigger f.fifo f.receiver (trigger_of value) (trigger_levels value) g.sound.receiver; number = refl; known = refl; limit = refl }) in
-    steady_if n c (set_trigger (trigger_of value) f) d on (steady_trans n c d _ a (steady_trans d.receiver.arrived d e _ b (steady_trans e.receiver.arrived e f _ g h))) a
+    steady_if e.receiver.arrived e (record e { transmitter = record e.transmitter { queue = []; is_thr_pending = true } }) e
+    (has_any value FCR.TX_FIFO_RESET.0)
+    (steady_transmitter e (record e.transmitter { queue = []; is_thr_pending = true }) b.sound
+    (sound_clear e.fifo e.fifo true e.transmitter b.sound.transmitter) refl) (steady_refl e b.sound) in
+    let h : Steady f.receiver.arrived f (set_trigger (trigger_level value) f) =
+    steady_receiver f.receiver.arrived f (record f.receiver { trigger = trigger_level value }) g.sound
+    (record {
+      sound = sound_trigger f.fifo f.receiver (trigger_level value) g.sound.receiver;
+      number = refl;
+      known = refl;
+      limit = refl;
+    }) in
+    steady_if n c (set_trigger (trigger_level value) f) d on
+    (steady_trans n c d _ a (steady_trans d.receiver.arrived d e _ b (steady_trans e.receiver.arrived e f _ g h))) a
 
-steady_control : (model : Chip) (value : ℕ) (c : ChipState) → IsSoundChip c → c.model ≡ model → Steady c.receiver.arrived c (control model value c)
+steady_control : (model : Chip) (value : ℕ) (c : ChipState) → IsSoundChip c → c.model ≡ model →
+    Steady c.receiver.arrived c (control model value c)
 steady_control Uart16450 value c w e = steady_refl c w
 steady_control Uart16550A value c w e = steady_fifo value c w e
 
@@ -231,7 +261,7 @@ steady_enable value c w = record {
 }
 
 steady_modem_control : (value : ℕ) (c : ChipState) → IsSoundChip c →
-    Steady c.receiver.arrived c (record c { latches = record c.latches { mcr = bit_and value mcr_bits }; modem = renew (bit_and value mcr_bits) c.modem })
+    Steady c.receiver.arrived c (control_modem (bit_and value mcr_bits) c)
 steady_modem_control value c w = record {
   sound = record {
     receiver = w.receiver;
@@ -249,66 +279,70 @@ pub steady_write : (offset value : ℕ) (c : ChipState) → IsSoundChip c → St
 steady_write offset value c w =
     let n : ℕ = c.receiver.arrived in
     let same : IsSoundLatches c.latches = w.latches in
-    let still : (l : Latches) → l.ier ≡ c.latches.ier → l.mcr ≡ c.latches.mcr → Steady n c (with_latches l c) = λ l p q. steady_latches c l w (kept l p q) in
-    steady_if n c _ _ (offset == offset_data)
-    (steady_if n c _ _ (is_dlab_set c.latches) (still _ refl refl) (steady_transmitter c (load c.fifo (cut_of c value) c.transmitter) w (sound_load c.fifo (cut_of c value) c.transmitter w.transmitter) (char_ticks-load c.fifo (cut_of c value) c.transmitter)))
-    (steady_if n c _ _ (offset == offset_ier) (steady_if n c _ _ (is_dlab_set c.latches) (still _ refl refl) (steady_enable value c w))
-    (steady_if n c _ _ (offset == offset_fcr) (steady_control c.model value c w refl)
-    (steady_if n c _ _ (offset == offset_lcr) (still _ refl refl)
-    (steady_if n c _ _ (offset == offset_mcr) (steady_modem_control value c w)
-    (steady_if n c _ _ (offset == offset_scr) (still _ refl refl) (steady_refl c w))))))
+    let still : (l : LatchesState) → l.ier ≡ c.latches.ier → l.mcr ≡ c.latches.mcr → Steady n c (with_latches l c) =
+    λ l p q. steady_latches c l w (kept l p q) in
+    steady_if n c _ _ (offset == offsets.DATA)
+    (steady_if n c _ _ (is_dlab_set c.latches) (still _ refl refl)
+    (steady_transmitter c (load c.fifo (cut_of c value) c.transmitter) w
+    (sound_load c.fifo (cut_of c value) c.transmitter w.transmitter) (char_ticks-load c.fifo (cut_of c value) c.transmitter)))
+    (steady_if n c _ _ (offset == offsets.IER) (steady_if n c _ _ (is_dlab_set c.latches) (still _ refl refl) (steady_enable value c w))
+    (steady_if n c _ _ (offset == offsets.FCR) (steady_control c.model value c w refl)
+    (steady_if n c _ _ (offset == offsets.LCR) (still _ refl refl)
+    (steady_if n c _ _ (offset == offsets.MCR) (steady_modem_control value c w)
+    (steady_if n c _ _ (offset == offsets.SPR) (still _ refl refl) (steady_refl c w))))))
   where
-    kept : (l : Latches) → l.ier ≡ c.latches.ier → l.mcr ≡ c.latches.mcr → IsSoundLatches l
+    kept : (l : LatchesState) → l.ier ≡ c.latches.ier → l.mcr ≡ c.latches.mcr → IsSoundLatches l
     kept l p q = record { ier = rw p w.latches.ier; mcr = rw q w.latches.mcr }
 
     char_ticks-load : (fifo : Bool) (byte : ℕ) (t : TransmitterState) → (load fifo byte t).char_ticks ≡ t.char_ticks
     char_ticks-load fifo byte t = either _ _ (nat_lt (length t.queue) (transmitter.room fifo)) refl refl
       where
-        either : (x y : TransmitterState) (b : Bool) → x.char_ticks ≡ t.char_ticks → y.char_ticks ≡ t.char_ticks → (if b then x else y).char_ticks ≡ t.char_ticks
+        either : (x y : TransmitterState) (b : Bool) → x.char_ticks ≡ t.char_ticks → y.char_ticks ≡ t.char_ticks →
+            (if b then x else y).char_ticks ≡ t.char_ticks
         either x y true p q = p
         either x y false p q = q
 
 -- ---- the machine
 
 -- a move that brings no arrival
-sound_steady : (c d : ChipState) (events : List Event) → Steady c.receiver.arrived c d → c.receiver.arrived + arrivals events ≡ length c.receiver.marks → AllLegal events →
+sound_steady : (c d : ChipState) (events : List Event) → Steady c.receiver.arrived c d →
+    c.receiver.arrived + arrivals events ≡ length c.receiver.marks → AllLegal events →
     IsSound (record { chip = d; ahead = events })
 sound_steady c d events s f l = record { chip = s.sound; foreseen = omega (arith, s.number, s.known, f); legal = l }
 
 -- one event is performed
-pub sound_perform : (event : Event) (events : List Event) (c : ChipState) → IsSound (record { chip = c; ahead = event ∷ events }) → IsSound (record { chip = perform event c; ahead = events })
-sound_perform (Ticks n) events c w = sound_steady c (ticks n c) events (steady_ticks n c w.chip) w.foreseen w.legal
+pub sound_perform : (event : Event) (events : List Event) (c : ChipState) → IsSound (record { chip = c; ahead = event ∷ events }) →
+    IsSound (record { chip = perform event c; ahead = events })
+sound_perform (Ticks n) events c w = sound_steady c (ticks n c) events (steady_ticks n c w.chip) w.foreseen w.legal.1
 sound_perform (Arrive byte errors) events c w =
     let within : c.receiver.arrived < length c.receiver.marks = omega (arith, w.foreseen) in
     let a = steady_arrive byte errors c w.chip within w.legal.0 in
     record { chip = a.sound; foreseen = omega (arith, a.number, a.known, w.foreseen); legal = w.legal.1 }
-sound_perform (Lines inputs) events c w = sound_steady c (change_lines inputs c) events (steady_lines inputs c w.chip w.legal.0) w.foreseen w.legal.1
-sound_perform Gate events c w = record { chip = w.chip; foreseen = w.foreseen; legal = w.legal }
-sound_perform Mark events c w = record { chip = w.chip; foreseen = w.foreseen; legal = w.legal }
+sound_perform (Lines inputs) events c w =
+    sound_steady c (change_lines inputs c) events (steady_lines inputs c w.chip w.legal.0) w.foreseen w.legal.1
+sound_perform _ events c w = record { chip = w.chip; foreseen = w.foreseen; legal = w.legal.1 }
 
-pub sound_tick : (events : List Event) (c : ChipState) → IsSound (record { chip = c; ahead = events }) → IsSound (record { chip = tick c; ahead = events })
+pub sound_tick : (events : List Event) (c : ChipState) → IsSound (record { chip = c; ahead = events }) →
+    IsSound (record { chip = tick c; ahead = events })
 sound_tick events c w = sound_steady c (tick c) events (steady_tick c w.chip) w.foreseen w.legal
 
 -- an access performs the events before it
-pub sound_before : (events : List Event) (c : ChipState) → IsSound (record { chip = c; ahead = events }) → IsSound (at_access (record { chip = c; ahead = events }))
+pub sound_before : (events : List Event) (c : ChipState) → IsSound (record { chip = c; ahead = events }) →
+    IsSound (at_access (record { chip = c; ahead = events }))
 sound_before [] c w = sound_tick [] c w
-sound_before (Ticks n ∷ events) c w = sound_before events (ticks n c) (sound_perform (Ticks n) events c w)
-sound_before (Arrive byte errors ∷ events) c w = sound_before events (arrive byte errors c) (sound_perform (Arrive byte errors) events c w)
-sound_before (Lines inputs ∷ events) c w = sound_before events (change_lines inputs c) (sound_perform (Lines inputs) events c w)
 sound_before (Gate ∷ events) c w = sound_perform Gate events c w
 sound_before (Mark ∷ events) c w = sound_tick (Mark ∷ events) c w
+sound_before (event ∷ events) c w = sound_before events (perform event c) (sound_perform event events c w)
 
 pub sound_access : (m : MachineState) → IsSound m → IsSound (at_access m)
 sound_access m w = sound_before m.ahead m.chip (record { chip = w.chip; foreseen = w.foreseen; legal = w.legal })
 
 -- the events up to the next Mark are performed
-pub sound_before_mark : (events : List Event) (c : ChipState) → IsSound (record { chip = c; ahead = events }) → IsSound (at_mark (record { chip = c; ahead = events }))
+pub sound_before_mark : (events : List Event) (c : ChipState) → IsSound (record { chip = c; ahead = events }) →
+    IsSound (at_mark (record { chip = c; ahead = events }))
 sound_before_mark [] c w = w
-sound_before_mark (Ticks n ∷ events) c w = sound_before_mark events (ticks n c) (sound_perform (Ticks n) events c w)
-sound_before_mark (Arrive byte errors ∷ events) c w = sound_before_mark events (arrive byte errors c) (sound_perform (Arrive byte errors) events c w)
-sound_before_mark (Lines inputs ∷ events) c w = sound_before_mark events (change_lines inputs c) (sound_perform (Lines inputs) events c w)
-sound_before_mark (Gate ∷ events) c w = sound_before_mark events c (sound_perform Gate events c w)
 sound_before_mark (Mark ∷ events) c w = sound_perform Mark events c w
+sound_before_mark (event ∷ events) c w = sound_before_mark events (perform event c) (sound_perform event events c w)
 
 pub sound_mark : (m : MachineState) → IsSound m → IsSound (at_mark m)
 sound_mark m w = sound_before_mark m.ahead m.chip (record { chip = w.chip; foreseen = w.foreseen; legal = w.legal })
@@ -317,7 +351,8 @@ pub sound_read : (offset : ℕ) (m : MachineState) → IsSound m → IsSound (re
 sound_read offset m w = sound_steady m.chip (after_read offset m.chip) m.ahead (steady_read offset m.chip w.chip) w.foreseen w.legal
 
 pub sound_write : (offset value : ℕ) (m : MachineState) → IsSound m → IsSound (record m { chip = after_write offset value m.chip })
-sound_write offset value m w = sound_steady m.chip (after_write offset value m.chip) m.ahead (steady_write offset value m.chip w.chip) w.foreseen w.legal
+sound_write offset value m w =
+    sound_steady m.chip (after_write offset value m.chip) m.ahead (steady_write offset value m.chip w.chip) w.foreseen w.legal
 
 -- one access, and a list of them
 pub sound_step : (m n : MachineState) (access : Access) → IsSound m → MachineStep m access n → IsSound n
@@ -336,10 +371,7 @@ latches-ticks (suc n) c = latches-ticks n c
 
 pub latches-perform : (event : Event) (c : ChipState) → (perform event c).latches ≡ c.latches
 latches-perform (Ticks n) c = latches-ticks n c
-latches-perform (Arrive byte errors) c = refl
-latches-perform (Lines inputs) c = refl
-latches-perform Gate c = refl
-latches-perform Mark c = refl
+latches-perform _ c = refl
 
 latches_if : (c x y : ChipState) (b : Bool) → x.latches ≡ c.latches → y.latches ≡ c.latches → (if b then x else y).latches ≡ c.latches
 latches_if c x y true p q = p
@@ -347,20 +379,23 @@ latches_if c x y false p q = q
 
 pub latches-read : (offset : ℕ) (c : ChipState) → (after_read offset c).latches ≡ c.latches
 latches-read offset c =
-    latches_if c _ _ (offset == offset_data) (latches_if c _ _ (is_dlab_set c.latches) refl refl)
-    (latches_if c _ _ (offset == offset_isr) (latches_if c _ _ (interrupt c == isr_thr_empty) refl refl)
-    (latches_if c _ _ (offset == offset_lsr) refl (latches_if c _ _ (offset == offset_msr) refl refl)))
+    latches_if c _ _ (offset == offsets.DATA) (latches_if c _ _ (is_dlab_set c.latches) refl refl)
+    (latches_if c _ _ (offset == offsets.ISR) (latches_if c _ _ (is_thr_empty (interrupt c)) refl refl)
+    (latches_if c _ _ (offset == offsets.LSR) refl (latches_if c _ _ (offset == offsets.MSR) refl refl)))
 
 latches-fifo : (value : ℕ) (c : ChipState) → (set_fifo value c).latches ≡ c.latches
 latches-fifo value c =
-    let on : Bool = has_any value fcr_enable in
+    let on : Bool = has_any value FCR.FIFO_ENABLE.0 in
     let d : ChipState = if is_same c.fifo on then c else switch on c in
     let a : d.latches ≡ c.latches = latches_if c c (switch on c) (is_same c.fifo on) refl refl in
     let e : ChipState = reset_receiver value d in
-    let b : e.latches ≡ d.latches = latches_if d (record d { receiver = clear d.receiver }) d (has_any value fcr_receiver_reset) refl refl in
+    let b : e.latches ≡ d.latches =
+    latches_if d (record d { receiver = clear d.receiver }) d (has_any value FCR.RX_FIFO_RESET.0) refl refl in
     let f : ChipState = reset_transmitter value e in
-    let g : f.latches ≡ e.latches = latches_if e (record e { transmitter = record e.transmitter { queue = []; is_thr_pending = true } }) e (has_any value fcr_transmitter_reset) refl refl in
-    latches_if c (set_trigger (trigger_of value) f) d on (g ∙ (b ∙ a)) a
+    let g : f.latches ≡ e.latches =
+    latches_if e (record e { transmitter = record e.transmitter { queue = []; is_thr_pending = true } }) e
+    (has_any value FCR.TX_FIFO_RESET.0) refl refl in
+    latches_if c (set_trigger (trigger_level value) f) d on (g ∙ (b ∙ a)) a
 
 latches-control : (model : Chip) (value : ℕ) (c : ChipState) → (control model value c).latches ≡ c.latches
 latches-control Uart16450 value c = refl
@@ -370,19 +405,21 @@ bytes_if : (x y : ChipState) (b : Bool) → HoldBytes x.latches → HoldBytes y.
 bytes_if x y true p q = p
 bytes_if x y false p q = q
 
-bytes_same : (l k : Latches) → k ≡ l → HoldBytes l → HoldBytes k
+bytes_same : (l k : LatchesState) → k ≡ l → HoldBytes l → HoldBytes k
 bytes_same l k e w = rw e w
 
 bytes-write : (offset value : ℕ) (c : ChipState) → value < 256 → HoldBytes c.latches → HoldBytes (after_write offset value c).latches
 bytes-write offset value c v w =
-    bytes_if _ _ (offset == offset_data) (bytes_if _ _ (is_dlab_set c.latches) (record { ier = w.ier; lcr = w.lcr; mcr = w.mcr; scr = w.scr; dll = v; dlm = w.dlm }) w)
-    (bytes_if _ _ (offset == offset_ier)
+    bytes_if _ _ (offset == offsets.DATA)
+    (bytes_if _ _ (is_dlab_set c.latches) (record { ier = w.ier; lcr = w.lcr; mcr = w.mcr; scr = w.scr; dll = v; dlm = w.dlm }) w)
+    (bytes_if _ _ (offset == offsets.IER)
     (bytes_if _ _ (is_dlab_set c.latches) (record { ier = w.ier; lcr = w.lcr; mcr = w.mcr; scr = w.scr; dll = w.dll; dlm = v })
     (record { ier = below value ier_bits refl; lcr = w.lcr; mcr = w.mcr; scr = w.scr; dll = w.dll; dlm = w.dlm }))
-    (bytes_if _ _ (offset == offset_fcr) (bytes_same c.latches (control c.model value c).latches (latches-control c.model value c) w)
-    (bytes_if _ _ (offset == offset_lcr) (record { ier = w.ier; lcr = v; mcr = w.mcr; scr = w.scr; dll = w.dll; dlm = w.dlm })
-    (bytes_if _ _ (offset == offset_mcr) (record { ier = w.ier; lcr = w.lcr; mcr = below value mcr_bits refl; scr = w.scr; dll = w.dll; dlm = w.dlm })
-    (bytes_if _ _ (offset == offset_scr) (record { ier = w.ier; lcr = w.lcr; mcr = w.mcr; scr = v; dll = w.dll; dlm = w.dlm }) w)))))
+    (bytes_if _ _ (offset == offsets.FCR) (bytes_same c.latches (control c.model value c).latches (latches-control c.model value c) w)
+    (bytes_if _ _ (offset == offsets.LCR) (record { ier = w.ier; lcr = v; mcr = w.mcr; scr = w.scr; dll = w.dll; dlm = w.dlm })
+    (bytes_if _ _ (offset == offsets.MCR)
+    (record { ier = w.ier; lcr = w.lcr; mcr = below value mcr_bits refl; scr = w.scr; dll = w.dll; dlm = w.dlm })
+    (bytes_if _ _ (offset == offsets.SPR) (record { ier = w.ier; lcr = w.lcr; mcr = w.mcr; scr = v; dll = w.dll; dlm = w.dlm }) w)))))
   where
     below : (value mask : ℕ) → nat_lt mask 256 ≡ true → bit_and value mask < 256
     below value mask e =
@@ -391,14 +428,25 @@ bytes-write offset value c v w =
 
 -- ---- what holds of every machine
 
-pub whole_perform : (event : Event) (events : List Event) (c : ChipState) → IsWhole (record { chip = c; ahead = event ∷ events }) → IsWhole (record { chip = perform event c; ahead = events })
-whole_perform event events c w = record { sound = sound_perform event events c w.sound; bytes = bytes_same c.latches (perform event c).latches (latches-perform event c) w.bytes }
+pub whole_perform : (event : Event) (events : List Event) (c : ChipState) → IsWhole (record { chip = c; ahead = event ∷ events }) →
+    IsWhole (record { chip = perform event c; ahead = events })
+whole_perform event events c w =
+    record {
+      sound = sound_perform event events c w.sound;
+      bytes = bytes_same c.latches (perform event c).latches (latches-perform event c) w.bytes;
+    }
 
-pub whole_tick : (events : List Event) (c : ChipState) → IsWhole (record { chip = c; ahead = events }) → IsWhole (record { chip = tick c; ahead = events })
+pub whole_tick : (events : List Event) (c : ChipState) → IsWhole (record { chip = c; ahead = events }) →
+    IsWhole (record { chip = tick c; ahead = events })
 whole_tick events c w = record { sound = sound_tick events c w.sound; bytes = w.bytes }
 
 pub whole_read : (offset : ℕ) (m : MachineState) → IsWhole m → IsWhole (record m { chip = after_read offset m.chip })
-whole_read offset m w = record { sound = sound_read offset m w.sound; bytes = bytes_same m.chip.latches (after_read offset m.chip).latches (latches-read offset m.chip) w.bytes }
+whole_read offset m w =
+    record {
+      sound = sound_read offset m w.sound;
+      bytes = bytes_same m.chip.latches (after_read offset m.chip).latches (latches-read offset m.chip) w.bytes;
+    }
 
-pub whole_write : (offset value : ℕ) (m : MachineState) → value < 256 → IsWhole m → IsWhole (record m { chip = after_write offset value m.chip })
+pub whole_write : (offset value : ℕ) (m : MachineState) → value < 256 → IsWhole m →
+    IsWhole (record m { chip = after_write offset value m.chip })
 whole_write offset value m v w = record { sound = sound_write offset value m w.sound; bytes = bytes-write offset value m.chip v w.bytes }

@@ -4,35 +4,39 @@ use Rattle.std.specs.List.{list_any}
 use Rattle.std.specs.Int.{bit_at}
 use Rattle.std.proofs.lemmas.Grind.{common_steps}
 use Rattle.uart_chip.specs.declared.receiver.Character.{Character}
-use Rattle.uart_chip.specs.Registers.{has_any, flag}
+use Rattle.uart_spec.specs.Bits.{has_any, flag}
+use Rattle.uart_spec.specs.declared.registers.line_status.TheConstants.LSR
 use Rattle.uart_chip.specs.Receiver.{front_errors, unreported, has_errors}
 use Rattle.uart_chip.specs.Chip.{ChipState, line_status, is_transmitter_empty}
 use Rattle.uart_chip.proofs.Bits.{has_or, has_flag, has_none, has_not}
 
--- the errors of a character lie in bits 2 to 4
-front_errors-bit : (k : ℕ) → bit_at 28 k ≡ 0 → (queue : List Character) (reported : Bool) → has_any (front_errors queue reported) (2 ^ k) ≡ false
+-- no other bit is an error of a character
+front_errors-bit : (k : ℕ) → bit_at LSR.CHARACTER_ERRORS.0 k ≡ 0 → (queue : List Character) (reported : Bool) →
+    has_any (front_errors queue reported) (2 ^ k) ≡ false
 front_errors-bit k z [] reported = has_none k
 front_errors-bit k z (front ∷ others) true = has_none k
-front_errors-bit k z (front ∷ others) false = has_not k front.errors 28 z
+front_errors-bit k z (front ∷ others) false = has_not k front.errors LSR.CHARACTER_ERRORS.0 z
 
 -- flags put together as the line status is
 module _ (a b d f g : Bool) (e : ℕ) where
   whole : ℕ
-  whole = bit_or (bit_or (bit_or (flag a 1) (flag b 2)) (bit_or e (flag d 32))) (bit_or (flag f 64) (flag g 128))
+  whole =
+      bit_or (bit_or (bit_or (flag a LSR.DATA_READY.0) (flag b LSR.OVERRUN_ERROR.0)) (bit_or e (flag d LSR.THR_EMPTY.0)))
+      (bit_or (flag f LSR.TRANSMITTER_EMPTY.0) (flag g LSR.FIFO_DATA_ERROR.0))
 
-  line_data : has_any e 1 ≡ false → has_any whole 1 ≡ a
+  line_data : has_any e LSR.DATA_READY.0 ≡ false → has_any whole LSR.DATA_READY.0 ≡ a
   unfolding whole
   line_data z = simp (has_or 0, has_flag, z) (grind (arith, common_steps))
 
-  line_overrun : has_any e 2 ≡ false → has_any whole 2 ≡ b
+  line_overrun : has_any e LSR.OVERRUN_ERROR.0 ≡ false → has_any whole LSR.OVERRUN_ERROR.0 ≡ b
   unfolding whole
   line_overrun z = simp (has_or 1, has_flag, z) (grind (arith, common_steps))
 
-  line_room : has_any e 32 ≡ false → has_any whole 32 ≡ d
+  line_room : has_any e LSR.THR_EMPTY.0 ≡ false → has_any whole LSR.THR_EMPTY.0 ≡ d
   unfolding whole
   line_room z = simp (has_or 5, has_flag, z) (grind (arith, common_steps))
 
-  line_empty : has_any e 64 ≡ false → has_any whole 64 ≡ f
+  line_empty : has_any e LSR.TRANSMITTER_EMPTY.0 ≡ false → has_any whole LSR.TRANSMITTER_EMPTY.0 ≡ f
   unfolding whole
   line_empty z = simp (has_or 6, has_flag, z) (grind (arith, common_steps))
 
@@ -50,21 +54,29 @@ module _ (c : ChipState) where
   fifo_error = c.fifo && list_any has_errors (unreported c.receiver.queue c.receiver.is_front_reported)
 
   -- a character waits
-  pub status_data : has_any (line_status c) 1 ≡ nat_lt 0 (length c.receiver.queue)
+  pub status_data : has_any (line_status c) LSR.DATA_READY.0 ≡ nat_lt 0 (length c.receiver.queue)
   unfolding whole data_ready thr_empty all_empty fifo_error
-  status_data = line_data data_ready c.receiver.is_overrun thr_empty all_empty fifo_error _ (front_errors-bit 0 refl c.receiver.queue c.receiver.is_front_reported)
+  status_data =
+      line_data data_ready c.receiver.is_overrun thr_empty all_empty fifo_error _
+      (front_errors-bit 0 refl c.receiver.queue c.receiver.is_front_reported)
 
   -- the overrun flag is pending
-  pub status_overrun : has_any (line_status c) 2 ≡ c.receiver.is_overrun
+  pub status_overrun : has_any (line_status c) LSR.OVERRUN_ERROR.0 ≡ c.receiver.is_overrun
   unfolding whole data_ready thr_empty all_empty fifo_error
-  status_overrun = line_overrun data_ready c.receiver.is_overrun thr_empty all_empty fifo_error _ (front_errors-bit 1 refl c.receiver.queue c.receiver.is_front_reported)
+  status_overrun =
+      line_overrun data_ready c.receiver.is_overrun thr_empty all_empty fifo_error _
+      (front_errors-bit 1 refl c.receiver.queue c.receiver.is_front_reported)
 
   -- the transmitter's queue is empty
-  pub status_room : has_any (line_status c) 32 ≡ (length c.transmitter.queue == 0)
+  pub status_room : has_any (line_status c) LSR.THR_EMPTY.0 ≡ (length c.transmitter.queue == 0)
   unfolding whole data_ready thr_empty all_empty fifo_error
-  status_room = line_room data_ready c.receiver.is_overrun thr_empty all_empty fifo_error _ (front_errors-bit 5 refl c.receiver.queue c.receiver.is_front_reported)
+  status_room =
+      line_room data_ready c.receiver.is_overrun thr_empty all_empty fifo_error _
+      (front_errors-bit 5 refl c.receiver.queue c.receiver.is_front_reported)
 
   -- nothing is left to send
-  pub status_empty : has_any (line_status c) 64 ≡ is_transmitter_empty c.transmitter.queue c.transmitter.shift_place
+  pub status_empty : has_any (line_status c) LSR.TRANSMITTER_EMPTY.0 ≡ is_transmitter_empty c.transmitter.queue c.transmitter.shift_place
   unfolding whole data_ready thr_empty all_empty fifo_error
-  status_empty = line_empty data_ready c.receiver.is_overrun thr_empty all_empty fifo_error _ (front_errors-bit 6 refl c.receiver.queue c.receiver.is_front_reported)
+  status_empty =
+      line_empty data_ready c.receiver.is_overrun thr_empty all_empty fifo_error _
+      (front_errors-bit 6 refl c.receiver.queue c.receiver.is_front_reported)

@@ -1,15 +1,19 @@
 -- Whatever happens to a transmitter or to the modem lines, they stay sound.
-use Rattle.std.proofs.Common.{◌≡◌, ℕ, ◌-◌, ◌≤◌, ◌<◌, Bool, true, false, not, ◌&&◌, nat_lt, List, [], ◌∷◌, ◌++◌, length, Option, Some, None, refl, arith, length-append, if◌then◌else◌, zero-le}
+use Rattle.std.proofs.Common.{◌≡◌, ℕ, ◌-◌, ◌≤◌, ◌<◌, Bool, true, false, not, ◌&&◌, nat_lt, List, [], ◌∷◌, ◌++◌, length, Option, Some, None}
+use Rattle.std.proofs.Common.{refl, arith, length-append, if◌then◌else◌, zero-le}
 use Rattle.std.proofs.lemmas.Grind.{common_steps}
 use Rattle.uart_chip.specs.declared.transmitter.Shifting.{Shifting}
-use Rattle.uart_chip.specs.declared.modem.Modem.{Modem}
-use Rattle.uart_chip.specs.Registers.{has_any, IsWithin, mcr_dtr, mcr_rts, mcr_out_1, mcr_out_2, mcr_loopback, msr_delta_cts, msr_delta_dsr, msr_trailing_edge_ri, msr_delta_cd, msr_deltas, msr_cts, msr_dsr, msr_ri, msr_cd, msr_lines}
+use Rattle.uart_spec.specs.Bits.{has_any}
+use Rattle.uart_spec.specs.declared.registers.modem_control.TheConstants.MCR
+use Rattle.uart_spec.specs.declared.registers.modem_status.TheConstants.MSR
+use Rattle.uart_chip.specs.Masks.{IsWithin}
 use Rattle.uart_chip.specs.Transmitter.{TransmitterState, room, shift, refill, tick, load}
-use Rattle.uart_chip.specs.Modem.{looped_lines, lines_under, is_changed, changes, renew}
+use Rattle.uart_chip.specs.Modem.{ModemState, looped_lines, lines_under, is_changed, changes, renew}
 use Rattle.uart_device.specs.Sound.{IsTicking, IsSoundTransmitter, IsSoundModem}
 use Rattle.uart_device.proofs.Within.{within_or, within_flags}
 
-sound_if : (fifo : Bool) (x y : TransmitterState) (b : Bool) → (b ≡ true → IsSoundTransmitter fifo x) → (b ≡ false → IsSoundTransmitter fifo y) → IsSoundTransmitter fifo (if b then x else y)
+sound_if : (fifo : Bool) (x y : TransmitterState) (b : Bool) → (b ≡ true → IsSoundTransmitter fifo x) →
+    (b ≡ false → IsSoundTransmitter fifo y) → IsSoundTransmitter fifo (if b then x else y)
 sound_if fifo x y true p q = p refl
 sound_if fifo x y false p q = q refl
 
@@ -30,7 +34,8 @@ sound_sent fifo t byte w e = record {
     next : (wire : List ℕ) (n : ℕ) → nat_lt (length wire) n ≡ true → length (wire ++ byte ∷ []) ≤ n
     next wire n e = let free : length wire < n = grind (arith, common_steps) in simp length-append (omega arith)
 
-pub sound_shift : (fifo loopback : Bool) (place : Option Shifting) (t : TransmitterState) → t.shift_place ≡ place → IsSoundTransmitter fifo t → IsSoundTransmitter fifo (shift loopback place t)
+pub sound_shift : (fifo loopback : Bool) (place : Option Shifting) (t : TransmitterState) → t.shift_place ≡ place →
+    IsSoundTransmitter fifo t → IsSoundTransmitter fifo (shift loopback place t)
 sound_shift fifo loopback None t e w = w
 sound_shift fifo loopback (Some s) t e w =
     let ticking : IsTicking t.char_ticks (Some s) = rw e at w.ticking in
@@ -47,7 +52,8 @@ sound_shift fifo loopback (Some s) t e w =
     fewer : (left n : ℕ) → nat_lt 1 left ≡ true → left ≤ n → (1 ≤ left - 1) × (left - 1 ≤ n)
     fewer left n e h = let more : 1 < left = grind (arith, common_steps) in (omega arith, omega arith)
 
-pub sound_refill : (fifo : Bool) (place : Option Shifting) (queue : List ℕ) (t : TransmitterState) → t.queue ≡ queue → IsSoundTransmitter fifo t → IsSoundTransmitter fifo (refill place queue t)
+pub sound_refill : (fifo : Bool) (place : Option Shifting) (queue : List ℕ) (t : TransmitterState) → t.queue ≡ queue →
+    IsSoundTransmitter fifo t → IsSoundTransmitter fifo (refill place queue t)
 sound_refill fifo (Some s) queue t e w = w
 sound_refill fifo None [] t e w = w
 sound_refill fifo None (x ∷ []) t e w = record {
@@ -97,31 +103,39 @@ sound_load fifo byte t w =
     kept false h = omega arith
 
 -- an empty queue fits with FIFO or without
-pub sound_clear : (fifo on pending : Bool) (t : TransmitterState) → IsSoundTransmitter fifo t → IsSoundTransmitter on (record t { queue = []; is_thr_pending = pending })
-sound_clear fifo on pending t w = record { in_room = zero-le; ticking = w.ticking; at_least_one = w.at_least_one; at_most = w.at_most; on_wire = w.on_wire }
+pub sound_clear : (fifo on pending : Bool) (t : TransmitterState) → IsSoundTransmitter fifo t →
+    IsSoundTransmitter on (record t { queue = []; is_thr_pending = pending })
+sound_clear fifo on pending t w =
+    record { in_room = zero-le; ticking = w.ticking; at_least_one = w.at_least_one; at_most = w.at_most; on_wire = w.on_wire }
 
-pub sound_pending : (fifo pending : Bool) (t : TransmitterState) → IsSoundTransmitter fifo t → IsSoundTransmitter fifo (record t { is_thr_pending = pending })
-sound_pending fifo pending t w = record { in_room = w.in_room; ticking = w.ticking; at_least_one = w.at_least_one; at_most = w.at_most; on_wire = w.on_wire }
+pub sound_pending : (fifo pending : Bool) (t : TransmitterState) → IsSoundTransmitter fifo t →
+    IsSoundTransmitter fifo (record t { is_thr_pending = pending })
+sound_pending fifo pending t w =
+    record { in_room = w.in_room; ticking = w.ticking; at_least_one = w.at_least_one; at_most = w.at_most; on_wire = w.on_wire }
 
 -- ---- the modem lines
 
-lines-within : (mcr inputs : ℕ) → IsWithin inputs msr_lines → IsWithin (lines_under mcr inputs) msr_lines
-lines-within mcr inputs w = go (has_any mcr mcr_loopback)
+lines-within : (mcr inputs : ℕ) → IsWithin inputs MSR.LINES.0 → IsWithin (lines_under mcr inputs) MSR.LINES.0
+lines-within mcr inputs w = go (has_any mcr MCR.LOOP_BACK.0)
   where
-    go : (b : Bool) → IsWithin (if b then looped_lines mcr else inputs) msr_lines
+    go : (b : Bool) → IsWithin (if b then looped_lines mcr else inputs) MSR.LINES.0
     go true =
-        within_flags (has_any mcr mcr_rts) (has_any mcr mcr_dtr) (has_any mcr mcr_out_1) (has_any mcr mcr_out_2) msr_cts msr_dsr msr_ri msr_cd msr_lines
+        within_flags (has_any mcr MCR.RTS.0) (has_any mcr MCR.DTR.0) (has_any mcr MCR.OUT_1.0)
+        (has_any mcr MCR.OUT_2_INT_ENABLE.0) MSR.CTS.0 MSR.DSR.0 MSR.RI.0 MSR.CD.0 MSR.LINES.0
         refl refl refl refl refl
     go false = w
 
-changes-within : (old new : ℕ) → IsWithin (changes old new) msr_deltas
+changes-within : (old new : ℕ) → IsWithin (changes old new) MSR.CHANGES.0
 changes-within old new =
-    within_flags (is_changed old new msr_cts) (is_changed old new msr_dsr) (has_any old msr_ri && not (has_any new msr_ri)) (is_changed old new msr_cd)
-    msr_delta_cts msr_delta_dsr msr_trailing_edge_ri msr_delta_cd msr_deltas refl refl refl refl refl
+    within_flags (is_changed old new MSR.CTS.0) (is_changed old new MSR.DSR.0) (has_any old MSR.RI.0 && not (has_any new MSR.RI.0))
+    (is_changed old new MSR.CD.0)
+    MSR.DELTA_CTS.0 MSR.DELTA_DSR.0 MSR.TRAILING_EDGE_RI.0 MSR.DELTA_CD.0 MSR.CHANGES.0 refl refl refl refl refl
 
-pub sound_renew : (mcr inputs : ℕ) (m : Modem) → IsWithin inputs msr_lines → IsSoundModem m → IsSoundModem (renew mcr (record m { inputs = inputs }))
+pub sound_renew : (mcr inputs : ℕ) (m : ModemState) → IsWithin inputs MSR.LINES.0 → IsSoundModem m →
+    IsSoundModem (renew mcr (record m { inputs = inputs }))
 sound_renew mcr inputs m i w = record {
   inputs = i;
   lines = lines-within mcr inputs i;
-  deltas = within_or m.deltas (changes m.lines (lines_under mcr inputs)) msr_deltas w.deltas (changes-within m.lines (lines_under mcr inputs));
+  deltas = within_or m.deltas (changes m.lines (lines_under mcr inputs)) MSR.CHANGES.0 w.deltas
+      (changes-within m.lines (lines_under mcr inputs));
 }

@@ -1,12 +1,18 @@
 -- What a stretch of a session does to the chip.
-use Rattle.std.proofs.Common.{◌≡◌, ℕ, zero, suc, ◌+◌, ◌≤◌, ◌<◌, Bool, false, List, [], ◌∷◌, ◌++◌, length, map, refl, arith, sym, ◌∙◌, ap, subst, inl, bit_or}
+use Rattle.std.proofs.Common.{◌≡◌, ℕ, zero, suc, ◌+◌, ◌≤◌, ◌<◌, Bool, false, List, [], ◌∷◌, ◌++◌, length, map, refl, arith, sym, ◌∙◌, ap}
+use Rattle.std.proofs.Common.{subst, inl, bit_or}
 use Rattle.std.proofs.lemmas.List.{map-append}
 use Rattle.uart_chip.specs.declared.event.Event.{Event}
-use Rattle.uart_chip.specs.declared.event.Event.TheVariants.{Ticks, Arrive, Lines, Access as Gate, Mark}
+use Rattle.uart_chip.specs.declared.event.Event.TheVariants.{Ticks, Arrive, Lines}
 use Rattle.uart_chip.specs.declared.receiver.Character.{Character}
 use Rattle.uart_chip.specs.declared.receiver.Origin.TheVariants.{Arrived}
 use Rattle.uart_spec.specs.Access.{Access, saved, saved_of, saved_lsr, saved_msr}
-use Rattle.uart_chip.specs.Registers.{has_any}
+use Rattle.uart_spec.specs.Bits.{has_any}
+use Rattle.uart_spec.specs.declared.registers.line_control.TheConstants.LCR
+use Rattle.uart_spec.specs.declared.registers.modem_control.TheConstants.MCR
+use Rattle.uart_spec.specs.declared.registers.line_status.TheConstants.LSR
+use Rattle.uart_spec.specs.declared.registers.modem_status.TheConstants.MSR
+use Rattle.uart_spec.specs.declared.registers.offsets.TheConstants as offsets
 use Rattle.uart_chip.specs.Transmitter as transmitter
 use Rattle.uart_chip.specs.Transmitter.{looped_byte}
 use Rattle.uart_chip.specs.Receiver as receiver
@@ -48,17 +54,17 @@ fixed_in c = (c.fifo, cut_of c)
 
 -- offsets 0 and 1 reach the divisor latch
 abbrev pub dlab : Modes → Bool
-dlab x = has_any x.lcr 128
+dlab x = has_any x.lcr LCR.DLAB.0
 
 -- what leaves the transmitter comes back
 abbrev pub loopback : Modes → Bool
-loopback x = has_any x.mcr 16
+loopback x = has_any x.mcr MCR.LOOP_BACK.0
 
 pub dlab-in : (x : Modes) (c : ChipState) → IsIn x c → is_dlab_set c.latches ≡ dlab x
-dlab-in x c w = ap (λ l. has_any l 128) w.lcr
+dlab-in x c w = ap (λ l. has_any l LCR.DLAB.0) w.lcr
 
 pub loopback-in : (x : Modes) (c : ChipState) → IsIn x c → is_loopback c.latches ≡ loopback x
-loopback-in x c w = ap (λ l. has_any l 16) w.mcr
+loopback-in x c w = ap (λ l. has_any l MCR.LOOP_BACK.0) w.mcr
 
 pub marked-in : (x : Modes) (c : ChipState) → IsSoundChip c → IsIn x c → IsMarked x.fifo c.receiver
 marked-in x c s w = subst (λ (b : Bool). IsMarked b c.receiver) w.fifo s.receiver.marked
@@ -69,17 +75,17 @@ marked-in x c s w = subst (λ (b : Bool). IsMarked b c.receiver) w.fifo s.receiv
 abbrev pub arriving_cut : (ℕ → ℕ) → ℕ → List Event → List Character
 arriving_cut cut number events = map (cut_character cut) (arriving number events)
 
-pub arriving-append : (cut : ℕ → ℕ) (k : ℕ) (xs ys : List Event) → arriving_cut cut k (xs ++ ys) ≡ arriving_cut cut k xs ++ arriving_cut cut (k + length (arriving_cut cut k xs)) ys
+pub arriving-append : (cut : ℕ → ℕ) (k : ℕ) (xs ys : List Event) →
+    arriving_cut cut k (xs ++ ys) ≡ arriving_cut cut k xs ++ arriving_cut cut (k + length (arriving_cut cut k xs)) ys
 arriving-append cut k [] ys = ap (λ n. arriving_cut cut n ys) (omega arith)
 arriving-append cut k (Arrive byte errors ∷ xs) ys =
     let e : (k + 1) + length (arriving_cut cut (k + 1) xs) ≡ k + suc (length (arriving_cut cut (k + 1) xs)) = omega arith in
-    ap (λ zs. record { byte = cut byte; errors = errors; origin = Arrived k } ∷ zs) (arriving-append cut (k + 1) xs ys ∙ ap (λ n. arriving_cut cut (k + 1) xs ++ arriving_cut cut n ys) e)
-arriving-append cut k (Ticks n ∷ xs) ys = arriving-append cut k xs ys
-arriving-append cut k (Lines inputs ∷ xs) ys = arriving-append cut k xs ys
-arriving-append cut k (Gate ∷ xs) ys = arriving-append cut k xs ys
-arriving-append cut k (Mark ∷ xs) ys = arriving-append cut k xs ys
+    ap (λ zs. record { byte = cut byte; errors = errors; origin = Arrived k } ∷ zs)
+    (arriving-append cut (k + 1) xs ys ∙ ap (λ n. arriving_cut cut (k + 1) xs ++ arriving_cut cut n ys) e)
+arriving-append cut k (_ ∷ xs) ys = arriving-append cut k xs ys
 
-pub saved-append : (register mask : ℕ) (xs ys : List Access) → saved register mask (xs ++ ys) ≡ bit_or (saved register mask xs) (saved register mask ys)
+pub saved-append : (register mask : ℕ) (xs ys : List Access) →
+    saved register mask (xs ++ ys) ≡ bit_or (saved register mask xs) (saved register mask ys)
 saved-append register mask [] ys = refl
 saved-append register mask (x ∷ xs) ys =
     rw (saved-append register mask xs ys) (sym (or_assoc (saved_of register mask x) (saved register mask xs) (saved register mask ys)))
@@ -87,7 +93,8 @@ saved-append register mask (x ∷ xs) ys =
 -- ---- a stretch
 
 -- from c to d: these events came, these accesses were made, these bytes written and these characters taken
-pub record Went (x : Modes) (c d : ChipState) (events : List Event) (made : List Access) (written : List ℕ) (takes : List Character) : Type 0 where
+pub record Went (x : Modes) (c d : ChipState) (events : List Event) (made : List Access) (written : List ℕ)
+    (takes : List Character) : Type 0 where
   pub modes : IsIn x d
   pub sends : Sends c.transmitter d.transmitter (map x.cut written)
   pub receives : Receives x.fifo c.receiver d.receiver (arriving_cut x.cut c.receiver.arrived events) takes (saved_lsr made)
@@ -95,24 +102,33 @@ pub record Went (x : Modes) (c d : ChipState) (events : List Event) (made : List
   pub turns : Turns c.modem d.modem events (saved_msr made)
 
 -- one stretch and then another, which may begin in other modes
-pub went-trans : (x y : Modes) (c d e : ChipState) (f g : List Event) (xs ys : List Access) (ws vs : List ℕ) (ts us : List Character) → fixed y ≡ fixed x →
+pub went-trans : (x y : Modes) (c d e : ChipState) (f g : List Event) (xs ys : List Access) (ws vs : List ℕ) (ts us : List Character) →
+    fixed y ≡ fixed x →
     Went x c d f xs ws ts → Went y d e g ys vs us → Went y c e (f ++ g) (xs ++ ys) (ws ++ vs) (ts ++ us)
 went-trans x y c d e f g xs ys ws vs ts us same p q = record {
   modes = q.modes;
   sends =
-      let joined : map x.cut ws ++ map y.cut vs ≡ map y.cut (ws ++ vs) = ap (λ (f : ℕ → ℕ). map f ws ++ map y.cut vs) (sym cut) ∙ sym (map-append y.cut ws vs) in
-      subst (λ (zs : List ℕ). Sends c.transmitter e.transmitter zs) joined (sends-trans c.transmitter d.transmitter e.transmitter (map x.cut ws) (map y.cut vs) p.sends q.sends);
+      let joined : map x.cut ws ++ map y.cut vs ≡ map y.cut (ws ++ vs) =
+      ap (λ (f : ℕ → ℕ). map f ws ++ map y.cut vs) (sym cut) ∙ sym (map-append y.cut ws vs) in
+      subst (λ (zs : List ℕ). Sends c.transmitter e.transmitter zs) joined
+      (sends-trans c.transmitter d.transmitter e.transmitter (map x.cut ws) (map y.cut vs) p.sends q.sends);
   receives =
       let k = c.receiver.arrived in
       let first : Receives y.fifo c.receiver d.receiver (arriving_cut y.cut k f) ts (saved_lsr xs) = rw (fifo, cut) p.receives in
-      let come : arriving_cut y.cut k f ++ arriving_cut y.cut d.receiver.arrived g ≡ arriving_cut y.cut k (f ++ g) = ap (λ n. arriving_cut y.cut k f ++ arriving_cut y.cut n g) first.number ∙ sym (arriving-append y.cut k f g) in
-      let both = receives-trans y.fifo c.receiver d.receiver e.receiver (arriving_cut y.cut k f) (arriving_cut y.cut d.receiver.arrived g) ts us (saved_lsr xs) (saved_lsr ys) first q.receives in
-      rw (come, ← saved-append 5 30 xs ys) at both;
+      let come : arriving_cut y.cut k f ++ arriving_cut y.cut d.receiver.arrived g ≡ arriving_cut y.cut k (f ++ g) =
+      ap (λ n. arriving_cut y.cut k f ++ arriving_cut y.cut n g) first.number ∙ sym (arriving-append y.cut k f g) in
+      let both =
+      receives-trans y.fifo c.receiver d.receiver e.receiver (arriving_cut y.cut k f) (arriving_cut y.cut d.receiver.arrived g) ts us
+      (saved_lsr xs) (saved_lsr ys) first q.receives in
+      rw (come, ← saved-append offsets.LSR LSR.LINE_ERRORS.0 xs ys) at both;
   reports =
       let first : Reports y.fifo c.receiver d.receiver ts (saved_lsr xs) = rw fifo p.reports in
-      let both = reports-trans y.fifo c.receiver d.receiver e.receiver ts us (saved_lsr xs) (saved_lsr ys) (λ h. q.receives.is_shown (inl h)) first q.reports in
-      rw (← saved-append 5 30 xs ys) at both;
-  turns = rw (saved-append 6 15 xs ys) (turns-trans c.modem d.modem e.modem f g (saved_msr xs) (saved_msr ys) p.turns q.turns);
+      let both =
+      reports-trans y.fifo c.receiver d.receiver e.receiver ts us (saved_lsr xs) (saved_lsr ys)
+      (λ h. q.receives.is_shown (inl h)) first q.reports in
+      rw (← saved-append offsets.LSR LSR.LINE_ERRORS.0 xs ys) at both;
+  turns = rw (saved-append offsets.MSR MSR.CHANGES.0 xs ys)
+      (turns-trans c.modem d.modem e.modem f g (saved_msr xs) (saved_msr ys) p.turns q.turns);
 }
   where
     fifo : y.fifo ≡ x.fifo
@@ -132,14 +148,21 @@ went-refl x c s w = record {
   turns = turns-refl c.modem;
 }
 
-tick-still : (c : ChipState) → is_loopback c.latches ≡ false → tick c ≡ record c { transmitter = transmitter.tick false c.transmitter; receiver = grow_timeout c.receiver }
-tick-still c e = ap (λ (b : Bool). record c { transmitter = transmitter.tick b c.transmitter; receiver = receiver.tick c.fifo (looped_byte b c.transmitter.shift_place) c.receiver }) e
+tick-still : (c : ChipState) → is_loopback c.latches ≡ false →
+    tick c ≡ record c { transmitter = transmitter.tick false c.transmitter; receiver = grow_timeout c.receiver }
+tick-still c e =
+    ap (λ (b : Bool). record c {
+      transmitter = transmitter.tick b c.transmitter;
+      receiver = receiver.tick c.fifo (looped_byte b c.transmitter.shift_place) c.receiver;
+    }) e
 
 pub went-tick : (x : Modes) (c : ChipState) → loopback x ≡ false → IsSoundChip c → IsIn x c → Went x c (tick c) [] [] [] []
 went-tick x c l s w = rw (tick-still c (loopback-in x c w ∙ l)) (record {
   modes = record { lcr = w.lcr; mcr = w.mcr; fifo = w.fifo; cut = w.cut };
   sends = sends-tick c.transmitter;
-  receives = receives-still x.fifo c.receiver (grow_timeout c.receiver) (marked-in x c s w) (record { queue = refl; marks = refl; stray = refl; arrived = refl }) refl;
+  receives =
+      receives-still x.fifo c.receiver (grow_timeout c.receiver) (marked-in x c s w)
+      (record { queue = refl; marks = refl; stray = refl; arrived = refl }) refl;
   reports = reports-same x.fifo c.receiver (grow_timeout c.receiver) refl refl refl;
   turns = turns-refl c.modem;
 })
@@ -151,24 +174,30 @@ went-ticks x (suc n) c l s w =
     let sound = steady_ticks n c s in
     went-trans x x c (ticks n c) (ticks (suc n) c) [] [] [] [] [] [] [] [] refl a (went-tick x (ticks n c) l sound.sound a.modes)
 
-went-arrive : (x : Modes) (byte errors : ℕ) (c : ChipState) → loopback x ≡ false → IsSoundChip c → IsIn x c → c.receiver.arrived < length c.receiver.marks →
+went-arrive : (x : Modes) (byte errors : ℕ) (c : ChipState) → loopback x ≡ false → IsSoundChip c → IsIn x c →
+    c.receiver.arrived < length c.receiver.marks →
     Went x c (arrive byte errors c) (Arrive byte errors ∷ []) [] [] []
 went-arrive x byte errors c l s w k = record {
   modes = record { lcr = w.lcr; mcr = w.mcr; fifo = w.fifo; cut = w.cut };
   sends = sends-refl c.transmitter;
   receives =
       let new : Character = record { byte = x.cut byte; errors = errors; origin = Arrived c.receiver.arrived } in
-      subst (λ (r : ReceiverState). Receives x.fifo c.receiver r (new ∷ []) [] 0) (sym same) (receives-arrive x.fifo c.receiver (x.cut byte) errors (marked-in x c s w) k);
-  reports = subst (λ (r : ReceiverState). Reports x.fifo c.receiver r [] 0) (sym same) (reports-arrive x.fifo c.receiver (x.cut byte) errors);
+      subst (λ (r : ReceiverState). Receives x.fifo c.receiver r (new ∷ []) [] 0) (sym same)
+      (receives-arrive x.fifo c.receiver (x.cut byte) errors (marked-in x c s w) k);
+  reports = subst (λ (r : ReceiverState). Reports x.fifo c.receiver r [] 0) (sym same)
+      (reports-arrive x.fifo c.receiver (x.cut byte) errors);
   turns = record { lines = refl; deltas = (turns-refl c.modem).deltas };
 }
   where
-    same : receiver.arrive (is_loopback c.latches) c.fifo (cut_of c byte) errors c.receiver ≡ receiver.arrive false x.fifo (x.cut byte) errors c.receiver
+    same : receiver.arrive (is_loopback c.latches) c.fifo (cut_of c byte) errors c.receiver ≡
+        receiver.arrive false x.fifo (x.cut byte) errors c.receiver
     same =
         ap (λ (b : Bool). receiver.arrive b c.fifo (cut_of c byte) errors c.receiver) (loopback-in x c w ∙ l) ∙
-        (ap (λ (b : Bool). receiver.arrive false b (cut_of c byte) errors c.receiver) w.fifo ∙ ap (λ (f : ℕ → ℕ). receiver.arrive false x.fifo (f byte) errors c.receiver) w.cut)
+        (ap (λ (b : Bool). receiver.arrive false b (cut_of c byte) errors c.receiver) w.fifo ∙
+        ap (λ (f : ℕ → ℕ). receiver.arrive false x.fifo (f byte) errors c.receiver) w.cut)
 
-went-lines : (x : Modes) (inputs : ℕ) (c : ChipState) → loopback x ≡ false → IsSoundChip c → IsIn x c → Went x c (change_lines inputs c) (Lines inputs ∷ []) [] [] []
+went-lines : (x : Modes) (inputs : ℕ) (c : ChipState) → loopback x ≡ false → IsSoundChip c → IsIn x c →
+    Went x c (change_lines inputs c) (Lines inputs ∷ []) [] [] []
 went-lines x inputs c l s w = record {
   modes = record { lcr = w.lcr; mcr = w.mcr; fifo = w.fifo; cut = w.cut };
   sends = sends-refl c.transmitter;
@@ -180,8 +209,23 @@ went-lines x inputs c l s w = record {
 -- one event
 pub went-perform : (x : Modes) (event : Event) (c : ChipState) → loopback x ≡ false → IsSoundChip c → IsIn x c →
     c.receiver.arrived + arrivals (event ∷ []) ≤ length c.receiver.marks → Went x c (perform event c) (event ∷ []) [] [] []
-went-perform x (Ticks n) c l s w k = let a = went-ticks x n c l s w in record { modes = a.modes; sends = a.sends; receives = a.receives; reports = a.reports; turns = record { lines = a.turns.lines; deltas = a.turns.deltas } }
+went-perform x (Ticks n) c l s w k =
+    let a = went-ticks x n c l s w in
+    record {
+      modes = a.modes;
+      sends = a.sends;
+      receives = a.receives;
+      reports = a.reports;
+      turns = record { lines = a.turns.lines; deltas = a.turns.deltas };
+    }
 went-perform x (Arrive byte errors) c l s w k = went-arrive x byte errors c l s w (omega (arith, k))
 went-perform x (Lines inputs) c l s w k = went-lines x inputs c l s w
-went-perform x Gate c l s w k = let a = went-refl x c s w in record { modes = a.modes; sends = a.sends; receives = a.receives; reports = a.reports; turns = record { lines = a.turns.lines; deltas = a.turns.deltas } }
-went-perform x Mark c l s w k = let a = went-refl x c s w in record { modes = a.modes; sends = a.sends; receives = a.receives; reports = a.reports; turns = record { lines = a.turns.lines; deltas = a.turns.deltas } }
+went-perform x event c l s w k =
+    let a = went-refl x c s w in
+    record {
+      modes = a.modes;
+      sends = a.sends;
+      receives = a.receives;
+      reports = a.reports;
+      turns = record { lines = a.turns.lines; deltas = a.turns.deltas };
+    }

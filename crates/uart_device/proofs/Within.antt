@@ -4,7 +4,8 @@ use Rattle.std.specs.Int.{bit_at}
 use Rattle.std.specs.Int.Bits.{and_self}
 use Rattle.std.proofs.lemmas.Nat.{and_assoc, and_le_r}
 use Rattle.std.proofs.lemmas.Nat.Bits.{bit_at_or, bit_at_and, same_from_bits}
-use Rattle.uart_chip.specs.Registers.{flag, IsWithin}
+use Rattle.uart_spec.specs.Bits.{flag}
+use Rattle.uart_chip.specs.Masks.{IsWithin}
 
 -- what a mask leaves lies within it
 pub within_and : (value mask : ℕ) → IsWithin (bit_and value mask) mask
@@ -18,7 +19,9 @@ within_or a b mask p q = same_from_bits (bit_and (bit_or a b) mask) (bit_or a b)
     at i =
         let x : min (bit_at a i) (bit_at mask i) ≡ bit_at a i = sym (bit_at_and a mask i) ∙ ap (λ n. bit_at n i) p in
         let y : min (bit_at b i) (bit_at mask i) ≡ bit_at b i = sym (bit_at_and b mask i) ∙ ap (λ n. bit_at n i) q in
-        bit_at_and (bit_or a b) mask i ∙ (ap (λ n. min n (bit_at mask i)) (bit_at_or a b i) ∙ (joined (bit_at a i) (bit_at b i) (bit_at mask i) x y ∙ sym (bit_at_or a b i)))
+        bit_at_and (bit_or a b) mask i ∙
+        (ap (λ n. min n (bit_at mask i)) (bit_at_or a b i) ∙
+        (joined (bit_at a i) (bit_at b i) (bit_at mask i) x y ∙ sym (bit_at_or a b i)))
       where
         joined : (x y z : ℕ) → min x z ≡ x → min y z ≡ y → min (max x y) z ≡ max x y
         joined x y z p q = omega arith
@@ -33,7 +36,8 @@ pub within-le : (value mask : ℕ) → IsWithin value mask → value ≤ mask
 within-le value mask p = let h : bit_and value mask ≤ mask = and_le_r value mask in omega (arith, h, p)
 
 -- four flags that are joined
-pub within_flags : (a b c d : Bool) (p q r s mask : ℕ) → IsWithin p mask → IsWithin q mask → IsWithin r mask → IsWithin s mask → IsWithin 0 mask →
+pub within_flags : (a b c d : Bool) (p q r s mask : ℕ) → IsWithin p mask → IsWithin q mask → IsWithin r mask → IsWithin s mask →
+    IsWithin 0 mask →
     IsWithin (bit_or (bit_or (flag a p) (flag b q)) (bit_or (flag c r) (flag d s))) mask
 within_flags a b c d p q r s mask p_in q_in r_in s_in none =
     within_or (bit_or (flag a p) (flag b q)) (bit_or (flag c r) (flag d s)) mask

@@ -3,7 +3,7 @@ use Rattle.std.specs.Prelude.{◌≡◌, ℕ, ◌+◌, ◌-◌, Bool, true, fals
 use Rattle.uart_chip.specs.declared.event.ArrivalMark.{ArrivalMark}
 use Rattle.uart_chip.specs.declared.event.ArrivalMark.TheVariants.{Pending, Waiting, Read, Discarded, Dropped}
 use Rattle.uart_chip.specs.declared.event.Event.{Event}
-use Rattle.uart_chip.specs.declared.event.Event.TheVariants.{Ticks, Arrive, Lines, Access as Gate, Mark}
+use Rattle.uart_chip.specs.declared.event.Event.TheVariants.{Arrive}
 use Rattle.uart_chip.specs.declared.receiver.Character.{Character}
 use Rattle.uart_chip.specs.declared.receiver.Origin.{Origin}
 use Rattle.uart_chip.specs.declared.receiver.Origin.TheVariants.{Arrived, Looped}
@@ -43,10 +43,7 @@ abbrev pub arriving : ℕ → List Event → List Character
 arriving number [] = []
 arriving number (Arrive byte errors ∷ events) =
     record { byte = byte; errors = errors; origin = Arrived number } ∷ arriving (number + 1) events
-arriving number (Ticks n ∷ events) = arriving number events
-arriving number (Lines inputs ∷ events) = arriving number events
-arriving number (Gate ∷ events) = arriving number events
-arriving number (Mark ∷ events) = arriving number events
+arriving number (_ ∷ events) = arriving number events
 
 -- a character with its byte cut
 abbrev pub cut_character : (ℕ → ℕ) → Character → Character

@@ -1,9 +1,12 @@
 -- What the line status tells of errors, and how the modem lines change.
 use Rattle.std.specs.Prelude.{◌≡◌, ◌⊎◌, ℕ, Bool, true, false, List, [], ◌∷◌, Option, Some, None, bit_or}
+use Rattle.std.specs.List.{AllByRecursion}
 use Rattle.uart_chip.specs.declared.event.Event.{Event}
-use Rattle.uart_chip.specs.declared.event.Event.TheVariants.{Ticks, Arrive, Lines, Access as Gate, Mark}
+use Rattle.uart_chip.specs.declared.event.Event.TheVariants.{Lines}
 use Rattle.uart_chip.specs.declared.receiver.Character.{Character}
-use Rattle.uart_chip.specs.Registers.{has_any, IsWithin, lsr_overrun}
+use Rattle.uart_spec.specs.Bits.{has_any}
+use Rattle.uart_spec.specs.declared.registers.line_status.TheConstants.LSR
+use Rattle.uart_chip.specs.Masks.{IsWithin}
 use Rattle.uart_chip.specs.Receiver.{ReceiverState}
 use Rattle.uart_chip.specs.Modem.{changes}
 
@@ -19,15 +22,16 @@ front_of (front ∷ others) false = None
 abbrev pub reported_front : ReceiverState → Option Character
 reported_front r = front_of r.queue r.is_front_reported
 
--- the line status holds the character's errors, or they were reported before; without FIFO it may hold the overrun flag in their place
+-- the line status holds the character's errors, or they were reported before; without FIFO it may hold the overrun flag
+-- in their place
 abbrev pub IsTold : Bool → Option Character → ℕ → Character → Type 0
 IsTold fifo reported line character =
-    (reported ≡ Some character) ⊎ (IsWithin character.errors line ⊎ ((fifo ≡ false) × (has_any line lsr_overrun ≡ true)))
+    (reported ≡ Some character) ⊎
+    (IsWithin character.errors line ⊎ ((fifo ≡ false) × (has_any line LSR.OVERRUN_ERROR.0 ≡ true)))
 
 -- each of these characters was told
 abbrev pub AllTold : Bool → Option Character → ℕ → List Character → Type 0
-AllTold fifo reported line [] = Unit {0}
-AllTold fifo reported line (character ∷ characters) = IsTold fifo reported line character × AllTold fifo reported line characters
+AllTold fifo reported line characters = AllByRecursion (IsTold fifo reported line) characters
 
 -- ---- modem changes
 
@@ -35,16 +39,10 @@ AllTold fifo reported line (character ∷ characters) = IsTold fifo reported lin
 abbrev pub lines_after : ℕ → List Event → ℕ
 lines_after lines [] = lines
 lines_after lines (Lines inputs ∷ events) = lines_after inputs events
-lines_after lines (Ticks n ∷ events) = lines_after lines events
-lines_after lines (Arrive byte errors ∷ events) = lines_after lines events
-lines_after lines (Gate ∷ events) = lines_after lines events
-lines_after lines (Mark ∷ events) = lines_after lines events
+lines_after lines (_ ∷ events) = lines_after lines events
 
 -- the changes of the modem lines that these events bring, also those that are undone, as the modem status shows them
 abbrev pub changes_in : ℕ → List Event → ℕ
 changes_in lines [] = 0
 changes_in lines (Lines inputs ∷ events) = bit_or (changes lines inputs) (changes_in inputs events)
-changes_in lines (Ticks n ∷ events) = changes_in lines events
-changes_in lines (Arrive byte errors ∷ events) = changes_in lines events
-changes_in lines (Gate ∷ events) = changes_in lines events
-changes_in lines (Mark ∷ events) = changes_in lines events
+changes_in lines (_ ∷ events) = changes_in lines events

@@ -1,33 +1,37 @@
 -- What holds of every machine that was built, whatever happened to it since.
-use Rattle.std.specs.Prelude.{◌≡◌, ◌≢◌, ◌⊎◌, ℕ, ◌+◌, ◌*◌, ◌<◌, ◌≤◌, Bool, true, false, List, [], ◌∷◌, length, Option, Some, None}
-use Rattle.uart_chip.specs.declared.chip.Latches.{Latches}
+use Rattle.std.specs.Prelude.{◌≡◌, ◌≢◌, ℕ, ◌+◌, ◌*◌, ◌<◌, ◌≤◌, Bool, true, false, List, [], ◌∷◌, length, Option, Some}
+use Rattle.std.specs.Prelude.{None}
+use Rattle.std.specs.List.{AllByRecursion}
 use Rattle.uart_chip.specs.declared.event.ArrivalMark.{ArrivalMark}
 use Rattle.uart_chip.specs.declared.event.ArrivalMark.TheVariants.{Pending, Waiting}
 use Rattle.uart_chip.specs.declared.event.Chip.TheVariants.{Uart16550A}
 use Rattle.uart_chip.specs.declared.event.Event.{Event}
-use Rattle.uart_chip.specs.declared.event.Event.TheVariants.{Ticks, Arrive, Lines, Access as Gate, Mark}
-use Rattle.uart_chip.specs.declared.modem.Modem.{Modem}
+use Rattle.uart_chip.specs.declared.event.TheConstants.{MAX_CHAR_TICKS}
 use Rattle.uart_chip.specs.declared.receiver.Character.{Character}
 use Rattle.uart_chip.specs.declared.receiver.Origin.{Origin}
 use Rattle.uart_chip.specs.declared.receiver.Origin.TheVariants.{Arrived, Looped}
 use Rattle.uart_chip.specs.declared.transmitter.Shifting.{Shifting}
-use Rattle.uart_chip.specs.Registers.{IsWithin, ier_bits, mcr_bits, lsr_character_errors, msr_deltas, msr_lines}
+use Rattle.uart_spec.specs.declared.registers.line_status.TheConstants.LSR
+use Rattle.uart_spec.specs.declared.registers.modem_status.TheConstants.MSR
+use Rattle.uart_chip.specs.Masks.{IsWithin, ier_bits, mcr_bits}
 use Rattle.uart_chip.specs.Transmitter.{TransmitterState, room}
 use Rattle.uart_chip.specs.Receiver.{ReceiverState, mark_at}
-use Rattle.uart_chip.specs.Chip.{ChipState}
+use Rattle.uart_chip.specs.Modem.{ModemState}
+use Rattle.uart_chip.specs.Chip.{LatchesState, ChipState}
 use Rattle.uart_chip.specs.Machine.{MachineState, arrivals}
+use Rattle.uart_chip.specs.Build.{IsLegal}
 
 -- ---- the receiver
 
--- a character of this origin may wait: an arrival is marked so, and of looped ones none was lost since
-abbrev pub Waits : ℕ → List ArrivalMark → Bool → Origin → Type 0
-Waits arrived marks stray (Arrived number) = (number < arrived) × (mark_at marks number ≡ Waiting)
-Waits arrived marks stray Looped = stray ≡ false
+-- a character of this origin may be in the queue: an arrival is marked so, and of looped ones none was lost since
+abbrev pub IsInQueue : ℕ → List ArrivalMark → Bool → Origin → Type 0
+IsInQueue arrived marks stray (Arrived number) = (number < arrived) × (mark_at marks number ≡ Waiting)
+IsInQueue arrived marks stray Looped = stray ≡ false
 
--- each of these characters may wait
-abbrev pub AllWait : ℕ → List ArrivalMark → Bool → List Character → Type 0
-AllWait arrived marks stray [] = Unit {0}
-AllWait arrived marks stray (character ∷ characters) = Waits arrived marks stray character.origin × AllWait arrived marks stray characters
+-- each of these characters may be in the queue
+abbrev pub AllInQueue : ℕ → List ArrivalMark → Bool → List Character → Type 0
+AllInQueue arrived marks stray characters =
+    AllByRecursion (λ (character : Character). IsInQueue arrived marks stray character.origin) characters
 
 -- the origin is not the arrival with this number
 abbrev pub OtherOrigin : ℕ → Origin → Type 0
@@ -36,8 +40,7 @@ OtherOrigin number Looped = Unit {0}
 
 -- none of these characters is the arrival with this number
 abbrev pub NoneIs : ℕ → List Character → Type 0
-NoneIs number [] = Unit {0}
-NoneIs number (character ∷ characters) = OtherOrigin number character.origin × NoneIs number characters
+NoneIs number characters = AllByRecursion (λ (character : Character). OtherOrigin number character.origin) characters
 
 -- none of these characters is the arrival that this origin names
 abbrev pub NoneHas : Origin → List Character → Type 0
@@ -51,16 +54,12 @@ Distinct (character ∷ characters) = NoneHas character.origin characters × Dis
 
 -- each has errors of a character alone
 abbrev pub AllErrorsLegal : List Character → Type 0
-AllErrorsLegal [] = Unit {0}
-AllErrorsLegal (character ∷ characters) = IsWithin character.errors lsr_character_errors × AllErrorsLegal characters
-
--- the trigger is one of the four levels
-abbrev pub IsTrigger : ℕ → Type 0
-IsTrigger n = (n ≡ 1) ⊎ ((n ≡ 4) ⊎ ((n ≡ 8) ⊎ (n ≡ 14)))
+AllErrorsLegal characters =
+    AllByRecursion (λ (character : Character). IsWithin character.errors LSR.CHARACTER_ERRORS.0) characters
 
 -- what waits is marked so, each arrival once and within the room; the marks of those to come are Pending
 pub record IsMarked (fifo : Bool) (r : ReceiverState) : Type 0 where
-  pub wait : AllWait r.arrived r.marks r.is_stray_lost r.queue
+  pub wait : AllInQueue r.arrived r.marks r.is_stray_lost r.queue
   pub distinct : Distinct r.queue
   pub to_come : (number : ℕ) → r.arrived ≤ number → mark_at r.marks number ≡ Pending
   pub in_room : length r.queue ≤ room fifo
@@ -72,7 +71,6 @@ pub record IsSoundReceiver (fifo : Bool) (r : ReceiverState) : Type 0 where
   pub settled : (number : ℕ) → number < r.arrived → mark_at r.marks number ≢ Pending
   pub no_other : (number : ℕ) → NoneIs number r.queue → mark_at r.marks number ≢ Waiting
   pub legal : AllErrorsLegal r.queue
-  pub levels : IsTrigger r.trigger
   pub idle : r.timeout_ticks ≤ r.timeout_limit
 
 -- ---- the transmitter, the modem lines and the latches
@@ -87,22 +85,22 @@ pub record IsSoundTransmitter (fifo : Bool) (t : TransmitterState) : Type 0 wher
   pub in_room : length t.queue ≤ room fifo
   pub ticking : IsTicking t.char_ticks t.shift_place
   pub at_least_one : 1 ≤ t.char_ticks
-  pub at_most : t.char_ticks ≤ 1000
+  pub at_most : t.char_ticks ≤ MAX_CHAR_TICKS
   pub on_wire : length t.wire ≤ t.capacity
 
 -- inputs and lines lie in the high nibble, changes in the low one
-pub record IsSoundModem (m : Modem) : Type 0 where
-  pub inputs : IsWithin m.inputs msr_lines
-  pub lines : IsWithin m.lines msr_lines
-  pub deltas : IsWithin m.deltas msr_deltas
+pub record IsSoundModem (m : ModemState) : Type 0 where
+  pub inputs : IsWithin m.inputs MSR.LINES.0
+  pub lines : IsWithin m.lines MSR.LINES.0
+  pub deltas : IsWithin m.deltas MSR.CHANGES.0
 
 -- the two latches that keep only some bits
-pub record IsSoundLatches (l : Latches) : Type 0 where
+pub record IsSoundLatches (l : LatchesState) : Type 0 where
   pub ier : IsWithin l.ier ier_bits
   pub mcr : IsWithin l.mcr mcr_bits
 
 -- every latch holds a byte
-pub record HoldBytes (l : Latches) : Type 0 where
+pub record HoldBytes (l : LatchesState) : Type 0 where
   pub ier : l.ier < 256
   pub lcr : l.lcr < 256
   pub mcr : l.mcr < 256
@@ -123,14 +121,10 @@ pub record IsSoundChip (c : ChipState) : Type 0 where
 
 -- the events keep to the bits that they may have
 abbrev pub AllLegal : List Event → Type 0
-AllLegal [] = Unit {0}
-AllLegal (Arrive byte errors ∷ events) = IsWithin errors lsr_character_errors × AllLegal events
-AllLegal (Lines inputs ∷ events) = IsWithin inputs msr_lines × AllLegal events
-AllLegal (Ticks n ∷ events) = AllLegal events
-AllLegal (Gate ∷ events) = AllLegal events
-AllLegal (Mark ∷ events) = AllLegal events
+AllLegal events = AllByRecursion IsLegal events
 
--- the chip is sound, each arrival still to come has a mark, and the events to come are legal: every access keeps it, whatever is written
+-- the chip is sound, each arrival still to come has a mark, and the events to come are legal: every access keeps it,
+-- whatever is written
 pub record IsSound (m : MachineState) : Type 0 where
   pub chip : IsSoundChip m.chip
   pub foreseen : m.chip.receiver.arrived + arrivals m.ahead ≡ length m.chip.receiver.marks

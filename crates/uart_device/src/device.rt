@@ -14,7 +14,7 @@ use std::marker::Model;
 use uart_chip::{ArrivalMark, BuildError, Chip, Event, Uart, arrivals, refusal};
 use uart_spec::backend::Backend;
 
-/// A serial chip in software: one more backend of the driver.
+/// A serial chip in software, which is a [`Uart`] under a schedule: one more backend of the driver.
 ///
 /// Time passes in ticks. A register access first performs the scheduled events up to the next [`Event::Access`], which it
 /// takes. Where an [`Event::Mark`] or the schedule's end comes first, it stops there, and one tick passes. Then the register

@@ -4,7 +4,7 @@ use Rattle.uart_spec.specs.Access.{Access, Read, Path}
 use Rattle.uart_16550.specs.Grammar.{Settings, Asks}
 use Rattle.uart_16550.specs.Transmit.{WaitsFor}
 use Rattle.uart_chip.specs.declared.transmitter.Shifting.{Shifting}
-use Rattle.uart_chip.specs.Registers.{has_any}
+use Rattle.uart_spec.specs.Bits.{has_any}
 use Rattle.uart_chip.specs.Transmitter.{TransmitterState, shift, refill, tick, out}
 use Rattle.uart_chip.specs.Chip.{line_status, is_transmitter_empty}
 use Rattle.uart_chip.specs.Machine.{MachineState, MachineStep, at_access}

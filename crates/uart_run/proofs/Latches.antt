@@ -1,20 +1,22 @@
 -- What the registers keep: the writes alone tell of it, whatever events come between them.
 use Rattle.std.proofs.Common.{◌≡◌, ℕ, zero, suc, Bool, true, false, ◌==◌, List, [], ◌∷◌, ◌++◌, refl, ◌∙◌, ap, bit_and, if◌then◌else◌}
-use Rattle.uart_chip.specs.declared.chip.Latches.{Latches}
 use Rattle.uart_chip.specs.declared.event.Chip.{Chip}
 use Rattle.uart_chip.specs.declared.event.Chip.TheVariants.{Uart16550A, Uart16450}
 use Rattle.uart_chip.specs.declared.event.Event.{Event}
-use Rattle.uart_chip.specs.declared.event.Event.TheVariants.{Ticks, Arrive, Lines, Access as Gate, Mark}
+use Rattle.uart_chip.specs.declared.event.Event.TheVariants.{Ticks, Access as Gate, Mark}
 use Rattle.uart_spec.specs.Access.{Access, Read, Write, Path}
 use Rattle.uart_16550.specs.Driver.{Fields}
-use Rattle.uart_chip.specs.Registers.{has_any, offset_data, offset_ier, offset_isr, offset_fcr, offset_lcr, offset_mcr, offset_lsr, offset_msr, offset_scr, ier_bits, mcr_bits, isr_thr_empty, fcr_enable, fcr_receiver_reset, fcr_transmitter_reset}
+use Rattle.uart_spec.specs.Bits.{has_any}
+use Rattle.uart_spec.specs.declared.registers.fifo_control.TheConstants.FCR
+use Rattle.uart_spec.specs.declared.registers.offsets.TheConstants as offsets
+use Rattle.uart_chip.specs.Masks.{ier_bits, mcr_bits}
 use Rattle.uart_chip.specs.Receiver.{clear}
-use Rattle.uart_chip.specs.Chip.{ChipState, word_length, cut_to, is_dlab_set, ticks, arrive, change_lines, interrupt, after_read, after_write, trigger_of, switch, reset_receiver, reset_transmitter, set_trigger, is_same, set_fifo, control}
-use Rattle.uart_chip.specs.Machine.{MachineState, MachineStep, before_access, at_access, before_mark, at_mark}
+use Rattle.uart_chip.specs.Chip.{LatchesState, ChipState, word_length, cut_to, is_dlab_set, ticks, interrupt, is_thr_empty, after_read, after_write, trigger_level, switch, reset_receiver, reset_transmitter, set_trigger, is_same, set_fifo, control}
+use Rattle.uart_chip.specs.Machine.{MachineState, MachineStep, perform, before_access, at_access, before_mark, at_mark}
 
 -- what is kept until it is written: the latches, and whether the FIFO is on; and the model and the option, which are never written
 pub record Kept : Type 0 where
-  pub latches : Latches
+  pub latches : LatchesState
   pub fifo : Bool
   pub model : Chip
   pub cuts : Bool
@@ -29,17 +31,17 @@ kept_cut k byte = cut_to k.cuts (word_length k.latches.lcr) byte
 -- what is kept after a write of the FIFO control register
 abbrev pub keep_control : Chip → ℕ → Kept → Kept
 keep_control Uart16450 value k = k
-keep_control Uart16550A value k = record k { fifo = has_any value fcr_enable }
+keep_control Uart16550A value k = record k { fifo = has_any value FCR.FIFO_ENABLE.0 }
 
 -- after a write of any register
 abbrev pub keep_write : ℕ → ℕ → Kept → Kept
 keep_write offset value k =
-    if offset == offset_data then (if is_dlab_set k.latches then record k { latches = record k.latches { dll = value } } else k)
-    else if offset == offset_ier then (if is_dlab_set k.latches then record k { latches = record k.latches { dlm = value } } else record k { latches = record k.latches { ier = bit_and value ier_bits } })
-    else if offset == offset_fcr then keep_control k.model value k
-    else if offset == offset_lcr then record k { latches = record k.latches { lcr = value } }
-    else if offset == offset_mcr then record k { latches = record k.latches { mcr = bit_and value mcr_bits } }
-    else if offset == offset_scr then record k { latches = record k.latches { scr = value } }
+    if offset == offsets.DATA then (if is_dlab_set k.latches then record k { latches = record k.latches { dll = value } } else k)
+    else if offset == offsets.IER then (if is_dlab_set k.latches then record k { latches = record k.latches { dlm = value } } else record k { latches = record k.latches { ier = bit_and value ier_bits } })
+    else if offset == offsets.FCR then keep_control k.model value k
+    else if offset == offsets.LCR then record k { latches = record k.latches { lcr = value } }
+    else if offset == offsets.MCR then record k { latches = record k.latches { mcr = bit_and value mcr_bits } }
+    else if offset == offsets.SPR then record k { latches = record k.latches { scr = value } }
     else k
 
 -- after an access: a read changes nothing of it
@@ -70,22 +72,24 @@ kept-ticks : (n : ℕ) (c : ChipState) → kept_in (ticks n c) ≡ kept_in c
 kept-ticks zero c = refl
 kept-ticks (suc n) c = kept-ticks n c
 
+kept-perform : (event : Event) (c : ChipState) → kept_in (perform event c) ≡ kept_in c
+kept-perform (Ticks n) c = kept-ticks n c
+kept-perform _ c = refl
+
 -- the events before an access
 pub kept-before : (events : List Event) (c : ChipState) → kept_in (before_access events c) ≡ kept_in c
 kept-before [] c = refl
-kept-before (Ticks n ∷ events) c = kept-before events (ticks n c) ∙ kept-ticks n c
-kept-before (Arrive byte errors ∷ events) c = kept-before events (arrive byte errors c)
-kept-before (Lines inputs ∷ events) c = kept-before events (change_lines inputs c)
 kept-before (Gate ∷ events) c = refl
 kept-before (Mark ∷ events) c = refl
+kept-before (event ∷ events) c = kept-before events (perform event c) ∙ kept-perform event c
 
 -- a read
 kept-read : (offset : ℕ) (c : ChipState) → kept_in (after_read offset c) ≡ kept_in c
 kept-read offset c =
     let k = kept_in c in
-    same_if (offset == offset_data) _ _ k (same_if (is_dlab_set c.latches) _ _ k refl refl)
-    (same_if (offset == offset_isr) _ _ k (same_if (interrupt c == isr_thr_empty) _ _ k refl refl)
-    (same_if (offset == offset_lsr) _ _ k refl (same_if (offset == offset_msr) _ _ k refl refl)))
+    same_if (offset == offsets.DATA) _ _ k (same_if (is_dlab_set c.latches) _ _ k refl refl)
+    (same_if (offset == offsets.ISR) _ _ k (same_if (is_thr_empty (interrupt c)) _ _ k refl refl)
+    (same_if (offset == offsets.LSR) _ _ k refl (same_if (offset == offsets.MSR) _ _ k refl refl)))
 
 -- ---- a write
 
@@ -103,17 +107,17 @@ kept-switched on c = go (is_same c.fifo on) refl
     go true e = ap (λ (f : Bool). record (kept_in c) { fifo = f }) (same_true c.fifo on e)
     go false e = refl
 
-kept-fifo : (value : ℕ) (c : ChipState) → kept_in (set_fifo value c) ≡ record (kept_in c) { fifo = has_any value fcr_enable }
+kept-fifo : (value : ℕ) (c : ChipState) → kept_in (set_fifo value c) ≡ record (kept_in c) { fifo = has_any value FCR.FIFO_ENABLE.0 }
 kept-fifo value c =
-    let on : Bool = has_any value fcr_enable in
+    let on : Bool = has_any value FCR.FIFO_ENABLE.0 in
     let k : Kept = record (kept_in c) { fifo = on } in
     let d : ChipState = if is_same c.fifo on then c else switch on c in
     let a : kept_in d ≡ k = kept-switched on c in
     let e : ChipState = reset_receiver value d in
-    let b : kept_in e ≡ k = same_if (has_any value fcr_receiver_reset) (record d { receiver = clear d.receiver }) d k a a in
+    let b : kept_in e ≡ k = same_if (has_any value FCR.RX_FIFO_RESET.0) (record d { receiver = clear d.receiver }) d k a a in
     let f : ChipState = reset_transmitter value e in
-    let g : kept_in f ≡ k = same_if (has_any value fcr_transmitter_reset) (record e { transmitter = record e.transmitter { queue = []; is_thr_pending = true } }) e k b b in
-    same_if on (set_trigger (trigger_of value) f) d k g a
+    let g : kept_in f ≡ k = same_if (has_any value FCR.TX_FIFO_RESET.0) (record e { transmitter = record e.transmitter { queue = []; is_thr_pending = true } }) e k b b in
+    same_if on (set_trigger (trigger_level value) f) d k g a
 
 kept-control : (model : Chip) (value : ℕ) (c : ChipState) → kept_in (control model value c) ≡ keep_control model value (kept_in c)
 kept-control Uart16450 value c = refl
@@ -121,12 +125,12 @@ kept-control Uart16550A value c = kept-fifo value c
 
 kept-write : (offset value : ℕ) (c : ChipState) → kept_in (after_write offset value c) ≡ keep_write offset value (kept_in c)
 kept-write offset value c =
-    kept_if (offset == offset_data) _ _ _ _ (kept_if (is_dlab_set c.latches) _ _ _ _ refl refl)
-    (kept_if (offset == offset_ier) _ _ _ _ (kept_if (is_dlab_set c.latches) _ _ _ _ refl refl)
-    (kept_if (offset == offset_fcr) _ _ _ _ (kept-control c.model value c)
-    (kept_if (offset == offset_lcr) _ _ _ _ refl
-    (kept_if (offset == offset_mcr) _ _ _ _ refl
-    (kept_if (offset == offset_scr) _ _ _ _ refl refl)))))
+    kept_if (offset == offsets.DATA) _ _ _ _ (kept_if (is_dlab_set c.latches) _ _ _ _ refl refl)
+    (kept_if (offset == offsets.IER) _ _ _ _ (kept_if (is_dlab_set c.latches) _ _ _ _ refl refl)
+    (kept_if (offset == offsets.FCR) _ _ _ _ (kept-control c.model value c)
+    (kept_if (offset == offsets.LCR) _ _ _ _ refl
+    (kept_if (offset == offsets.MCR) _ _ _ _ refl
+    (kept_if (offset == offsets.SPR) _ _ _ _ refl refl)))))
 
 -- ---- the machine
 
@@ -168,12 +172,12 @@ cuts_if false x y k p q = q
 cuts-keep : (access : Access) (k : Kept) → (keep access k).cuts ≡ k.cuts
 cuts-keep (Read offset answer) k = refl
 cuts-keep (Write offset value) k =
-    cuts_if (offset == offset_data) _ _ k (cuts_if (is_dlab_set k.latches) _ _ k refl refl)
-    (cuts_if (offset == offset_ier) _ _ k (cuts_if (is_dlab_set k.latches) _ _ k refl refl)
-    (cuts_if (offset == offset_fcr) _ _ k (cuts-control k.model value k)
-    (cuts_if (offset == offset_lcr) _ _ k refl
-    (cuts_if (offset == offset_mcr) _ _ k refl
-    (cuts_if (offset == offset_scr) _ _ k refl refl)))))
+    cuts_if (offset == offsets.DATA) _ _ k (cuts_if (is_dlab_set k.latches) _ _ k refl refl)
+    (cuts_if (offset == offsets.IER) _ _ k (cuts_if (is_dlab_set k.latches) _ _ k refl refl)
+    (cuts_if (offset == offsets.FCR) _ _ k (cuts-control k.model value k)
+    (cuts_if (offset == offsets.LCR) _ _ k refl
+    (cuts_if (offset == offsets.MCR) _ _ k refl
+    (cuts_if (offset == offsets.SPR) _ _ k refl refl)))))
 
 cuts-after : (made : List Access) (k : Kept) → (kept_after made k).cuts ≡ k.cuts
 cuts-after [] k = refl
@@ -184,11 +188,8 @@ cuts_path cuts made m n e p = ap (λ (k : Kept). k.cuts) (kept_path made m n p) 
 
 kept-before_mark : (events : List Event) (c : ChipState) → kept_in (before_mark events c) ≡ kept_in c
 kept-before_mark [] c = refl
-kept-before_mark (Ticks n ∷ events) c = kept-before_mark events (ticks n c) ∙ kept-ticks n c
-kept-before_mark (Arrive byte errors ∷ events) c = kept-before_mark events (arrive byte errors c)
-kept-before_mark (Lines inputs ∷ events) c = kept-before_mark events (change_lines inputs c)
-kept-before_mark (Gate ∷ events) c = kept-before_mark events c
 kept-before_mark (Mark ∷ events) c = refl
+kept-before_mark (event ∷ events) c = kept-before_mark events (perform event c) ∙ kept-perform event c
 
 pub cuts_mark : (cuts : Bool) (m : MachineState) → CutsAs cuts m → CutsAs cuts (at_mark m)
 cuts_mark cuts m e = ap (λ (k : Kept). k.cuts) (kept-before_mark m.ahead m.chip) ∙ e

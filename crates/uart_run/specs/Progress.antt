@@ -11,7 +11,7 @@ use Rattle.uart_calls.specs.declared.call.Call.TheVariants as call
 use Rattle.uart_calls.specs.declared.call.Answer.{Answer}
 use Rattle.uart_calls.specs.declared.call.Answer.TheVariants.{Done, Count}
 use Rattle.uart_chip.specs.declared.event.Event.{Event}
-use Rattle.uart_chip.specs.declared.event.Event.TheVariants.{Ticks, Arrive, Lines, Access as Gate, Mark}
+use Rattle.uart_chip.specs.declared.event.Event.TheVariants.{Ticks, Access as Gate, Mark}
 use Rattle.uart_chip.specs.declared.transmitter.Shifting.{Shifting}
 use Rattle.uart_chip.specs.Transmitter.{TransmitterState}
 use Rattle.uart_chip.specs.Machine.{MachineState}
@@ -27,8 +27,7 @@ TickedAfter passed [] = Unit {0}
 TickedAfter passed (Ticks n ∷ events) = TickedAfter (passed + n) events
 TickedAfter passed (Gate ∷ events) = (0 < passed) × TickedAfter 0 events
 TickedAfter passed (Mark ∷ events) = TickedAfter 0 events
-TickedAfter passed (Arrive byte errors ∷ events) = TickedAfter passed events
-TickedAfter passed (Lines inputs ∷ events) = TickedAfter passed events
+TickedAfter passed (_ ∷ events) = TickedAfter passed events
 
 -- this of the schedule that is still to come
 abbrev pub IsTicked : MachineState → Type 0

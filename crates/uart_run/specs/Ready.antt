@@ -12,17 +12,16 @@ use Rattle.uart_calls.specs.declared.call.Call.{Call}
 use Rattle.uart_calls.specs.declared.call.Call.TheVariants as call
 use Rattle.uart_calls.specs.declared.call.Answer.{Answer}
 use Rattle.uart_calls.specs.declared.call.Answer.TheVariants.{Done, InitRefused, LoopbackRefused}
-use Rattle.uart_chip.specs.declared.chip.Latches.{Latches}
 use Rattle.uart_chip.specs.declared.event.Chip.{Chip}
 use Rattle.uart_chip.specs.declared.event.Chip.TheVariants.{Uart16550A, Uart16450}
-use Rattle.uart_chip.specs.Registers.{ier_bits}
-use Rattle.uart_chip.specs.Chip.{ChipState, word_length, is_dlab_set, is_loopback, is_transmitter_empty, divisor}
+use Rattle.uart_chip.specs.Masks.{ier_bits}
+use Rattle.uart_chip.specs.Chip.{LatchesState, ChipState, word_length, is_dlab_set, is_loopback, is_transmitter_empty, divisor}
 use Rattle.uart_chip.specs.Machine.{MachineState}
 use Rattle.uart_run.specs.Run.{State, machine_of}
 use Rattle.uart_run.specs.Served.{transmitter_of, IsFlushed}
 
 -- the latches of a state
-abbrev pub latches_of : State → Latches
+abbrev pub latches_of : State → LatchesState
 latches_of s = (machine_of s).chip.latches
 
 -- DLAB and loopback are off, and the chip's FIFO is on exactly if the driver takes it to be

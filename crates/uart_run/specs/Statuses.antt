@@ -4,7 +4,10 @@ use Rattle.uart_calls.specs.declared.call.Call.{Call}
 use Rattle.uart_calls.specs.declared.call.Call.TheVariants as call
 use Rattle.uart_calls.specs.declared.call.Answer.TheVariants as answer
 use Rattle.uart_chip.specs.declared.receiver.Character.{Character}
-use Rattle.uart_chip.specs.Registers.{has_any, IsWithin, lsr_overrun, msr_deltas}
+use Rattle.uart_spec.specs.Bits.{has_any}
+use Rattle.uart_spec.specs.declared.registers.line_status.TheConstants.LSR
+use Rattle.uart_spec.specs.declared.registers.modem_status.TheConstants.MSR
+use Rattle.uart_chip.specs.Masks.{IsWithin}
 use Rattle.uart_chip.specs.Receiver.{ReceiverState}
 use Rattle.uart_device.specs.Conserved.{stands, between, entered, IsDrop}
 use Rattle.uart_device.specs.Laws.{reported_front, AllTold, changes_in}
@@ -42,14 +45,14 @@ changes_between s t = changes_in (machine_of s).chip.modem.lines (between (machi
 
 -- a drop shows as the overrun flag, and the errors of each character that was taken, and of the one in front, are told
 pub record TellsLine (s t : State) (line : ℕ) : Type 0 where
-  pub drop : IsDrop (machine_of s) (machine_of t) → has_any line lsr_overrun ≡ true
+  pub drop : IsDrop (machine_of s) (machine_of t) → has_any line LSR.OVERRUN_ERROR.0 ≡ true
   pub taken : List Character
   pub was_taken : filter (stands (receiver_of t)) (entered (machine_of s) (machine_of t)) ≡ taken ++ (receiver_of t).queue
   pub errors : AllTold (machine_of t).chip.fifo (reported_front (receiver_of s)) line (taken ++ take 1 (receiver_of t).queue)
 
 -- the overrun flag tells of a drop
 abbrev pub TellsNoOtherDrop : State → State → ℕ → Type 0
-TellsNoOtherDrop s t line = has_any line lsr_overrun ≡ true → IsDrop (machine_of s) (machine_of t)
+TellsNoOtherDrop s t line = has_any line LSR.OVERRUN_ERROR.0 ≡ true → IsDrop (machine_of s) (machine_of t)
 
 -- each change shows
 abbrev pub TellsChanges : State → State → ℕ → Type 0
@@ -57,7 +60,7 @@ TellsChanges s t status = IsWithin (changes_between s t) status
 
 -- nothing else shows as a change
 abbrev pub TellsNoOtherChange : State → State → ℕ → Type 0
-TellsNoOtherChange s t status = bit_and status msr_deltas ≡ changes_between s t
+TellsNoOtherChange s t status = bit_and status MSR.CHANGES.0 ≡ changes_between s t
 
 -- ---- in a session
 

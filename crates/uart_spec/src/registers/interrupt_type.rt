@@ -1,7 +1,7 @@
 //! The interrupts that ISR identifies.
-ghost use Rattle.std.specs.Prelude.{◌≡◌};
+ghost use Rattle.std.specs.Prelude.{◌≡◌, ◌*◌};
 ghost use Rattle.uart_spec.specs.Bits.{IsOnlyIfAny};
-ghost use Rattle.uart_spec.specs.Interrupts.{Identifies, priority};
+ghost use Rattle.uart_spec.specs.Interrupts.{Identifies, interrupt_code, priority};
 
 /// An interrupt, in the order in which a chip reports those that are pending together.
 #[derive(Clone, Copy, Debug, PartialEq, Eq, PartialOrd, Ord, Hash)]
@@ -54,6 +54,21 @@ impl InterruptType {
             0b1110 => Some(InterruptType::DmaReceptionEndOfTransfer),
             0b1010 => Some(InterruptType::DmaTransmissionEndOfTransfer),
             _ => None,
+        }
+    }
+    /// The low nibble of an ISR value that identifies this interrupt.
+    pub fn to_bits(self) -> u8
+        ensures bits { result ≡ 2 * interrupt_code self }
+        ensures read_back { Identifies result self }
+    {
+        match self {
+            InterruptType::ReceiverLineStatus => 0b0110,
+            InterruptType::ReceivedDataReady => 0b0100,
+            InterruptType::ReceptionTimeout => 0b1100,
+            InterruptType::TransmitterHoldingRegisterEmpty => 0b0010,
+            InterruptType::ModemStatus => 0b0000,
+            InterruptType::DmaReceptionEndOfTransfer => 0b1110,
+            InterruptType::DmaTransmissionEndOfTransfer => 0b1010,
         }
     }
 }

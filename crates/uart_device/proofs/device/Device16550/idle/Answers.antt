@@ -3,8 +3,11 @@ use Rattle.uart_device.proofs.Idle.{whole_ticks, moves-most}
 use Rattle.uart_device.proofs.device.Device16550.idle.Goals as goal
 
 pub invariant_of-self : goal.invariant_of-self
-invariant_of-self c =
-    (c.self.invariant.0, whole_ticks c.args.n c.self.inside.uart c.ticks.new.self (drop c.self.inside.cursor c.self.inside.schedule.items) c.ticks.ensures.after c.self.invariant.1)
+invariant_of-self c = (
+  c.self.invariant.0,
+  whole_ticks c.args.n c.self.inside.uart c.ticks.new.self
+      (drop c.self.inside.cursor c.self.inside.schedule.items) c.ticks.ensures.after c.self.invariant.1,
+)
 
 pub returns-clause-turns : goal.returns-clause-turns
 returns-clause-turns c = let most =

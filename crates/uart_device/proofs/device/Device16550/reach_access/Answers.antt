@@ -9,7 +9,9 @@ loop-self-preserved c =
     record {
       in_schedule = omega arith;
       whole = next_whole _ _ _ _ _ within c.index.ensures c.perform.ensures c.loop-self.invariant.whole;
-      same_access = next_access _ _ _ _ _ _ within c.index.ensures c.perform.ensures c.in_default.not-Access c.in_default.not-Mark c.loop-self.invariant.same_access;
+      same_access =
+          next_access _ _ _ _ _ _ within c.index.ensures c.perform.ensures c.in_default.not-Access c.in_default.not-Mark
+          c.loop-self.invariant.same_access;
     }
 
 pub invariant_of-self-2 : goal.invariant_of-self-2

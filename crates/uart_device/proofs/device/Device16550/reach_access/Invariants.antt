@@ -7,7 +7,8 @@ abbrev pub invariant-loop-self : goal.invariant-loop-self
 invariant-loop-self l = record {
   in_schedule : l.self-inside.cursor ≤ vec_len l.self-inside.schedule;
   whole : IsWhole (record { chip = l.self-inside.uart; ahead = drop l.self-inside.cursor l.self-inside.schedule.items });
-  same_access : at_access (record { chip = l.self-inside.uart; ahead = drop l.self-inside.cursor l.self-inside.schedule.items }) ≡ at_access l.fn.self;
+  same_access : at_access (record { chip = l.self-inside.uart; ahead = drop l.self-inside.cursor l.self-inside.schedule.items }) ≡
+      at_access l.fn.self;
 }
 
 abbrev pub decreases-loop-self : goal.decreases-loop-self

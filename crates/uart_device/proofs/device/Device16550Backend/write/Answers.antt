@@ -4,4 +4,7 @@ use Rattle.uart_device.proofs.Sounds.{whole_write}
 use Rattle.uart_device.proofs.device.Device16550Backend.write.Goals as goal
 
 pub invariant_of-self : goal.invariant_of-self
-invariant_of-self c = (c.self.invariant.0, rw c.write.ensures (whole_write c.args.register_offset c.args.value _ (search (rules, Fits-lt-pow)) c.self.invariant.1))
+invariant_of-self c = (
+  c.self.invariant.0,
+  rw c.write.ensures (whole_write c.args.register_offset c.args.value _ (search (rules, Fits-lt-pow)) c.self.invariant.1),
+)

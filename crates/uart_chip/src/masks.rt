@@ -1,0 +1,34 @@
+//! Masks of registers: bits under a condition, and what the chip keeps of a write.
+ghost use Rattle.std.specs.Prelude.{◌≡◌, bit_and};
+ghost use Rattle.uart_spec.specs.Bits.{flag};
+ghost use Rattle.uart_chip.specs.Masks as spec;
+
+use bitflags::Flags;
+use uart_spec::registers::{IER, MCR};
+
+/// These bits if the condition holds, else none.
+pub fn flag<F: Flags>(on: bool, bits: F) -> F
+    ensures { F.exact → F.set_of result ≡ flag on (F.set_of bits) }
+{
+    if on { bits } else { F::empty() }
+}
+
+/// What IER keeps of a write: the interrupts that the chip has.
+pub fn kept_interrupts(written: IER) -> IER
+    ensures { result.0 ≡ bit_and written.0 spec.ier_bits }
+{
+    let receiver = IER::DATA_READY.union(IER::RECEIVER_LINE_STATUS);
+    let others = IER::THR_EMPTY.union(IER::MODEM_STATUS);
+    written.intersection(receiver.union(others))
+}
+
+/// What MCR keeps of a write: the outputs and loopback.
+pub fn kept_modem_control(written: MCR) -> MCR
+    ensures { result.0 ≡ bit_and written.0 spec.mcr_bits }
+{
+    let outputs = MCR::DTR
+        .union(MCR::RTS)
+        .union(MCR::OUT_1)
+        .union(MCR::OUT_2_INT_ENABLE);
+    written.intersection(outputs.union(MCR::LOOP_BACK))
+}
