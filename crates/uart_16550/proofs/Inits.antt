@@ -9,35 +9,43 @@ use Rattle.uart_spec.specs.declared.registers.offsets.TheConstants as offsets
 use Rattle.uart_spec.specs.Access.{Access, Write}
 use Rattle.uart_16550.specs.Grammar.{Settings, Only, Then}
 use Rattle.uart_16550.specs.Driver.{Made, Did, Plain, with_config, with_fifo}
-use Rattle.uart_16550.specs.Init.{first_pattern, second_pattern, Keeps, KeepsPatterns, ChecksPresence, SetsFifo, DrainsReceiver, Begins, DivisorOf, Inits, frame_bits, line_writes, raised_outputs}
+use Rattle.uart_16550.specs.Init.{first_pattern, second_pattern, Keeps, KeepsPatterns, ChecksPresence, SetsFifo, DrainsReceiver, Begins}
+use Rattle.uart_16550.specs.Init.{DivisorOf, Inits, frame_bits, line_writes, raised_outputs}
 use Rattle.uart_16550.specs.declared.driver.Uart16550.{Uart16550}
 use Rattle.uart_16550.proofs.Making.{made_then, made_among}
 use Rattle.uart_16550.proofs.Doings.{did_then, did_made, did_set}
 
 -- the second pattern decides, where the first is kept
-pub second_decides : (kept : Bool) (s : Settings) (l : List Access) → Then (Keeps first_pattern true) (Keeps second_pattern kept) s l → KeepsPatterns kept s l
+pub second_decides : (kept : Bool) (s : Settings) (l : List Access) → Then (Keeps first_pattern true) (Keeps second_pattern kept) s l →
+    KeepsPatterns kept s l
 second_decides true s l t = t
 second_decides false s l t = inr t
 
 -- the answer at the baud rate's number
 pub given_at : (config : Config) (result : Result ℕ InvalidDivisorError) (baud : ℕ) → baud ≡ to_integer config.baud_rate →
     IsDivisorAnswer config.frequency baud config.prescaler_division_factor result → DivisorOf config result
-given_at config result baud same given = let A : ℕ → Type 0 = λ rate. IsDivisorAnswer config.frequency rate config.prescaler_division_factor result in subst A same given
+given_at config result baud same given =
+    let A : ℕ → Type 0 = λ rate. IsDivisorAnswer config.frequency rate config.prescaler_division_factor result in subst A same given
 
 -- what was done with the stored configuration was done with the given one
-pub inits_stored : {B : Type 0} {step : B → Access → B → Type 0} {stored given : Config} {a b : Uart16550 B} (result : Result (Unit {0}) InitError) → stored ≡ given →
+pub inits_stored : {B : Type 0} {step : B → Access → B → Type 0} {stored given : Config} {a b : Uart16550 B}
+    (result : Result (Unit {0}) InitError) → stored ≡ given →
     Did step (Inits stored result) a b → Did step (Inits given result) a b
 inits_stored {step} {a} {b} result same did = let D : Config → Type 0 = λ config. Did step (Inits config result) a b in subst D same did
 
 -- from the configuration stored to MCR written
-pub begun : {B : Type 0} {step : B → Access → B → Type 0} (config : Config) (divisor frame control : ℕ) (fifo : Bool) {a b c d e f : Uart16550 B} →
+pub begun : {B : Type 0} {step : B → Access → B → Type 0} (config : Config) (divisor frame control : ℕ)
+    (fifo : Bool) {a b c d e f : Uart16550 B} →
     frame ≡ frame_bits config → control ≡ raised_outputs →
-    Made step (ChecksPresence true) (record a { config = config }) b → Made step (Only (line_writes divisor frame)) b c → Made step (SetsFifo config.fifo_trigger_level fifo) c d →
+    Made step (ChecksPresence true) (record a { config = config }) b → Made step (Only (line_writes divisor frame)) b c →
+    Made step (SetsFifo config.fifo_trigger_level fifo) c d →
     Did step (Plain DrainsReceiver) (record d { fifo_enabled = fifo }) e → Made step (Only (Write offsets.MCR control ∷ [])) e f →
     Did step (Begins config divisor fifo) a f
 begun {B} {step} config divisor frame control fifo {a} {b} {c} {d} {e} {f} is_frame is_control present line on drained written =
-    let framed : Made step (Only (line_writes divisor (frame_bits config))) b c = made_among (λ l t. record { is = t.is ∙ ap (line_writes divisor) is_frame }) line in
-    let controlled : Made step (Only (Write offsets.MCR raised_outputs ∷ [])) e f = made_among (λ l t. record { is = t.is ∙ ap (λ (x : ℕ). Write offsets.MCR x ∷ []) is_control }) written in
+    let framed : Made step (Only (line_writes divisor (frame_bits config))) b c =
+    made_among (λ l t. record { is = t.is ∙ ap (line_writes divisor) is_frame }) line in
+    let controlled : Made step (Only (Write offsets.MCR raised_outputs ∷ [])) e f =
+    made_among (λ l t. record { is = t.is ∙ ap (λ (x : ℕ). Write offsets.MCR x ∷ []) is_control }) written in
     did_then (did_set step (with_config config) a (record a { config = config }) refl refl)
     (did_then (did_made (made_then present (made_then framed on)))
     (did_then (did_set step (with_fifo fifo) d (record d { fifo_enabled = fifo }) refl refl)

@@ -1,5 +1,6 @@
 -- Lists of a language, one after another.
-use Rattle.std.proofs.Common.{◌≡◌, ◌<◌, ◌≤◌, ◌+◌, ℕ, zero, suc, true, false, List, [], ◌∷◌, ◌++◌, refl, sym, arith, append_assoc, append-nil, add-one, length, take, drop, inl, inr, Result, Ok, Err, is_ok, map}
+use Rattle.std.proofs.Common.{◌≡◌, ◌<◌, ◌≤◌, ◌+◌, ℕ, zero, suc, true, false, List, [], ◌∷◌, ◌++◌, refl, sym, arith, append_assoc}
+use Rattle.std.proofs.Common.{append-nil, add-one, length, take, drop, inl, inr, Result, Ok, Err, is_ok, map}
 use Rattle.uart_spec.specs.Access.{Access}
 use Rattle.uart_16550.specs.Grammar.{Language, Settings, Then, InOrder, Times}
 use Rattle.uart_16550.specs.Receive.{Receives, Miss}
@@ -8,8 +9,11 @@ use Rattle.uart_16550.specs.Io.{AnswersWrite}
 use Rattle.uart_spec.specs.declared.errors.ByteSendError.{ByteSendError}
 
 -- one more item at the end
-pub in_order_more : {A : Type 0} (P : A → Language) (items : List A) (item : A) (s : Settings) (l m : List Access) → InOrder P items s l → P item s m → InOrder P (items ++ item ∷ []) s (l ++ m)
-in_order_more P [] item s l m p q = let none : l ≡ [] = p.is in rw none (record { front = m; back = []; whole = sym (append-nil m); first = q; second = record { is = refl } })
+pub in_order_more : {A : Type 0} (P : A → Language) (items : List A) (item : A) (s : Settings) (l m : List Access) → InOrder P items s l →
+    P item s m → InOrder P (items ++ item ∷ []) s (l ++ m)
+in_order_more P [] item s l m p q =
+    let none : l ≡ [] = p.is in
+    rw none (record { front = m; back = []; whole = sym (append-nil m); first = q; second = record { is = refl } })
 in_order_more P (i ∷ items) item s l m p q = record {
   front = p.front;
   back = p.back ++ m;
@@ -19,7 +23,8 @@ in_order_more P (i ∷ items) item s l m p q = record {
 }
 
 -- items after items
-pub in_order_append : {A : Type 0} (P : A → Language) (items more : List A) (s : Settings) (l m : List Access) → InOrder P items s l → InOrder P more s m → InOrder P (items ++ more) s (l ++ m)
+pub in_order_append : {A : Type 0} (P : A → Language) (items more : List A) (s : Settings) (l m : List Access) → InOrder P items s l →
+    InOrder P more s m → InOrder P (items ++ more) s (l ++ m)
 in_order_append P [] more s l m p q = let none : l ≡ [] = p.is in rw none q
 in_order_append P (i ∷ items) more s l m p q = record {
   front = p.front;
@@ -40,13 +45,17 @@ then_later P Q R s l t = record {
 }
 
 -- a list for each item, by what the items are made to
-pub in_order_map : {A B : Type 0} (P : B → Language) (f : A → B) (items : List A) (s : Settings) (l : List Access) → InOrder (λ item. P (f item)) items s l → InOrder P (map f items) s l
+pub in_order_map : {A B : Type 0} (P : B → Language) (f : A → B) (items : List A) (s : Settings) (l : List Access) →
+    InOrder (λ item. P (f item)) items s l → InOrder P (map f items) s l
 in_order_map P f [] s l t = t
-in_order_map P f (i ∷ items) s l t = record { front = t.front; back = t.back; whole = t.whole; first = t.first; second = in_order_map P f items s t.back t.second }
+in_order_map P f (i ∷ items) s l t =
+    record { front = t.front; back = t.back; whole = t.whole; first = t.first; second = in_order_map P f items s t.back t.second }
 
 -- one list more
 pub times_more : (n : ℕ) (P : Language) (s : Settings) (l m : List Access) → Times n P s l → P s m → Times (n + 1) P s (l ++ m)
-times_more zero P s l m p q = let none : l ≡ [] = p.is in rw none (record { front = m; back = []; whole = sym (append-nil m); first = q; second = record { is = refl } })
+times_more zero P s l m p q =
+    let none : l ≡ [] = p.is in
+    rw none (record { front = m; back = []; whole = sym (append-nil m); first = q; second = record { is = refl } })
 times_more (suc n) P s l m p q =
     let rest = times_more n P s p.back m p.second q in
     rw (add-one (suc n)) (record {
@@ -58,12 +67,14 @@ times_more (suc n) P s l m p q =
     })
 
 -- one piece more
-pub cut_more : (s : Settings) (bytes : List ℕ) (pieces : List (List ℕ)) (rest : List ℕ) → IsCut s bytes pieces rest → 0 < length rest → IsCut s bytes (pieces ++ take (burst_size s rest) rest ∷ []) (drop (burst_size s rest) rest)
+pub cut_more : (s : Settings) (bytes : List ℕ) (pieces : List (List ℕ)) (rest : List ℕ) → IsCut s bytes pieces rest → 0 < length rest →
+    IsCut s bytes (pieces ++ take (burst_size s rest) rest ∷ []) (drop (burst_size s rest) rest)
 cut_more s bytes [] rest cut some = let same : rest ≡ bytes = cut in rw (← same) (some, refl, refl)
 cut_more s bytes (piece ∷ pieces) rest cut some = (cut.0, cut.1, cut_more s (drop (burst_size s bytes) bytes) pieces rest cut.2 some)
 
 -- what was sent, by its count
-pub sends_some : (s : Settings) (bytes : List ℕ) (k : ℕ) → 0 < k → (l : List Access) → Sends bytes k s l → (k ≡ burst_size s bytes) × Burst (take k bytes) s l
+pub sends_some : (s : Settings) (bytes : List ℕ) (k : ℕ) → 0 < k → (l : List Access) → Sends bytes k s l →
+    (k ≡ burst_size s bytes) × Burst (take k bytes) s l
 sends_some s bytes k some l (inl t) = absurd (omega (arith, t.1))
 sends_some s bytes k some l (inr (inl t)) = absurd (omega (arith, t.1))
 sends_some s bytes k some l (inr (inr t)) = (t.1, t.2)
@@ -82,6 +93,7 @@ receives_none n [] s l some none (inr t) = let front : t.1.front ≡ [] = t.1.fi
 receives_none n (b ∷ bytes) s l some none t = absurd (omega arith)
 
 -- whether a send check hits is what a writer answers
-pub answers_write : {T : Type 0} (result : Result T ByteSendError) (s : Settings) (l : List Access) → ReadyToSend result s l → AnswersWrite (Ok (is_ok result)) s l
+pub answers_write : {T : Type 0} (result : Result T ByteSendError) (s : Settings) (l : List Access) → ReadyToSend result s l →
+    AnswersWrite (Ok (is_ok result)) s l
 answers_write (Ok x) s l t = t
 answers_write (Err e) s l t = (e, t)

@@ -1,5 +1,6 @@
 -- The pieces of the loopback test.
-use Rattle.std.proofs.Common.{◌≡◌, ◌++◌, ◌+◌, ◌<◌, ℕ, true, List, [], ◌∷◌, Option, Some, None, Result, Ok, Err, inr, ap, ◌∙◌, length, map, take, drop, get_or, add-one, drop-cons}
+use Rattle.std.proofs.Common.{◌≡◌, ◌++◌, ◌+◌, ◌<◌, ℕ, true, List, [], ◌∷◌, Option, Some, None, Result, Ok, Err, inr, ap, ◌∙◌, length, map}
+use Rattle.std.proofs.Common.{take, drop, get_or, add-one, drop-cons}
 use Rattle.std.proofs.lemmas.List.{take-append-drop, map-append}
 use Rattle.uart_spec.specs.declared.errors.LoopbackError.{LoopbackError}
 use Rattle.uart_spec.specs.Access.{Access, Write}
@@ -13,7 +14,8 @@ use Rattle.uart_16550.proofs.Making.{made_among}
 use Rattle.uart_16550.proofs.Doings.{did_then}
 
 -- what came back for a byte that was sent, or the wait for it in vain
-pub echoed : (byte : ℕ) (back : Option ℕ) (s : Settings) (l : List Access) → Then (Round (byte ∷ [])) (Awaits back) s l → HasEchoed byte back s l
+pub echoed : (byte : ℕ) (back : Option ℕ) (s : Settings) (l : List Access) → Then (Round (byte ∷ [])) (Awaits back) s l →
+    HasEchoed byte back s l
 echoed byte (Some back) s l t = t
 echoed byte None s l t = inr t
 
@@ -28,16 +30,19 @@ pub parted : (xs : List ℕ) (i : ℕ) → i < length xs → take i xs ++ (get_o
 parted xs i within = rw (add-one, ← drop-cons xs i 0 within) (take-append-drop i xs)
 
 -- one more item of a list that is mapped to another
-pub map_one : {X : Type 0} (f : X → ℕ) (items : List X) (item : X) (xs : List ℕ) → map f items ≡ xs → map f (items ++ item ∷ []) ≡ xs ++ f item ∷ []
+pub map_one : {X : Type 0} (f : X → ℕ) (items : List X) (item : X) (xs : List ℕ) → map f items ≡ xs →
+    map f (items ++ item ∷ []) ≡ xs ++ f item ∷ []
 map_one f items item xs same = map-append f items (item ∷ []) ∙ ap (λ ys. ys ++ f item ∷ []) same
 
 -- a write, at another name of its value
-pub made_value : {B : Type 0} {step : B → Access → B → Type 0} (offset value same : ℕ) {a b : Uart16550 B} → value ≡ same → Made step (Only (Write offset value ∷ [])) a b → Made step (Only (Write offset same ∷ [])) a b
+pub made_value : {B : Type 0} {step : B → Access → B → Type 0} (offset value same : ℕ) {a b : Uart16550 B} → value ≡ same →
+    Made step (Only (Write offset value ∷ [])) a b → Made step (Only (Write offset same ∷ [])) a b
 made_value offset value same is p = made_among (λ l t. record { is = t.is ∙ ap (λ (x : ℕ). Write offset x ∷ []) is }) p
 
 -- the test after its first wait
 pub tested : {T B : Type 0} {step : B → Access → B → Type 0} (mcr ier before : ℕ) (result : Result T LoopbackError) {a b c : Uart16550 B} →
-    Did step (Enters before (fields b).fifo) a b → Did step (Next (Saving (Exchanges result)) (Leaves mcr ier before (fields a).lsr)) b c → Did step (Tests mcr ier result) a c
+    Did step (Enters before (fields b).fifo) a b → Did step (Next (Saving (Exchanges result)) (Leaves mcr ier before (fields a).lsr)) b c →
+    Did step (Tests mcr ier result) a c
 tested mcr ier before result {b = b} p q =
     let all = did_then p q in
     record { list = all.list; path = all.path; does = (before, (fields b).fifo, all.does) }

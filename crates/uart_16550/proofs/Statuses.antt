@@ -13,7 +13,9 @@ use Rattle.uart_16550.proofs.Doings.{did_made}
 
 -- the registers in the dump's order, with both statuses joined with the saved bits as they stand after their reads
 pub dumped : {B : Type 0} {step : B → Access → B → Type 0} (dump : ConfigRegisterDump) (lcr lsr msr : ℕ) {a b c d e : Uart16550 B} →
-    Made step (Only (divisor_accesses lcr dump.dll dump.dlm ++ (Read offsets.IER dump.ier.0 ∷ Read offsets.ISR dump.isr.0 ∷ Read offsets.LCR dump.lcr.0 ∷ Read offsets.MCR dump.mcr.0 ∷ []))) a b →
+    Made step
+    (Only (divisor_accesses lcr dump.dll dump.dlm ++
+    (Read offsets.IER dump.ier.0 ∷ Read offsets.ISR dump.isr.0 ∷ Read offsets.LCR dump.lcr.0 ∷ Read offsets.MCR dump.mcr.0 ∷ []))) a b →
     Made step (Only (Read offsets.LSR lsr ∷ [])) b c → dump.lsr.0 ≡ bit_or lsr c.saved_lsr.0 →
     Made step (Only (Read offsets.MSR msr ∷ [])) c d → dump.msr.0 ≡ bit_or msr d.saved_msr.0 →
     Made step (Only (Read offsets.SPR dump.spr ∷ [])) d e → Did step (Dumps dump) a e
@@ -34,7 +36,8 @@ dumped dump lcr lsr msr p q shows_lsr r shows_msr s =
     }
 
 -- one read of a status, joined with the saved bits as they stand after it, which are then none
-pub takes_lsr : {B : Type 0} {step : B → Access → B → Type 0} (status result none : ℕ) {a b : Uart16550 B} → Made step (Only (Read offsets.LSR status ∷ [])) a b →
+pub takes_lsr : {B : Type 0} {step : B → Access → B → Type 0} (status result none : ℕ) {a b : Uart16550 B} →
+    Made step (Only (Read offsets.LSR status ∷ [])) a b →
     result ≡ bit_or status b.saved_lsr.0 → none ≡ 0 → Did step (TakesLsr result) a (record b { saved_lsr = record { 0 = none } })
 takes_lsr status result none p shows empty =
     let same = msr_kept _ refl p in
@@ -49,7 +52,8 @@ takes_lsr status result none p shows empty =
       );
     }
 
-pub takes_msr : {B : Type 0} {step : B → Access → B → Type 0} (status result none : ℕ) {a b : Uart16550 B} → Made step (Only (Read offsets.MSR status ∷ [])) a b →
+pub takes_msr : {B : Type 0} {step : B → Access → B → Type 0} (status result none : ℕ) {a b : Uart16550 B} →
+    Made step (Only (Read offsets.MSR status ∷ [])) a b →
     result ≡ bit_or status b.saved_msr.0 → none ≡ 0 → Did step (TakesMsr result) a (record b { saved_msr = record { 0 = none } })
 takes_msr status result none p shows empty =
     let same = lsr_kept _ refl p in

@@ -37,8 +37,8 @@ answers (Write offset value ∷ accesses) = answers accesses
 abbrev pub IsAnsweredFrom : (stream : List ℕ) → List Access → Type 0
 IsAnsweredFrom stream accesses = (rest : List ℕ) × (stream ≡ answers accesses ++ rest)
 
--- two calls of drivers with equal fields, each over a backend of its own, whose reads were answered from one stream have
--- the same outcome, the same list, and the same fields after it
+-- two calls of drivers with equal fields, each over a backend of its own, whose reads were answered from one stream
+-- have the same outcome, the same list, and the same fields after it
 abbrev pub Agree : {R B C : Type 0} → (R → Doing) → (B → Access → B → Type 0) → (C → Access → C → Type 0) → Type 0
 Agree {R} {B} {C} G step other_step =
     (stream : List ℕ) (a b : R) (old new : Uart16550 B) (other_old other_new : Uart16550 C) →

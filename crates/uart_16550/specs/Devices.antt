@@ -1,5 +1,6 @@
 -- The devices that tests drive.
-use Rattle.std.specs.Prelude.{◌≡◌, ℕ, Bool, ◌&&◌, List, [], ◌∷◌, ◌++◌, ◌==◌, nat_lt, length, slice_index, slice_set, if◌then◌else◌, ⊤}
+use Rattle.std.specs.Prelude.{◌≡◌, ℕ, Bool, ◌&&◌, List, [], ◌∷◌, ◌++◌, ◌==◌, nat_lt, length, slice_index, slice_set}
+use Rattle.std.specs.Prelude.{if◌then◌else◌, ⊤}
 use Rattle.uart_spec.specs.Bits.{has}
 use Rattle.uart_spec.specs.declared.registers.offsets.TheConstants as offsets
 use Rattle.uart_spec.specs.declared.registers.fifo_control.TheConstants.FCR
@@ -18,7 +19,7 @@ AnswersInTurn [] (Read offset answer) left = (answer ≡ 0) × (left ≡ [])
 AnswersInTurn (byte ∷ bytes) (Read offset answer) left = (answer ≡ byte) × (left ≡ bytes)
 AnswersInTurn bytes (Write offset value) left = left ≡ bytes
 
--- a file of registers: whether there are FIFOs, what the registers answer, the divisor latch, and the bytes that were sent
+-- a file of registers: whether there are FIFOs, what the registers answer, the divisor latch, the bytes that were sent
 pub record File : Type 0 where
   pub fifos : Bool
   pub registers : List ℕ
@@ -31,7 +32,8 @@ is_latch registers offset = nat_lt offset 2 && has (slice_index registers offset
 
 -- what a register answers
 abbrev pub answer_of : File → ℕ → ℕ
-answer_of file offset = if is_latch file.registers offset then slice_index file.latch offset else slice_index file.registers offset
+answer_of file offset =
+    if is_latch file.registers offset then slice_index file.latch offset else slice_index file.registers offset
 
 -- what ISR answers after a write of FCR: whether the FIFOs are on
 abbrev pub isr_after : Bool → ℕ → ℕ

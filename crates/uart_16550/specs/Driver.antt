@@ -12,7 +12,8 @@ use Rattle.uart_16550.specs.declared.driver.Uart16550.{Uart16550}
 abbrev pub backend_of : {B : Type 0} → Uart16550 B → B
 backend_of d = d.backend
 
--- the driver beside its backend: its configuration, whether it takes the FIFO to be on, the saved bits of LSR and MSR, the spin limit
+-- the driver beside its backend: its configuration, whether it takes the FIFO to be on, the saved bits of LSR and MSR,
+-- the spin limit
 pub record Fields : Type 0 where
   pub config : Config
   pub fifo : Bool
@@ -21,14 +22,21 @@ pub record Fields : Type 0 where
   pub limit : ℕ
 
 abbrev pub fields : {B : Type 0} → Uart16550 B → Fields
-fields d = record { config = d.config; fifo = d.fifo_enabled; lsr = d.saved_lsr.0; msr = d.saved_msr.0; limit = non_zero_u64_get d.spin_limit }
+fields d = record {
+  config = d.config;
+  fifo = d.fifo_enabled;
+  lsr = d.saved_lsr.0;
+  msr = d.saved_msr.0;
+  limit = non_zero_u64_get d.spin_limit;
+}
 
 -- what the lists of a call depend on
 abbrev pub settings_of : Fields → Settings
 settings_of f = record { checks = f.config.check_cts_before_sending; fifo = f.fifo; limit = f.limit }
 
 abbrev pub settings : {B : Type 0} → Uart16550 B → Settings
-settings d = record { checks = d.config.check_cts_before_sending; fifo = d.fifo_enabled; limit = non_zero_u64_get d.spin_limit }
+settings d =
+    record { checks = d.config.check_cts_before_sending; fifo = d.fifo_enabled; limit = non_zero_u64_get d.spin_limit }
 
 -- a driver that has made no access
 pub record IsFresh {B : Type 0} (d : Uart16550 B) (given : B) (config : Config) : Type 0 where
@@ -58,7 +66,14 @@ pub record Did {B : Type 0} (step : B → Access → B → Type 0) (G : Doing) (
 
 -- the fields after a list whose reads are saved
 abbrev pub saving : Fields → List Access → Fields
-saving f l = record { config = f.config; fifo = f.fifo; lsr = bit_or f.lsr (saved_lsr l); msr = bit_or f.msr (saved_msr l); limit = f.limit }
+saving f l =
+    record {
+      config = f.config;
+      fifo = f.fifo;
+      lsr = bit_or f.lsr (saved_lsr l);
+      msr = bit_or f.msr (saved_msr l);
+      limit = f.limit;
+    }
 
 -- a list of the language whose reads are saved
 abbrev pub Saving : Language → Doing

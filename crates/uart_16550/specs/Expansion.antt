@@ -1,5 +1,6 @@
 -- What a terminal sends for a text.
-use Rattle.std.specs.Prelude.{◌≡◌, ◌<◌, ℕ, List, [], ◌∷◌, ◌++◌, ◌==◌, ◌||◌, Result, Ok, Err, length, take, min, ◌-◌, ◌^◌, if◌then◌else◌}
+use Rattle.std.specs.Prelude.{◌≡◌, ◌<◌, ℕ, List, [], ◌∷◌, ◌++◌, ◌==◌, ◌||◌, Result, Ok, Err, length, take, min, ◌-◌}
+use Rattle.std.specs.Prelude.{◌^◌, if◌then◌else◌}
 use Rattle.uart_spec.specs.declared.errors.StalledError.{StalledError}
 use Rattle.uart_16550.specs.Grammar.{Language, Then, InOrder, AllMisses}
 use Rattle.uart_16550.specs.Transmit.{Round, SendMiss}

@@ -1,5 +1,6 @@
 -- The presence check and the initialisation, access by access.
-use Rattle.std.specs.Prelude.{◌≡◌, ◌<◌, ℕ, Bool, true, false, List, [], ◌∷◌, ◌+◌, ◌*◌, ◌%◌, ◌/◌, ◌==◌, ◌⊎◌, Result, Ok, Err, Option, Some, None, if◌then◌else◌}
+use Rattle.std.specs.Prelude.{◌≡◌, ◌<◌, ℕ, Bool, true, false, List, [], ◌∷◌, ◌+◌, ◌*◌, ◌%◌, ◌/◌, ◌==◌, ◌⊎◌, Result, Ok}
+use Rattle.std.specs.Prelude.{Err, Option, Some, None, if◌then◌else◌}
 use Rattle.uart_spec.specs.Baud.{IsDivisorAnswer}
 use Rattle.uart_spec.specs.BaudRate.{to_integer}
 use Rattle.uart_spec.specs.Fields.{word_length_code, parity_code, trigger_code}
@@ -30,7 +31,8 @@ second_pattern = 115
 
 -- the scratch register is written with a pattern and keeps it, or not
 abbrev pub Keeps : ℕ → Bool → Language
-Keeps pattern outcome s l = (back : ℕ) × ((back == pattern) ≡ outcome) × (l ≡ Write offsets.SPR pattern ∷ Read offsets.SPR back ∷ [])
+Keeps pattern outcome s l =
+    (back : ℕ) × ((back == pattern) ≡ outcome) × (l ≡ Write offsets.SPR pattern ∷ Read offsets.SPR back ∷ [])
 
 -- both patterns are kept; or the first is not, or only the second is not
 abbrev pub KeepsPatterns : Bool → Language

@@ -14,12 +14,14 @@ got (Err e) slots = []
 
 -- `read` into n slots: none where there are none; else some bytes, or a wait in vain
 abbrev pub Reads : ℕ → List ℕ → Result ℕ StalledError → Language
-Reads n bytes (Ok count) s l = (length bytes ≡ count) × (((n ≡ 0) × (count ≡ 0) × (l ≡ [])) ⊎ ((0 < n) × ReceivesSome n bytes true s l))
+Reads n bytes (Ok count) s l =
+    (length bytes ≡ count) × (((n ≡ 0) × (count ≡ 0) × (l ≡ [])) ⊎ ((0 < n) × ReceivesSome n bytes true s l))
 Reads n bytes (Err e) s l = (0 < n) × (e.done ≡ 0) × ReceivesSome n bytes false s l
 
 -- `write`: none of no bytes; else a burst, or a wait in vain
 abbrev pub Writes : List ℕ → Result ℕ StalledError → Language
-Writes bytes (Ok count) s l = ((length bytes ≡ 0) × (count ≡ 0) × (l ≡ [])) ⊎ ((0 < length bytes) × SendsSome bytes (Some count) s l)
+Writes bytes (Ok count) s l =
+    ((length bytes ≡ 0) × (count ≡ 0) × (l ≡ [])) ⊎ ((0 < length bytes) × SendsSome bytes (Some count) s l)
 Writes bytes (Err e) s l = (0 < length bytes) × (e.done ≡ 0) × SendsSome bytes None s l
 
 -- `flush`: a wait for an empty transmitter

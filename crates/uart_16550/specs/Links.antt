@@ -11,7 +11,8 @@ pub record WriteLink (S E : Type 0) : Type 0 where
 -- the calls lead from s to t, each as the writer's relation allows
 abbrev pub WriteChain : {S E : Type 0} → (S → List ℕ → Result ℕ E → S → Type 0) → S → List (WriteLink S E) → S → Type 0
 WriteChain writes s [] t = t ≡ s
-WriteChain writes s (link ∷ links) t = (link.before ≡ s) × writes link.before link.given link.answer link.after × WriteChain writes link.after links t
+WriteChain writes s (link ∷ links) t =
+    (link.before ≡ s) × writes link.before link.given link.answer link.after × WriteChain writes link.after links t
 
 -- the bytes that a call took, and those that all took
 abbrev pub taken_by : {E : Type 0} → List ℕ → Result ℕ E → List ℕ
@@ -29,7 +30,8 @@ Takes {S} {E} links bytes (Err e) = (front : List (WriteLink S E)) × (last : Wr
     (links ≡ front ++ last ∷ []) × (last.answer ≡ Err e) × (taken links ++ rest ≡ bytes)
 
 -- bytes sent by repeated calls
-pub record SendsThrough {S E T : Type 0} (writes : S → List ℕ → Result ℕ E → S → Type 0) (s : S) (bytes : List ℕ) (result : Result T E) (t : S) : Type 0 where
+pub record SendsThrough {S E T : Type 0} (writes : S → List ℕ → Result ℕ E → S → Type 0) (s : S) (bytes : List ℕ)
+    (result : Result T E) (t : S) : Type 0 where
   pub links : List (WriteLink S E)
   pub chain : WriteChain writes s links t
   pub takes : Takes links bytes result

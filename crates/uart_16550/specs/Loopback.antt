@@ -1,11 +1,17 @@
 -- The loopback test, access by access.
-use Rattle.std.specs.Prelude.{◌≡◌, ◌≢◌, ◌==◌, ◌&&◌, not, ℕ, Bool, true, false, List, [], ◌∷◌, ◌++◌, Result, Ok, Err, Option, Some, None, length, map, ◌⊎◌, codes}
+use Rattle.std.specs.Prelude.{◌≡◌, ◌≢◌, ◌==◌, ◌&&◌, not, ℕ, Bool, true, false, List, [], ◌∷◌, ◌++◌, Result, Ok, Err}
+use Rattle.std.specs.Prelude.{Option, Some, None, length, map, ◌⊎◌, codes}
 use Rattle.std.specs.Int.RustNames.{bit_and, bit_or}
 use Rattle.bitflags.specs.Sets.{without}
 use Rattle.uart_spec.specs.Bits.{has, flag}
 use Rattle.uart_spec.specs.declared.errors.StalledError.{StalledError}
 use Rattle.uart_spec.specs.declared.errors.LoopbackError.{LoopbackError}
-use Rattle.uart_spec.specs.declared.errors.LoopbackError.TheVariants.{Stalled, SendError, UnexpectedLoopbackByte, UnexpectedLoopbackMsg}
+use Rattle.uart_spec.specs.declared.errors.LoopbackError.TheVariants.{
+  Stalled,
+  SendError,
+  UnexpectedLoopbackByte,
+  UnexpectedLoopbackMsg,
+}
 use Rattle.uart_spec.specs.declared.registers.offsets.TheConstants as offsets
 use Rattle.uart_spec.specs.declared.registers.line_status.TheConstants.LSR
 use Rattle.uart_spec.specs.declared.registers.modem_control.TheConstants.MCR
@@ -64,14 +70,18 @@ WholeEchoes sent got s l = (length got ≡ length sent) × Then (SendsAll sent) 
 
 abbrev pub WholeFails : (sent : List ℕ) → Language
 WholeFails sent s l = ((e : StalledError) × SendsExact {T = Unit {0}} sent (Err e) s l)
-    ⊎ ((e : StalledError) × (got : List ℕ) × Then (SendsAll sent) (ReceivesExact {T = Unit {0}} (length sent) got (Err e)) s l)
+    ⊎ ((e : StalledError) × (got : List ℕ)
+    × Then (SendsAll sent) (ReceivesExact {T = Unit {0}} (length sent) got (Err e)) s l)
 
 -- without one each is sent and received by itself
 abbrev pub EachEchoes : (sent got : List ℕ) → Language
-EachEchoes sent got s l = (pairs : List (ℕ × ℕ)) × (map (λ pair. pair.0) pairs ≡ sent) × (map (λ pair. pair.1) pairs ≡ got) × InOrder Echo pairs s l
+EachEchoes sent got s l =
+    (pairs : List (ℕ × ℕ)) × (map (λ pair. pair.0) pairs ≡ sent) × (map (λ pair. pair.1) pairs ≡ got)
+    × InOrder Echo pairs s l
 
 abbrev pub EachFails : (sent : List ℕ) → Language
-EachFails sent s l = (pairs : List (ℕ × ℕ)) × (byte : ℕ) × (rest : List ℕ) × (map (λ pair. pair.0) pairs ++ (byte ∷ rest) ≡ sent)
+EachFails sent s l =
+    (pairs : List (ℕ × ℕ)) × (byte : ℕ) × (rest : List ℕ) × (map (λ pair. pair.0) pairs ++ (byte ∷ rest) ≡ sent)
     × Then (InOrder Echo pairs) (EchoFails byte) s l
 
 -- what came back for these bytes, or nothing where a wait was in vain
@@ -93,14 +103,16 @@ ExchangesMessage (Err (SendError e)) s l = ⊥
 ExchangesMessage (Err Stalled) s l = HasEchoedAll test_message None s l
 ExchangesMessage (Err (UnexpectedLoopbackByte expected actual)) s l = ⊥
 ExchangesMessage (Err (UnexpectedLoopbackMsg expected actual)) s l =
-    (expected ≡ test_message) × (actual ≢ test_message) × (length actual ≡ length test_message) × HasEchoedAll test_message (Some actual) s l
+    (expected ≡ test_message) × (actual ≢ test_message) × (length actual ≡ length test_message)
+    × HasEchoedAll test_message (Some actual) s l
 
 -- inside the loopback: the drain, the byte, the message, up to the first fault
 abbrev pub Exchanges : {T : Type 0} → Result T LoopbackError → Language
 Exchanges (Ok x) s l = Then (DrainsLoopback true) (Then (ExchangesByte (Ok x)) (ExchangesMessage (Ok x))) s l
 Exchanges (Err e) s l = ((e ≡ Stalled) × DrainsLoopback false s l)
     ⊎ (Then (DrainsLoopback true) (ExchangesByte {T = Unit {0}} (Err e)) s l
-    ⊎ Then (DrainsLoopback true) (Then (ExchangesByte {T = Unit {0}} (Ok tt)) (ExchangesMessage {T = Unit {0}} (Err e))) s l)
+    ⊎ Then (DrainsLoopback true)
+    (Then (ExchangesByte {T = Unit {0}} (Ok tt)) (ExchangesMessage {T = Unit {0}} (Err e))) s l)
 
 -- the line differs
 abbrev pub differs : ℕ → ℕ → ℕ → Bool
@@ -109,7 +121,8 @@ differs before now line = not (bit_and before line == bit_and now line)
 -- the changes between two readings of MSR, as their bits: of RI only its trailing edge
 abbrev pub line_changes : (before now : ℕ) → ℕ
 line_changes before now =
-    bit_or (bit_or (flag (differs before now MSR.CTS.0) MSR.DELTA_CTS.0) (flag (differs before now MSR.DSR.0) MSR.DELTA_DSR.0))
+    bit_or (bit_or (flag (differs before now MSR.CTS.0) MSR.DELTA_CTS.0)
+    (flag (differs before now MSR.DSR.0) MSR.DELTA_DSR.0))
     (bit_or (flag (has before MSR.RI.0 && not (has now MSR.RI.0)) MSR.TRAILING_EDGE_RI.0)
     (flag (differs before now MSR.CD.0) MSR.DELTA_CD.0))
 

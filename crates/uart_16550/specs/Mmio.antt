@@ -39,7 +39,9 @@ IsMappingRefusal address apart (InvalidBaseAddress a) =
     (a ≡ address) × IsTrue (is_power_of_two apart) × (2 ^ 64 ≤ address_of address apart offsets.SPR)
 
 -- the object makes the access at the address base + offset * stride, and base and stride stay
-pub record MemoryStep {M : Type 0} (step : M → Access → M → Type 0) (old : Mapped M) (access : Access) (new : Mapped M) : Type 0 where
-  pub made : step old.access (access_at (address_of (non_zero_usize_get old.base) (non_zero_u8_get old.stride)) access) new.access
+pub record MemoryStep {M : Type 0} (step : M → Access → M → Type 0) (old : Mapped M) (access : Access)
+    (new : Mapped M) : Type 0 where
+  pub made : step old.access
+      (access_at (address_of (non_zero_usize_get old.base) (non_zero_u8_get old.stride)) access) new.access
   pub base : new.base ≡ old.base
   pub stride : new.stride ≡ old.stride

@@ -31,6 +31,7 @@ pub record IsPortRefusal (port : ℕ) (e : InvalidAddressError) : Type 0 where
   pub beyond : last_port < port + offsets.SPR
 
 -- the object makes the access at the port base + offset, and the base stays
-pub record PortStep {P : Type 0} (step : P → Access → P → Type 0) (old : Ports P) (access : Access) (new : Ports P) : Type 0 where
+pub record PortStep {P : Type 0} (step : P → Access → P → Type 0) (old : Ports P) (access : Access)
+    (new : Ports P) : Type 0 where
   pub made : step old.access (access_at (λ offset. old.base + offset) access) new.access
   pub base : new.base ≡ old.base

@@ -1,5 +1,6 @@
 -- The lists of the receiving calls.
-use Rattle.std.specs.Prelude.{◌≡◌, ◌<◌, ℕ, Bool, true, false, List, [], ◌∷◌, Result, Ok, Err, Option, Some, None, length, take, ◌⊎◌}
+use Rattle.std.specs.Prelude.{◌≡◌, ◌<◌, ℕ, Bool, true, false, List, [], ◌∷◌, Result, Ok, Err, Option, Some, None}
+use Rattle.std.specs.Prelude.{length, take, ◌⊎◌}
 use Rattle.uart_spec.specs.declared.errors.StalledError.{StalledError}
 use Rattle.uart_spec.specs.declared.registers.offsets.TheConstants as offsets
 use Rattle.uart_spec.specs.declared.registers.line_status.TheConstants.LSR
@@ -26,7 +27,8 @@ TryReceive (Err e) = Miss
 
 -- `receive_bytes` into n slots: these bytes fill all slots, or a miss follows them
 abbrev pub Receives : ℕ → List ℕ → Language
-Receives n bytes s l = ((length bytes ≡ n) × InOrder Hit bytes s l) ⊎ ((length bytes < n) × Then (InOrder Hit bytes) Miss s l)
+Receives n bytes s l =
+    ((length bytes ≡ n) × InOrder Hit bytes s l) ⊎ ((length bytes < n) × Then (InOrder Hit bytes) Miss s l)
 
 -- a byte, after fewer misses in a row than the limit
 abbrev pub Awaited : ℕ → Language
@@ -50,4 +52,5 @@ filled (Err e) slots = take e.done slots
 -- `receive_bytes_exact` into n slots: all are filled, each after its own wait; or those so far, and then a wait in vain
 abbrev pub ReceivesExact : {T : Type 0} → ℕ → List ℕ → Result T StalledError → Language
 ReceivesExact n bytes (Ok x) s l = (length bytes ≡ n) × InOrder Awaited bytes s l
-ReceivesExact n bytes (Err e) s l = (length bytes < n) × (e.done ≡ length bytes) × Then (InOrder Awaited bytes) (AllMisses Miss) s l
+ReceivesExact n bytes (Err e) s l =
+    (length bytes < n) × (e.done ≡ length bytes) × Then (InOrder Awaited bytes) (AllMisses Miss) s l

@@ -9,7 +9,11 @@ use Rattle.uart_spec.specs.declared.config.Config.{Config}
 use Rattle.uart_spec.specs.declared.config.BaudRate.{BaudRate}
 use Rattle.uart_spec.specs.declared.errors.NonIntegerBaudRateError.{NonIntegerBaudRateError}
 use Rattle.uart_spec.specs.declared.errors.RemoteReadyToReceiveError.{RemoteReadyToReceiveError}
-use Rattle.uart_spec.specs.declared.errors.RemoteReadyToReceiveError.TheVariants.{NoRemoteConnectedNoDSR, NoRemoteConnectedNoCD, RemoteNotClearToSend}
+use Rattle.uart_spec.specs.declared.errors.RemoteReadyToReceiveError.TheVariants.{
+  NoRemoteConnectedNoDSR,
+  NoRemoteConnectedNoCD,
+  RemoteNotClearToSend,
+}
 use Rattle.uart_spec.specs.declared.registers.offsets.TheConstants as offsets
 use Rattle.uart_spec.specs.declared.registers.line_control.TheConstants.LCR
 use Rattle.uart_spec.specs.declared.registers.modem_status.TheConstants.MSR
@@ -20,11 +24,13 @@ use Rattle.uart_16550.specs.declared.dump.ConfigRegisterDump.{ConfigRegisterDump
 
 -- `lsr`: one read, answered joined with the saved bits, which are then none
 abbrev pub TakesLsr : ℕ → Doing
-TakesLsr result f l after = (status : ℕ) × (l ≡ Read offsets.LSR status ∷ []) × (result ≡ bit_or status f.lsr) × (after ≡ with_saved 0 f.msr f)
+TakesLsr result f l after =
+    (status : ℕ) × (l ≡ Read offsets.LSR status ∷ []) × (result ≡ bit_or status f.lsr) × (after ≡ with_saved 0 f.msr f)
 
 -- `msr` likewise
 abbrev pub TakesMsr : ℕ → Doing
-TakesMsr result f l after = (status : ℕ) × (l ≡ Read offsets.MSR status ∷ []) × (result ≡ bit_or status f.msr) × (after ≡ with_saved f.lsr 0 f)
+TakesMsr result f l after =
+    (status : ℕ) × (l ≡ Read offsets.MSR status ∷ []) × (result ≡ bit_or status f.msr) × (after ≡ with_saved f.lsr 0 f)
 
 -- DSR and CTS are set, or the one told is clear
 abbrev pub ShowsConnection : {T : Type 0} → Result T RemoteReadyToReceiveError → ℕ → Type 0
@@ -63,7 +69,8 @@ Disables bits f l after = (ier : ℕ) × (l ≡ Read offsets.IER ier ∷ Write o
 -- the seven registers after the divisor latch, in this order
 abbrev pub dump_reads : (lsr msr : ℕ) → ConfigRegisterDump → List Access
 dump_reads lsr msr dump =
-    Read offsets.IER dump.ier.0 ∷ Read offsets.ISR dump.isr.0 ∷ Read offsets.LCR dump.lcr.0 ∷ Read offsets.MCR dump.mcr.0 ∷
+    Read offsets.IER dump.ier.0 ∷ Read offsets.ISR dump.isr.0 ∷ Read offsets.LCR dump.lcr.0 ∷
+    Read offsets.MCR dump.mcr.0 ∷
     Read offsets.LSR lsr ∷ Read offsets.MSR msr ∷ Read offsets.SPR dump.spr ∷ []
 
 -- `config_register_dump`: what was read, LSR and MSR joined with the saved bits, which stay
@@ -85,4 +92,5 @@ abbrev pub IsDumpRate : Config → ConfigRegisterDump → Result BaudRate NonInt
 IsDumpRate config dump (Ok rate) =
     IsBaudRateAnswer config.frequency (divisor_of dump) config.prescaler_division_factor (Ok (to_integer rate))
     × ((named : BaudRate) → IsNamed named → to_integer named ≡ to_integer rate → rate ≡ named)
-IsDumpRate config dump (Err e) = IsBaudRateAnswer config.frequency (divisor_of dump) config.prescaler_division_factor (Err e)
+IsDumpRate config dump (Err e) =
+    IsBaudRateAnswer config.frequency (divisor_of dump) config.prescaler_division_factor (Err e)

@@ -1,5 +1,6 @@
 -- The lists of the sending calls.
-use Rattle.std.specs.Prelude.{◌≡◌, ◌<◌, ℕ, Bool, true, false, List, [], ◌∷◌, ◌+◌, Result, Ok, Err, Option, Some, None, length, ◌⊎◌, map, take, drop, min, if◌then◌else◌}
+use Rattle.std.specs.Prelude.{◌≡◌, ◌<◌, ℕ, Bool, true, false, List, [], ◌∷◌, ◌+◌, Result, Ok, Err, Option, Some, None}
+use Rattle.std.specs.Prelude.{length, ◌⊎◌, map, take, drop, min, if◌then◌else◌}
 use Rattle.uart_spec.specs.declared.errors.ByteSendError.{ByteSendError}
 use Rattle.uart_spec.specs.declared.errors.ByteSendError.TheVariants.{NoCapacity, RemoteNotClearToSend}
 use Rattle.uart_spec.specs.declared.errors.StalledError.{StalledError}
@@ -9,7 +10,8 @@ use Rattle.uart_spec.specs.declared.registers.modem_control.TheConstants.MCR
 use Rattle.uart_spec.specs.declared.registers.modem_status.TheConstants.MSR
 use Rattle.uart_spec.specs.declared.baud.TheConstants.{FIFO_SIZE}
 use Rattle.uart_spec.specs.Access.{Access, Write}
-use Rattle.uart_16550.specs.Grammar.{Language, Settings, Only, Then, InOrder, FewMisses, AllMisses, Asks, IfChecks, Never}
+use Rattle.uart_16550.specs.Grammar.{Language, Settings, Only, Then, InOrder, FewMisses, AllMisses, Asks, IfChecks}
+use Rattle.uart_16550.specs.Grammar.{Never}
 
 -- the modem lines allow to send or forbid it: in loopback they mean nothing
 abbrev pub LinesAllow : Bool → Language
@@ -19,7 +21,8 @@ LinesAllow allowed s l =
 
 -- a send check that hits: the holding register is empty, and with CTS checking the remote is clear to send
 abbrev pub SendHit : Language
-SendHit = IfChecks (Then (Asks offsets.LSR LSR.THR_EMPTY.0 true) (LinesAllow true)) (Asks offsets.LSR LSR.THR_EMPTY.0 true)
+SendHit = IfChecks (Then (Asks offsets.LSR LSR.THR_EMPTY.0 true) (LinesAllow true))
+    (Asks offsets.LSR LSR.THR_EMPTY.0 true)
 
 -- a send check that misses for this reason
 abbrev pub SendRefused : ByteSendError → Language
@@ -76,7 +79,8 @@ SendsSome bytes None s l = AllMisses SendMiss s l
 abbrev pub IsCut : Settings → List ℕ → List (List ℕ) → List ℕ → Type 0
 IsCut s bytes [] rest = rest ≡ bytes
 IsCut s bytes (piece ∷ pieces) rest =
-    (0 < length bytes) × (piece ≡ take (burst_size s bytes) bytes) × IsCut s (drop (burst_size s bytes) bytes) pieces rest
+    (0 < length bytes) × (piece ≡ take (burst_size s bytes) bytes)
+    × IsCut s (drop (burst_size s bytes) bytes) pieces rest
 
 -- all of the bytes are sent, burst by burst
 abbrev pub SendsAll : List ℕ → Language
@@ -86,7 +90,8 @@ SendsAll bytes s l = (pieces : List (List ℕ)) × IsCut s bytes pieces [] × In
 abbrev pub SendsExact : {T : Type 0} → List ℕ → Result T StalledError → Language
 SendsExact bytes (Ok x) s l = SendsAll bytes s l
 SendsExact bytes (Err e) s l =
-    (pieces : List (List ℕ)) × (rest : List ℕ) × IsCut s bytes pieces rest × (0 < length rest) × (e.done + length rest ≡ length bytes)
+    (pieces : List (List ℕ)) × (rest : List ℕ) × IsCut s bytes pieces rest × (0 < length rest)
+    × (e.done + length rest ≡ length bytes)
     × Then (InOrder Round pieces) (AllMisses SendMiss) s l
 
 -- `try_send_byte`: the `send_bytes` of one byte

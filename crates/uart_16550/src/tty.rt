@@ -117,7 +117,8 @@ impl<M: ByteAccess + Drop> Uart16550Tty<MmioBackend<M>> {
         config: Config,
     ) -> Result<Self, Uart16550TtyError>
         requires { IsComputable config }
-        ensures { BuildsTerminalAt (MemoryStep M.step) (λ mapped. IsInMemory mapped base_address stride access) (IsMappingRefusal (non_zero_usize_get base_address) stride) config result }
+        ensures { BuildsTerminalAt (MemoryStep M.step) (λ mapped. IsInMemory mapped base_address stride access)
+            (IsMappingRefusal (non_zero_usize_get base_address) stride) config result }
     {
         match Uart16550::new_mmio(base_address, stride, access) {
             Ok(driver) => Self::start(driver, config),
@@ -133,7 +134,8 @@ impl<M: ByteAccess + Drop> Uart16550Tty<MmioBackend<M>> {
         config: Config,
     ) -> Result<Self, Uart16550TtyError>
         requires { IsComputable config }
-        ensures { BuildsTerminalAt (MemoryStep M.step) (λ mapped. IsInMemory mapped base_address stride access) (IsMappingRefusal (non_zero_usize_get base_address) stride) config result }
+        ensures { BuildsTerminalAt (MemoryStep M.step) (λ mapped. IsInMemory mapped base_address stride access)
+            (IsMappingRefusal (non_zero_usize_get base_address) stride) config result }
     {
         Self::new_mmio(base_address, stride, access, config)
     }

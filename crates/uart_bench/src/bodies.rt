@@ -84,7 +84,7 @@ fn config_with(level: Option<FifoTriggerLevel>) -> Config
     }
 }
 
-/// Runs a body so many times over a backend, and answers what came of its accesses.
+/// Runs a body so many times over a backend, and returns what came of its accesses.
 ///
 /// The buffer is what one call sends or receives, and the text what one call prints.
 pub fn run<B: Observed + Drop>(

@@ -44,7 +44,7 @@ impl Cells {
 }
 
 impl Backend for Cells {
-    // Nothing is promised of what a cell answers.
+    // Nothing is promised of what a cell returns.
     ghost step = { λ _ _ _. ⊤ };
 
     fn read(&mut self, register_offset: u8) -> u8 {

@@ -48,7 +48,7 @@ fn thousands(alloc: Global, count: u64) -> Result<Vec<Event>, AllocError> {
     Ok(schedule)
 }
 
-/// Does this so many times on a machine that is given a character to send before, and answers what LSR shows then.
+/// Does this so many times on a machine that is given a character to send before, and returns what LSR shows then.
 pub fn perform(alloc: Global, work: Work, count: u64) -> Result<u8, BuildError> {
     let schedule = match work {
         Work::Access | Work::Idle => Ok(Vec::new(alloc)),

@@ -1,4 +1,4 @@
-//! Plays the scripts of a folder, and tells of each whether it prints what is stored beside it.
+//! Plays the scripts of a folder, and prints of each whether its output is what is stored beside it.
 //!
 //! The folder is the first argument, or else the one in which the program runs. Beside `NAME.script` lies `NAME.out`: the bytes
 //! that the program `uart_script` prints for it.

@@ -15,6 +15,7 @@ use Rattle.uart_chip.specs.declared.event.Chip.{Chip}
 use Rattle.uart_chip.specs.declared.event.Chip.TheVariants.{Uart16550A, Uart16450}
 use Rattle.uart_language.specs.declared.cause.Cause.{Cause}
 use Rattle.uart_language.specs.declared.cause.Cause.TheVariants.{BadWord, BadNumber, BadHex, TooManyBytes, BadText}
+use Rattle.uart_language.specs.declared.limits.TheConstants.{MOST_LIMIT, MOST_TICKS, MOST_RATE}
 
 -- what follows a value, or the fault before it
 infixl 10 ◌>>=◌
@@ -31,6 +32,26 @@ unfoldable pub number_in : ℕ → ℕ → List ℕ → Result ℕ Cause
 number_in least most word =
     if is_number word && nat_le least (digits_value 10 word) && nat_le (digits_value 10 word) most
     then Ok (digits_value 10 word) else Err BadNumber
+
+-- N of a call: how many bytes it has room for
+abbrev pub count_in : List ℕ → Result ℕ Cause
+count_in word = number_in 0 64 word
+
+-- N of `limit`: the driver's limit
+abbrev pub limit_in : List ℕ → Result ℕ Cause
+limit_in word = number_in 1 MOST_LIMIT word
+
+-- N of `tick`: how many ticks pass
+abbrev pub ticks_in : List ℕ → Result ℕ Cause
+ticks_in word = number_in 0 MOST_TICKS word
+
+-- T: how many ticks a character takes to leave the chip
+abbrev pub char_ticks_in : List ℕ → Result ℕ Cause
+char_ticks_in word = number_in 1 1000 word
+
+-- W: how many bytes the wire has room for
+abbrev pub wire_capacity_in : List ℕ → Result ℕ Cause
+wire_capacity_in word = number_in 0 65536 word
 
 -- HH: two hexadecimal digits of either case
 unfoldable pub byte_in : List ℕ → Result ℕ Cause
@@ -63,40 +84,32 @@ text_in word = do
   bytes ← bytes_in word
   if is_utf8 bytes then Ok bytes else Err BadText
 
+-- what is beside the word in a table
+abbrev pub among : {A : Type 0} → List (List ℕ × A) → List ℕ → Result A Cause
+among [] word = Err BadWord
+among (row ∷ rows) word = if bytes_eq word row.0 then Ok row.1 else among rows word
+
 -- E: a parity error p, a framing error f and a break b are the bits 04, 08 and 10 of LSR
 unfoldable pub errors_in : List ℕ → Result ℕ Cause
-errors_in word =
-    if bytes_eq word (codes "p") then Ok 0x04
-    else if bytes_eq word (codes "f") then Ok 0x08
-    else if bytes_eq word (codes "b") then Ok 0x10
-    else if bytes_eq word (codes "pf") then Ok 0x0C
-    else if bytes_eq word (codes "pb") then Ok 0x14
-    else if bytes_eq word (codes "fb") then Ok 0x18
-    else if bytes_eq word (codes "pfb") then Ok 0x1C
-    else Err BadWord
+errors_in word = among (
+    (codes "p", 0x04) ∷ (codes "f", 0x08) ∷ (codes "b", 0x10) ∷ (codes "pf", 0x0C) ∷ (codes "pb", 0x14) ∷ (codes "fb", 0x18)
+    ∷ (codes "pfb", 0x1C) ∷ []) word
 
 -- the chip
 unfoldable pub chip_in : List ℕ → Result Chip Cause
-chip_in word =
-    if bytes_eq word (codes "16550a") then Ok Uart16550A
-    else if bytes_eq word (codes "16450") then Ok Uart16450
-    else Err BadWord
+chip_in word = among ((codes "16550a", Uart16550A) ∷ (codes "16450", Uart16450) ∷ []) word
 
 -- the option that may end the first line
 unfoldable pub cut_in : List ℕ → Result Bool Cause
-cut_in word = if bytes_eq word (codes "cut") then Ok true else Err BadWord
+cut_in word = among ((codes "cut", true) ∷ []) word
 
 -- F: the trigger level of the receiver FIFO
 unfoldable pub level_in : List ℕ → Result (Option FifoTriggerLevel) Cause
-level_in word =
-    if bytes_eq word (codes "off") then Ok None
-    else if bytes_eq word (codes "1") then Ok (Some One)
-    else if bytes_eq word (codes "4") then Ok (Some Four)
-    else if bytes_eq word (codes "8") then Ok (Some Eight)
-    else if bytes_eq word (codes "14") then Ok (Some Fourteen)
-    else Err BadWord
+level_in word = among (
+    (codes "off", None) ∷ (codes "1", Some One) ∷ (codes "4", Some Four) ∷ (codes "8", Some Eight)
+    ∷ (codes "14", Some Fourteen) ∷ []) word
 
--- the baud rate of a number: the case with a name, where there is one
+-- the baud rate of a number: the case with a name, if there is one
 abbrev pub rate_of : ℕ → BaudRate
 rate_of n =
     if n == 115200 then rate.Baud115200
@@ -115,15 +128,12 @@ rate_of n =
 -- BAUD: the bits a second
 unfoldable pub rate_in : List ℕ → Result BaudRate Cause
 rate_in word = do
-  n ← number_in 1 4294967295 word
+  n ← number_in 1 MOST_RATE word
   Ok (rate_of n)
 
 -- C: whether the driver checks CTS
 unfoldable pub cts_in : List ℕ → Result Bool Cause
-cts_in word =
-    if bytes_eq word (codes "cts") then Ok true
-    else if bytes_eq word (codes "nocts") then Ok false
-    else Err BadWord
+cts_in word = among ((codes "cts", true) ∷ (codes "nocts", false) ∷ []) word
 
 -- HH: the bits of IER
 unfoldable pub interrupts_in : List ℕ → Result IER Cause

@@ -14,9 +14,9 @@ use Rattle.uart_language.specs.declared.items.Header.{Header}
 use Rattle.uart_language.specs.declared.words.Word.{Word}
 use Rattle.uart_language.specs.declared.words.Word.TheVariants as word
 use Rattle.uart_language.specs.Text.{words_of, word_at, has_bad_byte}
-use Rattle.uart_language.specs.Fields.{◌>>=◌, number_in, byte_in, lines_in, bytes_in, text_in, errors_in, chip_in, cut_in, level_in, rate_in, cts_in, interrupts_in, word_length_in}
+use Rattle.uart_language.specs.Fields.{◌>>=◌, count_in, limit_in, ticks_in, char_ticks_in, wire_capacity_in, byte_in, lines_in, bytes_in, text_in, errors_in, chip_in, cut_in, level_in, rate_in, cts_in, interrupts_in, word_length_in}
 use Rattle.uart_language.specs.Words.{word_of, has_count, is_placed}
-use Rattle.uart_language.specs.ScriptLines.{Saying, Nothing, Limit, Happens, Calls, Marks, configured, bytes_of, text_of, plain}
+use Rattle.uart_language.specs.Sayings.{Saying, Nothing, Limit, Happens, Calls, Marks, configured, array_of, text_of, plain}
 
 -- init F BAUD C HH BITS
 unfoldable pub config_in : List (List ℕ) → Result Config Cause
@@ -69,23 +69,23 @@ call_of word.Disable ws = do
   interrupts ← interrupts_in (word_at 1 ws)
   Ok (call.Disable interrupts)
 call_of word.Receive ws = do
-  n ← number_in 0 64 (word_at 1 ws)
+  n ← count_in (word_at 1 ws)
   Ok (call.Receive n)
 call_of word.ReceiveExact ws = do
-  n ← number_in 0 64 (word_at 1 ws)
+  n ← count_in (word_at 1 ws)
   Ok (call.ReceiveExact n)
 call_of word.Read ws = do
-  n ← number_in 0 64 (word_at 1 ws)
+  n ← count_in (word_at 1 ws)
   Ok (call.Read n)
 call_of word.Send ws = do
   bytes ← bytes_in (word_at 1 ws)
-  Ok (call.Send (bytes_of bytes))
+  Ok (call.Send (array_of bytes))
 call_of word.SendExact ws = do
   bytes ← bytes_in (word_at 1 ws)
-  Ok (call.SendExact (bytes_of bytes))
+  Ok (call.SendExact (array_of bytes))
 call_of word.Write ws = do
   bytes ← bytes_in (word_at 1 ws)
-  Ok (call.Write (bytes_of bytes))
+  Ok (call.Write (array_of bytes))
 call_of word.Text ws = do
   bytes ← text_in (word_at 1 ws)
   Ok (call.Text (text_of bytes))
@@ -94,10 +94,10 @@ call_of other ws = Err UnknownWord
 -- what the words of a line after the first say
 unfoldable pub item_of : Word → List (List ℕ) → Result Saying Cause
 item_of word.Limit ws = do
-  n ← number_in 1 1000000 (word_at 1 ws)
+  n ← limit_in (word_at 1 ws)
   Ok (Limit n)
 item_of word.Tick ws = do
-  n ← number_in 0 65535 (word_at 1 ws)
+  n ← ticks_in (word_at 1 ws)
   Ok (Happens (event.Ticks n))
 item_of word.Arrive ws = do
   arrival ← arrival_in ws
@@ -111,17 +111,17 @@ item_of word ws = do
   c ← call_of word ws
   Ok (Calls c)
 
--- the first word, if it stands in its place before as many words as it takes
-abbrev pub placed : ℕ → List (List ℕ) → Option Word → Result Word Cause
-placed number ws None = if is_placed number None then Err UnknownWord else Err Misplaced
-placed number ws (Some word) =
+-- the first word, if it is in its place before as many words as it takes
+abbrev pub placed_word : ℕ → List (List ℕ) → Option Word → Result Word Cause
+placed_word number ws None = if is_placed number None then Err UnknownWord else Err Misplaced
+placed_word number ws (Some word) =
     if is_placed number (Some word) then (if has_count word (length ws) then Ok word else Err WrongCount)
     else Err Misplaced
 
 unfoldable pub starts_with : ℕ → List ℕ → Result Word Cause
 starts_with number line =
     if has_bad_byte line then Err BadByte
-    else placed number (words_of line) (word_of (word_at 0 (words_of line)))
+    else placed_word number (words_of line) (word_of (word_at 0 (words_of line)))
 
 -- a line after the first
 unfoldable pub item_at : ℕ → List ℕ → Result Saying Cause
@@ -133,8 +133,8 @@ item_at number line =
 unfoldable pub header_in : List (List ℕ) → Result Header Cause
 header_in ws = do
   chip ← chip_in (word_at 1 ws)
-  ticks ← number_in 1 1000 (word_at 2 ws)
-  capacity ← number_in 0 65536 (word_at 3 ws)
+  ticks ← char_ticks_in (word_at 2 ws)
+  capacity ← wire_capacity_in (word_at 3 ws)
   cuts ← if length ws == 5 then cut_in (word_at 4 ws) else Ok false
   Ok (record { chip = chip; ticks = ticks; wire_capacity = capacity; cuts = cuts })
 

@@ -1,8 +1,8 @@
 pub mod Text
 pub mod Fields
 pub mod Words
-pub mod ScriptLines
+pub mod Sayings
 pub mod Script
 pub mod Items
-pub mod ScriptReading
+pub mod Reading
 pub mod Output

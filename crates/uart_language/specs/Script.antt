@@ -9,13 +9,14 @@ use Rattle.uart_language.specs.declared.cause.Cause.{Cause}
 use Rattle.uart_language.specs.declared.cause.Cause.TheVariants.{BadByte, Misplaced, UnknownWord, WrongCount, TooLong}
 use Rattle.uart_language.specs.declared.cause.ScriptError.{ScriptError}
 use Rattle.uart_language.specs.declared.cause.ScriptError.TheVariants as errors
+use Rattle.uart_language.specs.declared.limits.TheConstants.{MOST_BYTES, MOST_LINES, MOST_LIMIT, DEFAULT_LIMIT}
 use Rattle.uart_language.specs.declared.parsing.Script.{Script}
 use Rattle.uart_language.specs.declared.words.Word.{Word}
 use Rattle.uart_calls.specs.Calls.{IsRunnable}
 use Rattle.uart_language.specs.Text.{lines_of, words_of, word_at, has_bad_byte}
-use Rattle.uart_language.specs.Fields.{number_in, chip_in}
+use Rattle.uart_language.specs.Fields.{char_ticks_in, wire_capacity_in, chip_in}
 use Rattle.uart_language.specs.Words.{word_of, has_count, is_placed, fields_of}
-use Rattle.uart_language.specs.ScriptLines.{Saying, Nothing, Limit, events_of, calls_of, plain, Means}
+use Rattle.uart_language.specs.Sayings.{Saying, Nothing, Limit, events_said, calls_said, plain, Means}
 
 -- ---- the script
 
@@ -53,7 +54,7 @@ plan_of s = record {
   calls = map plain s.calls.items;
 }
 
--- the word of the option, where it is on
+-- the word of the option, if it is on
 abbrev pub option_words : Bool → List (List ℕ)
 option_words false = []
 option_words true = codes "cut" ∷ []
@@ -66,8 +67,8 @@ pub record IsHeader (line : List ℕ) (chip : Chip) (ticks wire_capacity : ℕ) 
   pub printable : has_bad_byte line ≡ false
   pub words : words_of line ≡ codes "chip" ∷ NAME ∷ T ∷ W ∷ option_words cuts
   pub chip_is : chip_in NAME ≡ Ok chip
-  pub ticks_is : number_in 1 1000 T ≡ Ok ticks
-  pub wire_capacity_is : number_in 0 65536 W ≡ Ok wire_capacity
+  pub ticks_is : char_ticks_in T ≡ Ok ticks
+  pub wire_capacity_is : wire_capacity_in W ≡ Ok wire_capacity
 
 -- the limit that is said last, or else this one
 abbrev pub limit_from : ℕ → List Saying → ℕ
@@ -75,28 +76,24 @@ limit_from limit [] = limit
 limit_from limit (Limit n ∷ sayings) = limit_from n sayings
 limit_from limit (other ∷ sayings) = limit_from limit sayings
 
--- the driver's limit where no line gives one
-abbrev pub default_limit : ℕ
-default_limit = 1000000
-
 -- The bytes are a script that says this: a header, and after it lines whose events form the schedule and whose calls the
 -- list, in their order.
 pub record IsScript (bytes : List ℕ) (plan : Plan) : Type 0 where
   pub first : List ℕ
   pub others : List (List ℕ)
   pub sayings : List Saying
-  pub fits : length bytes ≤ 65536
+  pub fits : length bytes ≤ MOST_BYTES
   pub lines : lines_of bytes ≡ first ∷ others
-  pub few : length others < 4096
+  pub few : length others < MOST_LINES
   pub header : IsHeader first plan.chip plan.ticks plan.wire_capacity plan.cuts
   pub body : SayInOrder 2 others sayings
-  pub limit : plan.limit ≡ limit_from default_limit sayings
-  pub events : plan.events ≡ flat_map events_of sayings
-  pub calls : plan.calls ≡ flat_map calls_of sayings
+  pub limit : plan.limit ≡ limit_from DEFAULT_LIMIT sayings
+  pub events : plan.events ≡ flat_map events_said sayings
+  pub calls : plan.calls ≡ flat_map calls_said sayings
 
 -- ---- the first faulty line
 
--- a fault, where the test says so
+-- a fault, if the test says so
 abbrev pub fault_where : Bool → Cause → Option Cause
 fault_where test cause = if test then Some cause else None
 
@@ -106,7 +103,7 @@ first_of [] = None
 first_of (None ∷ faults) = first_of faults
 first_of (Some cause ∷ faults) = Some cause
 
--- what is wrong with the words after the first, each by the field that stands at its place
+-- what is wrong with the words after the first, each by the field at its place
 abbrev pub field_faults : List (List ℕ → Option Cause) → List (List ℕ) → List (Option Cause)
 field_faults [] rest = []
 field_faults (field ∷ fields) [] = []
@@ -118,10 +115,11 @@ word_faults number (Some word) ws =
     fault_where (not (is_placed number (Some word))) Misplaced ∷ fault_where (not (has_count word (length ws))) WrongCount ∷ field_faults (fields_of word) (drop 1 ws)
 word_faults number None ws = fault_where (not (is_placed number None)) Misplaced ∷ Some UnknownWord ∷ []
 
--- What is wrong with a line, found from the left. Line 4,097 is too long whatever it holds, and a blank line after the first is fine.
+-- What is wrong with a line, found from the left. A line past the most lines is too long whatever it holds, and a blank line after
+-- the first is fine.
 abbrev pub fault_at : ℕ → List ℕ → Option Cause
 fault_at number line =
-    if nat_lt 4096 number then Some TooLong
+    if nat_lt MOST_LINES number then Some TooLong
     else if length line == 0 && not (number == 1) then None
     else first_of (fault_where (has_bad_byte line) BadByte ∷ word_faults number (word_of (word_at 0 (words_of line))) (words_of line))
 
@@ -142,13 +140,13 @@ pub record IsFirstFault (start : ℕ) (lines : List (List ℕ)) (number : ℕ) (
 
 -- The bytes are no script, and this is told: too many bytes, before anything else; no line at all; or the first faulty line.
 pub data IsFaulty (bytes : List ℕ) (number : ℕ) (cause : Cause) : Type 0 where
-  long : 65536 < length bytes → number ≡ 0 → cause ≡ TooLong → IsFaulty bytes number cause
+  long : MOST_BYTES < length bytes → number ≡ 0 → cause ≡ TooLong → IsFaulty bytes number cause
   empty : bytes ≡ [] → number ≡ 1 → cause ≡ Misplaced → IsFaulty bytes number cause
-  faulty : length bytes ≤ 65536 → IsFirstFault 1 (lines_of bytes) number cause → IsFaulty bytes number cause
+  faulty : length bytes ≤ MOST_BYTES → IsFirstFault 1 (lines_of bytes) number cause → IsFaulty bytes number cause
 
--- ---- what parsing answers
+-- ---- what parsing returns
 
--- The one script that the bytes are; or their first fault, exactly where they are none; or want of memory, and that only
+-- The one script that the bytes are; or their first fault, exactly if they are none; or out of memory, and that only
 -- of a script.
 pub record IsParsed (bytes : List ℕ) (result : Result Script ScriptError) : Type 0 where
   pub script : IfOk result (λ s. IsScript bytes (plan_of s))
@@ -159,15 +157,15 @@ pub record IsParsed (bytes : List ℕ) (result : Result Script ScriptError) : Ty
 -- ---- what every script keeps
 
 -- error bits are 2 to 4 of LSR, and modem lines are 4 to 7 of MSR
-abbrev pub IsSound : Event → Type 0
-IsSound (event.Arrive byte errors) = bit_and errors 0x1C ≡ errors
-IsSound (event.Lines lines) = bit_and lines 0xF0 ≡ lines
-IsSound other = ⊤
+abbrev pub IsLegal : Event → Type 0
+IsLegal (event.Arrive byte errors) = bit_and errors 0x1C ≡ errors
+IsLegal (event.Lines lines) = bit_and lines 0xF0 ≡ lines
+IsLegal other = ⊤
 
--- its numbers are in their ranges, its events sound and its calls runnable, so that it can be played
+-- its numbers are in their ranges, its events legal and its calls runnable, so that it can be played
 pub record IsPlayable (plan : Plan) : Type 0 where
   pub ticks : (1 ≤ plan.ticks) × (plan.ticks ≤ 1000)
   pub wire_capacity : plan.wire_capacity ≤ 65536
-  pub limit : (1 ≤ plan.limit) × (plan.limit ≤ 1000000)
-  pub events : All IsSound plan.events
+  pub limit : (1 ≤ plan.limit) × (plan.limit ≤ MOST_LIMIT)
+  pub events : All IsLegal plan.events
   pub calls : All IsRunnable plan.calls

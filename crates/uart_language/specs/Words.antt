@@ -3,9 +3,9 @@ use Rattle.std.specs.Prelude.{ℕ, ◌+◌, Bool, not, List, [], ◌∷◌, leng
 use Rattle.uart_language.specs.declared.cause.Cause.{Cause}
 use Rattle.uart_language.specs.declared.words.Word.{Word}
 use Rattle.uart_language.specs.declared.words.Word.TheVariants as word
-use Rattle.uart_language.specs.Fields.{number_in, byte_in, lines_in, bytes_in, text_in, errors_in, chip_in, cut_in, level_in, rate_in, cts_in, interrupts_in, word_length_in}
+use Rattle.uart_language.specs.Fields.{count_in, limit_in, ticks_in, char_ticks_in, wire_capacity_in, byte_in, lines_in, bytes_in, text_in, errors_in, chip_in, cut_in, level_in, rate_in, cts_in, interrupts_in, word_length_in}
 
--- a word as it stands in a script
+-- a word as it is written in a script
 abbrev pub name_of : Word → List ℕ
 name_of word.Chip = codes "chip"
 name_of word.Limit = codes "limit"
@@ -52,7 +52,7 @@ words = word.Chip ∷ word.Limit ∷ word.Tick ∷ word.Arrive ∷ word.Lines �
 unfoldable pub word_of : List ℕ → Option Word
 word_of text = find (λ w. bytes_eq (name_of w) text) words
 
--- what is wrong with a field, where it is faulty
+-- what is wrong with a field, if it is faulty
 abbrev pub fault_of : {A E : Type 0} → Result A E → Option E
 fault_of (Ok x) = None
 fault_of (Err e) = Some e
@@ -63,18 +63,18 @@ faulty reader text = fault_of (reader text)
 
 -- the fields that follow a word; the errors of an arrival and the option of a chip may be left out
 abbrev pub fields_of : Word → List (List ℕ → Option Cause)
-fields_of word.Chip = faulty chip_in ∷ faulty (number_in 1 1000) ∷ faulty (number_in 0 65536) ∷ faulty cut_in ∷ []
-fields_of word.Limit = faulty (number_in 1 1000000) ∷ []
-fields_of word.Tick = faulty (number_in 0 65535) ∷ []
+fields_of word.Chip = faulty chip_in ∷ faulty char_ticks_in ∷ faulty wire_capacity_in ∷ faulty cut_in ∷ []
+fields_of word.Limit = faulty limit_in ∷ []
+fields_of word.Tick = faulty ticks_in ∷ []
 fields_of word.Arrive = faulty byte_in ∷ faulty errors_in ∷ []
 fields_of word.Lines = faulty lines_in ∷ []
 fields_of word.Init = faulty level_in ∷ faulty rate_in ∷ faulty cts_in ∷ faulty interrupts_in ∷ faulty word_length_in ∷ []
 fields_of word.TrySend = faulty byte_in ∷ []
 fields_of word.Enable = faulty interrupts_in ∷ []
 fields_of word.Disable = faulty interrupts_in ∷ []
-fields_of word.Receive = faulty (number_in 0 64) ∷ []
-fields_of word.ReceiveExact = faulty (number_in 0 64) ∷ []
-fields_of word.Read = faulty (number_in 0 64) ∷ []
+fields_of word.Receive = faulty count_in ∷ []
+fields_of word.ReceiveExact = faulty count_in ∷ []
+fields_of word.Read = faulty count_in ∷ []
 fields_of word.Send = faulty bytes_in ∷ []
 fields_of word.SendExact = faulty bytes_in ∷ []
 fields_of word.Write = faulty bytes_in ∷ []

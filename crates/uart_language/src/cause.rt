@@ -9,12 +9,12 @@ use thiserror::Error;
 
 /// What is wrong with a line, in the order in which a line is checked.
 ///
-/// `TooLong` is told of a script as a whole, at line 0, or of its line 4097.
+/// `TooLong` is told of a script as a whole, at line 0, or of the first line past [`MOST_LINES`](super::limits::MOST_LINES).
 #[derive(Clone, Copy, Debug, PartialEq, Eq)]
 pub enum Cause {
     /// A byte outside of 20 to 7E.
     BadByte,
-    /// The first line is no `chip` line, or `chip` or `limit` stands elsewhere.
+    /// The first line is no `chip` line, or `chip` or `limit` begins another.
     Misplaced,
     /// The line's first word is none of the language.
     UnknownWord,
@@ -30,7 +30,7 @@ pub enum Cause {
     TooManyBytes,
     /// The bytes of a text are not UTF-8.
     BadText,
-    /// More than 4,096 lines or 65,536 bytes.
+    /// More lines than [`MOST_LINES`](super::limits::MOST_LINES), or more bytes than [`MOST_BYTES`](super::limits::MOST_BYTES).
     TooLong,
 }
 

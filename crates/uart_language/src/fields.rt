@@ -5,9 +5,10 @@ ghost use Rattle.std.specs.List.{list_all};
 ghost use Rattle.std.specs.Char.{is_ascii_digit, is_ascii_hexdigit, digit_value};
 ghost use Rattle.std.specs.Int.NonZero.{non_zero_u64_get};
 ghost use Rattle.std.specs.Str.Parse.{digits_value};
-ghost use Rattle.uart_language.specs.Fields.{is_number, number_in, byte_in, lines_in, bytes_in, text_in, errors_in, chip_in, cut_in, level_in, rate_of, rate_in, cts_in, interrupts_in, word_length_in, pairs_of, is_pairs, seen};
+ghost use Rattle.uart_language.specs.Fields.{is_number, number_in, count_in, limit_in, ticks_in, char_ticks_in, wire_capacity_in, byte_in, lines_in, bytes_in, text_in, errors_in, chip_in, cut_in, level_in, rate_in, cts_in, interrupts_in, word_length_in, pairs_of, is_pairs, seen};
 
 use super::cause::Cause;
+use super::limits::{MOST_LIMIT, MOST_RATE, MOST_TICKS};
 use arrayvec::{ArrayString, ArrayVec};
 use bitflags::Flags;
 use std::num::NonZeroU64;
@@ -184,7 +185,7 @@ pub fn errors_in(word: &[u8]) -> Result<u8, Cause>
 
 /// A number of bytes that a call has room for.
 pub fn count_in(word: &[u8]) -> Result<usize, Cause>
-    ensures { result ≡ number_in 0 64 word.now }
+    ensures { result ≡ count_in word.now }
 {
     let count = number_in(0, 64, word)?;
     Ok(count as usize)
@@ -192,12 +193,37 @@ pub fn count_in(word: &[u8]) -> Result<usize, Cause>
 
 /// The driver's limit.
 pub fn limit_in(word: &[u8]) -> Result<NonZeroU64, Cause>
-    ensures { seen non_zero_u64_get result ≡ number_in 1 1000000 word.now }
+    ensures { seen non_zero_u64_get result ≡ limit_in word.now }
 {
-    let limit = number_in(1, 1_000_000, word)?;
+    let limit = number_in(1, MOST_LIMIT, word)?;
     NonZeroU64::new(limit).ok_or(Cause::BadNumber)
 }
 
+/// How many ticks pass at an event.
+pub fn ticks_in(word: &[u8]) -> Result<u16, Cause>
+    ensures { result ≡ ticks_in word.now }
+{
+    let ticks = number_in(0, MOST_TICKS, word)?;
+    Ok(ticks as u16)
+}
+
+/// How many ticks a character takes to leave the chip.
+pub fn char_ticks_in(word: &[u8]) -> Result<u16, Cause>
+    ensures { result ≡ char_ticks_in word.now }
+{
+    let ticks = number_in(1, 1000, word)?;
+    Ok(ticks as u16)
+}
+
+/// How many bytes the wire has room for.
+pub fn wire_capacity_in(word: &[u8]) -> Result<usize, Cause>
+    ensures { result ≡ wire_capacity_in word.now }
+{
+    let capacity = number_in(0, 65_536, word)?;
+    Ok(capacity as usize)
+}
+
+/// Which chip the machine is.
 #[tactic(auto, unfolding(crate::specs::Fields::chip_in))]
 pub fn chip_in(word: &[u8]) -> Result<Chip, Cause>
     ensures { result ≡ chip_in word.now }
@@ -243,7 +269,7 @@ pub fn level_in(word: &[u8]) -> Result<Option<FifoTriggerLevel>, Cause>
 pub fn rate_in(word: &[u8]) -> Result<BaudRate, Cause>
     ensures { result ≡ rate_in word.now }
 {
-    let rate = number_in(1, 4_294_967_295, word)?;
+    let rate = number_in(1, MOST_RATE, word)?;
     Ok(BaudRate::from_integer(rate as u32))
 }
 

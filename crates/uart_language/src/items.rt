@@ -4,12 +4,12 @@ ghost use Rattle.std.specs.Prelude.{◌≡◌};
 ghost use Rattle.uart_language.specs.Text.{words_of};
 ghost use Rattle.uart_language.specs.Fields.{seen};
 ghost use Rattle.uart_language.specs.Items.{config_in, arrival_in, call_of, item_of, starts_with, item_at, header_in, header_at, saying_of};
-ghost use Rattle.uart_language.specs.ScriptLines.{plain};
+ghost use Rattle.uart_language.specs.Sayings.{plain};
 
 use super::cause::Cause;
 use super::fields::{
-    byte_in, bytes_in, chip_in, count_in, cts_in, cut_in, errors_in, interrupts_in, level_in,
-    limit_in, lines_in, number_in, rate_in, text_in, word_length_in,
+    byte_in, bytes_in, char_ticks_in, chip_in, count_in, cts_in, cut_in, errors_in, interrupts_in,
+    level_in, limit_in, lines_in, rate_in, text_in, ticks_in, wire_capacity_in, word_length_in,
 };
 use super::text::{has_bad_byte, word_at, word_count};
 use super::words::{Word, has_count, is_placed, word_of};
@@ -112,10 +112,7 @@ fn item_of(word: Word, line: &[u8]) -> Result<Item, Cause>
 {
     match word {
         Word::Limit => Ok(Item::Limit(limit_in(word_at(line, 1))?)),
-        Word::Tick => {
-            let count = number_in(0, 65_535, word_at(line, 1))?;
-            Ok(Item::Event(Event::Ticks(count as u16)))
-        }
+        Word::Tick => Ok(Item::Event(Event::Ticks(ticks_in(word_at(line, 1))?))),
         Word::Arrive => Ok(Item::Event(arrival_in(line)?)),
         Word::Lines => Ok(Item::Event(Event::Lines(lines_in(word_at(line, 1))?))),
         Word::Access => Ok(Item::Event(Event::Access)),
@@ -124,7 +121,7 @@ fn item_of(word: Word, line: &[u8]) -> Result<Item, Cause>
     }
 }
 
-/// The first word of a line, if it stands in its place before as many words as it takes.
+/// The first word of a line, if it is in its place before as many words as it takes.
 #[tactic(auto, unfolding(crate::specs::Items::starts_with))]
 fn first_word(number: u32, line: &[u8]) -> Result<Word, Cause>
     ensures { result ≡ starts_with number line.now }
@@ -162,8 +159,8 @@ fn header_in(line: &[u8]) -> Result<Header, Cause>
     ensures { result ≡ header_in (words_of line.now) }
 {
     let chip = chip_in(word_at(line, 1))?;
-    let ticks = number_in(1, 1000, word_at(line, 2))?;
-    let wire_capacity = number_in(0, 65_536, word_at(line, 3))?;
+    let ticks = char_ticks_in(word_at(line, 2))?;
+    let wire_capacity = wire_capacity_in(word_at(line, 3))?;
     let cuts = if word_count(line) == 5 {
         cut_in(word_at(line, 4))?
     } else {
@@ -171,8 +168,8 @@ fn header_in(line: &[u8]) -> Result<Header, Cause>
     };
     Ok(Header {
         chip,
-        ticks: ticks as u16,
-        wire_capacity: wire_capacity as usize,
+        ticks,
+        wire_capacity,
         cuts,
     })
 }

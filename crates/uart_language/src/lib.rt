@@ -1,9 +1,14 @@
-//! The script language: what a script says, and what is printed for it. Nothing is played here.
+//! The script language: what the bytes of a script say, and what is printed for a script that was run.
+//!
+//! [`parse`] reads a [`Script`]: a chip, the events of its schedule, and the calls to be made on it. Bytes that are no script are
+//! refused with the first faulty line and its [`Cause`]. The definition of the language is in `specs/Script`, and nothing is run
+//! here: who wants a script played takes `uart_machine::script::play`.
 #![tactic(auto)]
 
 mod cause;
 mod fields;
 mod items;
+pub mod limits;
 mod parsing;
 mod rendering;
 mod text;
@@ -11,6 +16,6 @@ mod words;
 
 pub use cause::{Cause, ScriptError};
 pub use items::{Header, Item};
-pub use parsing::{MOST_BYTES, Script, parse};
+pub use parsing::{Script, parse};
 pub use rendering::render;
 pub use words::Word;

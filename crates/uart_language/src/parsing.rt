@@ -4,26 +4,18 @@ ghost use Rattle.std.specs.Prelude.{◌≡◌, ◌+◌, ◌<◌, ◌≤◌, leng
 ghost use Rattle.std.specs.Int.NonZero.{non_zero_u64_get};
 ghost use Rattle.uart_language.specs.Text.{lines_of};
 ghost use Rattle.uart_language.specs.Items.{saying_of};
-ghost use Rattle.uart_language.specs.ScriptLines.{plain};
+ghost use Rattle.uart_language.specs.Sayings.{plain};
 ghost use Rattle.uart_language.specs.Script.{plan_of, IsParsed};
-ghost use Rattle.uart_language.specs.ScriptReading.{sayings_from, with_saying, added, planned, script_of, Refuses, Checks, Builds};
+ghost use Rattle.uart_language.specs.Reading.{sayings_from, with_saying, added, planned, script_of, Refuses, Checks, BuildsPlan};
 
 use super::cause::{Cause, ScriptError};
 use super::items::{Header, Item, header_at, item_at};
+use super::limits::{DEFAULT_LIMIT, MOST_BYTES, MOST_LINES};
 use super::text::first_line;
 use std::alloc::{AllocError, Global};
 use std::num::NonZeroU64;
 use uart_calls::Call;
 use uart_chip::{Chip, Event};
-
-/// The longest script, in bytes.
-pub const MOST_BYTES: usize = 65_536;
-
-/// The longest script, in lines.
-const MOST_LINES: u32 = 4_096;
-
-/// The driver's limit where no line gives one.
-const DEFAULT_LIMIT: u64 = 1_000_000;
 
 /// A script: a chip, what happens to it, and the calls that are made.
 #[derive(Drop)]
@@ -141,7 +133,7 @@ fn check(bytes: &[u8]) -> Result<(), ScriptError>
 
 /// The script of a header and the lines after it.
 fn build(alloc: Global, header: Header, bytes: &[u8]) -> Result<Script, ScriptError>
-    ensures { Builds result (planned header (sayings_from 2 (lines_of bytes.now))) }
+    ensures { BuildsPlan result (planned header (sayings_from 2 (lines_of bytes.now))) }
 {
     let mut script = Script {
         header,

@@ -85,7 +85,7 @@ const WORDS: [Word; 37] = [
 ];
 
 impl Word {
-    /// The word as it stands in a script.
+    /// The word as it is written in a script.
     pub fn name(self) -> &'static [u8]
         ensures { result.now ≡ name_of self }
     {

@@ -1,40 +1,28 @@
 -- A run has one outcome, and a script one output.
-use Rattle.std.proofs.Common.{◌≡◌, ℕ, suc, List, [], ◌∷◌, Option, Result, Ok, Err, refl, sym, ◌∙◌, ap, subst, arith, length}
+use Rattle.std.proofs.Common.{◌≡◌, ℕ, List, [], ◌∷◌, Option, Result, Ok, Err, refl, sym, ◌∙◌, ap, subst, arith, length}
 use Rattle.std.specs.Prelude.{All}
+use Rattle.std.proofs.lemmas.List.Elements.{All-head, All-tail}
 use Rattle.std.specs.Io.KnownBytes.{Appends}
-use Rattle.uart_spec.specs.declared.errors.StalledError.{StalledError}
 use Rattle.uart_16550.specs.Choice.{LeavesNoChoice, IsFunction, IsSame}
-use Rattle.uart_16550.specs.DriverCalls.{SavingCall, ChangingCall}
-use Rattle.uart_16550.specs.Driver.{Did, Doing, Saving}
-use Rattle.uart_16550.specs.Receive.{Receives, ReceivesExact}
-use Rattle.uart_16550.specs.Io.{Reads}
-use Rattle.uart_16550.specs.Status.{Enables, Disables}
 use Rattle.uart_16550.specs.Tty.{inner_of}
 use Rattle.uart_16550.specs.declared.driver.Uart16550.{Uart16550}
-use Rattle.uart_16550.proofs.determined.Parting.{determined_so}
 use Rattle.uart_16550.proofs.determined.Repeated.{same_first, same_others}
-use Rattle.uart_16550.proofs.determined.Doings.{saving_determined}
-use Rattle.uart_16550.proofs.determined.Receive.{receives_determined, receives_exact_determined}
-use Rattle.uart_16550.proofs.determined.Io.{reads_determined}
-use Rattle.uart_16550.proofs.determined.Calls.{saving_leaves_no_choice, changing_leaves_no_choice}
 use Rattle.uart_16550.proofs.determined.Backends.{one_outcome}
 use Rattle.uart_calls.specs.declared.call.Call.{Call}
 use Rattle.uart_calls.specs.declared.call.Call.TheVariants as call
 use Rattle.uart_calls.specs.declared.call.Answer.{Answer}
-use Rattle.uart_calls.specs.declared.call.Answer.TheVariants.{Done, Flag}
 use Rattle.uart_chip.specs.Machine.{MachineState, MachineStep, at_mark}
 use Rattle.uart_calls.specs.Calls.{IsRunnable}
-use Rattle.uart_run.specs.Run.{State, machine_of, Called, CallStep, Link, Chain, calls_of, answers_of, IsRun}
-use Rattle.uart_chip.specs.Transmitter.{held}
-use Rattle.uart_device.specs.Conserved.{waiting}
-use Rattle.uart_language.specs.Output.{printed}
+use Rattle.uart_calls.specs.Meaning.{Meaning, Called, meaning}
+use Rattle.uart_calls.proofs.NoChoice.{meaning_leaves_no_choice}
+use Rattle.uart_run.specs.Run.{State, machine_of, CallStep, Link, Chain, calls_of, answers_of, IsRun}
 use Rattle.uart_language.specs.Script.{Plan, IsScript}
 use Rattle.uart_machine.specs.ScriptOutput.{IsFirst, output_of}
-use Rattle.uart_language.specs.ScriptReading.{Fault}
+use Rattle.uart_language.specs.Reading.{Fault}
 use Rattle.uart_machine.specs.Play.{IsPlayed, Outcome}
 use Rattle.uart_machine.specs.OneOutcome.{IsSameState}
-use Rattle.uart_language.proofs.ScriptExact.{script_is_read}
-use Rattle.uart_language.proofs.ScriptPlayable.{playable}
+use Rattle.uart_language.proofs.Exact.{script_is_read}
+use Rattle.uart_language.proofs.Playable.{playable}
 
 -- the machine's step is a function
 machine_is_function : IsFunction MachineStep
@@ -42,91 +30,22 @@ machine_is_function =
     record { read = λ s t u register a b p q. (p.1 ∙ sym q.1, p.0 ∙ sym q.0); write = λ s t u register value p q. p ∙ sym q }
 
 -- one call of the driver
-called_one : {R : Type 0} (G : R → Doing) (answer_of : R → Answer) → LeavesNoChoice G →
-    (a b : Answer) (d e x y : Uart16550 MachineState) → Called G answer_of a d e → Called G answer_of b x y → IsSame d x →
-    (a ≡ b) × IsSame e y
-called_one G answer_of law a b d e x y p q same =
-    let r = one_outcome {G = G} law machine_is_function p.result q.result d e x y p.did q.did same in
-    (p.answered ∙ ap answer_of r.0 ∙ sym q.answered, r.1)
-
--- a call that has nothing to tell
-done_one : (G : Doing) → LeavesNoChoice {R = Unit {0}} (λ result. G) → (a b : Answer) (d e x y : Uart16550 MachineState) →
-    (a ≡ Done) × Did MachineStep G d e → (b ≡ Done) × Did MachineStep G x y → IsSame d x → (a ≡ b) × IsSame e y
-done_one G law a b d e x y p q same =
-    (p.0 ∙ sym q.0, (one_outcome {R = Unit {0}} {G = λ result. G} law machine_is_function tt tt d e x y p.1 q.1 same).1)
-
--- calls whose outcome has the bytes that came, and not the slots
-receives_one : (n : ℕ) → LeavesNoChoice (λ bytes. Saving (Receives n bytes))
-receives_one n = saving_determined (Receives n) (λ s. receives_determined s n)
-
-receives_exact_one : (n : ℕ) → LeavesNoChoice {R = List ℕ × Result (Unit {0}) StalledError} (λ got. Saving (ReceivesExact n got.0 got.1))
-receives_exact_one n =
-    saving_determined (λ got. ReceivesExact n got.0 got.1)
-    (λ s x y. determined_so (λ r i. (r.0 i, r.1 i)) (receives_exact_determined s n x.0 y.0 x.1 y.1))
-
-reads_one : (n : ℕ) → LeavesNoChoice {R = List ℕ × Result ℕ StalledError} (λ got. Saving (Reads n got.0 got.1))
-reads_one n =
-    saving_determined (λ got. Reads n got.0 got.1) (λ s x y. determined_so (λ r i. (r.0 i, r.1 i)) (reads_determined s n x.0 y.0 x.1 y.1))
+called_one : (m : Meaning) → LeavesNoChoice m.doing → (a b : Answer) (d e x y : Uart16550 MachineState) →
+    Called MachineStep m a d e → Called MachineStep m b x y → IsSame d x → (a ≡ b) × IsSame e y
+called_one m law a b d e x y p q same =
+    let r = one_outcome {G = m.doing} law machine_is_function p.outcome q.outcome d e x y p.did q.did same in
+    (p.answered ∙ ap m.answer r.0 ∙ sym q.answered, r.1)
 
 -- one call of a run
-module _ (s t x y : State) (a b : Answer) (same : IsSameState s x) where
-  by : {R : Type 0} (G : R → Doing) (answer_of : R → Answer) → LeavesNoChoice G →
-      Called G answer_of a (inner_of s) (inner_of t) → Called G answer_of b (inner_of x) (inner_of y) → (a ≡ b) × IsSameState t y
-  by G answer_of law p q = called_one G answer_of law a b (inner_of s) (inner_of t) (inner_of x) (inner_of y) p q same
-
-  done : (G : Doing) → LeavesNoChoice {R = Unit {0}} (λ result. G) →
-      (a ≡ Done) × Did MachineStep G (inner_of s) (inner_of t) → (b ≡ Done) × Did MachineStep G (inner_of x) (inner_of y) →
-      (a ≡ b) × IsSameState t y
-  done G law p q = done_one G law a b (inner_of s) (inner_of t) (inner_of x) (inner_of y) p q same
-
-  pub step_one : (c : Call) → IsRunnable c → CallStep s c a t → CallStep x c b y → (a ≡ b) × IsSameState t y
-  step_one call.Next ok p q =
-      (p.answered ∙ sym q.answered, (p.driver ∙ same.0 ∙ sym q.driver, p.machine ∙ ap at_mark same.1 ∙ sym q.machine))
-  step_one (call.Init config) ok p q = by _ _ (changing_leaves_no_choice (ChangingCall.init config ok)) p q
-  step_one call.TestLoopback ok p q = by _ _ (changing_leaves_no_choice ChangingCall.test_loopback) p q
-  step_one call.CheckPresent ok p q = by _ _ (saving_leaves_no_choice SavingCall.check_present) p q
-  step_one call.CheckConnected ok p q = by _ _ (saving_leaves_no_choice SavingCall.check_connected) p q
-  step_one call.ReadyToReceive ok p q = by _ _ (saving_leaves_no_choice SavingCall.ready_to_receive) p q
-  step_one call.ReadyToSend ok p q = by _ _ (saving_leaves_no_choice SavingCall.ready_to_send) p q
-  step_one call.TryReceive ok p q = by _ _ (saving_leaves_no_choice SavingCall.try_receive_byte) p q
-  step_one call.Flush ok p q = by _ _ (saving_leaves_no_choice SavingCall.flush) p q
-  step_one call.ReadReady ok p q = by _ _ (saving_leaves_no_choice SavingCall.read_ready) p q
-  step_one call.WriteReady ok p q = by _ _ (saving_leaves_no_choice SavingCall.write_ready) p q
-  step_one call.Ier ok p q = by _ _ (saving_leaves_no_choice (SavingCall.read_register 1)) p q
-  step_one call.Isr ok p q = by _ _ (saving_leaves_no_choice (SavingCall.read_register 2)) p q
-  step_one call.Lcr ok p q = by _ _ (saving_leaves_no_choice (SavingCall.read_register 3)) p q
-  step_one call.Mcr ok p q = by _ _ (saving_leaves_no_choice (SavingCall.read_register 4)) p q
-  step_one call.Lsr ok p q = by _ _ (changing_leaves_no_choice ChangingCall.lsr) p q
-  step_one call.Msr ok p q = by _ _ (changing_leaves_no_choice ChangingCall.msr) p q
-  step_one call.Spr ok p q = by _ _ (saving_leaves_no_choice (SavingCall.read_register 7)) p q
-  step_one call.DllDlm ok p q = by _ _ (saving_leaves_no_choice SavingCall.dll_dlm) p q
-  step_one call.FifoEnabled ok p q =
-      let T : State → Type 0 = λ z. IsSameState z y in
-      let Y : State → Type 0 = λ z. IsSameState s z in
-      (p.0 ∙ ap (λ f. Flag f.fifo) same.0 ∙ sym q.0, subst T (sym p.1) (subst Y (sym q.1) same))
-  step_one call.Dump ok p q = by _ _ (changing_leaves_no_choice ChangingCall.config_register_dump) p q
-  step_one (call.TrySend byte) ok p q = by _ _ (saving_leaves_no_choice (SavingCall.try_send_byte byte)) p q
-  step_one (call.Enable bits) ok p q = done (Enables bits.0) (changing_leaves_no_choice (ChangingCall.enable_interrupts bits.0)) p q
-  step_one (call.Disable bits) ok p q = done (Disables bits.0) (changing_leaves_no_choice (ChangingCall.disable_interrupts bits.0)) p q
-  step_one (call.Receive slots) ok p q = by _ _ (receives_one slots) p q
-  step_one (call.ReceiveExact slots) ok p q = by _ _ (receives_exact_one slots) p q
-  step_one (call.Read slots) ok p q = by _ _ (reads_one slots) p q
-  step_one (call.Send bytes) ok p q = by _ _ (saving_leaves_no_choice (SavingCall.send_bytes bytes.items)) p q
-  step_one (call.SendExact bytes) ok p q = by _ _ (saving_leaves_no_choice (SavingCall.send_bytes_exact bytes.items)) p q
-  step_one (call.Write bytes) ok p q = by _ _ (saving_leaves_no_choice (SavingCall.write bytes.items)) p q
-  step_one (call.Text text) ok p q = by _ _ (saving_leaves_no_choice (SavingCall.write_text text.bytes)) p.1 q.1
+step_one : (s t x y : State) (a b : Answer) → IsSameState s x → (c : Call) → IsRunnable c → CallStep s c a t → CallStep x c b y →
+    (a ≡ b) × IsSameState t y
+step_one s t x y a b same call.Next ok p q =
+    (p.answered ∙ sym q.answered, (p.driver ∙ same.0 ∙ sym q.driver, p.machine ∙ ap at_mark same.1 ∙ sym q.machine))
+step_one s t x y a b same c ok p q =
+    called_one (meaning c) (meaning_leaves_no_choice c ok) a b (inner_of s) (inner_of t) (inner_of x) (inner_of y) p q same
 
 -- lists of calls
--- each can be run
-abbrev AllRun : List Call → Type 0
-AllRun [] = Unit {0}
-AllRun (c ∷ cs) = IsRunnable c × AllRun cs
-
-all_run : (cs : List Call) → All IsRunnable cs → AllRun cs
-all_run [] all = tt
-all_run (c ∷ cs) all = (all 0 c (omega arith), all_run cs (λ k d within. all (suc k) d (omega (arith, within))))
-
-chains_one : (s t x y : State) (ps qs : List Link) → AllRun (calls_of ps) → calls_of ps ≡ calls_of qs → Chain s ps t → Chain x qs y →
+chains_one : (s t x y : State) (ps qs : List Link) → All IsRunnable (calls_of ps) → calls_of ps ≡ calls_of qs → Chain s ps t → Chain x qs y →
     IsSameState s x →
     (answers_of ps ≡ answers_of qs) × IsSameState t y
 chains_one s t x y [] [] all same p q start =
@@ -140,15 +59,15 @@ chains_one s t x y (p ∷ ps) (q ∷ qs) all same h k start =
     let Y : State → Type 0 = λ z. IsSameState s z in
     let C : Call → Type 0 = λ c. CallStep q.before c q.answer q.after in
     let here : IsSameState p.before q.before = subst T (sym h.0) (subst Y (sym k.0) start) in
-    let first = step_one p.before p.after q.before q.after p.answer q.answer here p.call all.0 h.1 (subst C (sym (same_first same)) k.1) in
-    let rest = chains_one p.after t q.after y ps qs all.1 (same_others same) h.2 k.2 first.1 in
+    let first = step_one p.before p.after q.before q.after p.answer q.answer here p.call (All-head IsRunnable p.call (calls_of ps) all) h.1 (subst C (sym (same_first same)) k.1) in
+    let rest = chains_one p.after t q.after y ps qs (All-tail IsRunnable p.call (calls_of ps) all) (same_others same) h.2 k.2 first.1 in
     (ap (λ a. a ∷ answers_of ps) first.0 ∙ ap (λ later. q.answer ∷ later) rest.0, rest.1)
 
 pub runs_one : (s t x y : State) (calls : List Call) (answers other_answers : List Answer) → All IsRunnable calls →
     IsRun s calls answers t → IsRun x calls other_answers y → IsSameState s x → (answers ≡ other_answers) × IsSameState t y
 runs_one s t x y calls answers other_answers all p q start =
-    let A : List Call → Type 0 = λ cs. AllRun cs in
-    let r = chains_one s t x y p.links q.links (subst A (sym p.calls_same) (all_run calls all))
+    let A : List Call → Type 0 = λ cs. All IsRunnable cs in
+    let r = chains_one s t x y p.links q.links (subst A (sym p.calls_same) all)
     (p.calls_same ∙ sym q.calls_same) p.chain q.chain start in
     (sym p.answers_same ∙ r.0 ∙ q.answers_same, r.1)
 
@@ -164,13 +83,6 @@ plan_one input p q h k = ap (inside p) (sym (script_is_read input p h) ∙ scrip
 firsts_same : (plan : Plan) (s x : State) → IsFirst plan s → IsFirst plan x → IsSameState s x
 firsts_same plan s x p q = (p.driver ∙ sym q.driver, p.machine ∙ sym q.machine)
 
--- an output shows the machine alone
-last_same : (answers : List Answer) (t y : State) → machine_of t ≡ machine_of y → output_of answers t ≡ output_of answers y
-last_same answers t y same =
-    ap
-    (λ (m : MachineState). printed answers m.chip.transmitter.wire (held m.chip.transmitter) (waiting m) m.chip.receiver.marks)
-    same
-
 -- what was played of one input has one output
 played_one : (input : List ℕ) (writes other_writes : List ℕ → Type 0) (p : IsPlayed input writes) (q : IsPlayed input other_writes) →
     p.output ≡ q.output
@@ -181,7 +93,7 @@ played_one input writes other_writes p q =
     let start = firsts_same p.plan p.printed.first q.printed.first p.printed.begins (subst F (sym same) q.printed.begins) in
     let r = runs_one p.printed.first p.printed.last q.printed.first q.printed.last p.plan.calls p.printed.answers q.printed.answers
     (playable input p.plan p.script).calls p.printed.ran (subst R (sym same) q.printed.ran) start in
-    p.printed.is ∙ ap (λ answers. output_of answers p.printed.last) r.0 ∙ last_same q.printed.answers p.printed.last q.printed.last r.1.1
+    p.printed.is ∙ ap (λ answers. output_of answers (machine_of p.printed.last)) r.0 ∙ ap (output_of q.printed.answers) r.1.1
     ∙ sym q.printed.is
 
 pub outputs_one : (input : List ℕ) (old new other_old other_new : Option (List ℕ)) → Outcome input (Ok tt) old new →

@@ -1,5 +1,5 @@
 -- From a script's calls to what is printed for it.
-use Rattle.std.proofs.Common.{◌≡◌, ◌<◌, ◌+◌, ℕ, List, [], ◌∷◌, ◌++◌, length, map, take, get_or, Some, None, inl, inr, refl, ◌∙◌, ap, arith, slice_get}
+use Rattle.std.proofs.Common.{◌≡◌, ◌<◌, ◌+◌, ℕ, List, [], ◌∷◌, ◌++◌, length, map, take, get_or, Some, None, inl, inr, refl, sym, ◌∙◌, ap, arith, slice_get}
 use Rattle.std.proofs.lemmas.List.{take_more, get_or-map, length-map}
 use Rattle.std.proofs.lemmas.Option.{slice_get_cases}
 use Rattle.uart_calls.specs.declared.call.Call.{Call}
@@ -7,17 +7,23 @@ use Rattle.uart_calls.specs.declared.call.Call.TheVariants as call
 use Rattle.uart_calls.specs.declared.call.Answer.{Answer}
 use Rattle.std.specs.Prelude.{All}
 use Rattle.uart_calls.specs.Calls.{IsRunnable}
-use Rattle.uart_language.specs.ScriptLines.{plain}
+use Rattle.uart_language.specs.Sayings.{plain}
 use Rattle.uart_run.specs.Run.{State, CallStep, Link, Chain, calls_of, answers_of, IsRun}
 use Rattle.uart_run.specs.Session.{Ran}
 
 -- one item more
-pub take_got : {A : Type 0} (xs : List A) (i : ℕ) (x : A) → slice_get xs i ≡ Some x → take (i + 1) xs ≡ take i xs ++ x ∷ []
+take_got : {A : Type 0} (xs : List A) (i : ℕ) (x : A) → slice_get xs i ≡ Some x → take (i + 1) xs ≡ take i xs ++ x ∷ []
 take_got xs i x got =
     elim (slice_get_cases xs i).1 [
       | inl h ↦ let same : h.0 ≡ x = cc in rw (take_more xs i h.0 h.1, h.3, same) refl
       | inr h ↦ absurd (cc)
     ]
+
+-- the items that a loop has taken, once it took the next
+pub got_more : {A : Type 0} (xs : List A) (i : ℕ) (x : A) (old new : List A) → Some x ≡ slice_get xs i → old ≡ take i xs →
+    new ≡ old ++ x ∷ [] →
+    new ≡ take (i + 1) xs
+got_more xs i x old new got before after = after ∙ ap (λ ys. ys ++ x ∷ []) before ∙ sym (take_got xs i x (sym got))
 
 pub never_none : {A : Type 0} (xs : List A) (i : ℕ) → i < length xs → slice_get xs i ≡ None → ⊥
 never_none xs i within none =

@@ -10,6 +10,7 @@ pub use Rattle.uart_language.specs.Items
 pub use Rattle.uart_chip.specs.Jumps
 pub use Rattle.uart_device.specs.Laws
 pub use Rattle.uart_chip.specs.Machine
+pub use Rattle.uart_calls.specs.Meaning
 pub use Rattle.uart_chip.specs.Modem
 pub use Rattle.uart_language.specs.Output
 pub use Rattle.uart_run.specs.Progress
@@ -18,8 +19,8 @@ pub use Rattle.uart_chip.specs.Receiver
 pub use Rattle.uart_chip.specs.Masks
 pub use Rattle.uart_run.specs.Run
 pub use Rattle.uart_language.specs.Script
-pub use Rattle.uart_language.specs.ScriptLines
-pub use Rattle.uart_language.specs.ScriptReading
+pub use Rattle.uart_language.specs.Sayings
+pub use Rattle.uart_language.specs.Reading
 pub use Rattle.uart_run.specs.Served
 pub use Rattle.uart_run.specs.Session
 pub use Rattle.uart_device.specs.Sound

@@ -2,6 +2,7 @@
 use Rattle.std.specs.Prelude.{ℕ, ◌<◌, ◌≤◌, ◌==◌, ◌&&◌, nat_lt, Bool, true, false, List, length, take, Option, Result, Ok, Err, ⊤}
 use Rattle.std.specs.Io.KnownBytes.{Consumes, Appends, Keeps, IsAtEnd}
 use Rattle.uart_machine.specs.declared.script.streams.Std.{Std}
+use Rattle.uart_machine.specs.declared.script.playing.TheConstants.{MOST_READ}
 use Rattle.uart_machine.specs.declared.script.playing.PlayError.{PlayError}
 use Rattle.uart_machine.specs.declared.script.playing.PlayError.TheVariants as errors
 use Rattle.uart_language.specs.declared.cause.ScriptError.{ScriptError}
@@ -42,10 +43,10 @@ IsReading e = ⊥
 abbrev pub ConsumesAtMost : ℕ → Option (List ℕ) → Option (List ℕ) → Type 0
 ConsumesAtMost most old new = (bytes : List ℕ) × Consumes old new bytes × (length bytes ≤ most)
 
--- the text is all of the input, or its first 65,537 bytes
-pub record IsWhole (old new : Option (List ℕ)) (text : List ℕ) : Type 0 where
+-- the text is all of the input, or as much of it as is read at most
+pub record IsReadText (old new : Option (List ℕ)) (text : List ℕ) : Type 0 where
   pub consumes : Consumes old new text
-  pub to_end : length text < 65537 → IsAtEnd new
+  pub to_end : length text < MOST_READ → IsAtEnd new
 
 -- a beginning of the bytes is written
 abbrev pub WritesFront : Option (List ℕ) → Option (List ℕ) → List ℕ → Type 0
@@ -60,7 +61,7 @@ pub record IsPlayed (input : List ℕ) (writes : List ℕ → Type 0) : Type 0 w
   pub written : writes output
 
 -- What playing an input comes to: its whole output, or the first fault of an input that is no script, or a beginning of its
--- output where the writer failed.
+-- output if the writer failed.
 abbrev pub Outcome : List ℕ → Result (Unit {0}) PlayError → Option (List ℕ) → Option (List ℕ) → Type 0
 Outcome input (Ok done) old new = IsPlayed input (Appends old new)
 Outcome input (Err (errors.Refused line cause)) old new = IsFaulty input line cause

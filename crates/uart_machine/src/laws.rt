@@ -3,9 +3,10 @@
 //! Each function here has a law as its contract, for callers to cite, and does nothing.
 ghost use Rattle.uart_machine.specs.OneOutcome.{RunsHaveOneOutcome, ScriptsHaveOneOutput};
 
+pub use uart_calls::laws::meanings_leave_no_choice;
 pub use uart_run::laws::idle_keeps_ready;
 
-/// What `run` answers, and the state that it leaves, are a function of the calls and the state before.
+/// The answers of `run`, and the state that it leaves, are a function of the calls and the state before.
 pub fn runs_have_one_outcome()
     ensures { RunsHaveOneOutcome }
 {}

@@ -1,7 +1,13 @@
-//! A 16550A or 16450 serial chip in software, under a schedule of ticks, arrivals and modem lines.
+//! A 16550 in software, runs of the driver over it, and scripts that say what to run.
 //!
-//! A [`Device16550`] is one more backend of the driver: each register access first performs the scheduled events that come
-//! before it, and then has the effect that the datasheet gives it. Its contracts say exactly which state follows which.
+//! - [`Device16550`] is a 16550A or 16450 under a schedule of ticks, arrivals and modem lines: one more backend of the driver. Each
+//!   register access first performs the scheduled events that come before it, and then has the effect that the datasheet gives it.
+//! - [`run`] makes a list of calls on a driver over such a device. Its contract has the theorems about driver and chip together.
+//! - [`script`] plays a script from a reader to a writer.
+//! - [`laws`] has what follows from these contracts.
+//!
+//! The chip is the crate `uart_chip`, the device `uart_device`, calls and answers `uart_calls`, runs `uart_run`, and the script
+//! language `uart_language`. This crate joins them under one name, and has the tests that cross them.
 #![tactic(auto)]
 
 pub mod laws;
@@ -9,7 +15,7 @@ pub mod script;
 #[cfg(test)]
 mod tests;
 
-pub use uart_calls::{Answer, Call};
+pub use uart_calls::{Answer, CALL_BYTES, Call, perform};
 pub use uart_chip::{ArrivalMark, BuildError, Chip, Event};
 pub use uart_device::Device16550;
 pub use uart_run::run;

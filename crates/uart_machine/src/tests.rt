@@ -4,29 +4,33 @@ mod counts;
 mod cut;
 mod driver;
 mod idle;
+mod paths;
 mod schedules;
 
 use crate::{ArrivalMark, BuildError, Chip, Device16550, Event};
 use std::test::Fail;
+use uart_16550::Uart16550;
 use uart_16550::backend::Backend;
+use uart_spec::Config;
+use uart_spec::registers::offsets;
 
-const DATA: u8 = 0;
+const DATA: u8 = offsets::DATA as u8;
 
-const IER: u8 = 1;
+const IER: u8 = offsets::IER as u8;
 
-const ISR: u8 = 2;
+const ISR: u8 = offsets::ISR as u8;
 
-const FCR: u8 = 2;
+const FCR: u8 = offsets::FCR as u8;
 
-const LCR: u8 = 3;
+const LCR: u8 = offsets::LCR as u8;
 
-const MCR: u8 = 4;
+const MCR: u8 = offsets::MCR as u8;
 
-const LSR: u8 = 5;
+const LSR: u8 = offsets::LSR as u8;
 
-const MSR: u8 = 6;
+const MSR: u8 = offsets::MSR as u8;
 
-const SPR: u8 = 7;
+const SPR: u8 = offsets::SPR as u8;
 
 fn machine(
     rt: &HostRuntime,
@@ -43,23 +47,45 @@ fn fresh(rt: &HostRuntime) -> Result<Device16550, Fail> {
     machine(rt, Chip::Uart16550A, 4, 64, &[])
 }
 
+// A new driver over a machine to which nothing happens.
+fn new_driver(
+    rt: &HostRuntime,
+    chip: Chip,
+    char_ticks: u16,
+) -> Result<Uart16550<Device16550>, Fail> {
+    let machine = machine(rt, chip, char_ticks, 64, &[])?;
+    Ok(Uart16550::new_with_backend(machine))
+}
+
+const WITHOUT_FIFO: Config = Config {
+    fifo_trigger_level: None,
+    ..Config::DEFAULT
+};
+
 fn arrive(byte: u8) -> Event {
     Event::Arrive { byte, errors: 0 }
 }
 
 #[test]
 fn registers_one_by_one(rt: HostRuntime) -> Result<(), Fail> {
-    for (write, value, read, mask, want) in [
-        (IER, 0x0f, IER, 0xff, 0x0f),
-        (MCR, 0x1a, MSR, 0xf0, 0x90),
-        (FCR, 0x01, ISR, 0xff, 0xc1),
-        (FCR, 0x00, ISR, 0xff, 0x01),
-        (SPR, 0xa5, SPR, 0xff, 0xa5),
-    ] {
-        let mut machine = fresh(&rt)?;
-        assert!(rt; write < 8 && read < 8);
-        machine.write(write, value);
-        assert_eq!(rt; machine.read(read) & mask, want, "register {read}");
+    for (chip, fifo_on) in [(Chip::Uart16550A, 0xc1), (Chip::Uart16450, 0x01)] {
+        for (write, value, read, mask, want) in [
+            (IER, 0x0f, IER, 0xff, 0x0f),
+            (MCR, 0x1a, MSR, 0xf0, 0x90),
+            (FCR, 0x01, ISR, 0xff, fifo_on),
+            (FCR, 0xc7, ISR, 0xff, fifo_on),
+            (FCR, 0x00, ISR, 0xff, 0x01),
+            (SPR, 0xa5, SPR, 0xff, 0xa5),
+        ] {
+            let mut machine = machine(&rt, chip, 4, 64, &[])?;
+            assert!(rt; write < 8 && read < 8);
+            machine.write(write, value);
+            assert_eq!(rt;
+                machine.read(read) & mask,
+                want,
+                "{chip:?}, register {read}"
+            );
+        }
     }
     Ok(())
 }

@@ -12,6 +12,7 @@ use Rattle.uart_16550.specs.Init.{Keeps as Keeps_pattern, KeepsPatterns, ChecksP
 use Rattle.uart_16550.specs.Io.{Reads, Writes, Flushes, AnswersRead, AnswersWrite}
 use Rattle.uart_16550.specs.Status.{TakesLsr, TakesMsr, Connects, ReadsDivisor, Enables, Disables, Dumps}
 use Rattle.uart_16550.specs.declared.dump.ConfigRegisterDump.{ConfigRegisterDump}
+use Rattle.uart_calls.specs.Meaning.{ShowsFifo}
 use Rattle.uart_chip.specs.Transmitter.{room}
 use Rattle.uart_device.proofs.Blocks.{is_quiet, Look, Other, Divisor, AllQuiet}
 use Rattle.uart_run.proofs.CallBlocks.{no_bytes, InBlocks, blocks_none, blocks_one, blocks_then, Makes, makes_only_none, makes_then, makes_all, makes_look, send_hit_blocks, send_miss_blocks, round_blocks, sends_some_blocks, sends_some_none_blocks, waits_blocks, receives_some_blocks}
@@ -132,6 +133,11 @@ no_status_keeps f after l made b e p q fifo lsr msr = rw e (record {
   lsr = lsr ∙ sym (ap (bit_or f.lsr) p ∙ or_zero_r f.lsr);
   msr = msr ∙ sym (ap (bit_or f.msr) q ∙ or_zero_r f.msr);
 })
+
+-- no access, and the fields stay
+pub shows_fifo_keeps : (on : Bool) (f after : Fields) (l : List Access) → ShowsFifo on f l after → Keeps f l after [] []
+shows_fifo_keeps on f after l (shown, none, same) =
+    no_status_keeps f after l [] (blocks_none f.fifo) none refl refl (ap (λ g. g.fifo) same) (ap (λ g. g.lsr) same) (ap (λ g. g.msr) same)
 
 pub enables_keeps : (bits : ℕ) (f after : Fields) (l : List Access) → Enables bits f l after → Keeps f l after [] []
 enables_keeps bits f after l (ier, is, changed) =

@@ -12,21 +12,22 @@ use Rattle.uart_16550.specs.Receive.{TryReceive, ReceivesExact}
 use Rattle.uart_16550.specs.Transmit.{SendsExact, TrySends}
 use Rattle.uart_16550.specs.Status.{TakesLsr, TakesMsr, Enables, Disables, Dumps}
 use Rattle.uart_16550.specs.Io.{Reads, Writes}
-use Rattle.uart_16550.specs.Expansion.{expansion, expansion_of, SendsText}
+use Rattle.uart_16550.specs.Expansion.{expansion, expansion_of}
 use Rattle.uart_16550.specs.Tty.{inner_of}
 use Rattle.uart_calls.specs.declared.call.Call.{Call}
 use Rattle.uart_calls.specs.declared.call.Call.TheVariants as call
 use Rattle.uart_calls.specs.declared.call.Answer.{Answer}
 use Rattle.uart_calls.specs.declared.call.Answer.TheVariants.{Flag, Count, Register}
 use Rattle.uart_chip.specs.Machine.{MachineStep}
-use Rattle.uart_run.specs.Run.{State, machine_of, Called, CallStep, connected_answer, receive_ready_answer, received_answer, sent_answer, exact_answer, count_answer, ready_answer, latch_answer, bytes_answer, receive_exact_answer, read_answer}
+use Rattle.uart_calls.specs.Meaning.{ShowsFifo, SendsShortText, Called, saves, connected_answer, receive_ready_answer, received_answer, sent_answer, exact_answer, count_answer, ready_answer, latch_answer, bytes_answer, receive_exact_answer, read_answer}
+use Rattle.uart_run.specs.Run.{State, machine_of, CallStep}
 use Rattle.uart_run.specs.Session.{count_of, sent_of, sent_byte_of, byte_of, bytes_of, reported_by, received_by, IsWithinSession}
 use Rattle.uart_run.specs.Statuses.{IsNoLsr, IsNoMsr}
 use Rattle.uart_device.proofs.Went.{Modes}
 use Rattle.uart_device.proofs.Passed.{passed-refl, passed-mark}
 use Rattle.uart_device.proofs.BlockLaws.{IsOpen, Stands, PassedBlocks}
 use Rattle.uart_run.proofs.CallBlocks.{no_bytes, InBlocks, Makes, passed_in_blocks, ready_to_send_blocks, ready_to_receive_blocks, sends_blocks, sends_exact_blocks, try_sends_blocks, try_receive_blocks, receives_blocks, receives_exact_blocks}
-use Rattle.uart_run.proofs.CallKeeps.{plain_blocks, connects_blocks, reads_divisor_blocks, checks_presence_blocks, reads_blocks, writes_blocks, flushes_blocks, answers_read_blocks, answers_write_blocks, sends_each_blocks, sends_beginning_blocks, Keeps, saving_keeps, enables_keeps, disables_keeps, dumps_keeps, takes_lsr_keeps, takes_msr_keeps}
+use Rattle.uart_run.proofs.CallKeeps.{plain_blocks, connects_blocks, reads_divisor_blocks, checks_presence_blocks, reads_blocks, writes_blocks, flushes_blocks, answers_read_blocks, answers_write_blocks, sends_each_blocks, sends_beginning_blocks, Keeps, saving_keeps, shows_fifo_keeps, enables_keeps, disables_keeps, dumps_keeps, takes_lsr_keeps, takes_msr_keeps}
 
 -- from s to t: these accesses wrote these bytes to DATA and read those; the driver takes the FIFO to be as before, and saved what the
 -- statuses showed, unless it told and forgot it
@@ -59,15 +60,15 @@ passes_did x N M G ws rs s t w did k =
 -- the same, by the blocks of its language for each result
 passes_called : {R : Type 0} (x : Modes) (N M : Type 0) (L : R → Language) (answer_of : R → Answer) (written read : Answer → List ℕ) (s t : State) (a : Answer) → InSession x s →
     ((v : Settings) (r : R) → Makes v (L r) (written (answer_of r)) (read (answer_of r))) →
-    Called (λ r. Saving (L r)) answer_of a (inner_of s) (inner_of t) → Passes x N M s t (written a) (read a)
+    Called MachineStep (saves L answer_of) a (inner_of s) (inner_of t) → Passes x N M s t (written a) (read a)
 passes_called x N M L answer_of written read s t a w makes c =
     let f = fields (inner_of s) in
-    let k = saving_keeps (L c.result) f (fields (inner_of t)) c.did.list _ _ (makes (settings_of f) c.result) c.did.does in
-    rw c.answered (passes_did x N M (Saving (L c.result)) _ _ s t w c.did k)
+    let k = saving_keeps (L c.outcome) f (fields (inner_of t)) c.did.list _ _ (makes (settings_of f) c.outcome) c.did.does in
+    rw c.answered (passes_did x N M (Saving (L c.outcome)) _ _ s t w c.did k)
 
 -- a call that sends and receives nothing
 passes_silent : {R : Type 0} (x : Modes) (N M : Type 0) (L : R → Language) (answer_of : R → Answer) (s t : State) (a : Answer) → InSession x s →
-    ((v : Settings) (r : R) → Makes v (L r) [] []) → Called (λ r. Saving (L r)) answer_of a (inner_of s) (inner_of t) → Passes x N M s t [] []
+    ((v : Settings) (r : R) → Makes v (L r) [] []) → Called MachineStep (saves L answer_of) a (inner_of s) (inner_of t) → Passes x N M s t [] []
 passes_silent x N M L answer_of s t a w makes c = passes_called x N M L answer_of (λ _. []) (λ _. []) s t a w makes c
 
 -- ---- what is sent and received, as the answers tell
@@ -96,10 +97,6 @@ reads_told : (slots : ℕ) (s : Settings) (got : List ℕ × Result ℕ StalledE
 reads_told slots s (bytes, Ok count) l t = reads_blocks s slots bytes (Ok count) l t
 reads_told slots s (bytes, Err e) l t = let made = reads_blocks s slots bytes (Err e) l t in rw (no_bytes bytes t.2.0) at made
 
-sends_text_told : (text : List ℕ) (s : Settings) (result : Result (Unit {0}) StalledError) → length (expansion text) ≤ 2 ^ 64 - 1 → Makes s (SendsText text result) (sent_of (expansion text) (exact_answer result)) []
-sends_text_told text s (Ok x) short l t = sends_each_blocks s (expansion text) l t
-sends_text_told text s (Err e) short l t = let done : e.done ≡ t.0 = omega (arith, t.1, t.2.0, short) in rw done (sends_beginning_blocks s (expansion text) t.0 l t.2)
-
 -- an expansion is at most three times as long
 length-expansion : (text : List ℕ) → length (expansion text) ≤ 3 * length text
 length-expansion [] = omega arith
@@ -107,6 +104,13 @@ length-expansion (byte ∷ bytes) =
     let rest = length-expansion bytes in
     let one : length (expansion_of byte) ≤ 3 = grind (arith, common_steps) in
     simp length-append (omega arith)
+
+sends_text_told : (text : List ℕ) (s : Settings) (result : Result (Unit {0}) StalledError) →
+    Makes s (SendsShortText text result) (sent_of (expansion text) (exact_answer result)) []
+sends_text_told text s (Ok x) l (short, t) = sends_each_blocks s (expansion text) l t
+sends_text_told text s (Err e) l (short, (sent, is, t)) =
+    let done : e.done ≡ sent = omega (arith, is, t.0, short, length-expansion text) in
+    rw done (sends_beginning_blocks s (expansion text) sent l t)
 
 -- ---- each call
 
@@ -143,27 +147,26 @@ passes_call x s t call.Isr a w i h = passes_silent x _ _ _ Register s t a w (λ 
 passes_call x s t call.Lcr a w i h = passes_silent x _ _ _ Register s t a w (λ v r. plain_blocks v 3 r refl) h
 passes_call x s t call.Mcr a w i h = passes_silent x _ _ _ Register s t a w (λ v r. plain_blocks v 4 r refl) h
 passes_call x s t call.Lsr a w i h =
-    let told = takes_lsr_keeps h.result (fields (inner_of s)) (fields (inner_of t)) h.did.list h.did.does in
-    record { made = h.did.list; passed = passed_did x (TakesLsr h.result) [] [] s t w h.did told.blocks; fifo = told.fifo; lsr = λ n. absurd n; msr = λ n. told.msr }
+    let told = takes_lsr_keeps h.outcome (fields (inner_of s)) (fields (inner_of t)) h.did.list h.did.does in
+    record { made = h.did.list; passed = passed_did x (TakesLsr h.outcome) [] [] s t w h.did told.blocks; fifo = told.fifo; lsr = λ n. absurd n; msr = λ n. told.msr }
 passes_call x s t call.Msr a w i h =
-    let told = takes_msr_keeps h.result (fields (inner_of s)) (fields (inner_of t)) h.did.list h.did.does in
-    record { made = h.did.list; passed = passed_did x (TakesMsr h.result) [] [] s t w h.did told.blocks; fifo = told.fifo; lsr = λ n. told.lsr; msr = λ n. absurd n }
+    let told = takes_msr_keeps h.outcome (fields (inner_of s)) (fields (inner_of t)) h.did.list h.did.does in
+    record { made = h.did.list; passed = passed_did x (TakesMsr h.outcome) [] [] s t w h.did told.blocks; fifo = told.fifo; lsr = λ n. told.lsr; msr = λ n. absurd n }
 passes_call x s t call.Spr a w i h = passes_silent x _ _ _ Register s t a w (λ v r. plain_blocks v 7 r refl) h
 passes_call x s t call.DllDlm a w i h = passes_silent x _ _ _ latch_answer s t a w (λ v latch. reads_divisor_blocks v latch.0 latch.1) h
-passes_call x s t call.FifoEnabled a w i h = rw h.1 (passes_none x _ _ s w)
+passes_call x s t call.FifoEnabled a w i h =
+    passes_did x _ _ (ShowsFifo h.outcome) [] [] s t w h.did (shows_fifo_keeps h.outcome (fields (inner_of s)) (fields (inner_of t)) h.did.list h.did.does)
 passes_call x s t call.Dump a w i h =
-    passes_did x _ _ (Dumps h.result) [] [] s t w h.did (dumps_keeps h.result (fields (inner_of s)) (fields (inner_of t)) h.did.list h.did.does)
+    passes_did x _ _ (Dumps h.outcome) [] [] s t w h.did (dumps_keeps h.outcome (fields (inner_of s)) (fields (inner_of t)) h.did.list h.did.does)
 passes_call x s t (call.TrySend byte) a w i h = passes_called x _ _ _ sent_answer (sent_byte_of byte) (λ _. []) s t a w (λ v r. try_sends_told byte v r) h
 passes_call x s t (call.Enable bits) a w i h =
-    passes_did x _ _ (Enables bits.0) [] [] s t w h.1 (enables_keeps bits.0 (fields (inner_of s)) (fields (inner_of t)) h.1.list h.1.does)
+    passes_did x _ _ (Enables bits.0) [] [] s t w h.did (enables_keeps bits.0 (fields (inner_of s)) (fields (inner_of t)) h.did.list h.did.does)
 passes_call x s t (call.Disable bits) a w i h =
-    passes_did x _ _ (Disables bits.0) [] [] s t w h.1 (disables_keeps bits.0 (fields (inner_of s)) (fields (inner_of t)) h.1.list h.1.does)
+    passes_did x _ _ (Disables bits.0) [] [] s t w h.did (disables_keeps bits.0 (fields (inner_of s)) (fields (inner_of t)) h.did.list h.did.does)
 passes_call x s t (call.Receive slots) a w i h = passes_called x _ _ _ bytes_answer (λ _. []) bytes_of s t a w (λ v bytes. receives_blocks v slots bytes) h
 passes_call x s t (call.ReceiveExact slots) a w i h = passes_called x _ _ _ receive_exact_answer (λ _. []) bytes_of s t a w (λ v got. receives_exact_told slots v got) h
 passes_call x s t (call.Read slots) a w i h = passes_called x _ _ _ read_answer (λ _. []) bytes_of s t a w (λ v got. reads_told slots v got) h
 passes_call x s t (call.Send bytes) a w i h = passes_called x _ _ _ Count (λ a. take (count_of a) bytes.items) (λ _. []) s t a w (λ v k. sends_blocks v bytes.items k) h
 passes_call x s t (call.SendExact bytes) a w i h = passes_called x _ _ _ exact_answer (sent_of bytes.items) (λ _. []) s t a w (λ v r. sends_exact_told bytes.items v r) h
 passes_call x s t (call.Write bytes) a w i h = passes_called x _ _ _ count_answer (λ a. take (count_of a) bytes.items) (λ _. []) s t a w (λ v r. writes_told bytes.items v r) h
-passes_call x s t (call.Text text) a w i h =
-    let short : length (expansion text.bytes) ≤ 2 ^ 64 - 1 = omega (arith, h.0, length-expansion text.bytes) in
-    passes_called x _ _ _ exact_answer (sent_of (expansion text.bytes)) (λ _. []) s t a w (λ v r. sends_text_told text.bytes v r short) h.1
+passes_call x s t (call.Text text) a w i h = passes_called x _ _ _ exact_answer (sent_of (expansion text.bytes)) (λ _. []) s t a w (λ v r. sends_text_told text.bytes v r) h

@@ -9,12 +9,12 @@ use Rattle.uart_run.specs.Ready.{ComesTo}
 use Rattle.uart_run.specs.Progress.{IsTimely, Succeeds}
 use Rattle.uart_run.specs.Session.{Follows, AllFollow, Ran}
 use Rattle.uart_run.proofs.Sessions.{session_conserves, sound_call, sound_chain}
-use Rattle.uart_run.proofs.Initialised.{initialises}
-use Rattle.uart_run.proofs.LoopTests.{tested}
+use Rattle.uart_run.proofs.initialising.Initialised.{initialises}
+use Rattle.uart_run.proofs.loopback.LoopTests.{tested}
 use Rattle.uart_run.proofs.ReadyKept.{follows_ready}
-use Rattle.uart_run.proofs.Succeeds.{flush_succeeds, write_succeeds, send_exact_succeeds, text_succeeds}
-use Rattle.uart_run.proofs.InitSucceeds.{init_succeeds}
-use Rattle.uart_run.proofs.LoopSucceeds.{test_succeeds}
+use Rattle.uart_run.proofs.progress.Succeeds.{flush_succeeds, write_succeeds, send_exact_succeeds, text_succeeds}
+use Rattle.uart_run.proofs.initialising.InitSucceeds.{init_succeeds}
+use Rattle.uart_run.proofs.loopback.LoopSucceeds.{test_succeeds}
 
 -- what a call comes to
 comes_to : (s t : State) (call : Call) (a : Answer) → IsSound (machine_of s) → CallStep s call a t → ComesTo s call a t
@@ -26,10 +26,10 @@ comes_to s t other a w h = tt
 succeeds : (s t : State) (call : Call) (a : Answer) → IsSound (machine_of s) → CallStep s call a t → IsTimely s → Succeeds s call a
 succeeds s t (call.Init config) a w h timely = λ room divisor. init_succeeds s t config a w timely room divisor h (initialises s t config a w h).is_present
 succeeds s t call.TestLoopback a w h timely = λ ready room. test_succeeds s t a w ready timely room h
-succeeds s t call.Flush a w h timely = λ ready room. flush_succeeds s t a h.did.list h.result w timely room h.answered h.did.does.0 h.did.path
-succeeds s t (call.SendExact bytes) a w h timely = λ ready off room. send_exact_succeeds s t a h.did.list bytes.items h.result w ready timely off room h.answered h.did.does.0 h.did.path
-succeeds s t (call.Write bytes) a w h timely = λ ready off room. write_succeeds s t a h.did.list bytes.items h.result w timely off room h.answered h.did.does.0 h.did.path
-succeeds s t (call.Text text) a w h timely = λ ready off room. text_succeeds s t a h.1.did.list text.bytes h.1.result w ready timely off room h.1.answered h.1.did.does.0 h.1.did.path
+succeeds s t call.Flush a w h timely = λ ready room. flush_succeeds s t a h.did.list h.outcome w timely room h.answered h.did.does.0 h.did.path
+succeeds s t (call.SendExact bytes) a w h timely = λ ready off room. send_exact_succeeds s t a h.did.list bytes.items h.outcome w ready timely off room h.answered h.did.does.0 h.did.path
+succeeds s t (call.Write bytes) a w h timely = λ ready off room. write_succeeds s t a h.did.list bytes.items h.outcome w timely off room h.answered h.did.does.0 h.did.path
+succeeds s t (call.Text text) a w h timely = λ ready off room. text_succeeds s t a h.did.list text.bytes h.outcome w ready timely off room h.answered h.did.does.0.1 h.did.path
 succeeds s t other a w h timely = tt
 
 follow_chain : (s t : State) (links : List Link) → IsSound (machine_of s) → Chain s links t → AllFollow links

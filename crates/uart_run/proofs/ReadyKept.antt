@@ -8,8 +8,8 @@ use Rattle.uart_run.specs.Ready.{Ready}
 use Rattle.uart_device.specs.Sound.{IsSound}
 use Rattle.uart_run.specs.Session.{IsWithinSession}
 use Rattle.uart_run.proofs.Sessions.{session_conserves}
-use Rattle.uart_run.proofs.Initialised.{init_ready}
-use Rattle.uart_run.proofs.TestedReady.{tested_ready}
+use Rattle.uart_run.proofs.initialising.Initialised.{init_ready}
+use Rattle.uart_run.proofs.loopback.TestedReady.{tested_ready}
 
 -- a call within a session is a session of its own
 alone : (s t : State) (call : Call) (a : Answer) → IsWithinSession call → IsSound (machine_of s) → CallStep s call a t → Ready s → Ready t

@@ -1,9 +1,18 @@
 -- Runs, one call after another.
-use Rattle.std.proofs.Common.{◌≡◌, ℕ, ◌+◌, ◌≤◌, ◌<◌, List, [], ◌∷◌, ◌++◌, length, take, get_or, refl, ◌∙◌, ap, slice_set}
+use Rattle.std.proofs.Common.{◌≡◌, ◌≢◌, ℕ, ◌+◌, ◌≤◌, ◌<◌, List, [], ◌∷◌, ◌++◌, length, take, get_or, refl, ◌∙◌, ap, slice_set}
 use Rattle.std.proofs.lemmas.List.{take_more, take_more_set, take_all, map-append}
 use Rattle.uart_calls.specs.declared.call.Call.{Call}
+use Rattle.uart_calls.specs.declared.call.Call.TheVariants as call
 use Rattle.uart_calls.specs.declared.call.Answer.{Answer}
+use Rattle.uart_calls.specs.Meaning.{Performed}
+use Rattle.uart_chip.specs.Machine.{MachineStep}
 use Rattle.uart_run.specs.Run.{State, CallStep, Link, Chain, IsRun}
+
+-- the driver makes each call but `Next`
+pub step_performed : (s t : State) (c : Call) (answer : Answer) → c ≢ call.Next → Performed MachineStep s c answer t →
+    CallStep s c answer t
+step_performed s t call.Next answer other h = absurd (other refl)
+step_performed s t c answer other h = h
 
 pub chain_more : (s t u : State) (links : List Link) (call : Call) (answer : Answer) → Chain s links t → CallStep t call answer u →
     Chain s (links ++ record { before = t; call = call; answer = answer; after = u } ∷ []) u

@@ -20,7 +20,8 @@ use Rattle.uart_chip.specs.Transmitter.{shift_bytes}
 use Rattle.uart_chip.specs.Chip.{is_transmitter_empty}
 use Rattle.uart_chip.specs.Machine.{MachineState, MachineStep}
 use Rattle.uart_device.specs.Conserved.{out}
-use Rattle.uart_run.specs.Run.{State, machine_of, CallStep, Link, Chain, received_answer, read_answer, receive_exact_answer, exact_answer}
+use Rattle.uart_calls.specs.Meaning.{received_answer, read_answer, receive_exact_answer, exact_answer}
+use Rattle.uart_run.specs.Run.{State, machine_of, CallStep, Link, Chain}
 use Rattle.uart_run.specs.Session.{AllWithinSession}
 use Rattle.uart_run.specs.Served.{HoldsAtLeast, waiting_len, transmitter_of, IsFlushed, Serves, AllServe}
 use Rattle.uart_chip.proofs.Bits.{has_one}
@@ -173,11 +174,11 @@ flush_serves x s t a l (Err stall) w e h path f = absurd (cc)
 -- ---- each call
 
 pub serves_call : (x : Modes) (s t : State) (call : Call) (a : Answer) → InSession x s → CallStep s call a t → Serves s call a t
-serves_call x s t call.TryReceive a w h = try_serves x s t a h.did.list h.result w h.answered h.did.does.0 h.did.path
-serves_call x s t (call.Receive slots) a w h = λ some. (h.result, h.answered, received_enough x s t slots h.result h.did.list w h.did.does.0 h.did.path)
-serves_call x s t (call.Read slots) a w h = read_serves x s t slots a h.did.list h.result.0 h.result.1 w h.answered h.did.does.0 h.did.path
-serves_call x s t (call.ReceiveExact slots) a w h = exact_serves x s t slots a h.did.list h.result.0 h.result.1 w h.answered h.did.does.0 h.did.path
-serves_call x s t call.Flush a w h = flush_serves x s t a h.did.list h.result w h.answered h.did.does.0 h.did.path
+serves_call x s t call.TryReceive a w h = try_serves x s t a h.did.list h.outcome w h.answered h.did.does.0 h.did.path
+serves_call x s t (call.Receive slots) a w h = λ some. (h.outcome, h.answered, received_enough x s t slots h.outcome h.did.list w h.did.does.0 h.did.path)
+serves_call x s t (call.Read slots) a w h = read_serves x s t slots a h.did.list h.outcome.0 h.outcome.1 w h.answered h.did.does.0 h.did.path
+serves_call x s t (call.ReceiveExact slots) a w h = exact_serves x s t slots a h.did.list h.outcome.0 h.outcome.1 w h.answered h.did.does.0 h.did.path
+serves_call x s t call.Flush a w h = flush_serves x s t a h.did.list h.outcome w h.answered h.did.does.0 h.did.path
 serves_call x s t other a w h = tt
 
 -- each call of a session

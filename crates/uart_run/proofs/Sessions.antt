@@ -1,8 +1,6 @@
 -- What a session conserves, carried over its calls.
 use Rattle.std.proofs.Common.{ℕ, List, [], ◌∷◌, ◌++◌, map, ap, sym, ◌∙◌, subst}
 use Rattle.uart_spec.specs.Access.{Access, Path}
-use Rattle.uart_16550.specs.Driver.{Doing, Did}
-use Rattle.uart_16550.specs.Tty.{inner_of}
 use Rattle.uart_calls.specs.declared.call.Call.{Call}
 use Rattle.uart_calls.specs.declared.call.Call.TheVariants as call
 use Rattle.uart_calls.specs.declared.call.Answer.{Answer}
@@ -49,43 +47,10 @@ pub record Lasts (P : MachineState → Type 0) : Type 0 where
   pub path : (made : List Access) (m n : MachineState) → P m → Path MachineStep m made n → P n
   pub mark : (m : MachineState) → P m → P (at_mark m)
 
-lasts_did : {P : MachineState → Type 0} {G : Doing} (s t : State) → Lasts P → P (machine_of s) → Did MachineStep G (inner_of s) (inner_of t) →
-    P (machine_of t)
-lasts_did s t k w did = k.path did.list (machine_of s) (machine_of t) w did.path
-
 pub lasts_call : {P : MachineState → Type 0} (s t : State) (call : Call) (a : Answer) → Lasts P → P (machine_of s) → CallStep s call a t →
     P (machine_of t)
 lasts_call s t call.Next a k w h = rw h.machine (k.mark (machine_of s) w)
-lasts_call s t call.FifoEnabled a k w h = rw h.1 w
-lasts_call s t (call.Enable bits) a k w h = lasts_did s t k w h.1
-lasts_call s t (call.Disable bits) a k w h = lasts_did s t k w h.1
-lasts_call s t (call.Text text) a k w h = lasts_did s t k w h.1.did
-lasts_call s t (call.Init config) a k w h = lasts_did s t k w h.did
-lasts_call s t call.TestLoopback a k w h = lasts_did s t k w h.did
-lasts_call s t call.CheckPresent a k w h = lasts_did s t k w h.did
-lasts_call s t call.CheckConnected a k w h = lasts_did s t k w h.did
-lasts_call s t call.ReadyToReceive a k w h = lasts_did s t k w h.did
-lasts_call s t call.ReadyToSend a k w h = lasts_did s t k w h.did
-lasts_call s t call.TryReceive a k w h = lasts_did s t k w h.did
-lasts_call s t call.Flush a k w h = lasts_did s t k w h.did
-lasts_call s t call.ReadReady a k w h = lasts_did s t k w h.did
-lasts_call s t call.WriteReady a k w h = lasts_did s t k w h.did
-lasts_call s t call.Ier a k w h = lasts_did s t k w h.did
-lasts_call s t call.Isr a k w h = lasts_did s t k w h.did
-lasts_call s t call.Lcr a k w h = lasts_did s t k w h.did
-lasts_call s t call.Mcr a k w h = lasts_did s t k w h.did
-lasts_call s t call.Lsr a k w h = lasts_did s t k w h.did
-lasts_call s t call.Msr a k w h = lasts_did s t k w h.did
-lasts_call s t call.Spr a k w h = lasts_did s t k w h.did
-lasts_call s t call.DllDlm a k w h = lasts_did s t k w h.did
-lasts_call s t call.Dump a k w h = lasts_did s t k w h.did
-lasts_call s t (call.TrySend byte) a k w h = lasts_did s t k w h.did
-lasts_call s t (call.Receive slots) a k w h = lasts_did s t k w h.did
-lasts_call s t (call.ReceiveExact slots) a k w h = lasts_did s t k w h.did
-lasts_call s t (call.Read slots) a k w h = lasts_did s t k w h.did
-lasts_call s t (call.Send bytes) a k w h = lasts_did s t k w h.did
-lasts_call s t (call.SendExact bytes) a k w h = lasts_did s t k w h.did
-lasts_call s t (call.Write bytes) a k w h = lasts_did s t k w h.did
+lasts_call s t other a k w h = k.path h.did.list (machine_of s) (machine_of t) w h.did.path
 
 pub lasts_chain : {P : MachineState → Type 0} (s t : State) (links : List Link) → Lasts P → P (machine_of s) → Chain s links t → P (machine_of t)
 lasts_chain s t [] k w h = rw h w

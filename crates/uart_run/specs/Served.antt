@@ -7,7 +7,8 @@ use Rattle.uart_calls.specs.declared.call.Answer.TheVariants as answer
 use Rattle.uart_chip.specs.Transmitter.{TransmitterState}
 use Rattle.uart_chip.specs.Chip.{is_transmitter_empty}
 use Rattle.uart_device.specs.Conserved.{out, waiting}
-use Rattle.uart_run.specs.Run.{State, machine_of, Link, bytes_answer}
+use Rattle.uart_calls.specs.Meaning.{bytes_answer}
+use Rattle.uart_run.specs.Run.{State, machine_of, Link}
 
 -- the answer holds at least so many bytes
 abbrev pub HoldsAtLeast : ℕ → Answer → Type 0

@@ -38,8 +38,8 @@ fn status(error: PlayError) -> u8
     }
 }
 
-/// Writes what went wrong as one line, if anything did and the writer still works, and answers the program's status: 0
-/// where the script was played, 1 where it was refused, 2 where the reader or the writer failed, 3 where memory was wanting.
+/// Writes what went wrong as one line, if anything did and the writer still works, and returns the program's status: 0 if the
+/// script was played, 1 if it was refused, 2 if the reader or the writer failed, 3 if out of memory.
 ///
 /// A fault of this line's own writing is ignored. Takes no memory.
 pub fn finish<W: Output>(outcome: Result<(), PlayError>, writer: &mut W) -> u8
@@ -96,7 +96,7 @@ mod tests {
         }
     }
 
-    // To one writer: nothing stands before the line.
+    // To one writer: nothing is before the line.
     #[test]
     fn a_refused_script_has_its_line_and_status(rt: HostRuntime) -> Result<(), Fail> {
         let cases: [(&[u8], &str); 3] = [

@@ -1,4 +1,4 @@
-//! Plays a script from standard input, and prints what it answers to standard output.
+//! Plays a script from standard input, and prints its output to standard output.
 #![tactic(auto)]
 
 mod finish;

@@ -1,5 +1,6 @@
 -- The numbers of `Divisor` are the divisors of 115,200 that the divisor latch holds, each once.
-use Rattle.std.proofs.Common.{◌≡◌, ℕ, zero, suc, ◌*◌, ◌/◌, ◌%◌, ◌<◌, ◌≤◌, Bool, true, false, not, ◌==◌, ◌||◌, nat_lt, ◌⊎◌, inl, inr, List, [], ◌∷◌, Option, Some, refl, subst, sym, ◌∙◌, ap, arith, lit≤}
+use Rattle.std.proofs.Common.{◌≡◌, ℕ, zero, suc, ◌*◌, ◌/◌, ◌%◌, ◌<◌, ◌≤◌, Bool, true, false, not, ◌==◌, ◌||◌, nat_lt, ◌⊎◌, inl, inr, List}
+use Rattle.std.proofs.Common.{[], ◌∷◌, Option, Some, refl, subst, sym, ◌∙◌, ap, arith, lit≤}
 use Rattle.std.proofs.lemmas.Bool.{agree_below_at, cases_Bool, cases_lt}
 use Rattle.std.proofs.Math.Nat.{mul-le-mul_left, mul-le-mul_right, mul-mod_left, mul-mod_right, mul-div_cancel}
 use Rattle.std.proofs.lemmas.Bool.Decides.{nat_tests}
@@ -8,7 +9,97 @@ use Rattle.std.specs.List.{find}
 use Rattle.std.specs.Option.{is_some}
 use Rattle.uart_spec.specs.Divisors.{number, IsDivisor}
 use Rattle.uart_spec.specs.declared.registers.divisors.Divisor.{Divisor}
-use Rattle.uart_spec.specs.declared.registers.divisors.Divisor.TheVariants.{Divisor1, Divisor2, Divisor3, Divisor4, Divisor5, Divisor6, Divisor8, Divisor9, Divisor10, Divisor12, Divisor15, Divisor16, Divisor18, Divisor20, Divisor24, Divisor25, Divisor30, Divisor32, Divisor36, Divisor40, Divisor45, Divisor48, Divisor50, Divisor60, Divisor64, Divisor72, Divisor75, Divisor80, Divisor90, Divisor96, Divisor100, Divisor120, Divisor128, Divisor144, Divisor150, Divisor160, Divisor180, Divisor192, Divisor200, Divisor225, Divisor240, Divisor256, Divisor288, Divisor300, Divisor320, Divisor360, Divisor384, Divisor400, Divisor450, Divisor480, Divisor512, Divisor576, Divisor600, Divisor640, Divisor720, Divisor768, Divisor800, Divisor900, Divisor960, Divisor1152, Divisor1200, Divisor1280, Divisor1440, Divisor1536, Divisor1600, Divisor1800, Divisor1920, Divisor2304, Divisor2400, Divisor2560, Divisor2880, Divisor3200, Divisor3600, Divisor3840, Divisor4608, Divisor4800, Divisor5760, Divisor6400, Divisor7200, Divisor7680, Divisor9600, Divisor11520, Divisor12800, Divisor14400, Divisor19200, Divisor23040, Divisor28800, Divisor38400, Divisor57600}
+use Rattle.uart_spec.specs.declared.registers.divisors.Divisor.TheVariants.{
+  Divisor1,
+  Divisor2,
+  Divisor3,
+  Divisor4,
+  Divisor5,
+  Divisor6,
+  Divisor8,
+  Divisor9,
+  Divisor10,
+  Divisor12,
+  Divisor15,
+  Divisor16,
+  Divisor18,
+  Divisor20,
+  Divisor24,
+  Divisor25,
+  Divisor30,
+  Divisor32,
+  Divisor36,
+  Divisor40,
+  Divisor45,
+  Divisor48,
+  Divisor50,
+  Divisor60,
+  Divisor64,
+  Divisor72,
+  Divisor75,
+  Divisor80,
+  Divisor90,
+  Divisor96,
+  Divisor100,
+  Divisor120,
+  Divisor128,
+  Divisor144,
+  Divisor150,
+  Divisor160,
+  Divisor180,
+  Divisor192,
+  Divisor200,
+  Divisor225,
+  Divisor240,
+  Divisor256,
+  Divisor288,
+  Divisor300,
+  Divisor320,
+  Divisor360,
+  Divisor384,
+  Divisor400,
+  Divisor450,
+  Divisor480,
+  Divisor512,
+  Divisor576,
+  Divisor600,
+  Divisor640,
+  Divisor720,
+  Divisor768,
+  Divisor800,
+  Divisor900,
+  Divisor960,
+  Divisor1152,
+  Divisor1200,
+  Divisor1280,
+  Divisor1440,
+  Divisor1536,
+  Divisor1600,
+  Divisor1800,
+  Divisor1920,
+  Divisor2304,
+  Divisor2400,
+  Divisor2560,
+  Divisor2880,
+  Divisor3200,
+  Divisor3600,
+  Divisor3840,
+  Divisor4608,
+  Divisor4800,
+  Divisor5760,
+  Divisor6400,
+  Divisor7200,
+  Divisor7680,
+  Divisor9600,
+  Divisor11520,
+  Divisor12800,
+  Divisor14400,
+  Divisor19200,
+  Divisor23040,
+  Divisor28800,
+  Divisor38400,
+  Divisor57600,
+}
 
 abbrev pub divisors : List Divisor
 divisors =
@@ -43,10 +134,14 @@ number_divides Divisor1 = (lit≤ tt, (115200, refl))
 number_divides divisor = (lit≤ tt, (115200 / number divisor, refl))
 
 -- a test that found something found a case of that number
-pub found_is : (some : List Divisor) (n : ℕ) → is_some (find (λ divisor. number divisor == n) some) ≡ true → (divisor : Divisor) × (number divisor ≡ n)
+pub found_is : (some : List Divisor) (n : ℕ) → is_some (find (λ divisor. number divisor == n) some) ≡ true →
+    (divisor : Divisor) × (number divisor ≡ n)
 found_is [] n holds = absurd (cc)
 found_is (divisor ∷ rest) n holds =
-    elim (cases_Bool (number divisor == n)) [ inl same ↦ (divisor, grind (arith, nat_tests)) | inr other ↦ found_is rest n (rw other at holds) ]
+    elim (cases_Bool (number divisor == n)) [
+      | inl same ↦ (divisor, grind (arith, nat_tests))
+      | inr other ↦ found_is rest n (rw other at holds)
+    ]
 
 -- of two factors of 115,200 one is below 340
 pub small_factor : (n rate : ℕ) → n * rate ≡ 115200 → (n < 340) ⊎ (rate < 340)
@@ -89,7 +184,9 @@ large_found n rate product below small =
     let found = agree_below_at is_other_found (λ _. true) 340 rate refl small in
     let divides : 115200 % rate ≡ 0 = rw product at (mul-mod_left n rate) in
     let other : 115200 / rate ≡ n = rw product at (mul-div_cancel n (positive n rate product)) in
-    let in_latch_or_found = from_or (not (115200 % rate == 0)) (nat_lt 65535 (115200 / rate) || is_some (find_divisor (115200 / rate))) found (ap (λ rest. not (rest == 0)) divides) in
+    let in_latch_or_found =
+    from_or (not (115200 % rate == 0)) (nat_lt 65535 (115200 / rate) || is_some (find_divisor (115200 / rate))) found
+    (ap (λ rest. not (rest == 0)) divides) in
     let at_n = subst (λ m. (nat_lt 65535 m || is_some (find_divisor m)) ≡ true) other in_latch_or_found in
     from_or (nat_lt 65535 n) (is_some (find_divisor n)) at_n (fits n below)
 

@@ -19,7 +19,8 @@ IsBaudRateAnswer frequency divisor factor (Err error) =
     ((baud_rate : ℕ) → frequency_of baud_rate divisor factor ≢ frequency)
     × (error ≡ record { frequency = frequency; divisor = divisor; prescaler_division_factor = factor })
 
--- the divisor at which the clock has this frequency, in the divisor latch or too large for it, or that no whole one does
+-- the divisor at which the clock has this frequency, which fits into the divisor latch or is too large for it;
+-- or that no whole one does
 abbrev pub IsDivisorAnswer : (frequency baud_rate : ℕ) → Option ℕ → Result ℕ InvalidDivisorError → Type 0
 IsDivisorAnswer frequency baud_rate factor (Ok divisor) =
     (frequency_of baud_rate divisor factor ≡ frequency) × (1 ≤ divisor) × (divisor ≤ 65535)

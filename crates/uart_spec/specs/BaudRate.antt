@@ -3,7 +3,20 @@ use Rattle.std.specs.Prelude.{◌≡◌, ℕ}
 use Rattle.std.specs.declared.cmp.Ordering.{Ordering}
 use Rattle.std.specs.Ordering.{nat_cmp, on, then_cmp}
 use Rattle.uart_spec.specs.declared.config.BaudRate.{BaudRate}
-use Rattle.uart_spec.specs.declared.config.BaudRate.TheVariants.{Baud115200, Baud57600, Baud38400, Baud9600, Baud4800, Baud2400, Baud1200, Baud600, Baud300, Baud150, Baud110, Custom}
+use Rattle.uart_spec.specs.declared.config.BaudRate.TheVariants.{
+  Baud115200,
+  Baud57600,
+  Baud38400,
+  Baud9600,
+  Baud4800,
+  Baud2400,
+  Baud1200,
+  Baud600,
+  Baud300,
+  Baud150,
+  Baud110,
+  Custom,
+}
 
 -- the bits a second of a baud rate
 abbrev pub to_integer : BaudRate → ℕ

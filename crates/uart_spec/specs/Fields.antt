@@ -2,7 +2,12 @@
 use Rattle.std.specs.Prelude.{◌≡◌, ℕ}
 use Rattle.uart_spec.specs.Bits.{field}
 use Rattle.uart_spec.specs.declared.registers.fifo_trigger_level.FifoTriggerLevel.{FifoTriggerLevel}
-use Rattle.uart_spec.specs.declared.registers.fifo_trigger_level.FifoTriggerLevel.TheVariants.{One, Four, Eight, Fourteen}
+use Rattle.uart_spec.specs.declared.registers.fifo_trigger_level.FifoTriggerLevel.TheVariants.{
+  One,
+  Four,
+  Eight,
+  Fourteen,
+}
 use Rattle.uart_spec.specs.declared.registers.frame.WordLength.{WordLength}
 use Rattle.uart_spec.specs.declared.registers.frame.WordLength.TheVariants.{FiveBits, SixBits, SevenBits, EightBits}
 use Rattle.uart_spec.specs.declared.registers.frame.Parity.{Parity}

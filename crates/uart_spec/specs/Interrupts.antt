@@ -2,7 +2,15 @@
 use Rattle.std.specs.Prelude.{◌≡◌, ℕ}
 use Rattle.uart_spec.specs.Bits.{field}
 use Rattle.uart_spec.specs.declared.registers.interrupt_type.InterruptType.{InterruptType}
-use Rattle.uart_spec.specs.declared.registers.interrupt_type.InterruptType.TheVariants.{ReceiverLineStatus, ReceivedDataReady, ReceptionTimeout, TransmitterHoldingRegisterEmpty, ModemStatus, DmaReceptionEndOfTransfer, DmaTransmissionEndOfTransfer}
+use Rattle.uart_spec.specs.declared.registers.interrupt_type.InterruptType.TheVariants.{
+  ReceiverLineStatus,
+  ReceivedDataReady,
+  ReceptionTimeout,
+  TransmitterHoldingRegisterEmpty,
+  ModemStatus,
+  DmaReceptionEndOfTransfer,
+  DmaTransmissionEndOfTransfer,
+}
 
 -- the identification code, bits 1 to 3 of ISR
 abbrev pub interrupt_code : InterruptType → ℕ

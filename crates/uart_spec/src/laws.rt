@@ -26,7 +26,11 @@ ghost use Rattle.uart_spec.specs.declared.registers.frame.WordLength.{WordLength
 ghost use Rattle.uart_spec.specs.declared.registers.frame.WordLength.TheVariants.{FiveBits, SixBits, SevenBits, EightBits};
 ghost use Rattle.uart_spec.specs.declared.registers.interrupt_enable.IER.{IER};
 ghost use Rattle.uart_spec.specs.declared.registers.interrupt_status.ISR.{ISR};
-ghost use Rattle.uart_spec.specs.declared.registers.interrupt_type.InterruptType.TheVariants.{ReceiverLineStatus, ReceivedDataReady, ReceptionTimeout, TransmitterHoldingRegisterEmpty, ModemStatus, DmaReceptionEndOfTransfer, DmaTransmissionEndOfTransfer};
+ghost use Rattle.uart_spec.specs.declared.registers.interrupt_type.InterruptType.TheVariants.{ReceiverLineStatus, ReceivedDataReady};
+ghost use Rattle.uart_spec.specs.declared.registers.interrupt_type.InterruptType.TheVariants.{ReceptionTimeout};
+ghost use Rattle.uart_spec.specs.declared.registers.interrupt_type.InterruptType.TheVariants.{TransmitterHoldingRegisterEmpty, ModemStatus};
+ghost use Rattle.uart_spec.specs.declared.registers.interrupt_type.InterruptType.TheVariants.{DmaReceptionEndOfTransfer};
+ghost use Rattle.uart_spec.specs.declared.registers.interrupt_type.InterruptType.TheVariants.{DmaTransmissionEndOfTransfer};
 ghost use Rattle.uart_spec.specs.declared.registers.line_control.LCR.{LCR};
 ghost use Rattle.uart_spec.specs.declared.registers.line_status.LSR.{LSR};
 ghost use Rattle.uart_spec.specs.declared.registers.modem_control.MCR.{MCR};
@@ -102,7 +106,8 @@ pub fn fields_are_in_order()
         ∷ ⟦<Parity as Ord>⟧.cmp a.parity b.parity
         ∷ bool_cmp a.check_cts_before_sending b.check_cts_before_sending
         ∷ []) }
-    ensures baud_rate_error { (a b : NonIntegerBaudRateError) → ⟦<NonIntegerBaudRateError as PartialOrd>⟧.partial_cmp a b ≡ partial_in_turn (
+    ensures baud_rate_error { (a b : NonIntegerBaudRateError) →
+        ⟦<NonIntegerBaudRateError as PartialOrd>⟧.partial_cmp a b ≡ partial_in_turn (
         ⟦<u32 as PartialOrd>⟧.partial_cmp a.frequency b.frequency
         ∷ ⟦<u32 as PartialOrd>⟧.partial_cmp a.divisor b.divisor
         ∷ ⟦<Option<u32> as PartialOrd>⟧.partial_cmp a.prescaler_division_factor b.prescaler_division_factor

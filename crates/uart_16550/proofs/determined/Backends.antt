@@ -3,7 +3,8 @@ use Rattle.std.proofs.Common.{◌≡◌, ℕ, List, [], ◌∷◌, ◌++◌, ref
 use Rattle.std.proofs.lemmas.List.{append_cancel_left}
 use Rattle.std.specs.Int.NonZero.{non_zero_u64_get}
 use Rattle.uart_spec.specs.Access.{Access, Read, Write, Path}
-use Rattle.uart_16550.specs.Choice.{PartAtRead, LeavesNoChoice, answers, IsAnsweredFrom, Agree, AgreeSaving, IsFunction, IsSame, HasOneOutcome, HasOneOutcomeSaving}
+use Rattle.uart_16550.specs.Choice.{PartAtRead, LeavesNoChoice, answers, IsAnsweredFrom, Agree, AgreeSaving, IsFunction, IsSame}
+use Rattle.uart_16550.specs.Choice.{HasOneOutcome, HasOneOutcomeSaving}
 use Rattle.uart_16550.specs.Grammar.{Language}
 use Rattle.uart_16550.specs.Driver.{Made, Doing, Fields, Saving, fields, backend_of}
 use Rattle.uart_16550.specs.declared.driver.Uart16550.{Uart16550}

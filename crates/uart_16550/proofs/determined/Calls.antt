@@ -10,8 +10,10 @@ use Rattle.uart_16550.proofs.determined.Doings.{no_choice, saving_determined, do
 use Rattle.uart_16550.proofs.determined.Receive.{ready_to_receive_determined, try_receive_determined}
 use Rattle.uart_16550.proofs.determined.Transmit.{ready_to_send_determined, sends_determined, try_send_determined, sends_exact_determined}
 use Rattle.uart_16550.proofs.determined.Expansion.{text_determined, str_determined}
-use Rattle.uart_16550.proofs.determined.Io.{receives_into_determined, exact_into_determined, reads_into_determined, writes_determined, flushes_determined, answers_read_determined, answers_write_determined}
-use Rattle.uart_16550.proofs.determined.Status.{takes_lsr_determined, takes_msr_determined, connects_determined, divisor_determined, enables_determined, disables_determined, dumps_determined}
+use Rattle.uart_16550.proofs.determined.Io.{receives_into_determined, exact_into_determined, reads_into_determined, writes_determined}
+use Rattle.uart_16550.proofs.determined.Io.{flushes_determined, answers_read_determined, answers_write_determined}
+use Rattle.uart_16550.proofs.determined.Status.{takes_lsr_determined, takes_msr_determined, connects_determined, divisor_determined}
+use Rattle.uart_16550.proofs.determined.Status.{enables_determined, disables_determined, dumps_determined}
 use Rattle.uart_16550.proofs.determined.Init.{presence_determined, inits_determined}
 use Rattle.uart_16550.proofs.determined.Loopback.{tests_loopback_determined}
 use Rattle.uart_16550.proofs.determined.Tty.{starts_determined}

@@ -1,5 +1,6 @@
 -- The presence check and the initialisation are determined.
-use Rattle.std.proofs.Common.{◌≡◌, ◌<◌, ◌+◌, ◌*◌, ◌/◌, ℕ, Bool, true, false, List, [], ◌∷◌, refl, sym, ◌∙◌, ap, subst, arith, inl, inr, ◌==◌, Result, Ok, Err, Option, Some, None}
+use Rattle.std.proofs.Common.{◌≡◌, ◌<◌, ◌+◌, ◌*◌, ◌/◌, ℕ, Bool, true, false, List, [], ◌∷◌, refl, sym, ◌∙◌, ap, subst, arith, inl, inr}
+use Rattle.std.proofs.Common.{◌==◌, Result, Ok, Err, Option, Some, None}
 use Rattle.std.proofs.Math.Nat.{mul-div_cancel_left, mul-pos}
 use Rattle.uart_spec.specs.Baud.{frequency_of, prescaler}
 use Rattle.uart_spec.specs.BaudRate.{to_integer}
@@ -18,8 +19,11 @@ use Rattle.uart_16550.specs.Grammar.{Language, Settings, Only, Then, ReadsRegist
 use Rattle.uart_16550.specs.Receive.{Miss}
 use Rattle.uart_16550.specs.Transmit.{WaitsFor}
 use Rattle.uart_16550.specs.Driver.{Doing, Fields, Saving, Plain, Sets, Next, settings_of, with_config, with_fifo, with_saved}
-use Rattle.uart_16550.specs.Init.{first_pattern, second_pattern, Keeps, KeepsPatterns, ChecksPresence, line_writes, frame_bits, SetsFifo, Discards, most_waiting, DrainsReceiver, raised_outputs, Begins, Ends, DivisorOf, Inits}
-use Rattle.uart_16550.proofs.determined.Parting.{SameOrPart, Determined, so, so_is, so_write, so_reads, determined_so, determined_sym, determined_then, determined_front, determined_only, read_determined, reads_determined, asks_determined, asks_apart, asks_same, not_both}
+use Rattle.uart_16550.specs.Init.{first_pattern, second_pattern, Keeps, KeepsPatterns, ChecksPresence, line_writes, frame_bits, SetsFifo}
+use Rattle.uart_16550.specs.Init.{Discards, most_waiting, DrainsReceiver, raised_outputs, Begins, Ends, DivisorOf, Inits}
+use Rattle.uart_16550.proofs.determined.Parting.{SameOrPart, Determined, so, so_is, so_write, so_reads, determined_so, determined_sym}
+use Rattle.uart_16550.proofs.determined.Parting.{determined_then, determined_front, determined_only, read_determined, reads_determined}
+use Rattle.uart_16550.proofs.determined.Parting.{asks_determined, asks_apart, asks_same, not_both}
 use Rattle.uart_16550.proofs.determined.Repeated.{Misses, times_same, times_hit, times_all}
 use Rattle.uart_16550.proofs.determined.Receive.{miss_same}
 use Rattle.uart_16550.proofs.determined.Transmit.{waits_determined}
@@ -31,11 +35,14 @@ keeps_determined s pattern a b = record {
   at = λ l m p q. so_is p.2 q.2 (so (λ same. sym p.1 ∙ ap (λ (n : ℕ). n == pattern) same ∙ q.1) (so_write refl so_reads));
 }
 
-kept_then : (s : Settings) (a b : Bool) → Determined (a ≡ b) (Then (Keeps first_pattern true) (Keeps second_pattern a) s) (Then (Keeps first_pattern true) (Keeps second_pattern b) s)
+kept_then : (s : Settings) (a b : Bool) →
+    Determined (a ≡ b) (Then (Keeps first_pattern true) (Keeps second_pattern a) s)
+    (Then (Keeps first_pattern true) (Keeps second_pattern b) s)
 kept_then s a b = determined_then (keeps_determined s first_pattern true true) (λ x. keeps_determined s second_pattern a b)
 
 -- the first pattern is kept, and not kept
-kept_lost : (s : Settings) (a : Bool) → Determined ⊥ (Then (Keeps first_pattern true) (Keeps second_pattern a) s) (Keeps first_pattern false s)
+kept_lost : (s : Settings) (a : Bool) →
+    Determined ⊥ (Then (Keeps first_pattern true) (Keeps second_pattern a) s) (Keeps first_pattern false s)
 kept_lost s a = determined_front (determined_so not_both (keeps_determined s first_pattern true false))
 
 patterns_apart : (s : Settings) → Determined ⊥ (KeepsPatterns true s) (KeepsPatterns false s)
@@ -74,7 +81,11 @@ fifo_determined s None a b = record { at = λ l m p q. inl (p.0 ∙ sym q.0, p.1
 fifo_determined s (Some level) a b = determined_then (determined_only refl) (λ x. asks_determined offsets.ISR ISR.FIFOS_ENABLED.0 a b)
 
 discards : (s : Settings) → Misses s Discards Miss
-discards s = record { same = determined_then (asks_same offsets.LSR LSR.DATA_READY.0 true) (λ x. reads_determined s offsets.DATA); apart = determined_front (asks_apart offsets.LSR LSR.DATA_READY.0) }
+discards s =
+    record {
+      same = determined_then (asks_same offsets.LSR LSR.DATA_READY.0 true) (λ x. reads_determined s offsets.DATA);
+      apart = determined_front (asks_apart offsets.LSR LSR.DATA_READY.0);
+    }
 
 drains_same : (s : Settings) → Determined (Unit {0}) (DrainsReceiver s) (DrainsReceiver s)
 drains_same s = record { at = at }
@@ -93,7 +104,8 @@ drained_same : (f : Fields) (fifo : Bool) → Does (Unit {0}) f (Drained fifo) (
 drained_same f fifo =
     does_next (does_set f (with_fifo fifo))
     (λ x g. does_next (does_plain g DrainsReceiver DrainsReceiver (drains_same (settings_of g)))
-    (λ y h. does_saving h (Only (Write offsets.MCR raised_outputs ∷ [])) (Only (Write offsets.MCR raised_outputs ∷ [])) (determined_only refl)))
+    (λ y h. does_saving h (Only (Write offsets.MCR raised_outputs ∷ [])) (Only (Write offsets.MCR raised_outputs ∷ []))
+    (determined_only refl)))
 
 drained_determined : (f : Fields) (a b : Bool) → a ≡ b → Does (a ≡ b) f (Drained a) (Drained b)
 drained_determined f a b same =
@@ -150,15 +162,21 @@ Finishes config false = Saving (WaitsFor LSR.TRANSMITTER_EMPTY.0 false)
 
 finishes_apart : (f : Fields) (config : Config) → Does ⊥ f (Finishes config true) (Finishes config false)
 finishes_apart f config =
-    does_front (does_saving f (WaitsFor LSR.TRANSMITTER_EMPTY.0 true) (WaitsFor LSR.TRANSMITTER_EMPTY.0 false) (determined_so not_both (waits_determined (settings_of f) LSR.TRANSMITTER_EMPTY.0 true false)))
+    does_front
+    (does_saving f (WaitsFor LSR.TRANSMITTER_EMPTY.0 true) (WaitsFor LSR.TRANSMITTER_EMPTY.0 false)
+    (determined_so not_both (waits_determined (settings_of f) LSR.TRANSMITTER_EMPTY.0 true false)))
 
 finishes_determined : (f : Fields) (config : Config) (x y : Bool) → Does (x ≡ y) f (Finishes config x) (Finishes config y)
 finishes_determined f config true true =
     does_so (λ t. refl)
-    (does_next (does_saving f (WaitsFor LSR.TRANSMITTER_EMPTY.0 true) (WaitsFor LSR.TRANSMITTER_EMPTY.0 true) (waits_determined (settings_of f) LSR.TRANSMITTER_EMPTY.0 true true)) (λ x g. ends_same g config))
+    (does_next
+    (does_saving f (WaitsFor LSR.TRANSMITTER_EMPTY.0 true) (WaitsFor LSR.TRANSMITTER_EMPTY.0 true)
+    (waits_determined (settings_of f) LSR.TRANSMITTER_EMPTY.0 true true)) (λ x g. ends_same g config))
 finishes_determined f config true false = does_so absurd (finishes_apart f config)
 finishes_determined f config false true = does_sym (finishes_apart f config)
-finishes_determined f config false false = does_saving f (WaitsFor LSR.TRANSMITTER_EMPTY.0 false) (WaitsFor LSR.TRANSMITTER_EMPTY.0 false) (waits_determined (settings_of f) LSR.TRANSMITTER_EMPTY.0 false false)
+finishes_determined f config false false =
+    does_saving f (WaitsFor LSR.TRANSMITTER_EMPTY.0 false) (WaitsFor LSR.TRANSMITTER_EMPTY.0 false)
+    (waits_determined (settings_of f) LSR.TRANSMITTER_EMPTY.0 false false)
 
 abbrev Tries : Config → ℕ → (fifo empty : Bool) → Doing
 Tries config divisor fifo empty = Next (Begins config divisor fifo) (Finishes config empty)

@@ -1,5 +1,6 @@
 -- Slots that are filled, and the calls of readers and writers, are determined.
-use Rattle.std.proofs.Common.{◌≡◌, ◌<◌, ◌≤◌, ℕ, Bool, true, false, List, [], ◌∷◌, ◌++◌, refl, sym, ◌∙◌, ap, arith, inl, inr, ◌⊎◌, Result, Ok, Err, Some, None, length, take, drop, unwrap_or}
+use Rattle.std.proofs.Common.{◌≡◌, ◌<◌, ◌≤◌, ℕ, Bool, true, false, List, [], ◌∷◌, ◌++◌, refl, sym, ◌∙◌, ap, arith, inl, inr, ◌⊎◌, Result}
+use Rattle.std.proofs.Common.{Ok, Err, Some, None, length, take, drop, unwrap_or}
 use Rattle.std.proofs.lemmas.List.{length-take-le, take-append-drop, nil_from_length}
 use Rattle.uart_spec.specs.declared.errors.StalledError.{StalledError}
 use Rattle.uart_spec.specs.declared.registers.offsets.TheConstants as offsets
@@ -9,9 +10,11 @@ use Rattle.uart_16550.specs.Choice.{ReceivesInto, ReceivesExactInto, ReadsInto}
 use Rattle.uart_16550.specs.Grammar.{Settings, Then, InOrder}
 use Rattle.uart_16550.specs.Receive.{Hit, Miss, Receives, ReceivesSome}
 use Rattle.uart_16550.specs.Io.{Reads, Writes, Flushes, AnswersRead, AnswersWrite}
-use Rattle.uart_16550.proofs.determined.Parting.{SameOrPart, Determined, so, determined_so, determined_sym, determined_front, determined_among, determined_either, asks_determined}
+use Rattle.uart_16550.proofs.determined.Parting.{SameOrPart, Determined, so, determined_so, determined_sym, determined_front}
+use Rattle.uart_16550.proofs.determined.Parting.{determined_among, determined_either, asks_determined}
 use Rattle.uart_16550.proofs.determined.Repeated.{Misses, waits_end, wait_ends}
-use Rattle.uart_16550.proofs.determined.Receive.{receives_determined, receives_exact_determined, miss_same, miss_hit, vain_same, stalled, ok_same}
+use Rattle.uart_16550.proofs.determined.Receive.{receives_determined, receives_exact_determined, miss_same, miss_hit, vain_same, stalled}
+use Rattle.uart_16550.proofs.determined.Receive.{ok_same}
 use Rattle.uart_16550.proofs.determined.Transmit.{waits_determined, sends_some_determined, hit_same, refusal_same, refusal_hit}
 
 -- slots with the same front, and the rest as it was
@@ -178,11 +181,14 @@ flushes_determined s (Ok x) (Ok y) = determined_so (λ t. refl) (waits_determine
 flushes_determined s (Ok x) (Err d) = determined_so absurd (flushes_apart s d)
 flushes_determined s (Err d) (Ok y) = determined_sym (flushes_apart s d)
 flushes_determined s (Err d) (Err f) =
-    record { at = λ l m p q. so (λ r. stalled d f (p.0 ∙ sym q.0)) ((waits_determined s LSR.TRANSMITTER_EMPTY.0 false false).at l m p.1 q.1) }
+    record {
+      at = λ l m p q. so (λ r. stalled d f (p.0 ∙ sym q.0)) ((waits_determined s LSR.TRANSMITTER_EMPTY.0 false false).at l m p.1 q.1);
+    }
 
 pub answers_read_determined : (s : Settings) (a b : Result Bool StalledError) → Determined (a ≡ b) (AnswersRead a s) (AnswersRead b s)
 answers_read_determined s (Ok x) (Ok y) =
-    determined_so (λ t. ap (λ (x : Bool). let r : Result Bool StalledError = Ok x in r) t) (asks_determined offsets.LSR LSR.DATA_READY.0 x y)
+    determined_so (λ t. ap (λ (x : Bool). let r : Result Bool StalledError = Ok x in r) t)
+    (asks_determined offsets.LSR LSR.DATA_READY.0 x y)
 answers_read_determined s (Err d) b = record { at = λ l m p q. absurd p }
 answers_read_determined s (Ok x) (Err f) = record { at = λ l m p q. absurd q }
 

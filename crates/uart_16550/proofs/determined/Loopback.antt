@@ -1,5 +1,6 @@
 -- The loopback test is determined.
-use Rattle.std.proofs.Common.{◌≡◌, ◌≢◌, ℕ, Bool, true, false, List, [], ◌∷◌, ◌++◌, refl, sym, ◌∙◌, ap, subst, arith, inl, inr, ◌⊎◌, ◌==◌, Result, Ok, Err, Option, Some, None, length, map, if◌then◌else◌}
+use Rattle.std.proofs.Common.{◌≡◌, ◌≢◌, ℕ, Bool, true, false, List, [], ◌∷◌, ◌++◌, refl, sym, ◌∙◌, ap, subst, arith, inl, inr, ◌⊎◌, ◌==◌}
+use Rattle.std.proofs.Common.{Result, Ok, Err, Option, Some, None, length, map, if◌then◌else◌}
 use Rattle.std.proofs.lemmas.Bool.Decides.{nat_tests}
 use Rattle.std.proofs.lemmas.List.{length-map}
 use Rattle.bitflags.specs.Sets.{without}
@@ -16,12 +17,19 @@ use Rattle.uart_16550.specs.Receive.{Miss, Awaited, ReceivesExact}
 use Rattle.uart_16550.specs.Transmit.{Round, SendMiss, SendsAll, SendsExact, TrySends}
 use Rattle.uart_16550.specs.Init.{SetsFifo}
 use Rattle.uart_16550.specs.Driver.{Doing, Fields, Saving, Plain, Sets, Next, settings_of, with_fifo}
-use Rattle.uart_16550.specs.Loopback.{test_byte, test_message, TakesOne, DrainsLoopback, SendsTestByte, ExchangesByte, Echo, EchoFails, WholeEchoes, WholeFails, EachEchoes, HasEchoedWhole, HasEchoedEach, HasEchoedAll, ExchangesMessage, Exchanges, Enters, Leaves, with_changes, line_changes, BeginsTest, Tests, IsStalled, TestsLoopback}
+use Rattle.uart_16550.specs.Loopback.{test_byte, test_message, TakesOne, DrainsLoopback, SendsTestByte, ExchangesByte, Echo, EchoFails}
+use Rattle.uart_16550.specs.Loopback.{WholeEchoes, WholeFails, EachEchoes, HasEchoedWhole, HasEchoedEach, HasEchoedAll, ExchangesMessage}
+use Rattle.uart_16550.specs.Loopback.{Exchanges, Enters, Leaves, with_changes, line_changes, BeginsTest, Tests, IsStalled, TestsLoopback}
 use Rattle.uart_16550.proofs.Languages.{then_later}
-use Rattle.uart_16550.proofs.determined.Parting.{SameOrPart, Determined, so, so_is, so_read, so_reads, determined_so, determined_sym, determined_then, determined_front, determined_among, determined_none, determined_only, determined_fifo, read_determined, not_both}
-use Rattle.uart_16550.proofs.determined.Repeated.{same_first, same_others, Misses, waits_end, wait_ends, wait_fails, Items, Alike, items_all}
-use Rattle.uart_16550.proofs.determined.Receive.{hits_determined, miss_same, miss_hit, vain_same, vain_awaited, awaited_determined, awaited_all, receives_exact_determined}
-use Rattle.uart_16550.proofs.determined.Transmit.{round_same, vain_round, unsent_same, waits_determined, try_send_determined, sends_all_same, sends_stall, sends_exact_determined}
+use Rattle.uart_16550.proofs.determined.Parting.{SameOrPart, Determined, so, so_is, so_read, so_reads, determined_so, determined_sym}
+use Rattle.uart_16550.proofs.determined.Parting.{determined_then, determined_front, determined_among, determined_none, determined_only}
+use Rattle.uart_16550.proofs.determined.Parting.{determined_fifo, read_determined, not_both}
+use Rattle.uart_16550.proofs.determined.Repeated.{same_first, same_others, Misses, waits_end, wait_ends, wait_fails, Items, Alike}
+use Rattle.uart_16550.proofs.determined.Repeated.{items_all}
+use Rattle.uart_16550.proofs.determined.Receive.{hits_determined, miss_same, miss_hit, vain_same, vain_awaited, awaited_determined}
+use Rattle.uart_16550.proofs.determined.Receive.{awaited_all, receives_exact_determined}
+use Rattle.uart_16550.proofs.determined.Transmit.{round_same, vain_round, unsent_same, waits_determined, try_send_determined}
+use Rattle.uart_16550.proofs.determined.Transmit.{sends_all_same, sends_stall, sends_exact_determined}
 use Rattle.uart_16550.proofs.determined.Init.{fifo_determined}
 use Rattle.uart_16550.proofs.determined.Doings.{Does, does_so, does_sym, does_next, does_front, does_saving, does_plain, does_set}
 
@@ -381,7 +389,8 @@ exchanges_determined s a b = record { at = λ l m p q. at l m (steps_of a s l p)
 
 -- into the loopback
 entering : (s : Settings) (x y : ℕ) →
-    Determined (x ≡ y) (Only (Read offsets.MSR x ∷ Write offsets.IER 0 ∷ Write offsets.MCR MCR.LOOP_BACK.0 ∷ []) s) (Only (Read offsets.MSR y ∷ Write offsets.IER 0 ∷ Write offsets.MCR MCR.LOOP_BACK.0 ∷ []) s)
+    Determined (x ≡ y) (Only (Read offsets.MSR x ∷ Write offsets.IER 0 ∷ Write offsets.MCR MCR.LOOP_BACK.0 ∷ []) s)
+    (Only (Read offsets.MSR y ∷ Write offsets.IER 0 ∷ Write offsets.MCR MCR.LOOP_BACK.0 ∷ []) s)
 entering s x y = record { at = λ l m p q. so_is p.is q.is (so (λ r. r.0) (so_read (λ same. inl (tt {0}, refl)))) }
 
 set_fifos : (f : Fields) (a b : Bool) → a ≡ b → Does (Unit {0}) f (Sets (with_fifo a)) (Sets (with_fifo b))
@@ -416,8 +425,10 @@ settles_determined mcr ier before noted x y f same =
     subst M same (does_next (does_saving f W W (determined_only refl)) (λ t g. does_set g (with_changes noted (line_changes before x))))
 
 leaving : (mcr ier before noted x y : ℕ) (f : Fields) → Does (Unit {0}) f
-    (Next (Saving (Only (Write offsets.MCR (without 8 mcr MCR.OUT_2_INT_ENABLE.0) ∷ []))) (Next (Plain (Only (Read offsets.MSR x ∷ []))) (Settles mcr ier before noted x)))
-    (Next (Saving (Only (Write offsets.MCR (without 8 mcr MCR.OUT_2_INT_ENABLE.0) ∷ []))) (Next (Plain (Only (Read offsets.MSR y ∷ []))) (Settles mcr ier before noted y)))
+    (Next (Saving (Only (Write offsets.MCR (without 8 mcr MCR.OUT_2_INT_ENABLE.0) ∷ [])))
+    (Next (Plain (Only (Read offsets.MSR x ∷ []))) (Settles mcr ier before noted x)))
+    (Next (Saving (Only (Write offsets.MCR (without 8 mcr MCR.OUT_2_INT_ENABLE.0) ∷ [])))
+    (Next (Plain (Only (Read offsets.MSR y ∷ []))) (Settles mcr ier before noted y)))
 leaving mcr ier before noted x y f =
     let W = Only (Write offsets.MCR (without 8 mcr MCR.OUT_2_INT_ENABLE.0) ∷ []) in
     does_next (does_saving f W W (determined_only refl))
@@ -455,13 +466,15 @@ tests_at mcr ier mcr' ier' r t f p q =
 
 -- before the loopback
 opening : (s : Settings) (mcr ier mcr' ier' : ℕ) →
-    Determined ((mcr ≡ mcr') × (ier ≡ ier')) (Only (Read offsets.MCR mcr ∷ Read offsets.IER ier ∷ []) s) (Only (Read offsets.MCR mcr' ∷ Read offsets.IER ier' ∷ []) s)
+    Determined ((mcr ≡ mcr') × (ier ≡ ier')) (Only (Read offsets.MCR mcr ∷ Read offsets.IER ier ∷ []) s)
+    (Only (Read offsets.MCR mcr' ∷ Read offsets.IER ier' ∷ []) s)
 opening s mcr ier mcr' ier' = record { at = λ l m p q. so_is p.is q.is (so_read (λ same. so_reads)) }
 
 begins_test_determined : (s : Settings) (mcr ier mcr' ier' : ℕ) (x y : Bool) →
     Determined ((mcr ≡ mcr') × (ier ≡ ier') × (x ≡ y)) (BeginsTest mcr ier x s) (BeginsTest mcr' ier' y s)
 begins_test_determined s mcr ier mcr' ier' x y =
-    determined_then (opening s mcr ier mcr' ier') (λ same. determined_so (λ t. (same.0, same.1, t)) (waits_determined s LSR.TRANSMITTER_EMPTY.0 x y))
+    determined_then (opening s mcr ier mcr' ier')
+    (λ same. determined_so (λ t. (same.0, same.1, t)) (waits_determined s LSR.TRANSMITTER_EMPTY.0 x y))
 
 stalls : (r : Outcome) → IsStalled r → r ≡ Err Stalled
 stalls (Ok x) h = absurd h

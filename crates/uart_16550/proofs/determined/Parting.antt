@@ -1,5 +1,6 @@
 -- Lists that part at a read, and languages whose lists part only so.
-use Rattle.std.proofs.Common.{◌≡◌, ℕ, Bool, true, false, List, [], ◌∷◌, ◌++◌, refl, sym, ◌∙◌, ap, subst, append_assoc, append-nil, inl, inr, ◌⊎◌, MatchBool}
+use Rattle.std.proofs.Common.{◌≡◌, ℕ, Bool, true, false, List, [], ◌∷◌, ◌++◌, refl, sym, ◌∙◌, ap, subst, append_assoc, append-nil, inl, inr}
+use Rattle.std.proofs.Common.{◌⊎◌, MatchBool}
 use Rattle.std.proofs.Math.Decide.{ℕ_discrete}
 use Rattle.uart_spec.specs.Bits.{has}
 use Rattle.uart_spec.specs.Access.{Access, Read, Write}

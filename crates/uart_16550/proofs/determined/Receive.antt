@@ -7,8 +7,10 @@ use Rattle.uart_spec.specs.declared.registers.line_status.TheConstants.LSR
 use Rattle.uart_spec.specs.Access.{Access}
 use Rattle.uart_16550.specs.Grammar.{Settings, Then, InOrder, AllMisses}
 use Rattle.uart_16550.specs.Receive.{Hit, Miss, ReadyToReceive, TryReceive, Receives, Awaited, ReceivesExact}
-use Rattle.uart_16550.proofs.determined.Parting.{SameOrPart, Determined, so, determined_so, determined_sym, determined_then, determined_front, read_determined, asks_apart, asks_same}
-use Rattle.uart_16550.proofs.determined.Repeated.{Misses, Items, waits_end, wait_ends, wait_fails, items_all, items_more, items_short, alike_any, told}
+use Rattle.uart_16550.proofs.determined.Parting.{SameOrPart, Determined, so, determined_so, determined_sym, determined_then}
+use Rattle.uart_16550.proofs.determined.Parting.{determined_front, read_determined, asks_apart, asks_same}
+use Rattle.uart_16550.proofs.determined.Repeated.{Misses, Items, waits_end, wait_ends, wait_fails, items_all, items_more, items_short}
+use Rattle.uart_16550.proofs.determined.Repeated.{alike_any, told}
 
 pub hits_determined : (s : Settings) (a b : ℕ) → Determined (a ≡ b) (Hit a s) (Hit b s)
 hits_determined s a b = determined_then (asks_same offsets.LSR LSR.DATA_READY.0 true) (λ x. read_determined offsets.DATA a b)

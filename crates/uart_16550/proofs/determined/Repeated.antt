@@ -2,7 +2,8 @@
 use Rattle.std.proofs.Common.{◌≡◌, ◌<◌, ℕ, zero, suc, List, [], ◌∷◌, refl, ◌∙◌, ap, subst, arith, length, take}
 use Rattle.uart_16550.specs.Grammar.{Language, Settings, Only, Then, InOrder, Times, FewMisses, AllMisses}
 use Rattle.uart_16550.proofs.Languages.{then_later}
-use Rattle.uart_16550.proofs.determined.Parting.{Determined, determined_so, determined_sym, determined_among, determined_then, determined_front, determined_only, determined_none}
+use Rattle.uart_16550.proofs.determined.Parting.{Determined, determined_so, determined_sym, determined_among, determined_then}
+use Rattle.uart_16550.proofs.determined.Parting.{determined_front, determined_only, determined_none}
 
 -- a language that is determined by itself, and another one that parts from it
 pub record Misses (s : Settings) (M H : Language) : Type 0 where

@@ -37,7 +37,8 @@ never_part l m left fed part =
     let F : List Access → Type 0 = λ x. FedBy (answers l) x left in
     let whole : answers l ≡ answers part.front ++ (part.answer ∷ answers part.rest) =
     ap answers part.is_one ∙ answers_append part.front (Read part.register part.answer ∷ part.rest) in
-    part.differs (fed_after (answers l) (answers part.rest) part.front part.other_rest part.register part.answer part.other_answer left whole
+    part.differs
+    (fed_after (answers l) (answers part.rest) part.front part.other_rest part.register part.answer part.other_answer left whole
     (subst F part.is_other fed))
 
 pub repeat : {R B : Type 0} {G : R → Doing} {step : B → Access → B → Type 0} → LeavesNoChoice G → Repeats G step
@@ -50,8 +51,12 @@ repeat {R} {B} {G} {step} law a b old new before after p q same on_tape =
     same_call : FedBy (answers p.list) q.list after.backend.answers →
         ((a ≡ b) × (p.list ≡ q.list) × (fields new ≡ fields after)) ⊎ PartAtRead p.list q.list →
         (a ≡ b) × (fields new ≡ fields after) × (after.backend.whole ≡ true → after.backend.made ≡ before.backend.made ++ p.list)
-    same_call fed (inl (outcome, list, left)) =
-        (outcome, left, λ whole. (tapes_show before.backend after.backend q.list q.path whole).made ∙ ap (λ l. before.backend.made ++ l) (sym list))
+    same_call fed (inl (outcome, list, left)) = (
+      outcome,
+      left,
+      λ whole. (tapes_show before.backend after.backend q.list q.path whole).made ∙
+          ap (λ l. before.backend.made ++ l) (sym list),
+    )
     same_call fed (inr part) = absurd (never_part p.list q.list after.backend.answers fed part)
 
 pub repeat_saving : {R B : Type 0} (L : R → Language) {step : B → Access → B → Type 0} → LeavesNoChoice (λ a. Saving (L a)) →

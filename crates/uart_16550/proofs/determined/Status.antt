@@ -3,13 +3,18 @@ use Rattle.std.proofs.Common.{◌≡◌, ℕ, true, false, List, [], ◌++◌, r
 use Rattle.bitflags.specs.Sets.{without}
 use Rattle.uart_spec.specs.Bits.{has}
 use Rattle.uart_spec.specs.declared.errors.RemoteReadyToReceiveError.{RemoteReadyToReceiveError}
-use Rattle.uart_spec.specs.declared.errors.RemoteReadyToReceiveError.TheVariants.{NoRemoteConnectedNoDSR, NoRemoteConnectedNoCD, RemoteNotClearToSend}
+use Rattle.uart_spec.specs.declared.errors.RemoteReadyToReceiveError.TheVariants.{
+  NoRemoteConnectedNoDSR,
+  NoRemoteConnectedNoCD,
+  RemoteNotClearToSend,
+}
 use Rattle.uart_spec.specs.declared.registers.line_control.TheConstants.LCR
 use Rattle.uart_spec.specs.declared.registers.modem_status.TheConstants.MSR
 use Rattle.uart_spec.specs.Access.{Access}
 use Rattle.uart_16550.specs.Grammar.{Settings}
 use Rattle.uart_16550.specs.Driver.{Fields, with_interrupts, saving}
-use Rattle.uart_16550.specs.Status.{TakesLsr, TakesMsr, Connects, ShowsConnection, ReadsDivisor, divisor_accesses, Enables, Disables, Dumps, dump_reads}
+use Rattle.uart_16550.specs.Status.{TakesLsr, TakesMsr, Connects, ShowsConnection, ReadsDivisor, divisor_accesses, Enables, Disables, Dumps}
+use Rattle.uart_16550.specs.Status.{dump_reads}
 use Rattle.uart_16550.specs.declared.dump.ConfigRegisterDump.{ConfigRegisterDump}
 use Rattle.uart_16550.proofs.determined.Parting.{SameOrPart, Determined, so, so_is, so_read, so_write, so_reads, not_both}
 use Rattle.uart_16550.proofs.determined.Doings.{Does}

@@ -1,5 +1,6 @@
 -- The sending calls are determined.
-use Rattle.std.proofs.Common.{◌≡◌, ◌<◌, ℕ, suc, Bool, true, false, List, [], ◌∷◌, refl, sym, ◌∙◌, ap, subst, arith, inl, inr, Result, Ok, Err, Option, Some, None, length, take, drop}
+use Rattle.std.proofs.Common.{◌≡◌, ◌<◌, ℕ, suc, Bool, true, false, List, [], ◌∷◌, refl, sym, ◌∙◌, ap, subst, arith, inl, inr, Result, Ok}
+use Rattle.std.proofs.Common.{Err, Option, Some, None, length, take, drop}
 use Rattle.uart_spec.specs.declared.errors.StalledError.{StalledError}
 use Rattle.uart_spec.specs.declared.errors.ByteSendError.{ByteSendError}
 use Rattle.uart_spec.specs.declared.errors.ByteSendError.TheVariants.{NoCapacity, RemoteNotClearToSend}
@@ -9,9 +10,13 @@ use Rattle.uart_spec.specs.declared.registers.modem_control.TheConstants.MCR
 use Rattle.uart_spec.specs.declared.registers.modem_status.TheConstants.MSR
 use Rattle.uart_spec.specs.Access.{Access}
 use Rattle.uart_16550.specs.Grammar.{Settings, Then, AllMisses, Asks, Never}
-use Rattle.uart_16550.specs.Transmit.{LinesAllow, SendHit, SendRefused, SendMiss, ReadyToSend, Burst, Round, Sends, TrySends, burst_size, IsCut, SendsAll, SendsExact, SendsSome, WaitsFor}
-use Rattle.uart_16550.proofs.determined.Parting.{SameOrPart, Determined, so, determined_so, determined_sym, determined_then, determined_front, determined_only, determined_never, determined_checks, determined_if, asks_determined, asks_apart, asks_same, not_both}
-use Rattle.uart_16550.proofs.determined.Repeated.{Misses, Items, waits_end, wait_ends, wait_fails, items_all, items_more, items_short, Alike, given}
+use Rattle.uart_16550.specs.Transmit.{LinesAllow, SendHit, SendRefused, SendMiss, ReadyToSend, Burst, Round, Sends, TrySends, burst_size}
+use Rattle.uart_16550.specs.Transmit.{IsCut, SendsAll, SendsExact, SendsSome, WaitsFor}
+use Rattle.uart_16550.proofs.determined.Parting.{SameOrPart, Determined, so, determined_so, determined_sym, determined_then}
+use Rattle.uart_16550.proofs.determined.Parting.{determined_front, determined_only, determined_never, determined_checks, determined_if}
+use Rattle.uart_16550.proofs.determined.Parting.{asks_determined, asks_apart, asks_same, not_both}
+use Rattle.uart_16550.proofs.determined.Repeated.{Misses, Items, waits_end, wait_ends, wait_fails, items_all, items_more, items_short}
+use Rattle.uart_16550.proofs.determined.Repeated.{Alike, given}
 use Rattle.uart_16550.proofs.determined.Receive.{stalled}
 
 -- a wait for bits of LSR
@@ -20,31 +25,39 @@ shows s bits = record { same = asks_same offsets.LSR bits false; apart = determi
 
 pub waits_determined : (s : Settings) (bits : ℕ) (a b : Bool) → Determined (a ≡ b) (WaitsFor bits a s) (WaitsFor bits b s)
 waits_determined s bits true true =
-    waits_end s (Asks offsets.LSR bits false) (Asks offsets.LSR bits true) (Asks offsets.LSR bits true) (shows s bits) (shows s bits) (asks_determined offsets.LSR bits true true)
-waits_determined s bits true false = determined_so absurd (wait_ends s (Asks offsets.LSR bits false) (Asks offsets.LSR bits true) (shows s bits))
+    waits_end s (Asks offsets.LSR bits false) (Asks offsets.LSR bits true) (Asks offsets.LSR bits true) (shows s bits) (shows s bits)
+    (asks_determined offsets.LSR bits true true)
+waits_determined s bits true false =
+    determined_so absurd (wait_ends s (Asks offsets.LSR bits false) (Asks offsets.LSR bits true) (shows s bits))
 waits_determined s bits false true = determined_sym (wait_ends s (Asks offsets.LSR bits false) (Asks offsets.LSR bits true) (shows s bits))
-waits_determined s bits false false = determined_so (λ x. refl) (wait_fails s (Asks offsets.LSR bits false) (asks_same offsets.LSR bits false))
+waits_determined s bits false false =
+    determined_so (λ x. refl) (wait_fails s (Asks offsets.LSR bits false) (asks_same offsets.LSR bits false))
 
 -- the send check
 lines_determined : (s : Settings) (a b : Bool) → Determined (a ≡ b) (LinesAllow a s) (LinesAllow b s)
 lines_determined s a b = record { at = at }
   where
-    apart : (c : Bool) → Determined ⊥ (Then (Asks offsets.MCR MCR.LOOP_BACK.0 false) (Asks offsets.MSR MSR.CTS.0 c) s) (Asks offsets.MCR MCR.LOOP_BACK.0 true s)
+    apart : (c : Bool) →
+        Determined ⊥ (Then (Asks offsets.MCR MCR.LOOP_BACK.0 false) (Asks offsets.MSR MSR.CTS.0 c) s)
+        (Asks offsets.MCR MCR.LOOP_BACK.0 true s)
     apart c = determined_front (determined_sym (asks_apart offsets.MCR MCR.LOOP_BACK.0))
 
     at : (l m : List Access) → LinesAllow a s l → LinesAllow b s m → SameOrPart (a ≡ b) l m
     at l m (inl p) (inl q) = so (λ t. p.0 ∙ sym q.0) ((asks_same offsets.MCR MCR.LOOP_BACK.0 true).at l m p.1 q.1)
     at l m (inl p) (inr q) = (determined_sym (apart b)).at l m p.1 q
     at l m (inr p) (inl q) = (determined_so absurd (apart a)).at l m p q.1
-    at l m (inr p) (inr q) = (determined_then {s = s} (asks_same offsets.MCR MCR.LOOP_BACK.0 false) (λ x. asks_determined offsets.MSR MSR.CTS.0 a b)).at l m p q
+    at l m (inr p) (inr q) =
+        (determined_then {s = s} (asks_same offsets.MCR MCR.LOOP_BACK.0 false) (λ x. asks_determined offsets.MSR MSR.CTS.0 a b)).at l m p q
 
 checked_determined : (s : Settings) (a b : Bool) →
-    Determined (a ≡ b) (Then (Asks offsets.LSR LSR.THR_EMPTY.0 true) (LinesAllow a) s) (Then (Asks offsets.LSR LSR.THR_EMPTY.0 true) (LinesAllow b) s)
+    Determined (a ≡ b) (Then (Asks offsets.LSR LSR.THR_EMPTY.0 true) (LinesAllow a) s)
+    (Then (Asks offsets.LSR LSR.THR_EMPTY.0 true) (LinesAllow b) s)
 checked_determined s a b = determined_then (asks_same offsets.LSR LSR.THR_EMPTY.0 true) (λ x. lines_determined s a b)
 
 pub hit_same : (s : Settings) → Determined (Unit {0}) (SendHit s) (SendHit s)
 hit_same s =
-    determined_checks s (Then (Asks offsets.LSR LSR.THR_EMPTY.0 true) (LinesAllow true)) (Then (Asks offsets.LSR LSR.THR_EMPTY.0 true) (LinesAllow true)) (Asks offsets.LSR LSR.THR_EMPTY.0 true)
+    determined_checks s (Then (Asks offsets.LSR LSR.THR_EMPTY.0 true) (LinesAllow true))
+    (Then (Asks offsets.LSR LSR.THR_EMPTY.0 true) (LinesAllow true)) (Asks offsets.LSR LSR.THR_EMPTY.0 true)
     (Asks offsets.LSR LSR.THR_EMPTY.0 true)
     (determined_so (λ x. tt) (checked_determined s true true)) (asks_same offsets.LSR LSR.THR_EMPTY.0 true)
 
@@ -57,13 +70,16 @@ refused_determined s NoCapacity NoCapacity = determined_so (λ x. refl) (asks_sa
 refused_determined s NoCapacity RemoteNotClearToSend = determined_sym (unclear_full s)
 refused_determined s RemoteNotClearToSend NoCapacity = determined_so absurd (unclear_full s)
 refused_determined s RemoteNotClearToSend RemoteNotClearToSend =
-    determined_checks s (Then (Asks offsets.LSR LSR.THR_EMPTY.0 true) (LinesAllow false)) (Then (Asks offsets.LSR LSR.THR_EMPTY.0 true) (LinesAllow false)) Never Never
+    determined_checks s (Then (Asks offsets.LSR LSR.THR_EMPTY.0 true) (LinesAllow false))
+    (Then (Asks offsets.LSR LSR.THR_EMPTY.0 true) (LinesAllow false)) Never Never
     (determined_so (λ x. refl) (checked_determined s false false)) (determined_never s)
 
 hit_refused : (s : Settings) (a : ByteSendError) → Determined ⊥ (SendHit s) (SendRefused a s)
-hit_refused s NoCapacity = determined_if s.checks (determined_front (asks_apart offsets.LSR LSR.THR_EMPTY.0)) (asks_apart offsets.LSR LSR.THR_EMPTY.0)
+hit_refused s NoCapacity =
+    determined_if s.checks (determined_front (asks_apart offsets.LSR LSR.THR_EMPTY.0)) (asks_apart offsets.LSR LSR.THR_EMPTY.0)
 hit_refused s RemoteNotClearToSend =
-    determined_checks s (Then (Asks offsets.LSR LSR.THR_EMPTY.0 true) (LinesAllow true)) (Then (Asks offsets.LSR LSR.THR_EMPTY.0 true) (LinesAllow false)) (Asks offsets.LSR LSR.THR_EMPTY.0 true) Never
+    determined_checks s (Then (Asks offsets.LSR LSR.THR_EMPTY.0 true) (LinesAllow true))
+    (Then (Asks offsets.LSR LSR.THR_EMPTY.0 true) (LinesAllow false)) (Asks offsets.LSR LSR.THR_EMPTY.0 true) Never
     (determined_so not_both (checked_determined s true false)) (determined_sym (determined_never s))
 
 pub ready_to_send_determined : (s : Settings) (a b : Result (Unit {0}) ByteSendError) →

@@ -2,7 +2,8 @@
 ghost use Rattle.std.specs.Prelude.{◌≡◌, ◌≢◌, ◌<◌, [], ◌∷◌};
 ghost use Rattle.uart_spec.specs.Config.{IsComputable};
 ghost use Rattle.uart_16550.specs.Grammar.{Only, Then, ReadsRegister};
-ghost use Rattle.uart_16550.specs.Init.{Keeps, KeepsPatterns, ChecksPresence, frame_bits, line_writes, fifo_bits, SetsFifo, DrainsReceiver, Ends, Inits};
+ghost use Rattle.uart_16550.specs.Init.{Keeps, KeepsPatterns, ChecksPresence, frame_bits, line_writes, fifo_bits, SetsFifo, DrainsReceiver};
+ghost use Rattle.uart_16550.specs.Init.{Ends, Inits};
 ghost use Rattle.uart_16550.specs.Driver.{Made, Did, Plain, fields};
 
 use super::Uart16550;

@@ -1,7 +1,9 @@
 //! The loopback test.
 ghost use Rattle.std.specs.Prelude.{◌≡◌, length, IfSome};
 ghost use Rattle.uart_spec.specs.Bits.{flag};
-ghost use Rattle.uart_16550.specs.Loopback.{test_message, DrainsLoopback, HasEchoed, HasEchoedWhole, HasEchoedEach, HasEchoedAll, ExchangesByte, ExchangesMessage, Exchanges, Enters, Leaves, TestsLoopback, differs, line_changes};
+ghost use Rattle.uart_16550.specs.Loopback.{test_message, DrainsLoopback, HasEchoed, HasEchoedWhole, HasEchoedEach, HasEchoedAll};
+ghost use Rattle.uart_16550.specs.Loopback.{ExchangesByte, ExchangesMessage, Exchanges, Enters, Leaves, TestsLoopback, differs};
+ghost use Rattle.uart_16550.specs.Loopback.{line_changes};
 ghost use Rattle.uart_16550.specs.Driver.{Made, Did, fields};
 
 use super::Uart16550;

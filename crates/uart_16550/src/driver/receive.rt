@@ -50,7 +50,8 @@ impl<B: Backend> Uart16550<B> {
     // Waits until some bytes were received, and answers how many.
     pub(crate) fn receive_some(&mut self, buffer: &mut [u8]) -> Option<usize>
         requires { 0 < length buffer.old }
-        ensures made { Made B.step (ReceivesSome (length buffer.old) (take (unwrap_or result 0) buffer.new) (is_some result)) self.old self.new }
+        ensures made { Made B.step (ReceivesSome (length buffer.old) (take (unwrap_or result 0) buffer.new) (is_some result))
+            self.old self.new }
         ensures count { IfSome result (λ k. (0 < k) × (k ≤ length buffer.old)) }
         ensures rest { drop (unwrap_or result 0) buffer.new ≡ drop (unwrap_or result 0) buffer.old }
     {

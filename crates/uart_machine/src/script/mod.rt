@@ -1,6 +1,7 @@
-//! The script language: what a script says, how it is played, and what is printed for it.
+//! Plays scripts: [`play`] reads one, runs its calls over a new device, and writes what they answered and what is left of the device.
+//!
+//! What a script says is defined in `uart_language`, and so is what is printed for it.
 
-mod laws;
 mod playing;
 mod streams;
 

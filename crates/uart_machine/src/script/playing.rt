@@ -5,11 +5,9 @@ ghost use Rattle.std.specs.Io.KnownBytes.{Appends, IsAtEnd};
 ghost use Rattle.uart_machine.specs.declared.script.playing.PlayError.TheVariants.{OutOfMemory};
 ghost use Rattle.uart_language.specs.Script.{plan_of, IsPlayable};
 ghost use Rattle.uart_chip.specs.Transmitter.{held};
-ghost use Rattle.uart_chip.specs.Machine.{fresh, cutting};
 ghost use Rattle.uart_device.specs.Conserved.{waiting};
-ghost use Rattle.uart_language.specs.Output.{printed};
-ghost use Rattle.uart_machine.specs.ScriptOutput.{IsFirst, IsOutput};
-ghost use Rattle.uart_machine.specs.Play.{ConsumesAtMost, is_read_fault, is_write_fault, IsWhole, IsReading, WritesFront, Outcome, WritesNothing, play_error};
+ghost use Rattle.uart_machine.specs.ScriptOutput.{first_machine, output_of, IsFirst, IsOutput};
+ghost use Rattle.uart_machine.specs.Play.{ConsumesAtMost, is_read_fault, is_write_fault, IsReadText, IsReading, WritesFront, Outcome, WritesNothing, play_error};
 
 use super::streams::{Fault, Input, Output};
 use std::alloc::{AllocError, Global};
@@ -18,7 +16,8 @@ use uart_16550::{Uart16550, Uart16550Tty};
 use uart_calls::Answer;
 use uart_chip::ArrivalMark;
 use uart_device::Device16550;
-use uart_language::{Cause, MOST_BYTES, Script, ScriptError, parse, render};
+use uart_language::limits::MOST_BYTES;
+use uart_language::{Cause, Script, ScriptError, parse, render};
 use uart_run::run;
 
 /// Why a script was not played to its end.
@@ -62,17 +61,20 @@ impl From<AllocError> for PlayError {
 /// How many bytes are read at most: one more than the longest script has.
 const MOST_READ: usize = MOST_BYTES + 1;
 
+/// How many bytes a read asks for at most.
+const CHUNK: usize = 512;
+
 /// Reads to the end of the input, or `MOST_READ` bytes.
 fn read_all<R: Input>(alloc: Global, reader: &mut R) -> Result<Vec<u8>, PlayError>
-    ensures whole { IfOk result (λ text. IsWhole (R.remaining reader.old) (R.remaining reader.new) text.items) }
+    ensures whole { IfOk result (λ text. IsReadText (R.remaining reader.old) (R.remaining reader.new) text.items) }
     ensures most { ConsumesAtMost MOST_READ (R.remaining reader.old) (R.remaining reader.new) }
     ensures fault { R.has_failed reader.new ≡ (R.has_failed reader.old || is_read_fault result) }
     ensures kind { IfErr result IsReading }
 {
     let mut text = Vec::new(alloc);
-    let mut chunk = [0u8; 512];
+    let mut chunk = [0u8; CHUNK];
     while text.len() < MOST_READ {
-        let room = (MOST_READ - text.len()).min(512);
+        let room = (MOST_READ - text.len()).min(CHUNK);
         match reader.read(&mut chunk[..room]) {
             Err(_) => return Err(PlayError::ReadFault),
             Ok(0) => return Ok(text),
@@ -106,7 +108,7 @@ fn write_all<W: Output>(writer: &mut W, bytes: &[u8]) -> Result<(), Fault>
 // The script's machine.
 fn machine_for(alloc: Global, script: &Script) -> Result<Device16550, AllocError>
     requires { IsPlayable (plan_of script.now) }
-    ensures { IfOk result (λ machine. machine ≡ cutting (plan_of script.now).cuts (fresh (plan_of script.now).chip (plan_of script.now).ticks (plan_of script.now).wire_capacity (plan_of script.now).events)) }
+    ensures { IfOk result (λ machine. machine ≡ first_machine (plan_of script.now)) }
 {
     let schedule = script.events().to_vec(alloc)?;
     let wire_capacity = script.wire_capacity();
@@ -202,7 +204,7 @@ fn printed_for(
     answers: &[Answer],
     machine: &Device16550,
 ) -> Result<Vec<u8>, AllocError>
-    ensures { IfOk result (λ output. output.items ≡ printed answers.now machine.now.chip.transmitter.wire (held machine.now.chip.transmitter) (waiting machine.now) machine.now.chip.receiver.marks) }
+    ensures { IfOk result (λ output. output.items ≡ output_of answers.now machine.now) }
 {
     let held = held_of(alloc, machine)?;
     let waiting = waiting_of(alloc, machine)?;
@@ -210,7 +212,7 @@ fn printed_for(
     render(alloc, answers, machine.wire(), &held, &waiting, &marks)
 }
 
-// Runs a script, and tells what is printed for it.
+// Runs a script, and returns what is printed for it.
 fn output_for(alloc: Global, script: &Script) -> Result<Vec<u8>, AllocError>
     requires { IsPlayable (plan_of script.now) }
     ensures { IfOk result (λ output. IsOutput (plan_of script.now) output.items) }
@@ -232,14 +234,14 @@ pub fn play<R: Input, W: Output>(
     reader: &mut R,
     writer: &mut W,
 ) -> Result<(), PlayError>
-    // What an input comes to, where its bytes are known.
+    // What an input comes to, if its bytes are known.
     ensures outcome { IfSome (R.remaining reader.old) (λ input. Outcome input result (W.contents writer.old) (W.contents writer.new)) }
     ensures whole { OnOk result (IsAtEnd (R.remaining reader.new)) }
     ensures most { ConsumesAtMost MOST_READ (R.remaining reader.old) (R.remaining reader.new) }
 
     ensures nothing { WritesNothing result (W.contents writer.old) (W.contents writer.new) }
 
-    // A read fault comes exactly where the reader failed, a write fault exactly where the writer did.
+    // A read fault comes exactly if the reader failed, a write fault exactly if the writer did.
     ensures reader_fault { R.has_failed reader.new ≡ (R.has_failed reader.old || is_read_fault result) }
     ensures writer_fault { W.has_failed writer.new ≡ (W.has_failed writer.old || is_write_fault result) }
 {

@@ -1,4 +1,4 @@
-//! Where a script comes from, and where its output goes.
+//! What a script is read from, and what its output is written to.
 
 ghost use Rattle.std.specs.Prelude.{◌≡◌, ◌≤◌, ◌||◌, Option, List, ℕ, Bool, false, length, IfOk, is_err};
 ghost use Rattle.std.specs.Io.KnownBytes.{ReadConsumes, WriteAppends};
@@ -12,15 +12,15 @@ use thiserror::Error;
 #[error("a read or a write failed")]
 pub struct Fault;
 
-/// A reader whose contracts tell its bytes, where they are known, and whether it has failed.
+/// A reader whose contracts tell its bytes, if they are known, and whether it has failed.
 pub trait Input {
-    // The bytes that reads will give from here on, where they are known.
+    // The bytes that reads will give from here on, if they are known.
     ghost remaining: { Self → Option (List ℕ) };
 
     // Whether a read has failed.
     ghost has_failed: { Self → Bool };
 
-    /// Fills the front of the buffer and answers how many bytes that are.
+    /// Fills the front of the buffer and returns how many bytes that are.
     ///
     /// `Ok(0)` at a buffer that isn't empty is the end of the input.
     fn read(&mut self, buf: &mut [u8]) -> Result<usize, Fault>
@@ -29,15 +29,15 @@ pub trait Input {
         ensures fault { has_failed self.new ≡ (has_failed self.old || is_err result) };
 }
 
-/// A writer whose contracts tell its bytes, where they are known, and whether it has failed.
+/// A writer whose contracts tell its bytes, if they are known, and whether it has failed.
 pub trait Output {
-    // The bytes that the writer holds, where they are known.
+    // The bytes that the writer holds, if they are known.
     ghost contents: { Self → Option (List ℕ) };
 
-    // Whether a write has failed: answered an error, or taken nothing of something.
+    // Whether a write has failed: returned an error, or taken nothing of something.
     ghost has_failed: { Self → Bool };
 
-    /// Takes a front of the bytes and answers how many that are; an error takes none.
+    /// Takes a front of the bytes and returns how many that are; an error takes none.
     fn write(&mut self, bytes: &[u8]) -> Result<usize, Fault>
         ensures bound { IfOk result (λ n. n ≤ length bytes.now) }
         ensures bytes { WriteAppends (contents self.old) (contents self.new) result bytes.now }

@@ -7,6 +7,9 @@ mod limits;
 mod output;
 mod streams;
 
+// A first line, of 16 bytes.
+const HEADER: &str = "chip 16450 4 64\n";
+
 // What is told of a text that is played, or `a script`.
 fn told(rt: &HostRuntime, text: &[u8]) -> Result<String, Fail> {
     let mut output = Vec::new(rt.alloc());
@@ -18,9 +21,11 @@ fn told(rt: &HostRuntime, text: &[u8]) -> Result<String, Fail> {
     })
 }
 
-// The same of lines after a first one.
-fn told_after_header(rt: &HostRuntime, lines: &str) -> Result<String, Fail> {
-    let mut text = "chip 16450 4 64\n".to_string(rt.alloc())?;
-    text.push_str(lines)?;
-    told(rt, text.as_bytes())
+// Each of these lines is told so, after a front.
+fn assert_told(rt: &HostRuntime, front: &str, rows: &[(&str, &str)]) -> Result<(), Fail> {
+    for &(lines, want) in rows {
+        let text = format!(in rt.alloc(); "{front}{lines}")?;
+        assert_eq!(rt; told(rt, text.as_bytes())?.as_str(), want, "at {lines}");
+    }
+    Ok(())
 }

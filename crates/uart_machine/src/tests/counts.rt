@@ -18,7 +18,7 @@ struct Counter {
 }
 
 impl Backend for Counter {
-    // Nothing is promised of what an access answers.
+    // Nothing is promised of what an access returns.
     ghost step = { λ _ _ _. ⊤ };
 
     fn read(&mut self, register_offset: u8) -> u8 {
@@ -127,7 +127,7 @@ const LOOPBACK_TESTS: [(Chip, Option<FifoTriggerLevel>, [usize; 8]); 4] = [
     ),
 ];
 
-// What a loopback test under a spin limit answers, and its accesses.
+// What a loopback test under a spin limit returns, and its accesses.
 fn tested(
     rt: &HostRuntime,
     chip: Chip,

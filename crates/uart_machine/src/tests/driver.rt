@@ -1,23 +1,16 @@
 //! The driver over a chip that raw accesses left in some state.
-use super::{DATA, LCR, MCR, machine};
+use super::{DATA, LCR, MCR, WITHOUT_FIFO, new_driver};
 use crate::Chip;
 use bitflags::Flags;
 use std::test::Fail;
-use uart_16550::Uart16550;
 use uart_16550::backend::Backend;
 use uart_spec::Config;
 use uart_spec::registers::FifoTriggerLevel;
 
-const WITHOUT_FIFO: Config = Config {
-    fifo_trigger_level: None,
-    ..Config::DEFAULT
-};
-
 #[test]
 fn a_looped_byte_comes_back_late(rt: HostRuntime) -> Result<(), Fail> {
     for (char_ticks, waiting) in [(15, Some(0x55)), (14, None)] {
-        let machine = machine(&rt, Chip::Uart16450, char_ticks, 64, &[])?;
-        let mut uart = Uart16550::new_with_backend(machine);
+        let mut uart = new_driver(&rt, Chip::Uart16450, char_ticks)?;
         uart.backend_mut().write(MCR, 0x10);
         uart.backend_mut().write(DATA, 0x55);
         uart.init(WITHOUT_FIFO)?;
@@ -37,8 +30,7 @@ fn a_looped_byte_comes_back_late(rt: HostRuntime) -> Result<(), Fail> {
 
 #[test]
 fn init_clears_the_divisor_latch_access(rt: HostRuntime) -> Result<(), Fail> {
-    let machine = machine(&rt, Chip::Uart16550A, 4, 64, &[])?;
-    let mut uart = Uart16550::new_with_backend(machine);
+    let mut uart = new_driver(&rt, Chip::Uart16550A, 4)?;
     uart.backend_mut().write(LCR, 0x83);
     uart.init(Config::DEFAULT)?;
     let dump = uart.config_register_dump();
@@ -49,8 +41,7 @@ fn init_clears_the_divisor_latch_access(rt: HostRuntime) -> Result<(), Fail> {
 
 #[test]
 fn init_leaves_what_is_configured(rt: HostRuntime) -> Result<(), Fail> {
-    let machine = machine(&rt, Chip::Uart16550A, 4, 64, &[])?;
-    let mut uart = Uart16550::new_with_backend(machine);
+    let mut uart = new_driver(&rt, Chip::Uart16550A, 4)?;
     uart.init(Config {
         fifo_trigger_level: Some(FifoTriggerLevel::Eight),
         ..Config::DEFAULT
@@ -65,8 +56,7 @@ fn init_leaves_what_is_configured(rt: HostRuntime) -> Result<(), Fail> {
 
 #[test]
 fn a_chip_without_fifo_takes_one_byte(rt: HostRuntime) -> Result<(), Fail> {
-    let machine = machine(&rt, Chip::Uart16450, 4, 64, &[])?;
-    let mut uart = Uart16550::new_with_backend(machine);
+    let mut uart = new_driver(&rt, Chip::Uart16450, 4)?;
     uart.init(Config::DEFAULT)?;
     assert_eq!(rt; uart.fifo_enabled(), false);
     assert_eq!(rt; uart.send_bytes(&[0x48, 0x65, 0x6c]), 1);

@@ -1,16 +1,11 @@
 //! Chips that others left in some state, and what an `init` makes of them.
-use super::{DATA, FCR, IER, ISR, LCR, MCR, MSR, SPR, machine};
+use super::{DATA, FCR, IER, ISR, LCR, MCR, SPR, WITHOUT_FIFO, machine, new_driver};
 use crate::{Chip, Device16550, Event};
 use bitflags::Flags;
 use std::test::Fail;
 use uart_16550::Uart16550;
 use uart_16550::backend::Backend;
 use uart_spec::Config;
-
-const WITHOUT_FIFO: Config = Config {
-    fifo_trigger_level: None,
-    ..Config::DEFAULT
-};
 
 // What a dump shows of IER, ISR, LCR, MCR, LSR, MSR and SPR.
 fn registers(uart: &mut Uart16550<Device16550>) -> [u8; 7] {
@@ -57,12 +52,11 @@ const LEFT_BEHIND: [(&str, &[(u8, u8)], u8); 10] = [
 fn an_init_clears_what_was_left(rt: HostRuntime) -> Result<(), Fail> {
     for (chip, isr, room) in [(Chip::Uart16550A, 0xc1, 16), (Chip::Uart16450, 0x01, 1)] {
         for (left, writes, spr) in LEFT_BEHIND {
-            let mut machine = machine(&rt, chip, 4, 64, &[])?;
+            let mut uart = new_driver(&rt, chip, 4)?;
             for &(register, value) in writes {
                 assert!(rt; register < 8);
-                machine.write(register, value);
+                uart.backend_mut().write(register, value);
             }
-            let mut uart = Uart16550::new_with_backend(machine);
             uart.init(Config::DEFAULT)?;
             let want = [0x00, isr, 0x03, 0x0b, 0x60, 0x00, spr];
             assert_eq!(rt; registers(&mut uart), want, "{chip:?} with {left}");
@@ -87,12 +81,11 @@ fn an_init_lets_a_byte_go_out(rt: HostRuntime) -> Result<(), Fail> {
         (Chip::Uart16450, 1000, &[1, 3], 1),
     ];
     for (chip, char_ticks, wire, overflows) in cases {
-        let mut machine = machine(&rt, chip, char_ticks, 64, &[])?;
-        machine.write(FCR, 0x01);
+        let mut uart = new_driver(&rt, chip, char_ticks)?;
+        uart.backend_mut().write(FCR, 0x01);
         for byte in 1..=3 {
-            machine.write(DATA, byte);
+            uart.backend_mut().write(DATA, byte);
         }
-        let mut uart = Uart16550::new_with_backend(machine);
         uart.init(Config::DEFAULT)?;
         let machine = uart.backend();
         assert_eq!(rt; machine.wire(), wire, "{chip:?} with {char_ticks} ticks");
@@ -109,8 +102,7 @@ fn an_init_lets_a_byte_go_out(rt: HostRuntime) -> Result<(), Fail> {
 // The driver takes the FIFO to be on and writes five bytes at once. The chip has room for one, so three are lost.
 #[test]
 fn a_fifo_is_switched_off_behind_the_driver(rt: HostRuntime) -> Result<(), Fail> {
-    let machine = machine(&rt, Chip::Uart16550A, 4, 64, &[])?;
-    let mut uart = Uart16550::new_with_backend(machine);
+    let mut uart = new_driver(&rt, Chip::Uart16550A, 4)?;
     uart.init(Config::DEFAULT)?;
     uart.backend_mut().write(FCR, 0x00);
     assert_eq!(rt; fifos(&uart), (true, false));
@@ -132,8 +124,7 @@ fn a_fifo_is_switched_off_behind_the_driver(rt: HostRuntime) -> Result<(), Fail>
 
 #[test]
 fn a_fifo_is_switched_on_behind_the_driver(rt: HostRuntime) -> Result<(), Fail> {
-    let machine = machine(&rt, Chip::Uart16550A, 4, 64, &[])?;
-    let mut uart = Uart16550::new_with_backend(machine);
+    let mut uart = new_driver(&rt, Chip::Uart16550A, 4)?;
     uart.init(WITHOUT_FIFO)?;
     uart.backend_mut().write(FCR, 0x01);
     assert_eq!(rt; fifos(&uart), (false, true));
@@ -153,8 +144,7 @@ fn a_fifo_is_switched_on_behind_the_driver(rt: HostRuntime) -> Result<(), Fail> 
 // The test puts back what it found, so what is sent after it still comes back, until the next `init`.
 #[test]
 fn a_loopback_test_leaves_loopback_on(rt: HostRuntime) -> Result<(), Fail> {
-    let machine = machine(&rt, Chip::Uart16550A, 4, 64, &[])?;
-    let mut uart = Uart16550::new_with_backend(machine);
+    let mut uart = new_driver(&rt, Chip::Uart16550A, 4)?;
     uart.init(Config::DEFAULT)?;
     uart.backend_mut().write(MCR, 0x1b);
     uart.test_loopback()?;
@@ -170,23 +160,6 @@ fn a_loopback_test_leaves_loopback_on(rt: HostRuntime) -> Result<(), Fail> {
     );
     assert_eq!(rt; uart.backend().waiting_len(), 0);
     assert_eq!(rt; uart.backend().wire().len(), 0);
-    Ok(())
-}
-
-#[test]
-fn a_16450_is_probed(rt: HostRuntime) -> Result<(), Fail> {
-    for (write, value, read, mask, want) in [
-        (IER, 0x0f, IER, 0xff, 0x0f),
-        (MCR, 0x1a, MSR, 0xf0, 0x90),
-        (FCR, 0x01, ISR, 0xff, 0x01),
-        (FCR, 0xc7, ISR, 0xff, 0x01),
-        (SPR, 0xa5, SPR, 0xff, 0xa5),
-    ] {
-        let mut machine = machine(&rt, Chip::Uart16450, 4, 64, &[])?;
-        assert!(rt; write < 8 && read < 8);
-        machine.write(write, value);
-        assert_eq!(rt; machine.read(read) & mask, want, "register {read}");
-    }
     Ok(())
 }
 

@@ -1,4 +1,4 @@
-use Rattle.uart_language.proofs.ScriptDigits.{pairs_on, are_read}
+use Rattle.uart_language.proofs.Digits.{pairs_on, are_read}
 use Rattle.uart_language.proofs.fields.pairs_of.Goals as goal
 
 pub loop-rest-preserved : goal.loop-rest-preserved

@@ -1,13 +1,13 @@
-use Rattle.std.proofs.Common.{◌≡◌, ℕ, false, eqb, List, Result, Ok, refl, sym, ap, ◌∙◌}
+use Rattle.std.proofs.Common.{◌≡◌, ℕ, false, eqb, refl, sym, ap, ◌∙◌}
 use Rattle.std.proofs.lemmas.Bool.{ne_eqb}
 use Rattle.uart_spec.specs.declared.config.BaudRate.{BaudRate}
 use Rattle.uart_spec.specs.declared.config.BaudRate.TheVariants.{Baud115200, Baud57600, Baud38400, Baud9600, Baud4800, Baud2400, Baud1200, Baud600, Baud300, Baud150, Baud110, Custom}
 use Rattle.uart_spec.specs.BaudRate.{to_integer, IsNamed}
-use Rattle.uart_language.specs.declared.cause.Cause.{Cause}
+use Rattle.uart_language.specs.declared.limits.TheConstants.{MOST_RATE}
 use Rattle.uart_language.specs.Fields.{number_in, rate_of, rate_in}
 use Rattle.uart_language.proofs.fields.rate_in.Goals as goal
 
--- the named case of the number, where there is one
+-- the named case of the number, if there is one
 abbrev IsOf : ℕ → BaudRate → Type 0
 IsOf n rate = (named : BaudRate) → IsNamed named → to_integer named ≡ n → rate ≡ named
 
@@ -21,15 +21,8 @@ is_rate n (Custom r) value of =
     rw (none n r 115200 Baud115200 of refl refl, none n r 57600 Baud57600 of refl refl, none n r 38400 Baud38400 of refl refl, none n r 9600 Baud9600 of refl refl, none n r 4800 Baud4800 of refl refl, none n r 2400 Baud2400 of refl refl, none n r 1200 Baud1200 of refl refl, none n r 600 Baud600 of refl refl, none n r 300 Baud300 of refl refl, none n r 150 Baud150 of refl refl, none n r 110 Baud110 of refl refl) (ap Custom value)
 is_rate n named value of = rw (← value) refl
 
-abbrev read : BaudRate → Result BaudRate Cause
-read rate = Ok rate
-
-abbrev number : ℕ → Result ℕ Cause
-number n = Ok n
-
-is_read : (word : List ℕ) (n : ℕ) (rate : BaudRate) → number n ≡ number_in 1 4294967295 word → rate ≡ rate_of n → read rate ≡ rate_in word
-unfolding rate_in
-is_read word n rate e r = rw (← e, r) refl
-
 pub returns : goal.returns
-returns c = is_read c.args.word.now c.in_ok-rate.rate c.from_integer.result c.in_ok-rate.ensures.value (is_rate _ _ c.from_integer.ensures.number c.from_integer.ensures.named)
+unfolding rate_in
+returns c =
+    made_ok (number_in 1 MOST_RATE c.args.word.now) c.in_ok-rate.rate rate_of c.from_integer.result c.in_ok-rate.ensures.value
+    (is_rate _ _ c.from_integer.ensures.number c.from_integer.ensures.named)

@@ -1,4 +1,4 @@
-use Rattle.uart_language.proofs.ScriptDigits.{text_is, no_text}
+use Rattle.uart_language.proofs.Digits.{text_is, no_text}
 use Rattle.uart_language.proofs.fields.text_in.Goals as goal
 
 pub returns-in-Ok : goal.returns-in-Ok

@@ -1,8 +1,8 @@
 use Rattle.std.proofs.Common.{arith}
 use Rattle.uart_language.specs.Text.{lines_of}
 use Rattle.uart_language.specs.Script.{plan_of}
-use Rattle.uart_language.specs.ScriptReading.{sayings_from}
-use Rattle.uart_language.proofs.ScriptReadings.{starts, all_built}
+use Rattle.uart_language.specs.Reading.{sayings_from}
+use Rattle.uart_language.proofs.Readings.{starts, all_built}
 use Rattle.uart_language.proofs.parsing.build.Goals as goal
 
 pub loop-rest-init : goal.loop-rest-init

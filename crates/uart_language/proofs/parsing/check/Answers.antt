@@ -1,4 +1,4 @@
-use Rattle.uart_language.proofs.ScriptReadings.{all_read}
+use Rattle.uart_language.proofs.Readings.{all_read}
 use Rattle.uart_language.proofs.parsing.check.Goals as goal
 
 pub returns : goal.returns

@@ -1,4 +1,4 @@
-use Rattle.uart_language.proofs.ScriptReadings.{whole_too_long, no_first_line, first_line_fails, first_line_is}
+use Rattle.uart_language.proofs.Readings.{whole_too_long, no_first_line, first_line_fails, first_line_is}
 use Rattle.uart_language.proofs.parsing.first_item.Goals as goal
 
 pub returns-then-bytes-gt-MOST_BYTES : goal.returns-then-bytes-gt-MOST_BYTES

@@ -1,5 +1,5 @@
 use Rattle.uart_language.specs.Items.{saying_of}
-use Rattle.uart_language.proofs.ScriptReadings.{too_long, next_is, next_fails}
+use Rattle.uart_language.proofs.Readings.{too_long, next_is, next_fails}
 use Rattle.uart_language.proofs.parsing.next_item.Goals as goal
 
 pub returns-then-number-gt-MOST_LINES-clause-read :

@@ -1,6 +1,6 @@
 use Rattle.std.proofs.Common.{rules}
-use Rattle.uart_language.proofs.ScriptReadings.{later_line_fails, all_parsed}
-use Rattle.uart_language.proofs.ScriptParsed.{parsed, refuses_whole}
+use Rattle.uart_language.proofs.Readings.{later_line_fails, all_parsed}
+use Rattle.uart_language.proofs.Parsed.{parsed, refuses_whole}
 use Rattle.uart_language.proofs.parsing.parse.Goals as goal
 
 pub returns-in_err-header : goal.returns-in_err-header

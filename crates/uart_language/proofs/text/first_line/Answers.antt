@@ -1,5 +1,5 @@
 use Rattle.std.proofs.Common.{arith}
-use Rattle.uart_language.proofs.ScriptLines.{position-le, cut_at_end, cut_before_end}
+use Rattle.uart_language.proofs.Lines.{position-le, cut_at_end, cut_before_end}
 use Rattle.uart_language.proofs.text.first_line.Goals as goal
 
 pub split_at-requires : goal.split_at-requires

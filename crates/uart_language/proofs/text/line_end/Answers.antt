@@ -1,7 +1,7 @@
 use Rattle.std.proofs.Common.{rules}
 use Rattle.std.proofs.lemmas.Iterator.{YieldsList-from_slice}
 use Rattle.std.proofs.lemmas.Iterator.Search.{position_from_yields_List}
-use Rattle.uart_language.proofs.ScriptLines.{is_end, end_is}
+use Rattle.uart_language.proofs.Lines.{is_end, end_is}
 use Rattle.uart_language.proofs.text.line_end.Goals as goal
 
 pub returns : goal.returns

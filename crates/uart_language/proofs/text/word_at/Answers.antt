@@ -2,7 +2,7 @@ use Rattle.std.proofs.Common.{rules, eqb}
 use Rattle.std.proofs.lemmas.Iterator.Consumers.{nth_from_yields_List}
 use Rattle.std.proofs.lemmas.Iterator.Splits.{YieldsList-from_slice_split}
 use Rattle.uart_language.specs.Text.{words_of}
-use Rattle.uart_language.proofs.ScriptLines.{word_from_get}
+use Rattle.uart_language.proofs.Lines.{word_from_get}
 use Rattle.uart_language.proofs.text.word_at.Goals as goal
 
 pub returns : goal.returns

@@ -1,4 +1,4 @@
-use super::{told, told_after_header};
+use super::{HEADER, assert_told};
 use crate::script::parse;
 use arrayvec::{ArrayString, ArrayVec};
 use bitflags::Flags;
@@ -10,7 +10,7 @@ use uart_spec::{BaudRate, Config};
 
 #[test]
 fn faults_are_told(rt: HostRuntime) -> Result<(), Fail> {
-    for (lines, want) in [
+    let rows = [
         ("chip 16450 4 64", "line 2: misplaced"),
         ("lsr\nlsr 1\nwait", "line 3: wrong count"),
         ("init 014 9600 nocts 00 8", "line 2: bad word"),
@@ -20,15 +20,13 @@ fn faults_are_told(rt: HostRuntime) -> Result<(), Fail> {
         ("lsr ", "line 2: wrong count"),
         ("send ", "line 2: bad hex"),
         ("tick +4", "line 2: bad number"),
-    ] {
-        assert_eq!(rt; told_after_header(&rt, lines)?.as_str(), want, "at {lines}");
-    }
-    Ok(())
+    ];
+    assert_told(&rt, HEADER, &rows)
 }
 
 #[test]
 fn faults_of_the_first_line_are_told(rt: HostRuntime) -> Result<(), Fail> {
-    for (text, want) in [
+    let rows = [
         ("\nchip 16450 4 64", "line 1: misplaced"),
         ("lsr", "line 1: misplaced"),
         (" ", "line 1: misplaced"),
@@ -38,10 +36,8 @@ fn faults_of_the_first_line_are_told(rt: HostRuntime) -> Result<(), Fail> {
         ("chip 16450 4 64", "a script"),
         ("chip 16450 4 64\n", "a script"),
         ("chip 16450 4 64\n\n\n", "a script"),
-    ] {
-        assert_eq!(rt; told(&rt, text.as_bytes())?.as_str(), want, "at {text}");
-    }
-    Ok(())
+    ];
+    assert_told(&rt, "", &rows)
 }
 
 const EVERY_WORD: &[u8] = b"chip 16550a 3 7

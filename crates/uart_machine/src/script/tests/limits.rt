@@ -1,12 +1,26 @@
-use super::{told, told_after_header};
+use super::{HEADER, assert_told, told};
 use std::test::Fail;
+use uart_language::limits::{MOST_BYTES, MOST_LINES};
 
-// A first line of 16 bytes.
-const HEADER: &[u8] = b"chip 16450 4 64\n";
+// As many lines as may follow the first.
+const LINES_AFTER_HEADER: usize = MOST_LINES as usize - 1;
+
+// Of each of these pairs, the first is a script after a front, and the second is told so.
+fn assert_limits(
+    rt: &HostRuntime,
+    front: &str,
+    pairs: &[(&str, &str)],
+    want: &str,
+) -> Result<(), Fail> {
+    for &(fits, exceeds) in pairs {
+        assert_told(rt, front, &[(fits, "a script"), (exceeds, want)])?;
+    }
+    Ok(())
+}
 
 // So many copies of some bytes after a front.
-fn repeated(rt: &HostRuntime, front: &[u8], bytes: &[u8], count: usize) -> Result<Vec<u8>, Fail> {
-    let mut text = front.to_vec(rt.alloc())?;
+fn repeated(rt: &HostRuntime, front: &str, bytes: &[u8], count: usize) -> Result<Vec<u8>, Fail> {
+    let mut text = front.as_bytes().to_vec(rt.alloc())?;
     for _ in 0..count {
         text.extend_from_slice(bytes)?;
     }
@@ -16,7 +30,7 @@ fn repeated(rt: &HostRuntime, front: &[u8], bytes: &[u8], count: usize) -> Resul
 // At each end of a range the last number that is accepted, and the first that is not.
 #[test]
 fn numbers_have_limits(rt: HostRuntime) -> Result<(), Fail> {
-    for (fits, exceeds) in [
+    let pairs = [
         ("limit 1", "limit 0"),
         ("limit 1000000", "limit 1000001"),
         ("tick 0", "tick -1"),
@@ -32,42 +46,21 @@ fn numbers_have_limits(rt: HostRuntime) -> Result<(), Fail> {
         ("receive-exact 64", "receive-exact 65"),
         ("read 0", "read -1"),
         ("read 64", "read 65"),
-    ] {
-        assert_eq!(rt;
-            told_after_header(&rt, fits)?.as_str(),
-            "a script",
-            "at {fits}"
-        );
-        assert_eq!(rt;
-            told_after_header(&rt, exceeds)?.as_str(),
-            "line 2: bad number",
-            "at {exceeds}"
-        );
-    }
-    for (fits, exceeds) in [
+    ];
+    assert_limits(&rt, HEADER, &pairs, "line 2: bad number")?;
+    let pairs = [
         ("chip 16450 1 64", "chip 16450 0 64"),
         ("chip 16450 1000 64", "chip 16450 1001 64"),
         ("chip 16450 4 0", "chip 16450 4 -1"),
         ("chip 16450 4 65536", "chip 16450 4 65537"),
-    ] {
-        assert_eq!(rt;
-            told(&rt, fits.as_bytes())?.as_str(),
-            "a script",
-            "at {fits}"
-        );
-        assert_eq!(rt;
-            told(&rt, exceeds.as_bytes())?.as_str(),
-            "line 1: bad number",
-            "at {exceeds}"
-        );
-    }
-    Ok(())
+    ];
+    assert_limits(&rt, "", &pairs, "line 1: bad number")
 }
 
 // Lines of the fewest and of the most words that are accepted, and with a word less or more.
 #[test]
 fn lines_have_limits_of_words(rt: HostRuntime) -> Result<(), Fail> {
-    for (fits, exceeds) in [
+    let pairs = [
         ("limit 5", "limit"),
         ("limit 5", "limit 5 5"),
         ("tick 4", "tick"),
@@ -90,29 +83,15 @@ fn lines_have_limits_of_words(rt: HostRuntime) -> Result<(), Fail> {
         ("send 41", "send 41 41"),
         ("text 41", "text"),
         ("text 41", "text 41 41"),
-    ] {
-        assert_eq!(rt;
-            told_after_header(&rt, fits)?.as_str(),
-            "a script",
-            "at {fits}"
-        );
-        assert_eq!(rt;
-            told_after_header(&rt, exceeds)?.as_str(),
-            "line 2: wrong count",
-            "at {exceeds}"
-        );
-    }
-    assert_eq!(rt; told(&rt, b"chip 16450 4")?.as_str(), "line 1: wrong count");
-    assert_eq!(rt;
-        told(&rt, b"chip 16450 4 64 cut cut")?.as_str(),
-        "line 1: wrong count"
-    );
-    assert_eq!(rt; told(&rt, b"chip 16450 4 64 cut")?.as_str(), "a script");
-    assert_eq!(rt;
-        told(&rt, b"chip 16450 4 64 Cut")?.as_str(),
-        "line 1: bad word"
-    );
-    Ok(())
+    ];
+    assert_limits(&rt, HEADER, &pairs, "line 2: wrong count")?;
+    let rows = [
+        ("chip 16450 4", "line 1: wrong count"),
+        ("chip 16450 4 64 cut cut", "line 1: wrong count"),
+        ("chip 16450 4 64 cut", "a script"),
+        ("chip 16450 4 64 Cut", "line 1: bad word"),
+    ];
+    assert_told(&rt, "", &rows)
 }
 
 #[test]
@@ -122,51 +101,43 @@ fn calls_have_at_most_64_bytes(rt: HostRuntime) -> Result<(), Fail> {
         for _ in 0..64 {
             line.push_str("41")?;
         }
-        assert_eq!(rt;
-            told_after_header(&rt, line.as_str())?.as_str(),
-            "a script",
-            "at {word}"
-        );
+        assert_told(&rt, HEADER, &[(line.as_str(), "a script")])?;
         line.push_str("41")?;
-        assert_eq!(rt;
-            told_after_header(&rt, line.as_str())?.as_str(),
-            "line 2: too many bytes",
-            "at {word}"
-        );
+        assert_told(&rt, HEADER, &[(line.as_str(), "line 2: too many bytes")])?;
     }
     Ok(())
 }
 
 #[test]
 fn scripts_have_at_most_4096_lines(rt: HostRuntime) -> Result<(), Fail> {
-    let mut text = repeated(&rt, HEADER, b"lsr\n", 4095)?;
+    let mut text = repeated(&rt, HEADER, b"lsr\n", LINES_AFTER_HEADER)?;
     assert_eq!(rt; told(&rt, &text)?.as_str(), "a script");
     text.extend_from_slice(b"lsr\n")?;
     assert_eq!(rt; told(&rt, &text)?.as_str(), "line 4097: too long");
 
     // A blank line counts, and what follows the last line feed is a line only if there is anything.
-    let mut blank = repeated(&rt, HEADER, b"\n", 4095)?;
+    let mut blank = repeated(&rt, HEADER, b"\n", LINES_AFTER_HEADER)?;
     assert_eq!(rt; told(&rt, &blank)?.as_str(), "a script");
     blank.push(b'\n')?;
     assert_eq!(rt; told(&rt, &blank)?.as_str(), "line 4097: too long");
 
-    let faulty = repeated(&rt, b"chip 16450 4 64\nx\n", b"lsr\n", 4096)?;
+    let faulty = repeated(&rt, "chip 16450 4 64\nx\n", b"lsr\n", MOST_LINES as usize)?;
     assert_eq!(rt; told(&rt, &faulty)?.as_str(), "line 2: unknown word");
     Ok(())
 }
 
 #[test]
 fn scripts_have_at_most_65536_bytes(rt: HostRuntime) -> Result<(), Fail> {
-    // 4,095 lines of 16 bytes after one of 16.
-    let mut text = repeated(&rt, HEADER, b"send 4141414141\n", 4095)?;
-    assert_eq!(rt; text.len(), 65_536);
+    // Lines of 16 bytes, like the first.
+    let mut text = repeated(&rt, HEADER, b"send 4141414141\n", LINES_AFTER_HEADER)?;
+    assert_eq!(rt; text.len(), MOST_BYTES);
     assert_eq!(rt; told(&rt, &text)?.as_str(), "a script");
     text.push(b'\n')?;
     assert_eq!(rt; told(&rt, &text)?.as_str(), "line 0: too long");
 
     // Too many bytes are told before too many lines.
-    let mut blank = repeated(&rt, b"chip 16450 4 64\nlsr\n", b"\n", 65_516)?;
-    assert_eq!(rt; blank.len(), 65_536);
+    let mut blank = repeated(&rt, "chip 16450 4 64\nlsr\n", b"\n", MOST_BYTES - 20)?;
+    assert_eq!(rt; blank.len(), MOST_BYTES);
     assert_eq!(rt; told(&rt, &blank)?.as_str(), "line 4097: too long");
     blank.push(b'\n')?;
     assert_eq!(rt; told(&rt, &blank)?.as_str(), "line 0: too long");

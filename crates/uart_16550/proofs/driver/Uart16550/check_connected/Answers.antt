@@ -10,4 +10,5 @@ returns-then-not-contains-2 g c =
     made_among (λ s t. (_, (sym (c.if-not-contains.ensures tt), sym (c.if-not-contains-2.ensures tt)), t.is)) c.read_msr-msr.ensures
 
 pub returns : goal.returns
-returns g c = made_among (λ s t. (_, (sym (c.if-not-contains.ensures tt), sym (c.if-not-contains-2.ensures tt)), t.is)) c.read_msr-msr.ensures
+returns g c =
+    made_among (λ s t. (_, (sym (c.if-not-contains.ensures tt), sym (c.if-not-contains-2.ensures tt)), t.is)) c.read_msr-msr.ensures

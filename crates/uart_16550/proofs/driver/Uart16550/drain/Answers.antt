@@ -21,7 +21,9 @@ returns-then-not-contains g c =
 pub loop-turn-preserved : goal.loop-turn-preserved
 loop-turn-preserved g c =
     let shows = rw (c.from_bits_retain-lsr.ensures tt) at (sym (c.if-not-contains.ensures tt)) in
-    plain_times _ Discards c.loop-turn.invariant (plain_then (plain_asks offsets.LSR _ LSR.DATA_READY.0 _ c.read_plain.ensures shows) (plain_read offsets.DATA _ c.read_plain-in-loop-turn.ensures))
+    plain_times _ Discards c.loop-turn.invariant
+    (plain_then (plain_asks offsets.LSR _ LSR.DATA_READY.0 _ c.read_plain.ensures shows)
+    (plain_read offsets.DATA _ c.read_plain-in-loop-turn.ensures))
 
 pub returns : goal.returns
 returns g c =

@@ -13,7 +13,9 @@ returns-in_err-actual-clause-made g c =
     let i = c.loop-i.i in
     let within : i < length test_message = omega arith in
     let all = rw (← c.loop-i.invariant.sent) at (parted test_message i within) in
-    rw c.from_residual.ensures (made_among (λ l t. (c.loop-i.invariant.pairs, _, _, all, t)) (made_then {M = EchoFails (get_or test_message i 0)} c.loop-i.invariant.made c.in_err-actual.ensures))
+    rw c.from_residual.ensures
+    (made_among (λ l t. (c.loop-i.invariant.pairs, _, _, all, t))
+    (made_then {M = EchoFails (get_or test_message i 0)} c.loop-i.invariant.made c.in_err-actual.ensures))
 
 pub loop-i-preserved : goal.loop-i-preserved
 loop-i-preserved g c =

@@ -14,7 +14,13 @@ returns g c =
     let on = c.set_fifo-self.result in
     let d = c.set_fifo-self.new.self in
     let config = c.write_register-2.ensures.config ∙ c.write_register.ensures.config ∙ c.read_msr-before.ensures.config in
-    let writes = made_only _ _ c.write_register.ensures (made_value offsets.MCR _ MCR.LOOP_BACK.0 (c.bits.ensures tt) c.write_register-2.ensures) in
-    let fifo = made_among (λ l t. let S : Config → Type 0 = λ k. SetsFifo k.fifo_trigger_level on (settings c.write_register-2.new.self) l in subst S config t) c.set_fifo-self.ensures in
-    let entered = did_then (did_made (made_then (made_only _ _ c.read_msr-before.ensures writes) fifo)) (did_set _ (with_fifo on) d (record d { fifo_enabled = on }) refl refl) in
+    let writes =
+    made_only _ _ c.write_register.ensures (made_value offsets.MCR _ MCR.LOOP_BACK.0 (c.bits.ensures tt) c.write_register-2.ensures) in
+    let fifo =
+    made_among
+    (λ l t. let S : Config → Type 0 = λ k. SetsFifo k.fifo_trigger_level on (settings c.write_register-2.new.self) l in
+    subst S config t) c.set_fifo-self.ensures in
+    let entered =
+    did_then (did_made (made_then (made_only _ _ c.read_msr-before.ensures writes) fifo))
+    (did_set _ (with_fifo on) d (record d { fifo_enabled = on }) refl refl) in
     record { list = entered.list; path = entered.path; does = entered.does }

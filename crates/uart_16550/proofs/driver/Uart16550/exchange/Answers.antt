@@ -10,4 +10,5 @@ returns-in_err-exchange_byte g c =
 
 pub returns : goal.returns
 returns g c =
-    made_among (exchanged _ _) (made_then c.if-not-drain_received.ensures (made_then c.in_ok-exchange_byte.ensures c.exchange_message.ensures))
+    made_among (exchanged _ _)
+    (made_then c.if-not-drain_received.ensures (made_then c.in_ok-exchange_byte.ensures c.exchange_message.ensures))

@@ -6,7 +6,8 @@ pub returns-in_default-receive_one : goal.returns-in_default-receive_one
 returns-in_default-receive_one g c = made_then c.in_default.ensures c.in_default-receive_one.ensures
 
 pub returns-then-actual-ne-TEST_BYTE : goal.returns-then-actual-ne-TEST_BYTE
-returns-then-actual-ne-TEST_BYTE g c = made_among (λ l t. (refl, c.if-actual-ne-TEST_BYTE.true, t)) (made_then c.in_default.ensures c.in-Some.ensures)
+returns-then-actual-ne-TEST_BYTE g c =
+    made_among (λ l t. (refl, c.if-actual-ne-TEST_BYTE.true, t)) (made_then c.in_default.ensures c.in-Some.ensures)
 
 pub returns : goal.returns
 returns g c = made_then c.in_default.ensures (made_among (λ l t. rw c.if-actual-ne-TEST_BYTE.false at t) c.in-Some.ensures)

@@ -13,7 +13,8 @@ returns-in-Err g c =
     let stored = c.replace-before.new.dest in
     let given = given_at stored (Err c.in-Err.cause) _ c.to_integer-baud_rate.ensures ((c.in-Err.ensures _).0 refl) in
     let restored = ap (λ (k : Config). with_config k (fields c.args.self.now)) c.replace-before.ensures.value in
-    inits_stored (Err (InvalidBaudRate c.in-Err.cause)) c.replace-before.ensures.after (record { list = []; path = refl; does = (given, refl, restored) })
+    inits_stored (Err (InvalidBaudRate c.in-Err.cause)) c.replace-before.ensures.after
+    (record { list = []; path = refl; does = (given, refl, restored) })
 
 pub returns-then-not-check_present : goal.returns-then-not-check_present
 returns-then-not-check_present g c =
@@ -26,23 +27,27 @@ pub returns-then-not-wait_for : goal.returns-then-not-wait_for
 returns-then-not-wait_for g c =
     let stored = c.replace-before.new.dest in
     let given = given_at stored (Ok c.in-Ok.divisor) _ c.to_integer-baud_rate.ensures ((c.in-Ok.ensures _).0 refl) in
-    let control = c.bits.ensures tt ∙ c.union-modem_control.ensures tt ∙ ap (λ (x : ℕ). bit_or x MCR.OUT_2_INT_ENABLE.0) (c.union.ensures tt) in
+    let control =
+    c.bits.ensures tt ∙ c.union-modem_control.ensures tt ∙ ap (λ (x : ℕ). bit_or x MCR.OUT_2_INT_ENABLE.0) (c.union.ensures tt) in
     let on = c.set_fifo-self.result in
     inits_stored (Err Stalled) c.replace-before.ensures.after (did_among (λ f l after t. (c.in-Ok.divisor, on, given, t))
     (did_then
-    (begun stored c.in-Ok.divisor _ _ on c.frame_of-frame.ensures control c.if-not-check_present.ensures c.set_line.ensures c.set_fifo-self.ensures c.drain.ensures c.write_register.ensures)
+    (begun stored c.in-Ok.divisor _ _ on c.frame_of-frame.ensures control c.if-not-check_present.ensures
+    c.set_line.ensures c.set_fifo-self.ensures c.drain.ensures c.write_register.ensures)
     (did_made c.if-not-wait_for.ensures)))
 
 pub returns : goal.returns
 returns g c =
     let stored = c.replace-before.new.dest in
     let given = given_at stored (Ok c.in-Ok.divisor) _ c.to_integer-baud_rate.ensures ((c.in-Ok.ensures _).0 refl) in
-    let control = c.bits.ensures tt ∙ c.union-modem_control.ensures tt ∙ ap (λ (x : ℕ). bit_or x MCR.OUT_2_INT_ENABLE.0) (c.union.ensures tt) in
+    let control =
+    c.bits.ensures tt ∙ c.union-modem_control.ensures tt ∙ ap (λ (x : ℕ). bit_or x MCR.OUT_2_INT_ENABLE.0) (c.union.ensures tt) in
     let on = c.set_fifo-self.result in
     let config = c.if-not-wait_for.ensures.config ∙ c.write_register.ensures.config ∙ ap (λ (f : Fields). f.config) c.drain.ensures.does.1
     ∙ c.set_fifo-self.ensures.config ∙ c.set_line.ensures.config ∙ c.if-not-check_present.ensures.config in
     inits_stored (Ok tt) c.replace-before.ensures.after (did_among (λ f l after t. (c.in-Ok.divisor, on, given, t))
     (did_then
-    (begun stored c.in-Ok.divisor _ _ on c.frame_of-frame.ensures control c.if-not-check_present.ensures c.set_line.ensures c.set_fifo-self.ensures c.drain.ensures c.write_register.ensures)
+    (begun stored c.in-Ok.divisor _ _ on c.frame_of-frame.ensures control c.if-not-check_present.ensures
+    c.set_line.ensures c.set_fifo-self.ensures c.drain.ensures c.write_register.ensures)
     (did_then (did_made c.if-not-wait_for.ensures)
     (did_among (λ f l after t. let E : Config → Type 0 = λ k. Ends k f l after in subst E config t) c.finish_init.ensures))))

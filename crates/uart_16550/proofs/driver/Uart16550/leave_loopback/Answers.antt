@@ -12,10 +12,13 @@ returns g c =
     let d = c.write_register-3.new.self in
     let now = c.read_plain.result in
     let left = made_value offsets.MCR _ _ (c.bits.ensures tt ∙ c.difference.ensures tt) c.write_register.ensures in
-    let restored = made_only _ _ (made_value offsets.MCR _ _ (c.bits-2.ensures tt) c.write_register-2.ensures) (made_value offsets.IER _ _ (c.bits-3.ensures tt) c.write_register-3.ensures) in
+    let restored =
+    made_only _ _ (made_value offsets.MCR _ _ (c.bits-2.ensures tt) c.write_register-2.ensures)
+    (made_value offsets.IER _ _ (c.bits-3.ensures tt) c.write_register-3.ensures) in
     let changes = c.line_changes.ensures ∙ ap (line_changes c.args.before.0) (c.from_bits_retain-now.ensures tt) in
     let msr = c.insert.ensures tt ∙ ap (bit_or d.saved_msr.0) changes in
     did_among (λ f l after t. (now, t))
     (did_then (did_made left) (did_then c.read_plain.ensures (did_then (did_made restored)
-    (did_set _ (with_changes c.args.noted.0 (line_changes c.args.before.0 now)) d (record d { saved_lsr = c.args.noted; saved_msr = c.insert.new.self }) refl
+    (did_set _ (with_changes c.args.noted.0 (line_changes c.args.before.0 now)) d
+    (record d { saved_lsr = c.args.noted; saved_msr = c.insert.new.self }) refl
     (λ i. record { config = d.config; fifo = d.fifo_enabled; lsr = c.args.noted.0; msr = msr i; limit = non_zero_u64_get d.spin_limit })))))

@@ -20,7 +20,9 @@ returns-in-Err-clause-made g c =
     let part = mid_len done end xs (omega (arith, c.min-end.ensures)) in
     let few : stall ≤ length ys = omega (arith, c.in-Err.ensures.made.fits.0, c.in-Err.ensures.made.fits.1, c.receive_piece.auto.slots) in
     rw (take_piece xs ys done (end - done) stall c.loop-done.invariant.within few)
-    (made_among (λ l t. receives_stalled (Unit {0}) _ _ done stall _ _ _ l (length-take-le done xs c.loop-done.invariant.within) (omega (arith, part)) t)
+    (made_among
+    (λ l t. receives_stalled (Unit {0}) _ _ done stall _ _ _ l (length-take-le done xs c.loop-done.invariant.within)
+    (omega (arith, part)) t)
     (made_then c.loop-done.invariant.made c.in-Err.ensures.made))
 
 pub returns-in-Err-clause-rest : goal.returns-in-Err-clause-rest
@@ -31,7 +33,8 @@ returns-in-Err-clause-rest g c =
     let end = c.min-end.result in
     let stall = c.in-Err.stall.done in
     let few : stall ≤ length ys = omega (arith, c.in-Err.ensures.made.fits.0, c.in-Err.ensures.made.fits.1, c.receive_piece.auto.slots) in
-    drop_piece xs ys done (end - done) stall c.loop-done.invariant.within few (omega (arith, few, c.receive_piece.auto.slots)) c.in-Err.ensures.rest
+    drop_piece xs ys done (end - done) stall c.loop-done.invariant.within few
+    (omega (arith, few, c.receive_piece.auto.slots)) c.in-Err.ensures.rest
     ∙ drop_later xs _ done (done + stall) (omega arith) c.loop-done.invariant.rest
 
 pub loop-done-preserved : goal.loop-done-preserved
@@ -46,5 +49,7 @@ loop-done-preserved g c =
       within = omega (arith, same_len_mid done (end - done) xs ys c.receive_piece.auto.slots, c.min-end.ensures);
       made = rw (take-put_mid done (end - done) xs ys end whole c.loop-done.invariant.within)
           (made_append Awaited (take done xs) ys c.loop-done.invariant.made (made_among (λ l t. t.1) c.in-Ok.ensures.made));
-      rest = drop-put_mid done (end - done) xs ys end (omega (arith, whole)) c.loop-done.invariant.within size ∙ drop_later xs _ done end (omega (arith, whole)) c.loop-done.invariant.rest;
+      rest =
+          drop-put_mid done (end - done) xs ys end (omega (arith, whole)) c.loop-done.invariant.within size ∙
+          drop_later xs _ done end (omega (arith, whole)) c.loop-done.invariant.rest;
     }

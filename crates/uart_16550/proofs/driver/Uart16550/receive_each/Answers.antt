@@ -20,6 +20,7 @@ loop-done-preserved g c =
     let k = c.loop-done.done in
     let within : k < length c.loop-done.slots = omega arith in
     record {
-      made = rw (take_more_set c.loop-done.slots k c.in-Some.byte within) (made_more Awaited _ _ c.loop-done.invariant.made c.in-Some.ensures);
+      made =
+          rw (take_more_set c.loop-done.slots k c.in-Some.byte within) (made_more Awaited _ _ c.loop-done.invariant.made c.in-Some.ensures);
       rest = drop-set-lt (k + 1) c.loop-done.slots k c.in-Some.byte (omega arith) ∙ drop_more_same _ _ k c.loop-done.invariant.rest;
     }

@@ -20,6 +20,8 @@ loop-turn-preserved g c =
     let none : length (take c.receive_bytes-count.result c.receive_bytes-count.new.buffer) ≤ 0 = omega (arith, length-take {A = ℕ}) in
     let nothing : c.receive_bytes-count.result ≡ 0 = omega arith in
     record {
-      made = made_times _ _ c.loop-turn.invariant.made (made_among (λ l t. receives_none _ _ (settings c.loop-turn.self) l (omega arith) none t) c.receive_bytes-count.ensures.made);
+      made =
+          made_times _ _ c.loop-turn.invariant.made
+          (made_among (λ l t. receives_none _ _ (settings c.loop-turn.self) l (omega arith) none t) c.receive_bytes-count.ensures.made);
       same = (rw nothing at c.receive_bytes-count.ensures.rest) ∙ c.loop-turn.invariant.same;
     }

@@ -25,10 +25,12 @@ loop-done-preserved g c =
     let rest = drop c.loop-done.done c.args.bytes.now in
     let left : 0 < length rest = omega (arith, length-drop {A = ℕ}) in
     let sent = c.in-Some.ensures.made in
-    let size : c.in-Some.count ≡ burst_size set rest = (rw take_rest at sent.fits.0) ∙ ap (λ (s : Settings). burst_size s rest) (made_settings inv.made) in
+    let size : c.in-Some.count ≡ burst_size set rest =
+    (rw take_rest at sent.fits.0) ∙ ap (λ (s : Settings). burst_size s rest) (made_settings inv.made) in
     let some : c.in-Some.count ≤ length rest = omega (arith, size) in
     let piece = take (burst_size set rest) rest in
-    let round : Made g.B.Backend.step (Round piece) c.loop-done.self c.send_some.new.self = made_among (λ l t. let round = rw take_rest at t.1 in rw (← size) round) sent in
+    let round : Made g.B.Backend.step (Round piece) c.loop-done.self c.send_some.new.self =
+    made_among (λ l t. let round = rw take_rest at t.1 in rw (← size) round) sent in
     record {
       within = omega (arith, length-drop {A = ℕ}, some);
       pieces = inv.pieces ++ piece ∷ [];

@@ -11,7 +11,9 @@ loop-done-init g c = record { within = omega arith; made = made_none }
 
 pub returns-in-Err-clause-made : goal.returns-in-Err-clause-made
 returns-in-Err-clause-made g c =
-    made_among (λ l t. begins_later c.args.bytes.now c.loop-done.done _ c.in-Err.stall.done (settings c.args.self.now) l c.loop-done.invariant.within t)
+    made_among
+    (λ l t. begins_later c.args.bytes.now c.loop-done.done _ c.in-Err.stall.done
+    (settings c.args.self.now) l c.loop-done.invariant.within t)
     (made_then c.loop-done.invariant.made c.in-Err.ensures.made)
 
 pub loop-done-preserved : goal.loop-done-preserved

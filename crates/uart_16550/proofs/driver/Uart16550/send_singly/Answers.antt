@@ -16,4 +16,6 @@ pub loop-done-preserved : goal.loop-done-preserved
 loop-done-preserved g c =
     let some : c.loop-done.done < length c.args.bytes.now = omega arith in
     let byte = get_or c.args.bytes.now c.loop-done.done 0 in
-    rw (take_more c.args.bytes.now c.loop-done.done 0 some) (made_more (λ byte. Round (byte ∷ [])) _ _ c.loop-done.invariant (made_round (byte ∷ []) c.if-not-wait_to_send.ensures c.write_register.ensures))
+    rw (take_more c.args.bytes.now c.loop-done.done 0 some)
+    (made_more (λ byte. Round (byte ∷ [])) _ _ c.loop-done.invariant
+    (made_round (byte ∷ []) c.if-not-wait_to_send.ensures c.write_byte.ensures))

@@ -6,5 +6,6 @@ use Rattle.uart_16550.proofs.driver.Uart16550.send_some.Goals as goal
 
 pub returns-clause-made : goal.returns-clause-made
 returns-clause-made g c =
-    let size = c.write_burst.ensures.size ∙ ap (λ (s : Settings). burst_size s c.args.bytes.now) (made_settings c.if-not-wait_to_send.ensures) in
+    let size =
+    c.write_burst.ensures.size ∙ ap (λ (s : Settings). burst_size s c.args.bytes.now) (made_settings c.if-not-wait_to_send.ensures) in
     made_among (λ l t. (size, t)) (made_round _ c.if-not-wait_to_send.ensures c.write_burst.ensures.made)

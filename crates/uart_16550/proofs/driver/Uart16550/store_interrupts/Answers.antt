@@ -8,4 +8,8 @@ pub returns : goal.returns
 returns g c =
     let written = did_unsaved _ refl refl c.write_register.ensures in
     let bits : c.bits.result ≡ c.args.enabled.0 = c.bits.ensures tt in
-    record { list = written.list; path = written.path; does = (written.does.0.is ∙ ap (λ (x : ℕ). Write offsets.IER x ∷ []) bits, written.does.1) }
+    record {
+      list = written.list;
+      path = written.path;
+      does = (written.does.0.is ∙ ap (λ (x : ℕ). Write offsets.IER x ∷ []) bits, written.does.1);
+    }

@@ -6,7 +6,8 @@ use Rattle.uart_16550.proofs.driver.Uart16550.test_loopback.Goals as goal
 
 pub returns-then-not-wait_for : goal.returns-then-not-wait_for
 returns-then-not-wait_for g c =
-    did_among (λ f l after t. (_, _, inl (refl, t))) (did_made (made_then (made_only _ _ c.mcr-mcr.ensures c.ier-ier.ensures) c.if-not-wait_for.ensures))
+    did_among (λ f l after t. (_, _, inl (refl, t)))
+    (did_made (made_then (made_only _ _ c.mcr-mcr.ensures c.ier-ier.ensures) c.if-not-wait_for.ensures))
 
 pub returns : goal.returns
 returns g c =

@@ -8,7 +8,9 @@ loop-turn-init g c = made_none
 
 pub returns-then-contains : goal.returns-then-contains
 returns-then-contains g c =
-    made_then (made_few _ _ (omega arith) c.loop-turn.invariant) (made_asks offsets.LSR _ _ _ c.read_lsr.ensures (sym (c.if-contains.ensures tt)))
+    made_then (made_few _ _ (omega arith) c.loop-turn.invariant)
+    (made_asks offsets.LSR _ _ _ c.read_lsr.ensures (sym (c.if-contains.ensures tt)))
 
 pub loop-turn-preserved : goal.loop-turn-preserved
-loop-turn-preserved g c = made_times _ _ c.loop-turn.invariant (made_asks offsets.LSR _ _ _ c.read_lsr.ensures (sym (c.if-contains.ensures tt)))
+loop-turn-preserved g c =
+    made_times _ _ c.loop-turn.invariant (made_asks offsets.LSR _ _ _ c.read_lsr.ensures (sym (c.if-contains.ensures tt)))

@@ -17,7 +17,8 @@ returns-in-Err g c =
     let within : i < length c.args.text.now = omega (arith, ap length c.as_bytes-byte-items.ensures.value) in
     let fewer : sent < length (expansion_of (get_or c.args.text.now i 0)) = rw byte at c.in-Err.ensures.done in
     let stalled = rw byte at c.in-Err.ensures.made in
-    let count : c.saturating_add-done-in-Err.result ≡ min (length (expansion (take i c.args.text.now)) + sent) (2 ^ 64 - 1) = omega (arith, c.saturating_add-done-in-Err.ensures, c.loop-byte.invariant.count) in
+    let count : c.saturating_add-done-in-Err.result ≡ min (length (expansion (take i c.args.text.now)) + sent) (2 ^ 64 - 1) =
+    omega (arith, c.saturating_add-done-in-Err.ensures, c.loop-byte.invariant.count) in
     made_among (sends_beginning c.args.text.now i sent _ within fewer count (Unit {0}) _) (made_then c.loop-byte.invariant.made stalled)
 
 pub loop-byte-preserved : goal.loop-byte-preserved
@@ -29,5 +30,14 @@ loop-byte-preserved g c =
     let sent = rw byte at c.in-Ok.ensures.made in
     record {
       made = rw more (made_append (λ byte. Round (byte ∷ [])) _ _ c.loop-byte.invariant.made sent);
-      count = omega (arith, c.saturating_add-done.ensures, c.loop-byte.invariant.count, ap length more, ap length byte, length-append {A = ℕ}, length-take {A = ℕ});
+      count =
+          omega (
+            arith,
+            c.saturating_add-done.ensures,
+            c.loop-byte.invariant.count,
+            ap length more,
+            ap length byte,
+            length-append {A = ℕ},
+            length-take {A = ℕ},
+          );
     }

@@ -1,8 +1,7 @@
-use Rattle.std.proofs.Common.{◌∙◌, ◌++◌, ◌∷◌, [], ap, sym}
-use Rattle.uart_machine.proofs.ScriptOutputs.{take_got}
+use Rattle.uart_machine.proofs.ScriptOutputs.{got_more}
 use Rattle.uart_machine.proofs.script.playing.marks_of.Goals as goal
 
 pub loop-i-preserved : goal.loop-i-preserved
 loop-i-preserved c =
-    let more = take_got c.args.machine.now.chip.receiver.marks c.loop-i.i c.in-Some.mark (sym c.in-Some.ensures) in
-    c.in_ok-push-in-Some.ensures.items ∙ ap (λ xs. xs ++ (c.in-Some.mark ∷ [])) c.loop-i.invariant ∙ sym more
+    got_more c.args.machine.now.chip.receiver.marks c.loop-i.i c.in-Some.mark _ _ c.in-Some.ensures c.loop-i.invariant
+    c.in_ok-push-in-Some.ensures.items

@@ -1,7 +1,7 @@
 use Rattle.std.proofs.Common.{rules}
 use Rattle.uart_language.specs.Script.{plan_of}
 use Rattle.uart_machine.proofs.ScriptPlays.{refused}
-use Rattle.uart_language.proofs.ScriptPlayable.{playable}
+use Rattle.uart_language.proofs.Playable.{playable}
 use Rattle.uart_machine.proofs.script.playing.play.Goals as goal
 
 pub returns-in_err-script-clause-outcome : goal.returns-in_err-script-clause-outcome

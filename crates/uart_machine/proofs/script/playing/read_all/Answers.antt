@@ -1,5 +1,5 @@
 use Rattle.std.proofs.Common.{◌++◌, take, arith}
-use Rattle.uart_language.proofs.ScriptBytes.{consumes_more, within_most}
+use Rattle.uart_machine.proofs.Pieces.{consumes_more, within_most}
 use Rattle.uart_machine.proofs.script.playing.read_all.Goals as goal
 
 pub returns-then-is_err-clause-most : goal.returns-then-is_err-clause-most

@@ -1,5 +1,5 @@
 use Rattle.std.proofs.Common.{◌∙◌, arith}
-use Rattle.uart_language.proofs.ScriptBytes.{appends_more, none_failed, take_left}
+use Rattle.uart_machine.proofs.Pieces.{appends_more, none_failed, take_left}
 use Rattle.uart_machine.proofs.script.playing.write_all.Goals as goal
 
 pub loop-done-preserved : goal.loop-done-preserved

@@ -1,0 +1,2 @@
+pub mod NoChoice
+pub mod Calling

@@ -1,0 +1,14 @@
+use Rattle.uart_16550.proofs.Doings.{did_made}
+use Rattle.uart_calls.proofs.Calling.{called_none, called_done, called_fifo, called_text}
+use Rattle.uart_calls.proofs.performing.perform.Goals as goal
+
+pub returns-in-Next : goal.returns-in-Next
+returns-in-Next g c = rw c.in-Next.is (called_none _ _)
+
+pub returns-in-ReadyToReceive : goal.returns-in-ReadyToReceive
+returns-in-ReadyToReceive g c =
+    rw (c.in-ReadyToReceive.is, ← c.inner_mut-in-ReadyToReceive.ensures.value)
+    (record { outcome = c.ready_to_receive.result; answered = c.receive_ready.ensures; did = did_made c.ready_to_receive.ensures })
+
+pub returns-in-FifoEnabled : goal.returns-in-FifoEnabled
+returns-in-FifoEnabled g c = rw c.in-FifoEnabled.is (called_fifo _ _ _ _ c.inner.ensures c.fifo_enabled.ensures)

@@ -1,0 +1,166 @@
+-- What each call means: its outcome, what the driver then did, and how the outcome is answered.
+use Rattle.std.specs.Prelude.{◌≡◌, ◌≤◌, ℕ, Bool, List, [], ◌∷◌, Result, Ok, Err, length}
+use Rattle.uart_spec.specs.declared.errors.ByteReceiveError.{ByteReceiveError}
+use Rattle.uart_spec.specs.declared.errors.ByteSendError.{ByteSendError}
+use Rattle.uart_spec.specs.declared.errors.InitError.{InitError}
+use Rattle.uart_spec.specs.declared.errors.LoopbackError.{LoopbackError}
+use Rattle.uart_spec.specs.declared.errors.RemoteReadyToReceiveError.{RemoteReadyToReceiveError}
+use Rattle.uart_spec.specs.declared.errors.StalledError.{StalledError}
+use Rattle.uart_spec.specs.declared.registers.offsets.TheConstants as offsets
+use Rattle.uart_spec.specs.Access.{Access, Read}
+use Rattle.uart_16550.specs.Grammar.{Language, Only}
+use Rattle.uart_16550.specs.Driver.{Doing, Did, Saving}
+use Rattle.uart_16550.specs.Receive.{ReadyToReceive, TryReceive, Receives, ReceivesExact}
+use Rattle.uart_16550.specs.Transmit.{ReadyToSend, TrySends, Sends, SendsExact}
+use Rattle.uart_16550.specs.Init.{ChecksPresence, Inits}
+use Rattle.uart_16550.specs.Loopback.{TestsLoopback}
+use Rattle.uart_16550.specs.Status.{TakesLsr, TakesMsr, Connects, ReadsDivisor, Enables, Disables, Dumps}
+use Rattle.uart_16550.specs.Io.{Reads, Writes, Flushes, AnswersRead, AnswersWrite}
+use Rattle.uart_16550.specs.Expansion.{SendsText}
+use Rattle.uart_16550.specs.Tty.{inner_of}
+use Rattle.uart_16550.specs.declared.driver.Uart16550.{Uart16550}
+use Rattle.uart_16550.specs.declared.tty.Uart16550Tty.{Uart16550Tty}
+use Rattle.uart_calls.specs.declared.call.Call.{Call}
+use Rattle.uart_calls.specs.declared.call.Call.TheVariants as call
+use Rattle.uart_calls.specs.declared.call.Answer.{Answer}
+use Rattle.uart_calls.specs.declared.call.Answer.TheVariants.{Done, Flag, Count, Bytes, Register, Latch, Dump, Stalled}
+use Rattle.uart_calls.specs.declared.call.Answer.TheVariants.{ReceiveStalled, InitRefused, LoopbackRefused}
+use Rattle.uart_calls.specs.declared.call.Answer.TheVariants.{NotConnected, NoData, NotSent}
+use Rattle.uart_calls.specs.declared.call.TheConstants.{CALL_BYTES}
+
+-- ---- how an outcome is answered
+
+abbrev pub bytes_answer : List ℕ → Answer
+bytes_answer bytes = Bytes (record { items = bytes })
+
+abbrev pub init_answer : Result (Unit {0}) InitError → Answer
+init_answer (Ok x) = Done
+init_answer (Err e) = InitRefused e
+
+abbrev pub loopback_answer : Result (Unit {0}) LoopbackError → Answer
+loopback_answer (Ok x) = Done
+loopback_answer (Err e) = LoopbackRefused e
+
+abbrev pub connected_answer : Result (Unit {0}) RemoteReadyToReceiveError → Answer
+connected_answer (Ok x) = Done
+connected_answer (Err e) = NotConnected e
+
+abbrev pub receive_ready_answer : Result (Unit {0}) ByteReceiveError → Answer
+receive_ready_answer (Ok x) = Done
+receive_ready_answer (Err e) = NoData
+
+abbrev pub received_answer : Result ℕ ByteReceiveError → Answer
+received_answer (Ok byte) = Register byte
+received_answer (Err e) = NoData
+
+abbrev pub sent_answer : Result (Unit {0}) ByteSendError → Answer
+sent_answer (Ok x) = Done
+sent_answer (Err e) = NotSent e
+
+abbrev pub exact_answer : Result (Unit {0}) StalledError → Answer
+exact_answer (Ok x) = Done
+exact_answer (Err e) = Stalled e.done
+
+abbrev pub count_answer : Result ℕ StalledError → Answer
+count_answer (Ok count) = Count count
+count_answer (Err e) = Stalled e.done
+
+abbrev pub read_answer : (List ℕ × Result ℕ StalledError) → Answer
+read_answer (bytes, Ok count) = bytes_answer bytes
+read_answer (bytes, Err e) = Stalled e.done
+
+abbrev pub receive_exact_answer : (List ℕ × Result (Unit {0}) StalledError) → Answer
+receive_exact_answer (bytes, Ok x) = bytes_answer bytes
+receive_exact_answer (bytes, Err e) = ReceiveStalled (record { items = bytes })
+
+abbrev pub ready_answer : Result Bool StalledError → Answer
+ready_answer (Ok ready) = Flag ready
+ready_answer (Err e) = Stalled e.done
+
+abbrev pub latch_answer : (ℕ × ℕ) → Answer
+latch_answer (low, high) = Latch low high
+
+-- ---- what the driver did, for calls that uart_16550 has no word for
+
+-- no access, and the fields stay
+abbrev pub MakesNoAccess : Doing
+MakesNoAccess f l after = (l ≡ []) × (after ≡ f)
+
+-- the same, and it shows whether the driver takes the FIFO to be on
+abbrev pub ShowsFifo : Bool → Doing
+ShowsFifo on f l after = (on ≡ f.fifo) × MakesNoAccess f l after
+
+-- one read of a register, which shows this value
+abbrev pub ShowsRegister : (register value : ℕ) → Language
+ShowsRegister register value = Only (Read register value ∷ [])
+
+-- a text of at most a call's bytes, of which a stall's count is exact
+abbrev pub SendsShortText : List ℕ → Result (Unit {0}) StalledError → Language
+SendsShortText text result s l = (length text ≤ CALL_BYTES) × SendsText text result s l
+
+-- ---- the table
+
+-- the type of a call's outcome, what the driver did if this was the outcome, and how the outcome is answered
+pub record Meaning : Type 1 where
+  pub Outcome : Type 0
+  pub doing : Outcome → Doing
+  pub answer : Outcome → Answer
+
+abbrev pub means : {R : Type 0} → (R → Doing) → (R → Answer) → Meaning
+means {R} doing answer = record { Outcome = R; doing = doing; answer = answer }
+
+-- a call that makes a list of a language, saves what its reads show, and changes nothing else
+abbrev pub saves : {R : Type 0} → (R → Language) → (R → Answer) → Meaning
+saves {R} lists answer = record { Outcome = R; doing = λ outcome. Saving (lists outcome); answer = answer }
+
+-- a call that has nothing to tell
+abbrev pub tells_nothing : Doing → Meaning
+tells_nothing doing = record { Outcome = Unit {0}; doing = λ outcome. doing; answer = λ outcome. Done }
+
+-- each call; `Next` is for a device that has a schedule, and the driver does nothing
+abbrev pub meaning : Call → Meaning
+meaning call.Next = tells_nothing MakesNoAccess
+meaning (call.Init config) = means (Inits config) init_answer
+meaning call.TestLoopback = means TestsLoopback loopback_answer
+meaning call.CheckPresent = saves ChecksPresence Flag
+meaning call.CheckConnected = saves Connects connected_answer
+meaning call.ReadyToReceive = saves ReadyToReceive receive_ready_answer
+meaning call.ReadyToSend = saves ReadyToSend sent_answer
+meaning call.TryReceive = saves TryReceive received_answer
+meaning call.Flush = saves Flushes exact_answer
+meaning call.ReadReady = saves AnswersRead ready_answer
+meaning call.WriteReady = saves AnswersWrite ready_answer
+meaning call.Ier = saves (ShowsRegister offsets.IER) Register
+meaning call.Isr = saves (ShowsRegister offsets.ISR) Register
+meaning call.Lcr = saves (ShowsRegister offsets.LCR) Register
+meaning call.Mcr = saves (ShowsRegister offsets.MCR) Register
+meaning call.Lsr = means TakesLsr Register
+meaning call.Msr = means TakesMsr Register
+meaning call.Spr = saves (ShowsRegister offsets.SPR) Register
+meaning call.DllDlm = saves (λ latch. ReadsDivisor latch.0 latch.1) latch_answer
+meaning call.FifoEnabled = means ShowsFifo Flag
+meaning call.Dump = means Dumps Dump
+meaning (call.TrySend byte) = saves (TrySends byte) sent_answer
+meaning (call.Enable bits) = tells_nothing (Enables bits.0)
+meaning (call.Disable bits) = tells_nothing (Disables bits.0)
+meaning (call.Receive slots) = saves (Receives slots) bytes_answer
+meaning (call.ReceiveExact slots) = saves (λ got. ReceivesExact slots got.0 got.1) receive_exact_answer
+meaning (call.Read slots) = saves (λ got. Reads slots got.0 got.1) read_answer
+meaning (call.Send bytes) = saves (Sends bytes.items) Count
+meaning (call.SendExact bytes) = saves (SendsExact bytes.items) exact_answer
+meaning (call.Write bytes) = saves (Writes bytes.items) count_answer
+meaning (call.Text text) = saves (SendsShortText text.bytes) exact_answer
+
+-- ---- one call
+
+-- the call had some outcome, which was answered so, and the driver did what the call means if this was the outcome
+pub record Called {B : Type 0} (step : B → Access → B → Type 0) (m : Meaning) (answer : Answer)
+    (d e : Uart16550 B) : Type 0 where
+  pub outcome : m.Outcome
+  pub answered : answer ≡ m.answer outcome
+  pub did : Did step (m.doing outcome) d e
+
+-- the driver under the terminal made this call, which was answered so
+abbrev pub Performed : {B : Type 0} → (B → Access → B → Type 0) → Uart16550Tty B → Call → Answer → Uart16550Tty B →
+    Type 0
+Performed step s call answer t = Called step (meaning call) answer (inner_of s) (inner_of t)

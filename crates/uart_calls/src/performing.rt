@@ -1,0 +1,197 @@
+//! Makes a call of the driver, over any backend.
+ghost use Rattle.std.specs.Prelude.{◌≡◌, ◌≤◌, length};
+ghost use Rattle.uart_spec.specs.Config.{IsComputable};
+ghost use Rattle.uart_calls.specs.Calls.{IsRunnable};
+ghost use Rattle.uart_calls.specs.Meaning.{Called, Performed, meaning};
+ghost use Rattle.uart_calls.specs.Meaning.{loopback_answer, connected_answer, receive_ready_answer, received_answer, sent_answer};
+ghost use Rattle.uart_calls.specs.Meaning.{exact_answer, count_answer, ready_answer};
+
+use crate::call::{Answer, CALL_BYTES, Call};
+use arrayvec::ArrayVec;
+use bitflags::Flags;
+use uart_16550::backend::Backend;
+use uart_16550::embedded_io::{Read, ReadReady, Write, WriteReady};
+use uart_16550::{Uart16550, Uart16550Tty};
+use uart_spec::{
+    ByteReceiveError, ByteSendError, Config, InitError, LoopbackError, RemoteReadyToReceiveError,
+    StalledError,
+};
+
+/// Makes one call of the driver, over any backend. Takes no memory.
+///
+/// Returns [`Answer::Done`] if the call succeeded and has nothing to tell, or else what it returned or received; and if it
+/// failed, its refusal or its stall.
+///
+/// For [`Call::Next`] this makes no access and returns `Done`, since a real chip has no schedule. A caller whose device has one
+/// makes that call itself.
+pub fn perform<B: Backend>(uart: &mut Uart16550Tty<B>, call: &Call) -> Answer
+    requires { IsRunnable call.now }
+    ensures { Performed B.step uart.old call.now result uart.new }
+{
+    match call {
+        Call::Next => Answer::Done,
+        Call::Init(config) => init(uart.inner_mut(), config),
+        Call::TestLoopback => tested(uart.inner_mut().test_loopback()),
+        Call::CheckPresent => Answer::Flag(uart.inner_mut().check_present()),
+        Call::CheckConnected => connected(uart.inner_mut().check_connected()),
+        Call::ReadyToReceive => receive_ready(uart.inner_mut().ready_to_receive()),
+        Call::ReadyToSend => sent(uart.inner_mut().ready_to_send()),
+        Call::TryReceive => received(uart.inner_mut().try_receive_byte()),
+        Call::Flush => exact(uart.inner_mut().flush()),
+        Call::ReadReady => ready(uart.inner_mut().read_ready()),
+        Call::WriteReady => ready(uart.inner_mut().write_ready()),
+        Call::Ier => Answer::Register(uart.inner_mut().ier().bits()),
+        Call::Isr => Answer::Register(uart.inner_mut().isr().bits()),
+        Call::Lcr => Answer::Register(uart.inner_mut().lcr().bits()),
+        Call::Mcr => Answer::Register(uart.inner_mut().mcr().bits()),
+        Call::Lsr => Answer::Register(uart.inner_mut().lsr().bits()),
+        Call::Msr => Answer::Register(uart.inner_mut().msr().bits()),
+        Call::Spr => Answer::Register(uart.inner_mut().spr()),
+        Call::DllDlm => {
+            let (dll, dlm) = uart.inner_mut().dll_dlm();
+            Answer::Latch(dll, dlm)
+        }
+        Call::FifoEnabled => Answer::Flag(uart.inner().fifo_enabled()),
+        Call::Dump => Answer::Dump(uart.inner_mut().config_register_dump()),
+        Call::TrySend(byte) => sent(uart.inner_mut().try_send_byte(*byte)),
+        Call::Enable(interrupts) => {
+            uart.inner_mut().enable_interrupts(*interrupts);
+            Answer::Done
+        }
+        Call::Disable(interrupts) => {
+            uart.inner_mut().disable_interrupts(*interrupts);
+            Answer::Done
+        }
+        Call::Receive(slots) => receive(uart.inner_mut(), &mut [0; CALL_BYTES][..*slots]),
+        Call::ReceiveExact(slots) => receive_exact(
+            uart.inner_mut(),
+            &mut [0; CALL_BYTES][..*slots],
+        ),
+        Call::Read(slots) => read(uart.inner_mut(), &mut [0; CALL_BYTES][..*slots]),
+        Call::Send(bytes) => Answer::Count(uart.inner_mut().send_bytes(bytes.as_slice())),
+        Call::SendExact(bytes) => exact(uart.inner_mut().send_bytes_exact(bytes.as_slice())),
+        Call::Write(bytes) => counted(uart.inner_mut().write(bytes.as_slice())),
+        Call::Text(text) => exact(uart.write_text(text.as_str())),
+    }
+}
+
+// These bytes, for an answer.
+fn copied(bytes: &[u8]) -> ArrayVec<u8, CALL_BYTES>
+    requires { length bytes.now ≤ CALL_BYTES }
+    ensures { result.items ≡ bytes.now }
+{
+    let mut copy = ArrayVec::new();
+    let _ = copy.try_extend_from_slice(bytes);
+    copy
+}
+
+fn init<B: Backend>(uart: &mut Uart16550<B>, config: &Config) -> Answer
+    requires { IsComputable config.now }
+    ensures { Called B.step (meaning (Call.Init config.now)) result uart.old uart.new }
+{
+    match uart.init(Config { ..*config }) {
+        Ok(()) => Answer::Done,
+        Err(error) => Answer::InitRefused(error),
+    }
+}
+
+// Calls that receive into slots.
+fn receive<B: Backend>(uart: &mut Uart16550<B>, slots: &mut [u8]) -> Answer
+    requires { length slots.old ≤ CALL_BYTES }
+    ensures { Called B.step (meaning (Call.Receive (length slots.old))) result uart.old uart.new }
+{
+    let count = uart.receive_bytes(slots);
+    Answer::Bytes(copied(&slots[..count]))
+}
+
+fn receive_exact<B: Backend>(uart: &mut Uart16550<B>, slots: &mut [u8]) -> Answer
+    requires { length slots.old ≤ CALL_BYTES }
+    ensures { Called B.step (meaning (Call.ReceiveExact (length slots.old))) result uart.old uart.new }
+{
+    match uart.receive_bytes_exact(slots) {
+        Ok(()) => Answer::Bytes(copied(slots)),
+        Err(stall) => Answer::ReceiveStalled(copied(&slots[..stall.done])),
+    }
+}
+
+fn read<B: Backend>(uart: &mut Uart16550<B>, slots: &mut [u8]) -> Answer
+    requires { length slots.old ≤ CALL_BYTES }
+    ensures { Called B.step (meaning (Call.Read (length slots.old))) result uart.old uart.new }
+{
+    match uart.read(slots) {
+        Ok(count) => Answer::Bytes(copied(&slots[..count])),
+        Err(stall) => Answer::Stalled(stall.done),
+    }
+}
+
+fn tested(outcome: Result<(), LoopbackError>) -> Answer
+    ensures { result ≡ loopback_answer outcome }
+{
+    match outcome {
+        Ok(()) => Answer::Done,
+        Err(error) => Answer::LoopbackRefused(error),
+    }
+}
+
+fn connected(outcome: Result<(), RemoteReadyToReceiveError>) -> Answer
+    ensures { result ≡ connected_answer outcome }
+{
+    match outcome {
+        Ok(()) => Answer::Done,
+        Err(error) => Answer::NotConnected(error),
+    }
+}
+
+fn receive_ready(outcome: Result<(), ByteReceiveError>) -> Answer
+    ensures { result ≡ receive_ready_answer outcome }
+{
+    match outcome {
+        Ok(()) => Answer::Done,
+        Err(_) => Answer::NoData,
+    }
+}
+
+fn received(outcome: Result<u8, ByteReceiveError>) -> Answer
+    ensures { result ≡ received_answer outcome }
+{
+    match outcome {
+        Ok(byte) => Answer::Register(byte),
+        Err(_) => Answer::NoData,
+    }
+}
+
+fn sent(outcome: Result<(), ByteSendError>) -> Answer
+    ensures { result ≡ sent_answer outcome }
+{
+    match outcome {
+        Ok(()) => Answer::Done,
+        Err(error) => Answer::NotSent(error),
+    }
+}
+
+fn exact(outcome: Result<(), StalledError>) -> Answer
+    ensures { result ≡ exact_answer outcome }
+{
+    match outcome {
+        Ok(()) => Answer::Done,
+        Err(stall) => Answer::Stalled(stall.done),
+    }
+}
+
+fn counted(outcome: Result<usize, StalledError>) -> Answer
+    ensures { result ≡ count_answer outcome }
+{
+    match outcome {
+        Ok(count) => Answer::Count(count),
+        Err(stall) => Answer::Stalled(stall.done),
+    }
+}
+
+fn ready(outcome: Result<bool, StalledError>) -> Answer
+    ensures { result ≡ ready_answer outcome }
+{
+    match outcome {
+        Ok(ready) => Answer::Flag(ready),
+        Err(stall) => Answer::Stalled(stall.done),
+    }
+}

@@ -1,0 +1,150 @@
+-- Every script can be played: its numbers are in their ranges, its events are legal and its calls runnable.
+use Rattle.std.proofs.Common.{◌≡◌, ℕ, suc, ◌+◌, ◌*◌, ◌<◌, ◌≤◌, Bool, true, false, cond, leb, eqb, ◌&&◌, List, [], ◌∷◌, length, Result, Ok, Err, refl, sym, subst, arith, bit_and}
+use Rattle.std.specs.Prelude.{All, flat_map}
+use Rattle.std.specs.Char.{is_ascii_hexdigit, digit_value}
+use Rattle.std.specs.Str.Parse.{digits_value}
+use Rattle.std.proofs.lemmas.Bool.{agree_below_at, eqb-true, leb-true, and_parts}
+use Rattle.std.proofs.lemmas.Bool.Decides.{nat_tests}
+use Rattle.std.proofs.lemmas.List.Elements.{All-nil, All-cons, All-append}
+use Rattle.std.proofs.lemmas.List.Concat.{flat_map-cons}
+use Rattle.uart_spec.specs.declared.config.BaudRate.{BaudRate}
+use Rattle.uart_spec.specs.declared.config.BaudRate.TheVariants as rate
+use Rattle.uart_spec.specs.BaudRate.{to_integer}
+use Rattle.uart_language.specs.declared.cause.Cause.{Cause}
+use Rattle.uart_language.specs.declared.cause.Cause.TheVariants.{BadWord}
+use Rattle.uart_language.specs.declared.limits.TheConstants.{MOST_LIMIT, MOST_RATE}
+use Rattle.uart_language.specs.Fields.{◌>>=◌, is_number, number_in, lines_in, errors_in, rate_of, rate_in}
+use Rattle.uart_calls.specs.Calls.{IsRunnable}
+use Rattle.uart_language.specs.Sayings.{Saying, Nothing, Limit, Happens, Calls, Marks, Means, events_said, calls_said}
+use Rattle.uart_language.specs.Sayings as row
+use Rattle.uart_language.specs.Script.{Plan, Says, blank, printable, SayInOrder, limit_from, IsScript, IsLegal, IsPlayable}
+
+-- ---- fields
+
+value_by : (test : Bool) (v n : ℕ) (fault : Cause) → cond test (Ok v) (Err fault) ≡ Ok n → (test ≡ true) × (v ≡ n)
+value_by true v n fault e = (refl, cc)
+value_by false v n fault e = absurd cc
+
+number_range : (least most : ℕ) (word : List ℕ) (n : ℕ) → number_in least most word ≡ Ok n → (least ≤ n) × (n ≤ most)
+unfolding number_in
+number_range least most word n e =
+    let r = value_by _ _ _ _ e in
+    let parts = and_parts (is_number word && leb least (digits_value 10 word)) (leb (digits_value 10 word) most) r.0 in
+    let first = and_parts (is_number word) (leb least (digits_value 10 word)) parts.0 in
+    let low : least ≤ digits_value 10 word = leb-true _ _ first.1 in
+    let high : digits_value 10 word ≤ most = leb-true _ _ parts.1 in
+    (omega (arith, r.1), omega (arith, r.1))
+
+hex_below : (d : ℕ) → is_ascii_hexdigit d ≡ true → digit_value d < 16
+hex_below d e = grind (arith, nat_tests)
+
+-- 16 times a digit has bits 4 to 7 alone
+high_bits : (k : ℕ) → k < 16 → bit_and (16 * k) 240 ≡ 16 * k
+high_bits k lt = eqb-true _ _ (agree_below_at (λ n. eqb (bit_and (16 * n) 240) (16 * n)) (λ n. true) 16 k refl lt)
+
+lines_legal : (word : List ℕ) (v : ℕ) → lines_in word ≡ Ok v → bit_and v 240 ≡ v
+unfolding lines_in
+lines_legal [] v e = absurd cc
+lines_legal (d ∷ []) v e =
+    let r = value_by _ _ _ _ e in
+    let digit = (and_parts (is_ascii_hexdigit d) true r.0).0 in
+    let is : 16 * digit_value d ≡ v = omega (arith, r.1) in
+    subst (λ n. bit_and n 240 ≡ n) is (high_bits (digit_value d) (hex_below d digit))
+lines_legal (d ∷ b ∷ word) v e = let r = value_by _ _ _ _ e in absurd (omega (arith, eqb-true _ _ (and_parts (eqb (suc (suc (length word))) 1) _ r.0).0))
+
+record HasErrorBits (read : Result ℕ Cause) : Type 0 where
+  bits : (v : ℕ) → read ≡ Ok v → bit_and v 28 ≡ v
+
+value_or : (test : Bool) (k : ℕ) (others : Result ℕ Cause) → bit_and k 28 ≡ k → HasErrorBits others → HasErrorBits (cond test (Ok k) others)
+value_or true k others legal rest = record { bits = λ v e. let is : k ≡ v = cc in subst (λ n. bit_and n 28 ≡ n) is legal }
+value_or false k others legal rest = rest
+
+no_value : HasErrorBits (Err BadWord)
+no_value = record { bits = λ v e. absurd cc }
+
+errors_legal : (word : List ℕ) → HasErrorBits (errors_in word)
+unfolding errors_in
+errors_legal word = value_or _ 4 _ refl (value_or _ 8 _ refl (value_or _ 16 _ refl (value_or _ 12 _ refl (value_or _ 20 _ refl (value_or _ 24 _ refl (value_or _ 28 _ refl (no_value)))))))
+
+record IsPositive (rate : BaudRate) : Type 0 where
+  number : 0 < to_integer rate
+
+rate_or : (test : Bool) (named other : BaudRate) → IsPositive named → IsPositive other → IsPositive (cond test named other)
+rate_or true named other n o = n
+rate_or false named other n o = o
+
+rate_positive : (n : ℕ) → 1 ≤ n → IsPositive (rate_of n)
+rate_positive n le =
+    rate_or _ rate.Baud115200 _ (record { number = omega arith }) (rate_or _ rate.Baud57600 _ (record { number = omega arith }) (rate_or _ rate.Baud38400 _ (record { number = omega arith }) (rate_or _ rate.Baud9600 _ (record { number = omega arith }) (rate_or _ rate.Baud4800 _ (record { number = omega arith }) (rate_or _ rate.Baud2400 _ (record { number = omega arith }) (rate_or _ rate.Baud1200 _ (record { number = omega arith }) (rate_or _ rate.Baud600 _ (record { number = omega arith }) (rate_or _ rate.Baud300 _ (record { number = omega arith }) (rate_or _ rate.Baud150 _ (record { number = omega arith }) (rate_or _ rate.Baud110 (rate.Custom n) (record { number = omega arith }) (record { number = omega arith })))))))))))
+
+-- a rate that was read is not zero
+rate_read : (word : List ℕ) (rate : BaudRate) → rate_in word ≡ Ok rate → 0 < to_integer rate
+unfolding rate_in
+rate_read word rate e = rate_by (number_in 1 MOST_RATE word) refl e where
+  rate_by : (r : Result ℕ Cause) → number_in 1 MOST_RATE word ≡ r → (r >>= (λ n. Ok (rate_of n))) ≡ Ok rate → 0 < to_integer rate
+  rate_by (Ok n) h e = let is : rate_of n ≡ rate = cc in subst (λ (x : BaudRate). 0 < to_integer x) is (rate_positive n (number_range 1 MOST_RATE word n h).0).number
+  rate_by (Err c) h e = absurd cc
+
+-- ---- lines
+
+-- what a line says is in its range, legal and runnable
+abbrev IsGood : Saying → Type 0
+IsGood Nothing = Unit {0}
+IsGood (Limit n) = (1 ≤ n) × (n ≤ MOST_LIMIT)
+IsGood (Happens e) = IsLegal e
+IsGood (Calls c) = IsRunnable c
+IsGood Marks = Unit {0}
+
+means_good : {number : ℕ} {ws : List (List ℕ)} {said : Saying} → Means number ws said → IsGood said
+means_good (row.limit {N = N} {n = n} e h) = number_range 1 MOST_LIMIT N n h
+means_good (row.arrive h) = refl
+means_good (row.arrive_faulty {E = E} h e) = (errors_legal E).bits _ e
+means_good (row.lines {H = H} h) = lines_legal H _ h
+means_good (row.init {BAUD = BAUD} f b c h l) = record { frequency = omega arith; baud_rate = rate_read BAUD _ b; prescaler_division_factor = omega arith }
+means_good (row.receive {N = N} h) = (number_range 0 64 N _ h).1
+means_good (row.receive_exact {N = N} h) = (number_range 0 64 N _ h).1
+means_good (row.read {N = N} h) = (number_range 0 64 N _ h).1
+means_good m = tt
+
+says_good : {number : ℕ} {line : List ℕ} {said : Saying} → Says number line said → IsGood said
+says_good {said = said} (blank l e) = subst IsGood (sym e) tt
+says_good (printable b m) = means_good m
+
+-- ---- all lines
+
+limit_good : (number : ℕ) (lines : List (List ℕ)) (sayings : List Saying) (limit : ℕ) → (1 ≤ limit) × (limit ≤ MOST_LIMIT) → SayInOrder number lines sayings → (1 ≤ limit_from limit sayings) × (limit_from limit sayings ≤ MOST_LIMIT)
+limit_good number [] [] limit r h = r
+limit_good number [] (s ∷ sayings) limit r h = absurd h
+limit_good number (line ∷ lines) [] limit r h = absurd h
+limit_good number (line ∷ lines) (Limit n ∷ sayings) limit r h = limit_good (number + 1) lines sayings n (says_good h.0) h.1
+limit_good number (line ∷ lines) (s ∷ sayings) limit r h = limit_good (number + 1) lines sayings limit r h.1
+
+All-one : {X : Type 0} (P : X → Type 0) (x : X) → P x → All P (x ∷ [])
+All-one P x p = All-cons P x [] p (All-nil P)
+
+events_good : (s : Saying) → IsGood s → All IsLegal (events_said s)
+events_good (Happens e) g = All-one IsLegal e g
+events_good Marks g = All-one IsLegal _ tt
+events_good s g = All-nil IsLegal
+
+calls_good : (s : Saying) → IsGood s → All IsRunnable (calls_said s)
+calls_good (Calls c) g = All-one IsRunnable c g
+calls_good Marks g = All-one IsRunnable _ tt
+calls_good s g = All-nil IsRunnable
+
+-- what holds of each line's part holds of all parts
+all_parts : {X : Type 0} (P : X → Type 0) (part : Saying → List X) → ((s : Saying) → IsGood s → All P (part s)) → (number : ℕ) (lines : List (List ℕ)) (sayings : List Saying) → SayInOrder number lines sayings → All P (flat_map part sayings)
+all_parts P part good number [] [] h = All-nil P
+all_parts P part good number [] (s ∷ sayings) h = absurd h
+all_parts P part good number (line ∷ lines) [] h = absurd h
+all_parts P part good number (line ∷ lines) (s ∷ sayings) h =
+    rw (flat_map-cons part s sayings) (All-append P (part s) (flat_map part sayings) (good s (says_good h.0)) (all_parts P part good (number + 1) lines sayings h.1))
+
+pub playable : (bytes : List ℕ) (plan : Plan) → IsScript bytes plan → IsPlayable plan
+playable bytes plan s = record {
+  ticks = number_range 1 1000 s.header.T plan.ticks s.header.ticks_is;
+  wire_capacity = (number_range 0 65536 s.header.W plan.wire_capacity s.header.wire_capacity_is).1;
+  limit = rw s.limit (limit_good 2 s.others s.sayings MOST_LIMIT (omega arith, omega arith) s.body);
+  events = rw s.events (all_parts IsLegal events_said events_good 2 s.others s.sayings s.body);
+  calls = rw s.calls (all_parts IsRunnable calls_said calls_good 2 s.others s.sayings s.body);
+}

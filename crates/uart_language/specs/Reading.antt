@@ -1,0 +1,94 @@
+-- How a script is read line by line, as the parser reads it.
+use Rattle.std.specs.Prelude.{◌≡◌, ℕ, ◌+◌, List, [], ◌∷◌, ◌++◌, Result, Ok, Err, nat_lt, if◌then◌else◌, flat_map, IsOk, length}
+use Rattle.uart_language.specs.declared.cause.Cause.{Cause}
+use Rattle.uart_language.specs.declared.cause.Cause.TheVariants.{Misplaced, TooLong}
+use Rattle.uart_language.specs.declared.cause.ScriptError.{ScriptError}
+use Rattle.uart_language.specs.declared.cause.ScriptError.TheVariants as errors
+use Rattle.uart_language.specs.declared.items.Header.{Header}
+use Rattle.uart_language.specs.declared.limits.TheConstants.{MOST_BYTES, MOST_LINES, DEFAULT_LIMIT}
+use Rattle.uart_language.specs.declared.parsing.Script.{Script}
+use Rattle.uart_language.specs.Text.{lines_of}
+use Rattle.uart_language.specs.Fields.{◌>>=◌}
+use Rattle.uart_language.specs.Sayings.{Saying, events_said, calls_said}
+use Rattle.uart_language.specs.Script.{Plan, limit_from, plan_of}
+use Rattle.uart_language.specs.Items.{header_at, item_at}
+
+-- a fault and the number of its line
+pub record Fault : Type 0 where
+  pub line : ℕ
+  pub cause : Cause
+
+-- a fault, told with the number of its line
+abbrev pub on_line : {A : Type 0} → ℕ → Result A Cause → Result A Fault
+on_line number (Ok x) = Ok x
+on_line number (Err c) = Err (record { line = number; cause = c })
+
+abbrev pub numbered : ℕ → List ℕ → Result Saying Fault
+numbered number line = on_line number (if nat_lt MOST_LINES number then Err TooLong else item_at number line)
+
+abbrev pub with_saying : Saying → Result (List Saying) Fault → Result (List Saying) Fault
+with_saying said (Ok sayings) = Ok (said ∷ sayings)
+with_saying said (Err e) = Err e
+
+abbrev pub before : Result Saying Fault → Result (List Saying) Fault → Result (List Saying) Fault
+before (Ok said) sayings = with_saying said sayings
+before (Err e) sayings = Err e
+
+-- what lines say, the first of which has this number, or the first fault
+unfoldable pub sayings_from : ℕ → List (List ℕ) → Result (List Saying) Fault
+sayings_from number [] = Ok []
+sayings_from number (line ∷ lines) = before (numbered number line) (sayings_from (number + 1) lines)
+
+abbrev pub plan_by : Header → List Saying → Plan
+plan_by header sayings = record {
+  chip = header.chip;
+  ticks = header.ticks;
+  wire_capacity = header.wire_capacity;
+  cuts = header.cuts;
+  limit = limit_from DEFAULT_LIMIT sayings;
+  events = flat_map events_said sayings;
+  calls = flat_map calls_said sayings;
+}
+
+unfoldable pub planned : Header → Result (List Saying) Fault → Result Plan Fault
+planned header sayings = do
+  said ← sayings
+  Ok (plan_by header said)
+
+unfoldable pub from_lines : List (List ℕ) → Result Plan Fault
+from_lines [] = Err (record { line = 1; cause = Misplaced })
+from_lines (first ∷ others) = do
+  header ← on_line 1 (header_at first)
+  planned header (sayings_from 2 others)
+
+-- the script that bytes are, or the first faulty line and its cause
+unfoldable pub script_of : List ℕ → Result Plan Fault
+script_of bytes = if nat_lt MOST_BYTES (length bytes) then Err (record { line = 0; cause = TooLong }) else from_lines (lines_of bytes)
+
+-- ---- what the parser returns
+
+-- this line is told as the first faulty one
+abbrev pub Refuses : {A : Type 0} → ScriptError → Result A Fault → Type 0
+Refuses (errors.Refused line cause) read = read ≡ Err (record { line = line; cause = cause })
+Refuses errors.OutOfMemory read = ⊥
+
+-- all lines are read, or this one is told
+abbrev pub Checks : {A : Type 0} → Result (Unit {0}) ScriptError → Result A Fault → Type 0
+Checks (Ok done) read = IsOk read
+Checks (Err e) read = Refuses e read
+
+-- the script, or the line that is told, or out of memory
+abbrev pub BuildsPlan : Result Script ScriptError → Result Plan Fault → Type 0
+BuildsPlan (Ok s) read = read ≡ Ok (plan_of s)
+BuildsPlan (Err (errors.Refused line cause)) read = read ≡ Err (record { line = line; cause = cause })
+BuildsPlan (Err errors.OutOfMemory) read = Unit {0}
+
+-- the same, out of memory only at a script
+abbrev pub Parses : Result Script ScriptError → Result Plan Fault → Type 0
+Parses (Ok s) read = read ≡ Ok (plan_of s)
+Parses (Err (errors.Refused line cause)) read = read ≡ Err (record { line = line; cause = cause })
+Parses (Err errors.OutOfMemory) read = IsOk read
+
+-- a script with one more line
+abbrev pub added : Plan → Saying → Plan
+added plan said = record plan { limit = limit_from plan.limit (said ∷ []); events = plan.events ++ events_said said; calls = plan.calls ++ calls_said said }

@@ -1,0 +1,97 @@
+-- What each line of a script says.
+use Rattle.std.specs.Prelude.{◌≡◌, ℕ, Bool, List, [], ◌∷◌, Option, Ok, codes}
+use Rattle.arrayvec.specs.ArrayVec.{ArrayVec}
+use Rattle.arrayvec.specs.ArrayString.{ArrayString}
+use Rattle.uart_spec.specs.declared.config.Config.{Config}
+use Rattle.uart_spec.specs.declared.config.TheConstants.Config.{DEFAULT}
+use Rattle.uart_spec.specs.declared.config.BaudRate.{BaudRate}
+use Rattle.uart_spec.specs.declared.registers.frame.WordLength.{WordLength}
+use Rattle.uart_spec.specs.declared.registers.fifo_trigger_level.FifoTriggerLevel.{FifoTriggerLevel}
+use Rattle.uart_spec.specs.declared.registers.interrupt_enable.IER.{IER}
+use Rattle.uart_chip.specs.declared.event.Event.{Event}
+use Rattle.uart_chip.specs.declared.event.Event.TheVariants as event
+use Rattle.uart_calls.specs.declared.call.Call.{Call}
+use Rattle.uart_calls.specs.declared.call.Call.TheVariants as call
+use Rattle.uart_language.specs.Fields.{count_in, limit_in, ticks_in, byte_in, lines_in, bytes_in, text_in, errors_in, level_in, rate_in, cts_in, interrupts_in, word_length_in}
+
+-- what one line adds to a script; a mark is an event and the call `Next`
+pub data Saying : Type 0 where
+  Nothing : Saying
+  Limit : ℕ → Saying
+  Happens : Event → Saying
+  Calls : Call → Saying
+  Marks : Saying
+
+abbrev pub events_said : Saying → List Event
+events_said (Happens e) = e ∷ []
+events_said Marks = event.Mark ∷ []
+events_said other = []
+
+abbrev pub calls_said : Saying → List Call
+calls_said (Calls c) = c ∷ []
+calls_said Marks = call.Next ∷ []
+calls_said other = []
+
+-- a configuration by the fields of an `init` line, the rest as in the default one
+abbrev pub configured : Option FifoTriggerLevel → BaudRate → Bool → IER → WordLength → Config
+configured level rate cts interrupts word_length = record DEFAULT {
+  interrupts = interrupts;
+  fifo_trigger_level = level;
+  baud_rate = rate;
+  data_bits = word_length;
+  check_cts_before_sending = cts;
+}
+
+abbrev pub array_of : List ℕ → ArrayVec ℕ
+array_of bytes = record { items = bytes }
+
+-- a text of these bytes; of the room that it leaves unused nothing is said
+abbrev pub text_of : List ℕ → ArrayString
+text_of bytes = record { bytes = bytes; spare = [] }
+
+-- a call without the room that its text leaves unused
+abbrev pub plain : Call → Call
+plain (call.Text text) = call.Text (text_of text.bytes)
+plain c = c
+
+-- The lines after the first, word by word, with the number of the line.
+pub data Means (number : ℕ) : List (List ℕ) → Saying → Type 0 where
+  limit : {N : List ℕ} {n : ℕ} → number ≡ 2 → limit_in N ≡ Ok n → Means number (codes "limit" ∷ N ∷ []) (Limit n)
+  tick : {N : List ℕ} {n : ℕ} → ticks_in N ≡ Ok n → Means number (codes "tick" ∷ N ∷ []) (Happens (event.Ticks n))
+  arrive : {HH : List ℕ} {byte : ℕ} → byte_in HH ≡ Ok byte → Means number (codes "arrive" ∷ HH ∷ []) (Happens (event.Arrive byte 0))
+  arrive_faulty : {HH E : List ℕ} {byte errors : ℕ} → byte_in HH ≡ Ok byte → errors_in E ≡ Ok errors → Means number (codes "arrive" ∷ HH ∷ E ∷ []) (Happens (event.Arrive byte errors))
+  lines : {H : List ℕ} {lines : ℕ} → lines_in H ≡ Ok lines → Means number (codes "lines" ∷ H ∷ []) (Happens (event.Lines lines))
+  access : Means number (codes "access" ∷ []) (Happens event.Access)
+  next : Means number (codes "next" ∷ []) Marks
+  init : {F BAUD C HH BITS : List ℕ} {level : Option FifoTriggerLevel} {rate : BaudRate} {cts : Bool} {interrupts : IER} {word_length : WordLength}
+      → level_in F ≡ Ok level → rate_in BAUD ≡ Ok rate → cts_in C ≡ Ok cts → interrupts_in HH ≡ Ok interrupts → word_length_in BITS ≡ Ok word_length
+      → Means number (codes "init" ∷ F ∷ BAUD ∷ C ∷ HH ∷ BITS ∷ []) (Calls (call.Init (configured level rate cts interrupts word_length)))
+  loopback : Means number (codes "loopback" ∷ []) (Calls call.TestLoopback)
+  present : Means number (codes "present" ∷ []) (Calls call.CheckPresent)
+  connected : Means number (codes "connected" ∷ []) (Calls call.CheckConnected)
+  ready_receive : Means number (codes "ready-receive" ∷ []) (Calls call.ReadyToReceive)
+  ready_send : Means number (codes "ready-send" ∷ []) (Calls call.ReadyToSend)
+  try_receive : Means number (codes "try-receive" ∷ []) (Calls call.TryReceive)
+  flush : Means number (codes "flush" ∷ []) (Calls call.Flush)
+  read_ready : Means number (codes "read-ready" ∷ []) (Calls call.ReadReady)
+  write_ready : Means number (codes "write-ready" ∷ []) (Calls call.WriteReady)
+  ier : Means number (codes "ier" ∷ []) (Calls call.Ier)
+  isr : Means number (codes "isr" ∷ []) (Calls call.Isr)
+  lcr : Means number (codes "lcr" ∷ []) (Calls call.Lcr)
+  mcr : Means number (codes "mcr" ∷ []) (Calls call.Mcr)
+  lsr : Means number (codes "lsr" ∷ []) (Calls call.Lsr)
+  msr : Means number (codes "msr" ∷ []) (Calls call.Msr)
+  spr : Means number (codes "spr" ∷ []) (Calls call.Spr)
+  dll_dlm : Means number (codes "dll-dlm" ∷ []) (Calls call.DllDlm)
+  fifo : Means number (codes "fifo" ∷ []) (Calls call.FifoEnabled)
+  dump : Means number (codes "dump" ∷ []) (Calls call.Dump)
+  try_send : {HH : List ℕ} {byte : ℕ} → byte_in HH ≡ Ok byte → Means number (codes "try-send" ∷ HH ∷ []) (Calls (call.TrySend byte))
+  enable : {HH : List ℕ} {interrupts : IER} → interrupts_in HH ≡ Ok interrupts → Means number (codes "enable" ∷ HH ∷ []) (Calls (call.Enable interrupts))
+  disable : {HH : List ℕ} {interrupts : IER} → interrupts_in HH ≡ Ok interrupts → Means number (codes "disable" ∷ HH ∷ []) (Calls (call.Disable interrupts))
+  receive : {N : List ℕ} {n : ℕ} → count_in N ≡ Ok n → Means number (codes "receive" ∷ N ∷ []) (Calls (call.Receive n))
+  receive_exact : {N : List ℕ} {n : ℕ} → count_in N ≡ Ok n → Means number (codes "receive-exact" ∷ N ∷ []) (Calls (call.ReceiveExact n))
+  read : {N : List ℕ} {n : ℕ} → count_in N ≡ Ok n → Means number (codes "read" ∷ N ∷ []) (Calls (call.Read n))
+  send : {HEX bytes : List ℕ} → bytes_in HEX ≡ Ok bytes → Means number (codes "send" ∷ HEX ∷ []) (Calls (call.Send (array_of bytes)))
+  send_exact : {HEX bytes : List ℕ} → bytes_in HEX ≡ Ok bytes → Means number (codes "send-exact" ∷ HEX ∷ []) (Calls (call.SendExact (array_of bytes)))
+  write : {HEX bytes : List ℕ} → bytes_in HEX ≡ Ok bytes → Means number (codes "write" ∷ HEX ∷ []) (Calls (call.Write (array_of bytes)))
+  text : {HEX bytes : List ℕ} → text_in HEX ≡ Ok bytes → Means number (codes "text" ∷ HEX ∷ []) (Calls (call.Text (text_of bytes)))

@@ -1,0 +1,30 @@
+//! The limits of the language.
+ghost use Rattle.std.specs.Prelude.{◌≡◌};
+
+/// The longest script, in bytes. A reader of scripts needs to read no more than one byte beyond.
+pub const MOST_BYTES: usize = 65_536;
+
+/// The longest script, in lines.
+pub const MOST_LINES: u32 = 4_096;
+
+/// The largest limit of the driver that a line may set: how many unsuccessful polls in a row end a wait.
+pub const MOST_LIMIT: u64 = 1_000_000;
+
+/// The driver's limit if no line sets one.
+pub const DEFAULT_LIMIT: u64 = MOST_LIMIT;
+
+/// The most ticks of a line, as many as an event holds.
+pub const MOST_TICKS: u64 = 65_535;
+
+/// The highest baud rate, in bits a second.
+pub const MOST_RATE: u64 = 4_294_967_295;
+
+/// The values of the limits, which the definition of the language names.
+pub fn limits_are_these()
+    ensures bytes { MOST_BYTES ≡ 65536 }
+    ensures lines { MOST_LINES ≡ 4096 }
+    ensures limit { MOST_LIMIT ≡ 1000000 }
+    ensures default_limit { DEFAULT_LIMIT ≡ 1000000 }
+    ensures ticks { MOST_TICKS ≡ 65535 }
+    ensures rate { MOST_RATE ≡ 4294967295 }
+{}

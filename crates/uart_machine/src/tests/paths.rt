@@ -1,0 +1,64 @@
+//! Each public path of the crate, named once.
+use super::arrive;
+use crate::laws::{idle_keeps_ready, runs_have_one_outcome, scripts_have_one_output};
+use crate::script::{
+    Cause, Fault, Input, Output, PlayError, Script, ScriptError, Std, parse, play,
+};
+use crate::{Answer, ArrivalMark, BuildError, Call, Chip, Device16550, Event, run};
+use std::alloc::Global;
+use std::test::Fail;
+use uart_16550::{Uart16550, Uart16550Tty};
+
+fn built(alloc: Global, schedule: Vec<Event>) -> Result<Device16550, BuildError> {
+    Device16550::new(alloc, Chip::Uart16450, 4, 64, schedule)
+}
+
+#[test]
+fn a_run_of_no_calls_leaves_the_device(rt: HostRuntime) -> Result<(), Fail> {
+    let schedule = vec![in rt.alloc(); arrive(0x41)]?;
+    let uart = Uart16550::new_with_backend(built(rt.alloc(), schedule)?);
+    let mut terminal = Uart16550Tty::from_inner(uart);
+    let calls: [Call; 0] = [];
+    let mut answers: [Answer; 0] = [];
+    run(&mut terminal, &calls, &mut answers);
+    assert_eq!(rt;
+        terminal.inner().backend().mark(0),
+        Some(ArrivalMark::Pending)
+    );
+    Ok(())
+}
+
+// Gives one byte of the input to the output.
+fn moved<R: Input, W: Output>(reader: &mut R, writer: &mut W) -> Result<usize, Fault> {
+    let mut byte = [0u8; 1];
+    let count = reader.read(&mut byte)?;
+    writer.write(&byte[..count])
+}
+
+#[test]
+fn scripts_are_parsed_and_played(rt: HostRuntime) -> Result<(), Fail> {
+    let parsed: Result<Script, ScriptError> = parse(rt.alloc(), b"lsr");
+    let misplaced = ScriptError::Refused {
+        line: 1,
+        cause: Cause::Misplaced,
+    };
+    assert_eq!(rt; parsed.err(), Some(misplaced));
+    let mut output = Vec::new(rt.alloc());
+    let mut writer = Std::new(&mut output);
+    let script = b"chip 16450 4 64".as_slice();
+    let played: Result<(), PlayError> = play(rt.alloc(), &mut Std::new(script), &mut writer);
+    assert_eq!(rt; played, Ok(()));
+    assert_eq!(rt; moved(&mut Std::new(b"!".as_slice()), &mut writer), Ok(1));
+    assert_eq!(rt;
+        output.as_slice(),
+        b"wire -\nheld -\nwaiting -\nmarks -\n!".as_slice()
+    );
+    Ok(())
+}
+
+#[test]
+fn laws_are_called() {
+    idle_keeps_ready();
+    runs_have_one_outcome();
+    scripts_have_one_output();
+}

@@ -1,0 +1,67 @@
+-- The FIFO step of an `init` or a loopback test: the FIFO is on afterwards where a level is configured and the chip has one, and the driver knows it.
+use Rattle.std.proofs.Common.{◌≡◌, ℕ, Bool, true, false, ◌&&◌, List, [], ◌∷◌, Option, Some, None, refl, sym, ◌∙◌, ap}
+use Rattle.uart_spec.specs.Bits.{has, has_any}
+use Rattle.uart_spec.specs.declared.registers.fifo_trigger_level.FifoTriggerLevel.{FifoTriggerLevel}
+use Rattle.uart_spec.specs.declared.registers.fifo_trigger_level.FifoTriggerLevel.TheVariants.{One, Four, Eight, Fourteen}
+use Rattle.uart_spec.specs.Access.{Access, Read, Write, Path}
+use Rattle.uart_16550.specs.Grammar.{Settings, Only, Asks}
+use Rattle.uart_16550.specs.Init.{fifo_bits, SetsFifo}
+use Rattle.uart_chip.specs.declared.event.Chip.{Chip}
+use Rattle.uart_chip.specs.declared.event.Chip.TheVariants.{Uart16550A, Uart16450}
+use Rattle.uart_spec.specs.declared.registers.fifo_control.TheConstants.FCR
+use Rattle.uart_chip.specs.Machine.{MachineState, MachineStep}
+use Rattle.uart_run.specs.Ready.{has_fifo, is_level}
+use Rattle.uart_device.specs.Sound.{IsSound}
+use Rattle.uart_device.proofs.BlockLaws.{path_as}
+use Rattle.uart_run.proofs.Latches.{Kept, kept_in, keep_control, kept_list, kept_path}
+use Rattle.uart_run.proofs.initialising.FifoShown.{fifo_shown}
+use Rattle.uart_run.proofs.Pieces.{then_parts}
+
+enables : (level : Option FifoTriggerLevel) → has_any (fifo_bits level) FCR.FIFO_ENABLE.0 ≡ (is_level level && true)
+enables None = refl
+enables (Some One) = refl
+enables (Some Four) = refl
+enables (Some Eight) = refl
+enables (Some Fourteen) = refl
+
+never_on : (level : Option FifoTriggerLevel) → (is_level level && false) ≡ false
+never_on None = refl
+never_on (Some level) = refl
+
+-- a chip without FIFO has it off
+is_off : (fifo : Bool) → (fifo ≡ true → Uart16450 ≡ Uart16550A) → fifo ≡ false
+is_off true implemented = let same = implemented refl in absurd (cc)
+is_off false implemented = refl
+
+-- what a write of the bits for a level leaves
+controlled : (model : Chip) (level : Option FifoTriggerLevel) (k : Kept) → (k.fifo ≡ true → model ≡ Uart16550A) →
+    keep_control model (fifo_bits level) k ≡ record k { fifo = is_level level && has_fifo model }
+controlled Uart16450 level k implemented = ap (λ (on : Bool). record k { fifo = on }) (is_off k.fifo implemented ∙ sym (never_on level))
+controlled Uart16550A level k implemented = ap (λ (on : Bool). record k { fifo = on }) (enables level)
+
+-- from m to n the FIFO was set for this level, and the driver takes it to be on or off
+pub record FifoSet (level : Option FifoTriggerLevel) (on : Bool) (m n : MachineState) : Type 0 where
+  pub kept : kept_in n.chip ≡ record (kept_in m.chip) { fifo = on }
+  pub is_on : on ≡ (is_level level && has_fifo m.chip.model)
+
+-- the write
+written : (level : Option FifoTriggerLevel) (m n : MachineState) → IsSound m → Path MachineStep m (Write 2 (fifo_bits level) ∷ []) n →
+    kept_in n.chip ≡ record (kept_in m.chip) { fifo = is_level level && has_fifo m.chip.model }
+written level m n w p = kept_path (Write 2 (fifo_bits level) ∷ []) m n p ∙ controlled m.chip.model level (kept_in m.chip) w.chip.implemented
+
+pub sets_fifo : (level : Option FifoTriggerLevel) (on : Bool) (s : Settings) (l : List Access) (m n : MachineState) → IsSound m → SetsFifo level on s l → Path MachineStep m l n → FifoSet level on m n
+sets_fifo None on s l m n w (off, is) p = record {
+  kept = written None m n w (path_as m n l (Write 2 (fifo_bits None) ∷ []) is p) ∙ ap (λ (b : Bool). record (kept_in m.chip) { fifo = b }) (sym off);
+  is_on = off;
+}
+sets_fifo (Some level) on s l m n w t p =
+    let a = then_parts (Only (Write 2 (fifo_bits (Some level)) ∷ [])) (Asks 2 192 on) s l m n t p in
+    let first = written (Some level) m a.between w (path_as m a.between a.front (Write 2 (fifo_bits (Some level)) ∷ []) a.first.is a.before) in
+    let is_on : on ≡ has_fifo m.chip.model = shown a.between a.second.answer a.second.shows (path_as a.between n a.back (Read 2 a.second.answer ∷ []) a.second.is a.after) ∙ ap (λ (k : Kept). k.fifo) first in
+    record {
+      kept = kept_list a.back (Read 2 a.second.answer ∷ []) a.between n a.second.is a.after ∙ (first ∙ ap (λ (b : Bool). record (kept_in m.chip) { fifo = b }) (sym is_on));
+      is_on = is_on;
+    }
+  where
+    shown : (k : MachineState) (answer : ℕ) → has answer 192 ≡ on → Path MachineStep k (Read 2 answer ∷ []) n → on ≡ k.chip.fifo
+    shown k answer shows (mid, step, same) = sym shows ∙ fifo_shown k mid answer step

@@ -1,0 +1,131 @@
+-- In loopback no wait of a test is in vain, where ticks come before each access and the spin limit is long enough.
+use Rattle.std.proofs.Common.{◌≡◌, ℕ, zero, suc, ◌+◌, ◌*◌, ◌≤◌, ◌<◌, Bool, true, false, nat_lt, List, [], ◌∷◌, ◌++◌, length, append-nil, map, Option, None, refl, arith, ◌∙◌, ap, subst}
+use Rattle.std.proofs.lemmas.Grind.{common_steps}
+use Rattle.std.proofs.lemmas.List.{length-map}
+use Rattle.uart_spec.specs.Bits.{has}
+use Rattle.uart_spec.specs.Access.{Access, Read, Path}
+use Rattle.uart_16550.specs.Grammar.{Language, Settings, Then, Times, AllMisses}
+use Rattle.uart_16550.specs.Receive.{Miss}
+use Rattle.uart_16550.specs.Transmit.{SendMiss}
+use Rattle.uart_16550.specs.Loopback.{TakesOne, DrainsLoopback}
+use Rattle.uart_chip.specs.declared.transmitter.Shifting.{Shifting}
+use Rattle.uart_chip.specs.declared.receiver.Character.{Character}
+use Rattle.uart_chip.specs.Transmitter.{room, out, shift_bytes}
+use Rattle.uart_chip.specs.Chip.{ChipState}
+use Rattle.uart_chip.specs.Machine.{MachineState, MachineStep}
+use Rattle.uart_device.specs.Sound.{IsSound}
+use Rattle.uart_run.specs.Progress.{IsTicked, left}
+use Rattle.uart_chip.proofs.Bits.{has_one}
+use Rattle.uart_device.proofs.Sounds.{sound_path}
+use Rattle.uart_run.proofs.progress.Left.{left-most}
+use Rattle.uart_run.proofs.progress.Nearing.{Runs, ticked-path}
+use Rattle.uart_device.proofs.Constants.{same_pace}
+use Rattle.uart_device.proofs.Went.{Modes, loopback-in}
+use Rattle.uart_device.proofs.BlockLaws.{look_data}
+use Rattle.uart_run.proofs.EmptyTransmitter.{IsSent, sent_shown}
+use Rattle.uart_run.proofs.CallBlocks.{InBlocks, Makes, blocks_none, blocks_then, hit_blocks}
+use Rattle.uart_run.proofs.Pieces.{then_parts}
+use Rattle.uart_device.proofs.Loops.{line_in, Fits, fits-after, line-length}
+use Rattle.uart_device.proofs.LoopAccesses.{IsLooped, loops_read}
+use Rattle.uart_run.proofs.loopback.LoopBlocks.{loops_in_blocks}
+use Rattle.uart_run.proofs.loopback.LoopPhases.{IsEntered, IsReadyToTest, never_refused}
+use Rattle.uart_run.proofs.progress.WaitEnds.{Awaited, no_stall, all_empty}
+
+-- a sound machine to which ticks come, and a limit that exceeds the ticks that its transmitter may take
+pub record Lives (limit : ℕ) (m : MachineState) : Type 0 where
+  pub sound : IsSound m
+  pub ticked : IsTicked m
+  pub enough : 17 * (m.chip.transmitter.char_ticks + 1) ≤ limit
+
+pub lives-path : (limit : ℕ) (made : List Access) (m n : MachineState) → Lives limit m → Path MachineStep m made n → Lives limit n
+lives-path limit made m n v p = record {
+  sound = sound_path made m n v.sound p;
+  ticked = ticked-path made m n v.ticked p;
+  enough = let same = (same_pace made m n p).char_ticks in omega (arith, v.enough, same);
+}
+
+few_left : (limit : ℕ) (m : MachineState) → Lives limit m → left m.chip.transmitter < limit
+few_left limit m v = let most = left-most m.chip.fifo m.chip.transmitter v.sound.chip.transmitter in omega (arith, most, v.enough)
+
+-- ---- what is on its way comes back
+
+-- where the transmitter is empty, it waits to be read
+all_waits : (gone : List ℕ) (c : ChipState) → IsSent gone c.transmitter → length (line_in c) ≡ length c.receiver.queue
+all_waits gone c s = go c.transmitter.shift_place c.transmitter.queue s.place s.queue
+  where
+    byte : Character → ℕ
+    byte character = character.byte
+
+    go : (place : Option Shifting) (queue : List ℕ) → place ≡ None → queue ≡ [] → length (map byte c.receiver.queue ++ (shift_bytes place ++ queue)) ≡ length c.receiver.queue
+    go place queue e f = rw (e, f, append-nil (map byte c.receiver.queue)) (length-map c.receiver.queue byte)
+
+-- something is on its way in a chip of these modes
+record OnItsWay (x : Modes) (m : MachineState) : Type 0 where
+  pub fits : Fits x m.chip
+  pub some : 1 ≤ length (line_in m.chip)
+
+data_awaited : (x : Modes) → IsLooped x → Awaited (OnItsWay x) 1
+data_awaited x i = record { kept = λ m n line r w step. kept m n line w step; shows = λ m n line r w step e. shows m n line r w step e }
+  where
+    kept : (m n : MachineState) (line : ℕ) → OnItsWay x m → MachineStep m (Read 5 line) n → OnItsWay x n
+    kept m n line w step =
+        let a = loops_read x m n 5 line i.loopback w.fits refl step in
+        let long = line-length x m.chip n.chip [] [] a in
+        record { fits = fits-after x x m.chip n.chip [] refl w.fits a; some = omega (arith, long, w.some) }
+
+    positive : (n : ℕ) → 0 < n → nat_lt 0 n ≡ true
+    positive n h = grind (arith, common_steps)
+
+    shows : (m n : MachineState) (line : ℕ) → Runs n → OnItsWay x n → MachineStep m (Read 5 line) n → left n.chip.transmitter ≡ 0 → has line 1 ≡ true
+    shows m n line r w step e =
+        let t = n.chip.transmitter in
+        let sound = r.sound.chip.transmitter in
+        let sent = sent_shown t (all_empty t.char_ticks sound.at_least_one t.shift_place t.queue sound.ticking e) in
+        let waits : 0 < length n.chip.receiver.queue = omega (arith, all_waits (out t) n.chip sent, w.some) in
+        has_one 0 line ∙ (look_data m n line step ∙ positive (length n.chip.receiver.queue) waits)
+
+-- after accesses that wrote more than they read, no wait for a byte is in vain
+pub never_dry : (x : Modes) (gone : List ℕ) (s : Settings) (L : Language) (l : List Access) (m n : MachineState) (ws rs : List ℕ) → Lives s.limit m → IsReadyToTest x gone s m →
+    length ws ≤ room s.fifo → length rs < length ws → Makes s L ws rs → Then L (AllMisses Miss) s l → Path MachineStep m l n → ⊥
+never_dry x gone s L l m n ws rs v r few more makes t path =
+    let p = then_parts L (AllMisses Miss) s l m n t path in
+    let B : Bool → Type 0 = λ fifo. InBlocks fifo p.front ws rs in
+    let none : length (line_in m.chip) ≡ 0 = ap length r.idle.line in
+    let same : room s.fifo ≡ room x.fifo = ap room r.fifo in
+    let a = loops_in_blocks x m p.between p.front ws rs r.looped r.idle.modes (omega (arith, none, few, same)) (subst B r.fifo (makes p.front p.first)) p.before in
+    let size : length (map x.cut ws) ≡ length ws = length-map ws x.cut in
+    let long = line-length x m.chip p.between.chip (map x.cut ws) rs a in
+    let w = lives-path s.limit p.front m p.between v p.before in
+    let on : OnItsWay x p.between = record { fits = record { modes = a.modes; few = omega (arith, none, few, same, size, long) }; some = omega (arith, none, more, size, long) } in
+    let runs : Runs p.between = record { sound = w.sound; ticked = w.ticked; flows = λ off. absurd (cc (loopback-in x p.between.chip a.modes, r.looped.loopback, off)) } in
+    no_stall (OnItsWay x) 1 (data_awaited x r.looped) s s.limit p.back p.between n runs on (few_left s.limit p.between w) p.second p.after
+
+-- ---- there is always room
+
+some_limit : (limit : ℕ) (m : MachineState) → Lives limit m → 1 ≤ limit
+some_limit limit m v = omega (arith, v.enough)
+
+pub never_full : (x : Modes) (gone : List ℕ) (s : Settings) (l : List Access) (m n : MachineState) → Lives s.limit m → IsReadyToTest x gone s m → AllMisses SendMiss s l → Path MachineStep m l n → ⊥
+never_full x gone s l m n v r t path = go s.limit (some_limit s.limit m v) t
+  where
+    go : (k : ℕ) → 1 ≤ k → Times k SendMiss s l → ⊥
+    go zero some t = omega (arith, some)
+    go (suc k) some t = let p = then_parts SendMiss (Times k SendMiss) s l m n t path in never_refused x gone s p.first.0 p.front m p.between r p.first.1 p.before
+
+-- ---- the drain ends
+
+takes_blocks : (s : Settings) (k : ℕ) (l : List Access) → Times k TakesOne s l → (rs : List ℕ) × (length rs ≡ k) × InBlocks s.fifo l [] rs
+takes_blocks s zero l t = ([], refl, rw t.is (blocks_none s.fifo))
+takes_blocks s (suc k) l t =
+    let a = takes_blocks s k t.back t.second in
+    (t.first.0 ∷ a.0, ap suc a.1, rw t.whole (blocks_then s.fifo t.front t.back [] [] (t.first.0 ∷ []) a.0 (hit_blocks s t.first.0 t.front t.first.1) a.2))
+
+pub never_flooded : (x : Modes) (gone : List ℕ) (s : Settings) (l : List Access) (m n : MachineState) → Lives s.limit m → IsEntered x gone s m → DrainsLoopback false s l → Path MachineStep m l n → ⊥
+never_flooded x gone s l m n v e t path =
+    let a = takes_blocks s s.limit l t in
+    let B : Bool → Type 0 = λ fifo. InBlocks fifo l [] a.0 in
+    let few : length (line_in m.chip) ≤ room x.fifo = rw (← ap room e.modes.fifo, all_waits gone m.chip e.sent) v.sound.chip.receiver.marked.in_room in
+    let b = loops_in_blocks x m n l [] a.0 e.looped e.modes (omega (arith, few)) (subst B e.fifo a.2) path in
+    let long = line-length x m.chip n.chip [] a.0 b in
+    let most : room x.fifo ≤ 16 = grind (arith, common_steps) in
+    omega (arith, few, long, most, a.1, v.enough)

@@ -1,0 +1,153 @@
+-- Where ticks come before each access and the wire has room, each access that sends nothing brings the transmitter nearer to its end.
+use Rattle.std.proofs.Common.{false, sym, ap, ◌∙◌, ◌≡◌, ℕ, zero, suc, ◌+◌, ◌-◌, ◌≤◌, true, List, [], ◌∷◌, ◌++◌, length, length-append, Option, Some, None, arith}
+use Rattle.uart_spec.specs.Access.{Access, Read, Write, Path}
+use Rattle.uart_chip.specs.declared.event.Event.{Event}
+use Rattle.uart_chip.specs.declared.event.Event.TheVariants.{Ticks, Access as Gate, Mark}
+use Rattle.uart_chip.specs.declared.transmitter.Shifting.{Shifting}
+use Rattle.uart_chip.specs.Transmitter.{TransmitterState, out, shift_bytes}
+use Rattle.uart_chip.specs.Chip.{ChipState, is_dlab_set, is_loopback, tick, ticks, after_read, after_write}
+use Rattle.uart_chip.specs.Machine.{MachineState, MachineStep, perform, before_access, after_access, at_access}
+use Rattle.uart_device.specs.Sound.{IsSoundChip, IsSound}
+use Rattle.uart_run.specs.Progress.{TickedAfter, IsTicked, left_of, HasRoom}
+use Rattle.uart_device.proofs.Sounds.{steady_ticks, sound_perform, sound_step, latches-ticks}
+use Rattle.uart_run.proofs.Latches.{Kept, kept_step}
+use Rattle.uart_device.proofs.Lasting.{LastsInAccesses, SendsNothing, AllSendNothing, lasts-read, lasts-write, lasts-latch}
+use Rattle.uart_run.proofs.progress.Left.{Nearer, nearer-refl, nearer-trans, nearer-less, nearer-tick}
+
+-- the wire takes all that is to go out
+abbrev pub Fits : TransmitterState → Type 0
+Fits t = length (out t) ≤ t.capacity
+
+fits-nearer : (k : ℕ) (t u : TransmitterState) → Nearer k t u → Fits t → Fits u
+fits-nearer k t u a h = let c = a.capacity in omega (arith, a.no_longer, c, h)
+
+-- outside of loopback it does
+abbrev pub Flows : ChipState → Type 0
+Flows c = is_loopback c.latches ≡ false → Fits c.transmitter
+
+flows-nearer : (k : ℕ) (c d : ChipState) → d.latches ≡ c.latches → Nearer k c.transmitter d.transmitter → Flows c → Flows d
+flows-nearer k c d same a h e = fits-nearer k c.transmitter d.transmitter a (h (ap (λ l. is_loopback l) (sym same) ∙ e))
+
+-- ---- events
+
+nearer-one : (c : ChipState) → IsSoundChip c → Flows c → Nearer 1 c.transmitter (tick c).transmitter
+nearer-one c w h = nearer-tick c.fifo (is_loopback c.latches) c.transmitter w.transmitter h
+
+nearer-ticks : (n : ℕ) (c : ChipState) → IsSoundChip c → Flows c → Nearer n c.transmitter (ticks n c).transmitter
+nearer-ticks zero c w h = nearer-refl c.transmitter
+nearer-ticks (suc n) c w h =
+    let d = ticks n c in
+    let a = nearer-ticks n c w h in
+    let b = nearer-one d (steady_ticks n c w).sound (flows-nearer n c d (latches-ticks n c) a h) in
+    nearer-less (suc n) (n + 1) c.transmitter (tick d).transmitter (omega arith) (nearer-trans n 1 c.transmitter d.transmitter (tick d).transmitter a b)
+
+-- the events before an access, of which one is a tick if none passed before
+nearer-before : (passed : ℕ) (events : List Event) (c : ChipState) → IsSound (record { chip = c; ahead = events }) → Flows c → TickedAfter passed events →
+    Nearer (1 - passed) c.transmitter (before_access events c).transmitter
+nearer-before passed [] c w h t = nearer-less (1 - passed) 1 _ _ (omega arith) (nearer-one c w.chip h)
+nearer-before passed (Ticks n ∷ events) c w h t =
+    let d = ticks n c in
+    let a = nearer-ticks n c w.chip h in
+    let b = nearer-before (passed + n) events d (sound_perform (Ticks n) events c w) (flows-nearer n c d (latches-ticks n c) a h) t in
+    nearer-less (1 - passed) (n + (1 - (passed + n))) _ _ (omega arith) (nearer-trans n (1 - (passed + n)) c.transmitter d.transmitter _ a b)
+nearer-before passed (Gate ∷ events) c w h t = nearer-less (1 - passed) 0 _ _ (omega (arith, t.0)) (nearer-refl c.transmitter)
+nearer-before passed (Mark ∷ events) c w h t = nearer-less (1 - passed) 1 _ _ (omega arith) (nearer-one c w.chip h)
+nearer-before passed (event ∷ events) c w h t = nearer-before passed events (perform event c) (sound_perform event events c w) h t
+
+ticked-after : (passed : ℕ) (events : List Event) → TickedAfter passed events → TickedAfter 0 (after_access events)
+ticked-after passed [] t = tt
+ticked-after passed (Ticks n ∷ events) t = ticked-after (passed + n) events t
+ticked-after passed (Gate ∷ events) t = t.1
+ticked-after passed (Mark ∷ events) t = t
+ticked-after passed (_ ∷ events) t = ticked-after passed events t
+
+pub ticked-step : (m n : MachineState) (access : Access) → IsTicked m → MachineStep m access n → IsTicked n
+ticked-step m n (Read offset value) t s = rw s.0 (ticked-after 0 m.ahead t)
+ticked-step m n (Write offset value) t s = rw s (ticked-after 0 m.ahead t)
+
+pub ticked-path : (made : List Access) (m n : MachineState) → IsTicked m → Path MachineStep m made n → IsTicked n
+ticked-path [] m n t p = rw p t
+ticked-path (access ∷ made) m n t p = ticked-path made p.0 n (ticked-step m p.0 access t p.1) p.2
+
+-- ---- effects
+
+-- what is at least as near as the transmitter was lasts
+near_lasts : (t : TransmitterState) → LastsInAccesses (Nearer 0 t)
+near_lasts t = record {
+  pending = λ u pending a. record { fewer = a.fewer; no_longer = a.no_longer; capacity = a.capacity; char_ticks = a.char_ticks };
+  cleared = λ u pending a. record {
+    fewer = let h = fewer_left u.char_ticks u.shift_place u.queue in omega (arith, a.fewer, h);
+    no_longer = let h = shorter u.wire u.shift_place u.queue in omega (arith, a.no_longer, h);
+    capacity = a.capacity;
+    char_ticks = a.char_ticks;
+  };
+}
+  where
+    fewer_left : (n : ℕ) (place : Option Shifting) (queue : List ℕ) → left_of n place [] ≤ left_of n place queue
+    fewer_left n None [] = omega arith
+    fewer_left n None (x ∷ xs) = omega arith
+    fewer_left n (Some s) queue = omega arith
+
+    shorter : (wire : List ℕ) (place : Option Shifting) (queue : List ℕ) → length (wire ++ (shift_bytes place ++ [])) ≤ length (wire ++ (shift_bytes place ++ queue))
+    shorter wire place queue = simp length-append (omega arith)
+
+-- ---- accesses
+
+-- what a machine needs for progress
+pub record Runs (m : MachineState) : Type 0 where
+  pub sound : IsSound m
+  pub ticked : IsTicked m
+  pub flows : Flows m.chip
+
+-- the events before an access
+nearer-access : (m : MachineState) → Runs m → Nearer 1 m.chip.transmitter (at_access m).chip.transmitter
+nearer-access m r = nearer-before 0 m.ahead m.chip (record { chip = r.sound.chip; foreseen = r.sound.foreseen; legal = r.sound.legal }) r.flows r.ticked
+
+-- and an effect
+nearer-effect : (m n : MachineState) (d : ChipState) → Runs m → n ≡ record (at_access m) { chip = d } → Nearer 0 (at_access m).chip.transmitter d.transmitter →
+    Nearer 1 m.chip.transmitter n.chip.transmitter
+nearer-effect m n d r e effect = rw e (nearer-trans 1 0 m.chip.transmitter (at_access m).chip.transmitter d.transmitter (nearer-access m r) effect)
+
+pub nearer-step : (m n : MachineState) (access : Access) → Runs m → SendsNothing access → MachineStep m access n → Nearer 1 m.chip.transmitter n.chip.transmitter
+nearer-step m n (Read offset value) r q s =
+    let c = (at_access m).chip in
+    nearer-effect m n (after_read offset c) r s.0 (lasts-read (Nearer 0 c.transmitter) (near_lasts c.transmitter) offset c (nearer-refl c.transmitter))
+nearer-step m n (Write offset value) r q s =
+    let c = (at_access m).chip in
+    nearer-effect m n (after_write offset value c) r s (lasts-write (Nearer 0 c.transmitter) (near_lasts c.transmitter) offset value c q (nearer-refl c.transmitter))
+
+pub nearer-latch : (m n : MachineState) (value : ℕ) → Runs m → is_dlab_set (at_access m).chip.latches ≡ true → MachineStep m (Write 0 value) n →
+    Nearer 1 m.chip.transmitter n.chip.transmitter
+nearer-latch m n value r on s =
+    let c = (at_access m).chip in
+    nearer-effect m n (after_write 0 value c) r s (lasts-latch (Nearer 0 c.transmitter) (near_lasts c.transmitter) value c on (nearer-refl c.transmitter))
+
+-- a look leaves the modes as they are
+pub runs-look : (m n : MachineState) (line : ℕ) → Runs m → MachineStep m (Read 5 line) n → Nearer 1 m.chip.transmitter n.chip.transmitter → Runs n
+runs-look m n line r s a = record {
+  sound = sound_step m n (Read 5 line) r.sound s;
+  ticked = ticked-step m n (Read 5 line) r.ticked s;
+  flows = flows-nearer 1 m.chip n.chip (ap (λ (k : Kept). k.latches) (kept_step (Read 5 line) m n s)) a r.flows;
+}
+
+-- ---- with room on the wire, in whatever mode
+
+pub record RunsFree (m : MachineState) : Type 0 where
+  pub sound : IsSound m
+  pub ticked : IsTicked m
+  pub room : HasRoom 0 m
+
+pub free_runs : (m : MachineState) → RunsFree m → Runs m
+free_runs m r = record { sound = r.sound; ticked = r.ticked; flows = λ e. omega (arith, r.room) }
+
+pub free-step : (m n : MachineState) (access : Access) → RunsFree m → MachineStep m access n → Nearer 1 m.chip.transmitter n.chip.transmitter → RunsFree n
+free-step m n access r s a = record {
+  sound = sound_step m n access r.sound s;
+  ticked = ticked-step m n access r.ticked s;
+  room = let h = fits-nearer 1 m.chip.transmitter n.chip.transmitter a (omega (arith, r.room)) in omega (arith, h);
+}
+
+-- some accesses that send nothing
+pub free-path : (made : List Access) (m n : MachineState) → RunsFree m → AllSendNothing made → Path MachineStep m made n → RunsFree n
+free-path [] m n r q p = rw p r
+free-path (access ∷ made) m n r q p = free-path made p.0 n (free-step m p.0 access r p.1 (nearer-step m p.0 access (free_runs m r) q.0 p.1)) q.1 p.2
