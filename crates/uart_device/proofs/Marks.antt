@@ -71,7 +71,8 @@ all_in_queue-set_mark arrived marks stray Looped m queue d h = h
 pub all_in_queue-next : (arrived : ℕ) (marks : List ArrivalMark) (stray : Bool) (queue : List Character) →
     AllInQueue arrived marks stray queue → AllInQueue (arrived + 1) marks stray queue
 all_in_queue-next arrived marks stray queue h =
-    each-weaker (λ (x : Character). IsInQueue arrived marks stray x.origin) (λ (x : Character). IsInQueue (arrived + 1) marks stray x.origin)
+    each-weaker (λ (x : Character). IsInQueue arrived marks stray x.origin)
+    (λ (x : Character). IsInQueue (arrived + 1) marks stray x.origin)
     (λ x h. one x.origin h) queue h
   where
     one : (o : Origin) → IsInQueue arrived marks stray o → IsInQueue (arrived + 1) marks stray o
