@@ -6,6 +6,10 @@ use Rattle.std.proofs.lemmas.List.{length-take, take-append-drop}
 use Rattle.uart_spec.specs.declared.errors.ByteSendError.{ByteSendError}
 use Rattle.uart_spec.specs.declared.errors.ByteSendError.TheVariants.{NoCapacity, RemoteNotClearToSend}
 use Rattle.uart_spec.specs.declared.errors.StalledError.{StalledError}
+use Rattle.uart_spec.specs.declared.registers.offsets.TheConstants as offsets
+use Rattle.uart_spec.specs.declared.registers.line_status.TheConstants.LSR
+use Rattle.uart_spec.specs.declared.registers.modem_status.TheConstants.MSR
+use Rattle.uart_spec.specs.declared.registers.modem_control.TheConstants.MCR
 use Rattle.uart_spec.specs.Access.{Access, Read, Path}
 use Rattle.uart_16550.specs.Grammar.{Language, Settings, Only, Then, InOrder, Times, FewMisses, AllMisses, Asks}
 use Rattle.uart_16550.specs.Receive.{Hit, Miss, ReadyToReceive, TryReceive, Receives, Awaited, ReceivesSome, filled, ReceivesExact}
@@ -96,7 +100,7 @@ makes_all s P p l t = makes_times s s.limit P p l t
 -- ---- single reads
 
 -- a look, whatever it shows
-pub makes_look : (s : Settings) (bits : ℕ) (outcome : Bool) → Makes s (Asks 5 bits outcome) [] []
+pub makes_look : (s : Settings) (bits : ℕ) (outcome : Bool) → Makes s (Asks offsets.LSR bits outcome) [] []
 makes_look s bits outcome l t = rw t.is (blocks_one s.fifo (Look t.answer) tt)
 
 -- a read that tells of no data
@@ -108,22 +112,22 @@ makes_quiet s register bits outcome q l t = rw t.is (blocks_one s.fifo (Other (R
 -- a send check that hits: a look that shows room, and reads of the modem registers
 pub record SendCheck (l : List Access) : Type 0 where
   pub line : ℕ
-  pub shows : has_any line 32 ≡ true
+  pub shows : has_any line LSR.THR_EMPTY.0 ≡ true
   pub checks : List Access
   pub quiet : AllQuiet checks
-  pub is : l ≡ Read 5 line ∷ checks
+  pub is : l ≡ Read offsets.LSR line ∷ checks
 
 lines_quiet : (s : Settings) (allowed : Bool) (l : List Access) → LinesAllow allowed s l → AllQuiet l
 lines_quiet s allowed l (inl t) = rw t.1.is (refl, tt)
 lines_quiet s allowed l (inr t) = rw (t.whole, t.first.is, t.second.is) (refl, (refl, tt))
 
-room_shown : (s : Settings) (l : List Access) → Asks 5 32 true s l → SendCheck l
+room_shown : (s : Settings) (l : List Access) → Asks offsets.LSR LSR.THR_EMPTY.0 true s l → SendCheck l
 room_shown s l t = record { line = t.answer; shows = sym (has_one 5 t.answer) ∙ t.shows; checks = []; quiet = tt; is = t.is }
 
 pub send_check : (s : Settings) (l : List Access) → SendHit s l → SendCheck l
 send_check s l t = go s.checks t
   where
-    go : (b : Bool) → MatchBool b (Then (Asks 5 32 true) (LinesAllow true) s l) (Asks 5 32 true s l) → SendCheck l
+    go : (b : Bool) → MatchBool b (Then (Asks offsets.LSR LSR.THR_EMPTY.0 true) (LinesAllow true) s l) (Asks offsets.LSR LSR.THR_EMPTY.0 true s l) → SendCheck l
     go true t = record {
       line = t.first.answer;
       shows = sym (has_one 5 t.first.answer) ∙ t.first.shows;
@@ -134,15 +138,15 @@ send_check s l t = go s.checks t
     go false t = room_shown s l t
 
 lines_blocks : (s : Settings) (allowed : Bool) → Makes s (LinesAllow allowed) [] []
-lines_blocks s allowed l (inl t) = makes_quiet s 4 16 true refl l t.1
-lines_blocks s allowed l (inr t) = makes_then s (Asks 4 16 false) (Asks 6 16 allowed) [] [] [] [] (makes_quiet s 4 16 false refl) (makes_quiet s 6 16 allowed refl) l t
+lines_blocks s allowed l (inl t) = makes_quiet s offsets.MCR MCR.LOOP_BACK.0 true refl l t.1
+lines_blocks s allowed l (inr t) = makes_then s (Asks offsets.MCR MCR.LOOP_BACK.0 false) (Asks offsets.MSR MSR.CTS.0 allowed) [] [] [] [] (makes_quiet s offsets.MCR MCR.LOOP_BACK.0 false refl) (makes_quiet s offsets.MSR MSR.CTS.0 allowed refl) l t
 
 refused_blocks : (s : Settings) (e : ByteSendError) → Makes s (SendRefused e) [] []
-refused_blocks s NoCapacity l t = makes_look s 32 false l t
+refused_blocks s NoCapacity l t = makes_look s LSR.THR_EMPTY.0 false l t
 refused_blocks s RemoteNotClearToSend l t = go s.checks t
   where
-    go : (b : Bool) → MatchBool b (Then (Asks 5 32 true) (LinesAllow false) s l) ⊥ → InBlocks s.fifo l [] []
-    go true t = makes_then s (Asks 5 32 true) (LinesAllow false) [] [] [] [] (makes_look s 32 true) (lines_blocks s false) l t
+    go : (b : Bool) → MatchBool b (Then (Asks offsets.LSR LSR.THR_EMPTY.0 true) (LinesAllow false) s l) ⊥ → InBlocks s.fifo l [] []
+    go true t = makes_then s (Asks offsets.LSR LSR.THR_EMPTY.0 true) (LinesAllow false) [] [] [] [] (makes_look s LSR.THR_EMPTY.0 true) (lines_blocks s false) l t
     go false t = absurd t
 
 pub send_miss_blocks : (s : Settings) → Makes s SendMiss [] []
@@ -226,21 +230,21 @@ try_sends_blocks s byte (Err RemoteNotClearToSend) l t = absurd t
 
 -- a wait for bits of the line status
 pub waits_blocks : (s : Settings) (bits : ℕ) (outcome : Bool) → Makes s (WaitsFor bits outcome) [] []
-waits_blocks s bits true l t = makes_then s (FewMisses (Asks 5 bits false)) (Asks 5 bits true) [] [] [] [] (makes_few s (Asks 5 bits false) (makes_look s bits false)) (makes_look s bits true) l t
-waits_blocks s bits false l t = makes_all s (Asks 5 bits false) (makes_look s bits false) l t
+waits_blocks s bits true l t = makes_then s (FewMisses (Asks offsets.LSR bits false)) (Asks offsets.LSR bits true) [] [] [] [] (makes_few s (Asks offsets.LSR bits false) (makes_look s bits false)) (makes_look s bits true) l t
+waits_blocks s bits false l t = makes_all s (Asks offsets.LSR bits false) (makes_look s bits false) l t
 
 -- ---- receiving
 
 miss_blocks : (s : Settings) → Makes s Miss [] []
-miss_blocks s l t = makes_look s 1 false l t
+miss_blocks s l t = makes_look s LSR.DATA_READY.0 false l t
 
 pub hit_blocks : (s : Settings) (byte : ℕ) → Makes s (Hit byte) [] (byte ∷ [])
 hit_blocks s byte l t =
-    let shows : has_any t.first.answer 1 ≡ true = sym (has_one 0 t.first.answer) ∙ t.first.shows in
+    let shows : has_any t.first.answer LSR.DATA_READY.0 ≡ true = sym (has_one 0 t.first.answer) ∙ t.first.shows in
     rw (t.whole, t.first.is, t.second.is) (blocks_one s.fifo (Hit_block t.first.answer byte) shows)
 
 pub ready_to_receive_blocks : {T E : Type 0} (s : Settings) (result : Result T E) → Makes s (ReadyToReceive result) [] []
-ready_to_receive_blocks s (Ok x) l t = makes_look s 1 true l t
+ready_to_receive_blocks s (Ok x) l t = makes_look s LSR.DATA_READY.0 true l t
 ready_to_receive_blocks s (Err e) l t = miss_blocks s l t
 
 -- `try_receive_byte`: the byte where there is one

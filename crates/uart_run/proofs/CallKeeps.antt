@@ -3,6 +3,8 @@ use Rattle.std.proofs.Common.{◌≡◌, ℕ, ◌≤◌, Bool, true, false, inl,
 use lib.Bits.{or_zero_r}
 use Rattle.uart_spec.specs.declared.errors.RemoteReadyToReceiveError.{RemoteReadyToReceiveError}
 use Rattle.uart_spec.specs.declared.errors.StalledError.{StalledError}
+use Rattle.uart_spec.specs.declared.registers.offsets.TheConstants as offsets
+use Rattle.uart_spec.specs.declared.registers.line_status.TheConstants.LSR
 use Rattle.uart_spec.specs.Access.{Access, Read, Write, saved_lsr, saved_msr}
 use Rattle.uart_16550.specs.Grammar.{Language, Settings, Only, Then, AllMisses}
 use Rattle.uart_16550.specs.Driver.{Fields, settings_of, Saving}
@@ -30,7 +32,7 @@ plain_blocks s register value q l t = rw t.is (blocks_one s.fifo (Other (Read re
 
 -- `check_connected`
 pub connects_blocks : {T : Type 0} (s : Settings) (result : Result T RemoteReadyToReceiveError) → Makes s (Connects result) [] []
-connects_blocks s result l (status, shows, is) = rw is (blocks_one s.fifo (Other (Read 6 status)) refl)
+connects_blocks s result l (status, shows, is) = rw is (blocks_one s.fifo (Other (Read offsets.MSR status)) refl)
 
 -- `dll_dlm`
 pub reads_divisor_blocks : (s : Settings) (low high : ℕ) → Makes s (ReadsDivisor low high) [] []
@@ -38,7 +40,7 @@ reads_divisor_blocks s low high l (lcr, is) = rw is (blocks_one s.fifo (Divisor 
 
 -- `check_present`
 keeps_pattern_blocks : (s : Settings) (pattern : ℕ) (outcome : Bool) → Makes s (Keeps_pattern pattern outcome) [] []
-keeps_pattern_blocks s pattern outcome l (back, kept, is) = rw is (quiet_blocks s.fifo (Write 7 pattern ∷ Read 7 back ∷ []) (refl, (refl, tt)))
+keeps_pattern_blocks s pattern outcome l (back, kept, is) = rw is (quiet_blocks s.fifo (Write offsets.SPR pattern ∷ Read offsets.SPR back ∷ []) (refl, (refl, tt)))
 
 keeps_patterns_blocks : (s : Settings) (present : Bool) → Makes s (KeepsPatterns present) [] []
 keeps_patterns_blocks s true l t =
@@ -47,13 +49,13 @@ keeps_patterns_blocks s false l (inl t) = keeps_pattern_blocks s 66 false l t
 keeps_patterns_blocks s false l (inr t) =
     makes_then s (Keeps_pattern 66 true) (Keeps_pattern 115 false) [] [] [] [] (keeps_pattern_blocks s 66 true) (keeps_pattern_blocks s 115 false) l t
 
-scratch_blocks : (s : Settings) (old : ℕ) → Makes s (Only (Write 7 old ∷ [])) [] []
-scratch_blocks s old l t = rw t.is (blocks_one s.fifo (Other (Write 7 old)) refl)
+scratch_blocks : (s : Settings) (old : ℕ) → Makes s (Only (Write offsets.SPR old ∷ [])) [] []
+scratch_blocks s old l t = rw t.is (blocks_one s.fifo (Other (Write offsets.SPR old)) refl)
 
 pub checks_presence_blocks : (s : Settings) (present : Bool) → Makes s (ChecksPresence present) [] []
 checks_presence_blocks s present l (old, t) =
-    makes_then s (Only (Read 7 old ∷ [])) (Then (KeepsPatterns present) (Only (Write 7 old ∷ []))) [] [] [] [] (plain_blocks s 7 old refl)
-    (λ k u. makes_then s (KeepsPatterns present) (Only (Write 7 old ∷ [])) [] [] [] [] (keeps_patterns_blocks s present) (scratch_blocks s old) k u) l t
+    makes_then s (Only (Read offsets.SPR old ∷ [])) (Then (KeepsPatterns present) (Only (Write offsets.SPR old ∷ []))) [] [] [] [] (plain_blocks s offsets.SPR old refl)
+    (λ k u. makes_then s (KeepsPatterns present) (Only (Write offsets.SPR old ∷ [])) [] [] [] [] (keeps_patterns_blocks s present) (scratch_blocks s old) k u) l t
 
 -- ---- readers and writers
 
@@ -76,12 +78,12 @@ writes_blocks s bytes (Err e) l (some, none, t) = sends_some_none_blocks s bytes
 
 -- `flush`
 pub flushes_blocks : {T : Type 0} (s : Settings) (result : Result T StalledError) → Makes s (Flushes result) [] []
-flushes_blocks s (Ok x) l t = waits_blocks s 64 true l t
-flushes_blocks s (Err e) l t = waits_blocks s 64 false l t.1
+flushes_blocks s (Ok x) l t = waits_blocks s LSR.TRANSMITTER_EMPTY.0 true l t
+flushes_blocks s (Err e) l t = waits_blocks s LSR.TRANSMITTER_EMPTY.0 false l t.1
 
 -- `read_ready`
 pub answers_read_blocks : (s : Settings) (result : Result Bool StalledError) → Makes s (AnswersRead result) [] []
-answers_read_blocks s (Ok ready) l t = makes_look s 1 ready l t
+answers_read_blocks s (Ok ready) l t = makes_look s LSR.DATA_READY.0 ready l t
 answers_read_blocks s (Err e) l t = absurd t
 
 -- `write_ready`
@@ -141,19 +143,19 @@ shows_fifo_keeps on f after l (shown, none, same) =
 
 pub enables_keeps : (bits : ℕ) (f after : Fields) (l : List Access) → Enables bits f l after → Keeps f l after [] []
 enables_keeps bits f after l (ier, is, changed) =
-    no_status_keeps f after l _ (quiet_blocks f.fifo (Read 1 ier ∷ Write 1 _ ∷ []) (refl, (refl, tt))) is refl refl
+    no_status_keeps f after l _ (quiet_blocks f.fifo (Read offsets.IER ier ∷ Write offsets.IER _ ∷ []) (refl, (refl, tt))) is refl refl
     (ap (λ g. g.fifo) changed) (ap (λ g. g.lsr) changed) (ap (λ g. g.msr) changed)
 
 pub disables_keeps : (bits : ℕ) (f after : Fields) (l : List Access) → Disables bits f l after → Keeps f l after [] []
 disables_keeps bits f after l (ier, is, changed) =
-    no_status_keeps f after l _ (quiet_blocks f.fifo (Read 1 ier ∷ Write 1 _ ∷ []) (refl, (refl, tt))) is refl refl
+    no_status_keeps f after l _ (quiet_blocks f.fifo (Read offsets.IER ier ∷ Write offsets.IER _ ∷ []) (refl, (refl, tt))) is refl refl
     (ap (λ g. g.fifo) changed) (ap (λ g. g.lsr) changed) (ap (λ g. g.msr) changed)
 
 pub dumps_keeps : (dump : ConfigRegisterDump) (f after : Fields) (l : List Access) → Dumps dump f l after → Keeps f l after [] []
 dumps_keeps dump f after l d = record {
   blocks = record {
-    blocks = Divisor d.lcr dump.dll dump.dlm ∷ Other (Read 1 dump.ier.0) ∷ Other (Read 2 dump.isr.0) ∷ Other (Read 3 dump.lcr.0) ∷ Other (Read 4 dump.mcr.0) ∷
-        Look d.lsr ∷ Other (Read 6 d.msr) ∷ Other (Read 7 dump.spr) ∷ [];
+    blocks = Divisor d.lcr dump.dll dump.dlm ∷ Other (Read offsets.IER dump.ier.0) ∷ Other (Read offsets.ISR dump.isr.0) ∷ Other (Read offsets.LCR dump.lcr.0) ∷ Other (Read offsets.MCR dump.mcr.0) ∷
+        Look d.lsr ∷ Other (Read offsets.MSR d.msr) ∷ Other (Read offsets.SPR dump.spr) ∷ [];
     joined = d.is;
     fit = (tt, (refl, (refl, (refl, (refl, (tt, (refl, (refl, tt))))))));
     is_written = refl;
@@ -187,7 +189,7 @@ pub record KeepsButMsr (f : Fields) (l : List Access) (after : Fields) : Type 0 
 
 pub takes_msr_keeps : (result : ℕ) (f after : Fields) (l : List Access) → TakesMsr result f l after → KeepsButMsr f l after
 takes_msr_keeps result f after l (status, is, joined, emptied) = rw is (record {
-  blocks = blocks_one f.fifo (Other (Read 6 status)) refl;
+  blocks = blocks_one f.fifo (Other (Read offsets.MSR status)) refl;
   fifo = ap (λ g. g.fifo) emptied;
   lsr = ap (λ g. g.lsr) emptied ∙ sym (or_zero_r f.lsr);
 })

@@ -5,6 +5,7 @@ use lib.Bits.{or_zero_r}
 use Rattle.uart_spec.specs.declared.errors.ByteSendError.{ByteSendError}
 use Rattle.uart_spec.specs.declared.errors.ByteReceiveError.{ByteReceiveError}
 use Rattle.uart_spec.specs.declared.errors.StalledError.{StalledError}
+use Rattle.uart_spec.specs.declared.registers.offsets.TheConstants as offsets
 use Rattle.uart_spec.specs.Access.{Access, saved_lsr, saved_msr}
 use Rattle.uart_16550.specs.Grammar.{Language, Settings}
 use Rattle.uart_16550.specs.Driver.{Doing, Did, Saving, Fields, fields, settings_of}
@@ -142,17 +143,17 @@ passes_call x s t call.TryReceive a w i h = passes_called x _ _ _ received_answe
 passes_call x s t call.Flush a w i h = passes_silent x _ _ _ exact_answer s t a w (λ v r. flushes_blocks v r) h
 passes_call x s t call.ReadReady a w i h = passes_silent x _ _ _ ready_answer s t a w (λ v r. answers_read_blocks v r) h
 passes_call x s t call.WriteReady a w i h = passes_silent x _ _ _ ready_answer s t a w (λ v r. answers_write_blocks v r) h
-passes_call x s t call.Ier a w i h = passes_silent x _ _ _ Register s t a w (λ v r. plain_blocks v 1 r refl) h
-passes_call x s t call.Isr a w i h = passes_silent x _ _ _ Register s t a w (λ v r. plain_blocks v 2 r refl) h
-passes_call x s t call.Lcr a w i h = passes_silent x _ _ _ Register s t a w (λ v r. plain_blocks v 3 r refl) h
-passes_call x s t call.Mcr a w i h = passes_silent x _ _ _ Register s t a w (λ v r. plain_blocks v 4 r refl) h
+passes_call x s t call.Ier a w i h = passes_silent x _ _ _ Register s t a w (λ v r. plain_blocks v offsets.IER r refl) h
+passes_call x s t call.Isr a w i h = passes_silent x _ _ _ Register s t a w (λ v r. plain_blocks v offsets.ISR r refl) h
+passes_call x s t call.Lcr a w i h = passes_silent x _ _ _ Register s t a w (λ v r. plain_blocks v offsets.LCR r refl) h
+passes_call x s t call.Mcr a w i h = passes_silent x _ _ _ Register s t a w (λ v r. plain_blocks v offsets.MCR r refl) h
 passes_call x s t call.Lsr a w i h =
     let told = takes_lsr_keeps h.outcome (fields (inner_of s)) (fields (inner_of t)) h.did.list h.did.does in
     record { made = h.did.list; passed = passed_did x (TakesLsr h.outcome) [] [] s t w h.did told.blocks; fifo = told.fifo; lsr = λ n. absurd n; msr = λ n. told.msr }
 passes_call x s t call.Msr a w i h =
     let told = takes_msr_keeps h.outcome (fields (inner_of s)) (fields (inner_of t)) h.did.list h.did.does in
     record { made = h.did.list; passed = passed_did x (TakesMsr h.outcome) [] [] s t w h.did told.blocks; fifo = told.fifo; lsr = λ n. told.lsr; msr = λ n. absurd n }
-passes_call x s t call.Spr a w i h = passes_silent x _ _ _ Register s t a w (λ v r. plain_blocks v 7 r refl) h
+passes_call x s t call.Spr a w i h = passes_silent x _ _ _ Register s t a w (λ v r. plain_blocks v offsets.SPR r refl) h
 passes_call x s t call.DllDlm a w i h = passes_silent x _ _ _ latch_answer s t a w (λ v latch. reads_divisor_blocks v latch.0 latch.1) h
 passes_call x s t call.FifoEnabled a w i h =
     passes_did x _ _ (ShowsFifo h.outcome) [] [] s t w h.did (shows_fifo_keeps h.outcome (fields (inner_of s)) (fields (inner_of t)) h.did.list h.did.does)

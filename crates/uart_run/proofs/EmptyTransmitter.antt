@@ -1,5 +1,7 @@
 -- An empty transmitter: while no byte is written it stays empty, in loopback or not, and the wire stays as it is.
 use Rattle.std.proofs.Common.{◌≡◌, ℕ, Bool, true, List, [], ◌∷◌, ◌++◌, append-nil, Option, Some, None, refl, sym, ◌∙◌, ap}
+use Rattle.uart_spec.specs.declared.registers.offsets.TheConstants as offsets
+use Rattle.uart_spec.specs.declared.registers.line_status.TheConstants.LSR
 use Rattle.uart_spec.specs.Access.{Access, Read, Path}
 use Rattle.uart_16550.specs.Grammar.{Settings, Asks}
 use Rattle.uart_16550.specs.Transmit.{WaitsFor}
@@ -73,22 +75,22 @@ empty_path accesses m n silent path e =
 
 -- ---- looks that show it
 
-pub look_empty : (m n : MachineState) (line : ℕ) → MachineStep m (Read 5 line) n → has_any line 64 ≡ is_transmitter_empty n.chip.transmitter.queue n.chip.transmitter.shift_place
+pub look_empty : (m n : MachineState) (line : ℕ) → MachineStep m (Read offsets.LSR line) n → has_any line LSR.TRANSMITTER_EMPTY.0 ≡ is_transmitter_empty n.chip.transmitter.queue n.chip.transmitter.shift_place
 look_empty m n line s =
-    let e : has_any line 64 ≡ has_any (line_status (at_access m).chip) 64 = ap (λ l. has_any l 64) s.1 in
+    let e : has_any line LSR.TRANSMITTER_EMPTY.0 ≡ has_any (line_status (at_access m).chip) LSR.TRANSMITTER_EMPTY.0 = ap (λ l. has_any l LSR.TRANSMITTER_EMPTY.0) s.1 in
     e ∙ (status_empty (at_access m).chip ∙ sym (ap (λ (o : MachineState). is_transmitter_empty o.chip.transmitter.queue o.chip.transmitter.shift_place) s.0))
 
 -- a look that shows an empty transmitter leaves one
-pub empty_shown : (s : Settings) (l : List Access) (m n : MachineState) → Asks 5 64 true s l → Path MachineStep m l n → IsEmpty n.chip.transmitter
-empty_shown s l m n t path = looked (path_as m n l (Read 5 t.answer ∷ []) t.is path)
+pub empty_shown : (s : Settings) (l : List Access) (m n : MachineState) → Asks offsets.LSR LSR.TRANSMITTER_EMPTY.0 true s l → Path MachineStep m l n → IsEmpty n.chip.transmitter
+empty_shown s l m n t path = looked (path_as m n l (Read offsets.LSR t.answer ∷ []) t.is path)
   where
-    looked : Path MachineStep m (Read 5 t.answer ∷ []) n → IsEmpty n.chip.transmitter
+    looked : Path MachineStep m (Read offsets.LSR t.answer ∷ []) n → IsEmpty n.chip.transmitter
     looked (mid, step, same) =
         let empty : IsEmpty mid.chip.transmitter = sym (look_empty m mid t.answer step) ∙ (sym (has_one 6 t.answer) ∙ t.shows) in
         rw same empty
 
 -- and so does a wait for it, that comes to its end
-pub wait_empties : (s : Settings) (l : List Access) (m n : MachineState) → WaitsFor 64 true s l → Path MachineStep m l n → IsEmpty n.chip.transmitter
+pub wait_empties : (s : Settings) (l : List Access) (m n : MachineState) → WaitsFor LSR.TRANSMITTER_EMPTY.0 true s l → Path MachineStep m l n → IsEmpty n.chip.transmitter
 wait_empties s l m n h path =
     let q = path_split MachineStep m n h.front h.back (path_as m n l (h.front ++ h.back) h.whole path) in
     empty_shown s h.back q.0 n h.second q.2

@@ -4,6 +4,7 @@ use Rattle.std.proofs.lemmas.Grind.{common_steps}
 use Rattle.std.proofs.lemmas.List.{length-map}
 use Rattle.uart_spec.specs.declared.errors.ByteReceiveError.{ByteReceiveError}
 use Rattle.uart_spec.specs.declared.errors.StalledError.{StalledError}
+use Rattle.uart_spec.specs.declared.registers.offsets.TheConstants as offsets
 use Rattle.uart_spec.specs.Access.{Access, Read, Path}
 use Rattle.uart_16550.specs.Grammar.{Language, Settings, Times}
 use Rattle.uart_16550.specs.Driver.{fields, settings_of}
@@ -59,9 +60,9 @@ dry_times s (suc (suc n)) l some t = dry_after s t.front t.back l t.whole (dry_t
 pub dry_empties : (s : Settings) (m n : MachineState) (l : List Access) → EndsDry s l → Path MachineStep m l n → length n.chip.receiver.queue ≡ 0
 dry_empties s m n l d p =
     let q = path_split MachineStep m n d.front d.back (path_as m n l (d.front ++ d.back) d.whole p) in
-    looked q.0 (path_as q.0 n d.back (Read 5 d.miss.answer ∷ []) d.miss.is q.2)
+    looked q.0 (path_as q.0 n d.back (Read offsets.LSR d.miss.answer ∷ []) d.miss.is q.2)
   where
-    looked : (k : MachineState) → Path MachineStep k (Read 5 d.miss.answer ∷ []) n → length n.chip.receiver.queue ≡ 0
+    looked : (k : MachineState) → Path MachineStep k (Read offsets.LSR d.miss.answer ∷ []) n → length n.chip.receiver.queue ≡ 0
     looked k (mid, step, same) =
         let none : nat_lt 0 (length mid.chip.receiver.queue) ≡ false = sym (look_data k mid d.miss.answer step) ∙ (sym (has_one 0 d.miss.answer) ∙ d.miss.shows) in
         rw same (zero_of (length mid.chip.receiver.queue) none)

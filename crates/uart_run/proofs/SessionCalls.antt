@@ -1,5 +1,8 @@
 -- The calls of a session in turn.
 use Rattle.std.proofs.Common.{◌≡◌, ℕ, List, [], ◌∷◌, ◌++◌, refl, sym, ◌∙◌, ap, subst, bit_or}
+use Rattle.uart_spec.specs.declared.registers.offsets.TheConstants as offsets
+use Rattle.uart_spec.specs.declared.registers.line_status.TheConstants.LSR
+use Rattle.uart_spec.specs.declared.registers.modem_status.TheConstants.MSR
 use Rattle.uart_spec.specs.Access.{Access, saved, saved_lsr, saved_msr}
 use Rattle.uart_16550.specs.Driver.{fields}
 use Rattle.uart_16550.specs.Tty.{inner_of}
@@ -38,8 +41,8 @@ passes-trans x N M O P s t u ws vs rs qs p q = record {
   made = p.made ++ q.made;
   passed = passed_blocks-trans x (machine_of s) (machine_of t) (machine_of u) p.made q.made ws vs rs qs p.passed q.passed;
   fifo = q.fifo ∙ p.fifo;
-  lsr = λ n. q.lsr n.1 ∙ (ap (λ v. bit_or v (saved_lsr q.made)) (p.lsr n.0) ∙ saved_both 5 30 (fields (inner_of s)).lsr p.made q.made);
-  msr = λ n. q.msr n.1 ∙ (ap (λ v. bit_or v (saved_msr q.made)) (p.msr n.0) ∙ saved_both 6 15 (fields (inner_of s)).msr p.made q.made);
+  lsr = λ n. q.lsr n.1 ∙ (ap (λ v. bit_or v (saved_lsr q.made)) (p.lsr n.0) ∙ saved_both offsets.LSR LSR.LINE_ERRORS.0 (fields (inner_of s)).lsr p.made q.made);
+  msr = λ n. q.msr n.1 ∙ (ap (λ v. bit_or v (saved_msr q.made)) (p.msr n.0) ∙ saved_both offsets.MSR MSR.CHANGES.0 (fields (inner_of s)).msr p.made q.made);
 }
   where
     saved_both : (register mask before : ℕ) (xs ys : List Access) → bit_or (bit_or before (saved register mask xs)) (saved register mask ys) ≡ bit_or before (saved register mask (xs ++ ys))

@@ -1,5 +1,6 @@
 -- What `lsr` and `msr` tell in a session, carried over its calls.
 use Rattle.std.proofs.Common.{◌≡◌, ℕ, Bool, false, List, [], ◌∷◌, ◌++◌, take, Option, refl, sym, ◌∙◌, ap, subst, bit_or}
+use Rattle.uart_spec.specs.declared.registers.offsets.TheConstants as offsets
 use Rattle.uart_spec.specs.Access.{Access, Read, Path}
 use Rattle.uart_16550.specs.Driver.{Doing, Did, Fields, fields}
 use Rattle.uart_16550.specs.Status.{TakesLsr, TakesMsr}
@@ -86,16 +87,16 @@ told_after T register saved x s n t links value w within chain took tells =
 
 -- ---- `lsr`
 
-took_lsr : (s t : State) (a : Answer) → CallStep s call.Lsr a t → Took 5 (λ f. f.lsr) s a t
+took_lsr : (s t : State) (a : Answer) → CallStep s call.Lsr a t → Took offsets.LSR (λ f. f.lsr) s a t
 took_lsr s t a step =
     let does = step.did.does in
-    takes_status 5 (λ f. f.lsr) step.outcome does.0 (TakesLsr step.outcome) s t a step.answered step.did does.1 does.2
+    takes_status offsets.LSR (λ f. f.lsr) step.outcome does.0 (TakesLsr step.outcome) s t a step.answered step.did does.1 does.2
     (ap (λ (f : Fields). f.lsr) does.3)
 
 lsr_after : (x : Modes) (s n t : State) (links : List Link) (value : ℕ) → InSession x s → AllWithinSession links → AllNoLsr links →
     Chain s links n → CallStep n call.Lsr (Register value) t → After (LsrTells x) (fields (inner_of s)).lsr s t value
 lsr_after x s n t links value w within none chain step =
-    told_after (LsrTells x) 5 (λ f. f.lsr) x s n t links value w within chain (took_lsr n t (Register value) step)
+    told_after (LsrTells x) offsets.LSR (λ f. f.lsr) x s n t links value w within chain (took_lsr n t (Register value) step)
     (λ p status path told. lsr_tells x (machine_of s) (machine_of n) (machine_of t) p.made (reported links) p.passed.takes status
     (fields (inner_of s)).lsr (fields (inner_of n)).lsr value w.open_modes p.passed.passed path (p.lsr none) told)
 
@@ -124,16 +125,16 @@ tells_line x s t value w a =
 
 -- ---- `msr`
 
-took_msr : (s t : State) (a : Answer) → CallStep s call.Msr a t → Took 6 (λ f. f.msr) s a t
+took_msr : (s t : State) (a : Answer) → CallStep s call.Msr a t → Took offsets.MSR (λ f. f.msr) s a t
 took_msr s t a step =
     let does = step.did.does in
-    takes_status 6 (λ f. f.msr) step.outcome does.0 (TakesMsr step.outcome) s t a step.answered step.did does.1 does.2
+    takes_status offsets.MSR (λ f. f.msr) step.outcome does.0 (TakesMsr step.outcome) s t a step.answered step.did does.1 does.2
     (ap (λ (f : Fields). f.msr) does.3)
 
 msr_after : (x : Modes) (s n t : State) (links : List Link) (value : ℕ) → InSession x s → AllWithinSession links → AllNoMsr links →
     Chain s links n → CallStep n call.Msr (Register value) t → After (MsrTells x) (fields (inner_of s)).msr s t value
 msr_after x s n t links value w within none chain step =
-    told_after (MsrTells x) 6 (λ f. f.msr) x s n t links value w within chain (took_msr n t (Register value) step)
+    told_after (MsrTells x) offsets.MSR (λ f. f.msr) x s n t links value w within chain (took_msr n t (Register value) step)
     (λ p status path told. msr_tells x (machine_of s) (machine_of n) (machine_of t) p.made (reported links) p.passed.takes status
     (fields (inner_of s)).msr (fields (inner_of n)).msr value w.open_modes p.passed.passed path (p.msr none) told)
 

@@ -9,11 +9,14 @@ use Rattle.uart_spec.specs.declared.errors.InvalidDivisorError.{InvalidDivisorEr
 use Rattle.uart_spec.specs.declared.errors.InvalidDivisorError.TheVariants.{NonInteger, OutOfRange}
 use Rattle.uart_spec.specs.declared.errors.InitError.{InitError}
 use Rattle.uart_spec.specs.declared.errors.InitError.TheVariants.{InvalidBaudRate, DeviceNotPresent, Stalled}
+use Rattle.uart_spec.specs.declared.registers.offsets.TheConstants as offsets
+use Rattle.uart_spec.specs.declared.registers.line_status.TheConstants.LSR
+use Rattle.uart_spec.specs.declared.registers.line_control.TheConstants.LCR
 use Rattle.uart_spec.specs.Access.{Access, Write, Path}
 use Rattle.uart_16550.specs.Grammar.{Language, Settings, Only, Then}
 use Rattle.uart_16550.specs.Transmit.{WaitsFor}
 use Rattle.uart_16550.specs.Driver.{Fields, fields, settings_of, Doing, Saving, Plain, Sets, Next, with_config, with_fifo}
-use Rattle.uart_16550.specs.Init.{ChecksPresence, frame_bits, line_writes, SetsFifo, DrainsReceiver, Begins, DivisorOf, Inits}
+use Rattle.uart_16550.specs.Init.{raised_outputs, ChecksPresence, frame_bits, line_writes, SetsFifo, DrainsReceiver, Begins, DivisorOf, Inits}
 use Rattle.uart_16550.specs.Tty.{inner_of}
 use Rattle.uart_calls.specs.declared.call.Call.TheVariants as call
 use Rattle.uart_calls.specs.declared.call.Answer.{Answer}
@@ -38,11 +41,11 @@ use Rattle.uart_run.proofs.progress.Succeeds.{few_left}
 -- the divisor latch is written under DLAB, so nothing is sent
 free-line : (divisor frame : ℕ) (m n : MachineState) → RunsFree m → Path MachineStep m (line_writes divisor frame) n → RunsFree n
 free-line divisor frame m n r (m₁, s₁, (m₂, s₂, (m₃, under, (m₄, latch, rest)))) =
-    let a = free-path (Write 3 0 ∷ Write 1 0 ∷ Write 3 128 ∷ []) m m₃ r (refl, (refl, (refl, tt))) (m₁, s₁, (m₂, s₂, (m₃, under, refl))) in
+    let a = free-path (Write offsets.LCR 0 ∷ Write offsets.IER 0 ∷ Write offsets.LCR LCR.DLAB.0 ∷ []) m m₃ r (refl, (refl, (refl, tt))) (m₁, s₁, (m₂, s₂, (m₃, under, refl))) in
     let lcr : m₃.chip.latches.lcr ≡ 128 = ap (λ (o : MachineState). o.chip.latches.lcr) under in
-    let on : is_dlab_set (at_access m₃).chip.latches ≡ true = ap (λ (k : Kept). is_dlab_set k.latches) (kept_access m₃) ∙ ap (λ value. has_any value 128) lcr in
-    let b = free-step m₃ m₄ (Write 0 (divisor % 256)) a latch (nearer-latch m₃ m₄ (divisor % 256) (free_runs m₃ a) on latch) in
-    free-path (Write 1 (divisor / 256) ∷ Write 3 0 ∷ Write 3 frame ∷ []) m₄ n b (refl, (refl, (refl, tt))) rest
+    let on : is_dlab_set (at_access m₃).chip.latches ≡ true = ap (λ (k : Kept). is_dlab_set k.latches) (kept_access m₃) ∙ ap (λ value. has_any value LCR.DLAB.0) lcr in
+    let b = free-step m₃ m₄ (Write offsets.DLL (divisor % 256)) a latch (nearer-latch m₃ m₄ (divisor % 256) (free_runs m₃ a) on latch) in
+    free-path (Write offsets.DLM (divisor / 256) ∷ Write offsets.LCR 0 ∷ Write offsets.LCR frame ∷ []) m₄ n b (refl, (refl, (refl, tt))) rest
 
 -- a list that sends nothing
 free-list : (s : Settings) (L : Language) (l : List Access) (m n : MachineState) → IsSilent s L → RunsFree m → L s l → Path MachineStep m l n → RunsFree n
@@ -63,11 +66,11 @@ free-set_up config divisor fifo s l m n r t path =
     free-list s (SetsFifo level fifo) q.back q.between n (silent_sets_fifo s level fifo) b q.second q.after
 
 -- the drain and MCR
-free-drained : (f mid : Fields) (l : List Access) (m n : MachineState) → RunsFree m → Next (Plain DrainsReceiver) (Saving (Only (Write 4 11 ∷ []))) f l mid → Path MachineStep m l n → RunsFree n
+free-drained : (f mid : Fields) (l : List Access) (m n : MachineState) → RunsFree m → Next (Plain DrainsReceiver) (Saving (Only (Write offsets.MCR raised_outputs ∷ []))) f l mid → Path MachineStep m l n → RunsFree n
 free-drained f mid l m n r t path =
-    let a = next_stages (Plain DrainsReceiver) (Saving (Only (Write 4 11 ∷ []))) f mid l m n t path in
+    let a = next_stages (Plain DrainsReceiver) (Saving (Only (Write offsets.MCR raised_outputs ∷ []))) f mid l m n t path in
     let b = free-list (settings_of f) DrainsReceiver a.parts.front m a.parts.between (silent_drains (settings_of f)) r a.parts.first.0 a.parts.before in
-    free-path (Write 4 11 ∷ []) a.parts.between n b (refl, tt) (path_as a.parts.between n a.parts.back (Write 4 11 ∷ []) a.parts.second.0.is a.parts.after)
+    free-path (Write offsets.MCR raised_outputs ∷ []) a.parts.between n b (refl, tt) (path_as a.parts.between n a.parts.back (Write offsets.MCR raised_outputs ∷ []) a.parts.second.0.is a.parts.after)
 
 -- fields that are set make no access
 free-sets : (change : Fields → Fields) (H : Doing) (f after : Fields) (l : List Access) (m n : MachineState) → Next (Sets change) H f l after → Path MachineStep m l n →
@@ -80,13 +83,13 @@ free-begins : (config : Config) (divisor : ℕ) (fifo : Bool) (f mid : Fields) (
 free-begins config divisor fifo f mid l m n r t path = free-sets (with_config config) (Next (Saving (SetsUp config divisor fifo)) known) f mid l m n t path set_up
   where
     known : Doing
-    known = Next (Sets (with_fifo fifo)) (Next (Plain DrainsReceiver) (Saving (Only (Write 4 11 ∷ []))))
+    known = Next (Sets (with_fifo fifo)) (Next (Plain DrainsReceiver) (Saving (Only (Write offsets.MCR raised_outputs ∷ []))))
 
     set_up : (g : Fields) (k : List Access) → Next (Saving (SetsUp config divisor fifo)) known g k mid → Path MachineStep m k n → RunsFree n
     set_up g k u p =
         let a = next_stages (Saving (SetsUp config divisor fifo)) known g mid k m n u p in
         let b = free-set_up config divisor fifo (settings_of g) a.parts.front m a.parts.between r a.parts.first.0 a.parts.before in
-        free-sets (with_fifo fifo) (Next (Plain DrainsReceiver) (Saving (Only (Write 4 11 ∷ [])))) a.mid mid a.parts.back a.parts.between n a.parts.second a.parts.after
+        free-sets (with_fifo fifo) (Next (Plain DrainsReceiver) (Saving (Only (Write offsets.MCR raised_outputs ∷ [])))) a.mid mid a.parts.back a.parts.between n a.parts.second a.parts.after
         (λ h back w q. free-drained h mid back a.parts.between n b w q)
 
 -- the limit stays
@@ -114,10 +117,10 @@ no_refusal config (OutOfRange other) h refused =
 -- ---- `init`
 
 no_stall-init : (s t : State) (config : Config) (divisor : ℕ) (fifo : Bool) (l : List Access) → IsSound (machine_of s) → IsTimely s → HasRoom 0 (machine_of s) →
-    Next (Begins config divisor fifo) (Saving (WaitsFor 64 false)) (fields (inner_of s)) l (fields (inner_of t)) → Path MachineStep (machine_of s) l (machine_of t) → ⊥
+    Next (Begins config divisor fifo) (Saving (WaitsFor LSR.TRANSMITTER_EMPTY.0 false)) (fields (inner_of s)) l (fields (inner_of t)) → Path MachineStep (machine_of s) l (machine_of t) → ⊥
 no_stall-init s t config divisor fifo l w timely room does path =
     let f = fields (inner_of s) in
-    let a = next_stages (Begins config divisor fifo) (Saving (WaitsFor 64 false)) f (fields (inner_of t)) l (machine_of s) (machine_of t) does path in
+    let a = next_stages (Begins config divisor fifo) (Saving (WaitsFor LSR.TRANSMITTER_EMPTY.0 false)) f (fields (inner_of t)) l (machine_of s) (machine_of t) does path in
     let n = a.parts.between in
     let b = free-begins config divisor fifo f a.mid a.parts.front (machine_of s) n (record { sound = w; ticked = timely.ticked; room = room }) a.parts.first a.parts.before in
     let few : left n.chip.transmitter < a.mid.limit = rw (limit-begins config divisor fifo f a.mid a.parts.front a.parts.first) (few_left s a.parts.front n w timely a.parts.before) in

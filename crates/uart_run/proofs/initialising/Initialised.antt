@@ -4,11 +4,13 @@ use Rattle.std.proofs.Math.Nat.{div-add-mod}
 use Rattle.uart_spec.specs.declared.config.Config.{Config}
 use Rattle.uart_spec.specs.declared.errors.InitError.{InitError}
 use Rattle.uart_spec.specs.declared.errors.InitError.TheVariants.{InvalidBaudRate, DeviceNotPresent, Stalled}
+use Rattle.uart_spec.specs.declared.registers.offsets.TheConstants as offsets
+use Rattle.uart_spec.specs.declared.registers.line_status.TheConstants.LSR
 use Rattle.uart_spec.specs.Access.{Access, Write, Path}
 use Rattle.uart_16550.specs.Grammar.{FewMisses, Asks}
 use Rattle.uart_16550.specs.Driver.{Fields, fields, settings_of, Saving, Sets, Next, with_config}
 use Rattle.uart_16550.specs.Transmit.{WaitsFor}
-use Rattle.uart_16550.specs.Init.{ChecksPresence, Begins, Ends, DivisorOf, Inits}
+use Rattle.uart_16550.specs.Init.{raised_outputs, ChecksPresence, Begins, Ends, DivisorOf, Inits}
 use Rattle.uart_16550.specs.Tty.{inner_of}
 use Rattle.uart_calls.specs.declared.call.Call.TheVariants as call
 use Rattle.uart_calls.specs.declared.call.Answer.{Answer}
@@ -38,12 +40,12 @@ ready_by t k e dlab loopback knows = record {
 
 -- the registers after the interrupts are enabled
 abbrev last : Config → ℕ → ℕ → Bool → Kept → Kept
-last config d scr on k = record k { latches = record (set_up config d 11 scr) { ier = bit_and config.interrupts.0 ier_bits }; fifo = on }
+last config d scr on k = record k { latches = record (set_up config d raised_outputs scr) { ier = bit_and config.interrupts.0 ier_bits }; fifo = on }
 
 enabled : (config : Config) (d scr : ℕ) (on : Bool) (k : Kept) →
-    kept_after (Write 1 config.interrupts.0 ∷ []) (record k { latches = set_up config d 11 scr; fifo = on }) ≡ last config d scr on k
+    kept_after (Write offsets.IER config.interrupts.0 ∷ []) (record k { latches = set_up config d raised_outputs scr; fifo = on }) ≡ last config d scr on k
 enabled config d scr on k =
-    ap (λ (b : Bool). if b then record k { latches = record (set_up config d 11 scr) { dlm = config.interrupts.0 }; fifo = on } else last config d scr on k) (frame-dlab config)
+    ap (λ (b : Bool). if b then record k { latches = record (set_up config d raised_outputs scr) { dlm = config.interrupts.0 }; fifo = on } else last config d scr on k) (frame-dlab config)
 
 -- all that an `init` leaves, by what the registers keep
 initialised : (config : Config) (d scr : ℕ) (on : Bool) (k : Kept) (t : State) → DivisorOf config (Ok d) → kept_in (machine_of t).chip ≡ last config d scr on k →
@@ -59,29 +61,29 @@ initialised config d scr on k t of kept is_on knows empty = record {
 }
 
 -- a wait keeps the registers that were set up
-still_begun : (config : Config) (d : ℕ) (on : Bool) (m n o : MachineState) (g : Fields) (l : List Access) (empty : Bool) → Begun config d on m n g → WaitsFor 64 empty (settings_of g) l → Path MachineStep n l o →
+still_begun : (config : Config) (d : ℕ) (on : Bool) (m n o : MachineState) (g : Fields) (l : List Access) (empty : Bool) → Begun config d on m n g → WaitsFor LSR.TRANSMITTER_EMPTY.0 empty (settings_of g) l → Path MachineStep n l o →
     kept_in o.chip ≡ kept_in n.chip
 still_begun config d on m n o g l empty b t p =
-    kept_still (settings_of g) (WaitsFor 64 empty) l n o (keeps_waits (settings_of g) 64 empty) (ap (λ (v : Kept). is_dlab_set v.latches) b.kept ∙ frame-dlab config) t p
+    kept_still (settings_of g) (WaitsFor LSR.TRANSMITTER_EMPTY.0 empty) l n o (keeps_waits (settings_of g) LSR.TRANSMITTER_EMPTY.0 empty) (ap (λ (v : Kept). is_dlab_set v.latches) b.kept ∙ frame-dlab config) t p
 
 done : (config : Config) (d : ℕ) (on : Bool) (f : Fields) (l : List Access) (m : MachineState) (t : State) → IsSound m → DivisorOf config (Ok d) →
-    Next (Begins config d on) (Next (Saving (WaitsFor 64 true)) (Ends config)) f l (fields (inner_of t)) → Path MachineStep m l (machine_of t) → IsInitialised config t
+    Next (Begins config d on) (Next (Saving (WaitsFor LSR.TRANSMITTER_EMPTY.0 true)) (Ends config)) f l (fields (inner_of t)) → Path MachineStep m l (machine_of t) → IsInitialised config t
 done config d on f l m t w of does p =
     let n = machine_of t in
     let after = fields (inner_of t) in
-    let a = next_stages (Begins config d on) (Next (Saving (WaitsFor 64 true)) (Ends config)) f after l m n does p in
-    let b = next_stages (Saving (WaitsFor 64 true)) (Ends config) a.mid after a.parts.back a.parts.between n a.parts.second a.parts.after in
+    let a = next_stages (Begins config d on) (Next (Saving (WaitsFor LSR.TRANSMITTER_EMPTY.0 true)) (Ends config)) f after l m n does p in
+    let b = next_stages (Saving (WaitsFor LSR.TRANSMITTER_EMPTY.0 true)) (Ends config) a.mid after a.parts.back a.parts.between n a.parts.second a.parts.after in
     joined a.parts.between b.parts.between a.mid b.mid b.parts.front b.parts.back (begun config d on f a.mid a.parts.front m a.parts.between w a.parts.first a.parts.before)
     b.parts.first.0 b.parts.before b.parts.second b.parts.after (ap (λ (g : Fields). g.fifo) b.parts.first.1)
   where
-    joined : (m₁ m₂ : MachineState) (g h : Fields) (xs ys : List Access) → Begun config d on m m₁ g → WaitsFor 64 true (settings_of g) xs → Path MachineStep m₁ xs m₂ →
+    joined : (m₁ m₂ : MachineState) (g h : Fields) (xs ys : List Access) → Begun config d on m m₁ g → WaitsFor LSR.TRANSMITTER_EMPTY.0 true (settings_of g) xs → Path MachineStep m₁ xs m₂ →
         Ends config h ys (fields (inner_of t)) → Path MachineStep m₂ ys (machine_of t) → h.fifo ≡ g.fifo → IsInitialised config t
     joined m₁ m₂ g h xs ys begins waits p ends q knows =
-        let a = then_parts (FewMisses (Asks 5 64 false)) (Asks 5 64 true) (settings_of g) xs m₁ m₂ waits p in
+        let a = then_parts (FewMisses (Asks offsets.LSR LSR.TRANSMITTER_EMPTY.0 false)) (Asks offsets.LSR LSR.TRANSMITTER_EMPTY.0 true) (settings_of g) xs m₁ m₂ waits p in
         let e = ended config h (fields (inner_of t)) ys m₂ (machine_of t) ends q in
         let set = still_begun config d on m m₁ m₂ g xs true begins waits p ∙ begins.kept in
         initialised config d begins.scr on (kept_in m.chip) t of
-        (e.left.kept ∙ (ap (kept_after (Write 1 config.interrupts.0 ∷ [])) set ∙ enabled config d begins.scr on (kept_in m.chip)))
+        (e.left.kept ∙ (ap (kept_after (Write offsets.IER config.interrupts.0 ∷ [])) set ∙ enabled config d begins.scr on (kept_in m.chip)))
         begins.is_on (e.left.knows ∙ (knows ∙ begins.knows))
         (e.empty (empty_shown (settings_of g) a.back a.between m₂ a.second a.after))
 
@@ -95,10 +97,10 @@ found config f after l m n does p =
 
 -- a wait in vain for an empty transmitter, from any state
 stalled : (config : Config) (d : ℕ) (on : Bool) (f : Fields) (l : List Access) (m : MachineState) (t : State) → IsSound m →
-    Next (Begins config d on) (Saving (WaitsFor 64 false)) f l (fields (inner_of t)) → Path MachineStep m l (machine_of t) → Ready t
+    Next (Begins config d on) (Saving (WaitsFor LSR.TRANSMITTER_EMPTY.0 false)) f l (fields (inner_of t)) → Path MachineStep m l (machine_of t) → Ready t
 stalled config d on f l m t w does p =
     let n = machine_of t in
-    let a = next_stages (Begins config d on) (Saving (WaitsFor 64 false)) f (fields (inner_of t)) l m n does p in
+    let a = next_stages (Begins config d on) (Saving (WaitsFor LSR.TRANSMITTER_EMPTY.0 false)) f (fields (inner_of t)) l m n does p in
     let b = begun config d on f a.mid a.parts.front m a.parts.between w a.parts.first a.parts.before in
     let set = still_begun config d on m a.parts.between n a.mid a.parts.back false b a.parts.second.0 a.parts.after ∙ b.kept in
     ready_by t _ set (frame-dlab config) refl (ap (λ (g : Fields). g.fifo) a.parts.second.1 ∙ b.knows)

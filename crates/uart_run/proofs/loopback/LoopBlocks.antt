@@ -2,6 +2,9 @@
 use Rattle.std.proofs.Common.{◌≡◌, ℕ, ◌+◌, ◌≤◌, ◌<◌, true, ◌==◌, nat_lt, List, [], ◌∷◌, ◌++◌, length, length-append, map, refl, arith, sym, ◌∙◌, ap, subst, bit_or}
 use Rattle.std.proofs.lemmas.List.{map-append, length-map}
 use Rattle.std.proofs.lemmas.Grind.{common_steps}
+use Rattle.uart_spec.specs.declared.registers.offsets.TheConstants as offsets
+use Rattle.uart_spec.specs.declared.registers.line_status.TheConstants.LSR
+use Rattle.uart_spec.specs.declared.registers.line_control.TheConstants.LCR
 use Rattle.uart_spec.specs.Access.{Access, Read, Write, Path}
 use Rattle.uart_spec.specs.Bits.{has_any}
 use Rattle.uart_chip.specs.Transmitter.{room}
@@ -18,12 +21,12 @@ use Rattle.uart_device.proofs.LoopAccesses.{IsLooped, loops_effect, loops_read, 
 -- ---- the divisor latch
 
 -- under DLAB the data are left alone
-loops_latch : (x : Modes) (m n : MachineState) (low : ℕ) → loopback x ≡ true → dlab x ≡ true → Fits x m.chip → MachineStep m (Read 0 low) n → Loops x m.chip n.chip [] []
+loops_latch : (x : Modes) (m n : MachineState) (low : ℕ) → loopback x ≡ true → dlab x ≡ true → Fits x m.chip → MachineStep m (Read offsets.DLL low) n → Loops x m.chip n.chip [] []
 loops_latch x m n low l on f s =
     loops_effect x x m n (after_read 0 (at_access m).chip) [] [] l f s.0 (λ a. rw (dlab-in x (at_access m).chip a.modes ∙ on) (loops-refl x (at_access m).chip a.modes))
 
 -- LCR is written, and the mode with it
-loops_lcr : (x : Modes) (m n : MachineState) (value : ℕ) → loopback x ≡ true → Fits x m.chip → word_length value ≡ word_length x.lcr → MachineStep m (Write 3 value) n → Loops (record x { lcr = value }) m.chip n.chip [] []
+loops_lcr : (x : Modes) (m n : MachineState) (value : ℕ) → loopback x ≡ true → Fits x m.chip → word_length value ≡ word_length x.lcr → MachineStep m (Write offsets.LCR value) n → Loops (record x { lcr = value }) m.chip n.chip [] []
 loops_lcr x m n value l f same s =
     let c = (at_access m).chip in
     loops_effect x (record x { lcr = value }) m n (after_write 3 value c) [] [] l f s
@@ -31,14 +34,14 @@ loops_lcr x m n value l f same s =
 
 loops_divisor : (x : Modes) (m n : MachineState) (lcr low high : ℕ) → IsLooped x → Fits x m.chip → Path MachineStep m (accesses_of (Divisor lcr low high)) n → Loops x m.chip n.chip [] []
 loops_divisor x m n lcr low high i f (m₁, s₁, (m₂, s₂, (m₃, s₃, (m₄, s₄, (m₅, s₅, e))))) =
-    let y : Modes = record x { lcr = bit_or lcr 128 } in
+    let y : Modes = record x { lcr = bit_or lcr LCR.DLAB.0 } in
     let z : Modes = record x { lcr = lcr } in
     let l = i.loopback in
     let a = loops_read x m m₁ 3 lcr l f refl s₁ in
     let f₁ = fits-after x x m.chip m₁.chip [] refl f a in
     let same : lcr ≡ x.lcr = s₁.1 ∙ (sym (ap (λ (o : MachineState). o.chip.latches.lcr) s₁.0) ∙ a.modes.lcr) in
-    let on : dlab y ≡ true = has_or 7 lcr 128 ∙ grind (arith, common_steps) in
-    let b : Loops y m₁.chip m₂.chip [] [] = loops_lcr x m₁ m₂ (bit_or lcr 128) l f₁ (word_same lcr ∙ ap word_length same) s₂ in
+    let on : dlab y ≡ true = has_or 7 lcr LCR.DLAB.0 ∙ grind (arith, common_steps) in
+    let b : Loops y m₁.chip m₂.chip [] [] = loops_lcr x m₁ m₂ (bit_or lcr LCR.DLAB.0) l f₁ (word_same lcr ∙ ap word_length same) s₂ in
     let f₂ = fits-after x y m₁.chip m₂.chip [] refl f₁ b in
     let c = loops_latch y m₂ m₃ low l on f₂ s₃ in
     let f₃ = fits-after y y m₂.chip m₃.chip [] refl f₂ c in
@@ -54,10 +57,10 @@ loops_divisor x m n lcr low high i f (m₁, s₁, (m₂, s₂, (m₃, s₃, (m�
 
 -- ---- blocks
 
-loops_look : (x : Modes) (m n : MachineState) (line : ℕ) → loopback x ≡ true → Fits x m.chip → MachineStep m (Read 5 line) n → Loops x m.chip n.chip [] []
+loops_look : (x : Modes) (m n : MachineState) (line : ℕ) → loopback x ≡ true → Fits x m.chip → MachineStep m (Read offsets.LSR line) n → Loops x m.chip n.chip [] []
 loops_look x m n line l f s = loops_read x m n 5 line l f refl s
 
-loops_hit : (x : Modes) (m n : MachineState) (line byte : ℕ) → IsLooped x → Fits x m.chip → has_any line 1 ≡ true → Path MachineStep m (Read 5 line ∷ Read 0 byte ∷ []) n →
+loops_hit : (x : Modes) (m n : MachineState) (line byte : ℕ) → IsLooped x → Fits x m.chip → has_any line LSR.DATA_READY.0 ≡ true → Path MachineStep m (Read offsets.LSR line ∷ Read offsets.DATA byte ∷ []) n →
     Loops x m.chip n.chip [] (byte ∷ [])
 loops_hit x m n line byte i f h (m₁, s₁, (m₂, s₂, e)) =
     let a = loops_look x m m₁ line i.loopback f s₁ in
@@ -66,13 +69,13 @@ loops_hit x m n line byte i f h (m₁, s₁, (m₂, s₂, e)) =
     rw e (loops-trans x x m.chip m₁.chip m₂.chip [] [] [] (byte ∷ []) a (loops_take x m₁ m₂ byte i (fits-after x x m.chip m₁.chip [] refl f a) some s₂))
 
 loops_burst : (x : Modes) (m n : MachineState) (line : ℕ) (checks : List Access) (bytes : List ℕ) → IsLooped x → IsIn x m.chip → length (line_in m.chip) + length bytes ≤ room x.fifo →
-    has_any line 32 ≡ true → AllQuiet checks → Path MachineStep m (Read 5 line ∷ (checks ++ map (Write 0) bytes)) n → Loops x m.chip n.chip (map x.cut bytes) []
+    has_any line LSR.THR_EMPTY.0 ≡ true → AllQuiet checks → Path MachineStep m (Read offsets.LSR line ∷ (checks ++ map (Write offsets.DATA) bytes)) n → Loops x m.chip n.chip (map x.cut bytes) []
 loops_burst x m n line checks bytes i w few h q (m₁, s₁, p) =
     let f : Fits x m.chip = record { modes = w; few = omega (arith, few) } in
     let a = loops_look x m m₁ line i.loopback f s₁ in
     let t : (length m₁.chip.transmitter.queue == 0) ≡ true = sym (look_room m m₁ line s₁) ∙ h in
     let none : length m₁.chip.transmitter.queue ≡ 0 = grind (arith, common_steps) in
-    let r = path_split MachineStep m₁ n checks (map (Write 0) bytes) p in
+    let r = path_split MachineStep m₁ n checks (map (Write offsets.DATA) bytes) p in
     let b = loops_quiets x checks m₁ r.0 i.loopback (fits-after x x m.chip m₁.chip [] refl f a) q r.1 in
     let long_a = line-length x m.chip m₁.chip [] [] a in
     let long_b = line-length x m₁.chip r.0.chip [] [] b in

@@ -3,6 +3,10 @@ use Rattle.std.proofs.Common.{◌≡◌, ℕ, ◌≤◌, Bool, true, false, ◌=
 use Rattle.uart_spec.specs.declared.errors.ByteSendError.{ByteSendError}
 use Rattle.uart_spec.specs.declared.errors.ByteSendError.TheVariants.{NoCapacity, RemoteNotClearToSend}
 use Rattle.uart_spec.specs.Bits.{has, has_any}
+use Rattle.uart_spec.specs.declared.registers.offsets.TheConstants as offsets
+use Rattle.uart_spec.specs.declared.registers.line_status.TheConstants.LSR
+use Rattle.uart_spec.specs.declared.registers.modem_status.TheConstants.MSR
+use Rattle.uart_spec.specs.declared.registers.modem_control.TheConstants.MCR
 use Rattle.uart_spec.specs.Access.{Access, Read, Path}
 use Rattle.uart_16550.specs.Grammar.{Language, Settings, Only, Then, InOrder, FewMisses, Asks, Never}
 use Rattle.uart_16550.specs.Receive.{Miss, Awaited}
@@ -50,7 +54,7 @@ sent_idle x gone c w s none = record { modes = w; line = rw (nothing c.receiver.
 -- ---- the drain
 
 silent_takes_one : (s : Settings) → IsSilent s TakesOne
-silent_takes_one s l t = silent_then s (Asks 5 1 true) (Only (Read 0 t.0 ∷ [])) (silent_asks s 5 1 true) (silent_only s (Read 0 t.0 ∷ []) (tt, tt)) l t.1
+silent_takes_one s l t = silent_then s (Asks offsets.LSR LSR.DATA_READY.0 true) (Only (Read offsets.DATA t.0 ∷ [])) (silent_asks s offsets.LSR LSR.DATA_READY.0 true) (silent_only s (Read offsets.DATA t.0 ∷ []) (tt, tt)) l t.1
 
 keeps_takes_one : (s : Settings) → AllKeep s TakesOne
 keeps_takes_one s l t = keeps_hit s t.0 l t.1
@@ -80,7 +84,7 @@ pub record IsReadyToTest (x : Modes) (gone : List ℕ) (s : Settings) (m : Machi
 pub drained : (x : Modes) (gone : List ℕ) (s : Settings) (l : List Access) (m n : MachineState) → IsEntered x gone s m → DrainsLoopback true s l → Path MachineStep m l n → IsReadyToTest x gone s n
 drained x gone s l m n e t path =
     let keeps = keeps_then s (FewMisses TakesOne) Miss (keeps_few s TakesOne (keeps_takes_one s)) (keeps_miss s) in
-    let silent = silent_then s (FewMisses TakesOne) Miss (silent_few s TakesOne (silent_takes_one s)) (silent_asks s 5 1 false) l t in
+    let silent = silent_then s (FewMisses TakesOne) Miss (silent_few s TakesOne (silent_takes_one s)) (silent_asks s offsets.LSR LSR.DATA_READY.0 false) l t in
     let kept = kept_still s (DrainsLoopback true) l m n keeps (dlab-in x m.chip e.modes ∙ e.looped.dlab) t path in
     let dry : EndsDry s l = record { front = t.front; back = t.back; whole = t.whole; miss = t.second } in
     record {
@@ -153,32 +157,32 @@ message_exchanged x gone s got l m n r long t path = go s.fifo refl t
 
 -- the transmitter is empty, and in loopback the lines mean nothing
 pub never_refused : (x : Modes) (gone : List ℕ) (s : Settings) (e : ByteSendError) (l : List Access) (m n : MachineState) → IsReadyToTest x gone s m → SendRefused e s l → Path MachineStep m l n → ⊥
-never_refused x gone s NoCapacity l m n r t path = looked (path_as m n l (Read 5 t.answer ∷ []) t.is path)
+never_refused x gone s NoCapacity l m n r t path = looked (path_as m n l (Read offsets.LSR t.answer ∷ []) t.is path)
   where
     sent : IsSent gone n.chip.transmitter
-    sent = sent_path gone l m n (silent_asks s 5 32 false l t) (idle_sent x gone m.chip r.idle) path
+    sent = sent_path gone l m n (silent_asks s offsets.LSR LSR.THR_EMPTY.0 false l t) (idle_sent x gone m.chip r.idle) path
 
-    looked : Path MachineStep m (Read 5 t.answer ∷ []) n → ⊥
+    looked : Path MachineStep m (Read offsets.LSR t.answer ∷ []) n → ⊥
     looked (mid, step, same) =
         let full : (length mid.chip.transmitter.queue == 0) ≡ false = sym (look_room m mid t.answer step) ∙ (sym (has_one 5 t.answer) ∙ t.shows) in
         let empty : length mid.chip.transmitter.queue ≡ 0 = ap (λ (o : MachineState). length o.chip.transmitter.queue) (sym same) ∙ ap length sent.queue in
         let both : (0 == 0) ≡ false = rw empty at full in absurd (cc)
 never_refused x gone s RemoteNotClearToSend l m n r t path = go s.checks t
   where
-    in_loop : (k : MachineState) (answer : ℕ) (back : MachineState) → kept_in k.chip ≡ kept_in m.chip → Path MachineStep k (Read 4 answer ∷ []) back → has answer 16 ≡ false → ⊥
+    in_loop : (k : MachineState) (answer : ℕ) (back : MachineState) → kept_in k.chip ≡ kept_in m.chip → Path MachineStep k (Read offsets.MCR answer ∷ []) back → has answer MCR.LOOP_BACK.0 ≡ false → ⊥
     in_loop k answer back kept (mid, step, same) off =
         let mcr : answer ≡ m.chip.latches.mcr = step.1 ∙ ap (λ (v : Kept). v.latches.mcr) (kept_access k ∙ kept) in
-        let on : has answer 16 ≡ true = has_one 4 answer ∙ (ap (λ v. has_any v 16) (mcr ∙ r.idle.modes.mcr) ∙ r.looped.loopback) in
+        let on : has answer MCR.LOOP_BACK.0 ≡ true = has_one 4 answer ∙ (ap (λ v. has_any v MCR.LOOP_BACK.0) (mcr ∙ r.idle.modes.mcr) ∙ r.looped.loopback) in
         absurd (cc)
 
     lines : (k : MachineState) (back : List Access) → kept_in k.chip ≡ kept_in m.chip → LinesAllow false s back → Path MachineStep k back n → ⊥
     lines k back kept (inl h) p = absurd (cc (h.0))
     lines k back kept (inr h) p =
-        let a = then_parts (Asks 4 16 false) (Asks 6 16 false) s back k n h p in
-        in_loop k a.first.answer a.between kept (path_as k a.between a.front (Read 4 a.first.answer ∷ []) a.first.is a.before) a.first.shows
+        let a = then_parts (Asks offsets.MCR MCR.LOOP_BACK.0 false) (Asks offsets.MSR MSR.CTS.0 false) s back k n h p in
+        in_loop k a.first.answer a.between kept (path_as k a.between a.front (Read offsets.MCR a.first.answer ∷ []) a.first.is a.before) a.first.shows
 
-    go : (b : Bool) → MatchBool b (Then (Asks 5 32 true) (LinesAllow false) s l) (Never s l) → ⊥
+    go : (b : Bool) → MatchBool b (Then (Asks offsets.LSR LSR.THR_EMPTY.0 true) (LinesAllow false) s l) (Never s l) → ⊥
     go true t =
-        let a = then_parts (Asks 5 32 true) (LinesAllow false) s l m n t path in
-        lines a.between a.back (kept_list a.front (Read 5 a.first.answer ∷ []) m a.between a.first.is a.before) a.second a.after
+        let a = then_parts (Asks offsets.LSR LSR.THR_EMPTY.0 true) (LinesAllow false) s l m n t path in
+        lines a.between a.back (kept_list a.front (Read offsets.LSR a.first.answer ∷ []) m a.between a.first.is a.before) a.second a.after
     go false t = t

@@ -2,6 +2,8 @@
 use Rattle.std.proofs.Common.{◌≡◌, ℕ, ◌<◌, Bool, true, false, ◌⊎◌, inl, inr, List, [], ◌∷◌, ◌++◌, length, append_assoc, drop, None, Result, Ok, Err, refl, arith, sym, ◌∙◌, ap, subst, MatchBool}
 use Rattle.uart_spec.specs.declared.errors.LoopbackError.{LoopbackError}
 use Rattle.uart_spec.specs.declared.errors.LoopbackError.TheVariants.{Stalled}
+use Rattle.uart_spec.specs.declared.registers.offsets.TheConstants as offsets
+use Rattle.uart_spec.specs.declared.registers.line_status.TheConstants.LSR
 use Rattle.uart_spec.specs.Access.{Access, Read, Path}
 use Rattle.uart_16550.specs.Grammar.{Settings, Only, Then, InOrder, AllMisses}
 use Rattle.uart_16550.specs.Receive.{Miss, Awaited}
@@ -136,7 +138,7 @@ no_stall-begin : (s : State) (n : MachineState) (mcr ier : ℕ) (l : List Access
     Path MachineStep (machine_of s) l n → ⊥
 no_stall-begin s n mcr ier l w timely room t path =
     let v = settings_of (fields (inner_of s)) in
-    let p = then_parts (Only (Read 4 mcr ∷ Read 1 ier ∷ [])) (WaitsFor 64 false) v l (machine_of s) n t path in
+    let p = then_parts (Only (Read offsets.MCR mcr ∷ Read offsets.IER ier ∷ [])) (WaitsFor LSR.TRANSMITTER_EMPTY.0 false) v l (machine_of s) n t path in
     let r : RunsFree (machine_of s) = record { sound = w; ticked = timely.ticked; room = room } in
     let a = free-path p.front (machine_of s) p.between r (rw p.first.is (tt, (tt, tt))) p.before in
     no_stall-empty v v.limit p.back p.between n (free_runs p.between a) (few_left s p.front p.between w timely p.before) p.second p.after

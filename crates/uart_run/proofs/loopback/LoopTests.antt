@@ -4,6 +4,10 @@ use Rattle.uart_spec.specs.declared.errors.LoopbackError.{LoopbackError}
 use Rattle.uart_spec.specs.declared.errors.LoopbackError.TheVariants.{Stalled}
 use Rattle.std.proofs.lemmas.Nat.{and_le_r}
 use Rattle.std.proofs.Math.Nat.{mod-eq_of_lt}
+use Rattle.uart_spec.specs.declared.registers.offsets.TheConstants as offsets
+use Rattle.uart_spec.specs.declared.registers.line_status.TheConstants.LSR
+use Rattle.uart_spec.specs.declared.registers.modem_control.TheConstants.MCR
+use Rattle.uart_spec.specs.declared.registers.line_control.TheConstants.LCR
 use Rattle.uart_spec.specs.Access.{Access, Read, Write, Path}
 use Rattle.uart_16550.specs.Grammar.{Language, Settings, Only, Then}
 use Rattle.uart_16550.specs.Transmit.{WaitsFor}
@@ -46,7 +50,7 @@ pub record IsBegun (cut : ℕ → ℕ) (gone : List ℕ) (m : MachineState) : Ty
 
 begins_blocks : (s : Settings) (mcr ier : ℕ) → Makes s (BeginsTest mcr ier true) [] []
 begins_blocks s mcr ier l t =
-    makes_then s (Only (Read 4 mcr ∷ Read 1 ier ∷ [])) (WaitsFor 64 true) [] [] [] [] (λ k u. rw u.is (quiet_blocks s.fifo (Read 4 mcr ∷ Read 1 ier ∷ []) (refl, (refl, tt)))) (waits_blocks s 64 true) l t
+    makes_then s (Only (Read offsets.MCR mcr ∷ Read offsets.IER ier ∷ [])) (WaitsFor LSR.TRANSMITTER_EMPTY.0 true) [] [] [] [] (λ k u. rw u.is (quiet_blocks s.fifo (Read offsets.MCR mcr ∷ Read offsets.IER ier ∷ []) (refl, (refl, tt)))) (waits_blocks s LSR.TRANSMITTER_EMPTY.0 true) l t
 
 pub begun : (s : State) (n : MachineState) (mcr ier : ℕ) (l : List Access) → IsSound (machine_of s) → Ready s → BeginsTest mcr ier true (settings_of (fields (inner_of s))) l →
     Path MachineStep (machine_of s) l n → IsBegun (cut_of (machine_of s).chip) (out (machine_of s).chip.transmitter) n
@@ -58,13 +62,13 @@ begun s n mcr ier l sound r t path =
     let stands : Stands x m = record { sound = sound; modes = in_modes } in
     let opened : IsOpen x = record { dlab = r.dlab; loopback = r.loopback } in
     let p = (passed_in_blocks x m n l [] [] opened stands (begins_blocks v mcr ier l t) path).passed in
-    let a = then_parts (Only (Read 4 mcr ∷ Read 1 ier ∷ [])) (WaitsFor 64 true) v l m n t path in
+    let a = then_parts (Only (Read offsets.MCR mcr ∷ Read offsets.IER ier ∷ [])) (WaitsFor LSR.TRANSMITTER_EMPTY.0 true) v l m n t path in
     let empty = wait_empties v a.back a.between n a.second a.after in
     let same : out n.chip.transmitter ≡ out m.chip.transmitter = p.went.sends.grows ∙ append-nil (out m.chip.transmitter) in
     let P : List ℕ → Type 0 = λ gone. IsSent gone n.chip.transmitter in
     record {
       sound = p.sound;
-      dlab = ap (λ v. has_any v 128) p.went.modes.lcr ∙ r.dlab;
+      dlab = ap (λ v. has_any v LCR.DLAB.0) p.went.modes.lcr ∙ r.dlab;
       sent = subst P same (sent_shown n.chip.transmitter empty);
       same_cut = p.went.modes.cut;
     }
@@ -74,14 +78,14 @@ begun s n mcr ier l sound r t path =
 enters_silently : (before : ℕ) (fifo : Bool) → DoesSilently (Enters before fifo)
 enters_silently before fifo f after l t =
     let level = f.config.fifo_trigger_level in
-    let list = Read 6 before ∷ Write 1 0 ∷ Write 4 16 ∷ [] in
+    let list = Read offsets.MSR before ∷ Write offsets.IER 0 ∷ Write offsets.MCR MCR.LOOP_BACK.0 ∷ [] in
     let L : Language = Then (Only list) (SetsFifo level fifo) in
     silent_next (Saving L) (Sets (with_fifo fifo)) (silent_saving L (λ s. silent_then s (Only list) (SetsFifo level fifo) (silent_only s list (tt, (refl, (refl, tt)))) (silent_sets_fifo s level fifo)))
     (silent_sets (with_fifo fifo)) f after l t
 
 -- the modes of a loopback test under this LCR
 abbrev pub looped_modes : ℕ → Bool → (ℕ → ℕ) → Modes
-looped_modes lcr fifo cut = record { lcr = lcr; mcr = 16; fifo = fifo; cut = cut }
+looped_modes lcr fifo cut = record { lcr = lcr; mcr = MCR.LOOP_BACK.0; fifo = fifo; cut = cut }
 
 pub in_loopback : (cut : ℕ → ℕ) (gone : List ℕ) (before : ℕ) (fifo : Bool) (f after : Fields) (l : List Access) (m n : MachineState) → IsBegun cut gone m → Enters before fifo f l after → Path MachineStep m l n →
     IsEntered (looped_modes m.chip.latches.lcr fifo cut) gone (settings_of after) n
@@ -99,14 +103,14 @@ in_loopback cut gone before fifo f after l m n b t path =
 leaves_silently : (mcr ier before noted : ℕ) → DoesSilently (Leaves mcr ier before noted)
 leaves_silently mcr ier before noted f after l (now, t) = silent_next _ _ (one _) (silent_next _ _ look (silent_next _ _ both (silent_sets (with_changes noted (line_changes before now))))) f after l t
   where
-    one : (value : ℕ) → DoesSilently (Saving (Only (Write 4 value ∷ [])))
-    one value = silent_saving _ (λ s. silent_only s (Write 4 value ∷ []) (refl, tt))
+    one : (value : ℕ) → DoesSilently (Saving (Only (Write offsets.MCR value ∷ [])))
+    one value = silent_saving _ (λ s. silent_only s (Write offsets.MCR value ∷ []) (refl, tt))
 
-    look : DoesSilently (Plain (Only (Read 6 now ∷ [])))
-    look = silent_plain _ (λ s. silent_only s (Read 6 now ∷ []) (tt, tt))
+    look : DoesSilently (Plain (Only (Read offsets.MSR now ∷ [])))
+    look = silent_plain _ (λ s. silent_only s (Read offsets.MSR now ∷ []) (tt, tt))
 
-    both : DoesSilently (Saving (Only (Write 4 mcr ∷ Write 1 ier ∷ [])))
-    both = silent_saving _ (λ s. silent_only s (Write 4 mcr ∷ Write 1 ier ∷ []) (refl, (refl, tt)))
+    both : DoesSilently (Saving (Only (Write offsets.MCR mcr ∷ Write offsets.IER ier ∷ [])))
+    both = silent_saving _ (λ s. silent_only s (Write offsets.MCR mcr ∷ Write offsets.IER ier ∷ []) (refl, (refl, tt)))
 
 -- ---- the test after its first wait
 
@@ -138,7 +142,7 @@ narrow_cuts true (suc (suc (suc zero))) h = λ byte few. mod-eq_of_lt {n = byte}
 narrow_cuts true (suc (suc (suc (suc n)))) h = absurd (omega arith)
 
 chip_cuts : (c : ChipState) → Cuts (is_narrow c) (cut_of c)
-chip_cuts c = narrow_cuts c.cuts (bit_and c.latches.lcr 3) (let h : bit_and c.latches.lcr 3 ≤ 3 = and_le_r c.latches.lcr 3 in omega (arith, h))
+chip_cuts c = narrow_cuts c.cuts (bit_and c.latches.lcr LCR.WORD_LENGTH.0) (let h : bit_and c.latches.lcr LCR.WORD_LENGTH.0 ≤ 3 = and_le_r c.latches.lcr LCR.WORD_LENGTH.0 in omega (arith, h))
 
 no_stall : (narrow : Bool) → LoopbackRefused Stalled ≡ test_answer narrow → ⊥
 no_stall true e = cc

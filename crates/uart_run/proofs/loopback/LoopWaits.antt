@@ -3,6 +3,8 @@ use Rattle.std.proofs.Common.{◌≡◌, ℕ, zero, suc, ◌+◌, ◌*◌, ◌�
 use Rattle.std.proofs.lemmas.Grind.{common_steps}
 use Rattle.std.proofs.lemmas.List.{length-map}
 use Rattle.uart_spec.specs.Bits.{has}
+use Rattle.uart_spec.specs.declared.registers.offsets.TheConstants as offsets
+use Rattle.uart_spec.specs.declared.registers.line_status.TheConstants.LSR
 use Rattle.uart_spec.specs.Access.{Access, Read, Path}
 use Rattle.uart_16550.specs.Grammar.{Language, Settings, Then, Times, AllMisses}
 use Rattle.uart_16550.specs.Receive.{Miss}
@@ -67,7 +69,7 @@ record OnItsWay (x : Modes) (m : MachineState) : Type 0 where
 data_awaited : (x : Modes) → IsLooped x → Awaited (OnItsWay x) 1
 data_awaited x i = record { kept = λ m n line r w step. kept m n line w step; shows = λ m n line r w step e. shows m n line r w step e }
   where
-    kept : (m n : MachineState) (line : ℕ) → OnItsWay x m → MachineStep m (Read 5 line) n → OnItsWay x n
+    kept : (m n : MachineState) (line : ℕ) → OnItsWay x m → MachineStep m (Read offsets.LSR line) n → OnItsWay x n
     kept m n line w step =
         let a = loops_read x m n 5 line i.loopback w.fits refl step in
         let long = line-length x m.chip n.chip [] [] a in
@@ -76,7 +78,7 @@ data_awaited x i = record { kept = λ m n line r w step. kept m n line w step; s
     positive : (n : ℕ) → 0 < n → nat_lt 0 n ≡ true
     positive n h = grind (arith, common_steps)
 
-    shows : (m n : MachineState) (line : ℕ) → Runs n → OnItsWay x n → MachineStep m (Read 5 line) n → left n.chip.transmitter ≡ 0 → has line 1 ≡ true
+    shows : (m n : MachineState) (line : ℕ) → Runs n → OnItsWay x n → MachineStep m (Read offsets.LSR line) n → left n.chip.transmitter ≡ 0 → has line LSR.DATA_READY.0 ≡ true
     shows m n line r w step e =
         let t = n.chip.transmitter in
         let sound = r.sound.chip.transmitter in

@@ -2,6 +2,9 @@
 use Rattle.std.proofs.Common.{◌≡◌, ℕ, Bool, true, false, inl, inr, List, [], ◌∷◌, Result, refl, sym, ◌∙◌, ap, bit_and, if◌then◌else◌}
 use Rattle.bitflags.specs.Sets.{without}
 use Rattle.uart_spec.specs.declared.errors.LoopbackError.{LoopbackError}
+use Rattle.uart_spec.specs.declared.registers.offsets.TheConstants as offsets
+use Rattle.uart_spec.specs.declared.registers.line_status.TheConstants.LSR
+use Rattle.uart_spec.specs.declared.registers.modem_control.TheConstants.MCR
 use Rattle.uart_spec.specs.Access.{Access, Read, Write, Path}
 use Rattle.uart_16550.specs.Grammar.{Settings, Only, Then}
 use Rattle.uart_16550.specs.Driver.{Fields, fields, settings_of, Saving, Sets, Next, with_fifo}
@@ -32,22 +35,22 @@ use Rattle.uart_run.proofs.initialising.Initialised.{ready_by}
 -- ---- the first wait
 
 keeps_begins : (s : Settings) (mcr ier : ℕ) (empty : Bool) → AllKeep s (BeginsTest mcr ier empty)
-keeps_begins s mcr ier empty = keeps_then s _ _ (keeps_only s (Read 4 mcr ∷ Read 1 ier ∷ []) (λ k d. refl)) (keeps_waits s 64 empty)
+keeps_begins s mcr ier empty = keeps_then s _ _ (keeps_only s (Read offsets.MCR mcr ∷ Read offsets.IER ier ∷ []) (λ k d. refl)) (keeps_waits s LSR.TRANSMITTER_EMPTY.0 empty)
 
 -- MCR is read as it is
 mcr_read : (s : Settings) (mcr ier : ℕ) (empty : Bool) (l : List Access) (m n : MachineState) → BeginsTest mcr ier empty s l → Path MachineStep m l n → mcr ≡ m.chip.latches.mcr
 mcr_read s mcr ier empty l m n t p =
-    let a = then_parts (Only (Read 4 mcr ∷ Read 1 ier ∷ [])) (WaitsFor 64 empty) s l m n t p in
-    first a.between (path_as m a.between a.front (Read 4 mcr ∷ Read 1 ier ∷ []) a.first.is a.before)
+    let a = then_parts (Only (Read offsets.MCR mcr ∷ Read offsets.IER ier ∷ [])) (WaitsFor LSR.TRANSMITTER_EMPTY.0 empty) s l m n t p in
+    first a.between (path_as m a.between a.front (Read offsets.MCR mcr ∷ Read offsets.IER ier ∷ []) a.first.is a.before)
   where
-    first : (o : MachineState) → Path MachineStep m (Read 4 mcr ∷ Read 1 ier ∷ []) o → mcr ≡ m.chip.latches.mcr
+    first : (o : MachineState) → Path MachineStep m (Read offsets.MCR mcr ∷ Read offsets.IER ier ∷ []) o → mcr ≡ m.chip.latches.mcr
     first o (m₁, s₁, rest) = s₁.1 ∙ ap (λ (k : Kept). k.latches.mcr) (kept_access m)
 
 -- ---- into loopback
 
 -- the registers in loopback
 abbrev pub looped : Bool → Kept → Kept
-looped on k = record k { latches = record k.latches { ier = 0; mcr = 16 }; fifo = on }
+looped on k = record k { latches = record k.latches { ier = 0; mcr = MCR.LOOP_BACK.0 }; fifo = on }
 
 -- loopback is entered, and the driver takes the FIFO to be as it is
 pub record Entered (on : Bool) (m n : MachineState) (after : Fields) : Type 0 where
@@ -56,7 +59,7 @@ pub record Entered (on : Bool) (m n : MachineState) (after : Fields) : Type 0 wh
 
 pub entered : (before : ℕ) (on : Bool) (f after : Fields) (l : List Access) (m n : MachineState) → IsSound m → is_dlab_set m.chip.latches ≡ false → Enters before on f l after → Path MachineStep m l n → Entered on m n after
 entered before on f after l m n w dlab t p =
-    let modes : List Access = Read 6 before ∷ Write 1 0 ∷ Write 4 16 ∷ [] in
+    let modes : List Access = Read offsets.MSR before ∷ Write offsets.IER 0 ∷ Write offsets.MCR MCR.LOOP_BACK.0 ∷ [] in
     let a = next_stages (Saving (Then (Only modes) (SetsFifo f.config.fifo_trigger_level on))) (Sets (with_fifo on)) f after l m n t p in
     let b = then_parts (Only modes) (SetsFifo f.config.fifo_trigger_level on) (settings_of f) a.parts.front m a.parts.between a.parts.first.0 a.parts.before in
     let first = kept_list b.front modes m b.between b.first.is b.before ∙ written (kept_in m.chip) dlab in
@@ -66,14 +69,14 @@ entered before on f after l m n w dlab t p =
       knows = ap (λ (g : Fields). g.fifo) a.parts.second.1;
     }
   where
-    written : (k : Kept) → is_dlab_set k.latches ≡ false → kept_after (Read 6 before ∷ Write 1 0 ∷ Write 4 16 ∷ []) k ≡ record k { latches = record k.latches { ier = 0; mcr = 16 } }
-    written k d = ap (λ (b : Bool). keep_write 4 16 (if b then record k { latches = record k.latches { dlm = 0 } } else record k { latches = record k.latches { ier = 0 } })) d
+    written : (k : Kept) → is_dlab_set k.latches ≡ false → kept_after (Read offsets.MSR before ∷ Write offsets.IER 0 ∷ Write offsets.MCR MCR.LOOP_BACK.0 ∷ []) k ≡ record k { latches = record k.latches { ier = 0; mcr = MCR.LOOP_BACK.0 } }
+    written k d = ap (λ (b : Bool). keep_write offsets.MCR MCR.LOOP_BACK.0 (if b then record k { latches = record k.latches { dlm = 0 } } else record k { latches = record k.latches { ier = 0 } })) d
 
 -- ---- out of loopback
 
 -- the accesses by which the modes are written back
 abbrev leaving : (mcr ier now : ℕ) → List Access
-leaving mcr ier now = Write 4 (without 8 mcr 8) ∷ Read 6 now ∷ Write 4 mcr ∷ Write 1 ier ∷ []
+leaving mcr ier now = Write offsets.MCR (without 8 mcr MCR.OUT_2_INT_ENABLE.0) ∷ Read offsets.MSR now ∷ Write offsets.MCR mcr ∷ Write offsets.IER ier ∷ []
 
 -- what is kept after them
 abbrev restored : ℕ → ℕ → Kept → Kept
@@ -95,7 +98,7 @@ left mcr ier before noted f after l m n (now, t) p =
 -- ---- all of it
 
 tests_ready : {T : Type 0} (result : Result T LoopbackError) (mcr ier : ℕ) (f : Fields) (l : List Access) (m : MachineState) (t : State) → IsSound m →
-    is_dlab_set m.chip.latches ≡ false → has_any mcr 16 ≡ false → Tests mcr ier result f l (fields (inner_of t)) → Path MachineStep m l (machine_of t) → Ready t
+    is_dlab_set m.chip.latches ≡ false → has_any mcr MCR.LOOP_BACK.0 ≡ false → Tests mcr ier result f l (fields (inner_of t)) → Path MachineStep m l (machine_of t) → Ready t
 tests_ready result mcr ier f l m t w dlab no_loop (before, on, does) p =
     let after = fields (inner_of t) in
     let n = machine_of t in
@@ -128,5 +131,5 @@ tested_ready s t a w h ready = go h.did.does
         let still = kept_still v (BeginsTest mcr ier true) a.parts.front (machine_of s) a.parts.between (keeps_begins v mcr ier true) ready.dlab a.parts.first.0 a.parts.before in
         tests_ready h.outcome mcr ier a.mid a.parts.back a.parts.between t (sound_path a.parts.front (machine_of s) a.parts.between w a.parts.before)
         (ap (λ (k : Kept). is_dlab_set k.latches) still ∙ ready.dlab)
-        (ap (λ b. has_any b 16) (mcr_read v mcr ier true a.parts.front (machine_of s) a.parts.between a.parts.first.0 a.parts.before) ∙ ready.loopback)
+        (ap (λ b. has_any b MCR.LOOP_BACK.0) (mcr_read v mcr ier true a.parts.front (machine_of s) a.parts.between a.parts.first.0 a.parts.before) ∙ ready.loopback)
         a.parts.second a.parts.after

@@ -1,5 +1,6 @@
 -- Where ticks come before each access and the wire has room, each access that sends nothing brings the transmitter nearer to its end.
 use Rattle.std.proofs.Common.{false, sym, ap, ◌∙◌, ◌≡◌, ℕ, zero, suc, ◌+◌, ◌-◌, ◌≤◌, true, List, [], ◌∷◌, ◌++◌, length, length-append, Option, Some, None, arith}
+use Rattle.uart_spec.specs.declared.registers.offsets.TheConstants as offsets
 use Rattle.uart_spec.specs.Access.{Access, Read, Write, Path}
 use Rattle.uart_chip.specs.declared.event.Event.{Event}
 use Rattle.uart_chip.specs.declared.event.Event.TheVariants.{Ticks, Access as Gate, Mark}
@@ -116,18 +117,18 @@ nearer-step m n (Write offset value) r q s =
     let c = (at_access m).chip in
     nearer-effect m n (after_write offset value c) r s (lasts-write (Nearer 0 c.transmitter) (near_lasts c.transmitter) offset value c q (nearer-refl c.transmitter))
 
-pub nearer-latch : (m n : MachineState) (value : ℕ) → Runs m → is_dlab_set (at_access m).chip.latches ≡ true → MachineStep m (Write 0 value) n →
+pub nearer-latch : (m n : MachineState) (value : ℕ) → Runs m → is_dlab_set (at_access m).chip.latches ≡ true → MachineStep m (Write offsets.DLL value) n →
     Nearer 1 m.chip.transmitter n.chip.transmitter
 nearer-latch m n value r on s =
     let c = (at_access m).chip in
     nearer-effect m n (after_write 0 value c) r s (lasts-latch (Nearer 0 c.transmitter) (near_lasts c.transmitter) value c on (nearer-refl c.transmitter))
 
 -- a look leaves the modes as they are
-pub runs-look : (m n : MachineState) (line : ℕ) → Runs m → MachineStep m (Read 5 line) n → Nearer 1 m.chip.transmitter n.chip.transmitter → Runs n
+pub runs-look : (m n : MachineState) (line : ℕ) → Runs m → MachineStep m (Read offsets.LSR line) n → Nearer 1 m.chip.transmitter n.chip.transmitter → Runs n
 runs-look m n line r s a = record {
-  sound = sound_step m n (Read 5 line) r.sound s;
-  ticked = ticked-step m n (Read 5 line) r.ticked s;
-  flows = flows-nearer 1 m.chip n.chip (ap (λ (k : Kept). k.latches) (kept_step (Read 5 line) m n s)) a r.flows;
+  sound = sound_step m n (Read offsets.LSR line) r.sound s;
+  ticked = ticked-step m n (Read offsets.LSR line) r.ticked s;
+  flows = flows-nearer 1 m.chip n.chip (ap (λ (k : Kept). k.latches) (kept_step (Read offsets.LSR line) m n s)) a r.flows;
 }
 
 -- ---- with room on the wire, in whatever mode
