@@ -35,7 +35,8 @@ record Ends (s : State) (some : List Link) (last : Link) (t : State) : Type 0 wh
 
 ends : (s t : State) (some : List Link) (last : Link) → Chain s (some ++ last ∷ []) t → Ends s some last t
 ends s t [] last h = record { chain = h.0; step = h.1; same = sym h.2 }
-ends s t (link ∷ some) last h = let e = ends link.after t some last h.2 in record { chain = (h.0, h.1, e.chain); step = e.step; same = e.same }
+ends s t (link ∷ some) last h =
+    let e = ends link.after t some last h.2 in record { chain = (h.0, h.1, e.chain); step = e.step; same = e.same }
 
 call_is : (s t : State) (c d : Call) (a b : Answer) → c ≡ d → a ≡ b → CallStep s c a t → CallStep s d b t
 call_is s t c d a b e f h =
@@ -100,17 +101,19 @@ lsr_after x s n t links value w within none chain step =
     (λ p status path told. lsr_tells x (machine_of s) (machine_of n) (machine_of t) p.made (reported links) p.passed.takes status
     (fields (inner_of s)).lsr (fields (inner_of n)).lsr value w.open_modes p.passed.passed path (p.lsr none) told)
 
-all_told-append : (fifo : Bool) (old : Option Character) (line : ℕ) (xs ys : List Character) → AllTold fifo old line xs → AllTold fifo old line ys → AllTold fifo old line (xs ++ ys)
+all_told-append : (fifo : Bool) (old : Option Character) (line : ℕ) (xs ys : List Character) → AllTold fifo old line xs →
+    AllTold fifo old line ys → AllTold fifo old line (xs ++ ys)
 all_told-append fifo old line [] ys h k = k
 all_told-append fifo old line (x ∷ xs) ys h k = (h.0, all_told-append fifo old line xs ys h.1 k)
 
 -- the one in front
-first_told : (fifo : Bool) (old : Option Character) (line : ℕ) (queue : List Character) → ((f : Character) (others : List Character) → queue ≡ f ∷ others → IsTold fifo old line f) →
-    AllTold fifo old line (take 1 queue)
+first_told : (fifo : Bool) (old : Option Character) (line : ℕ) (queue : List Character) →
+    ((f : Character) (others : List Character) → queue ≡ f ∷ others → IsTold fifo old line f) → AllTold fifo old line (take 1 queue)
 first_told fifo old line [] h = tt
 first_told fifo old line (f ∷ others) h = (h f others refl, tt)
 
-tells_line : (x : Modes) (s t : State) (value : ℕ) → InSession x s → After (LsrTells x) (fields (inner_of s)).lsr s t value → TellsLine s t value
+tells_line : (x : Modes) (s t : State) (value : ℕ) → InSession x s → After (LsrTells x) (fields (inner_of s)).lsr s t value →
+    TellsLine s t value
 tells_line x s t value w a =
     let old = reported_front (receiver_of s) in
     let queue = (receiver_of t).queue in

@@ -10,8 +10,10 @@ use Rattle.uart_device.proofs.BlockLaws.{path_as}
 use Rattle.uart_run.proofs.Latches.{Kept, kept_access, kept_step}
 use Rattle.uart_run.proofs.Pieces.{then_parts}
 
-scratch_kept : (pattern back : ℕ) (m n : MachineState) → Path MachineStep m (Write offsets.SPR pattern ∷ Read offsets.SPR back ∷ []) n → back ≡ pattern
-scratch_kept pattern back m n (m₁, s₁, (m₂, s₂, e)) = s₂.1 ∙ ap (λ (k : Kept). k.latches.scr) (kept_access m₁ ∙ kept_step (Write offsets.SPR pattern) m m₁ s₁)
+scratch_kept : (pattern back : ℕ) (m n : MachineState) → Path MachineStep m (Write offsets.SPR pattern ∷ Read offsets.SPR back ∷ []) n →
+    back ≡ pattern
+scratch_kept pattern back m n (m₁, s₁, (m₂, s₂, e)) =
+    s₂.1 ∙ ap (λ (k : Kept). k.latches.scr) (kept_access m₁ ∙ kept_step (Write offsets.SPR pattern) m m₁ s₁)
 
 never_lost : (pattern : ℕ) (s : Settings) (l : List Access) (m n : MachineState) → Keeps pattern false s l → Path MachineStep m l n → ⊥
 never_lost pattern s l m n (back, differs, is) p =
