@@ -23,7 +23,7 @@ use Rattle.uart_language.specs.Sayings.{Saying, Nothing, Limit, Happens, Calls, 
 use Rattle.uart_language.specs.Sayings as row
 use Rattle.uart_language.specs.Script.{Says, blank, printable}
 use Rattle.uart_language.specs.Items.{config_in, arrival_in, call_of, item_of, placed_word, starts_with, item_at}
-use Rattle.uart_language.proofs.Results.{read, bind_ok}
+use Rattle.uart_language.proofs.Results.{read, bind_ok, made_twice}
 
 -- ---- what the words mean is what is read
 
@@ -97,10 +97,7 @@ module _ (number : ℕ) (name : List ℕ) where
   call_field : {A : Type 0} (reader : List ℕ → Result A Cause) (make : A → Call) (rest : List (List ℕ)) (s : Saying) → eqb (suc (length rest)) 2 ≡ true
       → ((reader (word_at 1 (name ∷ rest)) >>= (λ x. Ok (make x))) >>= (λ c. Ok (Calls c))) ≡ Ok s → ((W : List ℕ) (x : A) → reader W ≡ Ok x → Means number (name ∷ W ∷ []) (Calls (make x)))
       → Means number (name ∷ rest) s
-  call_field reader make rest s c e m = field reader (λ x. Calls (make x)) rest s c (binds (reader (word_at 1 (name ∷ rest))) make s e) m where
-    binds : {A : Type 0} (r : Result A Cause) (make : A → Call) (s : Saying) → ((r >>= (λ x. Ok (make x))) >>= (λ c. Ok (Calls c))) ≡ Ok s → (r >>= (λ x. Ok (Calls (make x)))) ≡ Ok s
-    binds (Ok x) make s e = e
-    binds (Err c) make s e = e
+  call_field reader make rest s c e m = field reader (λ x. Calls (make x)) rest s c (made_twice (reader (word_at 1 (name ∷ rest))) make Calls s e) m
 
 -- a number is neither of two that are below it
 pub neither : (n a b : ℕ) → a < n → b < n → (eqb n a || eqb n b) ≡ true → ⊥
@@ -120,10 +117,9 @@ arrival_meant number HH E (Ok byte) (Err c) s b e r = absurd cc
 arrival : (number : ℕ) (rest : List (List ℕ)) (s : Saying) → has_count word.Arrive (suc (length rest)) ≡ true → item_of word.Arrive (codes "arrive" ∷ rest) ≡ Ok s → Means number (codes "arrive" ∷ rest) s
 unfolding item_of arrival_in
 arrival number [] s c e = absurd cc
-arrival number (HH ∷ []) s c e = field number (codes "arrive") byte_in (λ b. Happens (event.Arrive b 0)) (HH ∷ []) s refl (alone (byte_in HH) s e) (λ W x h. row.arrive h) where
-  alone : (r : Result ℕ Cause) (s : Saying) → ((r >>= (λ b. Ok (event.Arrive b 0))) >>= (λ a. Ok (Happens a))) ≡ Ok s → (r >>= (λ b. Ok (Happens (event.Arrive b 0)))) ≡ Ok s
-  alone (Ok x) s e = e
-  alone (Err c) s e = e
+arrival number (HH ∷ []) s c e =
+    let r = made_twice (byte_in HH) (λ b. event.Arrive b 0) Happens s e in
+    field number (codes "arrive") byte_in (λ b. Happens (event.Arrive b 0)) (HH ∷ []) s refl r (λ W x h. row.arrive h)
 arrival number (HH ∷ E ∷ []) s c e = arrival_meant number HH E (byte_in HH) (errors_in E) s refl refl e
 arrival number (HH ∷ E ∷ X ∷ rest) s c e = absurd (neither (suc (suc (suc (suc (length rest))))) 2 3 (omega arith) (omega arith) c)
 

@@ -69,13 +69,16 @@ errors_legal word = value_or _ 4 _ refl (value_or _ 8 _ refl (value_or _ 16 _ re
 record IsPositive (rate : BaudRate) : Type 0 where
   number : 0 < to_integer rate
 
-rate_or : (test : Bool) (named other : BaudRate) → IsPositive named → IsPositive other → IsPositive (cond test named other)
-rate_or true named other n o = n
+rate_or : (test : Bool) (named other : BaudRate) → 0 < to_integer named → IsPositive other → IsPositive (cond test named other)
+rate_or true named other n o = record { number = n }
 rate_or false named other n o = o
 
 rate_positive : (n : ℕ) → 1 ≤ n → IsPositive (rate_of n)
 rate_positive n le =
-    rate_or _ rate.Baud115200 _ (record { number = omega arith }) (rate_or _ rate.Baud57600 _ (record { number = omega arith }) (rate_or _ rate.Baud38400 _ (record { number = omega arith }) (rate_or _ rate.Baud9600 _ (record { number = omega arith }) (rate_or _ rate.Baud4800 _ (record { number = omega arith }) (rate_or _ rate.Baud2400 _ (record { number = omega arith }) (rate_or _ rate.Baud1200 _ (record { number = omega arith }) (rate_or _ rate.Baud600 _ (record { number = omega arith }) (rate_or _ rate.Baud300 _ (record { number = omega arith }) (rate_or _ rate.Baud150 _ (record { number = omega arith }) (rate_or _ rate.Baud110 (rate.Custom n) (record { number = omega arith }) (record { number = omega arith })))))))))))
+    rate_or _ rate.Baud115200 _ (omega arith) (rate_or _ rate.Baud57600 _ (omega arith) (rate_or _ rate.Baud38400 _ (omega arith)
+    (rate_or _ rate.Baud9600 _ (omega arith) (rate_or _ rate.Baud4800 _ (omega arith) (rate_or _ rate.Baud2400 _ (omega arith)
+    (rate_or _ rate.Baud1200 _ (omega arith) (rate_or _ rate.Baud600 _ (omega arith) (rate_or _ rate.Baud300 _ (omega arith)
+    (rate_or _ rate.Baud150 _ (omega arith) (rate_or _ rate.Baud110 (rate.Custom n) (omega arith) (record { number = omega arith })))))))))))
 
 -- a rate that was read is not zero
 rate_read : (word : List ℕ) (rate : BaudRate) → rate_in word ≡ Ok rate → 0 < to_integer rate

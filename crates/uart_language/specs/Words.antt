@@ -46,7 +46,12 @@ name_of word.Write = codes "write"
 name_of word.Text = codes "text"
 
 abbrev pub words : List Word
-words = word.Chip ∷ word.Limit ∷ word.Tick ∷ word.Arrive ∷ word.Lines ∷ word.Access ∷ word.Next ∷ word.Init ∷ word.Loopback ∷ word.Present ∷ word.Connected ∷ word.ReadyReceive ∷ word.ReadySend ∷ word.TryReceive ∷ word.Flush ∷ word.ReadReady ∷ word.WriteReady ∷ word.Ier ∷ word.Isr ∷ word.Lcr ∷ word.Mcr ∷ word.Lsr ∷ word.Msr ∷ word.Spr ∷ word.DllDlm ∷ word.Fifo ∷ word.Dump ∷ word.TrySend ∷ word.Enable ∷ word.Disable ∷ word.Receive ∷ word.ReceiveExact ∷ word.Read ∷ word.Send ∷ word.SendExact ∷ word.Write ∷ word.Text ∷ []
+words =
+    word.Chip ∷ word.Limit ∷ word.Tick ∷ word.Arrive ∷ word.Lines ∷ word.Access ∷ word.Next ∷ word.Init ∷ word.Loopback
+    ∷ word.Present ∷ word.Connected ∷ word.ReadyReceive ∷ word.ReadySend ∷ word.TryReceive ∷ word.Flush ∷ word.ReadReady
+    ∷ word.WriteReady ∷ word.Ier ∷ word.Isr ∷ word.Lcr ∷ word.Mcr ∷ word.Lsr ∷ word.Msr ∷ word.Spr ∷ word.DllDlm
+    ∷ word.Fifo ∷ word.Dump ∷ word.TrySend ∷ word.Enable ∷ word.Disable ∷ word.Receive ∷ word.ReceiveExact ∷ word.Read
+    ∷ word.Send ∷ word.SendExact ∷ word.Write ∷ word.Text ∷ []
 
 -- the word that a text is
 unfoldable pub word_of : List ℕ → Option Word

@@ -104,7 +104,8 @@ fn push_mismatch(
     expected: u8,
     actual: u8,
 ) -> Result<(), AllocError>
-    ensures { OnOk result (out.new.items ≡ out.old.items ++ codes "UnexpectedLoopbackByte expected " ++ decimal expected ++ codes " actual " ++ decimal actual) }
+    ensures { OnOk result (out.new.items ≡
+        out.old.items ++ codes "UnexpectedLoopbackByte expected " ++ decimal expected ++ codes " actual " ++ decimal actual) }
 {
     out.extend_from_slice(b"UnexpectedLoopbackByte expected ")?;
     push_number(alloc, out, usize::from(expected))?;
