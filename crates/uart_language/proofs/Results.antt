@@ -19,5 +19,6 @@ made_twice (Ok a) make wrap c e = e
 made_twice (Err d) make wrap c e = e
 
 -- what is made of a value that was read
-pub made_ok : {A B : Type 0} (r : Result A Cause) (x : A) (make : A → B) (y : B) → read x ≡ r → y ≡ make x → read y ≡ (r >>= (λ a. Ok (make a)))
+pub made_ok : {A B : Type 0} (r : Result A Cause) (x : A) (make : A → B) (y : B) → read x ≡ r → y ≡ make x
+    → read y ≡ (r >>= (λ a. Ok (make a)))
 made_ok r x make y e is = rw (← e, is) refl

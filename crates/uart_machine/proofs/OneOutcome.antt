@@ -115,8 +115,8 @@ module _ (s t x y : State) (a b : Answer) (same : IsSameState s x) where
   step_one (call.Text text) ok p q = by _ _ (saving_leaves_no_choice (SavingCall.write_text text.bytes)) p.1 q.1
 
 -- lists of calls
-chains_one : (s t x y : State) (ps qs : List Link) → All IsRunnable (calls_of ps) → calls_of ps ≡ calls_of qs → Chain s ps t → Chain x qs y →
-    IsSameState s x →
+chains_one : (s t x y : State) (ps qs : List Link) → All IsRunnable (calls_of ps) → calls_of ps ≡ calls_of qs → Chain s ps t →
+    Chain x qs y → IsSameState s x →
     (answers_of ps ≡ answers_of qs) × IsSameState t y
 chains_one s t x y [] [] all same p q start =
     let T : State → Type 0 = λ z. IsSameState z y in
@@ -129,7 +129,8 @@ chains_one s t x y (p ∷ ps) (q ∷ qs) all same h k start =
     let Y : State → Type 0 = λ z. IsSameState s z in
     let C : Call → Type 0 = λ c. CallStep q.before c q.answer q.after in
     let here : IsSameState p.before q.before = subst T (sym h.0) (subst Y (sym k.0) start) in
-    let first = step_one p.before p.after q.before q.after p.answer q.answer here p.call (All-head IsRunnable p.call (calls_of ps) all) h.1 (subst C (sym (same_first same)) k.1) in
+    let runs : IsRunnable p.call = All-head IsRunnable p.call (calls_of ps) all in
+    let first = step_one p.before p.after q.before q.after p.answer q.answer here p.call runs h.1 (subst C (sym (same_first same)) k.1) in
     let rest = chains_one p.after t q.after y ps qs (All-tail IsRunnable p.call (calls_of ps) all) (same_others same) h.2 k.2 first.1 in
     (ap (λ a. a ∷ answers_of ps) first.0 ∙ ap (λ later. q.answer ∷ later) rest.0, rest.1)
 
