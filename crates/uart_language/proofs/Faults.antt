@@ -1,34 +1,6 @@
 -- The parser tells the fault of a line that the definition of the language tells.
-use Rattle.std.proofs.Common.{
-  ◌≡◌,
-  ℕ,
-  suc,
-  ◌≤◌,
-  Bool,
-  true,
-  false,
-  not,
-  cond,
-  eqb,
-  ◌&&◌,
-  List,
-  [],
-  ◌∷◌,
-  length,
-  drop,
-  Option,
-  Some,
-  None,
-  Result,
-  Ok,
-  Err,
-  refl,
-  sym,
-  ap,
-  subst,
-  ◌∙◌,
-  arith,
-}
+use Rattle.std.proofs.Common.{◌≡◌, ℕ, suc, ◌≤◌, Bool, true, false, not, cond, eqb, ◌&&◌, List, [], ◌∷◌, length, drop, Option, Some, None}
+use Rattle.std.proofs.Common.{Result, Ok, Err, refl, sym, ap, subst, ◌∙◌, arith}
 use Rattle.std.specs.Prelude.{codes, bytes_eq}
 use Rattle.std.proofs.lemmas.Slice.Eq.{bytes_eq-Decides}
 use Rattle.std.proofs.lemmas.Bool.{eqb-true, le-ltb}
@@ -43,26 +15,8 @@ use Rattle.uart_language.specs.declared.limits.TheConstants.{MOST_LINES}
 use Rattle.uart_language.specs.declared.words.Word.{Word}
 use Rattle.uart_language.specs.declared.words.Word.TheVariants as word
 use Rattle.uart_language.specs.Text.{words_of, word_at, has_bad_byte}
-use Rattle.uart_language.specs.Fields.{
-  ◌>>=◌,
-  count_in,
-  limit_in,
-  ticks_in,
-  char_ticks_in,
-  wire_capacity_in,
-  byte_in,
-  lines_in,
-  bytes_in,
-  text_in,
-  errors_in,
-  chip_in,
-  cut_in,
-  level_in,
-  rate_in,
-  cts_in,
-  interrupts_in,
-  word_length_in,
-}
+use Rattle.uart_language.specs.Fields.{◌>>=◌, count_in, limit_in, ticks_in, char_ticks_in, wire_capacity_in, byte_in, lines_in, bytes_in}
+use Rattle.uart_language.specs.Fields.{text_in, errors_in, chip_in, cut_in, level_in, rate_in, cts_in, interrupts_in, word_length_in}
 use Rattle.uart_language.specs.Words.{name_of, word_of, fault_of, fields_of, has_count, is_placed}
 use Rattle.uart_language.specs.Sayings.{Nothing, Limit, Calls, Happens, configured, array_of, text_of}
 use Rattle.uart_language.specs.Script.{IsHeader, option_words, fault_where, first_of, field_faults, word_faults, fault_at}

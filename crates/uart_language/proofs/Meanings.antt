@@ -1,33 +1,6 @@
 -- The parser reads a line as the definition of the language says.
-use Rattle.std.proofs.Common.{
-  ◌≡◌,
-  ℕ,
-  suc,
-  ◌<◌,
-  ◌≤◌,
-  Bool,
-  true,
-  false,
-  cond,
-  eqb,
-  ◌||◌,
-  List,
-  [],
-  ◌∷◌,
-  length,
-  Option,
-  Some,
-  None,
-  Result,
-  Ok,
-  Err,
-  refl,
-  sym,
-  subst,
-  arith,
-  inl,
-  inr,
-}
+use Rattle.std.proofs.Common.{◌≡◌, ℕ, suc, ◌<◌, ◌≤◌, Bool, true, false, cond, eqb, ◌||◌, List, [], ◌∷◌, length, Option, Some, None, Result}
+use Rattle.std.proofs.Common.{Ok, Err, refl, sym, subst, arith, inl, inr}
 use Rattle.std.specs.Prelude.{codes, bytes_eq, find}
 use Rattle.std.proofs.Math.Dec.{eqb-suc-zero}
 use Rattle.std.proofs.lemmas.Bool.{eqb-true, ne_eqb, or_cases}
@@ -45,22 +18,8 @@ use Rattle.uart_language.specs.declared.cause.Cause.TheVariants.{BadByte, Mispla
 use Rattle.uart_language.specs.declared.words.Word.{Word}
 use Rattle.uart_language.specs.declared.words.Word.TheVariants as word
 use Rattle.uart_language.specs.Text.{words_of, word_at, has_bad_byte}
-use Rattle.uart_language.specs.Fields.{
-  ◌>>=◌,
-  count_in,
-  limit_in,
-  ticks_in,
-  byte_in,
-  lines_in,
-  bytes_in,
-  text_in,
-  errors_in,
-  level_in,
-  rate_in,
-  cts_in,
-  interrupts_in,
-  word_length_in,
-}
+use Rattle.uart_language.specs.Fields.{◌>>=◌, count_in, limit_in, ticks_in, byte_in, lines_in, bytes_in, text_in, errors_in, level_in}
+use Rattle.uart_language.specs.Fields.{rate_in, cts_in, interrupts_in, word_length_in}
 use Rattle.uart_language.specs.Words.{name_of, words, word_of, has_count, is_placed}
 use Rattle.uart_language.specs.Sayings.{Saying, Nothing, Limit, Happens, Calls, Marks, configured, array_of, text_of, Means}
 use Rattle.uart_language.specs.Sayings as row

@@ -1,32 +1,6 @@
 -- Every script can be played: its numbers are in their ranges, its events are legal and its calls runnable.
-use Rattle.std.proofs.Common.{
-  ◌≡◌,
-  ℕ,
-  suc,
-  ◌+◌,
-  ◌*◌,
-  ◌<◌,
-  ◌≤◌,
-  Bool,
-  true,
-  false,
-  cond,
-  leb,
-  eqb,
-  ◌&&◌,
-  List,
-  [],
-  ◌∷◌,
-  length,
-  Result,
-  Ok,
-  Err,
-  refl,
-  sym,
-  subst,
-  arith,
-  bit_and,
-}
+use Rattle.std.proofs.Common.{◌≡◌, ℕ, suc, ◌+◌, ◌*◌, ◌<◌, ◌≤◌, Bool, true, false, cond, leb, eqb, ◌&&◌, List, [], ◌∷◌, length, Result, Ok}
+use Rattle.std.proofs.Common.{Err, refl, sym, subst, arith, bit_and}
 use Rattle.std.specs.Prelude.{All, flat_map}
 use Rattle.std.specs.Char.{is_ascii_hexdigit, digit_value}
 use Rattle.std.specs.Str.Parse.{digits_value}

@@ -1,27 +1,6 @@
 -- Reading a script line by line, as a loop does.
-use Rattle.std.proofs.Common.{
-  ◌≡◌,
-  ℕ,
-  ◌+◌,
-  ◌<◌,
-  ◌≤◌,
-  true,
-  eqb,
-  List,
-  [],
-  ◌∷◌,
-  ◌++◌,
-  length,
-  Result,
-  Ok,
-  Err,
-  refl,
-  sym,
-  ap,
-  ◌∙◌,
-  arith,
-  append_assoc,
-}
+use Rattle.std.proofs.Common.{◌≡◌, ℕ, ◌+◌, ◌<◌, ◌≤◌, true, eqb, List, [], ◌∷◌, ◌++◌, length, Result, Ok, Err, refl, sym, ap, ◌∙◌, arith}
+use Rattle.std.proofs.Common.{append_assoc}
 use Rattle.std.specs.Prelude.{flat_map, IsOk}
 use Rattle.std.specs.List.{position_or_len}
 use Rattle.std.proofs.lemmas.Bool.{lt-ltb, le-ltb, eqb-true}
@@ -41,18 +20,8 @@ use Rattle.uart_language.specs.Words.{fault_of}
 use Rattle.uart_language.specs.Sayings.{Saying, Nothing, Limit, Happens, Calls, Marks, events_said, calls_said}
 use Rattle.uart_language.specs.Script.{Plan, limit_from}
 use Rattle.uart_language.specs.Items.{item_at, header_at}
-use Rattle.uart_language.specs.Reading.{
-  Fault,
-  sayings_from,
-  with_saying,
-  planned,
-  from_lines,
-  script_of,
-  Refuses,
-  BuildsPlan,
-  Parses,
-  added,
-}
+use Rattle.uart_language.specs.Reading.{Fault, sayings_from, with_saying, planned, from_lines, script_of, Refuses, BuildsPlan, Parses}
+use Rattle.uart_language.specs.Reading.{added}
 use Rattle.uart_language.proofs.Lines.{lines_first, is_end}
 
 abbrev said : Saying → Result Saying Cause

@@ -1,22 +1,6 @@
 -- What is printed.
-use Rattle.std.specs.Prelude.{
-  ℕ,
-  ◌+◌,
-  ◌*◌,
-  ◌/◌,
-  ◌%◌,
-  true,
-  false,
-  List,
-  [],
-  ◌∷◌,
-  ◌++◌,
-  length,
-  map,
-  ◌==◌,
-  if◌then◌else◌,
-  codes,
-}
+use Rattle.std.specs.Prelude.{ℕ, ◌+◌, ◌*◌, ◌/◌, ◌%◌, true, false, List, [], ◌∷◌, ◌++◌, length, map, ◌==◌, if◌then◌else◌}
+use Rattle.std.specs.Prelude.{codes}
 use Rattle.std.specs.List.{flat_map}
 use Rattle.std.specs.Char.{digit_char}
 use Rattle.std.specs.Fmt.{decimal}
@@ -35,18 +19,8 @@ use Rattle.uart_chip.specs.declared.event.ArrivalMark.TheVariants as mark
 use Rattle.uart_calls.specs.declared.call.Answer.{Answer}
 use Rattle.uart_calls.specs.declared.call.Answer.TheVariants as answer
 use Rattle.uart_language.specs.declared.cause.Cause.{Cause}
-use Rattle.uart_language.specs.declared.cause.Cause.TheVariants.{
-  BadByte,
-  Misplaced,
-  UnknownWord,
-  WrongCount,
-  BadWord,
-  BadNumber,
-  BadHex,
-  TooManyBytes,
-  BadText,
-  TooLong,
-}
+use Rattle.uart_language.specs.declared.cause.Cause.TheVariants.{BadByte, Misplaced, UnknownWord, WrongCount, BadWord}
+use Rattle.uart_language.specs.declared.cause.Cause.TheVariants.{BadNumber, BadHex, TooManyBytes, BadText, TooLong}
 
 -- what is wrong with a line
 abbrev pub cause_text : Cause → List ℕ

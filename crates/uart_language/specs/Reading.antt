@@ -1,21 +1,6 @@
 -- How a script is read line by line, as the parser reads it.
-use Rattle.std.specs.Prelude.{
-  ◌≡◌,
-  ℕ,
-  ◌+◌,
-  List,
-  [],
-  ◌∷◌,
-  ◌++◌,
-  Result,
-  Ok,
-  Err,
-  nat_lt,
-  if◌then◌else◌,
-  flat_map,
-  IsOk,
-  length,
-}
+use Rattle.std.specs.Prelude.{◌≡◌, ℕ, ◌+◌, List, [], ◌∷◌, ◌++◌, Result, Ok, Err, nat_lt, if◌then◌else◌, flat_map, IsOk}
+use Rattle.std.specs.Prelude.{length}
 use Rattle.uart_language.specs.declared.cause.Cause.{Cause}
 use Rattle.uart_language.specs.declared.cause.Cause.TheVariants.{Misplaced, TooLong}
 use Rattle.uart_language.specs.declared.cause.ScriptError.{ScriptError}

@@ -12,21 +12,8 @@ use Rattle.uart_chip.specs.declared.event.Event.{Event}
 use Rattle.uart_chip.specs.declared.event.Event.TheVariants as event
 use Rattle.uart_calls.specs.declared.call.Call.{Call}
 use Rattle.uart_calls.specs.declared.call.Call.TheVariants as call
-use Rattle.uart_language.specs.Fields.{
-  count_in,
-  limit_in,
-  ticks_in,
-  byte_in,
-  lines_in,
-  bytes_in,
-  text_in,
-  errors_in,
-  level_in,
-  rate_in,
-  cts_in,
-  interrupts_in,
-  word_length_in,
-}
+use Rattle.uart_language.specs.Fields.{count_in, limit_in, ticks_in, byte_in, lines_in, bytes_in, text_in, errors_in}
+use Rattle.uart_language.specs.Fields.{level_in, rate_in, cts_in, interrupts_in, word_length_in}
 
 -- what one line adds to a script; a mark is an event and the call `Next`
 pub data Saying : Type 0 where

@@ -1,47 +1,12 @@
 -- The words that a line may begin with, and the fields that follow each.
-use Rattle.std.specs.Prelude.{
-  ℕ,
-  ◌+◌,
-  Bool,
-  not,
-  List,
-  [],
-  ◌∷◌,
-  length,
-  Option,
-  Some,
-  None,
-  Result,
-  Ok,
-  Err,
-  ◌==◌,
-  ◌||◌,
-  bytes_eq,
-  codes,
-  find,
-}
+use Rattle.std.specs.Prelude.{ℕ, ◌+◌, Bool, not, List, [], ◌∷◌, length, Option, Some, None, Result, Ok, Err, ◌==◌, ◌||◌}
+use Rattle.std.specs.Prelude.{bytes_eq, codes, find}
 use Rattle.uart_language.specs.declared.cause.Cause.{Cause}
 use Rattle.uart_language.specs.declared.words.Word.{Word}
 use Rattle.uart_language.specs.declared.words.Word.TheVariants as word
-use Rattle.uart_language.specs.Fields.{
-  count_in,
-  limit_in,
-  ticks_in,
-  char_ticks_in,
-  wire_capacity_in,
-  byte_in,
-  lines_in,
-  bytes_in,
-  text_in,
-  errors_in,
-  chip_in,
-  cut_in,
-  level_in,
-  rate_in,
-  cts_in,
-  interrupts_in,
-  word_length_in,
-}
+use Rattle.uart_language.specs.Fields.{count_in, limit_in, ticks_in, char_ticks_in, wire_capacity_in, byte_in, lines_in}
+use Rattle.uart_language.specs.Fields.{bytes_in, text_in, errors_in, chip_in, cut_in, level_in, rate_in, cts_in}
+use Rattle.uart_language.specs.Fields.{interrupts_in, word_length_in}
 
 -- a word as it is written in a script
 abbrev pub name_of : Word → List ℕ

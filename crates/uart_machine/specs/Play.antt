@@ -1,23 +1,6 @@
 -- What a reader gives, what is written for it, and which side failed.
-use Rattle.std.specs.Prelude.{
-  ℕ,
-  ◌<◌,
-  ◌≤◌,
-  ◌==◌,
-  ◌&&◌,
-  nat_lt,
-  Bool,
-  true,
-  false,
-  List,
-  length,
-  take,
-  Option,
-  Result,
-  Ok,
-  Err,
-  ⊤,
-}
+use Rattle.std.specs.Prelude.{ℕ, ◌<◌, ◌≤◌, ◌==◌, ◌&&◌, nat_lt, Bool, true, false, List, length, take, Option, Result}
+use Rattle.std.specs.Prelude.{Ok, Err, ⊤}
 use Rattle.std.specs.Io.KnownBytes.{Consumes, Appends, Keeps, IsAtEnd}
 use Rattle.uart_machine.specs.declared.script.streams.Std.{Std}
 use Rattle.uart_machine.specs.declared.script.playing.TheConstants.{MOST_READ}

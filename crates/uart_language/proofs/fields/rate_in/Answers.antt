@@ -1,20 +1,8 @@
 use Rattle.std.proofs.Common.{◌≡◌, ℕ, false, eqb, refl, sym, ap, ◌∙◌}
 use Rattle.std.proofs.lemmas.Bool.{ne_eqb}
 use Rattle.uart_spec.specs.declared.config.BaudRate.{BaudRate}
-use Rattle.uart_spec.specs.declared.config.BaudRate.TheVariants.{
-  Baud115200,
-  Baud57600,
-  Baud38400,
-  Baud9600,
-  Baud4800,
-  Baud2400,
-  Baud1200,
-  Baud600,
-  Baud300,
-  Baud150,
-  Baud110,
-  Custom,
-}
+use Rattle.uart_spec.specs.declared.config.BaudRate.TheVariants.{Baud115200, Baud57600, Baud38400, Baud9600, Baud4800, Baud2400, Baud1200}
+use Rattle.uart_spec.specs.declared.config.BaudRate.TheVariants.{Baud600, Baud300, Baud150, Baud110, Custom}
 use Rattle.uart_spec.specs.BaudRate.{to_integer, IsNamed}
 use Rattle.uart_language.specs.declared.limits.TheConstants.{MOST_RATE}
 use Rattle.uart_language.specs.Fields.{number_in, rate_of, rate_in}
