@@ -50,7 +50,14 @@ impl Model for Uart {
     // A register is seen as the byte that it holds.
     ghost view = { λ c. record {
       model = c.model;
-      latches = record { ier = c.latches.ier.0; lcr = c.latches.lcr.0; mcr = c.latches.mcr.0; scr = c.latches.scr; dll = c.latches.dll; dlm = c.latches.dlm };
+      latches = record {
+        ier = c.latches.ier.0;
+        lcr = c.latches.lcr.0;
+        mcr = c.latches.mcr.0;
+        scr = c.latches.scr;
+        dll = c.latches.dll;
+        dlm = c.latches.dlm;
+      };
       fifo = c.fifo;
       transmitter = c.transmitter;
       receiver = c.receiver;

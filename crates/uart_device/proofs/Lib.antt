@@ -1,4 +1,5 @@
 pub mod Within
+pub mod Lists
 pub mod Marks
 pub mod ReceiverSounds
 pub mod TransmitterSounds

@@ -10,6 +10,7 @@ use Rattle.uart_chip.specs.declared.receiver.Origin.{Origin}
 use Rattle.uart_chip.specs.declared.receiver.Origin.TheVariants.{Arrived, Looped}
 use Rattle.uart_chip.specs.Receiver.{mark_at, set_mark}
 use Rattle.uart_device.specs.Sound.{IsInQueue, AllInQueue, OtherOrigin, NoneIs, NoneHas, Distinct}
+use Rattle.uart_device.proofs.Lists.{each-append, each-front, each-back, each-weaker}
 
 pub length-set_mark : (o : Origin) (m : ArrivalMark) (marks : List ArrivalMark) → length (set_mark o m marks) ≡ length marks
 length-set_mark (Arrived k) m marks = length-set marks k m
@@ -69,8 +70,10 @@ all_in_queue-set_mark arrived marks stray Looped m queue d h = h
 -- one more has arrived
 pub all_in_queue-next : (arrived : ℕ) (marks : List ArrivalMark) (stray : Bool) (queue : List Character) →
     AllInQueue arrived marks stray queue → AllInQueue (arrived + 1) marks stray queue
-all_in_queue-next arrived marks stray [] h = tt
-all_in_queue-next arrived marks stray (x ∷ xs) h = (one x.origin h.0, all_in_queue-next arrived marks stray xs h.1)
+all_in_queue-next arrived marks stray queue h =
+    each-weaker (λ (x : Character). IsInQueue arrived marks stray x.origin)
+    (λ (x : Character). IsInQueue (arrived + 1) marks stray x.origin)
+    (λ x h. one x.origin h) queue h
   where
     one : (o : Origin) → IsInQueue arrived marks stray o → IsInQueue (arrived + 1) marks stray o
     one (Arrived j) h = (omega (arith, h.0), h.1)
@@ -79,8 +82,9 @@ all_in_queue-next arrived marks stray (x ∷ xs) h = (one x.origin h.0, all_in_q
 -- a looped character came, so none is lost since
 pub all_in_queue-found : (arrived : ℕ) (marks : List ArrivalMark) (stray : Bool) (queue : List Character) →
     AllInQueue arrived marks stray queue → AllInQueue arrived marks false queue
-all_in_queue-found arrived marks stray [] h = tt
-all_in_queue-found arrived marks stray (x ∷ xs) h = (one x.origin h.0, all_in_queue-found arrived marks stray xs h.1)
+all_in_queue-found arrived marks stray queue h =
+    each-weaker (λ (x : Character). IsInQueue arrived marks stray x.origin) (λ (x : Character). IsInQueue arrived marks false x.origin)
+    (λ x h. one x.origin h) queue h
   where
     one : (o : Origin) → IsInQueue arrived marks stray o → IsInQueue arrived marks false o
     one (Arrived j) h = h
@@ -88,22 +92,19 @@ all_in_queue-found arrived marks stray (x ∷ xs) h = (one x.origin h.0, all_in_
 
 pub all_in_queue-append : (arrived : ℕ) (marks : List ArrivalMark) (stray : Bool) (xs ys : List Character) →
     AllInQueue arrived marks stray xs → AllInQueue arrived marks stray ys → AllInQueue arrived marks stray (xs ++ ys)
-all_in_queue-append arrived marks stray [] ys h k = k
-all_in_queue-append arrived marks stray (x ∷ xs) ys h k = (h.0, all_in_queue-append arrived marks stray xs ys h.1 k)
+all_in_queue-append arrived marks stray xs ys h k =
+    each-append (λ (x : Character). IsInQueue arrived marks stray x.origin) xs ys h k
 
 -- ---- each once
 
 pub none_is-append : (k : ℕ) (xs ys : List Character) → NoneIs k xs → NoneIs k ys → NoneIs k (xs ++ ys)
-none_is-append k [] ys h j = j
-none_is-append k (x ∷ xs) ys h j = (h.0, none_is-append k xs ys h.1 j)
+none_is-append k xs ys h j = each-append (λ (x : Character). OtherOrigin k x.origin) xs ys h j
 
 pub none_is-front : (k : ℕ) (xs ys : List Character) → NoneIs k (xs ++ ys) → NoneIs k xs
-none_is-front k [] ys h = tt
-none_is-front k (x ∷ xs) ys h = (h.0, none_is-front k xs ys h.1)
+none_is-front k xs ys h = each-front (λ (x : Character). OtherOrigin k x.origin) xs ys h
 
 pub none_is-back : (k : ℕ) (xs ys : List Character) → NoneIs k (xs ++ ys) → NoneIs k ys
-none_is-back k [] ys h = h
-none_is-back k (x ∷ xs) ys h = none_is-back k xs ys h.1
+none_is-back k xs ys h = each-back (λ (x : Character). OtherOrigin k x.origin) xs ys h
 
 -- a character with a number of its own is put last
 pub distinct-next : (queue : List Character) (new : Character) (k : ℕ) → new.origin ≡ Arrived k → NoneIs k queue → Distinct queue →

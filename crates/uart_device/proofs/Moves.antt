@@ -13,6 +13,7 @@ use Rattle.uart_chip.specs.declared.receiver.Origin.TheVariants.{Arrived, Looped
 use Rattle.uart_chip.specs.Transmitter.{room}
 use Rattle.uart_chip.specs.Receiver.{ReceiverState, mark_at, set_mark, is_looped}
 use Rattle.uart_device.specs.Sound.{IsInQueue, AllInQueue, IsMarked}
+use Rattle.uart_device.proofs.Lists.{each-append, each-weaker}
 use Rattle.uart_device.specs.Conserved.{is_dropped, origin_stands, stands}
 use Rattle.uart_device.proofs.Marks.{none_to_come, all_in_queue-set, all_in_queue-next, all_in_queue-append}
 
@@ -74,13 +75,12 @@ filter-final fifo r (character ∷ characters) h =
 pub all_final-later : (fifo : Bool) (r s : ReceiverState) (characters : List Character) →
     ((o : Origin) → IsFinal fifo r o → IsFinal fifo s o) →
     AllFinal fifo r characters → AllFinal fifo s characters
-all_final-later fifo r s [] f h = tt
-all_final-later fifo r s (character ∷ characters) f h = (f character.origin h.0, all_final-later fifo r s characters f h.1)
+all_final-later fifo r s characters f h =
+    each-weaker (λ (x : Character). IsFinal fifo r x.origin) (λ (x : Character). IsFinal fifo s x.origin) (λ x h. f x.origin h) characters h
 
 pub all_final-append : (fifo : Bool) (r : ReceiverState) (xs ys : List Character) → AllFinal fifo r xs → AllFinal fifo r ys →
     AllFinal fifo r (xs ++ ys)
-all_final-append fifo r [] ys h k = k
-all_final-append fifo r (x ∷ xs) ys h k = (h.0, all_final-append fifo r xs ys h.1 k)
+all_final-append fifo r xs ys h k = each-append (λ (x : Character). IsFinal fifo r x.origin) xs ys h k
 
 -- a test that passes less may be made of what another passed
 pub filter-twice : (p q : Character → Bool) → ((character : Character) → q character ≡ true → p character ≡ true) → (xs : List Character) →
@@ -145,8 +145,7 @@ final-set fifo r s k m h e (Arrived j) c g = rw e (read-set r.marks k m j h g)
 final-set fifo r s k m h e Looped c g = c g
 
 pub none_looped-append : (xs ys : List Character) → NoneLooped xs → NoneLooped ys → NoneLooped (xs ++ ys)
-none_looped-append [] ys h k = k
-none_looped-append (x ∷ xs) ys h k = (h.0, none_looped-append xs ys h.1 k)
+none_looped-append xs ys h k = each-append (λ (x : Character). is_looped x.origin ≡ false) xs ys h k
 
 pub cannot_stray-more : (fifo : Bool) (r s : ReceiverState) (new : Character) → new.origin ≡ Arrived r.arrived →
     s.queue ≡ r.queue ++ new ∷ [] →

@@ -14,6 +14,7 @@ use Rattle.uart_chip.specs.Transmitter.{room}
 use Rattle.uart_chip.specs.Receiver.{ReceiverState, set_mark, replace, come_back, grow_timeout, tick, arrive, take_front, report, discard}
 use Rattle.uart_chip.specs.Receiver.{clear}
 use Rattle.uart_device.specs.Sound.{IsInQueue, AllInQueue, NoneIs, Distinct, AllErrorsLegal, IsSoundReceiver}
+use Rattle.uart_device.proofs.Lists.{each-append}
 use Rattle.uart_device.proofs.Marks.{length-set_mark, none_to_come, all_in_queue-set, all_in_queue-set_mark, all_in_queue-next}
 use Rattle.uart_device.proofs.Marks.{all_in_queue-found, all_in_queue-append, distinct-next, distinct-looped, ToCome, Settled, NoOther}
 use Rattle.uart_device.proofs.Marks.{to_come-next, to_come-set, settled-next, settled-set, no_other-set, no_other-rest, no_other-next}
@@ -37,8 +38,8 @@ length-next queue new n e = let free : length queue < n = grind (arith, common_s
 
 legal-next : (queue : List Character) (new : Character) → IsWithin new.errors LSR.CHARACTER_ERRORS.0 → AllErrorsLegal queue →
     AllErrorsLegal (queue ++ new ∷ [])
-legal-next [] new n h = (n, tt)
-legal-next (x ∷ xs) new n h = (h.0, legal-next xs new n h.1)
+legal-next queue new n h =
+    each-append (λ (x : Character). IsWithin x.errors LSR.CHARACTER_ERRORS.0) queue (new ∷ []) h (n, tt)
 
 counted-next : (arrived k : ℕ) (m : ArrivalMark) (marks : List ArrivalMark) → arrived < length marks →
     arrived + 1 ≤ length (slice_set marks k m)

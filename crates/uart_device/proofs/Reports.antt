@@ -2,7 +2,7 @@
 use Rattle.std.proofs.Common.{◌≡◌, ℕ, ◌+◌, ◌<◌, min, max, Bool, true, false, ◌==◌, ◌⊎◌, inl, inr, nat_lt, List, [], ◌∷◌, ◌++◌, length}
 use Rattle.std.proofs.Common.{Option, Some, refl, arith, sym, ◌∙◌, ap, subst, if◌then◌else◌, bit_and, bit_or}
 use Rattle.std.proofs.lemmas.Grind.{common_steps}
-use Rattle.std.proofs.lemmas.Nat.{and_assoc}
+use Rattle.std.proofs.lemmas.Nat.{and_assoc, or_comm}
 use Rattle.std.proofs.lemmas.Nat.Bits.{same_from_bits, bit_at_or, bit_at_and}
 use Rattle.std.specs.Int.{bit_at}
 use Rattle.std.specs.Int.Bits.{and_self}
@@ -32,15 +32,7 @@ within-left e a b p = same_from_bits _ _ (λ i. at i)
         joined x y z p = omega arith
 
 pub within-right : (e a b : ℕ) → IsWithin e b → IsWithin e (bit_or a b)
-within-right e a b p = same_from_bits _ _ (λ i. at i)
-  where
-    at : (i : ℕ) → bit_at (bit_and e (bit_or a b)) i ≡ bit_at e i
-    at i =
-        let x : min (bit_at e i) (bit_at b i) ≡ bit_at e i = sym (bit_at_and e b i) ∙ ap (λ n. bit_at n i) p in
-        bit_at_and e (bit_or a b) i ∙ (ap (min (bit_at e i)) (bit_at_or a b i) ∙ joined (bit_at e i) (bit_at a i) (bit_at b i) x)
-      where
-        joined : (x y z : ℕ) → min x z ≡ x → min x (max y z) ≡ x
-        joined x y z p = omega arith
+within-right e a b p = subst (λ (m : ℕ). IsWithin e m) (or_comm b a) (within-left e b a p)
 
 pub within-both : (e a b : ℕ) → IsWithin e a → IsWithin e b → IsWithin e (bit_and a b)
 within-both e a b p q = sym (and_assoc b e a) ∙ (ap (λ v. bit_and v b) p ∙ q)

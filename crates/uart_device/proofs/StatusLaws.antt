@@ -17,6 +17,7 @@ use Rattle.uart_chip.specs.Machine.{MachineState, MachineStep}
 use Rattle.uart_device.specs.Conserved.{between, IsDrop}
 use Rattle.uart_device.specs.Laws.{reported_front, IsTold, AllTold, changes_in}
 use Rattle.uart_chip.proofs.Bits.{has_or, has_and}
+use Rattle.uart_device.proofs.Lists.{each-weaker}
 use Rattle.uart_device.proofs.Within.{within_and, within_or}
 use Rattle.uart_device.proofs.Receives.{Shows}
 use Rattle.uart_device.proofs.Reports.{within-right, Told, FrontTold, TakenTold}
@@ -138,8 +139,7 @@ told-by fifo old a b h k f (inr (inr e)) = inr (inr (e.0, k e.1))
 all_told-by : (fifo : Bool) (old : Option Character) (a b : ℕ) → ((e : ℕ) → IsWithin e a → IsWithin e b) →
     (has_any a LSR.OVERRUN_ERROR.0 ≡ true → has_any b LSR.OVERRUN_ERROR.0 ≡ true) → (fs : List Character) →
     AllTold fifo old a fs → AllTold fifo old b fs
-all_told-by fifo old a b h k [] t = tt
-all_told-by fifo old a b h k (f ∷ fs) t = (told-by fifo old a b h k f t.0, all_told-by fifo old a b h k fs t.1)
+all_told-by fifo old a b h k fs t = each-weaker (IsTold fifo old a) (IsTold fifo old b) (told-by fifo old a b h k) fs t
 
 -- the overrun flag in what was shown, the last look among it, and in the reply
 overrun-in : (seen status : ℕ) →

@@ -1,5 +1,6 @@
 -- Reading digits one after the other, as a loop does.
-use Rattle.std.proofs.Common.{◌≡◌, ℕ, suc, ◌+◌, ◌-◌, ◌*◌, ◌^◌, ◌<◌, ◌≤◌, Bool, true, false, List, [], ◌∷◌, ◌++◌, length, get_or, take, drop, refl, sym, ap, subst, ◌∙◌, arith, add-one, drop-cons, append_assoc}
+use Rattle.std.proofs.Common.{◌≡◌, ℕ, suc, ◌+◌, ◌-◌, ◌*◌, ◌^◌, ◌<◌, ◌≤◌, Bool, true, false, List, [], ◌∷◌, ◌++◌, length, get_or, take, drop}
+use Rattle.std.proofs.Common.{refl, sym, ap, subst, ◌∙◌, arith, add-one, drop-cons, append_assoc}
 use Rattle.std.specs.List.{list_all}
 use Rattle.std.specs.Char.{is_ascii_digit, is_ascii_hexdigit, digit_value}
 use Rattle.std.specs.Str.Parse.{digits_value, digits_value_after}
@@ -23,15 +24,18 @@ pub record DigitsRead (word : List ℕ) (value i : ℕ) : Type 0 where
   pub same : digits_value_after 10 value (drop i word) ≡ digits_value 10 word
   pub digits : list_all is_ascii_digit (drop i word) ≡ true
 
-pub is_digit_at : (word : List ℕ) (value i d : ℕ) → i < length word → d ≡ get_or word i 0 → DigitsRead word value i → is_ascii_digit d ≡ true
+pub is_digit_at : (word : List ℕ) (value i d : ℕ) → i < length word → d ≡ get_or word i 0 → DigitsRead word value i
+    → is_ascii_digit d ≡ true
 is_digit_at word value i d lt e r =
     let split : drop i word ≡ get_or word i 0 ∷ drop (suc i) word = drop-cons word i 0 lt in
-    rw e ((head_is is_ascii_digit (get_or word i 0) (drop (suc i) word) (subst (λ (w : List ℕ). list_all is_ascii_digit w ≡ true) split r.digits)).0)
+    rw e ((head_is is_ascii_digit (get_or word i 0) (drop (suc i) word)
+    (subst (λ (w : List ℕ). list_all is_ascii_digit w ≡ true) split r.digits)).0)
 
 pub small_before : (word : List ℕ) (value i : ℕ) → i < length word → length word ≤ 10 → DigitsRead word value i → value < 10 ^ 9
 small_before word value i lt short r = omega (arith, r.below, pow-le-pow_right {n = 10} (omega arith) {i = i} {j = 9} (omega arith))
 
-pub reads_on : (word : List ℕ) (value i d v : ℕ) → i < length word → d ≡ get_or word i 0 → v ≡ digit_value d → v < 10 → DigitsRead word value i → DigitsRead word (value * 10 + v) (i + 1)
+pub reads_on : (word : List ℕ) (value i d v : ℕ) → i < length word → d ≡ get_or word i 0 → v ≡ digit_value d → v < 10
+    → DigitsRead word value i → DigitsRead word (value * 10 + v) (i + 1)
 reads_on word value i d v lt e ve small r =
     let split : drop i word ≡ d ∷ drop (i + 1) word = rw (e, add-one) (drop-cons word i 0 lt) in
     record {
@@ -51,7 +55,8 @@ pub record PairsRead (word bytes rest : List ℕ) : Type 0 where
   pub digits : list_all is_ascii_hexdigit rest ≡ true
   pub fits : 2 * length bytes + length rest < 130
 
-pub pairs_on : (word bytes rest : List ℕ) (high low : ℕ) → 2 ≤ length rest → high ≡ digit_value (get_or rest 0 0) → low ≡ digit_value (get_or rest 1 0) → PairsRead word bytes rest
+pub pairs_on : (word bytes rest : List ℕ) (high low : ℕ) → 2 ≤ length rest → high ≡ digit_value (get_or rest 0 0)
+    → low ≡ digit_value (get_or rest 1 0) → PairsRead word bytes rest
     → PairsRead word (bytes ++ (16 * high + low) ∷ []) (take (length rest - 2) (drop 2 rest))
 unfolding pairs_of
 pairs_on word bytes [] high low h he le r = absurd (omega arith)
@@ -65,7 +70,8 @@ pairs_on word bytes (a ∷ b ∷ rest) high low h he le r =
       fits = omega (arith, r.fits, length-append bytes ((16 * high + low) ∷ []));
     })
 
-pub are_digits : (word bytes rest : List ℕ) → 2 ≤ length rest → PairsRead word bytes rest → (is_ascii_hexdigit (get_or rest 0 0) ≡ true) × (is_ascii_hexdigit (get_or rest 1 0) ≡ true)
+pub are_digits : (word bytes rest : List ℕ) → 2 ≤ length rest → PairsRead word bytes rest
+    → (is_ascii_hexdigit (get_or rest 0 0) ≡ true) × (is_ascii_hexdigit (get_or rest 1 0) ≡ true)
 are_digits word bytes [] h r = absurd (omega arith)
 are_digits word bytes (a ∷ []) h r = absurd (omega arith)
 are_digits word bytes (a ∷ b ∷ rest) h r =
@@ -78,7 +84,8 @@ are_read word bytes [] h r = sym (append-nil bytes) ∙ r.same
 are_read word bytes (a ∷ []) h r = sym (append-nil bytes) ∙ r.same
 are_read word bytes (a ∷ b ∷ rest) h r = absurd (omega arith)
 
-pub text_is : (word bytes at text start new : List ℕ) → read bytes ≡ bytes_in word → at ≡ bytes → (text ≡ at) × IsUtf8 at → start ≡ [] → new ≡ start ++ text → read new ≡ text_in word
+pub text_is : (word bytes at text start new : List ℕ) → read bytes ≡ bytes_in word → at ≡ bytes → (text ≡ at) × IsUtf8 at → start ≡ []
+    → new ≡ start ++ text → read new ≡ text_in word
 unfolding text_in
 text_is word bytes at text start new e a t s n =
     let utf8 : is_utf8 bytes ≡ true = rw (← a) (is_utf8-from_IsUtf8 at t.1) in

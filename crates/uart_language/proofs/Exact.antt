@@ -1,5 +1,6 @@
 -- The parser reads exactly the scripts, and tells exactly the first fault of bytes that are none.
-use Rattle.std.proofs.Common.{◌≡◌, ℕ, ◌+◌, ◌≤◌, Bool, true, false, cond, ltb, List, [], ◌∷◌, ◌++◌, length, Option, Some, None, Result, Ok, Err, refl, sym, ap, subst, ◌∙◌, arith, inl, inr, ◌⊎◌}
+use Rattle.std.proofs.Common.{◌≡◌, ℕ, ◌+◌, ◌≤◌, Bool, true, false, cond, ltb, List, [], ◌∷◌, ◌++◌, length, Option, Some, None, Result, Ok}
+use Rattle.std.proofs.Common.{Err, refl, sym, ap, subst, ◌∙◌, arith, inl, inr, ◌⊎◌}
 use Rattle.std.specs.List.{position_or_len}
 use Rattle.std.proofs.lemmas.Bool.{cases_lt, ltb-true, ltb-false, lt-ltb, le-ltb}
 use Rattle.uart_language.specs.declared.cause.Cause.{Cause}
@@ -34,7 +35,8 @@ fault_where_told (Err g) f e = cc
 -- ---- one line with its number
 
 -- a numbered line is read, or has the fault that the definition tells
-numbered_ok : (number : ℕ) (line : List ℕ) (long : Bool) (r : Result Saying Cause) (s : Saying) → on_line number (cond long (Err TooLong) r) ≡ Ok s → (long ≡ false) × (r ≡ Ok s)
+numbered_ok : (number : ℕ) (line : List ℕ) (long : Bool) (r : Result Saying Cause) (s : Saying)
+    → on_line number (cond long (Err TooLong) r) ≡ Ok s → (long ≡ false) × (r ≡ Ok s)
 numbered_ok number line true r s e = absurd cc
 numbered_ok number line false (Ok x) s e = (refl, cc)
 numbered_ok number line false (Err c) s e = absurd cc
@@ -56,7 +58,8 @@ on_line_fault number (Err c) = refl
 numbered_fault : (number : ℕ) (line : List ℕ) → 2 ≤ number → fault_of (numbered number line) ≡ at_line number (fault_at number line)
 numbered_fault number line le = elim (cases_lt MOST_LINES number) [
   | inl lt ↦ rw (lt-ltb MOST_LINES number lt) refl
-  | inr most ↦ ap fault_of (numbered_is number line most) ∙ on_line_fault number (item_at number line) ∙ ap (at_line number) (line_fault number line le most)
+  | inr most ↦ ap fault_of (numbered_is number line most) ∙ on_line_fault number (item_at number line)
+      ∙ ap (at_line number) (line_fault number line le most)
 ]
 
 -- a numbered line that the definition finds no fault with is read
@@ -64,8 +67,10 @@ is_numbered : (number : ℕ) (line : List ℕ) → 2 ≤ number → fault_at num
 is_numbered number line le e = value_where (numbered number line) (numbered_fault number line le ∙ ap (at_line number) e)
 
 -- and one that it finds a fault with is refused by it
-is_refused : (number : ℕ) (line : List ℕ) (c : Cause) → 2 ≤ number → fault_at number line ≡ Some c → numbered number line ≡ Err (fault number c)
-is_refused number line c le e = fault_where_told (numbered number line) (fault number c) (numbered_fault number line le ∙ ap (at_line number) e)
+is_refused : (number : ℕ) (line : List ℕ) (c : Cause) → 2 ≤ number → fault_at number line ≡ Some c
+    → numbered number line ≡ Err (fault number c)
+is_refused number line c le e =
+    fault_where_told (numbered number line) (fault number c) (numbered_fault number line le ∙ ap (at_line number) e)
 
 no_fault_at : (number : ℕ) (o : Option Cause) → None ≡ at_line number o → o ≡ None
 no_fault_at number None e = refl
@@ -73,31 +78,39 @@ no_fault_at number (Some c) e = absurd cc
 
 fault_is_at : (number : ℕ) (o : Option Cause) (f : Fault) → Some f ≡ at_line number o → (f.line ≡ number) × (o ≡ Some f.cause)
 fault_is_at number None f e = absurd cc
-fault_is_at number (Some c) f e = let same : f ≡ fault number c = cc in (ap (λ (x : Fault). x.line) same, ap (λ (x : Fault). Some x.cause) (sym same))
+fault_is_at number (Some c) f e =
+    let same : f ≡ fault number c = cc in (ap (λ (x : Fault). x.line) same, ap (λ (x : Fault). Some x.cause) (sym same))
 
 -- ---- the lines after the first
 
-before_ok : (r : Result Saying Fault) (rest : Result (List Saying) Fault) (sayings : List Saying) → before r rest ≡ Ok sayings → (s : Saying) × (ss : List Saying) × (r ≡ Ok s) × (rest ≡ Ok ss) × (s ∷ ss ≡ sayings)
+before_ok : (r : Result Saying Fault) (rest : Result (List Saying) Fault) (sayings : List Saying) → before r rest ≡ Ok sayings
+    → (s : Saying) × (ss : List Saying) × (r ≡ Ok s) × (rest ≡ Ok ss) × (s ∷ ss ≡ sayings)
 before_ok (Ok s) (Ok ss) sayings e = (s, ss, refl, refl, cc)
 before_ok (Ok s) (Err f) sayings e = absurd cc
 before_ok (Err f) rest sayings e = absurd cc
 
-before_err : (r : Result Saying Fault) (rest : Result (List Saying) Fault) (f : Fault) → before r rest ≡ Err f → (r ≡ Err f) ⊎ ((s : Saying) × (r ≡ Ok s) × (rest ≡ Err f))
+before_err : (r : Result Saying Fault) (rest : Result (List Saying) Fault) (f : Fault) → before r rest ≡ Err f
+    → (r ≡ Err f) ⊎ ((s : Saying) × (r ≡ Ok s) × (rest ≡ Err f))
 before_err (Ok s) (Ok ss) f e = absurd cc
 before_err (Ok s) (Err g) f e = inr (s, refl, cc)
 before_err (Err g) rest f e = inl cc
 
 -- what is read of lines is what they say, and they are not too many
-all_said : (number : ℕ) (lines : List (List ℕ)) (sayings : List Saying) → 2 ≤ number → number ≤ MOST_LINES + 1 → sayings_from number lines ≡ Ok sayings → SayInOrder number lines sayings × (number + length lines ≤ MOST_LINES + 1)
+all_said : (number : ℕ) (lines : List (List ℕ)) (sayings : List Saying) → 2 ≤ number → number ≤ MOST_LINES + 1
+    → sayings_from number lines ≡ Ok sayings → SayInOrder number lines sayings × (number + length lines ≤ MOST_LINES + 1)
 unfolding sayings_from
-all_said number [] sayings le most e = let none : [] ≡ sayings = cc in (subst (λ (x : List Saying). SayInOrder number [] x) none tt, omega arith)
+all_said number [] sayings le most e =
+    let none : [] ≡ sayings = cc in (subst (λ (x : List Saying). SayInOrder number [] x) none tt, omega arith)
 all_said number (line ∷ lines) sayings le most e =
     let r = before_ok (numbered number line) (sayings_from (number + 1) lines) sayings e in
     let first = is_line number line r.0 r.2 in
-    let rest = all_said (number + 1) lines r.1 (omega arith) (omega (arith, first.0)) r.3 in
-    (subst (λ (x : List Saying). SayInOrder number (line ∷ lines) x) r.4 (says_what_is_read number line r.0 le first.1, rest.0), omega (arith, rest.1))
+    let rest = all_said (number + 1) lines r.1 (omega arith) (omega (arith, first.0)) r.3 in (
+      subst (λ (x : List Saying). SayInOrder number (line ∷ lines) x) r.4 (says_what_is_read number line r.0 le first.1, rest.0),
+      omega (arith, rest.1),
+    )
 
-all_read : (number : ℕ) (lines : List (List ℕ)) (sayings : List Saying) → 2 ≤ number → number + length lines ≤ MOST_LINES + 1 → SayInOrder number lines sayings → sayings_from number lines ≡ Ok sayings
+all_read : (number : ℕ) (lines : List (List ℕ)) (sayings : List Saying) → 2 ≤ number → number + length lines ≤ MOST_LINES + 1
+    → SayInOrder number lines sayings → sayings_from number lines ≡ Ok sayings
 unfolding sayings_from
 all_read number [] [] le most h = refl
 all_read number [] (s ∷ sayings) le most h = absurd h
@@ -107,12 +120,22 @@ all_read number (line ∷ lines) (s ∷ sayings) le most h =
     let rest = all_read (number + 1) lines sayings (omega arith) (omega arith) h.1 in
     rw (first, rest) refl
 
-first_is_told : (number : ℕ) (line : List ℕ) (lines : List (List ℕ)) (f : Fault) → 2 ≤ number → numbered number line ≡ Err f → IsFirstFault number (line ∷ lines) f.line f.cause
+first_is_told : (number : ℕ) (line : List ℕ) (lines : List (List ℕ)) (f : Fault) → 2 ≤ number → numbered number line ≡ Err f
+    → IsFirstFault number (line ∷ lines) f.line f.cause
 first_is_told number line lines f le e =
     let told = fault_is_at number (fault_at number line) f (sym (ap fault_of e) ∙ numbered_fault number line le) in
-    record { before = []; line = line; after = lines; cut = refl; faultless = tt; number_is = omega (arith, told.0); faulty = rw told.0 told.1 }
+    record {
+      before = [];
+      line = line;
+      after = lines;
+      cut = refl;
+      faultless = tt;
+      number_is = omega (arith, told.0);
+      faulty = rw told.0 told.1;
+    }
 
-later_is_told : (number : ℕ) (line : List ℕ) (lines : List (List ℕ)) (at : ℕ) (c : Cause) → fault_at number line ≡ None → IsFirstFault (number + 1) lines at c → IsFirstFault number (line ∷ lines) at c
+later_is_told : (number : ℕ) (line : List ℕ) (lines : List (List ℕ)) (at : ℕ) (c : Cause) → fault_at number line ≡ None
+    → IsFirstFault (number + 1) lines at c → IsFirstFault number (line ∷ lines) at c
 later_is_told number line lines at c none later = record {
   before = line ∷ later.before;
   line = later.line;
@@ -124,7 +147,8 @@ later_is_told number line lines at c none later = record {
 }
 
 -- the fault that is told of lines is their first
-told_is_first : (number : ℕ) (lines : List (List ℕ)) (f : Fault) → 2 ≤ number → sayings_from number lines ≡ Err f → IsFirstFault number lines f.line f.cause
+told_is_first : (number : ℕ) (lines : List (List ℕ)) (f : Fault) → 2 ≤ number → sayings_from number lines ≡ Err f
+    → IsFirstFault number lines f.line f.cause
 unfolding sayings_from
 told_is_first number [] f le e = absurd cc
 told_is_first number (line ∷ lines) f le e = elim (before_err (numbered number line) (sayings_from (number + 1) lines) f e) [
@@ -134,7 +158,8 @@ told_is_first number (line ∷ lines) f le e = elim (before_err (numbered number
       later_is_told number line lines f.line f.cause none (told_is_first (number + 1) lines f (omega arith) later.2)
 ]
 
-first_is : (start : ℕ) (front : List (List ℕ)) (line : List ℕ) (after : List (List ℕ)) (number : ℕ) (c : Cause) → 2 ≤ start → AreFaultless start front → number ≡ start + length front → fault_at number line ≡ Some c
+first_is : (start : ℕ) (front : List (List ℕ)) (line : List ℕ) (after : List (List ℕ)) (number : ℕ) (c : Cause) → 2 ≤ start
+    → AreFaultless start front → number ≡ start + length front → fault_at number line ≡ Some c
     → sayings_from start (front ++ line ∷ after) ≡ Err (fault number c)
 unfolding sayings_from
 first_is start [] line after number c le none e told =
@@ -150,7 +175,8 @@ on_line_ok : {A : Type 0} (number : ℕ) (r : Result A Cause) (x : A) → on_lin
 on_line_ok number (Ok y) x e = cc
 on_line_ok number (Err c) x e = absurd cc
 
-planned_ok : (header : Header) (r : Result (List Saying) Fault) (plan : Plan) → planned header r ≡ Ok plan → (sayings : List Saying) × (r ≡ Ok sayings) × (plan_by header sayings ≡ plan)
+planned_ok : (header : Header) (r : Result (List Saying) Fault) (plan : Plan) → planned header r ≡ Ok plan
+    → (sayings : List Saying) × (r ≡ Ok sayings) × (plan_by header sayings ≡ plan)
 unfolding planned
 planned_ok header (Ok sayings) plan e = (sayings, refl, cc)
 planned_ok header (Err f) plan e = absurd cc
@@ -160,7 +186,8 @@ unfolding planned
 planned_err header (Ok sayings) f e = absurd cc
 planned_err header (Err g) f e = cc
 
-is_script_by : (bytes first : List ℕ) (others : List (List ℕ)) (plan : Plan) → length bytes ≤ MOST_BYTES → lines_of bytes ≡ first ∷ others → from_lines (first ∷ others) ≡ Ok plan → IsScript bytes plan
+is_script_by : (bytes first : List ℕ) (others : List (List ℕ)) (plan : Plan) → length bytes ≤ MOST_BYTES → lines_of bytes ≡ first ∷ others
+    → from_lines (first ∷ others) ≡ Ok plan → IsScript bytes plan
 unfolding from_lines
 is_script_by bytes first others plan fits l e =
     let h = bind_ok (on_line 1 (header_at first)) (λ header. planned header (sayings_from 2 others)) plan e in
@@ -180,7 +207,8 @@ is_script_by bytes first others plan fits l e =
       calls = refl;
     })
 
-script_by_lines : (bytes : List ℕ) (lines : List (List ℕ)) (plan : Plan) → length bytes ≤ MOST_BYTES → lines_of bytes ≡ lines → from_lines lines ≡ Ok plan → IsScript bytes plan
+script_by_lines : (bytes : List ℕ) (lines : List (List ℕ)) (plan : Plan) → length bytes ≤ MOST_BYTES → lines_of bytes ≡ lines
+    → from_lines lines ≡ Ok plan → IsScript bytes plan
 unfolding from_lines
 script_by_lines bytes [] plan fits l e = absurd cc
 script_by_lines bytes (first ∷ others) plan fits l e = is_script_by bytes first others plan fits l e
@@ -192,34 +220,61 @@ fits_by false r x e = (refl, e)
 -- what is read is a script that the bytes are
 pub is_script : (bytes : List ℕ) (plan : Plan) → script_of bytes ≡ Ok plan → IsScript bytes plan
 unfolding script_of
-is_script bytes plan e = let r = fits_by _ (from_lines (lines_of bytes)) plan e in script_by_lines bytes (lines_of bytes) plan (ltb-false _ _ r.0) refl r.1
+is_script bytes plan e =
+    let r = fits_by _ (from_lines (lines_of bytes)) plan e in script_by_lines bytes (lines_of bytes) plan (ltb-false _ _ r.0) refl r.1
 
 -- a script that the bytes are is read
 pub script_is_read : (bytes : List ℕ) (plan : Plan) → IsScript bytes plan → script_of bytes ≡ Ok plan
 unfolding script_of from_lines planned
 script_is_read bytes plan s =
     let read = all_read 2 s.others s.sayings (omega arith) (omega (arith, s.few)) s.body in
-    rw (le-ltb MOST_BYTES (length bytes) s.fits, s.lines, reads_header s.first plan.chip plan.ticks plan.wire_capacity plan.cuts s.header, read, ← s.limit, ← s.events, ← s.calls) refl
+    rw (
+      le-ltb MOST_BYTES (length bytes) s.fits,
+      s.lines,
+      reads_header s.first plan.chip plan.ticks plan.wire_capacity plan.cuts s.header,
+      read,
+      ← s.limit,
+      ← s.events,
+      ← s.calls,
+    ) refl
 
 no_lines : (bytes : List ℕ) → lines_of bytes ≡ [] → bytes ≡ []
 no_lines [] e = refl
 no_lines (b ∷ bytes) e = let cons = lines_first (b ∷ bytes) (position_or_len is_end (b ∷ bytes)) (omega arith) refl in absurd cc
 
 header_told : (first : List ℕ) (others : List (List ℕ)) (c : Cause) → header_at first ≡ Err c → IsFirstFault 1 (first ∷ others) 1 c
-header_told first others c e = record { before = []; line = first; after = others; cut = refl; faultless = tt; number_is = refl; faulty = sym (header_fault first) ∙ ap fault_of e }
+header_told first others c e = record {
+  before = [];
+  line = first;
+  after = others;
+  cut = refl;
+  faultless = tt;
+  number_is = refl;
+  faulty = sym (header_fault first) ∙ ap fault_of e;
+}
 
-lines_told : (first : List ℕ) (others : List (List ℕ)) (r : Result Header Cause) (f : Fault) → header_at first ≡ r → (on_line 1 r >>= (λ header. planned header (sayings_from 2 others))) ≡ Err f → IsFirstFault 1 (first ∷ others) f.line f.cause
-lines_told first others (Err c) f h e = let told : fault 1 c ≡ f = cc in subst (λ (x : Fault). IsFirstFault 1 (first ∷ others) x.line x.cause) told (header_told first others c h)
+lines_told : (first : List ℕ) (others : List (List ℕ)) (r : Result Header Cause) (f : Fault) → header_at first ≡ r
+    → (on_line 1 r >>= (λ header. planned header (sayings_from 2 others))) ≡ Err f → IsFirstFault 1 (first ∷ others) f.line f.cause
+lines_told first others (Err c) f h e =
+    let told : fault 1 c ≡ f = cc in
+    subst (λ (x : Fault). IsFirstFault 1 (first ∷ others) x.line x.cause) told (header_told first others c h)
 lines_told first others (Ok header) f h e =
-    later_is_told 1 first others f.line f.cause (sym (header_fault first) ∙ ap fault_of h) (told_is_first 2 others f (omega arith) (planned_err header (sayings_from 2 others) f e))
+    later_is_told 1 first others f.line f.cause (sym (header_fault first) ∙ ap fault_of h)
+    (told_is_first 2 others f (omega arith) (planned_err header (sayings_from 2 others) f e))
 
-faulty_by_lines : (bytes : List ℕ) (lines : List (List ℕ)) (f : Fault) → length bytes ≤ MOST_BYTES → lines_of bytes ≡ lines → from_lines lines ≡ Err f → IsFaulty bytes f.line f.cause
+faulty_by_lines : (bytes : List ℕ) (lines : List (List ℕ)) (f : Fault) → length bytes ≤ MOST_BYTES → lines_of bytes ≡ lines
+    → from_lines lines ≡ Err f → IsFaulty bytes f.line f.cause
 unfolding from_lines
-faulty_by_lines bytes [] f fits l e = let told : fault 1 Misplaced ≡ f = cc in empty (no_lines bytes l) (ap (λ (x : Fault). x.line) (sym told)) (ap (λ (x : Fault). x.cause) (sym told))
+faulty_by_lines bytes [] f fits l e =
+    let told : fault 1 Misplaced ≡ f = cc in
+    empty (no_lines bytes l) (ap (λ (x : Fault). x.line) (sym told)) (ap (λ (x : Fault). x.cause) (sym told))
 faulty_by_lines bytes (first ∷ others) f fits l e = faulty fits (rw l (lines_told first others (header_at first) f refl e))
 
-faulty_by : (bytes : List ℕ) (f : Fault) (long_text : Bool) → ltb MOST_BYTES (length bytes) ≡ long_text → cond long_text (Err (fault 0 TooLong)) (from_lines (lines_of bytes)) ≡ Err f → IsFaulty bytes f.line f.cause
-faulty_by bytes f true l e = let told : fault 0 TooLong ≡ f = cc in long (ltb-true _ _ l) (ap (λ (x : Fault). x.line) (sym told)) (ap (λ (x : Fault). x.cause) (sym told))
+faulty_by : (bytes : List ℕ) (f : Fault) (long_text : Bool) → ltb MOST_BYTES (length bytes) ≡ long_text
+    → cond long_text (Err (fault 0 TooLong)) (from_lines (lines_of bytes)) ≡ Err f → IsFaulty bytes f.line f.cause
+faulty_by bytes f true l e =
+    let told : fault 0 TooLong ≡ f = cc in
+    long (ltb-true _ _ l) (ap (λ (x : Fault). x.line) (sym told)) (ap (λ (x : Fault). x.cause) (sym told))
 faulty_by bytes f false l e = faulty_by_lines bytes (lines_of bytes) f (ltb-false _ _ l) refl e
 
 -- what is told of bytes that are no script is their first fault
@@ -227,7 +282,8 @@ pub is_faulty : (bytes : List ℕ) (f : Fault) → script_of bytes ≡ Err f →
 unfolding script_of
 is_faulty bytes f e = faulty_by bytes f _ refl e
 
-first_told : (front : List (List ℕ)) (line : List ℕ) (after : List (List ℕ)) (number : ℕ) (c : Cause) → AreFaultless 1 front → number ≡ 1 + length front → fault_at number line ≡ Some c → from_lines (front ++ line ∷ after) ≡ Err (fault number c)
+first_told : (front : List (List ℕ)) (line : List ℕ) (after : List (List ℕ)) (number : ℕ) (c : Cause) → AreFaultless 1 front
+    → number ≡ 1 + length front → fault_at number line ≡ Some c → from_lines (front ++ line ∷ after) ≡ Err (fault number c)
 unfolding from_lines planned
 first_told [] line after number c none e told =
     let here : number ≡ 1 = omega (arith, e) in
@@ -241,4 +297,5 @@ pub fault_is_told : (bytes : List ℕ) (number : ℕ) (c : Cause) → IsFaulty b
 unfolding script_of from_lines lines_of
 fault_is_told bytes number c (long lt n e) = rw (lt-ltb MOST_BYTES (length bytes) lt, n, e) refl
 fault_is_told bytes number c (empty b n e) = rw (b, n, e) refl
-fault_is_told bytes number c (faulty fits f) = rw (le-ltb MOST_BYTES (length bytes) fits, f.cut) (first_told f.before f.line f.after number c f.faultless f.number_is f.faulty)
+fault_is_told bytes number c (faulty fits f) =
+    rw (le-ltb MOST_BYTES (length bytes) fits, f.cut) (first_told f.before f.line f.after number c f.faultless f.number_is f.faulty)

@@ -1,5 +1,6 @@
 -- The parser tells the fault of a line that the definition of the language tells.
-use Rattle.std.proofs.Common.{◌≡◌, ℕ, suc, ◌≤◌, Bool, true, false, not, cond, eqb, ◌&&◌, List, [], ◌∷◌, length, drop, Option, Some, None, Result, Ok, Err, refl, sym, ap, subst, ◌∙◌, arith}
+use Rattle.std.proofs.Common.{◌≡◌, ℕ, suc, ◌≤◌, Bool, true, false, not, cond, eqb, ◌&&◌, List, [], ◌∷◌, length, drop, Option, Some, None}
+use Rattle.std.proofs.Common.{Result, Ok, Err, refl, sym, ap, subst, ◌∙◌, arith}
 use Rattle.std.specs.Prelude.{codes, bytes_eq}
 use Rattle.std.proofs.lemmas.Slice.Eq.{bytes_eq-Decides}
 use Rattle.std.proofs.lemmas.Bool.{eqb-true, le-ltb}
@@ -14,7 +15,8 @@ use Rattle.uart_language.specs.declared.limits.TheConstants.{MOST_LINES}
 use Rattle.uart_language.specs.declared.words.Word.{Word}
 use Rattle.uart_language.specs.declared.words.Word.TheVariants as word
 use Rattle.uart_language.specs.Text.{words_of, word_at, has_bad_byte}
-use Rattle.uart_language.specs.Fields.{◌>>=◌, count_in, limit_in, ticks_in, char_ticks_in, wire_capacity_in, byte_in, lines_in, bytes_in, text_in, errors_in, chip_in, cut_in, level_in, rate_in, cts_in, interrupts_in, word_length_in}
+use Rattle.uart_language.specs.Fields.{◌>>=◌, count_in, limit_in, ticks_in, char_ticks_in, wire_capacity_in, byte_in, lines_in, bytes_in}
+use Rattle.uart_language.specs.Fields.{text_in, errors_in, chip_in, cut_in, level_in, rate_in, cts_in, interrupts_in, word_length_in}
 use Rattle.uart_language.specs.Words.{name_of, word_of, fault_of, fields_of, has_count, is_placed}
 use Rattle.uart_language.specs.Sayings.{Nothing, Limit, Calls, Happens, configured, array_of, text_of}
 use Rattle.uart_language.specs.Script.{IsHeader, option_words, fault_where, first_of, field_faults, word_faults, fault_at}
@@ -28,14 +30,16 @@ made_fault (Ok x) make = refl
 made_fault (Err c) make = refl
 
 -- what is made of a value is faulty if the value is
-call_made_fault : {A : Type 0} (r : Result A Cause) (make : A → Call) → fault_of (r >>= (λ x. Ok (make x)) >>= (λ c. Ok (Calls c))) ≡ fault_of r
+call_made_fault : {A : Type 0} (r : Result A Cause) (make : A → Call)
+    → fault_of (r >>= (λ x. Ok (make x)) >>= (λ c. Ok (Calls c))) ≡ fault_of r
 call_made_fault r make = made_fault (r >>= (λ x. Ok (make x))) Calls ∙ made_fault r make
 
 alone : (fault : Option Cause) → first_of (fault ∷ []) ≡ fault
 alone None = refl
 alone (Some c) = refl
 
-two_fault : {A B C : Type 0} (a : Result A Cause) (b : Result B Cause) (make : A → B → C) → fault_of (a >>= (λ x. b >>= (λ y. Ok (make x y)))) ≡ first_of (fault_of a ∷ fault_of b ∷ [])
+two_fault : {A B C : Type 0} (a : Result A Cause) (b : Result B Cause) (make : A → B → C)
+    → fault_of (a >>= (λ x. b >>= (λ y. Ok (make x y)))) ≡ first_of (fault_of a ∷ fault_of b ∷ [])
 two_fault (Ok x) (Ok y) make = refl
 two_fault (Ok x) (Err c) make = refl
 two_fault (Err c) b make = refl
@@ -47,35 +51,49 @@ three_fault (Ok x) (Ok y) (Err d) make = refl
 three_fault (Ok x) (Err d) c make = refl
 three_fault (Err d) b c make = refl
 
-four_fault : {A B C D E : Type 0} (a : Result A Cause) (b : Result B Cause) (c : Result C Cause) (d : Result D Cause) (make : A → B → C → D → E)
-    → fault_of (a >>= (λ x. b >>= (λ y. c >>= (λ z. d >>= (λ u. Ok (make x y z u)))))) ≡ first_of (fault_of a ∷ fault_of b ∷ fault_of c ∷ fault_of d ∷ [])
+four_fault : {A B C D E : Type 0} (a : Result A Cause) (b : Result B Cause) (c : Result C Cause) (d : Result D Cause)
+    (make : A → B → C → D → E)
+    → fault_of (a >>= (λ x. b >>= (λ y. c >>= (λ z. d >>= (λ u. Ok (make x y z u))))))
+    ≡ first_of (fault_of a ∷ fault_of b ∷ fault_of c ∷ fault_of d ∷ [])
 four_fault (Ok x) b c d make = three_fault b c d (make x)
 four_fault (Err f) b c d make = refl
 
-five_fault : {A B C D E F : Type 0} (a : Result A Cause) (b : Result B Cause) (c : Result C Cause) (d : Result D Cause) (e : Result E Cause) (make : A → B → C → D → E → F)
-    → fault_of (a >>= (λ x. b >>= (λ y. c >>= (λ z. d >>= (λ u. e >>= (λ v. Ok (make x y z u v))))))) ≡ first_of (fault_of a ∷ fault_of b ∷ fault_of c ∷ fault_of d ∷ fault_of e ∷ [])
+five_fault : {A B C D E F : Type 0} (a : Result A Cause) (b : Result B Cause) (c : Result C Cause) (d : Result D Cause) (e : Result E Cause)
+    (make : A → B → C → D → E → F)
+    → fault_of (a >>= (λ x. b >>= (λ y. c >>= (λ z. d >>= (λ u. e >>= (λ v. Ok (make x y z u v)))))))
+    ≡ first_of (fault_of a ∷ fault_of b ∷ fault_of c ∷ fault_of d ∷ fault_of e ∷ [])
 five_fault (Ok x) b c d e make = four_fault b c d e (make x)
 five_fault (Err f) b c d e make = refl
 
 -- a word that one field follows
-field_fault : {A B : Type 0} (reader : List ℕ → Result A Cause) (make : A → B) (name : List ℕ) (rest : List (List ℕ)) → eqb (suc (length rest)) 2 ≡ true
+field_fault : {A B : Type 0} (reader : List ℕ → Result A Cause) (make : A → B) (name : List ℕ) (rest : List (List ℕ))
+    → eqb (suc (length rest)) 2 ≡ true
     → fault_of (reader (word_at 1 (name ∷ rest)) >>= (λ x. Ok (make x))) ≡ first_of (field_faults ((λ w. fault_of (reader w)) ∷ []) rest)
 field_fault reader make name [] c = absurd cc
 field_fault reader make name (W ∷ []) c = made_fault (reader W) make ∙ sym (alone (fault_of (reader W)))
 field_fault reader make name (W ∷ V ∷ rest) c = absurd (omega (arith, eqb-true _ _ c))
 
-call_field_fault : {A : Type 0} (reader : List ℕ → Result A Cause) (make : A → Call) (name : List ℕ) (rest : List (List ℕ)) → eqb (suc (length rest)) 2 ≡ true
-    → fault_of (reader (word_at 1 (name ∷ rest)) >>= (λ x. Ok (make x)) >>= (λ c. Ok (Calls c))) ≡ first_of (field_faults ((λ w. fault_of (reader w)) ∷ []) rest)
-call_field_fault reader make name rest c = made_fault (reader (word_at 1 (name ∷ rest)) >>= (λ x. Ok (make x))) Calls ∙ field_fault reader make name rest c
+call_field_fault : {A : Type 0} (reader : List ℕ → Result A Cause) (make : A → Call) (name : List ℕ) (rest : List (List ℕ))
+    → eqb (suc (length rest)) 2 ≡ true
+    → fault_of (reader (word_at 1 (name ∷ rest)) >>= (λ x. Ok (make x)) >>= (λ c. Ok (Calls c)))
+    ≡ first_of (field_faults ((λ w. fault_of (reader w)) ∷ []) rest)
+call_field_fault reader make name rest c =
+    made_fault (reader (word_at 1 (name ∷ rest)) >>= (λ x. Ok (make x))) Calls ∙ field_fault reader make name rest c
 
-arrival_fault : (name : List ℕ) (rest : List (List ℕ)) → has_count word.Arrive (suc (length rest)) ≡ true → fault_of (item_of word.Arrive (name ∷ rest)) ≡ first_of (field_faults (fields_of word.Arrive) rest)
+arrival_fault : (name : List ℕ) (rest : List (List ℕ)) → has_count word.Arrive (suc (length rest)) ≡ true
+    → fault_of (item_of word.Arrive (name ∷ rest)) ≡ first_of (field_faults (fields_of word.Arrive) rest)
 unfolding item_of arrival_in
 arrival_fault name [] c = absurd cc
-arrival_fault name (HH ∷ []) c = made_fault (byte_in HH >>= (λ b. Ok (event.Arrive b 0))) Happens ∙ made_fault (byte_in HH) (λ b. event.Arrive b 0) ∙ sym (alone (fault_of (byte_in HH)))
-arrival_fault name (HH ∷ E ∷ []) c = made_fault (byte_in HH >>= (λ b. errors_in E >>= (λ x. Ok (event.Arrive b x)))) Happens ∙ two_fault (byte_in HH) (errors_in E) event.Arrive
+arrival_fault name (HH ∷ []) c =
+    made_fault (byte_in HH >>= (λ b. Ok (event.Arrive b 0))) Happens ∙ made_fault (byte_in HH) (λ b. event.Arrive b 0)
+    ∙ sym (alone (fault_of (byte_in HH)))
+arrival_fault name (HH ∷ E ∷ []) c =
+    made_fault (byte_in HH >>= (λ b. errors_in E >>= (λ x. Ok (event.Arrive b x)))) Happens
+    ∙ two_fault (byte_in HH) (errors_in E) event.Arrive
 arrival_fault name (HH ∷ E ∷ X ∷ rest) c = absurd (neither (suc (suc (suc (suc (length rest))))) 2 3 (omega arith) (omega arith) c)
 
-config_fault : (name : List ℕ) (rest : List (List ℕ)) → has_count word.Init (suc (length rest)) ≡ true → fault_of (item_of word.Init (name ∷ rest)) ≡ first_of (field_faults (fields_of word.Init) rest)
+config_fault : (name : List ℕ) (rest : List (List ℕ)) → has_count word.Init (suc (length rest)) ≡ true
+    → fault_of (item_of word.Init (name ∷ rest)) ≡ first_of (field_faults (fields_of word.Init) rest)
 unfolding item_of call_of config_in
 config_fault name [] c = absurd cc
 config_fault name (F ∷ []) c = absurd cc
@@ -83,11 +101,14 @@ config_fault name (F ∷ BAUD ∷ []) c = absurd cc
 config_fault name (F ∷ BAUD ∷ C ∷ []) c = absurd cc
 config_fault name (F ∷ BAUD ∷ C ∷ HH ∷ []) c = absurd cc
 config_fault name (F ∷ BAUD ∷ C ∷ HH ∷ BITS ∷ []) c =
-    call_made_fault (level_in F >>= (λ level. rate_in BAUD >>= (λ rate. cts_in C >>= (λ cts. interrupts_in HH >>= (λ i. word_length_in BITS >>= (λ l. Ok (configured level rate cts i l))))))) call.Init
+    call_made_fault (level_in F >>= (λ level. rate_in BAUD
+    >>= (λ rate. cts_in C >>= (λ cts. interrupts_in HH >>= (λ i. word_length_in BITS >>= (λ l. Ok (configured level rate cts i l)))))))
+    call.Init
     ∙ five_fault (level_in F) (rate_in BAUD) (cts_in C) (interrupts_in HH) (word_length_in BITS) configured
 config_fault name (F ∷ BAUD ∷ C ∷ HH ∷ BITS ∷ X ∷ rest) c = absurd (omega (arith, eqb-true _ _ c))
 
-item_fault : (w : Word) (name : List ℕ) (rest : List (List ℕ)) → has_count w (suc (length rest)) ≡ true → (w ≡ word.Chip → ⊥) → fault_of (item_of w (name ∷ rest)) ≡ first_of (field_faults (fields_of w) rest)
+item_fault : (w : Word) (name : List ℕ) (rest : List (List ℕ)) → has_count w (suc (length rest)) ≡ true → (w ≡ word.Chip → ⊥)
+    → fault_of (item_of w (name ∷ rest)) ≡ first_of (field_faults (fields_of w) rest)
 unfolding item_of call_of
 item_fault word.Chip name rest c other = absurd (other refl)
 item_fault word.Init name rest c other = config_fault name rest c
@@ -114,27 +135,35 @@ no_count : (w : Word) → has_count w 0 ≡ true → ⊥
 no_count word.Chip c = absurd cc
 no_count w c = absurd cc
 
-placed_fault : {A : Type 0} (number : ℕ) (w : Word) (ws : List (List ℕ)) (p c : Bool) (read : Word → Result A Cause) → (p ≡ true → c ≡ true → fault_of (read w) ≡ first_of (field_faults (fields_of w) (drop 1 ws)))
-    → fault_of (cond p (cond c (Ok w) (Err WrongCount)) (Err Misplaced) >>= read) ≡ first_of (fault_where (not p) Misplaced ∷ fault_where (not c) WrongCount ∷ field_faults (fields_of w) (drop 1 ws))
+placed_fault : {A : Type 0} (number : ℕ) (w : Word) (ws : List (List ℕ)) (p c : Bool) (read : Word → Result A Cause)
+    → (p ≡ true → c ≡ true → fault_of (read w) ≡ first_of (field_faults (fields_of w) (drop 1 ws)))
+    → fault_of (cond p (cond c (Ok w) (Err WrongCount)) (Err Misplaced) >>= read)
+    ≡ first_of (fault_where (not p) Misplaced ∷ fault_where (not c) WrongCount ∷ field_faults (fields_of w) (drop 1 ws))
 placed_fault number w ws true true read f = f refl refl
 placed_fault number w ws true false read f = refl
 placed_fault number w ws false c read f = refl
 
-unplaced_fault : {A : Type 0} (p : Bool) (read : Word → Result A Cause) → fault_of (cond p (Err UnknownWord) (Err Misplaced) >>= read) ≡ first_of (fault_where (not p) Misplaced ∷ Some UnknownWord ∷ [])
+unplaced_fault : {A : Type 0} (p : Bool) (read : Word → Result A Cause)
+    → fault_of (cond p (Err UnknownWord) (Err Misplaced) >>= read) ≡ first_of (fault_where (not p) Misplaced ∷ Some UnknownWord ∷ [])
 unplaced_fault true read = refl
 unplaced_fault false read = refl
 
 not_chip : (number : ℕ) (w : Word) → 2 ≤ number → is_placed number (Some w) ≡ true → w ≡ word.Chip → ⊥
-not_chip number w le p e = let one : eqb number 1 ≡ true = subst (λ x. is_placed number (Some x) ≡ true) e p in omega (arith, eqb-true number 1 one)
+not_chip number w le p e =
+    let one : eqb number 1 ≡ true = subst (λ x. is_placed number (Some x) ≡ true) e p in omega (arith, eqb-true number 1 one)
 
-word_fault : (number : ℕ) (first : Option Word) (ws : List (List ℕ)) → 2 ≤ number → fault_of (placed_word number ws first >>= (λ w. item_of w ws)) ≡ first_of (word_faults number first ws)
+word_fault : (number : ℕ) (first : Option Word) (ws : List (List ℕ)) → 2 ≤ number
+    → fault_of (placed_word number ws first >>= (λ w. item_of w ws)) ≡ first_of (word_faults number first ws)
 word_fault number None ws le = unplaced_fault (is_placed number None) _
 word_fault number (Some w) [] le = placed_fault number w [] _ _ (λ v. item_of v []) (λ p c. absurd (no_count w c))
-word_fault number (Some w) (text ∷ rest) le = placed_fault number w (text ∷ rest) _ _ (λ v. item_of v (text ∷ rest)) (λ p c. item_fault w text rest c (not_chip number w le p))
+word_fault number (Some w) (text ∷ rest) le =
+    placed_fault number w (text ∷ rest) _ _ (λ v. item_of v (text ∷ rest)) (λ p c. item_fault w text rest c (not_chip number w le p))
 
 line_fault_by : (number : ℕ) (line : List ℕ) (none bad : Bool) → 2 ≤ number
-    → fault_of (cond none (Ok Nothing) (cond bad (Err BadByte) (placed_word number (words_of line) (word_of (word_at 0 (words_of line)))) >>= (λ w. item_of w (words_of line))))
-    ≡ cond (none && not (eqb number 1)) None (first_of (fault_where bad BadByte ∷ word_faults number (word_of (word_at 0 (words_of line))) (words_of line)))
+    → fault_of (cond none (Ok Nothing) (cond bad (Err BadByte) (placed_word number (words_of line) (word_of (word_at 0 (words_of line))))
+    >>= (λ w. item_of w (words_of line))))
+    ≡ cond (none && not (eqb number 1)) None
+    (first_of (fault_where bad BadByte ∷ word_faults number (word_of (word_at 0 (words_of line))) (words_of line)))
 line_fault_by number line true bad le = rw (not_first number le) refl
 line_fault_by number line false true le = refl
 line_fault_by number line false false le = word_fault number _ (words_of line) le
@@ -154,23 +183,27 @@ header_of chip ticks capacity cuts = record { chip = chip; ticks = ticks; wire_c
 more_words : (n : ℕ) → has_count word.Chip (suc (suc (suc (suc (suc (suc n)))))) ≡ true → ⊥
 more_words n c = neither (suc (suc (suc (suc (suc (suc n)))))) 4 5 (omega arith) (omega arith) c
 
-header_words_fault : (ws : List (List ℕ)) → has_count word.Chip (length ws) ≡ true → fault_of (header_in ws) ≡ first_of (field_faults (fields_of word.Chip) (drop 1 ws))
+header_words_fault : (ws : List (List ℕ)) → has_count word.Chip (length ws) ≡ true
+    → fault_of (header_in ws) ≡ first_of (field_faults (fields_of word.Chip) (drop 1 ws))
 unfolding header_in
 header_words_fault [] c = absurd cc
 header_words_fault (name ∷ []) c = absurd cc
 header_words_fault (name ∷ NAME ∷ []) c = absurd cc
 header_words_fault (name ∷ NAME ∷ T ∷ []) c = absurd cc
-header_words_fault (name ∷ NAME ∷ T ∷ W ∷ []) c = three_fault (chip_in NAME) (char_ticks_in T) (wire_capacity_in W) (λ chip ticks capacity. header_of chip ticks capacity false)
+header_words_fault (name ∷ NAME ∷ T ∷ W ∷ []) c =
+    three_fault (chip_in NAME) (char_ticks_in T) (wire_capacity_in W) (λ chip ticks capacity. header_of chip ticks capacity false)
 header_words_fault (name ∷ NAME ∷ T ∷ W ∷ C ∷ []) c = four_fault (chip_in NAME) (char_ticks_in T) (wire_capacity_in W) (cut_in C) header_of
 header_words_fault (name ∷ NAME ∷ T ∷ W ∷ C ∷ X ∷ rest) c = absurd (more_words (length rest) c)
 
-first_word_fault : (first : Option Word) (ws : List (List ℕ)) → fault_of (placed_word 1 ws first >>= (λ w. header_in ws)) ≡ first_of (word_faults 1 first ws)
+first_word_fault : (first : Option Word) (ws : List (List ℕ))
+    → fault_of (placed_word 1 ws first >>= (λ w. header_in ws)) ≡ first_of (word_faults 1 first ws)
 first_word_fault None ws = refl
 first_word_fault (Some word.Chip) ws = placed_fault 1 word.Chip ws true _ (λ w. header_in ws) (λ p c. header_words_fault ws c)
 first_word_fault (Some w) ws = refl
 
 header_fault_by : (line : List ℕ) (none bad : Bool)
-    → fault_of (cond bad (Err BadByte) (placed_word 1 (words_of line) (word_of (word_at 0 (words_of line)))) >>= (λ w. header_in (words_of line)))
+    → fault_of (cond bad (Err BadByte) (placed_word 1 (words_of line) (word_of (word_at 0 (words_of line))))
+    >>= (λ w. header_in (words_of line)))
     ≡ cond (none && false) None (first_of (fault_where bad BadByte ∷ word_faults 1 (word_of (word_at 0 (words_of line))) (words_of line)))
 header_fault_by line true true = refl
 header_fault_by line false true = refl
@@ -184,15 +217,18 @@ header_fault line = header_fault_by line _ _
 
 -- ---- what the first line says
 
-three_ok : {A B C D : Type 0} (a : Result A Cause) (b : Result B Cause) (c : Result C Cause) (make : A → B → C → D) (d : D) → (a >>= (λ x. b >>= (λ y. c >>= (λ z. Ok (make x y z))))) ≡ Ok d
+three_ok : {A B C D : Type 0} (a : Result A Cause) (b : Result B Cause) (c : Result C Cause) (make : A → B → C → D) (d : D)
+    → (a >>= (λ x. b >>= (λ y. c >>= (λ z. Ok (make x y z))))) ≡ Ok d
     → (x : A) × (y : B) × (z : C) × (a ≡ Ok x) × (b ≡ Ok y) × (c ≡ Ok z) × (make x y z ≡ d)
 three_ok (Ok x) (Ok y) (Ok z) make d e = (x, y, z, refl, refl, refl, cc)
 three_ok (Ok x) (Ok y) (Err f) make d e = absurd cc
 three_ok (Ok x) (Err f) c make d e = absurd cc
 three_ok (Err f) b c make d e = absurd cc
 
-four_ok : {A B C D E : Type 0} (a : Result A Cause) (b : Result B Cause) (c : Result C Cause) (d : Result D Cause) (make : A → B → C → D → E) (e : E)
-    → (a >>= (λ x. b >>= (λ y. c >>= (λ z. d >>= (λ u. Ok (make x y z u)))))) ≡ Ok e → (x : A) × (y : B) × (z : C) × (u : D) × (a ≡ Ok x) × (b ≡ Ok y) × (c ≡ Ok z) × (d ≡ Ok u) × (make x y z u ≡ e)
+four_ok : {A B C D E : Type 0} (a : Result A Cause) (b : Result B Cause) (c : Result C Cause) (d : Result D Cause)
+    (make : A → B → C → D → E) (e : E)
+    → (a >>= (λ x. b >>= (λ y. c >>= (λ z. d >>= (λ u. Ok (make x y z u)))))) ≡ Ok e
+    → (x : A) × (y : B) × (z : C) × (u : D) × (a ≡ Ok x) × (b ≡ Ok y) × (c ≡ Ok z) × (d ≡ Ok u) × (make x y z u ≡ e)
 four_ok (Ok x) (Ok y) (Ok z) (Ok u) make e h = (x, y, z, u, refl, refl, refl, refl, cc)
 four_ok (Ok x) (Ok y) (Ok z) (Err f) make e h = absurd cc
 four_ok (Ok x) (Ok y) (Err f) d make e h = absurd cc
@@ -209,7 +245,8 @@ is_cut C cuts e = go (bytes_eq C (codes "cut")) refl cuts e
     go true f false e = absurd cc
     go false f cuts e = absurd cc
 
-words_are_header : (line : List ℕ) (ws : List (List ℕ)) (h : Header) → words_of line ≡ ws → has_bad_byte line ≡ false → name_of word.Chip ≡ word_at 0 ws → has_count word.Chip (length ws) ≡ true → header_in ws ≡ Ok h
+words_are_header : (line : List ℕ) (ws : List (List ℕ)) (h : Header) → words_of line ≡ ws → has_bad_byte line ≡ false
+    → name_of word.Chip ≡ word_at 0 ws → has_count word.Chip (length ws) ≡ true → header_in ws ≡ Ok h
     → IsHeader line h.chip h.ticks h.wire_capacity h.cuts
 unfolding header_in
 words_are_header line [] h w b n c e = absurd cc
@@ -217,21 +254,44 @@ words_are_header line (name ∷ []) h w b n c e = absurd cc
 words_are_header line (name ∷ NAME ∷ []) h w b n c e = absurd cc
 words_are_header line (name ∷ NAME ∷ T ∷ []) h w b n c e = absurd cc
 words_are_header line (name ∷ NAME ∷ T ∷ W ∷ []) h w b n c e =
-    let r = three_ok (chip_in NAME) (char_ticks_in T) (wire_capacity_in W) (λ chip ticks capacity. header_of chip ticks capacity false) h e in
-    subst (λ (x : Header). IsHeader line x.chip x.ticks x.wire_capacity x.cuts) r.6 (record { NAME = NAME; T = T; W = W; printable = b; words = w ∙ ap (λ x. x ∷ NAME ∷ T ∷ W ∷ []) (sym n); chip_is = r.3; ticks_is = r.4; wire_capacity_is = r.5 })
+    let make : Chip → ℕ → ℕ → Header = λ chip ticks capacity. header_of chip ticks capacity false in
+    let r = three_ok (chip_in NAME) (char_ticks_in T) (wire_capacity_in W) make h e in
+    subst (λ (x : Header). IsHeader line x.chip x.ticks x.wire_capacity x.cuts) r.6 (record {
+      NAME = NAME;
+      T = T;
+      W = W;
+      printable = b;
+      words = w ∙ ap (λ x. x ∷ NAME ∷ T ∷ W ∷ []) (sym n);
+      chip_is = r.3;
+      ticks_is = r.4;
+      wire_capacity_is = r.5;
+    })
 words_are_header line (name ∷ NAME ∷ T ∷ W ∷ C ∷ []) h w b n c e =
     let r = four_ok (chip_in NAME) (char_ticks_in T) (wire_capacity_in W) (cut_in C) header_of h e in
     let o = is_cut C r.3 r.7 in
     subst (λ (x : Header). IsHeader line x.chip x.ticks x.wire_capacity x.cuts) r.8
-    (record { NAME = NAME; T = T; W = W; printable = b; words = w ∙ (ap (λ x. x ∷ NAME ∷ T ∷ W ∷ C ∷ []) (sym n) ∙ ap (λ rest. codes "chip" ∷ NAME ∷ T ∷ W ∷ rest) o); chip_is = r.4; ticks_is = r.5; wire_capacity_is = r.6 })
+    (record {
+      NAME = NAME;
+      T = T;
+      W = W;
+      printable = b;
+      words = w
+          ∙ (ap (λ x. x ∷ NAME ∷ T ∷ W ∷ C ∷ []) (sym n) ∙ ap (λ rest. codes "chip" ∷ NAME ∷ T ∷ W ∷ rest) o);
+      chip_is = r.4;
+      ticks_is = r.5;
+      wire_capacity_is = r.6;
+    })
 words_are_header line (name ∷ NAME ∷ T ∷ W ∷ C ∷ X ∷ rest) h w b n c e = absurd (more_words (length rest) c)
 
-counted : {A : Type 0} (c : Bool) (r : Result A Cause) (x : A) → (cond c (Ok word.Chip) (Err WrongCount) >>= (λ w. r)) ≡ Ok x → (c ≡ true) × (r ≡ Ok x)
+counted : {A : Type 0} (c : Bool) (r : Result A Cause) (x : A) → (cond c (Ok word.Chip) (Err WrongCount) >>= (λ w. r)) ≡ Ok x
+    → (c ≡ true) × (r ≡ Ok x)
 counted true r x e = (refl, e)
 counted false r x e = absurd cc
 
-header_by : (line : List ℕ) (h : Header) (bad : Bool) (first : Option Word) → has_bad_byte line ≡ bad → word_of (word_at 0 (words_of line)) ≡ first
-    → (cond bad (Err BadByte) (placed_word 1 (words_of line) first) >>= (λ w. header_in (words_of line))) ≡ Ok h → IsHeader line h.chip h.ticks h.wire_capacity h.cuts
+header_by : (line : List ℕ) (h : Header) (bad : Bool) (first : Option Word) → has_bad_byte line ≡ bad
+    → word_of (word_at 0 (words_of line)) ≡ first
+    → (cond bad (Err BadByte) (placed_word 1 (words_of line) first) >>= (λ w. header_in (words_of line))) ≡ Ok h
+    → IsHeader line h.chip h.ticks h.wire_capacity h.cuts
 header_by line h true first b f e = absurd cc
 header_by line h false None b f e = absurd cc
 header_by line h false (Some word.Chip) b f e =
@@ -243,7 +303,8 @@ pub says_header : (line : List ℕ) (h : Header) → header_at line ≡ Ok h →
 unfolding header_at starts_with
 says_header line h e = header_by line h _ _ refl refl e
 
-pub reads_header : (line : List ℕ) (chip : Chip) (ticks capacity : ℕ) (cuts : Bool) → IsHeader line chip ticks capacity cuts → header_at line ≡ Ok (header_of chip ticks capacity cuts)
+pub reads_header : (line : List ℕ) (chip : Chip) (ticks capacity : ℕ) (cuts : Bool) → IsHeader line chip ticks capacity cuts
+    → header_at line ≡ Ok (header_of chip ticks capacity cuts)
 unfolding header_at starts_with header_in word_of cut_in
 reads_header line chip ticks capacity false h = rw (h.printable, h.words, h.chip_is, h.ticks_is, h.wire_capacity_is) refl
 reads_header line chip ticks capacity true h = rw (h.printable, h.words, h.chip_is, h.ticks_is, h.wire_capacity_is) refl

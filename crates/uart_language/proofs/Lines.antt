@@ -1,5 +1,6 @@
 -- The first line, and the lines after it.
-use Rattle.std.proofs.Common.{◌≡◌, ℕ, zero, suc, ◌-◌, ◌<◌, ◌≤◌, Bool, true, false, cond, eqb, ltb, List, [], ◌∷◌, length, take, drop, Option, Some, None, refl, sym, ap, ◌∙◌, arith, inl, inr, Bor}
+use Rattle.std.proofs.Common.{◌≡◌, ℕ, zero, suc, ◌-◌, ◌<◌, ◌≤◌, Bool, true, false, cond, eqb, ltb, List, [], ◌∷◌, length, take, drop}
+use Rattle.std.proofs.Common.{Option, Some, None, refl, sym, ap, ◌∙◌, arith, inl, inr, Bor}
 use Rattle.std.specs.Prelude.{unwrap_or, option_map, slice_get, slice_index_or}
 use Rattle.std.specs.List.{position_or_len, onto_first}
 use Rattle.std.proofs.lemmas.Bool.{cases_lt, lt-ltb, le-ltb}
@@ -22,12 +23,15 @@ end_of-is = is_position_or_len end_of is_end refl (λ b bytes. ap (cond (is_end 
 end_of-le : (bytes : List ℕ) → end_of bytes ≤ length bytes
 unfolding end_of
 end_of-le [] = omega arith
-end_of-le (b ∷ bytes) = let h = end_of-le bytes in elim (is_end b) as (λ t. cond t 0 (suc (end_of bytes)) ≤ suc (length bytes)) [ true ↦ omega arith | false ↦ omega arith ]
+end_of-le (b ∷ bytes) =
+    let h = end_of-le bytes in
+    elim (is_end b) as (λ t. cond t 0 (suc (end_of bytes)) ≤ suc (length bytes)) [ true ↦ omega arith | false ↦ omega arith ]
 
 pub position-le : (bytes : List ℕ) → position_or_len is_end bytes ≤ length bytes
 position-le bytes = rw (← end_of-is bytes) (end_of-le bytes)
 
-pub end_is : (bytes : List ℕ) (r : Option ℕ) → r ≡ cond (ltb (position_or_len is_end bytes) (length bytes)) (Some (position_or_len is_end bytes)) None → unwrap_or r (length bytes) ≡ position_or_len is_end bytes
+pub end_is : (bytes : List ℕ) (r : Option ℕ) → r ≡ cond (ltb (position_or_len is_end bytes) (length bytes))
+    (Some (position_or_len is_end bytes)) None → unwrap_or r (length bytes) ≡ position_or_len is_end bytes
 end_is bytes r e = elim (cases_lt (position_or_len is_end bytes) (length bytes)) [
   | inl lt ↦ rw (e, lt-ltb _ _ lt) refl
   | inr le ↦ rw (e, le-ltb _ _ le) (omega (arith, position-le bytes))
@@ -45,7 +49,8 @@ lines_cut b [] = elim (is_end b) as (λ t. cond t ([] ∷ []) ((b ∷ []) ∷ []
 lines_cut b (c ∷ bytes) =
     let m = end_of (c ∷ bytes) in
     let h : lines_of (c ∷ bytes) ≡ cut_at (c ∷ bytes) m = lines_cut c bytes in
-    elim (is_end b) as (λ t. cond t ([] ∷ lines_of (c ∷ bytes)) (onto_first b (lines_of (c ∷ bytes))) ≡ cut_at (b ∷ c ∷ bytes) (cond t 0 (suc m))) [ true ↦ refl | false ↦ onto b _ _ _ h ]
+    elim (is_end b) as (λ t. cond t ([] ∷ lines_of (c ∷ bytes)) (onto_first b (lines_of (c ∷ bytes))) ≡ cut_at (b ∷ c ∷ bytes)
+    (cond t 0 (suc m))) [ true ↦ refl | false ↦ onto b _ _ _ h ]
 
 pub lines_first : (bytes : List ℕ) (end : ℕ) → 0 < length bytes → end ≡ position_or_len is_end bytes → lines_of bytes ≡ cut_at bytes end
 lines_first [] end some e = absurd (omega arith)
@@ -56,21 +61,24 @@ drop-suc zero bytes = refl
 drop-suc (suc n) [] = refl
 drop-suc (suc n) (b ∷ bytes) = drop-suc n bytes
 
-pub cut_at_end : (bytes : List ℕ) (end : ℕ) (rest : List ℕ) → 0 < length bytes → end ≡ position_or_len is_end bytes → rest ≡ drop end bytes → length rest < 1 → lines_of bytes ≡ take end bytes ∷ lines_of rest
+pub cut_at_end : (bytes : List ℕ) (end : ℕ) (rest : List ℕ) → 0 < length bytes → end ≡ position_or_len is_end bytes → rest ≡ drop end bytes
+    → length rest < 1 → lines_of bytes ≡ take end bytes ∷ lines_of rest
 cut_at_end bytes end rest some e r none =
     let nothing : rest ≡ [] = nil_from_length rest (omega arith) in
     let after : drop 1 rest ≡ drop (suc end) bytes = rw r (drop-suc end bytes) in
     let beyond : drop (suc end) bytes ≡ rest = sym after ∙ rw nothing refl in
     lines_first bytes end some e ∙ ap (λ (x : List ℕ). take end bytes ∷ lines_of x) beyond
 
-pub cut_before_end : (bytes : List ℕ) (end : ℕ) (rest : List ℕ) → 0 < length bytes → end ≡ position_or_len is_end bytes → rest ≡ drop end bytes → lines_of bytes ≡ take end bytes ∷ lines_of (take (length rest - 1) (drop 1 rest))
+pub cut_before_end : (bytes : List ℕ) (end : ℕ) (rest : List ℕ) → 0 < length bytes → end ≡ position_or_len is_end bytes
+    → rest ≡ drop end bytes → lines_of bytes ≡ take end bytes ∷ lines_of (take (length rest - 1) (drop 1 rest))
 cut_before_end bytes end rest some e r =
     let whole : take (length rest - 1) (drop 1 rest) ≡ drop 1 rest = take_all _ _ (omega (arith, length-drop 1 rest)) in
     let after : drop 1 rest ≡ drop (suc end) bytes = rw r (drop-suc end bytes) in
     lines_first bytes end some e ∙ ap (λ (x : List ℕ). take end bytes ∷ lines_of x) (sym after ∙ sym whole)
 
 -- the word that an iterator gives, or the empty word
-pub word_from_get : (words : List (List ℕ)) (k : ℕ) (r : Option (Bor (List ℕ))) (d : Bor (List ℕ)) → option_map (λ x. x.now) r ≡ slice_get words k → (unwrap_or r d).now ≡ slice_index_or words k d.now
+pub word_from_get : (words : List (List ℕ)) (k : ℕ) (r : Option (Bor (List ℕ))) (d : Bor (List ℕ))
+    → option_map (λ x. x.now) r ≡ slice_get words k → (unwrap_or r d).now ≡ slice_index_or words k d.now
 word_from_get [] k None d e = refl
 word_from_get [] k (Some x) d e = absurd cc
 word_from_get (w ∷ words) zero None d e = absurd cc

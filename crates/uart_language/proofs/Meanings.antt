@@ -1,5 +1,6 @@
 -- The parser reads a line as the definition of the language says.
-use Rattle.std.proofs.Common.{◌≡◌, ℕ, suc, ◌<◌, ◌≤◌, Bool, true, false, cond, eqb, ◌||◌, List, [], ◌∷◌, length, Option, Some, None, Result, Ok, Err, refl, sym, subst, arith, inl, inr}
+use Rattle.std.proofs.Common.{◌≡◌, ℕ, suc, ◌<◌, ◌≤◌, Bool, true, false, cond, eqb, ◌||◌, List, [], ◌∷◌, length, Option, Some, None, Result}
+use Rattle.std.proofs.Common.{Ok, Err, refl, sym, subst, arith, inl, inr}
 use Rattle.std.specs.Prelude.{codes, bytes_eq, find}
 use Rattle.std.proofs.Math.Dec.{eqb-suc-zero}
 use Rattle.std.proofs.lemmas.Bool.{eqb-true, ne_eqb, or_cases}
@@ -17,13 +18,14 @@ use Rattle.uart_language.specs.declared.cause.Cause.TheVariants.{BadByte, Mispla
 use Rattle.uart_language.specs.declared.words.Word.{Word}
 use Rattle.uart_language.specs.declared.words.Word.TheVariants as word
 use Rattle.uart_language.specs.Text.{words_of, word_at, has_bad_byte}
-use Rattle.uart_language.specs.Fields.{◌>>=◌, count_in, limit_in, ticks_in, byte_in, lines_in, bytes_in, text_in, errors_in, level_in, rate_in, cts_in, interrupts_in, word_length_in}
+use Rattle.uart_language.specs.Fields.{◌>>=◌, count_in, limit_in, ticks_in, byte_in, lines_in, bytes_in, text_in, errors_in, level_in}
+use Rattle.uart_language.specs.Fields.{rate_in, cts_in, interrupts_in, word_length_in}
 use Rattle.uart_language.specs.Words.{name_of, words, word_of, has_count, is_placed}
 use Rattle.uart_language.specs.Sayings.{Saying, Nothing, Limit, Happens, Calls, Marks, configured, array_of, text_of, Means}
 use Rattle.uart_language.specs.Sayings as row
 use Rattle.uart_language.specs.Script.{Says, blank, printable}
 use Rattle.uart_language.specs.Items.{config_in, arrival_in, call_of, item_of, placed_word, starts_with, item_at}
-use Rattle.uart_language.proofs.Results.{read, bind_ok}
+use Rattle.uart_language.proofs.Results.{read, bind_ok, made_twice}
 
 -- ---- what the words mean is what is read
 
@@ -80,27 +82,31 @@ ok_is : {A : Type 0} {x y : A} → read x ≡ Ok y → x ≡ y
 ok_is e = cc
 
 module _ (number : ℕ) (name : List ℕ) where
-  bare : (rest : List (List ℕ)) (s said : Saying) → eqb (suc (length rest)) 1 ≡ true → read said ≡ Ok s → Means number (name ∷ []) said → Means number (name ∷ rest) s
+  bare : (rest : List (List ℕ)) (s said : Saying) → eqb (suc (length rest)) 1 ≡ true → read said ≡ Ok s → Means number (name ∷ []) said
+      → Means number (name ∷ rest) s
   bare [] s said c e m = subst (λ x. Means number (name ∷ []) x) (ok_is e) m
   bare (W ∷ rest) s said c e m = absurd (omega (arith, eqb-true _ _ c))
 
-  field_meant : {A : Type 0} (W : List ℕ) (make : A → Saying) (r : Result A Cause) (s : Saying) → (r >>= (λ x. Ok (make x))) ≡ Ok s → ((x : A) → r ≡ Ok x → Means number (name ∷ W ∷ []) (make x)) → Means number (name ∷ W ∷ []) s
+  field_meant : {A : Type 0} (W : List ℕ) (make : A → Saying) (r : Result A Cause) (s : Saying) → (r >>= (λ x. Ok (make x))) ≡ Ok s
+      → ((x : A) → r ≡ Ok x → Means number (name ∷ W ∷ []) (make x)) → Means number (name ∷ W ∷ []) s
   field_meant W make (Ok x) s e m = subst (λ y. Means number (name ∷ W ∷ []) y) (ok_is e) (m x refl)
   field_meant W make (Err d) s e m = absurd cc
 
-  field : {A : Type 0} (reader : List ℕ → Result A Cause) (make : A → Saying) (rest : List (List ℕ)) (s : Saying) → eqb (suc (length rest)) 2 ≡ true
-      → (reader (word_at 1 (name ∷ rest)) >>= (λ x. Ok (make x))) ≡ Ok s → ((W : List ℕ) (x : A) → reader W ≡ Ok x → Means number (name ∷ W ∷ []) (make x)) → Means number (name ∷ rest) s
+  field : {A : Type 0} (reader : List ℕ → Result A Cause) (make : A → Saying) (rest : List (List ℕ)) (s : Saying)
+      → eqb (suc (length rest)) 2 ≡ true
+      → (reader (word_at 1 (name ∷ rest)) >>= (λ x. Ok (make x))) ≡ Ok s
+      → ((W : List ℕ) (x : A) → reader W ≡ Ok x → Means number (name ∷ W ∷ []) (make x)) → Means number (name ∷ rest) s
   field reader make [] s c e m = absurd cc
   field reader make (W ∷ []) s c e m = field_meant W make (reader W) s e (λ x h. m W x h)
   field reader make (W ∷ V ∷ rest) s c e m = absurd (omega (arith, eqb-true _ _ c))
 
-  call_field : {A : Type 0} (reader : List ℕ → Result A Cause) (make : A → Call) (rest : List (List ℕ)) (s : Saying) → eqb (suc (length rest)) 2 ≡ true
-      → ((reader (word_at 1 (name ∷ rest)) >>= (λ x. Ok (make x))) >>= (λ c. Ok (Calls c))) ≡ Ok s → ((W : List ℕ) (x : A) → reader W ≡ Ok x → Means number (name ∷ W ∷ []) (Calls (make x)))
+  call_field : {A : Type 0} (reader : List ℕ → Result A Cause) (make : A → Call) (rest : List (List ℕ)) (s : Saying)
+      → eqb (suc (length rest)) 2 ≡ true
+      → ((reader (word_at 1 (name ∷ rest)) >>= (λ x. Ok (make x))) >>= (λ c. Ok (Calls c))) ≡ Ok s
+      → ((W : List ℕ) (x : A) → reader W ≡ Ok x → Means number (name ∷ W ∷ []) (Calls (make x)))
       → Means number (name ∷ rest) s
-  call_field reader make rest s c e m = field reader (λ x. Calls (make x)) rest s c (binds (reader (word_at 1 (name ∷ rest))) make s e) m where
-    binds : {A : Type 0} (r : Result A Cause) (make : A → Call) (s : Saying) → ((r >>= (λ x. Ok (make x))) >>= (λ c. Ok (Calls c))) ≡ Ok s → (r >>= (λ x. Ok (Calls (make x)))) ≡ Ok s
-    binds (Ok x) make s e = e
-    binds (Err c) make s e = e
+  call_field reader make rest s c e m =
+      field reader (λ x. Calls (make x)) rest s c (made_twice (reader (word_at 1 (name ∷ rest))) make Calls s e) m
 
 -- a number is neither of two that are below it
 pub neither : (n a b : ℕ) → a < n → b < n → (eqb n a || eqb n b) ≡ true → ⊥
@@ -111,26 +117,30 @@ neither n a b low_a low_b e = elim (or_cases (eqb n a) (eqb n b) e) [
 
 -- arrive HH E
 arrival_meant : (number : ℕ) (HH E : List ℕ) (b e : Result ℕ Cause) (s : Saying) → byte_in HH ≡ b → errors_in E ≡ e
-    → (b >>= (λ byte. e >>= (λ errors. read (event.Arrive byte errors))) >>= (λ a. Ok (Happens a))) ≡ Ok s → Means number (codes "arrive" ∷ HH ∷ E ∷ []) s
-arrival_meant number HH E (Ok byte) (Ok errors) s b e r = subst (λ x. Means number (codes "arrive" ∷ HH ∷ E ∷ []) x) (ok_is r) (row.arrive_faulty b e)
+    → (b >>= (λ byte. e >>= (λ errors. read (event.Arrive byte errors))) >>= (λ a. Ok (Happens a))) ≡ Ok s
+    → Means number (codes "arrive" ∷ HH ∷ E ∷ []) s
+arrival_meant number HH E (Ok byte) (Ok errors) s b e r =
+    subst (λ x. Means number (codes "arrive" ∷ HH ∷ E ∷ []) x) (ok_is r) (row.arrive_faulty b e)
 arrival_meant number HH E (Err c) e s b d r = absurd cc
 arrival_meant number HH E (Ok byte) (Err c) s b e r = absurd cc
 
 -- arrive HH, or arrive HH E
-arrival : (number : ℕ) (rest : List (List ℕ)) (s : Saying) → has_count word.Arrive (suc (length rest)) ≡ true → item_of word.Arrive (codes "arrive" ∷ rest) ≡ Ok s → Means number (codes "arrive" ∷ rest) s
+arrival : (number : ℕ) (rest : List (List ℕ)) (s : Saying) → has_count word.Arrive (suc (length rest)) ≡ true
+    → item_of word.Arrive (codes "arrive" ∷ rest) ≡ Ok s → Means number (codes "arrive" ∷ rest) s
 unfolding item_of arrival_in
 arrival number [] s c e = absurd cc
-arrival number (HH ∷ []) s c e = field number (codes "arrive") byte_in (λ b. Happens (event.Arrive b 0)) (HH ∷ []) s refl (alone (byte_in HH) s e) (λ W x h. row.arrive h) where
-  alone : (r : Result ℕ Cause) (s : Saying) → ((r >>= (λ b. Ok (event.Arrive b 0))) >>= (λ a. Ok (Happens a))) ≡ Ok s → (r >>= (λ b. Ok (Happens (event.Arrive b 0)))) ≡ Ok s
-  alone (Ok x) s e = e
-  alone (Err c) s e = e
+arrival number (HH ∷ []) s c e =
+    let r = made_twice (byte_in HH) (λ b. event.Arrive b 0) Happens s e in
+    field number (codes "arrive") byte_in (λ b. Happens (event.Arrive b 0)) (HH ∷ []) s refl r (λ W x h. row.arrive h)
 arrival number (HH ∷ E ∷ []) s c e = arrival_meant number HH E (byte_in HH) (errors_in E) s refl refl e
 arrival number (HH ∷ E ∷ X ∷ rest) s c e = absurd (neither (suc (suc (suc (suc (length rest))))) 2 3 (omega arith) (omega arith) c)
 
 -- init F BAUD C HH BITS, from the five fields
-init_meant : (number : ℕ) (F BAUD C HH BITS : List ℕ) (f : Result (Option FifoTriggerLevel) Cause) (b : Result BaudRate Cause) (t : Result Bool Cause) (h : Result IER Cause) (l : Result WordLength Cause) (s : Saying)
+init_meant : (number : ℕ) (F BAUD C HH BITS : List ℕ) (f : Result (Option FifoTriggerLevel) Cause) (b : Result BaudRate Cause)
+    (t : Result Bool Cause) (h : Result IER Cause) (l : Result WordLength Cause) (s : Saying)
     → level_in F ≡ f → rate_in BAUD ≡ b → cts_in C ≡ t → interrupts_in HH ≡ h → word_length_in BITS ≡ l
-    → ((f >>= (λ level. b >>= (λ rate. t >>= (λ cts. h >>= (λ i. l >>= (λ w. read (configured level rate cts i w))))))) >>= (λ x. read (call.Init x)) >>= (λ x. Ok (Calls x))) ≡ Ok s
+    → ((f >>= (λ level. b >>= (λ rate. t >>= (λ cts. h >>= (λ i. l >>= (λ w. read (configured level rate cts i w)))))))
+    >>= (λ x. read (call.Init x)) >>= (λ x. Ok (Calls x))) ≡ Ok s
     → Means number (codes "init" ∷ F ∷ BAUD ∷ C ∷ HH ∷ BITS ∷ []) s
 init_meant number F BAUD C HH BITS (Ok level) (Ok rate) (Ok cts) (Ok i) (Ok w) s f b t h l e =
     subst (λ x. Means number (codes "init" ∷ F ∷ BAUD ∷ C ∷ HH ∷ BITS ∷ []) x) (ok_is e) (row.init f b t h l)
@@ -140,18 +150,22 @@ init_meant number F BAUD C HH BITS (Ok level) (Ok rate) (Err x) hr lr s f b t h 
 init_meant number F BAUD C HH BITS (Ok level) (Ok rate) (Ok cts) (Err x) lr s f b t h l e = absurd cc
 init_meant number F BAUD C HH BITS (Ok level) (Ok rate) (Ok cts) (Ok i) (Err x) s f b t h l e = absurd cc
 
-config : (number : ℕ) (rest : List (List ℕ)) (s : Saying) → has_count word.Init (suc (length rest)) ≡ true → item_of word.Init (codes "init" ∷ rest) ≡ Ok s → Means number (codes "init" ∷ rest) s
+config : (number : ℕ) (rest : List (List ℕ)) (s : Saying) → has_count word.Init (suc (length rest)) ≡ true
+    → item_of word.Init (codes "init" ∷ rest) ≡ Ok s → Means number (codes "init" ∷ rest) s
 unfolding item_of call_of config_in
 config number [] s c e = absurd cc
 config number (F ∷ []) s c e = absurd cc
 config number (F ∷ BAUD ∷ []) s c e = absurd cc
 config number (F ∷ BAUD ∷ C ∷ []) s c e = absurd cc
 config number (F ∷ BAUD ∷ C ∷ HH ∷ []) s c e = absurd cc
-config number (F ∷ BAUD ∷ C ∷ HH ∷ BITS ∷ []) s c e = init_meant number F BAUD C HH BITS (level_in F) (rate_in BAUD) (cts_in C) (interrupts_in HH) (word_length_in BITS) s refl refl refl refl refl e
+config number (F ∷ BAUD ∷ C ∷ HH ∷ BITS ∷ []) s c e =
+    init_meant number F BAUD C HH BITS (level_in F) (rate_in BAUD) (cts_in C) (interrupts_in HH) (word_length_in BITS)
+    s refl refl refl refl refl e
 config number (F ∷ BAUD ∷ C ∷ HH ∷ BITS ∷ X ∷ rest) s c e = absurd (omega (arith, eqb-true _ _ c))
 
 -- a line that begins with a word and says something means that
-pub is_meant : (number : ℕ) (w : Word) (rest : List (List ℕ)) (s : Saying) → 2 ≤ number → is_placed number (Some w) ≡ true → has_count w (suc (length rest)) ≡ true
+pub is_meant : (number : ℕ) (w : Word) (rest : List (List ℕ)) (s : Saying) → 2 ≤ number → is_placed number (Some w) ≡ true
+    → has_count w (suc (length rest)) ≡ true
     → item_of w (name_of w ∷ rest) ≡ Ok s → Means number (name_of w ∷ rest) s
 unfolding item_of call_of
 is_meant number word.Chip rest s le p c e = absurd (omega (arith, eqb-true _ _ p))
@@ -185,16 +199,19 @@ is_meant number word.TrySend rest s le p c e = call_field number _ (byte_in) (ca
 is_meant number word.Enable rest s le p c e = call_field number _ (interrupts_in) (call.Enable) rest s c e (λ W x h. row.enable h)
 is_meant number word.Disable rest s le p c e = call_field number _ (interrupts_in) (call.Disable) rest s c e (λ W x h. row.disable h)
 is_meant number word.Receive rest s le p c e = call_field number _ count_in (call.Receive) rest s c e (λ W x h. row.receive h)
-is_meant number word.ReceiveExact rest s le p c e = call_field number _ count_in (call.ReceiveExact) rest s c e (λ W x h. row.receive_exact h)
+is_meant number word.ReceiveExact rest s le p c e =
+    call_field number _ count_in (call.ReceiveExact) rest s c e (λ W x h. row.receive_exact h)
 is_meant number word.Read rest s le p c e = call_field number _ count_in (call.Read) rest s c e (λ W x h. row.read h)
 is_meant number word.Send rest s le p c e = call_field number _ (bytes_in) (λ x. call.Send (array_of x)) rest s c e (λ W x h. row.send h)
-is_meant number word.SendExact rest s le p c e = call_field number _ (bytes_in) (λ x. call.SendExact (array_of x)) rest s c e (λ W x h. row.send_exact h)
+is_meant number word.SendExact rest s le p c e =
+    call_field number _ (bytes_in) (λ x. call.SendExact (array_of x)) rest s c e (λ W x h. row.send_exact h)
 is_meant number word.Write rest s le p c e = call_field number _ (bytes_in) (λ x. call.Write (array_of x)) rest s c e (λ W x h. row.write h)
 is_meant number word.Text rest s le p c e = call_field number _ (text_in) (λ x. call.Text (text_of x)) rest s c e (λ W x h. row.text h)
 
 -- ---- the first word
 
-found_first : {X : Type 0} (p : X → Bool) (x y : X) (others : Option X) (b : Bool) → p y ≡ b → (others ≡ Some x → p x ≡ true) → cond b (Some y) others ≡ Some x → p x ≡ true
+found_first : {X : Type 0} (p : X → Bool) (x y : X) (others : Option X) (b : Bool) → p y ≡ b → (others ≡ Some x → p x ≡ true)
+    → cond b (Some y) others ≡ Some x → p x ≡ true
 found_first p x y others true t h e = let same : y ≡ x = cc in subst (λ z. p z ≡ true) same t
 found_first p x y others false t h e = h e
 
@@ -212,8 +229,10 @@ pub record IsPlaced (number : ℕ) (ws : List (List ℕ)) (first : Option Word) 
   pub place : is_placed number (Some w) ≡ true
   pub count : has_count w (length ws) ≡ true
 
-placed_by : (number : ℕ) (ws : List (List ℕ)) (v w : Word) (p c : Bool) → is_placed number (Some v) ≡ p → has_count v (length ws) ≡ c → cond p (cond c (read v) (Err WrongCount)) (Err Misplaced) ≡ Ok w → IsPlaced number ws (Some v) w
-placed_by number ws v w true true p c e = let same : v ≡ w = ok_is e in subst (λ z. IsPlaced number ws (Some v) z) same (record { word_is = refl; place = p; count = c })
+placed_by : (number : ℕ) (ws : List (List ℕ)) (v w : Word) (p c : Bool) → is_placed number (Some v) ≡ p → has_count v (length ws) ≡ c
+    → cond p (cond c (read v) (Err WrongCount)) (Err Misplaced) ≡ Ok w → IsPlaced number ws (Some v) w
+placed_by number ws v w true true p c e =
+    let same : v ≡ w = ok_is e in subst (λ z. IsPlaced number ws (Some v) z) same (record { word_is = refl; place = p; count = c })
 placed_by number ws v w true false p c e = absurd cc
 placed_by number ws v w false c p d e = absurd cc
 
@@ -221,7 +240,8 @@ no_word : {A : Type 0} (b : Bool) (x : A) → cond b (Err UnknownWord) (Err Misp
 no_word true x e = absurd cc
 no_word false x e = absurd cc
 
-placed_is : (number : ℕ) (ws : List (List ℕ)) (first : Option Word) (w : Word) → placed_word number ws first ≡ Ok w → IsPlaced number ws first w
+placed_is : (number : ℕ) (ws : List (List ℕ)) (first : Option Word) (w : Word) → placed_word number ws first ≡ Ok w
+    → IsPlaced number ws first w
 placed_is number ws None w e = absurd (no_word (is_placed number None) w e)
 placed_is number ws (Some v) w e = placed_by number ws v w _ _ refl refl e
 
@@ -234,12 +254,15 @@ means_what_is_read number (text ∷ rest) s le e =
     let first = bind_ok (placed_word number (text ∷ rest) (word_of text)) (λ w. item_of w (text ∷ rest)) s e in
     let p = placed_is number (text ∷ rest) (word_of text) first.0 first.1 in
     let name : name_of first.0 ≡ text = name_is text first.0 p.word_is in
-    subst (λ x. Means number (x ∷ rest) s) name (is_meant number first.0 rest s le p.place p.count (subst (λ x. item_of first.0 (x ∷ rest) ≡ Ok s) (sym name) first.2))
+    subst (λ x. Means number (x ∷ rest) s) name
+    (is_meant number first.0 rest s le p.place p.count (subst (λ x. item_of first.0 (x ∷ rest) ≡ Ok s) (sym name) first.2))
 
 -- ---- a line after the first
 
 says_by : (number : ℕ) (line : List ℕ) (s : Saying) (none bad : Bool) → 2 ≤ number → eqb (length line) 0 ≡ none → has_bad_byte line ≡ bad
-    → cond none (read Nothing) (cond bad (Err BadByte) (placed_word number (words_of line) (word_of (word_at 0 (words_of line)))) >>= (λ w. item_of w (words_of line))) ≡ Ok s → Says number line s
+    → cond none (read Nothing)
+    (cond bad (Err BadByte) (placed_word number (words_of line) (word_of (word_at 0 (words_of line)))) >>= (λ w. item_of w (words_of line)))
+    ≡ Ok s → Says number line s
 says_by number line s true bad le n b e = blank (nil_from_length line (eqb-true _ _ n)) (sym (ok_is e))
 says_by number line s false true le n b e = absurd cc
 says_by number line s false false le n b e = printable b (means_what_is_read number (words_of line) s le e)
@@ -248,7 +271,8 @@ pub says_what_is_read : (number : ℕ) (line : List ℕ) (s : Saying) → 2 ≤ 
 unfolding item_at starts_with
 says_what_is_read number line s le e = says_by number line s _ _ le refl refl e
 
-is_read_by : (number : ℕ) (line : List ℕ) (s : Saying) → 2 ≤ number → has_bad_byte line ≡ false → read_of number (words_of line) ≡ Ok s → item_at number line ≡ Ok s
+is_read_by : (number : ℕ) (line : List ℕ) (s : Saying) → 2 ≤ number → has_bad_byte line ≡ false → read_of number (words_of line) ≡ Ok s
+    → item_at number line ≡ Ok s
 unfolding item_at starts_with word_of
 is_read_by number [] s le b e =
     let first = bind_ok (placed_word number ([] ∷ []) None) (λ w. item_of w ([] ∷ [])) s e in

@@ -39,7 +39,9 @@ pub parsed : (bytes : List ℕ) (r : Result Script ScriptError) → Parses r (sc
 parsed bytes (Ok s) h = record {
   script = is_script bytes (plan_of s) h;
   only = λ plan p. same_plan (script_of bytes) plan (plan_of s) (script_is_read bytes plan p) h;
-  refused = λ line cause. (λ e. absurd cc, λ f. absurd (not_both (script_of bytes) (plan_of s) (fault line cause) h (fault_is_told bytes line cause f)));
+  refused =
+      λ line cause.
+      (λ e. absurd cc, λ f. absurd (not_both (script_of bytes) (plan_of s) (fault line cause) h (fault_is_told bytes line cause f)));
   memory = λ e. absurd cc;
 }
 parsed bytes (Err (errors.Refused line cause)) h = record {
@@ -56,7 +58,8 @@ parsed bytes (Err errors.OutOfMemory) h =
     record {
       script = tt;
       only = tt;
-      refused = λ line cause. (λ e. absurd cc, λ f. absurd (not_both (script_of bytes) p.0 (fault line cause) p.1 (fault_is_told bytes line cause f)));
+      refused = λ line cause.
+          (λ e. absurd cc, λ f. absurd (not_both (script_of bytes) p.0 (fault line cause) p.1 (fault_is_told bytes line cause f)));
       memory = λ e. (p.0, is_script bytes p.0 p.1);
     }
 

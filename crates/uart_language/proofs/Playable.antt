@@ -1,5 +1,6 @@
 -- Every script can be played: its numbers are in their ranges, its events are legal and its calls runnable.
-use Rattle.std.proofs.Common.{◌≡◌, ℕ, suc, ◌+◌, ◌*◌, ◌<◌, ◌≤◌, Bool, true, false, cond, leb, eqb, ◌&&◌, List, [], ◌∷◌, length, Result, Ok, Err, refl, sym, subst, arith, bit_and}
+use Rattle.std.proofs.Common.{◌≡◌, ℕ, suc, ◌+◌, ◌*◌, ◌<◌, ◌≤◌, Bool, true, false, cond, leb, eqb, ◌&&◌, List, [], ◌∷◌, length, Result, Ok}
+use Rattle.std.proofs.Common.{Err, refl, sym, subst, arith, bit_and}
 use Rattle.std.specs.Prelude.{All, flat_map}
 use Rattle.std.specs.Char.{is_ascii_hexdigit, digit_value}
 use Rattle.std.specs.Str.Parse.{digits_value}
@@ -50,7 +51,8 @@ lines_legal (d ∷ []) v e =
     let digit = (and_parts (is_ascii_hexdigit d) true r.0).0 in
     let is : 16 * digit_value d ≡ v = omega (arith, r.1) in
     subst (λ n. bit_and n 240 ≡ n) is (high_bits (digit_value d) (hex_below d digit))
-lines_legal (d ∷ b ∷ word) v e = let r = value_by _ _ _ _ e in absurd (omega (arith, eqb-true _ _ (and_parts (eqb (suc (suc (length word))) 1) _ r.0).0))
+lines_legal (d ∷ b ∷ word) v e =
+    let r = value_by _ _ _ _ e in absurd (omega (arith, eqb-true _ _ (and_parts (eqb (suc (suc (length word))) 1) _ r.0).0))
 
 record HasErrorBits (read : Result ℕ Cause) : Type 0 where
   bits : (v : ℕ) → read ≡ Ok v → bit_and v 28 ≡ v
@@ -64,25 +66,33 @@ no_value = record { bits = λ v e. absurd cc }
 
 errors_legal : (word : List ℕ) → HasErrorBits (errors_in word)
 unfolding errors_in
-errors_legal word = value_or _ 4 _ refl (value_or _ 8 _ refl (value_or _ 16 _ refl (value_or _ 12 _ refl (value_or _ 20 _ refl (value_or _ 24 _ refl (value_or _ 28 _ refl (no_value)))))))
+errors_legal word =
+    value_or _ 4 _ refl (value_or _ 8 _ refl
+    (value_or _ 16 _ refl (value_or _ 12 _ refl (value_or _ 20 _ refl (value_or _ 24 _ refl (value_or _ 28 _ refl (no_value)))))))
 
 record IsPositive (rate : BaudRate) : Type 0 where
   number : 0 < to_integer rate
 
-rate_or : (test : Bool) (named other : BaudRate) → IsPositive named → IsPositive other → IsPositive (cond test named other)
-rate_or true named other n o = n
+rate_or : (test : Bool) (named other : BaudRate) → 0 < to_integer named → IsPositive other → IsPositive (cond test named other)
+rate_or true named other n o = record { number = n }
 rate_or false named other n o = o
 
 rate_positive : (n : ℕ) → 1 ≤ n → IsPositive (rate_of n)
 rate_positive n le =
-    rate_or _ rate.Baud115200 _ (record { number = omega arith }) (rate_or _ rate.Baud57600 _ (record { number = omega arith }) (rate_or _ rate.Baud38400 _ (record { number = omega arith }) (rate_or _ rate.Baud9600 _ (record { number = omega arith }) (rate_or _ rate.Baud4800 _ (record { number = omega arith }) (rate_or _ rate.Baud2400 _ (record { number = omega arith }) (rate_or _ rate.Baud1200 _ (record { number = omega arith }) (rate_or _ rate.Baud600 _ (record { number = omega arith }) (rate_or _ rate.Baud300 _ (record { number = omega arith }) (rate_or _ rate.Baud150 _ (record { number = omega arith }) (rate_or _ rate.Baud110 (rate.Custom n) (record { number = omega arith }) (record { number = omega arith })))))))))))
+    rate_or _ rate.Baud115200 _ (omega arith) (rate_or _ rate.Baud57600 _ (omega arith) (rate_or _ rate.Baud38400 _ (omega arith)
+    (rate_or _ rate.Baud9600 _ (omega arith) (rate_or _ rate.Baud4800 _ (omega arith) (rate_or _ rate.Baud2400 _ (omega arith)
+    (rate_or _ rate.Baud1200 _ (omega arith) (rate_or _ rate.Baud600 _ (omega arith) (rate_or _ rate.Baud300 _ (omega arith)
+    (rate_or _ rate.Baud150 _ (omega arith)
+    (rate_or _ rate.Baud110 (rate.Custom n) (omega arith) (record { number = omega arith })))))))))))
 
 -- a rate that was read is not zero
 rate_read : (word : List ℕ) (rate : BaudRate) → rate_in word ≡ Ok rate → 0 < to_integer rate
 unfolding rate_in
 rate_read word rate e = rate_by (number_in 1 MOST_RATE word) refl e where
   rate_by : (r : Result ℕ Cause) → number_in 1 MOST_RATE word ≡ r → (r >>= (λ n. Ok (rate_of n))) ≡ Ok rate → 0 < to_integer rate
-  rate_by (Ok n) h e = let is : rate_of n ≡ rate = cc in subst (λ (x : BaudRate). 0 < to_integer x) is (rate_positive n (number_range 1 MOST_RATE word n h).0).number
+  rate_by (Ok n) h e =
+      let is : rate_of n ≡ rate = cc in
+      subst (λ (x : BaudRate). 0 < to_integer x) is (rate_positive n (number_range 1 MOST_RATE word n h).0).number
   rate_by (Err c) h e = absurd cc
 
 -- ---- lines
@@ -100,7 +110,11 @@ means_good (row.limit {N = N} {n = n} e h) = number_range 1 MOST_LIMIT N n h
 means_good (row.arrive h) = refl
 means_good (row.arrive_faulty {E = E} h e) = (errors_legal E).bits _ e
 means_good (row.lines {H = H} h) = lines_legal H _ h
-means_good (row.init {BAUD = BAUD} f b c h l) = record { frequency = omega arith; baud_rate = rate_read BAUD _ b; prescaler_division_factor = omega arith }
+means_good (row.init {BAUD = BAUD} f b c h l) = record {
+  frequency = omega arith;
+  baud_rate = rate_read BAUD _ b;
+  prescaler_division_factor = omega arith;
+}
 means_good (row.receive {N = N} h) = (number_range 0 64 N _ h).1
 means_good (row.receive_exact {N = N} h) = (number_range 0 64 N _ h).1
 means_good (row.read {N = N} h) = (number_range 0 64 N _ h).1
@@ -112,7 +126,8 @@ says_good (printable b m) = means_good m
 
 -- ---- all lines
 
-limit_good : (number : ℕ) (lines : List (List ℕ)) (sayings : List Saying) (limit : ℕ) → (1 ≤ limit) × (limit ≤ MOST_LIMIT) → SayInOrder number lines sayings → (1 ≤ limit_from limit sayings) × (limit_from limit sayings ≤ MOST_LIMIT)
+limit_good : (number : ℕ) (lines : List (List ℕ)) (sayings : List Saying) (limit : ℕ) → (1 ≤ limit) × (limit ≤ MOST_LIMIT)
+    → SayInOrder number lines sayings → (1 ≤ limit_from limit sayings) × (limit_from limit sayings ≤ MOST_LIMIT)
 limit_good number [] [] limit r h = r
 limit_good number [] (s ∷ sayings) limit r h = absurd h
 limit_good number (line ∷ lines) [] limit r h = absurd h
@@ -133,12 +148,14 @@ calls_good Marks g = All-one IsRunnable _ tt
 calls_good s g = All-nil IsRunnable
 
 -- what holds of each line's part holds of all parts
-all_parts : {X : Type 0} (P : X → Type 0) (part : Saying → List X) → ((s : Saying) → IsGood s → All P (part s)) → (number : ℕ) (lines : List (List ℕ)) (sayings : List Saying) → SayInOrder number lines sayings → All P (flat_map part sayings)
+all_parts : {X : Type 0} (P : X → Type 0) (part : Saying → List X) → ((s : Saying) → IsGood s → All P (part s))
+    → (number : ℕ) (lines : List (List ℕ)) (sayings : List Saying) → SayInOrder number lines sayings → All P (flat_map part sayings)
 all_parts P part good number [] [] h = All-nil P
 all_parts P part good number [] (s ∷ sayings) h = absurd h
 all_parts P part good number (line ∷ lines) [] h = absurd h
 all_parts P part good number (line ∷ lines) (s ∷ sayings) h =
-    rw (flat_map-cons part s sayings) (All-append P (part s) (flat_map part sayings) (good s (says_good h.0)) (all_parts P part good (number + 1) lines sayings h.1))
+    rw (flat_map-cons part s sayings)
+    (All-append P (part s) (flat_map part sayings) (good s (says_good h.0)) (all_parts P part good (number + 1) lines sayings h.1))
 
 pub playable : (bytes : List ℕ) (plan : Plan) → IsScript bytes plan → IsPlayable plan
 playable bytes plan s = record {

@@ -1,5 +1,6 @@
 -- Reading a script line by line, as a loop does.
-use Rattle.std.proofs.Common.{◌≡◌, ℕ, ◌+◌, ◌<◌, ◌≤◌, true, eqb, List, [], ◌∷◌, ◌++◌, length, Result, Ok, Err, refl, sym, ap, ◌∙◌, arith, append_assoc}
+use Rattle.std.proofs.Common.{◌≡◌, ℕ, ◌+◌, ◌<◌, ◌≤◌, true, eqb, List, [], ◌∷◌, ◌++◌, length, Result, Ok, Err, refl, sym, ap, ◌∙◌, arith}
+use Rattle.std.proofs.Common.{append_assoc}
 use Rattle.std.specs.Prelude.{flat_map, IsOk}
 use Rattle.std.specs.List.{position_or_len}
 use Rattle.std.proofs.lemmas.Bool.{lt-ltb, le-ltb, eqb-true}
@@ -19,7 +20,8 @@ use Rattle.uart_language.specs.Words.{fault_of}
 use Rattle.uart_language.specs.Sayings.{Saying, Nothing, Limit, Happens, Calls, Marks, events_said, calls_said}
 use Rattle.uart_language.specs.Script.{Plan, limit_from}
 use Rattle.uart_language.specs.Items.{item_at, header_at}
-use Rattle.uart_language.specs.Reading.{Fault, sayings_from, with_saying, planned, from_lines, script_of, Refuses, BuildsPlan, Parses, added}
+use Rattle.uart_language.specs.Reading.{Fault, sayings_from, with_saying, planned, from_lines, script_of, Refuses, BuildsPlan, Parses}
+use Rattle.uart_language.specs.Reading.{added}
 use Rattle.uart_language.proofs.Lines.{lines_first, is_end}
 
 abbrev said : Saying → Result Saying Cause
@@ -28,16 +30,19 @@ said s = Ok s
 abbrev refused : Cause → Result Saying Cause
 refused c = Err c
 
-pub too_long : (number : ℕ) (bytes : List ℕ) → 0 < length bytes → MOST_LINES < number → sayings_from number (lines_of bytes) ≡ Err (record { line = number; cause = TooLong })
+pub too_long : (number : ℕ) (bytes : List ℕ) → 0 < length bytes → MOST_LINES < number
+    → sayings_from number (lines_of bytes) ≡ Err (record { line = number; cause = TooLong })
 unfolding sayings_from
 too_long number bytes some lt = rw (lines_first bytes (position_or_len is_end bytes) some refl, lt-ltb MOST_LINES number lt) refl
 
-pub next_is : (number : ℕ) (all line : List ℕ) (rest : List ℕ) (s : Saying) → lines_of all ≡ line ∷ lines_of rest → number ≤ MOST_LINES → said s ≡ item_at number line
+pub next_is : (number : ℕ) (all line : List ℕ) (rest : List ℕ) (s : Saying) → lines_of all ≡ line ∷ lines_of rest → number ≤ MOST_LINES
+    → said s ≡ item_at number line
     → sayings_from number (lines_of all) ≡ with_saying s (sayings_from (number + 1) (lines_of rest))
 unfolding sayings_from
 next_is number all line rest s e le r = rw (e, le-ltb MOST_LINES number le, ← r) refl
 
-pub next_fails : (number : ℕ) (all line : List ℕ) (rest : List ℕ) (c : Cause) → lines_of all ≡ line ∷ lines_of rest → number ≤ MOST_LINES → refused c ≡ item_at number line
+pub next_fails : (number : ℕ) (all line : List ℕ) (rest : List ℕ) (c : Cause) → lines_of all ≡ line ∷ lines_of rest → number ≤ MOST_LINES
+    → refused c ≡ item_at number line
     → sayings_from number (lines_of all) ≡ Err (record { line = number; cause = c })
 unfolding sayings_from
 next_fails number all line rest c e le r = rw (e, le-ltb MOST_LINES number le, ← r) refl
@@ -58,38 +63,57 @@ same_fault (Ok x) whole f e r = absurd cc
 same_fault (Err g) (Ok x) f e r = absurd cc
 same_fault (Err g) (Err h) f e r = cc
 
-pub refuses : (part whole : Result (List Saying) Fault) (e : ScriptError) → fault_of part ≡ fault_of whole → Refuses e part → Refuses e whole
+pub refuses : (part whole : Result (List Saying) Fault) (e : ScriptError) → fault_of part ≡ fault_of whole → Refuses e part
+    → Refuses e whole
 refuses part whole (errors.Refused line cause) same r = same_fault part whole _ same r
 refuses part whole errors.OutOfMemory same r = r
 
-pub all_read : (number : ℕ) (bytes : List ℕ) (whole : Result (List Saying) Fault) → true ≡ eqb (length bytes) 0 → fault_of (sayings_from number (lines_of bytes)) ≡ fault_of whole → IsOk whole
+pub all_read : (number : ℕ) (bytes : List ℕ) (whole : Result (List Saying) Fault) → true ≡ eqb (length bytes) 0
+    → fault_of (sayings_from number (lines_of bytes)) ≡ fault_of whole → IsOk whole
 all_read number bytes (Ok x) e h = refl
 all_read number bytes (Err f) e h = let none = ap fault_of (no_lines number bytes e) in absurd cc
 
 -- the script that plan becomes by the lines that are left
 abbrev pub ends_in : Plan → Result (List Saying) Fault → Result Plan Fault
-ends_in plan (Ok sayings) = Ok (record plan { limit = limit_from plan.limit sayings; events = plan.events ++ flat_map events_said sayings; calls = plan.calls ++ flat_map calls_said sayings })
+ends_in plan (Ok sayings) =
+    Ok (record plan {
+      limit = limit_from plan.limit sayings;
+      events = plan.events ++ flat_map events_said sayings;
+      calls = plan.calls ++ flat_map calls_said sayings;
+    })
 ends_in plan (Err e) = Err e
 
-limit_after : (limit : ℕ) (s : Saying) (sayings : List Saying) → limit_from limit (s ∷ sayings) ≡ limit_from (limit_from limit (s ∷ [])) sayings
+limit_after : (limit : ℕ) (s : Saying) (sayings : List Saying)
+    → limit_from limit (s ∷ sayings) ≡ limit_from (limit_from limit (s ∷ [])) sayings
 limit_after limit Nothing sayings = refl
 limit_after limit (Limit n) sayings = refl
 limit_after limit (Happens e) sayings = refl
 limit_after limit (Calls c) sayings = refl
 limit_after limit Marks sayings = refl
 
-pub grows : (plan : Plan) (s : Saying) (sayings : Result (List Saying) Fault) → ends_in plan (with_saying s sayings) ≡ ends_in (added plan s) sayings
+pub grows : (plan : Plan) (s : Saying) (sayings : Result (List Saying) Fault)
+    → ends_in plan (with_saying s sayings) ≡ ends_in (added plan s) sayings
 grows plan s (Ok sayings) =
     let es : plan.events ++ flat_map events_said (s ∷ sayings) ≡ (plan.events ++ events_said s) ++ flat_map events_said sayings =
-    ap (λ (x : List Event). plan.events ++ x) (flat_map-cons events_said s sayings) ∙ sym (append_assoc plan.events (events_said s) (flat_map events_said sayings)) in
+    ap (λ (x : List Event). plan.events ++ x) (flat_map-cons events_said s sayings)
+    ∙ sym (append_assoc plan.events (events_said s) (flat_map events_said sayings)) in
     let cs : plan.calls ++ flat_map calls_said (s ∷ sayings) ≡ (plan.calls ++ calls_said s) ++ flat_map calls_said sayings =
-    ap (λ (x : List Call). plan.calls ++ x) (flat_map-cons calls_said s sayings) ∙ sym (append_assoc plan.calls (calls_said s) (flat_map calls_said sayings)) in
+    ap (λ (x : List Call). plan.calls ++ x) (flat_map-cons calls_said s sayings)
+    ∙ sym (append_assoc plan.calls (calls_said s) (flat_map calls_said sayings)) in
     let ls : limit_from plan.limit (s ∷ sayings) ≡ limit_from (limit_from plan.limit (s ∷ [])) sayings = limit_after plan.limit s sayings in
     cc
 grows plan s (Err e) = refl
 
 abbrev pub empty_plan : Header → Plan
-empty_plan header = record { chip = header.chip; ticks = header.ticks; wire_capacity = header.wire_capacity; cuts = header.cuts; limit = DEFAULT_LIMIT; events = []; calls = [] }
+empty_plan header = record {
+  chip = header.chip;
+  ticks = header.ticks;
+  wire_capacity = header.wire_capacity;
+  cuts = header.cuts;
+  limit = DEFAULT_LIMIT;
+  events = [];
+  calls = [];
+}
 
 pub starts : (header : Header) (sayings : Result (List Saying) Fault) → ends_in (empty_plan header) sayings ≡ planned header sayings
 unfolding planned
@@ -102,11 +126,13 @@ ended plan =
     let cs : plan.calls ++ [] ≡ plan.calls = append-nil plan.calls in
     rw (es, cs) refl
 
-pub all_built : (number : ℕ) (bytes : List ℕ) (plan : Plan) (whole : Result Plan Fault) → true ≡ eqb (length bytes) 0 → ends_in plan (sayings_from number (lines_of bytes)) ≡ whole → whole ≡ Ok plan
+pub all_built : (number : ℕ) (bytes : List ℕ) (plan : Plan) (whole : Result Plan Fault) → true ≡ eqb (length bytes) 0
+    → ends_in plan (sayings_from number (lines_of bytes)) ≡ whole → whole ≡ Ok plan
 all_built number bytes plan whole e h = sym h ∙ ap (ends_in plan) (no_lines number bytes e) ∙ ended plan
 
 -- a line that is told while the script is built
-pub build_refuses : (plan : Plan) (part : Result (List Saying) Fault) (whole : Result Plan Fault) (e : ScriptError) → ends_in plan part ≡ whole → Refuses e part → Refuses e whole
+pub build_refuses : (plan : Plan) (part : Result (List Saying) Fault) (whole : Result Plan Fault) (e : ScriptError)
+    → ends_in plan part ≡ whole → Refuses e part → Refuses e whole
 build_refuses plan part whole (errors.Refused line cause) h r = sym h ∙ ap (ends_in plan) r
 build_refuses plan part whole errors.OutOfMemory h r = r
 
@@ -131,20 +157,24 @@ unfolding script_of from_lines lines_of
 no_first_line [] e = refl
 no_first_line (b ∷ bytes) e = absurd (omega (arith, eqb-true _ _ (sym e)))
 
-pub first_line_fails : (bytes line rest : List ℕ) (c : Cause) → length bytes ≤ MOST_BYTES → lines_of bytes ≡ line ∷ lines_of rest → header_refused c ≡ header_at line → script_of bytes ≡ Err (record { line = 1; cause = c })
+pub first_line_fails : (bytes line rest : List ℕ) (c : Cause) → length bytes ≤ MOST_BYTES → lines_of bytes ≡ line ∷ lines_of rest
+    → header_refused c ≡ header_at line → script_of bytes ≡ Err (record { line = 1; cause = c })
 unfolding script_of from_lines
 first_line_fails bytes line rest c le e h = rw (le-ltb MOST_BYTES (length bytes) le, e, ← h) refl
 
-pub first_line_is : (bytes line rest : List ℕ) (header : Header) → length bytes ≤ MOST_BYTES → lines_of bytes ≡ line ∷ lines_of rest → header_read header ≡ header_at line → script_of bytes ≡ planned header (sayings_from 2 (lines_of rest))
+pub first_line_is : (bytes line rest : List ℕ) (header : Header) → length bytes ≤ MOST_BYTES → lines_of bytes ≡ line ∷ lines_of rest
+    → header_read header ≡ header_at line → script_of bytes ≡ planned header (sayings_from 2 (lines_of rest))
 unfolding script_of from_lines
 first_line_is bytes line rest header le e h = rw (le-ltb MOST_BYTES (length bytes) le, e, ← h) refl
 
-later_fails : (header : Header) (sayings : Result (List Saying) Fault) (e : ScriptError) → Refuses e sayings → Parses (Err e) (planned header sayings)
+later_fails : (header : Header) (sayings : Result (List Saying) Fault) (e : ScriptError) → Refuses e sayings
+    → Parses (Err e) (planned header sayings)
 unfolding planned
 later_fails header sayings (errors.Refused line cause) r = rw r refl
 later_fails header sayings errors.OutOfMemory r = absurd r
 
-pub later_line_fails : (header : Header) (sayings : Result (List Saying) Fault) (whole : Result Plan Fault) (e : ScriptError) → whole ≡ planned header sayings → Refuses e sayings → Parses (Err e) whole
+pub later_line_fails : (header : Header) (sayings : Result (List Saying) Fault) (whole : Result Plan Fault) (e : ScriptError)
+    → whole ≡ planned header sayings → Refuses e sayings → Parses (Err e) whole
 later_line_fails header sayings whole e h r = rw h (later_fails header sayings e r)
 
 is_script : (header : Header) (sayings : Result (List Saying) Fault) → IsOk sayings → IsOk (planned header sayings)
@@ -158,5 +188,6 @@ parses (Ok s) read ok h = h
 parses (Err (errors.Refused line cause)) read ok h = h
 parses (Err errors.OutOfMemory) read ok h = ok
 
-pub all_parsed : (header : Header) (sayings : Result (List Saying) Fault) (whole : Result Plan Fault) (r : Result Script ScriptError) → whole ≡ planned header sayings → IsOk sayings → BuildsPlan r (planned header sayings) → Parses r whole
+pub all_parsed : (header : Header) (sayings : Result (List Saying) Fault) (whole : Result Plan Fault) (r : Result Script ScriptError)
+    → whole ≡ planned header sayings → IsOk sayings → BuildsPlan r (planned header sayings) → Parses r whole
 all_parsed header sayings whole r h ok b = rw h (parses r _ (is_script header sayings ok) b)

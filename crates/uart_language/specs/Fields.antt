@@ -1,5 +1,6 @@
 -- What a field of a line says, or what is wrong with it.
-use Rattle.std.specs.Prelude.{ℕ, ◌+◌, ◌*◌, ◌/◌, ◌%◌, Bool, true, false, List, [], ◌∷◌, length, Option, Some, None, Result, Ok, Err, ◌==◌, ◌&&◌, nat_le, if◌then◌else◌, bytes_eq, codes}
+use Rattle.std.specs.Prelude.{ℕ, ◌+◌, ◌*◌, ◌/◌, ◌%◌, Bool, true, false, List, [], ◌∷◌, length, Option, Some, None}
+use Rattle.std.specs.Prelude.{Result, Ok, Err, ◌==◌, ◌&&◌, nat_le, if◌then◌else◌, bytes_eq, codes}
 use Rattle.std.specs.List.{list_all}
 use Rattle.std.specs.Char.{is_ascii_digit, is_ascii_hexdigit, digit_value}
 use Rattle.std.specs.Str.{is_utf8}
@@ -9,7 +10,8 @@ use Rattle.uart_spec.specs.declared.config.BaudRate.TheVariants as rate
 use Rattle.uart_spec.specs.declared.registers.frame.WordLength.{WordLength}
 use Rattle.uart_spec.specs.declared.registers.frame.WordLength.TheVariants.{FiveBits, SixBits, SevenBits, EightBits}
 use Rattle.uart_spec.specs.declared.registers.fifo_trigger_level.FifoTriggerLevel.{FifoTriggerLevel}
-use Rattle.uart_spec.specs.declared.registers.fifo_trigger_level.FifoTriggerLevel.TheVariants.{One, Four, Eight, Fourteen}
+use Rattle.uart_spec.specs.declared.registers.fifo_trigger_level.FifoTriggerLevel.TheVariants.{One, Four, Eight}
+use Rattle.uart_spec.specs.declared.registers.fifo_trigger_level.FifoTriggerLevel.TheVariants.{Fourteen}
 use Rattle.uart_spec.specs.declared.registers.interrupt_enable.IER.{IER}
 use Rattle.uart_chip.specs.declared.event.Chip.{Chip}
 use Rattle.uart_chip.specs.declared.event.Chip.TheVariants.{Uart16550A, Uart16450}
@@ -59,7 +61,8 @@ byte_in word = if length word == 2 && list_all is_ascii_hexdigit word then Ok (d
 
 -- H: one hexadecimal digit, for the four modem lines in the high bits of MSR
 unfoldable pub lines_in : List ℕ → Result ℕ Cause
-lines_in word = if length word == 1 && list_all is_ascii_hexdigit word then Ok (16 * digits_value 16 word) else Err BadHex
+lines_in word =
+    if length word == 1 && list_all is_ascii_hexdigit word then Ok (16 * digits_value 16 word) else Err BadHex
 
 -- the bytes that pairs of digits write
 unfoldable pub pairs_of : List ℕ → List ℕ
@@ -92,8 +95,8 @@ among (row ∷ rows) word = if bytes_eq word row.0 then Ok row.1 else among rows
 -- E: a parity error p, a framing error f and a break b are the bits 04, 08 and 10 of LSR
 unfoldable pub errors_in : List ℕ → Result ℕ Cause
 errors_in word = among (
-    (codes "p", 0x04) ∷ (codes "f", 0x08) ∷ (codes "b", 0x10) ∷ (codes "pf", 0x0C) ∷ (codes "pb", 0x14) ∷ (codes "fb", 0x18)
-    ∷ (codes "pfb", 0x1C) ∷ []) word
+    (codes "p", 0x04) ∷ (codes "f", 0x08) ∷ (codes "b", 0x10) ∷ (codes "pf", 0x0C) ∷ (codes "pb", 0x14)
+    ∷ (codes "fb", 0x18) ∷ (codes "pfb", 0x1C) ∷ []) word
 
 -- the chip
 unfoldable pub chip_in : List ℕ → Result Chip Cause

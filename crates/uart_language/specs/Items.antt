@@ -14,9 +14,12 @@ use Rattle.uart_language.specs.declared.items.Header.{Header}
 use Rattle.uart_language.specs.declared.words.Word.{Word}
 use Rattle.uart_language.specs.declared.words.Word.TheVariants as word
 use Rattle.uart_language.specs.Text.{words_of, word_at, has_bad_byte}
-use Rattle.uart_language.specs.Fields.{◌>>=◌, count_in, limit_in, ticks_in, char_ticks_in, wire_capacity_in, byte_in, lines_in, bytes_in, text_in, errors_in, chip_in, cut_in, level_in, rate_in, cts_in, interrupts_in, word_length_in}
+use Rattle.uart_language.specs.Fields.{◌>>=◌, count_in, limit_in, ticks_in, char_ticks_in, wire_capacity_in, byte_in}
+use Rattle.uart_language.specs.Fields.{lines_in, bytes_in, text_in, errors_in, chip_in, cut_in, level_in, rate_in}
+use Rattle.uart_language.specs.Fields.{cts_in, interrupts_in, word_length_in}
 use Rattle.uart_language.specs.Words.{word_of, has_count, is_placed}
-use Rattle.uart_language.specs.Sayings.{Saying, Nothing, Limit, Happens, Calls, Marks, configured, array_of, text_of, plain}
+use Rattle.uart_language.specs.Sayings.{Saying, Nothing, Limit, Happens, Calls, Marks, configured, array_of, text_of}
+use Rattle.uart_language.specs.Sayings.{plain}
 
 -- init F BAUD C HH BITS
 unfoldable pub config_in : List (List ℕ) → Result Config Cause

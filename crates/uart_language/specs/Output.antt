@@ -1,5 +1,6 @@
 -- What is printed.
-use Rattle.std.specs.Prelude.{ℕ, ◌+◌, ◌*◌, ◌/◌, ◌%◌, true, false, List, [], ◌∷◌, ◌++◌, length, map, ◌==◌, if◌then◌else◌, codes}
+use Rattle.std.specs.Prelude.{ℕ, ◌+◌, ◌*◌, ◌/◌, ◌%◌, true, false, List, [], ◌∷◌, ◌++◌, length, map, ◌==◌, if◌then◌else◌}
+use Rattle.std.specs.Prelude.{codes}
 use Rattle.std.specs.List.{flat_map}
 use Rattle.std.specs.Char.{digit_char}
 use Rattle.std.specs.Fmt.{decimal}
@@ -18,7 +19,8 @@ use Rattle.uart_chip.specs.declared.event.ArrivalMark.TheVariants as mark
 use Rattle.uart_calls.specs.declared.call.Answer.{Answer}
 use Rattle.uart_calls.specs.declared.call.Answer.TheVariants as answer
 use Rattle.uart_language.specs.declared.cause.Cause.{Cause}
-use Rattle.uart_language.specs.declared.cause.Cause.TheVariants.{BadByte, Misplaced, UnknownWord, WrongCount, BadWord, BadNumber, BadHex, TooManyBytes, BadText, TooLong}
+use Rattle.uart_language.specs.declared.cause.Cause.TheVariants.{BadByte, Misplaced, UnknownWord, WrongCount, BadWord}
+use Rattle.uart_language.specs.declared.cause.Cause.TheVariants.{BadNumber, BadHex, TooManyBytes, BadText, TooLong}
 
 -- what is wrong with a line
 abbrev pub cause_text : Cause → List ℕ
@@ -60,16 +62,21 @@ init_error_text init.Stalled = codes "Stalled"
 
 abbrev pub loopback_error_text : LoopbackError → List ℕ
 loopback_error_text (loopback.SendError e) = codes "SendError " ++ send_error_name e
-loopback_error_text (loopback.UnexpectedLoopbackByte expected actual) = codes "UnexpectedLoopbackByte expected " ++ decimal expected ++ codes " actual " ++ decimal actual
+loopback_error_text (loopback.UnexpectedLoopbackByte expected actual) =
+    codes "UnexpectedLoopbackByte expected " ++ decimal expected ++ codes " actual " ++ decimal actual
 loopback_error_text (loopback.UnexpectedLoopbackMsg expected actual) = codes "UnexpectedLoopbackMsg " ++ hex actual
 loopback_error_text loopback.Stalled = codes "Stalled"
 
 -- registers by their names, and the divisor of the two latches
 abbrev pub setup_text : ConfigRegisterDump → List ℕ
-setup_text d = codes " ier " ++ hex_byte d.ier.0 ++ codes " isr " ++ hex_byte d.isr.0 ++ codes " lcr " ++ hex_byte d.lcr.0 ++ codes " mcr " ++ hex_byte d.mcr.0
+setup_text d =
+    codes " ier " ++ hex_byte d.ier.0 ++ codes " isr " ++ hex_byte d.isr.0 ++ codes " lcr " ++ hex_byte d.lcr.0
+    ++ codes " mcr " ++ hex_byte d.mcr.0
 
 abbrev pub status_text : ConfigRegisterDump → List ℕ
-status_text d = codes " lsr " ++ hex_byte d.lsr.0 ++ codes " msr " ++ hex_byte d.msr.0 ++ codes " spr " ++ hex_byte d.spr ++ codes " divisor " ++ decimal (256 * d.dlm + d.dll)
+status_text d =
+    codes " lsr " ++ hex_byte d.lsr.0 ++ codes " msr " ++ hex_byte d.msr.0 ++ codes " spr " ++ hex_byte d.spr
+    ++ codes " divisor " ++ decimal (256 * d.dlm + d.dll)
 
 abbrev pub answer_text : Answer → List ℕ
 answer_text answer.Done = codes "ok"
@@ -81,7 +88,8 @@ answer_text (answer.Register byte) = codes "ok " ++ hex_byte byte
 answer_text (answer.Latch low high) = codes "ok " ++ hex_byte low ++ codes " " ++ hex_byte high
 answer_text (answer.Dump dump) = codes "ok" ++ setup_text dump ++ status_text dump
 answer_text (answer.Stalled n) = codes "stalled " ++ decimal n
-answer_text (answer.ReceiveStalled bytes) = codes "stalled " ++ decimal (length bytes.items) ++ codes " " ++ hex bytes.items
+answer_text (answer.ReceiveStalled bytes) =
+    codes "stalled " ++ decimal (length bytes.items) ++ codes " " ++ hex bytes.items
 answer_text (answer.InitRefused e) = codes "err " ++ init_error_text e
 answer_text (answer.LoopbackRefused e) = codes "err " ++ loopback_error_text e
 answer_text (answer.NotConnected e) = codes "err " ++ remote_error_name e
@@ -111,7 +119,9 @@ marks_text marks = if length marks == 0 then codes "-" else map mark_letter mark
 
 -- what went out on the wire, what the transmitter holds, what waits in the receiver, and what became of each arrival
 abbrev pub final_lines : (wire held waiting : List ℕ) → List ArrivalMark → List ℕ
-final_lines wire held waiting marks = line (codes "wire " ++ hex wire) ++ line (codes "held " ++ hex held) ++ line (codes "waiting " ++ hex waiting) ++ line (codes "marks " ++ marks_text marks)
+final_lines wire held waiting marks =
+    line (codes "wire " ++ hex wire) ++ line (codes "held " ++ hex held) ++ line (codes "waiting " ++ hex waiting)
+    ++ line (codes "marks " ++ marks_text marks)
 
 -- all that is printed for a script that was played
 abbrev pub printed : List Answer → (wire held waiting : List ℕ) → List ArrivalMark → List ℕ

@@ -1,5 +1,6 @@
 -- How a script is read line by line, as the parser reads it.
-use Rattle.std.specs.Prelude.{◌≡◌, ℕ, ◌+◌, List, [], ◌∷◌, ◌++◌, Result, Ok, Err, nat_lt, if◌then◌else◌, flat_map, IsOk, length}
+use Rattle.std.specs.Prelude.{◌≡◌, ℕ, ◌+◌, List, [], ◌∷◌, ◌++◌, Result, Ok, Err, nat_lt, if◌then◌else◌, flat_map, IsOk}
+use Rattle.std.specs.Prelude.{length}
 use Rattle.uart_language.specs.declared.cause.Cause.{Cause}
 use Rattle.uart_language.specs.declared.cause.Cause.TheVariants.{Misplaced, TooLong}
 use Rattle.uart_language.specs.declared.cause.ScriptError.{ScriptError}
@@ -63,7 +64,8 @@ from_lines (first ∷ others) = do
 
 -- the script that bytes are, or the first faulty line and its cause
 unfoldable pub script_of : List ℕ → Result Plan Fault
-script_of bytes = if nat_lt MOST_BYTES (length bytes) then Err (record { line = 0; cause = TooLong }) else from_lines (lines_of bytes)
+script_of bytes =
+    if nat_lt MOST_BYTES (length bytes) then Err (record { line = 0; cause = TooLong }) else from_lines (lines_of bytes)
 
 -- ---- what the parser returns
 
@@ -91,4 +93,8 @@ Parses (Err errors.OutOfMemory) read = IsOk read
 
 -- a script with one more line
 abbrev pub added : Plan → Saying → Plan
-added plan said = record plan { limit = limit_from plan.limit (said ∷ []); events = plan.events ++ events_said said; calls = plan.calls ++ calls_said said }
+added plan said = record plan {
+  limit = limit_from plan.limit (said ∷ []);
+  events = plan.events ++ events_said said;
+  calls = plan.calls ++ calls_said said;
+}

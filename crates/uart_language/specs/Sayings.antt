@@ -12,7 +12,8 @@ use Rattle.uart_chip.specs.declared.event.Event.{Event}
 use Rattle.uart_chip.specs.declared.event.Event.TheVariants as event
 use Rattle.uart_calls.specs.declared.call.Call.{Call}
 use Rattle.uart_calls.specs.declared.call.Call.TheVariants as call
-use Rattle.uart_language.specs.Fields.{count_in, limit_in, ticks_in, byte_in, lines_in, bytes_in, text_in, errors_in, level_in, rate_in, cts_in, interrupts_in, word_length_in}
+use Rattle.uart_language.specs.Fields.{count_in, limit_in, ticks_in, byte_in, lines_in, bytes_in, text_in, errors_in}
+use Rattle.uart_language.specs.Fields.{level_in, rate_in, cts_in, interrupts_in, word_length_in}
 
 -- what one line adds to a script; a mark is an event and the call `Next`
 pub data Saying : Type 0 where
@@ -58,14 +59,20 @@ plain c = c
 pub data Means (number : ℕ) : List (List ℕ) → Saying → Type 0 where
   limit : {N : List ℕ} {n : ℕ} → number ≡ 2 → limit_in N ≡ Ok n → Means number (codes "limit" ∷ N ∷ []) (Limit n)
   tick : {N : List ℕ} {n : ℕ} → ticks_in N ≡ Ok n → Means number (codes "tick" ∷ N ∷ []) (Happens (event.Ticks n))
-  arrive : {HH : List ℕ} {byte : ℕ} → byte_in HH ≡ Ok byte → Means number (codes "arrive" ∷ HH ∷ []) (Happens (event.Arrive byte 0))
-  arrive_faulty : {HH E : List ℕ} {byte errors : ℕ} → byte_in HH ≡ Ok byte → errors_in E ≡ Ok errors → Means number (codes "arrive" ∷ HH ∷ E ∷ []) (Happens (event.Arrive byte errors))
-  lines : {H : List ℕ} {lines : ℕ} → lines_in H ≡ Ok lines → Means number (codes "lines" ∷ H ∷ []) (Happens (event.Lines lines))
+  arrive : {HH : List ℕ} {byte : ℕ} → byte_in HH ≡ Ok byte
+      → Means number (codes "arrive" ∷ HH ∷ []) (Happens (event.Arrive byte 0))
+  arrive_faulty : {HH E : List ℕ} {byte errors : ℕ} → byte_in HH ≡ Ok byte → errors_in E ≡ Ok errors
+      → Means number (codes "arrive" ∷ HH ∷ E ∷ []) (Happens (event.Arrive byte errors))
+  lines : {H : List ℕ} {lines : ℕ} → lines_in H ≡ Ok lines
+      → Means number (codes "lines" ∷ H ∷ []) (Happens (event.Lines lines))
   access : Means number (codes "access" ∷ []) (Happens event.Access)
   next : Means number (codes "next" ∷ []) Marks
-  init : {F BAUD C HH BITS : List ℕ} {level : Option FifoTriggerLevel} {rate : BaudRate} {cts : Bool} {interrupts : IER} {word_length : WordLength}
-      → level_in F ≡ Ok level → rate_in BAUD ≡ Ok rate → cts_in C ≡ Ok cts → interrupts_in HH ≡ Ok interrupts → word_length_in BITS ≡ Ok word_length
-      → Means number (codes "init" ∷ F ∷ BAUD ∷ C ∷ HH ∷ BITS ∷ []) (Calls (call.Init (configured level rate cts interrupts word_length)))
+  init : {F BAUD C HH BITS : List ℕ} {level : Option FifoTriggerLevel} {rate : BaudRate} {cts : Bool} {interrupts : IER}
+      {word_length : WordLength}
+      → level_in F ≡ Ok level → rate_in BAUD ≡ Ok rate → cts_in C ≡ Ok cts → interrupts_in HH ≡ Ok interrupts
+      → word_length_in BITS ≡ Ok word_length
+      → Means number (codes "init" ∷ F ∷ BAUD ∷ C ∷ HH ∷ BITS ∷ [])
+      (Calls (call.Init (configured level rate cts interrupts word_length)))
   loopback : Means number (codes "loopback" ∷ []) (Calls call.TestLoopback)
   present : Means number (codes "present" ∷ []) (Calls call.CheckPresent)
   connected : Means number (codes "connected" ∷ []) (Calls call.CheckConnected)
@@ -85,13 +92,21 @@ pub data Means (number : ℕ) : List (List ℕ) → Saying → Type 0 where
   dll_dlm : Means number (codes "dll-dlm" ∷ []) (Calls call.DllDlm)
   fifo : Means number (codes "fifo" ∷ []) (Calls call.FifoEnabled)
   dump : Means number (codes "dump" ∷ []) (Calls call.Dump)
-  try_send : {HH : List ℕ} {byte : ℕ} → byte_in HH ≡ Ok byte → Means number (codes "try-send" ∷ HH ∷ []) (Calls (call.TrySend byte))
-  enable : {HH : List ℕ} {interrupts : IER} → interrupts_in HH ≡ Ok interrupts → Means number (codes "enable" ∷ HH ∷ []) (Calls (call.Enable interrupts))
-  disable : {HH : List ℕ} {interrupts : IER} → interrupts_in HH ≡ Ok interrupts → Means number (codes "disable" ∷ HH ∷ []) (Calls (call.Disable interrupts))
+  try_send : {HH : List ℕ} {byte : ℕ} → byte_in HH ≡ Ok byte
+      → Means number (codes "try-send" ∷ HH ∷ []) (Calls (call.TrySend byte))
+  enable : {HH : List ℕ} {interrupts : IER} → interrupts_in HH ≡ Ok interrupts
+      → Means number (codes "enable" ∷ HH ∷ []) (Calls (call.Enable interrupts))
+  disable : {HH : List ℕ} {interrupts : IER} → interrupts_in HH ≡ Ok interrupts
+      → Means number (codes "disable" ∷ HH ∷ []) (Calls (call.Disable interrupts))
   receive : {N : List ℕ} {n : ℕ} → count_in N ≡ Ok n → Means number (codes "receive" ∷ N ∷ []) (Calls (call.Receive n))
-  receive_exact : {N : List ℕ} {n : ℕ} → count_in N ≡ Ok n → Means number (codes "receive-exact" ∷ N ∷ []) (Calls (call.ReceiveExact n))
+  receive_exact : {N : List ℕ} {n : ℕ} → count_in N ≡ Ok n
+      → Means number (codes "receive-exact" ∷ N ∷ []) (Calls (call.ReceiveExact n))
   read : {N : List ℕ} {n : ℕ} → count_in N ≡ Ok n → Means number (codes "read" ∷ N ∷ []) (Calls (call.Read n))
-  send : {HEX bytes : List ℕ} → bytes_in HEX ≡ Ok bytes → Means number (codes "send" ∷ HEX ∷ []) (Calls (call.Send (array_of bytes)))
-  send_exact : {HEX bytes : List ℕ} → bytes_in HEX ≡ Ok bytes → Means number (codes "send-exact" ∷ HEX ∷ []) (Calls (call.SendExact (array_of bytes)))
-  write : {HEX bytes : List ℕ} → bytes_in HEX ≡ Ok bytes → Means number (codes "write" ∷ HEX ∷ []) (Calls (call.Write (array_of bytes)))
-  text : {HEX bytes : List ℕ} → text_in HEX ≡ Ok bytes → Means number (codes "text" ∷ HEX ∷ []) (Calls (call.Text (text_of bytes)))
+  send : {HEX bytes : List ℕ} → bytes_in HEX ≡ Ok bytes
+      → Means number (codes "send" ∷ HEX ∷ []) (Calls (call.Send (array_of bytes)))
+  send_exact : {HEX bytes : List ℕ} → bytes_in HEX ≡ Ok bytes
+      → Means number (codes "send-exact" ∷ HEX ∷ []) (Calls (call.SendExact (array_of bytes)))
+  write : {HEX bytes : List ℕ} → bytes_in HEX ≡ Ok bytes
+      → Means number (codes "write" ∷ HEX ∷ []) (Calls (call.Write (array_of bytes)))
+  text : {HEX bytes : List ℕ} → text_in HEX ≡ Ok bytes
+      → Means number (codes "text" ∷ HEX ∷ []) (Calls (call.Text (text_of bytes)))

@@ -1,5 +1,7 @@
 -- What a script is, line by line, and the first faulty line of bytes that are none.
-use Rattle.std.specs.Prelude.{◌≡◌, ◌↔◌, ⊤, ℕ, ◌+◌, ◌<◌, ◌≤◌, ◌==◌, ◌&&◌, nat_lt, bit_and, Bool, true, false, not, List, [], ◌∷◌, ◌++◌, length, map, Option, Some, None, Result, Ok, Err, IfOk, All, if◌then◌else◌, flat_map, codes, drop}
+use Rattle.std.specs.Prelude.{◌≡◌, ◌↔◌, ⊤, ℕ, ◌+◌, ◌<◌, ◌≤◌, ◌==◌, ◌&&◌, nat_lt, bit_and, Bool, true, false, not, List}
+use Rattle.std.specs.Prelude.{[], ◌∷◌, ◌++◌, length, map, Option, Some, None, Result, Ok, Err, IfOk, All, if◌then◌else◌}
+use Rattle.std.specs.Prelude.{flat_map, codes, drop}
 use Rattle.std.specs.Int.NonZero.{non_zero_u64_get}
 use Rattle.uart_chip.specs.declared.event.Chip.{Chip}
 use Rattle.uart_chip.specs.declared.event.Event.{Event}
@@ -20,7 +22,8 @@ use Rattle.uart_language.specs.Sayings.{Saying, Nothing, Limit, events_said, cal
 
 -- ---- the script
 
--- A line after the first: a blank line says nothing, any other has no byte outside of 20 to 7E and the meaning of its words.
+-- A line after the first: a blank line says nothing, any other has no byte outside of 20 to 7E and the meaning of its
+-- words.
 pub data Says (number : ℕ) (line : List ℕ) (said : Saying) : Type 0 where
   blank : line ≡ [] → said ≡ Nothing → Says number line said
   printable : has_bad_byte line ≡ false → Means number (words_of line) said → Says number line said
@@ -76,8 +79,8 @@ limit_from limit [] = limit
 limit_from limit (Limit n ∷ sayings) = limit_from n sayings
 limit_from limit (other ∷ sayings) = limit_from limit sayings
 
--- The bytes are a script that says this: a header, and after it lines whose events form the schedule and whose calls the
--- list, in their order.
+-- The bytes are a script that says this: a header, and after it lines whose events form the schedule and whose calls
+-- the list, in their order.
 pub record IsScript (bytes : List ℕ) (plan : Plan) : Type 0 where
   pub first : List ℕ
   pub others : List (List ℕ)
@@ -112,16 +115,18 @@ field_faults (field ∷ fields) (word ∷ rest) = field word ∷ field_faults fi
 -- what is wrong with a line that begins with a word, and with one that begins with none
 abbrev pub word_faults : ℕ → Option Word → List (List ℕ) → List (Option Cause)
 word_faults number (Some word) ws =
-    fault_where (not (is_placed number (Some word))) Misplaced ∷ fault_where (not (has_count word (length ws))) WrongCount ∷ field_faults (fields_of word) (drop 1 ws)
+    fault_where (not (is_placed number (Some word))) Misplaced
+    ∷ fault_where (not (has_count word (length ws))) WrongCount ∷ field_faults (fields_of word) (drop 1 ws)
 word_faults number None ws = fault_where (not (is_placed number None)) Misplaced ∷ Some UnknownWord ∷ []
 
--- What is wrong with a line, found from the left. A line past the most lines is too long whatever it holds, and a blank line after
--- the first is fine.
+-- What is wrong with a line, found from the left. A line past the most lines is too long whatever it holds, and a blank
+-- line after the first is fine.
 abbrev pub fault_at : ℕ → List ℕ → Option Cause
 fault_at number line =
     if nat_lt MOST_LINES number then Some TooLong
     else if length line == 0 && not (number == 1) then None
-    else first_of (fault_where (has_bad_byte line) BadByte ∷ word_faults number (word_of (word_at 0 (words_of line))) (words_of line))
+    else first_of (fault_where (has_bad_byte line) BadByte
+    ∷ word_faults number (word_of (word_at 0 (words_of line))) (words_of line))
 
 -- none of these lines has a fault; the first has this number
 abbrev pub AreFaultless : ℕ → List (List ℕ) → Type 0
@@ -138,7 +143,8 @@ pub record IsFirstFault (start : ℕ) (lines : List (List ℕ)) (number : ℕ) (
   pub number_is : number ≡ start + length before
   pub faulty : fault_at number line ≡ Some cause
 
--- The bytes are no script, and this is told: too many bytes, before anything else; no line at all; or the first faulty line.
+-- The bytes are no script, and this is told: too many bytes, before anything else; no line at all; or the first faulty
+-- line.
 pub data IsFaulty (bytes : List ℕ) (number : ℕ) (cause : Cause) : Type 0 where
   long : MOST_BYTES < length bytes → number ≡ 0 → cause ≡ TooLong → IsFaulty bytes number cause
   empty : bytes ≡ [] → number ≡ 1 → cause ≡ Misplaced → IsFaulty bytes number cause

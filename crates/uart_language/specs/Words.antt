@@ -1,9 +1,12 @@
 -- The words that a line may begin with, and the fields that follow each.
-use Rattle.std.specs.Prelude.{ℕ, ◌+◌, Bool, not, List, [], ◌∷◌, length, Option, Some, None, Result, Ok, Err, ◌==◌, ◌||◌, bytes_eq, codes, find}
+use Rattle.std.specs.Prelude.{ℕ, ◌+◌, Bool, not, List, [], ◌∷◌, length, Option, Some, None, Result, Ok, Err, ◌==◌, ◌||◌}
+use Rattle.std.specs.Prelude.{bytes_eq, codes, find}
 use Rattle.uart_language.specs.declared.cause.Cause.{Cause}
 use Rattle.uart_language.specs.declared.words.Word.{Word}
 use Rattle.uart_language.specs.declared.words.Word.TheVariants as word
-use Rattle.uart_language.specs.Fields.{count_in, limit_in, ticks_in, char_ticks_in, wire_capacity_in, byte_in, lines_in, bytes_in, text_in, errors_in, chip_in, cut_in, level_in, rate_in, cts_in, interrupts_in, word_length_in}
+use Rattle.uart_language.specs.Fields.{count_in, limit_in, ticks_in, char_ticks_in, wire_capacity_in, byte_in, lines_in}
+use Rattle.uart_language.specs.Fields.{bytes_in, text_in, errors_in, chip_in, cut_in, level_in, rate_in, cts_in}
+use Rattle.uart_language.specs.Fields.{interrupts_in, word_length_in}
 
 -- a word as it is written in a script
 abbrev pub name_of : Word → List ℕ
@@ -46,7 +49,12 @@ name_of word.Write = codes "write"
 name_of word.Text = codes "text"
 
 abbrev pub words : List Word
-words = word.Chip ∷ word.Limit ∷ word.Tick ∷ word.Arrive ∷ word.Lines ∷ word.Access ∷ word.Next ∷ word.Init ∷ word.Loopback ∷ word.Present ∷ word.Connected ∷ word.ReadyReceive ∷ word.ReadySend ∷ word.TryReceive ∷ word.Flush ∷ word.ReadReady ∷ word.WriteReady ∷ word.Ier ∷ word.Isr ∷ word.Lcr ∷ word.Mcr ∷ word.Lsr ∷ word.Msr ∷ word.Spr ∷ word.DllDlm ∷ word.Fifo ∷ word.Dump ∷ word.TrySend ∷ word.Enable ∷ word.Disable ∷ word.Receive ∷ word.ReceiveExact ∷ word.Read ∷ word.Send ∷ word.SendExact ∷ word.Write ∷ word.Text ∷ []
+words =
+    word.Chip ∷ word.Limit ∷ word.Tick ∷ word.Arrive ∷ word.Lines ∷ word.Access ∷ word.Next ∷ word.Init ∷ word.Loopback
+    ∷ word.Present ∷ word.Connected ∷ word.ReadyReceive ∷ word.ReadySend ∷ word.TryReceive ∷ word.Flush ∷ word.ReadReady
+    ∷ word.WriteReady ∷ word.Ier ∷ word.Isr ∷ word.Lcr ∷ word.Mcr ∷ word.Lsr ∷ word.Msr ∷ word.Spr ∷ word.DllDlm
+    ∷ word.Fifo ∷ word.Dump ∷ word.TrySend ∷ word.Enable ∷ word.Disable ∷ word.Receive ∷ word.ReceiveExact ∷ word.Read
+    ∷ word.Send ∷ word.SendExact ∷ word.Write ∷ word.Text ∷ []
 
 -- the word that a text is
 unfoldable pub word_of : List ℕ → Option Word
@@ -68,7 +76,8 @@ fields_of word.Limit = faulty limit_in ∷ []
 fields_of word.Tick = faulty ticks_in ∷ []
 fields_of word.Arrive = faulty byte_in ∷ faulty errors_in ∷ []
 fields_of word.Lines = faulty lines_in ∷ []
-fields_of word.Init = faulty level_in ∷ faulty rate_in ∷ faulty cts_in ∷ faulty interrupts_in ∷ faulty word_length_in ∷ []
+fields_of word.Init =
+    faulty level_in ∷ faulty rate_in ∷ faulty cts_in ∷ faulty interrupts_in ∷ faulty word_length_in ∷ []
 fields_of word.TrySend = faulty byte_in ∷ []
 fields_of word.Enable = faulty interrupts_in ∷ []
 fields_of word.Disable = faulty interrupts_in ∷ []

@@ -14,10 +14,10 @@ pub const MOST_LIMIT: u64 = 1_000_000;
 pub const DEFAULT_LIMIT: u64 = MOST_LIMIT;
 
 /// The most ticks of a line, as many as an event holds.
-pub const MOST_TICKS: u64 = 65_535;
+pub const MOST_TICKS: u64 = u16::MAX as u64;
 
 /// The highest baud rate, in bits a second.
-pub const MOST_RATE: u64 = 4_294_967_295;
+pub const MOST_RATE: u64 = u32::MAX as u64;
 
 /// The values of the limits, which the definition of the language names.
 pub fn limits_are_these()

@@ -4,7 +4,9 @@ ghost use Rattle.std.specs.Prelude.{◌≡◌, ◌<◌, ◌++◌, OnOk, IfOk, ma
 ghost use Rattle.std.specs.List.{flat_map};
 ghost use Rattle.std.specs.Char.{digit_char};
 ghost use Rattle.std.specs.Fmt.{decimal};
-ghost use Rattle.uart_language.specs.Output.{hex_byte, hex, send_error_name, remote_error_name, init_error_text, loopback_error_text, setup_text, status_text, answer_text, line, answer_lines, mark_letter, marks_text, final_lines, printed};
+ghost use Rattle.uart_language.specs.Output.{hex_byte, hex, send_error_name, remote_error_name, init_error_text, loopback_error_text};
+ghost use Rattle.uart_language.specs.Output.{setup_text, status_text, answer_text, line, answer_lines, mark_letter, marks_text};
+ghost use Rattle.uart_language.specs.Output.{final_lines, printed};
 
 use bitflags::Flags;
 use std::alloc::{AllocError, Global};
@@ -104,7 +106,8 @@ fn push_mismatch(
     expected: u8,
     actual: u8,
 ) -> Result<(), AllocError>
-    ensures { OnOk result (out.new.items ≡ out.old.items ++ codes "UnexpectedLoopbackByte expected " ++ decimal expected ++ codes " actual " ++ decimal actual) }
+    ensures { OnOk result (out.new.items ≡
+        out.old.items ++ codes "UnexpectedLoopbackByte expected " ++ decimal expected ++ codes " actual " ++ decimal actual) }
 {
     out.extend_from_slice(b"UnexpectedLoopbackByte expected ")?;
     push_number(alloc, out, usize::from(expected))?;

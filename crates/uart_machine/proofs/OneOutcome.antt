@@ -45,9 +45,8 @@ step_one s t x y a b same c ok p q =
     called_one (meaning c) (meaning_leaves_no_choice c ok) a b (inner_of s) (inner_of t) (inner_of x) (inner_of y) p q same
 
 -- lists of calls
-chains_one : (s t x y : State) (ps qs : List Link) → All IsRunnable (calls_of ps) → calls_of ps ≡ calls_of qs → Chain s ps t → Chain x qs y →
-    IsSameState s x →
-    (answers_of ps ≡ answers_of qs) × IsSameState t y
+chains_one : (s t x y : State) (ps qs : List Link) → All IsRunnable (calls_of ps) → calls_of ps ≡ calls_of qs → Chain s ps t →
+    Chain x qs y → IsSameState s x → (answers_of ps ≡ answers_of qs) × IsSameState t y
 chains_one s t x y [] [] all same p q start =
     let T : State → Type 0 = λ z. IsSameState z y in
     let Y : State → Type 0 = λ z. IsSameState s z in
@@ -59,7 +58,8 @@ chains_one s t x y (p ∷ ps) (q ∷ qs) all same h k start =
     let Y : State → Type 0 = λ z. IsSameState s z in
     let C : Call → Type 0 = λ c. CallStep q.before c q.answer q.after in
     let here : IsSameState p.before q.before = subst T (sym h.0) (subst Y (sym k.0) start) in
-    let first = step_one p.before p.after q.before q.after p.answer q.answer here p.call (All-head IsRunnable p.call (calls_of ps) all) h.1 (subst C (sym (same_first same)) k.1) in
+    let runs : IsRunnable p.call = All-head IsRunnable p.call (calls_of ps) all in
+    let first = step_one p.before p.after q.before q.after p.answer q.answer here p.call runs h.1 (subst C (sym (same_first same)) k.1) in
     let rest = chains_one p.after t q.after y ps qs (All-tail IsRunnable p.call (calls_of ps) all) (same_others same) h.2 k.2 first.1 in
     (ap (λ a. a ∷ answers_of ps) first.0 ∙ ap (λ later. q.answer ∷ later) rest.0, rest.1)
 

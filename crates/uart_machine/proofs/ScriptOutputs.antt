@@ -1,5 +1,6 @@
 -- From a script's calls to what is printed for it.
-use Rattle.std.proofs.Common.{◌≡◌, ◌<◌, ◌+◌, ℕ, List, [], ◌∷◌, ◌++◌, length, map, take, get_or, Some, None, inl, inr, refl, sym, ◌∙◌, ap, arith, slice_get}
+use Rattle.std.proofs.Common.{◌≡◌, ◌<◌, ◌+◌, ℕ, List, [], ◌∷◌, ◌++◌, length, map, take, get_or, Some, None, inl, inr, refl, sym, ◌∙◌, ap}
+use Rattle.std.proofs.Common.{arith, slice_get}
 use Rattle.std.proofs.lemmas.List.{take_more, get_or-map, length-map}
 use Rattle.std.proofs.lemmas.Option.{slice_get_cases}
 use Rattle.uart_calls.specs.declared.call.Call.{Call}
@@ -59,7 +60,8 @@ answers_plain : (links : List Link) → answers_of (map plain_link links) ≡ an
 answers_plain [] = refl
 answers_plain (l ∷ ls) = ap (λ answers. l.answer ∷ answers) (answers_plain ls)
 
-pub run_plain : (s t : State) (calls plans : List Call) (answers : List Answer) → map plain calls ≡ plans → Ran s calls answers t → IsRun s plans answers t
+pub run_plain : (s t : State) (calls plans : List Call) (answers : List Answer) → map plain calls ≡ plans → Ran s calls answers t
+    → IsRun s plans answers t
 run_plain s t calls plans answers same r = record {
   links = map plain_link r.links;
   chain = chain_plain s t r.links r.chain;

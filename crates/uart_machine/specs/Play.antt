@@ -1,5 +1,6 @@
 -- What a reader gives, what is written for it, and which side failed.
-use Rattle.std.specs.Prelude.{ℕ, ◌<◌, ◌≤◌, ◌==◌, ◌&&◌, nat_lt, Bool, true, false, List, length, take, Option, Result, Ok, Err, ⊤}
+use Rattle.std.specs.Prelude.{ℕ, ◌<◌, ◌≤◌, ◌==◌, ◌&&◌, nat_lt, Bool, true, false, List, length, take, Option, Result}
+use Rattle.std.specs.Prelude.{Ok, Err, ⊤}
 use Rattle.std.specs.Io.KnownBytes.{Consumes, Appends, Keeps, IsAtEnd}
 use Rattle.uart_machine.specs.declared.script.streams.Std.{Std}
 use Rattle.uart_machine.specs.declared.script.playing.TheConstants.{MOST_READ}
@@ -60,8 +61,8 @@ pub record IsPlayed (input : List ℕ) (writes : List ℕ → Type 0) : Type 0 w
   pub printed : IsOutput plan output
   pub written : writes output
 
--- What playing an input comes to: its whole output, or the first fault of an input that is no script, or a beginning of its
--- output if the writer failed.
+-- What playing an input comes to: its whole output, or the first fault of an input that is no script, or a beginning of
+-- its output if the writer failed.
 abbrev pub Outcome : List ℕ → Result (Unit {0}) PlayError → Option (List ℕ) → Option (List ℕ) → Type 0
 Outcome input (Ok done) old new = IsPlayed input (Appends old new)
 Outcome input (Err (errors.Refused line cause)) old new = IsFaulty input line cause

@@ -25,7 +25,8 @@ abbrev pub output_of : List Answer → MachineState → List ℕ
 output_of answers m =
     printed answers m.chip.transmitter.wire (held m.chip.transmitter) (waiting m) m.chip.receiver.marks
 
--- this is printed for the script: its calls ran from the first state, and their answers and the last machine were written out
+-- this is printed for the script: its calls ran from the first state, and their answers and the last machine were
+-- written out
 pub record IsOutput (plan : Plan) (output : List ℕ) : Type 0 where
   pub first : State
   pub last : State

@@ -1,20 +1,27 @@
 -- The accesses of each call, in blocks.
-use Rattle.std.proofs.Common.{◌≡◌, ℕ, zero, suc, ◌+◌, ◌≤◌, Bool, true, false, inl, inr, List, [], ◌∷◌, ◌++◌, length, length-append, take, drop, append_assoc, append-nil, refl, arith, sym, ◌∙◌, ap, Result, Ok, Err, Some, None, MatchBool}
+use Rattle.std.proofs.Common.{◌≡◌, ℕ, zero, suc, ◌+◌, ◌≤◌, Bool, true, false, inl, inr, List, [], ◌∷◌, ◌++◌, length, length-append}
+use Rattle.std.proofs.Common.{take, drop, append_assoc, append-nil, refl, arith, sym, ◌∙◌, ap, Result, Ok, Err, Some, None, MatchBool}
 use Rattle.std.specs.List.{concat}
 use Rattle.std.proofs.Math.Seq.{take-append_seam}
 use Rattle.std.proofs.lemmas.List.{length-take, take-append-drop}
 use Rattle.uart_spec.specs.declared.errors.ByteSendError.{ByteSendError}
 use Rattle.uart_spec.specs.declared.errors.ByteSendError.TheVariants.{NoCapacity, RemoteNotClearToSend}
 use Rattle.uart_spec.specs.declared.errors.StalledError.{StalledError}
+use Rattle.uart_spec.specs.declared.registers.offsets.TheConstants as offsets
+use Rattle.uart_spec.specs.declared.registers.line_status.TheConstants.LSR
+use Rattle.uart_spec.specs.declared.registers.modem_status.TheConstants.MSR
+use Rattle.uart_spec.specs.declared.registers.modem_control.TheConstants.MCR
 use Rattle.uart_spec.specs.Access.{Access, Read, Path}
 use Rattle.uart_16550.specs.Grammar.{Language, Settings, Only, Then, InOrder, Times, FewMisses, AllMisses, Asks}
 use Rattle.uart_16550.specs.Receive.{Hit, Miss, ReadyToReceive, TryReceive, Receives, Awaited, ReceivesSome, filled, ReceivesExact}
-use Rattle.uart_16550.specs.Transmit.{LinesAllow, SendHit, SendRefused, SendMiss, ReadyToSend, Burst, burst_size, Sends, Round, SendsSome, IsCut, SendsAll, SendsExact, TrySends, WaitsFor}
+use Rattle.uart_16550.specs.Transmit.{LinesAllow, SendHit, SendRefused, SendMiss, ReadyToSend, Burst, burst_size}
+use Rattle.uart_16550.specs.Transmit.{Sends, Round, SendsSome, IsCut, SendsAll, SendsExact, TrySends, WaitsFor}
 use Rattle.uart_spec.specs.Bits.{has_any}
 use Rattle.uart_chip.specs.Transmitter.{room}
 use Rattle.uart_chip.specs.Machine.{MachineState, MachineStep}
 use Rattle.uart_chip.proofs.Bits.{has_one}
-use Rattle.uart_device.proofs.Blocks.{is_quiet, Block, Look, Hit as Hit_block, Burst as Burst_block, Other, accesses_of, AllQuiet, IsFit, AllFit, flat, written_in, read_in, data_written, data_read}
+use Rattle.uart_device.proofs.Blocks.{is_quiet, Block, Look, Hit as Hit_block, Burst as Burst_block, Other, accesses_of}
+use Rattle.uart_device.proofs.Blocks.{AllQuiet, IsFit, AllFit, flat, written_in, read_in, data_written, data_read}
 use Rattle.uart_device.proofs.Went.{Modes}
 use Rattle.uart_device.proofs.BlockLaws.{IsOpen, Stands, PassedBlocks, passed_blocks}
 
@@ -38,7 +45,8 @@ all_fit-append fifo (x ∷ xs) ys p q = (p.0, all_fit-append fifo xs ys p.1 q)
 
 written-append : (xs ys : List Block) → data_written (xs ++ ys) ≡ data_written xs ++ data_written ys
 written-append [] ys = refl
-written-append (x ∷ xs) ys = ap (λ zs. written_in x ++ zs) (written-append xs ys) ∙ sym (append_assoc (written_in x) (data_written xs) (data_written ys))
+written-append (x ∷ xs) ys =
+    ap (λ zs. written_in x ++ zs) (written-append xs ys) ∙ sym (append_assoc (written_in x) (data_written xs) (data_written ys))
 
 read-append : (xs ys : List Block) → data_read (xs ++ ys) ≡ data_read xs ++ data_read ys
 read-append [] ys = refl
@@ -56,7 +64,8 @@ blocks_one fifo block fit = record {
   is_read = append-nil (read_in block);
 }
 
-pub blocks_then : (fifo : Bool) (xs ys : List Access) (ws vs rs qs : List ℕ) → InBlocks fifo xs ws rs → InBlocks fifo ys vs qs → InBlocks fifo (xs ++ ys) (ws ++ vs) (rs ++ qs)
+pub blocks_then : (fifo : Bool) (xs ys : List Access) (ws vs rs qs : List ℕ) → InBlocks fifo xs ws rs → InBlocks fifo ys vs qs →
+    InBlocks fifo (xs ++ ys) (ws ++ vs) (rs ++ qs)
 blocks_then fifo xs ys ws vs rs qs a b = record {
   blocks = a.blocks ++ b.blocks;
   joined = rw (a.joined, b.joined) (sym (flat-append a.blocks b.blocks));
@@ -66,7 +75,8 @@ blocks_then fifo xs ys ws vs rs qs a b = record {
 }
 
 -- what accesses in blocks do to a machine of a session
-pub passed_in_blocks : (x : Modes) (m n : MachineState) (made : List Access) (ws rs : List ℕ) → IsOpen x → Stands x m → InBlocks x.fifo made ws rs → Path MachineStep m made n → PassedBlocks x m n made ws rs
+pub passed_in_blocks : (x : Modes) (m n : MachineState) (made : List Access) (ws rs : List ℕ) → IsOpen x → Stands x m →
+    InBlocks x.fifo made ws rs → Path MachineStep m made n → PassedBlocks x m n made ws rs
 passed_in_blocks x m n made ws rs o w b p =
     let q = passed_blocks x b.blocks m n o w b.fit (rw b.joined at p) in
     rw (b.is_written, b.is_read, ← b.joined) at q
@@ -80,7 +90,8 @@ Makes s P ws rs = (l : List Access) → P s l → InBlocks s.fifo l ws rs
 pub makes_only_none : (s : Settings) → Makes s (Only []) [] []
 makes_only_none s l p = rw p.is (blocks_none s.fifo)
 
-pub makes_then : (s : Settings) (P Q : Language) (ws vs rs qs : List ℕ) → Makes s P ws rs → Makes s Q vs qs → Makes s (Then P Q) (ws ++ vs) (rs ++ qs)
+pub makes_then : (s : Settings) (P Q : Language) (ws vs rs qs : List ℕ) → Makes s P ws rs → Makes s Q vs qs →
+    Makes s (Then P Q) (ws ++ vs) (rs ++ qs)
 makes_then s P Q ws vs rs qs p q l t = rw t.whole (blocks_then s.fifo t.front t.back ws vs rs qs (p t.front t.first) (q t.back t.second))
 
 pub makes_times : (s : Settings) (n : ℕ) (P : Language) → Makes s P [] [] → Makes s (Times n P) [] []
@@ -96,11 +107,12 @@ makes_all s P p l t = makes_times s s.limit P p l t
 -- ---- single reads
 
 -- a look, whatever it shows
-pub makes_look : (s : Settings) (bits : ℕ) (outcome : Bool) → Makes s (Asks 5 bits outcome) [] []
+pub makes_look : (s : Settings) (bits : ℕ) (outcome : Bool) → Makes s (Asks offsets.LSR bits outcome) [] []
 makes_look s bits outcome l t = rw t.is (blocks_one s.fifo (Look t.answer) tt)
 
 -- a read that tells of no data
-pub makes_quiet : (s : Settings) (register bits : ℕ) (outcome : Bool) → is_quiet (Read register 0) ≡ true → Makes s (Asks register bits outcome) [] []
+pub makes_quiet : (s : Settings) (register bits : ℕ) (outcome : Bool) → is_quiet (Read register 0) ≡ true →
+    Makes s (Asks register bits outcome) [] []
 makes_quiet s register bits outcome q l t = rw t.is (blocks_one s.fifo (Other (Read register t.answer)) q)
 
 -- ---- the send check
@@ -108,22 +120,24 @@ makes_quiet s register bits outcome q l t = rw t.is (blocks_one s.fifo (Other (R
 -- a send check that hits: a look that shows room, and reads of the modem registers
 pub record SendCheck (l : List Access) : Type 0 where
   pub line : ℕ
-  pub shows : has_any line 32 ≡ true
+  pub shows : has_any line LSR.THR_EMPTY.0 ≡ true
   pub checks : List Access
   pub quiet : AllQuiet checks
-  pub is : l ≡ Read 5 line ∷ checks
+  pub is : l ≡ Read offsets.LSR line ∷ checks
 
 lines_quiet : (s : Settings) (allowed : Bool) (l : List Access) → LinesAllow allowed s l → AllQuiet l
 lines_quiet s allowed l (inl t) = rw t.1.is (refl, tt)
 lines_quiet s allowed l (inr t) = rw (t.whole, t.first.is, t.second.is) (refl, (refl, tt))
 
-room_shown : (s : Settings) (l : List Access) → Asks 5 32 true s l → SendCheck l
+room_shown : (s : Settings) (l : List Access) → Asks offsets.LSR LSR.THR_EMPTY.0 true s l → SendCheck l
 room_shown s l t = record { line = t.answer; shows = sym (has_one 5 t.answer) ∙ t.shows; checks = []; quiet = tt; is = t.is }
 
 pub send_check : (s : Settings) (l : List Access) → SendHit s l → SendCheck l
 send_check s l t = go s.checks t
   where
-    go : (b : Bool) → MatchBool b (Then (Asks 5 32 true) (LinesAllow true) s l) (Asks 5 32 true s l) → SendCheck l
+    go : (b : Bool) →
+        MatchBool b (Then (Asks offsets.LSR LSR.THR_EMPTY.0 true) (LinesAllow true) s l) (Asks offsets.LSR LSR.THR_EMPTY.0 true s l) →
+        SendCheck l
     go true t = record {
       line = t.first.answer;
       shows = sym (has_one 5 t.first.answer) ∙ t.first.shows;
@@ -134,15 +148,19 @@ send_check s l t = go s.checks t
     go false t = room_shown s l t
 
 lines_blocks : (s : Settings) (allowed : Bool) → Makes s (LinesAllow allowed) [] []
-lines_blocks s allowed l (inl t) = makes_quiet s 4 16 true refl l t.1
-lines_blocks s allowed l (inr t) = makes_then s (Asks 4 16 false) (Asks 6 16 allowed) [] [] [] [] (makes_quiet s 4 16 false refl) (makes_quiet s 6 16 allowed refl) l t
+lines_blocks s allowed l (inl t) = makes_quiet s offsets.MCR MCR.LOOP_BACK.0 true refl l t.1
+lines_blocks s allowed l (inr t) =
+    makes_then s (Asks offsets.MCR MCR.LOOP_BACK.0 false) (Asks offsets.MSR MSR.CTS.0 allowed) [] [] [] []
+    (makes_quiet s offsets.MCR MCR.LOOP_BACK.0 false refl) (makes_quiet s offsets.MSR MSR.CTS.0 allowed refl) l t
 
 refused_blocks : (s : Settings) (e : ByteSendError) → Makes s (SendRefused e) [] []
-refused_blocks s NoCapacity l t = makes_look s 32 false l t
+refused_blocks s NoCapacity l t = makes_look s LSR.THR_EMPTY.0 false l t
 refused_blocks s RemoteNotClearToSend l t = go s.checks t
   where
-    go : (b : Bool) → MatchBool b (Then (Asks 5 32 true) (LinesAllow false) s l) ⊥ → InBlocks s.fifo l [] []
-    go true t = makes_then s (Asks 5 32 true) (LinesAllow false) [] [] [] [] (makes_look s 32 true) (lines_blocks s false) l t
+    go : (b : Bool) → MatchBool b (Then (Asks offsets.LSR LSR.THR_EMPTY.0 true) (LinesAllow false) s l) ⊥ → InBlocks s.fifo l [] []
+    go true t =
+        makes_then s (Asks offsets.LSR LSR.THR_EMPTY.0 true) (LinesAllow false) [] [] [] [] (makes_look s LSR.THR_EMPTY.0 true)
+        (lines_blocks s false) l t
     go false t = absurd t
 
 pub send_miss_blocks : (s : Settings) → Makes s SendMiss [] []
@@ -174,16 +192,20 @@ sends_blocks s bytes k l (inr (inl t)) = rw t.1 (send_miss_blocks s l t.2)
 sends_blocks s bytes k l (inr (inr t)) = burst_blocks s (take k bytes) (rw t.1 (burst_room s bytes)) l t.2
 
 pub round_blocks : (s : Settings) (bytes : List ℕ) → length bytes ≤ room s.fifo → Makes s (Round bytes) bytes []
-round_blocks s bytes few l t = makes_then s (FewMisses SendMiss) (Burst bytes) [] bytes [] [] (makes_few s SendMiss (send_miss_blocks s)) (burst_blocks s bytes few) l t
+round_blocks s bytes few l t =
+    makes_then s (FewMisses SendMiss) (Burst bytes) [] bytes [] [] (makes_few s SendMiss (send_miss_blocks s))
+    (burst_blocks s bytes few) l t
 
-pub pieces_blocks : (s : Settings) (bytes : List ℕ) (pieces : List (List ℕ)) (rest : List ℕ) → IsCut s bytes pieces rest → Makes s (InOrder Round pieces) (concat pieces) []
+pub pieces_blocks : (s : Settings) (bytes : List ℕ) (pieces : List (List ℕ)) (rest : List ℕ) → IsCut s bytes pieces rest →
+    Makes s (InOrder Round pieces) (concat pieces) []
 pieces_blocks s bytes [] rest cut l t = makes_only_none s l t
 pieces_blocks s bytes (piece ∷ pieces) rest cut l t =
     makes_then s (Round piece) (InOrder Round pieces) piece (concat pieces) [] [] (round_blocks s piece (rw cut.1 (burst_room s bytes)))
     (λ k u. pieces_blocks s (drop (burst_size s bytes) bytes) pieces rest cut.2 k u) l t
 
 -- the pieces and the rest are the whole
-pub cut_whole : (s : Settings) (bytes : List ℕ) (pieces : List (List ℕ)) (rest : List ℕ) → IsCut s bytes pieces rest → concat pieces ++ rest ≡ bytes
+pub cut_whole : (s : Settings) (bytes : List ℕ) (pieces : List (List ℕ)) (rest : List ℕ) → IsCut s bytes pieces rest →
+    concat pieces ++ rest ≡ bytes
 cut_whole s bytes [] rest cut = cut
 cut_whole s bytes (piece ∷ pieces) rest cut =
     let n = burst_size s bytes in
@@ -203,7 +225,8 @@ sends_all_blocks s bytes l t =
     rw (← whole) (pieces_blocks s bytes t.0 [] t.1 l t.2)
 
 -- `send_bytes_exact`: all of the bytes, or as many from the front as it reports
-pub sends_exact_blocks : {T : Type 0} (s : Settings) (bytes : List ℕ) (result : Result T StalledError) → Makes s (SendsExact bytes result) (filled result bytes) []
+pub sends_exact_blocks : {T : Type 0} (s : Settings) (bytes : List ℕ) (result : Result T StalledError) →
+    Makes s (SendsExact bytes result) (filled result bytes) []
 sends_exact_blocks s bytes (Ok x) l t = sends_all_blocks s bytes l t
 sends_exact_blocks s bytes (Err e) l (pieces, rest, cut, some, count, made) =
     let whole : concat pieces ++ rest ≡ bytes = cut_whole s bytes pieces rest cut in
@@ -211,7 +234,8 @@ sends_exact_blocks s bytes (Err e) l (pieces, rest, cut, some, count, made) =
     let done : e.done ≡ length (concat pieces) = omega arith in
     let front : take e.done bytes ≡ concat pieces = rw (done, ← whole) (take-append_seam (concat pieces) rest) in
     let b : InBlocks s.fifo l (concat pieces ++ []) [] =
-    makes_then s (InOrder Round pieces) (AllMisses SendMiss) (concat pieces) [] [] [] (pieces_blocks s bytes pieces rest cut) (makes_all s SendMiss (send_miss_blocks s)) l made in
+    makes_then s (InOrder Round pieces) (AllMisses SendMiss) (concat pieces) [] [] [] (pieces_blocks s bytes pieces rest cut)
+    (makes_all s SendMiss (send_miss_blocks s)) l made in
     rw front (rw (append-nil (concat pieces)) at b)
 
 -- `try_send_byte`: its byte where it is sent
@@ -219,28 +243,31 @@ abbrev pub sent_by : {T E : Type 0} → Result T E → ℕ → List ℕ
 sent_by (Ok x) byte = byte ∷ []
 sent_by (Err e) byte = []
 
-pub try_sends_blocks : {T : Type 0} (s : Settings) (byte : ℕ) (result : Result T ByteSendError) → Makes s (TrySends byte result) (sent_by result byte) []
+pub try_sends_blocks : {T : Type 0} (s : Settings) (byte : ℕ) (result : Result T ByteSendError) →
+    Makes s (TrySends byte result) (sent_by result byte) []
 try_sends_blocks s byte (Ok x) l t = sends_blocks s (byte ∷ []) 1 l t
 try_sends_blocks s byte (Err NoCapacity) l t = sends_blocks s (byte ∷ []) 0 l t
 try_sends_blocks s byte (Err RemoteNotClearToSend) l t = absurd t
 
 -- a wait for bits of the line status
 pub waits_blocks : (s : Settings) (bits : ℕ) (outcome : Bool) → Makes s (WaitsFor bits outcome) [] []
-waits_blocks s bits true l t = makes_then s (FewMisses (Asks 5 bits false)) (Asks 5 bits true) [] [] [] [] (makes_few s (Asks 5 bits false) (makes_look s bits false)) (makes_look s bits true) l t
-waits_blocks s bits false l t = makes_all s (Asks 5 bits false) (makes_look s bits false) l t
+waits_blocks s bits true l t =
+    makes_then s (FewMisses (Asks offsets.LSR bits false)) (Asks offsets.LSR bits true) [] [] [] []
+    (makes_few s (Asks offsets.LSR bits false) (makes_look s bits false)) (makes_look s bits true) l t
+waits_blocks s bits false l t = makes_all s (Asks offsets.LSR bits false) (makes_look s bits false) l t
 
 -- ---- receiving
 
 miss_blocks : (s : Settings) → Makes s Miss [] []
-miss_blocks s l t = makes_look s 1 false l t
+miss_blocks s l t = makes_look s LSR.DATA_READY.0 false l t
 
 pub hit_blocks : (s : Settings) (byte : ℕ) → Makes s (Hit byte) [] (byte ∷ [])
 hit_blocks s byte l t =
-    let shows : has_any t.first.answer 1 ≡ true = sym (has_one 0 t.first.answer) ∙ t.first.shows in
+    let shows : has_any t.first.answer LSR.DATA_READY.0 ≡ true = sym (has_one 0 t.first.answer) ∙ t.first.shows in
     rw (t.whole, t.first.is, t.second.is) (blocks_one s.fifo (Hit_block t.first.answer byte) shows)
 
 pub ready_to_receive_blocks : {T E : Type 0} (s : Settings) (result : Result T E) → Makes s (ReadyToReceive result) [] []
-ready_to_receive_blocks s (Ok x) l t = makes_look s 1 true l t
+ready_to_receive_blocks s (Ok x) l t = makes_look s LSR.DATA_READY.0 true l t
 ready_to_receive_blocks s (Err e) l t = miss_blocks s l t
 
 -- `try_receive_byte`: the byte where there is one
@@ -253,12 +280,15 @@ try_receive_blocks s (Ok byte) l t = hit_blocks s byte l t
 try_receive_blocks s (Err e) l t = miss_blocks s l t
 
 -- bytes that are read one after the other
-pub makes_reads : (s : Settings) (P : ℕ → Language) → ((byte : ℕ) → Makes s (P byte) [] (byte ∷ [])) → (bytes : List ℕ) → Makes s (InOrder P bytes) [] bytes
+pub makes_reads : (s : Settings) (P : ℕ → Language) → ((byte : ℕ) → Makes s (P byte) [] (byte ∷ [])) → (bytes : List ℕ) →
+    Makes s (InOrder P bytes) [] bytes
 makes_reads s P p [] l t = makes_only_none s l t
-makes_reads s P p (byte ∷ bytes) l t = makes_then s (P byte) (InOrder P bytes) [] [] (byte ∷ []) bytes (p byte) (λ k u. makes_reads s P p bytes k u) l t
+makes_reads s P p (byte ∷ bytes) l t =
+    makes_then s (P byte) (InOrder P bytes) [] [] (byte ∷ []) bytes (p byte) (λ k u. makes_reads s P p bytes k u) l t
 
 -- bytes that are read, and then something else
-makes_reads_then : (s : Settings) (P : ℕ → Language) (Q : Language) → ((byte : ℕ) → Makes s (P byte) [] (byte ∷ [])) → (bytes : List ℕ) → Makes s Q [] [] → Makes s (Then (InOrder P bytes) Q) [] bytes
+makes_reads_then : (s : Settings) (P : ℕ → Language) (Q : Language) → ((byte : ℕ) → Makes s (P byte) [] (byte ∷ [])) → (bytes : List ℕ) →
+    Makes s Q [] [] → Makes s (Then (InOrder P bytes) Q) [] bytes
 makes_reads_then s P Q p bytes q l t =
     let b : InBlocks s.fifo l [] (bytes ++ []) = makes_then s (InOrder P bytes) Q [] [] bytes [] (makes_reads s P p bytes) q l t in
     rw (append-nil bytes) at b
@@ -269,7 +299,8 @@ receives_blocks s n bytes l (inl t) = makes_reads s Hit (hit_blocks s) bytes l t
 receives_blocks s n bytes l (inr t) = makes_reads_then s Hit Miss (hit_blocks s) bytes (miss_blocks s) l t.1
 
 pub awaited_blocks : (s : Settings) (byte : ℕ) → Makes s (Awaited byte) [] (byte ∷ [])
-awaited_blocks s byte l t = makes_then s (FewMisses Miss) (Hit byte) [] [] [] (byte ∷ []) (makes_few s Miss (miss_blocks s)) (hit_blocks s byte) l t
+awaited_blocks s byte l t =
+    makes_then s (FewMisses Miss) (Hit byte) [] [] [] (byte ∷ []) (makes_few s Miss (miss_blocks s)) (hit_blocks s byte) l t
 
 pub no_bytes : (bytes : List ℕ) → length bytes ≡ 0 → bytes ≡ []
 no_bytes [] e = refl
@@ -277,10 +308,13 @@ no_bytes (byte ∷ bytes) e = absurd (omega arith)
 
 -- `read`
 pub receives_some_blocks : (s : Settings) (n : ℕ) (bytes : List ℕ) (came : Bool) → Makes s (ReceivesSome n bytes came) [] bytes
-receives_some_blocks s n bytes true l t = makes_then s (FewMisses Miss) (Receives n bytes) [] [] [] bytes (makes_few s Miss (miss_blocks s)) (receives_blocks s n bytes) l t.1
+receives_some_blocks s n bytes true l t =
+    makes_then s (FewMisses Miss) (Receives n bytes) [] [] [] bytes (makes_few s Miss (miss_blocks s)) (receives_blocks s n bytes) l t.1
 receives_some_blocks s n bytes false l t = rw (no_bytes bytes t.0) (makes_all s Miss (miss_blocks s) l t.1)
 
 -- `receive_bytes_exact`
-pub receives_exact_blocks : {T : Type 0} (s : Settings) (n : ℕ) (bytes : List ℕ) (result : Result T StalledError) → Makes s (ReceivesExact n bytes result) [] bytes
+pub receives_exact_blocks : {T : Type 0} (s : Settings) (n : ℕ) (bytes : List ℕ) (result : Result T StalledError) →
+    Makes s (ReceivesExact n bytes result) [] bytes
 receives_exact_blocks s n bytes (Ok x) l t = makes_reads s Awaited (awaited_blocks s) bytes l t.1
-receives_exact_blocks s n bytes (Err e) l t = makes_reads_then s Awaited (AllMisses Miss) (awaited_blocks s) bytes (makes_all s Miss (miss_blocks s)) l t.2
+receives_exact_blocks s n bytes (Err e) l t =
+    makes_reads_then s Awaited (AllMisses Miss) (awaited_blocks s) bytes (makes_all s Miss (miss_blocks s)) l t.2

@@ -1,8 +1,11 @@
 -- What a call of a session does beside its bytes: its accesses are blocks, and what it read is saved.
-use Rattle.std.proofs.Common.{◌≡◌, ℕ, ◌≤◌, Bool, true, false, inl, inr, List, [], ◌∷◌, ◌++◌, take, append-nil, refl, arith, sym, ◌∙◌, ap, Result, Ok, Err, bit_or}
+use Rattle.std.proofs.Common.{◌≡◌, ℕ, ◌≤◌, Bool, true, false, inl, inr, List, [], ◌∷◌, ◌++◌, take}
+use Rattle.std.proofs.Common.{append-nil, refl, arith, sym, ◌∙◌, ap, Result, Ok, Err, bit_or}
 use lib.Bits.{or_zero_r}
 use Rattle.uart_spec.specs.declared.errors.RemoteReadyToReceiveError.{RemoteReadyToReceiveError}
 use Rattle.uart_spec.specs.declared.errors.StalledError.{StalledError}
+use Rattle.uart_spec.specs.declared.registers.offsets.TheConstants as offsets
+use Rattle.uart_spec.specs.declared.registers.line_status.TheConstants.LSR
 use Rattle.uart_spec.specs.Access.{Access, Read, Write, saved_lsr, saved_msr}
 use Rattle.uart_16550.specs.Grammar.{Language, Settings, Only, Then, AllMisses}
 use Rattle.uart_16550.specs.Driver.{Fields, settings_of, Saving}
@@ -15,22 +18,26 @@ use Rattle.uart_16550.specs.declared.dump.ConfigRegisterDump.{ConfigRegisterDump
 use Rattle.uart_calls.specs.Meaning.{ShowsFifo}
 use Rattle.uart_chip.specs.Transmitter.{room}
 use Rattle.uart_device.proofs.Blocks.{is_quiet, Look, Other, Divisor, AllQuiet}
-use Rattle.uart_run.proofs.CallBlocks.{no_bytes, InBlocks, blocks_none, blocks_one, blocks_then, Makes, makes_only_none, makes_then, makes_all, makes_look, send_hit_blocks, send_miss_blocks, round_blocks, sends_some_blocks, sends_some_none_blocks, waits_blocks, receives_some_blocks}
+use Rattle.uart_run.proofs.CallBlocks.{no_bytes, InBlocks, blocks_none, blocks_one, blocks_then, Makes, makes_only_none}
+use Rattle.uart_run.proofs.CallBlocks.{makes_then, makes_all, makes_look, send_hit_blocks, send_miss_blocks, round_blocks}
+use Rattle.uart_run.proofs.CallBlocks.{sends_some_blocks, sends_some_none_blocks, waits_blocks, receives_some_blocks}
 
 -- ---- accesses that tell of no data
 
 -- some of them
 pub quiet_blocks : (fifo : Bool) (accesses : List Access) → AllQuiet accesses → InBlocks fifo accesses [] []
 quiet_blocks fifo [] q = blocks_none fifo
-quiet_blocks fifo (access ∷ accesses) q = blocks_then fifo (access ∷ []) accesses [] [] [] [] (blocks_one fifo (Other access) q.0) (quiet_blocks fifo accesses q.1)
+quiet_blocks fifo (access ∷ accesses) q =
+    blocks_then fifo (access ∷ []) accesses [] [] [] [] (blocks_one fifo (Other access) q.0) (quiet_blocks fifo accesses q.1)
 
 -- a register that is read as it is
-pub plain_blocks : (s : Settings) (register value : ℕ) → is_quiet (Read register value) ≡ true → Makes s (Only (Read register value ∷ [])) [] []
+pub plain_blocks : (s : Settings) (register value : ℕ) → is_quiet (Read register value) ≡ true →
+    Makes s (Only (Read register value ∷ [])) [] []
 plain_blocks s register value q l t = rw t.is (blocks_one s.fifo (Other (Read register value)) q)
 
 -- `check_connected`
 pub connects_blocks : {T : Type 0} (s : Settings) (result : Result T RemoteReadyToReceiveError) → Makes s (Connects result) [] []
-connects_blocks s result l (status, shows, is) = rw is (blocks_one s.fifo (Other (Read 6 status)) refl)
+connects_blocks s result l (status, shows, is) = rw is (blocks_one s.fifo (Other (Read offsets.MSR status)) refl)
 
 -- `dll_dlm`
 pub reads_divisor_blocks : (s : Settings) (low high : ℕ) → Makes s (ReadsDivisor low high) [] []
@@ -38,22 +45,27 @@ reads_divisor_blocks s low high l (lcr, is) = rw is (blocks_one s.fifo (Divisor 
 
 -- `check_present`
 keeps_pattern_blocks : (s : Settings) (pattern : ℕ) (outcome : Bool) → Makes s (Keeps_pattern pattern outcome) [] []
-keeps_pattern_blocks s pattern outcome l (back, kept, is) = rw is (quiet_blocks s.fifo (Write 7 pattern ∷ Read 7 back ∷ []) (refl, (refl, tt)))
+keeps_pattern_blocks s pattern outcome l (back, kept, is) =
+    rw is (quiet_blocks s.fifo (Write offsets.SPR pattern ∷ Read offsets.SPR back ∷ []) (refl, (refl, tt)))
 
 keeps_patterns_blocks : (s : Settings) (present : Bool) → Makes s (KeepsPatterns present) [] []
 keeps_patterns_blocks s true l t =
-    makes_then s (Keeps_pattern 66 true) (Keeps_pattern 115 true) [] [] [] [] (keeps_pattern_blocks s 66 true) (keeps_pattern_blocks s 115 true) l t
+    makes_then s (Keeps_pattern 66 true) (Keeps_pattern 115 true) [] [] [] [] (keeps_pattern_blocks s 66 true)
+    (keeps_pattern_blocks s 115 true) l t
 keeps_patterns_blocks s false l (inl t) = keeps_pattern_blocks s 66 false l t
 keeps_patterns_blocks s false l (inr t) =
-    makes_then s (Keeps_pattern 66 true) (Keeps_pattern 115 false) [] [] [] [] (keeps_pattern_blocks s 66 true) (keeps_pattern_blocks s 115 false) l t
+    makes_then s (Keeps_pattern 66 true) (Keeps_pattern 115 false) [] [] [] [] (keeps_pattern_blocks s 66 true)
+    (keeps_pattern_blocks s 115 false) l t
 
-scratch_blocks : (s : Settings) (old : ℕ) → Makes s (Only (Write 7 old ∷ [])) [] []
-scratch_blocks s old l t = rw t.is (blocks_one s.fifo (Other (Write 7 old)) refl)
+scratch_blocks : (s : Settings) (old : ℕ) → Makes s (Only (Write offsets.SPR old ∷ [])) [] []
+scratch_blocks s old l t = rw t.is (blocks_one s.fifo (Other (Write offsets.SPR old)) refl)
 
 pub checks_presence_blocks : (s : Settings) (present : Bool) → Makes s (ChecksPresence present) [] []
 checks_presence_blocks s present l (old, t) =
-    makes_then s (Only (Read 7 old ∷ [])) (Then (KeepsPatterns present) (Only (Write 7 old ∷ []))) [] [] [] [] (plain_blocks s 7 old refl)
-    (λ k u. makes_then s (KeepsPatterns present) (Only (Write 7 old ∷ [])) [] [] [] [] (keeps_patterns_blocks s present) (scratch_blocks s old) k u) l t
+    makes_then s (Only (Read offsets.SPR old ∷ [])) (Then (KeepsPatterns present) (Only (Write offsets.SPR old ∷ []))) [] [] [] []
+    (plain_blocks s offsets.SPR old refl)
+    (λ k u. makes_then s (KeepsPatterns present) (Only (Write offsets.SPR old ∷ [])) [] [] [] [] (keeps_patterns_blocks s present)
+    (scratch_blocks s old) k u) l t
 
 -- ---- readers and writers
 
@@ -69,19 +81,20 @@ written_by (Ok count) bytes = take count bytes
 written_by (Err e) bytes = []
 
 -- `write`
-pub writes_blocks : (s : Settings) (bytes : List ℕ) (result : Result ℕ StalledError) → Makes s (Writes bytes result) (written_by result bytes) []
+pub writes_blocks : (s : Settings) (bytes : List ℕ) (result : Result ℕ StalledError) →
+    Makes s (Writes bytes result) (written_by result bytes) []
 writes_blocks s bytes (Ok count) l (inl (none, zero, is)) = rw (zero, is) (blocks_none s.fifo)
 writes_blocks s bytes (Ok count) l (inr (some, t)) = sends_some_blocks s bytes count l t
 writes_blocks s bytes (Err e) l (some, none, t) = sends_some_none_blocks s bytes l t
 
 -- `flush`
 pub flushes_blocks : {T : Type 0} (s : Settings) (result : Result T StalledError) → Makes s (Flushes result) [] []
-flushes_blocks s (Ok x) l t = waits_blocks s 64 true l t
-flushes_blocks s (Err e) l t = waits_blocks s 64 false l t.1
+flushes_blocks s (Ok x) l t = waits_blocks s LSR.TRANSMITTER_EMPTY.0 true l t
+flushes_blocks s (Err e) l t = waits_blocks s LSR.TRANSMITTER_EMPTY.0 false l t.1
 
 -- `read_ready`
 pub answers_read_blocks : (s : Settings) (result : Result Bool StalledError) → Makes s (AnswersRead result) [] []
-answers_read_blocks s (Ok ready) l t = makes_look s 1 ready l t
+answers_read_blocks s (Ok ready) l t = makes_look s LSR.DATA_READY.0 ready l t
 answers_read_blocks s (Err e) l t = absurd t
 
 -- `write_ready`
@@ -99,12 +112,14 @@ one_fits false = omega arith
 pub sends_each_blocks : (s : Settings) (bytes : List ℕ) → Makes s (SendsEach bytes) bytes []
 sends_each_blocks s [] l t = makes_only_none s l t
 sends_each_blocks s (byte ∷ bytes) l t =
-    makes_then s (Round (byte ∷ [])) (SendsEach bytes) (byte ∷ []) bytes [] [] (round_blocks s (byte ∷ []) (one_fits s.fifo)) (λ k u. sends_each_blocks s bytes k u) l t
+    makes_then s (Round (byte ∷ [])) (SendsEach bytes) (byte ∷ []) bytes [] [] (round_blocks s (byte ∷ []) (one_fits s.fifo))
+    (λ k u. sends_each_blocks s bytes k u) l t
 
 pub sends_beginning_blocks : (s : Settings) (bytes : List ℕ) (n : ℕ) → Makes s (SendsBeginning bytes n) (take n bytes) []
 sends_beginning_blocks s bytes n l t =
     let b : InBlocks s.fifo l (take n bytes ++ []) [] =
-    makes_then s (SendsEach (take n bytes)) (AllMisses SendMiss) (take n bytes) [] [] [] (sends_each_blocks s (take n bytes)) (makes_all s SendMiss (send_miss_blocks s)) l t.1 in
+    makes_then s (SendsEach (take n bytes)) (AllMisses SendMiss) (take n bytes) [] [] [] (sends_each_blocks s (take n bytes))
+    (makes_all s SendMiss (send_miss_blocks s)) l t.1 in
     rw (append-nil (take n bytes)) at b
 
 -- ---- the fields
@@ -116,7 +131,8 @@ pub record Keeps (f : Fields) (l : List Access) (after : Fields) (written read :
   pub lsr : after.lsr ≡ bit_or f.lsr (saved_lsr l)
   pub msr : after.msr ≡ bit_or f.msr (saved_msr l)
 
-pub saving_keeps : (L : Language) (f after : Fields) (l : List Access) (ws rs : List ℕ) → Makes (settings_of f) L ws rs → Saving L f l after → Keeps f l after ws rs
+pub saving_keeps : (L : Language) (f after : Fields) (l : List Access) (ws rs : List ℕ) → Makes (settings_of f) L ws rs →
+    Saving L f l after → Keeps f l after ws rs
 saving_keeps L f after l ws rs b t = record {
   blocks = b l t.0;
   fifo = ap (λ g. g.fifo) t.1;
@@ -125,8 +141,8 @@ saving_keeps L f after l ws rs b t = record {
 }
 
 -- no status is read
-no_status_keeps : (f after : Fields) (l made : List Access) → InBlocks f.fifo made [] [] → l ≡ made → saved_lsr made ≡ 0 → saved_msr made ≡ 0 →
-    after.fifo ≡ f.fifo → after.lsr ≡ f.lsr → after.msr ≡ f.msr → Keeps f l after [] []
+no_status_keeps : (f after : Fields) (l made : List Access) → InBlocks f.fifo made [] [] → l ≡ made → saved_lsr made ≡ 0 →
+    saved_msr made ≡ 0 → after.fifo ≡ f.fifo → after.lsr ≡ f.lsr → after.msr ≡ f.msr → Keeps f l after [] []
 no_status_keeps f after l made b e p q fifo lsr msr = rw e (record {
   blocks = b;
   fifo = fifo;
@@ -141,19 +157,21 @@ shows_fifo_keeps on f after l (shown, none, same) =
 
 pub enables_keeps : (bits : ℕ) (f after : Fields) (l : List Access) → Enables bits f l after → Keeps f l after [] []
 enables_keeps bits f after l (ier, is, changed) =
-    no_status_keeps f after l _ (quiet_blocks f.fifo (Read 1 ier ∷ Write 1 _ ∷ []) (refl, (refl, tt))) is refl refl
+    no_status_keeps f after l _ (quiet_blocks f.fifo (Read offsets.IER ier ∷ Write offsets.IER _ ∷ []) (refl, (refl, tt))) is refl refl
     (ap (λ g. g.fifo) changed) (ap (λ g. g.lsr) changed) (ap (λ g. g.msr) changed)
 
 pub disables_keeps : (bits : ℕ) (f after : Fields) (l : List Access) → Disables bits f l after → Keeps f l after [] []
 disables_keeps bits f after l (ier, is, changed) =
-    no_status_keeps f after l _ (quiet_blocks f.fifo (Read 1 ier ∷ Write 1 _ ∷ []) (refl, (refl, tt))) is refl refl
+    no_status_keeps f after l _ (quiet_blocks f.fifo (Read offsets.IER ier ∷ Write offsets.IER _ ∷ []) (refl, (refl, tt))) is refl refl
     (ap (λ g. g.fifo) changed) (ap (λ g. g.lsr) changed) (ap (λ g. g.msr) changed)
 
 pub dumps_keeps : (dump : ConfigRegisterDump) (f after : Fields) (l : List Access) → Dumps dump f l after → Keeps f l after [] []
 dumps_keeps dump f after l d = record {
   blocks = record {
-    blocks = Divisor d.lcr dump.dll dump.dlm ∷ Other (Read 1 dump.ier.0) ∷ Other (Read 2 dump.isr.0) ∷ Other (Read 3 dump.lcr.0) ∷ Other (Read 4 dump.mcr.0) ∷
-        Look d.lsr ∷ Other (Read 6 d.msr) ∷ Other (Read 7 dump.spr) ∷ [];
+    blocks =
+        Divisor d.lcr dump.dll dump.dlm ∷ Other (Read offsets.IER dump.ier.0) ∷ Other (Read offsets.ISR dump.isr.0) ∷ Other
+        (Read offsets.LCR dump.lcr.0) ∷ Other (Read offsets.MCR dump.mcr.0) ∷
+        Look d.lsr ∷ Other (Read offsets.MSR d.msr) ∷ Other (Read offsets.SPR dump.spr) ∷ [];
     joined = d.is;
     fit = (tt, (refl, (refl, (refl, (refl, (tt, (refl, (refl, tt))))))));
     is_written = refl;
@@ -187,7 +205,7 @@ pub record KeepsButMsr (f : Fields) (l : List Access) (after : Fields) : Type 0 
 
 pub takes_msr_keeps : (result : ℕ) (f after : Fields) (l : List Access) → TakesMsr result f l after → KeepsButMsr f l after
 takes_msr_keeps result f after l (status, is, joined, emptied) = rw is (record {
-  blocks = blocks_one f.fifo (Other (Read 6 status)) refl;
+  blocks = blocks_one f.fifo (Other (Read offsets.MSR status)) refl;
   fifo = ap (λ g. g.fifo) emptied;
   lsr = ap (λ g. g.lsr) emptied ∙ sym (or_zero_r f.lsr);
 })

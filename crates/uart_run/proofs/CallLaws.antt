@@ -1,10 +1,12 @@
 -- What each call of a session does to the machine.
-use Rattle.std.proofs.Common.{◌≡◌, ℕ, ◌≤◌, ◌*◌, ◌-◌, ◌^◌, Bool, List, [], ◌∷◌, Result, Ok, Err, refl, sym, ◌∙◌, ap, subst, take, length, arith, length-append, bit_or}
+use Rattle.std.proofs.Common.{◌≡◌, ℕ, ◌≤◌, ◌*◌, ◌-◌, ◌^◌, Bool, List, [], ◌∷◌, Result, Ok, Err, refl}
+use Rattle.std.proofs.Common.{sym, ◌∙◌, ap, subst, take, length, arith, length-append, bit_or}
 use Rattle.std.proofs.lemmas.Grind.{common_steps}
 use lib.Bits.{or_zero_r}
 use Rattle.uart_spec.specs.declared.errors.ByteSendError.{ByteSendError}
 use Rattle.uart_spec.specs.declared.errors.ByteReceiveError.{ByteReceiveError}
 use Rattle.uart_spec.specs.declared.errors.StalledError.{StalledError}
+use Rattle.uart_spec.specs.declared.registers.offsets.TheConstants as offsets
 use Rattle.uart_spec.specs.Access.{Access, saved_lsr, saved_msr}
 use Rattle.uart_16550.specs.Grammar.{Language, Settings}
 use Rattle.uart_16550.specs.Driver.{Doing, Did, Saving, Fields, fields, settings_of}
@@ -19,15 +21,22 @@ use Rattle.uart_calls.specs.declared.call.Call.TheVariants as call
 use Rattle.uart_calls.specs.declared.call.Answer.{Answer}
 use Rattle.uart_calls.specs.declared.call.Answer.TheVariants.{Flag, Count, Register}
 use Rattle.uart_chip.specs.Machine.{MachineStep}
-use Rattle.uart_calls.specs.Meaning.{ShowsFifo, SendsShortText, Called, saves, connected_answer, receive_ready_answer, received_answer, sent_answer, exact_answer, count_answer, ready_answer, latch_answer, bytes_answer, receive_exact_answer, read_answer}
+use Rattle.uart_calls.specs.Meaning.{ShowsFifo, SendsShortText, Called, saves, connected_answer, receive_ready_answer}
+use Rattle.uart_calls.specs.Meaning.{received_answer, sent_answer, exact_answer, count_answer}
+use Rattle.uart_calls.specs.Meaning.{ready_answer, latch_answer, bytes_answer, receive_exact_answer, read_answer}
 use Rattle.uart_run.specs.Run.{State, machine_of, CallStep}
 use Rattle.uart_run.specs.Session.{count_of, sent_of, sent_byte_of, byte_of, bytes_of, reported_by, received_by, IsWithinSession}
 use Rattle.uart_run.specs.Statuses.{IsNoLsr, IsNoMsr}
 use Rattle.uart_device.proofs.Went.{Modes}
 use Rattle.uart_device.proofs.Passed.{passed-refl, passed-mark}
 use Rattle.uart_device.proofs.BlockLaws.{IsOpen, Stands, PassedBlocks}
-use Rattle.uart_run.proofs.CallBlocks.{no_bytes, InBlocks, Makes, passed_in_blocks, ready_to_send_blocks, ready_to_receive_blocks, sends_blocks, sends_exact_blocks, try_sends_blocks, try_receive_blocks, receives_blocks, receives_exact_blocks}
-use Rattle.uart_run.proofs.CallKeeps.{plain_blocks, connects_blocks, reads_divisor_blocks, checks_presence_blocks, reads_blocks, writes_blocks, flushes_blocks, answers_read_blocks, answers_write_blocks, sends_each_blocks, sends_beginning_blocks, Keeps, saving_keeps, shows_fifo_keeps, enables_keeps, disables_keeps, dumps_keeps, takes_lsr_keeps, takes_msr_keeps}
+use Rattle.uart_run.proofs.CallBlocks.{no_bytes, InBlocks, Makes, passed_in_blocks, ready_to_send_blocks}
+use Rattle.uart_run.proofs.CallBlocks.{ready_to_receive_blocks, sends_blocks, sends_exact_blocks, try_sends_blocks}
+use Rattle.uart_run.proofs.CallBlocks.{try_receive_blocks, receives_blocks, receives_exact_blocks}
+use Rattle.uart_run.proofs.CallKeeps.{plain_blocks, connects_blocks, reads_divisor_blocks, checks_presence_blocks}
+use Rattle.uart_run.proofs.CallKeeps.{reads_blocks, writes_blocks, flushes_blocks, answers_read_blocks, answers_write_blocks}
+use Rattle.uart_run.proofs.CallKeeps.{sends_each_blocks, sends_beginning_blocks, Keeps, saving_keeps, shows_fifo_keeps}
+use Rattle.uart_run.proofs.CallKeeps.{enables_keeps, disables_keeps, dumps_keeps, takes_lsr_keeps, takes_msr_keeps}
 
 -- from s to t: these accesses wrote these bytes to DATA and read those; the driver takes the FIFO to be as before, and saved what the
 -- statuses showed, unless it told and forgot it
@@ -52,14 +61,15 @@ passed_did x G ws rs s t w did blocks =
     passed_in_blocks x (machine_of s) (machine_of t) did.list ws rs w.open_modes w.stands (subst B w.fifo blocks) did.path
 
 -- a call that saves what it reads
-passes_did : (x : Modes) (N M : Type 0) (G : Doing) (ws rs : List ℕ) (s t : State) → InSession x s → (did : Did MachineStep G (inner_of s) (inner_of t)) →
-    Keeps (fields (inner_of s)) did.list (fields (inner_of t)) ws rs → Passes x N M s t ws rs
+passes_did : (x : Modes) (N M : Type 0) (G : Doing) (ws rs : List ℕ) (s t : State) → InSession x s →
+    (did : Did MachineStep G (inner_of s) (inner_of t)) → Keeps (fields (inner_of s)) did.list (fields (inner_of t)) ws rs →
+    Passes x N M s t ws rs
 passes_did x N M G ws rs s t w did k =
     record { made = did.list; passed = passed_did x G ws rs s t w did k.blocks; fifo = k.fifo; lsr = λ n. k.lsr; msr = λ n. k.msr }
 
 -- the same, by the blocks of its language for each result
-passes_called : {R : Type 0} (x : Modes) (N M : Type 0) (L : R → Language) (answer_of : R → Answer) (written read : Answer → List ℕ) (s t : State) (a : Answer) → InSession x s →
-    ((v : Settings) (r : R) → Makes v (L r) (written (answer_of r)) (read (answer_of r))) →
+passes_called : {R : Type 0} (x : Modes) (N M : Type 0) (L : R → Language) (answer_of : R → Answer) (written read : Answer → List ℕ)
+    (s t : State) (a : Answer) → InSession x s → ((v : Settings) (r : R) → Makes v (L r) (written (answer_of r)) (read (answer_of r))) →
     Called MachineStep (saves L answer_of) a (inner_of s) (inner_of t) → Passes x N M s t (written a) (read a)
 passes_called x N M L answer_of written read s t a w makes c =
     let f = fields (inner_of s) in
@@ -67,21 +77,25 @@ passes_called x N M L answer_of written read s t a w makes c =
     rw c.answered (passes_did x N M (Saving (L c.outcome)) _ _ s t w c.did k)
 
 -- a call that sends and receives nothing
-passes_silent : {R : Type 0} (x : Modes) (N M : Type 0) (L : R → Language) (answer_of : R → Answer) (s t : State) (a : Answer) → InSession x s →
-    ((v : Settings) (r : R) → Makes v (L r) [] []) → Called MachineStep (saves L answer_of) a (inner_of s) (inner_of t) → Passes x N M s t [] []
+passes_silent : {R : Type 0} (x : Modes) (N M : Type 0) (L : R → Language) (answer_of : R → Answer) (s t : State) (a : Answer) →
+    InSession x s → ((v : Settings) (r : R) → Makes v (L r) [] []) → Called MachineStep (saves L answer_of) a (inner_of s) (inner_of t) →
+    Passes x N M s t [] []
 passes_silent x N M L answer_of s t a w makes c = passes_called x N M L answer_of (λ _. []) (λ _. []) s t a w makes c
 
 -- ---- what is sent and received, as the answers tell
 
-try_sends_told : (byte : ℕ) (s : Settings) (result : Result (Unit {0}) ByteSendError) → Makes s (TrySends byte result) (sent_byte_of byte (sent_answer result)) []
+try_sends_told : (byte : ℕ) (s : Settings) (result : Result (Unit {0}) ByteSendError) →
+    Makes s (TrySends byte result) (sent_byte_of byte (sent_answer result)) []
 try_sends_told byte s (Ok x) l t = try_sends_blocks s byte (Ok x) l t
 try_sends_told byte s (Err e) l t = try_sends_blocks {T = Unit {0}} s byte (Err e) l t
 
-sends_exact_told : (bytes : List ℕ) (s : Settings) (result : Result (Unit {0}) StalledError) → Makes s (SendsExact bytes result) (sent_of bytes (exact_answer result)) []
+sends_exact_told : (bytes : List ℕ) (s : Settings) (result : Result (Unit {0}) StalledError) →
+    Makes s (SendsExact bytes result) (sent_of bytes (exact_answer result)) []
 sends_exact_told bytes s (Ok x) l t = sends_exact_blocks s bytes (Ok x) l t
 sends_exact_told bytes s (Err e) l t = sends_exact_blocks {T = Unit {0}} s bytes (Err e) l t
 
-writes_told : (bytes : List ℕ) (s : Settings) (result : Result ℕ StalledError) → Makes s (Writes bytes result) (take (count_of (count_answer result)) bytes) []
+writes_told : (bytes : List ℕ) (s : Settings) (result : Result ℕ StalledError) →
+    Makes s (Writes bytes result) (take (count_of (count_answer result)) bytes) []
 writes_told bytes s (Ok count) l t = writes_blocks s bytes (Ok count) l t
 writes_told bytes s (Err e) l t = writes_blocks s bytes (Err e) l t
 
@@ -89,11 +103,13 @@ try_receive_told : (s : Settings) (result : Result ℕ ByteReceiveError) → Mak
 try_receive_told s (Ok byte) l t = try_receive_blocks {E = ByteReceiveError} s (Ok byte) l t
 try_receive_told s (Err e) l t = try_receive_blocks s (Err e) l t
 
-receives_exact_told : (slots : ℕ) (s : Settings) (got : List ℕ × Result (Unit {0}) StalledError) → Makes s (ReceivesExact slots got.0 got.1) [] (bytes_of (receive_exact_answer got))
+receives_exact_told : (slots : ℕ) (s : Settings) (got : List ℕ × Result (Unit {0}) StalledError) →
+    Makes s (ReceivesExact slots got.0 got.1) [] (bytes_of (receive_exact_answer got))
 receives_exact_told slots s (bytes, Ok x) l t = receives_exact_blocks s slots bytes (Ok x) l t
 receives_exact_told slots s (bytes, Err e) l t = receives_exact_blocks {T = Unit {0}} s slots bytes (Err e) l t
 
-reads_told : (slots : ℕ) (s : Settings) (got : List ℕ × Result ℕ StalledError) → Makes s (Reads slots got.0 got.1) [] (bytes_of (read_answer got))
+reads_told : (slots : ℕ) (s : Settings) (got : List ℕ × Result ℕ StalledError) →
+    Makes s (Reads slots got.0 got.1) [] (bytes_of (read_answer got))
 reads_told slots s (bytes, Ok count) l t = reads_blocks s slots bytes (Ok count) l t
 reads_told slots s (bytes, Err e) l t = let made = reads_blocks s slots bytes (Err e) l t in rw (no_bytes bytes t.2.0) at made
 
@@ -115,7 +131,8 @@ sends_text_told text s (Err e) l (short, (sent, is, t)) =
 -- ---- each call
 
 -- no access is made, and the fields stay
-passes_quietly : (x : Modes) (N M : Type 0) (s t : State) → PassedBlocks x (machine_of s) (machine_of t) [] [] [] → fields (inner_of t) ≡ fields (inner_of s) → Passes x N M s t [] []
+passes_quietly : (x : Modes) (N M : Type 0) (s t : State) → PassedBlocks x (machine_of s) (machine_of t) [] [] [] →
+    fields (inner_of t) ≡ fields (inner_of s) → Passes x N M s t [] []
 passes_quietly x N M s t p e = record {
   made = [];
   passed = p;
@@ -125,7 +142,8 @@ passes_quietly x N M s t p e = record {
 }
 
 pub passes_none : (x : Modes) (N M : Type 0) (s : State) → InSession x s → Passes x N M s s [] []
-passes_none x N M s w = passes_quietly x N M s s (record { takes = []; bytes = refl; passed = passed-refl x (machine_of s) w.stands.sound w.stands.modes }) refl
+passes_none x N M s w =
+    passes_quietly x N M s s (record { takes = []; bytes = refl; passed = passed-refl x (machine_of s) w.stands.sound w.stands.modes }) refl
 
 pub passes_call : (x : Modes) (s t : State) (call : Call) (a : Answer) → InSession x s → IsWithinSession call → CallStep s call a t →
     Passes x (IsNoLsr call) (IsNoMsr call) s t (reported_by call a) (received_by call a)
@@ -142,31 +160,55 @@ passes_call x s t call.TryReceive a w i h = passes_called x _ _ _ received_answe
 passes_call x s t call.Flush a w i h = passes_silent x _ _ _ exact_answer s t a w (λ v r. flushes_blocks v r) h
 passes_call x s t call.ReadReady a w i h = passes_silent x _ _ _ ready_answer s t a w (λ v r. answers_read_blocks v r) h
 passes_call x s t call.WriteReady a w i h = passes_silent x _ _ _ ready_answer s t a w (λ v r. answers_write_blocks v r) h
-passes_call x s t call.Ier a w i h = passes_silent x _ _ _ Register s t a w (λ v r. plain_blocks v 1 r refl) h
-passes_call x s t call.Isr a w i h = passes_silent x _ _ _ Register s t a w (λ v r. plain_blocks v 2 r refl) h
-passes_call x s t call.Lcr a w i h = passes_silent x _ _ _ Register s t a w (λ v r. plain_blocks v 3 r refl) h
-passes_call x s t call.Mcr a w i h = passes_silent x _ _ _ Register s t a w (λ v r. plain_blocks v 4 r refl) h
+passes_call x s t call.Ier a w i h = passes_silent x _ _ _ Register s t a w (λ v r. plain_blocks v offsets.IER r refl) h
+passes_call x s t call.Isr a w i h = passes_silent x _ _ _ Register s t a w (λ v r. plain_blocks v offsets.ISR r refl) h
+passes_call x s t call.Lcr a w i h = passes_silent x _ _ _ Register s t a w (λ v r. plain_blocks v offsets.LCR r refl) h
+passes_call x s t call.Mcr a w i h = passes_silent x _ _ _ Register s t a w (λ v r. plain_blocks v offsets.MCR r refl) h
 passes_call x s t call.Lsr a w i h =
     let told = takes_lsr_keeps h.outcome (fields (inner_of s)) (fields (inner_of t)) h.did.list h.did.does in
-    record { made = h.did.list; passed = passed_did x (TakesLsr h.outcome) [] [] s t w h.did told.blocks; fifo = told.fifo; lsr = λ n. absurd n; msr = λ n. told.msr }
+    record {
+      made = h.did.list;
+      passed = passed_did x (TakesLsr h.outcome) [] [] s t w h.did told.blocks;
+      fifo = told.fifo;
+      lsr = λ n. absurd n;
+      msr = λ n. told.msr;
+    }
 passes_call x s t call.Msr a w i h =
     let told = takes_msr_keeps h.outcome (fields (inner_of s)) (fields (inner_of t)) h.did.list h.did.does in
-    record { made = h.did.list; passed = passed_did x (TakesMsr h.outcome) [] [] s t w h.did told.blocks; fifo = told.fifo; lsr = λ n. told.lsr; msr = λ n. absurd n }
-passes_call x s t call.Spr a w i h = passes_silent x _ _ _ Register s t a w (λ v r. plain_blocks v 7 r refl) h
+    record {
+      made = h.did.list;
+      passed = passed_did x (TakesMsr h.outcome) [] [] s t w h.did told.blocks;
+      fifo = told.fifo;
+      lsr = λ n. told.lsr;
+      msr = λ n. absurd n;
+    }
+passes_call x s t call.Spr a w i h = passes_silent x _ _ _ Register s t a w (λ v r. plain_blocks v offsets.SPR r refl) h
 passes_call x s t call.DllDlm a w i h = passes_silent x _ _ _ latch_answer s t a w (λ v latch. reads_divisor_blocks v latch.0 latch.1) h
 passes_call x s t call.FifoEnabled a w i h =
-    passes_did x _ _ (ShowsFifo h.outcome) [] [] s t w h.did (shows_fifo_keeps h.outcome (fields (inner_of s)) (fields (inner_of t)) h.did.list h.did.does)
+    passes_did x _ _ (ShowsFifo h.outcome) [] [] s t w h.did
+    (shows_fifo_keeps h.outcome (fields (inner_of s)) (fields (inner_of t)) h.did.list h.did.does)
 passes_call x s t call.Dump a w i h =
-    passes_did x _ _ (Dumps h.outcome) [] [] s t w h.did (dumps_keeps h.outcome (fields (inner_of s)) (fields (inner_of t)) h.did.list h.did.does)
-passes_call x s t (call.TrySend byte) a w i h = passes_called x _ _ _ sent_answer (sent_byte_of byte) (λ _. []) s t a w (λ v r. try_sends_told byte v r) h
+    passes_did x _ _ (Dumps h.outcome) [] [] s t w h.did
+    (dumps_keeps h.outcome (fields (inner_of s)) (fields (inner_of t)) h.did.list h.did.does)
+passes_call x s t (call.TrySend byte) a w i h =
+    passes_called x _ _ _ sent_answer (sent_byte_of byte) (λ _. []) s t a w (λ v r. try_sends_told byte v r) h
 passes_call x s t (call.Enable bits) a w i h =
-    passes_did x _ _ (Enables bits.0) [] [] s t w h.did (enables_keeps bits.0 (fields (inner_of s)) (fields (inner_of t)) h.did.list h.did.does)
+    passes_did x _ _ (Enables bits.0) [] [] s t w h.did
+    (enables_keeps bits.0 (fields (inner_of s)) (fields (inner_of t)) h.did.list h.did.does)
 passes_call x s t (call.Disable bits) a w i h =
-    passes_did x _ _ (Disables bits.0) [] [] s t w h.did (disables_keeps bits.0 (fields (inner_of s)) (fields (inner_of t)) h.did.list h.did.does)
-passes_call x s t (call.Receive slots) a w i h = passes_called x _ _ _ bytes_answer (λ _. []) bytes_of s t a w (λ v bytes. receives_blocks v slots bytes) h
-passes_call x s t (call.ReceiveExact slots) a w i h = passes_called x _ _ _ receive_exact_answer (λ _. []) bytes_of s t a w (λ v got. receives_exact_told slots v got) h
-passes_call x s t (call.Read slots) a w i h = passes_called x _ _ _ read_answer (λ _. []) bytes_of s t a w (λ v got. reads_told slots v got) h
-passes_call x s t (call.Send bytes) a w i h = passes_called x _ _ _ Count (λ a. take (count_of a) bytes.items) (λ _. []) s t a w (λ v k. sends_blocks v bytes.items k) h
-passes_call x s t (call.SendExact bytes) a w i h = passes_called x _ _ _ exact_answer (sent_of bytes.items) (λ _. []) s t a w (λ v r. sends_exact_told bytes.items v r) h
-passes_call x s t (call.Write bytes) a w i h = passes_called x _ _ _ count_answer (λ a. take (count_of a) bytes.items) (λ _. []) s t a w (λ v r. writes_told bytes.items v r) h
-passes_call x s t (call.Text text) a w i h = passes_called x _ _ _ exact_answer (sent_of (expansion text.bytes)) (λ _. []) s t a w (λ v r. sends_text_told text.bytes v r) h
+    passes_did x _ _ (Disables bits.0) [] [] s t w h.did
+    (disables_keeps bits.0 (fields (inner_of s)) (fields (inner_of t)) h.did.list h.did.does)
+passes_call x s t (call.Receive slots) a w i h =
+    passes_called x _ _ _ bytes_answer (λ _. []) bytes_of s t a w (λ v bytes. receives_blocks v slots bytes) h
+passes_call x s t (call.ReceiveExact slots) a w i h =
+    passes_called x _ _ _ receive_exact_answer (λ _. []) bytes_of s t a w (λ v got. receives_exact_told slots v got) h
+passes_call x s t (call.Read slots) a w i h =
+    passes_called x _ _ _ read_answer (λ _. []) bytes_of s t a w (λ v got. reads_told slots v got) h
+passes_call x s t (call.Send bytes) a w i h =
+    passes_called x _ _ _ Count (λ a. take (count_of a) bytes.items) (λ _. []) s t a w (λ v k. sends_blocks v bytes.items k) h
+passes_call x s t (call.SendExact bytes) a w i h =
+    passes_called x _ _ _ exact_answer (sent_of bytes.items) (λ _. []) s t a w (λ v r. sends_exact_told bytes.items v r) h
+passes_call x s t (call.Write bytes) a w i h =
+    passes_called x _ _ _ count_answer (λ a. take (count_of a) bytes.items) (λ _. []) s t a w (λ v r. writes_told bytes.items v r) h
+passes_call x s t (call.Text text) a w i h =
+    passes_called x _ _ _ exact_answer (sent_of (expansion text.bytes)) (λ _. []) s t a w (λ v r. sends_text_told text.bytes v r) h

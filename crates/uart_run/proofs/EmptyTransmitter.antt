@@ -1,5 +1,7 @@
 -- An empty transmitter: while no byte is written it stays empty, in loopback or not, and the wire stays as it is.
 use Rattle.std.proofs.Common.{◌≡◌, ℕ, Bool, true, List, [], ◌∷◌, ◌++◌, append-nil, Option, Some, None, refl, sym, ◌∙◌, ap}
+use Rattle.uart_spec.specs.declared.registers.offsets.TheConstants as offsets
+use Rattle.uart_spec.specs.declared.registers.line_status.TheConstants.LSR
 use Rattle.uart_spec.specs.Access.{Access, Read, Path}
 use Rattle.uart_16550.specs.Grammar.{Settings, Asks}
 use Rattle.uart_16550.specs.Transmit.{WaitsFor}
@@ -31,18 +33,21 @@ empty_parts [] (Some s) e = absurd (cc)
 empty_parts (x ∷ xs) place e = absurd (cc)
 
 pub sent_shown : (t : TransmitterState) → IsEmpty t → IsSent (out t) t
-sent_shown t e = let p = empty_parts t.queue t.shift_place e in record { queue = p.0; place = p.1; wire = rw (p.0, p.1) (sym (append-nil t.wire)) }
+sent_shown t e =
+    let p = empty_parts t.queue t.shift_place e in record { queue = p.0; place = p.1; wire = rw (p.0, p.1) (sym (append-nil t.wire)) }
 
 pub shown_sent : (gone : List ℕ) (t : TransmitterState) → IsSent gone t → IsEmpty t
 shown_sent gone t s = rw (s.queue, s.place) refl
 
 -- ---- it lasts
 
-sent_shift : (loopback : Bool) (gone : List ℕ) (place : Option Shifting) (t : TransmitterState) → place ≡ None → IsSent gone t → IsSent gone (shift loopback place t)
+sent_shift : (loopback : Bool) (gone : List ℕ) (place : Option Shifting) (t : TransmitterState) → place ≡ None → IsSent gone t →
+    IsSent gone (shift loopback place t)
 sent_shift loopback gone None t e s = s
 sent_shift loopback gone (Some shifting) t e s = absurd (cc)
 
-sent_refill : (gone : List ℕ) (place : Option Shifting) (queue : List ℕ) (t : TransmitterState) → queue ≡ [] → IsSent gone t → IsSent gone (refill place queue t)
+sent_refill : (gone : List ℕ) (place : Option Shifting) (queue : List ℕ) (t : TransmitterState) → queue ≡ [] → IsSent gone t →
+    IsSent gone (refill place queue t)
 sent_refill gone (Some shifting) queue t e s = s
 sent_refill gone None [] t e s = s
 sent_refill gone None (x ∷ xs) t e s = absurd (cc)
@@ -62,33 +67,42 @@ sent_lasts gone = record {
   in_tick = λ loopback t s. sent_tick gone loopback t s;
 }
 
-pub sent_path : (gone : List ℕ) (accesses : List Access) (m n : MachineState) → AllSendNothing accesses → IsSent gone m.chip.transmitter → Path MachineStep m accesses n → IsSent gone n.chip.transmitter
+pub sent_path : (gone : List ℕ) (accesses : List Access) (m n : MachineState) → AllSendNothing accesses → IsSent gone m.chip.transmitter →
+    Path MachineStep m accesses n → IsSent gone n.chip.transmitter
 sent_path gone accesses m n silent s path = lasts-path (IsSent gone) (sent_lasts gone) accesses m n silent s path
 
 -- an empty one stays so
-pub empty_path : (accesses : List Access) (m n : MachineState) → AllSendNothing accesses → Path MachineStep m accesses n → IsEmpty m.chip.transmitter → IsEmpty n.chip.transmitter
+pub empty_path : (accesses : List Access) (m n : MachineState) → AllSendNothing accesses → Path MachineStep m accesses n →
+    IsEmpty m.chip.transmitter → IsEmpty n.chip.transmitter
 empty_path accesses m n silent path e =
     let gone = out m.chip.transmitter in
     shown_sent gone n.chip.transmitter (sent_path gone accesses m n silent (sent_shown m.chip.transmitter e) path)
 
 -- ---- looks that show it
 
-pub look_empty : (m n : MachineState) (line : ℕ) → MachineStep m (Read 5 line) n → has_any line 64 ≡ is_transmitter_empty n.chip.transmitter.queue n.chip.transmitter.shift_place
+pub look_empty : (m n : MachineState) (line : ℕ) → MachineStep m (Read offsets.LSR line) n →
+    has_any line LSR.TRANSMITTER_EMPTY.0 ≡ is_transmitter_empty n.chip.transmitter.queue n.chip.transmitter.shift_place
 look_empty m n line s =
-    let e : has_any line 64 ≡ has_any (line_status (at_access m).chip) 64 = ap (λ l. has_any l 64) s.1 in
-    e ∙ (status_empty (at_access m).chip ∙ sym (ap (λ (o : MachineState). is_transmitter_empty o.chip.transmitter.queue o.chip.transmitter.shift_place) s.0))
+    let e : has_any line LSR.TRANSMITTER_EMPTY.0 ≡ has_any (line_status (at_access m).chip) LSR.TRANSMITTER_EMPTY.0 =
+    ap (λ l. has_any l LSR.TRANSMITTER_EMPTY.0) s.1 in
+    e
+    ∙
+    (status_empty (at_access m).chip
+    ∙ sym (ap (λ (o : MachineState). is_transmitter_empty o.chip.transmitter.queue o.chip.transmitter.shift_place) s.0))
 
 -- a look that shows an empty transmitter leaves one
-pub empty_shown : (s : Settings) (l : List Access) (m n : MachineState) → Asks 5 64 true s l → Path MachineStep m l n → IsEmpty n.chip.transmitter
-empty_shown s l m n t path = looked (path_as m n l (Read 5 t.answer ∷ []) t.is path)
+pub empty_shown : (s : Settings) (l : List Access) (m n : MachineState) → Asks offsets.LSR LSR.TRANSMITTER_EMPTY.0 true s l →
+    Path MachineStep m l n → IsEmpty n.chip.transmitter
+empty_shown s l m n t path = looked (path_as m n l (Read offsets.LSR t.answer ∷ []) t.is path)
   where
-    looked : Path MachineStep m (Read 5 t.answer ∷ []) n → IsEmpty n.chip.transmitter
+    looked : Path MachineStep m (Read offsets.LSR t.answer ∷ []) n → IsEmpty n.chip.transmitter
     looked (mid, step, same) =
         let empty : IsEmpty mid.chip.transmitter = sym (look_empty m mid t.answer step) ∙ (sym (has_one 6 t.answer) ∙ t.shows) in
         rw same empty
 
 -- and so does a wait for it, that comes to its end
-pub wait_empties : (s : Settings) (l : List Access) (m n : MachineState) → WaitsFor 64 true s l → Path MachineStep m l n → IsEmpty n.chip.transmitter
+pub wait_empties : (s : Settings) (l : List Access) (m n : MachineState) → WaitsFor LSR.TRANSMITTER_EMPTY.0 true s l →
+    Path MachineStep m l n → IsEmpty n.chip.transmitter
 wait_empties s l m n h path =
     let q = path_split MachineStep m n h.front h.back (path_as m n l (h.front ++ h.back) h.whole path) in
     empty_shown s h.back q.0 n h.second q.2

@@ -24,12 +24,17 @@ comes_to s t other a w h = tt
 
 -- and that it succeeds
 succeeds : (s t : State) (call : Call) (a : Answer) → IsSound (machine_of s) → CallStep s call a t → IsTimely s → Succeeds s call a
-succeeds s t (call.Init config) a w h timely = λ room divisor. init_succeeds s t config a w timely room divisor h (initialises s t config a w h).is_present
+succeeds s t (call.Init config) a w h timely =
+    λ room divisor. init_succeeds s t config a w timely room divisor h (initialises s t config a w h).is_present
 succeeds s t call.TestLoopback a w h timely = λ ready room. test_succeeds s t a w ready timely room h
-succeeds s t call.Flush a w h timely = λ ready room. flush_succeeds s t a h.did.list h.outcome w timely room h.answered h.did.does.0 h.did.path
-succeeds s t (call.SendExact bytes) a w h timely = λ ready off room. send_exact_succeeds s t a h.did.list bytes.items h.outcome w ready timely off room h.answered h.did.does.0 h.did.path
-succeeds s t (call.Write bytes) a w h timely = λ ready off room. write_succeeds s t a h.did.list bytes.items h.outcome w timely off room h.answered h.did.does.0 h.did.path
-succeeds s t (call.Text text) a w h timely = λ ready off room. text_succeeds s t a h.did.list text.bytes h.outcome w ready timely off room h.answered h.did.does.0.1 h.did.path
+succeeds s t call.Flush a w h timely =
+    λ ready room. flush_succeeds s t a h.did.list h.outcome w timely room h.answered h.did.does.0 h.did.path
+succeeds s t (call.SendExact bytes) a w h timely =
+    λ ready off room. send_exact_succeeds s t a h.did.list bytes.items h.outcome w ready timely off room h.answered h.did.does.0 h.did.path
+succeeds s t (call.Write bytes) a w h timely =
+    λ ready off room. write_succeeds s t a h.did.list bytes.items h.outcome w timely off room h.answered h.did.does.0 h.did.path
+succeeds s t (call.Text text) a w h timely =
+    λ ready off room. text_succeeds s t a h.did.list text.bytes h.outcome w ready timely off room h.answered h.did.does.0.1 h.did.path
 succeeds s t other a w h timely = tt
 
 follow_chain : (s t : State) (links : List Link) → IsSound (machine_of s) → Chain s links t → AllFollow links
@@ -45,12 +50,14 @@ follow_chain s t (link ∷ links) w h =
     (follows, follow_chain link.after t links (sound_call link.before link.after link.call link.answer begins h.1) h.2)
 
 -- a run from a sound machine
-pub ran : (s t : State) (calls : List Call) (answers : List Answer) → IsSound (machine_of s) → IsRun s calls answers t → Ran s calls answers t
+pub ran : (s t : State) (calls : List Call) (answers : List Answer) → IsSound (machine_of s) → IsRun s calls answers t →
+    Ran s calls answers t
 ran s t calls answers sound r = record {
   links = r.links;
   chain = r.chain;
   calls_same = r.calls_same;
   answers_same = r.answers_same;
   follows = follow_chain s t r.links sound r.chain;
-  sessions = λ front session rest a b parts before within after is. session_conserves a b session (sound_chain s a front sound before) is within;
+  sessions =
+      λ front session rest a b parts before within after is. session_conserves a b session (sound_chain s a front sound before) is within;
 }

@@ -1,12 +1,18 @@
 -- Lists that change nothing of what the registers keep while DLAB is off: they read, and of writes have only those of the data register.
-use Rattle.std.proofs.Common.{◌≡◌, ℕ, zero, suc, Bool, true, false, inl, inr, List, [], ◌∷◌, ◌++◌, Result, Ok, Err, refl, ◌∙◌, ap, MatchBool, if◌then◌else◌}
+use Rattle.std.proofs.Common.{◌≡◌, ℕ, zero, suc, Bool, true, false, inl, inr, List, [], ◌∷◌}
+use Rattle.std.proofs.Common.{◌++◌, Result, Ok, Err, refl, ◌∙◌, ap, MatchBool, if◌then◌else◌}
 use Rattle.uart_spec.specs.declared.errors.ByteSendError.{ByteSendError}
 use Rattle.uart_spec.specs.declared.errors.ByteSendError.TheVariants.{NoCapacity, RemoteNotClearToSend}
 use Rattle.uart_spec.specs.declared.errors.StalledError.{StalledError}
+use Rattle.uart_spec.specs.declared.registers.offsets.TheConstants as offsets
+use Rattle.uart_spec.specs.declared.registers.line_status.TheConstants.LSR
+use Rattle.uart_spec.specs.declared.registers.modem_status.TheConstants.MSR
+use Rattle.uart_spec.specs.declared.registers.modem_control.TheConstants.MCR
 use Rattle.uart_spec.specs.Access.{Access, Read, Write, Path}
 use Rattle.uart_16550.specs.Grammar.{Language, Settings, Only, Then, InOrder, Times, FewMisses, AllMisses, Asks, ReadsRegister, Never}
 use Rattle.uart_16550.specs.Receive.{Hit, Miss, Awaited, ReceivesExact}
-use Rattle.uart_16550.specs.Transmit.{LinesAllow, SendHit, SendRefused, SendMiss, data_writes, Burst, Sends, Round, SendsAll, SendsExact, TrySends, WaitsFor}
+use Rattle.uart_16550.specs.Transmit.{LinesAllow, SendHit, SendRefused, SendMiss, data_writes, Burst}
+use Rattle.uart_16550.specs.Transmit.{Sends, Round, SendsAll, SendsExact, TrySends, WaitsFor}
 use Rattle.uart_16550.specs.Init.{Discards, DrainsReceiver}
 use Rattle.uart_chip.specs.Chip.{is_dlab_set}
 use Rattle.uart_chip.specs.Machine.{MachineState, MachineStep}
@@ -19,12 +25,12 @@ KeepsAll l = (k : Kept) → is_dlab_set k.latches ≡ false → kept_after l k �
 keeps_append : (xs ys : List Access) → KeepsAll xs → KeepsAll ys → KeepsAll (xs ++ ys)
 keeps_append xs ys p q k d = kept_after-append xs ys k ∙ (ap (kept_after ys) (p k d) ∙ q k d)
 
-keeps_data : (byte : ℕ) → KeepsAll (Write 0 byte ∷ [])
+keeps_data : (byte : ℕ) → KeepsAll (Write offsets.DATA byte ∷ [])
 keeps_data byte k d = ap (λ (b : Bool). if b then record k { latches = record k.latches { dll = byte } } else k) d
 
 keeps_writes : (bytes : List ℕ) → KeepsAll (data_writes bytes)
 keeps_writes [] k d = refl
-keeps_writes (byte ∷ bytes) k d = keeps_append (Write 0 byte ∷ []) (data_writes bytes) (keeps_data byte) (keeps_writes bytes) k d
+keeps_writes (byte ∷ bytes) k d = keeps_append (Write offsets.DATA byte ∷ []) (data_writes bytes) (keeps_data byte) (keeps_writes bytes) k d
 
 -- ---- languages
 
@@ -48,11 +54,13 @@ keeps_few s P p l t = keeps_times s t.0 P p l t.2
 pub keeps_all : (s : Settings) (P : Language) → AllKeep s P → AllKeep s (AllMisses P)
 keeps_all s P p l t = keeps_times s s.limit P p l t
 
-pub keeps_in_order : {A : Type 0} (s : Settings) (P : A → Language) (items : List A) → ((item : A) → AllKeep s (P item)) → AllKeep s (InOrder P items)
+pub keeps_in_order : {A : Type 0} (s : Settings) (P : A → Language) (items : List A) → ((item : A) → AllKeep s (P item)) →
+    AllKeep s (InOrder P items)
 keeps_in_order s P [] p l t = keeps_only s [] (λ k d. refl) l t
 keeps_in_order s P (item ∷ items) p l t = keeps_then s (P item) (InOrder P items) (p item) (λ k u. keeps_in_order s P items p k u) l t
 
-pub keeps_if : (s : Settings) (b : Bool) (P Q : Language) → AllKeep s P → AllKeep s Q → (l : List Access) → MatchBool b (P s l) (Q s l) → KeepsAll l
+pub keeps_if : (s : Settings) (b : Bool) (P Q : Language) → AllKeep s P → AllKeep s Q → (l : List Access) → MatchBool b (P s l) (Q s l) →
+    KeepsAll l
 keeps_if s true P Q p q l t = p l t
 keeps_if s false P Q p q l t = q l t
 
@@ -65,27 +73,30 @@ pub keeps_reads : (s : Settings) (register : ℕ) → AllKeep s (ReadsRegister r
 keeps_reads s register l t = rw t.1 (λ k d. refl)
 
 pub keeps_waits : (s : Settings) (bits : ℕ) (outcome : Bool) → AllKeep s (WaitsFor bits outcome)
-keeps_waits s bits true = keeps_then s _ _ (keeps_few s _ (keeps_asks s 5 bits false)) (keeps_asks s 5 bits true)
-keeps_waits s bits false = keeps_all s _ (keeps_asks s 5 bits false)
+keeps_waits s bits true = keeps_then s _ _ (keeps_few s _ (keeps_asks s offsets.LSR bits false)) (keeps_asks s offsets.LSR bits true)
+keeps_waits s bits false = keeps_all s _ (keeps_asks s offsets.LSR bits false)
 
 -- ---- receiving
 
 pub keeps_miss : (s : Settings) → AllKeep s Miss
-keeps_miss s = keeps_asks s 5 1 false
+keeps_miss s = keeps_asks s offsets.LSR LSR.DATA_READY.0 false
 
 pub keeps_hit : (s : Settings) (byte : ℕ) → AllKeep s (Hit byte)
-keeps_hit s byte = keeps_then s _ _ (keeps_asks s 5 1 true) (keeps_only s (Read 0 byte ∷ []) (λ k d. refl))
+keeps_hit s byte =
+    keeps_then s _ _ (keeps_asks s offsets.LSR LSR.DATA_READY.0 true) (keeps_only s (Read offsets.DATA byte ∷ []) (λ k d. refl))
 
 pub keeps_awaited : (s : Settings) (byte : ℕ) → AllKeep s (Awaited byte)
 keeps_awaited s byte = keeps_then s _ _ (keeps_few s Miss (keeps_miss s)) (keeps_hit s byte)
 
-pub keeps_receives_exact : {T : Type 0} (s : Settings) (n : ℕ) (bytes : List ℕ) (result : Result T StalledError) → AllKeep s (ReceivesExact n bytes result)
+pub keeps_receives_exact : {T : Type 0} (s : Settings) (n : ℕ) (bytes : List ℕ) (result : Result T StalledError) →
+    AllKeep s (ReceivesExact n bytes result)
 keeps_receives_exact s n bytes (Ok x) l t = keeps_in_order s Awaited bytes (keeps_awaited s) l t.1
-keeps_receives_exact s n bytes (Err e) l t = keeps_then s _ _ (keeps_in_order s Awaited bytes (keeps_awaited s)) (keeps_all s Miss (keeps_miss s)) l t.2
+keeps_receives_exact s n bytes (Err e) l t =
+    keeps_then s _ _ (keeps_in_order s Awaited bytes (keeps_awaited s)) (keeps_all s Miss (keeps_miss s)) l t.2
 
 -- the drain of an `init`
 keeps_discards : (s : Settings) → AllKeep s Discards
-keeps_discards s = keeps_then s _ _ (keeps_asks s 5 1 true) (keeps_reads s 0)
+keeps_discards s = keeps_then s _ _ (keeps_asks s offsets.LSR LSR.DATA_READY.0 true) (keeps_reads s offsets.DATA)
 
 pub keeps_drains : (s : Settings) → AllKeep s DrainsReceiver
 keeps_drains s l (inl t) = keeps_times s 17 Discards (keeps_discards s) l t
@@ -94,16 +105,20 @@ keeps_drains s l (inr t) = keeps_then s _ _ (keeps_times s t.0 Discards (keeps_d
 -- ---- sending
 
 keeps_lines : (s : Settings) (allowed : Bool) → AllKeep s (LinesAllow allowed)
-keeps_lines s allowed l (inl t) = keeps_asks s 4 16 true l t.1
-keeps_lines s allowed l (inr t) = keeps_then s _ _ (keeps_asks s 4 16 false) (keeps_asks s 6 16 allowed) l t
+keeps_lines s allowed l (inl t) = keeps_asks s offsets.MCR MCR.LOOP_BACK.0 true l t.1
+keeps_lines s allowed l (inr t) =
+    keeps_then s _ _ (keeps_asks s offsets.MCR MCR.LOOP_BACK.0 false) (keeps_asks s offsets.MSR MSR.CTS.0 allowed) l t
 
 keeps_send_hit : (s : Settings) → AllKeep s SendHit
-keeps_send_hit s = keeps_if s s.checks (Then (Asks 5 32 true) (LinesAllow true)) (Asks 5 32 true) (keeps_then s _ _ (keeps_asks s 5 32 true) (keeps_lines s true)) (keeps_asks s 5 32 true)
+keeps_send_hit s =
+    keeps_if s s.checks (Then (Asks offsets.LSR LSR.THR_EMPTY.0 true) (LinesAllow true)) (Asks offsets.LSR LSR.THR_EMPTY.0 true)
+    (keeps_then s _ _ (keeps_asks s offsets.LSR LSR.THR_EMPTY.0 true) (keeps_lines s true)) (keeps_asks s offsets.LSR LSR.THR_EMPTY.0 true)
 
 keeps_refused : (s : Settings) (e : ByteSendError) → AllKeep s (SendRefused e)
-keeps_refused s NoCapacity = keeps_asks s 5 32 false
+keeps_refused s NoCapacity = keeps_asks s offsets.LSR LSR.THR_EMPTY.0 false
 keeps_refused s RemoteNotClearToSend =
-    keeps_if s s.checks (Then (Asks 5 32 true) (LinesAllow false)) Never (keeps_then s _ _ (keeps_asks s 5 32 true) (keeps_lines s false)) (λ l t. absurd t)
+    keeps_if s s.checks (Then (Asks offsets.LSR LSR.THR_EMPTY.0 true) (LinesAllow false)) Never
+    (keeps_then s _ _ (keeps_asks s offsets.LSR LSR.THR_EMPTY.0 true) (keeps_lines s false)) (λ l t. absurd t)
 
 pub keeps_send_miss : (s : Settings) → AllKeep s SendMiss
 keeps_send_miss s l t = keeps_refused s t.0 l t.1
@@ -134,5 +149,6 @@ keeps_sends_exact s bytes (Err e) l (pieces, rest, cut, some, count, made) =
 
 -- ---- the machine
 
-pub kept_still : (s : Settings) (P : Language) (l : List Access) (m n : MachineState) → AllKeep s P → is_dlab_set m.chip.latches ≡ false → P s l → Path MachineStep m l n → kept_in n.chip ≡ kept_in m.chip
+pub kept_still : (s : Settings) (P : Language) (l : List Access) (m n : MachineState) → AllKeep s P → is_dlab_set m.chip.latches ≡ false →
+    P s l → Path MachineStep m l n → kept_in n.chip ≡ kept_in m.chip
 kept_still s P l m n keeps d t p = kept_path l m n p ∙ keeps l t (kept_in m.chip) d

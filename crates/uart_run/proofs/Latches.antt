@@ -11,7 +11,9 @@ use Rattle.uart_spec.specs.declared.registers.fifo_control.TheConstants.FCR
 use Rattle.uart_spec.specs.declared.registers.offsets.TheConstants as offsets
 use Rattle.uart_chip.specs.Masks.{ier_bits, mcr_bits}
 use Rattle.uart_chip.specs.Receiver.{clear}
-use Rattle.uart_chip.specs.Chip.{LatchesState, ChipState, word_length, cut_to, is_dlab_set, ticks, interrupt, is_thr_empty, after_read, after_write, trigger_level, switch, reset_receiver, reset_transmitter, set_trigger, is_same, set_fifo, control}
+use Rattle.uart_chip.specs.Chip.{LatchesState, ChipState, word_length, cut_to, is_dlab_set, ticks, interrupt}
+use Rattle.uart_chip.specs.Chip.{is_thr_empty, after_read, after_write, trigger_level, switch}
+use Rattle.uart_chip.specs.Chip.{reset_receiver, reset_transmitter, set_trigger, is_same, set_fifo, control}
 use Rattle.uart_chip.specs.Machine.{MachineState, MachineStep, perform, before_access, at_access, before_mark, at_mark}
 
 -- what is kept until it is written: the latches, and whether the FIFO is on; and the model and the option, which are never written
@@ -37,7 +39,8 @@ keep_control Uart16550A value k = record k { fifo = has_any value FCR.FIFO_ENABL
 abbrev pub keep_write : ℕ → ℕ → Kept → Kept
 keep_write offset value k =
     if offset == offsets.DATA then (if is_dlab_set k.latches then record k { latches = record k.latches { dll = value } } else k)
-    else if offset == offsets.IER then (if is_dlab_set k.latches then record k { latches = record k.latches { dlm = value } } else record k { latches = record k.latches { ier = bit_and value ier_bits } })
+    else if offset == offsets.IER then (if is_dlab_set k.latches then record k { latches = record k.latches { dlm = value } } else record k
+    { latches = record k.latches { ier = bit_and value ier_bits } })
     else if offset == offsets.FCR then keep_control k.model value k
     else if offset == offsets.LCR then record k { latches = record k.latches { lcr = value } }
     else if offset == offsets.MCR then record k { latches = record k.latches { mcr = bit_and value mcr_bits } }
@@ -116,7 +119,8 @@ kept-fifo value c =
     let e : ChipState = reset_receiver value d in
     let b : kept_in e ≡ k = same_if (has_any value FCR.RX_FIFO_RESET.0) (record d { receiver = clear d.receiver }) d k a a in
     let f : ChipState = reset_transmitter value e in
-    let g : kept_in f ≡ k = same_if (has_any value FCR.TX_FIFO_RESET.0) (record e { transmitter = record e.transmitter { queue = []; is_thr_pending = true } }) e k b b in
+    let g : kept_in f ≡ k = same_if (has_any value FCR.TX_FIFO_RESET.0)
+    (record e { transmitter = record e.transmitter { queue = []; is_thr_pending = true } }) e k b b in
     same_if on (set_trigger (trigger_level value) f) d k g a
 
 kept-control : (model : Chip) (value : ℕ) (c : ChipState) → kept_in (control model value c) ≡ keep_control model value (kept_in c)
@@ -140,14 +144,16 @@ kept_access m = kept-before m.ahead m.chip
 pub kept_step : (access : Access) (m n : MachineState) → MachineStep m access n → kept_in n.chip ≡ keep access (kept_in m.chip)
 kept_step (Read offset answer) m n s = ap (λ (o : MachineState). kept_in o.chip) s.0 ∙ (kept-read offset (at_access m).chip ∙ kept_access m)
 kept_step (Write offset value) m n s =
-    ap (λ (o : MachineState). kept_in o.chip) s ∙ (kept-write offset value (at_access m).chip ∙ ap (keep_write offset value) (kept_access m))
+    ap (λ (o : MachineState). kept_in o.chip) s ∙
+    (kept-write offset value (at_access m).chip ∙ ap (keep_write offset value) (kept_access m))
 
 pub kept_path : (made : List Access) (m n : MachineState) → Path MachineStep m made n → kept_in n.chip ≡ kept_after made (kept_in m.chip)
 kept_path [] m n p = ap (λ (o : MachineState). kept_in o.chip) p
 kept_path (access ∷ accesses) m n p = kept_path accesses p.0 n p.2 ∙ ap (kept_after accesses) (kept_step access m p.0 p.1)
 
 -- by what the list is
-pub kept_list : (l made : List Access) (m n : MachineState) → l ≡ made → Path MachineStep m l n → kept_in n.chip ≡ kept_after made (kept_in m.chip)
+pub kept_list : (l made : List Access) (m n : MachineState) → l ≡ made → Path MachineStep m l n →
+    kept_in n.chip ≡ kept_after made (kept_in m.chip)
 kept_list l made m n is p = kept_path l m n p ∙ ap (λ k. kept_after k (kept_in m.chip)) is
 
 -- what is kept is as after these accesses, and the driver takes the FIFO to be as before

@@ -34,9 +34,9 @@ run_more s t u calls answers call answer r h =
     }
 
 -- the next call, its answer in the next slot
-pub run_step : (s t u : State) (calls : List Call) (answers : List Answer) (i : ℕ) (call : Call) (answer : Answer) →
-    i < length calls → i < length answers → call ≡ get_or calls i call →
-    IsRun s (take i calls) (take i answers) t → CallStep t call answer u → IsRun s (take (i + 1) calls) (take (i + 1) (slice_set answers i answer)) u
+pub run_step : (s t u : State) (calls : List Call) (answers : List Answer) (i : ℕ) (call : Call) (answer : Answer) → i < length calls →
+    i < length answers → call ≡ get_or calls i call → IsRun s (take i calls) (take i answers) t → CallStep t call answer u →
+    IsRun s (take (i + 1) calls) (take (i + 1) (slice_set answers i answer)) u
 run_step s t u calls answers i call answer h k e r c =
     rw (take_more calls i call h, ← e, take_more_set answers i answer k)
     (run_more s t u (take i calls) (take i answers) call answer r c)

@@ -19,7 +19,8 @@ use Rattle.uart_run.proofs.Served.{serves_chain}
 
 -- ---- what was conserved
 
-pub conserves : (x : Modes) (s t : State) (links : List Link) → InSession x s → AllWithinSession links → Chain s links t → Conserves s links t
+pub conserves : (x : Modes) (s t : State) (links : List Link) → InSession x s → AllWithinSession links → Chain s links t →
+    Conserves s links t
 conserves x s t links w within chain =
     let p = passes_chain x s t links w within chain in
     let went = p.passed.passed.went in
@@ -37,7 +38,8 @@ conserves x s t links w within chain =
     }
 
 -- a session conserves
-pub session_conserves : (s t : State) (links : List Link) → IsSound (machine_of s) → IsSession s links → Chain s links t → Conserves s links t
+pub session_conserves : (s t : State) (links : List Link) → IsSound (machine_of s) → IsSession s links → Chain s links t →
+    Conserves s links t
 session_conserves s t links sound session chain = conserves (modes_of s) s t links (in_session s session.0 sound) session.1 chain
 
 -- ---- what every call keeps
@@ -52,7 +54,8 @@ pub lasts_call : {P : MachineState → Type 0} (s t : State) (call : Call) (a : 
 lasts_call s t call.Next a k w h = rw h.machine (k.mark (machine_of s) w)
 lasts_call s t other a k w h = k.path h.did.list (machine_of s) (machine_of t) w h.did.path
 
-pub lasts_chain : {P : MachineState → Type 0} (s t : State) (links : List Link) → Lasts P → P (machine_of s) → Chain s links t → P (machine_of t)
+pub lasts_chain : {P : MachineState → Type 0} (s t : State) (links : List Link) → Lasts P → P (machine_of s) → Chain s links t →
+    P (machine_of t)
 lasts_chain s t [] k w h = rw h w
 lasts_chain {P} s t (link ∷ links) k w h =
     let S : State → Type 0 = λ v. P (machine_of v) in

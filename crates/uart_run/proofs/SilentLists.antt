@@ -1,6 +1,9 @@
 -- Lists of accesses that send nothing: of languages, and of what a call does.
 use Rattle.std.proofs.Common.{ℕ, zero, suc, Bool, true, false, inl, inr, List, [], ◌∷◌, ◌++◌, Option, Some, None, refl}
 use Rattle.uart_spec.specs.declared.registers.fifo_trigger_level.FifoTriggerLevel.{FifoTriggerLevel}
+use Rattle.uart_spec.specs.declared.registers.offsets.TheConstants as offsets
+use Rattle.uart_spec.specs.declared.registers.line_status.TheConstants.LSR
+use Rattle.uart_spec.specs.declared.registers.interrupt_status.TheConstants.ISR
 use Rattle.uart_spec.specs.Access.{Access, Read, Write}
 use Rattle.uart_16550.specs.Grammar.{Language, Settings, Only, Then, Times, FewMisses, Asks, ReadsRegister}
 use Rattle.uart_16550.specs.Driver.{Fields, Doing, Saving, Plain, Sets, Next, settings_of}
@@ -34,7 +37,9 @@ silent_asks s register bits outcome l t = rw t.is (tt, tt)
 
 pub silent_sets_fifo : (s : Settings) (level : Option FifoTriggerLevel) (on : Bool) → IsSilent s (SetsFifo level on)
 silent_sets_fifo s None on l t = rw t.1 (refl, tt)
-silent_sets_fifo s (Some level) on l t = silent_then s _ (Asks 2 192 on) (silent_only s (Write 2 _ ∷ []) (refl, tt)) (silent_asks s 2 192 on) l t
+silent_sets_fifo s (Some level) on l t =
+    silent_then s _ (Asks offsets.ISR ISR.FIFOS_ENABLED.0 on) (silent_only s (Write offsets.FCR _ ∷ []) (refl, tt))
+    (silent_asks s offsets.ISR ISR.FIFOS_ENABLED.0 on) l t
 
 silent_reads : (s : Settings) (register : ℕ) → IsSilent s (ReadsRegister register)
 silent_reads s register l t = rw t.1 (tt, tt)
@@ -46,15 +51,17 @@ silent_keeps s pattern outcome l t = rw t.2 (refl, (tt, tt))
 
 pub silent_presence : (s : Settings) → IsSilent s (ChecksPresence true)
 silent_presence s l t =
-    silent_then s _ _ (silent_only s (Read 7 t.0 ∷ []) (tt, tt))
-    (silent_then s _ _ (λ k u. silent_then s (Keeps 66 true) (Keeps 115 true) (silent_keeps s 66 true) (silent_keeps s 115 true) k u) (silent_only s (Write 7 t.0 ∷ []) (refl, tt))) l t.1
+    silent_then s _ _ (silent_only s (Read offsets.SPR t.0 ∷ []) (tt, tt))
+    (silent_then s _ _ (λ k u. silent_then s (Keeps 66 true) (Keeps 115 true) (silent_keeps s 66 true) (silent_keeps s 115 true) k u)
+    (silent_only s (Write offsets.SPR t.0 ∷ []) (refl, tt))) l t.1
 
 silent_discards : (s : Settings) → IsSilent s Discards
-silent_discards s = silent_then s _ _ (silent_asks s 5 1 true) (silent_reads s 0)
+silent_discards s = silent_then s _ _ (silent_asks s offsets.LSR LSR.DATA_READY.0 true) (silent_reads s offsets.DATA)
 
 pub silent_drains : (s : Settings) → IsSilent s DrainsReceiver
 silent_drains s l (inl t) = silent_times s 17 Discards (silent_discards s) l t
-silent_drains s l (inr t) = silent_then s _ _ (silent_times s t.0 Discards (silent_discards s)) (silent_asks s 5 1 false) l t.2
+silent_drains s l (inr t) =
+    silent_then s _ _ (silent_times s t.0 Discards (silent_discards s)) (silent_asks s offsets.LSR LSR.DATA_READY.0 false) l t.2
 
 -- ---- what a call does
 

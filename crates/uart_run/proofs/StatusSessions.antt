@@ -1,5 +1,6 @@
 -- What `lsr` and `msr` tell in a session, carried over its calls.
 use Rattle.std.proofs.Common.{◌≡◌, ℕ, Bool, false, List, [], ◌∷◌, ◌++◌, take, Option, refl, sym, ◌∙◌, ap, subst, bit_or}
+use Rattle.uart_spec.specs.declared.registers.offsets.TheConstants as offsets
 use Rattle.uart_spec.specs.Access.{Access, Read, Path}
 use Rattle.uart_16550.specs.Driver.{Doing, Did, Fields, fields}
 use Rattle.uart_16550.specs.Status.{TakesLsr, TakesMsr}
@@ -34,7 +35,8 @@ record Ends (s : State) (some : List Link) (last : Link) (t : State) : Type 0 wh
 
 ends : (s t : State) (some : List Link) (last : Link) → Chain s (some ++ last ∷ []) t → Ends s some last t
 ends s t [] last h = record { chain = h.0; step = h.1; same = sym h.2 }
-ends s t (link ∷ some) last h = let e = ends link.after t some last h.2 in record { chain = (h.0, h.1, e.chain); step = e.step; same = e.same }
+ends s t (link ∷ some) last h =
+    let e = ends link.after t some last h.2 in record { chain = (h.0, h.1, e.chain); step = e.step; same = e.same }
 
 call_is : (s t : State) (c d : Call) (a b : Answer) → c ≡ d → a ≡ b → CallStep s c a t → CallStep s d b t
 call_is s t c d a b e f h =
@@ -86,30 +88,32 @@ told_after T register saved x s n t links value w within chain took tells =
 
 -- ---- `lsr`
 
-took_lsr : (s t : State) (a : Answer) → CallStep s call.Lsr a t → Took 5 (λ f. f.lsr) s a t
+took_lsr : (s t : State) (a : Answer) → CallStep s call.Lsr a t → Took offsets.LSR (λ f. f.lsr) s a t
 took_lsr s t a step =
     let does = step.did.does in
-    takes_status 5 (λ f. f.lsr) step.outcome does.0 (TakesLsr step.outcome) s t a step.answered step.did does.1 does.2
+    takes_status offsets.LSR (λ f. f.lsr) step.outcome does.0 (TakesLsr step.outcome) s t a step.answered step.did does.1 does.2
     (ap (λ (f : Fields). f.lsr) does.3)
 
 lsr_after : (x : Modes) (s n t : State) (links : List Link) (value : ℕ) → InSession x s → AllWithinSession links → AllNoLsr links →
     Chain s links n → CallStep n call.Lsr (Register value) t → After (LsrTells x) (fields (inner_of s)).lsr s t value
 lsr_after x s n t links value w within none chain step =
-    told_after (LsrTells x) 5 (λ f. f.lsr) x s n t links value w within chain (took_lsr n t (Register value) step)
+    told_after (LsrTells x) offsets.LSR (λ f. f.lsr) x s n t links value w within chain (took_lsr n t (Register value) step)
     (λ p status path told. lsr_tells x (machine_of s) (machine_of n) (machine_of t) p.made (reported links) p.passed.takes status
     (fields (inner_of s)).lsr (fields (inner_of n)).lsr value w.open_modes p.passed.passed path (p.lsr none) told)
 
-all_told-append : (fifo : Bool) (old : Option Character) (line : ℕ) (xs ys : List Character) → AllTold fifo old line xs → AllTold fifo old line ys → AllTold fifo old line (xs ++ ys)
+all_told-append : (fifo : Bool) (old : Option Character) (line : ℕ) (xs ys : List Character) → AllTold fifo old line xs →
+    AllTold fifo old line ys → AllTold fifo old line (xs ++ ys)
 all_told-append fifo old line [] ys h k = k
 all_told-append fifo old line (x ∷ xs) ys h k = (h.0, all_told-append fifo old line xs ys h.1 k)
 
 -- the one in front
-first_told : (fifo : Bool) (old : Option Character) (line : ℕ) (queue : List Character) → ((f : Character) (others : List Character) → queue ≡ f ∷ others → IsTold fifo old line f) →
-    AllTold fifo old line (take 1 queue)
+first_told : (fifo : Bool) (old : Option Character) (line : ℕ) (queue : List Character) →
+    ((f : Character) (others : List Character) → queue ≡ f ∷ others → IsTold fifo old line f) → AllTold fifo old line (take 1 queue)
 first_told fifo old line [] h = tt
 first_told fifo old line (f ∷ others) h = (h f others refl, tt)
 
-tells_line : (x : Modes) (s t : State) (value : ℕ) → InSession x s → After (LsrTells x) (fields (inner_of s)).lsr s t value → TellsLine s t value
+tells_line : (x : Modes) (s t : State) (value : ℕ) → InSession x s → After (LsrTells x) (fields (inner_of s)).lsr s t value →
+    TellsLine s t value
 tells_line x s t value w a =
     let old = reported_front (receiver_of s) in
     let queue = (receiver_of t).queue in
@@ -124,16 +128,16 @@ tells_line x s t value w a =
 
 -- ---- `msr`
 
-took_msr : (s t : State) (a : Answer) → CallStep s call.Msr a t → Took 6 (λ f. f.msr) s a t
+took_msr : (s t : State) (a : Answer) → CallStep s call.Msr a t → Took offsets.MSR (λ f. f.msr) s a t
 took_msr s t a step =
     let does = step.did.does in
-    takes_status 6 (λ f. f.msr) step.outcome does.0 (TakesMsr step.outcome) s t a step.answered step.did does.1 does.2
+    takes_status offsets.MSR (λ f. f.msr) step.outcome does.0 (TakesMsr step.outcome) s t a step.answered step.did does.1 does.2
     (ap (λ (f : Fields). f.msr) does.3)
 
 msr_after : (x : Modes) (s n t : State) (links : List Link) (value : ℕ) → InSession x s → AllWithinSession links → AllNoMsr links →
     Chain s links n → CallStep n call.Msr (Register value) t → After (MsrTells x) (fields (inner_of s)).msr s t value
 msr_after x s n t links value w within none chain step =
-    told_after (MsrTells x) 6 (λ f. f.msr) x s n t links value w within chain (took_msr n t (Register value) step)
+    told_after (MsrTells x) offsets.MSR (λ f. f.msr) x s n t links value w within chain (took_msr n t (Register value) step)
     (λ p status path told. msr_tells x (machine_of s) (machine_of n) (machine_of t) p.made (reported links) p.passed.takes status
     (fields (inner_of s)).msr (fields (inner_of n)).msr value w.open_modes p.passed.passed path (p.msr none) told)
 

@@ -86,5 +86,6 @@ ran_uncut s t calls answers r e = record {
   follows = r.follows;
   tests = all_follow_uncut s t r.links e r.chain r.follows;
   sessions = λ front session rest a b parts before within after is.
-      conserves_uncut a b session (lasts_chain s a front lasts_uncut e before) (r.sessions front session rest a b parts before within after is);
+      conserves_uncut a b session (lasts_chain s a front lasts_uncut e before)
+      (r.sessions front session rest a b parts before within after is);
 }

@@ -20,8 +20,8 @@ use Rattle.uart_run.specs.Run.{State, machine_of}
 use Rattle.uart_run.specs.Served.{transmitter_of}
 use Rattle.uart_run.specs.Ready.{Ready, is_narrow, test_answer}
 
--- each Access of these events has at least one tick after the Access or Mark before it, or after the beginning; of that one so many
--- ticks have passed already
+-- each Access of these events has at least one tick after the Access or Mark before it, or after the beginning; of that
+-- one so many ticks have passed already
 abbrev pub TickedAfter : ℕ → List Event → Type 0
 TickedAfter passed [] = Unit {0}
 TickedAfter passed (Ticks n ∷ events) = TickedAfter (passed + n) events
@@ -33,7 +33,8 @@ TickedAfter passed (_ ∷ events) = TickedAfter passed events
 abbrev pub IsTicked : MachineState → Type 0
 IsTicked m = TickedAfter 0 m.ahead
 
--- the ticks until a shift place and a queue are empty: a character takes so many, and a free place takes one tick to be filled
+-- the ticks until a shift place and a queue are empty: a character takes so many, and a free place
+-- takes one tick to be filled
 abbrev pub left_of : ℕ → Option Shifting → List ℕ → ℕ
 left_of char_ticks None [] = 0
 left_of char_ticks None (x ∷ xs) = 1 + char_ticks * length (x ∷ xs)
@@ -62,12 +63,15 @@ pub record HasDivisor (config : Config) : Type 0 where
   pub divisor : ℕ
   pub is_divisor : DivisorOf config (Ok divisor)
 
--- with room on the wire for what it sends the call does not stall: an `init` from any state, the others from a ready one
+-- with room on the wire for what it sends the call does not stall: an `init` from any state,
+-- the others from a ready one
 abbrev pub Succeeds : State → Call → Answer → Type 0
 Succeeds s (call.Init config) a = HasRoom 0 (machine_of s) → HasDivisor config → a ≡ Done
 Succeeds s call.TestLoopback a = Ready s → HasRoom 0 (machine_of s) → a ≡ test_answer (is_narrow (machine_of s).chip)
 Succeeds s call.Flush a = Ready s → HasRoom 0 (machine_of s) → a ≡ Done
 Succeeds s (call.SendExact bytes) a = Ready s → IsUnchecked s → HasRoom (length bytes.items) (machine_of s) → a ≡ Done
-Succeeds s (call.Write bytes) a = Ready s → IsUnchecked s → HasRoom (length bytes.items) (machine_of s) → (count : ℕ) × (a ≡ Count count)
-Succeeds s (call.Text text) a = Ready s → IsUnchecked s → HasRoom (length (expansion text.bytes)) (machine_of s) → a ≡ Done
+Succeeds s (call.Write bytes) a =
+    Ready s → IsUnchecked s → HasRoom (length bytes.items) (machine_of s) → (count : ℕ) × (a ≡ Count count)
+Succeeds s (call.Text text) a =
+    Ready s → IsUnchecked s → HasRoom (length (expansion text.bytes)) (machine_of s) → a ≡ Done
 Succeeds s other a = Unit {0}

@@ -15,7 +15,8 @@ use Rattle.uart_calls.specs.declared.call.Answer.TheVariants.{Done, InitRefused,
 use Rattle.uart_chip.specs.declared.event.Chip.{Chip}
 use Rattle.uart_chip.specs.declared.event.Chip.TheVariants.{Uart16550A, Uart16450}
 use Rattle.uart_chip.specs.Masks.{ier_bits}
-use Rattle.uart_chip.specs.Chip.{LatchesState, ChipState, word_length, is_dlab_set, is_loopback, is_transmitter_empty, divisor}
+use Rattle.uart_chip.specs.Chip.{LatchesState, ChipState, word_length, is_dlab_set}
+use Rattle.uart_chip.specs.Chip.{is_loopback, is_transmitter_empty, divisor}
 use Rattle.uart_chip.specs.Machine.{MachineState}
 use Rattle.uart_run.specs.Run.{State, machine_of}
 use Rattle.uart_run.specs.Served.{transmitter_of, IsFlushed}
@@ -32,7 +33,8 @@ pub record Ready (s : State) : Type 0 where
 
 -- with the driver as it is, the second machine is ready where the first is
 abbrev pub KeepsReady : MachineState → MachineState → Type 0
-KeepsReady m n = (s t : State) → machine_of s ≡ m → machine_of t ≡ n → fields (inner_of t) ≡ fields (inner_of s) → Ready s → Ready t
+KeepsReady m n =
+    (s t : State) → machine_of s ≡ m → machine_of t ≡ n → fields (inner_of t) ≡ fields (inner_of s) → Ready s → Ready t
 
 -- ---- after an `init`
 
@@ -72,7 +74,8 @@ abbrev pub test_answer : (is_narrow : Bool) → Answer
 test_answer false = Done
 test_answer true = LoopbackRefused (UnexpectedLoopbackByte test_byte 2)
 
--- it answers this or stalls; if it does not stall, the transmitter is empty, and the wire holds what was to go out before it, and nothing else
+-- it answers this or stalls; if it does not stall, the transmitter is empty, and the wire holds what was to go out
+-- before it, and nothing else
 pub record IsTested (s : State) (a : Answer) (t : State) : Type 0 where
   pub answers : (a ≡ test_answer (is_narrow (machine_of s).chip)) ⊎ (a ≡ LoopbackRefused Stalled)
   pub leaves : a ≡ test_answer (is_narrow (machine_of s).chip) → IsFlushed s t

@@ -43,7 +43,8 @@ pub record Link : Type 0 where
 -- the calls lead from s to t, one after the other
 abbrev pub Chain : State → List Link → State → Type 0
 Chain s [] t = t ≡ s
-Chain s (link ∷ links) t = (link.before ≡ s) × CallStep link.before link.call link.answer link.after × Chain link.after links t
+Chain s (link ∷ links) t =
+    (link.before ≡ s) × CallStep link.before link.call link.answer link.after × Chain link.after links t
 
 abbrev pub calls_of : List Link → List Call
 calls_of links = map (λ link. link.call) links

@@ -1,4 +1,5 @@
--- What a call of a session does at least, whatever the schedule brings: it takes what waits, and a flush empties the transmitter.
+-- What a call of a session does at least, whatever the schedule brings: it takes what waits, and a
+-- flush empties the transmitter.
 use Rattle.std.specs.Prelude.{◌≡◌, ◌<◌, ◌≤◌, ℕ, true, List, [], ◌∷◌, length, min}
 use Rattle.uart_calls.specs.declared.call.Call.{Call}
 use Rattle.uart_calls.specs.declared.call.Call.TheVariants as call

@@ -82,8 +82,9 @@ received (link ∷ links) = received_by link.call link.answer ++ received links
 abbrev pub overflows : State → ℕ
 overflows s = (machine_of s).chip.transmitter.overflows
 
--- the wire and the transmitter grew by what was reported, no data write met a full transmitter, what was received and waits is what was
--- kept; an `lsr` or `msr` at the end tells of drops, line errors and changes; and each call does at least what it is for
+-- the wire and the transmitter grew by what was reported, no data write met a full transmitter, what was received
+-- and waits is what was kept; an `lsr` or `msr` at the end tells of drops, line errors and changes; and each call
+-- does at least what it is for
 pub record Conserves (s : State) (links : List Link) (t : State) : Type 0 where
   pub ready : Ready t
   pub sent : out (machine_of t) ≡ out (machine_of s) ++ map (cut_of (machine_of s).chip) (reported links)
@@ -107,7 +108,8 @@ AllFollow (link ∷ links) = Follows link.before link.call link.answer link.afte
 
 -- ---- runs
 
--- these calls, answered so, lead from s to t; each follows what is promised of it alone, and each session in them conserves
+-- these calls, answered so, lead from s to t; each follows what is promised of it alone, and
+-- each session in them conserves
 pub record Ran (s : State) (calls : List Call) (answers : List Answer) (t : State) : Type 0 where
   pub links : List Link
   pub chain : Chain s links t

@@ -47,8 +47,10 @@ changes_between s t = changes_in (machine_of s).chip.modem.lines (between (machi
 pub record TellsLine (s t : State) (line : ℕ) : Type 0 where
   pub drop : IsDrop (machine_of s) (machine_of t) → has_any line LSR.OVERRUN_ERROR.0 ≡ true
   pub taken : List Character
-  pub was_taken : filter (stands (receiver_of t)) (entered (machine_of s) (machine_of t)) ≡ taken ++ (receiver_of t).queue
-  pub errors : AllTold (machine_of t).chip.fifo (reported_front (receiver_of s)) line (taken ++ take 1 (receiver_of t).queue)
+  pub was_taken : filter (stands (receiver_of t)) (entered (machine_of s) (machine_of t)) ≡
+      taken ++ (receiver_of t).queue
+  pub errors : AllTold (machine_of t).chip.fifo (reported_front (receiver_of s)) line
+      (taken ++ take 1 (receiver_of t).queue)
 
 -- the overrun flag tells of a drop
 abbrev pub TellsNoOtherDrop : State → State → ℕ → Type 0
@@ -64,13 +66,16 @@ TellsNoOtherChange s t status = bit_and status MSR.CHANGES.0 ≡ changes_between
 
 -- ---- in a session
 
--- where the session ends with an `lsr` or `msr`, since its start; and where it also begins with one, since that and nothing else
+-- where the session ends with an `lsr` or `msr`, since its start; and where it also begins with one,
+-- since that and nothing else
 pub record Tells (s : State) (links : List Link) (t : State) : Type 0 where
   pub line : (some : List Link) (last : Link) (value : ℕ) → links ≡ some ++ last ∷ [] → AllNoLsr some →
       last.call ≡ call.Lsr → last.answer ≡ answer.Register value → TellsLine s t value
-  pub only_drops : (first : Link) (some : List Link) (last : Link) (value : ℕ) → links ≡ first ∷ (some ++ last ∷ []) → AllNoLsr some →
-      first.call ≡ call.Lsr → last.call ≡ call.Lsr → last.answer ≡ answer.Register value → TellsNoOtherDrop first.after t value
+  pub only_drops : (first : Link) (some : List Link) (last : Link) (value : ℕ) → links ≡ first ∷ (some ++ last ∷ []) →
+      AllNoLsr some → first.call ≡ call.Lsr → last.call ≡ call.Lsr → last.answer ≡ answer.Register value →
+      TellsNoOtherDrop first.after t value
   pub changes : (some : List Link) (last : Link) (value : ℕ) → links ≡ some ++ last ∷ [] → AllNoMsr some →
       last.call ≡ call.Msr → last.answer ≡ answer.Register value → TellsChanges s t value
-  pub only_changes : (first : Link) (some : List Link) (last : Link) (value : ℕ) → links ≡ first ∷ (some ++ last ∷ []) → AllNoMsr some →
-      first.call ≡ call.Msr → last.call ≡ call.Msr → last.answer ≡ answer.Register value → TellsNoOtherChange first.after t value
+  pub only_changes : (first : Link) (some : List Link) (last : Link) (value : ℕ) → links ≡ first ∷ (some ++ last ∷ []) →
+      AllNoMsr some → first.call ≡ call.Msr → last.call ≡ call.Msr → last.answer ≡ answer.Register value →
+      TellsNoOtherChange first.after t value

@@ -38,8 +38,9 @@ pub record ConservesUncut (s : State) (links : List Link) (t : State) : Type 0 w
   pub tells : Tells s links t
   pub served : AllServe links
 
--- a loopback test that is called where a session may begin: it is done or stalls; if it is done, the transmitter is empty and
--- the wire holds what was to go out before it, and nothing else; and if ticks come and the wire has room, it is done
+-- a loopback test that is called where a session may begin: it is done or stalls; if it is done, the
+-- transmitter is empty and the wire holds what was to go out before it, and nothing else; and if ticks come and
+-- the wire has room, it is done
 pub record TestsUncut (s : State) (a : Answer) (t : State) : Type 0 where
   pub answers : Ready s → (a ≡ Done) ⊎ (a ≡ LoopbackRefused Stalled)
   pub leaves : Ready s → a ≡ Done → IsFlushed s t
@@ -53,7 +54,8 @@ abbrev pub AllFollowUncut : List Link → Type 0
 AllFollowUncut [] = Unit {0}
 AllFollowUncut (link ∷ links) = FollowsUncut link.before link.call link.answer link.after × AllFollowUncut links
 
--- these calls, answered so, lead from s to t; each follows what is promised of it alone, and each session in them conserves
+-- these calls, answered so, lead from s to t; each follows what is promised of it alone, and
+-- each session in them conserves
 pub record RanUncut (s : State) (calls : List Call) (answers : List Answer) (t : State) : Type 0 where
   pub links : List Link
   pub chain : Chain s links t

@@ -4,7 +4,8 @@ use thiserror::Error;
 
 /// A clock frequency and a divisor that give no whole baud rate.
 #[derive(Clone, Debug, Default, PartialEq, Eq, PartialOrd, Hash, Drop, Error)]
-#[error("Input values do not result in even (integer representable) baud rate! frequency={frequency}, divisor={divisor}, prescaler_division_factor={prescaler_division_factor:?}")]
+#[error("Input values do not result in even (integer representable) baud rate! frequency={frequency}, divisor={divisor}, \
+    prescaler_division_factor={prescaler_division_factor:?}")]
 pub struct NonIntegerBaudRateError {
     /// The clock frequency, in hertz.
     pub frequency: u32,
@@ -16,7 +17,8 @@ pub struct NonIntegerBaudRateError {
 
 /// A clock frequency and a baud rate between which no whole divisor stands.
 #[derive(Clone, Debug, Default, PartialEq, Eq, PartialOrd, Hash, Drop, Error)]
-#[error("input values do not result in even (integer representable) baud rate! frequency={frequency}, baud_rate={baud_rate}, prescaler_division_factor={prescaler_division_factor:?}")]
+#[error("input values do not result in even (integer representable) baud rate! \
+    frequency={frequency}, baud_rate={baud_rate}, prescaler_division_factor={prescaler_division_factor:?}")]
 pub struct NonIntegerDivisorError {
     /// The clock frequency, in hertz.
     pub frequency: u32,
@@ -116,7 +118,8 @@ pub enum LoopbackError {
         actual: u8,
     },
     /// The test message came back changed.
-    #[error("loopback test failed: read unexpected string! expected (str)={}, actual (str)={}, actual (bytes)={actual:?}", Message(.expected), Message(.actual))]
+    #[error("loopback test failed: read unexpected string! expected (str)={}, actual (str)={}, \
+        actual (bytes)={actual:?}", Message(.expected), Message(.actual))]
     UnexpectedLoopbackMsg {
         /// The bytes that were sent, always the test message.
         expected: [u8; 16],

@@ -65,14 +65,16 @@ fn baud_rate_arithmetic(rt: HostRuntime) {
     }
 }
 
+// The usual clock gives no whole baud rate at this divisor.
+const NO_RATE: NonIntegerBaudRateError = NonIntegerBaudRateError {
+    frequency: 1_843_200,
+    divisor: 73,
+    prescaler_division_factor: None,
+};
+
 #[test]
 fn refused_rates(rt: HostRuntime) {
-    let no_rate = NonIntegerBaudRateError {
-        frequency: 1_843_200,
-        divisor: 73,
-        prescaler_division_factor: None,
-    };
-    assert_eq!(rt; calc_baud_rate(1_843_200, 73, None), Err(no_rate));
+    assert_eq!(rt; calc_baud_rate(1_843_200, 73, None), Err(NO_RATE));
     for baud_rate in [110, 7211] {
         let no_divisor = InvalidDivisorError::NonInteger(NonIntegerDivisorError {
             frequency: 1_843_200,
@@ -125,23 +127,15 @@ fn fields(rt: HostRuntime) {
 
 #[test]
 fn codes(rt: HostRuntime) {
-    let levels = [
-        (0b00, FifoTriggerLevel::One),
-        (0b01, FifoTriggerLevel::Four),
-        (0b10, FifoTriggerLevel::Eight),
-        (0b11, FifoTriggerLevel::Fourteen),
+    let fields = [
+        (0b00, FifoTriggerLevel::One, WordLength::FiveBits),
+        (0b01, FifoTriggerLevel::Four, WordLength::SixBits),
+        (0b10, FifoTriggerLevel::Eight, WordLength::SevenBits),
+        (0b11, FifoTriggerLevel::Fourteen, WordLength::EightBits),
     ];
-    for (code, level) in levels {
+    for (code, level, length) in fields {
         assert_eq!(rt; FifoTriggerLevel::from_raw_bits(code), level);
         assert_eq!(rt; level.to_raw_bits(), code);
-    }
-    let lengths = [
-        (0b00, WordLength::FiveBits),
-        (0b01, WordLength::SixBits),
-        (0b10, WordLength::SevenBits),
-        (0b11, WordLength::EightBits),
-    ];
-    for (code, length) in lengths {
         assert_eq!(rt; WordLength::from_raw_bits(code), length);
         assert_eq!(rt; length.to_raw_bits(), code);
     }
@@ -230,11 +224,6 @@ fn text<E: Error>(error: E) -> InlineText<256> {
 
 #[test]
 fn texts_of_the_arithmetic(rt: HostRuntime) {
-    let no_rate = NonIntegerBaudRateError {
-        frequency: 1_843_200,
-        divisor: 73,
-        prescaler_division_factor: None,
-    };
     let no_divisor = NonIntegerDivisorError {
         frequency: 1_843_200,
         baud_rate: 7211,
@@ -243,12 +232,14 @@ fn texts_of_the_arithmetic(rt: HostRuntime) {
     let too_large = InvalidDivisorError::OutOfRange { divisor: 115_200 };
     let texts = [
         (
-            text(no_rate),
-            "Input values do not result in even (integer representable) baud rate! frequency=1843200, divisor=73, prescaler_division_factor=None",
+            text(NO_RATE),
+            "Input values do not result in even (integer representable) baud rate! frequency=1843200, divisor=73, \
+            prescaler_division_factor=None",
         ),
         (
             text(InvalidDivisorError::NonInteger(no_divisor)),
-            "input values do not result in even (integer representable) baud rate! frequency=1843200, baud_rate=7211, prescaler_division_factor=Some(3)",
+            "input values do not result in even (integer representable) baud rate! frequency=1843200, baud_rate=7211, \
+            prescaler_division_factor=Some(3)",
         ),
         (
             text(InitError::InvalidBaudRate(too_large)),
@@ -334,11 +325,15 @@ fn texts_of_the_loopback_test(rt: HostRuntime) {
         ),
         (
             text(unlike),
-            "loopback test failed: read unexpected string! expected (str)=Ok(\"hello world!1337\"), actual (str)=Ok(\"say \\\"\\\\\\\" 123 ~~~ \"), actual (bytes)=[115, 97, 121, 32, 34, 92, 34, 32, 49, 50, 51, 32, 126, 126, 126, 32]",
+            "loopback test failed: read unexpected string! expected (str)=Ok(\"hello world!1337\"), \
+            actual (str)=Ok(\"say \\\"\\\\\\\" 123 ~~~ \"), \
+            actual (bytes)=[115, 97, 121, 32, 34, 92, 34, 32, 49, 50, 51, 32, 126, 126, 126, 32]",
         ),
         (
             text(unprintable),
-            "loopback test failed: read unexpected string! expected (str)=Ok(\"hello world!1337\"), actual (str)=Err(not printable ASCII), actual (bytes)=[104, 101, 108, 108, 111, 32, 119, 111, 114, 108, 100, 33, 49, 51, 51, 10]",
+            "loopback test failed: read unexpected string! expected (str)=Ok(\"hello world!1337\"), \
+            actual (str)=Err(not printable ASCII), \
+            actual (bytes)=[104, 101, 108, 108, 111, 32, 119, 111, 114, 108, 100, 33, 49, 51, 51, 10]",
         ),
         (
             text(Uart16550TtyError::TestError(LoopbackError::Stalled)),

@@ -1,10 +1,12 @@
 //! Sending.
-ghost use Rattle.std.specs.Prelude.{◌≡◌, ◌<◌, ◌≤◌, length, take, IfErr, IfSome};
+ghost use Rattle.std.specs.Prelude.{◌≡◌, ◌<◌, ◌≤◌, [], ◌∷◌, length, take, IfErr, IfSome};
 ghost use Rattle.uart_16550.specs.Grammar.{Only, Asks};
 ghost use Rattle.uart_16550.specs.Transmit.{LinesAllow, ReadyToSend, data_writes, burst_size, Sends, WaitsToSend, SendsSome, SendsExact};
 ghost use Rattle.uart_16550.specs.Transmit.{WaitsFor, TrySends};
 ghost use Rattle.uart_16550.specs.Expansion.{SendsSingly};
 ghost use Rattle.uart_16550.specs.Driver.{Made, settings};
+ghost use Rattle.uart_spec.specs.Access.{Write};
+ghost use Rattle.uart_spec.specs.declared.registers.offsets.TheConstants as offsets;
 
 use super::{PIECE_SIZE, Uart16550};
 use crate::backend::Backend;
@@ -43,12 +45,19 @@ impl<B: Backend> Uart16550<B> {
         Ok(())
     }
 
+    // Writes a byte to DATA.
+    fn write_byte(&mut self, byte: u8)
+        ensures { Made B.step (Only (Write offsets.DATA byte ∷ [])) self.old self.new }
+    {
+        self.backend.write(offsets::DATA as u8, byte);
+    }
+
     // Writes the bytes to DATA in order.
     fn write_data(&mut self, bytes: &[u8])
         ensures { Made B.step (Only (data_writes bytes.now)) self.old self.new }
     {
         for &byte in bytes {
-            self.write_register(offsets::DATA, byte);
+            self.write_byte(byte);
         }
     }
 
@@ -59,7 +68,7 @@ impl<B: Backend> Uart16550<B> {
         ensures size { result ≡ burst_size (settings self.old) bytes.now }
     {
         if !self.fifo_enabled {
-            self.write_register(offsets::DATA, bytes[0]);
+            self.write_byte(bytes[0]);
             return 1;
         }
         match bytes.first_chunk::<FIFO_SIZE>() {
@@ -146,7 +155,7 @@ impl<B: Backend> Uart16550<B> {
             if !self.wait_to_send() {
                 return Err(StalledError { done });
             }
-            self.write_register(offsets::DATA, byte);
+            self.write_byte(byte);
         }
         Ok(())
     }

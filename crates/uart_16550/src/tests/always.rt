@@ -34,7 +34,7 @@ fn filed(rt: &impl Abort, call: Call, answer: Answer, accesses: Accesses) {
 }
 
 // A dump in which each register shows this.
-fn shown(byte: u8) -> ConfigRegisterDump {
+fn dump_of(byte: u8) -> ConfigRegisterDump {
     ConfigRegisterDump {
         ier: IER::from_bits_retain(byte),
         isr: ISR::from_bits_retain(byte),
@@ -71,28 +71,34 @@ fn latch_read(lcr: u8, under_dlab: u8, byte: u8) -> Accesses {
         .write(offsets::LCR, lcr)
 }
 
-#[test]
-fn looks_at_ff(rt: HostRuntime) {
-    let absent = list()
-        .read(offsets::SPR, 0xff)
-        .write(offsets::SPR, 0x42)
-        .read(offsets::SPR, 0xff)
-        .write(offsets::SPR, 0xff);
-    noisy(&rt, Call::CheckPresent, Flag(false), absent);
-    noisy(
-        &rt,
-        Call::CheckConnected,
-        Done,
-        list().read(offsets::MSR, 0xff),
-    );
-    noisy(&rt, Call::ReadyToReceive, Done, list().look(0xff));
-    noisy(&rt, Call::ReadyToSend, Done, list().look(0xff));
-    noisy(&rt, Call::ReadReady, Flag(true), list().look(0xff));
-    noisy(&rt, Call::WriteReady, Flag(true), list().look(0xff));
-    let enabled = list().read(offsets::IER, 0xff).write(offsets::IER, 0xff);
-    noisy(&rt, Call::EnableInterrupts(IER::THR_EMPTY), Done, enabled);
-    let disabled = list().read(offsets::IER, 0xff).write(offsets::IER, 0xfd);
-    noisy(&rt, Call::DisableInterrupts(IER::THR_EMPTY), Done, disabled);
+/// What a device shows that always answers one byte.
+struct Shown {
+    byte: u8,
+    connected: Answer,
+    received: Answer,
+    sent: Answer,
+    ready: bool,
+    enabled: u8,
+    disabled: u8,
+    under_dlab: u8,
+}
+
+// The calls that look, and those of single registers, over a device that always answers this byte.
+fn looks_at(rt: &impl Abort, shown: Shown) {
+    let byte = shown.byte;
+    let one = |call, answer, accesses| over(rt, Constant(byte), call, answer, accesses);
+    one(Call::CheckPresent, Flag(false), list().absent(byte));
+    let lines = list().read(offsets::MSR, byte);
+    one(Call::CheckConnected, shown.connected, lines);
+    one(Call::ReadyToReceive, shown.received, list().look(byte));
+    one(Call::ReadyToSend, shown.sent, list().look(byte));
+    one(Call::ReadReady, Flag(shown.ready), list().look(byte));
+    one(Call::WriteReady, Flag(shown.ready), list().look(byte));
+    let read = || list().read(offsets::IER, byte);
+    let enabled = read().write(offsets::IER, shown.enabled);
+    one(Call::EnableInterrupts(IER::THR_EMPTY), Done, enabled);
+    let disabled = read().write(offsets::IER, shown.disabled);
+    one(Call::DisableInterrupts(IER::THR_EMPTY), Done, disabled);
     for (call, offset) in [
         (Call::Ier, offsets::IER),
         (Call::Isr, offsets::ISR),
@@ -102,16 +108,45 @@ fn looks_at_ff(rt: HostRuntime) {
         (Call::Msr, offsets::MSR),
         (Call::Spr, offsets::SPR),
     ] {
-        noisy(&rt, call, Register(0xff), list().read(offset, 0xff));
+        one(call, Register(byte), list().read(offset, byte));
     }
-    let latch = || latch_read(0xff, 0xff, 0xff);
-    noisy(&rt, Call::DllDlm, Latch(0xff, 0xff), latch());
-    noisy(
-        &rt,
+    let latch = || latch_read(byte, shown.under_dlab, byte);
+    one(Call::DllDlm, Latch(byte, byte), latch());
+    one(
         Call::Dump,
-        Answer::Dump(shown(0xff)),
-        all_read(latch(), 0xff),
+        Answer::Dump(dump_of(byte)),
+        all_read(latch(), byte),
     );
+}
+
+#[test]
+fn looks_at_ff(rt: HostRuntime) {
+    let shown = Shown {
+        byte: 0xff,
+        connected: Done,
+        received: Done,
+        sent: Done,
+        ready: true,
+        enabled: 0xff,
+        disabled: 0xfd,
+        under_dlab: 0xff,
+    };
+    looks_at(&rt, shown);
+}
+
+#[test]
+fn looks_at_00(rt: HostRuntime) {
+    let shown = Shown {
+        byte: 0x00,
+        connected: NotConnected(NoRemoteConnectedNoDSR),
+        received: NoData,
+        sent: NotSent(NoCapacity),
+        ready: false,
+        enabled: 0x02,
+        disabled: 0x00,
+        under_dlab: 0x80,
+    };
+    looks_at(&rt, shown);
 }
 
 #[test]
@@ -147,11 +182,7 @@ fn bytes_over_ff(rt: HostRuntime) {
     let line = || list().look(0xff).data(b"\r").look(0xff).data(b"\n");
     noisy(&rt, Call::WriteText("\n"), Done, line());
     noisy(&rt, Call::WriteStr("\n"), Done, line());
-    let absent = list()
-        .read(offsets::SPR, 0xff)
-        .write(offsets::SPR, 0x42)
-        .read(offsets::SPR, 0xff)
-        .write(offsets::SPR, 0xff);
+    let absent = list().absent(0xff);
     noisy(
         &rt,
         DEFAULT_INIT,
@@ -187,54 +218,6 @@ fn what_ff_showed_is_saved(rt: HostRuntime) {
 }
 
 #[test]
-fn looks_at_00(rt: HostRuntime) {
-    let absent = list()
-        .read(offsets::SPR, 0x00)
-        .write(offsets::SPR, 0x42)
-        .read(offsets::SPR, 0x00)
-        .write(offsets::SPR, 0x00);
-    silent(&rt, Call::CheckPresent, Flag(false), absent);
-    silent(
-        &rt,
-        Call::CheckConnected,
-        NotConnected(NoRemoteConnectedNoDSR),
-        list().read(offsets::MSR, 0x00),
-    );
-    silent(&rt, Call::ReadyToReceive, NoData, list().look(0x00));
-    silent(
-        &rt,
-        Call::ReadyToSend,
-        NotSent(NoCapacity),
-        list().look(0x00),
-    );
-    silent(&rt, Call::ReadReady, Flag(false), list().look(0x00));
-    silent(&rt, Call::WriteReady, Flag(false), list().look(0x00));
-    let enabled = list().read(offsets::IER, 0x00).write(offsets::IER, 0x02);
-    silent(&rt, Call::EnableInterrupts(IER::THR_EMPTY), Done, enabled);
-    let disabled = list().read(offsets::IER, 0x00).write(offsets::IER, 0x00);
-    silent(&rt, Call::DisableInterrupts(IER::THR_EMPTY), Done, disabled);
-    for (call, offset) in [
-        (Call::Ier, offsets::IER),
-        (Call::Isr, offsets::ISR),
-        (Call::Lcr, offsets::LCR),
-        (Call::Mcr, offsets::MCR),
-        (Call::Lsr, offsets::LSR),
-        (Call::Msr, offsets::MSR),
-        (Call::Spr, offsets::SPR),
-    ] {
-        silent(&rt, call, Register(0x00), list().read(offset, 0x00));
-    }
-    let latch = || latch_read(0x00, 0x80, 0x00);
-    silent(&rt, Call::DllDlm, Latch(0x00, 0x00), latch());
-    silent(
-        &rt,
-        Call::Dump,
-        Answer::Dump(shown(0x00)),
-        all_read(latch(), 0x00),
-    );
-}
-
-#[test]
 fn bytes_over_00(rt: HostRuntime) {
     let stalled = || list().looks(3, 0x00);
     silent(&rt, Call::TryReceiveByte, NoData, list().look(0x00));
@@ -253,11 +236,7 @@ fn bytes_over_00(rt: HostRuntime) {
     silent(&rt, Call::Flush, Stalled(0), stalled());
     silent(&rt, Call::WriteText("\n"), Stalled(0), stalled());
     silent(&rt, Call::WriteStr("\n"), Answer::FormatError, stalled());
-    let absent = list()
-        .read(offsets::SPR, 0x00)
-        .write(offsets::SPR, 0x42)
-        .read(offsets::SPR, 0x00)
-        .write(offsets::SPR, 0x00);
+    let absent = list().absent(0x00);
     silent(
         &rt,
         DEFAULT_INIT,
@@ -323,15 +302,7 @@ fn calls_over_the_register_file(rt: HostRuntime) {
     let latch = || latch_read(0x00, 0x80, 0x00);
     filed(&rt, Call::DllDlm, Latch(0x00, 0x00), latch());
     // FCR shows in ISR; there is no loopback, so the byte does not come back.
-    let read = list()
-        .read(offsets::MCR, 0x00)
-        .read(offsets::IER, 0x00)
-        .look(0x60)
-        .read(offsets::MSR, 0x00);
-    let entered = read
-        .write(offsets::IER, 0x00)
-        .write(offsets::MCR, 0x10)
-        .fifo(0xc7, 0xc1);
+    let entered = list().enter(0x00, 0x00, 0x60, 0x00).fifo(0xc7, 0xc1);
     let awaited = entered.look(0x60).look(0x60).data(b"B").looks(3, 0x60);
     let refusal = Answer::LoopbackRefused(LoopbackError::Stalled);
     filed(

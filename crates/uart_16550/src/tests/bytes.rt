@@ -37,17 +37,10 @@ fn single_bytes(rt: HostRuntime) {
         NotSent(NoCapacity),
         list().look(0xdf),
     );
-    let clear = list()
-        .look(0x20)
-        .read(offsets::MCR, 0x0b)
-        .read(offsets::MSR, 0x10)
-        .data(b"a");
+    let clear = list().check(0x0b, 0x10).data(b"a");
     row(&rt, Checking, &[0x20, 0x0b, 0x10], send, Done, clear);
     // It does not report that the remote is not clear to send.
-    let not_clear = list()
-        .look(0x20)
-        .read(offsets::MCR, 0x0b)
-        .read(offsets::MSR, 0x20);
+    let not_clear = list().check(0x0b, 0x20);
     row(
         &rt,
         Checking,
@@ -121,10 +114,7 @@ fn send_bytes(rt: HostRuntime) {
         Count(1),
         list().burst(b"h"),
     );
-    let clear = list()
-        .look(0x20)
-        .read(offsets::MCR, 0x0b)
-        .read(offsets::MSR, 0x10);
+    let clear = list().check(0x0b, 0x10);
     row(
         &rt,
         Checking,
@@ -133,10 +123,7 @@ fn send_bytes(rt: HostRuntime) {
         Count(2),
         clear.data(b"hi"),
     );
-    let clear = list()
-        .look(0x20)
-        .read(offsets::MCR, 0x0b)
-        .read(offsets::MSR, 0x10);
+    let clear = list().check(0x0b, 0x10);
     row(
         &rt,
         CheckingNoFifo,
@@ -145,10 +132,7 @@ fn send_bytes(rt: HostRuntime) {
         Count(1),
         clear.data(b"h"),
     );
-    let not_clear = list()
-        .look(0x20)
-        .read(offsets::MCR, 0x0b)
-        .read(offsets::MSR, 0x20);
+    let not_clear = list().check(0x0b, 0x20);
     row(
         &rt,
         Checking,
@@ -242,25 +226,14 @@ fn send_bytes_exact_that_checks_cts(rt: HostRuntime) {
     let call = Call::SendBytesExact;
     // No room, not clear to send, no room: these are three misses in a row.
     let misses = &[0x00, 0x20, 0x0b, 0x20, 0x00];
-    let none = list()
-        .look(0x00)
-        .look(0x20)
-        .read(offsets::MCR, 0x0b)
-        .read(offsets::MSR, 0x20)
-        .look(0x00);
+    let none = list().look(0x00).check(0x0b, 0x20).look(0x00);
     row(&rt, Checking, misses, call(LONG), Stalled(0), none);
     // One burst, and then the remote is not clear to send any more.
     let answers = &[
         0x20, 0x0b, 0x10, 0x20, 0x0b, 0x00, 0x20, 0x0b, 0x00, 0x20, 0x0b, 0x00,
     ];
-    let some = || list()
-        .look(0x20)
-        .read(offsets::MCR, 0x0b)
-        .read(offsets::MSR, 0x10);
-    let miss = list()
-        .look(0x20)
-        .read(offsets::MCR, 0x0b)
-        .read(offsets::MSR, 0x00);
+    let some = || list().check(0x0b, 0x10);
+    let miss = list().check(0x0b, 0x00);
     let burst = some().data(FIRST).then(&miss).then(&miss).then(&miss);
     row(&rt, Checking, answers, call(LONG), Stalled(16), burst);
     let byte = some().data(b"h").then(&miss).then(&miss).then(&miss);
@@ -342,26 +315,12 @@ fn write(rt: HostRuntime) {
         list().looks(3, 0x00),
     );
     let answers = &[0x20, 0x0b, 0x00, 0x20, 0x0b, 0x10];
-    let clear = list()
-        .look(0x20)
-        .read(offsets::MCR, 0x0b)
-        .read(offsets::MSR, 0x00);
-    let clear = clear
-        .look(0x20)
-        .read(offsets::MCR, 0x0b)
-        .read(offsets::MSR, 0x10)
-        .data(b"hi");
+    let clear = list().check(0x0b, 0x00);
+    let clear = clear.check(0x0b, 0x10).data(b"hi");
     row(&rt, Checking, answers, call(b"hi"), Count(2), clear);
     let answers = &[0x20, 0x0b, 0x00, 0x00, 0x20, 0x0b, 0x00];
-    let stalled = list()
-        .look(0x20)
-        .read(offsets::MCR, 0x0b)
-        .read(offsets::MSR, 0x00)
-        .look(0x00);
-    let stalled = stalled
-        .look(0x20)
-        .read(offsets::MCR, 0x0b)
-        .read(offsets::MSR, 0x00);
+    let stalled = list().check(0x0b, 0x00).look(0x00);
+    let stalled = stalled.check(0x0b, 0x00);
     row(&rt, Checking, answers, call(b"hi"), Stalled(0), stalled);
 }
 
@@ -431,17 +390,8 @@ fn texts_stall(rt: HostRuntime) {
         some(),
     );
     let answers = &[0x20, 0x0b, 0x10, 0x00, 0x20, 0x0b, 0x00, 0x00];
-    let checked = list()
-        .look(0x20)
-        .read(offsets::MCR, 0x0b)
-        .read(offsets::MSR, 0x10)
-        .data(b"a");
-    let checked = checked
-        .look(0x00)
-        .look(0x20)
-        .read(offsets::MCR, 0x0b)
-        .read(offsets::MSR, 0x00)
-        .look(0x00);
+    let checked = list().check(0x0b, 0x10).data(b"a");
+    let checked = checked.look(0x00).check(0x0b, 0x00).look(0x00);
     row(
         &rt,
         Checking,

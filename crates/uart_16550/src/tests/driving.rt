@@ -4,7 +4,7 @@ use super::lists::Accesses;
 use crate::backend::Backend;
 use crate::embedded_io::{Read, ReadReady, Write, WriteReady};
 use crate::replay::Replay;
-use crate::spec::registers::{FifoTriggerLevel, IER};
+use crate::spec::registers::{FifoTriggerLevel, IER, offsets};
 use crate::spec::{
     BaudRate, ByteSendError, Config, InitError, LoopbackError, RemoteReadyToReceiveError,
     StalledError,
@@ -390,7 +390,8 @@ pub const NOTHING: Left = Left {
 pub fn read_back<D: Backend + Drop>(terminal: &mut Uart16550Tty<Recorder<D>>, silent: D) -> Left {
     let uart = terminal.inner_mut();
     let log = &uart.backend().log;
-    let [ier, fcr, lcr, mcr] = [1, 2, 3, 4].map(|offset| log.last_write(offset));
+    let written = [offsets::IER, offsets::FCR, offsets::LCR, offsets::MCR];
+    let [ier, fcr, lcr, mcr] = written.map(|offset| log.last_write(offset));
     *uart.backend_mut() = Recorder::new(silent);
     Left {
         baud_rate: uart.config().baud_rate,

@@ -46,11 +46,7 @@ fn init_with_each_level(rt: HostRuntime) {
             .present(0xa5)
             .line(0x0c, 0x00, 0x03)
             .fifo(control, 0xc1);
-        let all = begun
-            .look(0x00)
-            .write(offsets::MCR, 0x0b)
-            .look(0x40)
-            .end(0x00, 0x00, 0x00, 0x00);
+        let all = begun.undisturbed(0x00, 0x00);
         row(&rt, New, answers, Init(Some(level), Baud9600), Done, all);
     }
 }
@@ -63,11 +59,7 @@ fn init_takes_the_fifo_to_be_on_where_isr_shows_both_bits(rt: HostRuntime) {
         (0x7f, &[0xa5, 0x42, 0x73, 0x7f, 0x00, 0x40], false),
         (0x01, &[0xa5, 0x42, 0x73, 0x01, 0x00, 0x40], false),
     ] {
-        let all = begun(isr)
-            .look(0x00)
-            .write(offsets::MCR, 0x0b)
-            .look(0x40)
-            .end(0x00, 0x00, 0x00, 0x00);
+        let all = begun(isr).undisturbed(0x00, 0x00);
         let terminal = row(&rt, New, answers, Init(Some(Fourteen), Baud9600), Done, all);
         assert_eq!(rt; terminal.inner().fifo_enabled(), fifo_enabled);
     }
@@ -81,11 +73,7 @@ fn init_without_level(rt: HostRuntime) {
         .present(0xa5)
         .line(0x80, 0x01, 0x03)
         .write(offsets::FCR, 0x06);
-    let all = begun
-        .look(0x00)
-        .write(offsets::MCR, 0x0b)
-        .look(0x40)
-        .end(0x00, 0xc1, 0x00, 0x00);
+    let all = begun.undisturbed(0xc1, 0x00);
     let mut terminal = row(&rt, New, answers, Init(None, Baud300), Done, all);
     let left = Left {
         baud_rate: Baud300,
@@ -114,11 +102,7 @@ fn init_with_another_frame(rt: HostRuntime) {
         .present(0xa5)
         .line(0x03, 0x00, 0x1e)
         .write(offsets::FCR, 0x06);
-    let all = begun
-        .look(0x00)
-        .write(offsets::MCR, 0x0b)
-        .look(0x40)
-        .end(0x00, 0x00, 0x00, 0x05);
+    let all = begun.undisturbed(0x00, 0x05);
     assert_eq!(rt; uart.backend().log.entries(), all.entries());
 }
 

@@ -144,6 +144,13 @@ impl Accesses {
         self
     }
 
+    /// A send check that finds room, and then looks at MCR and MSR.
+    pub fn check(self, mcr: u8, msr: u8) -> Self {
+        self.look(0x20)
+            .read(offsets::MCR, mcr)
+            .read(offsets::MSR, msr)
+    }
+
     /// A send check that hits by LSR alone, and a burst of these bytes.
     pub fn burst(self, bytes: &[u8]) -> Self {
         self.look(0x20).data(bytes)
@@ -175,6 +182,14 @@ impl Accesses {
             .write(offsets::SPR, old)
     }
 
+    /// A presence check that finds no device: the scratch register shows this, whatever was written to it.
+    pub fn absent(self, shown: u8) -> Self {
+        self.read(offsets::SPR, shown)
+            .write(offsets::SPR, 0x42)
+            .read(offsets::SPR, shown)
+            .write(offsets::SPR, shown)
+    }
+
     /// Interrupts off, the divisor latch set, and the frame.
     pub fn line(self, dll: u8, dlm: u8, frame: u8) -> Self {
         self.write(offsets::LCR, 0x00)
@@ -197,6 +212,25 @@ impl Accesses {
             .read(offsets::ISR, isr)
             .read(offsets::MSR, msr)
             .write(offsets::IER, ier)
+    }
+
+    /// What follows the FIFO step of an initialisation if nothing waits and the transmitter is empty: MCR written, and the end.
+    pub fn undisturbed(self, isr: u8, ier: u8) -> Self {
+        self.look(0x00)
+            .write(offsets::MCR, 0x0b)
+            .look(0x40)
+            .end(0x00, isr, 0x00, ier)
+    }
+
+    /// The beginning of a loopback test, up to the FIFO step: MCR and IER read, LSR shows an empty transmitter, MSR read,
+    /// interrupts off, loopback on.
+    pub fn enter(self, mcr: u8, ier: u8, lsr: u8, msr: u8) -> Self {
+        self.read(offsets::MCR, mcr)
+            .read(offsets::IER, ier)
+            .look(lsr)
+            .read(offsets::MSR, msr)
+            .write(offsets::IER, 0x00)
+            .write(offsets::MCR, 0x10)
     }
 
     /// The end of a loopback test: MCR written without OUT_2, MSR read, MCR and IER written back.

@@ -100,10 +100,7 @@ fn looks_for_data_and_for_room(rt: HostRuntime) {
 #[test]
 fn looks_for_room_that_check_cts(rt: HostRuntime) {
     let (send, write) = (Call::ReadyToSend, Call::WriteReady);
-    let clear = || list()
-        .look(0x20)
-        .read(offsets::MCR, 0xef)
-        .read(offsets::MSR, 0x10);
+    let clear = || list().check(0xef, 0x10);
     row(&rt, Checking, &[0x20, 0xef, 0x10], send, Done, clear());
     row(
         &rt,
@@ -113,10 +110,7 @@ fn looks_for_room_that_check_cts(rt: HostRuntime) {
         Flag(true),
         clear(),
     );
-    let not_clear = || list()
-        .look(0x20)
-        .read(offsets::MCR, 0xef)
-        .read(offsets::MSR, 0xef);
+    let not_clear = || list().check(0xef, 0xef);
     let refusal = NotSent(RemoteNotClearToSend);
     row(
         &rt,

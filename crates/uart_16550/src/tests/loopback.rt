@@ -30,14 +30,7 @@ const WITHOUT_FIFO: Left = Left {
 
 // From the first access to the FIFO step, where the transmitter is empty at once.
 fn entered(isr: u8) -> Accesses {
-    let read = list()
-        .read(offsets::MCR, 0x0b)
-        .read(offsets::IER, 0x05)
-        .look(0x40)
-        .read(offsets::MSR, 0xd0);
-    read.write(offsets::IER, 0x00)
-        .write(offsets::MCR, 0x10)
-        .fifo(0xc7, isr)
+    list().enter(0x0b, 0x05, 0x40, 0xd0).fifo(0xc7, isr)
 }
 
 // The same, and nothing to be drained, and the test byte back at once.
@@ -123,14 +116,8 @@ fn the_test_of_a_driver_without_level_asks_isr_nothing(rt: HostRuntime) {
         0x0b, 0x05, 0x40, 0xd0, 0x00, 0x20, 0x01, b'B', 0x20, 0x01, b'H', 0x20, 0x00, 0x00, 0x00,
         0x13,
     ];
-    let begun = list()
-        .read(offsets::MCR, 0x0b)
-        .read(offsets::IER, 0x05)
-        .look(0x40)
-        .read(offsets::MSR, 0xd0);
-    let entered = begun
-        .write(offsets::IER, 0x00)
-        .write(offsets::MCR, 0x10)
+    let entered = list()
+        .enter(0x0b, 0x05, 0x40, 0xd0)
         .write(offsets::FCR, 0x06)
         .look(0x00);
     let byte = entered.burst(b"B").hit(b'B').burst(b"h").hit(b'H');
@@ -210,11 +197,7 @@ fn the_test_byte_is_refused(rt: HostRuntime) {
 fn the_test_byte_is_refused_where_cts_is_checked(rt: HostRuntime) {
     // MCR does not show loopback, and MSR no CTS.
     let answers = &[0x0b, 0x05, 0x40, 0xd0, 0xc1, 0x00, 0x20, 0x0b, 0x01, 0x13];
-    let checked = entered(0xc1)
-        .look(0x00)
-        .look(0x20)
-        .read(offsets::MCR, 0x0b)
-        .read(offsets::MSR, 0x01);
+    let checked = entered(0xc1).look(0x00).check(0x0b, 0x01);
     let refusal = LoopbackRefused(SendError(NoCapacity));
     let mut terminal = row(&rt, Checking, answers, TestLoopback, refusal, left(checked));
     let state = Left {
@@ -337,15 +320,7 @@ fn another_message_comes_back(rt: HostRuntime) {
 fn worked_rows(rt: HostRuntime) {
     // FF always: 18 accesses.
     let mut terminal = Uart16550Tty::from_inner(impatient(Constant(0xff)));
-    let read = list()
-        .read(offsets::MCR, 0xff)
-        .read(offsets::IER, 0xff)
-        .look(0xff)
-        .read(offsets::MSR, 0xff);
-    let entered = read
-        .write(offsets::IER, 0x00)
-        .write(offsets::MCR, 0x10)
-        .fifo(0xc7, 0xff);
+    let entered = list().enter(0xff, 0xff, 0xff, 0xff).fifo(0xc7, 0xff);
     let turn = list().look(0xff).read(offsets::DATA, 0xff);
     let drained = entered.then(&turn).then(&turn).then(&turn);
     let all = drained.leave(0xf7, 0xff, 0xff, 0xff);
@@ -368,15 +343,7 @@ fn worked_rows(rt: HostRuntime) {
     assert_eq!(rt; read_back(&mut terminal, Constant(0x00)), state);
     // 00 00 40 00 01 00 20 01 43: 17 accesses.
     let answers = &[0x00, 0x00, 0x40, 0x00, 0x01, 0x00, 0x20, 0x01, 0x43];
-    let read = list()
-        .read(offsets::MCR, 0x00)
-        .read(offsets::IER, 0x00)
-        .look(0x40)
-        .read(offsets::MSR, 0x00);
-    let entered = read
-        .write(offsets::IER, 0x00)
-        .write(offsets::MCR, 0x10)
-        .fifo(0xc7, 0x01);
+    let entered = list().enter(0x00, 0x00, 0x40, 0x00).fifo(0xc7, 0x01);
     let all = entered
         .look(0x00)
         .burst(b"B")

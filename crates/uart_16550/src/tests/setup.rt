@@ -5,7 +5,6 @@ use super::devices::{Constant, Listed, Recorder};
 use super::lists::{Accesses, Entry, list};
 use crate::backend::Backend;
 use crate::spec::Uart16550TtyError::{AddressError, InitError, TestError};
-use crate::spec::registers::offsets;
 use crate::spec::{
     BaudRate, Config, InitError as Refusal, InvalidAddressError, InvalidDivisorError,
     LoopbackError, Uart16550TtyError,
@@ -28,24 +27,12 @@ const LOOPING: [u8; 52] = [
 // The accesses of that initialisation.
 fn initialised() -> Accesses {
     let begun = list().present(0xa5).line(0x0c, 0x00, 0x03).fifo(0xc7, 0xc1);
-    begun
-        .look(0x00)
-        .write(offsets::MCR, 0x0b)
-        .look(0x40)
-        .end(0x00, 0x00, 0x00, 0x00)
+    begun.undisturbed(0x00, 0x00)
 }
 
 // Those of the test after it, up to the test byte.
 fn looping() -> Accesses {
-    let read = initialised()
-        .read(offsets::MCR, 0x0b)
-        .read(offsets::IER, 0x00)
-        .look(0x40)
-        .read(offsets::MSR, 0x00);
-    let entered = read
-        .write(offsets::IER, 0x00)
-        .write(offsets::MCR, 0x10)
-        .fifo(0xc7, 0xc1);
+    let entered = initialised().enter(0x0b, 0x00, 0x40, 0x00).fifo(0xc7, 0xc1);
     entered.look(0x00).burst(b"B")
 }
 
@@ -122,11 +109,7 @@ fn refusal(answers: &'static [u8], config: Config) -> (Option<Uart16550TtyError>
 fn terminals_are_refused_by_init(rt: HostRuntime) {
     let (cause, accesses) = refusal(&[0xa5, 0xa5], Config::DEFAULT);
     assert_eq!(rt; cause, Some(InitError(Refusal::DeviceNotPresent)));
-    let absent = list()
-        .read(offsets::SPR, 0xa5)
-        .write(offsets::SPR, 0x42)
-        .read(offsets::SPR, 0xa5)
-        .write(offsets::SPR, 0xa5);
+    let absent = list().absent(0xa5);
     assert_eq!(rt; accesses.entries(), absent.entries());
     let config = Config {
         baud_rate: BaudRate::Custom(1),

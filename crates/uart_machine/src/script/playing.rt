@@ -7,7 +7,8 @@ ghost use Rattle.uart_language.specs.Script.{plan_of, IsPlayable};
 ghost use Rattle.uart_chip.specs.Transmitter.{held};
 ghost use Rattle.uart_device.specs.Conserved.{waiting};
 ghost use Rattle.uart_machine.specs.ScriptOutput.{first_machine, output_of, IsFirst, IsOutput};
-ghost use Rattle.uart_machine.specs.Play.{ConsumesAtMost, is_read_fault, is_write_fault, IsReadText, IsReading, WritesFront, Outcome, WritesNothing, play_error};
+ghost use Rattle.uart_machine.specs.Play.{ConsumesAtMost, is_read_fault, is_write_fault, IsReadText, IsReading, WritesFront, Outcome};
+ghost use Rattle.uart_machine.specs.Play.{WritesNothing, play_error};
 
 use super::streams::{Fault, Input, Output};
 use std::alloc::{AllocError, Global};

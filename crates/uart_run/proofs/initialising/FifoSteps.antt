@@ -1,8 +1,11 @@
--- The FIFO step of an `init` or a loopback test: the FIFO is on afterwards where a level is configured and the chip has one, and the driver knows it.
+-- The FIFO step of an `init` or a loopback test: the FIFO is on afterwards where a level is configured and the chip
+-- has one, and the driver knows it.
 use Rattle.std.proofs.Common.{◌≡◌, ℕ, Bool, true, false, ◌&&◌, List, [], ◌∷◌, Option, Some, None, refl, sym, ◌∙◌, ap}
 use Rattle.uart_spec.specs.Bits.{has, has_any}
 use Rattle.uart_spec.specs.declared.registers.fifo_trigger_level.FifoTriggerLevel.{FifoTriggerLevel}
 use Rattle.uart_spec.specs.declared.registers.fifo_trigger_level.FifoTriggerLevel.TheVariants.{One, Four, Eight, Fourteen}
+use Rattle.uart_spec.specs.declared.registers.offsets.TheConstants as offsets
+use Rattle.uart_spec.specs.declared.registers.interrupt_status.TheConstants.ISR
 use Rattle.uart_spec.specs.Access.{Access, Read, Write, Path}
 use Rattle.uart_16550.specs.Grammar.{Settings, Only, Asks}
 use Rattle.uart_16550.specs.Init.{fifo_bits, SetsFifo}
@@ -45,23 +48,33 @@ pub record FifoSet (level : Option FifoTriggerLevel) (on : Bool) (m n : MachineS
   pub is_on : on ≡ (is_level level && has_fifo m.chip.model)
 
 -- the write
-written : (level : Option FifoTriggerLevel) (m n : MachineState) → IsSound m → Path MachineStep m (Write 2 (fifo_bits level) ∷ []) n →
+written : (level : Option FifoTriggerLevel) (m n : MachineState) → IsSound m →
+    Path MachineStep m (Write offsets.FCR (fifo_bits level) ∷ []) n →
     kept_in n.chip ≡ record (kept_in m.chip) { fifo = is_level level && has_fifo m.chip.model }
-written level m n w p = kept_path (Write 2 (fifo_bits level) ∷ []) m n p ∙ controlled m.chip.model level (kept_in m.chip) w.chip.implemented
+written level m n w p =
+    kept_path (Write offsets.FCR (fifo_bits level) ∷ []) m n p ∙ controlled m.chip.model level (kept_in m.chip) w.chip.implemented
 
-pub sets_fifo : (level : Option FifoTriggerLevel) (on : Bool) (s : Settings) (l : List Access) (m n : MachineState) → IsSound m → SetsFifo level on s l → Path MachineStep m l n → FifoSet level on m n
+pub sets_fifo : (level : Option FifoTriggerLevel) (on : Bool) (s : Settings) (l : List Access) (m n : MachineState) → IsSound m →
+    SetsFifo level on s l → Path MachineStep m l n → FifoSet level on m n
 sets_fifo None on s l m n w (off, is) p = record {
-  kept = written None m n w (path_as m n l (Write 2 (fifo_bits None) ∷ []) is p) ∙ ap (λ (b : Bool). record (kept_in m.chip) { fifo = b }) (sym off);
+  kept =
+      written None m n w (path_as m n l (Write offsets.FCR (fifo_bits None) ∷ []) is p)
+      ∙ ap (λ (b : Bool). record (kept_in m.chip) { fifo = b }) (sym off);
   is_on = off;
 }
 sets_fifo (Some level) on s l m n w t p =
-    let a = then_parts (Only (Write 2 (fifo_bits (Some level)) ∷ [])) (Asks 2 192 on) s l m n t p in
-    let first = written (Some level) m a.between w (path_as m a.between a.front (Write 2 (fifo_bits (Some level)) ∷ []) a.first.is a.before) in
-    let is_on : on ≡ has_fifo m.chip.model = shown a.between a.second.answer a.second.shows (path_as a.between n a.back (Read 2 a.second.answer ∷ []) a.second.is a.after) ∙ ap (λ (k : Kept). k.fifo) first in
+    let a = then_parts (Only (Write offsets.FCR (fifo_bits (Some level)) ∷ [])) (Asks offsets.ISR ISR.FIFOS_ENABLED.0 on) s l m n t p in
+    let first = written (Some level) m a.between w
+    (path_as m a.between a.front (Write offsets.FCR (fifo_bits (Some level)) ∷ []) a.first.is a.before) in
+    let is_on : on ≡ has_fifo m.chip.model = shown a.between a.second.answer a.second.shows
+    (path_as a.between n a.back (Read offsets.ISR a.second.answer ∷ []) a.second.is a.after) ∙ ap (λ (k : Kept). k.fifo) first in
     record {
-      kept = kept_list a.back (Read 2 a.second.answer ∷ []) a.between n a.second.is a.after ∙ (first ∙ ap (λ (b : Bool). record (kept_in m.chip) { fifo = b }) (sym is_on));
+      kept =
+          kept_list a.back (Read offsets.ISR a.second.answer ∷ []) a.between n a.second.is a.after
+          ∙ (first ∙ ap (λ (b : Bool). record (kept_in m.chip) { fifo = b }) (sym is_on));
       is_on = is_on;
     }
   where
-    shown : (k : MachineState) (answer : ℕ) → has answer 192 ≡ on → Path MachineStep k (Read 2 answer ∷ []) n → on ≡ k.chip.fifo
+    shown : (k : MachineState) (answer : ℕ) → has answer ISR.FIFOS_ENABLED.0 ≡ on → Path MachineStep k (Read offsets.ISR answer ∷ []) n →
+        on ≡ k.chip.fifo
     shown k answer shows (mid, step, same) = sym shows ∙ fifo_shown k mid answer step

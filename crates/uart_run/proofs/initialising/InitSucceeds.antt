@@ -1,5 +1,6 @@
 -- Where ticks come before each access, the spin limit is long enough and the wire has room, an `init` does not stall.
-use Rattle.std.proofs.Common.{◌≡◌, ◌≢◌, ℕ, ◌+◌, ◌*◌, ◌<◌, ◌%◌, ◌/◌, Bool, true, false, List, [], ◌∷◌, ◌++◌, Result, Ok, Err, refl, arith, sym, ◌∙◌, ap}
+use Rattle.std.proofs.Common.{◌≡◌, ◌≢◌, ℕ, ◌+◌, ◌*◌, ◌<◌, ◌%◌, ◌/◌, Bool, true, false, List}
+use Rattle.std.proofs.Common.{[], ◌∷◌, ◌++◌, Result, Ok, Err, refl, arith, sym, ◌∙◌, ap}
 use Rattle.std.proofs.Math.Nat.{mul-div_cancel_left}
 use Rattle.std.proofs.lemmas.Grind.{common_steps}
 use Rattle.uart_spec.specs.Baud.{prescaler}
@@ -9,11 +10,15 @@ use Rattle.uart_spec.specs.declared.errors.InvalidDivisorError.{InvalidDivisorEr
 use Rattle.uart_spec.specs.declared.errors.InvalidDivisorError.TheVariants.{NonInteger, OutOfRange}
 use Rattle.uart_spec.specs.declared.errors.InitError.{InitError}
 use Rattle.uart_spec.specs.declared.errors.InitError.TheVariants.{InvalidBaudRate, DeviceNotPresent, Stalled}
+use Rattle.uart_spec.specs.declared.registers.offsets.TheConstants as offsets
+use Rattle.uart_spec.specs.declared.registers.line_status.TheConstants.LSR
+use Rattle.uart_spec.specs.declared.registers.line_control.TheConstants.LCR
 use Rattle.uart_spec.specs.Access.{Access, Write, Path}
 use Rattle.uart_16550.specs.Grammar.{Language, Settings, Only, Then}
 use Rattle.uart_16550.specs.Transmit.{WaitsFor}
 use Rattle.uart_16550.specs.Driver.{Fields, fields, settings_of, Doing, Saving, Plain, Sets, Next, with_config, with_fifo}
-use Rattle.uart_16550.specs.Init.{ChecksPresence, frame_bits, line_writes, SetsFifo, DrainsReceiver, Begins, DivisorOf, Inits}
+use Rattle.uart_16550.specs.Init.{raised_outputs, ChecksPresence, frame_bits, line_writes}
+use Rattle.uart_16550.specs.Init.{SetsFifo, DrainsReceiver, Begins, DivisorOf, Inits}
 use Rattle.uart_16550.specs.Tty.{inner_of}
 use Rattle.uart_calls.specs.declared.call.Call.TheVariants as call
 use Rattle.uart_calls.specs.declared.call.Answer.{Answer}
@@ -38,59 +43,74 @@ use Rattle.uart_run.proofs.progress.Succeeds.{few_left}
 -- the divisor latch is written under DLAB, so nothing is sent
 free-line : (divisor frame : ℕ) (m n : MachineState) → RunsFree m → Path MachineStep m (line_writes divisor frame) n → RunsFree n
 free-line divisor frame m n r (m₁, s₁, (m₂, s₂, (m₃, under, (m₄, latch, rest)))) =
-    let a = free-path (Write 3 0 ∷ Write 1 0 ∷ Write 3 128 ∷ []) m m₃ r (refl, (refl, (refl, tt))) (m₁, s₁, (m₂, s₂, (m₃, under, refl))) in
+    let a = free-path (Write offsets.LCR 0 ∷ Write offsets.IER 0 ∷ Write offsets.LCR LCR.DLAB.0 ∷ []) m m₃ r (refl, (refl, (refl, tt)))
+    (m₁, s₁, (m₂, s₂, (m₃, under, refl))) in
     let lcr : m₃.chip.latches.lcr ≡ 128 = ap (λ (o : MachineState). o.chip.latches.lcr) under in
-    let on : is_dlab_set (at_access m₃).chip.latches ≡ true = ap (λ (k : Kept). is_dlab_set k.latches) (kept_access m₃) ∙ ap (λ value. has_any value 128) lcr in
-    let b = free-step m₃ m₄ (Write 0 (divisor % 256)) a latch (nearer-latch m₃ m₄ (divisor % 256) (free_runs m₃ a) on latch) in
-    free-path (Write 1 (divisor / 256) ∷ Write 3 0 ∷ Write 3 frame ∷ []) m₄ n b (refl, (refl, (refl, tt))) rest
+    let on : is_dlab_set (at_access m₃).chip.latches ≡ true = ap (λ (k : Kept). is_dlab_set k.latches) (kept_access m₃)
+    ∙ ap (λ value. has_any value LCR.DLAB.0) lcr in
+    let b = free-step m₃ m₄ (Write offsets.DLL (divisor % 256)) a latch (nearer-latch m₃ m₄ (divisor % 256) (free_runs m₃ a) on latch) in
+    free-path (Write offsets.DLM (divisor / 256) ∷ Write offsets.LCR 0 ∷ Write offsets.LCR frame ∷ []) m₄ n b
+    (refl, (refl, (refl, tt))) rest
 
 -- a list that sends nothing
-free-list : (s : Settings) (L : Language) (l : List Access) (m n : MachineState) → IsSilent s L → RunsFree m → L s l → Path MachineStep m l n → RunsFree n
+free-list : (s : Settings) (L : Language) (l : List Access) (m n : MachineState) → IsSilent s L → RunsFree m → L s l →
+    Path MachineStep m l n → RunsFree n
 free-list s L l m n silent r t path = free-path l m n r (silent l t) path
 
 -- the presence check, the line and the FIFO step
 abbrev SetsUp : Config → ℕ → Bool → Language
-SetsUp config divisor fifo = Then (ChecksPresence true) (Then (Only (line_writes divisor (frame_bits config))) (SetsFifo config.fifo_trigger_level fifo))
+SetsUp config divisor fifo =
+    Then (ChecksPresence true) (Then (Only (line_writes divisor (frame_bits config))) (SetsFifo config.fifo_trigger_level fifo))
 
-free-set_up : (config : Config) (divisor : ℕ) (fifo : Bool) (s : Settings) (l : List Access) (m n : MachineState) → RunsFree m → SetsUp config divisor fifo s l → Path MachineStep m l n → RunsFree n
+free-set_up : (config : Config) (divisor : ℕ) (fifo : Bool) (s : Settings) (l : List Access) (m n : MachineState) → RunsFree m →
+    SetsUp config divisor fifo s l → Path MachineStep m l n → RunsFree n
 free-set_up config divisor fifo s l m n r t path =
     let frame = frame_bits config in
     let level = config.fifo_trigger_level in
     let p = then_parts (ChecksPresence true) (Then (Only (line_writes divisor frame)) (SetsFifo level fifo)) s l m n t path in
     let q = then_parts (Only (line_writes divisor frame)) (SetsFifo level fifo) s p.back p.between n p.second p.after in
     let a = free-list s (ChecksPresence true) p.front m p.between (silent_presence s) r p.first p.before in
-    let b = free-line divisor frame p.between q.between a (path_as p.between q.between q.front (line_writes divisor frame) q.first.is q.before) in
+    let b = free-line divisor frame p.between q.between a
+    (path_as p.between q.between q.front (line_writes divisor frame) q.first.is q.before) in
     free-list s (SetsFifo level fifo) q.back q.between n (silent_sets_fifo s level fifo) b q.second q.after
 
 -- the drain and MCR
-free-drained : (f mid : Fields) (l : List Access) (m n : MachineState) → RunsFree m → Next (Plain DrainsReceiver) (Saving (Only (Write 4 11 ∷ []))) f l mid → Path MachineStep m l n → RunsFree n
+free-drained : (f mid : Fields) (l : List Access) (m n : MachineState) → RunsFree m →
+    Next (Plain DrainsReceiver) (Saving (Only (Write offsets.MCR raised_outputs ∷ []))) f l mid → Path MachineStep m l n → RunsFree n
 free-drained f mid l m n r t path =
-    let a = next_stages (Plain DrainsReceiver) (Saving (Only (Write 4 11 ∷ []))) f mid l m n t path in
-    let b = free-list (settings_of f) DrainsReceiver a.parts.front m a.parts.between (silent_drains (settings_of f)) r a.parts.first.0 a.parts.before in
-    free-path (Write 4 11 ∷ []) a.parts.between n b (refl, tt) (path_as a.parts.between n a.parts.back (Write 4 11 ∷ []) a.parts.second.0.is a.parts.after)
+    let a = next_stages (Plain DrainsReceiver) (Saving (Only (Write offsets.MCR raised_outputs ∷ []))) f mid l m n t path in
+    let b = free-list (settings_of f) DrainsReceiver a.parts.front m a.parts.between (silent_drains (settings_of f)) r
+    a.parts.first.0 a.parts.before in
+    free-path (Write offsets.MCR raised_outputs ∷ []) a.parts.between n b (refl, tt)
+    (path_as a.parts.between n a.parts.back (Write offsets.MCR raised_outputs ∷ []) a.parts.second.0.is a.parts.after)
 
 -- fields that are set make no access
-free-sets : (change : Fields → Fields) (H : Doing) (f after : Fields) (l : List Access) (m n : MachineState) → Next (Sets change) H f l after → Path MachineStep m l n →
+free-sets : (change : Fields → Fields) (H : Doing) (f after : Fields) (l : List Access) (m n : MachineState) →
+    Next (Sets change) H f l after → Path MachineStep m l n →
     ((mid : Fields) (back : List Access) → H mid back after → Path MachineStep m back n → RunsFree n) → RunsFree n
 free-sets change H f after l m n t path next =
     let whole : l ≡ t.back = t.whole ∙ ap (λ zs. zs ++ t.back) t.first.0 in
     next t.mid t.back t.second (path_as m n l t.back whole path)
 
-free-begins : (config : Config) (divisor : ℕ) (fifo : Bool) (f mid : Fields) (l : List Access) (m n : MachineState) → RunsFree m → Begins config divisor fifo f l mid → Path MachineStep m l n → RunsFree n
-free-begins config divisor fifo f mid l m n r t path = free-sets (with_config config) (Next (Saving (SetsUp config divisor fifo)) known) f mid l m n t path set_up
+free-begins : (config : Config) (divisor : ℕ) (fifo : Bool) (f mid : Fields) (l : List Access) (m n : MachineState) → RunsFree m →
+    Begins config divisor fifo f l mid → Path MachineStep m l n → RunsFree n
+free-begins config divisor fifo f mid l m n r t path =
+    free-sets (with_config config) (Next (Saving (SetsUp config divisor fifo)) known) f mid l m n t path set_up
   where
     known : Doing
-    known = Next (Sets (with_fifo fifo)) (Next (Plain DrainsReceiver) (Saving (Only (Write 4 11 ∷ []))))
+    known = Next (Sets (with_fifo fifo)) (Next (Plain DrainsReceiver) (Saving (Only (Write offsets.MCR raised_outputs ∷ []))))
 
     set_up : (g : Fields) (k : List Access) → Next (Saving (SetsUp config divisor fifo)) known g k mid → Path MachineStep m k n → RunsFree n
     set_up g k u p =
         let a = next_stages (Saving (SetsUp config divisor fifo)) known g mid k m n u p in
         let b = free-set_up config divisor fifo (settings_of g) a.parts.front m a.parts.between r a.parts.first.0 a.parts.before in
-        free-sets (with_fifo fifo) (Next (Plain DrainsReceiver) (Saving (Only (Write 4 11 ∷ [])))) a.mid mid a.parts.back a.parts.between n a.parts.second a.parts.after
+        free-sets (with_fifo fifo) (Next (Plain DrainsReceiver) (Saving (Only (Write offsets.MCR raised_outputs ∷ [])))) a.mid mid
+        a.parts.back a.parts.between n a.parts.second a.parts.after
         (λ h back w q. free-drained h mid back a.parts.between n b w q)
 
 -- the limit stays
-limit-begins : (config : Config) (divisor : ℕ) (fifo : Bool) (f mid : Fields) (l : List Access) → Begins config divisor fifo f l mid → mid.limit ≡ f.limit
+limit-begins : (config : Config) (divisor : ℕ) (fifo : Bool) (f mid : Fields) (l : List Access) → Begins config divisor fifo f l mid →
+    mid.limit ≡ f.limit
 limit-begins config divisor fifo f mid l b =
     let at : Fields → ℕ = λ g. g.limit in
     let c = b.second in
@@ -105,7 +125,8 @@ no_refusal config (NonInteger error) h refused = refused.0 h.divisor h.is_diviso
 no_refusal config (OutOfRange other) h refused =
     let factor : ℕ = 16 * (prescaler config.prescaler_division_factor + 1) * to_integer config.baud_rate in
     let some : 0 < factor = positive (prescaler config.prescaler_division_factor) (to_integer config.baud_rate) h.computable.baud_rate in
-    let same : other ≡ h.divisor = sym (mul-div_cancel_left other some) ∙ (ap (λ n. n / factor) (refused.0 ∙ sym h.is_divisor.0) ∙ mul-div_cancel_left h.divisor some) in
+    let same : other ≡ h.divisor = sym (mul-div_cancel_left other some)
+    ∙ (ap (λ n. n / factor) (refused.0 ∙ sym h.is_divisor.0) ∙ mul-div_cancel_left h.divisor some) in
     absurd (omega (arith, same, refused.1, h.is_divisor.2))
   where
     positive : (p b : ℕ) → 0 < b → 0 < 16 * (p + 1) * b
@@ -113,21 +134,27 @@ no_refusal config (OutOfRange other) h refused =
 
 -- ---- `init`
 
-no_stall-init : (s t : State) (config : Config) (divisor : ℕ) (fifo : Bool) (l : List Access) → IsSound (machine_of s) → IsTimely s → HasRoom 0 (machine_of s) →
-    Next (Begins config divisor fifo) (Saving (WaitsFor 64 false)) (fields (inner_of s)) l (fields (inner_of t)) → Path MachineStep (machine_of s) l (machine_of t) → ⊥
+no_stall-init : (s t : State) (config : Config) (divisor : ℕ) (fifo : Bool) (l : List Access) → IsSound (machine_of s) → IsTimely s →
+    HasRoom 0 (machine_of s) →
+    Next (Begins config divisor fifo) (Saving (WaitsFor LSR.TRANSMITTER_EMPTY.0 false)) (fields (inner_of s)) l (fields (inner_of t)) →
+    Path MachineStep (machine_of s) l (machine_of t) → ⊥
 no_stall-init s t config divisor fifo l w timely room does path =
     let f = fields (inner_of s) in
-    let a = next_stages (Begins config divisor fifo) (Saving (WaitsFor 64 false)) f (fields (inner_of t)) l (machine_of s) (machine_of t) does path in
+    let a = next_stages (Begins config divisor fifo) (Saving (WaitsFor LSR.TRANSMITTER_EMPTY.0 false)) f (fields (inner_of t)) l
+    (machine_of s) (machine_of t) does path in
     let n = a.parts.between in
-    let b = free-begins config divisor fifo f a.mid a.parts.front (machine_of s) n (record { sound = w; ticked = timely.ticked; room = room }) a.parts.first a.parts.before in
-    let few : left n.chip.transmitter < a.mid.limit = rw (limit-begins config divisor fifo f a.mid a.parts.front a.parts.first) (few_left s a.parts.front n w timely a.parts.before) in
+    let b = free-begins config divisor fifo f a.mid a.parts.front (machine_of s) n
+    (record { sound = w; ticked = timely.ticked; room = room }) a.parts.first a.parts.before in
+    let few : left n.chip.transmitter < a.mid.limit = rw (limit-begins config divisor fifo f a.mid a.parts.front a.parts.first)
+    (few_left s a.parts.front n w timely a.parts.before) in
     no_stall-empty (settings_of a.mid) a.mid.limit a.parts.back n (machine_of t) (free_runs n b) few a.parts.second.0 a.parts.after
 
-pub init_succeeds : (s t : State) (config : Config) (a : Answer) → IsSound (machine_of s) → IsTimely s → HasRoom 0 (machine_of s) → HasDivisor config → CallStep s (call.Init config) a t →
-    a ≢ InitRefused DeviceNotPresent → a ≡ Done
+pub init_succeeds : (s t : State) (config : Config) (a : Answer) → IsSound (machine_of s) → IsTimely s → HasRoom 0 (machine_of s) →
+    HasDivisor config → CallStep s (call.Init config) a t → a ≢ InitRefused DeviceNotPresent → a ≡ Done
 init_succeeds s t config a w timely room divisor h present = go h.outcome h.answered h.did.does
   where
-    go : (result : Result (Unit {0}) InitError) → a ≡ init_answer result → Inits config result (fields (inner_of s)) h.did.list (fields (inner_of t)) → a ≡ Done
+    go : (result : Result (Unit {0}) InitError) → a ≡ init_answer result →
+        Inits config result (fields (inner_of s)) h.did.list (fields (inner_of t)) → a ≡ Done
     go (Ok x) e does = e
     go (Err (InvalidBaudRate cause)) e does = absurd (no_refusal config cause divisor does.0)
     go (Err DeviceNotPresent) e does = absurd (present e)

@@ -1,6 +1,7 @@
 -- The presence check finds the chip: its scratch register keeps what is written.
 use Rattle.std.proofs.Common.{◌≡◌, ℕ, false, ◌==◌, inl, inr, List, [], ◌∷◌, ◌∙◌, arith, ap}
 use Rattle.std.proofs.lemmas.Grind.{common_steps}
+use Rattle.uart_spec.specs.declared.registers.offsets.TheConstants as offsets
 use Rattle.uart_spec.specs.Access.{Access, Read, Write, Path}
 use Rattle.uart_16550.specs.Grammar.{Settings, Only, Then}
 use Rattle.uart_16550.specs.Init.{Keeps, KeepsPatterns, ChecksPresence}
@@ -9,12 +10,14 @@ use Rattle.uart_device.proofs.BlockLaws.{path_as}
 use Rattle.uart_run.proofs.Latches.{Kept, kept_access, kept_step}
 use Rattle.uart_run.proofs.Pieces.{then_parts}
 
-scratch_kept : (pattern back : ℕ) (m n : MachineState) → Path MachineStep m (Write 7 pattern ∷ Read 7 back ∷ []) n → back ≡ pattern
-scratch_kept pattern back m n (m₁, s₁, (m₂, s₂, e)) = s₂.1 ∙ ap (λ (k : Kept). k.latches.scr) (kept_access m₁ ∙ kept_step (Write 7 pattern) m m₁ s₁)
+scratch_kept : (pattern back : ℕ) (m n : MachineState) → Path MachineStep m (Write offsets.SPR pattern ∷ Read offsets.SPR back ∷ []) n →
+    back ≡ pattern
+scratch_kept pattern back m n (m₁, s₁, (m₂, s₂, e)) =
+    s₂.1 ∙ ap (λ (k : Kept). k.latches.scr) (kept_access m₁ ∙ kept_step (Write offsets.SPR pattern) m m₁ s₁)
 
 never_lost : (pattern : ℕ) (s : Settings) (l : List Access) (m n : MachineState) → Keeps pattern false s l → Path MachineStep m l n → ⊥
 never_lost pattern s l m n (back, differs, is) p =
-    let same = scratch_kept pattern back m n (path_as m n l (Write 7 pattern ∷ Read 7 back ∷ []) is p) in
+    let same = scratch_kept pattern back m n (path_as m n l (Write offsets.SPR pattern ∷ Read offsets.SPR back ∷ []) is p) in
     apart back pattern same differs
   where
     apart : (a b : ℕ) → a ≡ b → (a == b) ≡ false → ⊥
@@ -27,6 +30,6 @@ patterns_kept s l m n (inr t) p = let r = then_parts _ _ s l m n t p in never_lo
 -- no presence check fails
 pub never_absent : (s : Settings) (l : List Access) (m n : MachineState) → ChecksPresence false s l → Path MachineStep m l n → ⊥
 never_absent s l m n (old, t) p =
-    let a = then_parts (Only (Read 7 old ∷ [])) (Then (KeepsPatterns false) (Only (Write 7 old ∷ []))) s l m n t p in
-    let b = then_parts (KeepsPatterns false) (Only (Write 7 old ∷ [])) s a.back a.between n a.second a.after in
+    let a = then_parts (Only (Read offsets.SPR old ∷ [])) (Then (KeepsPatterns false) (Only (Write offsets.SPR old ∷ []))) s l m n t p in
+    let b = then_parts (KeepsPatterns false) (Only (Write offsets.SPR old ∷ [])) s a.back a.between n a.second a.after in
     patterns_kept s b.front a.between b.between b.first b.before

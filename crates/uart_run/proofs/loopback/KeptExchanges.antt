@@ -5,8 +5,11 @@ use Rattle.uart_spec.specs.declared.errors.LoopbackError.TheVariants.{Stalled, S
 use Rattle.uart_16550.specs.Grammar.{Settings, AllMisses}
 use Rattle.uart_16550.specs.Receive.{Miss, Awaited}
 use Rattle.uart_16550.specs.Transmit.{SendMiss}
-use Rattle.uart_16550.specs.Loopback.{test_byte, test_message, TakesOne, DrainsLoopback, SendsTestByte, ExchangesByte, Echo, EchoFails, HasEchoedWhole, HasEchoedEach, HasEchoedAll, ExchangesMessage, Exchanges}
-use Rattle.uart_run.proofs.KeptLists.{AllKeep, keeps_then, keeps_few, keeps_all, keeps_in_order, keeps_if, keeps_miss, keeps_hit, keeps_awaited, keeps_receives_exact, keeps_send_miss, keeps_round, keeps_try_sends, keeps_sends_all, keeps_sends_exact}
+use Rattle.uart_16550.specs.Loopback.{test_byte, test_message, TakesOne, DrainsLoopback, SendsTestByte, ExchangesByte, Echo}
+use Rattle.uart_16550.specs.Loopback.{EchoFails, HasEchoedWhole, HasEchoedEach, HasEchoedAll, ExchangesMessage, Exchanges}
+use Rattle.uart_run.proofs.KeptLists.{AllKeep, keeps_then, keeps_few, keeps_all, keeps_in_order, keeps_if}
+use Rattle.uart_run.proofs.KeptLists.{keeps_miss, keeps_hit, keeps_awaited, keeps_receives_exact, keeps_send_miss}
+use Rattle.uart_run.proofs.KeptLists.{keeps_round, keeps_try_sends, keeps_sends_all, keeps_sends_exact}
 
 module _ (s : Settings) where
   -- ---- the drain and the byte
@@ -62,8 +65,10 @@ module _ (s : Settings) where
   -- ---- all of it
 
   pub keeps_exchanges : {T : Type 0} (result : Result T LoopbackError) → AllKeep s (Exchanges result)
-  keeps_exchanges (Ok x) l t = keeps_then s _ _ (drains true) (λ k u. keeps_then s _ _ (exchanges_byte (Ok x)) (exchanges_message (Ok x)) k u) l t
+  keeps_exchanges (Ok x) l t =
+      keeps_then s _ _ (drains true) (λ k u. keeps_then s _ _ (exchanges_byte (Ok x)) (exchanges_message (Ok x)) k u) l t
   keeps_exchanges (Err e) l (inl t) = drains false l t.1
   keeps_exchanges (Err e) l (inr (inl t)) = keeps_then s _ _ (drains true) (exchanges_byte {T = Unit {0}} (Err e)) l t
   keeps_exchanges (Err e) l (inr (inr t)) =
-      keeps_then s _ _ (drains true) (λ k u. keeps_then s _ _ (exchanges_byte {T = Unit {0}} (Ok tt)) (exchanges_message {T = Unit {0}} (Err e)) k u) l t
+      keeps_then s _ _ (drains true)
+      (λ k u. keeps_then s _ _ (exchanges_byte {T = Unit {0}} (Ok tt)) (exchanges_message {T = Unit {0}} (Err e)) k u) l t

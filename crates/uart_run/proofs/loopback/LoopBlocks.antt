@@ -1,44 +1,61 @@
 -- Blocks in loopback: what they write is what they read.
-use Rattle.std.proofs.Common.{◌≡◌, ℕ, ◌+◌, ◌≤◌, ◌<◌, true, ◌==◌, nat_lt, List, [], ◌∷◌, ◌++◌, length, length-append, map, refl, arith, sym, ◌∙◌, ap, subst, bit_or}
+use Rattle.std.proofs.Common.{◌≡◌, ℕ, ◌+◌, ◌≤◌, ◌<◌, true, ◌==◌, nat_lt, List, [], ◌∷◌, ◌++◌, length}
+use Rattle.std.proofs.Common.{length-append, map, refl, arith, sym, ◌∙◌, ap, subst, bit_or}
 use Rattle.std.proofs.lemmas.List.{map-append, length-map}
 use Rattle.std.proofs.lemmas.Grind.{common_steps}
+use Rattle.uart_spec.specs.declared.registers.offsets.TheConstants as offsets
+use Rattle.uart_spec.specs.declared.registers.line_status.TheConstants.LSR
+use Rattle.uart_spec.specs.declared.registers.line_control.TheConstants.LCR
 use Rattle.uart_spec.specs.Access.{Access, Read, Write, Path}
 use Rattle.uart_spec.specs.Bits.{has_any}
 use Rattle.uart_chip.specs.Transmitter.{room}
 use Rattle.uart_chip.specs.Chip.{ChipState, word_length, cut_to, after_read, after_write}
 use Rattle.uart_chip.specs.Machine.{MachineState, MachineStep, at_access}
 use Rattle.uart_chip.proofs.Bits.{has_or, word_same}
-use Rattle.uart_device.proofs.Blocks.{Block, Look, Hit, Burst, Other, Divisor, accesses_of, AllQuiet, IsFit, AllFit, flat, written_in, read_in, data_written, data_read}
+use Rattle.uart_device.proofs.Blocks.{Block, Look, Hit, Burst, Other, Divisor, accesses_of, AllQuiet}
+use Rattle.uart_device.proofs.Blocks.{IsFit, AllFit, flat, written_in, read_in, data_written, data_read}
 use Rattle.uart_device.proofs.Went.{Modes, IsIn, dlab, dlab-in, loopback}
 use Rattle.uart_device.proofs.BlockLaws.{path_split, look_data, look_room}
 use Rattle.uart_run.proofs.CallBlocks.{InBlocks}
 use Rattle.uart_device.proofs.Loops.{line_in, Loops, loops-trans, loops-still, loops-refl, carries-refl, line-length, Fits, fits-after}
-use Rattle.uart_device.proofs.LoopAccesses.{IsLooped, loops_effect, loops_read, loops_quiet, loops_take, loops_none, loops_quiets, loops_sends}
+use Rattle.uart_device.proofs.LoopAccesses.{IsLooped, loops_effect, loops_read, loops_quiet}
+use Rattle.uart_device.proofs.LoopAccesses.{loops_take, loops_none, loops_quiets, loops_sends}
 
 -- ---- the divisor latch
 
 -- under DLAB the data are left alone
-loops_latch : (x : Modes) (m n : MachineState) (low : ℕ) → loopback x ≡ true → dlab x ≡ true → Fits x m.chip → MachineStep m (Read 0 low) n → Loops x m.chip n.chip [] []
+loops_latch : (x : Modes) (m n : MachineState) (low : ℕ) → loopback x ≡ true → dlab x ≡ true → Fits x m.chip →
+    MachineStep m (Read offsets.DLL low) n → Loops x m.chip n.chip [] []
 loops_latch x m n low l on f s =
-    loops_effect x x m n (after_read 0 (at_access m).chip) [] [] l f s.0 (λ a. rw (dlab-in x (at_access m).chip a.modes ∙ on) (loops-refl x (at_access m).chip a.modes))
+    loops_effect x x m n (after_read 0 (at_access m).chip) [] [] l f s.0
+    (λ a. rw (dlab-in x (at_access m).chip a.modes ∙ on) (loops-refl x (at_access m).chip a.modes))
 
 -- LCR is written, and the mode with it
-loops_lcr : (x : Modes) (m n : MachineState) (value : ℕ) → loopback x ≡ true → Fits x m.chip → word_length value ≡ word_length x.lcr → MachineStep m (Write 3 value) n → Loops (record x { lcr = value }) m.chip n.chip [] []
+loops_lcr : (x : Modes) (m n : MachineState) (value : ℕ) → loopback x ≡ true → Fits x m.chip → word_length value ≡ word_length x.lcr →
+    MachineStep m (Write offsets.LCR value) n → Loops (record x { lcr = value }) m.chip n.chip [] []
 loops_lcr x m n value l f same s =
     let c = (at_access m).chip in
     loops_effect x (record x { lcr = value }) m n (after_write 3 value c) [] [] l f s
-    (λ a. loops-still (record x { lcr = value }) c (after_write 3 value c) (record { lcr = refl; mcr = a.modes.mcr; fifo = a.modes.fifo; cut = ap {B = ℕ → ℕ} (λ (length : ℕ) (byte : ℕ). cut_to c.cuts length byte) (same ∙ ap word_length (sym a.modes.lcr)) ∙ a.modes.cut }) (carries-refl c.transmitter c.receiver))
+    (λ a. loops-still (record x { lcr = value }) c (after_write 3 value c)
+    (record {
+      lcr = refl;
+      mcr = a.modes.mcr;
+      fifo = a.modes.fifo;
+      cut = ap {B = ℕ → ℕ} (λ (length : ℕ) (byte : ℕ). cut_to c.cuts length byte) (same ∙ ap word_length (sym a.modes.lcr)) ∙ a.modes.cut;
+    })
+    (carries-refl c.transmitter c.receiver))
 
-loops_divisor : (x : Modes) (m n : MachineState) (lcr low high : ℕ) → IsLooped x → Fits x m.chip → Path MachineStep m (accesses_of (Divisor lcr low high)) n → Loops x m.chip n.chip [] []
+loops_divisor : (x : Modes) (m n : MachineState) (lcr low high : ℕ) → IsLooped x → Fits x m.chip →
+    Path MachineStep m (accesses_of (Divisor lcr low high)) n → Loops x m.chip n.chip [] []
 loops_divisor x m n lcr low high i f (m₁, s₁, (m₂, s₂, (m₃, s₃, (m₄, s₄, (m₅, s₅, e))))) =
-    let y : Modes = record x { lcr = bit_or lcr 128 } in
+    let y : Modes = record x { lcr = bit_or lcr LCR.DLAB.0 } in
     let z : Modes = record x { lcr = lcr } in
     let l = i.loopback in
     let a = loops_read x m m₁ 3 lcr l f refl s₁ in
     let f₁ = fits-after x x m.chip m₁.chip [] refl f a in
     let same : lcr ≡ x.lcr = s₁.1 ∙ (sym (ap (λ (o : MachineState). o.chip.latches.lcr) s₁.0) ∙ a.modes.lcr) in
-    let on : dlab y ≡ true = has_or 7 lcr 128 ∙ grind (arith, common_steps) in
-    let b : Loops y m₁.chip m₂.chip [] [] = loops_lcr x m₁ m₂ (bit_or lcr 128) l f₁ (word_same lcr ∙ ap word_length same) s₂ in
+    let on : dlab y ≡ true = has_or 7 lcr LCR.DLAB.0 ∙ grind (arith, common_steps) in
+    let b : Loops y m₁.chip m₂.chip [] [] = loops_lcr x m₁ m₂ (bit_or lcr LCR.DLAB.0) l f₁ (word_same lcr ∙ ap word_length same) s₂ in
     let f₂ = fits-after x y m₁.chip m₂.chip [] refl f₁ b in
     let c = loops_latch y m₂ m₃ low l on f₂ s₃ in
     let f₃ = fits-after y y m₂.chip m₃.chip [] refl f₂ c in
@@ -54,58 +71,70 @@ loops_divisor x m n lcr low high i f (m₁, s₁, (m₂, s₂, (m₃, s₃, (m�
 
 -- ---- blocks
 
-loops_look : (x : Modes) (m n : MachineState) (line : ℕ) → loopback x ≡ true → Fits x m.chip → MachineStep m (Read 5 line) n → Loops x m.chip n.chip [] []
+loops_look : (x : Modes) (m n : MachineState) (line : ℕ) → loopback x ≡ true → Fits x m.chip → MachineStep m (Read offsets.LSR line) n →
+    Loops x m.chip n.chip [] []
 loops_look x m n line l f s = loops_read x m n 5 line l f refl s
 
-loops_hit : (x : Modes) (m n : MachineState) (line byte : ℕ) → IsLooped x → Fits x m.chip → has_any line 1 ≡ true → Path MachineStep m (Read 5 line ∷ Read 0 byte ∷ []) n →
-    Loops x m.chip n.chip [] (byte ∷ [])
+loops_hit : (x : Modes) (m n : MachineState) (line byte : ℕ) → IsLooped x → Fits x m.chip → has_any line LSR.DATA_READY.0 ≡ true →
+    Path MachineStep m (Read offsets.LSR line ∷ Read offsets.DATA byte ∷ []) n → Loops x m.chip n.chip [] (byte ∷ [])
 loops_hit x m n line byte i f h (m₁, s₁, (m₂, s₂, e)) =
     let a = loops_look x m m₁ line i.loopback f s₁ in
     let t : nat_lt 0 (length m₁.chip.receiver.queue) ≡ true = sym (look_data m m₁ line s₁) ∙ h in
     let some : 0 < length m₁.chip.receiver.queue = grind (arith, common_steps) in
-    rw e (loops-trans x x m.chip m₁.chip m₂.chip [] [] [] (byte ∷ []) a (loops_take x m₁ m₂ byte i (fits-after x x m.chip m₁.chip [] refl f a) some s₂))
+    rw e
+    (loops-trans x x m.chip m₁.chip m₂.chip [] [] [] (byte ∷ []) a
+    (loops_take x m₁ m₂ byte i (fits-after x x m.chip m₁.chip [] refl f a) some s₂))
 
-loops_burst : (x : Modes) (m n : MachineState) (line : ℕ) (checks : List Access) (bytes : List ℕ) → IsLooped x → IsIn x m.chip → length (line_in m.chip) + length bytes ≤ room x.fifo →
-    has_any line 32 ≡ true → AllQuiet checks → Path MachineStep m (Read 5 line ∷ (checks ++ map (Write 0) bytes)) n → Loops x m.chip n.chip (map x.cut bytes) []
+loops_burst : (x : Modes) (m n : MachineState) (line : ℕ) (checks : List Access) (bytes : List ℕ) → IsLooped x → IsIn x m.chip →
+    length (line_in m.chip) + length bytes ≤ room x.fifo → has_any line LSR.THR_EMPTY.0 ≡ true → AllQuiet checks →
+    Path MachineStep m (Read offsets.LSR line ∷ (checks ++ map (Write offsets.DATA) bytes)) n → Loops x m.chip n.chip (map x.cut bytes) []
 loops_burst x m n line checks bytes i w few h q (m₁, s₁, p) =
     let f : Fits x m.chip = record { modes = w; few = omega (arith, few) } in
     let a = loops_look x m m₁ line i.loopback f s₁ in
     let t : (length m₁.chip.transmitter.queue == 0) ≡ true = sym (look_room m m₁ line s₁) ∙ h in
     let none : length m₁.chip.transmitter.queue ≡ 0 = grind (arith, common_steps) in
-    let r = path_split MachineStep m₁ n checks (map (Write 0) bytes) p in
+    let r = path_split MachineStep m₁ n checks (map (Write offsets.DATA) bytes) p in
     let b = loops_quiets x checks m₁ r.0 i.loopback (fits-after x x m.chip m₁.chip [] refl f a) q r.1 in
     let long_a = line-length x m.chip m₁.chip [] [] a in
     let long_b = line-length x m₁.chip r.0.chip [] [] b in
     let c = loops_sends x bytes r.0 n i b.modes (omega (arith, long_a, long_b, few)) (omega (arith, b.place, none, few)) r.2 in
-    loops-trans x x m.chip m₁.chip n.chip [] (map x.cut bytes) [] [] a (loops-trans x x m₁.chip r.0.chip n.chip [] (map x.cut bytes) [] [] b c)
+    loops-trans x x m.chip m₁.chip n.chip [] (map x.cut bytes) [] [] a
+    (loops-trans x x m₁.chip r.0.chip n.chip [] (map x.cut bytes) [] [] b c)
 
 -- what a block does in loopback, where what it writes still fits into the line
-loops_block : (x : Modes) (m n : MachineState) (block : Block) → IsLooped x → IsIn x m.chip → length (line_in m.chip) + length (written_in block) ≤ room x.fifo → IsFit x.fifo block →
-    Path MachineStep m (accesses_of block) n → Loops x m.chip n.chip (map x.cut (written_in block)) (read_in block)
+loops_block : (x : Modes) (m n : MachineState) (block : Block) → IsLooped x → IsIn x m.chip →
+    length (line_in m.chip) + length (written_in block) ≤ room x.fifo → IsFit x.fifo block → Path MachineStep m (accesses_of block) n →
+    Loops x m.chip n.chip (map x.cut (written_in block)) (read_in block)
 loops_block x m n (Look line) i w few h p = rw p.2 (loops_look x m p.0 line i.loopback (record { modes = w; few = omega (arith, few) }) p.1)
 loops_block x m n (Hit line byte) i w few h p = loops_hit x m n line byte i (record { modes = w; few = omega (arith, few) }) h p
 loops_block x m n (Burst line checks bytes) i w few h p = loops_burst x m n line checks bytes i w few h.0 h.1 p
-loops_block x m n (Other access) i w few h p = rw p.2 (loops_quiet x m p.0 access i.loopback (record { modes = w; few = omega (arith, few) }) h p.1)
+loops_block x m n (Other access) i w few h p =
+    rw p.2 (loops_quiet x m p.0 access i.loopback (record { modes = w; few = omega (arith, few) }) h p.1)
 loops_block x m n (Divisor lcr low high) i w few h p = loops_divisor x m n lcr low high i (record { modes = w; few = omega (arith, few) }) p
 
 -- and what a list of blocks does
-loops_blocks : (x : Modes) (blocks : List Block) (m n : MachineState) → IsLooped x → IsIn x m.chip → length (line_in m.chip) + length (data_written blocks) ≤ room x.fifo → AllFit x.fifo blocks →
-    Path MachineStep m (flat blocks) n → Loops x m.chip n.chip (map x.cut (data_written blocks)) (data_read blocks)
+loops_blocks : (x : Modes) (blocks : List Block) (m n : MachineState) → IsLooped x → IsIn x m.chip →
+    length (line_in m.chip) + length (data_written blocks) ≤ room x.fifo → AllFit x.fifo blocks → Path MachineStep m (flat blocks) n →
+    Loops x m.chip n.chip (map x.cut (data_written blocks)) (data_read blocks)
 loops_blocks x [] m n i w few h p = loops_none x m n w p
 loops_blocks x (block ∷ blocks) m n i w few h p =
     let q = path_split MachineStep m n (accesses_of block) (flat blocks) p in
-    let e : length (written_in block ++ data_written blocks) ≡ length (written_in block) + length (data_written blocks) = length-append (written_in block) (data_written blocks) in
+    let e : length (written_in block ++ data_written blocks) ≡ length (written_in block) + length (data_written blocks) =
+    length-append (written_in block) (data_written blocks) in
     let a = loops_block x m q.0 block i w (omega (arith, e, few)) h.0 q.1 in
     let long = line-length x m.chip q.0.chip (map x.cut (written_in block)) (read_in block) a in
     let size : length (map x.cut (written_in block)) ≡ length (written_in block) = length-map (written_in block) x.cut in
-    let both : map x.cut (written_in block) ++ map x.cut (data_written blocks) ≡ map x.cut (written_in block ++ data_written blocks) = sym (map-append x.cut (written_in block) (data_written blocks)) in
+    let both : map x.cut (written_in block) ++ map x.cut (data_written blocks) ≡ map x.cut (written_in block ++ data_written blocks) =
+    sym (map-append x.cut (written_in block) (data_written blocks)) in
     subst (λ (ws : List ℕ). Loops x m.chip n.chip ws (read_in block ++ data_read blocks)) both
-    (loops-trans x x m.chip q.0.chip n.chip (map x.cut (written_in block)) (map x.cut (data_written blocks)) (read_in block) (data_read blocks) a
+    (loops-trans x x m.chip q.0.chip n.chip (map x.cut (written_in block)) (map x.cut (data_written blocks))
+    (read_in block) (data_read blocks) a
     (loops_blocks x blocks q.0 n i a.modes (omega (arith, e, long, size, few)) h.1 q.2))
 
 -- what accesses in blocks do
-pub loops_in_blocks : (x : Modes) (m n : MachineState) (made : List Access) (ws rs : List ℕ) → IsLooped x → IsIn x m.chip → length (line_in m.chip) + length ws ≤ room x.fifo →
-    InBlocks x.fifo made ws rs → Path MachineStep m made n → Loops x m.chip n.chip (map x.cut ws) rs
+pub loops_in_blocks : (x : Modes) (m n : MachineState) (made : List Access) (ws rs : List ℕ) → IsLooped x → IsIn x m.chip →
+    length (line_in m.chip) + length ws ≤ room x.fifo → InBlocks x.fifo made ws rs → Path MachineStep m made n →
+    Loops x m.chip n.chip (map x.cut ws) rs
 loops_in_blocks x m n made ws rs i w few b p =
     let a = loops_blocks x b.blocks m n i w (rw b.is_written few) b.fit (rw b.joined at p) in
     rw (b.is_written, b.is_read) at a
@@ -134,8 +163,9 @@ pub record CameBack (x : Modes) (gone : List ℕ) (c : ChipState) (written read 
   pub same : read ≡ written
   pub idle : IsIdle x gone c
 
-pub comes_back : (x : Modes) (gone : List ℕ) (m n : MachineState) (made : List Access) (ws rs : List ℕ) → IsLooped x → IsIdle x gone m.chip → length ws ≤ room x.fifo →
-    length rs ≡ length ws → InBlocks x.fifo made ws rs → Path MachineStep m made n → CameBack x gone n.chip (map x.cut ws) rs
+pub comes_back : (x : Modes) (gone : List ℕ) (m n : MachineState) (made : List Access) (ws rs : List ℕ) → IsLooped x →
+    IsIdle x gone m.chip → length ws ≤ room x.fifo → length rs ≡ length ws → InBlocks x.fifo made ws rs → Path MachineStep m made n →
+    CameBack x gone n.chip (map x.cut ws) rs
 comes_back x gone m n made ws rs i idle few all b p =
     let none : length (line_in m.chip) ≡ 0 = ap length idle.line in
     let a = loops_in_blocks x m n made ws rs i idle.modes (omega (arith, none, few)) b p in

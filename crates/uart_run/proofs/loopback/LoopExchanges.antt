@@ -1,5 +1,6 @@
 -- What the exchange of a loopback test comes to: all comes back as it was sent, or a wait was in vain.
-use Rattle.std.proofs.Common.{◌≡◌, ◌<◌, ◌⊎◌, ℕ, min, Bool, true, false, inl, inr, List, [], ◌∷◌, map, nat_lt, if◌then◌else◌, Result, Ok, Err, refl, ◌∙◌, arith}
+use Rattle.std.proofs.Common.{◌≡◌, ◌<◌, ◌⊎◌, ℕ, min, Bool, true, false, inl, inr, List, [], ◌∷◌}
+use Rattle.std.proofs.Common.{map, nat_lt, if◌then◌else◌, Result, Ok, Err, refl, ◌∙◌, arith}
 use Rattle.std.proofs.lemmas.Grind.{common_steps}
 use Rattle.uart_spec.specs.declared.errors.ByteSendError.{ByteSendError}
 use Rattle.uart_spec.specs.declared.errors.ByteSendError.TheVariants.{NoCapacity, RemoteNotClearToSend}
@@ -24,7 +25,8 @@ abbrev pub LeadsTo : {T : Type 0} → Bool → Type 0 → Result T LoopbackError
 LeadsTo narrow Goal (Ok x) = (narrow ≡ false) × Goal
 LeadsTo narrow Goal (Err e) = (e ≡ Stalled) ⊎ ((narrow ≡ true) × (e ≡ UnexpectedLoopbackByte test_byte 2) × Goal)
 
-pub leads_on : {T : Type 0} (narrow : Bool) (P Q : Type 0) (result : Result T LoopbackError) → (P → Q) → LeadsTo narrow P result → LeadsTo narrow Q result
+pub leads_on : {T : Type 0} (narrow : Bool) (P Q : Type 0) (result : Result T LoopbackError) → (P → Q) → LeadsTo narrow P result →
+    LeadsTo narrow Q result
 leads_on narrow P Q (Ok x) f p = (p.0, f p.1)
 leads_on narrow P Q (Err e) f (inl p) = inl p
 leads_on narrow P Q (Err e) f (inr p) = inr (p.0, p.1, f p.2)
@@ -36,8 +38,8 @@ some_room true e = omega arith
 some_room false e = omega arith
 
 -- it is sent at once
-byte_never_refused : (x : Modes) (gone : List ℕ) (s : Settings) (e : ByteSendError) (l : List Access) (m n : MachineState) → IsReadyToTest x gone s m →
-    TrySends {T = Unit {0}} test_byte (Err e) s l → Path MachineStep m l n → ⊥
+byte_never_refused : (x : Modes) (gone : List ℕ) (s : Settings) (e : ByteSendError) (l : List Access) (m n : MachineState) →
+    IsReadyToTest x gone s m → TrySends {T = Unit {0}} test_byte (Err e) s l → Path MachineStep m l n → ⊥
 byte_never_refused x gone s NoCapacity l m n r t path = go t
   where
     go : Sends (test_byte ∷ []) 0 s l → ⊥
@@ -46,8 +48,9 @@ byte_never_refused x gone s NoCapacity l m n r t path = go t
     go (inr (inr h)) = some_room s.fifo h.1
 byte_never_refused x gone s RemoteNotClearToSend l m n r t path = t
 
-byte_leads : {T : Type 0} (narrow : Bool) (x : Modes) (gone : List ℕ) (s : Settings) (result : Result T LoopbackError) (l : List Access) (m n : MachineState) → Cuts narrow x.cut →
-    IsReadyToTest x gone s m → ExchangesByte result s l → Path MachineStep m l n → LeadsTo narrow (IsReadyToTest x gone s n) result
+byte_leads : {T : Type 0} (narrow : Bool) (x : Modes) (gone : List ℕ) (s : Settings) (result : Result T LoopbackError) (l : List Access)
+    (m n : MachineState) → Cuts narrow x.cut → IsReadyToTest x gone s m → ExchangesByte result s l → Path MachineStep m l n →
+    LeadsTo narrow (IsReadyToTest x gone s n) result
 byte_leads false x gone s (Ok v) l m n c r t path = (refl, (byte_exchanged x gone s test_byte l m n r t path).ready)
 byte_leads true x gone s (Ok v) l m n c r t path =
     let a = byte_exchanged x gone s test_byte l m n r t path in
@@ -87,8 +90,9 @@ small_whole cut (byte ∷ bytes) c e = go (nat_lt byte 128) refl (λ rest. small
 message_whole : (cut : ℕ → ℕ) → Cuts false cut → map cut test_message ≡ test_message
 message_whole cut c = small_whole cut test_message c refl
 
-message_leads : {T : Type 0} (x : Modes) (gone : List ℕ) (s : Settings) (result : Result T LoopbackError) (l : List Access) (m n : MachineState) → Cuts false x.cut → IsReadyToTest x gone s m →
-    ExchangesMessage result s l → Path MachineStep m l n → LeadsTo false (IsReadyToTest x gone s n) result
+message_leads : {T : Type 0} (x : Modes) (gone : List ℕ) (s : Settings) (result : Result T LoopbackError) (l : List Access)
+    (m n : MachineState) → Cuts false x.cut → IsReadyToTest x gone s m → ExchangesMessage result s l → Path MachineStep m l n →
+    LeadsTo false (IsReadyToTest x gone s n) result
 message_leads x gone s (Ok v) l m n c r t path = (refl, (message_exchanged x gone s test_message l m n r refl t path).ready)
 message_leads x gone s (Err (SendError e)) l m n c r t path = absurd t
 message_leads x gone s (Err Stalled) l m n c r t path = inl refl
@@ -97,8 +101,10 @@ message_leads x gone s (Err (UnexpectedLoopbackMsg expected actual)) l m n c r t
     absurd (t.1 ((message_exchanged x gone s actual l m n r t.2 t.3 path).same ∙ message_whole x.cut c))
 
 -- the byte, and then the message
-both_lead : {T : Type 0} (narrow : Bool) (x : Modes) (gone : List ℕ) (s : Settings) (result : Result T LoopbackError) (l : List Access) (m n : MachineState) → Cuts narrow x.cut →
-    IsReadyToTest x gone s m → Then (ExchangesByte {T = Unit {0}} (Ok tt)) (ExchangesMessage result) s l → Path MachineStep m l n → LeadsTo narrow (IsReadyToTest x gone s n) result
+both_lead : {T : Type 0} (narrow : Bool) (x : Modes) (gone : List ℕ) (s : Settings) (result : Result T LoopbackError) (l : List Access)
+    (m n : MachineState) → Cuts narrow x.cut → IsReadyToTest x gone s m →
+    Then (ExchangesByte {T = Unit {0}} (Ok tt)) (ExchangesMessage result) s l → Path MachineStep m l n →
+    LeadsTo narrow (IsReadyToTest x gone s n) result
 both_lead false x gone s result l m n c r t path =
     let p = then_parts (ExchangesByte {T = Unit {0}} (Ok tt)) (ExchangesMessage result) s l m n t path in
     let a = byte_leads {T = Unit {0}} false x gone s (Ok tt) p.front m p.between c r p.first p.before in
@@ -110,15 +116,19 @@ both_lead true x gone s result l m n c r t path =
 
 -- ---- all of it
 
-pub exchange_leads : {T : Type 0} (narrow : Bool) (x : Modes) (gone : List ℕ) (s : Settings) (result : Result T LoopbackError) (l : List Access) (m n : MachineState) → Cuts narrow x.cut →
-    IsEntered x gone s m → Exchanges result s l → Path MachineStep m l n → LeadsTo narrow (IsReadyToTest x gone s n) result
+pub exchange_leads : {T : Type 0} (narrow : Bool) (x : Modes) (gone : List ℕ) (s : Settings) (result : Result T LoopbackError)
+    (l : List Access) (m n : MachineState) → Cuts narrow x.cut → IsEntered x gone s m → Exchanges result s l → Path MachineStep m l n →
+    LeadsTo narrow (IsReadyToTest x gone s n) result
 exchange_leads narrow x gone s (Ok v) l m n c e t path =
     let p = then_parts (DrainsLoopback true) (Then (ExchangesByte (Ok v)) (ExchangesMessage (Ok v))) s l m n t path in
     both_lead narrow x gone s (Ok v) p.back p.between n c (drained x gone s p.front m p.between e p.first p.before) p.second p.after
 exchange_leads narrow x gone s (Err fault) l m n c e (inl t) path = inl t.0
 exchange_leads narrow x gone s (Err fault) l m n c e (inr (inl t)) path =
     let p = then_parts (DrainsLoopback true) (ExchangesByte {T = Unit {0}} (Err fault)) s l m n t path in
-    byte_leads {T = Unit {0}} narrow x gone s (Err fault) p.back p.between n c (drained x gone s p.front m p.between e p.first p.before) p.second p.after
+    byte_leads {T = Unit {0}} narrow x gone s (Err fault) p.back p.between n c
+    (drained x gone s p.front m p.between e p.first p.before) p.second p.after
 exchange_leads narrow x gone s (Err fault) l m n c e (inr (inr t)) path =
-    let p = then_parts (DrainsLoopback true) (Then (ExchangesByte {T = Unit {0}} (Ok tt)) (ExchangesMessage {T = Unit {0}} (Err fault))) s l m n t path in
-    both_lead {T = Unit {0}} narrow x gone s (Err fault) p.back p.between n c (drained x gone s p.front m p.between e p.first p.before) p.second p.after
+    let p = then_parts (DrainsLoopback true) (Then (ExchangesByte {T = Unit {0}} (Ok tt)) (ExchangesMessage {T = Unit {0}} (Err fault)))
+    s l m n t path in
+    both_lead {T = Unit {0}} narrow x gone s (Err fault) p.back p.between n c
+    (drained x gone s p.front m p.between e p.first p.before) p.second p.after

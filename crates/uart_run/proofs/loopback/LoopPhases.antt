@@ -1,13 +1,19 @@
 -- The phases of a loopback test in loopback: the drain, the byte, the message.
-use Rattle.std.proofs.Common.{◌≡◌, ℕ, ◌≤◌, Bool, true, false, ◌==◌, inl, inr, List, [], ◌∷◌, ◌++◌, length, map, append-nil, Option, Some, None, Ok, refl, arith, sym, ◌∙◌, ap, subst, MatchBool}
+use Rattle.std.proofs.Common.{◌≡◌, ℕ, ◌≤◌, Bool, true, false, ◌==◌, inl, inr, List, [], ◌∷◌, ◌++◌, length, map}
+use Rattle.std.proofs.Common.{append-nil, Option, Some, None, Ok, refl, arith, sym, ◌∙◌, ap, subst, MatchBool}
 use Rattle.uart_spec.specs.declared.errors.ByteSendError.{ByteSendError}
 use Rattle.uart_spec.specs.declared.errors.ByteSendError.TheVariants.{NoCapacity, RemoteNotClearToSend}
 use Rattle.uart_spec.specs.Bits.{has, has_any}
+use Rattle.uart_spec.specs.declared.registers.offsets.TheConstants as offsets
+use Rattle.uart_spec.specs.declared.registers.line_status.TheConstants.LSR
+use Rattle.uart_spec.specs.declared.registers.modem_status.TheConstants.MSR
+use Rattle.uart_spec.specs.declared.registers.modem_control.TheConstants.MCR
 use Rattle.uart_spec.specs.Access.{Access, Read, Path}
 use Rattle.uart_16550.specs.Grammar.{Language, Settings, Only, Then, InOrder, FewMisses, Asks, Never}
 use Rattle.uart_16550.specs.Receive.{Miss, Awaited}
 use Rattle.uart_16550.specs.Transmit.{LinesAllow, SendRefused, Round, SendsAll}
-use Rattle.uart_16550.specs.Loopback.{test_byte, test_message, TakesOne, DrainsLoopback, SendsTestByte, Echo, WholeEchoes, EachEchoes, HasEchoedAll}
+use Rattle.uart_16550.specs.Loopback.{test_byte, test_message, TakesOne, DrainsLoopback}
+use Rattle.uart_16550.specs.Loopback.{SendsTestByte, Echo, WholeEchoes, EachEchoes, HasEchoedAll}
 use Rattle.uart_chip.specs.declared.receiver.Character.{Character}
 use Rattle.uart_chip.specs.declared.transmitter.Shifting.{Shifting}
 use Rattle.uart_chip.specs.Transmitter.{room, shift_bytes}
@@ -18,7 +24,8 @@ use Rattle.uart_device.proofs.Went.{Modes, IsIn, dlab-in}
 use Rattle.uart_run.proofs.EmptyTransmitter.{IsSent, sent_path}
 use Rattle.uart_run.proofs.SilentLists.{IsSilent, silent_only, silent_then, silent_few, silent_asks}
 use Rattle.uart_device.proofs.BlockLaws.{path_as, look_room}
-use Rattle.uart_run.proofs.CallBlocks.{InBlocks, Makes, makes_then, makes_reads, awaited_blocks, round_blocks, sends_all_blocks, try_sends_blocks}
+use Rattle.uart_run.proofs.CallBlocks.{InBlocks, Makes, makes_then, makes_reads, awaited_blocks}
+use Rattle.uart_run.proofs.CallBlocks.{round_blocks, sends_all_blocks, try_sends_blocks}
 use Rattle.uart_run.proofs.CallKeeps.{one_fits}
 use Rattle.uart_run.proofs.Served.{EndsDry, dry_empties}
 use Rattle.uart_run.proofs.Latches.{Kept, kept_in, kept_cut, kept_access, kept_list}
@@ -29,7 +36,8 @@ use Rattle.uart_run.proofs.loopback.LoopBlocks.{IsIdle, CameBack, comes_back}
 
 -- ---- an idle chip
 
-no_line : (waits : List ℕ) (place : Option Shifting) (queue : List ℕ) → waits ++ (shift_bytes place ++ queue) ≡ [] → (queue ≡ []) × (place ≡ None)
+no_line : (waits : List ℕ) (place : Option Shifting) (queue : List ℕ) → waits ++ (shift_bytes place ++ queue) ≡ [] →
+    (queue ≡ []) × (place ≡ None)
 no_line [] None queue e = (e, refl)
 no_line [] (Some s) queue e = absurd (cc)
 no_line (x ∷ xs) place queue e = absurd (cc)
@@ -40,7 +48,8 @@ idle_sent x gone c i =
     let p = no_line (map (λ (k : Character). k.byte) c.receiver.queue) t.shift_place t.queue i.line in
     record { queue = p.0; place = p.1; wire = i.wire }
 
-sent_idle : (x : Modes) (gone : List ℕ) (c : ChipState) → IsIn x c → IsSent gone c.transmitter → length c.receiver.queue ≡ 0 → IsIdle x gone c
+sent_idle : (x : Modes) (gone : List ℕ) (c : ChipState) → IsIn x c → IsSent gone c.transmitter → length c.receiver.queue ≡ 0 →
+    IsIdle x gone c
 sent_idle x gone c w s none = record { modes = w; line = rw (nothing c.receiver.queue none, s.place, s.queue) refl; wire = s.wire }
   where
     nothing : (queue : List Character) → length queue ≡ 0 → queue ≡ []
@@ -50,7 +59,9 @@ sent_idle x gone c w s none = record { modes = w; line = rw (nothing c.receiver.
 -- ---- the drain
 
 silent_takes_one : (s : Settings) → IsSilent s TakesOne
-silent_takes_one s l t = silent_then s (Asks 5 1 true) (Only (Read 0 t.0 ∷ [])) (silent_asks s 5 1 true) (silent_only s (Read 0 t.0 ∷ []) (tt, tt)) l t.1
+silent_takes_one s l t =
+    silent_then s (Asks offsets.LSR LSR.DATA_READY.0 true) (Only (Read offsets.DATA t.0 ∷ []))
+    (silent_asks s offsets.LSR LSR.DATA_READY.0 true) (silent_only s (Read offsets.DATA t.0 ∷ []) (tt, tt)) l t.1
 
 keeps_takes_one : (s : Settings) → AllKeep s TakesOne
 keeps_takes_one s l t = keeps_hit s t.0 l t.1
@@ -77,16 +88,20 @@ pub record IsReadyToTest (x : Modes) (gone : List ℕ) (s : Settings) (m : Machi
   pub fifo : s.fifo ≡ x.fifo
   pub idle : IsIdle x gone m.chip
 
-pub drained : (x : Modes) (gone : List ℕ) (s : Settings) (l : List Access) (m n : MachineState) → IsEntered x gone s m → DrainsLoopback true s l → Path MachineStep m l n → IsReadyToTest x gone s n
+pub drained : (x : Modes) (gone : List ℕ) (s : Settings) (l : List Access) (m n : MachineState) → IsEntered x gone s m →
+    DrainsLoopback true s l → Path MachineStep m l n → IsReadyToTest x gone s n
 drained x gone s l m n e t path =
     let keeps = keeps_then s (FewMisses TakesOne) Miss (keeps_few s TakesOne (keeps_takes_one s)) (keeps_miss s) in
-    let silent = silent_then s (FewMisses TakesOne) Miss (silent_few s TakesOne (silent_takes_one s)) (silent_asks s 5 1 false) l t in
+    let silent = silent_then s (FewMisses TakesOne) Miss (silent_few s TakesOne (silent_takes_one s))
+    (silent_asks s offsets.LSR LSR.DATA_READY.0 false) l t in
     let kept = kept_still s (DrainsLoopback true) l m n keeps (dlab-in x m.chip e.modes ∙ e.looped.dlab) t path in
     let dry : EndsDry s l = record { front = t.front; back = t.back; whole = t.whole; miss = t.second } in
     record {
       looped = e.looped;
       fifo = e.fifo;
-      idle = sent_idle x gone n.chip (kept_in_modes x m.chip n.chip kept e.modes) (sent_path gone l m n silent e.sent path) (dry_empties s m n l dry path);
+      idle =
+          sent_idle x gone n.chip (kept_in_modes x m.chip n.chip kept e.modes) (sent_path gone l m n silent e.sent path)
+          (dry_empties s m n l dry path);
     }
 
 -- ---- what comes back
@@ -96,41 +111,48 @@ pub record Exchanged (x : Modes) (gone : List ℕ) (s : Settings) (n : MachineSt
   pub same : read ≡ map x.cut written
   pub ready : IsReadyToTest x gone s n
 
-exchanged : (x : Modes) (gone : List ℕ) (s : Settings) (L : Language) (l : List Access) (m n : MachineState) (ws rs : List ℕ) → IsReadyToTest x gone s m → length ws ≤ room s.fifo →
-    length rs ≡ length ws → Makes s L ws rs → L s l → Path MachineStep m l n → Exchanged x gone s n ws rs
+exchanged : (x : Modes) (gone : List ℕ) (s : Settings) (L : Language) (l : List Access) (m n : MachineState) (ws rs : List ℕ) →
+    IsReadyToTest x gone s m → length ws ≤ room s.fifo → length rs ≡ length ws → Makes s L ws rs → L s l → Path MachineStep m l n →
+    Exchanged x gone s n ws rs
 exchanged x gone s L l m n ws rs r few all makes t path =
     let B : Bool → Type 0 = λ fifo. InBlocks fifo l ws rs in
-    let c : CameBack x gone n.chip (map x.cut ws) rs = comes_back x gone m n l ws rs r.looped r.idle (rw (← r.fifo) few) all (subst B r.fifo (makes l t)) path in
+    let c : CameBack x gone n.chip (map x.cut ws) rs = comes_back x gone m n l ws rs r.looped r.idle (rw (← r.fifo) few) all
+    (subst B r.fifo (makes l t)) path in
     record { same = c.same; ready = record { looped = r.looped; fifo = r.fifo; idle = c.idle } }
 
 -- the byte
-pub byte_exchanged : (x : Modes) (gone : List ℕ) (s : Settings) (actual : ℕ) (l : List Access) (m n : MachineState) → IsReadyToTest x gone s m →
-    Then SendsTestByte (Awaited actual) s l → Path MachineStep m l n → Exchanged x gone s n (test_byte ∷ []) (actual ∷ [])
+pub byte_exchanged : (x : Modes) (gone : List ℕ) (s : Settings) (actual : ℕ) (l : List Access) (m n : MachineState) →
+    IsReadyToTest x gone s m → Then SendsTestByte (Awaited actual) s l → Path MachineStep m l n →
+    Exchanged x gone s n (test_byte ∷ []) (actual ∷ [])
 byte_exchanged x gone s actual l m n r t path =
     let makes : Makes s (Then SendsTestByte (Awaited actual)) (test_byte ∷ []) (actual ∷ []) = λ k u.
-    makes_then s SendsTestByte (Awaited actual) (test_byte ∷ []) [] [] (actual ∷ []) (λ v w. try_sends_blocks {T = Unit {0}} s test_byte (Ok tt) v w) (λ v w. awaited_blocks s actual v w) k u in
+    makes_then s SendsTestByte (Awaited actual) (test_byte ∷ []) [] [] (actual ∷ [])
+    (λ v w. try_sends_blocks {T = Unit {0}} s test_byte (Ok tt) v w) (λ v w. awaited_blocks s actual v w) k u in
     exchanged x gone s (Then SendsTestByte (Awaited actual)) l m n (test_byte ∷ []) (actual ∷ []) r (one_fits s.fifo) refl makes t path
 
 -- the message, whole
-whole_exchanged : (x : Modes) (gone : List ℕ) (s : Settings) (sent got : List ℕ) (l : List Access) (m n : MachineState) → IsReadyToTest x gone s m → length sent ≤ room s.fifo →
-    WholeEchoes sent got s l → Path MachineStep m l n → Exchanged x gone s n sent got
+whole_exchanged : (x : Modes) (gone : List ℕ) (s : Settings) (sent got : List ℕ) (l : List Access) (m n : MachineState) →
+    IsReadyToTest x gone s m → length sent ≤ room s.fifo → WholeEchoes sent got s l → Path MachineStep m l n → Exchanged x gone s n sent got
 whole_exchanged x gone s sent got l m n r few t path =
     let both = Then (SendsAll sent) (InOrder Awaited got) in
     let makes : Makes s both (sent ++ []) got = λ k u.
-    makes_then s (SendsAll sent) (InOrder Awaited got) sent [] [] got (sends_all_blocks s sent) (makes_reads s Awaited (awaited_blocks s) got) k u in
+    makes_then s (SendsAll sent) (InOrder Awaited got) sent [] [] got (sends_all_blocks s sent)
+    (makes_reads s Awaited (awaited_blocks s) got) k u in
     let same : Makes s both sent got = rw (append-nil sent) at makes in
     exchanged x gone s both l m n sent got r few t.0 same t.1 path
 
 -- each byte by itself
-echo_exchanged : (x : Modes) (gone : List ℕ) (s : Settings) (pair : ℕ × ℕ) (l : List Access) (m n : MachineState) → IsReadyToTest x gone s m → Echo pair s l → Path MachineStep m l n →
-    Exchanged x gone s n (pair.0 ∷ []) (pair.1 ∷ [])
+echo_exchanged : (x : Modes) (gone : List ℕ) (s : Settings) (pair : ℕ × ℕ) (l : List Access) (m n : MachineState) →
+    IsReadyToTest x gone s m → Echo pair s l → Path MachineStep m l n → Exchanged x gone s n (pair.0 ∷ []) (pair.1 ∷ [])
 echo_exchanged x gone s pair l m n r t path =
     let makes : Makes s (Echo pair) (pair.0 ∷ []) (pair.1 ∷ []) = λ k u.
-    makes_then s (Round (pair.0 ∷ [])) (Awaited pair.1) (pair.0 ∷ []) [] [] (pair.1 ∷ []) (round_blocks s (pair.0 ∷ []) (one_fits s.fifo)) (awaited_blocks s pair.1) k u in
+    makes_then s (Round (pair.0 ∷ [])) (Awaited pair.1) (pair.0 ∷ []) [] [] (pair.1 ∷ []) (round_blocks s (pair.0 ∷ []) (one_fits s.fifo))
+    (awaited_blocks s pair.1) k u in
     exchanged x gone s (Echo pair) l m n (pair.0 ∷ []) (pair.1 ∷ []) r (one_fits s.fifo) refl makes t path
 
-pub each_exchanged : (x : Modes) (gone : List ℕ) (s : Settings) (pairs : List (ℕ × ℕ)) (l : List Access) (m n : MachineState) → IsReadyToTest x gone s m → InOrder Echo pairs s l →
-    Path MachineStep m l n → Exchanged x gone s n (map (λ pair. pair.0) pairs) (map (λ pair. pair.1) pairs)
+pub each_exchanged : (x : Modes) (gone : List ℕ) (s : Settings) (pairs : List (ℕ × ℕ)) (l : List Access) (m n : MachineState) →
+    IsReadyToTest x gone s m → InOrder Echo pairs s l → Path MachineStep m l n →
+    Exchanged x gone s n (map (λ pair. pair.0) pairs) (map (λ pair. pair.1) pairs)
 each_exchanged x gone s [] l m n r t path =
     let same : n ≡ m = path_as m n l [] t.is path in
     record { same = refl; ready = rw same r }
@@ -141,44 +163,53 @@ each_exchanged x gone s (pair ∷ pairs) l m n r t path =
     record { same = cc (a.same, b.same); ready = b.ready }
 
 -- the message, as the FIFO asks
-pub message_exchanged : (x : Modes) (gone : List ℕ) (s : Settings) (got : List ℕ) (l : List Access) (m n : MachineState) → IsReadyToTest x gone s m → length got ≡ 16 →
-    HasEchoedAll test_message (Some got) s l → Path MachineStep m l n → Exchanged x gone s n test_message got
+pub message_exchanged : (x : Modes) (gone : List ℕ) (s : Settings) (got : List ℕ) (l : List Access) (m n : MachineState) →
+    IsReadyToTest x gone s m → length got ≡ 16 → HasEchoedAll test_message (Some got) s l → Path MachineStep m l n →
+    Exchanged x gone s n test_message got
 message_exchanged x gone s got l m n r long t path = go s.fifo refl t
   where
-    go : (b : Bool) → s.fifo ≡ b → MatchBool b (WholeEchoes test_message got s l) (EachEchoes test_message got s l) → Exchanged x gone s n test_message got
+    go : (b : Bool) → s.fifo ≡ b → MatchBool b (WholeEchoes test_message got s l) (EachEchoes test_message got s l) →
+        Exchanged x gone s n test_message got
     go true e t = whole_exchanged x gone s test_message got l m n r (rw e (omega arith)) t path
     go false e (pairs, sent, back, made) = let a = each_exchanged x gone s pairs l m n r made path in rw (sent, back) at a
 
 -- ---- no send is refused
 
 -- the transmitter is empty, and in loopback the lines mean nothing
-pub never_refused : (x : Modes) (gone : List ℕ) (s : Settings) (e : ByteSendError) (l : List Access) (m n : MachineState) → IsReadyToTest x gone s m → SendRefused e s l → Path MachineStep m l n → ⊥
-never_refused x gone s NoCapacity l m n r t path = looked (path_as m n l (Read 5 t.answer ∷ []) t.is path)
+pub never_refused : (x : Modes) (gone : List ℕ) (s : Settings) (e : ByteSendError) (l : List Access) (m n : MachineState) →
+    IsReadyToTest x gone s m → SendRefused e s l → Path MachineStep m l n → ⊥
+never_refused x gone s NoCapacity l m n r t path = looked (path_as m n l (Read offsets.LSR t.answer ∷ []) t.is path)
   where
     sent : IsSent gone n.chip.transmitter
-    sent = sent_path gone l m n (silent_asks s 5 32 false l t) (idle_sent x gone m.chip r.idle) path
+    sent = sent_path gone l m n (silent_asks s offsets.LSR LSR.THR_EMPTY.0 false l t) (idle_sent x gone m.chip r.idle) path
 
-    looked : Path MachineStep m (Read 5 t.answer ∷ []) n → ⊥
+    looked : Path MachineStep m (Read offsets.LSR t.answer ∷ []) n → ⊥
     looked (mid, step, same) =
-        let full : (length mid.chip.transmitter.queue == 0) ≡ false = sym (look_room m mid t.answer step) ∙ (sym (has_one 5 t.answer) ∙ t.shows) in
-        let empty : length mid.chip.transmitter.queue ≡ 0 = ap (λ (o : MachineState). length o.chip.transmitter.queue) (sym same) ∙ ap length sent.queue in
+        let full : (length mid.chip.transmitter.queue == 0) ≡ false = sym (look_room m mid t.answer step)
+        ∙ (sym (has_one 5 t.answer) ∙ t.shows) in
+        let empty : length mid.chip.transmitter.queue ≡ 0 = ap (λ (o : MachineState). length o.chip.transmitter.queue) (sym same)
+        ∙ ap length sent.queue in
         let both : (0 == 0) ≡ false = rw empty at full in absurd (cc)
 never_refused x gone s RemoteNotClearToSend l m n r t path = go s.checks t
   where
-    in_loop : (k : MachineState) (answer : ℕ) (back : MachineState) → kept_in k.chip ≡ kept_in m.chip → Path MachineStep k (Read 4 answer ∷ []) back → has answer 16 ≡ false → ⊥
+    in_loop : (k : MachineState) (answer : ℕ) (back : MachineState) → kept_in k.chip ≡ kept_in m.chip →
+        Path MachineStep k (Read offsets.MCR answer ∷ []) back → has answer MCR.LOOP_BACK.0 ≡ false → ⊥
     in_loop k answer back kept (mid, step, same) off =
         let mcr : answer ≡ m.chip.latches.mcr = step.1 ∙ ap (λ (v : Kept). v.latches.mcr) (kept_access k ∙ kept) in
-        let on : has answer 16 ≡ true = has_one 4 answer ∙ (ap (λ v. has_any v 16) (mcr ∙ r.idle.modes.mcr) ∙ r.looped.loopback) in
+        let on : has answer MCR.LOOP_BACK.0 ≡ true = has_one 4 answer
+        ∙ (ap (λ v. has_any v MCR.LOOP_BACK.0) (mcr ∙ r.idle.modes.mcr) ∙ r.looped.loopback) in
         absurd (cc)
 
-    lines : (k : MachineState) (back : List Access) → kept_in k.chip ≡ kept_in m.chip → LinesAllow false s back → Path MachineStep k back n → ⊥
+    lines : (k : MachineState) (back : List Access) → kept_in k.chip ≡ kept_in m.chip → LinesAllow false s back →
+        Path MachineStep k back n → ⊥
     lines k back kept (inl h) p = absurd (cc (h.0))
     lines k back kept (inr h) p =
-        let a = then_parts (Asks 4 16 false) (Asks 6 16 false) s back k n h p in
-        in_loop k a.first.answer a.between kept (path_as k a.between a.front (Read 4 a.first.answer ∷ []) a.first.is a.before) a.first.shows
+        let a = then_parts (Asks offsets.MCR MCR.LOOP_BACK.0 false) (Asks offsets.MSR MSR.CTS.0 false) s back k n h p in
+        in_loop k a.first.answer a.between kept (path_as k a.between a.front (Read offsets.MCR a.first.answer ∷ []) a.first.is a.before)
+        a.first.shows
 
-    go : (b : Bool) → MatchBool b (Then (Asks 5 32 true) (LinesAllow false) s l) (Never s l) → ⊥
+    go : (b : Bool) → MatchBool b (Then (Asks offsets.LSR LSR.THR_EMPTY.0 true) (LinesAllow false) s l) (Never s l) → ⊥
     go true t =
-        let a = then_parts (Asks 5 32 true) (LinesAllow false) s l m n t path in
-        lines a.between a.back (kept_list a.front (Read 5 a.first.answer ∷ []) m a.between a.first.is a.before) a.second a.after
+        let a = then_parts (Asks offsets.LSR LSR.THR_EMPTY.0 true) (LinesAllow false) s l m n t path in
+        lines a.between a.back (kept_list a.front (Read offsets.LSR a.first.answer ∷ []) m a.between a.first.is a.before) a.second a.after
     go false t = t

@@ -1,9 +1,15 @@
--- A loopback test that begins in a ready state: it is done or stalls, and where it is done all that was to go out is on the wire, and nothing else.
-use Rattle.std.proofs.Common.{◌≡◌, ◌+◌, ◌<◌, ◌≤◌, ◌&&◌, nat_lt, ℕ, zero, suc, bit_and, arith, sym, Bool, true, false, inl, inr, List, [], ◌∷◌, append-nil, Result, Ok, Err, refl, ◌∙◌, ap, subst}
+-- A loopback test that begins in a ready state: it is done or stalls, and where it is done all that was to go out
+-- is on the wire, and nothing else.
+use Rattle.std.proofs.Common.{◌≡◌, ◌+◌, ◌<◌, ◌≤◌, ◌&&◌, nat_lt, ℕ, zero, suc, bit_and, arith, sym, Bool, true}
+use Rattle.std.proofs.Common.{false, inl, inr, List, [], ◌∷◌, append-nil, Result, Ok, Err, refl, ◌∙◌, ap, subst}
 use Rattle.uart_spec.specs.declared.errors.LoopbackError.{LoopbackError}
 use Rattle.uart_spec.specs.declared.errors.LoopbackError.TheVariants.{Stalled}
 use Rattle.std.proofs.lemmas.Nat.{and_le_r}
 use Rattle.std.proofs.Math.Nat.{mod-eq_of_lt}
+use Rattle.uart_spec.specs.declared.registers.offsets.TheConstants as offsets
+use Rattle.uart_spec.specs.declared.registers.line_status.TheConstants.LSR
+use Rattle.uart_spec.specs.declared.registers.modem_control.TheConstants.MCR
+use Rattle.uart_spec.specs.declared.registers.line_control.TheConstants.LCR
 use Rattle.uart_spec.specs.Access.{Access, Read, Write, Path}
 use Rattle.uart_16550.specs.Grammar.{Language, Settings, Only, Then}
 use Rattle.uart_16550.specs.Transmit.{WaitsFor}
@@ -25,7 +31,8 @@ use Rattle.uart_run.specs.Served.{IsFlushed}
 use Rattle.uart_run.specs.Ready.{Ready, is_narrow, test_answer, IsTested}
 use Rattle.uart_device.proofs.Went.{Modes, IsIn}
 use Rattle.uart_run.proofs.EmptyTransmitter.{IsSent, sent_shown, shown_sent, wait_empties, sent_path}
-use Rattle.uart_run.proofs.SilentLists.{DoesSilently, silent_only, silent_then, silent_sets_fifo, silent_next, silent_saving, silent_plain, silent_sets}
+use Rattle.uart_run.proofs.SilentLists.{DoesSilently, silent_only, silent_then, silent_sets_fifo}
+use Rattle.uart_run.proofs.SilentLists.{silent_next, silent_saving, silent_plain, silent_sets}
 use Rattle.uart_device.proofs.BlockLaws.{IsOpen, Stands}
 use Rattle.uart_run.proofs.CallBlocks.{Makes, makes_then, passed_in_blocks, waits_blocks}
 use Rattle.uart_run.proofs.CallKeeps.{quiet_blocks}
@@ -46,10 +53,13 @@ pub record IsBegun (cut : ℕ → ℕ) (gone : List ℕ) (m : MachineState) : Ty
 
 begins_blocks : (s : Settings) (mcr ier : ℕ) → Makes s (BeginsTest mcr ier true) [] []
 begins_blocks s mcr ier l t =
-    makes_then s (Only (Read 4 mcr ∷ Read 1 ier ∷ [])) (WaitsFor 64 true) [] [] [] [] (λ k u. rw u.is (quiet_blocks s.fifo (Read 4 mcr ∷ Read 1 ier ∷ []) (refl, (refl, tt)))) (waits_blocks s 64 true) l t
+    makes_then s (Only (Read offsets.MCR mcr ∷ Read offsets.IER ier ∷ [])) (WaitsFor LSR.TRANSMITTER_EMPTY.0 true) [] [] [] []
+    (λ k u. rw u.is (quiet_blocks s.fifo (Read offsets.MCR mcr ∷ Read offsets.IER ier ∷ []) (refl, (refl, tt))))
+    (waits_blocks s LSR.TRANSMITTER_EMPTY.0 true) l t
 
-pub begun : (s : State) (n : MachineState) (mcr ier : ℕ) (l : List Access) → IsSound (machine_of s) → Ready s → BeginsTest mcr ier true (settings_of (fields (inner_of s))) l →
-    Path MachineStep (machine_of s) l n → IsBegun (cut_of (machine_of s).chip) (out (machine_of s).chip.transmitter) n
+pub begun : (s : State) (n : MachineState) (mcr ier : ℕ) (l : List Access) → IsSound (machine_of s) → Ready s →
+    BeginsTest mcr ier true (settings_of (fields (inner_of s))) l → Path MachineStep (machine_of s) l n →
+    IsBegun (cut_of (machine_of s).chip) (out (machine_of s).chip.transmitter) n
 begun s n mcr ier l sound r t path =
     let m = machine_of s in
     let v = settings_of (fields (inner_of s)) in
@@ -58,13 +68,13 @@ begun s n mcr ier l sound r t path =
     let stands : Stands x m = record { sound = sound; modes = in_modes } in
     let opened : IsOpen x = record { dlab = r.dlab; loopback = r.loopback } in
     let p = (passed_in_blocks x m n l [] [] opened stands (begins_blocks v mcr ier l t) path).passed in
-    let a = then_parts (Only (Read 4 mcr ∷ Read 1 ier ∷ [])) (WaitsFor 64 true) v l m n t path in
+    let a = then_parts (Only (Read offsets.MCR mcr ∷ Read offsets.IER ier ∷ [])) (WaitsFor LSR.TRANSMITTER_EMPTY.0 true) v l m n t path in
     let empty = wait_empties v a.back a.between n a.second a.after in
     let same : out n.chip.transmitter ≡ out m.chip.transmitter = p.went.sends.grows ∙ append-nil (out m.chip.transmitter) in
     let P : List ℕ → Type 0 = λ gone. IsSent gone n.chip.transmitter in
     record {
       sound = p.sound;
-      dlab = ap (λ v. has_any v 128) p.went.modes.lcr ∙ r.dlab;
+      dlab = ap (λ v. has_any v LCR.DLAB.0) p.went.modes.lcr ∙ r.dlab;
       sent = subst P same (sent_shown n.chip.transmitter empty);
       same_cut = p.went.modes.cut;
     }
@@ -74,52 +84,67 @@ begun s n mcr ier l sound r t path =
 enters_silently : (before : ℕ) (fifo : Bool) → DoesSilently (Enters before fifo)
 enters_silently before fifo f after l t =
     let level = f.config.fifo_trigger_level in
-    let list = Read 6 before ∷ Write 1 0 ∷ Write 4 16 ∷ [] in
+    let list = Read offsets.MSR before ∷ Write offsets.IER 0 ∷ Write offsets.MCR MCR.LOOP_BACK.0 ∷ [] in
     let L : Language = Then (Only list) (SetsFifo level fifo) in
-    silent_next (Saving L) (Sets (with_fifo fifo)) (silent_saving L (λ s. silent_then s (Only list) (SetsFifo level fifo) (silent_only s list (tt, (refl, (refl, tt)))) (silent_sets_fifo s level fifo)))
+    silent_next (Saving L) (Sets (with_fifo fifo))
+    (silent_saving L (λ s. silent_then s (Only list) (SetsFifo level fifo) (silent_only s list (tt, (refl, (refl, tt))))
+    (silent_sets_fifo s level fifo)))
     (silent_sets (with_fifo fifo)) f after l t
 
 -- the modes of a loopback test under this LCR
 abbrev pub looped_modes : ℕ → Bool → (ℕ → ℕ) → Modes
-looped_modes lcr fifo cut = record { lcr = lcr; mcr = 16; fifo = fifo; cut = cut }
+looped_modes lcr fifo cut = record { lcr = lcr; mcr = MCR.LOOP_BACK.0; fifo = fifo; cut = cut }
 
-pub in_loopback : (cut : ℕ → ℕ) (gone : List ℕ) (before : ℕ) (fifo : Bool) (f after : Fields) (l : List Access) (m n : MachineState) → IsBegun cut gone m → Enters before fifo f l after → Path MachineStep m l n →
+pub in_loopback : (cut : ℕ → ℕ) (gone : List ℕ) (before : ℕ) (fifo : Bool) (f after : Fields) (l : List Access) (m n : MachineState) →
+    IsBegun cut gone m → Enters before fifo f l after → Path MachineStep m l n →
     IsEntered (looped_modes m.chip.latches.lcr fifo cut) gone (settings_of after) n
 in_loopback cut gone before fifo f after l m n b t path =
     let e = entered before fifo f after l m n b.sound b.dlab t path in
     record {
       looped = record { dlab = b.dlab; loopback = refl };
       fifo = e.knows;
-      modes = record { lcr = ap (λ (k : Kept). k.latches.lcr) e.kept; mcr = ap (λ (k : Kept). k.latches.mcr) e.kept; fifo = ap (λ (k : Kept). k.fifo) e.kept; cut = ap kept_cut e.kept ∙ b.same_cut };
+      modes =
+          record {
+            lcr = ap (λ (k : Kept). k.latches.lcr) e.kept;
+            mcr = ap (λ (k : Kept). k.latches.mcr) e.kept;
+            fifo = ap (λ (k : Kept). k.fifo) e.kept;
+            cut = ap kept_cut e.kept ∙ b.same_cut;
+          };
       sent = sent_path gone l m n (enters_silently before fifo f after l t) b.sent path;
     }
 
 -- ---- out of the loopback
 
 leaves_silently : (mcr ier before noted : ℕ) → DoesSilently (Leaves mcr ier before noted)
-leaves_silently mcr ier before noted f after l (now, t) = silent_next _ _ (one _) (silent_next _ _ look (silent_next _ _ both (silent_sets (with_changes noted (line_changes before now))))) f after l t
+leaves_silently mcr ier before noted f after l (now, t) =
+    silent_next _ _ (one _) (silent_next _ _ look (silent_next _ _ both (silent_sets (with_changes noted (line_changes before now)))))
+    f after l t
   where
-    one : (value : ℕ) → DoesSilently (Saving (Only (Write 4 value ∷ [])))
-    one value = silent_saving _ (λ s. silent_only s (Write 4 value ∷ []) (refl, tt))
+    one : (value : ℕ) → DoesSilently (Saving (Only (Write offsets.MCR value ∷ [])))
+    one value = silent_saving _ (λ s. silent_only s (Write offsets.MCR value ∷ []) (refl, tt))
 
-    look : DoesSilently (Plain (Only (Read 6 now ∷ [])))
-    look = silent_plain _ (λ s. silent_only s (Read 6 now ∷ []) (tt, tt))
+    look : DoesSilently (Plain (Only (Read offsets.MSR now ∷ [])))
+    look = silent_plain _ (λ s. silent_only s (Read offsets.MSR now ∷ []) (tt, tt))
 
-    both : DoesSilently (Saving (Only (Write 4 mcr ∷ Write 1 ier ∷ [])))
-    both = silent_saving _ (λ s. silent_only s (Write 4 mcr ∷ Write 1 ier ∷ []) (refl, (refl, tt)))
+    both : DoesSilently (Saving (Only (Write offsets.MCR mcr ∷ Write offsets.IER ier ∷ [])))
+    both = silent_saving _ (λ s. silent_only s (Write offsets.MCR mcr ∷ Write offsets.IER ier ∷ []) (refl, (refl, tt)))
 
 -- ---- the test after its first wait
 
-test_leads : {T : Type 0} (narrow : Bool) (cut : ℕ → ℕ) (gone : List ℕ) (mcr ier : ℕ) (result : Result T LoopbackError) (f after : Fields) (l : List Access) (m n : MachineState) → Cuts narrow cut →
-    IsBegun cut gone m → Tests mcr ier result f l after → Path MachineStep m l n → LeadsTo narrow (IsSent gone n.chip.transmitter) result
+test_leads : {T : Type 0} (narrow : Bool) (cut : ℕ → ℕ) (gone : List ℕ) (mcr ier : ℕ) (result : Result T LoopbackError) (f after : Fields)
+    (l : List Access) (m n : MachineState) → Cuts narrow cut → IsBegun cut gone m → Tests mcr ier result f l after →
+    Path MachineStep m l n → LeadsTo narrow (IsSent gone n.chip.transmitter) result
 test_leads narrow cut gone mcr ier result f after l m n cuts b (before, fifo, t) path =
     let x = looped_modes m.chip.latches.lcr fifo cut in
     let a = next_stages (Enters before fifo) (Next (Saving (Exchanges result)) (Leaves mcr ier before f.lsr)) f after l m n t path in
     let e = in_loopback cut gone before fifo f a.mid a.parts.front m a.parts.between b a.parts.first a.parts.before in
-    let c = next_stages (Saving (Exchanges result)) (Leaves mcr ier before f.lsr) a.mid after a.parts.back a.parts.between n a.parts.second a.parts.after in
-    let o = exchange_leads narrow x gone (settings_of a.mid) result c.parts.front a.parts.between c.parts.between cuts e c.parts.first.0 c.parts.before in
+    let c = next_stages (Saving (Exchanges result)) (Leaves mcr ier before f.lsr) a.mid after a.parts.back a.parts.between
+    n a.parts.second a.parts.after in
+    let o = exchange_leads narrow x gone (settings_of a.mid) result c.parts.front a.parts.between c.parts.between cuts e
+    c.parts.first.0 c.parts.before in
     let left : IsReadyToTest x gone (settings_of a.mid) c.parts.between → IsSent gone n.chip.transmitter =
-    λ r. sent_path gone c.parts.back c.parts.between n (leaves_silently mcr ier before f.lsr c.mid after c.parts.back c.parts.second) (idle_sent x gone c.parts.between.chip r.idle) c.parts.after in
+    λ r. sent_path gone c.parts.back c.parts.between n (leaves_silently mcr ier before f.lsr c.mid after c.parts.back c.parts.second)
+    (idle_sent x gone c.parts.between.chip r.idle) c.parts.after in
     leads_on narrow _ _ result left o
 
 -- ---- the whole test
@@ -138,18 +163,22 @@ narrow_cuts true (suc (suc (suc zero))) h = λ byte few. mod-eq_of_lt {n = byte}
 narrow_cuts true (suc (suc (suc (suc n)))) h = absurd (omega arith)
 
 chip_cuts : (c : ChipState) → Cuts (is_narrow c) (cut_of c)
-chip_cuts c = narrow_cuts c.cuts (bit_and c.latches.lcr 3) (let h : bit_and c.latches.lcr 3 ≤ 3 = and_le_r c.latches.lcr 3 in omega (arith, h))
+chip_cuts c =
+    narrow_cuts c.cuts (bit_and c.latches.lcr LCR.WORD_LENGTH.0)
+    (let h : bit_and c.latches.lcr LCR.WORD_LENGTH.0 ≤ 3 = and_le_r c.latches.lcr LCR.WORD_LENGTH.0 in omega (arith, h))
 
 no_stall : (narrow : Bool) → LoopbackRefused Stalled ≡ test_answer narrow → ⊥
 no_stall true e = cc
 no_stall false e = cc
 
-answer_tested : (s t : State) (a : Answer) (result : Result (Unit {0}) LoopbackError) → a ≡ loopback_answer result → LeadsTo (is_narrow (machine_of s).chip) (IsFlushed s t) result → IsTested s a t
+answer_tested : (s t : State) (a : Answer) (result : Result (Unit {0}) LoopbackError) → a ≡ loopback_answer result →
+    LeadsTo (is_narrow (machine_of s).chip) (IsFlushed s t) result → IsTested s a t
 answer_tested s t a (Ok x) e o = record { answers = inl (e ∙ sym (ap test_answer o.0)); leaves = λ d. o.1 }
 answer_tested s t a (Err fault) e (inl o) =
     let stalled : a ≡ LoopbackRefused Stalled = e ∙ ap (λ v. LoopbackRefused v) o in
     record { answers = inr stalled; leaves = λ d. absurd (no_stall (is_narrow (machine_of s).chip) (sym stalled ∙ d)) }
-answer_tested s t a (Err fault) e (inr o) = record { answers = inl (e ∙ (ap (λ v. LoopbackRefused v) o.1 ∙ sym (ap test_answer o.0))); leaves = λ d. o.2 }
+answer_tested s t a (Err fault) e (inr o) =
+    record { answers = inl (e ∙ (ap (λ v. LoopbackRefused v) o.1 ∙ sym (ap test_answer o.0))); leaves = λ d. o.2 }
 
 pub tested : (s t : State) (a : Answer) → IsSound (machine_of s) → Ready s → CallStep s call.TestLoopback a t → IsTested s a t
 tested s t a sound r h = answer_tested s t a h.outcome h.answered (go h.did.does)
@@ -160,10 +189,13 @@ tested s t a sound r h = answer_tested s t a h.outcome h.answered (go h.did.does
     flushed : IsSent gone (machine_of t).chip.transmitter → IsFlushed s t
     flushed w = record { is_empty = shown_sent gone (machine_of t).chip.transmitter w; wire = w.wire }
 
-    go : TestsLoopback h.outcome (fields (inner_of s)) h.did.list (fields (inner_of t)) → LeadsTo (is_narrow (machine_of s).chip) (IsFlushed s t) h.outcome
+    go : TestsLoopback h.outcome (fields (inner_of s)) h.did.list (fields (inner_of t)) →
+        LeadsTo (is_narrow (machine_of s).chip) (IsFlushed s t) h.outcome
     go (mcr, ier, inl k) = stalled_leads (is_narrow (machine_of s).chip) _ h.outcome k.0
     go (mcr, ier, inr k) =
-        let c = next_stages (Saving (BeginsTest mcr ier true)) (Tests mcr ier h.outcome) (fields (inner_of s)) (fields (inner_of t)) h.did.list (machine_of s) (machine_of t) k h.did.path in
+        let c = next_stages (Saving (BeginsTest mcr ier true)) (Tests mcr ier h.outcome) (fields (inner_of s)) (fields (inner_of t))
+        h.did.list (machine_of s) (machine_of t) k h.did.path in
         let b = begun s c.parts.between mcr ier c.parts.front sound r c.parts.first.0 c.parts.before in
         leads_on (is_narrow (machine_of s).chip) _ _ h.outcome flushed
-        (test_leads (is_narrow (machine_of s).chip) (cut_of (machine_of s).chip) gone mcr ier h.outcome c.mid (fields (inner_of t)) c.parts.back c.parts.between (machine_of t) (chip_cuts (machine_of s).chip) b c.parts.second c.parts.after)
+        (test_leads (is_narrow (machine_of s).chip) (cut_of (machine_of s).chip) gone mcr ier h.outcome c.mid (fields (inner_of t))
+        c.parts.back c.parts.between (machine_of t) (chip_cuts (machine_of s).chip) b c.parts.second c.parts.after)

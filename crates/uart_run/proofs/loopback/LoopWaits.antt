@@ -1,8 +1,11 @@
 -- In loopback no wait of a test is in vain, where ticks come before each access and the spin limit is long enough.
-use Rattle.std.proofs.Common.{◌≡◌, ℕ, zero, suc, ◌+◌, ◌*◌, ◌≤◌, ◌<◌, Bool, true, false, nat_lt, List, [], ◌∷◌, ◌++◌, length, append-nil, map, Option, None, refl, arith, ◌∙◌, ap, subst}
+use Rattle.std.proofs.Common.{◌≡◌, ℕ, zero, suc, ◌+◌, ◌*◌, ◌≤◌, ◌<◌, Bool, true, false, nat_lt, List, [], ◌∷◌}
+use Rattle.std.proofs.Common.{◌++◌, length, append-nil, map, Option, None, refl, arith, ◌∙◌, ap, subst}
 use Rattle.std.proofs.lemmas.Grind.{common_steps}
 use Rattle.std.proofs.lemmas.List.{length-map}
 use Rattle.uart_spec.specs.Bits.{has}
+use Rattle.uart_spec.specs.declared.registers.offsets.TheConstants as offsets
+use Rattle.uart_spec.specs.declared.registers.line_status.TheConstants.LSR
 use Rattle.uart_spec.specs.Access.{Access, Read, Path}
 use Rattle.uart_16550.specs.Grammar.{Language, Settings, Then, Times, AllMisses}
 use Rattle.uart_16550.specs.Receive.{Miss}
@@ -56,7 +59,8 @@ all_waits gone c s = go c.transmitter.shift_place c.transmitter.queue s.place s.
     byte : Character → ℕ
     byte character = character.byte
 
-    go : (place : Option Shifting) (queue : List ℕ) → place ≡ None → queue ≡ [] → length (map byte c.receiver.queue ++ (shift_bytes place ++ queue)) ≡ length c.receiver.queue
+    go : (place : Option Shifting) (queue : List ℕ) → place ≡ None → queue ≡ [] →
+        length (map byte c.receiver.queue ++ (shift_bytes place ++ queue)) ≡ length c.receiver.queue
     go place queue e f = rw (e, f, append-nil (map byte c.receiver.queue)) (length-map c.receiver.queue byte)
 
 -- something is on its way in a chip of these modes
@@ -67,7 +71,7 @@ record OnItsWay (x : Modes) (m : MachineState) : Type 0 where
 data_awaited : (x : Modes) → IsLooped x → Awaited (OnItsWay x) 1
 data_awaited x i = record { kept = λ m n line r w step. kept m n line w step; shows = λ m n line r w step e. shows m n line r w step e }
   where
-    kept : (m n : MachineState) (line : ℕ) → OnItsWay x m → MachineStep m (Read 5 line) n → OnItsWay x n
+    kept : (m n : MachineState) (line : ℕ) → OnItsWay x m → MachineStep m (Read offsets.LSR line) n → OnItsWay x n
     kept m n line w step =
         let a = loops_read x m n 5 line i.loopback w.fits refl step in
         let long = line-length x m.chip n.chip [] [] a in
@@ -76,7 +80,8 @@ data_awaited x i = record { kept = λ m n line r w step. kept m n line w step; s
     positive : (n : ℕ) → 0 < n → nat_lt 0 n ≡ true
     positive n h = grind (arith, common_steps)
 
-    shows : (m n : MachineState) (line : ℕ) → Runs n → OnItsWay x n → MachineStep m (Read 5 line) n → left n.chip.transmitter ≡ 0 → has line 1 ≡ true
+    shows : (m n : MachineState) (line : ℕ) → Runs n → OnItsWay x n → MachineStep m (Read offsets.LSR line) n →
+        left n.chip.transmitter ≡ 0 → has line LSR.DATA_READY.0 ≡ true
     shows m n line r w step e =
         let t = n.chip.transmitter in
         let sound = r.sound.chip.transmitter in
@@ -85,19 +90,28 @@ data_awaited x i = record { kept = λ m n line r w step. kept m n line w step; s
         has_one 0 line ∙ (look_data m n line step ∙ positive (length n.chip.receiver.queue) waits)
 
 -- after accesses that wrote more than they read, no wait for a byte is in vain
-pub never_dry : (x : Modes) (gone : List ℕ) (s : Settings) (L : Language) (l : List Access) (m n : MachineState) (ws rs : List ℕ) → Lives s.limit m → IsReadyToTest x gone s m →
-    length ws ≤ room s.fifo → length rs < length ws → Makes s L ws rs → Then L (AllMisses Miss) s l → Path MachineStep m l n → ⊥
+pub never_dry : (x : Modes) (gone : List ℕ) (s : Settings) (L : Language) (l : List Access) (m n : MachineState) (ws rs : List ℕ) →
+    Lives s.limit m → IsReadyToTest x gone s m → length ws ≤ room s.fifo → length rs < length ws → Makes s L ws rs →
+    Then L (AllMisses Miss) s l → Path MachineStep m l n → ⊥
 never_dry x gone s L l m n ws rs v r few more makes t path =
     let p = then_parts L (AllMisses Miss) s l m n t path in
     let B : Bool → Type 0 = λ fifo. InBlocks fifo p.front ws rs in
     let none : length (line_in m.chip) ≡ 0 = ap length r.idle.line in
     let same : room s.fifo ≡ room x.fifo = ap room r.fifo in
-    let a = loops_in_blocks x m p.between p.front ws rs r.looped r.idle.modes (omega (arith, none, few, same)) (subst B r.fifo (makes p.front p.first)) p.before in
+    let a = loops_in_blocks x m p.between p.front ws rs r.looped r.idle.modes (omega (arith, none, few, same))
+    (subst B r.fifo (makes p.front p.first)) p.before in
     let size : length (map x.cut ws) ≡ length ws = length-map ws x.cut in
     let long = line-length x m.chip p.between.chip (map x.cut ws) rs a in
     let w = lives-path s.limit p.front m p.between v p.before in
-    let on : OnItsWay x p.between = record { fits = record { modes = a.modes; few = omega (arith, none, few, same, size, long) }; some = omega (arith, none, more, size, long) } in
-    let runs : Runs p.between = record { sound = w.sound; ticked = w.ticked; flows = λ off. absurd (cc (loopback-in x p.between.chip a.modes, r.looped.loopback, off)) } in
+    let on : OnItsWay x p.between = record {
+      fits = record { modes = a.modes; few = omega (arith, none, few, same, size, long) };
+      some = omega (arith, none, more, size, long);
+    } in
+    let runs : Runs p.between = record {
+      sound = w.sound;
+      ticked = w.ticked;
+      flows = λ off. absurd (cc (loopback-in x p.between.chip a.modes, r.looped.loopback, off));
+    } in
     no_stall (OnItsWay x) 1 (data_awaited x r.looped) s s.limit p.back p.between n runs on (few_left s.limit p.between w) p.second p.after
 
 -- ---- there is always room
@@ -105,26 +119,34 @@ never_dry x gone s L l m n ws rs v r few more makes t path =
 some_limit : (limit : ℕ) (m : MachineState) → Lives limit m → 1 ≤ limit
 some_limit limit m v = omega (arith, v.enough)
 
-pub never_full : (x : Modes) (gone : List ℕ) (s : Settings) (l : List Access) (m n : MachineState) → Lives s.limit m → IsReadyToTest x gone s m → AllMisses SendMiss s l → Path MachineStep m l n → ⊥
+pub never_full : (x : Modes) (gone : List ℕ) (s : Settings) (l : List Access) (m n : MachineState) → Lives s.limit m →
+    IsReadyToTest x gone s m → AllMisses SendMiss s l → Path MachineStep m l n → ⊥
 never_full x gone s l m n v r t path = go s.limit (some_limit s.limit m v) t
   where
     go : (k : ℕ) → 1 ≤ k → Times k SendMiss s l → ⊥
     go zero some t = omega (arith, some)
-    go (suc k) some t = let p = then_parts SendMiss (Times k SendMiss) s l m n t path in never_refused x gone s p.first.0 p.front m p.between r p.first.1 p.before
+    go (suc k) some t =
+        let p = then_parts SendMiss (Times k SendMiss) s l m n t path in
+        never_refused x gone s p.first.0 p.front m p.between r p.first.1 p.before
 
 -- ---- the drain ends
 
 takes_blocks : (s : Settings) (k : ℕ) (l : List Access) → Times k TakesOne s l → (rs : List ℕ) × (length rs ≡ k) × InBlocks s.fifo l [] rs
 takes_blocks s zero l t = ([], refl, rw t.is (blocks_none s.fifo))
 takes_blocks s (suc k) l t =
-    let a = takes_blocks s k t.back t.second in
-    (t.first.0 ∷ a.0, ap suc a.1, rw t.whole (blocks_then s.fifo t.front t.back [] [] (t.first.0 ∷ []) a.0 (hit_blocks s t.first.0 t.front t.first.1) a.2))
+    let a = takes_blocks s k t.back t.second in (
+      t.first.0 ∷ a.0,
+      ap suc a.1,
+      rw t.whole (blocks_then s.fifo t.front t.back [] [] (t.first.0 ∷ []) a.0 (hit_blocks s t.first.0 t.front t.first.1) a.2),
+    )
 
-pub never_flooded : (x : Modes) (gone : List ℕ) (s : Settings) (l : List Access) (m n : MachineState) → Lives s.limit m → IsEntered x gone s m → DrainsLoopback false s l → Path MachineStep m l n → ⊥
+pub never_flooded : (x : Modes) (gone : List ℕ) (s : Settings) (l : List Access) (m n : MachineState) → Lives s.limit m →
+    IsEntered x gone s m → DrainsLoopback false s l → Path MachineStep m l n → ⊥
 never_flooded x gone s l m n v e t path =
     let a = takes_blocks s s.limit l t in
     let B : Bool → Type 0 = λ fifo. InBlocks fifo l [] a.0 in
-    let few : length (line_in m.chip) ≤ room x.fifo = rw (← ap room e.modes.fifo, all_waits gone m.chip e.sent) v.sound.chip.receiver.marked.in_room in
+    let few : length (line_in m.chip) ≤ room x.fifo =
+    rw (← ap room e.modes.fifo, all_waits gone m.chip e.sent) v.sound.chip.receiver.marked.in_room in
     let b = loops_in_blocks x m n l [] a.0 e.looped e.modes (omega (arith, few)) (subst B e.fifo a.2) path in
     let long = line-length x m.chip n.chip [] a.0 b in
     let most : room x.fifo ≤ 16 = grind (arith, common_steps) in

@@ -1,5 +1,6 @@
 -- With room on the wire, or in loopback, each tick brings the transmitter nearer to its end.
-use Rattle.std.proofs.Common.{◌≡◌, ℕ, suc, ◌+◌, ◌-◌, ◌*◌, ◌≤◌, ◌<◌, Bool, true, false, nat_lt, List, [], ◌∷◌, ◌++◌, length, length-append, Option, Some, None, refl, arith, sym, ◌∙◌, ap, subst}
+use Rattle.std.proofs.Common.{◌≡◌, ℕ, suc, ◌+◌, ◌-◌, ◌*◌, ◌≤◌, ◌<◌, Bool, true, false, nat_lt, List, [], ◌∷◌}
+use Rattle.std.proofs.Common.{◌++◌, length, length-append, Option, Some, None, refl, arith, sym, ◌∙◌, ap, subst}
 use Rattle.std.proofs.lemmas.Grind.{common_steps}
 use Rattle.uart_chip.specs.declared.transmitter.Shifting.{Shifting}
 use Rattle.uart_chip.specs.Transmitter.{TransmitterState, shift, refill, tick, out, room}
@@ -25,23 +26,33 @@ nearer-trans j k t u v a b = record {
 }
 
 pub nearer-less : (j k : ℕ) (t u : TransmitterState) → j ≤ k → Nearer k t u → Nearer j t u
-nearer-less j k t u h a = record { fewer = omega (arith, a.fewer, h); no_longer = a.no_longer; capacity = a.capacity; char_ticks = a.char_ticks }
+nearer-less j k t u h a =
+    record { fewer = omega (arith, a.fewer, h); no_longer = a.no_longer; capacity = a.capacity; char_ticks = a.char_ticks }
 
 -- ---- one tick
 
 -- a free place is filled
 nearer-refill : (queue : List ℕ) (t : TransmitterState) → t.shift_place ≡ None → t.queue ≡ queue → Nearer 1 t (refill None queue t)
 nearer-refill [] t e f = record { fewer = rw (e, f) (omega arith); no_longer = omega arith; capacity = refl; char_ticks = refl }
-nearer-refill (x ∷ []) t e f = record { fewer = rw (e, f) (omega arith); no_longer = rw (e, f) (grind (arith, common_steps)); capacity = refl; char_ticks = refl }
-nearer-refill (x ∷ y ∷ xs) t e f = record { fewer = rw (e, f) (grind (arith, common_steps)); no_longer = rw (e, f) (grind (arith, common_steps)); capacity = refl; char_ticks = refl }
+nearer-refill (x ∷ []) t e f =
+    record { fewer = rw (e, f) (omega arith); no_longer = rw (e, f) (grind (arith, common_steps)); capacity = refl; char_ticks = refl }
+nearer-refill (x ∷ y ∷ xs) t e f =
+    record {
+      fewer = rw (e, f) (grind (arith, common_steps));
+      no_longer = rw (e, f) (grind (arith, common_steps));
+      capacity = refl;
+      char_ticks = refl;
+    }
 
 -- after a shift that left the transmitter so
-nearer-shifted : (loopback : Bool) (t u : TransmitterState) → shift loopback t.shift_place t ≡ u → Nearer 1 t (refill u.shift_place u.queue u) → Nearer 1 t (tick loopback t)
+nearer-shifted : (loopback : Bool) (t u : TransmitterState) → shift loopback t.shift_place t ≡ u →
+    Nearer 1 t (refill u.shift_place u.queue u) → Nearer 1 t (tick loopback t)
 nearer-shifted loopback t u e n = subst (λ (v : TransmitterState). Nearer 1 t (refill v.shift_place v.queue v)) (sym e) n
 
 -- a character has left its place, which is filled
-nearer-freed : (s : Shifting) (t u : TransmitterState) → t.shift_place ≡ Some s → nat_lt 1 s.ticks_left ≡ false → 1 ≤ s.ticks_left → u.shift_place ≡ None → u.queue ≡ t.queue →
-    u.char_ticks ≡ t.char_ticks → u.capacity ≡ t.capacity → length (out u) ≤ length (out t) → Nearer 1 t (refill None u.queue u)
+nearer-freed : (s : Shifting) (t u : TransmitterState) → t.shift_place ≡ Some s → nat_lt 1 s.ticks_left ≡ false → 1 ≤ s.ticks_left →
+    u.shift_place ≡ None → u.queue ≡ t.queue → u.char_ticks ≡ t.char_ticks → u.capacity ≡ t.capacity → length (out u) ≤ length (out t) →
+    Nearer 1 t (refill None u.queue u)
 nearer-freed s t u e last some f g c k h = go u.queue refl
   where
     whole : (queue : List ℕ) → t.queue ≡ queue → left t ≡ s.ticks_left + t.char_ticks * length queue
@@ -51,13 +62,24 @@ nearer-freed s t u e last some f g c k h = go u.queue refl
     go [] w = record { fewer = rw (f, w) (omega arith); no_longer = h; capacity = k; char_ticks = c }
     go (x ∷ []) w =
         let a = nearer-refill (x ∷ []) u f w in
-        record { fewer = let b = whole (x ∷ []) (sym g ∙ w) in rw (b, c) (grind (arith, common_steps)); no_longer = omega (arith, a.no_longer, h); capacity = k; char_ticks = c }
+        record {
+          fewer = let b = whole (x ∷ []) (sym g ∙ w) in rw (b, c) (grind (arith, common_steps));
+          no_longer = omega (arith, a.no_longer, h);
+          capacity = k;
+          char_ticks = c;
+        }
     go (x ∷ y ∷ xs) w =
         let a = nearer-refill (x ∷ y ∷ xs) u f w in
-        record { fewer = let b = whole (x ∷ y ∷ xs) (sym g ∙ w) in rw (b, c) (grind (arith, common_steps)); no_longer = omega (arith, a.no_longer, h); capacity = k; char_ticks = c }
+        record {
+          fewer = let b = whole (x ∷ y ∷ xs) (sym g ∙ w) in rw (b, c) (grind (arith, common_steps));
+          no_longer = omega (arith, a.no_longer, h);
+          capacity = k;
+          char_ticks = c;
+        }
 
 -- a character is shifted on, or leaves for the wire, where there is room, or comes back
-nearer-some : (loopback : Bool) (s : Shifting) (t : TransmitterState) → t.shift_place ≡ Some s → 1 ≤ s.ticks_left → (loopback ≡ false → length (out t) ≤ t.capacity) → Nearer 1 t (tick loopback t)
+nearer-some : (loopback : Bool) (s : Shifting) (t : TransmitterState) → t.shift_place ≡ Some s → 1 ≤ s.ticks_left →
+    (loopback ≡ false → length (out t) ≤ t.capacity) → Nearer 1 t (tick loopback t)
 nearer-some loopback s t e some free = go (nat_lt 1 s.ticks_left) refl loopback refl
   where
     shifts : (u : TransmitterState) → shift loopback (Some s) t ≡ u → shift loopback t.shift_place t ≡ u
@@ -77,18 +99,22 @@ nearer-some loopback s t e some free = go (nat_lt 1 s.ticks_left) refl loopback 
         })
     go false f true g =
         let u : TransmitterState = record t { shift_place = None } in
-        nearer-shifted loopback t u (shifts u (rw (f, g) refl)) (nearer-freed s t u e f some refl refl refl refl (rw long (simp length-append (omega arith))))
+        nearer-shifted loopback t u (shifts u (rw (f, g) refl))
+        (nearer-freed s t u e f some refl refl refl refl (rw long (simp length-append (omega arith))))
     go false f false g =
         let u : TransmitterState = record t { shift_place = None; wire = t.wire ++ s.byte ∷ [] } in
         let few : length t.wire < t.capacity = omega (arith, long, free g) in
         let k : nat_lt (length t.wire) t.capacity ≡ true = grind (arith, common_steps) in
-        nearer-shifted loopback t u (shifts u (rw (f, g, k) refl)) (nearer-freed s t u e f some refl refl refl refl (rw long (simp length-append (omega arith))))
+        nearer-shifted loopback t u (shifts u (rw (f, g, k) refl))
+        (nearer-freed s t u e f some refl refl refl refl (rw long (simp length-append (omega arith))))
 
 nearer-none : (loopback : Bool) (t : TransmitterState) → t.shift_place ≡ None → Nearer 1 t (tick loopback t)
 nearer-none loopback t e =
-    nearer-shifted loopback t t (ap (λ place. shift loopback place t) e) (subst (λ (place : Option Shifting). Nearer 1 t (refill place t.queue t)) (sym e) (nearer-refill t.queue t e refl))
+    nearer-shifted loopback t t (ap (λ place. shift loopback place t) e)
+    (subst (λ (place : Option Shifting). Nearer 1 t (refill place t.queue t)) (sym e) (nearer-refill t.queue t e refl))
 
-pub nearer-tick : (fifo loopback : Bool) (t : TransmitterState) → IsSoundTransmitter fifo t → (loopback ≡ false → length (out t) ≤ t.capacity) → Nearer 1 t (tick loopback t)
+pub nearer-tick : (fifo loopback : Bool) (t : TransmitterState) → IsSoundTransmitter fifo t →
+    (loopback ≡ false → length (out t) ≤ t.capacity) → Nearer 1 t (tick loopback t)
 nearer-tick fifo loopback t w free = go t.shift_place refl
   where
     go : (place : Option Shifting) → t.shift_place ≡ place → Nearer 1 t (tick loopback t)
@@ -106,7 +132,8 @@ left-most fifo t w = go t.shift_place t.queue w.ticking w.in_room
     product : (n k : ℕ) → n ≤ k → t.char_ticks * n ≤ t.char_ticks * k
     product n k h = grind (arith, common_steps)
 
-    go : (place : Option Shifting) (queue : List ℕ) → IsTicking t.char_ticks place → length queue ≤ room fifo → left_of t.char_ticks place queue ≤ 17 * t.char_ticks
+    go : (place : Option Shifting) (queue : List ℕ) → IsTicking t.char_ticks place → length queue ≤ room fifo →
+        left_of t.char_ticks place queue ≤ 17 * t.char_ticks
     go None [] h k = omega arith
     go None (x ∷ xs) h k = let p = product (length (x ∷ xs)) 16 (omega (arith, few, k)) in omega (arith, p, w.at_least_one)
     go (Some s) queue h k = let p = product (length queue) 16 (omega (arith, few, k)) in omega (arith, p, h.1)

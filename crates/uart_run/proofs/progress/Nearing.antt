@@ -1,5 +1,7 @@
 -- Where ticks come before each access and the wire has room, each access that sends nothing brings the transmitter nearer to its end.
-use Rattle.std.proofs.Common.{false, sym, ap, ◌∙◌, ◌≡◌, ℕ, zero, suc, ◌+◌, ◌-◌, ◌≤◌, true, List, [], ◌∷◌, ◌++◌, length, length-append, Option, Some, None, arith}
+use Rattle.std.proofs.Common.{false, sym, ap, ◌∙◌, ◌≡◌, ℕ, zero, suc, ◌+◌, ◌-◌, ◌≤◌, true, List}
+use Rattle.std.proofs.Common.{[], ◌∷◌, ◌++◌, length, length-append, Option, Some, None, arith}
+use Rattle.uart_spec.specs.declared.registers.offsets.TheConstants as offsets
 use Rattle.uart_spec.specs.Access.{Access, Read, Write, Path}
 use Rattle.uart_chip.specs.declared.event.Event.{Event}
 use Rattle.uart_chip.specs.declared.event.Event.TheVariants.{Ticks, Access as Gate, Mark}
@@ -39,17 +41,19 @@ nearer-ticks (suc n) c w h =
     let d = ticks n c in
     let a = nearer-ticks n c w h in
     let b = nearer-one d (steady_ticks n c w).sound (flows-nearer n c d (latches-ticks n c) a h) in
-    nearer-less (suc n) (n + 1) c.transmitter (tick d).transmitter (omega arith) (nearer-trans n 1 c.transmitter d.transmitter (tick d).transmitter a b)
+    nearer-less (suc n) (n + 1) c.transmitter (tick d).transmitter (omega arith)
+    (nearer-trans n 1 c.transmitter d.transmitter (tick d).transmitter a b)
 
 -- the events before an access, of which one is a tick if none passed before
-nearer-before : (passed : ℕ) (events : List Event) (c : ChipState) → IsSound (record { chip = c; ahead = events }) → Flows c → TickedAfter passed events →
-    Nearer (1 - passed) c.transmitter (before_access events c).transmitter
+nearer-before : (passed : ℕ) (events : List Event) (c : ChipState) → IsSound (record { chip = c; ahead = events }) → Flows c →
+    TickedAfter passed events → Nearer (1 - passed) c.transmitter (before_access events c).transmitter
 nearer-before passed [] c w h t = nearer-less (1 - passed) 1 _ _ (omega arith) (nearer-one c w.chip h)
 nearer-before passed (Ticks n ∷ events) c w h t =
     let d = ticks n c in
     let a = nearer-ticks n c w.chip h in
     let b = nearer-before (passed + n) events d (sound_perform (Ticks n) events c w) (flows-nearer n c d (latches-ticks n c) a h) t in
-    nearer-less (1 - passed) (n + (1 - (passed + n))) _ _ (omega arith) (nearer-trans n (1 - (passed + n)) c.transmitter d.transmitter _ a b)
+    nearer-less (1 - passed) (n + (1 - (passed + n))) _ _ (omega arith)
+    (nearer-trans n (1 - (passed + n)) c.transmitter d.transmitter _ a b)
 nearer-before passed (Gate ∷ events) c w h t = nearer-less (1 - passed) 0 _ _ (omega (arith, t.0)) (nearer-refl c.transmitter)
 nearer-before passed (Mark ∷ events) c w h t = nearer-less (1 - passed) 1 _ _ (omega arith) (nearer-one c w.chip h)
 nearer-before passed (event ∷ events) c w h t = nearer-before passed events (perform event c) (sound_perform event events c w) h t
@@ -88,7 +92,8 @@ near_lasts t = record {
     fewer_left n None (x ∷ xs) = omega arith
     fewer_left n (Some s) queue = omega arith
 
-    shorter : (wire : List ℕ) (place : Option Shifting) (queue : List ℕ) → length (wire ++ (shift_bytes place ++ [])) ≤ length (wire ++ (shift_bytes place ++ queue))
+    shorter : (wire : List ℕ) (place : Option Shifting) (queue : List ℕ) →
+        length (wire ++ (shift_bytes place ++ [])) ≤ length (wire ++ (shift_bytes place ++ queue))
     shorter wire place queue = simp length-append (omega arith)
 
 -- ---- accesses
@@ -101,33 +106,40 @@ pub record Runs (m : MachineState) : Type 0 where
 
 -- the events before an access
 nearer-access : (m : MachineState) → Runs m → Nearer 1 m.chip.transmitter (at_access m).chip.transmitter
-nearer-access m r = nearer-before 0 m.ahead m.chip (record { chip = r.sound.chip; foreseen = r.sound.foreseen; legal = r.sound.legal }) r.flows r.ticked
+nearer-access m r =
+    nearer-before 0 m.ahead m.chip (record { chip = r.sound.chip; foreseen = r.sound.foreseen; legal = r.sound.legal }) r.flows r.ticked
 
 -- and an effect
-nearer-effect : (m n : MachineState) (d : ChipState) → Runs m → n ≡ record (at_access m) { chip = d } → Nearer 0 (at_access m).chip.transmitter d.transmitter →
-    Nearer 1 m.chip.transmitter n.chip.transmitter
-nearer-effect m n d r e effect = rw e (nearer-trans 1 0 m.chip.transmitter (at_access m).chip.transmitter d.transmitter (nearer-access m r) effect)
+nearer-effect : (m n : MachineState) (d : ChipState) → Runs m → n ≡ record (at_access m) { chip = d } →
+    Nearer 0 (at_access m).chip.transmitter d.transmitter → Nearer 1 m.chip.transmitter n.chip.transmitter
+nearer-effect m n d r e effect =
+    rw e (nearer-trans 1 0 m.chip.transmitter (at_access m).chip.transmitter d.transmitter (nearer-access m r) effect)
 
-pub nearer-step : (m n : MachineState) (access : Access) → Runs m → SendsNothing access → MachineStep m access n → Nearer 1 m.chip.transmitter n.chip.transmitter
+pub nearer-step : (m n : MachineState) (access : Access) → Runs m → SendsNothing access → MachineStep m access n →
+    Nearer 1 m.chip.transmitter n.chip.transmitter
 nearer-step m n (Read offset value) r q s =
     let c = (at_access m).chip in
-    nearer-effect m n (after_read offset c) r s.0 (lasts-read (Nearer 0 c.transmitter) (near_lasts c.transmitter) offset c (nearer-refl c.transmitter))
+    nearer-effect m n (after_read offset c) r s.0
+    (lasts-read (Nearer 0 c.transmitter) (near_lasts c.transmitter) offset c (nearer-refl c.transmitter))
 nearer-step m n (Write offset value) r q s =
     let c = (at_access m).chip in
-    nearer-effect m n (after_write offset value c) r s (lasts-write (Nearer 0 c.transmitter) (near_lasts c.transmitter) offset value c q (nearer-refl c.transmitter))
+    nearer-effect m n (after_write offset value c) r s
+    (lasts-write (Nearer 0 c.transmitter) (near_lasts c.transmitter) offset value c q (nearer-refl c.transmitter))
 
-pub nearer-latch : (m n : MachineState) (value : ℕ) → Runs m → is_dlab_set (at_access m).chip.latches ≡ true → MachineStep m (Write 0 value) n →
-    Nearer 1 m.chip.transmitter n.chip.transmitter
+pub nearer-latch : (m n : MachineState) (value : ℕ) → Runs m → is_dlab_set (at_access m).chip.latches ≡ true →
+    MachineStep m (Write offsets.DLL value) n → Nearer 1 m.chip.transmitter n.chip.transmitter
 nearer-latch m n value r on s =
     let c = (at_access m).chip in
-    nearer-effect m n (after_write 0 value c) r s (lasts-latch (Nearer 0 c.transmitter) (near_lasts c.transmitter) value c on (nearer-refl c.transmitter))
+    nearer-effect m n (after_write 0 value c) r s
+    (lasts-latch (Nearer 0 c.transmitter) (near_lasts c.transmitter) value c on (nearer-refl c.transmitter))
 
 -- a look leaves the modes as they are
-pub runs-look : (m n : MachineState) (line : ℕ) → Runs m → MachineStep m (Read 5 line) n → Nearer 1 m.chip.transmitter n.chip.transmitter → Runs n
+pub runs-look : (m n : MachineState) (line : ℕ) → Runs m → MachineStep m (Read offsets.LSR line) n →
+    Nearer 1 m.chip.transmitter n.chip.transmitter → Runs n
 runs-look m n line r s a = record {
-  sound = sound_step m n (Read 5 line) r.sound s;
-  ticked = ticked-step m n (Read 5 line) r.ticked s;
-  flows = flows-nearer 1 m.chip n.chip (ap (λ (k : Kept). k.latches) (kept_step (Read 5 line) m n s)) a r.flows;
+  sound = sound_step m n (Read offsets.LSR line) r.sound s;
+  ticked = ticked-step m n (Read offsets.LSR line) r.ticked s;
+  flows = flows-nearer 1 m.chip n.chip (ap (λ (k : Kept). k.latches) (kept_step (Read offsets.LSR line) m n s)) a r.flows;
 }
 
 -- ---- with room on the wire, in whatever mode
@@ -140,7 +152,8 @@ pub record RunsFree (m : MachineState) : Type 0 where
 pub free_runs : (m : MachineState) → RunsFree m → Runs m
 free_runs m r = record { sound = r.sound; ticked = r.ticked; flows = λ e. omega (arith, r.room) }
 
-pub free-step : (m n : MachineState) (access : Access) → RunsFree m → MachineStep m access n → Nearer 1 m.chip.transmitter n.chip.transmitter → RunsFree n
+pub free-step : (m n : MachineState) (access : Access) → RunsFree m → MachineStep m access n →
+    Nearer 1 m.chip.transmitter n.chip.transmitter → RunsFree n
 free-step m n access r s a = record {
   sound = sound_step m n access r.sound s;
   ticked = ticked-step m n access r.ticked s;
@@ -150,4 +163,5 @@ free-step m n access r s a = record {
 -- some accesses that send nothing
 pub free-path : (made : List Access) (m n : MachineState) → RunsFree m → AllSendNothing made → Path MachineStep m made n → RunsFree n
 free-path [] m n r q p = rw p r
-free-path (access ∷ made) m n r q p = free-path made p.0 n (free-step m p.0 access r p.1 (nearer-step m p.0 access (free_runs m r) q.0 p.1)) q.1 p.2
+free-path (access ∷ made) m n r q p =
+    free-path made p.0 n (free-step m p.0 access r p.1 (nearer-step m p.0 access (free_runs m r) q.0 p.1)) q.1 p.2

@@ -1,5 +1,6 @@
 -- Where ticks come before each access, the spin limit is long enough and the wire has room, calls do not stall.
-use Rattle.std.proofs.Common.{◌≡◌, ℕ, ◌+◌, ◌≤◌, ◌<◌, Bool, List, [], ◌++◌, length, map, length-append, take, Result, Ok, Err, refl, arith, sym, ◌∙◌, ap, subst}
+use Rattle.std.proofs.Common.{◌≡◌, ℕ, ◌+◌, ◌≤◌, ◌<◌, Bool, List, [], ◌++◌, length, map, length-append}
+use Rattle.std.proofs.Common.{take, Result, Ok, Err, refl, arith, sym, ◌∙◌, ap, subst}
 use Rattle.std.proofs.lemmas.List.{length-map}
 use Rattle.std.specs.List.{concat}
 use Rattle.std.proofs.lemmas.List.{length-take}
@@ -43,62 +44,80 @@ runs : (s : State) → IsSound (machine_of s) → IsTimely s → HasRoom 0 (mach
 runs s w timely room = record { sound = w; ticked = timely.ticked; flows = λ e. omega (arith, room) }
 
 -- the limit exceeds what is left, there and after some accesses
-pub few_left : (s : State) (made : List Access) (m : MachineState) → IsSound (machine_of s) → IsTimely s → Path MachineStep (machine_of s) made m → left m.chip.transmitter < (settings_at s).limit
+pub few_left : (s : State) (made : List Access) (m : MachineState) → IsSound (machine_of s) → IsTimely s →
+    Path MachineStep (machine_of s) made m → left m.chip.transmitter < (settings_at s).limit
 few_left s made m w timely p =
     let most = left-most m.chip.fifo m.chip.transmitter (sound_path made (machine_of s) m w p).chip.transmitter in
     let same = (same_pace made (machine_of s) m p).char_ticks in
     omega (arith, most, same, timely.limit)
 
 -- ---- bytes are sent, and then a wait for room is in vain: there was none
-no_stall-after : (s : State) (t : MachineState) (L : Language) (l : List Access) (written : List ℕ) → IsSound (machine_of s) → Ready s → IsTimely s → IsUnchecked s → HasRoom (length written) (machine_of s) →
-    Makes (settings_at s) L written [] → Then L (AllMisses SendMiss) (settings_at s) l → Path MachineStep (machine_of s) l t → ⊥
+no_stall-after : (s : State) (t : MachineState) (L : Language) (l : List Access) (written : List ℕ) → IsSound (machine_of s) → Ready s →
+    IsTimely s → IsUnchecked s → HasRoom (length written) (machine_of s) → Makes (settings_at s) L written [] →
+    Then L (AllMisses SendMiss) (settings_at s) l → Path MachineStep (machine_of s) l t → ⊥
 no_stall-after s t L l written w ready timely off room makes fits path =
     let m = machine_of s in
     let q = path_split MachineStep m t fits.front fits.back (path_as m t l (fits.front ++ fits.back) fits.whole path) in
     let p = sent q.0 q.1 in
     let cut : ℕ → ℕ = (modes_of s).cut in
     let size : length (map cut written) ≡ length written = length-map written cut in
-    let long : length (out q.0) ≡ length (out m) + length written = ap length p.passed.went.sends.grows ∙ (length-append (out m) (map cut written) ∙ ap (λ n. length (out m) + n) size) in
+    let long : length (out q.0) ≡ length (out m) + length written = ap length p.passed.went.sends.grows
+    ∙ (length-append (out m) (map cut written) ∙ ap (λ n. length (out m) + n) size) in
     let same = (same_pace fits.front m q.0 q.1).capacity in
-    let r : Runs q.0 = record { sound = p.passed.sound; ticked = ticked-path fits.front m q.0 timely.ticked q.1; flows = λ e. omega (arith, long, same, room) } in
+    let r : Runs q.0 = record {
+      sound = p.passed.sound;
+      ticked = ticked-path fits.front m q.0 timely.ticked q.1;
+      flows = λ e. omega (arith, long, same, room);
+    } in
     no_stall-room (settings_at s) off (settings_at s).limit fits.back q.0 t r (few_left s fits.front q.0 w timely q.1) fits.second q.2
   where
     session : InSession (modes_of s) s
     session = in_session s ready w
 
-    sent : (n : MachineState) → Path MachineStep (machine_of s) fits.front n → PassedBlocks (modes_of s) (machine_of s) n fits.front written []
+    sent : (n : MachineState) → Path MachineStep (machine_of s) fits.front n →
+        PassedBlocks (modes_of s) (machine_of s) n fits.front written []
     sent n p =
         let B : Bool → Type 0 = λ fifo. InBlocks fifo fits.front written [] in
-        passed_in_blocks (modes_of s) (machine_of s) n fits.front written [] session.open_modes session.stands (subst B session.fifo (makes fits.front fits.first)) p
+        passed_in_blocks (modes_of s) (machine_of s) n fits.front written [] session.open_modes session.stands
+        (subst B session.fifo (makes fits.front fits.first)) p
 
 -- ---- each call
 
-pub flush_succeeds : (s t : State) (a : Answer) (l : List Access) (result : Result (Unit {0}) StalledError) → IsSound (machine_of s) → IsTimely s → HasRoom 0 (machine_of s) → a ≡ exact_answer result →
-    Flushes result (settings_at s) l → Path MachineStep (machine_of s) l (machine_of t) → a ≡ Done
+pub flush_succeeds : (s t : State) (a : Answer) (l : List Access) (result : Result (Unit {0}) StalledError) → IsSound (machine_of s) →
+    IsTimely s → HasRoom 0 (machine_of s) → a ≡ exact_answer result → Flushes result (settings_at s) l →
+    Path MachineStep (machine_of s) l (machine_of t) → a ≡ Done
 flush_succeeds s t a l (Ok x) w timely room e h path = e
 flush_succeeds s t a l (Err stall) w timely room e h path =
-    absurd (no_stall-empty (settings_at s) (settings_at s).limit l (machine_of s) (machine_of t) (runs s w timely room) (few_left s [] (machine_of s) w timely refl) h.1 path)
+    absurd (no_stall-empty (settings_at s) (settings_at s).limit l (machine_of s) (machine_of t) (runs s w timely room)
+    (few_left s [] (machine_of s) w timely refl) h.1 path)
 
-pub write_succeeds : (s t : State) (a : Answer) (l : List Access) (bytes : List ℕ) (result : Result ℕ StalledError) → IsSound (machine_of s) → IsTimely s → IsUnchecked s → HasRoom (length bytes) (machine_of s) →
-    a ≡ count_answer result → Writes bytes result (settings_at s) l → Path MachineStep (machine_of s) l (machine_of t) → (count : ℕ) × (a ≡ Count count)
+pub write_succeeds : (s t : State) (a : Answer) (l : List Access) (bytes : List ℕ) (result : Result ℕ StalledError) →
+    IsSound (machine_of s) → IsTimely s → IsUnchecked s → HasRoom (length bytes) (machine_of s) → a ≡ count_answer result →
+    Writes bytes result (settings_at s) l → Path MachineStep (machine_of s) l (machine_of t) → (count : ℕ) × (a ≡ Count count)
 write_succeeds s t a l bytes (Ok count) w timely off room e h path = (count, e)
 write_succeeds s t a l bytes (Err stall) w timely off room e h path =
     let r = runs s w timely (less_room 0 (length bytes) (machine_of s) (omega arith) room) in
-    absurd (no_stall-room (settings_at s) off (settings_at s).limit l (machine_of s) (machine_of t) r (few_left s [] (machine_of s) w timely refl) h.2 path)
+    absurd (no_stall-room (settings_at s) off (settings_at s).limit l (machine_of s) (machine_of t) r
+    (few_left s [] (machine_of s) w timely refl) h.2 path)
 
-pub send_exact_succeeds : (s t : State) (a : Answer) (l : List Access) (bytes : List ℕ) (result : Result (Unit {0}) StalledError) → IsSound (machine_of s) → Ready s → IsTimely s → IsUnchecked s →
-    HasRoom (length bytes) (machine_of s) → a ≡ exact_answer result → SendsExact bytes result (settings_at s) l → Path MachineStep (machine_of s) l (machine_of t) → a ≡ Done
+pub send_exact_succeeds : (s t : State) (a : Answer) (l : List Access) (bytes : List ℕ) (result : Result (Unit {0}) StalledError) →
+    IsSound (machine_of s) → Ready s → IsTimely s → IsUnchecked s → HasRoom (length bytes) (machine_of s) → a ≡ exact_answer result →
+    SendsExact bytes result (settings_at s) l → Path MachineStep (machine_of s) l (machine_of t) → a ≡ Done
 send_exact_succeeds s t a l bytes (Ok x) w ready timely off room e h path = e
 send_exact_succeeds s t a l bytes (Err stall) w ready timely off room e (pieces, rest, cut, some, count, made) path =
-    let whole : length (concat pieces) + length rest ≡ length bytes = sym (length-append (concat pieces) rest) ∙ ap length (cut_whole (settings_at s) bytes pieces rest cut) in
+    let whole : length (concat pieces) + length rest ≡ length bytes = sym (length-append (concat pieces) rest)
+    ∙ ap length (cut_whole (settings_at s) bytes pieces rest cut) in
     let free = less_room (length (concat pieces)) (length bytes) (machine_of s) (omega (arith, whole)) room in
-    absurd (no_stall-after s (machine_of t) (InOrder Round pieces) l (concat pieces) w ready timely off free (pieces_blocks (settings_at s) bytes pieces rest cut) made path)
+    absurd (no_stall-after s (machine_of t) (InOrder Round pieces) l (concat pieces) w ready timely off free
+    (pieces_blocks (settings_at s) bytes pieces rest cut) made path)
 
-pub text_succeeds : (s t : State) (a : Answer) (l : List Access) (text : List ℕ) (result : Result (Unit {0}) StalledError) → IsSound (machine_of s) → Ready s → IsTimely s → IsUnchecked s →
-    HasRoom (length (expansion text)) (machine_of s) → a ≡ exact_answer result → SendsText text result (settings_at s) l → Path MachineStep (machine_of s) l (machine_of t) → a ≡ Done
+pub text_succeeds : (s t : State) (a : Answer) (l : List Access) (text : List ℕ) (result : Result (Unit {0}) StalledError) →
+    IsSound (machine_of s) → Ready s → IsTimely s → IsUnchecked s → HasRoom (length (expansion text)) (machine_of s) →
+    a ≡ exact_answer result → SendsText text result (settings_at s) l → Path MachineStep (machine_of s) l (machine_of t) → a ≡ Done
 text_succeeds s t a l text (Ok x) w ready timely off room e h path = e
 text_succeeds s t a l text (Err stall) w ready timely off room e (sent, count, beginning) path =
     let front : List ℕ = take sent (expansion text) in
     let few : length front ≤ length (expansion text) = rw length-take (omega arith) in
     let free = less_room (length front) (length (expansion text)) (machine_of s) few room in
-    absurd (no_stall-after s (machine_of t) (SendsEach front) l front w ready timely off free (sends_each_blocks (settings_at s) front) beginning.1 path)
+    absurd (no_stall-after s (machine_of t) (SendsEach front) l front w ready timely off free
+    (sends_each_blocks (settings_at s) front) beginning.1 path)

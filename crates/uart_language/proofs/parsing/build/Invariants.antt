@@ -7,7 +7,9 @@ use Rattle.uart_language.proofs.Readings.{ends_in}
 use Rattle.uart_language.proofs.parsing.build.Given as goal
 
 abbrev pub invariant-loop-rest : goal.invariant-loop-rest
-invariant-loop-rest l = (ends_in (plan_of l.script) (sayings_from l.number (lines_of l.rest)) ≡ planned l.fn.header (sayings_from 2 (lines_of l.bytes))) × (l.number ≤ MOST_LINES + 1)
+invariant-loop-rest l =
+    (ends_in (plan_of l.script) (sayings_from l.number (lines_of l.rest)) ≡ planned l.fn.header (sayings_from 2 (lines_of l.bytes)))
+    × (l.number ≤ MOST_LINES + 1)
 
 abbrev pub decreases-loop-rest : goal.decreases-loop-rest
 decreases-loop-rest l = length l.rest

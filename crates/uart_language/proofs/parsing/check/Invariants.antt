@@ -6,7 +6,8 @@ use Rattle.uart_language.specs.Reading.{sayings_from}
 use Rattle.uart_language.proofs.parsing.check.Given as goal
 
 abbrev pub invariant-loop-rest : goal.invariant-loop-rest
-invariant-loop-rest l = (fault_of (sayings_from l.number (lines_of l.rest)) ≡ fault_of (sayings_from 2 (lines_of l.bytes))) × (l.number ≤ MOST_LINES + 1)
+invariant-loop-rest l =
+    (fault_of (sayings_from l.number (lines_of l.rest)) ≡ fault_of (sayings_from 2 (lines_of l.bytes))) × (l.number ≤ MOST_LINES + 1)
 
 abbrev pub decreases-loop-rest : goal.decreases-loop-rest
 decreases-loop-rest l = length l.rest

@@ -8,7 +8,11 @@ pub returns-then-is_empty : goal.returns-then-is_empty
 returns-then-is_empty c = no_first_line c.args.bytes.now c.if-is_empty.ensures
 
 pub returns-in-Ok : goal.returns-in-Ok
-returns-in-Ok c = first_line_is c.args.bytes.now c.first_line.result.0.now c.first_line.result.1.now c.in-Ok.header c.if-bytes-gt-MOST_BYTES.false c.first_line.ensures.first c.in-Ok.ensures
+returns-in-Ok c =
+    first_line_is c.args.bytes.now c.first_line.result.0.now c.first_line.result.1.now c.in-Ok.header c.if-bytes-gt-MOST_BYTES.false
+    c.first_line.ensures.first c.in-Ok.ensures
 
 pub returns-in-Err : goal.returns-in-Err
-returns-in-Err c = first_line_fails c.args.bytes.now c.first_line.result.0.now c.first_line.result.1.now c.in-Err.cause c.if-bytes-gt-MOST_BYTES.false c.first_line.ensures.first c.in-Err.ensures
+returns-in-Err c =
+    first_line_fails c.args.bytes.now c.first_line.result.0.now c.first_line.result.1.now c.in-Err.cause c.if-bytes-gt-MOST_BYTES.false
+    c.first_line.ensures.first c.in-Err.ensures

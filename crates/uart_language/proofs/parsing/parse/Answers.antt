@@ -14,4 +14,6 @@ returns-in_err-check c =
     parsed c.args.bytes.now c.from_residual-in_err-check.result (search (rules, k))
 
 pub returns : goal.returns
-returns c = parsed c.args.bytes.now c.build.result (all_parsed c.in_ok-header.header _ _ c.build.result c.in_ok-header.ensures c.in_ok-check.ensures c.build.ensures)
+returns c =
+    parsed c.args.bytes.now c.build.result
+    (all_parsed c.in_ok-header.header _ _ c.build.result c.in_ok-header.ensures c.in_ok-check.ensures c.build.ensures)

@@ -4,4 +4,12 @@ use Rattle.uart_language.proofs.rendering.push_setup.Goals as goal
 pub returns : goal.returns
 returns c =
     simp append_assoc at
-    (rw (c.in_ok-push_register-3.ensures, c.in_ok-push_register-2.ensures, c.in_ok-push_register.ensures, c.bits.ensures, c.bits-2.ensures, c.bits-3.ensures, c.bits-4.ensures) at c.push_register-4.ensures)
+    (rw (
+      c.in_ok-push_register-3.ensures,
+      c.in_ok-push_register-2.ensures,
+      c.in_ok-push_register.ensures,
+      c.bits.ensures,
+      c.bits-2.ensures,
+      c.bits-3.ensures,
+      c.bits-4.ensures,
+    ) at c.push_register-4.ensures)

@@ -7,5 +7,6 @@ use Rattle.uart_language.proofs.text.word_at.Goals as goal
 
 pub returns : goal.returns
 returns c =
-    let e = nth_from_yields_List c.nth.result _ c.args.index c.nth.ensures.ran (YieldsList-from_slice_split _ (λ b. eqb b 32) c.args.line.now c.split.ensures.rest c.split.ensures.done c.split.ensures.closure (λ x b q k. search rules)) in
+    let e = nth_from_yields_List c.nth.result _ c.args.index c.nth.ensures.ran (YieldsList-from_slice_split _ (λ b. eqb b 32)
+    c.args.line.now c.split.ensures.rest c.split.ensures.done c.split.ensures.closure (λ x b q k. search rules)) in
     rw c.unwrap_or.ensures (word_from_get (words_of c.args.line.now) c.args.index c.nth.result _ e)

@@ -9,7 +9,8 @@ loop-i-init c = run_nothing _
 
 pub loop-i-preserved : goal.loop-i-preserved
 loop-i-preserved c =
-    run_step _ _ _ c.args.calls.now c.loop-i.answers c.loop-i.i _ _ (omega arith) (omega arith) c.index-calls-i.is c.loop-i.invariant c.run_call.ensures
+    run_step _ _ _ c.args.calls.now c.loop-i.answers c.loop-i.i _ _ (omega arith) (omega arith) c.index-calls-i.is
+    c.loop-i.invariant c.run_call.ensures
 
 pub returns-clause-ran : goal.returns-clause-ran
 returns-clause-ran c =

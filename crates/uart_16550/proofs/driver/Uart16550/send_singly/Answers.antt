@@ -18,4 +18,4 @@ loop-done-preserved g c =
     let byte = get_or c.args.bytes.now c.loop-done.done 0 in
     rw (take_more c.args.bytes.now c.loop-done.done 0 some)
     (made_more (λ byte. Round (byte ∷ [])) _ _ c.loop-done.invariant
-    (made_round (byte ∷ []) c.if-not-wait_to_send.ensures c.write_register.ensures))
+    (made_round (byte ∷ []) c.if-not-wait_to_send.ensures c.write_byte.ensures))

@@ -12,4 +12,4 @@ pub loop-byte-preserved : goal.loop-byte-preserved
 loop-byte-preserved g c =
     let within : c.loop-byte.byte-index < length c.args.bytes.now = omega arith in
     rw (map_more (λ byte. Write offsets.DATA byte) c.args.bytes.now c.loop-byte.byte-index 0 within)
-    (made_only _ _ c.loop-byte.invariant c.write_register.ensures)
+    (made_only _ _ c.loop-byte.invariant c.write_byte.ensures)

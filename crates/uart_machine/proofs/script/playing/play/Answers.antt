@@ -6,7 +6,8 @@ use Rattle.uart_machine.proofs.script.playing.play.Goals as goal
 
 pub returns-in_err-script-clause-outcome : goal.returns-in_err-script-clause-outcome
 returns-in_err-script-clause-outcome g c =
-    let k = refused _ _ (g.W.Output.contents c.args.writer.now) (g.W.Output.contents c.args.writer.now) c.in_ok-text.text.items c.in_err-script.field-0.0 c.in_ok-text.ensures.whole (rw c.deref.ensures.value at c.in_err-script.ensures) in
+    let k = refused _ _ (g.W.Output.contents c.args.writer.now) (g.W.Output.contents c.args.writer.now) c.in_ok-text.text.items
+    c.in_err-script.field-0.0 c.in_ok-text.ensures.whole (rw c.deref.ensures.value at c.in_err-script.ensures) in
     search (rules, k)
 
 pub output_for-requires : goal.output_for-requires
