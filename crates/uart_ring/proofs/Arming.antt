@@ -8,7 +8,7 @@ use lib.Bits.{or_zero_r}
 use Rattle.bitflags.specs.Sets.{without}
 use Rattle.uart_spec.specs.Access.{Access, Read, Write}
 use Rattle.uart_spec.specs.Bits.{has, field, IsOnlyIfAny}
-use Rattle.uart_spec.specs.Interrupts.{Identifies, interrupt_code}
+use Rattle.uart_spec.specs.Fields.{Identifies, interrupt_code}
 use Rattle.uart_spec.specs.declared.baud.TheConstants.{FIFO_SIZE}
 use Rattle.uart_spec.specs.declared.errors.ByteSendError.TheVariants.{NoCapacity, RemoteNotClearToSend}
 use Rattle.uart_spec.specs.declared.registers.interrupt_enable.TheConstants.IER

@@ -4,7 +4,7 @@ use Rattle.std.proofs.Common.{append_assoc, refl, arith}
 use Rattle.std.proofs.Common.{sym, ◌∙◌, ap, subst, inl, inr, ◌⊎◌, Option, Some, None, bit_and, bit_or}
 use Rattle.uart_spec.specs.Access.{Access, Read}
 use Rattle.uart_spec.specs.Bits.{IsOnlyIfAny}
-use Rattle.uart_spec.specs.Interrupts.{Identifies}
+use Rattle.uart_spec.specs.Fields.{Identifies}
 use Rattle.uart_spec.specs.declared.baud.TheConstants.{FIFO_SIZE}
 use Rattle.uart_spec.specs.declared.registers.interrupt_enable.TheConstants.IER
 use Rattle.uart_spec.specs.declared.registers.interrupt_type.InterruptType.{InterruptType}

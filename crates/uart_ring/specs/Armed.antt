@@ -2,7 +2,7 @@
 use Rattle.std.specs.Prelude.{◌≡◌, ◌==◌, ◌⊎◌, ℕ, Bool, true, false, not, ◌&&◌, ◌||◌, ⊤, List, [], ◌∷◌, if◌then◌else◌}
 use Rattle.uart_spec.specs.Access.{Access, Read, Write}
 use Rattle.uart_spec.specs.Bits.{has, field}
-use Rattle.uart_spec.specs.Interrupts.{interrupt_code}
+use Rattle.uart_spec.specs.Fields.{interrupt_code}
 use Rattle.uart_spec.specs.declared.registers.interrupt_enable.TheConstants.IER
 use Rattle.uart_spec.specs.declared.registers.interrupt_type.InterruptType.TheVariants.{TransmitterHoldingRegisterEmpty}
 use Rattle.uart_spec.specs.declared.registers.line_status.TheConstants.LSR

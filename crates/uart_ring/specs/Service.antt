@@ -2,7 +2,7 @@
 use Rattle.std.specs.Prelude.{◌≡◌, ◌<◌, ◌⊎◌, ℕ, [], ◌∷◌, Option, Some, None}
 use Rattle.uart_spec.specs.Access.{Read}
 use Rattle.uart_spec.specs.Bits.{IsOnlyIfAny}
-use Rattle.uart_spec.specs.Interrupts.{Identifies}
+use Rattle.uart_spec.specs.Fields.{Identifies}
 use Rattle.uart_spec.specs.declared.registers.interrupt_type.InterruptType.{InterruptType}
 use Rattle.uart_spec.specs.declared.registers.interrupt_type.InterruptType.TheVariants.{
   ReceiverLineStatus,
