@@ -1,7 +1,8 @@
 -- That ring calls leave the THR-empty interrupt armed.
-use Rattle.std.proofs.Common.{◌≡◌, ◌<◌, ◌==◌, ◌||◌, ◌&&◌, ◌⊎◌, ⊤, ℕ, zero, suc, Bool, true, false, not, min, MatchBool, if◌then◌else◌, List}
+use Rattle.std.proofs.Common.{◌≡◌, ◌<◌, ◌==◌, ◌||◌, ◌&&◌, ◌⊎◌, ℕ, zero, suc, Bool, true, false, not, min, MatchBool, if◌then◌else◌, List}
 use Rattle.std.proofs.Common.{[], ◌∷◌, ◌++◌, length, take, drop, length-take, length-drop, append-nil, refl, arith, sym, ◌∙◌, ap, inl, inr}
 use Rattle.std.proofs.Common.{Option, Some, None, bit_and, bit_or}
+use Rattle.std.specs.Prelude.{⊤}
 use Rattle.std.proofs.lemmas.Bool.{false≢true}
 use Rattle.std.proofs.lemmas.Bool.Decides.{nat_tests}
 use lib.Bits.{or_zero_r}
@@ -134,8 +135,8 @@ asks_miss s off l (RemoteNotClearToSend, t) = absurd (rw off at t)
 -- after a send of some bytes: the transmitter had no room, or it holds them
 sent_due : (known : ThrEmpty) (s : Settings) (bytes : List ℕ) (sent : ℕ) (l : List Access) → s.checks ≡ false → Sends bytes sent s l →
     0 < length bytes → (known_after_all known l).due ≡ true
-sent_due known s bytes sent l off (inl (none, zero, is)) some = absurd (omega (arith, none, some))
-sent_due known s bytes sent l off (inr (inl (any, zero, t))) some = let miss = asks_miss s off l t in
+sent_due known s bytes sent l off (inl (none, unsent, is)) some = absurd (omega (arith, none, some))
+sent_due known s bytes sent l off (inr (inl (any, unsent, t))) some = let miss = asks_miss s off l t in
     rw miss.is (miss_due known miss.answer miss.shows)
 sent_due known s bytes sent l off (inr (inr (any, size, t))) some =
     let one : 0 < burst_limit s.fifo = elim s.fifo as (λ b. 0 < burst_limit b) [ true ↦ omega arith | false ↦ omega arith ] in

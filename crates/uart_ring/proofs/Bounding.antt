@@ -1,5 +1,5 @@
 -- That ring calls make few accesses.
-use Rattle.std.proofs.Common.{◌≡◌, ◌≤◌, ◌<◌, ◌+◌, ◌*◌, ℕ, zero, suc, Bool, true, false, min, MatchBool, List, [], ◌∷◌, ◌++◌, length, take}
+use Rattle.std.proofs.Common.{◌≡◌, ◌≤◌, ◌<◌, ◌+◌, ◌*◌, ℕ, zero, suc, Bool, true, false, min, MatchBool, List, [], ◌∷◌, ◌++◌, length, take, drop}
 use Rattle.std.proofs.Common.{map, length-append, length-take, refl, arith, ap, ◌∙◌, inl, inr}
 use Rattle.uart_spec.specs.Access.{Access}
 use Rattle.uart_spec.specs.declared.baud.TheConstants.{FIFO_SIZE}
@@ -111,8 +111,8 @@ disables_size : (bits : ℕ) (f : Fields) (l : List Access) (after : Fields) →
 disables_size bits f l after (ier, is, changed) = omega (arith, ap length is)
 
 arms_size : (left : List ℕ) (f : Fields) (l : List Access) (after : Fields) → ArmsIfLeft left f l after → length l ≤ 2
-arms_size [] f l after t = disables_size _ f l after t
-arms_size (byte ∷ bytes) f l after t = enables_size _ f l after t
+arms_size [] f l after t = disables_size IER.THR_EMPTY.0 f l after t
+arms_size (byte ∷ bytes) f l after t = enables_size IER.THR_EMPTY.0 f l after t
 
 -- ---- each piece
 
@@ -128,7 +128,7 @@ pauses_size f l after t = go (is_full f.receive) t
   where
     go : (full : Bool) → MatchBool full (OnDriver (Disables IER.DATA_READY.0) (with_paused true) f l after) (Stays f l after) →
         length l ≤ most_of_change
-    go true t = disables_size _ f.driver l after.driver t.0
+    go true t = disables_size IER.DATA_READY.0 f.driver l after.driver t.0
     go false t = omega (arith, ap length t.0)
 
 ends_pause_size : Implies EndsPause (MakesAtMost most_of_change)
@@ -136,7 +136,7 @@ ends_pause_size f l after t = go f.is_paused t
   where
     go : (paused : Bool) → MatchBool paused (OnDriver (Enables IER.DATA_READY.0) (with_paused false) f l after) (Stays f l after) →
         length l ≤ most_of_change
-    go true t = enables_size _ f.driver l after.driver t.0
+    go true t = enables_size IER.DATA_READY.0 f.driver l after.driver t.0
     go false t = omega (arith, ap length t.0)
 
 fills_size : Implies FillsReceiveRing (MakesAtMost most_of_receiving)

@@ -92,7 +92,7 @@ arms_alike xs ys e f = let P : List ℕ → Type 0 = λ zs. Does (Unit {0}) f (A
 
 pumps_same : (f : RingFields) → RingDoes (Unit {0}) f Pumps Pumps
 pumps_same f = record {
-  at = λ l m a b p q. so (λ r. (tt, r.1)) ((on_driver (without_sent p.0) (without_sent q.0) (sends p.0 q.0)
+  at = λ l m a b p q. so (λ r. (tt, r.1)) ((on_driver {f = f} (without_sent p.0) (without_sent q.0) (sends p.0 q.0)
       (λ e. ap (λ n. without_sent n f) e)).at l m a b p.1 q.1);
 }
   where
@@ -109,24 +109,26 @@ pumps_same f = record {
         (ap (λ n. drop n f.transmit.items) e) mid))
 
 pauses_same : (f : RingFields) → RingDoes (Unit {0}) f PausesIfFull PausesIfFull
-pauses_same f = go (is_full f.receive)
+pauses_same f = record { at = λ l m a b p q. go (is_full f.receive) l m a b p q }
   where
-    go : (full : Bool) → RingDoes (Unit {0}) f (λ g l a. MatchBool full (OnDriver (Disables IER.DATA_READY.0) (with_paused true) g l a)
-        (Stays g l a))
-        (λ g l a. MatchBool full (OnDriver (Disables IER.DATA_READY.0) (with_paused true) g l a) (Stays g l a))
-    go true = ring_so (λ r. tt) (on_driver (with_paused true) (with_paused true) (disables_determined IER.DATA_READY.0 f.driver tt tt)
-        (λ r. refl))
-    go false = stays_same f
+    go : (full : Bool) (l m : List Access) (a b : RingFields) →
+        MatchBool full (OnDriver (Disables IER.DATA_READY.0) (with_paused true) f l a) (Stays f l a) →
+        MatchBool full (OnDriver (Disables IER.DATA_READY.0) (with_paused true) f m b) (Stays f m b) → SameOrPart (Unit {0} × (a ≡ b)) l m
+    go true l m a b p q =
+        so (λ r. (tt, r.1)) ((on_driver {f = f} (with_paused true) (with_paused true) (disables_determined IER.DATA_READY.0 f.driver tt tt)
+        (λ r. refl)).at l m a b p q)
+    go false l m a b p q = (stays_same f).at l m a b p q
 
 ends_pause_same : (f : RingFields) → RingDoes (Unit {0}) f EndsPause EndsPause
-ends_pause_same f = go f.is_paused
+ends_pause_same f = record { at = λ l m a b p q. go f.is_paused l m a b p q }
   where
-    go : (paused : Bool) → RingDoes (Unit {0}) f (λ g l a. MatchBool paused (OnDriver (Enables IER.DATA_READY.0) (with_paused false) g l a)
-        (Stays g l a))
-        (λ g l a. MatchBool paused (OnDriver (Enables IER.DATA_READY.0) (with_paused false) g l a) (Stays g l a))
-    go true = ring_so (λ r. tt) (on_driver (with_paused false) (with_paused false) (enables_determined IER.DATA_READY.0 f.driver tt tt)
-        (λ r. refl))
-    go false = stays_same f
+    go : (paused : Bool) (l m : List Access) (a b : RingFields) →
+        MatchBool paused (OnDriver (Enables IER.DATA_READY.0) (with_paused false) f l a) (Stays f l a) →
+        MatchBool paused (OnDriver (Enables IER.DATA_READY.0) (with_paused false) f m b) (Stays f m b) → SameOrPart (Unit {0} × (a ≡ b)) l m
+    go true l m a b p q =
+        so (λ r. (tt, r.1)) ((on_driver {f = f} (with_paused false) (with_paused false) (enables_determined IER.DATA_READY.0 f.driver tt tt)
+        (λ r. refl)).at l m a b p q)
+    go false l m a b p q = (stays_same f).at l m a b p q
 
 fills_same : (f : RingFields) → RingDoes (Unit {0}) f FillsReceiveRing FillsReceiveRing
 fills_same f = record { at = λ l m a b p q. (both p.0 q.0).at l m a b p.1 q.1 }
@@ -138,14 +140,14 @@ fills_same f = record { at = λ l m a b p q. (both p.0 q.0).at l m a b p.1 q.1 }
         (with_received xs)) PausesIfFull)
         (RingNext (OnDriver (Saving (Receives (min FIFO_SIZE (free f.receive)) ys)) (with_received ys)) PausesIfFull)
     both xs ys =
-        ring_next (on_driver (with_received xs) (with_received ys)
+        ring_next (on_driver {f = f} (with_received xs) (with_received ys)
         (does_saving f.driver (Receives (min FIFO_SIZE (free f.receive)) xs) (Receives (min FIFO_SIZE (free f.receive)) ys)
         (receives_determined (settings_of f.driver) (min FIFO_SIZE (free f.receive)) xs ys))
         (λ e. ap (λ zs. with_received zs f) e)) (λ e mid. pauses_same mid)
 
 notes_line_same : (f : RingFields) → RingDoes (Unit {0}) f NotesLine NotesLine
 notes_line_same f = record {
-  at = λ l m a b p q. so (λ r. (tt, r.1)) ((on_driver (with_line (bit_or f.line (bit_and p.0 LSR.LINE_ERRORS.0)))
+  at = λ l m a b p q. so (λ r. (tt, r.1)) ((on_driver {f = f} (with_line (bit_or f.line (bit_and p.0 LSR.LINE_ERRORS.0)))
       (with_line (bit_or f.line (bit_and q.0 LSR.LINE_ERRORS.0)))
       (takes_lsr_determined f.driver p.0 q.0) (λ e. ap (λ n. with_line (bit_or f.line
       (bit_and n LSR.LINE_ERRORS.0)) f) e)).at l m a b p.1 q.1);
@@ -153,7 +155,7 @@ notes_line_same f = record {
 
 notes_modem_same : (f : RingFields) → RingDoes (Unit {0}) f NotesModem NotesModem
 notes_modem_same f = record {
-  at = λ l m a b p q. so (λ r. (tt, r.1)) ((on_driver (with_modem (bit_or f.modem (bit_and p.0 MSR.CHANGES.0)))
+  at = λ l m a b p q. so (λ r. (tt, r.1)) ((on_driver {f = f} (with_modem (bit_or f.modem (bit_and p.0 MSR.CHANGES.0)))
       (with_modem (bit_or f.modem (bit_and q.0 MSR.CHANGES.0)))
       (takes_msr_determined f.driver p.0 q.0) (λ e. ap (λ n. with_modem (bit_or f.modem
       (bit_and n MSR.CHANGES.0)) f) e)).at l m a b p.1 q.1);
@@ -195,7 +197,7 @@ abbrev ReadsIsr : Option InterruptType → RingDoing
 ReadsIsr interrupt = OnDriver (ShowsInterrupt interrupt) unchanged
 
 reads_same : (x y : Option InterruptType) (f : RingFields) → RingDoes (x ≡ y) f (ReadsIsr x) (ReadsIsr y)
-reads_same x y f = on_driver unchanged unchanged (shows_same x y f.driver) (λ e. refl)
+reads_same x y f = on_driver {f = f} unchanged unchanged (shows_same x y f.driver) (λ e. refl)
 
 inside : (x y : InterruptType) → Some x ≡ Some y → x ≡ y
 inside x y e = cc
@@ -316,11 +318,11 @@ takes_leave_no_choice slots = no_choice (λ f x y. record { at = λ l m a b p q.
 pub takes_line_leaves_no_choice : LeavesNoRingChoice TakesLine
 takes_line_leaves_no_choice = no_choice (λ f x y. record {
   at = λ l m a b p q. so (λ r. (p.1 ∙ (ap (λ n. bit_or n f.line) r.0 ∙ sym q.1), r.1))
-      ((on_driver (with_line 0) (with_line 0) (takes_lsr_determined f.driver p.0 q.0) (λ e. refl)).at l m a b p.2 q.2);
+      ((on_driver {f = f} (with_line 0) (with_line 0) (takes_lsr_determined f.driver p.0 q.0) (λ e. refl)).at l m a b p.2 q.2);
 })
 
 pub takes_modem_leaves_no_choice : LeavesNoRingChoice TakesModem
 takes_modem_leaves_no_choice = no_choice (λ f x y. record {
   at = λ l m a b p q. so (λ r. (p.1 ∙ (ap (λ n. bit_or n f.modem) r.0 ∙ sym q.1), r.1))
-      ((on_driver (with_modem 0) (with_modem 0) (takes_msr_determined f.driver p.0 q.0) (λ e. refl)).at l m a b p.2 q.2);
+      ((on_driver {f = f} (with_modem 0) (with_modem 0) (takes_msr_determined f.driver p.0 q.0) (λ e. refl)).at l m a b p.2 q.2);
 })

@@ -103,8 +103,8 @@ no_bytes [] e = refl
 no_bytes (byte ∷ bytes) e = absurd (omega (arith, e))
 
 sends_move : (bytes : List ℕ) (sent : ℕ) (s : Settings) (l : List Access) → Sends bytes sent s l → Moves (take sent bytes) [] l
-sends_move bytes sent s l (inl (none, zero, is)) = rw (zero, is) nothing
-sends_move bytes sent s l (inr (inl (some, zero, t))) = rw zero (miss_moves s l t)
+sends_move bytes sent s l (inl (none, unsent, is)) = rw (unsent, is) nothing
+sends_move bytes sent s l (inr (inl (some, unsent, t))) = rw unsent (miss_moves s l t)
 sends_move bytes sent s l (inr (inr (some, size, t))) =
     rw (t.whole, t.second.is) (moves-then t.front (data_writes (take sent bytes)) [] (take sent bytes) [] [] (hit_moves s t.front t.first)
     (writes_move (take sent bytes)))
@@ -169,8 +169,8 @@ disables_saves bits f l after (ier, is, changed) = rw is (record {
 })
 
 arms_saves : (left : List ℕ) (f : Fields) (l : List Access) (after : Fields) → ArmsIfLeft left f l after → Saves [] [] f l after
-arms_saves [] f l after t = disables_saves _ f l after t
-arms_saves (byte ∷ bytes) f l after t = enables_saves _ f l after t
+arms_saves [] f l after t = disables_saves IER.THR_EMPTY.0 f l after t
+arms_saves (byte ∷ bytes) f l after t = enables_saves IER.THR_EMPTY.0 f l after t
 
 -- ---- what the rings do
 
@@ -265,7 +265,7 @@ pauses_carry f l after t = go (is_full f.receive) t
   where
     go : (full : Bool) → MatchBool full (OnDriver (Disables IER.DATA_READY.0) (with_paused true) f l after) (Stays f l after) →
         Carries f l after
-    go true t = carries_still f (with_paused true f) l after (disables_saves _ f.driver l after.driver t.0) t.1 refl refl refl refl
+    go true t = carries_still f (with_paused true f) l after (disables_saves IER.DATA_READY.0 f.driver l after.driver t.0) t.1 refl refl refl refl
     go false t = stays_carries f l after t
 
 ends_pause_carries : Implies EndsPause Carries
@@ -273,7 +273,7 @@ ends_pause_carries f l after t = go f.is_paused t
   where
     go : (paused : Bool) → MatchBool paused (OnDriver (Enables IER.DATA_READY.0) (with_paused false) f l after) (Stays f l after) →
         Carries f l after
-    go true t = carries_still f (with_paused false f) l after (enables_saves _ f.driver l after.driver t.0) t.1 refl refl refl refl
+    go true t = carries_still f (with_paused false f) l after (enables_saves IER.DATA_READY.0 f.driver l after.driver t.0) t.1 refl refl refl refl
     go false t = stays_carries f l after t
 
 pub received_carries : (room : ℕ) (bytes : List ℕ) → Implies (OnDriver (Saving (Receives room bytes)) (with_received bytes)) Carries
