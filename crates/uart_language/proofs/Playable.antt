@@ -11,6 +11,8 @@ use Rattle.std.proofs.lemmas.List.Concat.{flat_map-cons}
 use Rattle.uart_spec.specs.declared.config.BaudRate.{BaudRate}
 use Rattle.uart_spec.specs.declared.config.BaudRate.TheVariants as rate
 use Rattle.uart_spec.specs.BaudRate.{to_integer}
+use Rattle.uart_chip.specs.declared.event.TheConstants.{MAX_CHAR_TICKS, MAX_WIRE_CAPACITY}
+use Rattle.uart_chip.specs.Build.{IsLegal}
 use Rattle.uart_language.specs.declared.cause.Cause.{Cause}
 use Rattle.uart_language.specs.declared.cause.Cause.TheVariants.{BadWord}
 use Rattle.uart_language.specs.declared.limits.TheConstants.{MOST_LIMIT, MOST_RATE}
@@ -18,7 +20,7 @@ use Rattle.uart_language.specs.Fields.{◌>>=◌, is_number, number_in, lines_in
 use Rattle.uart_calls.specs.Calls.{IsRunnable}
 use Rattle.uart_language.specs.Sayings.{Saying, Nothing, Limit, Happens, Calls, Marks, Means, events_said, calls_said}
 use Rattle.uart_language.specs.Sayings as row
-use Rattle.uart_language.specs.Script.{Plan, Says, blank, printable, SayInOrder, limit_from, IsScript, IsLegal, IsPlayable}
+use Rattle.uart_language.specs.Script.{Plan, Says, blank, printable, SayInOrder, limit_from, IsScript, IsPlayable}
 
 -- ---- fields
 
@@ -159,8 +161,8 @@ all_parts P part good number (line ∷ lines) (s ∷ sayings) h =
 
 pub playable : (bytes : List ℕ) (plan : Plan) → IsScript bytes plan → IsPlayable plan
 playable bytes plan s = record {
-  ticks = number_range 1 1000 s.header.T plan.ticks s.header.ticks_is;
-  wire_capacity = (number_range 0 65536 s.header.W plan.wire_capacity s.header.wire_capacity_is).1;
+  ticks = number_range 1 MAX_CHAR_TICKS s.header.T plan.ticks s.header.ticks_is;
+  wire_capacity = (number_range 0 MAX_WIRE_CAPACITY s.header.W plan.wire_capacity s.header.wire_capacity_is).1;
   limit = rw s.limit (limit_good 2 s.others s.sayings MOST_LIMIT (omega arith, omega arith) s.body);
   events = rw s.events (all_parts IsLegal events_said events_good 2 s.others s.sayings s.body);
   calls = rw s.calls (all_parts IsRunnable calls_said calls_good 2 s.others s.sayings s.body);

@@ -13,6 +13,7 @@ use Rattle.uart_spec.specs.declared.registers.fifo_trigger_level.FifoTriggerLeve
 use Rattle.uart_spec.specs.declared.registers.fifo_trigger_level.FifoTriggerLevel.TheVariants.{One, Four, Eight}
 use Rattle.uart_spec.specs.declared.registers.fifo_trigger_level.FifoTriggerLevel.TheVariants.{Fourteen}
 use Rattle.uart_spec.specs.declared.registers.interrupt_enable.IER.{IER}
+use Rattle.uart_chip.specs.declared.event.TheConstants.{MAX_CHAR_TICKS, MAX_WIRE_CAPACITY}
 use Rattle.uart_chip.specs.declared.event.Chip.{Chip}
 use Rattle.uart_chip.specs.declared.event.Chip.TheVariants.{Uart16550A, Uart16450}
 use Rattle.uart_language.specs.declared.cause.Cause.{Cause}
@@ -49,11 +50,11 @@ ticks_in word = number_in 0 MOST_TICKS word
 
 -- T: how many ticks a character takes to leave the chip
 abbrev pub char_ticks_in : List ℕ → Result ℕ Cause
-char_ticks_in word = number_in 1 1000 word
+char_ticks_in word = number_in 1 MAX_CHAR_TICKS word
 
 -- W: how many bytes the wire has room for
 abbrev pub wire_capacity_in : List ℕ → Result ℕ Cause
-wire_capacity_in word = number_in 0 65536 word
+wire_capacity_in word = number_in 0 MAX_WIRE_CAPACITY word
 
 -- HH: two hexadecimal digits of either case
 unfoldable pub byte_in : List ℕ → Result ℕ Cause

@@ -14,7 +14,7 @@ use super::limits::{MOST_LIMIT, MOST_RATE, MOST_TICKS};
 use arrayvec::{ArrayString, ArrayVec};
 use bitflags::Flags;
 use std::num::NonZeroU64;
-use uart_chip::Chip;
+use uart_chip::{Chip, MAX_CHAR_TICKS, MAX_WIRE_CAPACITY};
 use uart_spec::BaudRate;
 use uart_spec::registers::{FifoTriggerLevel, IER, WordLength};
 
@@ -213,7 +213,7 @@ pub fn ticks_in(word: &[u8]) -> Result<u16, Cause>
 pub fn char_ticks_in(word: &[u8]) -> Result<u16, Cause>
     ensures { result ≡ char_ticks_in word.now }
 {
-    let ticks = number_in(1, 1000, word)?;
+    let ticks = number_in(1, MAX_CHAR_TICKS as u64, word)?;
     Ok(ticks as u16)
 }
 
@@ -221,7 +221,7 @@ pub fn char_ticks_in(word: &[u8]) -> Result<u16, Cause>
 pub fn wire_capacity_in(word: &[u8]) -> Result<usize, Cause>
     ensures { result ≡ wire_capacity_in word.now }
 {
-    let capacity = number_in(0, 65_536, word)?;
+    let capacity = number_in(0, MAX_WIRE_CAPACITY as u64, word)?;
     Ok(capacity as usize)
 }
 
