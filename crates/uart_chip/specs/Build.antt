@@ -25,7 +25,7 @@ abbrev pub has_bad_lines : Event → Bool
 has_bad_lines (Lines inputs) = is_outside inputs MSR.LINES.0
 has_bad_lines _ = false
 
--- no event has such a bit: an arrival has only errors of a character, a change of the lines only lines
+-- the event has no such bit
 abbrev pub IsLegal : Event → Type 0
 IsLegal (Arrive byte errors) = IsWithin errors LSR.CHARACTER_ERRORS.0
 IsLegal (Lines inputs) = IsWithin inputs MSR.LINES.0
