@@ -2,7 +2,7 @@
 use Rattle.std.specs.Prelude.{◌≡◌, ℕ, ◌%◌, List, [], ◌∷◌, ◌++◌, ◌==◌, nat_lt, length, slice_index, slice_set}
 use Rattle.std.specs.Prelude.{if◌then◌else◌, ◌&&◌}
 use Rattle.uart_spec.specs.declared.registers.offsets.TheConstants as offsets
-use Rattle.uart_spec.specs.declared.registers.bits.TheConstants.LSR
+use Rattle.uart_spec.specs.declared.registers.line_status.TheConstants.LSR
 use Rattle.uart_spec.specs.Access.{Access, Read, Write}
 
 -- 32 cells of memory, which repeat: a load answers the cell of its address, and a store sets it

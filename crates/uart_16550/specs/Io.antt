@@ -2,7 +2,7 @@
 use Rattle.std.specs.Prelude.{◌≡◌, ◌<◌, ℕ, Bool, true, false, List, [], Result, Ok, Err, Some, None, length, take, ◌⊎◌}
 use Rattle.uart_spec.specs.declared.errors.StalledError.{StalledError}
 use Rattle.uart_spec.specs.declared.registers.offsets.TheConstants as offsets
-use Rattle.uart_spec.specs.declared.registers.bits.TheConstants.LSR
+use Rattle.uart_spec.specs.declared.registers.line_status.TheConstants.LSR
 use Rattle.uart_16550.specs.Grammar.{Language, Asks, Never}
 use Rattle.uart_16550.specs.Receive.{ReceivesSome}
 use Rattle.uart_16550.specs.Transmit.{SendsSome, SendHit, SendMiss, WaitsFor}

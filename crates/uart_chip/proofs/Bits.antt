@@ -10,7 +10,7 @@ use lib.Bits.{or_zero_r}
 use Rattle.uart_spec.specs.Bits.{has, has_any, field, IsOnly, flag}
 use Rattle.uart_spec.specs.Fields.{trigger_code, HasTrigger}
 use Rattle.uart_spec.specs.declared.registers.fifo_trigger_level.FifoTriggerLevel.{FifoTriggerLevel}
-use Rattle.uart_spec.specs.declared.registers.bits.TheConstants.LCR
+use Rattle.uart_spec.specs.declared.registers.line_control.TheConstants.LCR
 use Rattle.uart_chip.specs.Chip.{word_length, cut_to, level_of, trigger_level}
 
 -- ---- joins

@@ -7,8 +7,8 @@ use Rattle.uart_chip.specs.declared.event.Event.TheVariants.{Arrive, Lines}
 use Rattle.uart_chip.specs.declared.event.BuildError.{BuildError}
 use Rattle.uart_chip.specs.declared.event.TheConstants.{MAX_CHAR_TICKS, MAX_WIRE_CAPACITY}
 use Rattle.uart_chip.specs.declared.event.BuildError.TheVariants.{BadTicks, BadWire, BadErrors, BadLines}
-use Rattle.uart_spec.specs.declared.registers.bits.TheConstants.LSR
-use Rattle.uart_spec.specs.declared.registers.bits.TheConstants.MSR
+use Rattle.uart_spec.specs.declared.registers.line_status.TheConstants.LSR
+use Rattle.uart_spec.specs.declared.registers.modem_status.TheConstants.MSR
 use Rattle.uart_chip.specs.Masks.{IsWithin}
 
 -- some bit lies outside of the mask

@@ -1,7 +1,7 @@
 -- Masks of registers: that a value is within one, and what the chip keeps of a write.
 use Rattle.std.specs.Prelude.{◌≡◌, ℕ, ◌+◌, bit_and}
-use Rattle.uart_spec.specs.declared.registers.bits.TheConstants.IER
-use Rattle.uart_spec.specs.declared.registers.bits.TheConstants.MCR
+use Rattle.uart_spec.specs.declared.registers.interrupt_enable.TheConstants.IER
+use Rattle.uart_spec.specs.declared.registers.modem_control.TheConstants.MCR
 
 -- no bit outside of the mask is set
 abbrev pub IsWithin : ℕ → ℕ → Type 0

@@ -1,8 +1,8 @@
 -- The modem lines, and which of them changed.
 use Rattle.std.specs.Prelude.{ℕ, Bool, not, ◌&&◌, ◌==◌, bit_and, bit_or, if◌then◌else◌}
 use Rattle.uart_spec.specs.Bits.{has_any, flag}
-use Rattle.uart_spec.specs.declared.registers.bits.TheConstants.MCR
-use Rattle.uart_spec.specs.declared.registers.bits.TheConstants.MSR
+use Rattle.uart_spec.specs.declared.registers.modem_control.TheConstants.MCR
+use Rattle.uart_spec.specs.declared.registers.modem_status.TheConstants.MSR
 
 -- the modem's inputs, the lines that the status register shows, and their changes since its last read
 pub record ModemState : Type 0 where

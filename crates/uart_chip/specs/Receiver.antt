@@ -12,7 +12,7 @@ use Rattle.uart_spec.specs.Bits.{has_any}
 use Rattle.uart_spec.specs.declared.registers.fifo_trigger_level.FifoTriggerLevel.{FifoTriggerLevel}
 use Rattle.uart_spec.specs.declared.registers.fifo_trigger_level.FifoTriggerLevel.TheVariants.{One, Four, Eight}
 use Rattle.uart_spec.specs.declared.registers.fifo_trigger_level.FifoTriggerLevel.TheVariants.{Fourteen}
-use Rattle.uart_spec.specs.declared.registers.bits.TheConstants.LSR
+use Rattle.uart_spec.specs.declared.registers.line_status.TheConstants.LSR
 
 -- the marks are of the arrivals of the schedule, of which so many have arrived
 pub record ReceiverState : Type 0 where

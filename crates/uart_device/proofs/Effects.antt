@@ -6,7 +6,7 @@ use lib.Bits.{or_zero_r}
 use Rattle.uart_chip.specs.declared.receiver.Character.{Character}
 use Rattle.uart_spec.specs.Access.{Access, Read, Write, saved_lsr, saved_msr}
 use Rattle.uart_spec.specs.Bits.{has_any}
-use Rattle.uart_spec.specs.declared.registers.bits.TheConstants.LSR
+use Rattle.uart_spec.specs.declared.registers.line_status.TheConstants.LSR
 use Rattle.uart_spec.specs.declared.registers.offsets.TheConstants as offsets
 use Rattle.uart_chip.specs.Transmitter.{TransmitterState, room, load}
 use Rattle.uart_chip.specs.Receiver.{report, take_front}

@@ -8,7 +8,7 @@ use Rattle.uart_chip.specs.declared.event.ArrivalMark.TheVariants.{Pending, Wait
 use Rattle.uart_chip.specs.declared.receiver.Character.{Character}
 use Rattle.uart_chip.specs.declared.receiver.Origin.TheVariants.{Arrived, Looped}
 use Rattle.uart_spec.specs.declared.registers.fifo_trigger_level.FifoTriggerLevel.{FifoTriggerLevel}
-use Rattle.uart_spec.specs.declared.registers.bits.TheConstants.LSR
+use Rattle.uart_spec.specs.declared.registers.line_status.TheConstants.LSR
 use Rattle.uart_chip.specs.Masks.{IsWithin}
 use Rattle.uart_chip.specs.Transmitter.{room}
 use Rattle.uart_chip.specs.Receiver.{ReceiverState, set_mark, replace, come_back, grow_timeout, tick, arrive, take_front, report, discard}

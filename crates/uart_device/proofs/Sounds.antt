@@ -8,9 +8,9 @@ use Rattle.uart_chip.specs.declared.event.Event.{Event}
 use Rattle.uart_chip.specs.declared.event.Event.TheVariants.{Ticks, Arrive, Lines, Access as Gate, Mark}
 use Rattle.uart_spec.specs.Access.{Access, Read, Write, Path}
 use Rattle.uart_spec.specs.Bits.{has_any}
-use Rattle.uart_spec.specs.declared.registers.bits.TheConstants.FCR
-use Rattle.uart_spec.specs.declared.registers.bits.TheConstants.LSR
-use Rattle.uart_spec.specs.declared.registers.bits.TheConstants.MSR
+use Rattle.uart_spec.specs.declared.registers.fifo_control.TheConstants.FCR
+use Rattle.uart_spec.specs.declared.registers.line_status.TheConstants.LSR
+use Rattle.uart_spec.specs.declared.registers.modem_status.TheConstants.MSR
 use Rattle.uart_spec.specs.declared.registers.offsets.TheConstants as offsets
 use Rattle.uart_chip.specs.Masks.{IsWithin, ier_bits, mcr_bits}
 use Rattle.uart_chip.specs.declared.transmitter.Shifting.{Shifting}

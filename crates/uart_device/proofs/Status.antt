@@ -5,7 +5,7 @@ use Rattle.std.specs.Int.{bit_at}
 use Rattle.std.proofs.lemmas.Grind.{common_steps}
 use Rattle.uart_chip.specs.declared.receiver.Character.{Character}
 use Rattle.uart_spec.specs.Bits.{has_any, flag}
-use Rattle.uart_spec.specs.declared.registers.bits.TheConstants.LSR
+use Rattle.uart_spec.specs.declared.registers.line_status.TheConstants.LSR
 use Rattle.uart_chip.specs.Receiver.{front_errors, unreported, has_errors}
 use Rattle.uart_chip.specs.Chip.{ChipState, line_status, is_transmitter_empty}
 use Rattle.uart_chip.proofs.Bits.{has_or, has_flag, has_none, has_not}

@@ -4,8 +4,8 @@ use Rattle.std.proofs.Common.{refl, arith, length-append, if◌then◌else◌, z
 use Rattle.std.proofs.lemmas.Grind.{common_steps}
 use Rattle.uart_chip.specs.declared.transmitter.Shifting.{Shifting}
 use Rattle.uart_spec.specs.Bits.{has_any}
-use Rattle.uart_spec.specs.declared.registers.bits.TheConstants.MCR
-use Rattle.uart_spec.specs.declared.registers.bits.TheConstants.MSR
+use Rattle.uart_spec.specs.declared.registers.modem_control.TheConstants.MCR
+use Rattle.uart_spec.specs.declared.registers.modem_status.TheConstants.MSR
 use Rattle.uart_chip.specs.Masks.{IsWithin}
 use Rattle.uart_chip.specs.Transmitter.{TransmitterState, room, shift, refill, tick, load}
 use Rattle.uart_chip.specs.Modem.{ModemState, looped_lines, lines_under, is_changed, changes, renew}

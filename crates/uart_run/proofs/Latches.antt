@@ -7,7 +7,7 @@ use Rattle.uart_chip.specs.declared.event.Event.TheVariants.{Ticks, Access as Ga
 use Rattle.uart_spec.specs.Access.{Access, Read, Write, Path}
 use Rattle.uart_16550.specs.Driver.{Fields}
 use Rattle.uart_spec.specs.Bits.{has_any}
-use Rattle.uart_spec.specs.declared.registers.bits.TheConstants.FCR
+use Rattle.uart_spec.specs.declared.registers.fifo_control.TheConstants.FCR
 use Rattle.uart_spec.specs.declared.registers.offsets.TheConstants as offsets
 use Rattle.uart_chip.specs.Masks.{ier_bits, mcr_bits}
 use Rattle.uart_chip.specs.Receiver.{clear}

@@ -1,8 +1,8 @@
 -- The calls of a session in turn.
 use Rattle.std.proofs.Common.{◌≡◌, ℕ, List, [], ◌∷◌, ◌++◌, refl, sym, ◌∙◌, ap, subst, bit_or}
 use Rattle.uart_spec.specs.declared.registers.offsets.TheConstants as offsets
-use Rattle.uart_spec.specs.declared.registers.bits.TheConstants.LSR
-use Rattle.uart_spec.specs.declared.registers.bits.TheConstants.MSR
+use Rattle.uart_spec.specs.declared.registers.line_status.TheConstants.LSR
+use Rattle.uart_spec.specs.declared.registers.modem_status.TheConstants.MSR
 use Rattle.uart_spec.specs.Access.{Access, saved, saved_lsr, saved_msr}
 use Rattle.uart_16550.specs.Driver.{fields}
 use Rattle.uart_16550.specs.Tty.{inner_of}

@@ -9,8 +9,8 @@ use Rattle.uart_spec.specs.declared.errors.ByteSendError.{ByteSendError}
 use Rattle.uart_spec.specs.declared.errors.LoopbackError.{LoopbackError}
 use Rattle.uart_spec.specs.declared.errors.LoopbackError.TheVariants.{Stalled, SendError, UnexpectedLoopbackByte, UnexpectedLoopbackMsg}
 use Rattle.uart_spec.specs.declared.registers.offsets.TheConstants as offsets
-use Rattle.uart_spec.specs.declared.registers.bits.TheConstants.LSR
-use Rattle.uart_spec.specs.declared.registers.bits.TheConstants.MCR
+use Rattle.uart_spec.specs.declared.registers.line_status.TheConstants.LSR
+use Rattle.uart_spec.specs.declared.registers.modem_control.TheConstants.MCR
 use Rattle.uart_spec.specs.Access.{Access, Read, Write}
 use Rattle.uart_16550.specs.Grammar.{Language, Settings, Only, Then, InOrder, AllMisses}
 use Rattle.uart_16550.specs.Receive.{Miss, Awaited, ReceivesExact}

@@ -8,8 +8,8 @@ use Rattle.uart_spec.specs.declared.errors.RemoteReadyToReceiveError.TheVariants
   NoRemoteConnectedNoCD,
   RemoteNotClearToSend,
 }
-use Rattle.uart_spec.specs.declared.registers.bits.TheConstants.LCR
-use Rattle.uart_spec.specs.declared.registers.bits.TheConstants.MSR
+use Rattle.uart_spec.specs.declared.registers.line_control.TheConstants.LCR
+use Rattle.uart_spec.specs.declared.registers.modem_status.TheConstants.MSR
 use Rattle.uart_spec.specs.Access.{Access}
 use Rattle.uart_16550.specs.Grammar.{Settings}
 use Rattle.uart_16550.specs.Driver.{Fields, with_interrupts, saving}

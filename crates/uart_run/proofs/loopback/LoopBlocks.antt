@@ -4,8 +4,8 @@ use Rattle.std.proofs.Common.{length-append, map, refl, arith, sym, ◌∙◌, a
 use Rattle.std.proofs.lemmas.List.{map-append, length-map}
 use Rattle.std.proofs.lemmas.Grind.{common_steps}
 use Rattle.uart_spec.specs.declared.registers.offsets.TheConstants as offsets
-use Rattle.uart_spec.specs.declared.registers.bits.TheConstants.LSR
-use Rattle.uart_spec.specs.declared.registers.bits.TheConstants.LCR
+use Rattle.uart_spec.specs.declared.registers.line_status.TheConstants.LSR
+use Rattle.uart_spec.specs.declared.registers.line_control.TheConstants.LCR
 use Rattle.uart_spec.specs.Access.{Access, Read, Write, Path}
 use Rattle.uart_spec.specs.Bits.{has_any}
 use Rattle.uart_chip.specs.Transmitter.{room}

@@ -7,9 +7,9 @@ use Rattle.uart_spec.specs.declared.errors.LoopbackError.TheVariants.{Stalled}
 use Rattle.std.proofs.lemmas.Nat.{and_le_r}
 use Rattle.std.proofs.Math.Nat.{mod-eq_of_lt}
 use Rattle.uart_spec.specs.declared.registers.offsets.TheConstants as offsets
-use Rattle.uart_spec.specs.declared.registers.bits.TheConstants.LSR
-use Rattle.uart_spec.specs.declared.registers.bits.TheConstants.MCR
-use Rattle.uart_spec.specs.declared.registers.bits.TheConstants.LCR
+use Rattle.uart_spec.specs.declared.registers.line_status.TheConstants.LSR
+use Rattle.uart_spec.specs.declared.registers.modem_control.TheConstants.MCR
+use Rattle.uart_spec.specs.declared.registers.line_control.TheConstants.LCR
 use Rattle.uart_spec.specs.Access.{Access, Read, Write, Path}
 use Rattle.uart_16550.specs.Grammar.{Language, Settings, Only, Then}
 use Rattle.uart_16550.specs.Transmit.{WaitsFor}

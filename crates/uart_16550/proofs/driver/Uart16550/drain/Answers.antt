@@ -1,6 +1,6 @@
 use Rattle.std.proofs.Common.{◌≡◌, ◌<◌, inl, inr, arith, sym}
 use Rattle.uart_spec.specs.declared.registers.offsets.TheConstants as offsets
-use Rattle.uart_spec.specs.declared.registers.bits.TheConstants.LSR
+use Rattle.uart_spec.specs.declared.registers.line_status.TheConstants.LSR
 use Rattle.uart_16550.specs.Grammar.{Then, Times}
 use Rattle.uart_16550.specs.Receive.{Miss}
 use Rattle.uart_16550.specs.Init.{Discards, DrainsReceiver, most_waiting}

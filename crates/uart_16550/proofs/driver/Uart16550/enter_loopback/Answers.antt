@@ -1,7 +1,7 @@
 use Rattle.std.proofs.Common.{◌∙◌, refl, subst}
 use Rattle.uart_spec.specs.declared.config.Config.{Config}
 use Rattle.uart_spec.specs.declared.registers.offsets.TheConstants as offsets
-use Rattle.uart_spec.specs.declared.registers.bits.TheConstants.MCR
+use Rattle.uart_spec.specs.declared.registers.modem_control.TheConstants.MCR
 use Rattle.uart_16550.specs.Driver.{settings, with_fifo}
 use Rattle.uart_16550.specs.Init.{SetsFifo}
 use Rattle.uart_16550.proofs.Making.{made_then, made_only, made_among}

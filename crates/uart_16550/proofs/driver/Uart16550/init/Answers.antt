@@ -1,7 +1,7 @@
 use Rattle.std.proofs.Common.{◌∙◌, ℕ, [], ap, refl, subst, bit_or, Ok, Err}
 use Rattle.uart_spec.specs.declared.config.Config.{Config}
 use Rattle.uart_spec.specs.declared.errors.InitError.TheVariants.{InvalidBaudRate, DeviceNotPresent, Stalled}
-use Rattle.uart_spec.specs.declared.registers.bits.TheConstants.MCR
+use Rattle.uart_spec.specs.declared.registers.modem_control.TheConstants.MCR
 use Rattle.uart_16550.specs.Driver.{Fields, fields, with_config}
 use Rattle.uart_16550.specs.Init.{Ends}
 use Rattle.uart_16550.proofs.Doings.{did_then, did_made, did_set, did_among}

@@ -1,6 +1,6 @@
 use Rattle.std.proofs.Common.{◌≡◌, true, sym}
 use Rattle.uart_spec.specs.declared.registers.offsets.TheConstants as offsets
-use Rattle.uart_spec.specs.declared.registers.bits.TheConstants.LSR
+use Rattle.uart_spec.specs.declared.registers.line_status.TheConstants.LSR
 use Rattle.uart_16550.specs.Driver.{settings}
 use Rattle.uart_16550.proofs.Making.{made_then, made_checked, made_asks}
 use Rattle.uart_16550.proofs.driver.Uart16550.ready_to_send.Goals as goal

@@ -1,5 +1,5 @@
 use Rattle.std.proofs.Common.{◌≡◌}
-use Rattle.uart_spec.specs.declared.registers.bits.TheConstants.LCR
+use Rattle.uart_spec.specs.declared.registers.line_control.TheConstants.LCR
 use Rattle.uart_16550.proofs.Making.{made_among, made_only}
 use Rattle.uart_16550.proofs.driver.Uart16550.set_line.Goals as goal
 
