@@ -100,7 +100,7 @@ SendsShortText text result s l = (length text ≤ CALL_BYTES) × SendsText text 
 
 -- ---- the table
 
--- what the driver did if this was the call's outcome, and how the outcome is answered
+-- a row: what the driver did if this was the call's outcome, and how the outcome is answered
 pub data Meaning : Type 1 where
   means : {Outcome : Type 0} → (Outcome → Doing) → (Outcome → Answer) → Meaning
 

@@ -78,8 +78,8 @@ passes_called x N M L answer_of written read s t a w makes c =
 
 -- a call that sends and receives nothing
 passes_silent : {R : Type 0} (x : Modes) (N M : Type 0) (L : R → Language) (answer_of : R → Answer) (s t : State) (a : Answer) →
-    InSession x s → ((v : Settings) (r : R) → Makes v (L r) [] []) → CalledAs MachineStep (λ r. Saving (L r)) answer_of a (inner_of s) (inner_of t) →
-    Passes x N M s t [] []
+    InSession x s → ((v : Settings) (r : R) → Makes v (L r) [] []) →
+    CalledAs MachineStep (λ r. Saving (L r)) answer_of a (inner_of s) (inner_of t) → Passes x N M s t [] []
 passes_silent x N M L answer_of s t a w makes c = passes_called x N M L answer_of (λ _. []) (λ _. []) s t a w makes c
 
 -- ---- what is sent and received, as the answers tell
