@@ -17,6 +17,7 @@ use Rattle.uart_language.specs.declared.cause.Cause.{Cause}
 use Rattle.uart_language.specs.declared.cause.Cause.TheVariants.{BadWord}
 use Rattle.uart_language.specs.declared.limits.TheConstants.{MOST_LIMIT, MOST_RATE}
 use Rattle.uart_language.specs.Fields.{◌>>=◌, is_number, number_in, lines_in, errors_in, rate_of, rate_in}
+use Rattle.uart_calls.specs.declared.call.TheConstants.{CALL_BYTES}
 use Rattle.uart_calls.specs.Calls.{IsRunnable}
 use Rattle.uart_language.specs.Sayings.{Saying, Nothing, Limit, Happens, Calls, Marks, Means, events_said, calls_said}
 use Rattle.uart_language.specs.Sayings as row
@@ -117,9 +118,9 @@ means_good (row.init {BAUD = BAUD} f b c h l) = record {
   baud_rate = rate_read BAUD _ b;
   prescaler_division_factor = omega arith;
 }
-means_good (row.receive {N = N} h) = (number_range 0 64 N _ h).1
-means_good (row.receive_exact {N = N} h) = (number_range 0 64 N _ h).1
-means_good (row.read {N = N} h) = (number_range 0 64 N _ h).1
+means_good (row.receive {N = N} h) = (number_range 0 CALL_BYTES N _ h).1
+means_good (row.receive_exact {N = N} h) = (number_range 0 CALL_BYTES N _ h).1
+means_good (row.read {N = N} h) = (number_range 0 CALL_BYTES N _ h).1
 means_good m = tt
 
 says_good : {number : ℕ} {line : List ℕ} {said : Saying} → Says number line said → IsGood said

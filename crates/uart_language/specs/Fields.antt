@@ -13,6 +13,7 @@ use Rattle.uart_spec.specs.declared.registers.fifo_trigger_level.FifoTriggerLeve
 use Rattle.uart_spec.specs.declared.registers.fifo_trigger_level.FifoTriggerLevel.TheVariants.{One, Four, Eight}
 use Rattle.uart_spec.specs.declared.registers.fifo_trigger_level.FifoTriggerLevel.TheVariants.{Fourteen}
 use Rattle.uart_spec.specs.declared.registers.interrupt_enable.IER.{IER}
+use Rattle.uart_calls.specs.declared.call.TheConstants.{CALL_BYTES}
 use Rattle.uart_chip.specs.declared.event.TheConstants.{MAX_CHAR_TICKS, MAX_WIRE_CAPACITY}
 use Rattle.uart_chip.specs.declared.event.Chip.{Chip}
 use Rattle.uart_chip.specs.declared.event.Chip.TheVariants.{Uart16550A, Uart16450}
@@ -38,7 +39,7 @@ number_in least most word =
 
 -- N of a call: how many bytes it has room for
 abbrev pub count_in : List ℕ → Result ℕ Cause
-count_in word = number_in 0 64 word
+count_in word = number_in 0 CALL_BYTES word
 
 -- N of `limit`: the driver's limit
 abbrev pub limit_in : List ℕ → Result ℕ Cause
@@ -75,11 +76,11 @@ pairs_of (high ∷ low ∷ digits) = (16 * digit_value high + digit_value low) �
 abbrev pub is_pairs : List ℕ → Bool
 is_pairs word = nat_le 1 (length word) && (length word % 2 == 0) && list_all is_ascii_hexdigit word
 
--- HEX: `-` for no bytes, or pairs of digits for at most 64 bytes
+-- HEX: `-` for no bytes, or pairs of digits for at most as many bytes as a call has
 unfoldable pub bytes_in : List ℕ → Result (List ℕ) Cause
 bytes_in word =
     if bytes_eq word (codes "-") then Ok []
-    else if is_pairs word then (if nat_le (length word / 2) 64 then Ok (pairs_of word) else Err TooManyBytes)
+    else if is_pairs word then (if nat_le (length word / 2) CALL_BYTES then Ok (pairs_of word) else Err TooManyBytes)
     else Err BadHex
 
 -- HEX whose bytes are UTF-8

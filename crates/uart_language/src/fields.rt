@@ -14,6 +14,7 @@ use super::limits::{MOST_LIMIT, MOST_RATE, MOST_TICKS};
 use arrayvec::{ArrayString, ArrayVec};
 use bitflags::Flags;
 use std::num::NonZeroU64;
+use uart_calls::CALL_BYTES;
 use uart_chip::{Chip, MAX_CHAR_TICKS, MAX_WIRE_CAPACITY};
 use uart_spec::BaudRate;
 use uart_spec::registers::{FifoTriggerLevel, IER, WordLength};
@@ -121,7 +122,7 @@ fn all_hex(word: &[u8]) -> bool
 }
 
 /// The bytes that pairs of digits write.
-fn pairs_of(word: &[u8]) -> ArrayVec<u8, 64>
+fn pairs_of(word: &[u8]) -> ArrayVec<u8, CALL_BYTES>
     requires digits { IsTrue (list_all is_ascii_hexdigit word.now) }
     requires fits { length word.now < 130 }
     ensures { result.items ≡ pairs_of word.now }
@@ -135,9 +136,9 @@ fn pairs_of(word: &[u8]) -> ArrayVec<u8, 64>
     bytes
 }
 
-/// At most 64 bytes.
+/// At most [`CALL_BYTES`] bytes.
 #[tactic(auto, unfolding(crate::specs::Fields::bytes_in))]
-pub fn bytes_in(word: &[u8]) -> Result<ArrayVec<u8, 64>, Cause>
+pub fn bytes_in(word: &[u8]) -> Result<ArrayVec<u8, CALL_BYTES>, Cause>
     ensures { seen (λ bytes. bytes.items) result ≡ bytes_in word.now }
 {
     if word == b"-".as_slice() {
@@ -146,15 +147,15 @@ pub fn bytes_in(word: &[u8]) -> Result<ArrayVec<u8, 64>, Cause>
     if !is_pairs(word) {
         return Err(Cause::BadHex);
     }
-    if word.len() / 2 > 64 {
+    if word.len() / 2 > CALL_BYTES {
         return Err(Cause::TooManyBytes);
     }
     Ok(pairs_of(word))
 }
 
-/// At most 64 bytes of text.
+/// At most [`CALL_BYTES`] bytes of text.
 #[tactic(auto, unfolding(crate::specs::Fields::text_in))]
-pub fn text_in(word: &[u8]) -> Result<ArrayString<64>, Cause>
+pub fn text_in(word: &[u8]) -> Result<ArrayString<CALL_BYTES>, Cause>
     ensures { seen (λ text. text.bytes) result ≡ text_in word.now }
 {
     let bytes = bytes_in(word)?;
@@ -189,7 +190,7 @@ pub fn errors_in(word: &[u8]) -> Result<u8, Cause>
 pub fn count_in(word: &[u8]) -> Result<usize, Cause>
     ensures { result ≡ count_in word.now }
 {
-    let count = number_in(0, 64, word)?;
+    let count = number_in(0, CALL_BYTES as u64, word)?;
     Ok(count as usize)
 }
 
