@@ -1,7 +1,7 @@
 -- Every script can be played: its numbers are in their ranges, its events are legal and its calls runnable.
 use Rattle.std.proofs.Common.{◌≡◌, ℕ, suc, ◌+◌, ◌*◌, ◌<◌, ◌≤◌, Bool, true, false, cond, leb, eqb, ◌&&◌, List, [], ◌∷◌, length, Result, Ok}
 use Rattle.std.proofs.Common.{Err, refl, sym, subst, arith, bit_and}
-use Rattle.std.specs.Prelude.{All, flat_map}
+use Rattle.std.specs.Prelude.{All, IfSome, flat_map}
 use Rattle.std.specs.Char.{is_ascii_hexdigit, digit_value}
 use Rattle.std.specs.Str.Parse.{digits_value}
 use Rattle.std.proofs.lemmas.Bool.{agree_below_at, eqb-true, leb-true, and_parts}
@@ -22,7 +22,9 @@ use Rattle.uart_spec.specs.declared.registers.modem_status.TheConstants.MSR
 use Rattle.uart_chip.specs.declared.event.TheConstants.{MAX_CHAR_TICKS, MAX_WIRE_CAPACITY}
 use Rattle.uart_chip.specs.Build.{IsLegal}
 use Rattle.uart_chip.specs.Masks.{IsWithin}
-use Rattle.uart_language.specs.Sayings.{Saying, Nothing, Limit, Happens, Calls, Marks, Means, events_said, calls_said}
+use Rattle.uart_language.specs.declared.words.Word.{Word}
+use Rattle.uart_language.specs.declared.words.Word.TheVariants as word
+use Rattle.uart_language.specs.Sayings.{Saying, Nothing, Limit, Happens, Calls, Marks, bare_call, Means, events_said, calls_said}
 use Rattle.uart_language.specs.Sayings as row
 use Rattle.uart_language.specs.Script.{Plan, Says, blank, printable, SayInOrder, limit_from, IsScript, IsPlayable}
 
@@ -114,6 +116,11 @@ IsGood (Happens e) = IsLegal e
 IsGood (Calls c) = IsRunnable c
 IsGood Marks = Unit {0}
 
+-- a call that a word asks for by itself can be run
+bare_good : (w : Word) → IfSome (bare_call w) IsRunnable
+bare_good word.Loopback = tt
+bare_good w = tt
+
 means_good : {number : ℕ} {ws : List (List ℕ)} {said : Saying} → Means number ws said → IsGood said
 means_good (row.limit {N = N} {n = n} e h) = number_range 1 MOST_LIMIT N n h
 means_good (row.arrive h) = refl
@@ -127,6 +134,7 @@ means_good (row.init {BAUD = BAUD} f b c h l) = record {
 means_good (row.receive {N = N} h) = (number_range 0 CALL_BYTES N _ h).1
 means_good (row.receive_exact {N = N} h) = (number_range 0 CALL_BYTES N _ h).1
 means_good (row.read {N = N} h) = (number_range 0 CALL_BYTES N _ h).1
+means_good (row.bare {w = w} e) = subst (λ o. IfSome o IsRunnable) e (bare_good w)
 means_good m = tt
 
 says_good : {number : ℕ} {line : List ℕ} {said : Saying} → Says number line said → IsGood said
