@@ -61,7 +61,7 @@ is_read {number = number} le (row.arrive_faulty h e) = rw (not_first number le, 
 is_read {number = number} le (row.init f b c h l) = rw (not_first number le, f, b, c, h, l) refl
 is_read {number = number} le row.access = rw (not_first number le) refl
 is_read {number = number} le row.next = rw (not_first number le) refl
-is_read {number = number} le (row.bare {w = w} {c = c} e) = bare_is_read number w c le e
+is_read {number = number} le (row.bare w {c = c} e) = bare_is_read number w c le e
 
 -- ---- what is read is what the words mean
 
@@ -175,7 +175,7 @@ is_meant number word.SendExact rest s le p c e =
     call_field number _ (bytes_in) (λ x. call.SendExact (array_of x)) rest s c e (λ W x h. row.send_exact h)
 is_meant number word.Write rest s le p c e = call_field number _ (bytes_in) (λ x. call.Write (array_of x)) rest s c e (λ W x h. row.write h)
 is_meant number word.Text rest s le p c e = call_field number _ (text_in) (λ x. call.Text (text_of x)) rest s c e (λ W x h. row.text h)
-is_meant number w rest s le p c e = bare number _ rest s _ c e (row.bare {w = w} refl)
+is_meant number w rest s le p c e = bare number _ rest s _ c e (row.bare w refl)
 
 -- ---- the first word
 

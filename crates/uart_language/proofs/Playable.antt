@@ -1,6 +1,6 @@
 -- Every script can be played: its numbers are in their ranges, its events are legal and its calls runnable.
 use Rattle.std.proofs.Common.{◌≡◌, ℕ, suc, ◌+◌, ◌*◌, ◌<◌, ◌≤◌, Bool, true, false, cond, leb, eqb, ◌&&◌, List, [], ◌∷◌, length, Result, Ok}
-use Rattle.std.proofs.Common.{Err, refl, sym, subst, arith, bit_and}
+use Rattle.std.proofs.Common.{Err, Option, refl, sym, subst, arith, bit_and}
 use Rattle.std.specs.Prelude.{All, IfSome, flat_map}
 use Rattle.std.specs.Char.{is_ascii_hexdigit, digit_value}
 use Rattle.std.specs.Str.Parse.{digits_value}
@@ -15,6 +15,7 @@ use Rattle.uart_language.specs.declared.cause.Cause.{Cause}
 use Rattle.uart_language.specs.declared.cause.Cause.TheVariants.{BadWord}
 use Rattle.uart_language.specs.declared.limits.TheConstants.{MOST_LIMIT, MOST_RATE}
 use Rattle.uart_language.specs.Fields.{◌>>=◌, is_number, number_in, lines_in, errors_in, rate_of, rate_in}
+use Rattle.uart_calls.specs.declared.call.Call.{Call}
 use Rattle.uart_calls.specs.declared.call.TheConstants.{CALL_BYTES}
 use Rattle.uart_calls.specs.Calls.{IsRunnable}
 use Rattle.uart_spec.specs.declared.registers.line_status.TheConstants.LSR
@@ -134,7 +135,7 @@ means_good (row.init {BAUD = BAUD} f b c h l) = record {
 means_good (row.receive {N = N} h) = (number_range 0 CALL_BYTES N _ h).1
 means_good (row.receive_exact {N = N} h) = (number_range 0 CALL_BYTES N _ h).1
 means_good (row.read {N = N} h) = (number_range 0 CALL_BYTES N _ h).1
-means_good (row.bare {w = w} e) = subst (λ o. IfSome o IsRunnable) e (bare_good w)
+means_good (row.bare w e) = subst (λ (o : Option Call). IfSome o IsRunnable) e (bare_good w)
 means_good m = tt
 
 says_good : {number : ℕ} {line : List ℕ} {said : Saying} → Says number line said → IsGood said

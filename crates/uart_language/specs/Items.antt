@@ -23,8 +23,8 @@ use Rattle.uart_language.specs.Sayings.{Saying, Nothing, Limit, Happens, Calls, 
 use Rattle.uart_language.specs.Sayings.{plain, bare_call}
 
 -- what is made of what was read
-abbrev pub read_as : {A B : Type 0} → (A → B) → Result A Cause → Result B Cause
-read_as make read = read >>= (λ x. Ok (make x))
+abbrev pub read_as : {A B : Type 0} → Result A Cause → (A → B) → Result B Cause
+read_as read make = read >>= (λ x. Ok (make x))
 
 -- init F BAUD C HH BITS
 unfoldable pub config_in : List (List ℕ) → Result Config Cause
@@ -45,28 +45,28 @@ arrival_in ws = do
 
 -- the call that a line asks for
 unfoldable pub call_of : Word → List (List ℕ) → Result Call Cause
-call_of word.Init ws = read_as call.Init (config_in ws)
-call_of word.TrySend ws = read_as call.TrySend (byte_in (word_at 1 ws))
-call_of word.Enable ws = read_as call.Enable (interrupts_in (word_at 1 ws))
-call_of word.Disable ws = read_as call.Disable (interrupts_in (word_at 1 ws))
-call_of word.Receive ws = read_as call.Receive (count_in (word_at 1 ws))
-call_of word.ReceiveExact ws = read_as call.ReceiveExact (count_in (word_at 1 ws))
-call_of word.Read ws = read_as call.Read (count_in (word_at 1 ws))
-call_of word.Send ws = read_as (λ bytes. call.Send (array_of bytes)) (bytes_in (word_at 1 ws))
-call_of word.SendExact ws = read_as (λ bytes. call.SendExact (array_of bytes)) (bytes_in (word_at 1 ws))
-call_of word.Write ws = read_as (λ bytes. call.Write (array_of bytes)) (bytes_in (word_at 1 ws))
-call_of word.Text ws = read_as (λ bytes. call.Text (text_of bytes)) (text_in (word_at 1 ws))
+call_of word.Init ws = read_as (config_in ws) call.Init
+call_of word.TrySend ws = read_as (byte_in (word_at 1 ws)) call.TrySend
+call_of word.Enable ws = read_as (interrupts_in (word_at 1 ws)) call.Enable
+call_of word.Disable ws = read_as (interrupts_in (word_at 1 ws)) call.Disable
+call_of word.Receive ws = read_as (count_in (word_at 1 ws)) call.Receive
+call_of word.ReceiveExact ws = read_as (count_in (word_at 1 ws)) call.ReceiveExact
+call_of word.Read ws = read_as (count_in (word_at 1 ws)) call.Read
+call_of word.Send ws = read_as (bytes_in (word_at 1 ws)) (λ bytes. call.Send (array_of bytes))
+call_of word.SendExact ws = read_as (bytes_in (word_at 1 ws)) (λ bytes. call.SendExact (array_of bytes))
+call_of word.Write ws = read_as (bytes_in (word_at 1 ws)) (λ bytes. call.Write (array_of bytes))
+call_of word.Text ws = read_as (text_in (word_at 1 ws)) (λ bytes. call.Text (text_of bytes))
 call_of other ws = ok_or (bare_call other) UnknownWord
 
 -- what the words of a line after the first say
 unfoldable pub item_of : Word → List (List ℕ) → Result Saying Cause
-item_of word.Limit ws = read_as Limit (limit_in (word_at 1 ws))
-item_of word.Tick ws = read_as (λ n. Happens (event.Ticks n)) (ticks_in (word_at 1 ws))
-item_of word.Arrive ws = read_as Happens (arrival_in ws)
-item_of word.Lines ws = read_as (λ lines. Happens (event.Lines lines)) (lines_in (word_at 1 ws))
+item_of word.Limit ws = read_as (limit_in (word_at 1 ws)) Limit
+item_of word.Tick ws = read_as (ticks_in (word_at 1 ws)) (λ n. Happens (event.Ticks n))
+item_of word.Arrive ws = read_as (arrival_in ws) Happens
+item_of word.Lines ws = read_as (lines_in (word_at 1 ws)) (λ lines. Happens (event.Lines lines))
 item_of word.Access ws = Ok (Happens event.Access)
 item_of word.Next ws = Ok Marks
-item_of word ws = read_as Calls (call_of word ws)
+item_of word ws = read_as (call_of word ws) Calls
 
 -- the first word, if it is in its place before as many words as it takes
 abbrev pub placed_word : ℕ → List (List ℕ) → Option Word → Result Word Cause

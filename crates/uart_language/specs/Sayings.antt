@@ -99,7 +99,7 @@ pub data Means (number : ℕ) : List (List ℕ) → Saying → Type 0 where
       → word_length_in BITS ≡ Ok word_length
       → Means number (codes "init" ∷ F ∷ BAUD ∷ C ∷ HH ∷ BITS ∷ [])
       (Calls (call.Init (configured level rate cts interrupts word_length)))
-  bare : {w : Word} {c : Call} → bare_call w ≡ Some c → Means number (name_of w ∷ []) (Calls c)
+  bare : (w : Word) {c : Call} → bare_call w ≡ Some c → Means number (name_of w ∷ []) (Calls c)
   try_send : {HH : List ℕ} {byte : ℕ} → byte_in HH ≡ Ok byte
       → Means number (codes "try-send" ∷ HH ∷ []) (Calls (call.TrySend byte))
   enable : {HH : List ℕ} {interrupts : IER} → interrupts_in HH ≡ Ok interrupts
