@@ -1,14 +1,13 @@
 -- That ring calls leave the THR-empty interrupt armed.
-use Rattle.std.proofs.Common.{◌≡◌, ◌<◌, ◌==◌, ◌||◌, ◌&&◌, ◌⊎◌, ℕ, zero, suc, Bool, true, false, not, min, MatchBool, if◌then◌else◌, List}
-use Rattle.std.proofs.Common.{[], ◌∷◌, ◌++◌, length, take, drop, length-take, length-drop, append-nil, refl, arith, sym, ◌∙◌, ap, inl, inr}
-use Rattle.std.proofs.Common.{Option, Some, None, bit_and, bit_or}
+use Rattle.std.proofs.Common.{◌≡◌, ◌<◌, ◌==◌, ◌||◌, ◌&&◌, ◌⊎◌, ℕ, zero, suc, Bool, true, false, not, MatchBool, List}
+use Rattle.std.proofs.Common.{[], ◌∷◌, ◌++◌, length, take, drop, length-take, length-drop, append-nil, refl, arith, ◌∙◌, ap, inl, inr}
+use Rattle.std.proofs.Common.{Option, Some, None, bit_and, bit_or, if◌then◌else◌}
 use Rattle.std.specs.Prelude.{⊤}
-use Rattle.std.proofs.lemmas.Bool.{false≢true}
 use Rattle.std.proofs.lemmas.Bool.Decides.{nat_tests}
 use lib.Bits.{or_zero_r}
 use Rattle.bitflags.specs.Sets.{without}
 use Rattle.uart_spec.specs.Access.{Access, Read, Write}
-use Rattle.uart_spec.specs.Bits.{has, field, IsOnlyIfAny}
+use Rattle.uart_spec.specs.Bits.{has, field}
 use Rattle.uart_spec.specs.Fields.{Identifies, interrupt_code}
 use Rattle.uart_spec.specs.declared.baud.TheConstants.{FIFO_SIZE}
 use Rattle.uart_spec.specs.declared.errors.ByteSendError.TheVariants.{NoCapacity, RemoteNotClearToSend}
@@ -25,13 +24,13 @@ use Rattle.uart_spec.specs.declared.registers.interrupt_type.InterruptType.TheVa
 }
 use Rattle.uart_spec.specs.declared.registers.line_status.TheConstants.LSR
 use Rattle.uart_spec.specs.declared.registers.offsets.TheConstants as offsets
-use Rattle.uart_16550.specs.Grammar.{Settings, Only, Then, Asks, InOrder}
-use Rattle.uart_16550.specs.Driver.{Fields, Saving, settings_of}
+use Rattle.uart_16550.specs.Grammar.{Settings, Asks, InOrder}
+use Rattle.uart_16550.specs.Driver.{Fields, settings_of}
 use Rattle.uart_16550.specs.Receive.{Receives, Hit}
-use Rattle.uart_16550.specs.Transmit.{Sends, SendHit, SendMiss, LinesAllow, burst_limit, data_writes}
+use Rattle.uart_16550.specs.Transmit.{Sends, SendMiss, burst_limit, data_writes}
 use Rattle.uart_16550.specs.Status.{Enables, Disables}
 use Rattle.uart_ring.specs.Ring.{RingFields, OnDriver, Stays, RingNext, RingTimes, IfAny, with_queued, with_paused, without_taken}
-use Rattle.uart_ring.specs.Ring.{unchanged, free, is_full}
+use Rattle.uart_ring.specs.Ring.{unchanged, is_full}
 use Rattle.uart_ring.specs.Transmit.{ArmsIfLeft, Pumps, Queues}
 use Rattle.uart_ring.specs.Receive.{PausesIfFull, FillsReceiveRing, EndsPause, TakesBytes}
 use Rattle.uart_ring.specs.Status.{NotesLine, NotesModem, TakesLine, TakesModem}

@@ -1,6 +1,6 @@
 -- That ring calls make few accesses.
-use Rattle.std.proofs.Common.{◌≡◌, ◌≤◌, ◌<◌, ◌+◌, ◌*◌, ℕ, zero, suc, Bool, true, false, min, MatchBool, List, [], ◌∷◌, ◌++◌, length, take, drop}
-use Rattle.std.proofs.Common.{map, length-append, length-take, refl, arith, ap, ◌∙◌, inl, inr}
+use Rattle.std.proofs.Common.{◌≡◌, ◌≤◌, ◌+◌, ◌*◌, ℕ, zero, suc, Bool, true, false, min, MatchBool, List, [], ◌∷◌, ◌++◌, length, take, drop}
+use Rattle.std.proofs.Common.{length-append, length-take, refl, arith, ap, inl, inr}
 use Rattle.uart_spec.specs.Access.{Access}
 use Rattle.uart_spec.specs.declared.baud.TheConstants.{FIFO_SIZE}
 use Rattle.uart_spec.specs.declared.errors.ByteSendError.TheVariants.{NoCapacity, RemoteNotClearToSend}
@@ -20,10 +20,10 @@ use Rattle.uart_spec.specs.declared.registers.offsets.TheConstants as offsets
 use Rattle.uart_16550.specs.Grammar.{Settings, Then, Asks, InOrder}
 use Rattle.uart_16550.specs.Driver.{Fields, settings_of}
 use Rattle.uart_16550.specs.Receive.{Receives, Hit}
-use Rattle.uart_16550.specs.Transmit.{Sends, SendHit, SendMiss, LinesAllow, burst_limit, burst_size, data_writes}
+use Rattle.uart_16550.specs.Transmit.{Sends, SendHit, SendMiss, LinesAllow, data_writes}
 use Rattle.uart_16550.specs.Status.{Enables, Disables}
-use Rattle.uart_ring.specs.Ring.{RingFields, OnDriver, Stays, RingNext, RingTimes, IfAny, with_queued, with_paused, without_taken}
-use Rattle.uart_ring.specs.Ring.{unchanged, free, is_full}
+use Rattle.uart_ring.specs.Ring.{OnDriver, Stays, RingTimes, IfAny, with_queued, with_paused, without_taken}
+use Rattle.uart_ring.specs.Ring.{free, is_full}
 use Rattle.uart_ring.specs.Transmit.{ArmsIfLeft, Pumps, Queues}
 use Rattle.uart_ring.specs.Receive.{PausesIfFull, FillsReceiveRing, EndsPause, TakesBytes}
 use Rattle.uart_ring.specs.Status.{TakesLine, TakesModem}

@@ -24,7 +24,7 @@ use Rattle.uart_16550.specs.Choice.{PartAtRead}
 use Rattle.uart_16550.specs.Grammar.{Only}
 use Rattle.uart_16550.specs.Driver.{Doing, Fields, Next, Saving, settings_of}
 use Rattle.uart_16550.specs.Receive.{Receives}
-use Rattle.uart_16550.specs.Status.{Disables, Enables, TakesLsr, TakesMsr}
+use Rattle.uart_16550.specs.Status.{Disables, Enables}
 use Rattle.uart_16550.specs.Transmit.{Sends}
 use Rattle.uart_16550.proofs.determined.Parting.{SameOrPart, read_determined, so, so_front, so_sym, so_then}
 use Rattle.uart_16550.proofs.determined.Doings.{Does, does_next, does_saving, does_so}
@@ -96,9 +96,6 @@ pumps_same f = record {
       (λ e. ap (λ n. without_sent n f) e)).at l m a b p.1 q.1);
 }
   where
-    bytes : List ℕ
-    bytes = f.transmit.items
-
     sends : (j k : ℕ) → Does (j ≡ k) f.driver (Next (Saving (Sends (take FIFO_SIZE f.transmit.items) j))
         (ArmsIfLeft (drop j f.transmit.items)))
         (Next (Saving (Sends (take FIFO_SIZE f.transmit.items) k)) (ArmsIfLeft (drop k f.transmit.items)))
@@ -133,9 +130,6 @@ ends_pause_same f = record { at = λ l m a b p q. go f.is_paused l m a b p q }
 fills_same : (f : RingFields) → RingDoes (Unit {0}) f FillsReceiveRing FillsReceiveRing
 fills_same f = record { at = λ l m a b p q. (both p.0 q.0).at l m a b p.1 q.1 }
   where
-    room : ℕ
-    room = min FIFO_SIZE (free f.receive)
-
     both : (xs ys : List ℕ) → RingDoes (Unit {0}) f (RingNext (OnDriver (Saving (Receives (min FIFO_SIZE (free f.receive)) xs))
         (with_received xs)) PausesIfFull)
         (RingNext (OnDriver (Saving (Receives (min FIFO_SIZE (free f.receive)) ys)) (with_received ys)) PausesIfFull)

@@ -1,7 +1,7 @@
 -- That ring calls lose no bytes, line errors or changes of the modem lines.
-use Rattle.std.proofs.Common.{◌≡◌, ◌≤◌, ◌-◌, ◌==◌, ◌⊎◌, ℕ, zero, suc, Bool, true, false, min, MatchBool, List, [], ◌∷◌, ◌++◌, length, take}
-use Rattle.std.proofs.Common.{drop, append_assoc, append-nil, take-append-drop, length-take, refl, arith, sym, ◌∙◌, ap, subst, inl, inr}
-use Rattle.std.proofs.Common.{Option, bit_and, bit_or, if◌then◌else◌}
+use Rattle.std.proofs.Common.{◌≡◌, ◌≤◌, ◌-◌, ◌==◌, ℕ, zero, suc, Bool, true, false, min, MatchBool, List, [], ◌∷◌, ◌++◌, length, take}
+use Rattle.std.proofs.Common.{drop, append_assoc, append-nil, take-append-drop, length-take, refl, arith, sym, ◌∙◌, ap, inl, inr}
+use Rattle.std.proofs.Common.{Option, bit_and, bit_or}
 use Rattle.std.proofs.lemmas.List.{take-take, drop_min}
 use lib.Bits.{or_zero_r}
 use Rattle.uart_spec.specs.Access.{Access, Read, Write, saved_lsr, saved_msr}
@@ -21,14 +21,14 @@ use Rattle.uart_spec.specs.declared.registers.interrupt_type.InterruptType.TheVa
 use Rattle.uart_spec.specs.declared.registers.line_status.TheConstants.LSR
 use Rattle.uart_spec.specs.declared.registers.modem_status.TheConstants.MSR
 use Rattle.uart_spec.specs.declared.registers.offsets.TheConstants as offsets
-use Rattle.uart_16550.specs.Grammar.{Language, Settings, Only, Then, Asks, InOrder}
-use Rattle.uart_16550.specs.Driver.{Fields, Doing, Saving, Next, saving, settings_of}
-use Rattle.uart_16550.specs.Receive.{Receives, Hit, Miss}
+use Rattle.uart_16550.specs.Grammar.{Settings, Then, Asks, InOrder}
+use Rattle.uart_16550.specs.Driver.{Fields, Saving, saving, settings_of}
+use Rattle.uart_16550.specs.Receive.{Receives, Hit}
 use Rattle.uart_16550.specs.Transmit.{Sends, SendHit, SendMiss, LinesAllow, data_writes}
-use Rattle.uart_16550.specs.Status.{TakesLsr, TakesMsr, Enables, Disables}
+use Rattle.uart_16550.specs.Status.{Enables, Disables}
 use Rattle.uart_16550.proofs.Paths.{or_assoc}
-use Rattle.uart_ring.specs.Ring.{RingFields, OnDriver, Stays, RingNext, RingTimes, IfAny, with_driver, with_queued, with_received}
-use Rattle.uart_ring.specs.Ring.{with_paused, without_sent, without_taken, with_line, with_modem, unchanged, free, is_full}
+use Rattle.uart_ring.specs.Ring.{RingFields, OnDriver, Stays, RingTimes, IfAny, with_driver, with_queued, with_received}
+use Rattle.uart_ring.specs.Ring.{with_paused, without_sent, without_taken, unchanged, is_full}
 use Rattle.uart_ring.specs.Transmit.{ArmsIfLeft, Pumps, Queues}
 use Rattle.uart_ring.specs.Receive.{PausesIfFull, FillsReceiveRing, EndsPause, TakesBytes}
 use Rattle.uart_ring.specs.Status.{NotesLine, NotesModem, TakesLine, TakesModem}
@@ -97,10 +97,6 @@ writes_move (byte ∷ bytes) = let rest = writes_move bytes in record {
   read_is =
       rest.read_is;
 }
-
-no_bytes : (bytes : List ℕ) → length bytes ≡ 0 → bytes ≡ []
-no_bytes [] e = refl
-no_bytes (byte ∷ bytes) e = absurd (omega (arith, e))
 
 sends_move : (bytes : List ℕ) (sent : ℕ) (s : Settings) (l : List Access) → Sends bytes sent s l → Moves (take sent bytes) [] l
 sends_move bytes sent s l (inl (none, unsent, is)) = rw (unsent, is) nothing
@@ -265,7 +261,8 @@ pauses_carry f l after t = go (is_full f.receive) t
   where
     go : (full : Bool) → MatchBool full (OnDriver (Disables IER.DATA_READY.0) (with_paused true) f l after) (Stays f l after) →
         Carries f l after
-    go true t = carries_still f (with_paused true f) l after (disables_saves IER.DATA_READY.0 f.driver l after.driver t.0) t.1 refl refl refl refl
+    go true t =
+        carries_still f (with_paused true f) l after (disables_saves IER.DATA_READY.0 f.driver l after.driver t.0) t.1 refl refl refl refl
     go false t = stays_carries f l after t
 
 ends_pause_carries : Implies EndsPause Carries
@@ -273,7 +270,8 @@ ends_pause_carries f l after t = go f.is_paused t
   where
     go : (paused : Bool) → MatchBool paused (OnDriver (Enables IER.DATA_READY.0) (with_paused false) f l after) (Stays f l after) →
         Carries f l after
-    go true t = carries_still f (with_paused false f) l after (enables_saves IER.DATA_READY.0 f.driver l after.driver t.0) t.1 refl refl refl refl
+    go true t =
+        carries_still f (with_paused false f) l after (enables_saves IER.DATA_READY.0 f.driver l after.driver t.0) t.1 refl refl refl refl
     go false t = stays_carries f l after t
 
 pub received_carries : (room : ℕ) (bytes : List ℕ) → Implies (OnDriver (Saving (Receives room bytes)) (with_received bytes)) Carries

@@ -1,9 +1,9 @@
 -- What the rings do, one after another.
-use Rattle.std.proofs.Common.{◌≡◌, ◌<◌, ◌≤◌, ◌+◌, ℕ, zero, suc, List, [], ◌++◌, refl, sym, subst, arith, add-one, append_assoc, append-nil}
+use Rattle.std.proofs.Common.{◌≡◌, ◌+◌, ℕ, zero, suc, List, [], ◌++◌, refl, sym, subst, add-one, append_assoc, append-nil}
 use Rattle.uart_spec.specs.Access.{Access}
 use Rattle.uart_16550.specs.Driver.{Did, Doing, fields}
 use Rattle.uart_16550.proofs.Paths.{path_then}
-use Rattle.uart_ring.specs.Ring.{RingFields, RingDoing, RingDid, ring_fields, ring_backend_of, OnDriver, Stays, RingNext, RingTimes, IfAny}
+use Rattle.uart_ring.specs.Ring.{RingFields, RingDoing, RingDid, ring_fields, ring_backend_of, OnDriver, Stays, RingNext, RingTimes}
 use Rattle.uart_ring.specs.Ring.{with_driver}
 use Rattle.uart_ring.specs.declared.ring.Uart16550Ring.{Uart16550Ring}
 
@@ -54,14 +54,3 @@ pub ring_times : {B : Type 0} {step : B → Access → B → Type 0} (n : ℕ) (
 ring_times n G {a} {b} {c} p q =
     ring_among (λ l t. let mid = t.mid in rw t.whole (times_more n G (ring_fields a) mid (ring_fields c) t.front t.back t.first t.second))
     (ring_then p q)
-
--- where there are any, and where there are none
-pub any_some : (count : ℕ) (G : RingDoing) (f : RingFields) (l : List Access) (after : RingFields) → 0 < count → G f l after →
-    IfAny count G f l after
-any_some zero G f l after some does = absurd (omega (arith, some))
-any_some (suc n) G f l after some does = does
-
-pub any_none : (count : ℕ) (G : RingDoing) (f : RingFields) (l : List Access) (after : RingFields) → count ≤ 0 → Stays f l after →
-    IfAny count G f l after
-any_none zero G f l after none stays = stays
-any_none (suc n) G f l after none stays = absurd (omega (arith, none))

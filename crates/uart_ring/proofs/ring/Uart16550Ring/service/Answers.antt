@@ -1,7 +1,7 @@
 use Rattle.std.proofs.Common.{◌≡◌, refl, inl, inr, arith}
 use Rattle.uart_ring.specs.declared.ring.service.TheConstants.{MAX_INTERRUPTS}
 use Rattle.uart_ring.specs.Service.{ServesOne}
-use Rattle.uart_ring.proofs.RingDoings.{ring_none, ring_then, ring_among, ring_times}
+use Rattle.uart_ring.proofs.RingDoings.{ring_then, ring_among, ring_times}
 use Rattle.uart_ring.proofs.ring.Uart16550Ring.service.Goals as goal
 
 pub returns-in_default-clause-did : goal.returns-in_default-clause-did
