@@ -3,23 +3,13 @@ use Rattle.std.specs.Prelude.{◌≡◌, ℕ}
 use Rattle.std.specs.declared.cmp.Ordering.{Ordering}
 use Rattle.std.specs.Ordering.{nat_cmp, on, then_cmp}
 use Rattle.uart_spec.specs.declared.config.BaudRate.{BaudRate}
-use Rattle.uart_spec.specs.declared.config.BaudRate.TheVariants.{
-  Baud115200,
-  Baud57600,
-  Baud38400,
-  Baud9600,
-  Baud4800,
-  Baud2400,
-  Baud1200,
-  Baud600,
-  Baud300,
-  Baud150,
-  Baud110,
-  Custom,
-}
+use Rattle.uart_spec.specs.declared.config.BaudRate.TheVariants.{Baud115200, Baud57600, Baud38400, Baud9600, Baud4800}
+use Rattle.uart_spec.specs.declared.config.BaudRate.TheVariants.{Baud2400, Baud1200, Baud600, Baud300, Baud150, Baud110}
+use Rattle.uart_spec.specs.declared.config.BaudRate.TheVariants.{Custom}
 
 -- the bits a second of a baud rate
 abbrev pub to_integer : BaudRate → ℕ
+to_integer (Custom rate) = rate
 to_integer Baud115200 = 115200
 to_integer Baud57600 = 57600
 to_integer Baud38400 = 38400
@@ -31,7 +21,6 @@ to_integer Baud600 = 600
 to_integer Baud300 = 300
 to_integer Baud150 = 150
 to_integer Baud110 = 110
-to_integer (Custom rate) = rate
 
 -- 0 for a case with a name, 1 for `Custom`
 abbrev pub rank : BaudRate → ℕ

@@ -1,97 +1,34 @@
 -- The divisors of the usual clock that give a whole baud rate.
 use Rattle.std.specs.Prelude.{◌≡◌, ℕ, ◌*◌, ◌≤◌, List, [], ◌∷◌}
 use Rattle.uart_spec.specs.declared.registers.divisors.Divisor.{Divisor}
-use Rattle.uart_spec.specs.declared.registers.divisors.Divisor.TheVariants.{
-  Divisor1,
-  Divisor2,
-  Divisor3,
-  Divisor4,
-  Divisor5,
-  Divisor6,
-  Divisor8,
-  Divisor9,
-  Divisor10,
-  Divisor12,
-  Divisor15,
-  Divisor16,
-  Divisor18,
-  Divisor20,
-  Divisor24,
-  Divisor25,
-  Divisor30,
-  Divisor32,
-  Divisor36,
-  Divisor40,
-  Divisor45,
-  Divisor48,
-  Divisor50,
-  Divisor60,
-  Divisor64,
-  Divisor72,
-  Divisor75,
-  Divisor80,
-  Divisor90,
-  Divisor96,
-  Divisor100,
-  Divisor120,
-  Divisor128,
-  Divisor144,
-  Divisor150,
-  Divisor160,
-  Divisor180,
-  Divisor192,
-  Divisor200,
-  Divisor225,
-  Divisor240,
-  Divisor256,
-  Divisor288,
-  Divisor300,
-  Divisor320,
-  Divisor360,
-  Divisor384,
-  Divisor400,
-  Divisor450,
-  Divisor480,
-  Divisor512,
-  Divisor576,
-  Divisor600,
-  Divisor640,
-  Divisor720,
-  Divisor768,
-  Divisor800,
-  Divisor900,
-  Divisor960,
-  Divisor1152,
-  Divisor1200,
-  Divisor1280,
-  Divisor1440,
-  Divisor1536,
-  Divisor1600,
-  Divisor1800,
-  Divisor1920,
-  Divisor2304,
-  Divisor2400,
-  Divisor2560,
-  Divisor2880,
-  Divisor3200,
-  Divisor3600,
-  Divisor3840,
-  Divisor4608,
-  Divisor4800,
-  Divisor5760,
-  Divisor6400,
-  Divisor7200,
-  Divisor7680,
-  Divisor9600,
-  Divisor11520,
-  Divisor12800,
-  Divisor14400,
-  Divisor19200,
-  Divisor23040,
-  Divisor28800,
-  Divisor38400,
-  Divisor57600,
-}
+use Rattle.uart_spec.specs.declared.registers.divisors.Divisor.TheVariants.{Divisor1, Divisor2, Divisor3, Divisor4}
+use Rattle.uart_spec.specs.declared.registers.divisors.Divisor.TheVariants.{Divisor5, Divisor6, Divisor8, Divisor9}
+use Rattle.uart_spec.specs.declared.registers.divisors.Divisor.TheVariants.{Divisor10, Divisor12, Divisor15, Divisor16}
+use Rattle.uart_spec.specs.declared.registers.divisors.Divisor.TheVariants.{Divisor18, Divisor20, Divisor24, Divisor25}
+use Rattle.uart_spec.specs.declared.registers.divisors.Divisor.TheVariants.{Divisor30, Divisor32, Divisor36, Divisor40}
+use Rattle.uart_spec.specs.declared.registers.divisors.Divisor.TheVariants.{Divisor45, Divisor48, Divisor50, Divisor60}
+use Rattle.uart_spec.specs.declared.registers.divisors.Divisor.TheVariants.{Divisor64, Divisor72, Divisor75, Divisor80}
+use Rattle.uart_spec.specs.declared.registers.divisors.Divisor.TheVariants.{Divisor90, Divisor96, Divisor100}
+use Rattle.uart_spec.specs.declared.registers.divisors.Divisor.TheVariants.{Divisor120, Divisor128, Divisor144}
+use Rattle.uart_spec.specs.declared.registers.divisors.Divisor.TheVariants.{Divisor150, Divisor160, Divisor180}
+use Rattle.uart_spec.specs.declared.registers.divisors.Divisor.TheVariants.{Divisor192, Divisor200, Divisor225}
+use Rattle.uart_spec.specs.declared.registers.divisors.Divisor.TheVariants.{Divisor240, Divisor256, Divisor288}
+use Rattle.uart_spec.specs.declared.registers.divisors.Divisor.TheVariants.{Divisor300, Divisor320, Divisor360}
+use Rattle.uart_spec.specs.declared.registers.divisors.Divisor.TheVariants.{Divisor384, Divisor400, Divisor450}
+use Rattle.uart_spec.specs.declared.registers.divisors.Divisor.TheVariants.{Divisor480, Divisor512, Divisor576}
+use Rattle.uart_spec.specs.declared.registers.divisors.Divisor.TheVariants.{Divisor600, Divisor640, Divisor720}
+use Rattle.uart_spec.specs.declared.registers.divisors.Divisor.TheVariants.{Divisor768, Divisor800, Divisor900}
+use Rattle.uart_spec.specs.declared.registers.divisors.Divisor.TheVariants.{Divisor960, Divisor1152, Divisor1200}
+use Rattle.uart_spec.specs.declared.registers.divisors.Divisor.TheVariants.{Divisor1280, Divisor1440, Divisor1536}
+use Rattle.uart_spec.specs.declared.registers.divisors.Divisor.TheVariants.{Divisor1600, Divisor1800, Divisor1920}
+use Rattle.uart_spec.specs.declared.registers.divisors.Divisor.TheVariants.{Divisor2304, Divisor2400, Divisor2560}
+use Rattle.uart_spec.specs.declared.registers.divisors.Divisor.TheVariants.{Divisor2880, Divisor3200, Divisor3600}
+use Rattle.uart_spec.specs.declared.registers.divisors.Divisor.TheVariants.{Divisor3840, Divisor4608, Divisor4800}
+use Rattle.uart_spec.specs.declared.registers.divisors.Divisor.TheVariants.{Divisor5760, Divisor6400, Divisor7200}
+use Rattle.uart_spec.specs.declared.registers.divisors.Divisor.TheVariants.{Divisor7680, Divisor9600, Divisor11520}
+use Rattle.uart_spec.specs.declared.registers.divisors.Divisor.TheVariants.{Divisor12800, Divisor14400, Divisor19200}
+use Rattle.uart_spec.specs.declared.registers.divisors.Divisor.TheVariants.{Divisor23040, Divisor28800, Divisor38400}
+use Rattle.uart_spec.specs.declared.registers.divisors.Divisor.TheVariants.{Divisor57600}
 
 -- the divisor as a number
 abbrev pub number : Divisor → ℕ

@@ -1,17 +1,21 @@
--- The codes of the fields of FCR and LCR.
+-- The codes of the fields of FCR, LCR and ISR.
 use Rattle.std.specs.Prelude.{◌≡◌, ℕ}
 use Rattle.uart_spec.specs.Bits.{field}
 use Rattle.uart_spec.specs.declared.registers.fifo_trigger_level.FifoTriggerLevel.{FifoTriggerLevel}
-use Rattle.uart_spec.specs.declared.registers.fifo_trigger_level.FifoTriggerLevel.TheVariants.{
-  One,
-  Four,
-  Eight,
-  Fourteen,
-}
+use Rattle.uart_spec.specs.declared.registers.fifo_trigger_level.FifoTriggerLevel.TheVariants.{One, Four, Eight}
+use Rattle.uart_spec.specs.declared.registers.fifo_trigger_level.FifoTriggerLevel.TheVariants.{Fourteen}
 use Rattle.uart_spec.specs.declared.registers.frame.WordLength.{WordLength}
 use Rattle.uart_spec.specs.declared.registers.frame.WordLength.TheVariants.{FiveBits, SixBits, SevenBits, EightBits}
 use Rattle.uart_spec.specs.declared.registers.frame.Parity.{Parity}
 use Rattle.uart_spec.specs.declared.registers.frame.Parity.TheVariants.{Disabled, Odd, Even, Forced1, Forced0}
+use Rattle.uart_spec.specs.declared.registers.interrupt_type.InterruptType.{InterruptType}
+use Rattle.uart_spec.specs.declared.registers.interrupt_type.InterruptType.TheVariants.{ReceiverLineStatus}
+use Rattle.uart_spec.specs.declared.registers.interrupt_type.InterruptType.TheVariants.{ReceivedDataReady}
+use Rattle.uart_spec.specs.declared.registers.interrupt_type.InterruptType.TheVariants.{ReceptionTimeout}
+use Rattle.uart_spec.specs.declared.registers.interrupt_type.InterruptType.TheVariants.{TransmitterHoldingRegisterEmpty}
+use Rattle.uart_spec.specs.declared.registers.interrupt_type.InterruptType.TheVariants.{ModemStatus}
+use Rattle.uart_spec.specs.declared.registers.interrupt_type.InterruptType.TheVariants.{DmaReceptionEndOfTransfer}
+use Rattle.uart_spec.specs.declared.registers.interrupt_type.InterruptType.TheVariants.{DmaTransmissionEndOfTransfer}
 
 -- the two-bit code of a trigger level
 abbrev pub trigger_code : FifoTriggerLevel → ℕ
@@ -58,3 +62,27 @@ parity_places _ = 3
 -- the three places from the lowest on hold a code of this parity
 abbrev pub HasParity : (lowest value : ℕ) → Parity → Type 0
 HasParity lowest value parity = field lowest (parity_places parity) value ≡ parity_code parity
+
+-- the identification code, bits 1 to 3 of ISR
+abbrev pub interrupt_code : InterruptType → ℕ
+interrupt_code ReceiverLineStatus = 3
+interrupt_code ReceivedDataReady = 2
+interrupt_code ReceptionTimeout = 6
+interrupt_code TransmitterHoldingRegisterEmpty = 1
+interrupt_code ModemStatus = 0
+interrupt_code DmaReceptionEndOfTransfer = 7
+interrupt_code DmaTransmissionEndOfTransfer = 5
+
+-- bit 0 is clear, so an interrupt is pending, and its code is that of this interrupt
+abbrev pub Identifies : ℕ → InterruptType → Type 0
+Identifies isr interrupt = (field 0 1 isr ≡ 0) × (field 1 3 isr ≡ interrupt_code interrupt)
+
+-- the priority, from 1, the highest, on
+abbrev pub priority : InterruptType → ℕ
+priority ReceiverLineStatus = 1
+priority ReceivedDataReady = 2
+priority ReceptionTimeout = 2
+priority TransmitterHoldingRegisterEmpty = 3
+priority ModemStatus = 4
+priority DmaReceptionEndOfTransfer = 5
+priority DmaTransmissionEndOfTransfer = 6

@@ -1,7 +1,6 @@
 pub mod Access
 pub mod Bits
 pub mod Fields
-pub mod Interrupts
 pub mod Baud
 pub mod Divisors
 pub mod BaudRate

@@ -60,9 +60,9 @@ pub fn calc_divisor(
     baud_rate: u32,
     prescaler_division_factor: Option<u32>,
 ) -> Result<u16, InvalidDivisorError>
+    requires prescaler { prescaler prescaler_division_factor ≤ 15 }
     requires frequency { 0 < frequency }
     requires baud_rate { 0 < baud_rate }
-    requires prescaler { prescaler prescaler_division_factor ≤ 15 }
     ensures { IsOnly (IsDivisorAnswer frequency baud_rate prescaler_division_factor) result }
 {
     match other_factor(frequency, baud_rate, prescaler_division_factor) {

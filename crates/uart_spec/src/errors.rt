@@ -17,8 +17,8 @@ pub struct NonIntegerBaudRateError {
 
 /// A clock frequency and a baud rate between which no whole divisor stands.
 #[derive(Clone, Debug, Default, PartialEq, Eq, PartialOrd, Hash, Drop, Error)]
-#[error("input values do not result in even (integer representable) baud rate! frequency={frequency}, baud_rate={baud_rate}, \
-    prescaler_division_factor={prescaler_division_factor:?}")]
+#[error("input values do not result in even (integer representable) baud rate! \
+    frequency={frequency}, baud_rate={baud_rate}, prescaler_division_factor={prescaler_division_factor:?}")]
 pub struct NonIntegerDivisorError {
     /// The clock frequency, in hertz.
     pub frequency: u32,

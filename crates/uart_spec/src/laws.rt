@@ -124,16 +124,7 @@ pub fn constants_are_these()
     ensures clock { CLK_FREQUENCY_HZ ≡ 1843200 }
     ensures fifo { FIFO_SIZE ≡ 16 }
     ensures registers { NUM_REGISTERS ≡ 8 }
-    ensures data { offsets.DATA ≡ 0 }
-    ensures ier { offsets.IER ≡ 1 }
-    ensures isr { offsets.ISR ≡ 2 }
-    ensures fcr { offsets.FCR ≡ 2 }
-    ensures lcr { offsets.LCR ≡ 3 }
-    ensures mcr { offsets.MCR ≡ 4 }
-    ensures lsr { offsets.LSR ≡ 5 }
-    ensures msr { offsets.MSR ≡ 6 }
-    ensures spr { offsets.SPR ≡ 7 }
-    ensures dll { offsets.DLL ≡ 0 }
-    ensures dlm { offsets.DLM ≡ 1 }
-    ensures psd { offsets.PSD ≡ 6 }
+    ensures offsets { (offsets.DATA ∷ offsets.IER ∷ offsets.ISR ∷ offsets.LCR ∷ offsets.MCR ∷ offsets.LSR ∷ offsets.MSR ∷ offsets.SPR ∷ [])
+        ≡ (0 ∷ 1 ∷ 2 ∷ 3 ∷ 4 ∷ 5 ∷ 6 ∷ 7 ∷ []) }
+    ensures shared_offsets { (offsets.FCR ∷ offsets.DLL ∷ offsets.DLM ∷ offsets.PSD ∷ []) ≡ (2 ∷ 0 ∷ 1 ∷ 6 ∷ []) }
 {}

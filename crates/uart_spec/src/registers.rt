@@ -4,6 +4,8 @@ ghost use Rattle.uart_spec.specs.Bits.{NamesEachByte};
 
 use bitflags::Flags;
 
+mod bits;
+mod codes;
 mod divisors;
 mod fifo_control;
 mod fifo_trigger_level;

@@ -65,14 +65,16 @@ fn baud_rate_arithmetic(rt: HostRuntime) {
     }
 }
 
+// The usual clock gives no whole baud rate at this divisor.
+const NO_RATE: NonIntegerBaudRateError = NonIntegerBaudRateError {
+    frequency: 1_843_200,
+    divisor: 73,
+    prescaler_division_factor: None,
+};
+
 #[test]
 fn refused_rates(rt: HostRuntime) {
-    let no_rate = NonIntegerBaudRateError {
-        frequency: 1_843_200,
-        divisor: 73,
-        prescaler_division_factor: None,
-    };
-    assert_eq!(rt; calc_baud_rate(1_843_200, 73, None), Err(no_rate));
+    assert_eq!(rt; calc_baud_rate(1_843_200, 73, None), Err(NO_RATE));
     for baud_rate in [110, 7211] {
         let no_divisor = InvalidDivisorError::NonInteger(NonIntegerDivisorError {
             frequency: 1_843_200,
@@ -125,23 +127,15 @@ fn fields(rt: HostRuntime) {
 
 #[test]
 fn codes(rt: HostRuntime) {
-    let levels = [
-        (0b00, FifoTriggerLevel::One),
-        (0b01, FifoTriggerLevel::Four),
-        (0b10, FifoTriggerLevel::Eight),
-        (0b11, FifoTriggerLevel::Fourteen),
+    let fields = [
+        (0b00, FifoTriggerLevel::One, WordLength::FiveBits),
+        (0b01, FifoTriggerLevel::Four, WordLength::SixBits),
+        (0b10, FifoTriggerLevel::Eight, WordLength::SevenBits),
+        (0b11, FifoTriggerLevel::Fourteen, WordLength::EightBits),
     ];
-    for (code, level) in levels {
+    for (code, level, length) in fields {
         assert_eq!(rt; FifoTriggerLevel::from_raw_bits(code), level);
         assert_eq!(rt; level.to_raw_bits(), code);
-    }
-    let lengths = [
-        (0b00, WordLength::FiveBits),
-        (0b01, WordLength::SixBits),
-        (0b10, WordLength::SevenBits),
-        (0b11, WordLength::EightBits),
-    ];
-    for (code, length) in lengths {
         assert_eq!(rt; WordLength::from_raw_bits(code), length);
         assert_eq!(rt; length.to_raw_bits(), code);
     }
@@ -230,11 +224,6 @@ fn text<E: Error>(error: E) -> InlineText<256> {
 
 #[test]
 fn texts_of_the_arithmetic(rt: HostRuntime) {
-    let no_rate = NonIntegerBaudRateError {
-        frequency: 1_843_200,
-        divisor: 73,
-        prescaler_division_factor: None,
-    };
     let no_divisor = NonIntegerDivisorError {
         frequency: 1_843_200,
         baud_rate: 7211,
@@ -243,7 +232,7 @@ fn texts_of_the_arithmetic(rt: HostRuntime) {
     let too_large = InvalidDivisorError::OutOfRange { divisor: 115_200 };
     let texts = [
         (
-            text(no_rate),
+            text(NO_RATE),
             "Input values do not result in even (integer representable) baud rate! frequency=1843200, divisor=73, \
             prescaler_division_factor=None",
         ),

@@ -1,7 +1,6 @@
 //! The format of a character on the line: its word length and its parity.
 ghost use Rattle.std.specs.Prelude.{◌≡◌, ◌<◌, ◌⊎◌};
-ghost use Rattle.uart_spec.specs.Bits.{IsOnly};
-ghost use Rattle.uart_spec.specs.Fields.{HasParity, HasWordLength, word_length_bits, parity_code, word_length_code};
+ghost use Rattle.uart_spec.specs.Fields.{word_length_bits};
 ghost use Rattle.uart_spec.specs.declared.registers.frame.WordLength.{WordLength};
 ghost use Rattle.uart_spec.specs.declared.registers.frame.WordLength.TheVariants.{EightBits};
 
@@ -20,31 +19,6 @@ pub enum WordLength {
 }
 
 impl WordLength {
-    /// The word length of a code of two bits. Higher bits do not count.
-    pub fn from_raw_bits(bits: u8) -> Self
-        ensures { IsOnly (HasWordLength 0 bits) result }
-    {
-        match bits & 0b11 {
-            0b00 => WordLength::FiveBits,
-            0b01 => WordLength::SixBits,
-            0b10 => WordLength::SevenBits,
-            _ => WordLength::EightBits,
-        }
-    }
-
-    /// The code of this word length, in the low two bits.
-    pub fn to_raw_bits(self) -> u8
-        ensures code { result ≡ word_length_code self }
-        ensures read_back { HasWordLength 0 result self }
-    {
-        match self {
-            WordLength::FiveBits => 0b00,
-            WordLength::SixBits => 0b01,
-            WordLength::SevenBits => 0b10,
-            WordLength::EightBits => 0b11,
-        }
-    }
-
     /// The word length of this many data bits. A number outside of 5 to 8 gives `EightBits`.
     pub fn from_integer(bits: u8) -> Self
         ensures known { (length : WordLength) → word_length_bits length ≡ bits → result ≡ length }
@@ -85,33 +59,4 @@ pub enum Parity {
     Forced1,
     /// The parity bit is always zero. Other documents call this space parity.
     Forced0,
-}
-
-impl Parity {
-    /// The parity of a code of three bits. Higher bits do not count, and each code whose lowest bit is clear is `Disabled`.
-    pub fn from_raw_bits(bits: u8) -> Self
-        ensures { IsOnly (HasParity 0 bits) result }
-    {
-        match bits & 0b111 {
-            0b001 => Parity::Odd,
-            0b011 => Parity::Even,
-            0b101 => Parity::Forced1,
-            0b111 => Parity::Forced0,
-            _ => Parity::Disabled,
-        }
-    }
-
-    /// The code of this parity, in the low three bits.
-    pub fn to_raw_bits(self) -> u8
-        ensures code { result ≡ parity_code self }
-        ensures read_back { HasParity 0 result self }
-    {
-        match self {
-            Parity::Disabled => 0b000,
-            Parity::Odd => 0b001,
-            Parity::Even => 0b011,
-            Parity::Forced1 => 0b101,
-            Parity::Forced0 => 0b111,
-        }
-    }
 }

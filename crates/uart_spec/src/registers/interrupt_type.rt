@@ -1,7 +1,7 @@
 //! The interrupts that ISR identifies.
 ghost use Rattle.std.specs.Prelude.{◌≡◌, ◌*◌};
 ghost use Rattle.uart_spec.specs.Bits.{IsOnlyIfAny};
-ghost use Rattle.uart_spec.specs.Interrupts.{Identifies, interrupt_code, priority};
+ghost use Rattle.uart_spec.specs.Fields.{Identifies, interrupt_code, priority};
 
 /// An interrupt, in the order in which a chip reports those that are pending together.
 #[derive(Clone, Copy, Debug, PartialEq, Eq, PartialOrd, Ord, Hash)]

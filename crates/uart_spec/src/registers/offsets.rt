@@ -9,9 +9,6 @@ pub const IER: usize = 1;
 /// Interrupt status, on reads.
 pub const ISR: usize = 2;
 
-/// FIFO control, on writes.
-pub const FCR: usize = 2;
-
 /// Line control.
 pub const LCR: usize = 3;
 
@@ -27,11 +24,14 @@ pub const MSR: usize = 6;
 /// Scratchpad.
 pub const SPR: usize = 7;
 
+/// FIFO control, on writes.
+pub const FCR: usize = ISR;
+
 /// Low byte of the divisor, while DLAB is set.
-pub const DLL: usize = 0;
+pub const DLL: usize = DATA;
 
 /// High byte of the divisor, while DLAB is set.
-pub const DLM: usize = 1;
+pub const DLM: usize = IER;
 
 /// Prescaler division, while DLAB is set, on chips that have it.
-pub const PSD: usize = 6;
+pub const PSD: usize = MSR;

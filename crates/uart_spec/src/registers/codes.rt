@@ -1,0 +1,89 @@
+//! The codes of the fields of FCR and LCR.
+ghost use Rattle.std.specs.Prelude.{◌≡◌};
+ghost use Rattle.uart_spec.specs.Bits.{IsOnly};
+ghost use Rattle.uart_spec.specs.Fields.{HasParity, HasTrigger, HasWordLength, parity_code, trigger_code, word_length_code};
+
+use crate::registers::{FifoTriggerLevel, Parity, WordLength};
+
+impl FifoTriggerLevel {
+    /// The level of a code of two bits. Higher bits do not count.
+    pub fn from_raw_bits(bits: u8) -> Self
+        ensures { IsOnly (HasTrigger 0 bits) result }
+    {
+        match bits & 0b11 {
+            0b00 => FifoTriggerLevel::One,
+            0b01 => FifoTriggerLevel::Four,
+            0b10 => FifoTriggerLevel::Eight,
+            _ => FifoTriggerLevel::Fourteen,
+        }
+    }
+
+    /// The code of this level, in the low two bits.
+    pub fn to_raw_bits(self) -> u8
+        ensures code { result ≡ trigger_code self }
+        ensures read_back { HasTrigger 0 result self }
+    {
+        match self {
+            FifoTriggerLevel::One => 0b00,
+            FifoTriggerLevel::Four => 0b01,
+            FifoTriggerLevel::Eight => 0b10,
+            FifoTriggerLevel::Fourteen => 0b11,
+        }
+    }
+}
+
+impl WordLength {
+    /// The word length of a code of two bits. Higher bits do not count.
+    pub fn from_raw_bits(bits: u8) -> Self
+        ensures { IsOnly (HasWordLength 0 bits) result }
+    {
+        match bits & 0b11 {
+            0b00 => WordLength::FiveBits,
+            0b01 => WordLength::SixBits,
+            0b10 => WordLength::SevenBits,
+            _ => WordLength::EightBits,
+        }
+    }
+
+    /// The code of this word length, in the low two bits.
+    pub fn to_raw_bits(self) -> u8
+        ensures code { result ≡ word_length_code self }
+        ensures read_back { HasWordLength 0 result self }
+    {
+        match self {
+            WordLength::FiveBits => 0b00,
+            WordLength::SixBits => 0b01,
+            WordLength::SevenBits => 0b10,
+            WordLength::EightBits => 0b11,
+        }
+    }
+}
+
+impl Parity {
+    /// The parity of a code of three bits. Higher bits do not count, and each code whose lowest bit is clear is `Disabled`.
+    pub fn from_raw_bits(bits: u8) -> Self
+        ensures { IsOnly (HasParity 0 bits) result }
+    {
+        match bits & 0b111 {
+            0b001 => Parity::Odd,
+            0b011 => Parity::Even,
+            0b101 => Parity::Forced1,
+            0b111 => Parity::Forced0,
+            _ => Parity::Disabled,
+        }
+    }
+
+    /// The code of this parity, in the low three bits.
+    pub fn to_raw_bits(self) -> u8
+        ensures code { result ≡ parity_code self }
+        ensures read_back { HasParity 0 result self }
+    {
+        match self {
+            Parity::Disabled => 0b000,
+            Parity::Odd => 0b001,
+            Parity::Even => 0b011,
+            Parity::Forced1 => 0b101,
+            Parity::Forced0 => 0b111,
+        }
+    }
+}
