@@ -15,7 +15,7 @@ use Rattle.uart_16550.proofs.determined.Calls.{saving_leaves_no_choice, changing
 use Rattle.uart_calls.specs.declared.call.Call.{Call}
 use Rattle.uart_calls.specs.declared.call.Call.TheVariants as call
 use Rattle.uart_calls.specs.Calls.{IsRunnable}
-use Rattle.uart_calls.specs.Meaning.{MakesNoAccess, ShowsFifo, SendsShortText, meaning}
+use Rattle.uart_calls.specs.Meaning.{MakesNoAccess, ShowsFifo, SendsShortText, doing_of, meaning}
 
 no_access_one : LeavesNoChoice {R = Unit {0}} (λ outcome. MakesNoAccess)
 no_access_one f a b l m after after' p q = inl (refl, p.0 ∙ sym q.0, p.1 ∙ sym q.1)
@@ -42,7 +42,7 @@ text_one : (text : List ℕ) → LeavesNoChoice (λ result. Saving (SendsShortTe
 text_one text f a b l m after after' p q =
     saving_leaves_no_choice (SavingCall.write_text text) f a b l m after after' (p.0.1, p.1) (q.0.1, q.1)
 
-pub meaning_leaves_no_choice : (call : Call) → IsRunnable call → LeavesNoChoice (meaning call).doing
+pub meaning_leaves_no_choice : (call : Call) → IsRunnable call → LeavesNoChoice (doing_of (meaning call))
 meaning_leaves_no_choice call.Next ok = no_access_one
 meaning_leaves_no_choice (call.Init config) ok = changing_leaves_no_choice (ChangingCall.init config ok)
 meaning_leaves_no_choice call.TestLoopback ok = changing_leaves_no_choice ChangingCall.test_loopback

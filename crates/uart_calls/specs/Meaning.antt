@@ -100,22 +100,23 @@ SendsShortText text result s l = (length text ≤ CALL_BYTES) × SendsText text 
 
 -- ---- the table
 
--- the type of a call's outcome, what the driver did if this was the outcome, and how the outcome is answered
-pub record Meaning : Type 1 where
-  pub Outcome : Type 0
-  pub doing : Outcome → Doing
-  pub answer : Outcome → Answer
+-- a row: what the driver did if this was the call's outcome, and how the outcome is answered
+pub data Meaning : Type 1 where
+  means : {Outcome : Type 0} → (Outcome → Doing) → (Outcome → Answer) → Meaning
 
-abbrev pub means : {R : Type 0} → (R → Doing) → (R → Answer) → Meaning
-means {R} doing answer = record { Outcome = R; doing = doing; answer = answer }
+abbrev pub outcome_of : Meaning → Type 0
+outcome_of (means {Outcome = Outcome} doing answer) = Outcome
+
+abbrev pub doing_of : (m : Meaning) → outcome_of m → Doing
+doing_of (means doing answer) outcome = doing outcome
 
 -- a call that makes a list of a language, saves what its reads show, and changes nothing else
 abbrev pub saves : {R : Type 0} → (R → Language) → (R → Answer) → Meaning
-saves {R} lists answer = record { Outcome = R; doing = λ outcome. Saving (lists outcome); answer = answer }
+saves {R} lists answer = means {Outcome = R} (λ outcome. Saving (lists outcome)) answer
 
 -- a call that has nothing to tell
 abbrev pub tells_nothing : Doing → Meaning
-tells_nothing doing = record { Outcome = Unit {0}; doing = λ outcome. doing; answer = λ outcome. Done }
+tells_nothing doing = means {Outcome = Unit {0}} (λ outcome. doing) (λ outcome. Done)
 
 -- each call; `Next` is for a device that has a schedule, and the driver does nothing
 abbrev pub meaning : Call → Meaning
@@ -153,12 +154,16 @@ meaning (call.Text text) = saves (SendsShortText text.bytes) exact_answer
 
 -- ---- one call
 
--- the call had some outcome, which was answered so, and the driver did what the call means if this was the outcome
-pub record Called {B : Type 0} (step : B → Access → B → Type 0) (m : Meaning) (answer : Answer)
-    (d e : Uart16550 B) : Type 0 where
-  pub outcome : m.Outcome
-  pub answered : answer ≡ m.answer outcome
-  pub did : Did step (m.doing outcome) d e
+-- the call had some outcome, which was answered so, and the driver did what it then does
+pub record CalledAs {B R : Type 0} (step : B → Access → B → Type 0) (doing : R → Doing) (answer_of : R → Answer)
+    (answer : Answer) (d e : Uart16550 B) : Type 0 where
+  pub outcome : R
+  pub answered : answer ≡ answer_of outcome
+  pub did : Did step (doing outcome) d e
+
+-- this of a call that means this
+abbrev pub Called : {B : Type 0} → (B → Access → B → Type 0) → Meaning → Answer → Uart16550 B → Uart16550 B → Type 0
+Called step (means doing answer_of) answer d e = CalledAs step doing answer_of answer d e
 
 -- the driver under the terminal made this call, which was answered so
 abbrev pub Performed : {B : Type 0} → (B → Access → B → Type 0) → Uart16550Tty B → Call → Answer → Uart16550Tty B →

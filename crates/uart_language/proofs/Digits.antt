@@ -11,6 +11,7 @@ use Rattle.std.specs.Str.{IsUtf8, is_utf8}
 use Rattle.std.proofs.lemmas.Str.{is_utf8-from_IsUtf8, IsUtf8-from_is_utf8}
 use Rattle.std.proofs.Common.{Err, inl, inr}
 use Rattle.std.proofs.lemmas.Bool.{and_parts, cases_Bool}
+use Rattle.uart_calls.specs.declared.call.TheConstants.{CALL_BYTES}
 use Rattle.uart_language.specs.declared.cause.Cause.TheVariants.{BadText}
 use Rattle.uart_language.specs.Fields.{pairs_of, bytes_in, text_in}
 use Rattle.uart_language.proofs.Results.{read}
@@ -53,7 +54,7 @@ is_read word value i le r =
 pub record PairsRead (word bytes rest : List ℕ) : Type 0 where
   pub same : bytes ++ pairs_of rest ≡ pairs_of word
   pub digits : list_all is_ascii_hexdigit rest ≡ true
-  pub fits : 2 * length bytes + length rest < 130
+  pub fits : 2 * length bytes + length rest < 2 * CALL_BYTES + 2
 
 pub pairs_on : (word bytes rest : List ℕ) (high low : ℕ) → 2 ≤ length rest → high ≡ digit_value (get_or rest 0 0)
     → low ≡ digit_value (get_or rest 1 0) → PairsRead word bytes rest

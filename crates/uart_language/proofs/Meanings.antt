@@ -21,7 +21,7 @@ use Rattle.uart_language.specs.Text.{words_of, word_at, has_bad_byte}
 use Rattle.uart_language.specs.Fields.{◌>>=◌, count_in, limit_in, ticks_in, byte_in, lines_in, bytes_in, text_in, errors_in, level_in}
 use Rattle.uart_language.specs.Fields.{rate_in, cts_in, interrupts_in, word_length_in}
 use Rattle.uart_language.specs.Words.{name_of, words, word_of, has_count, is_placed}
-use Rattle.uart_language.specs.Sayings.{Saying, Nothing, Limit, Happens, Calls, Marks, configured, array_of, text_of, Means}
+use Rattle.uart_language.specs.Sayings.{Saying, Nothing, Limit, Happens, Calls, Marks, configured, array_of, text_of, bare_call, Means}
 use Rattle.uart_language.specs.Sayings as row
 use Rattle.uart_language.specs.Script.{Says, blank, printable}
 use Rattle.uart_language.specs.Items.{config_in, arrival_in, call_of, item_of, placed_word, starts_with, item_at}
@@ -35,6 +35,11 @@ read_of number ws = placed_word number ws (word_of (word_at 0 ws)) >>= (λ word.
 
 pub not_first : (number : ℕ) → 2 ≤ number → eqb number 1 ≡ false
 not_first number le = ne_eqb number 1 (λ e. omega arith)
+
+bare_is_read : (number : ℕ) (w : Word) (c : Call) → 2 ≤ number → bare_call w ≡ Some c → read_of number (name_of w ∷ []) ≡ Ok (Calls c)
+unfolding word_of item_of call_of
+bare_is_read number word.Limit c le e = absurd cc
+bare_is_read number w c le e = rw (not_first number le) cc
 
 pub is_read : {number : ℕ} {ws : List (List ℕ)} {said : Saying} → 2 ≤ number → Means number ws said → read_of number ws ≡ Ok said
 unfolding word_of item_of call_of config_in arrival_in
@@ -56,25 +61,7 @@ is_read {number = number} le (row.arrive_faulty h e) = rw (not_first number le, 
 is_read {number = number} le (row.init f b c h l) = rw (not_first number le, f, b, c, h, l) refl
 is_read {number = number} le row.access = rw (not_first number le) refl
 is_read {number = number} le row.next = rw (not_first number le) refl
-is_read {number = number} le row.loopback = rw (not_first number le) refl
-is_read {number = number} le row.present = rw (not_first number le) refl
-is_read {number = number} le row.connected = rw (not_first number le) refl
-is_read {number = number} le row.ready_receive = rw (not_first number le) refl
-is_read {number = number} le row.ready_send = rw (not_first number le) refl
-is_read {number = number} le row.try_receive = rw (not_first number le) refl
-is_read {number = number} le row.flush = rw (not_first number le) refl
-is_read {number = number} le row.read_ready = rw (not_first number le) refl
-is_read {number = number} le row.write_ready = rw (not_first number le) refl
-is_read {number = number} le row.ier = rw (not_first number le) refl
-is_read {number = number} le row.isr = rw (not_first number le) refl
-is_read {number = number} le row.lcr = rw (not_first number le) refl
-is_read {number = number} le row.mcr = rw (not_first number le) refl
-is_read {number = number} le row.lsr = rw (not_first number le) refl
-is_read {number = number} le row.msr = rw (not_first number le) refl
-is_read {number = number} le row.spr = rw (not_first number le) refl
-is_read {number = number} le row.dll_dlm = rw (not_first number le) refl
-is_read {number = number} le row.fifo = rw (not_first number le) refl
-is_read {number = number} le row.dump = rw (not_first number le) refl
+is_read {number = number} le (row.bare w {c = c} e) = bare_is_read number w c le e
 
 -- ---- what is read is what the words mean
 
@@ -174,25 +161,6 @@ is_meant number word.Arrive rest s le p c e = arrival number rest s c e
 is_meant number word.Init rest s le p c e = config number rest s c e
 is_meant number word.Access rest s le p c e = bare number _ rest s (Happens event.Access) c e row.access
 is_meant number word.Next rest s le p c e = bare number _ rest s (Marks) c e row.next
-is_meant number word.Loopback rest s le p c e = bare number _ rest s (Calls call.TestLoopback) c e row.loopback
-is_meant number word.Present rest s le p c e = bare number _ rest s (Calls call.CheckPresent) c e row.present
-is_meant number word.Connected rest s le p c e = bare number _ rest s (Calls call.CheckConnected) c e row.connected
-is_meant number word.ReadyReceive rest s le p c e = bare number _ rest s (Calls call.ReadyToReceive) c e row.ready_receive
-is_meant number word.ReadySend rest s le p c e = bare number _ rest s (Calls call.ReadyToSend) c e row.ready_send
-is_meant number word.TryReceive rest s le p c e = bare number _ rest s (Calls call.TryReceive) c e row.try_receive
-is_meant number word.Flush rest s le p c e = bare number _ rest s (Calls call.Flush) c e row.flush
-is_meant number word.ReadReady rest s le p c e = bare number _ rest s (Calls call.ReadReady) c e row.read_ready
-is_meant number word.WriteReady rest s le p c e = bare number _ rest s (Calls call.WriteReady) c e row.write_ready
-is_meant number word.Ier rest s le p c e = bare number _ rest s (Calls call.Ier) c e row.ier
-is_meant number word.Isr rest s le p c e = bare number _ rest s (Calls call.Isr) c e row.isr
-is_meant number word.Lcr rest s le p c e = bare number _ rest s (Calls call.Lcr) c e row.lcr
-is_meant number word.Mcr rest s le p c e = bare number _ rest s (Calls call.Mcr) c e row.mcr
-is_meant number word.Lsr rest s le p c e = bare number _ rest s (Calls call.Lsr) c e row.lsr
-is_meant number word.Msr rest s le p c e = bare number _ rest s (Calls call.Msr) c e row.msr
-is_meant number word.Spr rest s le p c e = bare number _ rest s (Calls call.Spr) c e row.spr
-is_meant number word.DllDlm rest s le p c e = bare number _ rest s (Calls call.DllDlm) c e row.dll_dlm
-is_meant number word.Fifo rest s le p c e = bare number _ rest s (Calls call.FifoEnabled) c e row.fifo
-is_meant number word.Dump rest s le p c e = bare number _ rest s (Calls call.Dump) c e row.dump
 is_meant number word.Tick rest s le p c e = field number _ ticks_in (λ k. Happens (event.Ticks k)) rest s c e (λ W x h. row.tick h)
 is_meant number word.Lines rest s le p c e = field number _ (lines_in) (λ v. Happens (event.Lines v)) rest s c e (λ W x h. row.lines h)
 is_meant number word.TrySend rest s le p c e = call_field number _ (byte_in) (call.TrySend) rest s c e (λ W x h. row.try_send h)
@@ -207,6 +175,7 @@ is_meant number word.SendExact rest s le p c e =
     call_field number _ (bytes_in) (λ x. call.SendExact (array_of x)) rest s c e (λ W x h. row.send_exact h)
 is_meant number word.Write rest s le p c e = call_field number _ (bytes_in) (λ x. call.Write (array_of x)) rest s c e (λ W x h. row.write h)
 is_meant number word.Text rest s le p c e = call_field number _ (text_in) (λ x. call.Text (text_of x)) rest s c e (λ W x h. row.text h)
+is_meant number w rest s le p c e = bare number _ rest s _ c e (row.bare w refl)
 
 -- ---- the first word
 

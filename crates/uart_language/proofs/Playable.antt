@@ -1,7 +1,7 @@
 -- Every script can be played: its numbers are in their ranges, its events are legal and its calls runnable.
 use Rattle.std.proofs.Common.{◌≡◌, ℕ, suc, ◌+◌, ◌*◌, ◌<◌, ◌≤◌, Bool, true, false, cond, leb, eqb, ◌&&◌, List, [], ◌∷◌, length, Result, Ok}
-use Rattle.std.proofs.Common.{Err, refl, sym, subst, arith, bit_and}
-use Rattle.std.specs.Prelude.{All, flat_map}
+use Rattle.std.proofs.Common.{Err, Option, refl, sym, subst, arith, bit_and}
+use Rattle.std.specs.Prelude.{All, IfSome, flat_map}
 use Rattle.std.specs.Char.{is_ascii_hexdigit, digit_value}
 use Rattle.std.specs.Str.Parse.{digits_value}
 use Rattle.std.proofs.lemmas.Bool.{agree_below_at, eqb-true, leb-true, and_parts}
@@ -15,10 +15,19 @@ use Rattle.uart_language.specs.declared.cause.Cause.{Cause}
 use Rattle.uart_language.specs.declared.cause.Cause.TheVariants.{BadWord}
 use Rattle.uart_language.specs.declared.limits.TheConstants.{MOST_LIMIT, MOST_RATE}
 use Rattle.uart_language.specs.Fields.{◌>>=◌, is_number, number_in, lines_in, errors_in, rate_of, rate_in}
+use Rattle.uart_calls.specs.declared.call.Call.{Call}
+use Rattle.uart_calls.specs.declared.call.TheConstants.{CALL_BYTES}
 use Rattle.uart_calls.specs.Calls.{IsRunnable}
-use Rattle.uart_language.specs.Sayings.{Saying, Nothing, Limit, Happens, Calls, Marks, Means, events_said, calls_said}
+use Rattle.uart_spec.specs.declared.registers.line_status.TheConstants.LSR
+use Rattle.uart_spec.specs.declared.registers.modem_status.TheConstants.MSR
+use Rattle.uart_chip.specs.declared.event.TheConstants.{MAX_CHAR_TICKS, MAX_WIRE_CAPACITY}
+use Rattle.uart_chip.specs.Build.{IsLegal}
+use Rattle.uart_chip.specs.Masks.{IsWithin}
+use Rattle.uart_language.specs.declared.words.Word.{Word}
+use Rattle.uart_language.specs.declared.words.Word.TheVariants as word
+use Rattle.uart_language.specs.Sayings.{Saying, Nothing, Limit, Happens, Calls, Marks, bare_call, Means, events_said, calls_said}
 use Rattle.uart_language.specs.Sayings as row
-use Rattle.uart_language.specs.Script.{Plan, Says, blank, printable, SayInOrder, limit_from, IsScript, IsLegal, IsPlayable}
+use Rattle.uart_language.specs.Script.{Plan, Says, blank, printable, SayInOrder, limit_from, IsScript, IsPlayable}
 
 -- ---- fields
 
@@ -39,26 +48,27 @@ number_range least most word n e =
 hex_below : (d : ℕ) → is_ascii_hexdigit d ≡ true → digit_value d < 16
 hex_below d e = grind (arith, nat_tests)
 
--- 16 times a digit has bits 4 to 7 alone
-high_bits : (k : ℕ) → k < 16 → bit_and (16 * k) 240 ≡ 16 * k
-high_bits k lt = eqb-true _ _ (agree_below_at (λ n. eqb (bit_and (16 * n) 240) (16 * n)) (λ n. true) 16 k refl lt)
+-- 16 times a digit has the bits of the modem lines alone
+high_bits : (k : ℕ) → k < 16 → IsWithin (16 * k) MSR.LINES.0
+high_bits k lt = eqb-true _ _ (agree_below_at (λ n. eqb (bit_and (16 * n) MSR.LINES.0) (16 * n)) (λ n. true) 16 k refl lt)
 
-lines_legal : (word : List ℕ) (v : ℕ) → lines_in word ≡ Ok v → bit_and v 240 ≡ v
+lines_legal : (word : List ℕ) (v : ℕ) → lines_in word ≡ Ok v → IsWithin v MSR.LINES.0
 unfolding lines_in
 lines_legal [] v e = absurd cc
 lines_legal (d ∷ []) v e =
     let r = value_by _ _ _ _ e in
     let digit = (and_parts (is_ascii_hexdigit d) true r.0).0 in
     let is : 16 * digit_value d ≡ v = omega (arith, r.1) in
-    subst (λ n. bit_and n 240 ≡ n) is (high_bits (digit_value d) (hex_below d digit))
+    subst (λ n. IsWithin n MSR.LINES.0) is (high_bits (digit_value d) (hex_below d digit))
 lines_legal (d ∷ b ∷ word) v e =
     let r = value_by _ _ _ _ e in absurd (omega (arith, eqb-true _ _ (and_parts (eqb (suc (suc (length word))) 1) _ r.0).0))
 
 record HasErrorBits (read : Result ℕ Cause) : Type 0 where
-  bits : (v : ℕ) → read ≡ Ok v → bit_and v 28 ≡ v
+  bits : (v : ℕ) → read ≡ Ok v → IsWithin v LSR.CHARACTER_ERRORS.0
 
-value_or : (test : Bool) (k : ℕ) (others : Result ℕ Cause) → bit_and k 28 ≡ k → HasErrorBits others → HasErrorBits (cond test (Ok k) others)
-value_or true k others legal rest = record { bits = λ v e. let is : k ≡ v = cc in subst (λ n. bit_and n 28 ≡ n) is legal }
+value_or : (test : Bool) (k : ℕ) (others : Result ℕ Cause) → IsWithin k LSR.CHARACTER_ERRORS.0 → HasErrorBits others
+    → HasErrorBits (cond test (Ok k) others)
+value_or true k others legal rest = record { bits = λ v e. let is : k ≡ v = cc in subst (λ n. IsWithin n LSR.CHARACTER_ERRORS.0) is legal }
 value_or false k others legal rest = rest
 
 no_value : HasErrorBits (Err BadWord)
@@ -67,8 +77,10 @@ no_value = record { bits = λ v e. absurd cc }
 errors_legal : (word : List ℕ) → HasErrorBits (errors_in word)
 unfolding errors_in
 errors_legal word =
-    value_or _ 4 _ refl (value_or _ 8 _ refl
-    (value_or _ 16 _ refl (value_or _ 12 _ refl (value_or _ 20 _ refl (value_or _ 24 _ refl (value_or _ 28 _ refl (no_value)))))))
+    value_or _ LSR.PARITY_ERROR.0 _ refl (value_or _ LSR.FRAMING_ERROR.0 _ refl (value_or _ LSR.BREAK_INTERRUPT.0 _ refl
+    (value_or _ (LSR.PARITY_ERROR.0 + LSR.FRAMING_ERROR.0) _ refl
+    (value_or _ (LSR.PARITY_ERROR.0 + LSR.BREAK_INTERRUPT.0) _ refl
+    (value_or _ (LSR.FRAMING_ERROR.0 + LSR.BREAK_INTERRUPT.0) _ refl (value_or _ LSR.CHARACTER_ERRORS.0 _ refl no_value))))))
 
 record IsPositive (rate : BaudRate) : Type 0 where
   number : 0 < to_integer rate
@@ -105,6 +117,11 @@ IsGood (Happens e) = IsLegal e
 IsGood (Calls c) = IsRunnable c
 IsGood Marks = Unit {0}
 
+-- a call that a word asks for by itself can be run
+bare_good : (w : Word) → IfSome (bare_call w) IsRunnable
+bare_good word.Loopback = tt
+bare_good w = tt
+
 means_good : {number : ℕ} {ws : List (List ℕ)} {said : Saying} → Means number ws said → IsGood said
 means_good (row.limit {N = N} {n = n} e h) = number_range 1 MOST_LIMIT N n h
 means_good (row.arrive h) = refl
@@ -115,9 +132,10 @@ means_good (row.init {BAUD = BAUD} f b c h l) = record {
   baud_rate = rate_read BAUD _ b;
   prescaler_division_factor = omega arith;
 }
-means_good (row.receive {N = N} h) = (number_range 0 64 N _ h).1
-means_good (row.receive_exact {N = N} h) = (number_range 0 64 N _ h).1
-means_good (row.read {N = N} h) = (number_range 0 64 N _ h).1
+means_good (row.receive {N = N} h) = (number_range 0 CALL_BYTES N _ h).1
+means_good (row.receive_exact {N = N} h) = (number_range 0 CALL_BYTES N _ h).1
+means_good (row.read {N = N} h) = (number_range 0 CALL_BYTES N _ h).1
+means_good (row.bare w e) = subst (λ (o : Option Call). IfSome o IsRunnable) e (bare_good w)
 means_good m = tt
 
 says_good : {number : ℕ} {line : List ℕ} {said : Saying} → Says number line said → IsGood said
@@ -159,8 +177,8 @@ all_parts P part good number (line ∷ lines) (s ∷ sayings) h =
 
 pub playable : (bytes : List ℕ) (plan : Plan) → IsScript bytes plan → IsPlayable plan
 playable bytes plan s = record {
-  ticks = number_range 1 1000 s.header.T plan.ticks s.header.ticks_is;
-  wire_capacity = (number_range 0 65536 s.header.W plan.wire_capacity s.header.wire_capacity_is).1;
+  ticks = number_range 1 MAX_CHAR_TICKS s.header.T plan.ticks s.header.ticks_is;
+  wire_capacity = (number_range 0 MAX_WIRE_CAPACITY s.header.W plan.wire_capacity s.header.wire_capacity_is).1;
   limit = rw s.limit (limit_good 2 s.others s.sayings MOST_LIMIT (omega arith, omega arith) s.body);
   events = rw s.events (all_parts IsLegal events_said events_good 2 s.others s.sayings s.body);
   calls = rw s.calls (all_parts IsRunnable calls_said calls_good 2 s.others s.sayings s.body);

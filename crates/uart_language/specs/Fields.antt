@@ -13,6 +13,9 @@ use Rattle.uart_spec.specs.declared.registers.fifo_trigger_level.FifoTriggerLeve
 use Rattle.uart_spec.specs.declared.registers.fifo_trigger_level.FifoTriggerLevel.TheVariants.{One, Four, Eight}
 use Rattle.uart_spec.specs.declared.registers.fifo_trigger_level.FifoTriggerLevel.TheVariants.{Fourteen}
 use Rattle.uart_spec.specs.declared.registers.interrupt_enable.IER.{IER}
+use Rattle.uart_spec.specs.declared.registers.line_status.TheConstants.LSR
+use Rattle.uart_chip.specs.declared.event.TheConstants.{MAX_CHAR_TICKS, MAX_WIRE_CAPACITY}
+use Rattle.uart_calls.specs.declared.call.TheConstants.{CALL_BYTES}
 use Rattle.uart_chip.specs.declared.event.Chip.{Chip}
 use Rattle.uart_chip.specs.declared.event.Chip.TheVariants.{Uart16550A, Uart16450}
 use Rattle.uart_language.specs.declared.cause.Cause.{Cause}
@@ -37,7 +40,7 @@ number_in least most word =
 
 -- N of a call: how many bytes it has room for
 abbrev pub count_in : List ℕ → Result ℕ Cause
-count_in word = number_in 0 64 word
+count_in word = number_in 0 CALL_BYTES word
 
 -- N of `limit`: the driver's limit
 abbrev pub limit_in : List ℕ → Result ℕ Cause
@@ -49,11 +52,11 @@ ticks_in word = number_in 0 MOST_TICKS word
 
 -- T: how many ticks a character takes to leave the chip
 abbrev pub char_ticks_in : List ℕ → Result ℕ Cause
-char_ticks_in word = number_in 1 1000 word
+char_ticks_in word = number_in 1 MAX_CHAR_TICKS word
 
 -- W: how many bytes the wire has room for
 abbrev pub wire_capacity_in : List ℕ → Result ℕ Cause
-wire_capacity_in word = number_in 0 65536 word
+wire_capacity_in word = number_in 0 MAX_WIRE_CAPACITY word
 
 -- HH: two hexadecimal digits of either case
 unfoldable pub byte_in : List ℕ → Result ℕ Cause
@@ -74,11 +77,11 @@ pairs_of (high ∷ low ∷ digits) = (16 * digit_value high + digit_value low) �
 abbrev pub is_pairs : List ℕ → Bool
 is_pairs word = nat_le 1 (length word) && (length word % 2 == 0) && list_all is_ascii_hexdigit word
 
--- HEX: `-` for no bytes, or pairs of digits for at most 64 bytes
+-- HEX: `-` for no bytes, or pairs of digits for at most those of a call
 unfoldable pub bytes_in : List ℕ → Result (List ℕ) Cause
 bytes_in word =
     if bytes_eq word (codes "-") then Ok []
-    else if is_pairs word then (if nat_le (length word / 2) 64 then Ok (pairs_of word) else Err TooManyBytes)
+    else if is_pairs word then (if nat_le (length word / 2) CALL_BYTES then Ok (pairs_of word) else Err TooManyBytes)
     else Err BadHex
 
 -- HEX whose bytes are UTF-8
@@ -92,11 +95,14 @@ abbrev pub among : {A : Type 0} → List (List ℕ × A) → List ℕ → Result
 among [] word = Err BadWord
 among (row ∷ rows) word = if bytes_eq word row.0 then Ok row.1 else among rows word
 
--- E: a parity error p, a framing error f and a break b are the bits 04, 08 and 10 of LSR
+-- E: a parity error p, a framing error f and a break b, as LSR shows them
 unfoldable pub errors_in : List ℕ → Result ℕ Cause
 errors_in word = among (
-    (codes "p", 0x04) ∷ (codes "f", 0x08) ∷ (codes "b", 0x10) ∷ (codes "pf", 0x0C) ∷ (codes "pb", 0x14)
-    ∷ (codes "fb", 0x18) ∷ (codes "pfb", 0x1C) ∷ []) word
+    (codes "p", LSR.PARITY_ERROR.0) ∷ (codes "f", LSR.FRAMING_ERROR.0) ∷ (codes "b", LSR.BREAK_INTERRUPT.0)
+    ∷ (codes "pf", LSR.PARITY_ERROR.0 + LSR.FRAMING_ERROR.0)
+    ∷ (codes "pb", LSR.PARITY_ERROR.0 + LSR.BREAK_INTERRUPT.0)
+    ∷ (codes "fb", LSR.FRAMING_ERROR.0 + LSR.BREAK_INTERRUPT.0)
+    ∷ (codes "pfb", LSR.CHARACTER_ERRORS.0) ∷ []) word
 
 -- the chip
 unfoldable pub chip_in : List ℕ → Result Chip Cause

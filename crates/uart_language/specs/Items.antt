@@ -1,5 +1,6 @@
 -- How a line is read, field by field, as the parser reads it.
 use Rattle.std.specs.Prelude.{ℕ, false, List, length, Option, Some, None, Result, Ok, Err, ◌==◌, if◌then◌else◌}
+use Rattle.std.specs.Option.{ok_or}
 use Rattle.std.specs.Int.NonZero.{non_zero_u64_get}
 use Rattle.uart_spec.specs.declared.config.Config.{Config}
 use Rattle.uart_chip.specs.declared.event.Event.{Event}
@@ -19,7 +20,11 @@ use Rattle.uart_language.specs.Fields.{lines_in, bytes_in, text_in, errors_in, c
 use Rattle.uart_language.specs.Fields.{cts_in, interrupts_in, word_length_in}
 use Rattle.uart_language.specs.Words.{word_of, has_count, is_placed}
 use Rattle.uart_language.specs.Sayings.{Saying, Nothing, Limit, Happens, Calls, Marks, configured, array_of, text_of}
-use Rattle.uart_language.specs.Sayings.{plain}
+use Rattle.uart_language.specs.Sayings.{plain, bare_call}
+
+-- what is made of what was read
+abbrev pub read_as : {A B : Type 0} → Result A Cause → (A → B) → Result B Cause
+read_as read make = read >>= (λ x. Ok (make x))
 
 -- init F BAUD C HH BITS
 unfoldable pub config_in : List (List ℕ) → Result Config Cause
@@ -40,79 +45,28 @@ arrival_in ws = do
 
 -- the call that a line asks for
 unfoldable pub call_of : Word → List (List ℕ) → Result Call Cause
-call_of word.Init ws = do
-  config ← config_in ws
-  Ok (call.Init config)
-call_of word.Loopback ws = Ok call.TestLoopback
-call_of word.Present ws = Ok call.CheckPresent
-call_of word.Connected ws = Ok call.CheckConnected
-call_of word.ReadyReceive ws = Ok call.ReadyToReceive
-call_of word.ReadySend ws = Ok call.ReadyToSend
-call_of word.TryReceive ws = Ok call.TryReceive
-call_of word.Flush ws = Ok call.Flush
-call_of word.ReadReady ws = Ok call.ReadReady
-call_of word.WriteReady ws = Ok call.WriteReady
-call_of word.Ier ws = Ok call.Ier
-call_of word.Isr ws = Ok call.Isr
-call_of word.Lcr ws = Ok call.Lcr
-call_of word.Mcr ws = Ok call.Mcr
-call_of word.Lsr ws = Ok call.Lsr
-call_of word.Msr ws = Ok call.Msr
-call_of word.Spr ws = Ok call.Spr
-call_of word.DllDlm ws = Ok call.DllDlm
-call_of word.Fifo ws = Ok call.FifoEnabled
-call_of word.Dump ws = Ok call.Dump
-call_of word.TrySend ws = do
-  byte ← byte_in (word_at 1 ws)
-  Ok (call.TrySend byte)
-call_of word.Enable ws = do
-  interrupts ← interrupts_in (word_at 1 ws)
-  Ok (call.Enable interrupts)
-call_of word.Disable ws = do
-  interrupts ← interrupts_in (word_at 1 ws)
-  Ok (call.Disable interrupts)
-call_of word.Receive ws = do
-  n ← count_in (word_at 1 ws)
-  Ok (call.Receive n)
-call_of word.ReceiveExact ws = do
-  n ← count_in (word_at 1 ws)
-  Ok (call.ReceiveExact n)
-call_of word.Read ws = do
-  n ← count_in (word_at 1 ws)
-  Ok (call.Read n)
-call_of word.Send ws = do
-  bytes ← bytes_in (word_at 1 ws)
-  Ok (call.Send (array_of bytes))
-call_of word.SendExact ws = do
-  bytes ← bytes_in (word_at 1 ws)
-  Ok (call.SendExact (array_of bytes))
-call_of word.Write ws = do
-  bytes ← bytes_in (word_at 1 ws)
-  Ok (call.Write (array_of bytes))
-call_of word.Text ws = do
-  bytes ← text_in (word_at 1 ws)
-  Ok (call.Text (text_of bytes))
-call_of other ws = Err UnknownWord
+call_of word.Init ws = read_as (config_in ws) call.Init
+call_of word.TrySend ws = read_as (byte_in (word_at 1 ws)) call.TrySend
+call_of word.Enable ws = read_as (interrupts_in (word_at 1 ws)) call.Enable
+call_of word.Disable ws = read_as (interrupts_in (word_at 1 ws)) call.Disable
+call_of word.Receive ws = read_as (count_in (word_at 1 ws)) call.Receive
+call_of word.ReceiveExact ws = read_as (count_in (word_at 1 ws)) call.ReceiveExact
+call_of word.Read ws = read_as (count_in (word_at 1 ws)) call.Read
+call_of word.Send ws = read_as (bytes_in (word_at 1 ws)) (λ bytes. call.Send (array_of bytes))
+call_of word.SendExact ws = read_as (bytes_in (word_at 1 ws)) (λ bytes. call.SendExact (array_of bytes))
+call_of word.Write ws = read_as (bytes_in (word_at 1 ws)) (λ bytes. call.Write (array_of bytes))
+call_of word.Text ws = read_as (text_in (word_at 1 ws)) (λ bytes. call.Text (text_of bytes))
+call_of other ws = ok_or (bare_call other) UnknownWord
 
 -- what the words of a line after the first say
 unfoldable pub item_of : Word → List (List ℕ) → Result Saying Cause
-item_of word.Limit ws = do
-  n ← limit_in (word_at 1 ws)
-  Ok (Limit n)
-item_of word.Tick ws = do
-  n ← ticks_in (word_at 1 ws)
-  Ok (Happens (event.Ticks n))
-item_of word.Arrive ws = do
-  arrival ← arrival_in ws
-  Ok (Happens arrival)
-item_of word.Lines ws = do
-  lines ← lines_in (word_at 1 ws)
-  Ok (Happens (event.Lines lines))
+item_of word.Limit ws = read_as (limit_in (word_at 1 ws)) Limit
+item_of word.Tick ws = read_as (ticks_in (word_at 1 ws)) (λ n. Happens (event.Ticks n))
+item_of word.Arrive ws = read_as (arrival_in ws) Happens
+item_of word.Lines ws = read_as (lines_in (word_at 1 ws)) (λ lines. Happens (event.Lines lines))
 item_of word.Access ws = Ok (Happens event.Access)
 item_of word.Next ws = Ok Marks
-item_of word ws = do
-  c ← call_of word ws
-  Ok (Calls c)
+item_of word ws = read_as (call_of word ws) Calls
 
 -- the first word, if it is in its place before as many words as it takes
 abbrev pub placed_word : ℕ → List (List ℕ) → Option Word → Result Word Cause

@@ -1,5 +1,5 @@
 -- What each line of a script says.
-use Rattle.std.specs.Prelude.{◌≡◌, ℕ, Bool, List, [], ◌∷◌, Option, Ok, codes}
+use Rattle.std.specs.Prelude.{◌≡◌, ℕ, Bool, List, [], ◌∷◌, Option, Some, None, Ok, codes}
 use Rattle.arrayvec.specs.ArrayVec.{ArrayVec}
 use Rattle.arrayvec.specs.ArrayString.{ArrayString}
 use Rattle.uart_spec.specs.declared.config.Config.{Config}
@@ -12,6 +12,9 @@ use Rattle.uart_chip.specs.declared.event.Event.{Event}
 use Rattle.uart_chip.specs.declared.event.Event.TheVariants as event
 use Rattle.uart_calls.specs.declared.call.Call.{Call}
 use Rattle.uart_calls.specs.declared.call.Call.TheVariants as call
+use Rattle.uart_language.specs.declared.words.Word.{Word}
+use Rattle.uart_language.specs.declared.words.Word.TheVariants as word
+use Rattle.uart_language.specs.Words.{name_of}
 use Rattle.uart_language.specs.Fields.{count_in, limit_in, ticks_in, byte_in, lines_in, bytes_in, text_in, errors_in}
 use Rattle.uart_language.specs.Fields.{level_in, rate_in, cts_in, interrupts_in, word_length_in}
 
@@ -55,6 +58,29 @@ abbrev pub plain : Call → Call
 plain (call.Text text) = call.Text (text_of text.bytes)
 plain c = c
 
+-- the call that a word asks for by itself
+abbrev pub bare_call : Word → Option Call
+bare_call word.Loopback = Some call.TestLoopback
+bare_call word.Present = Some call.CheckPresent
+bare_call word.Connected = Some call.CheckConnected
+bare_call word.ReadyReceive = Some call.ReadyToReceive
+bare_call word.ReadySend = Some call.ReadyToSend
+bare_call word.TryReceive = Some call.TryReceive
+bare_call word.Flush = Some call.Flush
+bare_call word.ReadReady = Some call.ReadReady
+bare_call word.WriteReady = Some call.WriteReady
+bare_call word.Ier = Some call.Ier
+bare_call word.Isr = Some call.Isr
+bare_call word.Lcr = Some call.Lcr
+bare_call word.Mcr = Some call.Mcr
+bare_call word.Lsr = Some call.Lsr
+bare_call word.Msr = Some call.Msr
+bare_call word.Spr = Some call.Spr
+bare_call word.DllDlm = Some call.DllDlm
+bare_call word.Fifo = Some call.FifoEnabled
+bare_call word.Dump = Some call.Dump
+bare_call other = None
+
 -- The lines after the first, word by word, with the number of the line.
 pub data Means (number : ℕ) : List (List ℕ) → Saying → Type 0 where
   limit : {N : List ℕ} {n : ℕ} → number ≡ 2 → limit_in N ≡ Ok n → Means number (codes "limit" ∷ N ∷ []) (Limit n)
@@ -73,25 +99,7 @@ pub data Means (number : ℕ) : List (List ℕ) → Saying → Type 0 where
       → word_length_in BITS ≡ Ok word_length
       → Means number (codes "init" ∷ F ∷ BAUD ∷ C ∷ HH ∷ BITS ∷ [])
       (Calls (call.Init (configured level rate cts interrupts word_length)))
-  loopback : Means number (codes "loopback" ∷ []) (Calls call.TestLoopback)
-  present : Means number (codes "present" ∷ []) (Calls call.CheckPresent)
-  connected : Means number (codes "connected" ∷ []) (Calls call.CheckConnected)
-  ready_receive : Means number (codes "ready-receive" ∷ []) (Calls call.ReadyToReceive)
-  ready_send : Means number (codes "ready-send" ∷ []) (Calls call.ReadyToSend)
-  try_receive : Means number (codes "try-receive" ∷ []) (Calls call.TryReceive)
-  flush : Means number (codes "flush" ∷ []) (Calls call.Flush)
-  read_ready : Means number (codes "read-ready" ∷ []) (Calls call.ReadReady)
-  write_ready : Means number (codes "write-ready" ∷ []) (Calls call.WriteReady)
-  ier : Means number (codes "ier" ∷ []) (Calls call.Ier)
-  isr : Means number (codes "isr" ∷ []) (Calls call.Isr)
-  lcr : Means number (codes "lcr" ∷ []) (Calls call.Lcr)
-  mcr : Means number (codes "mcr" ∷ []) (Calls call.Mcr)
-  lsr : Means number (codes "lsr" ∷ []) (Calls call.Lsr)
-  msr : Means number (codes "msr" ∷ []) (Calls call.Msr)
-  spr : Means number (codes "spr" ∷ []) (Calls call.Spr)
-  dll_dlm : Means number (codes "dll-dlm" ∷ []) (Calls call.DllDlm)
-  fifo : Means number (codes "fifo" ∷ []) (Calls call.FifoEnabled)
-  dump : Means number (codes "dump" ∷ []) (Calls call.Dump)
+  bare : (w : Word) {c : Call} → bare_call w ≡ Some c → Means number (name_of w ∷ []) (Calls c)
   try_send : {HH : List ℕ} {byte : ℕ} → byte_in HH ≡ Ok byte
       → Means number (codes "try-send" ∷ HH ∷ []) (Calls (call.TrySend byte))
   enable : {HH : List ℕ} {interrupts : IER} → interrupts_in HH ≡ Ok interrupts

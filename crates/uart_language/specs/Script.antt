@@ -1,11 +1,12 @@
 -- What a script is, line by line, and the first faulty line of bytes that are none.
-use Rattle.std.specs.Prelude.{◌≡◌, ◌↔◌, ⊤, ℕ, ◌+◌, ◌<◌, ◌≤◌, ◌==◌, ◌&&◌, nat_lt, bit_and, Bool, true, false, not, List}
+use Rattle.std.specs.Prelude.{◌≡◌, ◌↔◌, ℕ, ◌+◌, ◌<◌, ◌≤◌, ◌==◌, ◌&&◌, nat_lt, Bool, true, false, not, List}
 use Rattle.std.specs.Prelude.{[], ◌∷◌, ◌++◌, length, map, Option, Some, None, Result, Ok, Err, IfOk, All, if◌then◌else◌}
 use Rattle.std.specs.Prelude.{flat_map, codes, drop}
 use Rattle.std.specs.Int.NonZero.{non_zero_u64_get}
+use Rattle.uart_chip.specs.declared.event.TheConstants.{MAX_CHAR_TICKS, MAX_WIRE_CAPACITY}
+use Rattle.uart_chip.specs.Build.{IsLegal}
 use Rattle.uart_chip.specs.declared.event.Chip.{Chip}
 use Rattle.uart_chip.specs.declared.event.Event.{Event}
-use Rattle.uart_chip.specs.declared.event.Event.TheVariants as event
 use Rattle.uart_calls.specs.declared.call.Call.{Call}
 use Rattle.uart_language.specs.declared.cause.Cause.{Cause}
 use Rattle.uart_language.specs.declared.cause.Cause.TheVariants.{BadByte, Misplaced, UnknownWord, WrongCount, TooLong}
@@ -162,16 +163,10 @@ pub record IsParsed (bytes : List ℕ) (result : Result Script ScriptError) : Ty
 
 -- ---- what every script keeps
 
--- error bits are 2 to 4 of LSR, and modem lines are 4 to 7 of MSR
-abbrev pub IsLegal : Event → Type 0
-IsLegal (event.Arrive byte errors) = bit_and errors 0x1C ≡ errors
-IsLegal (event.Lines lines) = bit_and lines 0xF0 ≡ lines
-IsLegal other = ⊤
-
 -- its numbers are in their ranges, its events legal and its calls runnable, so that it can be played
 pub record IsPlayable (plan : Plan) : Type 0 where
-  pub ticks : (1 ≤ plan.ticks) × (plan.ticks ≤ 1000)
-  pub wire_capacity : plan.wire_capacity ≤ 65536
+  pub ticks : (1 ≤ plan.ticks) × (plan.ticks ≤ MAX_CHAR_TICKS)
+  pub wire_capacity : plan.wire_capacity ≤ MAX_WIRE_CAPACITY
   pub limit : (1 ≤ plan.limit) × (plan.limit ≤ MOST_LIMIT)
   pub events : All IsLegal plan.events
   pub calls : All IsRunnable plan.calls

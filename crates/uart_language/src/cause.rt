@@ -26,7 +26,7 @@ pub enum Cause {
     BadNumber,
     /// Hexadecimal digits of a wrong form.
     BadHex,
-    /// More than 64 bytes.
+    /// More bytes than [`CALL_BYTES`](uart_calls::CALL_BYTES).
     TooManyBytes,
     /// The bytes of a text are not UTF-8.
     BadText,

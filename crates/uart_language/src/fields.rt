@@ -14,9 +14,10 @@ use super::limits::{MOST_LIMIT, MOST_RATE, MOST_TICKS};
 use arrayvec::{ArrayString, ArrayVec};
 use bitflags::Flags;
 use std::num::NonZeroU64;
-use uart_chip::Chip;
+use uart_calls::CALL_BYTES;
+use uart_chip::{Chip, MAX_CHAR_TICKS, MAX_WIRE_CAPACITY};
 use uart_spec::BaudRate;
-use uart_spec::registers::{FifoTriggerLevel, IER, WordLength};
+use uart_spec::registers::{FifoTriggerLevel, IER, LSR, WordLength};
 
 /// Whether a word is 1 to 10 decimal digits.
 fn is_number(word: &[u8]) -> bool
@@ -121,9 +122,9 @@ fn all_hex(word: &[u8]) -> bool
 }
 
 /// The bytes that pairs of digits write.
-fn pairs_of(word: &[u8]) -> ArrayVec<u8, 64>
+fn pairs_of(word: &[u8]) -> ArrayVec<u8, CALL_BYTES>
     requires digits { IsTrue (list_all is_ascii_hexdigit word.now) }
-    requires fits { length word.now < 130 }
+    requires fits { length word.now < 2 * CALL_BYTES + 2 }
     ensures { result.items ≡ pairs_of word.now }
 {
     let mut bytes = ArrayVec::new();
@@ -135,9 +136,9 @@ fn pairs_of(word: &[u8]) -> ArrayVec<u8, 64>
     bytes
 }
 
-/// At most 64 bytes.
+/// At most the bytes of a call.
 #[tactic(auto, unfolding(crate::specs::Fields::bytes_in))]
-pub fn bytes_in(word: &[u8]) -> Result<ArrayVec<u8, 64>, Cause>
+pub fn bytes_in(word: &[u8]) -> Result<ArrayVec<u8, CALL_BYTES>, Cause>
     ensures { seen (λ bytes. bytes.items) result ≡ bytes_in word.now }
 {
     if word == b"-".as_slice() {
@@ -146,15 +147,15 @@ pub fn bytes_in(word: &[u8]) -> Result<ArrayVec<u8, 64>, Cause>
     if !is_pairs(word) {
         return Err(Cause::BadHex);
     }
-    if word.len() / 2 > 64 {
+    if word.len() / 2 > CALL_BYTES {
         return Err(Cause::TooManyBytes);
     }
     Ok(pairs_of(word))
 }
 
-/// At most 64 bytes of text.
+/// At most the bytes of a call, as text.
 #[tactic(auto, unfolding(crate::specs::Fields::text_in))]
-pub fn text_in(word: &[u8]) -> Result<ArrayString<64>, Cause>
+pub fn text_in(word: &[u8]) -> Result<ArrayString<CALL_BYTES>, Cause>
     ensures { seen (λ text. text.bytes) result ≡ text_in word.now }
 {
     let bytes = bytes_in(word)?;
@@ -174,13 +175,13 @@ pub fn errors_in(word: &[u8]) -> Result<u8, Cause>
     ensures { result ≡ errors_in word.now }
 {
     match word {
-        b"p" => Ok(0x04),
-        b"f" => Ok(0x08),
-        b"b" => Ok(0x10),
-        b"pf" => Ok(0x0C),
-        b"pb" => Ok(0x14),
-        b"fb" => Ok(0x18),
-        b"pfb" => Ok(0x1C),
+        b"p" => Ok(LSR::PARITY_ERROR.bits()),
+        b"f" => Ok(LSR::FRAMING_ERROR.bits()),
+        b"b" => Ok(LSR::BREAK_INTERRUPT.bits()),
+        b"pf" => Ok(LSR::PARITY_ERROR.union(LSR::FRAMING_ERROR).bits()),
+        b"pb" => Ok(LSR::PARITY_ERROR.union(LSR::BREAK_INTERRUPT).bits()),
+        b"fb" => Ok(LSR::FRAMING_ERROR.union(LSR::BREAK_INTERRUPT).bits()),
+        b"pfb" => Ok(LSR::CHARACTER_ERRORS.bits()),
         _ => Err(Cause::BadWord),
     }
 }
@@ -189,7 +190,7 @@ pub fn errors_in(word: &[u8]) -> Result<u8, Cause>
 pub fn count_in(word: &[u8]) -> Result<usize, Cause>
     ensures { result ≡ count_in word.now }
 {
-    let count = number_in(0, 64, word)?;
+    let count = number_in(0, CALL_BYTES as u64, word)?;
     Ok(count as usize)
 }
 
@@ -213,7 +214,7 @@ pub fn ticks_in(word: &[u8]) -> Result<u16, Cause>
 pub fn char_ticks_in(word: &[u8]) -> Result<u16, Cause>
     ensures { result ≡ char_ticks_in word.now }
 {
-    let ticks = number_in(1, 1000, word)?;
+    let ticks = number_in(1, MAX_CHAR_TICKS as u64, word)?;
     Ok(ticks as u16)
 }
 
@@ -221,7 +222,7 @@ pub fn char_ticks_in(word: &[u8]) -> Result<u16, Cause>
 pub fn wire_capacity_in(word: &[u8]) -> Result<usize, Cause>
     ensures { result ≡ wire_capacity_in word.now }
 {
-    let capacity = number_in(0, 65_536, word)?;
+    let capacity = number_in(0, MAX_WIRE_CAPACITY as u64, word)?;
     Ok(capacity as usize)
 }
 

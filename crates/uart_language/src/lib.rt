@@ -15,7 +15,5 @@ mod text;
 mod words;
 
 pub use cause::{Cause, ScriptError};
-pub use items::{Header, Item};
 pub use parsing::{Script, parse};
 pub use rendering::render;
-pub use words::Word;

@@ -1,7 +1,7 @@
 //! The limits of the language.
 ghost use Rattle.std.specs.Prelude.{◌≡◌};
 
-/// The longest script, in bytes. A reader of scripts needs to read no more than one byte beyond.
+/// The longest script, in bytes. The crate that plays scripts reads no more than one byte beyond.
 pub const MOST_BYTES: usize = 65_536;
 
 /// The longest script, in lines.

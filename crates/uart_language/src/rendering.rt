@@ -284,8 +284,10 @@ fn push_marks_line(out: &mut Vec<u8>, marks: &[ArrivalMark]) -> Result<(), Alloc
     Ok(())
 }
 
-/// One line for each answer, and four for what is left of the machine: the wire, what the transmitter holds, what waits in
-/// the receiver, and the mark of each arrival.
+/// What is printed: one line for each answer, and four for what is left of the machine, which are the wire, what the transmitter
+/// holds, what waits in the receiver, and the mark of each arrival.
+///
+/// Only the crate that plays scripts needs this.
 pub fn render(
     alloc: Global,
     answers: &[Answer],

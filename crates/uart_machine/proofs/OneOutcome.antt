@@ -13,7 +13,7 @@ use Rattle.uart_calls.specs.declared.call.Call.TheVariants as call
 use Rattle.uart_calls.specs.declared.call.Answer.{Answer}
 use Rattle.uart_chip.specs.Machine.{MachineState, MachineStep, at_mark}
 use Rattle.uart_calls.specs.Calls.{IsRunnable}
-use Rattle.uart_calls.specs.Meaning.{Meaning, Called, meaning}
+use Rattle.uart_calls.specs.Meaning.{Meaning, Called, doing_of, meaning}
 use Rattle.uart_calls.proofs.NoChoice.{meaning_leaves_no_choice}
 use Rattle.uart_run.specs.Run.{State, machine_of, CallStep, Link, Chain, calls_of, answers_of, IsRun}
 use Rattle.uart_language.specs.Script.{Plan, IsScript}
@@ -30,11 +30,11 @@ machine_is_function =
     record { read = λ s t u register a b p q. (p.1 ∙ sym q.1, p.0 ∙ sym q.0); write = λ s t u register value p q. p ∙ sym q }
 
 -- one call of the driver
-called_one : (m : Meaning) → LeavesNoChoice m.doing → (a b : Answer) (d e x y : Uart16550 MachineState) →
+called_one : (m : Meaning) → LeavesNoChoice (doing_of m) → (a b : Answer) (d e x y : Uart16550 MachineState) →
     Called MachineStep m a d e → Called MachineStep m b x y → IsSame d x → (a ≡ b) × IsSame e y
-called_one m law a b d e x y p q same =
-    let r = one_outcome {G = m.doing} law machine_is_function p.outcome q.outcome d e x y p.did q.did same in
-    (p.answered ∙ ap m.answer r.0 ∙ sym q.answered, r.1)
+called_one (Meaning.means doing answer_of) law a b d e x y p q same =
+    let r = one_outcome {G = doing} law machine_is_function p.outcome q.outcome d e x y p.did q.did same in
+    (p.answered ∙ ap answer_of r.0 ∙ sym q.answered, r.1)
 
 -- one call of a run
 step_one : (s t x y : State) (a b : Answer) → IsSameState s x → (c : Call) → IsRunnable c → CallStep s c a t → CallStep x c b y →

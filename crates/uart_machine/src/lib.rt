@@ -2,7 +2,8 @@
 //!
 //! - [`Device16550`] is a 16550A or 16450 under a schedule of ticks, arrivals and modem lines: one more backend of the driver. Each
 //!   register access first performs the scheduled events that come before it, and then has the effect that the datasheet gives it.
-//! - [`run`] makes a list of calls on a driver over such a device. Its contract has the theorems about driver and chip together.
+//! - [`perform`] makes one [`Call`] of the driver over any backend, and returns its [`Answer`].
+//! - [`run`] makes a list of calls over such a device. Its contract has the theorems about driver and chip together.
 //! - [`script`] plays a script from a reader to a writer.
 //! - [`laws`] has what follows from these contracts.
 //!

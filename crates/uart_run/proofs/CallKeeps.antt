@@ -17,7 +17,7 @@ use Rattle.uart_16550.specs.Status.{TakesLsr, TakesMsr, Connects, ReadsDivisor, 
 use Rattle.uart_16550.specs.declared.dump.ConfigRegisterDump.{ConfigRegisterDump}
 use Rattle.uart_calls.specs.Meaning.{ShowsFifo}
 use Rattle.uart_chip.specs.Transmitter.{room}
-use Rattle.uart_device.proofs.Blocks.{is_quiet, Look, Other, Divisor, AllQuiet}
+use Rattle.uart_device.proofs.conservation.Blocks.{is_quiet, Look, Other, Divisor, AllQuiet}
 use Rattle.uart_run.proofs.CallBlocks.{no_bytes, InBlocks, blocks_none, blocks_one, blocks_then, Makes, makes_only_none}
 use Rattle.uart_run.proofs.CallBlocks.{makes_then, makes_all, makes_look, send_hit_blocks, send_miss_blocks, round_blocks}
 use Rattle.uart_run.proofs.CallBlocks.{sends_some_blocks, sends_some_none_blocks, waits_blocks, receives_some_blocks}
@@ -152,8 +152,9 @@ no_status_keeps f after l made b e p q fifo lsr msr = rw e (record {
 
 -- no access, and the fields stay
 pub shows_fifo_keeps : (on : Bool) (f after : Fields) (l : List Access) → ShowsFifo on f l after → Keeps f l after [] []
-shows_fifo_keeps on f after l (shown, none, same) =
-    no_status_keeps f after l [] (blocks_none f.fifo) none refl refl (ap (λ g. g.fifo) same) (ap (λ g. g.lsr) same) (ap (λ g. g.msr) same)
+shows_fifo_keeps on f after l (shown, kept) =
+    no_status_keeps f after l [] (blocks_none f.fifo) kept.0 refl refl
+    (ap (λ g. g.fifo) kept.1) (ap (λ g. g.lsr) kept.1) (ap (λ g. g.msr) kept.1)
 
 pub enables_keeps : (bits : ℕ) (f after : Fields) (l : List Access) → Enables bits f l after → Keeps f l after [] []
 enables_keeps bits f after l (ier, is, changed) =

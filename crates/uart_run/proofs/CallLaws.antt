@@ -21,15 +21,15 @@ use Rattle.uart_calls.specs.declared.call.Call.TheVariants as call
 use Rattle.uart_calls.specs.declared.call.Answer.{Answer}
 use Rattle.uart_calls.specs.declared.call.Answer.TheVariants.{Flag, Count, Register}
 use Rattle.uart_chip.specs.Machine.{MachineStep}
-use Rattle.uart_calls.specs.Meaning.{ShowsFifo, SendsShortText, Called, saves, connected_answer, receive_ready_answer}
+use Rattle.uart_calls.specs.Meaning.{ShowsFifo, SendsShortText, CalledAs, connected_answer, receive_ready_answer}
 use Rattle.uart_calls.specs.Meaning.{received_answer, sent_answer, exact_answer, count_answer}
 use Rattle.uart_calls.specs.Meaning.{ready_answer, latch_answer, bytes_answer, receive_exact_answer, read_answer}
 use Rattle.uart_run.specs.Run.{State, machine_of, CallStep}
 use Rattle.uart_run.specs.Session.{count_of, sent_of, sent_byte_of, byte_of, bytes_of, reported_by, received_by, IsWithinSession}
 use Rattle.uart_run.specs.Statuses.{IsNoLsr, IsNoMsr}
-use Rattle.uart_device.proofs.Went.{Modes}
-use Rattle.uart_device.proofs.Passed.{passed-refl, passed-mark}
-use Rattle.uart_device.proofs.BlockLaws.{IsOpen, Stands, PassedBlocks}
+use Rattle.uart_device.proofs.conservation.Went.{Modes}
+use Rattle.uart_device.proofs.conservation.Passed.{passed-refl, passed-mark}
+use Rattle.uart_device.proofs.conservation.BlockLaws.{IsOpen, Stands, PassedBlocks}
 use Rattle.uart_run.proofs.CallBlocks.{no_bytes, InBlocks, Makes, passed_in_blocks, ready_to_send_blocks}
 use Rattle.uart_run.proofs.CallBlocks.{ready_to_receive_blocks, sends_blocks, sends_exact_blocks, try_sends_blocks}
 use Rattle.uart_run.proofs.CallBlocks.{try_receive_blocks, receives_blocks, receives_exact_blocks}
@@ -70,7 +70,7 @@ passes_did x N M G ws rs s t w did k =
 -- the same, by the blocks of its language for each result
 passes_called : {R : Type 0} (x : Modes) (N M : Type 0) (L : R → Language) (answer_of : R → Answer) (written read : Answer → List ℕ)
     (s t : State) (a : Answer) → InSession x s → ((v : Settings) (r : R) → Makes v (L r) (written (answer_of r)) (read (answer_of r))) →
-    Called MachineStep (saves L answer_of) a (inner_of s) (inner_of t) → Passes x N M s t (written a) (read a)
+    CalledAs MachineStep (λ r. Saving (L r)) answer_of a (inner_of s) (inner_of t) → Passes x N M s t (written a) (read a)
 passes_called x N M L answer_of written read s t a w makes c =
     let f = fields (inner_of s) in
     let k = saving_keeps (L c.outcome) f (fields (inner_of t)) c.did.list _ _ (makes (settings_of f) c.outcome) c.did.does in
@@ -78,8 +78,8 @@ passes_called x N M L answer_of written read s t a w makes c =
 
 -- a call that sends and receives nothing
 passes_silent : {R : Type 0} (x : Modes) (N M : Type 0) (L : R → Language) (answer_of : R → Answer) (s t : State) (a : Answer) →
-    InSession x s → ((v : Settings) (r : R) → Makes v (L r) [] []) → Called MachineStep (saves L answer_of) a (inner_of s) (inner_of t) →
-    Passes x N M s t [] []
+    InSession x s → ((v : Settings) (r : R) → Makes v (L r) [] []) →
+    CalledAs MachineStep (λ r. Saving (L r)) answer_of a (inner_of s) (inner_of t) → Passes x N M s t [] []
 passes_silent x N M L answer_of s t a w makes c = passes_called x N M L answer_of (λ _. []) (λ _. []) s t a w makes c
 
 -- ---- what is sent and received, as the answers tell

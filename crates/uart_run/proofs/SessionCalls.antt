@@ -13,8 +13,8 @@ use Rattle.uart_run.specs.Ready.{Ready}
 use Rattle.uart_run.specs.Session.{AllWithinSession, reported, received, reported_by, received_by}
 use Rattle.uart_run.specs.Statuses.{AllNoLsr, AllNoMsr}
 use Rattle.uart_chip.proofs.Bits.{or_assoc}
-use Rattle.uart_device.proofs.Went.{Modes, saved-append}
-use Rattle.uart_device.proofs.BlockLaws.{passed_blocks-trans, stands-after}
+use Rattle.uart_device.proofs.conservation.Went.{Modes, saved-append}
+use Rattle.uart_device.proofs.conservation.BlockLaws.{passed_blocks-trans, stands-after}
 use Rattle.uart_run.proofs.CallLaws.{Passes, InSession, passes_none, passes_call}
 
 -- the modes in which a session runs are those in which it begins

@@ -9,9 +9,9 @@ use Rattle.uart_device.specs.Sound.{IsSound}
 use Rattle.uart_device.specs.Conserved.{out}
 use Rattle.uart_run.specs.Run.{State, machine_of, Link, Chain, CallStep}
 use Rattle.uart_run.specs.Session.{AllWithinSession, IsSession, reported, received, Conserves}
-use Rattle.uart_device.proofs.Sounds.{sound_path, sound_mark}
-use Rattle.uart_device.proofs.Went.{Modes, dlab-in, loopback-in}
-use Rattle.uart_device.proofs.SessionLaws.{received_kept}
+use Rattle.uart_device.proofs.soundness.Sounds.{sound_path, sound_mark}
+use Rattle.uart_device.proofs.conservation.Went.{Modes, dlab-in, loopback-in}
+use Rattle.uart_device.proofs.conservation.SessionLaws.{received_kept}
 use Rattle.uart_run.proofs.CallLaws.{InSession}
 use Rattle.uart_run.proofs.SessionCalls.{modes_of, in_session, passes_chain}
 use Rattle.uart_run.proofs.StatusSessions.{tells_in}

@@ -8,7 +8,7 @@ use Rattle.uart_spec.specs.Access.{Access, Read, Write}
 use Rattle.uart_16550.specs.Grammar.{Language, Settings, Only, Then, Times, FewMisses, Asks, ReadsRegister}
 use Rattle.uart_16550.specs.Driver.{Fields, Doing, Saving, Plain, Sets, Next, settings_of}
 use Rattle.uart_16550.specs.Init.{Keeps, ChecksPresence, SetsFifo, Discards, DrainsReceiver}
-use Rattle.uart_device.proofs.Lasting.{AllSendNothing}
+use Rattle.uart_device.proofs.lasting.Lasting.{AllSendNothing}
 
 -- ---- languages
 

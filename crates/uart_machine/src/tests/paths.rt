@@ -1,10 +1,14 @@
 //! Each public path of the crate, named once.
 use super::arrive;
-use crate::laws::{idle_keeps_ready, runs_have_one_outcome, scripts_have_one_output};
+use crate::laws::{
+    idle_keeps_ready, meanings_leave_no_choice, runs_have_one_outcome, scripts_have_one_output,
+};
 use crate::script::{
     Cause, Fault, Input, Output, PlayError, Script, ScriptError, Std, parse, play,
 };
-use crate::{Answer, ArrivalMark, BuildError, Call, Chip, Device16550, Event, run};
+use crate::{
+    Answer, ArrivalMark, BuildError, CALL_BYTES, Call, Chip, Device16550, Event, perform, run,
+};
 use std::alloc::Global;
 use std::test::Fail;
 use uart_16550::{Uart16550, Uart16550Tty};
@@ -14,7 +18,7 @@ fn built(alloc: Global, schedule: Vec<Event>) -> Result<Device16550, BuildError>
 }
 
 #[test]
-fn a_run_of_no_calls_leaves_the_device(rt: HostRuntime) -> Result<(), Fail> {
+fn no_calls_are_run_and_one_is_performed(rt: HostRuntime) -> Result<(), Fail> {
     let schedule = vec![in rt.alloc(); arrive(0x41)]?;
     let uart = Uart16550::new_with_backend(built(rt.alloc(), schedule)?);
     let mut terminal = Uart16550Tty::from_inner(uart);
@@ -25,6 +29,8 @@ fn a_run_of_no_calls_leaves_the_device(rt: HostRuntime) -> Result<(), Fail> {
         terminal.inner().backend().mark(0),
         Some(ArrivalMark::Pending)
     );
+    assert_eq!(rt; perform(&mut terminal, &Call::Spr), Answer::Register(0));
+    assert_eq!(rt; CALL_BYTES, 64);
     Ok(())
 }
 
@@ -59,6 +65,7 @@ fn scripts_are_parsed_and_played(rt: HostRuntime) -> Result<(), Fail> {
 #[test]
 fn laws_are_called() {
     idle_keeps_ready();
+    meanings_leave_no_choice();
     runs_have_one_outcome();
     scripts_have_one_output();
 }

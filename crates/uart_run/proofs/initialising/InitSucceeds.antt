@@ -31,7 +31,7 @@ use Rattle.uart_calls.specs.Meaning.{init_answer}
 use Rattle.uart_run.specs.Run.{State, machine_of, CallStep}
 use Rattle.uart_run.specs.Progress.{HasDivisor, IsTimely, HasRoom, left}
 use Rattle.uart_run.proofs.Latches.{Kept, kept_access}
-use Rattle.uart_device.proofs.BlockLaws.{path_as}
+use Rattle.uart_device.proofs.conservation.BlockLaws.{path_as}
 use Rattle.uart_run.proofs.Pieces.{then_parts, next_stages}
 use Rattle.uart_run.proofs.progress.Nearing.{RunsFree, free_runs, free-step, free-path, nearer-latch}
 use Rattle.uart_run.proofs.SilentLists.{IsSilent, silent_presence, silent_sets_fifo, silent_drains}

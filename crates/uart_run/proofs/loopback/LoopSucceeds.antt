@@ -25,8 +25,8 @@ use Rattle.uart_run.specs.Run.{State, machine_of, CallStep}
 use Rattle.uart_run.specs.Ready.{Ready, is_narrow, test_answer}
 use Rattle.uart_chip.specs.Chip.{cut_of}
 use Rattle.uart_run.specs.Progress.{IsTimely, HasRoom}
-use Rattle.uart_device.proofs.Went.{Modes}
-use Rattle.uart_device.proofs.BlockLaws.{path_as}
+use Rattle.uart_device.proofs.conservation.Went.{Modes}
+use Rattle.uart_device.proofs.conservation.BlockLaws.{path_as}
 use Rattle.uart_run.proofs.CallBlocks.{Makes, makes_then, makes_reads, awaited_blocks, round_blocks, sends_all_blocks, try_sends_blocks}
 use Rattle.uart_run.proofs.CallKeeps.{one_fits}
 use Rattle.uart_run.proofs.Pieces.{then_parts, next_stages}

@@ -29,11 +29,11 @@ use Rattle.uart_calls.specs.Meaning.{loopback_answer}
 use Rattle.uart_run.specs.Run.{State, machine_of, CallStep}
 use Rattle.uart_run.specs.Served.{IsFlushed}
 use Rattle.uart_run.specs.Ready.{Ready, is_narrow, test_answer, IsTested}
-use Rattle.uart_device.proofs.Went.{Modes, IsIn}
+use Rattle.uart_device.proofs.conservation.Went.{Modes, IsIn}
 use Rattle.uart_run.proofs.EmptyTransmitter.{IsSent, sent_shown, shown_sent, wait_empties, sent_path}
 use Rattle.uart_run.proofs.SilentLists.{DoesSilently, silent_only, silent_then, silent_sets_fifo}
 use Rattle.uart_run.proofs.SilentLists.{silent_next, silent_saving, silent_plain, silent_sets}
-use Rattle.uart_device.proofs.BlockLaws.{IsOpen, Stands}
+use Rattle.uart_device.proofs.conservation.BlockLaws.{IsOpen, Stands}
 use Rattle.uart_run.proofs.CallBlocks.{Makes, makes_then, passed_in_blocks, waits_blocks}
 use Rattle.uart_run.proofs.CallKeeps.{quiet_blocks}
 use Rattle.uart_run.proofs.Latches.{Kept, kept_cut}

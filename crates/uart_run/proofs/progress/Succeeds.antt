@@ -21,11 +21,11 @@ use Rattle.uart_calls.specs.Meaning.{exact_answer, count_answer}
 use Rattle.uart_run.specs.Run.{State, machine_of}
 use Rattle.uart_run.specs.Ready.{Ready}
 use Rattle.uart_run.specs.Progress.{IsTimely, IsUnchecked, left, HasRoom}
-use Rattle.uart_device.proofs.Sounds.{sound_path}
+use Rattle.uart_device.proofs.soundness.Sounds.{sound_path}
 use Rattle.uart_run.proofs.progress.Left.{left-most}
 use Rattle.uart_run.proofs.progress.Nearing.{Runs, ticked-path}
-use Rattle.uart_device.proofs.Constants.{same_pace}
-use Rattle.uart_device.proofs.BlockLaws.{PassedBlocks, path_split, path_as}
+use Rattle.uart_device.proofs.lasting.Constants.{same_pace}
+use Rattle.uart_device.proofs.conservation.BlockLaws.{PassedBlocks, path_split, path_as}
 use Rattle.uart_run.proofs.CallBlocks.{InBlocks, Makes, passed_in_blocks, pieces_blocks, cut_whole}
 use Rattle.uart_run.proofs.CallKeeps.{sends_each_blocks}
 use Rattle.uart_run.proofs.CallLaws.{InSession}

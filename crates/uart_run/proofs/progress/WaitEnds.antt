@@ -17,7 +17,7 @@ use Rattle.uart_device.specs.Sound.{IsTicking}
 use Rattle.uart_chip.proofs.Bits.{has_one}
 use Rattle.uart_run.proofs.progress.Left.{Nearer}
 use Rattle.uart_run.proofs.progress.Nearing.{Runs, runs-look, nearer-step}
-use Rattle.uart_device.proofs.BlockLaws.{path_split, path_as, look_room}
+use Rattle.uart_device.proofs.conservation.BlockLaws.{path_split, path_as, look_room}
 use Rattle.uart_run.proofs.EmptyTransmitter.{look_empty}
 
 -- what holds while it is awaited, and that then a look shows the bits once the transmitter is empty

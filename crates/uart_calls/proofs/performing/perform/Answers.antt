@@ -1,5 +1,5 @@
 use Rattle.uart_16550.proofs.Doings.{did_made}
-use Rattle.uart_calls.proofs.Calling.{called_none, called_done, called_fifo, called_text}
+use Rattle.uart_calls.proofs.Calling.{called_none, called_fifo}
 use Rattle.uart_calls.proofs.performing.perform.Goals as goal
 
 pub returns-in-Next : goal.returns-in-Next

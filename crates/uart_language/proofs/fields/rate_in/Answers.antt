@@ -6,6 +6,7 @@ use Rattle.uart_spec.specs.declared.config.BaudRate.TheVariants.{Baud600, Baud30
 use Rattle.uart_spec.specs.BaudRate.{to_integer, IsNamed}
 use Rattle.uart_language.specs.declared.limits.TheConstants.{MOST_RATE}
 use Rattle.uart_language.specs.Fields.{number_in, rate_of, rate_in}
+use Rattle.uart_language.proofs.Results.{made_ok}
 use Rattle.uart_language.proofs.fields.rate_in.Goals as goal
 
 -- the named case of the number, if there is one

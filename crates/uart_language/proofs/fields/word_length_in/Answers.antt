@@ -2,6 +2,7 @@ use Rattle.std.proofs.Common.{◌≡◌, ℕ, ◌≤◌, refl, arith, inl, inr}
 use Rattle.std.proofs.lemmas.Bool.{cases_eq}
 use Rattle.uart_spec.specs.Fields.{word_length_bits}
 use Rattle.uart_language.specs.Fields.{number_in, word_length_of, word_length_in}
+use Rattle.uart_language.proofs.Results.{made_ok}
 use Rattle.uart_language.proofs.fields.word_length_in.Goals as goal
 
 has_bits : (n : ℕ) → 5 ≤ n → n ≤ 8 → word_length_bits (word_length_of n) ≡ n

@@ -1,5 +1,6 @@
 use super::{HEADER, assert_told, told};
 use std::test::Fail;
+use uart_calls::CALL_BYTES;
 use uart_language::limits::{MOST_BYTES, MOST_LINES};
 
 // As many lines as may follow the first.
@@ -98,7 +99,7 @@ fn lines_have_limits_of_words(rt: HostRuntime) -> Result<(), Fail> {
 fn calls_have_at_most_64_bytes(rt: HostRuntime) -> Result<(), Fail> {
     for word in ["send ", "send-exact ", "write ", "text "] {
         let mut line = word.to_string(rt.alloc())?;
-        for _ in 0..64 {
+        for _ in 0..CALL_BYTES {
             line.push_str("41")?;
         }
         assert_told(&rt, HEADER, &[(line.as_str(), "a script")])?;

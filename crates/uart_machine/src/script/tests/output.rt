@@ -2,7 +2,7 @@ use arrayvec::ArrayVec;
 use bitflags::Flags;
 use std::test::Fail;
 use uart_16550::ConfigRegisterDump;
-use uart_calls::Answer;
+use uart_calls::{Answer, CALL_BYTES};
 use uart_chip::ArrivalMark;
 use uart_language::render;
 use uart_spec::registers::{IER, ISR, LCR, LSR, MCR, MSR};
@@ -11,7 +11,7 @@ use uart_spec::{
     RemoteReadyToReceiveError,
 };
 
-fn bytes(values: &[u8]) -> ArrayVec<u8, 64> {
+fn bytes(values: &[u8]) -> ArrayVec<u8, CALL_BYTES> {
     let mut bytes = ArrayVec::new();
     for value in values {
         if !bytes.is_full() {

@@ -1,6 +1,6 @@
 use Rattle.std.proofs.Common.{zero-le, sym}
 use Rattle.uart_chip.specs.Machine.{fresh}
-use Rattle.uart_device.proofs.Builds.{whole_fresh, whole_cutting, is_cutting}
+use Rattle.uart_device.proofs.soundness.Builds.{whole_fresh, whole_cutting, is_cutting}
 use Rattle.uart_device.proofs.device.Device16550.build.Goals as goal
 
 pub invariant_of-result : goal.invariant_of-result

@@ -1,5 +1,5 @@
 use Rattle.std.proofs.Common.{arith, drop}
-use Rattle.uart_device.proofs.Idle.{whole_ticks, moves-most}
+use Rattle.uart_device.proofs.soundness.Idle.{whole_ticks, moves-most}
 use Rattle.uart_device.proofs.device.Device16550.idle.Goals as goal
 
 pub invariant_of-self : goal.invariant_of-self

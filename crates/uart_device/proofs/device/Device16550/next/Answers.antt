@@ -1,5 +1,5 @@
 use Rattle.std.proofs.Common.{◌<◌, length, arith}
-use Rattle.uart_device.proofs.Schedules.{next_whole, next_mark}
+use Rattle.uart_device.proofs.soundness.Schedules.{next_whole, next_mark}
 use Rattle.uart_device.proofs.device.Device16550.next.Goals as goal
 
 pub loop-self-preserved : goal.loop-self-preserved

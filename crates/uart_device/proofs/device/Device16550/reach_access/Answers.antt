@@ -1,6 +1,6 @@
 use Rattle.std.proofs.Common.{◌<◌, length, arith}
-use Rattle.uart_device.proofs.Sounds.{whole_tick}
-use Rattle.uart_device.proofs.Schedules.{next_whole, next_access}
+use Rattle.uart_device.proofs.soundness.Sounds.{whole_tick}
+use Rattle.uart_device.proofs.soundness.Schedules.{next_whole, next_access}
 use Rattle.uart_device.proofs.device.Device16550.reach_access.Goals as goal
 
 pub loop-self-preserved : goal.loop-self-preserved

@@ -1,4 +1,4 @@
-use Rattle.uart_device.proofs.Sounds.{whole_read}
+use Rattle.uart_device.proofs.soundness.Sounds.{whole_read}
 use Rattle.uart_device.proofs.device.Device16550Backend.read.Goals as goal
 
 pub invariant_of-self : goal.invariant_of-self

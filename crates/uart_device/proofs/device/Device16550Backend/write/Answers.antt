@@ -1,6 +1,6 @@
 use Rattle.std.proofs.Common.{rules}
 use Rattle.std.proofs.Math.Facts.{Fits-lt-pow}
-use Rattle.uart_device.proofs.Sounds.{whole_write}
+use Rattle.uart_device.proofs.soundness.Sounds.{whole_write}
 use Rattle.uart_device.proofs.device.Device16550Backend.write.Goals as goal
 
 pub invariant_of-self : goal.invariant_of-self

@@ -10,10 +10,11 @@ use Rattle.uart_chip.specs.Receiver.{ReceiverState, report, take_front}
 use Rattle.uart_chip.specs.Chip.{ChipState, cut_of, is_dlab_set, interrupt, is_thr_empty, with_latches, enable, answer, after_read}
 use Rattle.uart_chip.specs.Chip.{after_write}
 use Rattle.uart_chip.specs.Machine.{MachineState, MachineStep, at_access}
-use Rattle.uart_device.proofs.Blocks.{is_quiet, AllQuiet}
-use Rattle.uart_device.proofs.Went.{Modes, IsIn, fixed_in, dlab, dlab-in, loopback}
-use Rattle.uart_device.proofs.Loops.{line_of, line_in, Carries, carries-refl, Loops, loops-trans, loops-still, loops-refl, line-length}
-use Rattle.uart_device.proofs.Loops.{Fits, fits-after, loops_before}
+use Rattle.uart_device.proofs.conservation.Blocks.{is_quiet, AllQuiet}
+use Rattle.uart_device.proofs.conservation.Went.{Modes, IsIn, fixed_in, dlab, dlab-in, loopback}
+use Rattle.uart_device.proofs.loopback.Loops.{line_of, line_in, Carries, carries-refl, Loops, loops-trans, loops-still, loops-refl}
+use Rattle.uart_device.proofs.loopback.Loops.{line-length}
+use Rattle.uart_device.proofs.loopback.Loops.{Fits, fits-after, loops_before}
 
 -- these modes are those of a loopback test: loopback is set, and DLAB is not
 pub record IsLooped (x : Modes) : Type 0 where

@@ -18,13 +18,13 @@ use Rattle.uart_device.specs.Conserved.{between, IsDrop}
 use Rattle.uart_device.specs.Laws.{reported_front, IsTold, AllTold, changes_in}
 use Rattle.uart_chip.proofs.Bits.{has_or, has_and}
 use Rattle.uart_device.proofs.Lists.{each-weaker}
-use Rattle.uart_device.proofs.Within.{within_and, within_or}
-use Rattle.uart_device.proofs.Receives.{Shows}
-use Rattle.uart_device.proofs.Reports.{within-right, Told, FrontTold, TakenTold}
-use Rattle.uart_device.proofs.Went.{Modes, saved-append}
-use Rattle.uart_device.proofs.Passed.{Passed, passed-trans}
-use Rattle.uart_device.proofs.BlockLaws.{IsOpen, stands-after, passed-look, passed_quiet, look_reported}
-use Rattle.uart_device.proofs.SessionLaws.{look_clears, drop_shown, shown_drop, status_clears, changes_shown}
+use Rattle.uart_device.proofs.soundness.Within.{within_and, within_or}
+use Rattle.uart_device.proofs.conservation.Receives.{Shows}
+use Rattle.uart_device.proofs.status.Reports.{within-right, Told, FrontTold, TakenTold}
+use Rattle.uart_device.proofs.conservation.Went.{Modes, saved-append}
+use Rattle.uart_device.proofs.conservation.Passed.{Passed, passed-trans}
+use Rattle.uart_device.proofs.conservation.BlockLaws.{IsOpen, stands-after, passed-look, passed_quiet, look_reported}
+use Rattle.uart_device.proofs.conservation.SessionLaws.{look_clears, drop_shown, shown_drop, status_clears, changes_shown}
 
 -- ---- what was shown on the way
 

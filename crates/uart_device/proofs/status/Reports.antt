@@ -16,7 +16,7 @@ use Rattle.uart_chip.specs.Receiver.{ReceiverState, front_errors, arrive, replac
 use Rattle.uart_chip.specs.Chip.{ChipState, line_status}
 use Rattle.uart_device.specs.Sound.{AllErrorsLegal}
 use Rattle.uart_chip.proofs.Bits.{or_assoc}
-use Rattle.uart_device.proofs.Receives.{Shows, shows_first, shows_second}
+use Rattle.uart_device.proofs.conservation.Receives.{Shows, shows_first, shows_second}
 
 -- ---- bits of one mask in another
 

@@ -24,9 +24,11 @@ use Rattle.uart_chip.specs.Chip.{is_thr_empty, after_read, after_write, trigger_
 use Rattle.uart_chip.specs.Chip.{set_trigger, is_same, set_fifo, control, with_latches, enable, control_modem}
 use Rattle.uart_chip.specs.Machine.{MachineState, MachineStep, arrivals, perform, at_access, at_mark}
 use Rattle.uart_device.specs.Sound.{IsSoundTransmitter, IsSoundLatches, IsSoundChip, HoldBytes, AllLegal, IsSound, IsWhole}
-use Rattle.uart_device.proofs.Within.{within_and, within-le}
-use Rattle.uart_device.proofs.ReceiverSounds.{Safe, safe_tick, safe_arrive, safe_take_front, safe_clear, sound_report, sound_trigger}
-use Rattle.uart_device.proofs.TransmitterSounds.{sound_tick as sound_shift_tick, sound_load, sound_clear, sound_pending, sound_renew}
+use Rattle.uart_device.proofs.soundness.Within.{within_and, within-le}
+use Rattle.uart_device.proofs.soundness.ReceiverSounds.{Safe, safe_tick, safe_arrive, safe_take_front, safe_clear, sound_report}
+use Rattle.uart_device.proofs.soundness.ReceiverSounds.{sound_trigger}
+use Rattle.uart_device.proofs.soundness.TransmitterSounds.{sound_tick as sound_shift_tick, sound_load, sound_clear, sound_pending}
+use Rattle.uart_device.proofs.soundness.TransmitterSounds.{sound_renew}
 
 -- the chip is sound after a move, of so many arrivals, as many to come
 pub record Steady (arrived : ℕ) (c d : ChipState) : Type 0 where

@@ -14,14 +14,14 @@ use Rattle.uart_chip.specs.Chip.{ChipState, word_length, cut_to, cut_of, line_st
 use Rattle.uart_chip.specs.Chip.{after_write}
 use Rattle.uart_device.specs.Sound.{IsSoundChip}
 use Rattle.uart_chip.proofs.Bits.{has_and}
-use Rattle.uart_device.proofs.Status.{status_overrun}
-use Rattle.uart_device.proofs.Sends.{Sends, sends-refl, sends-pending, sends-load}
-use Rattle.uart_device.proofs.Receives.{Shows, receives-refl, receives-same}
-use Rattle.uart_device.proofs.Arrivals.{receives-front}
-use Rattle.uart_device.proofs.Reports.{IsReported, reports-refl, reports-look, reports-front}
-use Rattle.uart_device.proofs.Turns.{turns-refl, turns-status}
-use Rattle.uart_device.proofs.Blocks.{is_quiet}
-use Rattle.uart_device.proofs.Went.{Modes, IsIn, fixed_in, dlab, dlab-in, marked-in, Went}
+use Rattle.uart_device.proofs.status.Status.{status_overrun}
+use Rattle.uart_device.proofs.conservation.Sends.{Sends, sends-refl, sends-pending, sends-load}
+use Rattle.uart_device.proofs.conservation.Receives.{Shows, receives-refl, receives-same}
+use Rattle.uart_device.proofs.conservation.Arrivals.{receives-front}
+use Rattle.uart_device.proofs.status.Reports.{IsReported, reports-refl, reports-look, reports-front}
+use Rattle.uart_device.proofs.status.Turns.{turns-refl, turns-status}
+use Rattle.uart_device.proofs.conservation.Blocks.{is_quiet}
+use Rattle.uart_device.proofs.conservation.Went.{Modes, IsIn, fixed_in, dlab, dlab-in, marked-in, Went}
 
 -- the same but for what a session doesn't speak of
 went-still : (x : Modes) (c d : ChipState) (access : Access) → IsSoundChip c → IsIn x c → d.latches.lcr ≡ c.latches.lcr →

@@ -7,8 +7,8 @@ use Rattle.uart_spec.specs.Access.{Access}
 use Rattle.uart_chip.specs.Chip.{ChipState, tick}
 use Rattle.uart_chip.specs.Machine.{MachineState, perform, arrivals, at_access, at_mark}
 use Rattle.uart_device.specs.Sound.{IsSound}
-use Rattle.uart_device.proofs.Sounds.{sound_perform, sound_tick}
-use Rattle.uart_device.proofs.Went.{Modes, IsIn, fixed, loopback, Went, went-trans, went-refl, went-tick, went-perform}
+use Rattle.uart_device.proofs.soundness.Sounds.{sound_perform, sound_tick}
+use Rattle.uart_device.proofs.conservation.Went.{Modes, IsIn, fixed, loopback, Went, went-trans, went-refl, went-tick, went-perform}
 
 -- from m to n: these accesses were made, these bytes written and these characters taken
 pub record Passed (x : Modes) (m n : MachineState) (made : List Access) (written : List ℕ) (takes : List Character) : Type 0 where

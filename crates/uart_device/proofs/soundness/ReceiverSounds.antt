@@ -15,9 +15,11 @@ use Rattle.uart_chip.specs.Receiver.{ReceiverState, set_mark, replace, come_back
 use Rattle.uart_chip.specs.Receiver.{clear}
 use Rattle.uart_device.specs.Sound.{IsInQueue, AllInQueue, NoneIs, Distinct, AllErrorsLegal, IsSoundReceiver}
 use Rattle.uart_device.proofs.Lists.{each-append}
-use Rattle.uart_device.proofs.Marks.{length-set_mark, none_to_come, all_in_queue-set, all_in_queue-set_mark, all_in_queue-next}
-use Rattle.uart_device.proofs.Marks.{all_in_queue-found, all_in_queue-append, distinct-next, distinct-looped, ToCome, Settled, NoOther}
-use Rattle.uart_device.proofs.Marks.{to_come-next, to_come-set, settled-next, settled-set, no_other-set, no_other-rest, no_other-next}
+use Rattle.uart_device.proofs.soundness.Marks.{length-set_mark, none_to_come, all_in_queue-set, all_in_queue-set_mark, all_in_queue-next}
+use Rattle.uart_device.proofs.soundness.Marks.{all_in_queue-found, all_in_queue-append, distinct-next, distinct-looped, ToCome, Settled}
+use Rattle.uart_device.proofs.soundness.Marks.{NoOther}
+use Rattle.uart_device.proofs.soundness.Marks.{to_come-next, to_come-set, settled-next, settled-set, no_other-set, no_other-rest}
+use Rattle.uart_device.proofs.soundness.Marks.{no_other-next}
 
 -- the receiver is sound after a move, of so many arrivals, as many to come
 pub record Safe (fifo : Bool) (arrived : ℕ) (r s : ReceiverState) : Type 0 where

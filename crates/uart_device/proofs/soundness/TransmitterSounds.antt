@@ -10,7 +10,7 @@ use Rattle.uart_chip.specs.Masks.{IsWithin}
 use Rattle.uart_chip.specs.Transmitter.{TransmitterState, room, shift, refill, tick, load}
 use Rattle.uart_chip.specs.Modem.{ModemState, looped_lines, lines_under, is_changed, changes, renew}
 use Rattle.uart_device.specs.Sound.{IsTicking, IsSoundTransmitter, IsSoundModem}
-use Rattle.uart_device.proofs.Within.{within_or, within_flags}
+use Rattle.uart_device.proofs.soundness.Within.{within_or, within_flags}
 
 sound_if : (fifo : Bool) (x y : TransmitterState) (b : Bool) → (b ≡ true → IsSoundTransmitter fifo x) →
     (b ≡ false → IsSoundTransmitter fifo y) → IsSoundTransmitter fifo (if b then x else y)

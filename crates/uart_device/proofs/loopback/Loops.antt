@@ -12,7 +12,7 @@ use Rattle.uart_chip.specs.Receiver as receiver
 use Rattle.uart_chip.specs.Receiver.{ReceiverState, come_back, waiting}
 use Rattle.uart_chip.specs.Chip.{ChipState, cut_of, is_loopback, tick, ticks, arrive, change_lines}
 use Rattle.uart_chip.specs.Machine.{perform, before_access}
-use Rattle.uart_device.proofs.Went.{Modes, IsIn, loopback, loopback-in}
+use Rattle.uart_device.proofs.conservation.Went.{Modes, IsIn, loopback, loopback-in}
 
 -- ---- the line
 

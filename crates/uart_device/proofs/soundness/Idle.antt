@@ -9,7 +9,7 @@ use Rattle.uart_chip.specs.Chip.{ChipState, ticks}
 use Rattle.uart_chip.specs.Machine.{MachineState}
 use Rattle.uart_chip.specs.Jumps.{moves_of, moves}
 use Rattle.uart_device.specs.Sound.{IsSoundTransmitter, IsWhole}
-use Rattle.uart_device.proofs.Sounds.{whole_perform}
+use Rattle.uart_device.proofs.soundness.Sounds.{whole_perform}
 
 pub whole_ticks : (n : ℕ) (c d : ChipState) (events : List Event) → d ≡ ticks n c → IsWhole (record { chip = c; ahead = events }) →
     IsWhole (record { chip = d; ahead = events })

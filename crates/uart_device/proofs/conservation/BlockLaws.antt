@@ -15,15 +15,17 @@ use Rattle.uart_chip.specs.Chip.{word_length, line_status, after_read, after_wri
 use Rattle.uart_chip.specs.Machine.{MachineState, MachineStep, at_access}
 use Rattle.uart_device.specs.Sound.{IsSound}
 use Rattle.uart_chip.proofs.Bits.{has_or, word_same}
-use Rattle.uart_device.proofs.Status.{status_room, status_data}
-use Rattle.uart_device.proofs.Sounds.{sound_access, sound_read, sound_write}
-use Rattle.uart_device.proofs.Blocks.{is_quiet, Block, Look, Hit, Burst, Other, Divisor, accesses_of, AllQuiet, IsFit, AllFit, flat}
-use Rattle.uart_device.proofs.Blocks.{written_in, read_in, data_written, data_read}
-use Rattle.uart_device.proofs.Went.{Modes, IsIn, fixed, dlab, loopback, Went}
-use Rattle.uart_device.proofs.Reports.{IsReported, report_reported}
-use Rattle.uart_device.proofs.Effects.{went-look, went-send, TookFront, went-take, went-read_latch, went-write_lcr, went-read_1}
-use Rattle.uart_device.proofs.Effects.{went-quiet_read, went-quiet_write}
-use Rattle.uart_device.proofs.Passed.{Passed, passed-refl, passed-trans, passed-access, passed-effect}
+use Rattle.uart_device.proofs.status.Status.{status_room, status_data}
+use Rattle.uart_device.proofs.soundness.Sounds.{sound_access, sound_read, sound_write}
+use Rattle.uart_device.proofs.conservation.Blocks.{is_quiet, Block, Look, Hit, Burst, Other, Divisor, accesses_of, AllQuiet, IsFit, AllFit}
+use Rattle.uart_device.proofs.conservation.Blocks.{flat}
+use Rattle.uart_device.proofs.conservation.Blocks.{written_in, read_in, data_written, data_read}
+use Rattle.uart_device.proofs.conservation.Went.{Modes, IsIn, fixed, dlab, loopback, Went}
+use Rattle.uart_device.proofs.status.Reports.{IsReported, report_reported}
+use Rattle.uart_device.proofs.conservation.Effects.{went-look, went-send, TookFront, went-take, went-read_latch, went-write_lcr}
+use Rattle.uart_device.proofs.conservation.Effects.{went-read_1}
+use Rattle.uart_device.proofs.conservation.Effects.{went-quiet_read, went-quiet_write}
+use Rattle.uart_device.proofs.conservation.Passed.{Passed, passed-refl, passed-trans, passed-access, passed-effect}
 
 -- a path of a list is one of the same list
 pub path_as : (m n : MachineState) (l k : List Access) → l ≡ k → Path MachineStep m l n → Path MachineStep m k n

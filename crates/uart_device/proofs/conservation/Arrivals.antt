@@ -8,8 +8,8 @@ use Rattle.uart_chip.specs.declared.receiver.Origin.TheVariants.{Arrived, Looped
 use Rattle.uart_chip.specs.Receiver.{ReceiverState, mark_at, set_mark, is_looped, replace, arrive, take_front}
 use Rattle.uart_device.specs.Sound.{IsMarked}
 use Rattle.uart_chip.proofs.Bits.{has_none}
-use Rattle.uart_device.proofs.Moves.{moved_room, moved_full, moved_taken, moved_replaced}
-use Rattle.uart_device.proofs.Receives.{Drop, Owed, Shows, no_drop-set, Receives}
+use Rattle.uart_device.proofs.conservation.Moves.{moved_room, moved_full, moved_taken, moved_replaced}
+use Rattle.uart_device.proofs.conservation.Receives.{Drop, Owed, Shows, no_drop-set, Receives}
 
 -- no line status was read, so what shows is the flag
 only_pending : (r s : ReceiverState) → (s.is_overrun ≡ true → Owed r s) → Shows 0 s → Owed r s

@@ -15,7 +15,7 @@ use Rattle.uart_chip.specs.Receiver.{ReceiverState, mark_at, set_mark, is_looped
 use Rattle.uart_device.specs.Sound.{IsInQueue, AllInQueue, IsMarked}
 use Rattle.uart_device.proofs.Lists.{each-append, each-weaker}
 use Rattle.uart_device.specs.Conserved.{is_dropped, origin_stands, stands}
-use Rattle.uart_device.proofs.Marks.{none_to_come, all_in_queue-set, all_in_queue-next, all_in_queue-append}
+use Rattle.uart_device.proofs.soundness.Marks.{none_to_come, all_in_queue-set, all_in_queue-next, all_in_queue-append}
 
 -- ---- what waits was not dropped
 

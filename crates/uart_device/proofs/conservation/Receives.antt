@@ -12,9 +12,9 @@ use Rattle.uart_spec.specs.declared.registers.line_status.TheConstants.LSR
 use Rattle.uart_chip.specs.Receiver.{ReceiverState, mark_at, set_mark}
 use Rattle.uart_device.specs.Sound.{IsMarked}
 use Rattle.uart_device.specs.Conserved.{is_dropped, origin_stands, stands}
-use Rattle.uart_device.proofs.Marks.{mark_at-set_mark_not}
+use Rattle.uart_device.proofs.soundness.Marks.{mark_at-set_mark_not}
 use Rattle.uart_chip.proofs.Bits.{has_or, has_none}
-use Rattle.uart_device.proofs.Moves.{IsFinal, Moved, moved_trans, filter-waits}
+use Rattle.uart_device.proofs.conservation.Moves.{IsFinal, Moved, moved_trans, filter-waits}
 
 -- ---- drops
 

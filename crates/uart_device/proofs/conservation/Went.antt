@@ -22,12 +22,12 @@ use Rattle.uart_chip.specs.Machine.{perform, arrivals}
 use Rattle.uart_device.specs.Conserved.{arriving, cut_character}
 use Rattle.uart_device.specs.Sound.{IsMarked, IsSoundChip}
 use Rattle.uart_chip.proofs.Bits.{or_assoc}
-use Rattle.uart_device.proofs.Sounds.{steady_ticks}
-use Rattle.uart_device.proofs.Sends.{Sends, sends-refl, sends-trans, sends-tick}
-use Rattle.uart_device.proofs.Receives.{Receives, receives-trans, receives-refl, receives-still}
-use Rattle.uart_device.proofs.Arrivals.{receives-arrive}
-use Rattle.uart_device.proofs.Reports.{Reports, reports-refl, reports-same, reports-trans, reports-arrive}
-use Rattle.uart_device.proofs.Turns.{Turns, turns-refl, turns-trans, turns-lines}
+use Rattle.uart_device.proofs.soundness.Sounds.{steady_ticks}
+use Rattle.uart_device.proofs.conservation.Sends.{Sends, sends-refl, sends-trans, sends-tick}
+use Rattle.uart_device.proofs.conservation.Receives.{Receives, receives-trans, receives-refl, receives-still}
+use Rattle.uart_device.proofs.conservation.Arrivals.{receives-arrive}
+use Rattle.uart_device.proofs.status.Reports.{Reports, reports-refl, reports-same, reports-trans, reports-arrive}
+use Rattle.uart_device.proofs.status.Turns.{Turns, turns-refl, turns-trans, turns-lines}
 
 -- ---- the modes
 

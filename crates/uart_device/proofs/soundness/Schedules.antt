@@ -5,7 +5,7 @@ use Rattle.uart_chip.specs.declared.event.Event.TheVariants.{Access as Gate, Mar
 use Rattle.uart_chip.specs.Chip.{ChipState}
 use Rattle.uart_chip.specs.Machine.{MachineState, perform, at_access, at_mark}
 use Rattle.uart_device.specs.Sound.{IsWhole}
-use Rattle.uart_device.proofs.Sounds.{whole_perform}
+use Rattle.uart_device.proofs.soundness.Sounds.{whole_perform}
 
 access_performs : (event : Event) (events : List Event) (c : ChipState) → event ≢ Gate → event ≢ Mark →
     at_access (record { chip = perform event c; ahead = events }) ≡ at_access (record { chip = c; ahead = event ∷ events })

@@ -13,10 +13,10 @@ use Rattle.uart_spec.specs.declared.registers.offsets.TheConstants as offsets
 use Rattle.uart_chip.specs.Machine.{MachineState, MachineStep}
 use Rattle.uart_device.specs.Laws.{changes_in}
 use Rattle.uart_device.specs.Conserved.{waiting, stands, between, entered, kept, IsDrop}
-use Rattle.uart_device.proofs.Receives.{Drop, Owed, Shows}
-use Rattle.uart_device.proofs.Went.{Modes, IsIn, arriving_cut}
-use Rattle.uart_device.proofs.Passed.{Passed}
-use Rattle.uart_device.proofs.BlockLaws.{PassedBlocks}
+use Rattle.uart_device.proofs.conservation.Receives.{Drop, Owed, Shows}
+use Rattle.uart_device.proofs.conservation.Went.{Modes, IsIn, arriving_cut}
+use Rattle.uart_device.proofs.conservation.Passed.{Passed}
+use Rattle.uart_device.proofs.conservation.BlockLaws.{PassedBlocks}
 
 -- ---- what comes in
 

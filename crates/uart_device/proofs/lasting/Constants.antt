@@ -6,7 +6,7 @@ use Rattle.uart_chip.specs.declared.transmitter.Shifting.{Shifting}
 use Rattle.uart_chip.specs.Transmitter.{TransmitterState, shift, refill, load, room}
 use Rattle.uart_chip.specs.Chip.{ChipState, cut_of, is_dlab_set, after_write}
 use Rattle.uart_chip.specs.Machine.{MachineState, MachineStep, at_access}
-use Rattle.uart_device.proofs.Lasting.{Lasts, lasts-read, lasts-write, lasts-before}
+use Rattle.uart_device.proofs.lasting.Lasting.{Lasts, lasts-read, lasts-write, lasts-before}
 
 -- the two are of one make
 pub record SamePace (t u : TransmitterState) : Type 0 where

@@ -1,0 +1,11 @@
+-- What comes in and goes out over a session is conserved.
+pub mod Moves
+pub mod Sends
+pub mod Receives
+pub mod Arrivals
+pub mod Went
+pub mod Effects
+pub mod Passed
+pub mod Blocks
+pub mod BlockLaws
+pub mod SessionLaws

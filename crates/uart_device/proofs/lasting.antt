@@ -1,0 +1,3 @@
+-- What lasts of the transmitter, whatever else happens.
+pub mod Lasting
+pub mod Constants
