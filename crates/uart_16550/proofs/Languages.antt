@@ -8,20 +8,6 @@ use Rattle.uart_16550.specs.Transmit.{IsCut, burst_size, burst_limit, Sends, Sen
 use Rattle.uart_16550.specs.Io.{AnswersWrite}
 use Rattle.uart_spec.specs.declared.errors.ByteSendError.{ByteSendError}
 
--- one more item at the end
-pub in_order_more : {A : Type 0} (P : A → Language) (items : List A) (item : A) (s : Settings) (l m : List Access) → InOrder P items s l →
-    P item s m → InOrder P (items ++ item ∷ []) s (l ++ m)
-in_order_more P [] item s l m p q =
-    let none : l ≡ [] = p.is in
-    rw none (record { front = m; back = []; whole = sym (append-nil m); first = q; second = record { is = refl } })
-in_order_more P (i ∷ items) item s l m p q = record {
-  front = p.front;
-  back = p.back ++ m;
-  whole = rw p.whole (append_assoc p.front p.back m);
-  first = p.first;
-  second = in_order_more P items item s p.back m p.second q;
-}
-
 -- items after items
 pub in_order_append : {A : Type 0} (P : A → Language) (items more : List A) (s : Settings) (l m : List Access) → InOrder P items s l →
     InOrder P more s m → InOrder P (items ++ more) s (l ++ m)
@@ -33,6 +19,13 @@ in_order_append P (i ∷ items) more s l m p q = record {
   first = p.first;
   second = in_order_append P items more s p.back m p.second q;
 }
+
+-- one more item at the end
+pub in_order_more : {A : Type 0} (P : A → Language) (items : List A) (item : A) (s : Settings) (l m : List Access) → InOrder P items s l →
+    P item s m → InOrder P (items ++ item ∷ []) s (l ++ m)
+in_order_more P items item s l m p q =
+    in_order_append P items (item ∷ []) s l m p
+    (record { front = m; back = []; whole = sym (append-nil m); first = q; second = record { is = refl } })
 
 -- what comes after two lists comes after the second of them
 pub then_later : (P Q R : Language) (s : Settings) (l : List Access) → Then (Then P Q) R s l → Then P (Then Q R) s l

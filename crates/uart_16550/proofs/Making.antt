@@ -43,10 +43,10 @@ made_then {step} {M} {a} {b} {c} p q = record {
   };
 }
 
--- a call whose lists are among more
-pub made_among : {B : Type 0} {step : B → Access → B → Type 0} {L M : Language} {a b : Uart16550 B} →
-    ((l : List Access) → L (settings a) l → M (settings a) l) → Made step L a b → Made step M a b
-made_among h p = record {
+-- a call whose list is of another language too
+made_fits : {B : Type 0} {step : B → Access → B → Type 0} {L M : Language} {a b : Uart16550 B} (p : Made step L a b) →
+    M (settings a) p.list → Made step M a b
+made_fits p fits = record {
   list = p.list;
   path = p.path;
   lsr = p.lsr;
@@ -54,22 +54,18 @@ made_among h p = record {
   config = p.config;
   fifo = p.fifo;
   limit = p.limit;
-  fits = h p.list p.fits;
+  fits = fits;
 }
+
+-- a call whose lists are among more
+pub made_among : {B : Type 0} {step : B → Access → B → Type 0} {L M : Language} {a b : Uart16550 B} →
+    ((l : List Access) → L (settings a) l → M (settings a) l) → Made step L a b → Made step M a b
+made_among h p = made_fits p (h p.list p.fits)
 
 -- a call whose list is known
 pub made_exactly : {B : Type 0} {step : B → Access → B → Type 0} {L : Language} {a b : Uart16550 B} (list : List Access)
     (p : Made step L a b) → p.list ≡ list → Made step (Only list) a b
-made_exactly list p e = record {
-  list = p.list;
-  path = p.path;
-  lsr = p.lsr;
-  msr = p.msr;
-  config = p.config;
-  fifo = p.fifo;
-  limit = p.limit;
-  fits = record { is = e };
-}
+made_exactly list p e = made_fits p (record { is = e })
 
 -- no access
 pub made_none : {B : Type 0} {step : B → Access → B → Type 0} {a : Uart16550 B} → Made step (Only []) a a
@@ -84,6 +80,23 @@ made_none {a} = record {
   fits = record { is = refl };
 }
 
+-- one access, and the bits that are saved after it
+pub made_access : {B : Type 0} (step : B → Access → B → Type 0) (a : Uart16550 B) (after : B) (access : Access) (lsr msr : ℕ) →
+    step a.backend access after → lsr ≡ bit_or a.saved_lsr.0 (saved_lsr (access ∷ [])) →
+    msr ≡ bit_or a.saved_msr.0 (saved_msr (access ∷ [])) →
+    Made step (Only (access ∷ [])) a
+    (record a { backend = after; saved_lsr = record { 0 = lsr }; saved_msr = record { 0 = msr } })
+made_access step a after access lsr msr taken saves_lsr saves_msr = record {
+  list = access ∷ [];
+  path = (after, taken, refl);
+  lsr = saves_lsr;
+  msr = saves_msr;
+  config = refl;
+  fifo = refl;
+  limit = refl;
+  fits = record { is = refl };
+}
+
 -- a read of a register of which nothing is saved
 pub made_read : {B : Type 0} (step : B → Access → B → Type 0) (a : Uart16550 B) (after : B) (offset answer : ℕ) → offset ≢ offsets.LSR →
     offset ≢ offsets.MSR → step a.backend (Read offset answer) after →
@@ -91,30 +104,15 @@ pub made_read : {B : Type 0} (step : B → Access → B → Type 0) (a : Uart165
 made_read step a after offset answer not_lsr not_msr taken =
     let other_lsr : (offset == offsets.LSR) ≡ false = grind (arith, nat_tests) in
     let other_msr : (offset == offsets.MSR) ≡ false = grind (arith, nat_tests) in
-    record {
-      list = Read offset answer ∷ [];
-      path = (after, taken, refl);
-      lsr = rw other_lsr (sym (or_zero_r a.saved_lsr.0));
-      msr = rw other_msr (sym (or_zero_r a.saved_msr.0));
-      config = refl;
-      fifo = refl;
-      limit = refl;
-      fits = record { is = refl };
-    }
+    made_access step a after (Read offset answer) a.saved_lsr.0 a.saved_msr.0 taken
+    (rw other_lsr (sym (or_zero_r a.saved_lsr.0))) (rw other_msr (sym (or_zero_r a.saved_msr.0)))
 
 -- a write
 pub made_write : {B : Type 0} (step : B → Access → B → Type 0) (a : Uart16550 B) (after : B) (offset value : ℕ) →
     step a.backend (Write offset value) after → Made step (Only (Write offset value ∷ [])) a (record a { backend = after })
-made_write step a after offset value taken = record {
-  list = Write offset value ∷ [];
-  path = (after, taken, refl);
-  lsr = sym (or_zero_r a.saved_lsr.0);
-  msr = sym (or_zero_r a.saved_msr.0);
-  config = refl;
-  fifo = refl;
-  limit = refl;
-  fits = record { is = refl };
-}
+made_write step a after offset value taken =
+    made_access step a after (Write offset value) a.saved_lsr.0 a.saved_msr.0 taken
+    (sym (or_zero_r a.saved_lsr.0)) (sym (or_zero_r a.saved_msr.0))
 
 -- known accesses, and then others
 pub made_only : {B : Type 0} {step : B → Access → B → Type 0} (xs ys : List Access) {a b c : Uart16550 B} → Made step (Only xs) a b →

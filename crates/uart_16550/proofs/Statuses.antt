@@ -3,8 +3,8 @@ use Rattle.std.proofs.Common.{◌≡◌, ℕ, [], ◌∷◌, ◌++◌, refl, ◌
 use Rattle.std.specs.Int.NonZero.{non_zero_u64_get}
 use Rattle.uart_spec.specs.declared.registers.offsets.TheConstants as offsets
 use Rattle.uart_spec.specs.Access.{Access, Read}
-use Rattle.uart_16550.specs.Grammar.{Only}
-use Rattle.uart_16550.specs.Driver.{Made, Did}
+use Rattle.uart_16550.specs.Grammar.{Language, Only}
+use Rattle.uart_16550.specs.Driver.{Made, Did, fields, with_saved}
 use Rattle.uart_16550.specs.Status.{TakesLsr, TakesMsr, Dumps, divisor_accesses}
 use Rattle.uart_16550.specs.declared.driver.Uart16550.{Uart16550}
 use Rattle.uart_16550.specs.declared.dump.ConfigRegisterDump.{ConfigRegisterDump}
@@ -35,35 +35,24 @@ dumped dump lcr lsr msr p q shows_lsr r shows_msr s =
       };
     }
 
+-- the fields after a call, if then other bits are saved
+saved_are : {B : Type 0} {step : B → Access → B → Type 0} {L : Language} {a b : Uart16550 B} → Made step L a b → (lsr msr x y : ℕ) →
+    lsr ≡ x → msr ≡ y →
+    fields (record b { saved_lsr = record { 0 = lsr }; saved_msr = record { 0 = msr } }) ≡ with_saved x y (fields a)
+saved_are p lsr msr x y same_lsr same_msr i =
+    record { config = p.config i; fifo = p.fifo i; lsr = same_lsr i; msr = same_msr i; limit = non_zero_u64_get (p.limit i) }
+
 -- one read of a status, joined with the saved bits as they stand after it, which are then none
 pub takes_lsr : {B : Type 0} {step : B → Access → B → Type 0} (status result none : ℕ) {a b : Uart16550 B} →
     Made step (Only (Read offsets.LSR status ∷ [])) a b →
     result ≡ bit_or status b.saved_lsr.0 → none ≡ 0 → Did step (TakesLsr result) a (record b { saved_lsr = record { 0 = none } })
-takes_lsr status result none p shows empty =
-    let same = msr_kept _ refl p in
-    record {
-      list = p.list;
-      path = p.path;
-      does = (
-        status,
-        p.fits.is,
-        shows ∙ lsr_joined status p,
-        λ i. record { config = p.config i; fifo = p.fifo i; lsr = empty i; msr = same i; limit = non_zero_u64_get (p.limit i) },
-      );
-    }
+takes_lsr status result none {a} {b} p shows empty =
+    let left = saved_are p none b.saved_msr.0 0 a.saved_msr.0 empty (msr_kept _ refl p) in
+    record { list = p.list; path = p.path; does = (status, p.fits.is, shows ∙ lsr_joined status p, left) }
 
 pub takes_msr : {B : Type 0} {step : B → Access → B → Type 0} (status result none : ℕ) {a b : Uart16550 B} →
     Made step (Only (Read offsets.MSR status ∷ [])) a b →
     result ≡ bit_or status b.saved_msr.0 → none ≡ 0 → Did step (TakesMsr result) a (record b { saved_msr = record { 0 = none } })
-takes_msr status result none p shows empty =
-    let same = lsr_kept _ refl p in
-    record {
-      list = p.list;
-      path = p.path;
-      does = (
-        status,
-        p.fits.is,
-        shows ∙ msr_joined status p,
-        λ i. record { config = p.config i; fifo = p.fifo i; lsr = same i; msr = empty i; limit = non_zero_u64_get (p.limit i) },
-      );
-    }
+takes_msr status result none {a} {b} p shows empty =
+    let left = saved_are p b.saved_lsr.0 none a.saved_lsr.0 0 (lsr_kept _ refl p) empty in
+    record { list = p.list; path = p.path; does = (status, p.fits.is, shows ∙ msr_joined status p, left) }

@@ -1,5 +1,5 @@
 -- What each call means leaves no choice.
-use Rattle.std.proofs.Common.{◌≡◌, ℕ, List, Result, refl, sym, ◌∙◌, inl}
+use Rattle.std.proofs.Common.{ℕ, List, Result, refl, sym, ◌∙◌, inl}
 use Rattle.uart_spec.specs.declared.errors.StalledError.{StalledError}
 use Rattle.uart_spec.specs.declared.registers.offsets.TheConstants as offsets
 use Rattle.uart_16550.specs.Choice.{LeavesNoChoice}

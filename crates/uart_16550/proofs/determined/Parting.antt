@@ -15,61 +15,43 @@ SameOrPart C l m = (C × (l ≡ m)) ⊎ PartAtRead l m
 pub record Determined (C : Type 0) (P Q : List Access → Type 0) : Type 0 where
   pub at : (l m : List Access) → P l → Q m → SameOrPart C l m
 
--- two lists
-part_to : {l l' m m' : List Access} → l ≡ l' → m ≡ m' → PartAtRead l' m' → PartAtRead l m
-part_to p q part = record {
-  front = part.front;
-  register = part.register;
-  answer = part.answer;
-  other_answer = part.other_answer;
-  rest = part.rest;
-  other_rest = part.other_rest;
-  is_one = p ∙ part.is_one;
-  is_other = q ∙ part.is_other;
-  differs = part.differs;
+-- these lists part at this read
+parts : {l m : List Access} (front : List Access) (register answer other : ℕ) (rest others : List Access) →
+    l ≡ front ++ Read register answer ∷ rest → m ≡ front ++ Read register other ∷ others → (answer ≡ other → ⊥) → PartAtRead l m
+parts front register answer other rest others is_one is_other differs = record {
+  front = front;
+  register = register;
+  answer = answer;
+  other_answer = other;
+  rest = rest;
+  other_rest = others;
+  is_one = is_one;
+  is_other = is_other;
+  differs = differs;
 }
 
+-- two lists
+part_to : {l l' m m' : List Access} → l ≡ l' → m ≡ m' → PartAtRead l' m' → PartAtRead l m
+part_to p q t =
+    parts t.front t.register t.answer t.other_answer t.rest t.other_rest (p ∙ t.is_one) (q ∙ t.is_other) t.differs
+
 part_sym : {l m : List Access} → PartAtRead l m → PartAtRead m l
-part_sym part = record {
-  front = part.front;
-  register = part.register;
-  answer = part.other_answer;
-  other_answer = part.answer;
-  rest = part.other_rest;
-  other_rest = part.rest;
-  is_one = part.is_other;
-  is_other = part.is_one;
-  differs = λ same. part.differs (sym same);
-}
+part_sym t =
+    parts t.front t.register t.other_answer t.answer t.other_rest t.rest t.is_other t.is_one (λ same. t.differs (sym same))
 
 -- whatever follows them
 part_before : {l m : List Access} (more others : List Access) → PartAtRead l m → PartAtRead (l ++ more) (m ++ others)
-part_before more others part = record {
-  front = part.front;
-  register = part.register;
-  answer = part.answer;
-  other_answer = part.other_answer;
-  rest = part.rest ++ more;
-  other_rest = part.other_rest ++ others;
-  is_one = ap (λ x. x ++ more) part.is_one ∙ append_assoc part.front (Read part.register part.answer ∷ part.rest) more;
-  is_other = ap (λ x. x ++ others) part.is_other ∙ append_assoc part.front (Read part.register part.other_answer ∷ part.other_rest) others;
-  differs = part.differs;
-}
+part_before more others t =
+    parts t.front t.register t.answer t.other_answer (t.rest ++ more) (t.other_rest ++ others)
+    (ap (λ x. x ++ more) t.is_one ∙ append_assoc t.front (Read t.register t.answer ∷ t.rest) more)
+    (ap (λ x. x ++ others) t.is_other ∙ append_assoc t.front (Read t.register t.other_answer ∷ t.other_rest) others) t.differs
 
 -- after one list
 part_after : {l m : List Access} (first : List Access) → PartAtRead l m → PartAtRead (first ++ l) (first ++ m)
-part_after first part = record {
-  front = first ++ part.front;
-  register = part.register;
-  answer = part.answer;
-  other_answer = part.other_answer;
-  rest = part.rest;
-  other_rest = part.other_rest;
-  is_one = ap (λ x. first ++ x) part.is_one ∙ sym (append_assoc first part.front (Read part.register part.answer ∷ part.rest));
-  is_other =
-      ap (λ x. first ++ x) part.is_other ∙ sym (append_assoc first part.front (Read part.register part.other_answer ∷ part.other_rest));
-  differs = part.differs;
-}
+part_after first t =
+    parts (first ++ t.front) t.register t.answer t.other_answer t.rest t.other_rest
+    (ap (λ x. first ++ x) t.is_one ∙ sym (append_assoc first t.front (Read t.register t.answer ∷ t.rest)))
+    (ap (λ x. first ++ x) t.is_other ∙ sym (append_assoc first t.front (Read t.register t.other_answer ∷ t.other_rest))) t.differs
 
 pub so : {C D : Type 0} {l m : List Access} → (C → D) → SameOrPart C l m → SameOrPart D l m
 so f (inl same) = inl (f same.0, same.1)
@@ -101,17 +83,7 @@ so_read {C} {register} {a} {b} {l} {m} rest = at (ℕ_discrete a b)
     at (yes same) =
         so_then {a = Read register a ∷ []} {c = Read register b ∷ []} refl refl (inl (same, ap (λ (n : ℕ). Read register n ∷ []) same))
         (λ k. so (λ r. (k, r)) (rest k))
-    at (no differs) = inr (record {
-      front = [];
-      register = register;
-      answer = a;
-      other_answer = b;
-      rest = l;
-      other_rest = m;
-      is_one = refl;
-      is_other = refl;
-      differs = differs;
-    })
+    at (no differs) = inr (parts [] register a b l m refl refl differs)
 
 -- one write, and what follows it
 pub so_write : {C : Type 0} {register a b : ℕ} {l m : List Access} → a ≡ b → SameOrPart C l m →

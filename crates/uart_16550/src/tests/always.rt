@@ -85,19 +85,28 @@ struct Shown {
 
 // The calls that look, and those of single registers, over a device that always answers this byte.
 fn looks_at(rt: &impl Abort, shown: Shown) {
-    let byte = shown.byte;
+    let Shown {
+        byte,
+        connected,
+        received,
+        sent,
+        ready,
+        enabled,
+        disabled,
+        under_dlab,
+    } = shown;
     let one = |call, answer, accesses| over(rt, Constant(byte), call, answer, accesses);
     one(Call::CheckPresent, Flag(false), list().absent(byte));
     let lines = list().read(offsets::MSR, byte);
-    one(Call::CheckConnected, shown.connected, lines);
-    one(Call::ReadyToReceive, shown.received, list().look(byte));
-    one(Call::ReadyToSend, shown.sent, list().look(byte));
-    one(Call::ReadReady, Flag(shown.ready), list().look(byte));
-    one(Call::WriteReady, Flag(shown.ready), list().look(byte));
+    one(Call::CheckConnected, connected, lines);
+    one(Call::ReadyToReceive, received, list().look(byte));
+    one(Call::ReadyToSend, sent, list().look(byte));
+    one(Call::ReadReady, Flag(ready), list().look(byte));
+    one(Call::WriteReady, Flag(ready), list().look(byte));
     let read = || list().read(offsets::IER, byte);
-    let enabled = read().write(offsets::IER, shown.enabled);
+    let enabled = read().write(offsets::IER, enabled);
     one(Call::EnableInterrupts(IER::THR_EMPTY), Done, enabled);
-    let disabled = read().write(offsets::IER, shown.disabled);
+    let disabled = read().write(offsets::IER, disabled);
     one(Call::DisableInterrupts(IER::THR_EMPTY), Done, disabled);
     for (call, offset) in [
         (Call::Ier, offsets::IER),
@@ -110,7 +119,7 @@ fn looks_at(rt: &impl Abort, shown: Shown) {
     ] {
         one(call, Register(byte), list().read(offset, byte));
     }
-    let latch = || latch_read(byte, shown.under_dlab, byte);
+    let latch = || latch_read(byte, under_dlab, byte);
     one(Call::DllDlm, Latch(byte, byte), latch());
     one(
         Call::Dump,

@@ -6,7 +6,6 @@ use Rattle.uart_chip.specs.declared.event.Event.TheVariants.{Ticks}
 use Rattle.uart_chip.specs.declared.transmitter.Shifting.{Shifting}
 use Rattle.uart_chip.specs.Transmitter.{TransmitterState, room}
 use Rattle.uart_chip.specs.Chip.{ChipState, ticks}
-use Rattle.uart_chip.specs.Machine.{MachineState}
 use Rattle.uart_chip.specs.Jumps.{moves_of, moves}
 use Rattle.uart_device.specs.Sound.{IsSoundTransmitter, IsWhole}
 use Rattle.uart_device.proofs.soundness.Sounds.{whole_perform}

@@ -18,7 +18,6 @@ use Rattle.uart_chip.specs.Transmitter as transmitter
 use Rattle.uart_chip.specs.Transmitter.{TransmitterState, looped_byte, load}
 use Rattle.uart_chip.specs.Receiver as receiver
 use Rattle.uart_chip.specs.Receiver.{ReceiverState, take_front, report, clear}
-use Rattle.uart_chip.specs.Modem.{renew}
 use Rattle.uart_chip.specs.Chip.{LatchesState, ChipState, cut_of, is_dlab_set, is_loopback, tick, ticks, arrive, change_lines, interrupt}
 use Rattle.uart_chip.specs.Chip.{is_thr_empty, after_read, after_write, trigger_level, switch, reset_receiver, reset_transmitter}
 use Rattle.uart_chip.specs.Chip.{set_trigger, is_same, set_fifo, control, with_latches, enable, control_modem}

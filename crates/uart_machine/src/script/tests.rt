@@ -1,4 +1,5 @@
 use super::{Std, play};
+use std::process::Abort;
 use std::test::Fail;
 
 mod faults;
@@ -11,7 +12,7 @@ mod streams;
 const HEADER: &str = "chip 16450 4 64\n";
 
 // What is told of a text that is played, or `a script`.
-fn told(rt: &HostRuntime, text: &[u8]) -> Result<String, Fail> {
+fn told(rt: &impl AllocGlobal, text: &[u8]) -> Result<String, Fail> {
     let mut output = Vec::new(rt.alloc());
     let result = play(rt.alloc(), &mut Std::new(text), &mut Std::new(&mut output));
     Ok(match result {
@@ -22,7 +23,11 @@ fn told(rt: &HostRuntime, text: &[u8]) -> Result<String, Fail> {
 }
 
 // Each of these lines is told so, after a front.
-fn assert_told(rt: &HostRuntime, front: &str, rows: &[(&str, &str)]) -> Result<(), Fail> {
+fn assert_told(
+    rt: &(impl AllocGlobal + Abort),
+    front: &str,
+    rows: &[(&str, &str)],
+) -> Result<(), Fail> {
     for &(lines, want) in rows {
         let text = format!(in rt.alloc(); "{front}{lines}")?;
         assert_eq!(rt; told(rt, text.as_bytes())?.as_str(), want, "at {lines}");

@@ -1,4 +1,5 @@
 use super::{HEADER, assert_told, told};
+use std::process::Abort;
 use std::test::Fail;
 use uart_calls::CALL_BYTES;
 use uart_language::limits::{MOST_BYTES, MOST_LINES};
@@ -8,7 +9,7 @@ const LINES_AFTER_HEADER: usize = MOST_LINES as usize - 1;
 
 // Of each of these pairs, the first is a script after a front, and the second is told so.
 fn assert_limits(
-    rt: &HostRuntime,
+    rt: &(impl AllocGlobal + Abort),
     front: &str,
     pairs: &[(&str, &str)],
     want: &str,
