@@ -1,5 +1,5 @@
 -- That ring calls lose no bytes, line errors or changes of the modem lines.
-use Rattle.std.proofs.Common.{◌≡◌, ◌≤◌, ◌-◌, ◌==◌, ℕ, zero, suc, Bool, true, false, min, MatchBool, List, [], ◌∷◌, ◌++◌, length, take}
+use Rattle.std.proofs.Common.{◌≡◌, ◌≤◌, ◌==◌, ℕ, zero, suc, Bool, true, false, min, MatchBool, List, [], ◌∷◌, ◌++◌, length, take}
 use Rattle.std.proofs.Common.{drop, append_assoc, append-nil, take-append-drop, length-take, refl, arith, sym, ◌∙◌, ap, inl, inr}
 use Rattle.std.proofs.Common.{Option, bit_and, bit_or}
 use Rattle.std.proofs.lemmas.List.{take-take, drop_min}
