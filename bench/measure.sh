@@ -32,3 +32,6 @@ done
 each machine::access machine-access 257 256
 each machine::ticks machine-ticks 257 256
 each machine::idle machine-idle 257 256
+for work in queue send service receive; do
+    each rings::$work ring-$work 257 256
+done

@@ -8,6 +8,5 @@ pub mod Inits
 pub mod Texts
 pub mod Loopbacks
 pub mod Terminals
-pub mod Chains
 pub mod Replays
 pub mod determined

@@ -2,6 +2,7 @@ pub mod Grammar
 pub mod Receive
 pub mod Transmit
 pub mod Driver
+pub mod State
 pub mod Status
 pub mod Init
 pub mod Expansion
@@ -10,10 +11,7 @@ pub mod Tty
 pub mod Backend
 pub mod Pio
 pub mod Mmio
-pub mod Devices
-pub mod Examples
 pub mod Loopback
-pub mod Links
 pub mod Choice
 pub mod DriverCalls
 pub mod Replay

@@ -1,7 +1,6 @@
 -- A backend that gives listed answers and keeps the accesses, and what it tells of a call.
 use Rattle.std.specs.Prelude.{◌≡◌, ℕ, Bool, true, ◌&&◌, List, [], ◌∷◌, ◌++◌, nat_lt, length}
 use Rattle.uart_spec.specs.Access.{Access, Path, Read, Write}
-use Rattle.uart_16550.specs.Devices.{AnswersInTurn}
 use Rattle.uart_16550.specs.Grammar.{Language}
 use Rattle.uart_16550.specs.Driver.{Did, Doing, Made, fields}
 use Rattle.uart_16550.specs.Choice.{answers}
@@ -20,6 +19,12 @@ pub record Tape : Type 0 where
   pub answers : List ℕ
   pub made : List Access
   pub whole : Bool
+
+-- reads answer the bytes of the list in turn, and then 0, whatever the register
+abbrev pub AnswersInTurn : List ℕ → Access → List ℕ → Type 0
+AnswersInTurn [] (Read offset answer) left = (answer ≡ 0) × (left ≡ [])
+AnswersInTurn (byte ∷ bytes) (Read offset answer) left = (answer ≡ byte) × (left ≡ bytes)
+AnswersInTurn bytes (Write offset value) left = left ≡ bytes
 
 -- a read takes the next answer, or 0 if none is left; and the access is kept, as long as there is room
 pub record Plays (old : Tape) (access : Access) (new : Tape) : Type 0 where
@@ -49,19 +54,24 @@ Replayed G old new =
     new.backend.whole ≡ true →
     (list : List Access) × G (fields old) list (fields new) × Shows old.backend list new.backend
 
--- two calls from equal fields, the second over a tape with what the reads of the first were answered: they have one
--- outcome and leave equal fields, and the tape, if it is whole, shows the accesses of the first
+-- a call with outcome b over a tape repeats one with outcome a and this list, if it begins from equal fields, over a
+-- tape with what the reads of that list were answered: the outcomes and the fields after it are equal, and the tape, if
+-- it is whole, shows the list
+abbrev pub IsRepeated : {R B : Type 0} → (a b : R) → List Access → (old new : Uart16550 B) →
+    (before after : Uart16550 Tape) → Type 0
+IsRepeated a b list old new before after =
+    fields old ≡ fields before → before.backend.answers ≡ answers list →
+    (a ≡ b) × (fields new ≡ fields after)
+    × (after.backend.whole ≡ true → after.backend.made ≡ before.backend.made ++ list)
+
+-- two calls, the second over a tape
 abbrev pub Repeats : {R B : Type 0} → (R → Doing) → (B → Access → B → Type 0) → Type 0
 Repeats {R} {B} G step =
     (a b : R) (old new : Uart16550 B) (before after : Uart16550 Tape) → (p : Did step (G a) old new) →
-    Did Plays (G b) before after → fields old ≡ fields before → before.backend.answers ≡ answers p.list →
-    (a ≡ b) × (fields new ≡ fields after)
-    × (after.backend.whole ≡ true → after.backend.made ≡ before.backend.made ++ p.list)
+    Did Plays (G b) before after → IsRepeated a b p.list old new before after
 
 -- the same of calls that save what their reads show, and change nothing else
 abbrev pub RepeatsSaving : {R B : Type 0} → (R → Language) → (B → Access → B → Type 0) → Type 0
 RepeatsSaving {R} {B} L step =
     (a b : R) (old new : Uart16550 B) (before after : Uart16550 Tape) → (p : Made step (L a) old new) →
-    Made Plays (L b) before after → fields old ≡ fields before → before.backend.answers ≡ answers p.list →
-    (a ≡ b) × (fields new ≡ fields after)
-    × (after.backend.whole ≡ true → after.backend.made ≡ before.backend.made ++ p.list)
+    Made Plays (L b) before after → IsRepeated a b p.list old new before after

@@ -2,6 +2,7 @@
 ghost use Rattle.std.specs.Prelude.{◌≡◌, ◌≢◌, ◌<◌, [], ◌∷◌};
 ghost use Rattle.std.specs.Borrow.{Lends, sem};
 ghost use Rattle.std.specs.Int.NonZero.{non_zero_u64_get};
+ghost use Rattle.uart_spec.specs.declared.baud.TheConstants.{NUM_REGISTERS};
 ghost use Rattle.uart_spec.specs.declared.registers.offsets.TheConstants as offsets;
 ghost use Rattle.uart_spec.specs.Access.{Access, Read, Write};
 ghost use Rattle.uart_16550.specs.Grammar.{Only};
@@ -11,11 +12,13 @@ ghost use Rattle.uart_16550.specs.contracts.driver.Uart16550.{the_row};
 mod init;
 mod loopback;
 mod receive;
+mod state;
 mod status;
 mod transmit;
 
 use crate::backend::Backend;
 use bitflags::Flags;
+pub use state::DriverState;
 use std::num::NonZeroU64;
 use uart_spec::Config;
 use uart_spec::registers::{LSR, MSR, offsets};
@@ -108,7 +111,7 @@ impl<B: Backend> Uart16550<B> {
 
     // Reads a register of which no bits are saved.
     pub(crate) fn read_register(&mut self, offset: usize) -> u8
-        requires low { offset < 8 }
+        requires low { offset < NUM_REGISTERS }
         requires not_lsr { offset ≢ offsets.LSR }
         requires not_msr { offset ≢ offsets.MSR }
         ensures { Made B.step (Only (Read offset result ∷ [])) self.old self.new }
@@ -136,7 +139,7 @@ impl<B: Backend> Uart16550<B> {
 
     // Reads a register, and saves nothing of it.
     pub(crate) fn read_plain(&mut self, offset: usize) -> u8
-        requires { offset < 8 }
+        requires { offset < NUM_REGISTERS }
         ensures { Did B.step (Plain (Only (Read offset result ∷ []))) self.old self.new }
     {
         self.backend.read(offset as u8)
@@ -144,7 +147,7 @@ impl<B: Backend> Uart16550<B> {
 
     // Writes a register.
     pub(crate) fn write_register(&mut self, offset: usize, value: u8)
-        requires { offset < 8 }
+        requires { offset < NUM_REGISTERS }
         ensures { Made B.step (Only (Write offset value ∷ [])) self.old self.new }
     {
         self.backend.write(offset as u8, value);

@@ -10,11 +10,9 @@ pub mod laws;
 mod mmio;
 mod pio;
 pub mod replay;
-#[cfg(test)]
-mod tests;
 mod tty;
 
-pub use driver::{DEFAULT_SPIN_LIMIT, Uart16550};
+pub use driver::{DEFAULT_SPIN_LIMIT, DriverState, Uart16550};
 pub use dump::ConfigRegisterDump;
 pub use tty::Uart16550Tty;
 pub use uart_spec as spec;

@@ -1,7 +1,10 @@
 //! The backend in memory.
 ghost use Rattle.std.specs.Prelude.{◌≡◌, ◌<◌, IfOk, IfErr, IsTrue};
+ghost use Rattle.std.specs.Borrow.{Lends, sem};
 ghost use Rattle.std.specs.Int.{is_power_of_two};
 ghost use Rattle.std.specs.Int.NonZero.{non_zero_usize_get, non_zero_u8_get};
+ghost use Rattle.uart_spec.specs.declared.baud.TheConstants.{NUM_REGISTERS};
+ghost use Rattle.uart_16550.specs.contracts.mmio.MmioBackend.{the_row};
 ghost use Rattle.uart_16550.specs.Mmio.{address_of, IsMapping, IsInMemory, IsMappingRefusal, MemoryStep};
 
 use crate::backend::{Backend, ByteAccess};
@@ -17,7 +20,7 @@ use uart_spec::registers::offsets;
 pub struct MmioBackend<M> {
     base: NonZeroUsize,
     stride: NonZeroU8,
-    pub(crate) access: M,
+    access: M,
 }
 
 impl<M> Model for MmioBackend<M> {
@@ -76,9 +79,26 @@ impl<M: ByteAccess> MmioBackend<M> {
         self.stride
     }
 
+    /// The access to memory, for reading its state. Makes no access.
+    pub fn access(&self) -> &M
+        ensures { result.now ≡ self.now.access }
+    {
+        &self.access
+    }
+
+    /// The access to memory, for what only it can do, as to report a fault. Makes no access itself.
+    ///
+    /// Accesses of the caller's own bypass the driver: what they read is not saved, and the driver does not see what they change.
+    pub fn access_mut(&mut self) -> &mut M
+        ensures* writes_back { sem 𝓛 (Lends (the_row M.row) M.row self.entry result (λ m. record self.old { access = m })) }
+        ensures value { result.now ≡ self.old.access }
+    {
+        &mut self.access
+    }
+
     // The address of a register.
     fn address(&self, register_offset: u8) -> usize
-        requires { register_offset < 8 }
+        requires { register_offset < NUM_REGISTERS }
         ensures { result ≡ address_of (non_zero_usize_get self.now.base) (non_zero_u8_get self.now.stride) register_offset }
     {
         self.base.get() + register_offset as usize * self.stride.get() as usize

@@ -1,5 +1,8 @@
 //! The backend at I/O ports.
 ghost use Rattle.std.specs.Prelude.{◌≡◌, ◌+◌, ◌<◌, IfOk, IfErr};
+ghost use Rattle.std.specs.Borrow.{Lends, sem};
+ghost use Rattle.uart_spec.specs.declared.baud.TheConstants.{NUM_REGISTERS};
+ghost use Rattle.uart_16550.specs.contracts.pio.PioBackend.{the_row};
 ghost use Rattle.uart_16550.specs.Pio.{IsPortBase, IsAtPorts, IsPortRefusal, PortStep};
 
 use crate::backend::{Backend, PortAccess};
@@ -13,7 +16,7 @@ use uart_spec::registers::offsets;
 #[derive(Clone, Debug, PartialEq, Eq, PartialOrd, Hash, Drop)]
 pub struct PioBackend<P> {
     base: u16,
-    pub(crate) access: P,
+    access: P,
 }
 
 impl<P> Model for PioBackend<P> {
@@ -50,9 +53,26 @@ impl<P: PortAccess> PioBackend<P> {
         self.base
     }
 
+    /// The access to ports, for reading its state. Makes no access.
+    pub fn access(&self) -> &P
+        ensures { result.now ≡ self.now.access }
+    {
+        &self.access
+    }
+
+    /// The access to ports, for what only it can do, as to report a fault. Makes no access itself.
+    ///
+    /// Accesses of the caller's own bypass the driver: what they read is not saved, and the driver does not see what they change.
+    pub fn access_mut(&mut self) -> &mut P
+        ensures* writes_back { sem 𝓛 (Lends (the_row P.row) P.row self.entry result (λ p. record self.old { access = p })) }
+        ensures value { result.now ≡ self.old.access }
+    {
+        &mut self.access
+    }
+
     // The port of a register.
     fn port(&self, register_offset: u8) -> u16
-        requires { register_offset < 8 }
+        requires { register_offset < NUM_REGISTERS }
         ensures { result ≡ self.now.base + register_offset }
     {
         self.base + register_offset as u16

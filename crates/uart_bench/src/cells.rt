@@ -1,5 +1,5 @@
 //! Memory cells in the place of a device.
-ghost use Rattle.std.specs.Prelude.{⊤};
+ghost use Rattle.std.specs.Prelude.{⊤, ◌<◌};
 
 use uart_16550::backend::Backend;
 use uart_16550::spec::registers::offsets;
@@ -36,6 +36,13 @@ impl Cells {
         let mut cells = [filling; 8];
         cells[offsets::LSR] = lsr;
         Cells { cells, digest: 0 }
+    }
+
+    /// Puts a value into a register's cell, and not into the digest.
+    pub fn put(&mut self, register: usize, value: u8)
+        requires { register < 8 }
+    {
+        self.cells[register] = value;
     }
 
     fn fold(&mut self, value: u8) {

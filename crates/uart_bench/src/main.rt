@@ -4,11 +4,13 @@
 mod bodies;
 mod cells;
 mod machine;
+mod rings;
 
 use anyhow::{Result, bail};
 use bodies::{BODIES, Body, run};
 use cells::{Called, Cells, Counted};
 use machine::{WORKS, perform};
+use rings::{RING_WORKS, perform as perform_ring};
 use std::env;
 use std::rt::Runtime;
 
@@ -47,6 +49,10 @@ fn short_run<R: Runtime + AllocGlobal>(rt: &R) -> Result<()> {
     for (work, name) in WORKS {
         println!(rt; "{name} lsr {:02x}", perform(rt.alloc(), work, 1)?)?;
     }
+    for (work, name) in RING_WORKS {
+        let (returned, received, digest) = perform_ring(rt.alloc(), work, 1, 0xc0)?;
+        println!(rt; "{name} returned {returned} received {received} digest {digest:016x}")?;
+    }
     Ok(())
 }
 
@@ -71,6 +77,13 @@ fn measure<R: Runtime + AllocGlobal>(rt: &R, name: &str, count: u64, called: boo
     for (work, known) in WORKS {
         if known == name {
             println!(rt; "{:02x}", perform(rt.alloc(), work, count)?)?;
+            return Ok(());
+        }
+    }
+    for (work, known) in RING_WORKS {
+        if known == name {
+            let (_returned, _received, digest) = perform_ring(rt.alloc(), work, count, filling)?;
+            println!(rt; "{digest:016x}")?;
             return Ok(());
         }
     }

@@ -1,6 +1,6 @@
 -- The chip: its registers, what an access does, and what happens between accesses.
-use Rattle.std.specs.Prelude.{ℕ, ◌+◌, ◌*◌, ◌%◌, ◌^◌, zero, suc, Bool, true, false, not, ◌&&◌, List, [], ◌∷◌, length}
-use Rattle.std.specs.Prelude.{Option, Some, None, nat_lt, if◌then◌else◌, ◌==◌, bit_and, bit_or}
+use Rattle.std.specs.Prelude.{ℕ, ◌+◌, ◌-◌, ◌*◌, ◌%◌, ◌^◌, zero, suc, Bool, true, false, not, ◌&&◌, List, [], ◌∷◌}
+use Rattle.std.specs.Prelude.{length, Option, Some, None, nat_lt, if◌then◌else◌, ◌==◌, bit_and, bit_or}
 use Rattle.std.specs.List.{list_any}
 use Rattle.uart_chip.specs.declared.transmitter.Shifting.{Shifting}
 use Rattle.uart_chip.specs.declared.event.Chip.{Chip}
@@ -110,6 +110,20 @@ ticks (suc n) c = tick (ticks n c)
 abbrev pub arrive : ℕ → ℕ → ChipState → ChipState
 arrive byte errors c =
     record c { receiver = receiver.arrive (is_loopback c.latches) c.fifo (cut_of c byte) errors c.receiver }
+
+-- a character comes in without a schedule
+abbrev pub bring : ℕ → ℕ → ChipState → ChipState
+bring byte errors c =
+    record c { receiver = receiver.bring (is_loopback c.latches) c.fifo (cut_of c byte) errors c.receiver }
+
+-- how many characters can come in before one is lost: in loopback each is
+abbrev pub receive_room : ChipState → ℕ
+receive_room c =
+    if is_loopback c.latches then 0 else transmitter.room c.fifo - length c.receiver.queue
+
+-- so many bytes are taken from the front of the wire
+abbrev pub take_wire : ℕ → ChipState → ChipState
+take_wire count c = record c { transmitter = transmitter.take_wire count c.transmitter }
 
 -- the modem's inputs change
 abbrev pub change_lines : ℕ → ChipState → ChipState

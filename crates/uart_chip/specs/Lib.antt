@@ -6,3 +6,5 @@ pub mod Chip
 pub mod Jumps
 pub mod Machine
 pub mod Build
+pub mod Data
+pub mod Snapshot

@@ -4,7 +4,7 @@ use Rattle.std.specs.Prelude.{replicate, slice_set, slice_index_or, Option, Some
 use Rattle.std.specs.Prelude.{◌==◌, bit_and}
 use Rattle.uart_chip.specs.declared.receiver.Character.{Character}
 use Rattle.uart_chip.specs.declared.receiver.Origin.{Origin}
-use Rattle.uart_chip.specs.declared.receiver.Origin.TheVariants.{Arrived, Looped}
+use Rattle.uart_chip.specs.declared.receiver.Origin.TheVariants.{Arrived, Looped, Live}
 use Rattle.uart_chip.specs.declared.event.ArrivalMark.{ArrivalMark}
 use Rattle.uart_chip.specs.declared.event.ArrivalMark.TheVariants.{Pending, Waiting, Read, Discarded, Dropped}
 use Rattle.uart_chip.specs.Transmitter.{room}
@@ -47,15 +47,17 @@ fresh char_ticks arrivals =
 abbrev pub mark_at : List ArrivalMark → ℕ → ArrivalMark
 mark_at marks number = slice_index_or marks number Pending
 
--- the marks with that of this origin set; a looped character has none
+-- the marks with that of this origin set; a stray character has none
 abbrev pub set_mark : Origin → ArrivalMark → List ArrivalMark → List ArrivalMark
 set_mark (Arrived number) mark marks = slice_set marks number mark
 set_mark Looped mark marks = marks
+set_mark Live mark marks = marks
 
--- the character came back in loopback
-abbrev pub is_looped : Origin → Bool
-is_looped Looped = true
-is_looped (Arrived number) = false
+-- the character is stray: no arrival of the schedule
+abbrev pub is_stray : Origin → Bool
+is_stray (Arrived number) = false
+is_stray Looped = true
+is_stray Live = true
 
 -- a character comes in without FIFO while one waits: the one that waits is dropped
 abbrev pub replace : List Character → Character → ReceiverState → ReceiverState
@@ -67,7 +69,7 @@ replace (old ∷ others) new r =
       is_front_reported = false;
       timeout_ticks = 0;
       marks = set_mark new.origin Waiting (set_mark old.origin Dropped r.marks);
-      is_stray_lost = if is_looped new.origin then false else if is_looped old.origin then true else r.is_stray_lost;
+      is_stray_lost = if is_stray new.origin then false else if is_stray old.origin then true else r.is_stray_lost;
     }
 
 -- a character comes in: it is put last, or is dropped where the FIFO is full, or replaces the one that waits
@@ -79,14 +81,14 @@ come_in fifo new r =
       is_front_reported = if length r.queue == 0 then false else r.is_front_reported;
       timeout_ticks = 0;
       marks = set_mark new.origin Waiting r.marks;
-      is_stray_lost = if is_looped new.origin then false else r.is_stray_lost;
+      is_stray_lost = if is_stray new.origin then false else r.is_stray_lost;
     }
     else if fifo
     then record r {
       is_overrun = true;
       timeout_ticks = 0;
       marks = set_mark new.origin Dropped r.marks;
-      is_stray_lost = if is_looped new.origin then false else r.is_stray_lost;
+      is_stray_lost = if is_stray new.origin then false else r.is_stray_lost;
     }
     else replace r.queue new r
 
@@ -110,6 +112,11 @@ arrive loopback fifo byte errors r =
     if loopback
     then record r { arrived = r.arrived + 1; marks = slice_set r.marks r.arrived Discarded }
     else come_in fifo new (record r { arrived = r.arrived + 1 })
+
+-- a character comes in without a schedule; in loopback it is lost
+abbrev pub bring : Bool → Bool → ℕ → ℕ → ReceiverState → ReceiverState
+bring loopback fifo byte errors r =
+    if loopback then r else come_in fifo (record { byte = byte; errors = errors; origin = Live }) r
 
 -- the front of the queue is taken
 abbrev pub take_front : List Character → ReceiverState → ReceiverState

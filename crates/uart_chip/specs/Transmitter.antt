@@ -1,6 +1,6 @@
 -- The transmitter: a queue, the place from which a character is shifted out, and the wire.
 use Rattle.std.specs.Prelude.{ℕ, ◌+◌, ◌-◌, ◌^◌, min, Bool, true, false, List, [], ◌∷◌, ◌++◌, length, Option, Some, None}
-use Rattle.std.specs.Prelude.{nat_lt, if◌then◌else◌}
+use Rattle.std.specs.Prelude.{drop, nat_lt, if◌then◌else◌}
 use Rattle.uart_chip.specs.declared.transmitter.Shifting.{Shifting}
 
 -- the queue is what a write of the data register fills; a character takes char_ticks in the shift place
@@ -69,6 +69,10 @@ load fifo byte t =
       overflows = min (t.overflows + 1) (2 ^ 64 - 1);
       is_thr_pending = false;
     }
+
+-- so many bytes are taken from the wire, the first ones, and it has room again
+abbrev pub take_wire : ℕ → TransmitterState → TransmitterState
+take_wire count t = record t { wire = drop count t.wire }
 
 -- the byte in the shift place
 abbrev pub shift_bytes : Option Shifting → List ℕ

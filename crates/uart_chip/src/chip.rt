@@ -1,16 +1,18 @@
 //! The chip: its registers, and what an access does.
-ghost use Rattle.std.specs.Prelude.{◌≡◌, ◌<◌, ◌≤◌, ◌+◌, [], ◌∷◌, length, IfOk};
+ghost use Rattle.std.specs.Prelude.{◌≡◌, ◌<◌, ◌≤◌, ◌+◌, [], ◌∷◌, length, is_some, IfOk};
 ghost use Rattle.uart_chip.specs.Chip as spec;
+ghost use Rattle.uart_chip.specs.Snapshot.{chip_of, unscheduled};
 ghost use Rattle.uart_chip.specs.Machine.{arrivals, perform};
 ghost use Rattle.uart_chip.specs.Jumps.{skip, moves};
 ghost use Rattle.uart_chip.specs.declared.event.TheConstants.{MAX_CHAR_TICKS};
+ghost use Rattle.uart_spec.specs.declared.baud.TheConstants.{FIFO_SIZE, NUM_REGISTERS};
 ghost use Rattle.uart_spec.specs.declared.registers.offsets.TheConstants as offsets;
 
 use crate::event::{Chip, Event};
 use crate::masks::{flag, kept_interrupts, kept_modem_control};
-use crate::modem::Modem;
-use crate::receiver::Receiver;
-use crate::transmitter::Transmitter;
+use crate::modem::{Modem, ModemData};
+use crate::receiver::{Receiver, ReceiverData};
+use crate::transmitter::{Transmitter, TransmitterData};
 use bitflags::Flags;
 use std::alloc::{AllocError, Global};
 use std::marker::Model;
@@ -22,12 +24,24 @@ use uart_spec::registers::{
 /// The registers that keep what is written.
 #[derive(Clone, Copy)]
 pub struct Latches {
-    ier: IER,
-    lcr: LCR,
-    mcr: MCR,
-    scr: SPR,
-    dll: DLL,
-    dlm: DLM,
+    pub ier: IER,
+    pub lcr: LCR,
+    pub mcr: MCR,
+    pub scr: SPR,
+    pub dll: DLL,
+    pub dlm: DLM,
+}
+
+/// A chip without a schedule as plain data, without the bytes on its wire.
+#[derive(Drop)]
+pub struct ChipData {
+    pub model: Chip,
+    pub latches: Latches,
+    pub fifo: bool,
+    pub transmitter: TransmitterData,
+    pub receiver: ReceiverData,
+    pub modem: ModemData,
+    pub cuts: bool,
 }
 
 /// A chip of either model, without a schedule. Under a schedule it is a `Device16550`, in the crate above.
@@ -124,6 +138,42 @@ impl Uart {
             modem: Modem::new(),
             cuts,
         })
+    }
+
+    /// The chip of these data, with these bytes on its wire. All its memory is reserved here.
+    pub fn from_data(alloc: Global, saved: &ChipData, wire: &[u8]) -> Result<Self, AllocError>
+        requires char_ticks { saved.now.transmitter.char_ticks ≤ MAX_CHAR_TICKS }
+        requires room { length wire.now ≤ saved.now.transmitter.wire_capacity }
+        ensures { IfOk result (λ c. c ≡ chip_of saved.now wire.now) }
+    {
+        let transmitter = Transmitter::from_data(alloc, &saved.transmitter, wire)?;
+        let receiver = Receiver::from_data(alloc, saved.transmitter.char_ticks, &saved.receiver)?;
+        Ok(Self {
+            model: saved.model,
+            latches: saved.latches,
+            fifo: saved.fifo,
+            transmitter,
+            receiver,
+            modem: Modem::from_data(saved.modem),
+            cuts: saved.cuts,
+        })
+    }
+
+    /// The chip as plain data, without the bytes on its wire and without its schedule.
+    pub fn data(&self) -> ChipData
+        requires transmitter { length self.now.transmitter.queue ≤ FIFO_SIZE }
+        requires receiver { length self.now.receiver.queue ≤ FIFO_SIZE }
+        ensures { chip_of result self.now.transmitter.wire ≡ unscheduled self.now }
+    {
+        ChipData {
+            model: self.model,
+            latches: self.latches,
+            fifo: self.fifo,
+            transmitter: self.transmitter.data(),
+            receiver: self.receiver.data(),
+            modem: self.modem.data(),
+            cuts: self.cuts,
+        }
     }
 
     pub fn transmitter(&self) -> &Transmitter
@@ -227,7 +277,35 @@ impl Uart {
         self.receiver.arrive(loopback, self.fifo, byte, errors);
     }
 
-    fn change_lines(&mut self, inputs: u8)
+    /// A character comes in without a schedule; in loopback it is lost.
+    pub fn bring(&mut self, byte: u8, errors: u8)
+        ensures { self.new ≡ spec.bring byte errors self.old }
+    {
+        let loopback = self.is_loopback();
+        let cut = self.cut(byte);
+        self.receiver.bring(loopback, self.fifo, cut, errors);
+    }
+
+    /// How many characters can come in before one is lost.
+    pub fn receive_room(&self) -> usize
+        ensures { result ≡ spec.receive_room self.now }
+    {
+        if self.is_loopback() {
+            0
+        } else {
+            self.receiver.room(self.fifo)
+        }
+    }
+
+    /// Takes so many bytes from the front of the wire, or all if there are fewer.
+    pub fn take_wire(&mut self, count: usize)
+        ensures { self.new ≡ spec.take_wire count self.old }
+    {
+        self.transmitter.take_wire(count);
+    }
+
+    /// The modem's inputs become these.
+    pub fn change_lines(&mut self, inputs: u8)
         ensures { self.new ≡ spec.change_lines inputs self.old }
     {
         self.modem
@@ -289,9 +367,16 @@ impl Uart {
         }
     }
 
+    /// An interrupt is enabled and pending.
+    pub fn is_interrupting(&self) -> bool
+        ensures { result ≡ is_some (spec.interrupt self.now) }
+    {
+        self.interrupt().is_some()
+    }
+
     /// What a read of the register answers, with its effect.
     pub fn read(&mut self, offset: u8) -> u8
-        requires { offset < 8 }
+        requires { offset < NUM_REGISTERS }
         ensures answers { result ≡ spec.answer offset self.old }
         ensures after { self.new ≡ spec.after_read offset self.old }
     {
@@ -337,7 +422,7 @@ impl Uart {
 
     /// The effect of a write of the register.
     pub fn write(&mut self, offset: u8, value: u8)
-        requires { offset < 8 }
+        requires { offset < NUM_REGISTERS }
         ensures { self.new ≡ spec.after_write offset value self.old }
     {
         match offset as usize {

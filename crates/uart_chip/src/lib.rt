@@ -11,10 +11,11 @@ mod queue;
 mod receiver;
 mod transmitter;
 
-pub use chip::Uart;
+pub use chip::{ChipData, Latches, Uart};
 pub use event::{
     ArrivalMark, BuildError, Chip, Event, MAX_CHAR_TICKS, MAX_WIRE_CAPACITY, arrivals, refusal,
 };
-pub use modem::Modem;
-pub use receiver::{Character, Origin, Receiver};
-pub use transmitter::{Shifting, Transmitter};
+pub use masks::{kept_interrupts, kept_modem_control};
+pub use modem::{Modem, ModemData};
+pub use receiver::{Character, Origin, Receiver, ReceiverData};
+pub use transmitter::{Shifting, Transmitter, TransmitterData};

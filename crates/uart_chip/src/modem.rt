@@ -1,6 +1,7 @@
 //! The modem lines, and which of them changed.
 ghost use Rattle.std.specs.Prelude.{◌≡◌, ◌==◌, not, bit_or};
 ghost use Rattle.uart_chip.specs.Modem as spec;
+ghost use Rattle.uart_chip.specs.Data.{modem_of};
 
 use crate::masks::flag;
 use bitflags::Flags;
@@ -21,6 +22,14 @@ impl Model for Modem {
     ghost Value = { ModemState };
 
     ghost view = { λ m. record { inputs = m.inputs.0; lines = m.lines.0; deltas = m.deltas.0 } };
+}
+
+/// The modem lines as plain data.
+#[derive(Clone, Copy)]
+pub struct ModemData {
+    pub inputs: MSR,
+    pub lines: MSR,
+    pub deltas: MSR,
 }
 
 fn is_changed(old: MSR, new: MSR, line: MSR) -> bool
@@ -74,6 +83,28 @@ impl Modem {
             inputs: MSR::empty(),
             lines: MSR::empty(),
             deltas: MSR::empty(),
+        }
+    }
+
+    /// The modem lines of these data.
+    pub fn from_data(saved: ModemData) -> Self
+        ensures { result ≡ modem_of saved }
+    {
+        Self {
+            inputs: saved.inputs,
+            lines: saved.lines,
+            deltas: saved.deltas,
+        }
+    }
+
+    /// The modem lines as plain saved.
+    pub fn data(&self) -> ModemData
+        ensures { modem_of result ≡ self.now }
+    {
+        ModemData {
+            inputs: self.inputs,
+            lines: self.lines,
+            deltas: self.deltas,
         }
     }
 

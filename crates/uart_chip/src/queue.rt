@@ -1,9 +1,12 @@
 //! The queues of the chip: rings with a place for each character that there is ever room for.
-ghost use Rattle.std.specs.Prelude.{◌≡◌, ◌<◌, [], ◌∷◌, ◌++◌, length};
+ghost use Rattle.std.specs.Prelude.{◌≡◌, ◌<◌, ◌≤◌, true, [], ◌∷◌, ◌++◌, length, IfOk};
 ghost use Rattle.circular_buffer.specs.Buffer.{buffer};
+ghost use Rattle.uart_spec.specs.declared.baud.TheConstants.{FIFO_SIZE};
 ghost use Rattle.uart_chip.specs.Transmitter.{room};
 
+use arrayvec::ArrayVec;
 use circular_buffer::HeapCircularBuffer;
+use std::alloc::{AllocError, Global};
 use uart_spec::FIFO_SIZE;
 
 /// How many characters a queue has room for. Without FIFO that is one, although its ring has more places.
@@ -19,4 +22,28 @@ pub fn put<T: Drop>(ring: &mut HeapCircularBuffer<T>, item: T)
     ensures { ring.new ≡ buffer (ring.old.items ++ item ∷ []) ring.old.capacity }
 {
     ring.push_back(item);
+}
+
+/// A ring that holds these items.
+pub fn filled<T: Copy + Drop>(
+    alloc: Global,
+    items: &ArrayVec<T, FIFO_SIZE>,
+) -> Result<HeapCircularBuffer<T>, AllocError>
+    ensures { IfOk result (λ ring. ring ≡ buffer items.now.items (room true)) }
+{
+    let mut ring = HeapCircularBuffer::with_capacity(alloc, FIFO_SIZE)?;
+    ring.fill_from_slice(items.as_slice());
+    Ok(ring)
+}
+
+/// The items of a ring, the front first.
+pub fn items_of<T: Copy + Default + Drop>(ring: &HeapCircularBuffer<T>) -> ArrayVec<T, FIFO_SIZE>
+    requires { length ring.now.items ≤ FIFO_SIZE }
+    ensures { result.items ≡ ring.now.items }
+{
+    let (front, back) = ring.as_slices();
+    let mut items = ArrayVec::new();
+    items.try_extend_from_slice(front).unwrap();
+    items.try_extend_from_slice(back).unwrap();
+    items
 }

@@ -1,13 +1,17 @@
 //! The receiver: a queue of characters, and what became of each that arrived.
-ghost use Rattle.std.specs.Prelude.{◌≡◌, ◌==◌, ◌<◌, ◌≤◌, length, slice_get, IfOk};
+ghost use Rattle.std.specs.Prelude.{◌≡◌, ◌==◌, ◌<◌, ◌≤◌, ◌-◌, ℕ, length, slice_get, IfOk};
 ghost use Rattle.std.specs.List.{list_any};
 ghost use Rattle.uart_chip.specs.Receiver as spec;
 ghost use Rattle.uart_chip.specs.Receiver.{unreported, has_errors, front_errors, waiting};
+ghost use Rattle.uart_chip.specs.Transmitter.{room};
+ghost use Rattle.uart_spec.specs.declared.baud.TheConstants.{FIFO_SIZE};
+ghost use Rattle.uart_chip.specs.Data.{receiver_of, without_schedule};
 ghost use Rattle.uart_chip.specs.Jumps.{count_up};
 ghost use Rattle.uart_chip.specs.declared.event.TheConstants.{MAX_CHAR_TICKS};
 
 use crate::event::ArrivalMark;
-use crate::queue::{put, room_of};
+use crate::queue::{filled, items_of, put, room_of};
+use arrayvec::ArrayVec;
 use bitflags::Flags;
 use circular_buffer::HeapCircularBuffer;
 use std::alloc::{AllocError, Global};
@@ -15,12 +19,16 @@ use std::marker::Model;
 use uart_spec::FIFO_SIZE;
 use uart_spec::registers::{FifoTriggerLevel, LSR};
 
-/// Where a character comes from: it is an arrival of the schedule, or it came back in loopback.
+/// Where a character comes from.
 #[derive(Clone, Copy, Default)]
 pub enum Origin {
+    /// It is the arrival of the schedule with this number.
     Arrived(usize),
+    /// It came back in loopback.
     #[default]
     Looped,
+    /// It came in without a schedule.
+    Live,
 }
 
 /// A character that waits to be read, with its errors where the line status register has them.
@@ -79,11 +87,12 @@ impl Character {
 }
 
 impl Origin {
-    fn is_looped(&self) -> bool
-        ensures { result ≡ spec.is_looped self.now }
+    // It is no arrival of the schedule.
+    fn is_stray(&self) -> bool
+        ensures { result ≡ spec.is_stray self.now }
     {
         match self {
-            Origin::Looped => true,
+            Origin::Looped | Origin::Live => true,
             Origin::Arrived(_) => false,
         }
     }
@@ -101,7 +110,7 @@ fn characters_of(level: FifoTriggerLevel) -> usize
     }
 }
 
-// Sets the mark of an arrival; a looped character has none.
+// Sets the mark of an arrival; a stray character has none.
 fn set_mark(marks: &mut Vec<ArrivalMark>, origin: Origin, mark: ArrivalMark)
     ensures { marks.new.items ≡ spec.set_mark origin mark marks.old.items }
 {
@@ -119,6 +128,17 @@ fn discard(characters: &HeapCircularBuffer<Character>, marks: &mut Vec<ArrivalMa
     for character in characters {
         set_mark(marks, character.origin, ArrivalMark::Discarded);
     }
+}
+
+/// A receiver without a schedule, as plain data.
+#[derive(Drop)]
+pub struct ReceiverData {
+    pub queue: ArrayVec<Character, FIFO_SIZE>,
+    pub is_overrun: bool,
+    pub is_front_reported: bool,
+    pub last_byte: u8,
+    pub timeout_ticks: u16,
+    pub trigger: FifoTriggerLevel,
 }
 
 impl Receiver {
@@ -147,6 +167,45 @@ impl Receiver {
         })
     }
 
+    /// The receiver of these data, without a schedule. The memory of its queue is reserved here.
+    pub fn from_data(
+        alloc: Global,
+        char_ticks: u16,
+        saved: &ReceiverData,
+    ) -> Result<Self, AllocError>
+        requires { char_ticks ≤ MAX_CHAR_TICKS }
+        ensures { IfOk result (λ r. r ≡ receiver_of char_ticks saved.now) }
+    {
+        let queue = filled(alloc, &saved.queue)?;
+        Ok(Self {
+            queue,
+            is_overrun: saved.is_overrun,
+            is_front_reported: saved.is_front_reported,
+            last_byte: saved.last_byte,
+            timeout_ticks: saved.timeout_ticks,
+            timeout_limit: 4 * char_ticks,
+            trigger: saved.trigger,
+            arrived: 0,
+            marks: Vec::new(alloc),
+            is_stray_lost: false,
+        })
+    }
+
+    /// The receiver as plain data, without its marks.
+    pub fn data(&self) -> ReceiverData
+        requires { length self.now.queue ≤ FIFO_SIZE }
+        ensures { (char_ticks : ℕ) → receiver_of char_ticks result ≡ without_schedule char_ticks self.now }
+    {
+        ReceiverData {
+            queue: items_of(&self.queue),
+            is_overrun: self.is_overrun,
+            is_front_reported: self.is_front_reported,
+            last_byte: self.last_byte,
+            timeout_ticks: self.timeout_ticks,
+            trigger: self.trigger,
+        }
+    }
+
     // A character comes in.
     fn come_in(&mut self, fifo: bool, new: Character)
         ensures { self.new ≡ spec.come_in fifo new self.old }
@@ -165,7 +224,7 @@ impl Receiver {
             return;
         }
         self.timeout_ticks = 0;
-        if new.origin.is_looped() {
+        if new.origin.is_stray() {
             self.is_stray_lost = false;
         }
     }
@@ -184,9 +243,9 @@ impl Receiver {
         self.timeout_ticks = 0;
         set_mark(&mut self.marks, old.origin, ArrivalMark::Dropped);
         set_mark(&mut self.marks, new.origin, ArrivalMark::Waiting);
-        if new.origin.is_looped() {
+        if new.origin.is_stray() {
             self.is_stray_lost = false;
-        } else if old.origin.is_looped() {
+        } else if old.origin.is_stray() {
             self.is_stray_lost = true;
         }
     }
@@ -236,6 +295,22 @@ impl Receiver {
                     byte,
                     errors,
                     origin,
+                },
+            );
+        }
+    }
+
+    /// A character that comes in without a schedule.
+    pub fn bring(&mut self, loopback: bool, fifo: bool, byte: u8, errors: u8)
+        ensures { self.new ≡ spec.bring loopback fifo byte errors self.old }
+    {
+        if !loopback {
+            self.come_in(
+                fifo,
+                Character {
+                    byte,
+                    errors,
+                    origin: Origin::Live,
                 },
             );
         }
@@ -330,6 +405,13 @@ impl Receiver {
         ensures { result ≡ spec.is_timed_out fifo self.now }
     {
         fifo && !self.queue.is_empty() && self.timeout_ticks == self.timeout_limit
+    }
+
+    /// How many characters can come in before one is lost.
+    pub fn room(&self, fifo: bool) -> usize
+        ensures { result ≡ room fifo - length self.now.queue }
+    {
+        room_of(fifo).saturating_sub(self.queue.len())
     }
 
     pub fn waiting_len(&self) -> usize

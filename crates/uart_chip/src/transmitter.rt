@@ -1,11 +1,14 @@
 //! The transmitter: a queue, the place from which a character is shifted out, and the wire.
-ghost use Rattle.std.specs.Prelude.{◌≡◌, ◌==◌, ◌<◌, ◌≤◌, [], ◌∷◌, ◌++◌, length, slice_get, IfOk};
+ghost use Rattle.std.specs.Prelude.{◌≡◌, ◌==◌, ◌<◌, ◌≤◌, ◌-◌, [], ◌∷◌, ◌++◌, length, slice_get, IfOk};
 ghost use Rattle.uart_chip.specs.Transmitter as spec;
 ghost use Rattle.uart_chip.specs.Transmitter.{room, looped_byte, held};
+ghost use Rattle.uart_spec.specs.declared.baud.TheConstants.{FIFO_SIZE};
+ghost use Rattle.uart_chip.specs.Data.{transmitter_of};
 ghost use Rattle.uart_chip.specs.Chip.{is_transmitter_empty};
 ghost use Rattle.uart_chip.specs.Jumps.{next_move, count_down};
 
-use crate::queue::{put, room_of};
+use crate::queue::{filled, items_of, put, room_of};
+use arrayvec::ArrayVec;
 use circular_buffer::HeapCircularBuffer;
 use std::alloc::{AllocError, Global};
 use std::marker::Model;
@@ -16,6 +19,17 @@ use uart_spec::FIFO_SIZE;
 pub struct Shifting {
     pub byte: u8,
     pub ticks_left: u16,
+}
+
+/// A transmitter as plain data, without the bytes on its wire.
+#[derive(Drop)]
+pub struct TransmitterData {
+    pub queue: ArrayVec<u8, FIFO_SIZE>,
+    pub shift_place: Option<Shifting>,
+    pub wire_capacity: usize,
+    pub char_ticks: u16,
+    pub overflows: u64,
+    pub is_thr_pending: bool,
 }
 
 /// What sends: bytes written to the data register wait in the queue, one is shifted out, and then it is on the wire.
@@ -65,6 +79,44 @@ impl Transmitter {
             overflows: 0,
             is_thr_pending: false,
         })
+    }
+
+    /// The transmitter of these data, with these bytes on its wire. The memory of its queue and of the wire is reserved here.
+    pub fn from_data(
+        alloc: Global,
+        saved: &TransmitterData,
+        wire: &[u8],
+    ) -> Result<Self, AllocError>
+        requires { length wire.now ≤ saved.now.wire_capacity }
+        ensures { IfOk result (λ t. t ≡ transmitter_of saved.now wire.now) }
+    {
+        let queue = filled(alloc, &saved.queue)?;
+        let mut bytes = Vec::with_capacity(alloc, saved.wire_capacity)?;
+        bytes.extend_from_slice(wire)?;
+        Ok(Self {
+            queue,
+            shift_place: saved.shift_place,
+            wire: bytes,
+            capacity: saved.wire_capacity,
+            char_ticks: saved.char_ticks,
+            overflows: saved.overflows,
+            is_thr_pending: saved.is_thr_pending,
+        })
+    }
+
+    /// The transmitter as plain data, without the bytes on its wire.
+    pub fn data(&self) -> TransmitterData
+        requires { length self.now.queue ≤ FIFO_SIZE }
+        ensures { transmitter_of result self.now.wire ≡ self.now }
+    {
+        TransmitterData {
+            queue: items_of(&self.queue),
+            shift_place: self.shift_place,
+            wire_capacity: self.capacity,
+            char_ticks: self.char_ticks,
+            overflows: self.overflows,
+            is_thr_pending: self.is_thr_pending,
+        }
     }
 
     // The shift place's tick, and the byte that comes back in it.
@@ -205,6 +257,23 @@ impl Transmitter {
         ensures { result.now ≡ self.now.wire }
     {
         self.wire.as_slice()
+    }
+
+    /// Takes so many bytes from the front of the wire, or all if there are fewer.
+    pub fn take_wire(&mut self, count: usize)
+        ensures { self.new ≡ spec.take_wire count self.old }
+    {
+        let len = self.wire.len();
+        let count = count.min(len);
+        self.wire.copy_within(count..len, 0);
+        self.wire.truncate(len - count);
+    }
+
+    /// How many bytes more the wire has room for.
+    pub fn wire_room(&self) -> usize
+        ensures { result ≡ self.now.capacity - length self.now.wire }
+    {
+        self.capacity.saturating_sub(self.wire.len())
     }
 
     pub fn overflows(&self) -> u64

@@ -1,12 +1,12 @@
 -- What has gone out, what came in, and what was kept of it.
 use Rattle.std.specs.Prelude.{◌≡◌, ℕ, ◌+◌, ◌-◌, Bool, true, false, not, List, [], ◌∷◌, ◌++◌, map, filter, take, length}
 use Rattle.uart_chip.specs.declared.event.ArrivalMark.{ArrivalMark}
-use Rattle.uart_chip.specs.declared.event.ArrivalMark.TheVariants.{Pending, Waiting, Read, Discarded, Dropped}
+use Rattle.uart_chip.specs.declared.event.ArrivalMark.TheVariants.{Dropped}
 use Rattle.uart_chip.specs.declared.event.Event.{Event}
 use Rattle.uart_chip.specs.declared.event.Event.TheVariants.{Arrive}
 use Rattle.uart_chip.specs.declared.receiver.Character.{Character}
 use Rattle.uart_chip.specs.declared.receiver.Origin.{Origin}
-use Rattle.uart_chip.specs.declared.receiver.Origin.TheVariants.{Arrived, Looped}
+use Rattle.uart_chip.specs.declared.receiver.Origin.TheVariants.{Arrived, Looped, Live}
 use Rattle.uart_chip.specs.Transmitter as transmitter
 use Rattle.uart_chip.specs.Receiver as receiver
 use Rattle.uart_chip.specs.Receiver.{ReceiverState, mark_at}
@@ -23,16 +23,14 @@ waiting m = receiver.waiting m.chip.receiver
 
 -- the mark says that the character was dropped
 abbrev pub is_dropped : ArrivalMark → Bool
-is_dropped Pending = false
-is_dropped Waiting = false
-is_dropped Read = false
-is_dropped Discarded = false
 is_dropped Dropped = true
+is_dropped _ = false
 
 -- a character of this origin was not dropped
 abbrev pub origin_stands : List ArrivalMark → Bool → Origin → Bool
 origin_stands marks stray (Arrived number) = not (is_dropped (mark_at marks number))
 origin_stands marks stray Looped = not stray
+origin_stands marks stray Live = not stray
 
 -- the character was not dropped, as the receiver tells
 abbrev pub stands : ReceiverState → Character → Bool

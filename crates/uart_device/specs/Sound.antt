@@ -9,7 +9,7 @@ use Rattle.uart_chip.specs.declared.event.Event.{Event}
 use Rattle.uart_chip.specs.declared.event.TheConstants.{MAX_CHAR_TICKS}
 use Rattle.uart_chip.specs.declared.receiver.Character.{Character}
 use Rattle.uart_chip.specs.declared.receiver.Origin.{Origin}
-use Rattle.uart_chip.specs.declared.receiver.Origin.TheVariants.{Arrived, Looped}
+use Rattle.uart_chip.specs.declared.receiver.Origin.TheVariants.{Arrived, Looped, Live}
 use Rattle.uart_chip.specs.declared.transmitter.Shifting.{Shifting}
 use Rattle.uart_spec.specs.declared.registers.line_status.TheConstants.LSR
 use Rattle.uart_spec.specs.declared.registers.modem_status.TheConstants.MSR
@@ -23,10 +23,11 @@ use Rattle.uart_chip.specs.Build.{IsLegal}
 
 -- ---- the receiver
 
--- a character of this origin may be in the queue: an arrival is marked so, and of looped ones none was lost since
+-- a character of this origin may be in the queue: an arrival is marked so, and of stray ones none was lost since
 abbrev pub IsInQueue : ℕ → List ArrivalMark → Bool → Origin → Type 0
 IsInQueue arrived marks stray (Arrived number) = (number < arrived) × (mark_at marks number ≡ Waiting)
 IsInQueue arrived marks stray Looped = stray ≡ false
+IsInQueue arrived marks stray Live = stray ≡ false
 
 -- each of these characters may be in the queue
 abbrev pub AllInQueue : ℕ → List ArrivalMark → Bool → List Character → Type 0
@@ -37,6 +38,7 @@ AllInQueue arrived marks stray characters =
 abbrev pub OtherOrigin : ℕ → Origin → Type 0
 OtherOrigin number (Arrived other) = other ≢ number
 OtherOrigin number Looped = Unit {0}
+OtherOrigin number Live = Unit {0}
 
 -- none of these characters is the arrival with this number
 abbrev pub NoneIs : ℕ → List Character → Type 0
@@ -46,6 +48,7 @@ NoneIs number characters = AllByRecursion (λ (character : Character). OtherOrig
 abbrev pub NoneHas : Origin → List Character → Type 0
 NoneHas (Arrived number) characters = NoneIs number characters
 NoneHas Looped characters = Unit {0}
+NoneHas Live characters = Unit {0}
 
 -- each arrival is there at most once
 abbrev pub Distinct : List Character → Type 0

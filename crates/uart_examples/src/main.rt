@@ -1,7 +1,8 @@
-//! Plays the scripts of a folder, and prints of each whether its output is what is stored beside it.
+//! Plays the scripts and the sessions of a folder, and prints of each whether its output is what is stored.
 //!
 //! The folder is the first argument, or else the one in which the program runs. Beside `NAME.script` lies `NAME.out`: the bytes
-//! that the program `uart_script` prints for it.
+//! that the program `uart_script` prints for it. `NAME.session` is a use of `geesetrunk`: its first line is `$` and the command, and
+//! the others are what is printed for it, and the exit status if it is not 0.
 #![tactic(auto)]
 
 use std::alloc::Global;
@@ -10,13 +11,14 @@ use std::path::Path;
 use std::process::ExitCode;
 use std::{env, fs, io};
 use uart_machine::script::{Std, play};
+use uart_report::{asked, report_on};
 
-// The names of the folder's scripts, in order.
-fn names_in(rt: &HostRuntime, folder: Path<'_>) -> io::Result<Vec<String>> {
+// The names of the folder's files with this ending, in order.
+fn names_in(rt: &HostRuntime, folder: Path<'_>, ending: &str) -> io::Result<Vec<String>> {
     let mut names = Vec::new(rt.alloc());
     for entry in fs::read_dir(rt, folder)? {
         let entry = entry?;
-        if let Some(name) = entry.file_name().strip_suffix(".script") {
+        if let Some(name) = entry.file_name().strip_suffix(ending) {
             names.push(name.to_string(rt.alloc())?)?;
         }
     }
@@ -47,15 +49,71 @@ fn is_as_stored(rt: &HostRuntime, folder: Path<'_>, name: &str) -> io::Result<bo
     Ok(printed(rt.alloc(), &script)? == stored)
 }
 
+// What is printed for a command, and the status that the program then has.
+fn answer(rt: &HostRuntime, folder: Path<'_>, command: &str) -> io::Result<(Vec<u8>, i32)> {
+    let words: Vec<&str> = command.split(' ').collect(rt.alloc())?;
+    let mut text = Vec::new(rt.alloc());
+    match asked(rt.alloc(), &words) {
+        Ok(request) => {
+            let script = fs::read(rt, folder.join(rt.alloc(), request.file)?)?;
+            let report = report_on(rt.alloc(), &request, &script)?;
+            text.extend_from_slice(&report.output)?;
+            text.extend_from_slice(report.errors.as_bytes())?;
+            Ok((text, i32::from(report.status)))
+        }
+        Err(error) => {
+            write!(text, "{error}")?;
+            Ok((text, error.exit_code()))
+        }
+    }
+}
+
+// The session that begins with a command.
+fn session(rt: &HostRuntime, folder: Path<'_>, command: &str) -> io::Result<Vec<u8>> {
+    let mut session = Vec::new(rt.alloc());
+    let (text, status) = answer(rt, folder, command)?;
+    writeln!(session, "$ {command}")?;
+    session.extend_from_slice(&text)?;
+    if status != 0 {
+        writeln!(session, "exit status {status}")?;
+    }
+    Ok(session)
+}
+
+// Whether the session of this name is what is stored.
+fn is_session_as_stored(rt: &HostRuntime, folder: Path<'_>, name: &str) -> io::Result<bool> {
+    let stored = bytes_of(rt, folder, name, "session")?;
+    let line = stored.split(|b| *b == b'\n').next().unwrap_or(&[]);
+    match line {
+        [b'$', b' ', command @ ..] => {
+            let command = str::from_utf8(command).unwrap_or("");
+            Ok(session(rt, folder, command)? == stored)
+        }
+        _ => Ok(false),
+    }
+}
+
+// Prints of a script or a session whether it is as stored, and returns that.
+fn told(rt: &HostRuntime, name: &str, is_as_stored: bool) -> io::Result<bool> {
+    if is_as_stored {
+        println!(rt; "{name} ok")?;
+    } else {
+        println!(rt; "{name} differs")?;
+    }
+    Ok(is_as_stored)
+}
+
 fn main(rt: HostRuntime) -> io::Result<ExitCode> {
     let argument = env::args(&rt)?.nth(1);
     let folder = Path::new(argument.as_deref().unwrap_or("."));
     let mut code = ExitCode::SUCCESS;
-    for name in &names_in(&rt, folder)? {
-        if is_as_stored(&rt, folder, name)? {
-            println!(rt; "{name} ok")?;
-        } else {
-            println!(rt; "{name} differs")?;
+    for name in &names_in(&rt, folder, ".script")? {
+        if !told(&rt, name, is_as_stored(&rt, folder, name)?)? {
+            code = ExitCode::FAILURE;
+        }
+    }
+    for name in &names_in(&rt, folder, ".session")? {
+        if !told(&rt, name, is_session_as_stored(&rt, folder, name)?)? {
             code = ExitCode::FAILURE;
         }
     }

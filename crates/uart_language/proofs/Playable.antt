@@ -1,12 +1,13 @@
 -- Every script can be played: its numbers are in their ranges, its events are legal and its calls runnable.
 use Rattle.std.proofs.Common.{◌≡◌, ℕ, suc, ◌+◌, ◌*◌, ◌<◌, ◌≤◌, Bool, true, false, cond, leb, eqb, ◌&&◌, List, [], ◌∷◌, length, Result, Ok}
-use Rattle.std.proofs.Common.{Err, Option, refl, sym, subst, arith, bit_and}
+use Rattle.std.proofs.Common.{Err, Option, refl, sym, subst, arith, bit_and, ap, map, get_or}
 use Rattle.std.specs.Prelude.{All, IfSome, flat_map}
 use Rattle.std.specs.Char.{is_ascii_hexdigit, digit_value}
 use Rattle.std.specs.Str.Parse.{digits_value}
 use Rattle.std.proofs.lemmas.Bool.{agree_below_at, eqb-true, leb-true, and_parts}
 use Rattle.std.proofs.lemmas.Bool.Decides.{nat_tests}
 use Rattle.std.proofs.lemmas.List.Elements.{All-nil, All-cons, All-append}
+use Rattle.std.proofs.lemmas.List.{get_or-map, length-map}
 use Rattle.std.proofs.lemmas.List.Concat.{flat_map-cons}
 use Rattle.uart_spec.specs.declared.config.BaudRate.{BaudRate}
 use Rattle.uart_spec.specs.declared.config.BaudRate.TheVariants as rate
@@ -16,6 +17,7 @@ use Rattle.uart_language.specs.declared.cause.Cause.TheVariants.{BadWord}
 use Rattle.uart_language.specs.declared.limits.TheConstants.{MOST_LIMIT, MOST_RATE}
 use Rattle.uart_language.specs.Fields.{◌>>=◌, is_number, number_in, lines_in, errors_in, rate_of, rate_in}
 use Rattle.uart_calls.specs.declared.call.Call.{Call}
+use Rattle.uart_calls.specs.declared.call.Call.TheVariants as call
 use Rattle.uart_calls.specs.declared.call.TheConstants.{CALL_BYTES}
 use Rattle.uart_calls.specs.Calls.{IsRunnable}
 use Rattle.uart_spec.specs.declared.registers.line_status.TheConstants.LSR
@@ -25,7 +27,7 @@ use Rattle.uart_chip.specs.Build.{IsLegal}
 use Rattle.uart_chip.specs.Masks.{IsWithin}
 use Rattle.uart_language.specs.declared.words.Word.{Word}
 use Rattle.uart_language.specs.declared.words.Word.TheVariants as word
-use Rattle.uart_language.specs.Sayings.{Saying, Nothing, Limit, Happens, Calls, Marks, bare_call, Means, events_said, calls_said}
+use Rattle.uart_language.specs.Sayings.{Saying, Nothing, Limit, Happens, Calls, Marks, bare_call, Means, events_said, calls_said, plain}
 use Rattle.uart_language.specs.Sayings as row
 use Rattle.uart_language.specs.Script.{Plan, Says, blank, printable, SayInOrder, limit_from, IsScript, IsPlayable}
 
@@ -183,3 +185,14 @@ playable bytes plan s = record {
   events = rw s.events (all_parts IsLegal events_said events_good 2 s.others s.sayings s.body);
   calls = rw s.calls (all_parts IsRunnable calls_said calls_good 2 s.others s.sayings s.body);
 }
+
+-- the unused room of a text makes no difference to whether a call can run, nor to what it does
+pub runnable_plain : (c : Call) → IsRunnable (plain c) → IsRunnable c
+runnable_plain (call.Text text) h = tt
+runnable_plain c h = h
+
+pub all_runnable : (calls plans : List Call) → map plain calls ≡ plans → All IsRunnable plans → All IsRunnable calls
+all_runnable calls plans same all k d within =
+    let few : k < length plans = omega (arith, ap length same, length-map calls plain) in
+    let there = all k d few in
+    runnable_plain (get_or calls k d) (rw (← same, get_or-map plain calls k d d within) at there)

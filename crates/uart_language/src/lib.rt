@@ -15,5 +15,8 @@ mod text;
 mod words;
 
 pub use cause::{Cause, ScriptError};
+pub use fields::byte_in;
+pub use items::{Item, item_at};
 pub use parsing::{Script, parse};
-pub use rendering::render;
+pub use rendering::{hex_digit, push_answer, render};
+pub use text::{has_bad_byte, word_at, word_count};

@@ -17,8 +17,8 @@ use uart_spec::{
     ByteSendError, InitError, InvalidDivisorError, LoopbackError, RemoteReadyToReceiveError,
 };
 
-/// A digit below 16 as text.
-fn hex_digit(digit: u8) -> u8
+/// A digit below 16 as text, in lower case.
+pub fn hex_digit(digit: u8) -> u8
     requires { digit < 16 }
     ensures { result ≡ digit_char digit }
 {
@@ -168,7 +168,8 @@ fn push_status(
     push_number(alloc, out, usize::from(dump.divisor()))
 }
 
-fn push_answer(alloc: Global, out: &mut Vec<u8>, answer: &Answer) -> Result<(), AllocError>
+/// Appends an answer as it is printed, without the end of its line.
+pub fn push_answer(alloc: Global, out: &mut Vec<u8>, answer: &Answer) -> Result<(), AllocError>
     ensures { OnOk result (out.new.items ≡ out.old.items ++ answer_text answer.now) }
 {
     match answer {

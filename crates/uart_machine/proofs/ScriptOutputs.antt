@@ -1,13 +1,11 @@
 -- From a script's calls to what is printed for it.
 use Rattle.std.proofs.Common.{◌≡◌, ◌<◌, ◌+◌, ℕ, List, [], ◌∷◌, ◌++◌, length, map, take, get_or, Some, None, inl, inr, refl, sym, ◌∙◌, ap}
 use Rattle.std.proofs.Common.{arith, slice_get}
-use Rattle.std.proofs.lemmas.List.{take_more, get_or-map, length-map}
+use Rattle.std.proofs.lemmas.List.{take_more}
 use Rattle.std.proofs.lemmas.Option.{slice_get_cases}
 use Rattle.uart_calls.specs.declared.call.Call.{Call}
 use Rattle.uart_calls.specs.declared.call.Call.TheVariants as call
 use Rattle.uart_calls.specs.declared.call.Answer.{Answer}
-use Rattle.std.specs.Prelude.{All}
-use Rattle.uart_calls.specs.Calls.{IsRunnable}
 use Rattle.uart_language.specs.Sayings.{plain}
 use Rattle.uart_run.specs.Run.{State, CallStep, Link, Chain, calls_of, answers_of, IsRun}
 use Rattle.uart_run.specs.Session.{Ran}
@@ -29,17 +27,6 @@ got_more xs i x old new got before after = after ∙ ap (λ ys. ys ++ x ∷ []) 
 pub never_none : {A : Type 0} (xs : List A) (i : ℕ) → i < length xs → slice_get xs i ≡ None → ⊥
 never_none xs i within none =
     elim (slice_get_cases xs i).1 [ inl h ↦ cc | inr h ↦ omega arith ]
-
--- the unused room of a text makes no difference to whether a call can run, nor to what it does
-pub runnable_plain : (c : Call) → IsRunnable (plain c) → IsRunnable c
-runnable_plain (call.Text text) h = tt
-runnable_plain c h = h
-
-pub all_runnable : (calls plans : List Call) → map plain calls ≡ plans → All IsRunnable plans → All IsRunnable calls
-all_runnable calls plans same all k d within =
-    let few : k < length plans = omega (arith, ap length same, length-map calls plain) in
-    let there = all k d few in
-    runnable_plain (get_or calls k d) (rw (← same, get_or-map plain calls k d d within) at there)
 
 step_plain : (s t : State) (c : Call) (a : Answer) → CallStep s c a t → CallStep s (plain c) a t
 step_plain s t (call.Text text) a h = h

@@ -4,11 +4,13 @@
 //!   register access first performs the scheduled events that come before it, and then has the effect that the datasheet gives it.
 //! - [`perform`] makes one [`Call`] of the driver over any backend, and returns its [`Answer`].
 //! - [`run`] makes a list of calls over such a device. Its contract has the theorems about driver and chip together.
+//! - [`run_ring`] makes a list of calls of the rings over such a device, and returns a [`RingAnswer`] for each [`RingCall`]. Its
+//!   contract has the theorem about rings, driver and chip together.
 //! - [`script`] plays a script from a reader to a writer.
 //! - [`laws`] has what follows from these contracts.
 //!
-//! The chip is the crate `uart_chip`, the device `uart_device`, calls and answers `uart_calls`, runs `uart_run`, and the script
-//! language `uart_language`. This crate joins them under one name, and has the tests that cross them.
+//! The chip is the crate `uart_chip`, the device `uart_device`, calls and answers `uart_calls`, runs `uart_run`, runs of the rings
+//! `uart_ring_run`, and the script language `uart_language`. This crate joins them under one name, and has the tests that cross them.
 #![tactic(auto)]
 
 pub mod laws;
@@ -19,4 +21,5 @@ mod tests;
 pub use uart_calls::{Answer, CALL_BYTES, Call, perform};
 pub use uart_chip::{ArrivalMark, BuildError, Chip, Event};
 pub use uart_device::Device16550;
+pub use uart_ring_run::{RingAnswer, RingCall, run_ring};
 pub use uart_run::run;

@@ -5,6 +5,8 @@ mod cut;
 mod driver;
 mod idle;
 mod paths;
+mod readme;
+mod rings;
 mod schedules;
 
 use crate::{ArrivalMark, BuildError, Chip, Device16550, Event};
@@ -12,7 +14,7 @@ use std::test::Fail;
 use uart_16550::Uart16550;
 use uart_16550::backend::Backend;
 use uart_spec::Config;
-use uart_spec::registers::offsets;
+use uart_spec::registers::{FifoTriggerLevel, offsets};
 
 const DATA: u8 = offsets::DATA as u8;
 
@@ -55,6 +57,20 @@ fn new_driver(
 ) -> Result<Uart16550<Device16550>, Fail> {
     let machine = machine(rt, chip, char_ticks, 64, &[])?;
     Ok(Uart16550::new_with_backend(machine))
+}
+
+// A driver that has initialised a machine to which nothing happens, with this level and the rest as by default.
+fn initialised(
+    rt: &HostRuntime,
+    chip: Chip,
+    fifo_trigger_level: Option<FifoTriggerLevel>,
+) -> Result<Uart16550<Device16550>, Fail> {
+    let mut uart = new_driver(rt, chip, 4)?;
+    uart.init(Config {
+        fifo_trigger_level,
+        ..Config::DEFAULT
+    })?;
+    Ok(uart)
 }
 
 const WITHOUT_FIFO: Config = Config {

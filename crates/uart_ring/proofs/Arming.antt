@@ -1,5 +1,5 @@
 -- That ring calls leave the THR-empty interrupt armed.
-use Rattle.std.proofs.Common.{◌≡◌, ◌<◌, ◌==◌, ◌||◌, ◌&&◌, ◌⊎◌, ℕ, zero, suc, Bool, true, false, not, MatchBool, List}
+use Rattle.std.proofs.Common.{◌≡◌, ◌<◌, ◌==◌, ◌||◌, ◌&&◌, ◌⊎◌, ℕ, zero, suc, Bool, true, false, not, List}
 use Rattle.std.proofs.Common.{[], ◌∷◌, ◌++◌, length, take, drop, length-take, length-drop, append-nil, refl, arith, ◌∙◌, ap, inl, inr}
 use Rattle.std.proofs.Common.{Option, Some, None, bit_and, bit_or, if◌then◌else◌}
 use Rattle.std.specs.Prelude.{⊤}
@@ -13,23 +13,18 @@ use Rattle.uart_spec.specs.declared.baud.TheConstants.{FIFO_SIZE}
 use Rattle.uart_spec.specs.declared.errors.ByteSendError.TheVariants.{NoCapacity, RemoteNotClearToSend}
 use Rattle.uart_spec.specs.declared.registers.interrupt_enable.TheConstants.IER
 use Rattle.uart_spec.specs.declared.registers.interrupt_type.InterruptType.{InterruptType}
-use Rattle.uart_spec.specs.declared.registers.interrupt_type.InterruptType.TheVariants.{
-  ReceiverLineStatus,
-  ReceivedDataReady,
-  ReceptionTimeout,
-  TransmitterHoldingRegisterEmpty,
-  ModemStatus,
-  DmaReceptionEndOfTransfer,
-  DmaTransmissionEndOfTransfer,
-}
+use Rattle.uart_spec.specs.declared.registers.interrupt_type.InterruptType.TheVariants.{ReceiverLineStatus, ReceivedDataReady}
+use Rattle.uart_spec.specs.declared.registers.interrupt_type.InterruptType.TheVariants.{ReceptionTimeout, TransmitterHoldingRegisterEmpty}
+use Rattle.uart_spec.specs.declared.registers.interrupt_type.InterruptType.TheVariants.{ModemStatus, DmaReceptionEndOfTransfer}
+use Rattle.uart_spec.specs.declared.registers.interrupt_type.InterruptType.TheVariants.{DmaTransmissionEndOfTransfer}
 use Rattle.uart_spec.specs.declared.registers.line_status.TheConstants.LSR
 use Rattle.uart_spec.specs.declared.registers.offsets.TheConstants as offsets
 use Rattle.uart_16550.specs.Grammar.{Settings, Asks, InOrder}
 use Rattle.uart_16550.specs.Driver.{Fields, settings_of}
 use Rattle.uart_16550.specs.Receive.{Receives, Hit}
 use Rattle.uart_16550.specs.Transmit.{Sends, SendMiss, burst_limit, data_writes}
-use Rattle.uart_16550.specs.Status.{Enables, Disables}
-use Rattle.uart_ring.specs.Ring.{RingFields, OnDriver, Stays, RingNext, RingTimes, IfAny, with_queued, with_paused, without_taken}
+use Rattle.uart_16550.specs.Status.{Enables}
+use Rattle.uart_ring.specs.Ring.{RingFields, OnDriver, Stays, RingNext, RingTimes, IfAny, with_queued, without_taken}
 use Rattle.uart_ring.specs.Ring.{unchanged, is_full}
 use Rattle.uart_ring.specs.Transmit.{ArmsIfLeft, Pumps, Queues}
 use Rattle.uart_ring.specs.Receive.{PausesIfFull, FillsReceiveRing, EndsPause, TakesBytes}
@@ -39,6 +34,7 @@ use Rattle.uart_ring.specs.Lossless.{Implies}
 use Rattle.uart_ring.specs.Armed.{ThrEmpty, shows_thr_empty, due_after_read, known_after, known_after_all, KeepsIer, IsArmed, LeavesArmed}
 use Rattle.uart_ring.specs.Armed.{Arms}
 use Rattle.uart_ring.proofs.RegisterBits.{and_or, and_assoc, or_and}
+use Rattle.uart_ring.proofs.Pausing.{ChangesIer, Pausing, joined_with, rid_of}
 use Rattle.uart_ring.proofs.Losses.{Carries, received_carries, shows_carry, serves_one_carries, times_carry}
 
 -- ---- bits of IER
@@ -48,10 +44,13 @@ joined : (ier : ℕ) → has (bit_or ier IER.THR_EMPTY.0) IER.THR_EMPTY.0 ≡ tr
 joined ier = ap (λ n. n == IER.THR_EMPTY.0) (or_and ier IER.THR_EMPTY.0)
 
 -- another bit that is joined or taken away changes nothing
-kept_joined : (ier : ℕ) → has (bit_or ier IER.DATA_READY.0) IER.THR_EMPTY.0 ≡ has ier IER.THR_EMPTY.0
+abbrev LeavesThrEmpty : (ℕ → ℕ) → Type 0
+LeavesThrEmpty change = (ier : ℕ) → has (change ier) IER.THR_EMPTY.0 ≡ has ier IER.THR_EMPTY.0
+
+kept_joined : LeavesThrEmpty (joined_with IER.DATA_READY.0)
 kept_joined ier = ap (λ n. n == IER.THR_EMPTY.0) (and_or ier IER.DATA_READY.0 IER.THR_EMPTY.0 ∙ or_zero_r (bit_and ier IER.THR_EMPTY.0))
 
-kept_taken : (ier : ℕ) → has (without 8 ier IER.DATA_READY.0) IER.THR_EMPTY.0 ≡ has ier IER.THR_EMPTY.0
+kept_taken : LeavesThrEmpty (rid_of IER.DATA_READY.0)
 kept_taken ier = ap (λ n. n == IER.THR_EMPTY.0) (and_assoc ier (without 8 255 IER.DATA_READY.0) IER.THR_EMPTY.0)
 
 -- ---- what lists tell
@@ -150,17 +149,11 @@ enabled_live : (known : ThrEmpty) (f : Fields) (l : List Access) (after : Fields
 enabled_live known f l after (ier, is, changed) due = rw is (joined ier, due)
 
 -- the other interrupts leave it as it is, if IER reads true
-resumed_live : (known : ThrEmpty) (f : Fields) (l : List Access) (after : Fields) → Enables IER.DATA_READY.0 f l after → KeepsIer known l →
-    IsLive known → IsLive (known_after_all known l)
-resumed_live known f l after (ier, is, changed) keeps live =
-    let true_of : KeepsIer known (Read offsets.IER ier ∷ Write offsets.IER (bit_or ier IER.DATA_READY.0) ∷ []) = rw is at keeps in
-    rw is (kept_joined ier ∙ true_of.0 refl live.0, live.1)
-
-paused_live : (known : ThrEmpty) (f : Fields) (l : List Access) (after : Fields) → Disables IER.DATA_READY.0 f l after → KeepsIer known l →
-    IsLive known → IsLive (known_after_all known l)
-paused_live known f l after (ier, is, changed) keeps live =
-    let true_of : KeepsIer known (Read offsets.IER ier ∷ Write offsets.IER (without 8 ier IER.DATA_READY.0) ∷ []) = rw is at keeps in
-    rw is (kept_taken ier ∙ true_of.0 refl live.0, live.1)
+changed_live : (change : ℕ → ℕ) → LeavesThrEmpty change → (known : ThrEmpty) (f : Fields) (l : List Access) (after : Fields) →
+    ChangesIer change f l after → KeepsIer known l → IsLive known → IsLive (known_after_all known l)
+changed_live change kept known f l after (ier, is, changed) keeps live =
+    let true_of : KeepsIer known (Read offsets.IER ier ∷ Write offsets.IER (change ier) ∷ []) = rw is at keeps in
+    rw is (kept ier ∙ true_of.0 refl live.0, live.1)
 
 -- ---- each piece
 
@@ -218,23 +211,16 @@ pumps_arm f l after (sent, (t, same)) = λ off known. go off known (drop sent f.
 pumps_leave : Implies Pumps LeavesArmed
 pumps_leave f l after t = λ off known keeps armed. pumps_arm f l after t off known
 
+pausing_leaves : (change : ℕ → ℕ) (paused when : Bool) → LeavesThrEmpty change → Implies (Pausing change paused when) LeavesArmed
+pausing_leaves change paused true kept f l after t = leaves_live f l after (ap (λ (g : RingFields). g.transmit.items) t.1)
+    (λ known keeps live. changed_live change kept known f.driver l after.driver t.0 keeps live)
+pausing_leaves change paused false kept f l after t = leaves_stays f l after t
+
 pauses_leave : Implies PausesIfFull LeavesArmed
-pauses_leave f l after t = go (is_full f.receive) t
-  where
-    go : (full : Bool) → MatchBool full (OnDriver (Disables IER.DATA_READY.0) (with_paused true) f l after) (Stays f l after) →
-        LeavesArmed f l after
-    go true t = leaves_live f l after (ap (λ (g : RingFields). g.transmit.items) t.1)
-        (λ known keeps live. paused_live known f.driver l after.driver t.0 keeps live)
-    go false t = leaves_stays f l after t
+pauses_leave f l after t = pausing_leaves (rid_of IER.DATA_READY.0) true (is_full f.receive) kept_taken f l after t
 
 ends_pause_leaves : Implies EndsPause LeavesArmed
-ends_pause_leaves f l after t = go f.is_paused t
-  where
-    go : (paused : Bool) → MatchBool paused (OnDriver (Enables IER.DATA_READY.0) (with_paused false) f l after) (Stays f l after) →
-        LeavesArmed f l after
-    go true t = leaves_live f l after (ap (λ (g : RingFields). g.transmit.items) t.1)
-        (λ known keeps live. resumed_live known f.driver l after.driver t.0 keeps live)
-    go false t = leaves_stays f l after t
+ends_pause_leaves f l after t = pausing_leaves (joined_with IER.DATA_READY.0) false f.is_paused kept_joined f l after t
 
 fills_leave : Implies FillsReceiveRing LeavesArmed
 fills_leave f l after (bytes, t) =

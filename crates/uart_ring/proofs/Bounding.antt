@@ -6,29 +6,24 @@ use Rattle.uart_spec.specs.declared.baud.TheConstants.{FIFO_SIZE}
 use Rattle.uart_spec.specs.declared.errors.ByteSendError.TheVariants.{NoCapacity, RemoteNotClearToSend}
 use Rattle.uart_spec.specs.declared.registers.interrupt_enable.TheConstants.IER
 use Rattle.uart_spec.specs.declared.registers.interrupt_type.InterruptType.{InterruptType}
-use Rattle.uart_spec.specs.declared.registers.interrupt_type.InterruptType.TheVariants.{
-  ReceiverLineStatus,
-  ReceivedDataReady,
-  ReceptionTimeout,
-  TransmitterHoldingRegisterEmpty,
-  ModemStatus,
-  DmaReceptionEndOfTransfer,
-  DmaTransmissionEndOfTransfer,
-}
+use Rattle.uart_spec.specs.declared.registers.interrupt_type.InterruptType.TheVariants.{ReceiverLineStatus, ReceivedDataReady}
+use Rattle.uart_spec.specs.declared.registers.interrupt_type.InterruptType.TheVariants.{ReceptionTimeout, TransmitterHoldingRegisterEmpty}
+use Rattle.uart_spec.specs.declared.registers.interrupt_type.InterruptType.TheVariants.{ModemStatus, DmaReceptionEndOfTransfer}
+use Rattle.uart_spec.specs.declared.registers.interrupt_type.InterruptType.TheVariants.{DmaTransmissionEndOfTransfer}
 use Rattle.uart_spec.specs.declared.registers.line_status.TheConstants.LSR
 use Rattle.uart_spec.specs.declared.registers.offsets.TheConstants as offsets
 use Rattle.uart_16550.specs.Grammar.{Settings, Then, Asks, InOrder}
 use Rattle.uart_16550.specs.Driver.{Fields, settings_of}
 use Rattle.uart_16550.specs.Receive.{Receives, Hit}
 use Rattle.uart_16550.specs.Transmit.{Sends, SendHit, SendMiss, LinesAllow, data_writes}
-use Rattle.uart_16550.specs.Status.{Enables, Disables}
-use Rattle.uart_ring.specs.Ring.{OnDriver, Stays, RingTimes, IfAny, with_queued, with_paused, without_taken}
+use Rattle.uart_ring.specs.Ring.{RingTimes, IfAny, with_queued, without_taken}
 use Rattle.uart_ring.specs.Ring.{free, is_full}
 use Rattle.uart_ring.specs.Transmit.{ArmsIfLeft, Pumps, Queues}
 use Rattle.uart_ring.specs.Receive.{PausesIfFull, FillsReceiveRing, EndsPause, TakesBytes}
 use Rattle.uart_ring.specs.Status.{TakesLine, TakesModem}
 use Rattle.uart_ring.specs.Service.{ServesInterrupt, ServesOne, Services}
 use Rattle.uart_ring.specs.Lossless.{Implies}
+use Rattle.uart_ring.proofs.Pausing.{ChangesIer, Pausing, joined_with, rid_of}
 use Rattle.uart_ring.specs.Bounded.{MakesAtMost, most_of_change, most_of_pump, most_of_receiving, most_of_service}
 
 -- two lists in turn
@@ -104,15 +99,12 @@ receives_size room bytes s l few (inr (fewer, t)) =
       asks_size _ _ _ s t.back t.second,
     )
 
-enables_size : (bits : ℕ) (f : Fields) (l : List Access) (after : Fields) → Enables bits f l after → length l ≤ 2
-enables_size bits f l after (ier, is, changed) = omega (arith, ap length is)
-
-disables_size : (bits : ℕ) (f : Fields) (l : List Access) (after : Fields) → Disables bits f l after → length l ≤ 2
-disables_size bits f l after (ier, is, changed) = omega (arith, ap length is)
+changes_size : (change : ℕ → ℕ) (f : Fields) (l : List Access) (after : Fields) → ChangesIer change f l after → length l ≤ 2
+changes_size change f l after (ier, is, changed) = omega (arith, ap length is)
 
 arms_size : (left : List ℕ) (f : Fields) (l : List Access) (after : Fields) → ArmsIfLeft left f l after → length l ≤ 2
-arms_size [] f l after t = disables_size IER.THR_EMPTY.0 f l after t
-arms_size (byte ∷ bytes) f l after t = enables_size IER.THR_EMPTY.0 f l after t
+arms_size [] f l after t = changes_size (rid_of IER.THR_EMPTY.0) f l after t
+arms_size (byte ∷ bytes) f l after t = changes_size (joined_with IER.THR_EMPTY.0) f l after t
 
 -- ---- each piece
 
@@ -123,21 +115,15 @@ pumps_size f l after (sent, (t, same)) =
     both l t.front t.back (3 + FIFO_SIZE) most_of_change t.whole (sends_size burst sent (settings_of f.driver) t.front few t.first.0)
     (arms_size (drop sent f.transmit.items) t.mid t.back after.driver t.second)
 
+pausing_size : (change : ℕ → ℕ) (paused when : Bool) → Implies (Pausing change paused when) (MakesAtMost most_of_change)
+pausing_size change paused true f l after t = changes_size change f.driver l after.driver t.0
+pausing_size change paused false f l after t = omega (arith, ap length t.0)
+
 pauses_size : Implies PausesIfFull (MakesAtMost most_of_change)
-pauses_size f l after t = go (is_full f.receive) t
-  where
-    go : (full : Bool) → MatchBool full (OnDriver (Disables IER.DATA_READY.0) (with_paused true) f l after) (Stays f l after) →
-        length l ≤ most_of_change
-    go true t = disables_size IER.DATA_READY.0 f.driver l after.driver t.0
-    go false t = omega (arith, ap length t.0)
+pauses_size f l after t = pausing_size (rid_of IER.DATA_READY.0) true (is_full f.receive) f l after t
 
 ends_pause_size : Implies EndsPause (MakesAtMost most_of_change)
-ends_pause_size f l after t = go f.is_paused t
-  where
-    go : (paused : Bool) → MatchBool paused (OnDriver (Enables IER.DATA_READY.0) (with_paused false) f l after) (Stays f l after) →
-        length l ≤ most_of_change
-    go true t = enables_size IER.DATA_READY.0 f.driver l after.driver t.0
-    go false t = omega (arith, ap length t.0)
+ends_pause_size f l after t = pausing_size (joined_with IER.DATA_READY.0) false f.is_paused f l after t
 
 fills_size : Implies FillsReceiveRing (MakesAtMost most_of_receiving)
 fills_size f l after (bytes, t) =

@@ -1,5 +1,5 @@
 -- That ring calls leave no choice.
-use Rattle.std.proofs.Common.{◌≡◌, ◌<◌, ℕ, zero, suc, Bool, true, false, min, MatchBool, List, [], ◌∷◌, ◌++◌, length, take, drop}
+use Rattle.std.proofs.Common.{◌≡◌, ◌<◌, ℕ, zero, suc, Bool, true, false, min, List, [], ◌∷◌, ◌++◌, length, take, drop}
 use Rattle.std.proofs.Common.{append_assoc, refl, arith}
 use Rattle.std.proofs.Common.{sym, ◌∙◌, ap, subst, inl, inr, ◌⊎◌, Option, Some, None, bit_and, bit_or}
 use Rattle.uart_spec.specs.Access.{Access, Read}
@@ -8,15 +8,10 @@ use Rattle.uart_spec.specs.Fields.{Identifies}
 use Rattle.uart_spec.specs.declared.baud.TheConstants.{FIFO_SIZE}
 use Rattle.uart_spec.specs.declared.registers.interrupt_enable.TheConstants.IER
 use Rattle.uart_spec.specs.declared.registers.interrupt_type.InterruptType.{InterruptType}
-use Rattle.uart_spec.specs.declared.registers.interrupt_type.InterruptType.TheVariants.{
-  ReceiverLineStatus,
-  ReceivedDataReady,
-  ReceptionTimeout,
-  TransmitterHoldingRegisterEmpty,
-  ModemStatus,
-  DmaReceptionEndOfTransfer,
-  DmaTransmissionEndOfTransfer,
-}
+use Rattle.uart_spec.specs.declared.registers.interrupt_type.InterruptType.TheVariants.{ReceiverLineStatus, ReceivedDataReady}
+use Rattle.uart_spec.specs.declared.registers.interrupt_type.InterruptType.TheVariants.{ReceptionTimeout, TransmitterHoldingRegisterEmpty}
+use Rattle.uart_spec.specs.declared.registers.interrupt_type.InterruptType.TheVariants.{ModemStatus, DmaReceptionEndOfTransfer}
+use Rattle.uart_spec.specs.declared.registers.interrupt_type.InterruptType.TheVariants.{DmaTransmissionEndOfTransfer}
 use Rattle.uart_spec.specs.declared.registers.line_status.TheConstants.LSR
 use Rattle.uart_spec.specs.declared.registers.modem_status.TheConstants.MSR
 use Rattle.uart_spec.specs.declared.registers.offsets.TheConstants as offsets
@@ -24,7 +19,7 @@ use Rattle.uart_16550.specs.Choice.{PartAtRead}
 use Rattle.uart_16550.specs.Grammar.{Only}
 use Rattle.uart_16550.specs.Driver.{Doing, Fields, Next, Saving, settings_of}
 use Rattle.uart_16550.specs.Receive.{Receives}
-use Rattle.uart_16550.specs.Status.{Disables, Enables}
+use Rattle.uart_16550.specs.Status.{TakesLsr, TakesMsr}
 use Rattle.uart_16550.specs.Transmit.{Sends}
 use Rattle.uart_16550.proofs.determined.Parting.{SameOrPart, read_determined, so, so_front, so_sym, so_then}
 use Rattle.uart_16550.proofs.determined.Doings.{Does, does_next, does_saving, does_so}
@@ -33,9 +28,10 @@ use Rattle.uart_16550.proofs.determined.Status.{disables_determined, enables_det
 use Rattle.uart_16550.proofs.determined.Transmit.{sends_determined}
 use Rattle.uart_ring.specs.Ring.{RingDoing, RingFields, OnDriver, Stays, RingNext, RingTimes, IfAny, unchanged, with_driver, with_queued}
 use Rattle.uart_ring.specs.Ring.{with_received, with_paused, with_line, with_modem, without_sent, without_taken, free, is_full}
+use Rattle.uart_ring.proofs.Pausing.{ChangesIer, Pausing, joined_with, rid_of}
 use Rattle.uart_ring.specs.Transmit.{ArmsIfLeft, Pumps, Queues}
 use Rattle.uart_ring.specs.Receive.{EndsPause, FillsReceiveRing, PausesIfFull, TakesBytes}
-use Rattle.uart_ring.specs.Status.{NotesLine, NotesModem, TakesLine, TakesModem}
+use Rattle.uart_ring.specs.Status.{TakesLine, TakesModem}
 use Rattle.uart_ring.specs.Service.{ServesInterrupt, ServesOne, Services, ShowsInterrupt}
 use Rattle.uart_ring.specs.Choice.{LeavesNoRingChoice}
 
@@ -105,27 +101,18 @@ pumps_same f = record {
         (λ e mid. does_so (λ t. e) (arms_alike (drop j f.transmit.items) (drop k f.transmit.items)
         (ap (λ n. drop n f.transmit.items) e) mid))
 
+pausing_same : (change : ℕ → ℕ) (paused when : Bool) (f : RingFields) → Does (Unit {0}) f.driver (ChangesIer change) (ChangesIer change) →
+    RingDoes (Unit {0}) f (Pausing change paused when) (Pausing change paused when)
+pausing_same change paused true f same = record { at = (on_driver {f = f} (with_paused paused) (with_paused paused) same (λ r. refl)).at }
+pausing_same change paused false f same = record { at = (stays_same f).at }
+
 pauses_same : (f : RingFields) → RingDoes (Unit {0}) f PausesIfFull PausesIfFull
-pauses_same f = record { at = λ l m a b p q. go (is_full f.receive) l m a b p q }
-  where
-    go : (full : Bool) (l m : List Access) (a b : RingFields) →
-        MatchBool full (OnDriver (Disables IER.DATA_READY.0) (with_paused true) f l a) (Stays f l a) →
-        MatchBool full (OnDriver (Disables IER.DATA_READY.0) (with_paused true) f m b) (Stays f m b) → SameOrPart (Unit {0} × (a ≡ b)) l m
-    go true l m a b p q =
-        so (λ r. (tt, r.1)) ((on_driver {f = f} (with_paused true) (with_paused true) (disables_determined IER.DATA_READY.0 f.driver tt tt)
-        (λ r. refl)).at l m a b p q)
-    go false l m a b p q = (stays_same f).at l m a b p q
+pauses_same f = let same = does_so (λ r. tt) (disables_determined IER.DATA_READY.0 f.driver tt tt) in
+    record { at = (pausing_same (rid_of IER.DATA_READY.0) true (is_full f.receive) f same).at }
 
 ends_pause_same : (f : RingFields) → RingDoes (Unit {0}) f EndsPause EndsPause
-ends_pause_same f = record { at = λ l m a b p q. go f.is_paused l m a b p q }
-  where
-    go : (paused : Bool) (l m : List Access) (a b : RingFields) →
-        MatchBool paused (OnDriver (Enables IER.DATA_READY.0) (with_paused false) f l a) (Stays f l a) →
-        MatchBool paused (OnDriver (Enables IER.DATA_READY.0) (with_paused false) f m b) (Stays f m b) → SameOrPart (Unit {0} × (a ≡ b)) l m
-    go true l m a b p q =
-        so (λ r. (tt, r.1)) ((on_driver {f = f} (with_paused false) (with_paused false) (enables_determined IER.DATA_READY.0 f.driver tt tt)
-        (λ r. refl)).at l m a b p q)
-    go false l m a b p q = (stays_same f).at l m a b p q
+ends_pause_same f = let same = does_so (λ r. tt) (enables_determined IER.DATA_READY.0 f.driver tt tt) in
+    record { at = (pausing_same (joined_with IER.DATA_READY.0) false f.is_paused f same).at }
 
 fills_same : (f : RingFields) → RingDoes (Unit {0}) f FillsReceiveRing FillsReceiveRing
 fills_same f = record { at = λ l m a b p q. (both p.0 q.0).at l m a b p.1 q.1 }
@@ -139,28 +126,29 @@ fills_same f = record { at = λ l m a b p q. (both p.0 q.0).at l m a b p.1 q.1 }
         (receives_determined (settings_of f.driver) (min FIFO_SIZE (free f.receive)) xs ys))
         (λ e. ap (λ zs. with_received zs f) e)) (λ e mid. pauses_same mid)
 
-notes_line_same : (f : RingFields) → RingDoes (Unit {0}) f NotesLine NotesLine
-notes_line_same f = record {
-  at = λ l m a b p q. so (λ r. (tt, r.1)) ((on_driver {f = f} (with_line (bit_or f.line (bit_and p.0 LSR.LINE_ERRORS.0)))
-      (with_line (bit_or f.line (bit_and q.0 LSR.LINE_ERRORS.0)))
-      (takes_lsr_determined f.driver p.0 q.0) (λ e. ap (λ n. with_line (bit_or f.line
-      (bit_and n LSR.LINE_ERRORS.0)) f) e)).at l m a b p.1 q.1);
+-- a status is taken, and noted so
+abbrev Notes : (ℕ → Doing) → (ℕ → RingFields → RingFields) → RingDoing
+Notes Takes note f l after = (status : ℕ) × OnDriver (Takes status) (note status) f l after
+
+notes_same : (Takes : ℕ → Doing) (note : ℕ → RingFields → RingFields) (f : RingFields) →
+    ((x y : ℕ) → Does (x ≡ y) f.driver (Takes x) (Takes y)) → RingDoes (Unit {0}) f (Notes Takes note) (Notes Takes note)
+notes_same Takes note f determined = record {
+  at = λ l m a b p q. so (λ r. (tt, r.1)) ((on_driver {f = f} (note p.0) (note q.0) (determined p.0 q.0)
+      (λ e. ap (λ n. note n f) e)).at l m a b p.1 q.1);
 }
 
-notes_modem_same : (f : RingFields) → RingDoes (Unit {0}) f NotesModem NotesModem
-notes_modem_same f = record {
-  at = λ l m a b p q. so (λ r. (tt, r.1)) ((on_driver {f = f} (with_modem (bit_or f.modem (bit_and p.0 MSR.CHANGES.0)))
-      (with_modem (bit_or f.modem (bit_and q.0 MSR.CHANGES.0)))
-      (takes_msr_determined f.driver p.0 q.0) (λ e. ap (λ n. with_modem (bit_or f.modem
-      (bit_and n MSR.CHANGES.0)) f) e)).at l m a b p.1 q.1);
-}
+abbrev note_line : ℕ → RingFields → RingFields
+note_line status f = with_line (bit_or f.line (bit_and status LSR.LINE_ERRORS.0)) f
+
+abbrev note_modem : ℕ → RingFields → RingFields
+note_modem status f = with_modem (bit_or f.modem (bit_and status MSR.CHANGES.0)) f
 
 serves_same : (interrupt : InterruptType) (f : RingFields) → RingDoes (Unit {0}) f (ServesInterrupt interrupt) (ServesInterrupt interrupt)
-serves_same ReceiverLineStatus f = notes_line_same f
+serves_same ReceiverLineStatus f = notes_same TakesLsr note_line f (takes_lsr_determined f.driver)
 serves_same ReceivedDataReady f = fills_same f
 serves_same ReceptionTimeout f = fills_same f
 serves_same TransmitterHoldingRegisterEmpty f = pumps_same f
-serves_same ModemStatus f = notes_modem_same f
+serves_same ModemStatus f = notes_same TakesMsr note_modem f (takes_msr_determined f.driver)
 serves_same DmaReceptionEndOfTransfer f = stays_same f
 serves_same DmaTransmissionEndOfTransfer f = stays_same f
 

@@ -9,15 +9,10 @@ use Rattle.uart_spec.specs.declared.baud.TheConstants.{FIFO_SIZE}
 use Rattle.uart_spec.specs.declared.errors.ByteSendError.TheVariants.{NoCapacity, RemoteNotClearToSend}
 use Rattle.uart_spec.specs.declared.registers.interrupt_enable.TheConstants.IER
 use Rattle.uart_spec.specs.declared.registers.interrupt_type.InterruptType.{InterruptType}
-use Rattle.uart_spec.specs.declared.registers.interrupt_type.InterruptType.TheVariants.{
-  ReceiverLineStatus,
-  ReceivedDataReady,
-  ReceptionTimeout,
-  TransmitterHoldingRegisterEmpty,
-  ModemStatus,
-  DmaReceptionEndOfTransfer,
-  DmaTransmissionEndOfTransfer,
-}
+use Rattle.uart_spec.specs.declared.registers.interrupt_type.InterruptType.TheVariants.{ReceiverLineStatus, ReceivedDataReady}
+use Rattle.uart_spec.specs.declared.registers.interrupt_type.InterruptType.TheVariants.{ReceptionTimeout, TransmitterHoldingRegisterEmpty}
+use Rattle.uart_spec.specs.declared.registers.interrupt_type.InterruptType.TheVariants.{ModemStatus, DmaReceptionEndOfTransfer}
+use Rattle.uart_spec.specs.declared.registers.interrupt_type.InterruptType.TheVariants.{DmaTransmissionEndOfTransfer}
 use Rattle.uart_spec.specs.declared.registers.line_status.TheConstants.LSR
 use Rattle.uart_spec.specs.declared.registers.modem_status.TheConstants.MSR
 use Rattle.uart_spec.specs.declared.registers.offsets.TheConstants as offsets
@@ -25,7 +20,6 @@ use Rattle.uart_16550.specs.Grammar.{Settings, Then, Asks, InOrder}
 use Rattle.uart_16550.specs.Driver.{Fields, Saving, saving, settings_of}
 use Rattle.uart_16550.specs.Receive.{Receives, Hit}
 use Rattle.uart_16550.specs.Transmit.{Sends, SendHit, SendMiss, LinesAllow, data_writes}
-use Rattle.uart_16550.specs.Status.{Enables, Disables}
 use Rattle.uart_16550.proofs.Paths.{or_assoc}
 use Rattle.uart_ring.specs.Ring.{RingFields, OnDriver, Stays, RingTimes, IfAny, with_driver, with_queued, with_received}
 use Rattle.uart_ring.specs.Ring.{with_paused, without_sent, without_taken, unchanged, is_full}
@@ -35,22 +29,23 @@ use Rattle.uart_ring.specs.Status.{NotesLine, NotesModem, TakesLine, TakesModem}
 use Rattle.uart_ring.specs.Service.{ShowsInterrupt, ServesInterrupt, ServesOne, Services}
 use Rattle.uart_ring.proofs.RegisterBits.{more_saved, now_noted, now_told, saved_lsr-append, saved_msr-append, saved_lsr-within}
 use Rattle.uart_ring.proofs.RegisterBits.{saved_msr-within}
+use Rattle.uart_ring.proofs.Pausing.{ChangesIer, Pausing, joined_with, rid_of}
 use Rattle.uart_ring.specs.Lossless.{data_written, data_read, untold_line, untold_modem, LosesNothing, Implies}
 
 -- ---- lists of accesses
 
-data_written-append : (l m : List Access) → data_written (l ++ m) ≡ data_written l ++ data_written m
+pub data_written-append : (l m : List Access) → data_written (l ++ m) ≡ data_written l ++ data_written m
 data_written-append [] m = refl
 data_written-append (Read offset answer ∷ l) m = data_written-append l m
 data_written-append (Write offset value ∷ l) m = rw (data_written-append l m) (sym (append_assoc _ (data_written l) (data_written m)))
 
-data_read-append : (l m : List Access) → data_read (l ++ m) ≡ data_read l ++ data_read m
+pub data_read-append : (l m : List Access) → data_read (l ++ m) ≡ data_read l ++ data_read m
 data_read-append [] m = refl
 data_read-append (Read offset answer ∷ l) m = rw (data_read-append l m) (sym (append_assoc _ (data_read l) (data_read m)))
 data_read-append (Write offset value ∷ l) m = data_read-append l m
 
 -- a list that wrote these bytes to DATA and read those
-record Moves (written read : List ℕ) (l : List Access) : Type 0 where
+pub record Moves (written read : List ℕ) (l : List Access) : Type 0 where
   pub written_is : data_written l ≡ written
   pub read_is : data_read l ≡ read
 
@@ -60,7 +55,7 @@ moves-then l m ws vs rs us a b = record {
   read_is = data_read-append l m ∙ (λ i. a.read_is i ++ b.read_is i);
 }
 
-nothing : Moves [] [] []
+pub nothing : Moves [] [] []
 nothing = record { written_is = refl; read_is = refl }
 
 asks_moves : (register bits : ℕ) (outcome : Bool) (s : Settings) (l : List Access) → (register == offsets.DATA) ≡ false →
@@ -98,7 +93,7 @@ writes_move (byte ∷ bytes) = let rest = writes_move bytes in record {
       rest.read_is;
 }
 
-sends_move : (bytes : List ℕ) (sent : ℕ) (s : Settings) (l : List Access) → Sends bytes sent s l → Moves (take sent bytes) [] l
+pub sends_move : (bytes : List ℕ) (sent : ℕ) (s : Settings) (l : List Access) → Sends bytes sent s l → Moves (take sent bytes) [] l
 sends_move bytes sent s l (inl (none, unsent, is)) = rw (unsent, is) nothing
 sends_move bytes sent s l (inr (inl (some, unsent, t))) = rw unsent (miss_moves s l t)
 sends_move bytes sent s l (inr (inr (some, size, t))) =
@@ -112,7 +107,7 @@ hits_move (byte ∷ bytes) s l t =
     (record { written_is = refl; read_is = refl }) in
     rw t.whole (moves-then t.front t.back [] [] (byte ∷ []) bytes one (hits_move bytes s t.back t.second))
 
-receives_move : (room : ℕ) (bytes : List ℕ) (s : Settings) (l : List Access) → Receives room bytes s l → Moves [] bytes l
+pub receives_move : (room : ℕ) (bytes : List ℕ) (s : Settings) (l : List Access) → Receives room bytes s l → Moves [] bytes l
 receives_move room bytes s l (inl (all, t)) = hits_move bytes s l t
 receives_move room bytes s l (inr (fewer, t)) =
     let both = moves-then t.front t.back [] [] bytes [] (hits_move bytes s t.front t.first) (asks_moves _ _ _ s t.back refl t.second) in
@@ -148,16 +143,8 @@ saves-then f mid after l m ws vs rs us a b = record {
       ∙ ap (bit_or f.msr) (sym (saved_msr-append l m))));
 }
 
-enables_saves : (bits : ℕ) (f : Fields) (l : List Access) (after : Fields) → Enables bits f l after → Saves [] [] f l after
-enables_saves bits f l after (ier, is, changed) = rw is (record {
-  moves = record { written_is = refl; read_is = refl };
-  settings = ap settings_of changed;
-  lsr = ap (λ g. g.lsr) changed ∙ sym (or_zero_r f.lsr);
-  msr = ap (λ g. g.msr) changed ∙ sym (or_zero_r f.msr);
-})
-
-disables_saves : (bits : ℕ) (f : Fields) (l : List Access) (after : Fields) → Disables bits f l after → Saves [] [] f l after
-disables_saves bits f l after (ier, is, changed) = rw is (record {
+changes_saves : (change : ℕ → ℕ) (f : Fields) (l : List Access) (after : Fields) → ChangesIer change f l after → Saves [] [] f l after
+changes_saves change f l after (ier, is, changed) = rw is (record {
   moves = record { written_is = refl; read_is = refl };
   settings = ap settings_of changed;
   lsr = ap (λ g. g.lsr) changed ∙ sym (or_zero_r f.lsr);
@@ -165,8 +152,8 @@ disables_saves bits f l after (ier, is, changed) = rw is (record {
 })
 
 arms_saves : (left : List ℕ) (f : Fields) (l : List Access) (after : Fields) → ArmsIfLeft left f l after → Saves [] [] f l after
-arms_saves [] f l after t = disables_saves IER.THR_EMPTY.0 f l after t
-arms_saves (byte ∷ bytes) f l after t = enables_saves IER.THR_EMPTY.0 f l after t
+arms_saves [] f l after t = changes_saves (rid_of IER.THR_EMPTY.0) f l after t
+arms_saves (byte ∷ bytes) f l after t = changes_saves (joined_with IER.THR_EMPTY.0) f l after t
 
 -- ---- what the rings do
 
@@ -256,23 +243,16 @@ pumps_carry f l after (sent, (t, same)) =
     rw t.whole (carries_driver f (without_sent sent f) (t.front ++ t.back) after _ _ both same split
     (sym (append-nil f.receive.items)) refl refl refl refl)
 
+pausing_carries : (change : ℕ → ℕ) (paused when : Bool) → Implies (Pausing change paused when) Carries
+pausing_carries change paused true f l after t =
+    carries_still f (with_paused paused f) l after (changes_saves change f.driver l after.driver t.0) t.1 refl refl refl refl
+pausing_carries change paused false f l after t = stays_carries f l after t
+
 pauses_carry : Implies PausesIfFull Carries
-pauses_carry f l after t = go (is_full f.receive) t
-  where
-    go : (full : Bool) → MatchBool full (OnDriver (Disables IER.DATA_READY.0) (with_paused true) f l after) (Stays f l after) →
-        Carries f l after
-    go true t =
-        carries_still f (with_paused true f) l after (disables_saves IER.DATA_READY.0 f.driver l after.driver t.0) t.1 refl refl refl refl
-    go false t = stays_carries f l after t
+pauses_carry f l after t = pausing_carries (rid_of IER.DATA_READY.0) true (is_full f.receive) f l after t
 
 ends_pause_carries : Implies EndsPause Carries
-ends_pause_carries f l after t = go f.is_paused t
-  where
-    go : (paused : Bool) → MatchBool paused (OnDriver (Enables IER.DATA_READY.0) (with_paused false) f l after) (Stays f l after) →
-        Carries f l after
-    go true t =
-        carries_still f (with_paused false f) l after (enables_saves IER.DATA_READY.0 f.driver l after.driver t.0) t.1 refl refl refl refl
-    go false t = stays_carries f l after t
+ends_pause_carries f l after t = pausing_carries (joined_with IER.DATA_READY.0) false f.is_paused f l after t
 
 pub received_carries : (room : ℕ) (bytes : List ℕ) → Implies (OnDriver (Saving (Receives room bytes)) (with_received bytes)) Carries
 received_carries room bytes f l after ((fits, saved), same) =
@@ -285,37 +265,34 @@ fills_carry f l after (bytes, t) =
     rw t.whole (carries-then f t.mid after t.front t.back (received_carries _ bytes f t.front t.mid t.first)
     (pauses_carry t.mid t.back after t.second))
 
+-- a status was read, and no byte moved
+read_carries : (f : RingFields) (l : List Access) (after : RingFields) → after.transmit ≡ f.transmit → after.receive ≡ f.receive →
+    Moves [] [] l → settings_of after.driver ≡ settings_of f.driver → untold_line after ≡ bit_or (untold_line f) (saved_lsr l) →
+    untold_modem after ≡ bit_or (untold_modem f) (saved_msr l) → Carries f l after
+read_carries f l after transmit receive moves settings line modem = record {
+  sent = rw moves.written_is (ap (λ b. b.items) (sym transmit));
+  received = rw moves.read_is (ap (λ b. b.items) receive ∙ sym (append-nil f.receive.items));
+  line = line;
+  modem = modem;
+  rooms = (ap (λ b. b.capacity) transmit, ap (λ b. b.capacity) receive);
+  settings = settings;
+}
+
 notes_line_carries : Implies NotesLine Carries
 notes_line_carries f l after (status, ((read, is, shown, changed), same)) =
-    let told : untold_line after ≡ bit_or (untold_line f) (saved_lsr l) =
-    rw (ap (λ (g : RingFields). g.line) same, ap (λ (g : Fields). g.lsr) changed, shown, is)
-    (now_noted f.line f.driver.lsr read LSR.LINE_ERRORS.0) in
-    let kept : untold_modem after ≡ bit_or (untold_modem f) (saved_msr l) =
-    rw (ap (λ (g : RingFields). g.modem) same, ap (λ (g : Fields). g.msr) changed, is) (sym (or_zero_r (untold_modem f))) in
-    record {
-      sent = rw is (sym (ap (λ (g : RingFields). g.transmit.items) same));
-      received = rw is (ap (λ (g : RingFields). g.receive.items) same ∙ sym (append-nil f.receive.items));
-      line = told;
-      modem = kept;
-      rooms = (ap (λ (g : RingFields). g.transmit.capacity) same, ap (λ (g : RingFields). g.receive.capacity) same);
-      settings = ap settings_of changed;
-    }
+    rw is (read_carries f _ after (ap (λ (g : RingFields). g.transmit) same) (ap (λ (g : RingFields). g.receive) same)
+    (record { written_is = refl; read_is = refl }) (ap settings_of changed)
+    (rw (ap (λ (g : RingFields). g.line) same, ap (λ (g : Fields). g.lsr) changed, shown)
+    (now_noted f.line f.driver.lsr read LSR.LINE_ERRORS.0))
+    (rw (ap (λ (g : RingFields). g.modem) same, ap (λ (g : Fields). g.msr) changed) (sym (or_zero_r (untold_modem f)))))
 
 notes_modem_carries : Implies NotesModem Carries
 notes_modem_carries f l after (status, ((read, is, shown, changed), same)) =
-    let told : untold_modem after ≡ bit_or (untold_modem f) (saved_msr l) =
-    rw (ap (λ (g : RingFields). g.modem) same, ap (λ (g : Fields). g.msr) changed, shown, is)
-    (now_noted f.modem f.driver.msr read MSR.CHANGES.0) in
-    let kept : untold_line after ≡ bit_or (untold_line f) (saved_lsr l) =
-    rw (ap (λ (g : RingFields). g.line) same, ap (λ (g : Fields). g.lsr) changed, is) (sym (or_zero_r (untold_line f))) in
-    record {
-      sent = rw is (sym (ap (λ (g : RingFields). g.transmit.items) same));
-      received = rw is (ap (λ (g : RingFields). g.receive.items) same ∙ sym (append-nil f.receive.items));
-      line = kept;
-      modem = told;
-      rooms = (ap (λ (g : RingFields). g.transmit.capacity) same, ap (λ (g : RingFields). g.receive.capacity) same);
-      settings = ap settings_of changed;
-    }
+    rw is (read_carries f _ after (ap (λ (g : RingFields). g.transmit) same) (ap (λ (g : RingFields). g.receive) same)
+    (record { written_is = refl; read_is = refl }) (ap settings_of changed)
+    (rw (ap (λ (g : RingFields). g.line) same, ap (λ (g : Fields). g.lsr) changed) (sym (or_zero_r (untold_line f))))
+    (rw (ap (λ (g : RingFields). g.modem) same, ap (λ (g : Fields). g.msr) changed, shown)
+    (now_noted f.modem f.driver.msr read MSR.CHANGES.0)))
 
 serves_carry : (interrupt : InterruptType) → Implies (ServesInterrupt interrupt) Carries
 serves_carry ReceiverLineStatus f l after t = notes_line_carries f l after t

@@ -11,28 +11,17 @@ use Rattle.uart_16550.proofs.Paths.{or_assoc, saved-append}
 
 -- a mask of a join, a mask twice, and one mask after another
 pub and_or : (a b mask : ℕ) → bit_and (bit_or a b) mask ≡ bit_or (bit_and a mask) (bit_and b mask)
-and_or a b mask = same_from_bits _ _ (λ i. rw (
-  bit_at_and (bit_or a b) mask i,
-  bit_at_or a b i,
-  bit_at_or (bit_and a mask) (bit_and b mask) i,
-  bit_at_and a mask i,
-  bit_at_and b mask i,
-) (omega arith))
+and_or a b mask = same_from_bits _ _ (λ i. simp (bit_at_and, bit_at_or) (omega arith))
 
 and_twice : (a mask : ℕ) → bit_and (bit_and a mask) mask ≡ bit_and a mask
-and_twice a mask = same_from_bits _ _ (λ i. rw (bit_at_and (bit_and a mask) mask i, bit_at_and a mask i) (omega arith))
+and_twice a mask = same_from_bits _ _ (λ i. simp bit_at_and (omega arith))
 
 pub and_assoc : (a mask other : ℕ) → bit_and (bit_and a mask) other ≡ bit_and a (bit_and mask other)
-and_assoc a mask other = same_from_bits _ _ (λ i. rw (
-  bit_at_and (bit_and a mask) other i,
-  bit_at_and a mask i,
-  bit_at_and a (bit_and mask other) i,
-  bit_at_and mask other i,
-) (omega arith))
+and_assoc a mask other = same_from_bits _ _ (λ i. simp bit_at_and (omega arith))
 
 -- what was joined is there
 pub or_and : (a bits : ℕ) → bit_and (bit_or a bits) bits ≡ bits
-or_and a bits = same_from_bits _ _ (λ i. rw (bit_at_and (bit_or a bits) bits i, bit_at_or a bits i) (omega arith))
+or_and a bits = same_from_bits _ _ (λ i. simp (bit_at_and, bit_at_or) (omega arith))
 
 -- what is saved of a list lies within the mask
 saved_of-within : (register mask : ℕ) (access : Access) → bit_and (saved_of register mask access) mask ≡ saved_of register mask access
@@ -73,29 +62,10 @@ more_saved noted kept more mask within =
 pub now_noted : (noted kept status mask : ℕ) →
     bit_and (bit_or (bit_or noted (bit_and (bit_or status kept) mask)) 0) mask
     ≡ bit_or (bit_and (bit_or noted kept) mask) (bit_or (bit_and status mask) 0)
-now_noted noted kept status mask =
-    rw (or_zero_r (bit_or noted (bit_and (bit_or status kept) mask)), or_zero_r (bit_and status mask)) (same_from_bits _ _ (λ i. rw (
-      bit_at_and (bit_or noted (bit_and (bit_or status kept) mask)) mask i,
-      bit_at_or noted (bit_and (bit_or status kept) mask) i,
-      bit_at_and (bit_or status kept) mask i,
-      bit_at_or status kept i,
-      bit_at_or (bit_and (bit_or noted kept) mask) (bit_and status mask) i,
-      bit_at_and (bit_or noted kept) mask i,
-      bit_at_or noted kept i,
-      bit_at_and status mask i,
-    ) (omega arith)))
+now_noted noted kept status mask = same_from_bits _ _ (λ i. simp (or_zero_r, bit_at_and, bit_at_or) (omega arith))
 
 -- what is told with a status, joined with what was kept and noted of it
 pub now_told : (noted kept status mask : ℕ) →
     bit_and (bit_or (bit_or status kept) noted) mask
     ≡ bit_or (bit_and (bit_or noted kept) mask) (bit_or (bit_and status mask) 0)
-now_told noted kept status mask =
-    rw (or_zero_r (bit_and status mask)) (same_from_bits _ _ (λ i. rw (
-      bit_at_and (bit_or (bit_or status kept) noted) mask i,
-      bit_at_or (bit_or status kept) noted i,
-      bit_at_or status kept i,
-      bit_at_or (bit_and (bit_or noted kept) mask) (bit_and status mask) i,
-      bit_at_and (bit_or noted kept) mask i,
-      bit_at_or noted kept i,
-      bit_at_and status mask i,
-    ) (omega arith)))
+now_told noted kept status mask = same_from_bits _ _ (λ i. simp (or_zero_r, bit_at_and, bit_at_or) (omega arith))

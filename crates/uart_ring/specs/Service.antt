@@ -4,15 +4,12 @@ use Rattle.uart_spec.specs.Access.{Read}
 use Rattle.uart_spec.specs.Bits.{IsOnlyIfAny}
 use Rattle.uart_spec.specs.Fields.{Identifies}
 use Rattle.uart_spec.specs.declared.registers.interrupt_type.InterruptType.{InterruptType}
-use Rattle.uart_spec.specs.declared.registers.interrupt_type.InterruptType.TheVariants.{
-  ReceiverLineStatus,
-  ReceivedDataReady,
-  ReceptionTimeout,
-  TransmitterHoldingRegisterEmpty,
-  ModemStatus,
-  DmaReceptionEndOfTransfer,
-  DmaTransmissionEndOfTransfer,
-}
+use Rattle.uart_spec.specs.declared.registers.interrupt_type.InterruptType.TheVariants.{ReceiverLineStatus}
+use Rattle.uart_spec.specs.declared.registers.interrupt_type.InterruptType.TheVariants.{ReceivedDataReady, ModemStatus}
+use Rattle.uart_spec.specs.declared.registers.interrupt_type.InterruptType.TheVariants.{ReceptionTimeout}
+use Rattle.uart_spec.specs.declared.registers.interrupt_type.InterruptType.TheVariants.{TransmitterHoldingRegisterEmpty}
+use Rattle.uart_spec.specs.declared.registers.interrupt_type.InterruptType.TheVariants.{DmaReceptionEndOfTransfer}
+use Rattle.uart_spec.specs.declared.registers.interrupt_type.InterruptType.TheVariants.{DmaTransmissionEndOfTransfer}
 use Rattle.uart_spec.specs.declared.registers.offsets.TheConstants as offsets
 use Rattle.uart_16550.specs.Grammar.{Only}
 use Rattle.uart_16550.specs.Driver.{Doing, Saving}

@@ -8,7 +8,7 @@ use Rattle.uart_spec.specs.declared.registers.offsets.TheConstants as offsets
 use Rattle.uart_spec.specs.declared.registers.line_status.TheConstants.LSR
 use Rattle.uart_spec.specs.Access.{Access, Read, Write, saved_lsr, saved_msr}
 use Rattle.uart_16550.specs.Grammar.{Language, Settings, Only, Then, AllMisses}
-use Rattle.uart_16550.specs.Driver.{Fields, settings_of, Saving}
+use Rattle.uart_16550.specs.Driver.{Fields, settings_of, Saving, with_interrupts}
 use Rattle.uart_16550.specs.Transmit.{SendMiss, Round}
 use Rattle.uart_16550.specs.Expansion.{SendsEach, SendsBeginning}
 use Rattle.uart_16550.specs.Init.{Keeps as Keeps_pattern, KeepsPatterns, ChecksPresence}
@@ -156,15 +156,18 @@ shows_fifo_keeps on f after l (shown, kept) =
     no_status_keeps f after l [] (blocks_none f.fifo) kept.0 refl refl
     (ap (λ g. g.fifo) kept.1) (ap (λ g. g.lsr) kept.1) (ap (λ g. g.msr) kept.1)
 
-pub enables_keeps : (bits : ℕ) (f after : Fields) (l : List Access) → Enables bits f l after → Keeps f l after [] []
-enables_keeps bits f after l (ier, is, changed) =
-    no_status_keeps f after l _ (quiet_blocks f.fifo (Read offsets.IER ier ∷ Write offsets.IER _ ∷ []) (refl, (refl, tt))) is refl refl
+-- IER is read, and written with this
+changes_keeps : (ier value : ℕ) (f after : Fields) (l : List Access) → l ≡ Read offsets.IER ier ∷ Write offsets.IER value ∷ [] →
+    after ≡ with_interrupts value f → Keeps f l after [] []
+changes_keeps ier value f after l is changed =
+    no_status_keeps f after l _ (quiet_blocks f.fifo (Read offsets.IER ier ∷ Write offsets.IER value ∷ []) (refl, (refl, tt))) is refl refl
     (ap (λ g. g.fifo) changed) (ap (λ g. g.lsr) changed) (ap (λ g. g.msr) changed)
 
+pub enables_keeps : (bits : ℕ) (f after : Fields) (l : List Access) → Enables bits f l after → Keeps f l after [] []
+enables_keeps bits f after l (ier, is, changed) = changes_keeps ier _ f after l is changed
+
 pub disables_keeps : (bits : ℕ) (f after : Fields) (l : List Access) → Disables bits f l after → Keeps f l after [] []
-disables_keeps bits f after l (ier, is, changed) =
-    no_status_keeps f after l _ (quiet_blocks f.fifo (Read offsets.IER ier ∷ Write offsets.IER _ ∷ []) (refl, (refl, tt))) is refl refl
-    (ap (λ g. g.fifo) changed) (ap (λ g. g.lsr) changed) (ap (λ g. g.msr) changed)
+disables_keeps bits f after l (ier, is, changed) = changes_keeps ier _ f after l is changed
 
 pub dumps_keeps : (dump : ConfigRegisterDump) (f after : Fields) (l : List Access) → Dumps dump f l after → Keeps f l after [] []
 dumps_keeps dump f after l d = record {
@@ -185,12 +188,18 @@ dumps_keeps dump f after l d = record {
 
 -- ---- the calls that tell what is saved and forget it
 
--- one look, and what is saved of the modem status stays
+-- no data is moved, the FIFO is taken as before, and what is saved of the other status stays
 pub record KeepsButLsr (f : Fields) (l : List Access) (after : Fields) : Type 0 where
   pub blocks : InBlocks f.fifo l [] []
   pub fifo : after.fifo ≡ f.fifo
   pub msr : after.msr ≡ bit_or f.msr (saved_msr l)
 
+pub record KeepsButMsr (f : Fields) (l : List Access) (after : Fields) : Type 0 where
+  pub blocks : InBlocks f.fifo l [] []
+  pub fifo : after.fifo ≡ f.fifo
+  pub lsr : after.lsr ≡ bit_or f.lsr (saved_lsr l)
+
+-- one look
 pub takes_lsr_keeps : (result : ℕ) (f after : Fields) (l : List Access) → TakesLsr result f l after → KeepsButLsr f l after
 takes_lsr_keeps result f after l (status, is, joined, emptied) = rw is (record {
   blocks = blocks_one f.fifo (Look status) tt;
@@ -198,12 +207,7 @@ takes_lsr_keeps result f after l (status, is, joined, emptied) = rw is (record {
   msr = ap (λ g. g.msr) emptied ∙ sym (or_zero_r f.msr);
 })
 
--- one read of the modem status, and what is saved of the line status stays
-pub record KeepsButMsr (f : Fields) (l : List Access) (after : Fields) : Type 0 where
-  pub blocks : InBlocks f.fifo l [] []
-  pub fifo : after.fifo ≡ f.fifo
-  pub lsr : after.lsr ≡ bit_or f.lsr (saved_lsr l)
-
+-- one read of the modem status
 pub takes_msr_keeps : (result : ℕ) (f after : Fields) (l : List Access) → TakesMsr result f l after → KeepsButMsr f l after
 takes_msr_keeps result f after l (status, is, joined, emptied) = rw is (record {
   blocks = blocks_one f.fifo (Other (Read offsets.MSR status)) refl;

@@ -1,5 +1,5 @@
 -- What each call of a session does to the machine.
-use Rattle.std.proofs.Common.{◌≡◌, ℕ, ◌≤◌, ◌*◌, ◌-◌, ◌^◌, Bool, List, [], ◌∷◌, Result, Ok, Err, refl}
+use Rattle.std.proofs.Common.{◌≡◌, ℕ, ◌≤◌, ◌*◌, Bool, List, [], ◌∷◌, Result, Ok, Err, refl}
 use Rattle.std.proofs.Common.{sym, ◌∙◌, ap, subst, take, length, arith, length-append, bit_or}
 use Rattle.std.proofs.lemmas.Grind.{common_steps}
 use lib.Bits.{or_zero_r}
@@ -60,12 +60,20 @@ passed_did x G ws rs s t w did blocks =
     let B : Bool → Type 0 = λ fifo. InBlocks fifo did.list ws rs in
     passed_in_blocks x (machine_of s) (machine_of t) did.list ws rs w.open_modes w.stands (subst B w.fifo blocks) did.path
 
+-- a call, by its blocks and by what it saves
+passes_by : (x : Modes) (N M : Type 0) (G : Doing) (ws rs : List ℕ) (s t : State) → InSession x s →
+    (did : Did MachineStep G (inner_of s) (inner_of t)) → InBlocks (fields (inner_of s)).fifo did.list ws rs →
+    (fields (inner_of t)).fifo ≡ (fields (inner_of s)).fifo →
+    (N → (fields (inner_of t)).lsr ≡ bit_or (fields (inner_of s)).lsr (saved_lsr did.list)) →
+    (M → (fields (inner_of t)).msr ≡ bit_or (fields (inner_of s)).msr (saved_msr did.list)) → Passes x N M s t ws rs
+passes_by x N M G ws rs s t w did blocks fifo lsr msr =
+    record { made = did.list; passed = passed_did x G ws rs s t w did blocks; fifo = fifo; lsr = lsr; msr = msr }
+
 -- a call that saves what it reads
 passes_did : (x : Modes) (N M : Type 0) (G : Doing) (ws rs : List ℕ) (s t : State) → InSession x s →
     (did : Did MachineStep G (inner_of s) (inner_of t)) → Keeps (fields (inner_of s)) did.list (fields (inner_of t)) ws rs →
     Passes x N M s t ws rs
-passes_did x N M G ws rs s t w did k =
-    record { made = did.list; passed = passed_did x G ws rs s t w did k.blocks; fifo = k.fifo; lsr = λ n. k.lsr; msr = λ n. k.msr }
+passes_did x N M G ws rs s t w did k = passes_by x N M G ws rs s t w did k.blocks k.fifo (λ n. k.lsr) (λ n. k.msr)
 
 -- the same, by the blocks of its language for each result
 passes_called : {R : Type 0} (x : Modes) (N M : Type 0) (L : R → Language) (answer_of : R → Answer) (written read : Answer → List ℕ)
@@ -166,22 +174,10 @@ passes_call x s t call.Lcr a w i h = passes_silent x _ _ _ Register s t a w (λ 
 passes_call x s t call.Mcr a w i h = passes_silent x _ _ _ Register s t a w (λ v r. plain_blocks v offsets.MCR r refl) h
 passes_call x s t call.Lsr a w i h =
     let told = takes_lsr_keeps h.outcome (fields (inner_of s)) (fields (inner_of t)) h.did.list h.did.does in
-    record {
-      made = h.did.list;
-      passed = passed_did x (TakesLsr h.outcome) [] [] s t w h.did told.blocks;
-      fifo = told.fifo;
-      lsr = λ n. absurd n;
-      msr = λ n. told.msr;
-    }
+    passes_by x _ _ (TakesLsr h.outcome) [] [] s t w h.did told.blocks told.fifo (λ n. absurd n) (λ n. told.msr)
 passes_call x s t call.Msr a w i h =
     let told = takes_msr_keeps h.outcome (fields (inner_of s)) (fields (inner_of t)) h.did.list h.did.does in
-    record {
-      made = h.did.list;
-      passed = passed_did x (TakesMsr h.outcome) [] [] s t w h.did told.blocks;
-      fifo = told.fifo;
-      lsr = λ n. told.lsr;
-      msr = λ n. absurd n;
-    }
+    passes_by x _ _ (TakesMsr h.outcome) [] [] s t w h.did told.blocks told.fifo (λ n. told.lsr) (λ n. absurd n)
 passes_call x s t call.Spr a w i h = passes_silent x _ _ _ Register s t a w (λ v r. plain_blocks v offsets.SPR r refl) h
 passes_call x s t call.DllDlm a w i h = passes_silent x _ _ _ latch_answer s t a w (λ v latch. reads_divisor_blocks v latch.0 latch.1) h
 passes_call x s t call.FifoEnabled a w i h =

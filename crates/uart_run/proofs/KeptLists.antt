@@ -1,5 +1,5 @@
 -- Lists that change nothing of what the registers keep while DLAB is off: they read, and of writes have only those of the data register.
-use Rattle.std.proofs.Common.{◌≡◌, ℕ, zero, suc, Bool, true, false, inl, inr, List, [], ◌∷◌}
+use Rattle.std.proofs.Common.{◌≡◌, ℕ, Bool, true, false, inl, inr, List, [], ◌∷◌}
 use Rattle.std.proofs.Common.{◌++◌, Result, Ok, Err, refl, ◌∙◌, ap, MatchBool, if◌then◌else◌}
 use Rattle.uart_spec.specs.declared.errors.ByteSendError.{ByteSendError}
 use Rattle.uart_spec.specs.declared.errors.ByteSendError.TheVariants.{NoCapacity, RemoteNotClearToSend}
@@ -9,13 +9,14 @@ use Rattle.uart_spec.specs.declared.registers.line_status.TheConstants.LSR
 use Rattle.uart_spec.specs.declared.registers.modem_status.TheConstants.MSR
 use Rattle.uart_spec.specs.declared.registers.modem_control.TheConstants.MCR
 use Rattle.uart_spec.specs.Access.{Access, Read, Write, Path}
-use Rattle.uart_16550.specs.Grammar.{Language, Settings, Only, Then, InOrder, Times, FewMisses, AllMisses, Asks, ReadsRegister, Never}
+use Rattle.uart_16550.specs.Grammar.{Language, Settings, Then, Asks, ReadsRegister, Never}
 use Rattle.uart_16550.specs.Receive.{Hit, Miss, Awaited, ReceivesExact}
 use Rattle.uart_16550.specs.Transmit.{LinesAllow, SendHit, SendRefused, SendMiss, data_writes, Burst}
 use Rattle.uart_16550.specs.Transmit.{Sends, Round, SendsAll, SendsExact, TrySends, WaitsFor}
 use Rattle.uart_16550.specs.Init.{Discards, DrainsReceiver}
 use Rattle.uart_chip.specs.Chip.{is_dlab_set}
 use Rattle.uart_chip.specs.Machine.{MachineState, MachineStep}
+use Rattle.uart_run.proofs.ListsInTurn.{HoldsInTurn, HoldsOfAll, all_only, all_then, all_times, all_few, all_misses, all_in_order}
 use Rattle.uart_run.proofs.Latches.{Kept, kept_in, kept_after, kept_after-append, kept_path}
 
 -- these accesses change nothing of it
@@ -35,29 +36,11 @@ keeps_writes (byte ∷ bytes) k d = keeps_append (Write offsets.DATA byte ∷ []
 -- ---- languages
 
 -- nor does any list of the language
+pub keeping : HoldsInTurn KeepsAll
+keeping = record { none = λ k d. refl; append = keeps_append }
+
 abbrev pub AllKeep : Settings → Language → Type 0
-AllKeep s P = (l : List Access) → P s l → KeepsAll l
-
-pub keeps_only : (s : Settings) (list : List Access) → KeepsAll list → AllKeep s (Only list)
-keeps_only s list h l t = rw t.is h
-
-pub keeps_then : (s : Settings) (P Q : Language) → AllKeep s P → AllKeep s Q → AllKeep s (Then P Q)
-keeps_then s P Q p q l t = rw t.whole (keeps_append t.front t.back (p t.front t.first) (q t.back t.second))
-
-pub keeps_times : (s : Settings) (n : ℕ) (P : Language) → AllKeep s P → AllKeep s (Times n P)
-keeps_times s zero P p l t = keeps_only s [] (λ k d. refl) l t
-keeps_times s (suc n) P p l t = keeps_then s P (Times n P) p (λ k u. keeps_times s n P p k u) l t
-
-pub keeps_few : (s : Settings) (P : Language) → AllKeep s P → AllKeep s (FewMisses P)
-keeps_few s P p l t = keeps_times s t.0 P p l t.2
-
-pub keeps_all : (s : Settings) (P : Language) → AllKeep s P → AllKeep s (AllMisses P)
-keeps_all s P p l t = keeps_times s s.limit P p l t
-
-pub keeps_in_order : {A : Type 0} (s : Settings) (P : A → Language) (items : List A) → ((item : A) → AllKeep s (P item)) →
-    AllKeep s (InOrder P items)
-keeps_in_order s P [] p l t = keeps_only s [] (λ k d. refl) l t
-keeps_in_order s P (item ∷ items) p l t = keeps_then s (P item) (InOrder P items) (p item) (λ k u. keeps_in_order s P items p k u) l t
+AllKeep s P = HoldsOfAll KeepsAll s P
 
 pub keeps_if : (s : Settings) (b : Bool) (P Q : Language) → AllKeep s P → AllKeep s Q → (l : List Access) → MatchBool b (P s l) (Q s l) →
     KeepsAll l
@@ -73,8 +56,9 @@ pub keeps_reads : (s : Settings) (register : ℕ) → AllKeep s (ReadsRegister r
 keeps_reads s register l t = rw t.1 (λ k d. refl)
 
 pub keeps_waits : (s : Settings) (bits : ℕ) (outcome : Bool) → AllKeep s (WaitsFor bits outcome)
-keeps_waits s bits true = keeps_then s _ _ (keeps_few s _ (keeps_asks s offsets.LSR bits false)) (keeps_asks s offsets.LSR bits true)
-keeps_waits s bits false = keeps_all s _ (keeps_asks s offsets.LSR bits false)
+keeps_waits s bits true =
+    all_then keeping s _ _ (all_few keeping s _ (keeps_asks s offsets.LSR bits false)) (keeps_asks s offsets.LSR bits true)
+keeps_waits s bits false = all_misses keeping s _ (keeps_asks s offsets.LSR bits false)
 
 -- ---- receiving
 
@@ -83,51 +67,52 @@ keeps_miss s = keeps_asks s offsets.LSR LSR.DATA_READY.0 false
 
 pub keeps_hit : (s : Settings) (byte : ℕ) → AllKeep s (Hit byte)
 keeps_hit s byte =
-    keeps_then s _ _ (keeps_asks s offsets.LSR LSR.DATA_READY.0 true) (keeps_only s (Read offsets.DATA byte ∷ []) (λ k d. refl))
+    all_then keeping s _ _ (keeps_asks s offsets.LSR LSR.DATA_READY.0 true) (all_only keeping s (Read offsets.DATA byte ∷ []) (λ k d. refl))
 
 pub keeps_awaited : (s : Settings) (byte : ℕ) → AllKeep s (Awaited byte)
-keeps_awaited s byte = keeps_then s _ _ (keeps_few s Miss (keeps_miss s)) (keeps_hit s byte)
+keeps_awaited s byte = all_then keeping s _ _ (all_few keeping s Miss (keeps_miss s)) (keeps_hit s byte)
 
 pub keeps_receives_exact : {T : Type 0} (s : Settings) (n : ℕ) (bytes : List ℕ) (result : Result T StalledError) →
     AllKeep s (ReceivesExact n bytes result)
-keeps_receives_exact s n bytes (Ok x) l t = keeps_in_order s Awaited bytes (keeps_awaited s) l t.1
+keeps_receives_exact s n bytes (Ok x) l t = all_in_order keeping s Awaited bytes (keeps_awaited s) l t.1
 keeps_receives_exact s n bytes (Err e) l t =
-    keeps_then s _ _ (keeps_in_order s Awaited bytes (keeps_awaited s)) (keeps_all s Miss (keeps_miss s)) l t.2
+    all_then keeping s _ _ (all_in_order keeping s Awaited bytes (keeps_awaited s)) (all_misses keeping s Miss (keeps_miss s)) l t.2
 
 -- the drain of an `init`
 keeps_discards : (s : Settings) → AllKeep s Discards
-keeps_discards s = keeps_then s _ _ (keeps_asks s offsets.LSR LSR.DATA_READY.0 true) (keeps_reads s offsets.DATA)
+keeps_discards s = all_then keeping s _ _ (keeps_asks s offsets.LSR LSR.DATA_READY.0 true) (keeps_reads s offsets.DATA)
 
 pub keeps_drains : (s : Settings) → AllKeep s DrainsReceiver
-keeps_drains s l (inl t) = keeps_times s 17 Discards (keeps_discards s) l t
-keeps_drains s l (inr t) = keeps_then s _ _ (keeps_times s t.0 Discards (keeps_discards s)) (keeps_miss s) l t.2
+keeps_drains s l (inl t) = all_times keeping s 17 Discards (keeps_discards s) l t
+keeps_drains s l (inr t) = all_then keeping s _ _ (all_times keeping s t.0 Discards (keeps_discards s)) (keeps_miss s) l t.2
 
 -- ---- sending
 
 keeps_lines : (s : Settings) (allowed : Bool) → AllKeep s (LinesAllow allowed)
 keeps_lines s allowed l (inl t) = keeps_asks s offsets.MCR MCR.LOOP_BACK.0 true l t.1
 keeps_lines s allowed l (inr t) =
-    keeps_then s _ _ (keeps_asks s offsets.MCR MCR.LOOP_BACK.0 false) (keeps_asks s offsets.MSR MSR.CTS.0 allowed) l t
+    all_then keeping s _ _ (keeps_asks s offsets.MCR MCR.LOOP_BACK.0 false) (keeps_asks s offsets.MSR MSR.CTS.0 allowed) l t
 
 keeps_send_hit : (s : Settings) → AllKeep s SendHit
 keeps_send_hit s =
     keeps_if s s.checks (Then (Asks offsets.LSR LSR.THR_EMPTY.0 true) (LinesAllow true)) (Asks offsets.LSR LSR.THR_EMPTY.0 true)
-    (keeps_then s _ _ (keeps_asks s offsets.LSR LSR.THR_EMPTY.0 true) (keeps_lines s true)) (keeps_asks s offsets.LSR LSR.THR_EMPTY.0 true)
+    (all_then keeping s _ _ (keeps_asks s offsets.LSR LSR.THR_EMPTY.0 true) (keeps_lines s true))
+    (keeps_asks s offsets.LSR LSR.THR_EMPTY.0 true)
 
 keeps_refused : (s : Settings) (e : ByteSendError) → AllKeep s (SendRefused e)
 keeps_refused s NoCapacity = keeps_asks s offsets.LSR LSR.THR_EMPTY.0 false
 keeps_refused s RemoteNotClearToSend =
     keeps_if s s.checks (Then (Asks offsets.LSR LSR.THR_EMPTY.0 true) (LinesAllow false)) Never
-    (keeps_then s _ _ (keeps_asks s offsets.LSR LSR.THR_EMPTY.0 true) (keeps_lines s false)) (λ l t. absurd t)
+    (all_then keeping s _ _ (keeps_asks s offsets.LSR LSR.THR_EMPTY.0 true) (keeps_lines s false)) (λ l t. absurd t)
 
 pub keeps_send_miss : (s : Settings) → AllKeep s SendMiss
 keeps_send_miss s l t = keeps_refused s t.0 l t.1
 
 keeps_burst : (s : Settings) (bytes : List ℕ) → AllKeep s (Burst bytes)
-keeps_burst s bytes = keeps_then s _ _ (keeps_send_hit s) (keeps_only s (data_writes bytes) (keeps_writes bytes))
+keeps_burst s bytes = all_then keeping s _ _ (keeps_send_hit s) (all_only keeping s (data_writes bytes) (keeps_writes bytes))
 
 pub keeps_round : (s : Settings) (bytes : List ℕ) → AllKeep s (Round bytes)
-keeps_round s bytes = keeps_then s _ _ (keeps_few s SendMiss (keeps_send_miss s)) (keeps_burst s bytes)
+keeps_round s bytes = all_then keeping s _ _ (all_few keeping s SendMiss (keeps_send_miss s)) (keeps_burst s bytes)
 
 keeps_sends : (s : Settings) (bytes : List ℕ) (n : ℕ) → AllKeep s (Sends bytes n)
 keeps_sends s bytes n l (inl t) = rw t.2 (λ k d. refl)
@@ -140,12 +125,12 @@ keeps_try_sends s byte (Err NoCapacity) l t = keeps_sends s (byte ∷ []) 0 l t
 keeps_try_sends s byte (Err RemoteNotClearToSend) l t = absurd t
 
 pub keeps_sends_all : (s : Settings) (bytes : List ℕ) → AllKeep s (SendsAll bytes)
-keeps_sends_all s bytes l t = keeps_in_order s Round t.0 (keeps_round s) l t.2
+keeps_sends_all s bytes l t = all_in_order keeping s Round t.0 (keeps_round s) l t.2
 
 pub keeps_sends_exact : {T : Type 0} (s : Settings) (bytes : List ℕ) (result : Result T StalledError) → AllKeep s (SendsExact bytes result)
 keeps_sends_exact s bytes (Ok x) l t = keeps_sends_all s bytes l t
 keeps_sends_exact s bytes (Err e) l (pieces, rest, cut, some, count, made) =
-    keeps_then s _ _ (keeps_in_order s Round pieces (keeps_round s)) (keeps_all s SendMiss (keeps_send_miss s)) l made
+    all_then keeping s _ _ (all_in_order keeping s Round pieces (keeps_round s)) (all_misses keeping s SendMiss (keeps_send_miss s)) l made
 
 -- ---- the machine
 

@@ -192,7 +192,7 @@ cuts-after (access ∷ accesses) k = cuts-after accesses (keep access k) ∙ cut
 pub cuts_path : (cuts : Bool) (made : List Access) (m n : MachineState) → CutsAs cuts m → Path MachineStep m made n → CutsAs cuts n
 cuts_path cuts made m n e p = ap (λ (k : Kept). k.cuts) (kept_path made m n p) ∙ (cuts-after made (kept_in m.chip) ∙ e)
 
-kept-before_mark : (events : List Event) (c : ChipState) → kept_in (before_mark events c) ≡ kept_in c
+pub kept-before_mark : (events : List Event) (c : ChipState) → kept_in (before_mark events c) ≡ kept_in c
 kept-before_mark [] c = refl
 kept-before_mark (Mark ∷ events) c = refl
 kept-before_mark (event ∷ events) c = kept-before_mark events (perform event c) ∙ kept-perform event c

@@ -1,6 +1,7 @@
 pub mod EmptyTransmitter
 pub mod Latches
 pub mod Pieces
+pub mod ListsInTurn
 pub mod SilentLists
 pub mod KeptLists
 pub mod CallBlocks

@@ -62,7 +62,7 @@ lasts_chain {P} s t (link ∷ links) k w h =
     lasts_chain link.after t links k (lasts_call link.before link.after link.call link.answer k (subst S (sym h.0) w) h.1) h.2
 
 -- soundness lasts
-lasts_sound : Lasts IsSound
+pub lasts_sound : Lasts IsSound
 lasts_sound = record { path = sound_path; mark = sound_mark }
 
 pub sound_call : (s t : State) (call : Call) (a : Answer) → IsSound (machine_of s) → CallStep s call a t → IsSound (machine_of t)

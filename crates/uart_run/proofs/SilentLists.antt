@@ -1,13 +1,14 @@
 -- Lists of accesses that send nothing: of languages, and of what a call does.
-use Rattle.std.proofs.Common.{ℕ, zero, suc, Bool, true, false, inl, inr, List, [], ◌∷◌, ◌++◌, Option, Some, None, refl}
+use Rattle.std.proofs.Common.{ℕ, Bool, true, false, inl, inr, List, [], ◌∷◌, ◌++◌, Option, Some, None, refl}
 use Rattle.uart_spec.specs.declared.registers.fifo_trigger_level.FifoTriggerLevel.{FifoTriggerLevel}
 use Rattle.uart_spec.specs.declared.registers.offsets.TheConstants as offsets
 use Rattle.uart_spec.specs.declared.registers.line_status.TheConstants.LSR
 use Rattle.uart_spec.specs.declared.registers.interrupt_status.TheConstants.ISR
 use Rattle.uart_spec.specs.Access.{Access, Read, Write}
-use Rattle.uart_16550.specs.Grammar.{Language, Settings, Only, Then, Times, FewMisses, Asks, ReadsRegister}
+use Rattle.uart_16550.specs.Grammar.{Language, Settings, Asks, ReadsRegister}
 use Rattle.uart_16550.specs.Driver.{Fields, Doing, Saving, Plain, Sets, Next, settings_of}
 use Rattle.uart_16550.specs.Init.{Keeps, ChecksPresence, SetsFifo, Discards, DrainsReceiver}
+use Rattle.uart_run.proofs.ListsInTurn.{HoldsInTurn, HoldsOfAll, all_only, all_then, all_times}
 use Rattle.uart_device.proofs.lasting.Lasting.{AllSendNothing}
 
 -- ---- languages
@@ -16,21 +17,11 @@ pub nothing_append : (xs ys : List Access) → AllSendNothing xs → AllSendNoth
 nothing_append [] ys p q = q
 nothing_append (x ∷ xs) ys p q = (p.0, nothing_append xs ys p.1 q)
 
+pub silence : HoldsInTurn AllSendNothing
+silence = record { none = tt; append = nothing_append }
+
 abbrev pub IsSilent : Settings → Language → Type 0
-IsSilent s P = (l : List Access) → P s l → AllSendNothing l
-
-pub silent_only : (s : Settings) (list : List Access) → AllSendNothing list → IsSilent s (Only list)
-silent_only s list w l t = rw t.is w
-
-pub silent_then : (s : Settings) (P Q : Language) → IsSilent s P → IsSilent s Q → IsSilent s (Then P Q)
-silent_then s P Q p q l t = rw t.whole (nothing_append t.front t.back (p t.front t.first) (q t.back t.second))
-
-silent_times : (s : Settings) (n : ℕ) (P : Language) → IsSilent s P → IsSilent s (Times n P)
-silent_times s zero P p l t = silent_only s [] tt l t
-silent_times s (suc n) P p l t = silent_then s P (Times n P) p (λ k u. silent_times s n P p k u) l t
-
-pub silent_few : (s : Settings) (P : Language) → IsSilent s P → IsSilent s (FewMisses P)
-silent_few s P p l t = silent_times s t.0 P p l t.2
+IsSilent s P = HoldsOfAll AllSendNothing s P
 
 pub silent_asks : (s : Settings) (register bits : ℕ) (outcome : Bool) → IsSilent s (Asks register bits outcome)
 silent_asks s register bits outcome l t = rw t.is (tt, tt)
@@ -38,7 +29,7 @@ silent_asks s register bits outcome l t = rw t.is (tt, tt)
 pub silent_sets_fifo : (s : Settings) (level : Option FifoTriggerLevel) (on : Bool) → IsSilent s (SetsFifo level on)
 silent_sets_fifo s None on l t = rw t.1 (refl, tt)
 silent_sets_fifo s (Some level) on l t =
-    silent_then s _ (Asks offsets.ISR ISR.FIFOS_ENABLED.0 on) (silent_only s (Write offsets.FCR _ ∷ []) (refl, tt))
+    all_then silence s _ (Asks offsets.ISR ISR.FIFOS_ENABLED.0 on) (all_only silence s (Write offsets.FCR _ ∷ []) (refl, tt))
     (silent_asks s offsets.ISR ISR.FIFOS_ENABLED.0 on) l t
 
 silent_reads : (s : Settings) (register : ℕ) → IsSilent s (ReadsRegister register)
@@ -51,17 +42,18 @@ silent_keeps s pattern outcome l t = rw t.2 (refl, (tt, tt))
 
 pub silent_presence : (s : Settings) → IsSilent s (ChecksPresence true)
 silent_presence s l t =
-    silent_then s _ _ (silent_only s (Read offsets.SPR t.0 ∷ []) (tt, tt))
-    (silent_then s _ _ (λ k u. silent_then s (Keeps 66 true) (Keeps 115 true) (silent_keeps s 66 true) (silent_keeps s 115 true) k u)
-    (silent_only s (Write offsets.SPR t.0 ∷ []) (refl, tt))) l t.1
+    all_then silence s _ _ (all_only silence s (Read offsets.SPR t.0 ∷ []) (tt, tt))
+    (all_then silence s _ _
+    (λ k u. all_then silence s (Keeps 66 true) (Keeps 115 true) (silent_keeps s 66 true) (silent_keeps s 115 true) k u)
+    (all_only silence s (Write offsets.SPR t.0 ∷ []) (refl, tt))) l t.1
 
 silent_discards : (s : Settings) → IsSilent s Discards
-silent_discards s = silent_then s _ _ (silent_asks s offsets.LSR LSR.DATA_READY.0 true) (silent_reads s offsets.DATA)
+silent_discards s = all_then silence s _ _ (silent_asks s offsets.LSR LSR.DATA_READY.0 true) (silent_reads s offsets.DATA)
 
 pub silent_drains : (s : Settings) → IsSilent s DrainsReceiver
-silent_drains s l (inl t) = silent_times s 17 Discards (silent_discards s) l t
+silent_drains s l (inl t) = all_times silence s 17 Discards (silent_discards s) l t
 silent_drains s l (inr t) =
-    silent_then s _ _ (silent_times s t.0 Discards (silent_discards s)) (silent_asks s offsets.LSR LSR.DATA_READY.0 false) l t.2
+    all_then silence s _ _ (all_times silence s t.0 Discards (silent_discards s)) (silent_asks s offsets.LSR LSR.DATA_READY.0 false) l t.2
 
 -- ---- what a call does
 

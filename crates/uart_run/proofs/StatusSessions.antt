@@ -1,20 +1,21 @@
 -- What `lsr` and `msr` tell in a session, carried over its calls.
-use Rattle.std.proofs.Common.{◌≡◌, ℕ, Bool, false, List, [], ◌∷◌, ◌++◌, take, Option, refl, sym, ◌∙◌, ap, subst, bit_or}
+use Rattle.std.proofs.Common.{◌≡◌, ℕ, Bool, List, [], ◌∷◌, ◌++◌, take, Option, refl, sym, ◌∙◌, ap, subst, bit_or}
 use Rattle.uart_spec.specs.declared.registers.offsets.TheConstants as offsets
 use Rattle.uart_spec.specs.Access.{Access, Read, Path}
-use Rattle.uart_16550.specs.Driver.{Doing, Did, Fields, fields}
+use Rattle.uart_16550.specs.Driver.{Doing, Fields, fields}
 use Rattle.uart_16550.specs.Status.{TakesLsr, TakesMsr}
 use Rattle.uart_16550.specs.Tty.{inner_of}
 use Rattle.uart_calls.specs.declared.call.Call.{Call}
 use Rattle.uart_calls.specs.declared.call.Call.TheVariants as call
 use Rattle.uart_calls.specs.declared.call.Answer.{Answer}
 use Rattle.uart_calls.specs.declared.call.Answer.TheVariants.{Register}
+use Rattle.uart_calls.specs.Meaning.{CalledAs}
 use Rattle.uart_chip.specs.declared.receiver.Character.{Character}
 use Rattle.uart_chip.specs.Machine.{MachineState, MachineStep}
 use Rattle.uart_device.specs.Laws.{reported_front, IsTold, AllTold}
 use Rattle.uart_run.specs.Run.{State, machine_of, CallStep, Link, Chain}
 use Rattle.uart_run.specs.Session.{AllWithinSession, IsWithinSession, reported, received}
-use Rattle.uart_run.specs.Statuses.{AllNoLsr, AllNoMsr, receiver_of, TellsLine, TellsNoOtherDrop, TellsChanges, TellsNoOtherChange, Tells}
+use Rattle.uart_run.specs.Statuses.{AllNoLsr, AllNoMsr, receiver_of, TellsLine, TellsNoOtherDrop, TellsNoOtherChange, Tells}
 use Rattle.uart_device.proofs.conservation.Went.{Modes}
 use Rattle.uart_device.proofs.conservation.SessionLaws.{taken_entered, look_clears, status_clears}
 use Rattle.uart_device.proofs.status.StatusLaws.{LsrTells, lsr_tells, MsrTells, msr_tells}
@@ -48,7 +49,7 @@ register_is : (v w : ℕ) → Register v ≡ Register w → v ≡ w
 register_is v w e = cc
 
 -- calls without `lsr` or without `msr` in turn, and then that one, which told this
-record After (T : MachineState → MachineState → List Access → List ℕ → List Character → ℕ → ℕ → Type 0) (kept : ℕ) (s t : State)
+pub record After (T : MachineState → MachineState → List Access → List ℕ → List Character → ℕ → ℕ → Type 0) (kept : ℕ) (s t : State)
     (value : ℕ) : Type 0 where
   pub made : List Access
   pub written : List ℕ
@@ -62,44 +63,44 @@ record Took (register : ℕ) (saved : Fields → ℕ) (s : State) (a : Answer) (
   pub told : a ≡ Register (bit_or status (saved (fields (inner_of s))))
   pub emptied : saved (fields (inner_of t)) ≡ 0
 
-takes_status : (register : ℕ) (saved : Fields → ℕ) (result status : ℕ) (G : Doing) (s t : State) (a : Answer) → a ≡ Register result →
-    (did : Did MachineStep G (inner_of s) (inner_of t)) → did.list ≡ Read register status ∷ [] →
-    result ≡ bit_or status (saved (fields (inner_of s))) → saved (fields (inner_of t)) ≡ 0 → Took register saved s a t
-takes_status register saved result status G s t a answered did is joined emptied =
-    record { status = status; path = rw is at did.path; told = answered ∙ ap (λ v. Register v) joined; emptied = emptied }
-
-told_after : (T : MachineState → MachineState → List Access → List ℕ → List Character → ℕ → ℕ → Type 0) (register : ℕ)
-    (saved : Fields → ℕ) (x : Modes) (s n t : State) (links : List Link) (value : ℕ) → InSession x s → AllWithinSession links →
-    Chain s links n → Took register saved n (Register value) t →
-    ((p : Passes x (AllNoLsr links) (AllNoMsr links) s n (reported links) (received links)) (status : ℕ) →
-    Path MachineStep (machine_of n) (Read register status ∷ []) (machine_of t) →
-    value ≡ bit_or status (saved (fields (inner_of n))) →
-    T (machine_of s) (machine_of t) (p.made ++ Read register status ∷ []) (reported links) p.passed.takes
-    (saved (fields (inner_of s))) value) →
-    After T (saved (fields (inner_of s))) s t value
-told_after T register saved x s n t links value w within chain took tells =
-    let p = passes_chain x s n links w within chain in
+takes_status : (register : ℕ) (saved : Fields → ℕ) (Takes : ℕ → Doing) → ((result : ℕ) (f : Fields) (l : List Access) (after : Fields) →
+    Takes result f l after → (status : ℕ) × (l ≡ Read register status ∷ []) × (result ≡ bit_or status (saved f)) × (saved after ≡ 0)) →
+    (s t : State) (a : Answer) → CalledAs MachineStep Takes Register a (inner_of s) (inner_of t) → Took register saved s a t
+takes_status register saved Takes does s t a step =
+    let took = does step.outcome _ _ _ step.did.does in
     record {
-      made = p.made ++ Read register took.status ∷ [];
-      written = reported links;
-      takes = p.passed.takes;
-      tells = tells p took.status took.path (register_is value _ took.told);
+      status = took.0;
+      path = rw took.1 at step.did.path;
+      told = step.answered ∙ ap (λ v. Register v) took.2;
+      emptied = took.3;
     }
 
+-- what `lsr` and `msr` have in common: the register and what is saved of it, what the call tells, and that no such call comes before
+record IsStatus (x : Modes) (register : ℕ) (saved : Fields → ℕ)
+    (T : MachineState → MachineState → List Access → List ℕ → List Character → ℕ → ℕ → Type 0) (c : Call) (NoneOf : List Link → Type 0) :
+    Type 0 where
+  pub took : (s t : State) (a : Answer) → CallStep s c a t → Took register saved s a t
+  pub tells : (s n t : State) (links : List Link) → InSession x s → NoneOf links →
+      (p : Passes x (AllNoLsr links) (AllNoMsr links) s n (reported links) (received links)) (status value : ℕ) →
+      Path MachineStep (machine_of n) (Read register status ∷ []) (machine_of t) → value ≡ bit_or status (saved (fields (inner_of n))) →
+      T (machine_of s) (machine_of t) (p.made ++ Read register status ∷ []) (reported links) p.passed.takes (saved (fields (inner_of s)))
+      value
+
+lsr_status : (x : Modes) → IsStatus x offsets.LSR (λ f. f.lsr) (LsrTells x) call.Lsr AllNoLsr
+lsr_status x = record {
+  took = takes_status offsets.LSR (λ f. f.lsr) TakesLsr (λ result f l after t. (t.0, t.1, t.2, ap (λ (g : Fields). g.lsr) t.3));
+  tells = λ s n t links w none p status value path told. lsr_tells x _ _ _ _ _ _ status _ _ value w.open_modes p.passed.passed path
+      (p.lsr none) told;
+}
+
+msr_status : (x : Modes) → IsStatus x offsets.MSR (λ f. f.msr) (MsrTells x) call.Msr AllNoMsr
+msr_status x = record {
+  took = takes_status offsets.MSR (λ f. f.msr) TakesMsr (λ result f l after t. (t.0, t.1, t.2, ap (λ (g : Fields). g.msr) t.3));
+  tells = λ s n t links w none p status value path told. msr_tells x _ _ _ _ _ _ status _ _ value w.open_modes p.passed.passed path
+      (p.msr none) told;
+}
+
 -- ---- `lsr`
-
-took_lsr : (s t : State) (a : Answer) → CallStep s call.Lsr a t → Took offsets.LSR (λ f. f.lsr) s a t
-took_lsr s t a step =
-    let does = step.did.does in
-    takes_status offsets.LSR (λ f. f.lsr) step.outcome does.0 (TakesLsr step.outcome) s t a step.answered step.did does.1 does.2
-    (ap (λ (f : Fields). f.lsr) does.3)
-
-lsr_after : (x : Modes) (s n t : State) (links : List Link) (value : ℕ) → InSession x s → AllWithinSession links → AllNoLsr links →
-    Chain s links n → CallStep n call.Lsr (Register value) t → After (LsrTells x) (fields (inner_of s)).lsr s t value
-lsr_after x s n t links value w within none chain step =
-    told_after (LsrTells x) offsets.LSR (λ f. f.lsr) x s n t links value w within chain (took_lsr n t (Register value) step)
-    (λ p status path told. lsr_tells x (machine_of s) (machine_of n) (machine_of t) p.made (reported links) p.passed.takes status
-    (fields (inner_of s)).lsr (fields (inner_of n)).lsr value w.open_modes p.passed.passed path (p.lsr none) told)
 
 all_told-append : (fifo : Bool) (old : Option Character) (line : ℕ) (xs ys : List Character) → AllTold fifo old line xs →
     AllTold fifo old line ys → AllTold fifo old line (xs ++ ys)
@@ -112,8 +113,7 @@ first_told : (fifo : Bool) (old : Option Character) (line : ℕ) (queue : List C
 first_told fifo old line [] h = tt
 first_told fifo old line (f ∷ others) h = (h f others refl, tt)
 
-tells_line : (x : Modes) (s t : State) (value : ℕ) → InSession x s → After (LsrTells x) (fields (inner_of s)).lsr s t value →
-    TellsLine s t value
+pub tells_line : {kept : ℕ} (x : Modes) (s t : State) (value : ℕ) → InSession x s → After (LsrTells x) kept s t value → TellsLine s t value
 tells_line x s t value w a =
     let old = reported_front (receiver_of s) in
     let queue = (receiver_of t).queue in
@@ -125,21 +125,6 @@ tells_line x s t value w a =
       was_taken = taken_entered x (machine_of s) (machine_of t) a.made a.written a.takes w.stands.modes a.tells.passed;
       errors = rw a.tells.passed.went.modes.fifo all;
     }
-
--- ---- `msr`
-
-took_msr : (s t : State) (a : Answer) → CallStep s call.Msr a t → Took offsets.MSR (λ f. f.msr) s a t
-took_msr s t a step =
-    let does = step.did.does in
-    takes_status offsets.MSR (λ f. f.msr) step.outcome does.0 (TakesMsr step.outcome) s t a step.answered step.did does.1 does.2
-    (ap (λ (f : Fields). f.msr) does.3)
-
-msr_after : (x : Modes) (s n t : State) (links : List Link) (value : ℕ) → InSession x s → AllWithinSession links → AllNoMsr links →
-    Chain s links n → CallStep n call.Msr (Register value) t → After (MsrTells x) (fields (inner_of s)).msr s t value
-msr_after x s n t links value w within none chain step =
-    told_after (MsrTells x) offsets.MSR (λ f. f.msr) x s n t links value w within chain (took_msr n t (Register value) step)
-    (λ p status path told. msr_tells x (machine_of s) (machine_of n) (machine_of t) p.made (reported links) p.passed.takes status
-    (fields (inner_of s)).msr (fields (inner_of n)).msr value w.open_modes p.passed.passed path (p.msr none) told)
 
 -- ---- in a session
 
@@ -158,48 +143,62 @@ ended s t some last c value T tells within chain is answered =
     let step = call_is last.before last.after last.call c last.answer (Register value) is answered e.step in
     subst T e.same (tells last.before last.after (within-front some (last ∷ []) within) e.chain step)
 
+module _ {x : Modes} {register : ℕ} {saved : Fields → ℕ}
+    {T : MachineState → MachineState → List Access → List ℕ → List Character → ℕ → ℕ → Type 0} {c : Call} {NoneOf : List Link → Type 0}
+    (i : IsStatus x register saved T c NoneOf) where
+  status_after : (s n t : State) (links : List Link) (value : ℕ) → InSession x s → AllWithinSession links → NoneOf links →
+      Chain s links n → CallStep n c (Register value) t → After T (saved (fields (inner_of s))) s t value
+  status_after s n t links value w within none chain step =
+      let p = passes_chain x s n links w within chain in
+      let took = i.took n t (Register value) step in
+      record {
+        made = p.made ++ Read register took.status ∷ [];
+        written = reported links;
+        takes = p.passed.takes;
+        tells = i.tells s n t links w none p took.status value took.path (register_is value _ took.told);
+      }
+
+  -- the session ends with that call
+  at_end : (s t : State) (some : List Link) (last : Link) (value : ℕ) → InSession x s → AllWithinSession (some ++ last ∷ []) →
+      Chain s (some ++ last ∷ []) t → NoneOf some → last.call ≡ c → last.answer ≡ Register value →
+      After T (saved (fields (inner_of s))) s t value
+  at_end s t some last value w within chain none is answered =
+      ended s t some last c value (λ u. After T (saved (fields (inner_of s))) s u value)
+      (λ n u v before step. status_after s n u some value w v none before step) within chain is answered
+
+  -- and it begins with one
+  since_first : (s t : State) (first : Link) (some : List Link) (last : Link) (value : ℕ) → InSession x s →
+      AllWithinSession (first ∷ (some ++ last ∷ [])) → Chain s (first ∷ (some ++ last ∷ [])) t → NoneOf some → first.call ≡ c →
+      last.call ≡ c → last.answer ≡ Register value →
+      Took register saved first.before first.answer first.after × After T (saved (fields (inner_of first.after))) first.after t value
+  since_first s t first some last value w within chain none begins is answered =
+      let W : State → Type 0 = λ v. InSession x v in
+      let step = call_is first.before first.after first.call c first.answer first.answer begins refl chain.1 in
+      let after = after_first x first (subst W (sym chain.0) w) within.0 chain.1 in
+      (i.took first.before first.after first.answer step, at_end first.after t some last value after within.1 chain.2 none is answered)
+
+no_other_drop : (x : Modes) (first : Link) (t : State) (value : ℕ) → Took offsets.LSR (λ f. f.lsr) first.before first.answer first.after →
+    After (LsrTells x) (fields (inner_of first.after)).lsr first.after t value → TellsNoOtherDrop first.after t value
+no_other_drop x first t value took a = a.tells.told_drop took.emptied
+    (ap (λ (m : MachineState). m.chip.receiver.is_overrun) took.path.2
+    ∙ look_clears (machine_of first.before) took.path.0 took.status took.path.1)
+
+no_other_change : (x : Modes) (first : Link) (t : State) (value : ℕ) → Took offsets.MSR (λ f. f.msr) first.before first.answer first.after →
+    After (MsrTells x) (fields (inner_of first.after)).msr first.after t value → TellsNoOtherChange first.after t value
+no_other_change x first t value took a = a.tells.exactly_told took.emptied
+    (ap (λ (m : MachineState). m.chip.modem.deltas) took.path.2
+    ∙ status_clears (machine_of first.before) took.path.0 took.status took.path.1)
+
 pub tells_in : (x : Modes) (s t : State) (links : List Link) → InSession x s → AllWithinSession links → Chain s links t → Tells s links t
 tells_in x s t links w within chain = record {
-  line = λ some last value is none c a. line some last value (rw is at within) (rw is at chain) none c a;
-  only_drops = λ first some last value is none b c a. only_drops first some last value (rw is at within) (rw is at chain) none b c a;
-  changes = λ some last value is none c a. changes some last value (rw is at within) (rw is at chain) none c a;
-  only_changes = λ first some last value is none b c a. only_changes first some last value (rw is at within) (rw is at chain) none b c a;
+  line = λ some last value is none c a.
+      tells_line x s t value w (at_end (lsr_status x) s t some last value w (rw is at within) (rw is at chain) none c a);
+  only_drops = λ first some last value is none b c a.
+      let both = since_first (lsr_status x) s t first some last value w (rw is at within) (rw is at chain) none b c a in
+      no_other_drop x first t value both.0 both.1;
+  changes = λ some last value is none c a.
+      (at_end (msr_status x) s t some last value w (rw is at within) (rw is at chain) none c a).tells.changes_told;
+  only_changes = λ first some last value is none b c a.
+      let both = since_first (msr_status x) s t first some last value w (rw is at within) (rw is at chain) none b c a in
+      no_other_change x first t value both.0 both.1;
 }
-  where
-    line : (some : List Link) (last : Link) (value : ℕ) → AllWithinSession (some ++ last ∷ []) → Chain s (some ++ last ∷ []) t →
-        AllNoLsr some → last.call ≡ call.Lsr → last.answer ≡ Register value → TellsLine s t value
-    line some last value i h none c a =
-        ended s t some last call.Lsr value (λ u. TellsLine s u value)
-        (λ n u v before step. tells_line x s u value w (lsr_after x s n u some value w v none before step)) i h c a
-
-    only_drops : (first : Link) (some : List Link) (last : Link) (value : ℕ) → AllWithinSession (first ∷ (some ++ last ∷ [])) →
-        Chain s (first ∷ (some ++ last ∷ [])) t → AllNoLsr some → first.call ≡ call.Lsr → last.call ≡ call.Lsr →
-        last.answer ≡ Register value → TellsNoOtherDrop first.after t value
-    only_drops first some last value i h none b c a =
-        let W : State → Type 0 = λ v. InSession x v in
-        let first_step = call_is first.before first.after first.call call.Lsr first.answer first.answer b refl h.1 in
-        let took = took_lsr first.before first.after first.answer first_step in
-        let begins = after_first x first (subst W (sym h.0) w) i.0 h.1 in
-        let clear = look_clears (machine_of first.before) took.path.0 took.status took.path.1 in
-        ended first.after t some last call.Lsr value (λ u. TellsNoOtherDrop first.after u value)
-        (λ n u v before step. (lsr_after x first.after n u some value begins v none before step).tells.told_drop took.emptied
-        (ap (λ (m : MachineState). m.chip.receiver.is_overrun) took.path.2 ∙ clear)) i.1 h.2 c a
-
-    changes : (some : List Link) (last : Link) (value : ℕ) → AllWithinSession (some ++ last ∷ []) → Chain s (some ++ last ∷ []) t →
-        AllNoMsr some → last.call ≡ call.Msr → last.answer ≡ Register value → TellsChanges s t value
-    changes some last value i h none c a =
-        ended s t some last call.Msr value (λ u. TellsChanges s u value)
-        (λ n u v before step. (msr_after x s n u some value w v none before step).tells.changes_told) i h c a
-
-    only_changes : (first : Link) (some : List Link) (last : Link) (value : ℕ) → AllWithinSession (first ∷ (some ++ last ∷ [])) →
-        Chain s (first ∷ (some ++ last ∷ [])) t → AllNoMsr some → first.call ≡ call.Msr → last.call ≡ call.Msr →
-        last.answer ≡ Register value → TellsNoOtherChange first.after t value
-    only_changes first some last value i h none b c a =
-        let W : State → Type 0 = λ v. InSession x v in
-        let first_step = call_is first.before first.after first.call call.Msr first.answer first.answer b refl h.1 in
-        let took = took_msr first.before first.after first.answer first_step in
-        let begins = after_first x first (subst W (sym h.0) w) i.0 h.1 in
-        let clear = status_clears (machine_of first.before) took.path.0 took.status took.path.1 in
-        ended first.after t some last call.Msr value (λ u. TellsNoOtherChange first.after u value)
-        (λ n u v before step. (msr_after x first.after n u some value begins v none before step).tells.exactly_told took.emptied
-        (ap (λ (m : MachineState). m.chip.modem.deltas) took.path.2 ∙ clear)) i.1 h.2 c a

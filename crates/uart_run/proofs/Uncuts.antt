@@ -23,10 +23,10 @@ lasts_uncut = record { path = cuts_path false; mark = cuts_mark false }
 
 -- ---- a session
 
-whole_cut : (c : ChipState) → c.cuts ≡ false → cut_of c ≡ (λ (byte : ℕ). byte)
+pub whole_cut : (c : ChipState) → c.cuts ≡ false → cut_of c ≡ (λ (byte : ℕ). byte)
 whole_cut c e = ap {B = ℕ → ℕ} (λ (cuts : Bool) (byte : ℕ). cut_to cuts (word_length c.latches.lcr) byte) e
 
-entered_whole : (m n : MachineState) → m.chip.cuts ≡ false → entered m n ≡ entered_uncut m n
+pub entered_whole : (m n : MachineState) → m.chip.cuts ≡ false → entered m n ≡ entered_uncut m n
 entered_whole m n e =
     let came : List Character = arriving m.chip.receiver.arrived (between m n) in
     ap (λ (cut : ℕ → ℕ). m.chip.receiver.queue ++ map (cut_character cut) came) (whole_cut m.chip e) ∙

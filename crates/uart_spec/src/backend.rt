@@ -1,5 +1,6 @@
 //! How the registers of a device are reached.
 ghost use Rattle.std.specs.Prelude.{◌<◌};
+ghost use Rattle.uart_spec.specs.declared.baud.TheConstants.{NUM_REGISTERS};
 ghost use Rattle.uart_spec.specs.Access.{Access, Read, Write};
 
 /// Access to the eight registers of one device.
@@ -12,11 +13,11 @@ pub trait Backend {
 
     /// Reads the register at an offset of 0 to 7.
     fn read(&mut self, register_offset: u8) -> u8
-        requires { register_offset < 8 }
+        requires { register_offset < NUM_REGISTERS }
         ensures { step self.old (Read register_offset result) self.new };
 
     /// Writes the register at an offset of 0 to 7.
     fn write(&mut self, register_offset: u8, value: u8)
-        requires { register_offset < 8 }
+        requires { register_offset < NUM_REGISTERS }
         ensures { step self.old (Write register_offset value) self.new };
 }

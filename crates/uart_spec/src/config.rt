@@ -135,8 +135,8 @@ pub struct Config {
     pub frequency: u32,
     /// The prescaler division factor, from 0 to 15, on chips that have a prescaler. Without one it counts as 0.
     pub prescaler_division_factor: Option<u32>,
-    /// The receiver FIFO's trigger level. Without one the FIFOs stay off, with which devices of QEMU have been seen to
-    /// stall. A chip without FIFOs ignores it.
+    /// The receiver FIFO's trigger level. Without one the FIFOs stay off; some versions of QEMU were reported to stall
+    /// then. A chip without FIFOs ignores it.
     pub fifo_trigger_level: Option<FifoTriggerLevel>,
     /// The baud rate, which has to be a whole fraction of what the clock gives.
     pub baud_rate: BaudRate,

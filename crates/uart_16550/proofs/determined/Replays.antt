@@ -2,10 +2,9 @@
 use Rattle.std.proofs.Common.{◌≡◌, ℕ, true, List, [], ◌∷◌, ◌++◌, sym, ◌∙◌, ap, subst, inl, inr, ◌⊎◌}
 use Rattle.uart_spec.specs.Access.{Access, Read, Write}
 use Rattle.uart_16550.specs.Choice.{PartAtRead, LeavesNoChoice, answers}
-use Rattle.uart_16550.specs.Devices.{AnswersInTurn}
 use Rattle.uart_16550.specs.Grammar.{Language}
 use Rattle.uart_16550.specs.Driver.{Doing, Fields, Saving, fields}
-use Rattle.uart_16550.specs.Replay.{FedBy, Repeats, RepeatsSaving}
+use Rattle.uart_16550.specs.Replay.{AnswersInTurn, FedBy, Repeats, RepeatsSaving}
 use Rattle.uart_16550.proofs.Replays.{fed_path, tapes_show}
 use Rattle.uart_16550.proofs.determined.Repeated.{same_first}
 use Rattle.uart_16550.proofs.determined.Backends.{answers_append, saved}

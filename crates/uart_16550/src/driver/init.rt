@@ -132,8 +132,8 @@ impl<B: Backend> Uart16550<B> {
     /// and enables the configured interrupts. Bytes that a FIFO still held for sending may be lost. No status bits are saved
     /// afterwards. `fifo_enabled` then tells whether the device has a FIFO that is on.
     ///
-    /// Call it where interrupts are masked: one may be pending before this returns. Under QEMU a configuration without a
-    /// trigger level is known to stall.
+    /// Call it while interrupts are masked: one may be pending before this returns. Some versions of QEMU were reported to
+    /// stall with a configuration without a trigger level.
     ///
     /// # Errors
     ///

@@ -67,13 +67,13 @@ impl<B: Backend> Uart16550<B> {
         let Some(actual) = self.receive_one() else {
             return Err(LoopbackError::Stalled);
         };
-        if actual != TEST_BYTE {
-            return Err(LoopbackError::UnexpectedLoopbackByte {
-                expected: TEST_BYTE,
-                actual,
-            });
+        if actual == TEST_BYTE {
+            return Ok(());
         }
-        Ok(())
+        Err(LoopbackError::UnexpectedLoopbackByte {
+            expected: TEST_BYTE,
+            actual,
+        })
     }
 
     // Sends a byte and waits for what comes back.

@@ -124,13 +124,10 @@ impl<B: Backend> Uart16550<B> {
         let mut done = 0;
         while done < buffer.len() {
             let end = buffer.len().min(done + PIECE_SIZE);
-            match self.receive_piece(&mut buffer[done..end]) {
-                Ok(()) => {}
-                Err(stall) => {
-                    return Err(StalledError {
-                        done: done + stall.done,
-                    });
-                }
+            if let Err(stall) = self.receive_piece(&mut buffer[done..end]) {
+                return Err(StalledError {
+                    done: done + stall.done,
+                });
             }
             done = end;
         }

@@ -183,13 +183,10 @@ impl<B: Backend> Uart16550<B> {
         let mut done = 0;
         while done < bytes.len() {
             let end = bytes.len().min(done + PIECE_SIZE);
-            match self.send_piece(&bytes[done..end]) {
-                Ok(()) => {}
-                Err(stall) => {
-                    return Err(StalledError {
-                        done: done + stall.done,
-                    });
-                }
+            if let Err(stall) = self.send_piece(&bytes[done..end]) {
+                return Err(StalledError {
+                    done: done + stall.done,
+                });
             }
             done = end;
         }

@@ -5,7 +5,7 @@ use Rattle.uart_chip.specs.declared.event.ArrivalMark.TheVariants.{Pending, Wait
 use Rattle.uart_chip.specs.declared.receiver.Character.{Character}
 use Rattle.uart_chip.specs.declared.receiver.Origin.{Origin}
 use Rattle.uart_chip.specs.declared.receiver.Origin.TheVariants.{Arrived, Looped}
-use Rattle.uart_chip.specs.Receiver.{ReceiverState, mark_at, set_mark, is_looped, replace, arrive, take_front}
+use Rattle.uart_chip.specs.Receiver.{ReceiverState, mark_at, set_mark, is_stray, replace, arrive, take_front}
 use Rattle.uart_device.specs.Sound.{IsMarked}
 use Rattle.uart_chip.proofs.Bits.{has_none}
 use Rattle.uart_device.proofs.conservation.Moves.{moved_room, moved_full, moved_taken, moved_replaced}
@@ -51,7 +51,7 @@ receives-full r s new w o k queue marks stray arrived overrun =
 receives-replaced : (r s : ReceiverState) (old new : Character) (o : Origin) → IsMarked false r → new.origin ≡ Arrived r.arrived →
     r.arrived < length r.marks →
     old.origin ≡ o → r.queue ≡ old ∷ [] → s.queue ≡ new ∷ [] → s.marks ≡ slice_set (set_mark o Dropped r.marks) r.arrived Waiting →
-    s.is_stray_lost ≡ (if is_looped o then true else r.is_stray_lost) → s.arrived ≡ r.arrived + 1 → s.is_overrun ≡ true →
+    s.is_stray_lost ≡ (if is_stray o then true else r.is_stray_lost) → s.arrived ≡ r.arrived + 1 → s.is_overrun ≡ true →
     Receives false r s (new ∷ []) [] 0
 receives-replaced r s old new o w n k p i queue marks stray arrived overrun = record {
   number = arrived;
@@ -62,7 +62,7 @@ receives-replaced r s old new o w n k p i queue marks stray arrived overrun = re
 }
   where
     fell : (o : Origin) → old.origin ≡ o → s.marks ≡ slice_set (set_mark o Dropped r.marks) r.arrived Waiting →
-        s.is_stray_lost ≡ (if is_looped o then true else r.is_stray_lost) → Drop r s
+        s.is_stray_lost ≡ (if is_stray o then true else r.is_stray_lost) → Drop r s
     fell (Arrived j) p marks stray =
         let wait = rw (i, p) at w.wait in
         let below : j < r.arrived = wait.0.0 in
@@ -74,7 +74,7 @@ receives-replaced r s old new o w n k p i queue marks stray arrived overrun = re
         (get_or-set_other (slice_set r.marks j Dropped) r.arrived j Waiting Pending sooner ∙
         get_or-set_same r.marks j Dropped Pending in_marks) in
         record { origin = Arrived j; stood = rw waiting refl; lost = rw dropped refl }
-    fell Looped p marks stray =
+    fell _ p marks stray =
         let wait = rw (i, p) at w.wait in
         let kept : r.is_stray_lost ≡ false = wait.0 in
         record { origin = Looped; stood = rw kept refl; lost = rw stray refl }

@@ -9,9 +9,9 @@ use Rattle.uart_chip.specs.declared.event.ArrivalMark.{ArrivalMark}
 use Rattle.uart_chip.specs.declared.event.ArrivalMark.TheVariants.{Pending, Waiting, Read, Dropped}
 use Rattle.uart_chip.specs.declared.receiver.Character.{Character}
 use Rattle.uart_chip.specs.declared.receiver.Origin.{Origin}
-use Rattle.uart_chip.specs.declared.receiver.Origin.TheVariants.{Arrived, Looped}
+use Rattle.uart_chip.specs.declared.receiver.Origin.TheVariants.{Arrived}
 use Rattle.uart_chip.specs.Transmitter.{room}
-use Rattle.uart_chip.specs.Receiver.{ReceiverState, mark_at, set_mark, is_looped}
+use Rattle.uart_chip.specs.Receiver.{ReceiverState, mark_at, set_mark, is_stray}
 use Rattle.uart_device.specs.Sound.{IsInQueue, AllInQueue, IsMarked}
 use Rattle.uart_device.proofs.Lists.{each-append, each-weaker}
 use Rattle.uart_device.specs.Conserved.{is_dropped, origin_stands, stands}
@@ -22,7 +22,7 @@ use Rattle.uart_device.proofs.soundness.Marks.{none_to_come, all_in_queue-set, a
 pub waits_stands : (arrived : ℕ) (marks : List ArrivalMark) (stray : Bool) (o : Origin) → IsInQueue arrived marks stray o →
     origin_stands marks stray o ≡ true
 waits_stands arrived marks stray (Arrived k) h = rw h.1 refl
-waits_stands arrived marks stray Looped h = rw h refl
+waits_stands arrived marks stray _ h = rw h refl
 
 pub filter-waits : (r : ReceiverState) (arrived : ℕ) (characters : List Character) → AllInQueue arrived r.marks r.is_stray_lost characters →
     filter (stands r) characters ≡ characters
@@ -35,7 +35,7 @@ filter-waits r arrived (character ∷ characters) h =
 
 -- none of these came back in loopback
 abbrev pub NoneLooped : List Character → Type 0
-NoneLooped characters = AllByRecursion (λ (character : Character). is_looped character.origin ≡ false) characters
+NoneLooped characters = AllByRecursion (λ (character : Character). is_stray character.origin ≡ false) characters
 
 -- no looped character can be lost from now on
 abbrev pub CannotStray : Bool → ReceiverState → Type 0
@@ -45,7 +45,7 @@ CannotStray false r = (r.is_stray_lost ≡ false) × NoneLooped r.queue
 -- a character of this origin isn't dropped later
 abbrev pub IsFinal : Bool → ReceiverState → Origin → Type 0
 IsFinal fifo r (Arrived k) = mark_at r.marks k ≡ Read
-IsFinal fifo r Looped = CannotStray fifo r
+IsFinal fifo r _ = CannotStray fifo r
 
 abbrev pub AllFinal : Bool → ReceiverState → List Character → Type 0
 AllFinal fifo r characters = AllByRecursion (λ (character : Character). IsFinal fifo r character.origin) characters
@@ -63,7 +63,7 @@ stray_false false r h = h.0
 
 pub final_stands : (fifo : Bool) (r : ReceiverState) (o : Origin) → IsFinal fifo r o → origin_stands r.marks r.is_stray_lost o ≡ true
 final_stands fifo r (Arrived k) h = rw h refl
-final_stands fifo r Looped h = rw (stray_false fifo r h) refl
+final_stands fifo r _ h = rw (stray_false fifo r h) refl
 
 pub filter-final : (fifo : Bool) (r : ReceiverState) (characters : List Character) → AllFinal fifo r characters →
     filter (stands r) characters ≡ characters
@@ -137,15 +137,15 @@ pub falls-mark : (r s : ReceiverState) (k : ℕ) (m : ArrivalMark) → is_droppe
     s.is_stray_lost ≡ r.is_stray_lost → (o : Origin) → origin_stands s.marks s.is_stray_lost o ≡ true →
     origin_stands r.marks r.is_stray_lost o ≡ true
 falls-mark r s k m h e f (Arrived j) g = falls-set r.marks k m j h (rw e at g)
-falls-mark r s k m h e f Looped g = rw f at g
+falls-mark r s k m h e f _ g = rw f at g
 
 pub final-set : (fifo : Bool) (r s : ReceiverState) (k : ℕ) (m : ArrivalMark) → mark_at r.marks k ≢ Read → s.marks ≡ slice_set r.marks k m →
     (o : Origin) → (CannotStray fifo r → CannotStray fifo s) → IsFinal fifo r o → IsFinal fifo s o
 final-set fifo r s k m h e (Arrived j) c g = rw e (read-set r.marks k m j h g)
-final-set fifo r s k m h e Looped c g = c g
+final-set fifo r s k m h e _ c g = c g
 
 pub none_looped-append : (xs ys : List Character) → NoneLooped xs → NoneLooped ys → NoneLooped (xs ++ ys)
-none_looped-append xs ys h k = each-append (λ (x : Character). is_looped x.origin ≡ false) xs ys h k
+none_looped-append xs ys h k = each-append (λ (x : Character). is_stray x.origin ≡ false) xs ys h k
 
 pub cannot_stray-more : (fifo : Bool) (r s : ReceiverState) (new : Character) → new.origin ≡ Arrived r.arrived →
     s.queue ≡ r.queue ++ new ∷ [] →
@@ -240,8 +240,8 @@ moved_taken fifo r s front (Arrived k) w o i marks stray =
         go : (b : Bool) → nat_eq j k ≡ b → mark_at s.marks j ≡ Read
         go true e = let same : j ≡ k = grind arith in rw same h
         go false e = let other : j ≢ k = grind arith in rw (marks, get_or-set_other r.marks k j Read Pending other) g
-    final_taken Looped g h = cannot_stray-less fifo r s front i stray g
-moved_taken fifo r s front Looped w o i marks stray =
+    final_taken _ g h = cannot_stray-less fifo r s front i stray g
+moved_taken fifo r s front _ w o i marks stray =
     let wait = rw i at w.wait in
     let here = rw o at wait.0 in
     let rest : filter (stands s) s.queue ≡ s.queue = filter-waits s r.arrived s.queue (rw (marks, stray) wait.1) in
@@ -257,17 +257,17 @@ moved_taken fifo r s front Looped w o i marks stray =
   where
     same_stands : (from : Origin) → origin_stands s.marks s.is_stray_lost from ≡ true → origin_stands r.marks r.is_stray_lost from ≡ true
     same_stands (Arrived j) g = rw marks at g
-    same_stands Looped g = rw stray at g
+    same_stands _ g = rw stray at g
 
     same_final : (from : Origin) → IsFinal fifo r from → IsFinal fifo s from
     same_final (Arrived j) g = rw marks g
-    same_final Looped g = cannot_stray-less fifo r s front i stray g
+    same_final _ g = cannot_stray-less fifo r s front i stray g
 
 -- the step of a character that takes the place of the one that waits
 pub moved_replaced : (r s : ReceiverState) (old new : Character) (o : Origin) → IsMarked false r → new.origin ≡ Arrived r.arrived →
     r.arrived < length r.marks →
     old.origin ≡ o → r.queue ≡ old ∷ [] → s.queue ≡ new ∷ [] → s.marks ≡ slice_set (set_mark o Dropped r.marks) r.arrived Waiting →
-    s.is_stray_lost ≡ (if is_looped o then true else r.is_stray_lost) → Moved false r s (new ∷ []) []
+    s.is_stray_lost ≡ (if is_stray o then true else r.is_stray_lost) → Moved false r s (new ∷ []) []
 moved_replaced r s old new (Arrived k) w n within o i j marks stray =
     let wait = rw (i, o) at w.wait in
     let below : k < r.arrived = wait.0.0 in
@@ -297,7 +297,7 @@ moved_replaced r s old new (Arrived k) w n within o i j marks stray =
     falls_both (Arrived q) g p h =
         falls-set r.marks k Dropped q (ap is_dropped h)
         (falls-set (slice_set r.marks k Dropped) r.arrived Waiting q (ap is_dropped p) (rw marks at g))
-    falls_both Looped g p h = rw stray at g
+    falls_both _ g p h = rw stray at g
 
     final_both : (from : Origin) → IsFinal false r from → mark_at (slice_set r.marks k Dropped) r.arrived ≡ Pending →
         mark_at r.marks k ≡ Waiting → IsFinal false s from
@@ -305,8 +305,8 @@ moved_replaced r s old new (Arrived k) w n within o i j marks stray =
         rw marks
         (read-set (slice_set r.marks k Dropped) r.arrived Waiting q (λ e. absurd (cc))
         (read-set r.marks k Dropped q (λ e. absurd (cc)) g))
-    final_both Looped g p h = (stray ∙ g.0, rw j (rw n refl, tt))
-moved_replaced r s old new Looped w n within o i j marks stray =
+    final_both _ g p h = (stray ∙ g.0, rw j (rw n refl, tt))
+moved_replaced r s old new _ w n within o i j marks stray =
     let pending : mark_at r.marks r.arrived ≡ Pending = w.to_come r.arrived (omega arith) in
     let comes : mark_at s.marks r.arrived ≡ Waiting = rw marks (get_or-set_same r.marks r.arrived Waiting Pending within) in
     let out : stands s old ≡ false = rw (o, stray) refl in
@@ -321,8 +321,8 @@ moved_replaced r s old new Looped w n within o i j marks stray =
     falls_one : (from : Origin) → origin_stands s.marks s.is_stray_lost from ≡ true → mark_at r.marks r.arrived ≡ Pending →
         origin_stands r.marks r.is_stray_lost from ≡ true
     falls_one (Arrived q) g p = falls-set r.marks r.arrived Waiting q (ap is_dropped p) (rw marks at g)
-    falls_one Looped g p = let h : not true ≡ true = rw stray at g in absurd (cc)
+    falls_one _ g p = let h : not true ≡ true = rw stray at g in absurd (cc)
 
     final_one : (from : Origin) → IsFinal false r from → mark_at r.marks r.arrived ≡ Pending → IsFinal false s from
     final_one (Arrived q) g p = rw marks (read-set r.marks r.arrived Waiting q (λ e. absurd (cc)) g)
-    final_one Looped g p = let none = rw (i, o) at g.1 in let h : true ≡ false = none.0 in absurd (cc)
+    final_one _ g p = let none = rw (i, o) at g.1 in let h : true ≡ false = none.0 in absurd (cc)

@@ -61,7 +61,7 @@ no_drop-set r s o m new marks stray d = go d.origin d.stood d.lost
     go (Arrived j) f g =
         let old : mark_at r.marks j ≢ Dropped = λ e. let h : not true ≡ true = rw e at f in cc in
         mark_at-set_mark_not o m Dropped r.marks j new old (dropped_is (mark_at (set_mark o m r.marks) j) (rw marks at g))
-    go Looped f g = let q = rw stray at g in cc
+    go _ f g = let q = rw stray at g in cc
 
 -- ---- the overrun flag
 
@@ -164,7 +164,7 @@ moved_same fifo r s w k = record {
 
     same_final : (o : Origin) → IsFinal fifo r o → IsFinal fifo s o
     same_final (Arrived j) h = rw k.marks h
-    same_final Looped h = same_stray fifo h
+    same_final _ h = same_stray fifo h
 
 -- the overrun flag may be shown
 pub receives-same : (fifo : Bool) (r s : ReceiverState) (seen : ℕ) → IsMarked fifo r → SameCharacters r s →

@@ -206,26 +206,23 @@ went-lines x inputs c l s w = record {
   turns = turns-lines c.latches.mcr inputs c.modem (loopback-in x c w ∙ l);
 }
 
+-- an event that brings no character and turns no line
+went-passed : (x : Modes) (event : Event) (c d : ChipState) → arriving c.receiver.arrived (event ∷ []) ≡ [] →
+    (Turns c.modem d.modem [] 0 → Turns c.modem d.modem (event ∷ []) 0) → Went x c d [] [] [] [] → Went x c d (event ∷ []) [] [] []
+went-passed x event c d none turns a = record {
+  modes = a.modes;
+  sends = a.sends;
+  receives = rw none a.receives;
+  reports = a.reports;
+  turns = turns a.turns;
+}
+
 -- one event
 pub went-perform : (x : Modes) (event : Event) (c : ChipState) → loopback x ≡ false → IsSoundChip c → IsIn x c →
     c.receiver.arrived + arrivals (event ∷ []) ≤ length c.receiver.marks → Went x c (perform event c) (event ∷ []) [] [] []
 went-perform x (Ticks n) c l s w k =
-    let a = went-ticks x n c l s w in
-    record {
-      modes = a.modes;
-      sends = a.sends;
-      receives = a.receives;
-      reports = a.reports;
-      turns = record { lines = a.turns.lines; deltas = a.turns.deltas };
-    }
+    went-passed x (Ticks n) c _ refl (λ t. record { lines = t.lines; deltas = t.deltas }) (went-ticks x n c l s w)
 went-perform x (Arrive byte errors) c l s w k = went-arrive x byte errors c l s w (omega (arith, k))
 went-perform x (Lines inputs) c l s w k = went-lines x inputs c l s w
 went-perform x event c l s w k =
-    let a = went-refl x c s w in
-    record {
-      modes = a.modes;
-      sends = a.sends;
-      receives = a.receives;
-      reports = a.reports;
-      turns = record { lines = a.turns.lines; deltas = a.turns.deltas };
-    }
+    went-passed x event c c refl (λ t. record { lines = t.lines; deltas = t.deltas }) (went-refl x c s w)

@@ -7,14 +7,14 @@ use Rattle.uart_chip.specs.declared.event.ArrivalMark.{ArrivalMark}
 use Rattle.uart_chip.specs.declared.event.ArrivalMark.TheVariants.{Pending, Waiting}
 use Rattle.uart_chip.specs.declared.receiver.Character.{Character}
 use Rattle.uart_chip.specs.declared.receiver.Origin.{Origin}
-use Rattle.uart_chip.specs.declared.receiver.Origin.TheVariants.{Arrived, Looped}
-use Rattle.uart_chip.specs.Receiver.{mark_at, set_mark}
+use Rattle.uart_chip.specs.declared.receiver.Origin.TheVariants.{Arrived}
+use Rattle.uart_chip.specs.Receiver.{mark_at, set_mark, is_stray}
 use Rattle.uart_device.specs.Sound.{IsInQueue, AllInQueue, OtherOrigin, NoneIs, NoneHas, Distinct}
 use Rattle.uart_device.proofs.Lists.{each-append, each-front, each-back, each-weaker}
 
 pub length-set_mark : (o : Origin) (m : ArrivalMark) (marks : List ArrivalMark) → length (set_mark o m marks) ≡ length marks
 length-set_mark (Arrived k) m marks = length-set marks k m
-length-set_mark Looped m marks = refl
+length-set_mark _ m marks = refl
 
 -- a mark that is set becomes nothing but that
 pub mark_at-set_not : (marks : List ArrivalMark) (k : ℕ) (m other : ArrivalMark) (j : ℕ) → m ≢ other → mark_at marks j ≢ other →
@@ -37,7 +37,7 @@ mark_at-set_not marks k m other j new old = go (nat_eq j k) refl
 pub mark_at-set_mark_not : (o : Origin) (m other : ArrivalMark) (marks : List ArrivalMark) (j : ℕ) → m ≢ other → mark_at marks j ≢ other →
     mark_at (set_mark o m marks) j ≢ other
 mark_at-set_mark_not (Arrived k) m other marks j new old = mark_at-set_not marks k m other j new old
-mark_at-set_mark_not Looped m other marks j new old = old
+mark_at-set_mark_not _ m other marks j new old = old
 
 -- ---- what waits
 
@@ -49,7 +49,7 @@ none_to_come arrived marks stray (x ∷ xs) h = (other x.origin h.0, none_to_com
   where
     other : (o : Origin) → IsInQueue arrived marks stray o → OtherOrigin arrived o
     other (Arrived k) h = omega (arith, h.0)
-    other Looped h = tt
+    other _ h = tt
 
 -- another's mark is set
 pub all_in_queue-set : (arrived : ℕ) (marks : List ArrivalMark) (stray : Bool) (k : ℕ) (m : ArrivalMark) (queue : List Character) →
@@ -59,13 +59,13 @@ all_in_queue-set arrived marks stray k m (x ∷ xs) d h = (one x.origin d.0 h.0,
   where
     one : (o : Origin) → OtherOrigin k o → IsInQueue arrived marks stray o → IsInQueue arrived (slice_set marks k m) stray o
     one (Arrived j) d h = (h.0, get_or-set_other marks k j m Pending d ∙ h.1)
-    one Looped d h = h
+    one _ d h = h
 
 pub all_in_queue-set_mark : (arrived : ℕ) (marks : List ArrivalMark) (stray : Bool) (o : Origin) (m : ArrivalMark)
     (queue : List Character) →
     NoneHas o queue → AllInQueue arrived marks stray queue → AllInQueue arrived (set_mark o m marks) stray queue
 all_in_queue-set_mark arrived marks stray (Arrived k) m queue d h = all_in_queue-set arrived marks stray k m queue d h
-all_in_queue-set_mark arrived marks stray Looped m queue d h = h
+all_in_queue-set_mark arrived marks stray _ m queue d h = h
 
 -- one more has arrived
 pub all_in_queue-next : (arrived : ℕ) (marks : List ArrivalMark) (stray : Bool) (queue : List Character) →
@@ -77,9 +77,9 @@ all_in_queue-next arrived marks stray queue h =
   where
     one : (o : Origin) → IsInQueue arrived marks stray o → IsInQueue (arrived + 1) marks stray o
     one (Arrived j) h = (omega (arith, h.0), h.1)
-    one Looped h = h
+    one _ h = h
 
--- a looped character came, so none is lost since
+-- a stray character came, so none is lost since
 pub all_in_queue-found : (arrived : ℕ) (marks : List ArrivalMark) (stray : Bool) (queue : List Character) →
     AllInQueue arrived marks stray queue → AllInQueue arrived marks false queue
 all_in_queue-found arrived marks stray queue h =
@@ -88,7 +88,7 @@ all_in_queue-found arrived marks stray queue h =
   where
     one : (o : Origin) → IsInQueue arrived marks stray o → IsInQueue arrived marks false o
     one (Arrived j) h = h
-    one Looped h = refl
+    one _ h = refl
 
 pub all_in_queue-append : (arrived : ℕ) (marks : List ArrivalMark) (stray : Bool) (xs ys : List Character) →
     AllInQueue arrived marks stray xs → AllInQueue arrived marks stray ys → AllInQueue arrived marks stray (xs ++ ys)
@@ -114,16 +114,26 @@ distinct-next (x ∷ xs) new k o n d = (more x.origin n.0 d.0, distinct-next xs 
   where
     more : (from : Origin) → OtherOrigin k from → NoneHas from xs → NoneHas from (xs ++ new ∷ [])
     more (Arrived j) h d = none_is-append j xs (new ∷ []) d (rw o (λ e. h (sym e)), tt)
-    more Looped h d = tt
+    more _ h d = tt
 
--- a looped character is put last
-pub distinct-looped : (queue : List Character) (new : Character) → new.origin ≡ Looped → Distinct queue → Distinct (queue ++ new ∷ [])
-distinct-looped [] new o d = (rw o tt, tt)
-distinct-looped (x ∷ xs) new o d = (more x.origin d.0, distinct-looped xs new o d.1)
+-- a stray character has no number
+stray-other : (k : ℕ) (o : Origin) → is_stray o ≡ true → OtherOrigin k o
+stray-other k (Arrived j) s = absurd (cc)
+stray-other k _ s = tt
+
+stray-has : (o : Origin) (characters : List Character) → is_stray o ≡ true → NoneHas o characters
+stray-has (Arrived j) characters s = absurd (cc)
+stray-has _ characters s = tt
+
+-- a stray character is put last
+pub distinct-stray : (queue : List Character) (new : Character) → is_stray new.origin ≡ true → Distinct queue →
+    Distinct (queue ++ new ∷ [])
+distinct-stray [] new o d = (stray-has new.origin [] o, tt)
+distinct-stray (x ∷ xs) new o d = (more x.origin d.0, distinct-stray xs new o d.1)
   where
     more : (from : Origin) → NoneHas from xs → NoneHas from (xs ++ new ∷ [])
-    more (Arrived k) h = none_is-append k xs (new ∷ []) h (rw o tt, tt)
-    more Looped h = tt
+    more (Arrived k) h = none_is-append k xs (new ∷ []) h (stray-other k new.origin o, tt)
+    more _ h = tt
 
 -- ---- what the marks say of all numbers
 
@@ -149,7 +159,7 @@ pub to_come-set : (arrived : ℕ) (marks old : List ArrivalMark) (stray : Bool) 
     IsInQueue arrived old stray o → ToCome arrived marks → ToCome arrived (set_mark o m marks)
 to_come-set arrived marks old stray (Arrived j) m w h k l =
     let apart : k ≢ j = omega (arith, w.0) in get_or-set_other marks j k m Pending apart ∙ h k l
-to_come-set arrived marks old stray Looped m w h k l = h k l
+to_come-set arrived marks old stray _ m w h k l = h k l
 
 pub settled-next : (arrived : ℕ) (marks : List ArrivalMark) (m : ArrivalMark) → arrived < length marks → m ≢ Pending →
     Settled arrived marks → Settled (arrived + 1) (slice_set marks arrived m)
@@ -190,7 +200,7 @@ no_other-rest front others marks m new h k n = go front.origin (λ o. h k (o, n)
                 let none : mark_at marks j ≡ Pending = grind (arith, common_steps) in
                 rw (still, none) (λ e. cc)
         at false e = let apart : k ≢ j = grind arith in rw (get_or-set_other marks j k m Pending apart) (h (λ same. apart (sym same)))
-    go Looped h = h tt
+    go _ h = h tt
 
 -- a character is put last, and its mark says so
 pub no_other-next : (queue : List Character) (new : Character) (marks : List ArrivalMark) (m : ArrivalMark) → NoOther queue marks →
@@ -199,4 +209,4 @@ no_other-next queue new marks m h k n = go new.origin (none_is-back k queue (new
   where
     go : (o : Origin) → OtherOrigin k o → mark_at (set_mark o m marks) k ≢ Waiting
     go (Arrived j) apart = rw (get_or-set_other marks j k m Pending (λ e. apart (sym e))) (h k (none_is-front k queue (new ∷ []) n))
-    go Looped apart = h k (none_is-front k queue (new ∷ []) n)
+    go _ apart = h k (none_is-front k queue (new ∷ []) n)

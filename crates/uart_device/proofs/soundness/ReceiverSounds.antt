@@ -6,17 +6,18 @@ use Rattle.std.proofs.lemmas.Grind.{common_steps}
 use Rattle.uart_chip.specs.declared.event.ArrivalMark.{ArrivalMark}
 use Rattle.uart_chip.specs.declared.event.ArrivalMark.TheVariants.{Pending, Waiting, Read, Discarded, Dropped}
 use Rattle.uart_chip.specs.declared.receiver.Character.{Character}
-use Rattle.uart_chip.specs.declared.receiver.Origin.TheVariants.{Arrived, Looped}
+use Rattle.uart_chip.specs.declared.receiver.Origin.{Origin}
+use Rattle.uart_chip.specs.declared.receiver.Origin.TheVariants.{Arrived, Looped, Live}
 use Rattle.uart_spec.specs.declared.registers.fifo_trigger_level.FifoTriggerLevel.{FifoTriggerLevel}
 use Rattle.uart_spec.specs.declared.registers.line_status.TheConstants.LSR
 use Rattle.uart_chip.specs.Masks.{IsWithin}
 use Rattle.uart_chip.specs.Transmitter.{room}
 use Rattle.uart_chip.specs.Receiver.{ReceiverState, set_mark, replace, come_back, grow_timeout, tick, arrive, take_front, report, discard}
-use Rattle.uart_chip.specs.Receiver.{clear}
+use Rattle.uart_chip.specs.Receiver.{clear, come_in, bring, is_stray}
 use Rattle.uart_device.specs.Sound.{IsInQueue, AllInQueue, NoneIs, Distinct, AllErrorsLegal, IsSoundReceiver}
 use Rattle.uart_device.proofs.Lists.{each-append}
 use Rattle.uart_device.proofs.soundness.Marks.{length-set_mark, none_to_come, all_in_queue-set, all_in_queue-set_mark, all_in_queue-next}
-use Rattle.uart_device.proofs.soundness.Marks.{all_in_queue-found, all_in_queue-append, distinct-next, distinct-looped, ToCome, Settled}
+use Rattle.uart_device.proofs.soundness.Marks.{all_in_queue-found, all_in_queue-append, distinct-next, distinct-stray, ToCome, Settled}
 use Rattle.uart_device.proofs.soundness.Marks.{NoOther}
 use Rattle.uart_device.proofs.soundness.Marks.{to_come-next, to_come-set, settled-next, settled-set, no_other-set, no_other-rest}
 use Rattle.uart_device.proofs.soundness.Marks.{no_other-next}
@@ -32,6 +33,47 @@ pub safe_if : (fifo : Bool) (arrived : ℕ) (r x y : ReceiverState) (b : Bool) �
     (b ≡ false → Safe fifo arrived r y) → Safe fifo arrived r (if b then x else y)
 safe_if fifo arrived r x y true p q = p refl
 safe_if fifo arrived r x y false p q = q refl
+
+-- ---- what soundness does not speak of
+
+-- flags, ticks and the trigger, as long as the ticks are within their limit
+sound_beside : (fifo : Bool) (r : ReceiverState) (overrun reported : Bool) (ticks : ℕ) (level : FifoTriggerLevel) →
+    IsSoundReceiver fifo r → ticks ≤ r.timeout_limit →
+    IsSoundReceiver fifo (record r { is_overrun = overrun; is_front_reported = reported; timeout_ticks = ticks; trigger = level })
+sound_beside fifo r overrun reported ticks level w i =
+    let m = w.marked in
+    record {
+      marked = record { wait = m.wait; distinct = m.distinct; to_come = m.to_come; in_room = m.in_room; counted = m.counted };
+      settled = w.settled;
+      no_other = w.no_other;
+      legal = w.legal;
+      idle = i;
+    }
+
+-- a looped character came, so none is lost since
+sound_found : (fifo : Bool) (r : ReceiverState) → IsSoundReceiver fifo r → IsSoundReceiver fifo (record r { is_stray_lost = false })
+sound_found fifo r w =
+    let m = w.marked in
+    let found : AllInQueue r.arrived r.marks false r.queue = all_in_queue-found r.arrived r.marks r.is_stray_lost r.queue m.wait in
+    record {
+      marked = record { wait = found; distinct = m.distinct; to_come = m.to_come; in_room = m.in_room; counted = m.counted };
+      settled = w.settled;
+      no_other = w.no_other;
+      legal = w.legal;
+      idle = w.idle;
+    }
+
+-- one that waits alone, as it does without FIFO
+record WaitsAlone (fifo : Bool) (r : ReceiverState) (old : Character) : Type 0 where
+  pub waits : IsInQueue r.arrived r.marks r.is_stray_lost old.origin
+  pub others : NoOther (old ∷ []) r.marks
+  pub one : 1 ≤ room fifo
+
+waits_alone : (fifo : Bool) (r : ReceiverState) (old : Character) → IsSoundReceiver fifo r → r.queue ≡ old ∷ [] → WaitsAlone fifo r old
+waits_alone fifo r old w e =
+    let waits : AllInQueue r.arrived r.marks r.is_stray_lost (old ∷ []) = rw e at w.marked.wait in
+    let one : length (old ∷ []) ≤ room fifo = rw e at w.marked.in_room in
+    record { waits = waits.0; others = rw e at w.no_other; one = one }
 
 -- ---- one more character
 
@@ -133,9 +175,7 @@ safe_arrival_replaced fifo r byte errors old stray w k l e =
     let marks : List ArrivalMark = set_mark old.origin Dropped r.marks in
     let same : length marks ≡ length r.marks = length-set_mark old.origin Dropped r.marks in
     let within : r.arrived < length marks = omega arith in
-    let waits : AllInQueue r.arrived r.marks r.is_stray_lost (old ∷ []) = rw e at w.marked.wait in
-    let others : NoOther (old ∷ []) r.marks = rw e at w.no_other in
-    let one : length (old ∷ []) ≤ room fifo = rw e at w.marked.in_room in
+    let alone : WaitsAlone fifo r old = waits_alone fifo r old w e in
     record {
       sound = record {
         marked = record {
@@ -143,13 +183,13 @@ safe_arrival_replaced fifo r byte errors old stray w k l e =
           distinct = (tt, tt);
           to_come =
               to_come-next r.arrived marks Waiting
-              (to_come-set r.arrived r.marks r.marks r.is_stray_lost old.origin Dropped waits.0 w.marked.to_come);
-          in_room = one;
+              (to_come-set r.arrived r.marks r.marks r.is_stray_lost old.origin Dropped alone.waits w.marked.to_come);
+          in_room = alone.one;
           counted = counted-next r.arrived r.arrived Waiting marks within;
         };
         settled =
             settled-next r.arrived marks Waiting within (λ e. cc) (settled-set r.arrived r.marks old.origin Dropped (λ e. cc) w.settled);
-        no_other = no_other-next [] new marks Waiting (no_other-rest old [] r.marks Dropped (λ e. cc) others);
+        no_other = no_other-next [] new marks Waiting (no_other-rest old [] r.marks Dropped (λ e. cc) alone.others);
         legal = (l, tt);
         idle = zero-le;
       };
@@ -187,31 +227,32 @@ safe_arrive false fifo r byte errors w k l =
         rw f (safe_arrival_replaced fifo r byte errors old _ w k l e)
     swap (old ∷ other ∷ others) e full one = let h : length (old ∷ other ∷ others) ≤ 1 = rw e at one in absurd (omega arith)
 
--- ---- a looped character
+-- ---- a stray character: one that came back in loopback, or came in without a schedule
 
-safe_looped_room : (fifo : Bool) (r : ReceiverState) (byte : ℕ) (reported : Bool) → IsSoundReceiver fifo r →
-    nat_lt (length r.queue) (room fifo) ≡ true →
+safe_stray_room : (fifo : Bool) (r : ReceiverState) (byte errors : ℕ) (o : Origin) (reported : Bool) → is_stray o ≡ true →
+    IsSoundReceiver fifo r → IsWithin errors LSR.CHARACTER_ERRORS.0 → nat_lt (length r.queue) (room fifo) ≡ true →
     Safe fifo r.arrived r (record r {
-      queue = r.queue ++ record { byte = byte; errors = 0; origin = Looped } ∷ [];
+      queue = r.queue ++ record { byte = byte; errors = errors; origin = o } ∷ [];
       is_front_reported = reported;
       timeout_ticks = 0;
       is_stray_lost = false;
     })
-safe_looped_room fifo r byte reported w e =
-    let new : Character = record { byte = byte; errors = 0; origin = Looped } in
+safe_stray_room fifo r byte errors (Arrived k) reported s w l e = absurd (cc)
+safe_stray_room fifo r byte errors o reported s w l e =
+    let new : Character = record { byte = byte; errors = errors; origin = o } in
     let found : AllInQueue r.arrived r.marks false r.queue = all_in_queue-found r.arrived r.marks r.is_stray_lost r.queue w.marked.wait in
     record {
       sound = record {
         marked = record {
           wait = all_in_queue-append r.arrived r.marks false r.queue (new ∷ []) found (refl, tt);
-          distinct = distinct-looped r.queue new refl w.marked.distinct;
+          distinct = distinct-stray r.queue new refl w.marked.distinct;
           to_come = w.marked.to_come;
           in_room = length-next r.queue new (room fifo) e;
           counted = w.marked.counted;
         };
         settled = w.settled;
         no_other = no_other-next r.queue new r.marks Waiting w.no_other;
-        legal = legal-next r.queue new refl w.legal;
+        legal = legal-next r.queue new l w.legal;
         idle = zero-le;
       };
       number = refl;
@@ -219,55 +260,39 @@ safe_looped_room fifo r byte reported w e =
       limit = refl;
     }
 
-safe_looped_lost : (fifo : Bool) (r : ReceiverState) → IsSoundReceiver fifo r →
+safe_stray_lost : (fifo : Bool) (r : ReceiverState) → IsSoundReceiver fifo r →
     Safe fifo r.arrived r (record r { is_overrun = true; timeout_ticks = 0; is_stray_lost = false })
-safe_looped_lost fifo r w = record {
-  sound = record {
-    marked = record {
-      wait = all_in_queue-found r.arrived r.marks r.is_stray_lost r.queue w.marked.wait;
-      distinct = w.marked.distinct;
-      to_come = w.marked.to_come;
-      in_room = w.marked.in_room;
-      counted = w.marked.counted;
-    };
-    settled = w.settled;
-    no_other = w.no_other;
-    legal = w.legal;
-    idle = zero-le;
-  };
-  number = refl;
-  known = refl;
-  limit = refl;
-}
+safe_stray_lost fifo r w =
+    record { sound = sound_beside fifo _ _ _ _ _ (sound_found fifo r w) zero-le; number = refl; known = refl; limit = refl }
 
-safe_looped_replaced : (fifo : Bool) (r : ReceiverState) (byte : ℕ) (old : Character) → IsSoundReceiver fifo r → r.queue ≡ old ∷ [] →
+safe_stray_replaced : (fifo : Bool) (r : ReceiverState) (byte errors : ℕ) (o : Origin) (old : Character) → is_stray o ≡ true →
+    IsSoundReceiver fifo r → IsWithin errors LSR.CHARACTER_ERRORS.0 → r.queue ≡ old ∷ [] →
     Safe fifo r.arrived r (record r {
-      queue = record { byte = byte; errors = 0; origin = Looped } ∷ [];
+      queue = record { byte = byte; errors = errors; origin = o } ∷ [];
       is_overrun = true;
       is_front_reported = false;
       timeout_ticks = 0;
       marks = set_mark old.origin Dropped r.marks;
       is_stray_lost = false;
     })
-safe_looped_replaced fifo r byte old w e =
-    let new : Character = record { byte = byte; errors = 0; origin = Looped } in
+safe_stray_replaced fifo r byte errors (Arrived k) old s w l e = absurd (cc)
+safe_stray_replaced fifo r byte errors o old s w l e =
+    let new : Character = record { byte = byte; errors = errors; origin = o } in
     let marks : List ArrivalMark = set_mark old.origin Dropped r.marks in
     let same : length marks ≡ length r.marks = length-set_mark old.origin Dropped r.marks in
-    let waits : AllInQueue r.arrived r.marks r.is_stray_lost (old ∷ []) = rw e at w.marked.wait in
-    let others : NoOther (old ∷ []) r.marks = rw e at w.no_other in
-    let one : length (old ∷ []) ≤ room fifo = rw e at w.marked.in_room in
+    let alone : WaitsAlone fifo r old = waits_alone fifo r old w e in
     record {
       sound = record {
         marked = record {
           wait = (refl, tt);
           distinct = (tt, tt);
-          to_come = to_come-set r.arrived r.marks r.marks r.is_stray_lost old.origin Dropped waits.0 w.marked.to_come;
-          in_room = one;
+          to_come = to_come-set r.arrived r.marks r.marks r.is_stray_lost old.origin Dropped alone.waits w.marked.to_come;
+          in_room = alone.one;
           counted = omega (arith, same, w.marked.counted);
         };
         settled = settled-set r.arrived r.marks old.origin Dropped (λ e. cc) w.settled;
-        no_other = no_other-next [] new marks Waiting (no_other-rest old [] r.marks Dropped (λ e. cc) others);
-        legal = (refl, tt);
+        no_other = no_other-next [] new marks Waiting (no_other-rest old [] r.marks Dropped (λ e. cc) alone.others);
+        legal = (l, tt);
         idle = zero-le;
       };
       number = refl;
@@ -275,22 +300,33 @@ safe_looped_replaced fifo r byte old w e =
       limit = refl;
     }
 
-pub safe_come_back : (fifo : Bool) (place : Option ℕ) (r : ReceiverState) → IsSoundReceiver fifo r →
-    Safe fifo r.arrived r (come_back fifo place r)
-safe_come_back fifo None r w = record { sound = w; number = refl; known = refl; limit = refl }
-safe_come_back fifo (Some byte) r w =
-    safe_if fifo r.arrived r _ _ (nat_lt (length r.queue) (room fifo)) (safe_looped_room fifo r byte _ w)
-    (λ full. safe_if fifo r.arrived r _ _ fifo (λ e. safe_looped_lost fifo r w)
+pub safe_stray : (fifo : Bool) (r : ReceiverState) (byte errors : ℕ) (o : Origin) → is_stray o ≡ true → IsSoundReceiver fifo r →
+    IsWithin errors LSR.CHARACTER_ERRORS.0 →
+    Safe fifo r.arrived r (come_in fifo (record { byte = byte; errors = errors; origin = o }) r)
+safe_stray fifo r byte errors (Arrived k) s w l = absurd (cc)
+safe_stray fifo r byte errors o s w l =
+    safe_if fifo r.arrived r _ _ (nat_lt (length r.queue) (room fifo)) (safe_stray_room fifo r byte errors o _ refl w l)
+    (λ full. safe_if fifo r.arrived r _ _ fifo (λ e. safe_stray_lost fifo r w)
     (λ off. swap r.queue refl full (one_waits fifo r.queue off w.marked.in_room)))
   where
     swap : (queue : List Character) → r.queue ≡ queue → nat_lt (length r.queue) (room fifo) ≡ false → length r.queue ≤ 1 →
-        Safe fifo r.arrived r (replace r.queue (record { byte = byte; errors = 0; origin = Looped }) r)
+        Safe fifo r.arrived r (replace r.queue (record { byte = byte; errors = errors; origin = o }) r)
     swap [] e full one = let h : nat_lt 0 (room fifo) ≡ false = rw e at full in absurd (none_full fifo h)
     swap (old ∷ []) e full one =
-        let new : Character = record { byte = byte; errors = 0; origin = Looped } in
+        let new : Character = record { byte = byte; errors = errors; origin = o } in
         let f : replace r.queue new r ≡ replace (old ∷ []) new r = ap (λ (xs : List Character). replace xs new r) e in
-        rw f (safe_looped_replaced fifo r byte old w e)
+        rw f (safe_stray_replaced fifo r byte errors o old refl w l e)
     swap (old ∷ other ∷ others) e full one = let h : length (old ∷ other ∷ others) ≤ 1 = rw e at one in absurd (omega arith)
+
+pub safe_come_back : (fifo : Bool) (place : Option ℕ) (r : ReceiverState) → IsSoundReceiver fifo r →
+    Safe fifo r.arrived r (come_back fifo place r)
+safe_come_back fifo None r w = record { sound = w; number = refl; known = refl; limit = refl }
+safe_come_back fifo (Some byte) r w = safe_stray fifo r byte 0 Looped refl w refl
+
+pub safe_bring : (loopback fifo : Bool) (r : ReceiverState) (byte errors : ℕ) → IsSoundReceiver fifo r →
+    IsWithin errors LSR.CHARACTER_ERRORS.0 → Safe fifo r.arrived r (bring loopback fifo byte errors r)
+safe_bring true fifo r byte errors w l = record { sound = w; number = refl; known = refl; limit = refl }
+safe_bring false fifo r byte errors w l = safe_stray fifo r byte errors Live refl w l
 
 -- ---- a tick
 
@@ -299,19 +335,7 @@ safe_tick fifo place r w = idle (come_back fifo place r) (safe_come_back fifo pl
   where
     idle : (s : ReceiverState) → Safe fifo r.arrived r s → Safe fifo r.arrived r (grow_timeout s)
     idle s a = record {
-      sound = record {
-        marked = record {
-          wait = a.sound.marked.wait;
-          distinct = a.sound.marked.distinct;
-          to_come = a.sound.marked.to_come;
-          in_room = a.sound.marked.in_room;
-          counted = a.sound.marked.counted;
-        };
-        settled = a.sound.settled;
-        no_other = a.sound.no_other;
-        legal = a.sound.legal;
-        idle = omega arith;
-      };
+      sound = sound_beside fifo s _ _ _ _ a.sound (omega arith);
       number = a.number;
       known = a.known;
       limit = a.limit;
@@ -402,32 +426,8 @@ safe_clear fifo on r w =
 -- ---- flags alone
 
 pub sound_report : (fifo : Bool) (r : ReceiverState) → IsSoundReceiver fifo r → IsSoundReceiver fifo (report r)
-sound_report fifo r w = record {
-  marked = record {
-    wait = w.marked.wait;
-    distinct = w.marked.distinct;
-    to_come = w.marked.to_come;
-    in_room = w.marked.in_room;
-    counted = w.marked.counted;
-  };
-  settled = w.settled;
-  no_other = w.no_other;
-  legal = w.legal;
-  idle = w.idle;
-}
+sound_report fifo r w = sound_beside fifo r _ _ _ _ w w.idle
 
 pub sound_trigger : (fifo : Bool) (r : ReceiverState) (level : FifoTriggerLevel) → IsSoundReceiver fifo r →
     IsSoundReceiver fifo (record r { trigger = level })
-sound_trigger fifo r level w = record {
-  marked = record {
-    wait = w.marked.wait;
-    distinct = w.marked.distinct;
-    to_come = w.marked.to_come;
-    in_room = w.marked.in_room;
-    counted = w.marked.counted;
-  };
-  settled = w.settled;
-  no_other = w.no_other;
-  legal = w.legal;
-  idle = w.idle;
-}
+sound_trigger fifo r level w = sound_beside fifo r _ _ _ _ w w.idle

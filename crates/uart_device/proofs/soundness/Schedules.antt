@@ -1,5 +1,6 @@
 -- The next event of a schedule is performed.
-use Rattle.std.proofs.Common.{◌≡◌, ◌≢◌, ℕ, suc, ◌+◌, ◌<◌, List, ◌∷◌, length, drop, slice_index_or, refl, sym, ◌∙◌, ap, add-one, drop-cons}
+use Rattle.std.proofs.Common.{◌≡◌, ◌≢◌, ℕ, suc, ◌+◌, ◌<◌, ◌≤◌, List, ◌∷◌, length, drop, slice_index_or, refl, sym, ◌∙◌, ap, add-one}
+use Rattle.std.proofs.Common.{drop-cons, arith}
 use Rattle.uart_chip.specs.declared.event.Event.{Event}
 use Rattle.uart_chip.specs.declared.event.Event.TheVariants.{Access as Gate, Mark}
 use Rattle.uart_chip.specs.Chip.{ChipState}
@@ -7,13 +8,13 @@ use Rattle.uart_chip.specs.Machine.{MachineState, perform, at_access, at_mark}
 use Rattle.uart_device.specs.Sound.{IsWhole}
 use Rattle.uart_device.proofs.soundness.Sounds.{whole_perform}
 
-access_performs : (event : Event) (events : List Event) (c : ChipState) → event ≢ Gate → event ≢ Mark →
+pub access_performs : (event : Event) (events : List Event) (c : ChipState) → event ≢ Gate → event ≢ Mark →
     at_access (record { chip = perform event c; ahead = events }) ≡ at_access (record { chip = c; ahead = event ∷ events })
 access_performs Gate events c g m = absurd (g refl)
 access_performs Mark events c g m = absurd (m refl)
 access_performs _ events c g m = refl
 
-mark_performs : (event : Event) (events : List Event) (c : ChipState) → event ≢ Mark →
+pub mark_performs : (event : Event) (events : List Event) (c : ChipState) → event ≢ Mark →
     at_mark (record { chip = perform event c; ahead = events }) ≡ at_mark (record { chip = c; ahead = event ∷ events })
 mark_performs Mark events c m = absurd (m refl)
 mark_performs _ events c m = refl
@@ -22,22 +23,21 @@ next_event : (events : List Event) (k : ℕ) (event : Event) → k < length even
     drop k events ≡ event ∷ drop (k + 1) events
 next_event events k event h e = rw (add-one, drop-cons events k event) (ap (λ (x : Event). x ∷ drop (suc k) events) (sym e))
 
--- the event at the cursor is performed
-pub next_whole : (events : List Event) (k : ℕ) (event : Event) (c d : ChipState) → k < length events →
-    event ≡ slice_index_or events k event → d ≡ perform event c →
-    IsWhole (record { chip = c; ahead = drop k events }) → IsWhole (record { chip = d; ahead = drop (k + 1) events })
-next_whole events k event c d h e p w = rw p (whole_perform event (drop (k + 1) events) c (rw (next_event events k event h e) at w))
+-- a loop over a schedule: what it is to reach from where it stands is what it was to reach from the start
+pub record IsOnTheWay (reach : MachineState → MachineState) (start : MachineState) (c : ChipState) (cursor : ℕ)
+    (events : List Event) : Type 0 where
+  pub in_schedule : cursor ≤ length events
+  pub whole : IsWhole (record { chip = c; ahead = drop cursor events })
+  pub same : reach (record { chip = c; ahead = drop cursor events }) ≡ reach start
 
--- it is none that an access stops at
-pub next_access : (events : List Event) (k : ℕ) (event : Event) (c d : ChipState) (s : MachineState) → k < length events →
-    event ≡ slice_index_or events k event → d ≡ perform event c →
-    event ≢ Gate → event ≢ Mark → at_access (record { chip = c; ahead = drop k events }) ≡ s →
-    at_access (record { chip = d; ahead = drop (k + 1) events }) ≡ s
-next_access events k event c d s h e p g m a =
-    rw p (access_performs event (drop (k + 1) events) c g m ∙ rw (next_event events k event h e) at a)
-
--- it is no Mark
-pub next_mark : (events : List Event) (k : ℕ) (event : Event) (c d : ChipState) (s : MachineState) → k < length events →
-    event ≡ slice_index_or events k event → d ≡ perform event c →
-    event ≢ Mark → at_mark (record { chip = c; ahead = drop k events }) ≡ s → at_mark (record { chip = d; ahead = drop (k + 1) events }) ≡ s
-next_mark events k event c d s h e p m a = rw p (mark_performs event (drop (k + 1) events) c m ∙ rw (next_event events k event h e) at a)
+-- an event that does not stop it is performed
+pub goes_on : (reach : MachineState → MachineState) (start : MachineState) (events : List Event) (k : ℕ) (event : Event) (c d : ChipState) →
+    k < length events → event ≡ slice_index_or events k event → d ≡ perform event c →
+    reach (record { chip = perform event c; ahead = drop (k + 1) events })
+    ≡ reach (record { chip = c; ahead = event ∷ drop (k + 1) events }) →
+    IsOnTheWay reach start c k events → IsOnTheWay reach start d (k + 1) events
+goes_on reach start events k event c d h e p performs way = rw p (record {
+  in_schedule = omega (arith, h);
+  whole = whole_perform event (drop (k + 1) events) c (rw (next_event events k event h e) at way.whole);
+  same = performs ∙ rw (next_event events k event h e) at way.same;
+})

@@ -19,25 +19,21 @@ front_errors-bit k z (front ∷ others) false = has_not k front.errors LSR.CHARA
 
 -- flags put together as the line status is
 module _ (a b d f g : Bool) (e : ℕ) where
-  whole : ℕ
+  abbrev whole : ℕ
   whole =
       bit_or (bit_or (bit_or (flag a LSR.DATA_READY.0) (flag b LSR.OVERRUN_ERROR.0)) (bit_or e (flag d LSR.THR_EMPTY.0)))
       (bit_or (flag f LSR.TRANSMITTER_EMPTY.0) (flag g LSR.FIFO_DATA_ERROR.0))
 
   line_data : has_any e LSR.DATA_READY.0 ≡ false → has_any whole LSR.DATA_READY.0 ≡ a
-  unfolding whole
   line_data z = simp (has_or 0, has_flag, z) (grind (arith, common_steps))
 
   line_overrun : has_any e LSR.OVERRUN_ERROR.0 ≡ false → has_any whole LSR.OVERRUN_ERROR.0 ≡ b
-  unfolding whole
   line_overrun z = simp (has_or 1, has_flag, z) (grind (arith, common_steps))
 
   line_room : has_any e LSR.THR_EMPTY.0 ≡ false → has_any whole LSR.THR_EMPTY.0 ≡ d
-  unfolding whole
   line_room z = simp (has_or 5, has_flag, z) (grind (arith, common_steps))
 
   line_empty : has_any e LSR.TRANSMITTER_EMPTY.0 ≡ false → has_any whole LSR.TRANSMITTER_EMPTY.0 ≡ f
-  unfolding whole
   line_empty z = simp (has_or 6, has_flag, z) (grind (arith, common_steps))
 
 module _ (c : ChipState) where
@@ -55,28 +51,28 @@ module _ (c : ChipState) where
 
   -- a character waits
   pub status_data : has_any (line_status c) LSR.DATA_READY.0 ≡ nat_lt 0 (length c.receiver.queue)
-  unfolding whole data_ready thr_empty all_empty fifo_error
+  unfolding data_ready thr_empty all_empty fifo_error
   status_data =
       line_data data_ready c.receiver.is_overrun thr_empty all_empty fifo_error _
       (front_errors-bit 0 refl c.receiver.queue c.receiver.is_front_reported)
 
   -- the overrun flag is pending
   pub status_overrun : has_any (line_status c) LSR.OVERRUN_ERROR.0 ≡ c.receiver.is_overrun
-  unfolding whole data_ready thr_empty all_empty fifo_error
+  unfolding data_ready thr_empty all_empty fifo_error
   status_overrun =
       line_overrun data_ready c.receiver.is_overrun thr_empty all_empty fifo_error _
       (front_errors-bit 1 refl c.receiver.queue c.receiver.is_front_reported)
 
   -- the transmitter's queue is empty
   pub status_room : has_any (line_status c) LSR.THR_EMPTY.0 ≡ (length c.transmitter.queue == 0)
-  unfolding whole data_ready thr_empty all_empty fifo_error
+  unfolding data_ready thr_empty all_empty fifo_error
   status_room =
       line_room data_ready c.receiver.is_overrun thr_empty all_empty fifo_error _
       (front_errors-bit 5 refl c.receiver.queue c.receiver.is_front_reported)
 
   -- nothing is left to send
   pub status_empty : has_any (line_status c) LSR.TRANSMITTER_EMPTY.0 ≡ is_transmitter_empty c.transmitter.queue c.transmitter.shift_place
-  unfolding whole data_ready thr_empty all_empty fifo_error
+  unfolding data_ready thr_empty all_empty fifo_error
   status_empty =
       line_empty data_ready c.receiver.is_overrun thr_empty all_empty fifo_error _
       (front_errors-bit 6 refl c.receiver.queue c.receiver.is_front_reported)

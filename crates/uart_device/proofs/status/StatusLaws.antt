@@ -129,14 +129,14 @@ pub record LsrTells (x : Modes) (m o : MachineState) (made : List Access) (ws : 
   pub front_told : (f : Character) (others : List Character) → o.chip.receiver.queue ≡ f ∷ others →
       IsTold x.fifo (reported_front m.chip.receiver) result f
 
-told-by : (fifo : Bool) (old : Option Character) (a b : ℕ) → ((e : ℕ) → IsWithin e a → IsWithin e b) →
+pub told-by : (fifo : Bool) (old : Option Character) (a b : ℕ) → ((e : ℕ) → IsWithin e a → IsWithin e b) →
     (has_any a LSR.OVERRUN_ERROR.0 ≡ true → has_any b LSR.OVERRUN_ERROR.0 ≡ true) → (f : Character) →
     IsTold fifo old a f → IsTold fifo old b f
 told-by fifo old a b h k f (inl e) = inl e
 told-by fifo old a b h k f (inr (inl e)) = inr (inl (h f.errors e))
 told-by fifo old a b h k f (inr (inr e)) = inr (inr (e.0, k e.1))
 
-all_told-by : (fifo : Bool) (old : Option Character) (a b : ℕ) → ((e : ℕ) → IsWithin e a → IsWithin e b) →
+pub all_told-by : (fifo : Bool) (old : Option Character) (a b : ℕ) → ((e : ℕ) → IsWithin e a → IsWithin e b) →
     (has_any a LSR.OVERRUN_ERROR.0 ≡ true → has_any b LSR.OVERRUN_ERROR.0 ≡ true) → (fs : List Character) →
     AllTold fifo old a fs → AllTold fifo old b fs
 all_told-by fifo old a b h k fs t = each-weaker (IsTold fifo old a) (IsTold fifo old b) (told-by fifo old a b h k) fs t

@@ -17,17 +17,23 @@ struct Counter {
     accesses: usize,
 }
 
+impl Counter {
+    fn count(&mut self) {
+        self.accesses = self.accesses.wrapping_add(1);
+    }
+}
+
 impl Backend for Counter {
     // Nothing is promised of what an access returns.
     ghost step = { λ _ _ _. ⊤ };
 
     fn read(&mut self, register_offset: u8) -> u8 {
-        self.accesses = self.accesses.wrapping_add(1);
+        self.count();
         self.machine.read(register_offset)
     }
 
     fn write(&mut self, register_offset: u8, value: u8) {
-        self.accesses = self.accesses.wrapping_add(1);
+        self.count();
         self.machine.write(register_offset, value);
     }
 }

@@ -1,5 +1,5 @@
 //! The driver over a chip that raw accesses left in some state.
-use super::{DATA, LCR, MCR, WITHOUT_FIFO, new_driver};
+use super::{DATA, LCR, MCR, WITHOUT_FIFO, initialised, new_driver};
 use crate::Chip;
 use bitflags::Flags;
 use std::test::Fail;
@@ -41,11 +41,7 @@ fn init_clears_the_divisor_latch_access(rt: HostRuntime) -> Result<(), Fail> {
 
 #[test]
 fn init_leaves_what_is_configured(rt: HostRuntime) -> Result<(), Fail> {
-    let mut uart = new_driver(&rt, Chip::Uart16550A, 4)?;
-    uart.init(Config {
-        fifo_trigger_level: Some(FifoTriggerLevel::Eight),
-        ..Config::DEFAULT
-    })?;
+    let mut uart = initialised(&rt, Chip::Uart16550A, Some(FifoTriggerLevel::Eight))?;
     assert_eq!(rt; uart.fifo_enabled(), true);
     assert_eq!(rt; uart.backend().fifo_enabled(), true);
     assert_eq!(rt; uart.mcr().bits(), 0x0b);
@@ -56,8 +52,7 @@ fn init_leaves_what_is_configured(rt: HostRuntime) -> Result<(), Fail> {
 
 #[test]
 fn a_chip_without_fifo_takes_one_byte(rt: HostRuntime) -> Result<(), Fail> {
-    let mut uart = new_driver(&rt, Chip::Uart16450, 4)?;
-    uart.init(Config::DEFAULT)?;
+    let mut uart = initialised(&rt, Chip::Uart16450, Some(FifoTriggerLevel::Fourteen))?;
     assert_eq!(rt; uart.fifo_enabled(), false);
     assert_eq!(rt; uart.send_bytes(&[0x48, 0x65, 0x6c]), 1);
     Ok(())

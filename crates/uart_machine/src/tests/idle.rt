@@ -26,48 +26,31 @@ const UNGATED: (Event, u16) = (Event::Access, 5);
 
 const TICKING: (Event, u16) = (Event::Lines(0), 1000);
 
-// A character of 5 ticks enters the free shift place in the first and leaves it in the sixth.
 #[test]
-fn each_move_is_a_turn_and_so_is_what_is_left(rt: HostRuntime) -> Result<(), Fail> {
-    for (given, want) in [
-        ((0, 64, 0), (0, 0, 0)),
-        ((0, 64, 1), (1, 0, 0)),
-        ((0, 64, 65_535), (1, 0, 0)),
-        ((1, 64, 0), (0, 0, 1)),
-        ((1, 64, 1), (1, 0, 1)),
-        ((1, 64, 5), (2, 0, 1)),
-        ((1, 64, 6), (2, 1, 0)),
-        ((1, 64, 7), (3, 1, 0)),
-        ((1, 64, 65_535), (3, 1, 0)),
-        ((16, 64, 80), (17, 15, 1)),
-        ((16, 64, 81), (17, 16, 0)),
-        ((16, 64, 82), (18, 16, 0)),
-    ] {
-        assert_eq!(rt; idled(&rt, UNGATED, given, 0x00)?, want, "{given:?}");
-    }
-    Ok(())
-}
-
-// The first of 17 characters has 985 of its 1,000 ticks left once the last is written.
-#[test]
-fn seventeen_characters_take_at_most_18_turns(rt: HostRuntime) -> Result<(), Fail> {
-    for (given, want) in [
-        ((17, 64, 0), (0, 0, 17)),
-        ((17, 64, 984), (1, 0, 17)),
-        ((17, 64, 985), (1, 1, 16)),
-        ((17, 64, 16_984), (17, 16, 1)),
-        ((17, 64, 16_985), (17, 17, 0)),
-        ((17, 64, 65_535), (18, 17, 0)),
-    ] {
-        assert_eq!(rt; idled(&rt, TICKING, given, 0x00)?, want, "{given:?}");
-    }
-    Ok(())
-}
-
-// The character in the shift place waits there, and those behind it. In loopback no wire is needed.
-#[test]
-fn a_full_wire_takes_no_turns(rt: HostRuntime) -> Result<(), Fail> {
+fn turns_pass_the_ticks(rt: HostRuntime) -> Result<(), Fail> {
     for (gate, given, mcr, want) in [
+        // Each move is a turn, and so is what is left. A character of 5 ticks enters the free shift place in the first and leaves it
+        // in the sixth.
+        (UNGATED, (0, 64, 0), 0x00, (0, 0, 0)),
+        (UNGATED, (0, 64, 1), 0x00, (1, 0, 0)),
+        (UNGATED, (0, 64, 65_535), 0x00, (1, 0, 0)),
+        (UNGATED, (1, 64, 0), 0x00, (0, 0, 1)),
+        (UNGATED, (1, 64, 1), 0x00, (1, 0, 1)),
+        (UNGATED, (1, 64, 5), 0x00, (2, 0, 1)),
+        (UNGATED, (1, 64, 6), 0x00, (2, 1, 0)),
+        (UNGATED, (1, 64, 7), 0x00, (3, 1, 0)),
+        (UNGATED, (1, 64, 65_535), 0x00, (3, 1, 0)),
+        (UNGATED, (16, 64, 80), 0x00, (17, 15, 1)),
+        (UNGATED, (16, 64, 81), 0x00, (17, 16, 0)),
+        (UNGATED, (16, 64, 82), 0x00, (18, 16, 0)),
+        // Seventeen characters take at most 18 turns. The first has 985 of its 1,000 ticks left once the last is written.
+        (TICKING, (17, 64, 0), 0x00, (0, 0, 17)),
+        (TICKING, (17, 64, 984), 0x00, (1, 0, 17)),
+        (TICKING, (17, 64, 985), 0x00, (1, 1, 16)),
+        (TICKING, (17, 64, 16_984), 0x00, (17, 16, 1)),
+        (TICKING, (17, 64, 16_985), 0x00, (17, 17, 0)),
+        (TICKING, (17, 64, 65_535), 0x00, (18, 17, 0)),
+        // A full wire takes no turns: the character in the shift place waits there, and those behind it. In loopback no wire is needed.
         (TICKING, (17, 0, 65_535), 0x00, (1, 0, 17)),
         (TICKING, (17, 1, 65_535), 0x00, (2, 1, 16)),
         (TICKING, (17, 16, 65_535), 0x00, (17, 16, 1)),

@@ -1,11 +1,12 @@
 //! Chips that others left in some state, and what an `init` makes of them.
-use super::{DATA, FCR, IER, ISR, LCR, MCR, SPR, WITHOUT_FIFO, machine, new_driver};
+use super::{DATA, FCR, IER, ISR, LCR, MCR, SPR, WITHOUT_FIFO, initialised, machine, new_driver};
 use crate::{Chip, Device16550, Event};
 use bitflags::Flags;
 use std::test::Fail;
 use uart_16550::Uart16550;
 use uart_16550::backend::Backend;
 use uart_spec::Config;
+use uart_spec::registers::FifoTriggerLevel;
 
 // What a dump shows of IER, ISR, LCR, MCR, LSR, MSR and SPR.
 fn registers(uart: &mut Uart16550<Device16550>) -> [u8; 7] {
@@ -102,8 +103,7 @@ fn an_init_lets_a_byte_go_out(rt: HostRuntime) -> Result<(), Fail> {
 // The driver takes the FIFO to be on and writes five bytes at once. The chip has room for one, so three are lost.
 #[test]
 fn a_fifo_is_switched_off_behind_the_driver(rt: HostRuntime) -> Result<(), Fail> {
-    let mut uart = new_driver(&rt, Chip::Uart16550A, 4)?;
-    uart.init(Config::DEFAULT)?;
+    let mut uart = initialised(&rt, Chip::Uart16550A, Some(FifoTriggerLevel::Fourteen))?;
     uart.backend_mut().write(FCR, 0x00);
     assert_eq!(rt; fifos(&uart), (true, false));
     assert_eq!(rt; uart.send_bytes(&[1, 2, 3, 4, 5]), 5);
@@ -124,8 +124,7 @@ fn a_fifo_is_switched_off_behind_the_driver(rt: HostRuntime) -> Result<(), Fail>
 
 #[test]
 fn a_fifo_is_switched_on_behind_the_driver(rt: HostRuntime) -> Result<(), Fail> {
-    let mut uart = new_driver(&rt, Chip::Uart16550A, 4)?;
-    uart.init(WITHOUT_FIFO)?;
+    let mut uart = initialised(&rt, Chip::Uart16550A, None)?;
     uart.backend_mut().write(FCR, 0x01);
     assert_eq!(rt; fifos(&uart), (false, true));
     assert_eq!(rt; uart.send_bytes(&[1, 2, 3, 4, 5]), 1);
@@ -144,8 +143,7 @@ fn a_fifo_is_switched_on_behind_the_driver(rt: HostRuntime) -> Result<(), Fail> 
 // The test puts back what it found, so what is sent after it still comes back, until the next `init`.
 #[test]
 fn a_loopback_test_leaves_loopback_on(rt: HostRuntime) -> Result<(), Fail> {
-    let mut uart = new_driver(&rt, Chip::Uart16550A, 4)?;
-    uart.init(Config::DEFAULT)?;
+    let mut uart = initialised(&rt, Chip::Uart16550A, Some(FifoTriggerLevel::Fourteen))?;
     uart.backend_mut().write(MCR, 0x1b);
     uart.test_loopback()?;
     assert_eq!(rt; uart.mcr().bits(), 0x1b);

@@ -1,8 +1,9 @@
 //! Each call over a replay, with lists of accesses that were written down by hand.
-use super::lists::Step::{Read, Received, Sent, Write};
+use super::lists::Call::{Left, Queue, Service};
+use super::lists::Step::{Burst, Changed, Read, Received, Write};
 use super::lists::{
     DATA_READY, DMA_RECEPTION, DMA_TRANSMISSION, EMPTY, FULL, LINE_STATUS, MODEM_STATUS, NONE,
-    THR_EMPTY, TIMEOUT, WAITS, made, rings,
+    THR_EMPTY, TIMEOUT, answers_in, made, play, rings,
 };
 use crate::{MAX_CAPACITY, MAX_INTERRUPTS, RingError, Uart16550Ring};
 use bitflags::Flags;
@@ -15,85 +16,67 @@ use uart_spec::registers::{self, MSR as ModemStatus};
 
 #[test]
 fn bytes_are_queued_and_sent(rt: HostRuntime) -> Result<(), Fail> {
-    let answers = [EMPTY, 0x00, THR_EMPTY, EMPTY, 0x02, NONE];
-    let mut ring = rings(&rt, &answers, 32, 4)?;
-    // The FIFO takes 16 bytes, and the interrupt is enabled for the rest.
-    assert_eq!(rt; ring.queue(b"hello, world! 123456"), 20);
-    assert_eq!(rt; ring.transmit_len(), 4);
-    assert_eq!(rt; ring.service(), 1);
-    assert_eq!(rt; ring.transmit_len(), 0);
+    // The FIFO takes 16 bytes, and the interrupt is enabled for the rest. The second burst lies around the end of the ring.
+    let calls = [
+        Queue(b"hello, world! 123456", 20),
+        Left(4),
+        Service(1),
+        Left(0),
+        Queue(b"and once around it", 18),
+        Left(18),
+        Service(1),
+        Left(2),
+    ];
     let steps = [
-        Read(LSR, EMPTY),
-        Sent(b"hello, world! 12"),
-        Read(IER, 0x00),
-        Write(IER, 0x02),
+        Burst(b"hello, world! 12"),
+        Changed(IER, 0x00, 0x02),
         Read(ISR, THR_EMPTY),
-        Read(LSR, EMPTY),
-        Sent(b"3456"),
-        Read(IER, 0x02),
-        Write(IER, 0x00),
+        Burst(b"3456"),
+        Changed(IER, 0x02, 0x00),
+        Read(ISR, NONE),
+        Read(LSR, FULL),
+        Changed(IER, 0x00, 0x02),
+        Read(ISR, THR_EMPTY),
+        Burst(b"and once around "),
+        Changed(IER, 0x02, 0x02),
         Read(ISR, NONE),
     ];
-    made(&rt, ring.inner().backend(), &steps);
-    Ok(())
+    play(&rt, 32, &calls, &steps)
 }
 
 #[test]
 fn a_queue_without_room(rt: HostRuntime) -> Result<(), Fail> {
-    let answers = [FULL, 0x01, FULL, 0x03];
-    let mut ring = rings(&rt, &answers, 4, 4)?;
-    assert_eq!(rt; ring.queue(b""), 0);
-    assert_eq!(rt; ring.queue(b"abc"), 3);
-    assert_eq!(rt; ring.queue(b"def"), 1);
-    assert_eq!(rt; ring.transmit_len(), 4);
-    // The ring is full: no access is made.
-    assert_eq!(rt; ring.queue(b"ef"), 0);
+    // In the end the ring is full: no access is made.
+    let calls = [
+        Queue(b"", 0),
+        Queue(b"abc", 3),
+        Queue(b"def", 1),
+        Left(4),
+        Queue(b"ef", 0),
+    ];
     let steps = [
         Read(LSR, FULL),
-        Read(IER, 0x01),
-        Write(IER, 0x03),
+        Changed(IER, 0x01, 0x03),
         Read(LSR, FULL),
-        Read(IER, 0x03),
-        Write(IER, 0x03),
+        Changed(IER, 0x03, 0x03),
     ];
-    made(&rt, ring.inner().backend(), &steps);
-    Ok(())
-}
-
-// The ring is left half way around its places, so a burst lies in two pieces.
-#[test]
-fn a_burst_that_wraps(rt: HostRuntime) -> Result<(), Fail> {
-    let answers = [EMPTY, 0x00, FULL, 0x00, THR_EMPTY, EMPTY, 0x02, NONE];
-    let mut ring = rings(&rt, &answers, 4, 4)?;
-    assert_eq!(rt; ring.queue(b"abc"), 3);
-    assert_eq!(rt; ring.queue(b"defg"), 4);
-    assert_eq!(rt; ring.service(), 1);
-    let steps = [
-        Read(LSR, EMPTY),
-        Sent(b"abc"),
-        Read(IER, 0x00),
-        Write(IER, 0x00),
-        Read(LSR, FULL),
-        Read(IER, 0x00),
-        Write(IER, 0x02),
-        Read(ISR, THR_EMPTY),
-        Read(LSR, EMPTY),
-        Sent(b"defg"),
-        Read(IER, 0x02),
-        Write(IER, 0x00),
-        Read(ISR, NONE),
-    ];
-    made(&rt, ring.inner().backend(), &steps);
-    Ok(())
+    play(&rt, 4, &calls, &steps)
 }
 
 #[test]
 fn receiving_is_paused_by_a_full_ring(rt: HostRuntime) -> Result<(), Fail> {
-    let answers = [
-        DATA_READY, WAITS, 0x41, WAITS, 0x42, 0x01, NONE, // two of three bytes fit
-        0x00, // the pause ends
-        TIMEOUT, WAITS, 0x43, EMPTY, NONE, // the third one came
+    let steps = [
+        Read(ISR, DATA_READY),
+        Received(b"AB"), // two of three bytes fit
+        Changed(IER, 0x01, 0x00),
+        Read(ISR, NONE),
+        Changed(IER, 0x00, 0x01), // the pause ends
+        Read(ISR, TIMEOUT),
+        Received(b"C"),
+        Read(LSR, EMPTY),
+        Read(ISR, NONE),
     ];
+    let answers = answers_in(&rt, &steps)?;
     let mut ring = rings(&rt, &answers, 32, 2)?;
     assert_eq!(rt; ring.service(), 1);
     assert_eq!(rt; ring.receive_len(), 2);
@@ -108,19 +91,6 @@ fn receiving_is_paused_by_a_full_ring(rt: HostRuntime) -> Result<(), Fail> {
     assert_eq!(rt; ring.take(&mut slots), 1);
     assert_eq!(rt; slots[0], 0x43);
     assert_eq!(rt; ring.take(&mut slots), 0);
-    let steps = [
-        Read(ISR, DATA_READY),
-        Received(b"AB"),
-        Read(IER, 0x01),
-        Write(IER, 0x00),
-        Read(ISR, NONE),
-        Read(IER, 0x00),
-        Write(IER, 0x01),
-        Read(ISR, TIMEOUT),
-        Received(b"C"),
-        Read(LSR, EMPTY),
-        Read(ISR, NONE),
-    ];
     made(&rt, ring.inner().backend(), &steps);
     Ok(())
 }
@@ -151,11 +121,6 @@ fn line_errors_are_noted(rt: HostRuntime) -> Result<(), Fail> {
 
 #[test]
 fn modem_changes_are_noted(rt: HostRuntime) -> Result<(), Fail> {
-    let answers = [MODEM_STATUS, 0x11, MODEM_STATUS, 0x02, NONE, 0x30, 0x30];
-    let mut ring = rings(&rt, &answers, 32, 4)?;
-    assert_eq!(rt; ring.service(), 2);
-    assert_eq!(rt; ring.take_modem().bits(), 0x33);
-    assert_eq!(rt; ring.take_modem(), ModemStatus::CTS.union(ModemStatus::DSR));
     let steps = [
         Read(ISR, MODEM_STATUS),
         Read(MSR, 0x11),
@@ -165,6 +130,11 @@ fn modem_changes_are_noted(rt: HostRuntime) -> Result<(), Fail> {
         Read(MSR, 0x30),
         Read(MSR, 0x30),
     ];
+    let answers = answers_in(&rt, &steps)?;
+    let mut ring = rings(&rt, &answers, 32, 4)?;
+    assert_eq!(rt; ring.service(), 2);
+    assert_eq!(rt; ring.take_modem().bits(), 0x33);
+    assert_eq!(rt; ring.take_modem(), ModemStatus::CTS.union(ModemStatus::DSR));
     made(&rt, ring.inner().backend(), &steps);
     Ok(())
 }
@@ -179,16 +149,12 @@ fn service_ends(rt: HostRuntime) -> Result<(), Fail> {
     let mut ring = rings(&rt, &[DMA_TRANSMISSION, 0xc8], 32, 4)?;
     assert_eq!(rt; ring.service(), 1);
     // With an empty ring a pump does not look.
-    let mut ring = rings(&rt, &[THR_EMPTY, 0x0f, NONE], 32, 4)?;
-    assert_eq!(rt; ring.service(), 1);
     let steps = [
         Read(ISR, THR_EMPTY),
-        Read(IER, 0x0f),
-        Write(IER, 0x0d),
+        Changed(IER, 0x0f, 0x0d),
         Read(ISR, NONE),
     ];
-    made(&rt, ring.inner().backend(), &steps);
-    Ok(())
+    play(&rt, 32, &[Service(1)], &steps)
 }
 
 #[test]
@@ -223,11 +189,9 @@ fn the_driver_is_reached(rt: HostRuntime) -> Result<(), Fail> {
     assert_eq!(rt; ring.inner().config().interrupts.bits(), 0x07);
     let uart = ring.into_inner();
     let steps = [
-        Read(IER, 0x00),
-        Write(IER, 0x05),
+        Changed(IER, 0x00, 0x05),
         Read(LSR, FULL),
-        Read(IER, 0x05),
-        Write(IER, 0x07),
+        Changed(IER, 0x05, 0x07),
     ];
     made(&rt, uart.backend(), &steps);
     Ok(())

@@ -1,5 +1,5 @@
 //! The interrupt handler of the documentation, over a replay.
-use super::lists::Step::{Read, Received, Sent, Write};
+use super::lists::Step::{Changed, Read, Received, Sent, Write};
 use super::lists::{DATA_READY, EMPTY, LINE_STATUS, MODEM_STATUS, NONE, THR_EMPTY, WAITS, made};
 use crate::{MAX_INTERRUPTS, RingError, Uart16550Ring};
 use bitflags::Flags;
@@ -182,26 +182,22 @@ fn a_port_that_is_served_by_interrupts(rt: HostRuntime) -> Result<(), Fail> {
         Read(offsets::LSR, EMPTY),
         Read(offsets::MCR, 0x0b),
         Read(offsets::MSR, 0x00),
-        Read(offsets::IER, 0x0d),
-        Write(offsets::IER, 0x0f),
+        Changed(offsets::IER, 0x0d, 0x0f),
         // CTS came back: THR_EMPTY off and on.
         Read(offsets::ISR, MODEM_STATUS),
         Read(offsets::MSR, 0x11),
         Read(offsets::ISR, NONE),
         Read(offsets::LSR, EMPTY),
         Read(offsets::MSR, 0x10),
-        Read(offsets::IER, 0x0f),
-        Write(offsets::IER, 0x0d),
-        Read(offsets::IER, 0x0d),
-        Write(offsets::IER, 0x0f),
+        Changed(offsets::IER, 0x0f, 0x0d),
+        Changed(offsets::IER, 0x0d, 0x0f),
         // The bytes are sent, and THR_EMPTY disabled.
         Read(offsets::ISR, THR_EMPTY),
         Read(offsets::LSR, EMPTY),
         Read(offsets::MCR, 0x0b),
         Read(offsets::MSR, 0x10),
         Sent(b"hello"),
-        Read(offsets::IER, 0x0f),
-        Write(offsets::IER, 0x0d),
+        Changed(offsets::IER, 0x0f, 0x0d),
         Read(offsets::ISR, NONE),
         Read(offsets::LSR, EMPTY),
         Read(offsets::MSR, 0x10),

@@ -1,6 +1,7 @@
 //! Rings over a replay, what a chip answers, and lists of accesses as tests write them down.
 use crate::{RingError, Uart16550Ring};
 use std::process::Abort;
+use std::test::Fail;
 use uart_16550::Uart16550;
 use uart_16550::replay::{Entry, Replay};
 use uart_spec::registers::offsets;
@@ -36,15 +37,28 @@ pub const DMA_TRANSMISSION: u8 = 0xca;
 pub enum Step {
     Read(usize, u8),
     Write(usize, u8),
+    /// The register is read, and then written.
+    Changed(usize, u8, u8),
     /// Each byte is written to DATA.
     Sent(&'static [u8]),
+    /// LSR shows that the transmitter is empty, and each byte is written to DATA.
+    Burst(&'static [u8]),
     /// For each byte LSR shows that one waits, and DATA is read.
     Received(&'static [u8]),
 }
 
+/// A call of the rings, with what it returns.
+#[derive(Clone, Copy)]
+pub enum Call {
+    Queue(&'static [u8], usize),
+    /// How many bytes wait in the transmit ring.
+    Left(usize),
+    Service(usize),
+}
+
 /// Rings over a new driver, whose reads are answered by these bytes in turn.
 pub fn rings<'a>(
-    rt: &HostRuntime,
+    rt: &impl AllocGlobal,
     answers: &'a [u8],
     tx_capacity: usize,
     rx_capacity: usize,
@@ -54,6 +68,45 @@ pub fn rings<'a>(
         Ok(ring) => Ok(ring),
         Err((_uart, cause)) => Err(cause),
     }
+}
+
+/// What the reads among these accesses are answered.
+pub fn answers_in(rt: &impl AllocGlobal, steps: &[Step]) -> Result<Vec<u8>, Fail> {
+    let mut answers = Vec::new(rt.alloc());
+    for step in steps {
+        match *step {
+            Step::Read(_, answer) | Step::Changed(_, answer, _) => answers.push(answer)?,
+            Step::Burst(_) => answers.push(EMPTY)?,
+            Step::Received(bytes) => {
+                for &byte in bytes {
+                    answers.push(WAITS)?;
+                    answers.push(byte)?;
+                }
+            }
+            Step::Write(_, _) | Step::Sent(_) => {}
+        }
+    }
+    Ok(answers)
+}
+
+/// New rings return this from these calls, which make these accesses and no others.
+pub fn play(
+    rt: &(impl AllocGlobal + Abort),
+    tx_capacity: usize,
+    calls: &[Call],
+    steps: &[Step],
+) -> Result<(), Fail> {
+    let answers = answers_in(rt, steps)?;
+    let mut ring = rings(rt, &answers, tx_capacity, 4)?;
+    for call in calls {
+        match *call {
+            Call::Queue(bytes, accepted) => assert_eq!(rt; ring.queue(bytes), accepted),
+            Call::Left(count) => assert_eq!(rt; ring.transmit_len(), count),
+            Call::Service(count) => assert_eq!(rt; ring.service(), count),
+        }
+    }
+    made(rt, ring.inner().backend(), steps);
+    Ok(())
 }
 
 /// These accesses were made, and no others.
@@ -70,6 +123,16 @@ pub fn made<R: Abort>(rt: &R, replay: &Replay<'_>, steps: &[Step]) {
             }
             Step::Write(offset, value) => {
                 assert_eq!(rt; accesses.next(), Some(Entry::Write(offset, value)));
+            }
+            Step::Changed(offset, from, to) => {
+                assert_eq!(rt; accesses.next(), Some(Entry::Read(offset, from)));
+                assert_eq!(rt; accesses.next(), Some(Entry::Write(offset, to)));
+            }
+            Step::Burst(bytes) => {
+                assert_eq!(rt; accesses.next(), Some(Entry::Read(offsets::LSR, EMPTY)));
+                for &byte in bytes {
+                    assert_eq!(rt; accesses.next(), Some(Entry::Write(offsets::DATA, byte)));
+                }
             }
             Step::Sent(bytes) => {
                 for &byte in bytes {

@@ -7,7 +7,8 @@ use Rattle.uart_16550.specs.Receive.{Miss, Awaited}
 use Rattle.uart_16550.specs.Transmit.{SendMiss}
 use Rattle.uart_16550.specs.Loopback.{test_byte, test_message, TakesOne, DrainsLoopback, SendsTestByte, ExchangesByte, Echo}
 use Rattle.uart_16550.specs.Loopback.{EchoFails, HasEchoedWhole, HasEchoedEach, HasEchoedAll, ExchangesMessage, Exchanges}
-use Rattle.uart_run.proofs.KeptLists.{AllKeep, keeps_then, keeps_few, keeps_all, keeps_in_order, keeps_if}
+use Rattle.uart_run.proofs.ListsInTurn.{all_then, all_few, all_misses, all_in_order}
+use Rattle.uart_run.proofs.KeptLists.{AllKeep, keeping, keeps_if}
 use Rattle.uart_run.proofs.KeptLists.{keeps_miss, keeps_hit, keeps_awaited, keeps_receives_exact, keeps_send_miss}
 use Rattle.uart_run.proofs.KeptLists.{keeps_round, keeps_try_sends, keeps_sends_all, keeps_sends_exact}
 
@@ -18,39 +19,40 @@ module _ (s : Settings) where
   takes_one l t = keeps_hit s t.0 l t.1
 
   drains : (whole : Bool) → AllKeep s (DrainsLoopback whole)
-  drains true = keeps_then s _ _ (keeps_few s TakesOne takes_one) (keeps_miss s)
-  drains false = keeps_all s TakesOne takes_one
+  drains true = all_then keeping s _ _ (all_few keeping s TakesOne takes_one) (keeps_miss s)
+  drains false = all_misses keeping s TakesOne takes_one
 
   misses : AllKeep s (AllMisses Miss)
-  misses = keeps_all s Miss (keeps_miss s)
+  misses = all_misses keeping s Miss (keeps_miss s)
 
   test_byte_sent : AllKeep s SendsTestByte
   test_byte_sent = keeps_try_sends {T = Unit {0}} s test_byte (Ok tt)
 
   exchanges_byte : {T : Type 0} (result : Result T LoopbackError) → AllKeep s (ExchangesByte result)
-  exchanges_byte (Ok x) l t = keeps_then s _ _ test_byte_sent (keeps_awaited s test_byte) l t
+  exchanges_byte (Ok x) l t = all_then keeping s _ _ test_byte_sent (keeps_awaited s test_byte) l t
   exchanges_byte (Err (SendError e)) l t = keeps_try_sends {T = Unit {0}} s test_byte (Err e) l t
-  exchanges_byte (Err Stalled) l t = keeps_then s _ _ test_byte_sent misses l t
-  exchanges_byte (Err (UnexpectedLoopbackByte expected actual)) l t = keeps_then s _ _ test_byte_sent (keeps_awaited s actual) l t.2
+  exchanges_byte (Err Stalled) l t = all_then keeping s _ _ test_byte_sent misses l t
+  exchanges_byte (Err (UnexpectedLoopbackByte expected actual)) l t = all_then keeping s _ _ test_byte_sent (keeps_awaited s actual) l t.2
   exchanges_byte (Err (UnexpectedLoopbackMsg expected actual)) l t = absurd t
 
   -- ---- the message
 
   echo : (pair : ℕ × ℕ) → AllKeep s (Echo pair)
-  echo pair = keeps_then s _ _ (keeps_round s (pair.0 ∷ [])) (keeps_awaited s pair.1)
+  echo pair = all_then keeping s _ _ (keeps_round s (pair.0 ∷ [])) (keeps_awaited s pair.1)
 
   echo_fails : (byte : ℕ) → AllKeep s (EchoFails byte)
-  echo_fails byte l (inl t) = keeps_all s SendMiss (keeps_send_miss s) l t
-  echo_fails byte l (inr t) = keeps_then s _ _ (keeps_round s (byte ∷ [])) misses l t
+  echo_fails byte l (inl t) = all_misses keeping s SendMiss (keeps_send_miss s) l t
+  echo_fails byte l (inr t) = all_then keeping s _ _ (keeps_round s (byte ∷ [])) misses l t
 
   whole : (sent : List ℕ) (got : Option (List ℕ)) → AllKeep s (HasEchoedWhole sent got)
-  whole sent (Some got) l t = keeps_then s _ _ (keeps_sends_all s sent) (keeps_in_order s Awaited got (keeps_awaited s)) l t.1
+  whole sent (Some got) l t = all_then keeping s _ _ (keeps_sends_all s sent) (all_in_order keeping s Awaited got (keeps_awaited s)) l t.1
   whole sent None l (inl t) = keeps_sends_exact {T = Unit {0}} s sent (Err t.0) l t.1
-  whole sent None l (inr t) = keeps_then s _ _ (keeps_sends_all s sent) (keeps_receives_exact {T = Unit {0}} s _ t.1 (Err t.0)) l t.2
+  whole sent None l (inr t) = all_then keeping s _ _ (keeps_sends_all s sent) (keeps_receives_exact {T = Unit {0}} s _ t.1 (Err t.0)) l t.2
 
   each : (sent : List ℕ) (got : Option (List ℕ)) → AllKeep s (HasEchoedEach sent got)
-  each sent (Some got) l t = keeps_in_order s Echo t.0 echo l t.3
-  each sent None l (pairs, byte, rest, parts, made) = keeps_then s _ _ (keeps_in_order s Echo pairs echo) (echo_fails byte) l made
+  each sent (Some got) l t = all_in_order keeping s Echo t.0 echo l t.3
+  each sent None l (pairs, byte, rest, parts, made) =
+      all_then keeping s _ _ (all_in_order keeping s Echo pairs echo) (echo_fails byte) l made
 
   echoed : (sent : List ℕ) (got : Option (List ℕ)) → AllKeep s (HasEchoedAll sent got)
   echoed sent got = keeps_if s s.fifo (HasEchoedWhole sent got) (HasEchoedEach sent got) (whole sent got) (each sent got)
@@ -66,9 +68,9 @@ module _ (s : Settings) where
 
   pub keeps_exchanges : {T : Type 0} (result : Result T LoopbackError) → AllKeep s (Exchanges result)
   keeps_exchanges (Ok x) l t =
-      keeps_then s _ _ (drains true) (λ k u. keeps_then s _ _ (exchanges_byte (Ok x)) (exchanges_message (Ok x)) k u) l t
+      all_then keeping s _ _ (drains true) (λ k u. all_then keeping s _ _ (exchanges_byte (Ok x)) (exchanges_message (Ok x)) k u) l t
   keeps_exchanges (Err e) l (inl t) = drains false l t.1
-  keeps_exchanges (Err e) l (inr (inl t)) = keeps_then s _ _ (drains true) (exchanges_byte {T = Unit {0}} (Err e)) l t
+  keeps_exchanges (Err e) l (inr (inl t)) = all_then keeping s _ _ (drains true) (exchanges_byte {T = Unit {0}} (Err e)) l t
   keeps_exchanges (Err e) l (inr (inr t)) =
-      keeps_then s _ _ (drains true)
-      (λ k u. keeps_then s _ _ (exchanges_byte {T = Unit {0}} (Ok tt)) (exchanges_message {T = Unit {0}} (Err e)) k u) l t
+      all_then keeping s _ _ (drains true)
+      (λ k u. all_then keeping s _ _ (exchanges_byte {T = Unit {0}} (Ok tt)) (exchanges_message {T = Unit {0}} (Err e)) k u) l t

@@ -22,7 +22,7 @@ use Rattle.uart_chip.specs.Machine.{MachineState, MachineStep}
 use Rattle.uart_chip.proofs.Bits.{has_one}
 use Rattle.uart_device.proofs.conservation.Went.{Modes, IsIn, dlab-in}
 use Rattle.uart_run.proofs.EmptyTransmitter.{IsSent, sent_path}
-use Rattle.uart_run.proofs.SilentLists.{IsSilent, silent_only, silent_then, silent_few, silent_asks}
+use Rattle.uart_run.proofs.SilentLists.{IsSilent, silence, silent_asks}
 use Rattle.uart_device.proofs.conservation.BlockLaws.{path_as, look_room}
 use Rattle.uart_run.proofs.CallBlocks.{InBlocks, Makes, makes_then, makes_reads, awaited_blocks}
 use Rattle.uart_run.proofs.CallBlocks.{round_blocks, sends_all_blocks, try_sends_blocks}
@@ -30,7 +30,8 @@ use Rattle.uart_run.proofs.CallKeeps.{one_fits}
 use Rattle.uart_run.proofs.Served.{EndsDry, dry_empties}
 use Rattle.uart_run.proofs.Latches.{Kept, kept_in, kept_cut, kept_access, kept_list}
 use Rattle.uart_run.proofs.Pieces.{then_parts}
-use Rattle.uart_run.proofs.KeptLists.{AllKeep, keeps_then, keeps_few, keeps_miss, keeps_hit, kept_still}
+use Rattle.uart_run.proofs.ListsInTurn.{all_only, all_then, all_few}
+use Rattle.uart_run.proofs.KeptLists.{AllKeep, keeping, keeps_miss, keeps_hit, kept_still}
 use Rattle.uart_device.proofs.loopback.LoopAccesses.{IsLooped}
 use Rattle.uart_run.proofs.loopback.LoopBlocks.{IsIdle, CameBack, comes_back}
 
@@ -60,8 +61,8 @@ sent_idle x gone c w s none = record { modes = w; line = rw (nothing c.receiver.
 
 silent_takes_one : (s : Settings) → IsSilent s TakesOne
 silent_takes_one s l t =
-    silent_then s (Asks offsets.LSR LSR.DATA_READY.0 true) (Only (Read offsets.DATA t.0 ∷ []))
-    (silent_asks s offsets.LSR LSR.DATA_READY.0 true) (silent_only s (Read offsets.DATA t.0 ∷ []) (tt, tt)) l t.1
+    all_then silence s (Asks offsets.LSR LSR.DATA_READY.0 true) (Only (Read offsets.DATA t.0 ∷ []))
+    (silent_asks s offsets.LSR LSR.DATA_READY.0 true) (all_only silence s (Read offsets.DATA t.0 ∷ []) (tt, tt)) l t.1
 
 keeps_takes_one : (s : Settings) → AllKeep s TakesOne
 keeps_takes_one s l t = keeps_hit s t.0 l t.1
@@ -91,8 +92,8 @@ pub record IsReadyToTest (x : Modes) (gone : List ℕ) (s : Settings) (m : Machi
 pub drained : (x : Modes) (gone : List ℕ) (s : Settings) (l : List Access) (m n : MachineState) → IsEntered x gone s m →
     DrainsLoopback true s l → Path MachineStep m l n → IsReadyToTest x gone s n
 drained x gone s l m n e t path =
-    let keeps = keeps_then s (FewMisses TakesOne) Miss (keeps_few s TakesOne (keeps_takes_one s)) (keeps_miss s) in
-    let silent = silent_then s (FewMisses TakesOne) Miss (silent_few s TakesOne (silent_takes_one s))
+    let keeps = all_then keeping s (FewMisses TakesOne) Miss (all_few keeping s TakesOne (keeps_takes_one s)) (keeps_miss s) in
+    let silent = all_then silence s (FewMisses TakesOne) Miss (all_few silence s TakesOne (silent_takes_one s))
     (silent_asks s offsets.LSR LSR.DATA_READY.0 false) l t in
     let kept = kept_still s (DrainsLoopback true) l m n keeps (dlab-in x m.chip e.modes ∙ e.looped.dlab) t path in
     let dry : EndsDry s l = record { front = t.front; back = t.back; whole = t.whole; miss = t.second } in

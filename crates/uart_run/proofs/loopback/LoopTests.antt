@@ -31,7 +31,8 @@ use Rattle.uart_run.specs.Served.{IsFlushed}
 use Rattle.uart_run.specs.Ready.{Ready, is_narrow, test_answer, IsTested}
 use Rattle.uart_device.proofs.conservation.Went.{Modes, IsIn}
 use Rattle.uart_run.proofs.EmptyTransmitter.{IsSent, sent_shown, shown_sent, wait_empties, sent_path}
-use Rattle.uart_run.proofs.SilentLists.{DoesSilently, silent_only, silent_then, silent_sets_fifo}
+use Rattle.uart_run.proofs.ListsInTurn.{all_only, all_then}
+use Rattle.uart_run.proofs.SilentLists.{DoesSilently, silence, silent_sets_fifo}
 use Rattle.uart_run.proofs.SilentLists.{silent_next, silent_saving, silent_plain, silent_sets}
 use Rattle.uart_device.proofs.conservation.BlockLaws.{IsOpen, Stands}
 use Rattle.uart_run.proofs.CallBlocks.{Makes, makes_then, passed_in_blocks, waits_blocks}
@@ -87,7 +88,7 @@ enters_silently before fifo f after l t =
     let list = Read offsets.MSR before ∷ Write offsets.IER 0 ∷ Write offsets.MCR MCR.LOOP_BACK.0 ∷ [] in
     let L : Language = Then (Only list) (SetsFifo level fifo) in
     silent_next (Saving L) (Sets (with_fifo fifo))
-    (silent_saving L (λ s. silent_then s (Only list) (SetsFifo level fifo) (silent_only s list (tt, (refl, (refl, tt))))
+    (silent_saving L (λ s. all_then silence s (Only list) (SetsFifo level fifo) (all_only silence s list (tt, (refl, (refl, tt))))
     (silent_sets_fifo s level fifo)))
     (silent_sets (with_fifo fifo)) f after l t
 
@@ -121,13 +122,13 @@ leaves_silently mcr ier before noted f after l (now, t) =
     f after l t
   where
     one : (value : ℕ) → DoesSilently (Saving (Only (Write offsets.MCR value ∷ [])))
-    one value = silent_saving _ (λ s. silent_only s (Write offsets.MCR value ∷ []) (refl, tt))
+    one value = silent_saving _ (λ s. all_only silence s (Write offsets.MCR value ∷ []) (refl, tt))
 
     look : DoesSilently (Plain (Only (Read offsets.MSR now ∷ [])))
-    look = silent_plain _ (λ s. silent_only s (Read offsets.MSR now ∷ []) (tt, tt))
+    look = silent_plain _ (λ s. all_only silence s (Read offsets.MSR now ∷ []) (tt, tt))
 
     both : DoesSilently (Saving (Only (Write offsets.MCR mcr ∷ Write offsets.IER ier ∷ [])))
-    both = silent_saving _ (λ s. silent_only s (Write offsets.MCR mcr ∷ Write offsets.IER ier ∷ []) (refl, (refl, tt)))
+    both = silent_saving _ (λ s. all_only silence s (Write offsets.MCR mcr ∷ Write offsets.IER ier ∷ []) (refl, (refl, tt)))
 
 -- ---- the test after its first wait
 

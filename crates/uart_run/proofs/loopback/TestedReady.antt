@@ -18,7 +18,6 @@ use Rattle.uart_spec.specs.Bits.{has_any}
 use Rattle.uart_chip.specs.Masks.{ier_bits, mcr_bits}
 use Rattle.uart_chip.specs.Chip.{is_dlab_set}
 use Rattle.uart_chip.specs.Machine.{MachineState, MachineStep}
-use Rattle.uart_calls.specs.Meaning.{loopback_answer}
 use Rattle.uart_run.specs.Run.{State, machine_of, CallStep}
 use Rattle.uart_run.specs.Ready.{Ready}
 use Rattle.uart_device.specs.Sound.{IsSound}
@@ -27,7 +26,8 @@ use Rattle.uart_device.proofs.soundness.Sounds.{sound_path}
 use Rattle.uart_device.proofs.conservation.BlockLaws.{path_as}
 use Rattle.uart_run.proofs.Latches.{Kept, kept_in, keep_write, kept_after, kept_list, kept_access, LeftBy}
 use Rattle.uart_run.proofs.Pieces.{then_parts, next_stages}
-use Rattle.uart_run.proofs.KeptLists.{AllKeep, keeps_only, keeps_then, keeps_waits, kept_still}
+use Rattle.uart_run.proofs.ListsInTurn.{all_only, all_then}
+use Rattle.uart_run.proofs.KeptLists.{AllKeep, keeping, keeps_waits, kept_still}
 use Rattle.uart_run.proofs.loopback.KeptExchanges.{keeps_exchanges}
 use Rattle.uart_run.proofs.initialising.FifoSteps.{sets_fifo}
 use Rattle.uart_run.proofs.initialising.Initialised.{ready_by}
@@ -36,7 +36,7 @@ use Rattle.uart_run.proofs.initialising.Initialised.{ready_by}
 
 keeps_begins : (s : Settings) (mcr ier : ℕ) (empty : Bool) → AllKeep s (BeginsTest mcr ier empty)
 keeps_begins s mcr ier empty =
-    keeps_then s _ _ (keeps_only s (Read offsets.MCR mcr ∷ Read offsets.IER ier ∷ []) (λ k d. refl))
+    all_then keeping s _ _ (all_only keeping s (Read offsets.MCR mcr ∷ Read offsets.IER ier ∷ []) (λ k d. refl))
     (keeps_waits s LSR.TRANSMITTER_EMPTY.0 empty)
 
 -- MCR is read as it is

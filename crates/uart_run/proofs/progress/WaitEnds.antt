@@ -69,25 +69,20 @@ module _ (char_ticks : ℕ) (some : 1 ≤ char_ticks) where
   all_empty None (x ∷ xs) w e = absurd (omega (arith, e))
   all_empty (Some s) queue w e = absurd (omega (arith, e, w.0))
 
+-- nothing more is to hold while it is awaited
+awaited : (bits : ℕ) → ((m n : MachineState) (line : ℕ) → Runs n → MachineStep m (Read offsets.LSR line) n → left n.chip.transmitter ≡ 0 →
+    has line bits ≡ true) → Awaited (λ m. Unit {0}) bits
+awaited bits shows = record { kept = λ m n line r i step. tt; shows = λ m n line r i step e. shows m n line r step e }
+
 -- the holding register is empty
 room_awaited : Awaited (λ m. Unit {0}) LSR.THR_EMPTY.0
-room_awaited = record {
-  kept = λ m n line r i step. tt;
-  shows = λ m n line r i step e.
-      let t = n.chip.transmitter in
-      let w = r.sound.chip.transmitter in
-      has_one 5 line ∙ (look_room m n line step ∙ ap (λ k. k == 0) (none_queued t.char_ticks w.at_least_one t.shift_place t.queue e));
-}
+room_awaited = awaited LSR.THR_EMPTY.0 (λ m n line r step e. let t = n.chip.transmitter in let w = r.sound.chip.transmitter in
+    has_one 5 line ∙ (look_room m n line step ∙ ap (λ k. k == 0) (none_queued t.char_ticks w.at_least_one t.shift_place t.queue e)))
 
 -- the whole transmitter is
 empty_awaited : Awaited (λ m. Unit {0}) LSR.TRANSMITTER_EMPTY.0
-empty_awaited = record {
-  kept = λ m n line r i step. tt;
-  shows = λ m n line r i step e.
-      let t = n.chip.transmitter in
-      let w = r.sound.chip.transmitter in
-      has_one 6 line ∙ (look_empty m n line step ∙ all_empty t.char_ticks w.at_least_one t.shift_place t.queue w.ticking e);
-}
+empty_awaited = awaited LSR.TRANSMITTER_EMPTY.0 (λ m n line r step e. let t = n.chip.transmitter in let w = r.sound.chip.transmitter in
+    has_one 6 line ∙ (look_empty m n line step ∙ all_empty t.char_ticks w.at_least_one t.shift_place t.queue w.ticking e))
 
 -- ---- waits in vain for the transmitter
 

@@ -56,6 +56,7 @@ impl InterruptType {
             _ => None,
         }
     }
+
     /// The low nibble of an ISR value that identifies this interrupt.
     pub fn to_bits(self) -> u8
         ensures bits { result ≡ 2 * interrupt_code self }

@@ -8,36 +8,34 @@ use uart_chip::{Chip, Event};
 use uart_spec::registers::{FifoTriggerLevel, IER, WordLength};
 use uart_spec::{BaudRate, Config};
 
-#[test]
-fn faults_are_told(rt: HostRuntime) -> Result<(), Fail> {
-    let rows = [
-        ("chip 16450 4 64", "line 2: misplaced"),
-        ("lsr\nlsr 1\nwait", "line 3: wrong count"),
-        ("init 014 9600 nocts 00 8", "line 2: bad word"),
-        ("init 14 9600 maybe 0 9", "line 2: bad word"),
-        ("init 14 9600 cts 0 9", "line 2: bad hex"),
-        ("LSR", "line 2: unknown word"),
-        ("lsr ", "line 2: wrong count"),
-        ("send ", "line 2: bad hex"),
-        ("tick +4", "line 2: bad number"),
-    ];
-    assert_told(&rt, HEADER, &rows)
-}
+const FAULTS: &[(&str, &str)] = &[
+    ("chip 16450 4 64", "line 2: misplaced"),
+    ("lsr\nlsr 1\nwait", "line 3: wrong count"),
+    ("init 014 9600 nocts 00 8", "line 2: bad word"),
+    ("init 14 9600 maybe 0 9", "line 2: bad word"),
+    ("init 14 9600 cts 0 9", "line 2: bad hex"),
+    ("LSR", "line 2: unknown word"),
+    ("lsr ", "line 2: wrong count"),
+    ("send ", "line 2: bad hex"),
+    ("tick +4", "line 2: bad number"),
+];
+
+const FAULTS_OF_THE_FIRST_LINE: &[(&str, &str)] = &[
+    ("\nchip 16450 4 64", "line 1: misplaced"),
+    ("lsr", "line 1: misplaced"),
+    (" ", "line 1: misplaced"),
+    ("limit 5", "line 1: misplaced"),
+    ("lsr\t", "line 1: bad byte"),
+    ("chip 8250 0 64", "line 1: bad word"),
+    ("chip 16450 4 64", "a script"),
+    ("chip 16450 4 64\n", "a script"),
+    ("chip 16450 4 64\n\n\n", "a script"),
+];
 
 #[test]
-fn faults_of_the_first_line_are_told(rt: HostRuntime) -> Result<(), Fail> {
-    let rows = [
-        ("\nchip 16450 4 64", "line 1: misplaced"),
-        ("lsr", "line 1: misplaced"),
-        (" ", "line 1: misplaced"),
-        ("limit 5", "line 1: misplaced"),
-        ("lsr\t", "line 1: bad byte"),
-        ("chip 8250 0 64", "line 1: bad word"),
-        ("chip 16450 4 64", "a script"),
-        ("chip 16450 4 64\n", "a script"),
-        ("chip 16450 4 64\n\n\n", "a script"),
-    ];
-    assert_told(&rt, "", &rows)
+fn faults_are_told(rt: HostRuntime) -> Result<(), Fail> {
+    assert_told(&rt, HEADER, FAULTS)?;
+    assert_told(&rt, "", FAULTS_OF_THE_FIRST_LINE)
 }
 
 const EVERY_WORD: &[u8] = b"chip 16550a 3 7

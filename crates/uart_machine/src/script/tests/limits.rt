@@ -30,70 +30,72 @@ fn repeated(rt: &HostRuntime, front: &str, bytes: &[u8], count: usize) -> Result
 }
 
 // At each end of a range the last number that is accepted, and the first that is not.
-#[test]
-fn numbers_have_limits(rt: HostRuntime) -> Result<(), Fail> {
-    let pairs = [
-        ("limit 1", "limit 0"),
-        ("limit 1000000", "limit 1000001"),
-        ("tick 0", "tick -1"),
-        ("tick 65535", "tick 65536"),
-        ("tick 0000000004", "tick 00000000004"),
-        ("init off 1 cts 00 8", "init off 0 cts 00 8"),
-        ("init 1 4294967295 cts 00 8", "init 1 4294967296 cts 00 8"),
-        ("init off 1 cts 00 5", "init off 1 cts 00 4"),
-        ("init off 1 cts 00 8", "init off 1 cts 00 9"),
-        ("receive 0", "receive -1"),
-        ("receive 64", "receive 65"),
-        ("receive-exact 0", "receive-exact -1"),
-        ("receive-exact 64", "receive-exact 65"),
-        ("read 0", "read -1"),
-        ("read 64", "read 65"),
-    ];
-    assert_limits(&rt, HEADER, &pairs, "line 2: bad number")?;
-    let pairs = [
-        ("chip 16450 1 64", "chip 16450 0 64"),
-        ("chip 16450 1000 64", "chip 16450 1001 64"),
-        ("chip 16450 4 0", "chip 16450 4 -1"),
-        ("chip 16450 4 65536", "chip 16450 4 65537"),
-    ];
-    assert_limits(&rt, "", &pairs, "line 1: bad number")
-}
+const NUMBERS: &[(&str, &str)] = &[
+    ("limit 1", "limit 0"),
+    ("limit 1000000", "limit 1000001"),
+    ("tick 0", "tick -1"),
+    ("tick 65535", "tick 65536"),
+    ("tick 0000000004", "tick 00000000004"),
+    ("init off 1 cts 00 8", "init off 0 cts 00 8"),
+    ("init 1 4294967295 cts 00 8", "init 1 4294967296 cts 00 8"),
+    ("init off 1 cts 00 5", "init off 1 cts 00 4"),
+    ("init off 1 cts 00 8", "init off 1 cts 00 9"),
+    ("receive 0", "receive -1"),
+    ("receive 64", "receive 65"),
+    ("receive-exact 0", "receive-exact -1"),
+    ("receive-exact 64", "receive-exact 65"),
+    ("read 0", "read -1"),
+    ("read 64", "read 65"),
+];
+
+// The same in the first line.
+const CHIP_NUMBERS: &[(&str, &str)] = &[
+    ("chip 16450 1 64", "chip 16450 0 64"),
+    ("chip 16450 1000 64", "chip 16450 1001 64"),
+    ("chip 16450 4 0", "chip 16450 4 -1"),
+    ("chip 16450 4 65536", "chip 16450 4 65537"),
+];
 
 // Lines of the fewest and of the most words that are accepted, and with a word less or more.
+const WORDS: &[(&str, &str)] = &[
+    ("limit 5", "limit"),
+    ("limit 5", "limit 5 5"),
+    ("tick 4", "tick"),
+    ("tick 4", "tick 4 4"),
+    ("arrive 41", "arrive"),
+    ("arrive 41 p", "arrive 41 p p"),
+    ("lines 1", "lines"),
+    ("lines 1", "lines 1 1"),
+    ("access", "access 1"),
+    ("next", "next 1"),
+    ("init off 9600 cts 00 8", "init off 9600 cts 00"),
+    ("init off 9600 cts 00 8", "init off 9600 cts 00 8 8"),
+    ("loopback", "loopback 1"),
+    ("lsr", "lsr 1"),
+    ("enable 02", "enable"),
+    ("enable 02", "enable 02 02"),
+    ("receive 1", "receive"),
+    ("receive 1", "receive 1 1"),
+    ("send 41", "send"),
+    ("send 41", "send 41 41"),
+    ("text 41", "text"),
+    ("text 41", "text 41 41"),
+];
+
+// The same of the first line.
+const CHIP_WORDS: &[(&str, &str)] = &[
+    ("chip 16450 4", "line 1: wrong count"),
+    ("chip 16450 4 64 cut cut", "line 1: wrong count"),
+    ("chip 16450 4 64 cut", "a script"),
+    ("chip 16450 4 64 Cut", "line 1: bad word"),
+];
+
 #[test]
-fn lines_have_limits_of_words(rt: HostRuntime) -> Result<(), Fail> {
-    let pairs = [
-        ("limit 5", "limit"),
-        ("limit 5", "limit 5 5"),
-        ("tick 4", "tick"),
-        ("tick 4", "tick 4 4"),
-        ("arrive 41", "arrive"),
-        ("arrive 41 p", "arrive 41 p p"),
-        ("lines 1", "lines"),
-        ("lines 1", "lines 1 1"),
-        ("access", "access 1"),
-        ("next", "next 1"),
-        ("init off 9600 cts 00 8", "init off 9600 cts 00"),
-        ("init off 9600 cts 00 8", "init off 9600 cts 00 8 8"),
-        ("loopback", "loopback 1"),
-        ("lsr", "lsr 1"),
-        ("enable 02", "enable"),
-        ("enable 02", "enable 02 02"),
-        ("receive 1", "receive"),
-        ("receive 1", "receive 1 1"),
-        ("send 41", "send"),
-        ("send 41", "send 41 41"),
-        ("text 41", "text"),
-        ("text 41", "text 41 41"),
-    ];
-    assert_limits(&rt, HEADER, &pairs, "line 2: wrong count")?;
-    let rows = [
-        ("chip 16450 4", "line 1: wrong count"),
-        ("chip 16450 4 64 cut cut", "line 1: wrong count"),
-        ("chip 16450 4 64 cut", "a script"),
-        ("chip 16450 4 64 Cut", "line 1: bad word"),
-    ];
-    assert_told(&rt, "", &rows)
+fn numbers_and_lines_have_limits(rt: HostRuntime) -> Result<(), Fail> {
+    assert_limits(&rt, HEADER, NUMBERS, "line 2: bad number")?;
+    assert_limits(&rt, "", CHIP_NUMBERS, "line 1: bad number")?;
+    assert_limits(&rt, HEADER, WORDS, "line 2: wrong count")?;
+    assert_told(&rt, "", CHIP_WORDS)
 }
 
 #[test]

@@ -2,10 +2,4 @@ use Rattle.uart_ring.proofs.Bounding.{queues_size, takes_size, services_size, ta
 use Rattle.uart_ring.proofs.laws.ring_calls_are_bounded.Goals as goal
 
 pub returns : goal.returns
-returns c = record {
-  queue = queues_size;
-  take = takes_size;
-  service = services_size;
-  take_line = takes_line_size;
-  take_modem = takes_modem_size;
-}
+returns c = search (queues_size, takes_size, services_size, takes_line_size, takes_modem_size)

@@ -10,8 +10,7 @@ loop-count-init g c = record { made = made_none; rest = refl }
 
 pub returns-in-Err-clause-made : goal.returns-in-Err-clause-made
 returns-in-Err-clause-made g c =
-    let before = take c.loop-count.count c.loop-count.buffer in
-    let fewer : length before < length c.args.buffer.now = omega (arith, length-take {A = ℕ}) in
+    let fewer : length (take c.loop-count.count c.loop-count.buffer) < length c.args.buffer.now = omega (arith, length-take {A = ℕ}) in
     rw take-set (made_among (λ l t. inr (fewer, t)) (made_then c.loop-count.invariant.made c.in-Err.ensures))
 
 pub loop-count-preserved : goal.loop-count-preserved

@@ -30,12 +30,11 @@ returns-in-Err-clause-rest g c =
     let xs = c.loop-done.buffer in
     let ys = c.receive_piece.new.slots in
     let done = c.loop-done.done in
-    let end = c.min-end.result in
-    let stall = c.in-Err.stall.done in
-    let few : stall ≤ length ys = omega (arith, c.in-Err.ensures.made.fits.0, c.in-Err.ensures.made.fits.1, c.receive_piece.auto.slots) in
-    drop_piece xs ys done (end - done) stall c.loop-done.invariant.within few
+    let few : c.in-Err.stall.done ≤ length ys =
+    omega (arith, c.in-Err.ensures.made.fits.0, c.in-Err.ensures.made.fits.1, c.receive_piece.auto.slots) in
+    drop_piece xs ys done (c.min-end.result - done) c.in-Err.stall.done c.loop-done.invariant.within few
     (omega (arith, few, c.receive_piece.auto.slots)) c.in-Err.ensures.rest
-    ∙ drop_later xs _ done (done + stall) (omega arith) c.loop-done.invariant.rest
+    ∙ drop_later xs _ done (done + c.in-Err.stall.done) (omega arith) c.loop-done.invariant.rest
 
 pub loop-done-preserved : goal.loop-done-preserved
 loop-done-preserved g c =
@@ -48,7 +47,7 @@ loop-done-preserved g c =
     record {
       within = omega (arith, same_len_mid done (end - done) xs ys c.receive_piece.auto.slots, c.min-end.ensures);
       made = rw (take-put_mid done (end - done) xs ys end whole c.loop-done.invariant.within)
-          (made_append Awaited (take done xs) ys c.loop-done.invariant.made (made_among (λ l t. t.1) c.in-Ok.ensures.made));
+          (made_append Awaited (take done xs) ys c.loop-done.invariant.made (made_among (λ l t. t.1) c.in_default.ensures.made));
       rest =
           drop-put_mid done (end - done) xs ys end (omega (arith, whole)) c.loop-done.invariant.within size ∙
           drop_later xs _ done end (omega (arith, whole)) c.loop-done.invariant.rest;

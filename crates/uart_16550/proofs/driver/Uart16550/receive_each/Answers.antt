@@ -10,9 +10,8 @@ loop-done-init g c = record { made = made_none; rest = refl }
 
 pub returns-in-None-clause-made : goal.returns-in-None-clause-made
 returns-in-None-clause-made g c =
-    let before = take c.loop-done.done c.loop-done.slots in
-    let fewer : length before < length c.args.slots.now = omega (arith, length-take {A = ℕ}) in
-    let done : c.loop-done.done ≡ length before = omega (arith, length-take {A = ℕ}) in
+    let fewer : length (take c.loop-done.done c.loop-done.slots) < length c.args.slots.now = omega (arith, length-take {A = ℕ}) in
+    let done : c.loop-done.done ≡ length (take c.loop-done.done c.loop-done.slots) = omega (arith, length-take {A = ℕ}) in
     rw take-set (made_among (λ l t. (fewer, done, t)) (made_then c.loop-done.invariant.made c.in-None.ensures))
 
 pub loop-done-preserved : goal.loop-done-preserved

@@ -24,5 +24,5 @@ loop-done-preserved g c =
     let more = ap (λ (n : ℕ). take n c.args.bytes.now) whole ∙ take-add done (end - done) c.args.bytes.now in
     record {
       within = omega (arith, c.min-end.ensures);
-      made = rw more (made_append (λ byte. Round (byte ∷ [])) _ _ c.loop-done.invariant.made c.in-Ok.ensures.made);
+      made = rw more (made_append (λ byte. Round (byte ∷ [])) _ _ c.loop-done.invariant.made c.in_default.ensures.made);
     }

@@ -1,7 +1,8 @@
 use Rattle.std.proofs.Common.{◌≡◌, ◌≤◌, ◌∙◌, ap, arith, length}
 use Rattle.std.proofs.lemmas.List.{take_all, take-append-le}
 use Rattle.uart_run.specs.Run.{machine_of}
-use Rattle.uart_machine.proofs.ScriptOutputs.{all_runnable, run_plain}
+use Rattle.uart_language.proofs.Playable.{all_runnable}
+use Rattle.uart_machine.proofs.ScriptOutputs.{run_plain}
 use Rattle.uart_machine.proofs.script.playing.output_for.Goals as goal
 
 pub run-requires-clause-runnable : goal.run-requires-clause-runnable

@@ -1,0 +1,64 @@
+//! Plays scripts of a serial chip and its driver, and shows what happened, for people: `geesetrunk --help` says what it does.
+//!
+//! What is printed is made by `uart_report`, from bytes to text. Here are the command line, the file and the two outputs.
+#![tactic(auto)]
+
+use std::io::{self, Read, Write};
+use std::process::ExitCode;
+use std::{env, fs};
+use uart_report::{Report, Request, asked, report_on};
+
+// The status of a file that cannot be read, or an output that cannot be written.
+const FILE_FAULT: u8 = 2;
+
+const OUT_OF_MEMORY: u8 = 3;
+
+// The bytes of a file, or of standard input for `-`.
+fn bytes_of(rt: &HostRuntime, file: &str) -> io::Result<Vec<u8>> {
+    if file == "-" {
+        let mut bytes = Vec::new(rt.alloc());
+        rt.stdin().read_to_end(&mut bytes)?;
+        return Ok(bytes);
+    }
+    fs::read(rt, file)
+}
+
+// Prints a report, and returns its status, or that of a fault in printing it.
+fn printed(rt: &HostRuntime, report: &Report) -> u8 {
+    let is_written = rt.stdout().write_all(&report.output).is_ok();
+    let errors = &report.errors;
+    if is_written && eprint!(rt; "{errors}").is_ok() {
+        report.status
+    } else {
+        FILE_FAULT
+    }
+}
+
+// Does what is asked for, and returns the status.
+fn answered(rt: &HostRuntime, request: &Request<'_>) -> u8 {
+    let file = request.file;
+    match bytes_of(rt, file) {
+        Ok(script) => match report_on(rt.alloc(), request, &script) {
+            Ok(report) => printed(rt, &report),
+            Err(_) => {
+                let _ = eprintln!(rt; "geesetrunk: out of memory");
+                OUT_OF_MEMORY
+            }
+        },
+        Err(error) => {
+            let _ = eprintln!(rt; "geesetrunk: {file}: {error}");
+            FILE_FAULT
+        }
+    }
+}
+
+fn main(rt: HostRuntime) -> io::Result<ExitCode> {
+    let words: Vec<String> = env::args(&rt)?.collect(rt.alloc())?;
+    match asked(rt.alloc(), &words) {
+        Ok(request) => Ok(ExitCode::from(answered(&rt, &request))),
+        Err(error) => {
+            error.print(&rt)?;
+            Ok(ExitCode::from(error.exit_code() as u8))
+        }
+    }
+}

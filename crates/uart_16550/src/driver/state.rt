@@ -1,0 +1,71 @@
+//! What a driver keeps beside its backend, as a value.
+ghost use Rattle.std.specs.Prelude.{◌≡◌};
+ghost use Rattle.uart_16550.specs.Driver.{backend_of, fields};
+ghost use Rattle.uart_16550.specs.State.{fields_of, fresh_fields};
+
+use super::{DEFAULT_SPIN_LIMIT, Uart16550};
+use crate::backend::Backend;
+use bitflags::Flags;
+use std::num::NonZeroU64;
+use uart_spec::Config;
+use uart_spec::registers::{LSR, MSR};
+
+/// What a driver keeps beside its backend: all that it takes to go on over another backend.
+#[derive(Clone, Debug, PartialEq, Drop)]
+pub struct DriverState {
+    /// The configuration, as `Uart16550::config` returns it.
+    pub config: Config,
+    /// Whether the chip is taken to have a FIFO that is on.
+    pub fifo_enabled: bool,
+    /// The line errors that reads of LSR cleared in the chip, and that no call of `lsr` returned yet.
+    pub saved_lsr: LSR,
+    /// The changes of modem lines that reads of MSR cleared in the chip, and that no call of `msr` returned yet.
+    pub saved_msr: MSR,
+    /// How many unsuccessful polls in a row a wait makes.
+    pub spin_limit: NonZeroU64,
+}
+
+impl DriverState {
+    /// What a driver keeps that was just made by `new_with_backend`.
+    pub fn new() -> Self
+        ensures { fields_of result ≡ fresh_fields }
+    {
+        DriverState {
+            config: Config::DEFAULT,
+            fifo_enabled: true,
+            saved_lsr: LSR::from_bits_retain(0),
+            saved_msr: MSR::from_bits_retain(0),
+            spin_limit: NonZeroU64::new(DEFAULT_SPIN_LIMIT).unwrap(),
+        }
+    }
+}
+
+impl<B: Backend> Uart16550<B> {
+    /// A driver over this backend that goes on from this state. Makes no access.
+    pub fn from_state(backend: B, state: &DriverState) -> Self
+        ensures backend { backend_of result ≡ backend }
+        ensures fields { fields result ≡ fields_of state.now }
+    {
+        Uart16550 {
+            backend,
+            config: Config { ..state.config },
+            fifo_enabled: state.fifo_enabled,
+            saved_lsr: state.saved_lsr,
+            saved_msr: state.saved_msr,
+            spin_limit: state.spin_limit,
+        }
+    }
+
+    /// What the driver keeps beside its backend. Makes no access.
+    pub fn state(&self) -> DriverState
+        ensures { fields_of result ≡ fields self.now }
+    {
+        DriverState {
+            config: Config { ..self.config },
+            fifo_enabled: self.fifo_enabled,
+            saved_lsr: self.saved_lsr,
+            saved_msr: self.saved_msr,
+            spin_limit: self.spin_limit,
+        }
+    }
+}

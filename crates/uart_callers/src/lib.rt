@@ -1,0 +1,14 @@
+//! The callers that the CALLING.md of each library crate shows: each is proved here, and run by a test.
+#![tactic(auto)]
+
+pub mod chip;
+pub mod device;
+pub mod driver;
+pub mod language;
+pub mod machine;
+pub mod performing;
+pub mod ring;
+pub mod running;
+pub mod spec;
+#[cfg(test)]
+mod tests;

@@ -1,0 +1,26 @@
+use Rattle.std.proofs.Common.{◌≡◌, ◌∙◌, ap, ℕ}
+use Rattle.uart_chip.specs.Transmitter.{TransmitterState}
+use Rattle.uart_chip.specs.Chip.{ChipState}
+use Rattle.uart_chip.specs.Data.{without_schedule}
+use Rattle.uart_chip.specs.Snapshot.{latches_of}
+use Rattle.uart_chip.proofs.Snapshots.{same_parts}
+use Rattle.uart_chip.proofs.chip.Uart.data.Goals as goal
+
+pub returns : goal.returns
+returns c =
+    let ticks : c.data.result.char_ticks ≡ c.self.inside.transmitter.char_ticks =
+    ap (λ (t : TransmitterState). t.char_ticks) c.data.ensures in
+    let here : ChipState =
+    record {
+      model = c.self.inside.model;
+      latches = latches_of c.self.inside.latches;
+      fifo = c.self.inside.fifo;
+      transmitter = c.self.inside.transmitter;
+      receiver = c.self.inside.receiver;
+      modem = c.self.inside.modem;
+      cuts = c.self.inside.cuts;
+    } in
+    rw (← c.self.view_is)
+    (same_parts here _ _ _ c.data.ensures
+    (c.data-2.ensures c.data.result.char_ticks ∙ ap (λ (n : ℕ). without_schedule n c.self.inside.receiver) ticks)
+    c.data-3.ensures)

@@ -1,0 +1,46 @@
+-- A chip as plain data: which chip they are of.
+use Rattle.std.specs.Prelude.{ℕ, ◌*◌, false, List, []}
+use Rattle.uart_chip.specs.declared.transmitter.TransmitterData.{TransmitterData}
+use Rattle.uart_chip.specs.declared.receiver.ReceiverData.{ReceiverData}
+use Rattle.uart_chip.specs.declared.modem.ModemData.{ModemData}
+use Rattle.uart_chip.specs.Transmitter.{TransmitterState}
+use Rattle.uart_chip.specs.Receiver.{ReceiverState}
+use Rattle.uart_chip.specs.Modem.{ModemState}
+
+-- the transmitter of these data, with these bytes on its wire
+abbrev pub transmitter_of : TransmitterData → List ℕ → TransmitterState
+transmitter_of t wire =
+    record {
+      queue = t.queue.items;
+      shift_place = t.shift_place;
+      wire = wire;
+      capacity = t.wire_capacity;
+      char_ticks = t.char_ticks;
+      overflows = t.overflows;
+      is_thr_pending = t.is_thr_pending;
+    }
+
+-- the receiver of these data, of a chip whose characters take so many ticks, without a schedule
+abbrev pub receiver_of : ℕ → ReceiverData → ReceiverState
+receiver_of char_ticks r =
+    record {
+      queue = r.queue.items;
+      is_overrun = r.is_overrun;
+      is_front_reported = r.is_front_reported;
+      last_byte = r.last_byte;
+      timeout_ticks = r.timeout_ticks;
+      timeout_limit = 4 * char_ticks;
+      trigger = r.trigger;
+      arrived = 0;
+      marks = [];
+      is_stray_lost = false;
+    }
+
+-- a receiver of such a chip, without its schedule
+abbrev pub without_schedule : ℕ → ReceiverState → ReceiverState
+without_schedule char_ticks r =
+    record r { timeout_limit = 4 * char_ticks; arrived = 0; marks = []; is_stray_lost = false }
+
+-- the modem lines of these data
+abbrev pub modem_of : ModemData → ModemState
+modem_of m = record { inputs = m.inputs.0; lines = m.lines.0; deltas = m.deltas.0 }

@@ -1,0 +1,230 @@
+-- Whatever is done with a live chip, it stays live.
+use Rattle.std.proofs.Common.{◌≡◌, ℕ, zero, suc, ◌≤◌, ◌<◌, Bool, true, false, not, ◌&&◌, ◌==◌, nat_lt, nat_le, List, [], ◌∷◌, length}
+use Rattle.std.proofs.Common.{Option, Some, None, is_some, bit_or, drop, refl, arith, ◌∙◌, if◌then◌else◌}
+use Rattle.std.proofs.lemmas.Grind.{common_steps}
+use Rattle.std.proofs.lemmas.List.{length-drop}
+use Rattle.uart_chip.specs.declared.event.BuildError.TheVariants.{BadTicks, BadWire}
+use Rattle.uart_chip.specs.declared.event.Chip.{Chip}
+use Rattle.uart_chip.specs.declared.event.Chip.TheVariants.{Uart16550A, Uart16450}
+use Rattle.uart_chip.specs.declared.event.Event.TheVariants.{Lines}
+use Rattle.uart_chip.specs.declared.event.TheConstants.{MAX_CHAR_TICKS, MAX_WIRE_CAPACITY}
+use Rattle.uart_chip.specs.declared.receiver.Character.{Character}
+use Rattle.uart_chip.specs.declared.receiver.Origin.TheVariants.{Looped, Live}
+use Rattle.uart_chip.specs.declared.transmitter.Shifting.{Shifting}
+use Rattle.uart_chip.specs.Build.{refusal}
+use Rattle.uart_chip.specs.Masks.{IsWithin}
+use Rattle.uart_chip.specs.Transmitter as transmitter
+use Rattle.uart_chip.specs.Transmitter.{TransmitterState, room, looped_byte}
+use Rattle.uart_chip.specs.Receiver as receiver
+use Rattle.uart_chip.specs.Receiver.{ReceiverState, is_stray, come_in, replace, come_back, take_front, clear}
+use Rattle.uart_chip.specs.Chip.{ChipState, fresh, cut_of, is_dlab_set, is_loopback, ticks, bring, take_wire, change_lines}
+use Rattle.uart_chip.specs.Chip.{identification, interrupt, is_thr_empty, after_read, after_write}
+use Rattle.uart_chip.specs.Chip.{set_fifo, control, switch, is_same, reset_receiver}
+use Rattle.uart_chip.specs.Chip.{reset_transmitter, set_trigger, trigger_level}
+use Rattle.uart_device.specs.Sound.{IsWhole}
+use Rattle.uart_device.proofs.soundness.Builds.{whole_fresh}
+use Rattle.uart_device.proofs.soundness.Idle.{whole_ticks}
+use Rattle.uart_device.proofs.soundness.ReceiverSounds.{safe_bring}
+use Rattle.uart_device.proofs.soundness.Sounds.{Steady, steady_ticks, steady_lines, steady_read, steady_write, steady_receiver}
+use Rattle.uart_device.proofs.soundness.Sounds.{steady_transmitter, whole_perform, whole_read, whole_write}
+use Rattle.uart_spec.specs.Bits.{has_any, flag}
+use Rattle.uart_spec.specs.declared.registers.interrupt_type.InterruptType.{InterruptType}
+use Rattle.uart_spec.specs.declared.registers.interrupt_type.InterruptType.TheVariants.{ReceiverLineStatus}
+use Rattle.uart_spec.specs.declared.registers.interrupt_status.TheConstants.ISR
+use Rattle.uart_spec.specs.declared.registers.fifo_control.TheConstants.FCR
+use Rattle.uart_spec.specs.declared.registers.line_status.TheConstants.LSR
+use Rattle.uart_spec.specs.declared.registers.modem_status.TheConstants.MSR
+use Rattle.uart_spec.specs.declared.registers.offsets.TheConstants as offsets
+use Rattle.uart_live.specs.Live.{IsLive}
+
+pub both_if : {A : Type 0} (P : A → Type 0) (x y : A) (b : Bool) → P x → P y → P (if b then x else y)
+both_if P x y true p q = p
+both_if P x y false p q = q
+
+-- ---- none is lost unseen
+
+-- no stray character was lost since the last one came
+abbrev pub NoneLost : ReceiverState → Type 0
+NoneLost r = r.is_stray_lost ≡ false
+
+none_lost-replace : (queue : List Character) (new : Character) (r : ReceiverState) → is_stray new.origin ≡ true → NoneLost r →
+    NoneLost (replace queue new r)
+none_lost-replace [] new r s h = h
+none_lost-replace (old ∷ others) new r s h = rw s refl
+
+pub none_lost-come_in : (fifo : Bool) (new : Character) (r : ReceiverState) → is_stray new.origin ≡ true → NoneLost r →
+    NoneLost (come_in fifo new r)
+none_lost-come_in fifo new r s h =
+    both_if NoneLost _ _ (nat_lt (length r.queue) (room fifo)) (rw s refl)
+    (both_if NoneLost _ _ fifo (rw s refl) (none_lost-replace r.queue new r s h))
+
+none_lost-come_back : (fifo : Bool) (byte : Option ℕ) (r : ReceiverState) → NoneLost r → NoneLost (come_back fifo byte r)
+none_lost-come_back fifo None r h = h
+none_lost-come_back fifo (Some byte) r h = none_lost-come_in fifo (record { byte = byte; errors = 0; origin = Looped }) r refl h
+
+none_lost-bring : (loopback fifo : Bool) (byte errors : ℕ) (r : ReceiverState) → NoneLost r →
+    NoneLost (receiver.bring loopback fifo byte errors r)
+none_lost-bring true fifo byte errors r h = h
+none_lost-bring false fifo byte errors r h =
+    none_lost-come_in fifo (record { byte = byte; errors = errors; origin = Live }) r refl h
+
+none_lost-take : (queue : List Character) (r : ReceiverState) → NoneLost r → NoneLost (take_front queue r)
+none_lost-take [] r h = h
+none_lost-take (front ∷ others) r h = h
+
+-- ---- the room of the wire
+
+abbrev pub HasRoom : TransmitterState → Type 0
+HasRoom t = t.capacity ≤ MAX_WIRE_CAPACITY
+
+room-shift : (loopback : Bool) (place : Option Shifting) (t : TransmitterState) → HasRoom t → HasRoom (transmitter.shift loopback place t)
+room-shift loopback None t h = h
+room-shift loopback (Some s) t h =
+    both_if HasRoom _ _ (nat_lt 1 s.ticks_left) h
+    (both_if HasRoom _ _ loopback h (both_if HasRoom _ _ (nat_lt (length t.wire) t.capacity) h h))
+
+room-refill : (place : Option Shifting) (queue : List ℕ) (t : TransmitterState) → HasRoom t → HasRoom (transmitter.refill place queue t)
+room-refill (Some s) queue t h = h
+room-refill None [] t h = h
+room-refill None (x ∷ []) t h = h
+room-refill None (x ∷ y ∷ xs) t h = h
+
+room-tick : (loopback : Bool) (t : TransmitterState) → HasRoom t → HasRoom (transmitter.tick loopback t)
+room-tick loopback t h =
+    let u : TransmitterState = transmitter.shift loopback t.shift_place t in
+    room-refill u.shift_place u.queue u (room-shift loopback t.shift_place t h)
+
+-- ---- both, of the chip
+
+abbrev pub Keeps : ChipState → Type 0
+Keeps c = NoneLost c.receiver × HasRoom c.transmitter
+
+keeps-ticks : (n : ℕ) (c : ChipState) → Keeps c → Keeps (ticks n c)
+keeps-ticks zero c k = k
+keeps-ticks (suc n) c k =
+    let d : ChipState = ticks n c in
+    let w = keeps-ticks n c k in (
+      none_lost-come_back d.fifo (looped_byte (is_loopback d.latches) d.transmitter.shift_place) d.receiver w.0,
+      room-tick (is_loopback d.latches) d.transmitter w.1,
+    )
+
+keeps-read : (offset : ℕ) (c : ChipState) → Keeps c → Keeps (after_read offset c)
+keeps-read offset c k =
+    both_if Keeps _ _ (offset == offsets.DATA) (both_if Keeps _ _ (is_dlab_set c.latches) k
+    (none_lost-take c.receiver.queue c.receiver k.0, k.1))
+    (both_if Keeps _ _ (offset == offsets.ISR) (both_if Keeps _ _ (is_thr_empty (interrupt c)) k k)
+    (both_if Keeps _ _ (offset == offsets.LSR) k (both_if Keeps _ _ (offset == offsets.MSR) k k)))
+
+keeps-fifo : (value : ℕ) (c : ChipState) → Keeps c → Keeps (set_fifo value c)
+keeps-fifo value c k =
+    let d : ChipState = if is_same c.fifo (has_any value FCR.FIFO_ENABLE.0) then c else switch (has_any value FCR.FIFO_ENABLE.0) c in
+    let a : Keeps d = both_if Keeps c (switch (has_any value FCR.FIFO_ENABLE.0) c) (is_same c.fifo (has_any value FCR.FIFO_ENABLE.0)) k k in
+    let e : ChipState = reset_receiver value d in
+    let b : Keeps e = both_if Keeps (record d { receiver = clear d.receiver }) d (has_any value FCR.RX_FIFO_RESET.0) a a in
+    let f : ChipState = reset_transmitter value e in
+    let g : Keeps f =
+    both_if Keeps (record e { transmitter = record e.transmitter { queue = []; is_thr_pending = true } }) e
+    (has_any value FCR.TX_FIFO_RESET.0) b b in
+    both_if Keeps (set_trigger (trigger_level value) f) d (has_any value FCR.FIFO_ENABLE.0) g a
+
+keeps-control : (model : Chip) (value : ℕ) (c : ChipState) → Keeps c → Keeps (control model value c)
+keeps-control Uart16450 value c k = k
+keeps-control Uart16550A value c k = keeps-fifo value c k
+
+keeps-write : (offset value : ℕ) (c : ChipState) → Keeps c → Keeps (after_write offset value c)
+keeps-write offset value c k =
+    both_if Keeps _ _ (offset == offsets.DATA) (both_if Keeps _ _ (is_dlab_set c.latches) k
+    (k.0, both_if HasRoom _ _ (nat_lt (length c.transmitter.queue) (room c.fifo)) k.1 k.1))
+    (both_if Keeps _ _ (offset == offsets.IER) (both_if Keeps _ _ (is_dlab_set c.latches) k k)
+    (both_if Keeps _ _ (offset == offsets.FCR) (keeps-control c.model value c k)
+    (both_if Keeps _ _ (offset == offsets.LCR) k (both_if Keeps _ _ (offset == offsets.MCR) k (both_if Keeps _ _
+    (offset == offsets.SPR) k k)))))
+
+-- ---- the chip stays live
+
+live-steady : (c d : ChipState) → IsLive c → Steady c.receiver.arrived c d → IsWhole (record { chip = d; ahead = [] }) → Keeps d → IsLive d
+live-steady c d w s whole k = record { whole = whole; no_marks = s.known ∙ w.no_marks; none_lost = k.0; room = k.1 }
+
+pub live-read : (offset : ℕ) (c : ChipState) → IsLive c → IsLive (after_read offset c)
+live-read offset c w =
+    live-steady c _ w (steady_read offset c w.whole.sound.chip) (whole_read offset (record { chip = c; ahead = [] }) w.whole)
+    (keeps-read offset c (w.none_lost, w.room))
+
+pub live-write : (offset value : ℕ) (c : ChipState) → value < 256 → IsLive c → IsLive (after_write offset value c)
+live-write offset value c v w =
+    live-steady c _ w (steady_write offset value c w.whole.sound.chip) (whole_write offset value
+    (record { chip = c; ahead = [] }) v w.whole)
+    (keeps-write offset value c (w.none_lost, w.room))
+
+pub live-ticks : (n : ℕ) (c : ChipState) → IsLive c → IsLive (ticks n c)
+live-ticks n c w =
+    live-steady c _ w (steady_ticks n c w.whole.sound.chip) (whole_ticks n c (ticks n c) [] refl w.whole)
+    (keeps-ticks n c (w.none_lost, w.room))
+
+pub live-lines : (inputs : ℕ) (c : ChipState) → IsWithin inputs MSR.LINES.0 → IsLive c → IsLive (change_lines inputs c)
+live-lines inputs c i w =
+    live-steady c _ w (steady_lines inputs c w.whole.sound.chip i)
+    (whole_perform (Lines inputs) [] c (record {
+      sound = record { chip = w.whole.sound.chip; foreseen = w.whole.sound.foreseen; legal = (i, tt) };
+      bytes = w.whole.bytes;
+    }))
+    (w.none_lost, w.room)
+
+-- a move of one part that leaves the latches alone
+live-part : (c d : ChipState) → IsLive c → Steady c.receiver.arrived c d → d.latches ≡ c.latches → Keeps d → IsLive d
+live-part c d w s l k =
+    live-steady c d w s
+    (record {
+      sound = record { chip = s.sound; foreseen = omega (arith, s.number, s.known, w.whole.sound.foreseen); legal = tt };
+      bytes = rw l w.whole.bytes;
+    })
+    k
+
+pub live-bring : (byte errors : ℕ) (c : ChipState) → IsWithin errors LSR.CHARACTER_ERRORS.0 → IsLive c → IsLive (bring byte errors c)
+live-bring byte errors c l w =
+    let loopback : Bool = is_loopback c.latches in
+    live-part c (bring byte errors c) w
+    (steady_receiver c.receiver.arrived c (receiver.bring loopback c.fifo (cut_of c byte) errors c.receiver) w.whole.sound.chip
+    (safe_bring loopback c.fifo c.receiver (cut_of c byte) errors w.whole.sound.chip.receiver l)) refl
+    (none_lost-bring loopback c.fifo (cut_of c byte) errors c.receiver w.none_lost, w.room)
+
+pub live-take : (count : ℕ) (c : ChipState) → IsLive c → IsLive (take_wire count c)
+live-take count c w =
+    let t = w.whole.sound.chip.transmitter in
+    let fewer : length (drop count c.transmitter.wire) ≤ c.transmitter.capacity =
+    rw (length-drop count c.transmitter.wire) (omega (arith, t.on_wire)) in
+    live-part c (take_wire count c) w
+    (steady_transmitter c (transmitter.take_wire count c.transmitter) w.whole.sound.chip
+    (record { in_room = t.in_room; ticking = t.ticking; at_least_one = t.at_least_one; at_most = t.at_most; on_wire = fewer }) refl) refl
+    (w.none_lost, w.room)
+
+-- ---- a new chip
+
+within_room : (char_ticks capacity : ℕ) → refusal char_ticks capacity [] ≡ None → capacity ≤ MAX_WIRE_CAPACITY
+within_room char_ticks capacity e =
+    go (not (nat_le 1 char_ticks && nat_le char_ticks MAX_CHAR_TICKS)) (nat_lt MAX_WIRE_CAPACITY capacity) refl e
+  where
+    go : (bad wide : Bool) → nat_lt MAX_WIRE_CAPACITY capacity ≡ wide →
+        (if bad then Some BadTicks else if wide then Some BadWire else None) ≡ None → capacity ≤ MAX_WIRE_CAPACITY
+    go true wide w e = absurd (cc)
+    go false true w e = absurd (cc)
+    go false false w e = grind (arith, common_steps)
+
+pub live-fresh : (chip : Chip) (char_ticks capacity : ℕ) → refusal char_ticks capacity [] ≡ None → IsLive (fresh chip char_ticks capacity 0)
+live-fresh chip char_ticks capacity e =
+    record {
+      whole = whole_fresh chip char_ticks capacity [] e;
+      no_marks = refl;
+      none_lost = refl;
+      room = within_room char_ticks capacity e;
+    }
+
+-- ---- the interrupt line
+
+-- ISR shows by its lowest bit that no interrupt is pending
+pub shows-interrupt : (pending : Option InterruptType) (fifo : Bool) →
+    is_some pending ≡ not (has_any (bit_or (identification pending) (flag fifo ISR.FIFOS_ENABLED.0)) ISR.INTERRUPT_STATUS.0)
+shows-interrupt (Some ReceiverLineStatus) true = refl
+shows-interrupt (Some ReceiverLineStatus) false = refl
+shows-interrupt _ true = refl
+shows-interrupt _ false = refl

@@ -1,0 +1,12 @@
+use Rattle.std.proofs.Common.{arith}
+use Rattle.uart_device.proofs.soundness.Idle.{moves-most}
+use Rattle.uart_live.proofs.Lives.{live-ticks}
+use Rattle.uart_live.proofs.live.LiveChip.ticks.Goals as goal
+
+pub invariant_of-self : goal.invariant_of-self
+invariant_of-self c = rw c.ticks.ensures.after (live-ticks c.args.count _ c.self.invariant)
+
+pub returns-clause-turns : goal.returns-clause-turns
+returns-clause-turns c =
+    let most = moves-most c.self.inside.uart.fifo c.self.inside.uart.transmitter c.self.invariant.whole.sound.chip.transmitter in
+    omega (arith, most, c.ticks.ensures.turns)

@@ -1,0 +1,124 @@
+-- What an owner wants of a live chip: nothing is lost unseen, and nothing overtakes.
+use Rattle.std.specs.Prelude.{◌≡◌, ◌≢◌, ℕ, ◌<◌, Bool, true, false, not, ◌&&◌, ◌||◌, ◌==◌, List, [], ◌∷◌, ◌++◌, length}
+use Rattle.std.specs.Prelude.{take, if◌then◌else◌}
+use Rattle.uart_chip.specs.declared.receiver.Character.{Character}
+use Rattle.uart_chip.specs.declared.receiver.Origin.TheVariants.{Live}
+use Rattle.uart_chip.specs.Transmitter.{room, out}
+use Rattle.uart_chip.specs.Chip.{ChipState, cut_of, is_dlab_set, is_loopback, line_status, ticks, bring, take_wire}
+use Rattle.uart_chip.specs.Chip.{change_lines, after_read, after_write}
+use Rattle.uart_spec.specs.Bits.{has_any}
+use Rattle.uart_spec.specs.declared.registers.line_status.TheConstants.LSR
+use Rattle.uart_spec.specs.declared.registers.offsets.TheConstants as offsets
+
+-- what is done with a live chip: the guest's accesses, and the calls of its owner that change it
+pub data Act : Type 0 where
+  Read : (offset : ℕ) → Act
+  Write : (offset value : ℕ) → Act
+  Ticks : (count : ℕ) → Act
+  Arrive : (byte errors : ℕ) → Act
+  SetLines : (inputs : ℕ) → Act
+  TakeWire : (count : ℕ) → Act
+
+-- the chip after it, as the contract of the call says
+abbrev pub after : Act → ChipState → ChipState
+after (Read offset) c = after_read offset c
+after (Write offset value) c = after_write offset value c
+after (Ticks count) c = ticks count c
+after (Arrive byte errors) c = bring byte errors c
+after (SetLines inputs) c = change_lines inputs c
+after (TakeWire count) c = take_wire count c
+
+-- the chip after these in turn
+abbrev pub after_all : List Act → ChipState → ChipState
+after_all [] c = c
+after_all (act ∷ acts) c = after_all acts (after act c)
+
+-- what these acts have of something, in turn, each as it finds the chip
+abbrev pub in_turn : {X : Type 0} → (Act → ChipState → List X) → List Act → ChipState → List X
+in_turn of_act [] c = []
+in_turn of_act (act ∷ acts) c = of_act act c ++ in_turn of_act acts (after act c)
+
+-- each of these acts is so, as it finds the chip
+abbrev pub AllInTurn : (Act → ChipState → Type 0) → List Act → ChipState → Type 0
+AllInTurn P [] c = Unit {0}
+AllInTurn P (act ∷ acts) c = P act c × AllInTurn P acts (after act c)
+
+-- the act reaches the data register, and not the divisor latch
+abbrev pub is_data : ℕ → ChipState → Bool
+is_data offset c = offset == offsets.DATA && not (is_dlab_set c.latches)
+
+-- ---- what goes out
+
+-- the byte that the guest gives to the transmitter, as it is sent
+abbrev pub sent : Act → ChipState → List ℕ
+sent (Write offset value) c = if is_data offset c then cut_of c value ∷ [] else []
+sent _ c = []
+
+-- the bytes that the owner takes
+abbrev pub taken : Act → ChipState → List ℕ
+taken (TakeWire count) c = take count c.transmitter.wire
+taken _ c = []
+
+-- time passes outside of loopback; FCR, which can throw away what waits, is not written; a byte is written to the
+-- transmitter only if its queue has room
+abbrev pub IsCareful : Act → ChipState → Type 0
+IsCareful (Ticks count) c = is_loopback c.latches ≡ false
+IsCareful (Write offset value) c =
+    (offset ≢ offsets.FCR) × (is_data offset c ≡ true → length c.transmitter.queue < room c.fifo)
+IsCareful _ c = Unit {0}
+
+-- bytes leave in the order in which they were written, each once, whether the wire is full or not: what was to go out
+-- and what was written is what was taken and what is still to go out
+abbrev pub BytesLeaveInOrder : Type 0
+BytesLeaveInOrder =
+    (acts : List Act) (c : ChipState) → AllInTurn IsCareful acts c →
+    in_turn taken acts c ++ out (after_all acts c).transmitter ≡ out c.transmitter ++ in_turn sent acts c
+
+-- ---- what comes in
+
+-- the character that comes in, unless it is lost to loopback
+abbrev pub came : Act → ChipState → List Character
+came (Arrive byte errors) c =
+    if is_loopback c.latches then [] else record { byte = cut_of c byte; errors = errors; origin = Live } ∷ []
+came _ c = []
+
+-- the character that the guest reads
+abbrev pub read : Act → ChipState → List Character
+read (Read offset) c = if is_data offset c then take 1 c.receiver.queue else []
+read _ c = []
+
+-- time passes outside of loopback, and FCR is not written
+abbrev pub IsUnreset : Act → ChipState → Type 0
+IsUnreset (Ticks count) c = is_loopback c.latches ≡ false
+IsUnreset (Write offset value) c = offset ≢ offsets.FCR
+IsUnreset _ c = Unit {0}
+
+-- the guest reads the overrun flag, and it is set
+abbrev pub shows_overrun : Act → ChipState → Bool
+shows_overrun (Read offset) c = offset == offsets.LSR && has_any (line_status c) LSR.OVERRUN_ERROR.0
+shows_overrun _ c = false
+
+-- one of these acts shows it
+abbrev pub some_overrun : List Act → ChipState → Bool
+some_overrun [] c = false
+some_overrun (act ∷ acts) c = shows_overrun act c || some_overrun acts (after act c)
+
+-- characters are read in the order in which they came, each once, or an overrun shows: if no read of LSR showed the
+-- overrun flag and it is not set now, then what waited and came is what was read and what waits
+abbrev pub CharactersAreReadInOrder : Type 0
+CharactersAreReadInOrder =
+    (acts : List Act) (c : ChipState) → AllInTurn IsUnreset acts c → some_overrun acts c ≡ false →
+    (after_all acts c).receiver.is_overrun ≡ false →
+    c.receiver.queue ++ in_turn came acts c ≡ in_turn read acts c ++ (after_all acts c).receiver.queue
+
+-- ---- what a read leaves alone
+
+-- the register only shows what it holds: IER, LCR, MCR, SCR, and under DLAB both halves of the divisor latch
+abbrev pub is_plain : ℕ → ChipState → Bool
+is_plain offset c =
+    (offset == offsets.IER || offset == offsets.LCR) || (offset == offsets.MCR || offset == offsets.SPR) ||
+    (offset == offsets.DATA && is_dlab_set c.latches)
+
+-- a read of such a register changes nothing
+abbrev pub PlainReadsChangeNothing : Type 0
+PlainReadsChangeNothing = (offset : ℕ) (c : ChipState) → is_plain offset c ≡ true → after_read offset c ≡ c

@@ -1,0 +1,65 @@
+-- Whether data are those of a live chip.
+use Rattle.std.specs.Prelude.{ℕ, ◌*◌, Bool, true, not, ◌&&◌, ◌==◌, nat_le, bit_and, List, length, Option, Some, None}
+use Rattle.std.specs.List.{list_all}
+use Rattle.uart_chip.specs.declared.chip.ChipData.{ChipData}
+use Rattle.uart_chip.specs.declared.chip.Latches.{Latches}
+use Rattle.uart_chip.specs.declared.event.Chip.{Chip}
+use Rattle.uart_chip.specs.declared.event.Chip.TheVariants.{Uart16550A, Uart16450}
+use Rattle.uart_chip.specs.declared.event.TheConstants.{MAX_CHAR_TICKS, MAX_WIRE_CAPACITY}
+use Rattle.uart_chip.specs.declared.modem.ModemData.{ModemData}
+use Rattle.uart_chip.specs.declared.receiver.Character.{Character}
+use Rattle.uart_chip.specs.declared.receiver.ReceiverData.{ReceiverData}
+use Rattle.uart_chip.specs.declared.transmitter.Shifting.{Shifting}
+use Rattle.uart_chip.specs.declared.transmitter.TransmitterData.{TransmitterData}
+use Rattle.uart_chip.specs.Masks.{ier_bits, mcr_bits}
+use Rattle.uart_chip.specs.Receiver.{is_stray}
+use Rattle.uart_chip.specs.Transmitter.{room}
+use Rattle.uart_spec.specs.declared.registers.line_status.TheConstants.LSR
+use Rattle.uart_spec.specs.declared.registers.modem_status.TheConstants.MSR
+
+-- no bit outside of the mask is set
+abbrev pub is_within : ℕ → ℕ → Bool
+is_within value mask = bit_and value mask == value
+
+-- a character without a schedule, with errors of a character alone
+abbrev pub is_live_character : Character → Bool
+is_live_character character = is_stray character.origin && is_within character.errors LSR.CHARACTER_ERRORS.0
+
+-- the queue fits, its characters may be there, and the idle ticks end at four character times
+abbrev pub is_sound_receiver : Bool → ℕ → ReceiverData → Bool
+is_sound_receiver fifo char_ticks r =
+    nat_le (length r.queue.items) (room fifo) &&
+    (list_all is_live_character r.queue.items && nat_le r.timeout_ticks (4 * char_ticks))
+
+-- a character that is shifted out has at least one tick left, and at most its whole time
+abbrev pub is_ticking : ℕ → Option Shifting → Bool
+is_ticking char_ticks None = true
+is_ticking char_ticks (Some s) = nat_le 1 s.ticks_left && nat_le s.ticks_left char_ticks
+
+-- a character takes as many ticks as it may
+abbrev pub is_char_time : ℕ → Bool
+is_char_time char_ticks = nat_le 1 char_ticks && nat_le char_ticks MAX_CHAR_TICKS
+
+-- the queue fits, and so do these bytes on a wire that may be so large
+abbrev pub is_sound_transmitter : Bool → TransmitterData → List ℕ → Bool
+is_sound_transmitter fifo t wire =
+    is_char_time t.char_ticks && (is_ticking t.char_ticks t.shift_place &&
+    (nat_le (length t.queue.items) (room fifo) &&
+    (nat_le (length wire) t.wire_capacity && nat_le t.wire_capacity MAX_WIRE_CAPACITY)))
+
+abbrev pub is_sound_modem : ModemData → Bool
+is_sound_modem m =
+    is_within m.inputs.0 MSR.LINES.0 && (is_within m.lines.0 MSR.LINES.0 && is_within m.deltas.0 MSR.CHANGES.0)
+
+abbrev pub is_sound_latches : Latches → Bool
+is_sound_latches l = is_within l.ier.0 ier_bits && is_within l.mcr.0 mcr_bits
+
+-- only a chip that has a FIFO has it on
+abbrev pub is_implemented : Chip → Bool → Bool
+is_implemented Uart16550A fifo = true
+is_implemented Uart16450 fifo = not fifo
+
+abbrev pub is_live : ChipData → List ℕ → Bool
+is_live c wire =
+    is_sound_latches c.latches && (is_implemented c.model c.fifo && (is_sound_modem c.modem &&
+    (is_sound_receiver c.fifo c.transmitter.char_ticks c.receiver && is_sound_transmitter c.fifo c.transmitter wire)))

@@ -1,0 +1,39 @@
+//! A live chip as plain data, and back.
+ghost use Rattle.std.specs.Prelude.{◌≡◌, Err, IfOk, IsOkUnless};
+ghost use Rattle.uart_chip.specs.Snapshot.{chip_of};
+ghost use Rattle.uart_live.specs.declared.errors.RestoreError.{RestoreError};
+ghost use Rattle.uart_live.specs.Live.{IsLive};
+
+use super::LiveChip;
+use crate::errors::RestoreError;
+use crate::sound::is_live;
+use std::alloc::Global;
+use uart_chip::{ChipData, Uart};
+
+impl LiveChip {
+    /// The chip as plain data. What is on its wire is [`LiveChip::wire`].
+    pub fn data(&self) -> ChipData
+        ensures { chip_of result self.now.transmitter.wire ≡ self.now }
+    {
+        self.uart.data()
+    }
+
+    /// The chip of these data, with these bytes on its wire: it goes on as the one that was saved would have.
+    ///
+    /// # Errors
+    ///
+    /// `BadData`, if the data are not those of a live chip, and `OutOfMemory`.
+    pub fn from_data(alloc: Global, saved: &ChipData, wire: &[u8]) -> Result<Self, RestoreError>
+        ensures restored { IfOk result (λ live. live ≡ chip_of saved.now wire.now) }
+        ensures refused { (IsLive (chip_of saved.now wire.now) → ⊥) → result ≡ Err RestoreError.BadData }
+        ensures accepted { IsLive (chip_of saved.now wire.now) → IsOkUnless result RestoreError.OutOfMemory }
+    {
+        if !is_live(saved, wire) {
+            return Err(RestoreError::BadData);
+        }
+        let Ok(uart) = Uart::from_data(alloc, saved, wire) else {
+            return Err(RestoreError::OutOfMemory);
+        };
+        Ok(Self { uart })
+    }
+}

@@ -1,0 +1,123 @@
+//! Whether data are those of a live chip: one question for each part of what holds of it.
+ghost use Rattle.std.specs.Prelude.{◌≡◌, true, false};
+ghost use Rattle.std.specs.List.{list_all};
+ghost use Rattle.uart_chip.specs.Snapshot.{latches_of, chip_of};
+ghost use Rattle.uart_device.specs.Sound.{HoldBytes};
+ghost use Rattle.uart_live.specs.Live.{IsLive};
+ghost use Rattle.uart_live.specs.Saved as spec;
+ghost use Rattle.uart_chip.specs.Transmitter.{room};
+
+use bitflags::Flags;
+use uart_chip::{
+    Character, Chip, ChipData, Latches, MAX_CHAR_TICKS, MAX_WIRE_CAPACITY, ModemData, Origin,
+    ReceiverData, Shifting, TransmitterData, kept_interrupts, kept_modem_control,
+};
+use uart_spec::FIFO_SIZE;
+use uart_spec::registers::{LSR, MSR};
+
+// How many characters a queue may hold.
+fn room_of(fifo: bool) -> usize
+    ensures { result ≡ room fifo }
+{
+    if fifo { FIFO_SIZE } else { 1 }
+}
+
+// It is no arrival of a schedule, and has errors of a character alone.
+fn is_live_character(character: &Character) -> bool
+    ensures { result ≡ spec.is_live_character character.now }
+{
+    let errors = LSR::from_bits_retain(character.errors);
+    let is_stray = match character.origin {
+        Origin::Looped | Origin::Live => true,
+        Origin::Arrived(_) => false,
+    };
+    is_stray && errors.intersection(LSR::CHARACTER_ERRORS) == errors
+}
+
+fn are_live(characters: &[Character]) -> bool
+    ensures { result ≡ list_all spec.is_live_character characters.now }
+{
+    characters
+        .iter()
+        .all(|character| is_live_character(character))
+}
+
+fn is_sound_receiver(saved: &ReceiverData, fifo: bool, char_ticks: u16) -> bool
+    ensures { result ≡ spec.is_sound_receiver fifo char_ticks saved.now }
+{
+    saved.queue.as_slice().len() <= room_of(fifo)
+        && are_live(saved.queue.as_slice())
+        && saved.timeout_ticks as u32 <= 4 * char_ticks as u32
+}
+
+// It has at least one tick left, and at most its whole time.
+fn is_ticking(char_ticks: u16, place: Option<Shifting>) -> bool
+    ensures { result ≡ spec.is_ticking char_ticks place }
+{
+    match place {
+        None => true,
+        Some(shifting) => 1 <= shifting.ticks_left && shifting.ticks_left <= char_ticks,
+    }
+}
+
+fn is_char_time(char_ticks: u16) -> bool
+    ensures { result ≡ spec.is_char_time char_ticks }
+{
+    1 <= char_ticks && char_ticks <= MAX_CHAR_TICKS
+}
+
+fn is_sound_transmitter(saved: &TransmitterData, fifo: bool, wire: &[u8]) -> bool
+    ensures { result ≡ spec.is_sound_transmitter fifo saved.now wire.now }
+{
+    is_char_time(saved.char_ticks)
+        && is_ticking(saved.char_ticks, saved.shift_place)
+        && saved.queue.as_slice().len() <= room_of(fifo)
+        && wire.len() <= saved.wire_capacity
+        && saved.wire_capacity <= MAX_WIRE_CAPACITY
+}
+
+fn is_sound_modem(saved: ModemData) -> bool
+    ensures { result ≡ spec.is_sound_modem saved }
+{
+    saved.inputs.intersection(MSR::LINES) == saved.inputs
+        && saved.lines.intersection(MSR::LINES) == saved.lines
+        && saved.deltas.intersection(MSR::CHANGES) == saved.deltas
+}
+
+// The two latches that keep only some bits have no others.
+fn is_sound_latches(latches: Latches) -> bool
+    ensures value { result ≡ spec.is_sound_latches latches }
+    ensures bytes { HoldBytes (latches_of latches) }
+{
+    kept_interrupts(latches.ier) == latches.ier && kept_modem_control(latches.mcr) == latches.mcr
+}
+
+// Only a chip that has a FIFO has it on.
+fn is_implemented(model: Chip, fifo: bool) -> bool
+    ensures { result ≡ spec.is_implemented model fifo }
+{
+    match model {
+        Chip::Uart16550A => true,
+        Chip::Uart16450 => !fifo,
+    }
+}
+
+// Every part is sound.
+fn are_sound(saved: &ChipData, wire: &[u8]) -> bool
+    ensures value { result ≡ spec.is_live saved.now wire.now }
+    ensures bytes { HoldBytes (latches_of saved.now.latches) }
+{
+    is_sound_latches(saved.latches)
+        && is_implemented(saved.model, saved.fifo)
+        && is_sound_modem(saved.modem)
+        && is_sound_receiver(&saved.receiver, saved.fifo, saved.transmitter.char_ticks)
+        && is_sound_transmitter(&saved.transmitter, saved.fifo, wire)
+}
+
+/// The data and these bytes on the wire are those of a live chip.
+pub fn is_live(saved: &ChipData, wire: &[u8]) -> bool
+    ensures sound { result ≡ true → IsLive (chip_of saved.now wire.now) }
+    ensures unsound { result ≡ false → IsLive (chip_of saved.now wire.now) → ⊥ }
+{
+    are_sound(saved, wire)
+}

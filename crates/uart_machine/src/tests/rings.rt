@@ -1,0 +1,122 @@
+//! Worked examples of ring calls over a machine.
+use super::{arrive, machine};
+use crate::{ArrivalMark, Chip, Device16550, Event, RingAnswer, RingCall, run_ring};
+use arrayvec::ArrayVec;
+use bitflags::Flags;
+use std::alloc::AllocGlobal;
+use std::process::Abort;
+use std::test::Fail;
+use uart_16550::Uart16550;
+use uart_ring::Uart16550Ring;
+use uart_spec::Config;
+use uart_spec::registers::{FifoTriggerLevel, IER, LSR};
+
+// Rings of these capacities over an initialised driver of a machine with this schedule.
+fn rings(
+    rt: &HostRuntime,
+    (chip, schedule): (Chip, &[Event]),
+    (fifo_trigger_level, interrupts): (Option<FifoTriggerLevel>, IER),
+    (tx_capacity, rx_capacity): (usize, usize),
+) -> Result<Uart16550Ring<Device16550>, Fail> {
+    let config = Config {
+        fifo_trigger_level,
+        interrupts,
+        ..Config::DEFAULT
+    };
+    let mut uart = Uart16550::new_with_backend(machine(rt, chip, 4, 64, schedule)?);
+    uart.init(config)?;
+    match Uart16550Ring::new(rt.alloc(), uart, tx_capacity, rx_capacity) {
+        Ok(ring) => Ok(ring),
+        Err((_uart, cause)) => Err(cause.into()),
+    }
+}
+
+fn bytes(some: &[u8]) -> ArrayVec<u8, 64> {
+    let mut copy = ArrayVec::new();
+    let _ = copy.try_extend_from_slice(some);
+    copy
+}
+
+// One call after the other, each in a run of its own, and whether receiving is paused after it.
+fn made(
+    rt: &(impl AllocGlobal + Abort),
+    ring: &mut Uart16550Ring<Device16550>,
+    steps: &[(RingCall, RingAnswer, bool)],
+) {
+    for (call, want, is_paused) in steps {
+        assert!(rt; call.is_runnable());
+        let mut answers = [RingAnswer::Done];
+        run_ring(ring, std::slice::from_ref(call), &mut answers);
+        assert_eq!(rt; &answers[0], want, "{call:?}");
+        assert_eq!(rt; ring.is_paused(), *is_paused, "after {call:?}");
+    }
+}
+
+#[test]
+fn bytes_that_wait_are_sent_at_the_interrupt(rt: HostRuntime) -> Result<(), Fail> {
+    let schedule = [Event::Mark, Event::Ticks(100), Event::Mark];
+    let set = (Some(FifoTriggerLevel::Fourteen), IER::from_bits_retain(0));
+    let mut ring = rings(&rt, (Chip::Uart16550A, &schedule), set, (32, 4))?;
+    let sent = [
+        1, 2, 3, 4, 5, 6, 7, 8, 9, 10, 11, 12, 13, 14, 15, 16, 17, 18, 19, 20,
+    ];
+    let steps = [
+        (RingCall::Queue(bytes(&sent)), RingAnswer::Count(20), false),
+        (RingCall::Service, RingAnswer::Count(0), false),
+        (RingCall::Next, RingAnswer::Done, false),
+        (RingCall::Next, RingAnswer::Done, false),
+        (RingCall::Service, RingAnswer::Count(1), false),
+    ];
+    made(&rt, &mut ring, &steps);
+    assert_eq!(rt; ring.transmit_len(), 0);
+    let machine = ring.inner().backend();
+    assert_eq!(rt; machine.wire(), &sent[..17]);
+    assert_eq!(rt; machine.held_len(), 3);
+    for (place, byte) in [(0, 18), (1, 19), (2, 20)] {
+        assert_eq!(rt; machine.held_at(place), Some(byte));
+    }
+    Ok(())
+}
+
+#[test]
+fn a_full_ring_leaves_bytes_in_the_chip(rt: HostRuntime) -> Result<(), Fail> {
+    let schedule = [Event::Mark, arrive(0x41), arrive(0x42), arrive(0x43)];
+    let set = (Some(FifoTriggerLevel::One), IER::DATA_READY);
+    let mut ring = rings(&rt, (Chip::Uart16550A, &schedule), set, (32, 2))?;
+    let steps = [
+        (RingCall::Next, RingAnswer::Done, false),
+        (RingCall::Service, RingAnswer::Count(1), true),
+        (RingCall::Take(8), RingAnswer::Bytes(bytes(b"AB")), false),
+        (RingCall::Service, RingAnswer::Count(1), false),
+        (RingCall::Take(8), RingAnswer::Bytes(bytes(b"C")), false),
+    ];
+    made(&rt, &mut ring, &steps);
+    for arrival in 0..3 {
+        assert_eq!(rt;
+            ring.inner().backend().mark(arrival),
+            Some(ArrivalMark::Read)
+        );
+    }
+    Ok(())
+}
+
+#[test]
+fn an_overrun_is_told_once(rt: HostRuntime) -> Result<(), Fail> {
+    let schedule = [Event::Mark, arrive(0x41), arrive(0x42)];
+    let set = (None, IER::DATA_READY.union(IER::RECEIVER_LINE_STATUS));
+    let mut ring = rings(&rt, (Chip::Uart16450, &schedule), set, (32, 4))?;
+    let line = LSR::from_bits_retain(0x60);
+    let overrun = line.union(LSR::OVERRUN_ERROR);
+    let steps = [
+        (RingCall::Next, RingAnswer::Done, false),
+        (RingCall::Service, RingAnswer::Count(2), false),
+        (RingCall::TakeLine, RingAnswer::Line(overrun), false),
+        (RingCall::TakeLine, RingAnswer::Line(line), false),
+        (RingCall::Take(8), RingAnswer::Bytes(bytes(b"B")), false),
+    ];
+    made(&rt, &mut ring, &steps);
+    let machine = ring.inner().backend();
+    assert_eq!(rt; machine.mark(0), Some(ArrivalMark::Dropped));
+    assert_eq!(rt; machine.mark(1), Some(ArrivalMark::Read));
+    Ok(())
+}

@@ -1,0 +1,5 @@
+pub mod Lines
+pub mod Playing
+pub mod Ports
+pub mod Status
+pub mod Trace

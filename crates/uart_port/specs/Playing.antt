@@ -1,0 +1,60 @@
+-- What playing calls on a real chip comes to.
+use Rattle.std.specs.Prelude.{◌≡◌, ◌⊎◌, ℕ, List, [], ◌∷◌, ◌++◌, Option, None, IsSome}
+use Rattle.std.specs.Io.KnownBytes.{Appends}
+use Rattle.uart_16550.specs.Driver.{backend_of}
+use Rattle.uart_16550.specs.Pio.{Ports, PortStep}
+use Rattle.uart_16550.specs.Tty.{inner_of}
+use Rattle.uart_16550.specs.declared.tty.Uart16550Tty.{Uart16550Tty}
+use Rattle.uart_calls.specs.declared.call.Call.{Call}
+use Rattle.uart_calls.specs.declared.call.Answer.{Answer}
+use Rattle.uart_calls.specs.Meaning.{Performed}
+use Rattle.uart_language.specs.Output.{answer_lines}
+use Rattle.uart_port.specs.declared.ports.Fault.{Fault}
+use Rattle.uart_port.specs.declared.ports.GuardedPorts.{GuardedPorts}
+use Rattle.uart_port.specs.declared.playing.Journal.{Journal}
+use Rattle.uart_port.specs.Ports.{Attempt, GuardedStep, fault_of}
+
+-- the driver under its terminal, at eight ports of a file
+abbrev pub Terminal : Type 0 → Type 0
+Terminal F = Uart16550Tty (Ports (GuardedPorts F))
+
+-- the first fault of the ports
+abbrev pub fault_in : {F : Type 0} → Terminal F → Option Fault
+fault_in s = fault_of (backend_of (inner_of s)).access
+
+-- the driver made this call over the ports, and this is its answer
+abbrev pub Makes : {F : Type 0} → (F → Attempt → F → Type 0) → Terminal F → Call → Answer → Terminal F → Type 0
+Makes step s call answer t = Performed (PortStep (GuardedStep step)) s call answer t
+
+-- the calls were made one after the other and answered so, and none met a fault
+abbrev pub Answered : {F : Type 0} → (F → Attempt → F → Type 0) → Terminal F → List Call → List Answer → Terminal F →
+    Type 0
+Answered step s [] [] t = t ≡ s
+Answered step s [] (answer ∷ answers) t = ⊥
+Answered step s (call ∷ calls) [] t = ⊥
+Answered {F} step s (call ∷ calls) (answer ∷ answers) t =
+    (mid : Terminal F) × Makes step s call answer mid × (fault_in mid ≡ None) × Answered step mid calls answers t
+
+-- the calls before one of them were answered so, that one met a fault, and no other was made
+pub record IsStopped {F : Type 0} (step : F → Attempt → F → Type 0) (s : Terminal F) (calls : List Call)
+    (answers : List Answer) (t : Terminal F) : Type 0 where
+  pub before : List Call
+  pub call : Call
+  pub after : List Call
+  pub cut : calls ≡ before ++ call ∷ after
+  pub mid : Terminal F
+  pub answered : Answered step s before answers mid
+  pub answer : Answer
+  pub makes : Makes step mid call answer t
+  pub fault : IsSome (fault_in t)
+
+-- these answers were printed: of all calls, or of those before the one that met a fault
+pub record IsPlayed {F : Type 0} (step : F → Attempt → F → Type 0) (s : Terminal F) (calls : List Call)
+    (old new : Option (List ℕ)) (t : Terminal F) : Type 0 where
+  pub answers : List Answer
+  pub made : Answered step s calls answers t ⊎ IsStopped step s calls answers t
+  pub printed : Appends old new (answer_lines answers)
+
+-- what a journal prints to
+abbrev pub writer_of : {W : Type 0} → Journal W → W
+writer_of journal = journal.writer

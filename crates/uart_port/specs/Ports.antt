@@ -1,0 +1,58 @@
+-- Access to the ports of a file, which stops at the first fault.
+use Rattle.std.specs.Prelude.{◌≡◌, ◌⊎◌, ℕ, ⊤, Option, Some, None, Result, Ok, Err, MatchOption}
+use Rattle.uart_spec.specs.Access.{Access, Read, Write}
+use Rattle.uart_port.specs.declared.ports.TheConstants.{FLOATING}
+use Rattle.uart_port.specs.declared.ports.Fault.{Fault}
+use Rattle.uart_port.specs.declared.ports.GuardedPorts.{GuardedPorts}
+
+-- an access of a port that was made, with its answer or its value, or one that failed
+pub data Attempt : Type 0 where
+  Made : Access → Attempt
+  Failed : (port : ℕ) → Attempt
+
+-- what trying to read a port, and to write to it, came to
+abbrev pub read_attempt : {E : Type 0} → ℕ → Result ℕ E → Attempt
+read_attempt port (Ok value) = Made (Read port value)
+read_attempt port (Err e) = Failed port
+
+abbrev pub write_attempt : {E : Type 0} → ℕ → ℕ → Result (Unit {0}) E → Attempt
+write_attempt port value (Ok x) = Made (Write port value)
+write_attempt port value (Err e) = Failed port
+
+-- the file, and the first fault
+abbrev pub file_of : {F : Type 0} → GuardedPorts F → F
+file_of ports = ports.file
+
+abbrev pub fault_of : {F : Type 0} → GuardedPorts F → Option Fault
+fault_of ports = ports.fault
+
+abbrev pub port_of : Access → ℕ
+port_of (Read port answer) = port
+port_of (Write port value) = port
+
+-- a read returns what it does if nothing is at the port
+abbrev pub IsFloating : Access → Type 0
+IsFloating (Read port answer) = answer ≡ FLOATING
+IsFloating (Write port value) = ⊤
+
+-- the file made the access, and nothing has failed
+pub record IsMade {F : Type 0} (step : F → Attempt → F → Type 0) (old : GuardedPorts F) (access : Access)
+    (new : GuardedPorts F) : Type 0 where
+  pub made : step (file_of old) (Made access) (file_of new)
+  pub fault : fault_of new ≡ None
+
+-- the file failed at the access, and this is the first fault
+pub record IsFailed {F : Type 0} (step : F → Attempt → F → Type 0) (old : GuardedPorts F) (access : Access)
+    (new : GuardedPorts F) : Type 0 where
+  pub first : Fault
+  pub failed : step (file_of old) (Failed (port_of access)) (file_of new)
+  pub fault : fault_of new ≡ Some first
+  pub port : first.port ≡ port_of access
+  pub floating : IsFloating access
+
+-- before a fault the file makes the access or fails at it; after one nothing happens
+abbrev pub GuardedStep : {F : Type 0} → (F → Attempt → F → Type 0) → GuardedPorts F → Access → GuardedPorts F →
+    Type 0
+GuardedStep step old access new = MatchOption (fault_of old)
+    (IsMade step old access new ⊎ IsFailed step old access new)
+    (λ fault. (new ≡ old) × IsFloating access)

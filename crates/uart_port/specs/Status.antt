@@ -1,0 +1,19 @@
+-- The program's statuses.
+use Rattle.std.specs.Prelude.{ℕ}
+use Rattle.uart_port.specs.declared.end.End.{End}
+use Rattle.uart_port.specs.declared.end.End.TheVariants.{NotAPort, PortTooHigh, Unread, Refused, Event, NoDevice}
+use Rattle.uart_port.specs.declared.end.End.TheVariants.{NoLeave, Fault, Trace, Output, OutOfMemory}
+
+-- 1 for a port or a script that is refused, 2 for a file that failed, 3 for out of memory, 4 for no leave
+abbrev pub status_of : End → ℕ
+status_of NotAPort = 1
+status_of (PortTooHigh port) = 1
+status_of (Refused line cause) = 1
+status_of (Event line) = 1
+status_of (Unread cause) = 2
+status_of (NoDevice cause) = 2
+status_of (Fault port cause) = 2
+status_of (Trace cause) = 2
+status_of (Output cause) = 2
+status_of OutOfMemory = 3
+status_of (NoLeave cause) = 4

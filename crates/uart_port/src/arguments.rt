@@ -1,0 +1,106 @@
+//! The program's arguments.
+
+ghost use Rattle.std.specs.Prelude.{IfOk};
+ghost use Rattle.uart_16550.specs.Pio.{IsPortBase};
+
+use crate::end::End;
+use clap::error::ErrorKind;
+use clap::{Arg, ArgMatches, Command, Error};
+use std::alloc::Global;
+use uart_spec::registers::offsets;
+
+// The last port at which a chip can begin.
+const LAST_BASE: u16 = u16::MAX - offsets::SPR as u16;
+
+const ABOUT: &str = "Plays a script's calls on the 16550 at an I/O port, and prints each answer.";
+
+const NOTES: &str = "\
+A script is as uart_script takes it, but without events: tick, arrive, lines and
+access are refused, and next does nothing. Its chip line is read and means nothing
+here, since the chip is the one at the port. Its line limit N sets how many
+unsuccessful polls end a wait. No lines of what is left of the machine are printed,
+since a port shows none of it.
+
+Exit status: 0 played, 1 the arguments or the script are refused, 2 a file or a port
+failed, 3 out of memory, 4 no leave to open the device.";
+
+// The command line that the program understands.
+fn command<'a>(alloc: Global) -> Result<Command<'a>, Error> {
+    let port = Arg::new(alloc, "PORT").required(true).help(
+        "the chip's first port in hexadecimal digits, as 3f8 or 0x3f8",
+    );
+    let script = Arg::new(alloc, "SCRIPT").help("the script; without it standard input is read");
+    let device = Arg::new(alloc, "device")
+        .long("device")
+        .value_name("FILE")
+        .default_value("/dev/port")
+        .help("the file that has a byte for each port");
+    let trace = Arg::new(alloc, "trace")
+        .long("trace")
+        .value_name("FILE")
+        .help("writes each call, its accesses and its answer to this file");
+    Ok(
+        Command::new(alloc, "uart_port")
+            .about(ABOUT)
+            .after_help(NOTES)
+            .arg(port)?
+            .arg(script)?
+            .arg(device)?
+            .arg(trace)?,
+    )
+}
+
+/// The words of the command line, matched with what the program understands.
+pub fn matched<'a>(alloc: Global, words: &'a [String]) -> Result<ArgMatches<'a>, Error> {
+    command(alloc)?.try_get_matches_from(words)
+}
+
+/// The program's status if the words do not match, or if they ask for the help.
+pub fn unmatched_status(error: &Error) -> u8 {
+    match error.kind() {
+        ErrorKind::DisplayHelp => 0,
+        ErrorKind::OutOfMemory => 3,
+        _ => 1,
+    }
+}
+
+/// What the program is asked for.
+#[derive(Drop)]
+pub struct Arguments<'a> {
+    pub port: u16,
+    pub device: &'a str,
+    pub trace: Option<&'a str>,
+    pub script: Option<&'a str>,
+    ghost in_range: { IsPortBase port },
+}
+
+impl<'a> Arguments<'a> {
+    /// What the command line asks for.
+    ///
+    /// # Errors
+    ///
+    /// If the word for the port is none of a chip.
+    pub fn new(matches: &ArgMatches<'a>) -> Result<Self, End> {
+        Ok(Arguments {
+            port: port_in(matches.get_str("PORT").unwrap_or(""))?,
+            device: matches.get_str("device").unwrap_or(""),
+            trace: matches.get_str("trace"),
+            script: matches.get_str("SCRIPT"),
+        })
+    }
+}
+
+// The first port of a chip in hexadecimal digits, with or without 0x.
+pub(crate) fn port_in(word: &str) -> Result<u16, End>
+    ensures { IfOk result IsPortBase }
+{
+    let digits = word.strip_prefix("0x").unwrap_or(word);
+    if digits.starts_with('+') {
+        return Err(End::NotAPort);
+    }
+    match u16::from_str_radix(digits, 16) {
+        Ok(port) if port <= LAST_BASE => Ok(port),
+        Ok(port) => Err(End::PortTooHigh { port }),
+        Err(_) => Err(End::NotAPort),
+    }
+}

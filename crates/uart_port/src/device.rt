@@ -1,0 +1,58 @@
+//! The file of a device's ports.
+
+ghost use Rattle.std.specs.Prelude.{⊤, ◌<◌};
+
+use crate::ports::{FLOATING, PortFile};
+use crate::trace::Trace;
+use std::fs::File;
+use std::io;
+use std::os::unix::fs::FileExt;
+
+/// How many ports a chip has.
+const PORTS: u16 = 8;
+
+/// A file of ports, whose accesses are noted in a trace, if there is one.
+///
+/// An access that the trace does not take counts as failed.
+#[derive(Drop)]
+pub struct DeviceFile<'a> {
+    file: File,
+    base: u16,
+    trace: Option<Trace<'a>>,
+}
+
+impl<'a> DeviceFile<'a> {
+    /// The ports of this file. A trace has offsets from the base.
+    pub fn new(file: File, base: u16, trace: Option<Trace<'a>>) -> Self {
+        DeviceFile { file, base, trace }
+    }
+
+    // How far a port is from the base.
+    fn offset(&self, port: u16) -> u8
+        ensures { result < 8 }
+    {
+        (port.wrapping_sub(self.base) % PORTS) as u8
+    }
+}
+
+impl PortFile for DeviceFile<'_> {
+    // Nothing is promised of what is at a port.
+    ghost step = { λ _ _ _. ⊤ };
+
+    fn read(&mut self, port: u16) -> io::Result<u8> {
+        let mut byte = [FLOATING];
+        self.file.read_exact_at(&mut byte, u64::from(port))?;
+        if let Some(trace) = self.trace {
+            trace.read(self.offset(port), byte[0])?;
+        }
+        Ok(byte[0])
+    }
+
+    fn write(&mut self, port: u16, value: u8) -> io::Result<()> {
+        self.file.write_all_at(&[value], u64::from(port))?;
+        if let Some(trace) = self.trace {
+            trace.write(self.offset(port), value)?;
+        }
+        Ok(())
+    }
+}

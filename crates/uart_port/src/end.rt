@@ -1,0 +1,107 @@
+//! How the program ends.
+
+ghost use Rattle.std.specs.Prelude.{◌≡◌, ◌≢◌};
+ghost use Rattle.std.specs.IoError.{error_kind};
+ghost use Rattle.uart_port.specs.declared.end.End.TheVariants.{OutOfMemory};
+ghost use Rattle.uart_port.specs.Status.{status_of};
+
+use std::alloc::AllocError;
+use std::io;
+use std::io::ErrorKind;
+use thiserror::Error;
+use uart_language::{Cause, ScriptError};
+
+/// Why a script was not played to its end.
+#[derive(Clone, Copy, Debug, Drop, Error)]
+pub enum End {
+    /// The word for the port is no number of 16 bits.
+    #[error("PORT is one to four hexadecimal digits, as 3f8")]
+    NotAPort,
+    /// The last of the eight registers would lie beyond the last port.
+    #[error("port {port:x}: a chip has eight ports, and the last that one can begin at is fff8")]
+    PortTooHigh { port: u16 },
+    /// The script could not be read.
+    #[error("the script cannot be read: {0}")]
+    Unread(io::Error),
+    /// The first faulty line of the script, and what is wrong with it; line 0 for a script of too many bytes.
+    #[error("line {line}: {}", .cause.text())]
+    Refused { line: u32, cause: Cause },
+    /// The first line of the script that is an event.
+    #[error("line {line}: an event, and a real chip has no schedule")]
+    Event { line: usize },
+    /// The file of ports could not be opened.
+    #[error("the device cannot be opened: {0}")]
+    NoDevice(io::Error),
+    /// The file of ports may not be opened.
+    #[error("no leave to open the device: {0}; it takes root, and a kernel that is not locked down")]
+    NoLeave(io::Error),
+    /// An access of a port failed.
+    #[error("port {port:x}: {cause}")]
+    Fault { port: u16, cause: io::Error },
+    /// The trace could not be written.
+    #[error("the trace cannot be written: {0}")]
+    Trace(io::Error),
+    /// An answer could not be printed.
+    #[error("standard output cannot be written: {0}")]
+    Output(io::Error),
+    /// The script or an answer did not fit into memory.
+    #[error("out of memory")]
+    OutOfMemory,
+}
+
+impl End {
+    /// The program's exit status.
+    pub fn status(self) -> u8
+        ensures { result ≡ status_of self }
+    {
+        match self {
+            End::NotAPort | End::PortTooHigh { .. } | End::Refused { .. } | End::Event { .. } => 1,
+            End::Unread(_)
+            | End::NoDevice(_)
+            | End::Fault { .. }
+            | End::Trace(_)
+            | End::Output(_) => 2,
+            End::OutOfMemory => 3,
+            End::NoLeave(_) => 4,
+        }
+    }
+
+    /// Why the script could not be read.
+    pub fn unread(cause: io::Error) -> Self
+        ensures memory { error_kind cause ≡ ErrorKind.OutOfMemory → result ≡ End.OutOfMemory }
+        ensures other { error_kind cause ≢ ErrorKind.OutOfMemory → result ≡ End.Unread cause }
+    {
+        match cause.kind() {
+            ErrorKind::OutOfMemory => End::OutOfMemory,
+            _ => End::Unread(cause),
+        }
+    }
+
+    /// Why the device could not be opened.
+    pub fn unopened(cause: io::Error) -> Self
+        ensures leave { error_kind cause ≡ ErrorKind.PermissionDenied → result ≡ End.NoLeave cause }
+        ensures other { error_kind cause ≢ ErrorKind.PermissionDenied → result ≡ End.NoDevice cause }
+    {
+        match cause.kind() {
+            ErrorKind::PermissionDenied => End::NoLeave(cause),
+            _ => End::NoDevice(cause),
+        }
+    }
+}
+
+impl From<ScriptError> for End {
+    fn from(error: ScriptError) -> End {
+        match error {
+            ScriptError::Refused { line, cause } => End::Refused { line, cause },
+            ScriptError::OutOfMemory => End::OutOfMemory,
+        }
+    }
+}
+
+impl From<AllocError> for End {
+    ghost from_gives = { λ _ end. end ≡ OutOfMemory };
+
+    fn from(_error: AllocError) -> End {
+        End::OutOfMemory
+    }
+}

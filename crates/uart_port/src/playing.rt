@@ -1,0 +1,102 @@
+//! Plays calls on a real chip.
+
+ghost use Rattle.std.specs.Prelude.{◌≡◌, All, OnOk};
+ghost use Rattle.std.specs.Io.KnownBytes.{Appends};
+ghost use Rattle.uart_calls.specs.Calls.{IsRunnable};
+ghost use Rattle.uart_language.specs.Output.{answer_text, line};
+ghost use Rattle.uart_port.specs.Playing.{IsPlayed, writer_of};
+
+use crate::end::End;
+use crate::ports::{GuardedPorts, PortFile};
+use crate::trace::Trace;
+use std::alloc::Global;
+use std::io::Write;
+use uart_16550::Uart16550Tty;
+use uart_16550::backend::PioBackend;
+use uart_calls::{Answer, Call, perform};
+use uart_language::push_answer;
+
+/// Where answers are printed and, if there is one, the trace that is written beside them.
+#[derive(Drop)]
+pub struct Journal<'a, W> {
+    alloc: Global,
+    writer: W,
+    trace: Option<Trace<'a>>,
+}
+
+impl<'a, W: Write> Journal<'a, W> {
+    /// Prints to this writer, and writes this trace.
+    pub fn new(alloc: Global, writer: W, trace: Option<Trace<'a>>) -> Self
+    where
+        W: Drop,
+        ensures { writer_of result ≡ writer }
+    {
+        Journal {
+            alloc,
+            writer,
+            trace,
+        }
+    }
+
+    // The trace of a call. `Next` is none of the driver.
+    fn trace_of(&self, call: &Call) -> Option<Trace<'a>> {
+        match call {
+            Call::Next => None,
+            _ => self.trace,
+        }
+    }
+
+    // This call is made, and it stands so in the script.
+    fn call(&mut self, call: &Call, line: &[u8]) -> Result<(), End>
+        ensures { writer_of self.new ≡ writer_of self.old }
+    {
+        match self.trace_of(call) {
+            Some(trace) => trace.call(line).map_err(End::Trace),
+            None => Ok(()),
+        }
+    }
+
+    // This call returned, and this is its answer.
+    fn answer(&mut self, call: &Call, answer: &Answer) -> Result<(), End>
+        ensures { OnOk result
+            (Appends (W.contents (writer_of self.old)) (W.contents (writer_of self.new)) (line (answer_text answer.now))) }
+    {
+        let mut text = Vec::new(self.alloc);
+        push_answer(self.alloc, &mut text, answer)?;
+        if let Some(trace) = self.trace_of(call) {
+            trace.answer(&text).map_err(End::Trace)?;
+        }
+        text.extend_from_slice(b"\n")?;
+        self.writer.write_all(&text).map_err(End::Output)
+    }
+}
+
+/// Makes the calls in turn and prints each answer when it is there, up to the first fault.
+///
+/// The call that meets a fault has no answer, and no call after it is made: the access object tells the fault. The line of each
+/// call is for the trace.
+///
+/// # Errors
+///
+/// If an answer cannot be printed, or the trace cannot be written. Then no further call is made.
+pub fn play<F: PortFile, W: Write>(
+    uart: &mut Uart16550Tty<PioBackend<GuardedPorts<F>>>,
+    calls: &[Call],
+    lines: &[&[u8]],
+    journal: &mut Journal<'_, W>,
+) -> Result<(), End>
+    requires { All IsRunnable calls.now }
+    ensures { OnOk result
+        (IsPlayed F.step uart.old calls.now (W.contents (writer_of journal.old)) (W.contents (writer_of journal.new)) uart.new) }
+{
+    for i in 0..calls.len() {
+        let call = &calls[i];
+        journal.call(call, lines.get(i).copied().unwrap_or(&[]))?;
+        let answer = perform(uart, call);
+        if uart.inner().backend().access().fault().is_some() {
+            return Ok(());
+        }
+        journal.answer(call, &answer)?;
+    }
+    Ok(())
+}

@@ -1,0 +1,88 @@
+//! Access to the I/O ports of a file, which stops at the first fault.
+
+ghost use Rattle.std.specs.Prelude.{◌≡◌, None};
+ghost use Rattle.uart_port.specs.Ports.{Attempt, GuardedStep, read_attempt, write_attempt};
+
+use std::io;
+use uart_16550::backend::PortAccess;
+
+/// What a read returns if nothing is at the port.
+pub const FLOATING: u8 = 0xff;
+
+/// A file that has a byte for each I/O port, as Linux shows them in `/dev/port`.
+///
+/// An implementation names its step relation: from which state an attempt at a port may lead to which.
+pub trait PortFile {
+    // From the first state this attempt may lead to the second.
+    ghost step: { Self → Attempt → Self → Type 0 };
+
+    /// Reads one byte from a port.
+    fn read(&mut self, port: u16) -> io::Result<u8>
+        ensures { step self.old (read_attempt port result) self.new };
+
+    /// Writes one byte to a port.
+    fn write(&mut self, port: u16, value: u8) -> io::Result<()>
+        ensures { step self.old (write_attempt port value result) self.new };
+}
+
+/// The first access that failed.
+#[derive(Clone, Copy, Debug, Drop)]
+pub struct Fault {
+    pub port: u16,
+    pub cause: io::Error,
+}
+
+/// Access to the ports of a file, until one fails.
+///
+/// A backend returns no error, so the first fault is remembered. After it no access is made any more, and each read returns
+/// [`FLOATING`].
+#[derive(Drop)]
+pub struct GuardedPorts<F> {
+    file: F,
+    fault: Option<Fault>,
+}
+
+impl<F: PortFile> GuardedPorts<F> {
+    ghost use Rattle.uart_port.specs.Ports.{file_of, fault_of};
+
+    /// Access to the ports of this file, at which nothing has failed.
+    pub fn new(file: F) -> Self
+        ensures file { file_of result ≡ file }
+        ensures fault { fault_of result ≡ None }
+    {
+        GuardedPorts { file, fault: None }
+    }
+
+    /// The first access that failed, if any did.
+    pub fn fault(&self) -> Option<Fault>
+        ensures { result ≡ fault_of self.now }
+    {
+        self.fault
+    }
+}
+
+impl<F: PortFile> PortAccess for GuardedPorts<F> {
+    ghost step = { GuardedStep F.step };
+
+    fn port_in(&mut self, port: u16) -> u8 {
+        if let Some(_) = self.fault {
+            return FLOATING;
+        }
+        match self.file.read(port) {
+            Ok(value) => value,
+            Err(cause) => {
+                self.fault = Some(Fault { port, cause });
+                FLOATING
+            }
+        }
+    }
+
+    fn port_out(&mut self, port: u16, value: u8) {
+        if let Some(_) = self.fault {
+            return;
+        }
+        if let Err(cause) = self.file.write(port, value) {
+            self.fault = Some(Fault { port, cause });
+        }
+    }
+}

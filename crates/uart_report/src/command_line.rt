@@ -1,0 +1,107 @@
+//! The command line.
+
+use clap::error::ErrorKind;
+use clap::{Arg, ArgAction, ArgMatches, Command, Error};
+use std::alloc::{AllocError, Global};
+use std::convert::AsStr;
+
+/// How a timeline is shown.
+#[derive(Clone, Copy, Debug, PartialEq, Eq)]
+pub enum Form {
+    Picture,
+    Table,
+}
+
+/// What is asked for.
+#[derive(Clone, Copy, Debug, PartialEq, Eq)]
+pub enum Task {
+    Play,
+    Check,
+    Trace,
+    Timeline(Form),
+}
+
+/// What is asked for, and the script's file; `-` is standard input.
+#[derive(Clone, Copy, Debug, PartialEq, Eq)]
+pub struct Request<'a> {
+    pub task: Task,
+    pub file: &'a str,
+}
+
+const ABOUT: &str = "Plays scripts of a serial chip and its driver, and shows what happened";
+
+const PLAY: &str = "Plays a script and prints its output, as uart_script does";
+
+const CHECK: &str = "Looks for the first fault of a script, and says what the line takes there";
+
+const TRACE: &str = "Prints each register access with its answer, call by call";
+
+const TIMELINE: &str = "Prints the timeline of a run as an SVG picture";
+
+const AFTER: &str = "\
+A line of a script that begins with # is a comment, and counts as a blank line.
+
+Exit status:
+  0  done
+  1  the script is refused: the line, its fault and what it takes there are on standard error
+  2  the command line is wrong, or a file cannot be read or written
+  3  out of memory";
+
+fn file_argument<'a>(alloc: Global) -> Arg<'a> {
+    Arg::new(alloc, "FILE")
+        .help("The script; - is standard input")
+        .required(true)
+        .action(ArgAction::Set)
+}
+
+fn subcommand<'a>(alloc: Global, name: &'a str, about: &'a str) -> Result<Command<'a>, AllocError> {
+    Command::new(alloc, name)
+        .about(about)
+        .arg(file_argument(alloc))
+}
+
+// The command line that the program takes.
+fn command<'a>(alloc: Global) -> Result<Command<'a>, AllocError> {
+    let text = Arg::new(alloc, "text")
+        .long("text")
+        .help("Prints a table for a terminal in place of the picture")
+        .action(ArgAction::SetTrue);
+    Command::new(alloc, "geesetrunk")
+        .bin_name("geesetrunk")?
+        .version("0.9.0")
+        .about(ABOUT)
+        .after_help(AFTER)
+        .subcommand_required(true)
+        .arg_required_else_help(true)
+        .subcommand(subcommand(alloc, "play", PLAY)?)?
+        .subcommand(subcommand(alloc, "check", CHECK)?)?
+        .subcommand(subcommand(alloc, "trace", TRACE)?)?
+        .subcommand(subcommand(alloc, "timeline", TIMELINE)?.arg(text)?)
+}
+
+fn task_of(name: &str, matches: &ArgMatches<'_>) -> Task {
+    match name {
+        "check" => Task::Check,
+        "trace" => Task::Trace,
+        "timeline" if matches.get_flag("text") => Task::Timeline(Form::Table),
+        "timeline" => Task::Timeline(Form::Picture),
+        _ => Task::Play,
+    }
+}
+
+/// What a command line asks for. Its first word is the program's name.
+///
+/// # Errors
+///
+/// What clap has to say: the help, the version, or what is wrong with the words.
+pub fn asked<'a, S: AsStr>(alloc: Global, words: &'a [S]) -> Result<Request<'a>, Error> {
+    let mut command = command(alloc)?;
+    let matches = command.try_get_matches_from_mut(words)?;
+    match matches.subcommand() {
+        Some((name, given)) => Ok(Request {
+            task: task_of(name, given),
+            file: given.get_str("FILE").unwrap_or("-"),
+        }),
+        None => Err(command.error(ErrorKind::MissingSubcommand, "there is no subcommand")?),
+    }
+}

@@ -1,0 +1,163 @@
+//! A refused script, explained: where the fault is, the line, and what it takes there.
+
+use crate::grammar::{Field, fields_after, usage};
+use crate::text::{line_at, printable, word_at, word_count};
+use std::alloc::{AllocError, Global};
+use std::fmt::Write;
+use uart_machine::script::{Cause, ScriptError, parse};
+
+// A first line for a line that is looked at alone.
+const FIRST_LINE: &[u8] = b"chip 16550a 1 1\n";
+
+// In which column a word of the line begins, counted from 1. A word past the last begins behind the line.
+fn column_of(line: &[u8], word: usize) -> usize {
+    let mut column = 1usize;
+    for before in line.split(|b| *b == b' ').take(word) {
+        column = column.saturating_add(before.len()).saturating_add(1);
+    }
+    column
+}
+
+// A script of the line alone, in which each field past the first few has a word that it takes.
+fn probe(alloc: Global, line: &[u8], fields: &[Field], kept: usize) -> Result<Vec<u8>, AllocError> {
+    let mut script = Vec::new(alloc);
+    let word = word_at(line, 0).unwrap_or(&[]);
+    if word != b"chip".as_slice() {
+        script.extend_from_slice(FIRST_LINE)?;
+    }
+    script.extend_from_slice(word)?;
+    for (i, field) in fields.iter().enumerate() {
+        if let Some(word) = word_at(line, i + 1) {
+            script.push(b' ')?;
+            script.extend_from_slice(if i < kept { word } else { field.sample() })?;
+        }
+    }
+    Ok(script)
+}
+
+// The first field that is refused, counted from 0: the one with which the refusals begin.
+fn refused_field(alloc: Global, line: &[u8], fields: &[Field]) -> Result<usize, AllocError> {
+    for field in 0..fields.len() {
+        match parse(alloc, &probe(alloc, line, fields, field + 1)?) {
+            Ok(_) => {}
+            Err(ScriptError::Refused { .. }) => return Ok(field),
+            Err(ScriptError::OutOfMemory) => return Err(AllocError),
+        }
+    }
+    Ok(0)
+}
+
+// Where a line is at fault, and what it takes there.
+#[derive(Drop)]
+struct Place {
+    column: usize,
+    wants: String,
+}
+
+fn bad_byte(alloc: Global, line: &[u8]) -> Result<Place, AllocError> {
+    let index = line
+        .iter()
+        .position(|b| *b < 0x20 || 0x7e < *b)
+        .unwrap_or(0);
+    let byte = line.get(index).copied().unwrap_or(0);
+    Ok(Place {
+        column: index.saturating_add(1),
+        wants: format!(in alloc; "printable ASCII, and not the byte {byte:02x}")?,
+    })
+}
+
+fn misplaced(alloc: Global, number: u32, line: &[u8]) -> Result<Place, AllocError> {
+    let wants = if number == 1 {
+        "the first line names the chip: chip 16550a|16450 T W [cut]"
+    } else if word_at(line, 0) == Some(b"limit".as_slice()) {
+        "only line 2 may set the limit"
+    } else {
+        "only line 1 names the chip"
+    };
+    Ok(Place {
+        column: 1,
+        wants: wants.to_string(alloc)?,
+    })
+}
+
+fn unknown_word(alloc: Global, line: &[u8]) -> Result<Place, AllocError> {
+    let wants = if line.starts_with(b" ") {
+        "a line begins with a word, and not with a space"
+    } else {
+        "a word of the language, as in docs/SCRIPTS.md"
+    };
+    Ok(Place {
+        column: 1,
+        wants: wants.to_string(alloc)?,
+    })
+}
+
+fn wrong_count(alloc: Global, line: &[u8]) -> Result<Place, AllocError> {
+    let word = word_at(line, 0).unwrap_or(&[]);
+    if let Some(empty) = line.split(|b| *b == b' ').position(|word| word.is_empty()) {
+        return Ok(Place {
+            column: column_of(line, empty),
+            wants: "exactly one space between two words, and none at the end".to_string(alloc)?,
+        });
+    }
+    let most = fields_after(word).len() + 1;
+    let place = most.min(word_count(line));
+    let shown = printable(alloc, word)?;
+    let line_form = usage(word).unwrap_or(&shown);
+    Ok(Place {
+        column: column_of(line, place),
+        wants: format!(in alloc; "the line is: {line_form}")?,
+    })
+}
+
+fn bad_field(alloc: Global, line: &[u8]) -> Result<Place, AllocError> {
+    let fields = fields_after(word_at(line, 0).unwrap_or(&[]));
+    let index = refused_field(alloc, line, fields)?;
+    let wants = fields.get(index).map(|field| field.wants()).unwrap_or("");
+    Ok(Place {
+        column: column_of(line, index.saturating_add(1)),
+        wants: wants.to_string(alloc)?,
+    })
+}
+
+fn place_of(alloc: Global, number: u32, line: &[u8], cause: Cause) -> Result<Place, AllocError> {
+    match cause {
+        Cause::BadByte => bad_byte(alloc, line),
+        Cause::Misplaced => misplaced(alloc, number, line),
+        Cause::UnknownWord => unknown_word(alloc, line),
+        Cause::WrongCount => wrong_count(alloc, line),
+        Cause::TooLong => Ok(Place {
+            column: 1,
+            wants: "a script has at most 4096 lines".to_string(alloc)?,
+        }),
+        _ => bad_field(alloc, line),
+    }
+}
+
+/// The fault of a script in three lines: `NAME:LINE:COLUMN: cause`, the line, and a caret with what the line takes there.
+///
+/// A script of too many bytes has no faulty line, and its fault is one line.
+pub fn explained(
+    alloc: Global,
+    name: &str,
+    script: &[u8],
+    number: u32,
+    cause: Cause,
+) -> Result<String, AllocError> {
+    let cause_text = cause.text();
+    let Some(index) = number.checked_sub(1) else {
+        return format!(in alloc; "{name}: {cause_text}: a script has at most 65536 bytes\n");
+    };
+    let line = line_at(script, index as usize);
+    let place = place_of(alloc, number, line, cause)?;
+    let column = place.column;
+    let mut text = format!(in alloc; "{name}:{number}:{column}: {cause_text}\n")?;
+    let shown = printable(alloc, line)?;
+    writeln!(text, "{shown}")?;
+    for _ in 1..column {
+        text.push(' ')?;
+    }
+    let wants = place.wants;
+    writeln!(text, "^ {wants}")?;
+    Ok(text)
+}

@@ -1,0 +1,114 @@
+//! The lines of the script language, as they are explained to a person.
+//!
+//! What a line may be is decided by `parse` alone. This is the table of what to say where it refuses.
+
+/// A field of a line.
+#[derive(Clone, Copy, Debug, PartialEq, Eq)]
+pub enum Field {
+    Chip,
+    CharTicks,
+    WireRoom,
+    Cut,
+    Limit,
+    Ticks,
+    Byte,
+    Errors,
+    Lines,
+    Level,
+    Rate,
+    Cts,
+    Interrupts,
+    DataBits,
+    Count,
+    Bytes,
+    Text,
+}
+
+impl Field {
+    /// What the field takes, for a person.
+    pub fn wants(self) -> &'static str {
+        match self {
+            Field::Chip => "a chip: 16550a or 16450",
+            Field::CharTicks => "how many ticks a character takes: a number from 1 to 1000",
+            Field::WireRoom => "how many bytes the wire has room for: a number from 0 to 65536",
+            Field::Cut => "cut, or nothing",
+            Field::Limit => "the polls that end a wait: a number from 1 to 1000000",
+            Field::Ticks => "how many ticks pass: a number from 0 to 65535",
+            Field::Byte => "a byte: two hexadecimal digits",
+            Field::Errors => "what is wrong with the byte: p, f, b, pf, pb, fb or pfb",
+            Field::Lines => {
+                "the modem lines: one hexadecimal digit, the sum of 1 CTS, 2 DSR, 4 RI and 8 CD"
+            }
+            Field::Level => "a trigger level: 1, 4, 8, 14 or off",
+            Field::Rate => "a baud rate: a number from 1 to 4294967295",
+            Field::Cts => "cts or nocts",
+            Field::Interrupts => "interrupts: two hexadecimal digits",
+            Field::DataBits => "data bits: a number from 5 to 8",
+            Field::Count => "how many bytes there is room for: a number from 0 to 64",
+            Field::Bytes => "at most 64 bytes: pairs of hexadecimal digits, or -",
+            Field::Text => "a text of at most 64 bytes of UTF-8: pairs of hexadecimal digits, or -",
+        }
+    }
+
+    /// A word that the field takes.
+    pub fn sample(self) -> &'static [u8] {
+        match self {
+            Field::Chip => b"16550a",
+            Field::Cut => b"cut",
+            Field::Errors => b"p",
+            Field::Level | Field::Limit | Field::CharTicks | Field::Rate => b"1",
+            Field::WireRoom | Field::Ticks | Field::Lines | Field::Count => b"1",
+            Field::Cts => b"cts",
+            Field::Byte | Field::Interrupts => b"00",
+            Field::DataBits => b"8",
+            Field::Bytes | Field::Text => b"-",
+        }
+    }
+}
+
+/// How a line with this first word is written, or none if the word is none of the language.
+pub fn usage(word: &[u8]) -> Option<&'static str> {
+    Some(match word {
+        b"chip" => "chip 16550a|16450 T W [cut]",
+        b"limit" => "limit N",
+        b"tick" => "tick N",
+        b"arrive" => "arrive HH [E]",
+        b"lines" => "lines H",
+        b"init" => "init F BAUD cts|nocts HH BITS",
+        b"try-send" => "try-send HH",
+        b"enable" => "enable HH",
+        b"disable" => "disable HH",
+        b"receive" => "receive N",
+        b"receive-exact" => "receive-exact N",
+        b"read" => "read N",
+        b"send" => "send HEX",
+        b"send-exact" => "send-exact HEX",
+        b"write" => "write HEX",
+        b"text" => "text HEX",
+        _ => return None,
+    })
+}
+
+/// The fields that may follow this first word.
+pub fn fields_after(word: &[u8]) -> &'static [Field] {
+    match word {
+        b"chip" => &[Field::Chip, Field::CharTicks, Field::WireRoom, Field::Cut],
+        b"limit" => &[Field::Limit],
+        b"tick" => &[Field::Ticks],
+        b"arrive" => &[Field::Byte, Field::Errors],
+        b"lines" => &[Field::Lines],
+        b"init" => &[
+            Field::Level,
+            Field::Rate,
+            Field::Cts,
+            Field::Interrupts,
+            Field::DataBits,
+        ],
+        b"try-send" => &[Field::Byte],
+        b"enable" | b"disable" => &[Field::Interrupts],
+        b"receive" | b"receive-exact" | b"read" => &[Field::Count],
+        b"send" | b"send-exact" | b"write" => &[Field::Bytes],
+        b"text" => &[Field::Text],
+        _ => &[],
+    }
+}

@@ -1,0 +1,84 @@
+//! What is told of a run: each call with its answer and its moments.
+ghost use Rattle.uart_language.specs.Script.{plan_of, IsPlayable};
+
+use crate::replay::{Moment, replayed};
+use crate::run::recorded;
+use crate::text::{line_at, printable, word_at};
+use std::alloc::{AllocError, Global};
+use uart_machine::script::Script;
+
+/// A call: its line of the script, its line of the output, and its moments, by their places among all.
+#[derive(Drop)]
+pub struct ToldCall {
+    pub line: String,
+    pub answer: String,
+    pub start: usize,
+    pub end: usize,
+}
+
+/// A run of a script.
+#[derive(Drop)]
+pub struct History {
+    pub calls: Vec<ToldCall>,
+    pub moments: Vec<Moment>,
+    /// The lines of the output after those of the calls: wire, held, waiting and marks.
+    pub last: Vec<String>,
+}
+
+impl History {
+    /// The moments of a call.
+    pub fn moments_of(&self, call: &ToldCall) -> &[Moment] {
+        self.moments.get(call.start..call.end).unwrap_or(&[])
+    }
+
+    /// The letter of an arrival's mark at the end of the run.
+    pub fn mark(&self, arrival: usize) -> char {
+        let marks = self.last.last().map(|line| line.as_str()).unwrap_or("");
+        let letters = marks.strip_prefix("marks ").unwrap_or("");
+        char::from(letters.as_bytes().get(arrival).copied().unwrap_or(b'?'))
+    }
+}
+
+// Whether a line of a script is a call.
+fn is_call(line: &[u8]) -> bool {
+    match word_at(line, 0).unwrap_or(&[]) {
+        b"" | b"chip" | b"limit" | b"tick" | b"arrive" | b"lines" | b"access" => false,
+        _ => true,
+    }
+}
+
+/// What is told of a script, whose text and whose output these are.
+pub fn told(
+    alloc: Global,
+    script: &Script,
+    text: &[u8],
+    output: &[u8],
+) -> Result<History, AllocError>
+    requires { IsPlayable (plan_of script.now) }
+{
+    let moments = replayed(alloc, script, &recorded(alloc, script)?)?;
+    let mut lines = text.split(|b| *b == b'\n').filter(|line| is_call(line));
+    let mut answers = output.split(|b| *b == b'\n');
+    let mut calls = Vec::new(alloc);
+    let mut start = 0;
+    for end in &moments.ends {
+        let line = printable(alloc, lines.next().unwrap_or(&[]))?;
+        let answer = printable(alloc, answers.next().unwrap_or(&[]))?;
+        calls.push(ToldCall {
+            line,
+            answer,
+            start,
+            end: *end,
+        })?;
+        start = *end;
+    }
+    let mut last = Vec::new(alloc);
+    for _ in 0..4 {
+        last.push(printable(alloc, answers.next().unwrap_or(&[]))?)?;
+    }
+    Ok(History {
+        calls,
+        moments: moments.all,
+        last,
+    })
+}

@@ -1,0 +1,375 @@
+//! The timeline of a run as an SVG picture.
+
+use crate::history::History;
+use crate::recording::Entry;
+use crate::shown::{Shown, merged};
+use std::alloc::{AllocError, Global};
+use std::fmt::Write;
+
+// The width of a moment, how many of them stand in a row, and the room for names to the left of them.
+const COLUMN: usize = 26;
+
+const COLUMNS: usize = 34;
+
+const LEFT: usize = 74;
+
+const WIDTH: usize = LEFT + COLUMN * COLUMNS + 14;
+
+// How wide a letter is, in tenths.
+const LETTER: usize = 61;
+
+const STYLE: &str =
+    "<style>text{fill:#1f2328}.m{text-anchor:middle}.s{font-size:8px}.c{fill:#ddf4ff;stroke:#0969da}\
+.r{fill:#dafbe1;stroke:#1a7f37}.w{fill:#ffeff7;stroke:#bf3989}.a{fill:#fff8c5;stroke:#9a6700}.o{fill:#fbefff;stroke:#8250df}\
+.b{fill:#b6e3ff;stroke:#0969da}.h{fill:#eac54f;stroke:#7d4e00}.n{font-weight:bold}</style>\n";
+
+// A moment of a call, or the call alone if nothing happened in it.
+#[derive(Clone, Copy)]
+struct Cell {
+    call: usize,
+    shown: Option<Shown>,
+}
+
+// What a row of the picture shows of each moment.
+#[derive(Clone, Copy, PartialEq, Eq)]
+enum Lane {
+    Call,
+    Access,
+    Arrives,
+    Waiting,
+    Lines,
+    Held,
+    Wire,
+    Tick,
+}
+
+const LANES: [Lane; 8] = [
+    Lane::Call,
+    Lane::Access,
+    Lane::Arrives,
+    Lane::Waiting,
+    Lane::Lines,
+    Lane::Held,
+    Lane::Wire,
+    Lane::Tick,
+];
+
+impl Lane {
+    fn name(self) -> &'static str {
+        match self {
+            Lane::Call => "call",
+            Lane::Access => "access",
+            Lane::Arrives => "arrives",
+            Lane::Waiting => "waiting",
+            Lane::Lines => "lines",
+            Lane::Held => "held",
+            Lane::Wire => "wire",
+            Lane::Tick => "tick",
+        }
+    }
+
+    fn height(self) -> usize {
+        match self {
+            Lane::Call => 24,
+            Lane::Access => 42,
+            Lane::Arrives | Lane::Lines | Lane::Wire => 20,
+            Lane::Waiting | Lane::Held => 50,
+            Lane::Tick => 34,
+        }
+    }
+
+    // Whether a cell has anything in this row.
+    fn is_used(self, cell: &Cell) -> bool {
+        let Some(shown) = cell.shown else {
+            return false;
+        };
+        let moment = shown.moment;
+        match self {
+            Lane::Call | Lane::Access | Lane::Tick => true,
+            Lane::Arrives => moment.arrival.is_some(),
+            Lane::Waiting => moment.waiting > 0,
+            Lane::Lines => moment.lines.is_some(),
+            Lane::Held => moment.held > 0,
+            Lane::Wire => moment.sent.is_some(),
+        }
+    }
+
+    fn is_shown(self, cells: &[Cell]) -> bool {
+        matches!(self, Lane::Call | Lane::Access | Lane::Tick)
+            || cells.iter().any(|cell| self.is_used(cell))
+    }
+}
+
+fn cells_of(alloc: Global, history: &History) -> Result<Vec<Cell>, AllocError> {
+    let mut cells = Vec::new(alloc);
+    for (call, told) in history.calls.iter().enumerate() {
+        let moments = merged(alloc, history.moments_of(told))?;
+        if moments.is_empty() {
+            cells.push(Cell { call, shown: None })?;
+        }
+        for moment in &moments {
+            cells.push(Cell {
+                call,
+                shown: Some(*moment),
+            })?;
+        }
+    }
+    Ok(cells)
+}
+
+// As much of a text as there is room for, with what XML takes for its own written out.
+fn push_text(text: &mut String, words: &str, width: usize) -> Result<(), AllocError> {
+    let room = width.saturating_mul(10) / LETTER;
+    let is_cut = words.len() > room;
+    let most = if is_cut { room.saturating_sub(1) } else { room };
+    for letter in words.chars().take(most) {
+        match letter {
+            '<' => text.push_str("&lt;")?,
+            '>' => text.push_str("&gt;")?,
+            '&' => text.push_str("&amp;")?,
+            _ => text.push(letter)?,
+        }
+    }
+    if is_cut {
+        text.push('…')?;
+    }
+    Ok(())
+}
+
+// A box of one moment, with a text in it.
+fn push_box(text: &mut String, class: &str, words: &str) -> Result<(), AllocError> {
+    writeln!(
+        text,
+        "<rect class=\"{class}\" x=\"1\" y=\"0\" width=\"24\" height=\"15\"/><text class=\"m\" x=\"13\" y=\"11\">{words}</text>"
+    )
+}
+
+// A bar for so many bytes, of at most a full queue and a shift place.
+fn push_bar(text: &mut String, class: &str, count: usize) -> Result<(), AllocError> {
+    let height = 2 * count.min(17);
+    let top = 34 - height;
+    writeln!(
+        text,
+        "<rect class=\"{class}\" x=\"4\" y=\"{top}\" width=\"18\" height=\"{height}\"/><text class=\"m s\" x=\"13\" y=\"43\">{count}</text>"
+    )
+}
+
+fn push_access(text: &mut String, shown: Shown) -> Result<(), AllocError> {
+    let Some(seen) = shown.moment.access else {
+        return Ok(());
+    };
+    let (class, value) = match seen.access {
+        Entry::Read { answer, .. } => ("r", answer),
+        Entry::Write { value, .. } => ("w", value),
+    };
+    let register = seen.register;
+    write!(
+        text,
+        "<rect class=\"{class}\" x=\"1\" y=\"0\" width=\"24\" height=\"27\"/><text class=\"m s\" x=\"13\" y=\"10\">{register}</text>"
+    )?;
+    writeln!(
+        text,
+        "<text class=\"m\" x=\"13\" y=\"22\">{value:02x}</text>"
+    )?;
+    let times = shown.times;
+    if times > 1 {
+        writeln!(
+            text,
+            "<text class=\"m s\" x=\"13\" y=\"36\">×{times}</text>"
+        )?;
+    }
+    Ok(())
+}
+
+// What a row shows of a moment.
+fn push_moment(
+    alloc: Global,
+    text: &mut String,
+    history: &History,
+    lane: Lane,
+    shown: Shown,
+) -> Result<(), AllocError> {
+    let moment = shown.moment;
+    match lane {
+        Lane::Call => Ok(()),
+        Lane::Access => push_access(text, shown),
+        Lane::Arrives => match moment.arrival {
+            Some(arrival) => {
+                let byte = arrival.byte;
+                let mark = history.mark(arrival.number);
+                push_box(text, "a", &format!(in alloc; "{byte:02x}{mark}")?)
+            }
+            None => Ok(()),
+        },
+        Lane::Waiting => push_bar(text, "b", moment.waiting),
+        Lane::Lines => match moment.lines {
+            Some(lines) => {
+                let digit = lines / 16;
+                push_box(text, "a", &format!(in alloc; "{digit:x}")?)
+            }
+            None => Ok(()),
+        },
+        Lane::Held => push_bar(text, "h", moment.held),
+        Lane::Wire => match moment.sent {
+            Some(byte) => push_box(text, "o", &format!(in alloc; "{byte:02x}")?),
+            None => Ok(()),
+        },
+        Lane::Tick => {
+            let tick = moment.tick;
+            writeln!(text, "<text class=\"m s\" x=\"13\" y=\"10\">{tick}</text>")
+        }
+    }
+}
+
+fn push_lane(
+    alloc: Global,
+    text: &mut String,
+    history: &History,
+    lane: Lane,
+    cells: &[Cell],
+) -> Result<(), AllocError> {
+    for (i, cell) in cells.iter().enumerate() {
+        if let Some(shown) = cell.shown.filter(|_| lane.is_used(cell)) {
+            let x = COLUMN.saturating_mul(i);
+            writeln!(text, "<g transform=\"translate({x},0)\">")?;
+            push_moment(alloc, text, history, lane, shown)?;
+            writeln!(text, "</g>")?;
+        }
+    }
+    Ok(())
+}
+
+// A call over its columns.
+fn push_call(
+    alloc: Global,
+    text: &mut String,
+    history: &History,
+    call: usize,
+    first: usize,
+    columns: usize,
+) -> Result<(), AllocError> {
+    let Some(told) = history.calls.get(call) else {
+        return Ok(());
+    };
+    let (line, answer) = (&told.line, &told.answer);
+    let words = format!(in alloc; "{line} = {answer}")?;
+    let x = COLUMN.saturating_mul(first).saturating_add(1);
+    let width = COLUMN.saturating_mul(columns).saturating_sub(2);
+    let inner = x.saturating_add(3);
+    write!(
+        text,
+        "<rect class=\"c\" x=\"{x}\" y=\"0\" width=\"{width}\" height=\"17\"/><text x=\"{inner}\" y=\"12\"><title>"
+    )?;
+    push_text(text, &words, usize::MAX)?;
+    text.push_str("</title>")?;
+    push_text(text, &words, width.saturating_sub(4))?;
+    writeln!(text, "</text>")
+}
+
+fn push_calls(
+    alloc: Global,
+    text: &mut String,
+    history: &History,
+    cells: &[Cell],
+) -> Result<(), AllocError> {
+    let mut first = 0;
+    for (i, cell) in cells.iter().enumerate() {
+        let next = cells.get(i.saturating_add(1)).map(|next| next.call);
+        if next != Some(cell.call) {
+            let end = i.saturating_add(1);
+            push_call(
+                alloc,
+                text,
+                history,
+                cell.call,
+                first,
+                end.saturating_sub(first),
+            )?;
+            first = end;
+        }
+    }
+    Ok(())
+}
+
+// The rows of some moments, and how high they are together.
+fn push_band(
+    alloc: Global,
+    text: &mut String,
+    history: &History,
+    lanes: &[Lane],
+    cells: &[Cell],
+) -> Result<usize, AllocError> {
+    let mut y = 0usize;
+    for lane in lanes {
+        let name = lane.name();
+        writeln!(
+            text,
+            "<g transform=\"translate({LEFT},{y})\"><text class=\"n\" x=\"-64\" y=\"12\">{name}</text>"
+        )?;
+        if *lane == Lane::Call {
+            push_calls(alloc, text, history, cells)?;
+        } else {
+            push_lane(alloc, text, history, *lane, cells)?;
+        }
+        writeln!(text, "</g>")?;
+        y = y.saturating_add(lane.height());
+    }
+    Ok(y)
+}
+
+// All bands, one below the other, and where they end.
+fn push_bands(
+    alloc: Global,
+    text: &mut String,
+    history: &History,
+    lanes: &[Lane],
+    cells: &[Cell],
+) -> Result<usize, AllocError> {
+    let mut y = 36usize;
+    for band in cells.chunks(COLUMNS) {
+        writeln!(text, "<g transform=\"translate(0,{y})\">")?;
+        let height = push_band(alloc, text, history, lanes, band)?;
+        writeln!(text, "</g>")?;
+        y = y.saturating_add(height);
+    }
+    Ok(y)
+}
+
+/// The timeline as a picture: for each moment a column, in as many rows of columns as it takes.
+pub fn picture(alloc: Global, history: &History, title: &str) -> Result<String, AllocError> {
+    let cells = cells_of(alloc, history)?;
+    let mut lanes = Vec::new(alloc);
+    for lane in LANES {
+        if lane.is_shown(&cells) {
+            lanes.push(lane)?;
+        }
+    }
+    let mut body = String::new(alloc);
+    let mut y = push_bands(alloc, &mut body, history, &lanes, &cells)?;
+    for line in &history.last {
+        write!(body, "<text x=\"10\" y=\"{y}\">")?;
+        push_text(&mut body, line, WIDTH - 20)?;
+        writeln!(body, "</text>")?;
+        y = y.saturating_add(14);
+    }
+    let mut text = String::new(alloc);
+    write!(
+        text,
+        "<svg xmlns=\"http://www.w3.org/2000/svg\" width=\"{WIDTH}\" height=\"{y}\" viewBox=\"0 0 {WIDTH} {y}\""
+    )?;
+    writeln!(text, " font-family=\"monospace\" font-size=\"10\">")?;
+    text.push_str(STYLE)?;
+    writeln!(
+        text,
+        "<rect width=\"100%\" height=\"100%\" rx=\"6\" fill=\"#ffffff\" stroke=\"#d0d7de\"/>"
+    )?;
+    write!(
+        text,
+        "<text class=\"n\" x=\"10\" y=\"20\" font-size=\"12\">"
+    )?;
+    push_text(&mut text, title, WIDTH - 20)?;
+    writeln!(text, "</text>")?;
+    text.push_str(&body)?;
+    writeln!(text, "</svg>")?;
+    Ok(text)
+}

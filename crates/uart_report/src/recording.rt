@@ -1,0 +1,96 @@
+//! A backend that keeps a list of the accesses that are made through it.
+ghost use Rattle.std.specs.Prelude.{◌≡◌, ◌∷◌, [], ◌++◌, true, IfOk, is_err, not, map};
+ghost use Rattle.uart_report.specs.Recorder.{RecordsStep, access_of};
+
+use std::alloc::{AllocError, Global};
+use std::marker::Model;
+use uart_16550::backend::Backend;
+
+/// An access of a register, with what was read or written.
+#[derive(Clone, Copy, Debug, PartialEq, Eq)]
+pub enum Entry {
+    Read { offset: u8, answer: u8 },
+    Write { offset: u8, value: u8 },
+}
+
+/// A backend over another, with a list of the accesses that it passed on.
+#[derive(Drop)]
+pub struct Recorder<B> {
+    device: B,
+    entries: Vec<Entry>,
+    is_complete: bool,
+}
+
+impl<B> Model for Recorder<B> {
+    ghost use Rattle.uart_report.specs.Recorder.{Recorded};
+
+    ghost Value = { Recorded B };
+
+    ghost view = { λ r. record { device = r.device; entries = r.entries.items; is_complete = r.is_complete } };
+}
+
+impl<B> Recorder<B> {
+    /// A recorder that has passed on nothing yet.
+    pub fn new(alloc: Global, device: B) -> Self
+        ensures { result ≡ record { device = device; entries = []; is_complete = true } }
+    {
+        Recorder {
+            device,
+            entries: Vec::new(alloc),
+            is_complete: true,
+        }
+    }
+
+    /// The device, for what only it can do. Accesses that are made so are not recorded.
+    pub fn device_mut(&mut self) -> &mut B {
+        &mut self.device
+    }
+
+    /// The accesses that were made, in order.
+    ///
+    /// # Errors
+    ///
+    /// `AllocError` if there was no memory to keep one of them.
+    pub fn entries(&self) -> Result<&[Entry], AllocError>
+        ensures entries { IfOk result (λ entries. entries.now ≡ self.now.entries) }
+        ensures complete { is_err result ≡ not self.now.is_complete }
+    {
+        if self.is_complete {
+            Ok(&self.entries)
+        } else {
+            Err(AllocError)
+        }
+    }
+
+    // Keeps an access, if all before it were kept.
+    fn keep(&mut self, entry: Entry)
+        ensures device { self.new.device ≡ self.old.device }
+        ensures kept { self.new.is_complete ≡ true → (self.old.is_complete ≡ true)
+            × (map access_of self.new.entries ≡ map access_of self.old.entries ++ access_of entry ∷ []) }
+    {
+        if self.is_complete && self.entries.push(entry).is_err() {
+            self.is_complete = false;
+        }
+    }
+}
+
+impl<B: Backend> Backend for Recorder<B> {
+    ghost step = { RecordsStep B.step };
+
+    fn read(&mut self, register_offset: u8) -> u8 {
+        let answer = self.device.read(register_offset);
+        self.keep(Entry::Read {
+            offset: register_offset,
+            answer,
+        });
+        answer
+    }
+
+    fn write(&mut self, register_offset: u8, value: u8) {
+        self.device.write(register_offset, value);
+        self.keep(Entry::Write {
+            offset: register_offset,
+            value,
+        });
+    }
+}

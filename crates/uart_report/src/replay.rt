@@ -1,0 +1,332 @@
+//! Plays a recording again, tick by tick, and notes when each thing happened.
+
+use crate::recording::Entry;
+use crate::run::{Recording, machine_for};
+use bitflags::Flags;
+use std::alloc::{AllocError, Global};
+use uart_16550::backend::Backend;
+use uart_machine::script::Script;
+use uart_machine::{Call, Device16550, Event};
+use uart_spec::registers::{LCR, offsets};
+
+/// An access, and the register that it reached.
+#[derive(Clone, Copy)]
+pub struct Seen {
+    pub access: Entry,
+    pub register: &'static str,
+}
+
+/// A byte that came in, and which arrival of the schedule it is, counted from 0.
+#[derive(Clone, Copy)]
+pub struct Arrival {
+    pub byte: u8,
+    pub number: usize,
+}
+
+/// What happened at one tick, up to an access if there is one.
+#[derive(Clone, Copy)]
+pub struct Moment {
+    pub tick: u64,
+    /// The call that was under way, counted from 0.
+    pub call: usize,
+    /// The byte that went onto the wire.
+    pub sent: Option<u8>,
+    pub arrival: Option<Arrival>,
+    /// The modem lines that came.
+    pub lines: Option<u8>,
+    pub access: Option<Seen>,
+    /// How many bytes are still to go out after that, and how many wait to be read.
+    pub held: usize,
+    pub waiting: usize,
+}
+
+impl Moment {
+    /// Nothing but the access happened.
+    pub fn is_access_alone(&self) -> bool {
+        self.access.is_some()
+            && self.sent.is_none()
+            && self.arrival.is_none()
+            && self.lines.is_none()
+    }
+
+    fn is_empty(&self) -> bool {
+        self.access.is_none()
+            && self.sent.is_none()
+            && self.arrival.is_none()
+            && self.lines.is_none()
+    }
+}
+
+// A schedule in which each event of the chip lies between two marks: `next` twice performs one, and before it each access of the
+// replay has its tick.
+fn spread(alloc: Global, events: &[Event]) -> Result<Vec<Event>, AllocError> {
+    let mut schedule = Vec::new(alloc);
+    for event in events {
+        if !matches!(event, Event::Ticks(_) | Event::Mark) {
+            schedule.push(Event::Mark)?;
+            schedule.push(*event)?;
+            schedule.push(Event::Mark)?;
+        }
+    }
+    Ok(schedule)
+}
+
+// The name of the register that an access reaches.
+fn register_of(access: Entry, is_dlab_set: bool) -> &'static str {
+    let (offset, is_read) = match access {
+        Entry::Read { offset, .. } => (offset as usize, true),
+        Entry::Write { offset, .. } => (offset as usize, false),
+    };
+    match offset {
+        offsets::DLL if is_dlab_set => "DLL",
+        offsets::DLM if is_dlab_set => "DLM",
+        offsets::DATA => "DATA",
+        offsets::IER => "IER",
+        offsets::ISR if is_read => "ISR",
+        offsets::FCR => "FCR",
+        offsets::LCR => "LCR",
+        offsets::MCR => "MCR",
+        offsets::LSR => "LSR",
+        offsets::MSR => "MSR",
+        _ => "SPR",
+    }
+}
+
+#[derive(Drop)]
+struct Replay<'a> {
+    device: Device16550,
+    capacity: usize,
+    events: &'a [Event],
+    // How many of the events are behind.
+    done: usize,
+    // How many bytes of the wire and how many arrivals have been noted.
+    sent: usize,
+    arrivals: usize,
+    is_dlab_set: bool,
+    current: Moment,
+    moments: Vec<Moment>,
+}
+
+impl Replay<'_> {
+    // Keeps the current moment, if anything happened in it, and begins another.
+    fn close(&mut self) -> Result<(), AllocError> {
+        if !self.current.is_empty() {
+            self.moments.push(self.current)?;
+        }
+        self.current.sent = None;
+        self.current.arrival = None;
+        self.current.lines = None;
+        self.current.access = None;
+        Ok(())
+    }
+
+    fn count(&mut self) {
+        self.current.held = self.device.held_len();
+        self.current.waiting = self.device.waiting_len();
+    }
+
+    // Lets the time go on.
+    fn advance(&mut self, ticks: u64) -> Result<(), AllocError> {
+        if ticks > 0 {
+            self.close()?;
+            self.current.tick = self.current.tick.saturating_add(ticks);
+        }
+        Ok(())
+    }
+
+    // Notes a byte that has gone onto the wire.
+    fn note_sent(&mut self) {
+        if let Some(byte) = self.device.wire().get(self.sent).copied() {
+            self.sent += 1;
+            self.current.sent = Some(byte);
+        }
+        self.count();
+    }
+
+    // No byte can go onto the wire.
+    fn is_still(&self) -> bool {
+        self.device.held_len() == 0 || self.device.wire().len() >= self.capacity
+    }
+
+    // Lets ticks of the schedule pass, one by one while a byte may move.
+    fn pass(&mut self, ticks: u16) -> Result<(), AllocError> {
+        let mut left = ticks;
+        for _ in 0..ticks {
+            if left == 0 {
+                break;
+            }
+            let step = if self.is_still() { left } else { 1 };
+            self.advance(u64::from(step))?;
+            self.device.idle(step);
+            self.note_sent();
+            left -= step;
+        }
+        Ok(())
+    }
+
+    // Performs the event that the device is at.
+    fn happen(&mut self) {
+        self.device.next();
+        self.device.next();
+        self.count();
+    }
+
+    fn arrive(&mut self, byte: u8) -> Result<(), AllocError> {
+        if self.current.arrival.is_some() {
+            self.close()?;
+        }
+        self.happen();
+        let number = self.arrivals;
+        self.arrivals = number.saturating_add(1);
+        self.current.arrival = Some(Arrival { byte, number });
+        Ok(())
+    }
+
+    fn turn(&mut self, lines: u8) -> Result<(), AllocError> {
+        if self.current.lines.is_some() {
+            self.close()?;
+        }
+        self.happen();
+        self.current.lines = Some(lines);
+        Ok(())
+    }
+
+    fn perform(&mut self, event: Event) -> Result<(), AllocError> {
+        match event {
+            Event::Ticks(ticks) => self.pass(ticks)?,
+            Event::Arrive { byte, .. } => self.arrive(byte)?,
+            Event::Lines(lines) => self.turn(lines)?,
+            Event::Access => self.happen(),
+            Event::Mark => {}
+        }
+        Ok(())
+    }
+
+    // The next event of the schedule, which is then behind.
+    fn take(&mut self) -> Option<Event> {
+        let event = self.events.get(self.done).copied();
+        self.done = self.done.saturating_add(1);
+        event
+    }
+
+    // Performs the events before an access. Returns whether the access takes place at an `access` of the schedule.
+    fn reach_access(&mut self) -> Result<bool, AllocError> {
+        for _ in 0..self.events.len() {
+            match self.events.get(self.done) {
+                None | Some(Event::Mark) => return Ok(false),
+                Some(Event::Access) => {
+                    self.take();
+                    return Ok(true);
+                }
+                Some(event) => {
+                    let event = *event;
+                    self.take();
+                    self.perform(event)?;
+                }
+            }
+        }
+        Ok(false)
+    }
+
+    // Performs the events up to the next mark.
+    fn reach_mark(&mut self) -> Result<(), AllocError> {
+        for _ in 0..self.events.len() {
+            match self.take() {
+                None | Some(Event::Mark) => return Ok(()),
+                Some(event) => self.perform(event)?,
+            }
+        }
+        Ok(())
+    }
+
+    // Makes an access on the device.
+    fn reach(&mut self, access: Entry) {
+        match access {
+            Entry::Read { offset, .. } => {
+                self.device.read(offset % 8);
+            }
+            Entry::Write { offset, value } => {
+                self.device.write(offset % 8, value);
+                if offset as usize == offsets::LCR {
+                    self.is_dlab_set = LCR::from_bits_retain(value).contains(LCR::DLAB);
+                }
+            }
+        }
+    }
+
+    fn access(&mut self, access: Entry) -> Result<(), AllocError> {
+        let register = register_of(access, self.is_dlab_set);
+        if self.reach_access()? {
+            self.device.next();
+            self.reach(access);
+            self.device.next();
+        } else {
+            self.advance(1)?;
+            self.reach(access);
+        }
+        self.note_sent();
+        self.current.access = Some(Seen { access, register });
+        self.close()
+    }
+
+    // Makes the accesses of a call, and of a `next` the machine's own.
+    fn call(&mut self, number: usize, call: &Call, accesses: &[Entry]) -> Result<(), AllocError> {
+        self.current.call = number;
+        if *call == Call::Next {
+            self.reach_mark()?;
+        }
+        for access in accesses {
+            self.access(*access)?;
+        }
+        self.close()
+    }
+}
+
+/// The moments of a run, and how many of them there were when each call returned.
+#[derive(Drop)]
+pub struct Moments {
+    pub all: Vec<Moment>,
+    pub ends: Vec<usize>,
+}
+
+/// Plays a script's recording again, and notes its moments.
+pub fn replayed(
+    alloc: Global,
+    script: &Script,
+    recording: &Recording,
+) -> Result<Moments, AllocError> {
+    let schedule = spread(alloc, script.events())?;
+    let mut replay = Replay {
+        device: machine_for(alloc, script, schedule)?,
+        capacity: script.wire_capacity(),
+        events: script.events(),
+        done: 0,
+        sent: 0,
+        arrivals: 0,
+        is_dlab_set: false,
+        current: Moment {
+            tick: 0,
+            call: 0,
+            sent: None,
+            arrival: None,
+            lines: None,
+            access: None,
+            held: 0,
+            waiting: 0,
+        },
+        moments: Vec::new(alloc),
+    };
+    let mut ends = Vec::new(alloc);
+    let mut start = 0;
+    for (number, call) in script.calls().iter().enumerate() {
+        let end = recording.ends.get(number).copied().unwrap_or(start);
+        let accesses = recording.accesses.get(start..end).unwrap_or(&[]);
+        replay.call(number, call, accesses)?;
+        ends.push(replay.moments.len())?;
+        start = end;
+    }
+    Ok(Moments {
+        all: replay.moments,
+        ends,
+    })
+}

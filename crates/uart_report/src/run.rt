@@ -1,0 +1,76 @@
+//! Runs a script over a recorder.
+ghost use Rattle.std.specs.Prelude.{All};
+ghost use Rattle.uart_language.specs.Script.{plan_of, IsPlayable};
+ghost use Rattle.uart_calls.specs.Calls.{IsRunnable};
+
+use crate::recording::{Entry, Recorder};
+use std::alloc::{AllocError, Global};
+use uart_16550::{Uart16550, Uart16550Tty};
+use uart_machine::script::Script;
+use uart_machine::{Answer, Call, Device16550, Event, perform};
+
+/// The accesses that each call of a run made.
+#[derive(Drop)]
+pub struct Recording {
+    pub accesses: Vec<Entry>,
+    /// How many accesses had been made when each call returned.
+    pub ends: Vec<usize>,
+}
+
+/// The script's machine, under this schedule.
+pub fn machine_for(
+    alloc: Global,
+    script: &Script,
+    schedule: Vec<Event>,
+) -> Result<Device16550, AllocError> {
+    let (chip, ticks, capacity) = (script.chip(), script.ticks(), script.wire_capacity());
+    let machine = if script.cut() {
+        Device16550::new_cut(alloc, chip, ticks, capacity, schedule)
+    } else {
+        Device16550::new(alloc, chip, ticks, capacity, schedule)
+    };
+    machine.map_err(|_| AllocError)
+}
+
+// Makes one call, and `next` as the machine's own.
+fn make(uart: &mut Uart16550Tty<Recorder<Device16550>>, call: &Call) -> Answer
+    requires { IsRunnable call.now }
+{
+    match call {
+        Call::Next => {
+            uart.inner_mut().backend_mut().device_mut().next();
+            Answer::Done
+        }
+        _ => perform(uart, call),
+    }
+}
+
+// Makes the calls, and returns how many accesses had been made after each.
+fn make_all(
+    alloc: Global,
+    uart: &mut Uart16550Tty<Recorder<Device16550>>,
+    calls: &[Call],
+) -> Result<Vec<usize>, AllocError>
+    requires { All IsRunnable calls.now }
+{
+    let mut ends = Vec::new(alloc);
+    for call in calls {
+        make(uart, call);
+        ends.push(uart.inner().backend().entries()?.len())?;
+    }
+    Ok(ends)
+}
+
+/// Runs a script.
+pub fn recorded(alloc: Global, script: &Script) -> Result<Recording, AllocError>
+    requires { IsPlayable (plan_of script.now) }
+{
+    let schedule = script.events().to_vec(alloc)?;
+    let machine = Recorder::new(alloc, machine_for(alloc, script, schedule)?);
+    let mut uart = Uart16550::new_with_backend(machine);
+    uart.set_spin_limit(script.limit());
+    let mut terminal = Uart16550Tty::from_inner(uart);
+    let ends = make_all(alloc, &mut terminal, script.calls())?;
+    let accesses = terminal.inner().backend().entries()?.to_vec(alloc)?;
+    Ok(Recording { accesses, ends })
+}

@@ -1,0 +1,47 @@
+//! Moments as they are shown: polls that return the same are shown once.
+
+use crate::replay::Moment;
+use std::alloc::{AllocError, Global};
+
+/// A moment, and how often in a row it took place.
+#[derive(Clone, Copy)]
+pub struct Shown {
+    pub moment: Moment,
+    pub times: usize,
+}
+
+// The same access again, with nothing else.
+fn is_again(last: &Moment, next: &Moment) -> bool {
+    let accesses = match (last.access, next.access) {
+        (Some(last), Some(next)) => last.access == next.access && last.register == next.register,
+        _ => false,
+    };
+    accesses
+        && last.is_access_alone()
+        && next.is_access_alone()
+        && last.held == next.held
+        && last.waiting == next.waiting
+}
+
+/// The moments as they are shown.
+pub fn merged(alloc: Global, moments: &[Moment]) -> Result<Vec<Shown>, AllocError> {
+    let mut all = Vec::new(alloc);
+    let mut moments = moments.iter().copied();
+    let Some(first) = moments.next() else {
+        return Ok(all);
+    };
+    let mut last = Shown {
+        moment: first,
+        times: 1,
+    };
+    for moment in moments {
+        if is_again(&last.moment, &moment) {
+            last.times = last.times.saturating_add(1);
+        } else {
+            all.push(last)?;
+            last = Shown { moment, times: 1 };
+        }
+    }
+    all.push(last)?;
+    Ok(all)
+}

@@ -1,0 +1,60 @@
+//! The accesses of a run, call by call.
+
+use crate::history::History;
+use crate::recording::Entry;
+use crate::replay::{Moment, Seen};
+use std::alloc::{AllocError, Global};
+use std::fmt::Write;
+
+// What happened beside the access, as remarks.
+fn push_events(text: &mut String, history: &History, moment: &Moment) -> Result<(), AllocError> {
+    let tick = moment.tick;
+    if let Some(byte) = moment.sent {
+        writeln!(text, "# tick {tick}: {byte:02x} is on the wire")?;
+    }
+    if let Some(arrival) = moment.arrival {
+        let byte = arrival.byte;
+        let mark = history.mark(arrival.number);
+        writeln!(text, "# tick {tick}: {byte:02x} arrives, mark {mark}")?;
+    }
+    if let Some(lines) = moment.lines {
+        let digit = lines / 16;
+        writeln!(text, "# tick {tick}: the modem lines are {digit:x}")?;
+    }
+    Ok(())
+}
+
+fn push_access(text: &mut String, tick: u64, seen: Seen) -> Result<(), AllocError> {
+    let register = seen.register;
+    match seen.access {
+        Entry::Read { offset, answer } => {
+            writeln!(text, "r {offset} {answer:02x} # {register}, tick {tick}")
+        }
+        Entry::Write { offset, value } => {
+            writeln!(text, "w {offset} {value:02x} # {register}, tick {tick}")
+        }
+    }
+}
+
+/// Each call of a run as its line, its accesses and its answer; and at the end what is left of the machine, as remarks.
+///
+/// An access is `r OFFSET VALUE` or `w OFFSET VALUE`, and an answer stands behind `= `. What follows a `#` is a remark.
+pub fn trace(alloc: Global, history: &History) -> Result<String, AllocError> {
+    let mut text = String::new(alloc);
+    for call in &history.calls {
+        let line = &call.line;
+        writeln!(text, "{line}")?;
+        for moment in history.moments_of(call) {
+            push_events(&mut text, history, moment)?;
+            if let Some(seen) = moment.access {
+                push_access(&mut text, moment.tick, seen)?;
+            }
+        }
+        let answer = &call.answer;
+        writeln!(text, "= {answer}")?;
+    }
+    for line in &history.last {
+        writeln!(text, "# {line}")?;
+    }
+    Ok(text)
+}

@@ -1,0 +1,6 @@
+pub mod RingBlocks
+pub mod RingPasses
+pub mod RingTold
+pub mod RingDue
+pub mod RingArming
+pub mod RingSessions

@@ -1,0 +1,5 @@
+pub mod RingRun
+pub mod RingBytes
+pub mod RingStatuses
+pub mod RingArmed
+pub mod RingSession

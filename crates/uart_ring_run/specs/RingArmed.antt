@@ -1,0 +1,32 @@
+-- Why bytes never wait in the transmit ring with no interrupt to come: what holds of the chip's THR-empty interrupt.
+use Rattle.std.specs.Prelude.{◌⊎◌, ◌<◌, Bool, not, ◌||◌, ◌==◌, List, [], ◌∷◌, length}
+use Rattle.uart_spec.specs.Bits.{has}
+use Rattle.uart_spec.specs.declared.registers.interrupt_enable.TheConstants.IER
+use Rattle.uart_chip.specs.Transmitter.{TransmitterState}
+use Rattle.uart_chip.specs.Machine.{MachineState}
+use Rattle.uart_ring.specs.Ring.{ring_fields}
+use Rattle.uart_ring.specs.Armed.{ThrEmpty, IsArmed}
+use Rattle.uart_ring_run.specs.RingRun.{RingState, ring_machine, RingLink}
+use Rattle.uart_ring_run.specs.RingBytes.{queued_by}
+
+-- it is due: the transmit queue is not empty, or that it became empty is still to be told
+abbrev pub is_due : TransmitterState → Bool
+is_due t = not (length t.queue == 0) || t.is_thr_pending
+
+-- the chip's THR-empty interrupt
+abbrev pub thr_empty_of : MachineState → ThrEmpty
+thr_empty_of m = record { enabled = has m.chip.latches.ier IER.THR_EMPTY.0; due = is_due m.chip.transmitter }
+
+-- nothing waits in the transmit ring, or that interrupt is enabled and due
+abbrev pub IsRingArmed : RingState → Type 0
+IsRingArmed s = IsArmed (thr_empty_of (ring_machine s)) (ring_fields s)
+
+-- the call leaves it so where it finds it so, and also where it accepts a byte
+abbrev pub LeavesRingArmed : RingLink → Type 0
+LeavesRingArmed link =
+    IsRingArmed link.before ⊎ (0 < length (queued_by link.call link.answer)) → IsRingArmed link.after
+
+-- each of these calls does
+abbrev pub AllLeaveRingArmed : List RingLink → Type 0
+AllLeaveRingArmed [] = Unit {0}
+AllLeaveRingArmed (link ∷ links) = LeavesRingArmed link × AllLeaveRingArmed links

@@ -1,0 +1,70 @@
+//! Runs of ring calls over the machine.
+ghost use Rattle.std.specs.Prelude.{◌≡◌, ◌≤◌, length, All};
+ghost use Rattle.uart_ring_run.specs.RingRun.{IsRingRunnable, RingCallStep, TakesInto};
+ghost use Rattle.uart_ring_run.specs.RingSession.{RanRing};
+
+use crate::call::{RingAnswer, RingCall};
+use arrayvec::ArrayVec;
+use uart_calls::CALL_BYTES;
+use uart_device::Device16550;
+use uart_ring::Uart16550Ring;
+
+/// Makes the calls in turn, each with its answer in its slot.
+///
+/// Never refuses and takes no memory. In each session, that is from a state in which DLAB and loopback are off and the driver
+/// knows whether the FIFO is on, whatever the rings hold then:
+///
+/// - what has gone out, what is still in the transmitter, and then the transmit ring have grown by exactly the bytes that were
+///   queued, and no data write meets a full transmitter;
+/// - bytes taken, then the receive ring, then those that wait in the chip are those of the receive ring at the start, those that
+///   waited, and those that arrived, in order, less those dropped;
+/// - `TakeLine` tells of drops and line errors, and `TakeModem` of changes of the modem lines, whatever `Service` saw of them;
+/// - if CTS is not checked, bytes never wait in the transmit ring with no interrupt to come, unless they did at the start;
+/// - each call leaves such a state.
+///
+/// On a machine that cuts characters to the word length ([`Device16550::new_cut`]) the first holds of bytes that are cut so, and
+/// the second of arrivals that are.
+pub fn run_ring(
+    ring: &mut Uart16550Ring<Device16550>,
+    calls: &[RingCall],
+    answers: &mut [RingAnswer],
+)
+    requires runnable { All IsRingRunnable calls.now }
+    requires slots { length calls.now ≡ length answers.old }
+    ensures { RanRing ring.old calls.now answers.new ring.new }
+{
+    // Any observer tells what holds of every machine.
+    let _fifo = ring.inner().backend().fifo_enabled();
+    for i in 0..calls.len() {
+        answers[i] = run_ring_call(ring, &calls[i]);
+    }
+}
+
+// Makes one call of a run.
+fn run_ring_call(ring: &mut Uart16550Ring<Device16550>, call: &RingCall) -> RingAnswer
+    requires { IsRingRunnable call.now }
+    ensures { RingCallStep ring.old call.now result ring.new }
+{
+    match call {
+        RingCall::Queue(bytes) => RingAnswer::Count(ring.queue(bytes.as_slice())),
+        RingCall::Take(slots) => take(ring, &mut [0; CALL_BYTES][..*slots]),
+        RingCall::Service => RingAnswer::Count(ring.service()),
+        RingCall::TakeLine => RingAnswer::Line(ring.take_line()),
+        RingCall::TakeModem => RingAnswer::Modem(ring.take_modem()),
+        RingCall::Next => {
+            ring.inner_mut().backend_mut().next();
+            RingAnswer::Done
+        }
+    }
+}
+
+// Takes into these slots.
+fn take(ring: &mut Uart16550Ring<Device16550>, slots: &mut [u8]) -> RingAnswer
+    requires { length slots.old ≤ CALL_BYTES }
+    ensures { TakesInto (length slots.old) result ring.old ring.new }
+{
+    let count = ring.take(slots);
+    let mut bytes = ArrayVec::new();
+    let _ = bytes.try_extend_from_slice(&slots[..count]);
+    RingAnswer::Bytes(bytes)
+}

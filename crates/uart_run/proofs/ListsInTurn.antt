@@ -1,0 +1,35 @@
+-- What holds of all lists of a language, since it holds of those of its parts.
+use Rattle.std.proofs.Common.{ℕ, zero, suc, List, [], ◌∷◌, ◌++◌}
+use Rattle.uart_spec.specs.Access.{Access}
+use Rattle.uart_16550.specs.Grammar.{Language, Settings, Only, Then, InOrder, Times, FewMisses, AllMisses}
+
+-- it holds of no accesses, and of two lists in turn if it holds of both
+pub record HoldsInTurn (P : List Access → Type 0) : Type 0 where
+  pub none : P []
+  pub append : (xs ys : List Access) → P xs → P ys → P (xs ++ ys)
+
+-- it holds of each list of the language
+abbrev pub HoldsOfAll : (List Access → Type 0) → Settings → Language → Type 0
+HoldsOfAll P s L = (l : List Access) → L s l → P l
+
+module _ {P : List Access → Type 0} (turn : HoldsInTurn P) (s : Settings) where
+  pub all_only : (list : List Access) → P list → HoldsOfAll P s (Only list)
+  all_only list h l t = rw t.is h
+
+  pub all_then : (L M : Language) → HoldsOfAll P s L → HoldsOfAll P s M → HoldsOfAll P s (Then L M)
+  all_then L M p q l t = rw t.whole (turn.append t.front t.back (p t.front t.first) (q t.back t.second))
+
+  pub all_times : (n : ℕ) (L : Language) → HoldsOfAll P s L → HoldsOfAll P s (Times n L)
+  all_times zero L p l t = all_only [] turn.none l t
+  all_times (suc n) L p l t = all_then L (Times n L) p (λ k u. all_times n L p k u) l t
+
+  pub all_few : (L : Language) → HoldsOfAll P s L → HoldsOfAll P s (FewMisses L)
+  all_few L p l t = all_times t.0 L p l t.2
+
+  pub all_misses : (L : Language) → HoldsOfAll P s L → HoldsOfAll P s (AllMisses L)
+  all_misses L p l t = all_times s.limit L p l t
+
+  pub all_in_order : {A : Type 0} (L : A → Language) (items : List A) → ((item : A) → HoldsOfAll P s (L item)) →
+      HoldsOfAll P s (InOrder L items)
+  all_in_order L [] p l t = all_only [] turn.none l t
+  all_in_order L (item ∷ items) p l t = all_then (L item) (InOrder L items) (p item) (λ k u. all_in_order L items p k u) l t

@@ -1,0 +1,4 @@
+pub mod Devices
+pub mod Examples
+pub mod Links
+pub mod Replays

@@ -1,0 +1,36 @@
+//! Tests of the driver: what no contract says, as examples from outside.
+//!
+//! Rows of calls, with their answers and whole lists of accesses, are tables in [`driving`]'s words. They stand in a crate of their own,
+//! since a crate with tests is proved twice.
+#![tactic(auto)]
+
+#[cfg(test)]
+mod address;
+#[cfg(test)]
+mod always;
+#[cfg(test)]
+mod bytes;
+#[cfg(test)]
+mod calls;
+#[cfg(test)]
+mod devices;
+#[cfg(test)]
+mod driving;
+#[cfg(test)]
+mod examples;
+#[cfg(test)]
+mod generic;
+#[cfg(test)]
+mod init;
+#[cfg(test)]
+mod lists;
+#[cfg(test)]
+mod looks;
+#[cfg(test)]
+mod loopback;
+#[cfg(test)]
+mod replays;
+#[cfg(test)]
+mod setup;
+#[cfg(test)]
+mod terminal;

@@ -1,0 +1,50 @@
+//! The program's arguments.
+
+use crate::end::End;
+use clap::{Arg, ArgMatches, Command, Error};
+use std::alloc::Global;
+use std::num::NonZeroU64;
+
+const ABOUT: &str =
+    "Checks a recorded trace: whether each list of register accesses is one that its call makes.";
+
+const NOTES: &str =
+    "A trace has a line for each call, each access and each answer; docs/TRACES.md describes it.
+
+Exit status: 0 each list is its call's, with its answer; 1 one is not, and a line says what the driver does in its place; \
+2 the arguments are refused, the file cannot be read, or it is no trace; 3 out of memory.";
+
+// The command line that the program understands.
+fn command<'a>(alloc: Global) -> Result<Command<'a>, Error> {
+    let file = Arg::new(alloc, "FILE").help("the trace; without it standard input is read");
+    let limit = Arg::new(alloc, "limit")
+        .long("limit")
+        .value_name("N")
+        .default_value("1000000")
+        .help("how many unsuccessful polls in a row end a wait of the driver");
+    Ok(
+        Command::new(alloc, "uart_trace")
+            .about(ABOUT)
+            .after_help(NOTES)
+            .arg(file)?
+            .arg(limit)?,
+    )
+}
+
+/// The words of the command line, matched with what the program understands.
+pub fn matched<'a>(alloc: Global, words: &'a [String]) -> Result<ArgMatches<'a>, Error> {
+    command(alloc)?.try_get_matches_from(words)
+}
+
+/// The spin limit of the driver.
+///
+/// # Errors
+///
+/// If it is no number from 1 on.
+pub fn limit_in(matches: &ArgMatches<'_>) -> Result<NonZeroU64, End> {
+    let word = matches.get_str("limit").unwrap_or("");
+    match u64::from_str_radix(word, 10) {
+        Ok(limit) => NonZeroU64::new(limit).ok_or(End::NoLimit),
+        Err(_) => Err(End::NoLimit),
+    }
+}

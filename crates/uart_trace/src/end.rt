@@ -1,0 +1,64 @@
+//! How the program ends.
+ghost use Rattle.std.specs.Prelude.{◌≡◌};
+ghost use Rattle.uart_trace.specs.declared.end.End.TheVariants.{OutOfMemory};
+ghost use Rattle.uart_trace.specs.Status.{status_of};
+
+use std::alloc::AllocError;
+use std::io;
+use std::io::ErrorKind;
+use thiserror::Error;
+use uart_traces::TraceError;
+
+/// Why a trace was not checked.
+#[derive(Clone, Copy, Debug, Drop, Error)]
+pub enum End {
+    /// The limit is no number from 1 on.
+    #[error("the limit is a number from 1 on")]
+    NoLimit,
+    /// The trace could not be read.
+    #[error("the trace cannot be read: {0}")]
+    Unread(io::Error),
+    /// What was read is no trace.
+    #[error("{0}")]
+    NoTrace(TraceError),
+    /// The trace did not fit into memory.
+    #[error("out of memory")]
+    OutOfMemory,
+}
+
+impl End {
+    /// The program's exit status.
+    pub fn status(self) -> u8
+        ensures { result ≡ status_of self }
+    {
+        match self {
+            End::NoLimit | End::Unread(_) | End::NoTrace(_) => 2,
+            End::OutOfMemory => 3,
+        }
+    }
+
+    /// Why the trace could not be read.
+    pub fn unread(cause: io::Error) -> Self {
+        match cause.kind() {
+            ErrorKind::OutOfMemory => End::OutOfMemory,
+            _ => End::Unread(cause),
+        }
+    }
+}
+
+impl From<TraceError> for End {
+    fn from(error: TraceError) -> End {
+        match error {
+            TraceError::OutOfMemory => End::OutOfMemory,
+            _ => End::NoTrace(error),
+        }
+    }
+}
+
+impl From<AllocError> for End {
+    ghost from_gives = { λ _ end. end ≡ OutOfMemory };
+
+    fn from(_error: AllocError) -> End {
+        End::OutOfMemory
+    }
+}

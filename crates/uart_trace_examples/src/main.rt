@@ -1,0 +1,79 @@
+//! Checks the traces of a folder, and prints of each whether it is told of it what is stored beside it.
+//!
+//! The folder is the first argument, or else the one in which the program runs. Beside `NAME.trace` lies `NAME.out`: the line that
+//! the program `uart_trace` writes of it, or nothing.
+#![tactic(auto)]
+
+use std::alloc::Global;
+use std::io::Write;
+use std::num::NonZeroU64;
+use std::path::Path;
+use std::process::ExitCode;
+use std::{env, fs, io};
+use uart_16550::DEFAULT_SPIN_LIMIT;
+use uart_traces::{TraceError, judge, parse, push_stray};
+
+// The names of the folder's traces, in order.
+fn names_in(rt: &HostRuntime, folder: Path<'_>) -> io::Result<Vec<String>> {
+    let mut names = Vec::new(rt.alloc());
+    for entry in fs::read_dir(rt, folder)? {
+        let entry = entry?;
+        if let Some(name) = entry.file_name().strip_suffix(".trace") {
+            names.push(name.to_string(rt.alloc())?)?;
+        }
+    }
+    names.sort()?;
+    Ok(names)
+}
+
+// A file of the folder.
+fn bytes_of(rt: &HostRuntime, folder: Path<'_>, name: &str, ending: &str) -> io::Result<Vec<u8>> {
+    let file = format!(in rt.alloc(); "{name}.{ending}")?;
+    fs::read(rt, folder.join(rt.alloc(), file.as_str())?)
+}
+
+// What is told of a trace, if it strays.
+fn stray_line(alloc: Global, bytes: &[u8]) -> Result<Vec<u8>, TraceError> {
+    let trace = parse(alloc, bytes)?;
+    let mut line = Vec::new(alloc);
+    let limit = NonZeroU64::new(DEFAULT_SPIN_LIMIT).unwrap();
+    if let Some(stray) = judge(alloc, &trace, limit)? {
+        push_stray(alloc, &mut line, &stray)?;
+        line.push(b'\n')?;
+    }
+    Ok(line)
+}
+
+// What is told of a trace, or why the bytes are none.
+fn told(alloc: Global, bytes: &[u8]) -> io::Result<Vec<u8>> {
+    match stray_line(alloc, bytes) {
+        Ok(line) => Ok(line),
+        Err(error) => {
+            let mut line = Vec::new(alloc);
+            writeln!(line, "{error}")?;
+            Ok(line)
+        }
+    }
+}
+
+// Whether what is stored is told of the trace of this name.
+fn is_as_stored(rt: &HostRuntime, folder: Path<'_>, name: &str) -> io::Result<bool> {
+    let trace = bytes_of(rt, folder, name, "trace")?;
+    let stored = bytes_of(rt, folder, name, "out")?;
+    Ok(told(rt.alloc(), &trace)? == stored)
+}
+
+fn main(rt: HostRuntime) -> io::Result<ExitCode> {
+    let argument = env::args(&rt)?.nth(1);
+    let folder = Path::new(argument.as_deref().unwrap_or("."));
+    let mut code = ExitCode::SUCCESS;
+    for name in &names_in(&rt, folder)? {
+        if is_as_stored(&rt, folder, name)? {
+            println!(rt; "{name} ok")?;
+        } else {
+            println!(rt; "{name} differs")?;
+            code = ExitCode::FAILURE;
+        }
+    }
+    Ok(code)
+}

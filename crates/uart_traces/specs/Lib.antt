@@ -1,0 +1,4 @@
+pub mod Runnable
+pub mod Tape
+pub mod Lists
+pub mod Traces

@@ -1,0 +1,12 @@
+-- That a call is runnable is shown in one way at most, so that it can be kept beside a call.
+use Rattle.std.proofs.Props.{props}
+use Rattle.uart_calls.specs.Calls.{IsRunnable}
+use Rattle.uart_calls.specs.declared.call.Call.{Call}
+use Rattle.uart_calls.specs.declared.call.Call.TheVariants as call
+
+pub runnable_is_one : (call : Call) → IsProp (IsRunnable call)
+runnable_is_one (call.Init config) = hlevel props
+runnable_is_one (call.Receive count) = hlevel props
+runnable_is_one (call.ReceiveExact count) = hlevel props
+runnable_is_one (call.Read count) = hlevel props
+runnable_is_one other = hlevel props

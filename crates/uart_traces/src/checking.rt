@@ -1,0 +1,103 @@
+//! Whether a recorded list of accesses is one that a call of the driver makes.
+ghost use Rattle.std.specs.Prelude.{◌≡◌, IfSome, IsNone, map};
+ghost use Rattle.uart_16550.specs.Driver.{Fields};
+ghost use Rattle.uart_16550.specs.Replay.{access_of};
+ghost use Rattle.uart_16550.specs.State.{fields_of};
+ghost use Rattle.uart_calls.specs.Calls.{IsRunnable};
+ghost use Rattle.uart_calls.specs.declared.call.Answer.{Answer};
+ghost use Rattle.uart_traces.specs.Lists.{IsFollowed, IsListOf, IsNext, Makes};
+
+use crate::tape::{Request, Tape};
+use uart_16550::replay::Entry;
+use uart_16550::{DriverState, Uart16550, Uart16550Tty};
+use uart_calls::{Answer, Call, perform};
+
+/// What a call returned, and what the driver keeps after it.
+#[derive(Debug, Drop)]
+pub struct Returned {
+    pub answer: Answer,
+    pub state: DriverState,
+}
+
+/// What a driver does at a place of a call.
+#[derive(Debug, Drop)]
+pub enum Turn {
+    /// It makes this access.
+    Asks(Request),
+    /// It returns.
+    Returns(Returned),
+}
+
+/// How far a driver makes the accesses of a list, and what it does then.
+#[derive(Debug, Drop)]
+pub struct Followed {
+    /// How many of the first accesses the driver makes.
+    pub kept: usize,
+    /// What it does after these.
+    pub turn: Turn,
+}
+
+/// What comes next in a call of which some accesses were made.
+#[derive(Debug, Drop)]
+pub enum NextStep {
+    /// The call is done.
+    Done(Returned),
+    /// The driver makes this access.
+    Asked(Request),
+    /// No list of the call begins with the accesses that were made.
+    Strayed,
+}
+
+/// How far the driver makes these accesses in this call, from this state on, and what it does in place of the first that it does
+/// not make. Takes no memory.
+pub fn follow(accesses: &[Entry], state: &DriverState, call: &Call) -> Followed
+    requires { IsRunnable call.now }
+    ensures { IsFollowed call.now (fields_of state.now) (map access_of accesses.now) result }
+{
+    let mut uart = Uart16550Tty::from_inner(Uart16550::from_state(Tape::new(accesses), state));
+    let answer = perform(&mut uart, call);
+    let tape = uart.inner().backend();
+    let turn = match tape.asked() {
+        Some(request) => Turn::Asks(request),
+        None => Turn::Returns(Returned {
+            answer,
+            state: uart.inner().state(),
+        }),
+    };
+    Followed {
+        kept: accesses.len() - tape.left(),
+        turn,
+    }
+}
+
+/// Whether these accesses are a list of this call, from this state on: then what the call returned, and the driver after it. Takes
+/// no memory.
+///
+/// `None` if they are not, whatever the call might have returned.
+pub fn check(accesses: &[Entry], state: &DriverState, call: &Call) -> Option<Returned>
+    requires { IsRunnable call.now }
+    ensures sound { IfSome result (λ returned. Makes call.now (fields_of state.now) (map access_of accesses.now) returned) }
+    ensures complete { IsNone result → (answer : Answer) (after : Fields) →
+        IsListOf call.now (fields_of state.now) (map access_of accesses.now) answer after → ⊥ }
+{
+    match next(accesses, state, call) {
+        NextStep::Done(returned) => Some(returned),
+        NextStep::Asked(_) => None,
+        NextStep::Strayed => None,
+    }
+}
+
+/// What the driver does next in this call, from this state on, once it has made these accesses. Takes no memory.
+pub fn next(made: &[Entry], state: &DriverState, call: &Call) -> NextStep
+    requires { IsRunnable call.now }
+    ensures { IsNext call.now (fields_of state.now) (map access_of made.now) result }
+{
+    let Followed { kept, turn } = follow(made, state, call);
+    if kept < made.len() {
+        return NextStep::Strayed;
+    }
+    match turn {
+        Turn::Returns(returned) => NextStep::Done(returned),
+        Turn::Asks(request) => NextStep::Asked(request),
+    }
+}

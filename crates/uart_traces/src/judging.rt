@@ -1,0 +1,106 @@
+//! Whether each call of a trace made its list.
+ghost use Rattle.std.specs.Prelude.{◌≡◌, ◌↔◌, true, IfOk, IfSome, IsNone};
+ghost use Rattle.std.specs.Int.NonZero.{non_zero_u64_get};
+ghost use Rattle.uart_16550.specs.Driver.{Fields};
+ghost use Rattle.uart_16550.specs.State.{fields_of, fresh_fields};
+ghost use Rattle.uart_language.specs.Output.{answer_text};
+ghost use Rattle.uart_traces.specs.Traces.{AreCalls, IsExchange, fields_before};
+
+use crate::checking::{Turn, check, follow};
+use crate::parsing::Exchange;
+use std::alloc::{AllocError, Global};
+use std::num::NonZeroU64;
+use uart_16550::DriverState;
+use uart_calls::Answer;
+use uart_language::push_answer;
+
+/// Where a trace is not what the driver does.
+#[derive(Debug, Drop)]
+pub struct Stray<'a> {
+    /// The call that made another list, or returned something else.
+    pub exchange: &'a Exchange,
+    /// How many of its first accesses the driver makes.
+    pub kept: usize,
+    /// What the driver does then.
+    pub turn: Turn,
+}
+
+// Whether an answer is printed so.
+fn is_printed(alloc: Global, answer: &Answer, text: &[u8]) -> Result<bool, AllocError>
+    ensures { IfOk result (λ is. is ≡ true ↔ answer_text answer.now ≡ text.now) }
+{
+    let mut printed = Vec::new(alloc);
+    push_answer(alloc, &mut printed, answer)?;
+    Ok(printed.as_slice() == text)
+}
+
+// What the driver keeps before a call: what it kept after the one before, or what one keeps that was just made, with this limit.
+fn state_before(exchange: &Exchange, state: DriverState, limit: NonZeroU64) -> DriverState
+    ensures { fields_of result ≡ fields_before (non_zero_u64_get limit) exchange.now (fields_of state) }
+{
+    if exchange.is_first {
+        DriverState {
+            spin_limit: limit,
+            ..DriverState::new()
+        }
+    } else {
+        state
+    }
+}
+
+// What the driver keeps after a call, if it makes this list and returns this answer.
+fn after(
+    alloc: Global,
+    exchange: &Exchange,
+    state: &DriverState,
+) -> Result<Option<DriverState>, AllocError>
+    ensures sound { IfOk result (λ after. IfSome after (λ state'. IsExchange exchange.now (fields_of state.now) (fields_of state'))) }
+    ensures complete { IfOk result (λ after. IsNone after → (fields : Fields) → IsExchange exchange.now (fields_of state.now) fields → ⊥) }
+{
+    let Some(returned) = check(&exchange.accesses, state, &exchange.call) else {
+        return Ok(None);
+    };
+    if is_printed(alloc, &returned.answer, &exchange.answer)? {
+        Ok(Some(returned.state))
+    } else {
+        Ok(None)
+    }
+}
+
+// What the driver does in place of what a trace says.
+fn stray_at<'a>(exchange: &'a Exchange, state: &DriverState) -> Stray<'a> {
+    let followed = follow(&exchange.accesses, state, &exchange.call);
+    Stray {
+        exchange,
+        kept: followed.kept,
+        turn: followed.turn,
+    }
+}
+
+/// Whether each list of a trace is its call's, with the answer that is recorded: `None` if it is so, and else the first call of
+/// which it is not.
+///
+/// The first call is of a driver that was just made, with this limit, as is each that follows a `fresh`.
+///
+/// # Errors
+///
+/// Only if out of memory.
+pub fn judge<'a>(
+    alloc: Global,
+    trace: &'a [Exchange],
+    limit: NonZeroU64,
+) -> Result<Option<Stray<'a>>, AllocError>
+    ensures { IfOk result (λ stray. IsNone stray ↔ AreCalls (non_zero_u64_get limit) fresh_fields trace.now) }
+{
+    let mut state = DriverState::new();
+    let mut left = trace;
+    while let Some((exchange, rest)) = left.split_first() {
+        let before = state_before(exchange, state, limit);
+        match after(alloc, exchange, &before)? {
+            Some(next) => state = next,
+            None => return Ok(Some(stray_at(exchange, &before))),
+        }
+        left = rest;
+    }
+    Ok(None)
+}

@@ -1,0 +1,121 @@
+//! A backend that plays a recorded list back, access by access.
+ghost use Rattle.std.specs.Prelude.{◌≡◌, Some, None, map, length};
+ghost use Rattle.uart_16550.specs.Replay.{access_of};
+ghost use Rattle.uart_traces.specs.Tape.{Plays, answered, first_of, request_of};
+
+use std::marker::Model;
+use uart_16550::backend::Backend;
+use uart_16550::replay::Entry;
+
+/// What a driver asks of a device: to read a register, or to write a byte into it.
+#[derive(Clone, Copy, Debug, PartialEq, Eq)]
+pub enum Request {
+    Read(usize),
+    Write(usize, u8),
+}
+
+/// A list of recorded accesses as a device.
+///
+/// It answers a read as the list says, as long as the accesses are those of the list. It keeps the first request that is not. What
+/// it answers from then on is no chip's: every wait of a driver ends soon.
+#[derive(Drop)]
+pub struct Tape<'a> {
+    left: &'a [Entry],
+    asked: Option<Request>,
+    filler: u8,
+}
+
+impl<'a> Model for Tape<'a> {
+    ghost use Rattle.std.specs.Prelude.{map};
+    ghost use Rattle.uart_16550.specs.Replay.{access_of};
+    ghost use Rattle.uart_traces.specs.Tape.{Tape};
+
+    ghost Value = { Tape };
+
+    ghost view = { λ t. record { left = map access_of t.left.now; asked = t.asked } };
+}
+
+// What the driver asked for in this access.
+fn request_of(entry: Entry) -> Request
+    ensures { result ≡ request_of (access_of entry) }
+{
+    match entry {
+        Entry::Read(offset, _) => Request::Read(offset),
+        Entry::Write(offset, value) => Request::Write(offset, value),
+    }
+}
+
+// The byte that was read or written.
+fn byte_of(entry: Entry) -> u8
+    ensures { access_of entry ≡ answered (request_of (access_of entry)) result }
+{
+    match entry {
+        Entry::Read(_, answer) => answer,
+        Entry::Write(_, value) => value,
+    }
+}
+
+impl<'a> Tape<'a> {
+    /// The whole list, of which no access was made yet.
+    pub fn new(entries: &'a [Entry]) -> Self
+        ensures { result ≡ record { left = map access_of entries.now; asked = None } }
+    {
+        Tape {
+            left: entries,
+            asked: None,
+            // Data waits at every other look, and the transmitter is always empty.
+            filler: 0x60,
+        }
+    }
+
+    /// How many accesses of the list were not made.
+    pub fn left(&self) -> usize
+        ensures { result ≡ length self.now.left }
+    {
+        self.left.len()
+    }
+
+    /// The first request that the list does not go on with, if there was one.
+    pub fn asked(&self) -> Option<Request>
+        ensures { result ≡ self.now.asked }
+    {
+        self.asked
+    }
+
+    // Keeps the first request, and answers something.
+    fn stray(&mut self, request: Request) -> u8
+        ensures left { self.new.left ≡ self.old.left }
+        ensures asked { self.new.asked ≡ Some (first_of self.old.asked request) }
+    {
+        if self.asked.is_none() {
+            self.asked = Some(request);
+        }
+        self.filler ^= 1;
+        self.filler
+    }
+
+    // Goes on in the list, if its next access is this; else keeps the request, if it is the first.
+    fn turn(&mut self, request: Request) -> u8
+        ensures { Plays self.old (answered request result) self.new }
+    {
+        match self.left {
+            [next, rest @ ..] if self.asked.is_none() && request_of(*next) == request => {
+                self.left = rest;
+                byte_of(*next)
+            }
+            _ => self.stray(request),
+        }
+    }
+}
+
+impl Backend for Tape<'_> {
+    ghost step = { Plays };
+
+    fn read(&mut self, register_offset: u8) -> u8 {
+        self.turn(Request::Read(register_offset as usize))
+    }
+
+    fn write(&mut self, register_offset: u8, value: u8) {
+        let _ = self.turn(Request::Write(register_offset as usize, value));
+    }
+}
