@@ -6,7 +6,8 @@
 use std::io::{self, Read, Write};
 use std::process::ExitCode;
 use std::{env, fs};
-use uart_report::{Report, Request, asked, report_on};
+use uart_command::asked;
+use uart_report::{Report, Request, report_on};
 
 // The status of a file that cannot be read, or an output that cannot be written.
 const FILE_FAULT: u8 = 2;

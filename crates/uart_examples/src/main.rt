@@ -10,8 +10,9 @@ use std::io::Write;
 use std::path::Path;
 use std::process::ExitCode;
 use std::{env, fs, io};
+use uart_command::asked;
 use uart_machine::script::{Std, play};
-use uart_report::{asked, report_on};
+use uart_report::report_on;
 
 // The names of the folder's files with this ending, in order.
 fn names_in(rt: &HostRuntime, folder: Path<'_>, ending: &str) -> io::Result<Vec<String>> {

@@ -1,11 +1,11 @@
 //! What is printed for a request.
 ghost use Rattle.uart_language.specs.Script.{plan_of, IsPlayable};
 
-use crate::command_line::{Form, Request, Task};
 use crate::comments::without_comments;
 use crate::fault::explained;
 use crate::history::{History, told};
 use crate::picture::picture;
+use crate::request::{Form, Request, Task};
 use crate::table::table;
 use crate::trace::trace;
 use std::alloc::{AllocError, Global};

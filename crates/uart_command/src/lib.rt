@@ -1,32 +1,13 @@
-//! The command line.
+//! The command line of the program `geesetrunk`: from its words to what is asked for.
+//!
+//! It is a crate of its own so that only this page of code is checked together with `clap`.
+#![tactic(auto)]
 
 use clap::error::ErrorKind;
 use clap::{Arg, ArgAction, ArgMatches, Command, Error};
 use std::alloc::{AllocError, Global};
 use std::convert::AsStr;
-
-/// How a timeline is shown.
-#[derive(Clone, Copy, Debug, PartialEq, Eq)]
-pub enum Form {
-    Picture,
-    Table,
-}
-
-/// What is asked for.
-#[derive(Clone, Copy, Debug, PartialEq, Eq)]
-pub enum Task {
-    Play,
-    Check,
-    Trace,
-    Timeline(Form),
-}
-
-/// What is asked for, and the script's file; `-` is standard input.
-#[derive(Clone, Copy, Debug, PartialEq, Eq)]
-pub struct Request<'a> {
-    pub task: Task,
-    pub file: &'a str,
-}
+use uart_report::{Form, Request, Task};
 
 const ABOUT: &str = "Plays scripts of a serial chip and its driver, and shows what happened";
 
