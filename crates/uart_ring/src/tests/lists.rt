@@ -1,4 +1,4 @@
-//! Rings over a replay, what a chip answers, and lists of accesses as tests write them down.
+//! Rings over a replay, what the reads of a chip return, and lists of accesses as tests write them.
 use crate::{RingError, Uart16550Ring};
 use std::process::Abort;
 use std::test::Fail;
@@ -56,7 +56,7 @@ pub enum Call {
     Service(usize),
 }
 
-/// Rings over a new driver, whose reads are answered by these bytes in turn.
+/// Rings over a new driver, whose reads return these bytes in turn.
 pub fn rings<'a>(
     rt: &impl AllocGlobal,
     answers: &'a [u8],
@@ -70,7 +70,7 @@ pub fn rings<'a>(
     }
 }
 
-/// What the reads among these accesses are answered.
+/// What the reads among these accesses return.
 pub fn answers_in(rt: &impl AllocGlobal, steps: &[Step]) -> Result<Vec<u8>, Fail> {
     let mut answers = Vec::new(rt.alloc());
     for step in steps {

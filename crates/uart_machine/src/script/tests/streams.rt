@@ -3,7 +3,7 @@ use std::io;
 use std::io::Write;
 use std::test::Fail;
 
-// Takes at most three bytes a write, and fails once it holds ten.
+// Accepts at most three bytes for each write, and fails once it has ten.
 #[derive(Drop)]
 struct FailsAfterTen {
     held: Vec<u8>,
