@@ -10,7 +10,7 @@ use Rattle.uart_calls.specs.declared.call.Answer.TheVariants.{Done}
 use Rattle.uart_calls.specs.Meaning.{Performed}
 use Rattle.uart_chip.specs.Machine.{MachineState, MachineStep, at_mark}
 
--- the driver, under its terminal, with the machine as it stands
+-- the driver, under its terminal, with the machine in its state
 abbrev pub State : Type 0
 State = Uart16550Tty MachineState
 
@@ -20,13 +20,13 @@ machine_of s = backend_of (inner_of s)
 
 -- ---- one call
 
--- `Next`: the events up to and with the next Mark, and no access
+-- `Next`: the events up to the next Mark, which is removed, and no access
 pub record GoesOn (answer : Answer) (s t : State) : Type 0 where
   pub answered : answer ≡ Done
   pub machine : machine_of t ≡ at_mark (machine_of s)
   pub driver : fields (inner_of t) ≡ fields (inner_of s)
 
--- what a call leaves and answers: `Next` goes on to the mark, and the driver makes each other call
+-- the state after a call, and its answer: `Next` goes on to the mark, and the driver makes each other call
 abbrev pub CallStep : State → Call → Answer → State → Type 0
 CallStep s call.Next answer t = GoesOn answer s t
 CallStep s other answer t = Performed MachineStep s other answer t
@@ -52,7 +52,7 @@ calls_of links = map (λ link. link.call) links
 abbrev pub answers_of : List Link → List Answer
 answers_of links = map (λ link. link.answer) links
 
--- these calls, answered so, lead from s to t
+-- these calls, with these answers, lead from s to t
 pub record IsRun (s : State) (calls : List Call) (answers : List Answer) (t : State) : Type 0 where
   pub links : List Link
   pub chain : Chain s links t
