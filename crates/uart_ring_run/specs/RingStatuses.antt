@@ -1,4 +1,4 @@
--- What `take_line` and `take_modem` tell in a session: drops, line errors and changes of the modem lines.
+-- What `take_line` and `take_modem` report in a session: drops, line errors and changes of the modem lines.
 use Rattle.std.specs.Prelude.{◌≡◌, ℕ, List, [], ◌∷◌, ◌++◌}
 use Rattle.uart_run.specs.Statuses.{TellsLine, TellsNoOtherDrop, TellsChanges, TellsNoOtherChange}
 use Rattle.uart_ring_run.specs.declared.call.RingCall.{RingCall}
@@ -25,8 +25,8 @@ abbrev pub AllNoTakeModem : List RingLink → Type 0
 AllNoTakeModem [] = Unit {0}
 AllNoTakeModem (link ∷ links) = IsNoTakeModem link.call × AllNoTakeModem links
 
--- where the session ends with a `take_line` or `take_modem`, since its start; and where it also begins with one,
--- since that and nothing else
+-- if the session ends with a `take_line` or `take_modem`, it reports what happened since the start; and if the
+-- session also begins with one, what happened since that and nothing else
 pub record RingTells (s : RingState) (links : List RingLink) (t : RingState) : Type 0 where
   pub line : (some : List RingLink) (last : RingLink) (value : ℕ) → links ≡ some ++ last ∷ [] → AllNoTakeLine some →
       last.call ≡ call.TakeLine → last.answer ≡ line_answer value → TellsLine (under s) (under t) value
