@@ -5,26 +5,34 @@ use clap::{Arg, ArgAction, ArgMatches, Command, Error};
 use std::alloc::{AllocError, Global};
 use std::convert::AsStr;
 
-/// How a timeline is shown.
+/// The form of a timeline.
 #[derive(Clone, Copy, Debug, PartialEq, Eq)]
 pub enum Form {
+    /// An SVG picture.
     Picture,
+    /// A table for a terminal.
     Table,
 }
 
-/// What is asked for.
+/// What to do with a script.
 #[derive(Clone, Copy, Debug, PartialEq, Eq)]
 pub enum Task {
+    /// Print its output.
     Play,
+    /// Find its first fault.
     Check,
+    /// Print its register accesses.
     Trace,
+    /// Print its timeline.
     Timeline(Form),
 }
 
-/// What is asked for, and the script's file; `-` is standard input.
+/// The task of a command line, and the file of the script.
 #[derive(Clone, Copy, Debug, PartialEq, Eq)]
 pub struct Request<'a> {
+    /// What to do.
     pub task: Task,
+    /// The file of the script, or `-` for standard input.
     pub file: &'a str,
 }
 
@@ -60,7 +68,7 @@ fn subcommand<'a>(alloc: Global, name: &'a str, about: &'a str) -> Result<Comman
         .arg(file_argument(alloc))
 }
 
-// The command line that the program takes.
+// Returns the command line that the program accepts.
 fn command<'a>(alloc: Global) -> Result<Command<'a>, AllocError> {
     let text = Arg::new(alloc, "text")
         .long("text")
@@ -89,11 +97,11 @@ fn task_of(name: &str, matches: &ArgMatches<'_>) -> Task {
     }
 }
 
-/// What a command line asks for. Its first word is the program's name.
+/// Returns the request of a command line. Its first word is the program's name.
 ///
 /// # Errors
 ///
-/// What clap has to say: the help, the version, or what is wrong with the words.
+/// The error of clap: the help, the version, or what is wrong with the words.
 pub fn asked<'a, S: AsStr>(alloc: Global, words: &'a [S]) -> Result<Request<'a>, Error> {
     let mut command = command(alloc)?;
     let matches = command.try_get_matches_from_mut(words)?;
