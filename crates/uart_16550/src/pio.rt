@@ -60,7 +60,7 @@ impl<P: PortAccess> PioBackend<P> {
         &self.access
     }
 
-    /// Returns the access object, for what it can do beside the accesses, such as reporting a fault. Makes no access
+    /// Returns the access object, for what it can do besides the accesses, such as reporting a fault. Makes no access
     /// itself.
     ///
     /// Accesses by the caller bypass the driver: status bits that they clear are not saved, and the driver does not notice

@@ -29,7 +29,12 @@ pub enum Event {
     Ticks(u16),
     /// A character arrives from the remote, with these errors, which are bits of LSR: parity 0x04, framing 0x08, break
     /// 0x10.
-    Arrive { byte: u8, errors: u8 },
+    Arrive {
+        /// The byte.
+        byte: u8,
+        /// Its errors.
+        errors: u8,
+    },
     /// The modem lines become these, which are bits of MSR: CTS 0x10, DSR 0x20, RI 0x40, CD 0x80.
     Lines(u8),
     /// The next register access takes place here, without the tick that passes elsewhere.

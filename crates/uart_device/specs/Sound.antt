@@ -103,7 +103,7 @@ pub record IsSoundLatches (l : LatchesState) : Type 0 where
   pub ier : IsWithin l.ier ier_bits
   pub mcr : IsWithin l.mcr mcr_bits
 
--- every latch has a byte
+-- every latch holds a byte
 pub record HoldBytes (l : LatchesState) : Type 0 where
   pub ier : l.ier < 256
   pub lcr : l.lcr < 256
@@ -134,7 +134,7 @@ pub record IsSound (m : MachineState) : Type 0 where
   pub foreseen : m.chip.receiver.arrived + arrivals m.ahead ≡ length m.chip.receiver.marks
   pub legal : AllLegal m.ahead
 
--- what holds of every machine: it is sound, and its latches have bytes
+-- what holds of every machine: it is sound, and its latches hold bytes
 pub record IsWhole (m : MachineState) : Type 0 where
   pub sound : IsSound m
   pub bytes : HoldBytes m.chip.latches

@@ -63,7 +63,12 @@ pub enum ScriptError {
     /// The bytes are not a script: the first faulty line, counted from 1, and what is wrong with it; line 0 if there are
     /// too many bytes.
     #[error("line {line}: {}", .cause.text())]
-    Refused { line: u32, cause: Cause },
+    Refused {
+        /// The number of the line.
+        line: u32,
+        /// What is wrong with it.
+        cause: Cause,
+    },
     /// Memory for the script could not be allocated.
     #[error("out of memory")]
     OutOfMemory,

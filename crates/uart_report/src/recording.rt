@@ -10,9 +10,19 @@ use uart_16550::backend::Backend;
 #[derive(Clone, Copy, Debug, PartialEq, Eq)]
 pub enum Entry {
     /// A read of the register at this offset, and the byte that it returned.
-    Read { offset: u8, answer: u8 },
+    Read {
+        /// The offset of the register.
+        offset: u8,
+        /// The byte that was read.
+        answer: u8,
+    },
     /// A write of this byte to the register at this offset.
-    Write { offset: u8, value: u8 },
+    Write {
+        /// The offset of the register.
+        offset: u8,
+        /// The byte that was written.
+        value: u8,
+    },
 }
 
 /// A backend over another one, with a list of the accesses that it made.

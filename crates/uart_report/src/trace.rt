@@ -6,7 +6,7 @@ use crate::replay::{Moment, Seen};
 use std::alloc::{AllocError, Global};
 use std::fmt::Write;
 
-// Appends what happened beside the access, as remarks.
+// Appends what happened besides the access, as remarks.
 fn push_events(text: &mut String, history: &History, moment: &Moment) -> Result<(), AllocError> {
     let tick = moment.tick;
     if let Some(byte) = moment.sent {

@@ -88,7 +88,7 @@ pub enum ByteSendError {
 
 /// Why the remote seems not to be connected, or not to be ready.
 ///
-/// Many cables never assert DSR, CD or CTS, so sending may work all the same. Check again after a modem status interrupt.
+/// Many cables never assert DSR, CD or CTS, so sending may still work. Check again after a modem status interrupt.
 #[derive(Clone, Debug, PartialEq, Eq, Hash, Drop, Error)]
 pub enum RemoteReadyToReceiveError {
     /// Data set ready (DSR) is clear.

@@ -15,6 +15,7 @@ use uart_spec::{BaudRate, Config, StalledError};
 /// The ports of an emulated machine, of which eight belong to a serial device.
 #[derive(Drop)]
 pub struct Ports {
+    /// The byte at each of the eight ports.
     pub registers: [u8; 8],
 }
 

@@ -31,7 +31,12 @@ pub enum Fault {
 pub enum TraceError {
     /// The bytes are not a trace: the first faulty line, counted from 1, and what is wrong with it.
     #[error("line {line}: {fault}")]
-    NoTrace { line: usize, fault: Fault },
+    NoTrace {
+        /// The number of the line.
+        line: usize,
+        /// What is wrong with it.
+        fault: Fault,
+    },
     /// Memory for the trace could not be allocated.
     #[error("out of memory")]
     OutOfMemory,

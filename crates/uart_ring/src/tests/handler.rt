@@ -14,8 +14,10 @@ use uart_spec::registers::{IER, LSR, MSR, offsets};
 /// Why a port was not started.
 #[derive(Debug, Drop, Error)]
 pub enum StartError {
+    /// The rings could not be made.
     #[error(transparent)]
     NoRings(RingError),
+    /// The device could not be initialised.
     #[error(transparent)]
     NoDevice(InitError),
 }

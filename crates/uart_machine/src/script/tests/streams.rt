@@ -27,11 +27,11 @@ impl Write for FailsAfterTen {
     }
 }
 
-// 67 bytes.
+// A script of 67 bytes.
 pub const SCRIPT: &[u8] =
     b"chip 16450 4 64\nlimit 200\ninit off 9600 nocts 00 8\nsend 48656c6c6f\n";
 
-// 41 bytes.
+// Its output, of 41 bytes.
 pub const OUTPUT: &[u8] = b"ok\nok 1\nwire -\nheld 48\nwaiting -\nmarks -\n";
 
 #[test]
