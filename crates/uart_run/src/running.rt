@@ -35,8 +35,8 @@ use uart_device::Device16550;
 ///
 /// ```
 /// let mut answers = [Answer::Done];
-/// running::make_calls(&mut terminal, &[Call::FifoEnabled], &mut answers);
-/// assert_eq!(rt; answers, [Answer::Flag(true)]);
+/// run(uart, &[Call::Init(config)], &mut answers);
+/// matches!(&answers[0], Answer::Done)
 /// ```
 pub fn run(uart: &mut Uart16550Tty<Device16550>, calls: &[Call], answers: &mut [Answer])
     requires runnable { All IsRunnable calls.now }
