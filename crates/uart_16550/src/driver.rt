@@ -40,7 +40,8 @@ const PIECE_SIZE: usize = 128;
 /// `spin_limit` unsuccessful polls in a row. The other calls do not wait.
 ///
 /// A read of LSR clears its error bits in the chip, and a read of MSR its change bits. The driver saves those that its own
-/// reads clear, and the next `lsr` or `msr` returns them. So a poll loses no error and no change.
+/// reads clear, and the next `lsr` or `msr` returns them. So a poll loses no error and no change. `init` and the loopback
+/// test discard some.
 ///
 /// # Examples
 ///

@@ -6,7 +6,7 @@
 //! - [`embedded_io`] has traits for byte readers and writers, which the driver implements.
 //!
 //! No call blocks forever: each wait ends with an error after [`Uart16550::spin_limit`] unsuccessful polls in a row.
-//! The contract of each call says which accesses it makes, in which order, and what it leaves in the driver's fields.
+//! The contract of each call says which accesses it makes, in which order, and how it changes the driver's fields.
 //!
 //! # Examples
 //!
