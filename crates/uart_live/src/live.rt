@@ -100,6 +100,13 @@ impl LiveChip {
     ///
     /// A read can change the chip: of DATA it takes a received byte, of LSR and MSR it clears the errors and changes, and
     /// of ISR it may acknowledge an interrupt. So check `is_interrupting` after it.
+    ///
+    /// # Examples
+    ///
+    /// ```
+    /// let value = chip.read(offset);
+    /// let line = chip.is_interrupting();
+    /// ```
     pub fn read(&mut self, offset: u8) -> u8
         requires { offset < 8 }
         ensures answers { result ≡ spec.answer offset self.old }
@@ -151,6 +158,14 @@ impl LiveChip {
     /// # Errors
     ///
     /// `BadErrors` if `errors` has any other bit. Nothing changes then.
+    ///
+    /// # Examples
+    ///
+    /// ```
+    /// if chip.receive_room() > 0 {
+    ///     chip.arrive(byte, LSR::empty())?;
+    /// }
+    /// ```
     pub fn arrive(&mut self, byte: u8, errors: LSR) -> Result<(), InputError>
         ensures accepted { IsWithin errors.0 LSR.CHARACTER_ERRORS.0 → IsOk result × (self.new ≡ spec.bring byte errors.0 self.old) }
         ensures refused { bit_and errors.0 LSR.CHARACTER_ERRORS.0 ≢ errors.0 → (result ≡ Err InputError.BadErrors) × (self.new ≡ self.old) }
@@ -167,6 +182,12 @@ impl LiveChip {
     /// # Errors
     ///
     /// `BadLines` if `inputs` has any other bit. Nothing changes then.
+    ///
+    /// # Examples
+    ///
+    /// ```
+    /// chip.set_lines(MSR::CTS.union(MSR::DSR))?;
+    /// ```
     pub fn set_lines(&mut self, inputs: MSR) -> Result<(), InputError>
         ensures accepted { IsWithin inputs.0 MSR.LINES.0 → IsOk result × (self.new ≡ spec.change_lines inputs.0 self.old) }
         ensures refused { bit_and inputs.0 MSR.LINES.0 ≢ inputs.0 → (result ≡ Err InputError.BadLines) × (self.new ≡ self.old) }
@@ -231,6 +252,14 @@ impl LiveChip {
     }
 
     /// Returns how many characters can be received before one is lost. In loopback that is 0.
+    ///
+    /// # Examples
+    ///
+    /// ```
+    /// if chip.receive_room() > 0 {
+    ///     chip.arrive(byte, LSR::empty())?;
+    /// }
+    /// ```
     pub fn receive_room(&self) -> usize
         ensures { result ≡ spec.receive_room self.now }
     {

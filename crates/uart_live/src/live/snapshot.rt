@@ -12,6 +12,13 @@ use uart_chip::{ChipData, Uart};
 
 impl LiveChip {
     /// Returns the chip as plain data. The bytes on its wire are [`LiveChip::wire`].
+    ///
+    /// # Examples
+    ///
+    /// ```
+    /// let saved = chip.data();
+    /// let restored = LiveChip::from_data(alloc, &saved, chip.wire())?;
+    /// ```
     pub fn data(&self) -> ChipData
         ensures { chip_of result self.now.transmitter.wire ≡ self.now }
     {
@@ -25,6 +32,12 @@ impl LiveChip {
     ///
     /// - `BadData` if the data are not those of a live chip.
     /// - `OutOfMemory` if memory could not be allocated.
+    ///
+    /// # Examples
+    ///
+    /// ```
+    /// let restored = LiveChip::from_data(alloc, &saved, chip.wire())?;
+    /// ```
     pub fn from_data(alloc: Global, saved: &ChipData, wire: &[u8]) -> Result<Self, RestoreError>
         ensures restored { IfOk result (λ live. live ≡ chip_of saved.now wire.now) }
         ensures refused { (IsLive (chip_of saved.now wire.now) → ⊥) → result ≡ Err RestoreError.BadData }
