@@ -73,6 +73,13 @@ impl<M: ByteAccess + Drop> Uart16550<MmioBackend<M>> {
     /// # Errors
     ///
     /// Those of `new_mmio`.
+    ///
+    /// # Examples
+    ///
+    /// ```
+    /// let base = NonZeroUsize::new(0x1000).ok_or("base 0")?;
+    /// let mut uart = Uart16550::new_mmio_from_address(base, 4, Memory(cells))?;
+    /// ```
     pub fn new_mmio_from_address(
         base_address: NonZeroUsize,
         stride: u8,

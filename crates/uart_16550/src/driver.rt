@@ -88,6 +88,12 @@ impl<B: Backend> Uart16550<B> {
     }
 
     /// Returns the backend, to read its state. Makes no access.
+    ///
+    /// # Examples
+    ///
+    /// ```
+    /// assert_eq!(rt; uart.backend().shown.as_slice(), b"hello".as_slice());
+    /// ```
     pub fn backend(&self) -> &B
         ensures { result.now ≡ backend_of self.now }
     {
@@ -137,6 +143,12 @@ impl<B: Backend> Uart16550<B> {
     ///
     /// A driver that was never initialised takes the FIFO to be on. If it is on, a send check is followed by up to 16
     /// bytes, else by one.
+    ///
+    /// # Examples
+    ///
+    /// ```
+    /// assert_eq!(rt; uart.fifo_enabled(), true);
+    /// ```
     pub fn fifo_enabled(&self) -> bool
         ensures { result ≡ (fields self.now).fifo }
     {
@@ -144,6 +156,12 @@ impl<B: Backend> Uart16550<B> {
     }
 
     /// Returns how many unsuccessful polls in a row a wait makes before it returns an error. Makes no access.
+    ///
+    /// # Examples
+    ///
+    /// ```
+    /// uart.spin_limit().get() == 7
+    /// ```
     pub fn spin_limit(&self) -> NonZeroU64
         ensures { non_zero_u64_get result ≡ (fields self.now).limit }
     {

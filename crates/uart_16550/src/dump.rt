@@ -33,6 +33,12 @@ pub struct ConfigRegisterDump {
 
 impl ConfigRegisterDump {
     /// Returns the divisor in the divisor latch, 0 to 65535.
+    ///
+    /// # Examples
+    ///
+    /// ```
+    /// assert_eq!(rt; shown.divisor(), 12);
+    /// ```
     pub fn divisor(&self) -> u16
         ensures { result ≡ divisor_of self.now }
     {

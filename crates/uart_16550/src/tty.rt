@@ -163,6 +163,13 @@ impl<M: ByteAccess + Drop> Uart16550Tty<MmioBackend<M>> {
     /// # Errors
     ///
     /// Those of `new_mmio`.
+    ///
+    /// # Examples
+    ///
+    /// ```
+    /// let base = NonZeroUsize::new(0x1000).ok_or("base 0")?;
+    /// let tty = Uart16550Tty::new_mmio_from_address(base, 4, device(), Config::DEFAULT)?;
+    /// ```
     pub fn new_mmio_from_address(
         base_address: NonZeroUsize,
         stride: u8,
@@ -196,6 +203,12 @@ impl<B: Backend> Uart16550Tty<B> {
     }
 
     /// Returns the driver. Makes no access.
+    ///
+    /// # Examples
+    ///
+    /// ```
+    /// assert_eq!(rt; terminal.inner().fifo_enabled(), fifo_enabled);
+    /// ```
     pub fn inner(&self) -> &Uart16550<B>
         ensures { result.now ≡ inner_of self.now }
     {

@@ -24,6 +24,12 @@ use uart_spec::{
 ///
 /// For [`Call::Next`] this makes no access and returns `Done`, since a real chip has no schedule. If the device has one,
 /// the caller must make that call itself.
+///
+/// # Examples
+///
+/// ```
+/// perform(uart, &Call::CheckPresent)
+/// ```
 pub fn perform<B: Backend>(uart: &mut Uart16550Tty<B>, call: &Call) -> Answer
     requires { IsRunnable call.now }
     ensures { Performed B.step uart.old call.now result uart.new }

@@ -208,6 +208,17 @@ impl Device16550 {
     }
 
     /// Returns the number of `Arrive` events in the whole schedule.
+    ///
+    /// # Examples
+    ///
+    /// ```
+    /// for i in 0..machine.arrivals() {
+    ///     match machine.mark(i) {
+    ///         Some(mark) => marks.push(mark)?,
+    ///         None => unreachable!(),
+    ///     }
+    /// }
+    /// ```
     pub fn arrivals(&self) -> usize
         ensures { result ≡ length self.now.chip.receiver.marks }
     {

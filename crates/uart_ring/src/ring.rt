@@ -160,6 +160,12 @@ impl<B: Backend> Uart16550Ring<B> {
     }
 
     /// Returns the driver. Makes no access.
+    ///
+    /// # Examples
+    ///
+    /// ```
+    /// ring.inner().backend().mark(arrival)
+    /// ```
     pub fn inner(&self) -> &Uart16550<B>
         ensures { result.now ≡ driver_of self.now }
     {

@@ -42,6 +42,12 @@ impl DriverState {
 
 impl<B: Backend> Uart16550<B> {
     /// Returns a driver over this backend that continues from this state. Makes no access.
+    ///
+    /// # Examples
+    ///
+    /// ```
+    /// let mut uart = Uart16550Tty::from_inner(Uart16550::from_state(Tape::new(accesses), state));
+    /// ```
     pub fn from_state(backend: B, state: &DriverState) -> Self
         ensures backend { backend_of result ≡ backend }
         ensures fields { fields result ≡ fields_of state.now }
@@ -57,6 +63,12 @@ impl<B: Backend> Uart16550<B> {
     }
 
     /// Returns the state of the driver, as a copy. Makes no access.
+    ///
+    /// # Examples
+    ///
+    /// ```
+    /// let state = uart.inner().state();
+    /// ```
     pub fn state(&self) -> DriverState
         ensures { fields_of result ≡ fields self.now }
     {

@@ -15,6 +15,12 @@ use uart_spec::registers::{DLL, DLM, IER, ISR, LCR, LSR, MCR, MSR, SPR, offsets}
 
 impl<B: Backend> Uart16550<B> {
     /// Reads and returns the interrupt enable register (IER). Reading it changes nothing.
+    ///
+    /// # Examples
+    ///
+    /// ```
+    /// assert_eq!(rt; uart.ier(), IER::THR_EMPTY);
+    /// ```
     pub fn ier(&mut self) -> IER
         ensures { Made B.step (Only (Read offsets.IER result.0 ∷ [])) self.old self.new }
     {
@@ -24,6 +30,12 @@ impl<B: Backend> Uart16550<B> {
     /// Reads and returns the interrupt status register (ISR), which the datasheet also calls IIR.
     ///
     /// A read that shows a `THR_EMPTY` interrupt acknowledges it.
+    ///
+    /// # Examples
+    ///
+    /// ```
+    /// self.uart.isr().interrupt_type()
+    /// ```
     pub fn isr(&mut self) -> ISR
         ensures { Made B.step (Only (Read offsets.ISR result.0 ∷ [])) self.old self.new }
     {
@@ -31,6 +43,12 @@ impl<B: Backend> Uart16550<B> {
     }
 
     /// Reads and returns the line control register (LCR). Reading it changes nothing.
+    ///
+    /// # Examples
+    ///
+    /// ```
+    /// assert_eq!(rt; uart.lcr(), shown.lcr);
+    /// ```
     pub fn lcr(&mut self) -> LCR
         ensures { Made B.step (Only (Read offsets.LCR result.0 ∷ [])) self.old self.new }
     {
@@ -38,6 +56,12 @@ impl<B: Backend> Uart16550<B> {
     }
 
     /// Reads and returns the modem control register (MCR). Reading it changes nothing.
+    ///
+    /// # Examples
+    ///
+    /// ```
+    /// assert_eq!(rt; uart.mcr(), shown.mcr);
+    /// ```
     pub fn mcr(&mut self) -> MCR
         ensures { Made B.step (Only (Read offsets.MCR result.0 ∷ [])) self.old self.new }
     {
@@ -82,6 +106,12 @@ impl<B: Backend> Uart16550<B> {
     }
 
     /// Reads and returns the scratch register (SPR), which the chip does not use.
+    ///
+    /// # Examples
+    ///
+    /// ```
+    /// assert_eq!(rt; uart.spr(), shown.spr);
+    /// ```
     pub fn spr(&mut self) -> SPR
         ensures { Made B.step (Only (Read offsets.SPR result ∷ [])) self.old self.new }
     {
