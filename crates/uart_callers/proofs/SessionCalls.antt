@@ -9,7 +9,8 @@ use Rattle.uart_calls.specs.declared.call.Call.TheVariants as call
 use Rattle.uart_calls.specs.declared.call.Answer.{Answer}
 use Rattle.uart_calls.specs.declared.call.Answer.TheVariants.{Done}
 use Rattle.uart_run.specs.Ready.{Ready, ComesTo}
-use Rattle.uart_run.specs.Run.{State, Link, Chain, calls_of, answers_of}
+use Rattle.uart_run.specs.Chains.{calls_of, answers_of}
+use Rattle.uart_run.specs.Run.{State, Link, Chain}
 use Rattle.uart_run.specs.Session.{IsWithinSession, AllWithinSession, Conserves, Ran, AllFollow}
 
 all_within : (links : List Link) → All IsWithinSession (calls_of links) → AllWithinSession links

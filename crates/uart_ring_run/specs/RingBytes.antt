@@ -1,5 +1,5 @@
 -- The bytes that ring calls accept and return, and those that the rings hold.
-use Rattle.std.specs.Prelude.{ℕ, List, [], ◌∷◌, ◌++◌, take}
+use Rattle.std.specs.Prelude.{ℕ, List, [], take, flat_map}
 use Rattle.uart_ring.specs.Ring.{ring_fields}
 use Rattle.uart_ring_run.specs.declared.call.RingCall.{RingCall}
 use Rattle.uart_ring_run.specs.declared.call.RingCall.TheVariants as call
@@ -26,9 +26,7 @@ taken_by other a = []
 
 -- over calls in turn
 abbrev pub queued : List RingLink → List ℕ
-queued [] = []
-queued (link ∷ links) = queued_by link.call link.answer ++ queued links
+queued links = flat_map (λ link. queued_by link.call link.answer) links
 
 abbrev pub taken : List RingLink → List ℕ
-taken [] = []
-taken (link ∷ links) = taken_by link.call link.answer ++ taken links
+taken links = flat_map (λ link. taken_by link.call link.answer) links

@@ -1,7 +1,8 @@
 -- Runs of ring calls over the machine: what each call does, and lists of calls.
-use Rattle.std.specs.Prelude.{◌≡◌, ◌≤◌, ⊤, ℕ, List, [], ◌∷◌, map}
+use Rattle.std.specs.Prelude.{◌≡◌, ◌≤◌, ⊤, ℕ, List}
 use Rattle.uart_calls.specs.declared.call.TheConstants.{CALL_BYTES}
 use Rattle.uart_chip.specs.Machine.{MachineState, MachineStep, at_mark}
+use Rattle.uart_run.specs.Chains.{LinkOf, ChainOf}
 use Rattle.uart_run.specs.Run.{State, machine_of}
 use Rattle.uart_ring.specs.Ring.{RingDoing, RingDid, ring_fields, driver_of}
 use Rattle.uart_ring.specs.Transmit.{Queues}
@@ -71,27 +72,9 @@ RingCallStep s call.Next answer t = RingGoesOn answer s t
 -- ---- lists of calls
 
 -- a call of a run, between the states before and after it
-pub record RingLink : Type 0 where
-  pub before : RingState
-  pub call : RingCall
-  pub answer : RingAnswer
-  pub after : RingState
+abbrev pub RingLink : Type 0
+RingLink = LinkOf RingState RingCall RingAnswer
 
 -- the calls lead from s to t, one after the other
 abbrev pub RingChain : RingState → List RingLink → RingState → Type 0
-RingChain s [] t = t ≡ s
-RingChain s (link ∷ links) t =
-    (link.before ≡ s) × RingCallStep link.before link.call link.answer link.after × RingChain link.after links t
-
-abbrev pub ring_calls_of : List RingLink → List RingCall
-ring_calls_of links = map (λ link. link.call) links
-
-abbrev pub ring_answers_of : List RingLink → List RingAnswer
-ring_answers_of links = map (λ link. link.answer) links
-
--- these calls, with these answers, lead from s to t
-pub record IsRingRun (s : RingState) (calls : List RingCall) (answers : List RingAnswer) (t : RingState) : Type 0 where
-  pub links : List RingLink
-  pub chain : RingChain s links t
-  pub calls_same : ring_calls_of links ≡ calls
-  pub answers_same : ring_answers_of links ≡ answers
+RingChain = ChainOf RingCallStep

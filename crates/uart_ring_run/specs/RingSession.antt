@@ -2,6 +2,7 @@
 use Rattle.std.specs.Prelude.{◌≡◌, List, ◌++◌, map}
 use Rattle.uart_chip.specs.Chip.{cut_of}
 use Rattle.uart_device.specs.Conserved.{out, waiting, kept}
+use Rattle.uart_run.specs.Chains.{calls_of, answers_of}
 use Rattle.uart_run.specs.Ready.{Ready}
 use Rattle.uart_run.specs.Session.{overflows}
 use Rattle.uart_run.specs.Progress.{IsUnchecked}
@@ -9,7 +10,6 @@ use Rattle.uart_run.specs.Uncut.{IsUncut, kept_uncut}
 use Rattle.uart_ring_run.specs.declared.call.RingCall.{RingCall}
 use Rattle.uart_ring_run.specs.declared.call.RingAnswer.{RingAnswer}
 use Rattle.uart_ring_run.specs.RingRun.{RingState, under, ring_machine, RingLink, RingChain}
-use Rattle.uart_ring_run.specs.RingRun.{ring_calls_of, ring_answers_of}
 use Rattle.uart_ring_run.specs.RingBytes.{to_send, to_take, queued, taken}
 use Rattle.uart_ring_run.specs.RingStatuses.{RingTells}
 use Rattle.uart_ring_run.specs.RingArmed.{AllLeaveRingArmed}
@@ -40,7 +40,7 @@ pub record RingConserves (s : RingState) (links : List RingLink) (t : RingState)
 pub record RanRing (s : RingState) (calls : List RingCall) (answers : List RingAnswer) (t : RingState) : Type 0 where
   pub links : List RingLink
   pub chain : RingChain s links t
-  pub calls_same : ring_calls_of links ≡ calls
-  pub answers_same : ring_answers_of links ≡ answers
+  pub calls_same : calls_of links ≡ calls
+  pub answers_same : answers_of links ≡ answers
   pub sessions : (front session rest : List RingLink) (a b : RingState) → links ≡ front ++ (session ++ rest) →
       RingChain s front a → RingChain a session b → RingChain b rest t → Ready (under a) → RingConserves a session b

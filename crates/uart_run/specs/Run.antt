@@ -1,5 +1,5 @@
 -- Runs of calls over the machine: what each call does, and lists of calls.
-use Rattle.std.specs.Prelude.{◌≡◌, List, [], ◌∷◌, map}
+use Rattle.std.specs.Prelude.{◌≡◌, List}
 use Rattle.uart_16550.specs.Driver.{fields, backend_of}
 use Rattle.uart_16550.specs.Tty.{inner_of}
 use Rattle.uart_16550.specs.declared.tty.Uart16550Tty.{Uart16550Tty}
@@ -9,6 +9,7 @@ use Rattle.uart_calls.specs.declared.call.Answer.{Answer}
 use Rattle.uart_calls.specs.declared.call.Answer.TheVariants.{Done}
 use Rattle.uart_calls.specs.Meaning.{Performed}
 use Rattle.uart_chip.specs.Machine.{MachineState, MachineStep, at_mark}
+use Rattle.uart_run.specs.Chains.{LinkOf, ChainOf, RunOf}
 
 -- the driver, under its terminal, with the machine in its state
 abbrev pub State : Type 0
@@ -34,27 +35,13 @@ CallStep s other answer t = Performed MachineStep s other answer t
 -- ---- lists of calls
 
 -- a call of a run, between the states before and after it
-pub record Link : Type 0 where
-  pub before : State
-  pub call : Call
-  pub answer : Answer
-  pub after : State
+abbrev pub Link : Type 0
+Link = LinkOf State Call Answer
 
 -- the calls lead from s to t, one after the other
 abbrev pub Chain : State → List Link → State → Type 0
-Chain s [] t = t ≡ s
-Chain s (link ∷ links) t =
-    (link.before ≡ s) × CallStep link.before link.call link.answer link.after × Chain link.after links t
-
-abbrev pub calls_of : List Link → List Call
-calls_of links = map (λ link. link.call) links
-
-abbrev pub answers_of : List Link → List Answer
-answers_of links = map (λ link. link.answer) links
+Chain = ChainOf CallStep
 
 -- these calls, with these answers, lead from s to t
-pub record IsRun (s : State) (calls : List Call) (answers : List Answer) (t : State) : Type 0 where
-  pub links : List Link
-  pub chain : Chain s links t
-  pub calls_same : calls_of links ≡ calls
-  pub answers_same : answers_of links ≡ answers
+abbrev pub IsRun : State → List Call → List Answer → State → Type 0
+IsRun = RunOf CallStep

@@ -7,7 +7,8 @@ use Rattle.uart_calls.specs.declared.call.Answer.{Answer}
 use Rattle.uart_calls.specs.declared.call.Answer.TheVariants as answer
 use Rattle.uart_chip.specs.Chip.{cut_of}
 use Rattle.uart_device.specs.Conserved.{out, waiting, kept}
-use Rattle.uart_run.specs.Run.{State, machine_of, Link, Chain, calls_of, answers_of}
+use Rattle.uart_run.specs.Chains.{calls_of, answers_of}
+use Rattle.uart_run.specs.Run.{State, machine_of, Link, Chain}
 use Rattle.uart_run.specs.Statuses.{Tells}
 use Rattle.uart_run.specs.Served.{AllServe}
 use Rattle.uart_run.specs.Ready.{Ready, ComesTo}

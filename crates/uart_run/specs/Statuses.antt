@@ -1,6 +1,5 @@
 -- What `lsr` and `msr` report in a session: drops, line errors and changes of the modem lines.
 use Rattle.std.specs.Prelude.{◌≡◌, ℕ, true, List, [], ◌∷◌, ◌++◌, filter, take, bit_and}
-use Rattle.uart_calls.specs.declared.call.Call.{Call}
 use Rattle.uart_calls.specs.declared.call.Call.TheVariants as call
 use Rattle.uart_calls.specs.declared.call.Answer.TheVariants as answer
 use Rattle.uart_chip.specs.declared.receiver.Character.{Character}
@@ -11,27 +10,16 @@ use Rattle.uart_chip.specs.Masks.{IsWithin}
 use Rattle.uart_chip.specs.Receiver.{ReceiverState}
 use Rattle.uart_device.specs.Conserved.{stands, between, entered, IsDrop}
 use Rattle.uart_device.specs.Laws.{reported_front, AllTold, changes_in}
+use Rattle.uart_run.specs.Chains.{NoneIs}
 use Rattle.uart_run.specs.Run.{State, machine_of, Link}
-
--- the call is not `lsr`
-abbrev pub IsNoLsr : Call → Type 0
-IsNoLsr call.Lsr = ⊥
-IsNoLsr other = Unit {0}
 
 -- none of these calls is `lsr`
 abbrev pub AllNoLsr : List Link → Type 0
-AllNoLsr [] = Unit {0}
-AllNoLsr (link ∷ links) = IsNoLsr link.call × AllNoLsr links
-
--- the call is not `msr`
-abbrev pub IsNoMsr : Call → Type 0
-IsNoMsr call.Msr = ⊥
-IsNoMsr other = Unit {0}
+AllNoLsr = NoneIs call.Lsr
 
 -- none of these calls is `msr`
 abbrev pub AllNoMsr : List Link → Type 0
-AllNoMsr [] = Unit {0}
-AllNoMsr (link ∷ links) = IsNoMsr link.call × AllNoMsr links
+AllNoMsr = NoneIs call.Msr
 
 -- the receiver of a state
 abbrev pub receiver_of : State → ReceiverState
