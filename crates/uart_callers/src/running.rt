@@ -20,8 +20,8 @@ pub fn begin_session(uart: &mut Uart16550Tty<Device16550>, config: Config) -> bo
     matches!(&answers[0], Answer::Done)
 }
 
-/// Makes calls in a session, with neither an `init` nor a loopback test among them. No data write meets a full transmitter, whatever
-/// the schedule is, and the session goes on.
+/// Makes calls in a session, with neither an `init` nor a loopback test among them. No data write meets a full transmitter,
+/// whatever the schedule is, and the session goes on.
 pub fn make_calls(uart: &mut Uart16550Tty<Device16550>, calls: &[Call], answers: &mut [Answer])
     requires ready { Ready uart.old }
     requires runnable { All IsRunnable calls.now }

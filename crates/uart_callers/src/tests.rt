@@ -1,4 +1,4 @@
-//! Each caller runs once, with what its contract says of the run.
+//! Each caller is run once, with what its contract says about the run.
 use crate::{chip, device, driver, language, machine, performing, ring, running, spec};
 use bitflags::Flags;
 use std::test::Fail;

@@ -41,7 +41,7 @@ fn subcommand<'a>(alloc: Global, name: &'a str, about: &'a str) -> Result<Comman
         .arg(file_argument(alloc))
 }
 
-// The command line that the program takes.
+// Returns the command line that the program accepts.
 fn command<'a>(alloc: Global) -> Result<Command<'a>, AllocError> {
     let text = Arg::new(alloc, "text")
         .long("text")
@@ -70,11 +70,11 @@ fn task_of(name: &str, matches: &ArgMatches<'_>) -> Task {
     }
 }
 
-/// What a command line asks for. Its first word is the program's name.
+/// Returns the request of a command line. Its first word is the program's name.
 ///
 /// # Errors
 ///
-/// What clap has to say: the help, the version, or what is wrong with the words.
+/// The error of clap: the help, the version, or what is wrong with the words.
 pub fn asked<'a, S: AsStr>(alloc: Global, words: &'a [S]) -> Result<Request<'a>, Error> {
     let mut command = command(alloc)?;
     let matches = command.try_get_matches_from_mut(words)?;

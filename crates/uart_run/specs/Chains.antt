@@ -21,7 +21,7 @@ calls_of links = map (λ link. link.call) links
 abbrev pub answers_of : {S C A : Type 0} → List (LinkOf S C A) → List A
 answers_of links = map (λ link. link.answer) links
 
--- these calls, answered so, lead from s to t
+-- these calls, with these answers, lead from s to t
 pub record RunOf {S C A : Type 0} (Step : S → C → A → S → Type 0) (s : S) (calls : List C) (answers : List A) (t : S) :
     Type 0 where
   pub links : List (LinkOf S C A)

@@ -11,7 +11,7 @@ use Rattle.uart_calls.specs.Meaning.{Performed}
 use Rattle.uart_chip.specs.Machine.{MachineState, MachineStep, at_mark}
 use Rattle.uart_run.specs.Chains.{LinkOf, ChainOf, RunOf}
 
--- the driver, under its terminal, with the machine as it stands
+-- the driver, under its terminal, with the machine in its state
 abbrev pub State : Type 0
 State = Uart16550Tty MachineState
 
@@ -21,13 +21,13 @@ machine_of s = backend_of (inner_of s)
 
 -- ---- one call
 
--- `Next`: the events up to and with the next Mark, and no access
+-- `Next`: the events up to the next Mark, which is removed, and no access
 pub record GoesOn (answer : Answer) (s t : State) : Type 0 where
   pub answered : answer ≡ Done
   pub machine : machine_of t ≡ at_mark (machine_of s)
   pub driver : fields (inner_of t) ≡ fields (inner_of s)
 
--- what a call leaves and answers: `Next` goes on to the mark, and the driver makes each other call
+-- the state after a call, and its answer: `Next` goes on to the mark, and the driver makes each other call
 abbrev pub CallStep : State → Call → Answer → State → Type 0
 CallStep s call.Next answer t = GoesOn answer s t
 CallStep s other answer t = Performed MachineStep s other answer t
@@ -42,6 +42,6 @@ Link = LinkOf State Call Answer
 abbrev pub Chain : State → List Link → State → Type 0
 Chain = ChainOf CallStep
 
--- these calls, answered so, lead from s to t
+-- these calls, with these answers, lead from s to t
 abbrev pub IsRun : State → List Call → List Answer → State → Type 0
 IsRun = RunOf CallStep

@@ -16,7 +16,7 @@ use Rattle.uart_chip.specs.Chip.{ChipState, is_dlab_set, is_loopback, tick, tick
 use Rattle.uart_chip.specs.Chip.{trigger_level, switch, reset_receiver, reset_transmitter, set_trigger, is_same, set_fifo, control}
 use Rattle.uart_chip.specs.Machine.{MachineState, MachineStep, perform, before_access, before_mark, at_access}
 
--- a property lasts where the queue is emptied and where the interrupt flag changes: that is all that an access does which sends nothing
+-- a property lasts if the queue is emptied or the interrupt flag changes: an access that sends nothing does no more than that
 pub record LastsInAccesses (P : TransmitterState → Type 0) : Type 0 where
   pub pending : (t : TransmitterState) (pending : Bool) → P t → P (record t { is_thr_pending = pending })
   pub cleared : (t : TransmitterState) (pending : Bool) → P t → P (record t { queue = []; is_thr_pending = pending })
