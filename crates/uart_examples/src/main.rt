@@ -2,14 +2,18 @@
 //!
 //! The folder is the first argument, or else the current one. Beside `NAME.script` is `NAME.out`: the bytes that the
 //! program `uart_script` prints for it. `NAME.session` is a use of `geesetrunk`: its first line is `$` and the command,
-//! and the other lines are what is printed for it, and the exit status if it is not 0.
+//! and the other lines are what is printed for it, and the exit status if it is not 0. The trace of each script that is
+//! not refused is checked as `uart_trace` checks it.
 #![tactic(auto)]
+
+mod traced;
 
 use std::alloc::Global;
 use std::io::Write;
 use std::path::Path;
 use std::process::ExitCode;
 use std::{env, fs, io};
+use traced::is_driver_trace;
 use uart_command::asked;
 use uart_machine::script::{Std, play};
 use uart_report::report_on;
@@ -104,6 +108,18 @@ fn told(rt: &HostRuntime, name: &str, is_as_stored: bool) -> io::Result<bool> {
     Ok(is_as_stored)
 }
 
+// Prints of the trace of a script whether the driver makes it, and returns that. There is none of a script that is refused.
+fn told_of_trace(rt: &HostRuntime, folder: Path<'_>, name: &str) -> io::Result<bool> {
+    let script = bytes_of(rt, folder, name, "script")?;
+    match is_driver_trace(rt.alloc(), &script)? {
+        Some(is_made) => {
+            let trace = format!(in rt.alloc(); "trace of {name}")?;
+            told(rt, trace.as_str(), is_made)
+        }
+        None => Ok(true),
+    }
+}
+
 fn main(rt: HostRuntime) -> io::Result<ExitCode> {
     let argument = env::args(&rt)?.nth(1);
     let folder = Path::new(argument.as_deref().unwrap_or("."));
@@ -115,6 +131,11 @@ fn main(rt: HostRuntime) -> io::Result<ExitCode> {
     }
     for name in &names_in(&rt, folder, ".session")? {
         if !told(&rt, name, is_session_as_stored(&rt, folder, name)?)? {
+            code = ExitCode::FAILURE;
+        }
+    }
+    for name in &names_in(&rt, folder, ".script")? {
+        if !told_of_trace(&rt, folder, name)? {
             code = ExitCode::FAILURE;
         }
     }

@@ -1,6 +1,6 @@
 //! The accesses of a run, call by call.
 
-use crate::history::History;
+use crate::history::{History, ToldCall};
 use crate::recording::Entry;
 use crate::replay::{Moment, Seen};
 use std::alloc::{AllocError, Global};
@@ -36,23 +36,32 @@ fn push_access(text: &mut String, tick: u64, seen: Seen) -> Result<(), AllocErro
     }
 }
 
+// Whether a call is one of the driver: `next` is the machine's own.
+fn is_of_the_driver(call: &ToldCall) -> bool {
+    call.line.as_str() != "next"
+}
+
 /// Returns each call of a run as its line, its accesses and its answer; and at the end the last state of the machine, as
 /// remarks.
 ///
-/// An access is `r OFFSET VALUE` or `w OFFSET VALUE`, and an answer is after `= `. The text after a `#` is a remark.
+/// An access is `r OFFSET VALUE` or `w OFFSET VALUE`, and an answer is after `= `. The text after a `#` is a remark, and so
+/// is `next`: a trace has calls of the driver.
 pub fn trace(alloc: Global, history: &History) -> Result<String, AllocError> {
     let mut text = String::new(alloc);
     for call in &history.calls {
+        let remark = if is_of_the_driver(call) { "" } else { "# " };
         let line = &call.line;
-        writeln!(text, "{line}")?;
+        writeln!(text, "{remark}{line}")?;
         for moment in history.moments_of(call) {
             push_events(&mut text, history, moment)?;
             if let Some(seen) = moment.access {
                 push_access(&mut text, moment.tick, seen)?;
             }
         }
-        let answer = &call.answer;
-        writeln!(text, "= {answer}")?;
+        if is_of_the_driver(call) {
+            let answer = &call.answer;
+            writeln!(text, "= {answer}")?;
+        }
     }
     for line in &history.last {
         writeln!(text, "# {line}")?;

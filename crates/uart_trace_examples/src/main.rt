@@ -1,9 +1,13 @@
 //! Checks the traces of a folder, and prints for each whether its output is what is stored.
 //!
 //! The folder is the first argument, or else the current one. Beside `NAME.trace` is `NAME.out`: the line that the
-//! program `uart_trace` prints for it, or nothing.
+//! program `uart_trace` prints for it, or nothing. If there is a `NAME.machine` too, the accesses are made on the chip in
+//! software: it has a line for each read that returns something else there.
 #![tactic(auto)]
 
+mod machine;
+
+use machine::differences;
 use std::alloc::Global;
 use std::io::Write;
 use std::num::NonZeroU64;
@@ -13,12 +17,12 @@ use std::{env, fs, io};
 use uart_16550::DEFAULT_SPIN_LIMIT;
 use uart_traces::{TraceError, judge, parse, push_stray};
 
-// Returns the names of the folder's traces, in order.
-fn names_in(rt: &HostRuntime, folder: Path<'_>) -> io::Result<Vec<String>> {
+// Returns the names of the folder's files with this ending, in order.
+fn names_in(rt: &HostRuntime, folder: Path<'_>, ending: &str) -> io::Result<Vec<String>> {
     let mut names = Vec::new(rt.alloc());
     for entry in fs::read_dir(rt, folder)? {
         let entry = entry?;
-        if let Some(name) = entry.file_name().strip_suffix(".trace") {
+        if let Some(name) = entry.file_name().strip_suffix(ending) {
             names.push(name.to_string(rt.alloc())?)?;
         }
     }
@@ -45,9 +49,9 @@ fn stray_line(alloc: Global, bytes: &[u8]) -> Result<Vec<u8>, TraceError> {
 }
 
 // Returns what is printed for a trace, or why the bytes are not a trace.
-fn told(alloc: Global, bytes: &[u8]) -> io::Result<Vec<u8>> {
-    match stray_line(alloc, bytes) {
-        Ok(line) => Ok(line),
+fn told(alloc: Global, lines: Result<Vec<u8>, TraceError>) -> io::Result<Vec<u8>> {
+    match lines {
+        Ok(lines) => Ok(lines),
         Err(error) => {
             let mut line = Vec::new(alloc);
             writeln!(line, "{error}")?;
@@ -60,18 +64,39 @@ fn told(alloc: Global, bytes: &[u8]) -> io::Result<Vec<u8>> {
 fn is_as_stored(rt: &HostRuntime, folder: Path<'_>, name: &str) -> io::Result<bool> {
     let trace = bytes_of(rt, folder, name, "trace")?;
     let stored = bytes_of(rt, folder, name, "out")?;
-    Ok(told(rt.alloc(), &trace)? == stored)
+    Ok(told(rt.alloc(), stray_line(rt.alloc(), &trace))? == stored)
+}
+
+// Whether the machine differs from the recording of this name just where it is stored.
+fn is_as_stored_on_machine(rt: &HostRuntime, folder: Path<'_>, name: &str) -> io::Result<bool> {
+    let trace = bytes_of(rt, folder, name, "trace")?;
+    let stored = bytes_of(rt, folder, name, "machine")?;
+    Ok(told(rt.alloc(), differences(rt.alloc(), &trace))? == stored)
+}
+
+// Prints of a trace whether it is as stored, and returns that.
+fn print(rt: &HostRuntime, name: &str, place: &str, is_as_stored: bool) -> io::Result<bool> {
+    let verdict = if is_as_stored { "ok" } else { "differs" };
+    println!(rt; "{name}{place} {verdict}")?;
+    Ok(is_as_stored)
 }
 
 fn main(rt: HostRuntime) -> io::Result<ExitCode> {
     let argument = env::args(&rt)?.nth(1);
     let folder = Path::new(argument.as_deref().unwrap_or("."));
     let mut code = ExitCode::SUCCESS;
-    for name in &names_in(&rt, folder)? {
-        if is_as_stored(&rt, folder, name)? {
-            println!(rt; "{name} ok")?;
-        } else {
-            println!(rt; "{name} differs")?;
+    for name in &names_in(&rt, folder, ".trace")? {
+        if !print(&rt, name, "", is_as_stored(&rt, folder, name)?)? {
+            code = ExitCode::FAILURE;
+        }
+    }
+    for name in &names_in(&rt, folder, ".machine")? {
+        if !print(
+            &rt,
+            name,
+            " on the machine",
+            is_as_stored_on_machine(&rt, folder, name)?,
+        )? {
             code = ExitCode::FAILURE;
         }
     }
