@@ -1,5 +1,5 @@
 /*
- * uart_16550.h - a 16550A or 16450 serial chip in software, and a driver of such chips.
+ * uart_16550.h - a 16550A or 16450 serial chip in software.
  *
  * Link with libuart_c.a. The library allocates nothing, keeps no global, and calls nothing: all state is in structs of the
  * caller, and two threads may call it at once as long as no struct is in both calls. Whatever bytes a struct holds, each
@@ -32,8 +32,7 @@ enum uart_status {
 
 /* ------------------------------------------------------------------ the chip
  *
- * The chip is plain data of its owner: a copy of the struct is a snapshot, and to copy it back restores the chip. The bytes
- * of a struct that were not made by this library are checked with uart_chip_is_sound.
+ * The chip is plain data of its owner: a copy of the struct is a snapshot, and to copy it back restores the chip.
  *
  * Its owner makes the guest's accesses with uart_chip_read and uart_chip_write, lets time pass with uart_chip_ticks, brings
  * characters with uart_chip_arrive, takes what goes out with uart_chip_take_wire, and asks for the level of the interrupt
@@ -55,6 +54,18 @@ struct uart_modem {
     uint8_t inputs, lines, deltas;
 };
 
+/* A queue of bytes. */
+struct uart_bytes {
+    uint8_t len;
+    uint8_t items[UART_FIFO_SIZE];
+};
+
+/* The bytes that have gone out, and how many there is room for. */
+struct uart_wire {
+    uint8_t len, capacity;
+    uint8_t items[UART_WIRE_ROOM];
+};
+
 /* What sends: the queue, the place from which a character is shifted out, and the wire. */
 struct uart_transmitter {
     uint64_t overflows;      /* how many writes met a full transmitter */
@@ -63,17 +74,20 @@ struct uart_transmitter {
     uint8_t is_shifting;     /* there is one */
     uint8_t shift_byte;
     uint8_t is_thr_pending;  /* the interrupt THR-empty is pending */
-    uint8_t queue_len;
-    uint8_t wire_len;
-    uint8_t wire_capacity;
-    uint8_t queue[UART_FIFO_SIZE];
-    uint8_t wire[UART_WIRE_ROOM];
+    struct uart_bytes queue;
+    struct uart_wire wire;
 };
 
 /* A character that waits, with its errors where LSR has them. */
 struct uart_character {
     uint8_t byte, errors;
     uint8_t is_looped;       /* it came back in loopback */
+};
+
+/* A queue of characters. */
+struct uart_characters {
+    uint8_t len;
+    struct uart_character items[UART_FIFO_SIZE];
 };
 
 /* What receives. */
@@ -84,8 +98,7 @@ struct uart_receiver {
     uint8_t is_front_reported;
     uint8_t last_byte;
     uint8_t trigger;         /* 1, 4, 8 or 14 */
-    uint8_t queue_len;
-    struct uart_character queue[UART_FIFO_SIZE];
+    struct uart_characters queue;
 };
 
 struct uart_chip {
@@ -156,173 +169,6 @@ size_t uart_chip_held_len(const struct uart_chip *chip);
 
 /* The divisor latch, from which a baud rate follows. */
 uint16_t uart_chip_divisor(const struct uart_chip *chip);
-
-/* 1 if the struct holds a chip that uart_chip_new and the calls above can lead to; else 0. Ask it of a snapshot that comes from
- * elsewhere. */
-uint8_t uart_chip_is_sound(const struct uart_chip *chip);
-
-/* ---------------------------------------------------------------- the driver
- *
- * The driver never reaches a device itself: uart_step says which access it makes next in a call, the caller makes it,
- * puts it after those that were made, and asks again, until the call is done. uart_make does so over two functions of the
- * caller. Each step goes through the accesses that were made before, so choose spin_limit no larger than is needed.
- */
-
-enum uart_parity {
-    UART_PARITY_NONE = 0,
-    UART_PARITY_ODD = 1,
-    UART_PARITY_EVEN = 2,
-    UART_PARITY_FORCED_1 = 3,
-    UART_PARITY_FORCED_0 = 4
-};
-
-/* How a device is to be set up. */
-struct uart_config {
-    uint32_t frequency;                 /* of the clock, in hertz: usually 1843200 */
-    uint32_t baud_rate;
-    uint32_t prescaler_division_factor; /* 0 to 15, and 0 for a chip without one */
-    uint8_t is_custom_rate;             /* keep it 0 */
-    uint8_t has_prescaler;
-    uint8_t interrupts;                 /* as in IER */
-    uint8_t fifo_trigger_level;         /* 0 for no FIFO, or 1, 4, 8, 14; another number counts as 14 */
-    uint8_t data_bits;                  /* 5 to 8; another number counts as 8 */
-    uint8_t extra_stop_bits;
-    uint8_t parity;                     /* an enum uart_parity; another number counts as none */
-    uint8_t check_cts_before_sending;
-};
-
-/* What the driver keeps from call to call. */
-struct uart_driver {
-    uint64_t spin_limit;                /* how many unsuccessful polls in a row a wait makes; 0 counts as 1 */
-    struct uart_config config;
-    uint8_t fifo_enabled;
-    uint8_t saved_lsr, saved_msr;
-};
-
-#define UART_CALL_BYTES 64
-
-/* The calls of the driver, which are those of the Rust crate uart_16550. */
-enum uart_call_kind {
-    UART_INIT = 0,              /* config; makes sure that a chip is there */
-    UART_TEST_LOOPBACK = 1,
-    UART_CHECK_PRESENT = 2,
-    UART_CHECK_CONNECTED = 3,
-    UART_READY_TO_RECEIVE = 4,
-    UART_READY_TO_SEND = 5,
-    UART_TRY_RECEIVE = 6,
-    UART_FLUSH = 7,
-    UART_READ_READY = 8,
-    UART_WRITE_READY = 9,
-    UART_IER = 10,
-    UART_ISR = 11,
-    UART_LCR = 12,
-    UART_MCR = 13,
-    UART_LSR = 14,
-    UART_MSR = 15,
-    UART_SPR = 16,
-    UART_DLL_DLM = 17,
-    UART_FIFO_ENABLED = 18,
-    UART_DUMP = 19,
-    UART_TRY_SEND = 20,         /* byte */
-    UART_ENABLE = 21,           /* byte: interrupts, as in IER */
-    UART_DISABLE = 22,          /* byte: interrupts, as in IER */
-    UART_RECEIVE = 23,          /* len: how many bytes at most */
-    UART_RECEIVE_EXACT = 24,    /* len: how many bytes */
-    UART_READ = 25,             /* len: how many bytes at most */
-    UART_SEND = 26,             /* bytes and len */
-    UART_SEND_EXACT = 27,       /* bytes and len */
-    UART_WRITE = 28             /* bytes and len */
-};
-
-struct uart_call {
-    struct uart_config config;
-    uint8_t kind;               /* an enum uart_call_kind */
-    uint8_t byte;
-    uint8_t len;                /* at most UART_CALL_BYTES */
-    uint8_t bytes[UART_CALL_BYTES];
-};
-
-/* One access: value is what was written, or what the read was answered. */
-struct uart_access {
-    uint8_t is_write;
-    uint8_t offset;
-    uint8_t value;
-};
-
-enum uart_answer_kind {
-    UART_ANSWER_DONE = 0,
-    UART_ANSWER_FLAG = 1,            /* value */
-    UART_ANSWER_COUNT = 2,           /* count: how many bytes were sent */
-    UART_ANSWER_BYTES = 3,           /* bytes and count */
-    UART_ANSWER_REGISTER = 4,        /* value: a register, or the byte that was received */
-    UART_ANSWER_LATCH = 5,           /* value and second: DLL and DLM */
-    UART_ANSWER_DUMP = 6,            /* bytes: IER, ISR, LCR, MCR, LSR, MSR, SPR, DLL, DLM */
-    UART_ANSWER_STALLED = 7,         /* count: how many bytes were sent before a wait came to the limit */
-    UART_ANSWER_RECEIVE_STALLED = 8, /* bytes and count: what was received before a wait came to the limit */
-    UART_ANSWER_INIT_REFUSED = 9,    /* value: an enum uart_refusal */
-    UART_ANSWER_LOOPBACK_REFUSED = 10,
-    UART_ANSWER_NOT_CONNECTED = 11,
-    UART_ANSWER_NO_DATA = 12,
-    UART_ANSWER_NOT_SENT = 13
-};
-
-/* What a call returned. */
-struct uart_answer {
-    uint64_t count;
-    uint8_t kind;                    /* an enum uart_answer_kind */
-    uint8_t value;
-    uint8_t second;
-    uint8_t bytes[UART_CALL_BYTES];
-};
-
-enum uart_step_status {
-    UART_STEP_DONE = 0,         /* the call is done: answer says what it returned, and driver has gone on */
-    UART_STEP_ASKED = 1,        /* make the access in *access, put it after those that were made, and step again */
-    UART_STEP_STRAYED = 2,      /* no run of the call begins with the accesses that were made */
-    UART_STEP_NOT_RUNNABLE = 3, /* no such call, len is too large, or the baud rate cannot be computed */
-    UART_STEP_TAPE_FULL = 4     /* of uart_make: the call makes more accesses than there is room for */
-};
-
-/* A driver that was just made, with the default configuration: 9600 baud, eight data bits, FIFO trigger level 14. */
-void uart_driver_new(struct uart_driver *driver, uint64_t spin_limit);
-
-/*
- * What the driver does next in a call in which it made these accesses. Returns an enum uart_step_status. The driver and
- * *answer are written when the call is done, and *access if one is asked for; nothing else is changed.
- */
-uint32_t uart_step(struct uart_driver *driver, const struct uart_call *call, const struct uart_access *made, size_t made_len,
-                   struct uart_access *access, struct uart_answer *answer);
-
-/* How the caller's device is reached. The library never sees these functions. */
-struct uart_io {
-    void *context;
-    uint8_t (*read)(void *context, uint8_t offset);
-    void (*write)(void *context, uint8_t offset, uint8_t value);
-};
-
-/*
- * Makes a whole call over a device. tape has room for so many accesses. Returns an enum uart_step_status. If the tape is
- * full, the accesses were made and the driver is as before the call.
- */
-static inline uint32_t uart_make(struct uart_driver *driver, const struct uart_call *call, const struct uart_io *io,
-                                 struct uart_access *tape, size_t room, struct uart_answer *answer)
-{
-    struct uart_access access;
-    size_t made = 0;
-
-    for (;;) {
-        uint32_t status = uart_step(driver, call, tape, made, &access, answer);
-        if (status != UART_STEP_ASKED)
-            return status;
-        if (made == room)
-            return UART_STEP_TAPE_FULL;
-        if (access.is_write)
-            io->write(io->context, access.offset, access.value);
-        else
-            access.value = io->read(io->context, access.offset);
-        tape[made++] = access;
-    }
-}
 
 #ifdef __cplusplus
 }

@@ -80,8 +80,8 @@ impl Model for Uart {
     } };
 }
 
-// A read of ISR that shows this interrupt withdraws it.
-fn is_thr_empty(interrupt: Option<InterruptType>) -> bool
+/// A read of ISR that shows this interrupt withdraws it.
+pub fn is_thr_empty(interrupt: Option<InterruptType>) -> bool
     ensures { result ≡ spec.is_thr_empty interrupt }
 {
     matches!(
@@ -90,8 +90,8 @@ fn is_thr_empty(interrupt: Option<InterruptType>) -> bool
     )
 }
 
-// ISR without the bits that show the FIFO.
-fn identification(interrupt: Option<InterruptType>) -> ISR
+/// ISR without the bits that show the FIFO.
+pub fn identification(interrupt: Option<InterruptType>) -> ISR
     ensures { result.0 ≡ spec.identification interrupt }
 {
     match interrupt {
@@ -100,11 +100,26 @@ fn identification(interrupt: Option<InterruptType>) -> ISR
     }
 }
 
-// The trigger level that FCR asks for.
-fn trigger_level(fcr: FCR) -> FifoTriggerLevel
+/// The trigger level that FCR asks for.
+pub fn trigger_level(fcr: FCR) -> FifoTriggerLevel
     ensures { result ≡ spec.trigger_level fcr.0 }
 {
     fcr.fifo_trigger_level()
+}
+
+/// A byte as it is sent and received under a line control register: if characters are cut, its data bits alone.
+pub fn cut(cuts: bool, lcr: LCR, byte: u8) -> u8
+    ensures { result ≡ spec.cut_to cuts (spec.word_length lcr.0) byte }
+{
+    if !cuts {
+        return byte;
+    }
+    match lcr.word_length() {
+        WordLength::FiveBits => byte % (1 << 5),
+        WordLength::SixBits => byte % (1 << 6),
+        WordLength::SevenBits => byte % (1 << 7),
+        WordLength::EightBits => byte,
+    }
 }
 
 impl Uart {
@@ -206,19 +221,11 @@ impl Uart {
         self.latches.lcr.intersects(LCR::DLAB)
     }
 
-    // A byte as it is sent and received: if the option is on, its data bits alone.
+    // A byte as it is sent and received.
     fn cut(&self, byte: u8) -> u8
         ensures { result ≡ spec.cut_of self.now byte }
     {
-        if !self.cuts {
-            return byte;
-        }
-        match self.latches.lcr.word_length() {
-            WordLength::FiveBits => byte % (1 << 5),
-            WordLength::SixBits => byte % (1 << 6),
-            WordLength::SevenBits => byte % (1 << 7),
-            WordLength::EightBits => byte,
-        }
+        cut(self.cuts, self.latches.lcr, byte)
     }
 
     fn is_loopback(&self) -> bool

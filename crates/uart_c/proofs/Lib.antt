@@ -1,0 +1,3 @@
+pub mod Errors
+pub mod Marks
+pub mod Queues
