@@ -20,6 +20,12 @@ any_of_all p f n len items reported is off =
     any_map p f (take len items) ∙ ap (λ xs. list_any p (map f xs)) (whole f n len items is) ∙
     ap (λ b. list_any p (unreported (map f (take n items)) b)) (sym off)
 
+pub none_of_none : (p : Character → Bool) (queue : List Character) (reported : Bool) → 0 ≡ length queue →
+    false ≡ list_any p (unreported queue reported)
+none_of_none p [] true is = refl
+none_of_none p [] false is = refl
+none_of_none p (x ∷ xs) reported is = absurd (omega (arith, is))
+
 pub any_behind : {X : Type 0} (p : Character → Bool) (f : X → Character) (n len : ℕ) (items : List X) (reported : Bool) →
     len ≡ length (map f (take n items)) → 0 < len → reported ≡ true →
     list_any (λ x. p (f x)) (slice_range items 1 len) ≡ list_any p (unreported (map f (take n items)) reported)

@@ -1,3 +1,4 @@
 pub mod Errors
 pub mod Marks
 pub mod Queues
+pub mod Steps

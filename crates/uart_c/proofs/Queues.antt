@@ -22,6 +22,12 @@ popped_map f n room len items new is full some moved =
     ap (λ xs. map f xs) (popped n room len items new (is ∙ length-map (take n items) f) full some moved) ∙
     sym (drop-map f 1 (take n items))
 
+-- nothing is left behind the only item
+pub alone : {X : Type 0} (xs : List X) → 1 ≡ length xs → [] ≡ drop 1 xs
+alone [] is = refl
+alone (x ∷ []) is = refl
+alone (x ∷ y ∷ ys) is = absurd (omega (arith, is))
+
 -- ---- a wire, byte by byte
 
 pub dropped : {X : Type 0} (i : ℕ) (xs : List X) → drop 1 (drop i xs) ≡ drop (suc i) xs

@@ -1,5 +1,5 @@
 -- The chip that the data of C are.
-use Rattle.std.specs.Prelude.{ℕ, false, List, [], Option, Some, None, if◌then◌else◌, ◌==◌}
+use Rattle.std.specs.Prelude.{ℕ, false, [], Option, Some, None, if◌then◌else◌, ◌==◌}
 use Rattle.uart_c.specs.Queue.{is_on, bytes_of, characters_of, wire_of, capacity_of}
 use Rattle.uart_c.specs.declared.chip.UartChip.{UartChip}
 use Rattle.uart_c.specs.declared.chip.UartLatches.{UartLatches}

@@ -95,6 +95,7 @@ impl UartBytes {
     }
 
     /// Takes the front.
+    #[tactic(auto, using(crate::proofs::Queues::alone))]
     pub fn pop_front(&mut self) -> Option<u8>
         ensures front { result ≡ slice_get (spec.bytes_of self.old) 0 }
         ensures after { spec.bytes_of self.new ≡ drop 1 (spec.bytes_of self.old) }
@@ -104,6 +105,10 @@ impl UartBytes {
             return None;
         }
         let front = self.items[0];
+        if len == 1 {
+            self.len = 0;
+            return Some(front);
+        }
         move_down(&mut self.items, 1, FIFO_SIZE);
         self.len = len as u8 - 1;
         Some(front)
@@ -152,6 +157,7 @@ impl UartCharacters {
     }
 
     /// Takes the front.
+    #[tactic(auto, using(crate::proofs::Queues::alone))]
     pub fn pop_front(&mut self) -> Option<UartCharacter>
         ensures front { option_map spec.character_of result ≡ slice_get (spec.characters_of self.old) 0 }
         ensures after { spec.characters_of self.new ≡ drop 1 (spec.characters_of self.old) }
@@ -161,6 +167,10 @@ impl UartCharacters {
             return None;
         }
         let front = self.items[0];
+        if len == 1 {
+            self.len = 0;
+            return Some(front);
+        }
         move_down(&mut self.items, 1, FIFO_SIZE);
         self.len = len as u8 - 1;
         Some(front)

@@ -42,8 +42,8 @@ fn some_has_errors(characters: &[UartCharacter]) -> bool
     characters.iter().any(|character| has_errors(character))
 }
 
-// The trigger level for so many characters.
-fn trigger_of(characters: u8) -> FifoTriggerLevel
+/// The trigger level for so many characters.
+pub fn trigger_of(characters: u8) -> FifoTriggerLevel
     ensures { result ≡ trigger_of characters }
 {
     match characters {
@@ -218,15 +218,16 @@ impl UartReceiver {
     }
 
     /// Some character has errors that were not reported yet.
+    #[tactic(auto, using(crate::proofs::Errors::none_of_none))]
     pub fn has_unreported_errors(&self) -> bool
         ensures { result ≡ list_any has_errors (unreported (receiver_of self.now).queue (receiver_of self.now).is_front_reported) }
     {
         let len = self.queue.len();
-        if !is_on(self.is_front_reported) {
-            return some_has_errors(&self.queue.items[..len]);
-        }
         if len == 0 {
             return false;
+        }
+        if !is_on(self.is_front_reported) {
+            return some_has_errors(&self.queue.items[..len]);
         }
         some_has_errors(&self.queue.items[1..len])
     }
