@@ -173,14 +173,18 @@ impl UartChip {
         self.modem.change_inputs(mcr, inputs);
     }
 
+    #[tactic(auto, using(crate::proofs::Quiet::quiet))]
     fn line_status(&self) -> LSR
         ensures { result.0 ≡ spec.line_status (chip_of self.now) }
     {
+        let thr_empty = flag(self.transmitter.is_thr_empty(), LSR::THR_EMPTY);
+        let transmitter_empty = flag(self.transmitter.is_empty(), LSR::TRANSMITTER_EMPTY);
+        if self.receiver.is_empty() && !self.receiver.is_overrun() {
+            return thr_empty.union(transmitter_empty);
+        }
         let data_ready = flag(!self.receiver.is_empty(), LSR::DATA_READY);
         let overrun = flag(self.receiver.is_overrun(), LSR::OVERRUN_ERROR);
         let errors = self.receiver.front_errors();
-        let thr_empty = flag(self.transmitter.is_thr_empty(), LSR::THR_EMPTY);
-        let transmitter_empty = flag(self.transmitter.is_empty(), LSR::TRANSMITTER_EMPTY);
         let fifo_error = flag(
             is_on(self.fifo) && self.receiver.has_unreported_errors(),
             LSR::FIFO_DATA_ERROR,
