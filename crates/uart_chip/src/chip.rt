@@ -93,8 +93,8 @@ impl Model for Uart {
     } };
 }
 
-// Returns whether a read of ISR that shows this interrupt acknowledges it.
-fn is_thr_empty(interrupt: Option<InterruptType>) -> bool
+/// Returns whether a read of ISR that shows this interrupt acknowledges it.
+pub fn is_thr_empty(interrupt: Option<InterruptType>) -> bool
     ensures { result ≡ spec.is_thr_empty interrupt }
 {
     matches!(
@@ -103,8 +103,8 @@ fn is_thr_empty(interrupt: Option<InterruptType>) -> bool
     )
 }
 
-// Returns ISR without the bits that show the FIFO.
-fn identification(interrupt: Option<InterruptType>) -> ISR
+/// Returns ISR without the bits that show the FIFO.
+pub fn identification(interrupt: Option<InterruptType>) -> ISR
     ensures { result.0 ≡ spec.identification interrupt }
 {
     match interrupt {
@@ -113,11 +113,26 @@ fn identification(interrupt: Option<InterruptType>) -> ISR
     }
 }
 
-// Returns the trigger level of a value of FCR.
-fn trigger_level(fcr: FCR) -> FifoTriggerLevel
+/// Returns the trigger level of a value of FCR.
+pub fn trigger_level(fcr: FCR) -> FifoTriggerLevel
     ensures { result ≡ spec.trigger_level fcr.0 }
 {
     fcr.fifo_trigger_level()
+}
+
+/// Returns a byte as it is sent and received under a line control register: only its data bits if characters are cut.
+pub fn cut(cuts: bool, lcr: LCR, byte: u8) -> u8
+    ensures { result ≡ spec.cut_to cuts (spec.word_length lcr.0) byte }
+{
+    if !cuts {
+        return byte;
+    }
+    match lcr.word_length() {
+        WordLength::FiveBits => byte % (1 << 5),
+        WordLength::SixBits => byte % (1 << 6),
+        WordLength::SevenBits => byte % (1 << 7),
+        WordLength::EightBits => byte,
+    }
 }
 
 impl Uart {
@@ -238,15 +253,7 @@ impl Uart {
     fn cut(&self, byte: u8) -> u8
         ensures { result ≡ spec.cut_of self.now byte }
     {
-        if !self.cuts {
-            return byte;
-        }
-        match self.latches.lcr.word_length() {
-            WordLength::FiveBits => byte % (1 << 5),
-            WordLength::SixBits => byte % (1 << 6),
-            WordLength::SevenBits => byte % (1 << 7),
-            WordLength::EightBits => byte,
-        }
+        cut(self.cuts, self.latches.lcr, byte)
     }
 
     fn is_loopback(&self) -> bool

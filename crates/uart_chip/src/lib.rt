@@ -12,11 +12,12 @@ mod queue;
 mod receiver;
 mod transmitter;
 
-pub use chip::{ChipData, Latches, Uart};
+pub use chip::{ChipData, Latches, Uart, cut, identification, is_thr_empty, trigger_level};
 pub use event::{
     ArrivalMark, BuildError, Chip, Event, MAX_CHAR_TICKS, MAX_WIRE_CAPACITY, arrivals, refusal,
 };
-pub use masks::{kept_interrupts, kept_modem_control};
+pub use masks::{flag, kept_interrupts, kept_modem_control};
 pub use modem::{Modem, ModemData};
+pub use queue::room_of;
 pub use receiver::{Character, Origin, Receiver, ReceiverData};
 pub use transmitter::{Shifting, Transmitter, TransmitterData};

@@ -1,0 +1,86 @@
+/* An owner of the chip of libuart_c.a: a guest's accesses, time, characters, an interrupt, and a snapshot. */
+#include "uart_16550.h"
+
+#include <inttypes.h>
+#include <stdio.h>
+
+enum { DATA = 0, IER = 1, FCR = 2, ISR = 2, LSR = 5 };
+enum { CHAR_TICKS = 4, WIRE_CAPACITY = 32 };
+
+static void show_wire(struct uart_chip *chip)
+{
+    uint8_t bytes[UART_WIRE_ROOM];
+    size_t count = uart_chip_take_wire(chip, bytes, sizeof bytes);
+
+    printf("out \"%.*s\"\n", (int)count, (const char *)bytes);
+}
+
+static void show_status(struct uart_chip *chip, const char *when)
+{
+    printf("%s: ISR %02x, interrupt line %d\n", when, uart_chip_read(chip, ISR), uart_chip_is_interrupting(chip));
+}
+
+/* The guest sends a text, and time passes. */
+static void send(struct uart_chip *chip, const char *text)
+{
+    for (; *text; text++)
+        uart_chip_write(chip, DATA, (uint8_t)*text);
+    printf("LSR %02x after the writes, %zu bytes to go out\n", uart_chip_read(chip, LSR), uart_chip_held_len(chip));
+    uart_chip_ticks(chip, 100);
+    printf("LSR %02x after 100 ticks\n", uart_chip_read(chip, LSR));
+    show_wire(chip);
+}
+
+/* The guest reads what waits. */
+static void receive(struct uart_chip *chip)
+{
+    printf("in \"");
+    while (uart_chip_read(chip, LSR) & 1)
+        putchar(uart_chip_read(chip, DATA));
+    printf("\"\n");
+}
+
+/* Any bytes at all are legal. */
+static void survive(struct uart_chip *chip)
+{
+    unsigned char *bytes = (unsigned char *)chip;
+    uint8_t wire[UART_WIRE_ROOM];
+    size_t taken = 0;
+
+    for (size_t i = 0; i < sizeof *chip; i++)
+        bytes[i] = (unsigned char)(i * 167 + 255);
+    for (unsigned i = 0; i < 1000; i++) {
+        uart_chip_write(chip, (uint8_t)i, (uint8_t)(i * 7));
+        uart_chip_read(chip, (uint8_t)(i * 3));
+        uart_chip_ticks(chip, (uint16_t)(i * 11));
+        uart_chip_arrive(chip, (uint8_t)i, 0x04);
+        taken += uart_chip_take_wire(chip, wire, sizeof wire);
+    }
+    printf("any bytes: %s\n", taken > 0 ? "went on" : "went on, and sent nothing");
+}
+
+int main(void)
+{
+    struct uart_chip chip, saved;
+
+    printf("no ticks: %" PRIu32 "\n", uart_chip_new(&chip, UART_16550A, 0, WIRE_CAPACITY));
+    printf("new: %" PRIu32 "\n", uart_chip_new(&chip, UART_16550A, CHAR_TICKS, WIRE_CAPACITY));
+    uart_chip_write(&chip, FCR, 0x41); /* the FIFO is on, with a trigger level of four */
+    send(&chip, "Hello from C");
+
+    uart_chip_write(&chip, IER, 0x01); /* received data */
+    show_status(&chip, "no character");
+    for (const char *text = "abc"; *text; text++)
+        uart_chip_arrive(&chip, (uint8_t)*text, 0);
+    show_status(&chip, "three characters");
+    uart_chip_arrive(&chip, 'd', 0);
+    show_status(&chip, "four characters");
+    printf("bad error bits: %" PRIu32 "\n", uart_chip_arrive(&chip, 'e', 0x01));
+
+    saved = chip; /* a snapshot is a copy */
+    receive(&chip);
+    chip = saved;
+    receive(&chip);
+    survive(&chip);
+    return 0;
+}

@@ -1,0 +1,341 @@
+/*
+ * uart_16550.h - a 16550A or 16450 serial chip in software, and a driver of such chips.
+ *
+ * Link with libuart_c.a. The library allocates nothing, keeps no global, and calls nothing: all state is in structs of the
+ * caller, and two threads may call it at once as long as no struct is in both calls. Whatever bytes a struct holds, each
+ * function is defined and stays within it.
+ *
+ * Every pointer must be valid, aligned and not null, also one to an array of length 0. Pointers that a function writes
+ * through must not overlap with its others.
+ *
+ * The code is for x86-64 Linux in user space: it uses xmm registers and the red zone. It is not for a kernel or for an
+ * interrupt handler of one.
+ */
+#ifndef UART_16550_H
+#define UART_16550_H
+
+#include <stddef.h>
+#include <stdint.h>
+
+#ifdef __cplusplus
+extern "C" {
+#endif
+
+/* What most functions return. Whatever is not UART_OK changed nothing. */
+enum uart_status {
+    UART_OK = 0,
+    UART_BAD_TICKS = 1,  /* a character takes 1 to 1000 ticks */
+    UART_BAD_WIRE = 2,   /* the wire has room for at most UART_WIRE_ROOM bytes */
+    UART_BAD_ERRORS = 3, /* a character has parity, framing and break errors alone */
+    UART_BAD_LINES = 4   /* the modem lines are CTS, DSR, RI and CD */
+};
+
+/* ------------------------------------------------------------------ the chip
+ *
+ * The chip is plain data of its owner: a copy of the struct is a snapshot, and to copy it back restores the chip.
+ *
+ * Its owner makes the guest's accesses with uart_chip_read and uart_chip_write, lets time pass with uart_chip_ticks, brings
+ * characters with uart_chip_arrive, takes what goes out with uart_chip_take_wire, and asks for the level of the interrupt
+ * line with uart_chip_is_interrupting. No time passes but in uart_chip_ticks.
+ */
+
+#define UART_FIFO_SIZE 16
+#define UART_WIRE_ROOM 64
+
+enum uart_model { UART_16450 = 0, UART_16550A = 1 };
+
+/* The registers that keep what is written. */
+struct uart_latches {
+    uint8_t ier, lcr, mcr, scr, dll, dlm;
+};
+
+/* The modem's inputs, the lines that MSR shows, and their changes since its last read. */
+struct uart_modem {
+    uint8_t inputs, lines, deltas;
+};
+
+/* A queue of bytes. */
+struct uart_bytes {
+    uint8_t len;
+    uint8_t items[UART_FIFO_SIZE];
+};
+
+/* The bytes that have gone out, and how many there is room for. */
+struct uart_wire {
+    uint8_t len, capacity;
+    uint8_t items[UART_WIRE_ROOM];
+};
+
+/* What sends: the queue, the place from which a character is shifted out, and the wire. */
+struct uart_transmitter {
+    uint64_t overflows;      /* how many writes met a full transmitter */
+    uint16_t char_ticks;     /* a character takes so many ticks */
+    uint16_t ticks_left;     /* until the character in the shift place is out */
+    uint8_t is_shifting;     /* there is one */
+    uint8_t shift_byte;
+    uint8_t is_thr_pending;  /* the interrupt THR-empty is pending */
+    struct uart_bytes queue;
+    struct uart_wire wire;
+};
+
+/* A character that waits, with its errors where LSR has them. */
+struct uart_character {
+    uint8_t byte, errors;
+    uint8_t is_looped;       /* it came back in loopback */
+};
+
+/* A queue of characters. */
+struct uart_characters {
+    uint8_t len;
+    struct uart_character items[UART_FIFO_SIZE];
+};
+
+/* What receives. */
+struct uart_receiver {
+    uint16_t timeout_ticks;  /* since a character came or was taken */
+    uint16_t timeout_limit;  /* four character times */
+    uint8_t is_overrun;
+    uint8_t is_front_reported;
+    uint8_t last_byte;
+    uint8_t trigger;         /* 1, 4, 8 or 14 */
+    struct uart_characters queue;
+};
+
+struct uart_chip {
+    struct uart_transmitter transmitter;
+    struct uart_receiver receiver;
+    struct uart_latches latches;
+    struct uart_modem modem;
+    uint8_t model;           /* UART_16550A or UART_16450 */
+    uint8_t fifo;            /* the FIFO is on */
+    uint8_t cuts;            /* characters are cut to the word length of LCR; set it if wanted */
+};
+
+/*
+ * A chip after power on. A character takes char_ticks ticks, 1 to 1000, and the wire has room for wire_capacity bytes, at
+ * most UART_WIRE_ROOM, until they are taken. If the wire is full, the transmitter keeps what it holds.
+ *
+ * Returns UART_OK, UART_BAD_TICKS or UART_BAD_WIRE.
+ */
+uint32_t uart_chip_new(struct uart_chip *chip, uint8_t model, uint16_t char_ticks, uint8_t wire_capacity);
+
+/* The guest reads the register. Of the offset the lowest three bits count. */
+uint8_t uart_chip_read(struct uart_chip *chip, uint8_t offset);
+
+/* The guest writes the register. Of the offset the lowest three bits count. */
+void uart_chip_write(struct uart_chip *chip, uint8_t offset, uint8_t value);
+
+/* So many ticks pass. What it costs does not grow with their number. */
+void uart_chip_ticks(struct uart_chip *chip, uint16_t count);
+
+/*
+ * A character comes in, with these errors: parity 04, framing 08 and break 10, as in LSR. In loopback it is lost. If there
+ * is no room, one is lost, which shows in the overrun flag.
+ *
+ * Returns UART_OK or UART_BAD_ERRORS.
+ */
+uint32_t uart_chip_arrive(struct uart_chip *chip, uint8_t byte, uint8_t errors);
+
+/*
+ * The modem's inputs become these: CTS 10, DSR 20, RI 40 and CD 80, as in MSR.
+ *
+ * Returns UART_OK or UART_BAD_LINES.
+ */
+uint32_t uart_chip_set_lines(struct uart_chip *chip, uint8_t inputs);
+
+/* 1 if the chip asks for an interrupt, that is, a read of ISR would show one; else 0. */
+uint8_t uart_chip_is_interrupting(const struct uart_chip *chip);
+
+/*
+ * Takes bytes that have gone out, in order: as many as there are and as bytes has room for. Returns how many. The wire has
+ * room for others then.
+ */
+size_t uart_chip_take_wire(struct uart_chip *chip, uint8_t *bytes, size_t room);
+
+/* How many bytes have gone out and were not taken yet. */
+size_t uart_chip_wire_len(const struct uart_chip *chip);
+
+/* How many more bytes the wire has room for. */
+size_t uart_chip_wire_room(const struct uart_chip *chip);
+
+/* How many characters can come in before one is lost. In loopback each is lost. */
+size_t uart_chip_receive_room(const struct uart_chip *chip);
+
+/* How many characters wait for the guest to read them. */
+size_t uart_chip_waiting_len(const struct uart_chip *chip);
+
+/* How many bytes are still to go out onto the wire. */
+size_t uart_chip_held_len(const struct uart_chip *chip);
+
+/* The divisor latch, from which a baud rate follows. */
+uint16_t uart_chip_divisor(const struct uart_chip *chip);
+
+/* ---------------------------------------------------------------- the driver
+ *
+ * The driver never reaches a device itself: uart_step says which access it makes next in a call, the caller makes it,
+ * puts it after those that were made, and asks again, until the call is done. uart_make does so over two functions of the
+ * caller. Each step goes through the accesses that were made before, so choose spin_limit no larger than is needed.
+ */
+
+enum uart_parity {
+    UART_PARITY_NONE = 0,
+    UART_PARITY_ODD = 1,
+    UART_PARITY_EVEN = 2,
+    UART_PARITY_FORCED_1 = 3,
+    UART_PARITY_FORCED_0 = 4
+};
+
+/* How a device is to be set up. */
+struct uart_config {
+    uint32_t frequency;                 /* of the clock, in hertz: usually 1843200 */
+    uint32_t baud_rate;
+    uint32_t prescaler_division_factor; /* 0 to 15; counts only with has_prescaler */
+    uint8_t has_prescaler;
+    uint8_t interrupts;                 /* as in IER */
+    uint8_t fifo_trigger_level;         /* 0 for no FIFO, or 1, 4, 8, 14; another number counts as 14 */
+    uint8_t data_bits;                  /* 5 to 8; another number counts as 8 */
+    uint8_t extra_stop_bits;
+    uint8_t parity;                     /* an enum uart_parity; another number counts as none */
+    uint8_t check_cts_before_sending;
+};
+
+/* What the driver keeps from call to call. */
+struct uart_driver {
+    uint64_t spin_limit;                /* how many unsuccessful polls in a row a wait makes; 0 counts as 1 */
+    struct uart_config config;
+    uint8_t fifo_enabled;
+    uint8_t saved_lsr, saved_msr;
+};
+
+#define UART_CALL_BYTES 64
+
+/* The calls of the driver, which are those of the Rust crate uart_16550. */
+enum uart_call_kind {
+    UART_INIT = 0,              /* config; makes sure that a chip is there */
+    UART_TEST_LOOPBACK = 1,
+    UART_CHECK_PRESENT = 2,
+    UART_CHECK_CONNECTED = 3,
+    UART_READY_TO_RECEIVE = 4,
+    UART_READY_TO_SEND = 5,
+    UART_TRY_RECEIVE = 6,
+    UART_FLUSH = 7,
+    UART_READ_READY = 8,
+    UART_WRITE_READY = 9,
+    UART_IER = 10,
+    UART_ISR = 11,
+    UART_LCR = 12,
+    UART_MCR = 13,
+    UART_LSR = 14,
+    UART_MSR = 15,
+    UART_SPR = 16,
+    UART_DLL_DLM = 17,
+    UART_FIFO_ENABLED = 18,
+    UART_TRY_SEND = 19,         /* byte */
+    UART_ENABLE = 20,           /* byte: interrupts, as in IER */
+    UART_DISABLE = 21,          /* byte: interrupts, as in IER */
+    UART_RECEIVE = 22,          /* len: how many bytes at most */
+    UART_RECEIVE_EXACT = 23,    /* len: how many bytes */
+    UART_READ = 24,             /* len: how many bytes at most */
+    UART_SEND = 25,             /* bytes and len */
+    UART_SEND_EXACT = 26,       /* bytes and len */
+    UART_WRITE = 27             /* bytes and len */
+};
+
+/* A call. Which fields count depends on its kind. */
+struct uart_call {
+    struct uart_config config;
+    uint8_t kind;               /* an enum uart_call_kind */
+    uint8_t byte;
+    uint8_t len;                /* at most UART_CALL_BYTES */
+    uint8_t bytes[UART_CALL_BYTES];
+};
+
+/* One access: value is what was written, or what the read was answered. */
+struct uart_access {
+    size_t offset;
+    uint8_t is_write;
+    uint8_t value;
+};
+
+/* How many accesses a call can make here. A call that needs more, as a long wait, does not come to an end. */
+#define UART_TAPE_ROOM 512
+
+enum uart_answer_kind {
+    UART_ANSWER_DONE = 0,
+    UART_ANSWER_FLAG = 1,            /* value */
+    UART_ANSWER_COUNT = 2,           /* count: how many bytes were sent */
+    UART_ANSWER_BYTES = 3,           /* bytes and count */
+    UART_ANSWER_REGISTER = 4,        /* value: a register, or the byte that was received */
+    UART_ANSWER_LATCH = 5,           /* value and second: DLL and DLM */
+    UART_ANSWER_STALLED = 7,         /* count: how many bytes were sent before a wait came to the limit */
+    UART_ANSWER_RECEIVE_STALLED = 8, /* bytes and count: what was received before a wait came to the limit */
+    UART_ANSWER_INIT_REFUSED = 9,    /* stalled, no device, or a bad baud rate */
+    UART_ANSWER_LOOPBACK_REFUSED = 10,
+    UART_ANSWER_NOT_CONNECTED = 11,
+    UART_ANSWER_NO_DATA = 12,
+    UART_ANSWER_NOT_SENT = 13
+};
+
+/* What a call returned. Which fields count depends on its kind. */
+struct uart_answer {
+    size_t count;
+    uint8_t kind;                    /* an enum uart_answer_kind */
+    uint8_t value;
+    uint8_t second;
+    uint8_t bytes[UART_CALL_BYTES];
+};
+
+enum uart_step_status {
+    UART_STEP_DONE = 0,         /* the call is done: answer says what it returned, and driver has gone on */
+    UART_STEP_ASKED = 1,        /* make the access in *access, put it after those that were made, and step again */
+    UART_STEP_STRAYED = 2,      /* no run of the call begins with the accesses that were made */
+    UART_STEP_NOT_RUNNABLE = 3, /* no such call, len is too large, or the baud rate cannot be computed */
+    UART_STEP_TAPE_FULL = 4     /* the call makes more accesses than UART_TAPE_ROOM, or than uart_make has room for */
+};
+
+/* A driver that was just made, with the default configuration: 9600 baud, eight data bits, FIFO trigger level 14. */
+void uart_driver_new(struct uart_driver *driver, uint64_t spin_limit);
+
+/*
+ * What the driver does next in a call in which it made these accesses. Returns an enum uart_step_status. The driver and
+ * *answer are written when the call is done, and *access if one is asked for; nothing else is changed.
+ */
+uint32_t uart_step(struct uart_driver *driver, const struct uart_call *call, const struct uart_access *made, size_t made_len,
+                   struct uart_access *access, struct uart_answer *answer);
+
+/* How the caller's device is reached. The library never sees these functions. */
+struct uart_io {
+    void *context;
+    uint8_t (*read)(void *context, size_t offset);
+    void (*write)(void *context, size_t offset, uint8_t value);
+};
+
+/*
+ * Makes a whole call over a device. tape has room for so many accesses. Returns an enum uart_step_status. If the tape is
+ * full, the accesses were made and the driver is as before the call.
+ */
+static inline uint32_t uart_make(struct uart_driver *driver, const struct uart_call *call, const struct uart_io *io,
+                                 struct uart_access *tape, size_t room, struct uart_answer *answer)
+{
+    struct uart_access access;
+    size_t made = 0;
+
+    for (;;) {
+        uint32_t status = uart_step(driver, call, tape, made, &access, answer);
+        if (status != UART_STEP_ASKED)
+            return status;
+        if (made == room)
+            return UART_STEP_TAPE_FULL;
+        if (access.is_write)
+            io->write(io->context, access.offset, access.value);
+        else
+            access.value = io->read(io->context, access.offset);
+        tape[made++] = access;
+    }
+}
+
+#ifdef __cplusplus
+}
+#endif
+
+#endif

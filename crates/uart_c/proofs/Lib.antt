@@ -1,0 +1,5 @@
+pub mod Errors
+pub mod Marks
+pub mod Queues
+pub mod Quiet
+pub mod Steps

@@ -1,0 +1,15 @@
+use Rattle.std.proofs.Common.{◌∙◌, ap, map}
+use Rattle.uart_16550.specs.Replay as replay
+use Rattle.uart_c.proofs.Steps.{made_so}
+use Rattle.uart_c.proofs.stepping.uart_step.Goals as goal
+
+pub returns-in-Done-clause-done : goal.returns-in-Done-clause-done
+returns-in-Done-clause-done c e = record {
+  call = c.in-Some.call;
+  returned = c.in-Done.returned;
+  is = c.in-Some.ensures;
+  makes = made_so c.in-Done.returned c.state_of.ensures
+      (ap (λ es. map replay.access_of es) c.as_slice.ensures.value ∙ c.in-Some-entries_of.ensures) c.in-Done.ensures;
+  shows = c.shown.ensures;
+  keeps = c.kept.ensures;
+}

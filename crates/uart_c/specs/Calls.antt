@@ -1,0 +1,84 @@
+-- The calls of the driver, their accesses and their answers, as data of C.
+use Rattle.std.specs.Prelude.{◌≡◌, ℕ, List, take, length, if◌then◌else◌}
+use Rattle.uart_c.specs.Driver.{config_of}
+use Rattle.uart_c.specs.Queue.{is_on}
+use Rattle.uart_c.specs.declared.access.UartAccess.{UartAccess}
+use Rattle.uart_c.specs.declared.answer.UartAnswer.{UartAnswer}
+use Rattle.uart_c.specs.declared.answer.TheConstants as kind
+use Rattle.uart_c.specs.declared.call.UartCall.{UartCall}
+use Rattle.uart_c.specs.declared.call.TheConstants as call_kind
+use Rattle.uart_calls.specs.declared.call.Call.{Call}
+use Rattle.uart_calls.specs.declared.call.Call.TheVariants as call
+use Rattle.uart_calls.specs.declared.call.Answer.{Answer}
+use Rattle.uart_calls.specs.declared.call.Answer.TheVariants as answer
+use Rattle.uart_spec.specs.Access.{Access, Read, Write}
+use Rattle.uart_spec.specs.Bits.{flag}
+use Rattle.uart_traces.specs.declared.tape.Request.{Request}
+use Rattle.uart_traces.specs.declared.tape.Request.TheVariants as request
+
+-- an access that was made
+abbrev pub access_of : UartAccess → Access
+access_of a = if is_on a.is_write then Write a.offset a.value else Read a.offset a.value
+
+-- an access that is asked for
+abbrev pub request_of : UartAccess → Request
+request_of a = if is_on a.is_write then request.Write a.offset a.value else request.Read a.offset
+
+-- the bytes that are given with a call
+abbrev pub IsGiven : UartCall → List ℕ → Type 0
+IsGiven c bytes = (length bytes ≡ c.len) × (bytes ≡ take c.len c.bytes)
+
+-- the data of C are this call
+abbrev pub IsCall : UartCall → Call → Type 0
+IsCall c (call.Init config) = (c.kind ≡ call_kind.UART_INIT) × (config ≡ config_of c.config)
+IsCall c call.TestLoopback = c.kind ≡ call_kind.UART_TEST_LOOPBACK
+IsCall c call.CheckPresent = c.kind ≡ call_kind.UART_CHECK_PRESENT
+IsCall c call.CheckConnected = c.kind ≡ call_kind.UART_CHECK_CONNECTED
+IsCall c call.ReadyToReceive = c.kind ≡ call_kind.UART_READY_TO_RECEIVE
+IsCall c call.ReadyToSend = c.kind ≡ call_kind.UART_READY_TO_SEND
+IsCall c call.TryReceive = c.kind ≡ call_kind.UART_TRY_RECEIVE
+IsCall c call.Flush = c.kind ≡ call_kind.UART_FLUSH
+IsCall c call.ReadReady = c.kind ≡ call_kind.UART_READ_READY
+IsCall c call.WriteReady = c.kind ≡ call_kind.UART_WRITE_READY
+IsCall c call.Ier = c.kind ≡ call_kind.UART_IER
+IsCall c call.Isr = c.kind ≡ call_kind.UART_ISR
+IsCall c call.Lcr = c.kind ≡ call_kind.UART_LCR
+IsCall c call.Mcr = c.kind ≡ call_kind.UART_MCR
+IsCall c call.Lsr = c.kind ≡ call_kind.UART_LSR
+IsCall c call.Msr = c.kind ≡ call_kind.UART_MSR
+IsCall c call.Spr = c.kind ≡ call_kind.UART_SPR
+IsCall c call.DllDlm = c.kind ≡ call_kind.UART_DLL_DLM
+IsCall c call.FifoEnabled = c.kind ≡ call_kind.UART_FIFO_ENABLED
+IsCall c call.Dump = ⊥
+IsCall c (call.TrySend byte) = (c.kind ≡ call_kind.UART_TRY_SEND) × (byte ≡ c.byte)
+IsCall c (call.Enable interrupts) = (c.kind ≡ call_kind.UART_ENABLE) × (interrupts.0 ≡ c.byte)
+IsCall c (call.Disable interrupts) = (c.kind ≡ call_kind.UART_DISABLE) × (interrupts.0 ≡ c.byte)
+IsCall c (call.Receive count) = (c.kind ≡ call_kind.UART_RECEIVE) × (count ≡ c.len)
+IsCall c (call.ReceiveExact count) = (c.kind ≡ call_kind.UART_RECEIVE_EXACT) × (count ≡ c.len)
+IsCall c (call.Read count) = (c.kind ≡ call_kind.UART_READ) × (count ≡ c.len)
+IsCall c (call.Send bytes) = (c.kind ≡ call_kind.UART_SEND) × IsGiven c bytes.items
+IsCall c (call.SendExact bytes) = (c.kind ≡ call_kind.UART_SEND_EXACT) × IsGiven c bytes.items
+IsCall c (call.Write bytes) = (c.kind ≡ call_kind.UART_WRITE) × IsGiven c bytes.items
+IsCall c call.Next = ⊥
+IsCall c (call.Text text) = ⊥
+
+-- these bytes are in the answer
+abbrev pub Holds : UartAnswer → List ℕ → Type 0
+Holds a bytes = (a.count ≡ length bytes) × (take a.count a.bytes ≡ bytes)
+
+-- the data of C are this answer; of a refusal they say which call was refused, and not why
+abbrev pub Shows : UartAnswer → Answer → Type 0
+Shows a answer.Done = a.kind ≡ kind.UART_ANSWER_DONE
+Shows a (answer.Flag on) = (a.kind ≡ kind.UART_ANSWER_FLAG) × (a.value ≡ flag on 1)
+Shows a (answer.Count count) = (a.kind ≡ kind.UART_ANSWER_COUNT) × (a.count ≡ count)
+Shows a (answer.Bytes bytes) = (a.kind ≡ kind.UART_ANSWER_BYTES) × Holds a bytes.items
+Shows a (answer.Register value) = (a.kind ≡ kind.UART_ANSWER_REGISTER) × (a.value ≡ value)
+Shows a (answer.Latch dll dlm) = (a.kind ≡ kind.UART_ANSWER_LATCH) × (a.value ≡ dll) × (a.second ≡ dlm)
+Shows a (answer.Dump dump) = a.kind ≡ kind.UART_ANSWER_DUMP
+Shows a (answer.Stalled count) = (a.kind ≡ kind.UART_ANSWER_STALLED) × (a.count ≡ count)
+Shows a (answer.ReceiveStalled bytes) = (a.kind ≡ kind.UART_ANSWER_RECEIVE_STALLED) × Holds a bytes.items
+Shows a (answer.InitRefused error) = a.kind ≡ kind.UART_ANSWER_INIT_REFUSED
+Shows a (answer.LoopbackRefused error) = a.kind ≡ kind.UART_ANSWER_LOOPBACK_REFUSED
+Shows a (answer.NotConnected error) = a.kind ≡ kind.UART_ANSWER_NOT_CONNECTED
+Shows a answer.NoData = a.kind ≡ kind.UART_ANSWER_NO_DATA
+Shows a (answer.NotSent error) = a.kind ≡ kind.UART_ANSWER_NOT_SENT

@@ -1,0 +1,65 @@
+-- The driver that the data of C are.
+use Rattle.std.specs.Prelude.{ℕ, max, ◌==◌, Option, Some, None, if◌then◌else◌}
+use Rattle.uart_16550.specs.Driver.{Fields}
+use Rattle.uart_c.specs.Queue.{is_on}
+use Rattle.uart_c.specs.State.{trigger_of}
+use Rattle.uart_c.specs.declared.driver.TheConstants.{UART_PARITY_ODD, UART_PARITY_EVEN, UART_PARITY_FORCED_1}
+use Rattle.uart_c.specs.declared.driver.TheConstants.{UART_PARITY_FORCED_0}
+use Rattle.uart_c.specs.declared.driver.UartConfig.{UartConfig}
+use Rattle.uart_c.specs.declared.driver.UartDriver.{UartDriver}
+use Rattle.uart_spec.specs.BaudRate.{to_integer}
+use Rattle.uart_spec.specs.declared.config.BaudRate.TheVariants.{Custom}
+use Rattle.uart_spec.specs.declared.config.Config.{Config}
+use Rattle.uart_spec.specs.declared.registers.fifo_trigger_level.FifoTriggerLevel.{FifoTriggerLevel}
+use Rattle.uart_spec.specs.declared.registers.frame.Parity.{Parity}
+use Rattle.uart_spec.specs.declared.registers.frame.Parity.TheVariants.{Disabled, Odd, Even, Forced1, Forced0}
+use Rattle.uart_spec.specs.declared.registers.frame.WordLength.{WordLength}
+use Rattle.uart_spec.specs.declared.registers.frame.WordLength.TheVariants.{FiveBits, SixBits, SevenBits, EightBits}
+
+-- a trigger level of so many characters, or no FIFO
+abbrev pub level_of : (characters : ℕ) → Option FifoTriggerLevel
+level_of characters = if characters == 0 then None else Some (trigger_of characters)
+
+-- so many data bits; any other number counts as eight
+abbrev pub word_length_of : (bits : ℕ) → WordLength
+word_length_of bits =
+    if bits == 5 then FiveBits else if bits == 6 then SixBits else if bits == 7 then SevenBits else EightBits
+
+-- any other number is no parity
+abbrev pub parity_of : ℕ → Parity
+parity_of parity =
+    if parity == UART_PARITY_ODD then Odd
+    else if parity == UART_PARITY_EVEN then Even
+    else if parity == UART_PARITY_FORCED_1 then Forced1
+    else if parity == UART_PARITY_FORCED_0 then Forced0
+    else Disabled
+
+-- the rate is its number
+abbrev pub config_of : UartConfig → Config
+config_of c =
+    record {
+      interrupts = record { 0 = c.interrupts };
+      frequency = c.frequency;
+      prescaler_division_factor = if is_on c.has_prescaler then Some c.prescaler_division_factor else None;
+      fifo_trigger_level = level_of c.fifo_trigger_level;
+      baud_rate = Custom c.baud_rate;
+      data_bits = word_length_of c.data_bits;
+      extra_stop_bits = is_on c.extra_stop_bits;
+      parity = parity_of c.parity;
+      check_cts_before_sending = is_on c.check_cts_before_sending;
+    }
+
+-- whatever bytes they are
+abbrev pub fields_of : UartDriver → Fields
+fields_of d =
+    record {
+      config = config_of d.config;
+      fifo = is_on d.fifo_enabled;
+      lsr = d.saved_lsr;
+      msr = d.saved_msr;
+      limit = max d.spin_limit 1;
+    }
+
+-- the same fields, with the baud rate as its number
+abbrev pub numbered : Fields → Fields
+numbered f = record f { config = record f.config { baud_rate = Custom (to_integer f.config.baud_rate) } }

@@ -1,0 +1,6 @@
+pub mod Queue
+pub mod State
+pub mod Status
+pub mod Driver
+pub mod Calls
+pub mod Steps

@@ -1,0 +1,33 @@
+-- Queues of C: the first items of an array.
+use Rattle.std.specs.Prelude.{ℕ, Bool, not, ◌==◌, min, List, take, map, if◌then◌else◌}
+use Rattle.uart_c.specs.declared.queue.UartBytes.{UartBytes}
+use Rattle.uart_c.specs.declared.queue.UartCharacter.{UartCharacter}
+use Rattle.uart_c.specs.declared.queue.UartCharacters.{UartCharacters}
+use Rattle.uart_c.specs.declared.queue.UartWire.{UartWire}
+use Rattle.uart_c.specs.declared.queue.TheConstants.{WIRE_ROOM}
+use Rattle.uart_chip.specs.declared.receiver.Character.{Character}
+use Rattle.uart_chip.specs.declared.receiver.Origin.TheVariants.{Looped, Live}
+
+-- a flag of C: any number but 0 is true
+abbrev pub is_on : (flag : ℕ) → Bool
+is_on flag = not (flag == 0)
+
+-- the bytes of a queue; a length beyond the array counts as the whole array
+abbrev pub bytes_of : UartBytes → List ℕ
+bytes_of q = take q.len q.items
+
+-- a character of C
+abbrev pub character_of : UartCharacter → Character
+character_of c = record { byte = c.byte; errors = c.errors; origin = if is_on c.is_looped then Looped else Live }
+
+-- the characters of a queue
+abbrev pub characters_of : UartCharacters → List Character
+characters_of q = map character_of (take q.len q.items)
+
+-- the bytes on a wire
+abbrev pub wire_of : UartWire → List ℕ
+wire_of w = take w.len w.items
+
+-- how many bytes a wire has room for
+abbrev pub capacity_of : UartWire → ℕ
+capacity_of w = min w.capacity WIRE_ROOM

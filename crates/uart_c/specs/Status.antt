@@ -1,0 +1,12 @@
+-- What the calls of C return.
+use Rattle.std.specs.Prelude.{ℕ, not, ◌&&◌, nat_le, nat_lt, if◌then◌else◌}
+use Rattle.uart_c.specs.declared.queue.TheConstants.{WIRE_ROOM}
+use Rattle.uart_c.specs.declared.status.TheConstants.{UART_OK, UART_BAD_TICKS, UART_BAD_WIRE}
+use Rattle.uart_chip.specs.declared.event.TheConstants.{MAX_CHAR_TICKS}
+
+-- whether a chip is made: the first reason against it
+abbrev pub new_status : (char_ticks wire_capacity : ℕ) → ℕ
+new_status char_ticks wire_capacity =
+    if not (nat_le 1 char_ticks && nat_le char_ticks MAX_CHAR_TICKS) then UART_BAD_TICKS
+    else if nat_lt WIRE_ROOM wire_capacity then UART_BAD_WIRE
+    else UART_OK

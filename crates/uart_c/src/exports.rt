@@ -1,0 +1,164 @@
+//! The functions of the chip that C calls. The header says what each does.
+ghost use Rattle.std.specs.Prelude.{◌≡◌, ◌≢◌, ◌++◌, ◌-◌, ◌%◌, take, drop, min, length, is_some, bit_and};
+ghost use Rattle.uart_c.specs.State.{chip_of, model_of};
+ghost use Rattle.uart_c.specs.Status.{new_status};
+ghost use Rattle.uart_c.specs.declared.status.TheConstants.{UART_OK, UART_BAD_ERRORS, UART_BAD_LINES};
+ghost use Rattle.uart_chip.specs.Chip as spec;
+ghost use Rattle.uart_chip.specs.Masks.{IsWithin};
+ghost use Rattle.uart_chip.specs.Receiver.{waiting};
+ghost use Rattle.uart_chip.specs.Transmitter.{held};
+ghost use Rattle.uart_spec.specs.Bits.{flag};
+ghost use Rattle.uart_spec.specs.declared.baud.TheConstants.{NUM_REGISTERS};
+ghost use Rattle.uart_spec.specs.declared.registers.line_status.TheConstants.LSR;
+ghost use Rattle.uart_spec.specs.declared.registers.modem_status.TheConstants.MSR;
+
+use crate::chip::UartChip;
+use crate::queue::WIRE_ROOM;
+use crate::status::{UART_BAD_ERRORS, UART_BAD_LINES, UART_BAD_TICKS, UART_BAD_WIRE, UART_OK};
+use bitflags::Flags;
+use uart_chip::MAX_CHAR_TICKS;
+use uart_spec::NUM_REGISTERS;
+use uart_spec::registers::{LSR, MSR};
+
+/// Makes a chip after power on.
+#[unsafe(no_mangle)]
+pub extern "C" fn uart_chip_new(
+    chip: &mut UartChip,
+    model: u8,
+    char_ticks: u16,
+    wire_capacity: u8,
+) -> u32
+    ensures status { result ≡ new_status char_ticks wire_capacity }
+    ensures built { result ≡ UART_OK → chip_of chip.new ≡ spec.fresh (model_of model) char_ticks wire_capacity 0 }
+    ensures kept { result ≢ UART_OK → chip.new ≡ chip.old }
+{
+    if char_ticks == 0 || char_ticks > MAX_CHAR_TICKS {
+        return UART_BAD_TICKS;
+    }
+    if wire_capacity as usize > WIRE_ROOM {
+        return UART_BAD_WIRE;
+    }
+    *chip = UartChip::new(model, char_ticks, wire_capacity);
+    UART_OK
+}
+
+/// The guest reads a register.
+#[unsafe(no_mangle)]
+pub extern "C" fn uart_chip_read(chip: &mut UartChip, offset: u8) -> u8
+    ensures answers { result ≡ spec.answer (offset % NUM_REGISTERS) (chip_of chip.old) }
+    ensures after { chip_of chip.new ≡ spec.after_read (offset % NUM_REGISTERS) (chip_of chip.old) }
+{
+    chip.read(offset % NUM_REGISTERS as u8)
+}
+
+/// The guest writes a register.
+#[unsafe(no_mangle)]
+pub extern "C" fn uart_chip_write(chip: &mut UartChip, offset: u8, value: u8)
+    ensures { chip_of chip.new ≡ spec.after_write (offset % NUM_REGISTERS) value (chip_of chip.old) }
+{
+    chip.write(offset % NUM_REGISTERS as u8, value);
+}
+
+/// So many ticks pass.
+#[unsafe(no_mangle)]
+pub extern "C" fn uart_chip_ticks(chip: &mut UartChip, count: u16)
+    ensures { chip_of chip.new ≡ spec.ticks count (chip_of chip.old) }
+{
+    chip.ticks(count);
+}
+
+/// A character comes in.
+#[unsafe(no_mangle)]
+pub extern "C" fn uart_chip_arrive(chip: &mut UartChip, byte: u8, errors: u8) -> u32
+    ensures accepted { IsWithin errors LSR.CHARACTER_ERRORS.0 →
+        (result ≡ UART_OK) × (chip_of chip.new ≡ spec.bring byte errors (chip_of chip.old)) }
+    ensures refused { bit_and errors LSR.CHARACTER_ERRORS.0 ≢ errors → (result ≡ UART_BAD_ERRORS) × (chip.new ≡ chip.old) }
+{
+    if LSR::from_bits_retain(errors).intersection(LSR::CHARACTER_ERRORS)
+        != LSR::from_bits_retain(errors)
+    {
+        return UART_BAD_ERRORS;
+    }
+    chip.bring(byte, errors);
+    UART_OK
+}
+
+/// The modem's inputs become these.
+#[unsafe(no_mangle)]
+pub extern "C" fn uart_chip_set_lines(chip: &mut UartChip, inputs: u8) -> u32
+    ensures accepted { IsWithin inputs MSR.LINES.0 → (result ≡ UART_OK) × (chip_of chip.new ≡ spec.change_lines inputs (chip_of chip.old)) }
+    ensures refused { bit_and inputs MSR.LINES.0 ≢ inputs → (result ≡ UART_BAD_LINES) × (chip.new ≡ chip.old) }
+{
+    if MSR::from_bits_retain(inputs).intersection(MSR::LINES) != MSR::from_bits_retain(inputs) {
+        return UART_BAD_LINES;
+    }
+    chip.change_lines(inputs);
+    UART_OK
+}
+
+/// 1 if the chip asks for an interrupt, else 0.
+#[unsafe(no_mangle)]
+pub extern "C" fn uart_chip_is_interrupting(chip: &UartChip) -> u8
+    ensures { result ≡ flag (is_some (spec.interrupt (chip_of chip.now))) 1 }
+{
+    chip.is_interrupting() as u8
+}
+
+/// Takes bytes that have gone out. Returns how many.
+#[unsafe(no_mangle)]
+pub extern "C" fn uart_chip_take_wire(chip: &mut UartChip, bytes: &mut [u8]) -> usize
+    ensures count { result ≡ min (length bytes.old) (length (chip_of chip.old).transmitter.wire) }
+    ensures taken { bytes.new ≡ take result (chip_of chip.old).transmitter.wire ++ drop result bytes.old }
+    ensures after { chip_of chip.new ≡ spec.take_wire (length bytes.old) (chip_of chip.old) }
+{
+    chip.transmitter.take_wire(bytes)
+}
+
+/// How many bytes have gone out and were not taken yet.
+#[unsafe(no_mangle)]
+pub extern "C" fn uart_chip_wire_len(chip: &UartChip) -> usize
+    ensures { result ≡ length (chip_of chip.now).transmitter.wire }
+{
+    chip.transmitter.wire.len()
+}
+
+/// How many more bytes the wire has room for.
+#[unsafe(no_mangle)]
+pub extern "C" fn uart_chip_wire_room(chip: &UartChip) -> usize
+    ensures { result ≡ (chip_of chip.now).transmitter.capacity - length (chip_of chip.now).transmitter.wire }
+{
+    let wire = &chip.transmitter.wire;
+    wire.capacity().saturating_sub(wire.len())
+}
+
+/// How many characters can come in before one is lost.
+#[unsafe(no_mangle)]
+pub extern "C" fn uart_chip_receive_room(chip: &UartChip) -> usize
+    ensures { result ≡ spec.receive_room (chip_of chip.now) }
+{
+    chip.receive_room()
+}
+
+/// How many characters wait for the guest to read them.
+#[unsafe(no_mangle)]
+pub extern "C" fn uart_chip_waiting_len(chip: &UartChip) -> usize
+    ensures { result ≡ length (waiting (chip_of chip.now).receiver) }
+{
+    chip.receiver.waiting_len()
+}
+
+/// How many bytes are still to go out.
+#[unsafe(no_mangle)]
+pub extern "C" fn uart_chip_held_len(chip: &UartChip) -> usize
+    ensures { result ≡ length (held (chip_of chip.now).transmitter) }
+{
+    chip.transmitter.held_len()
+}
+
+/// The divisor latch.
+#[unsafe(no_mangle)]
+pub extern "C" fn uart_chip_divisor(chip: &UartChip) -> u16
+    ensures { result ≡ spec.divisor (chip_of chip.now).latches }
+{
+    chip.divisor()
+}

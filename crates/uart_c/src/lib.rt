@@ -1,0 +1,17 @@
+//! The live chip and the driver for C: a static library, with include/uart_16550.h as its header.
+//!
+//! Each struct that crosses is plain data, of which any bytes are legal. A function allocates nothing and keeps nothing.
+#![tactic(auto)]
+
+mod access;
+mod answer;
+mod call;
+mod chip;
+mod driver;
+mod exports;
+mod modem;
+mod queue;
+mod receiver;
+mod status;
+mod stepping;
+mod transmitter;

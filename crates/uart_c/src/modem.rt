@@ -1,0 +1,75 @@
+//! The modem lines as plain data.
+ghost use Rattle.std.specs.Prelude.{◌≡◌, ◌==◌, not, bit_or};
+ghost use Rattle.uart_c.specs.State.{modem_of};
+ghost use Rattle.uart_chip.specs.Modem.{renew};
+
+use bitflags::Flags;
+use uart_chip::{Modem, ModemData};
+use uart_spec::registers::{MCR, MSR};
+
+/// The modem's inputs, the lines that the status register shows, and their changes since its last read.
+#[repr(C)]
+#[derive(Clone, Copy)]
+pub struct UartModem {
+    pub inputs: u8,
+    pub lines: u8,
+    pub deltas: u8,
+}
+
+// The lines as the chip keeps them.
+fn restored(saved: UartModem) -> Modem
+    ensures { result ≡ modem_of saved }
+{
+    Modem::from_data(ModemData {
+        inputs: MSR::from_bits_retain(saved.inputs),
+        lines: MSR::from_bits_retain(saved.lines),
+        deltas: MSR::from_bits_retain(saved.deltas),
+    })
+}
+
+// The lines as C keeps them.
+fn saved(modem: &Modem) -> UartModem
+    ensures { modem_of result ≡ modem.now }
+{
+    let data = modem.data();
+    UartModem {
+        inputs: data.inputs.bits(),
+        lines: data.lines.bits(),
+        deltas: data.deltas.bits(),
+    }
+}
+
+impl UartModem {
+    /// Renews the lines under this modem control register.
+    pub fn renew(&mut self, mcr: MCR)
+        ensures { modem_of self.new ≡ renew mcr.0 (modem_of self.old) }
+    {
+        let mut modem = restored(*self);
+        modem.renew(mcr);
+        *self = saved(&modem);
+    }
+
+    /// The inputs become these.
+    pub fn change_inputs(&mut self, mcr: MCR, inputs: u8)
+        ensures { modem_of self.new ≡ renew mcr.0 (record (modem_of self.old) { inputs = inputs }) }
+    {
+        self.inputs = inputs;
+        self.renew(mcr);
+    }
+
+    /// A read of the modem status register, which clears the changes.
+    pub fn read(&mut self) -> u8
+        ensures answers { result ≡ bit_or (modem_of self.old).lines (modem_of self.old).deltas }
+        ensures after { modem_of self.new ≡ record (modem_of self.old) { deltas = 0 } }
+    {
+        let status = self.lines | self.deltas;
+        self.deltas = 0;
+        status
+    }
+
+    pub fn has_changes(&self) -> bool
+        ensures { result ≡ not ((modem_of self.now).deltas == 0) }
+    {
+        self.deltas != 0
+    }
+}

@@ -1,0 +1,73 @@
+//! The driver that C calls: it says which access is next, and the caller makes it.
+ghost use Rattle.std.specs.Prelude.{◌≡◌, ◌≢◌, max};
+ghost use Rattle.uart_16550.specs.Driver.{with_limit};
+ghost use Rattle.uart_16550.specs.State.{fresh_fields};
+ghost use Rattle.uart_c.specs.Driver.{fields_of, numbered};
+ghost use Rattle.uart_c.specs.Steps.{IsAsked, IsDone, IsStrayed};
+ghost use Rattle.uart_c.specs.declared.stepping.TheConstants.{UART_STEP_DONE, UART_STEP_ASKED, UART_STEP_STRAYED};
+
+use crate::access::{UartAccess, asked, entries_of};
+use crate::answer::{UartAnswer, shown};
+use crate::call::{UartCall, call_of};
+use crate::driver::{UartDriver, kept, state_of};
+use uart_16550::DriverState;
+use uart_traces::{NextStep, next};
+
+pub const UART_STEP_DONE: u32 = 0;
+
+pub const UART_STEP_ASKED: u32 = 1;
+
+pub const UART_STEP_STRAYED: u32 = 2;
+
+pub const UART_STEP_NOT_RUNNABLE: u32 = 3;
+
+pub const UART_STEP_TAPE_FULL: u32 = 4;
+
+/// Makes a driver that has made no access.
+#[unsafe(no_mangle)]
+pub extern "C" fn uart_driver_new(driver: &mut UartDriver, spin_limit: u64)
+    ensures { fields_of driver.new ≡ with_limit (max spin_limit 1) (numbered fresh_fields) }
+{
+    *driver = UartDriver {
+        spin_limit,
+        ..kept(&DriverState::new())
+    };
+}
+
+/// What the driver does next in a call in which these accesses were made.
+#[unsafe(no_mangle)]
+pub extern "C" fn uart_step(
+    driver: &mut UartDriver,
+    call: &UartCall,
+    made: &[UartAccess],
+    access: &mut UartAccess,
+    answer: &mut UartAnswer,
+) -> u32
+    ensures done { result ≡ UART_STEP_DONE → IsDone call.now driver.old made.now answer.new driver.new }
+    ensures asked { result ≡ UART_STEP_ASKED → IsAsked call.now driver.old made.now access.new }
+    ensures strayed { result ≡ UART_STEP_STRAYED → IsStrayed call.now driver.old made.now }
+    ensures kept { result ≢ UART_STEP_DONE → (driver.new ≡ driver.old) × (answer.new ≡ answer.old) }
+    ensures access { result ≢ UART_STEP_ASKED → access.new ≡ access.old }
+{
+    let Some(call) = call_of(call) else {
+        return UART_STEP_NOT_RUNNABLE;
+    };
+    if !call.is_runnable() {
+        return UART_STEP_NOT_RUNNABLE;
+    }
+    let Some(entries) = entries_of(made) else {
+        return UART_STEP_TAPE_FULL;
+    };
+    match next(entries.as_slice(), &state_of(driver), &call) {
+        NextStep::Done(returned) => {
+            *answer = shown(&returned.answer);
+            *driver = kept(&returned.state);
+            UART_STEP_DONE
+        }
+        NextStep::Asked(request) => {
+            *access = asked(request);
+            UART_STEP_ASKED
+        }
+        NextStep::Strayed => UART_STEP_STRAYED,
+    }
+}
