@@ -1,0 +1,102 @@
+/*
+ * library.c - calls the chip of libuart_c.a, for measure-library.sh to count.
+ *
+ * usage: library BODY COUNT
+ *
+ * Makes COUNT rounds of a body: sixteen calls of one kind, and whatever makes the next round like the first.
+ */
+#include <stdio.h>
+#include <stdlib.h>
+#include <string.h>
+
+#include "uart_16550.h"
+
+enum { DATA = 0, FCR = 2, LSR = 5, FIFO_ON = 0x01, EACH = 16 };
+
+static struct uart_chip chip, saved;
+
+/* What was read, so that no call can be left out. It is also what is written. */
+static unsigned digest;
+
+static void lsr(void)
+{
+    for (int i = 0; i < EACH; i++)
+        digest += uart_chip_read(&chip, LSR);
+}
+
+/* With as many characters waiting as the FIFO holds. */
+static void lsr_full(void)
+{
+    for (int i = 0; i < EACH; i++)
+        uart_chip_arrive(&chip, (uint8_t)digest, 0);
+    lsr();
+}
+
+static void data_write(void)
+{
+    uint8_t wire[UART_WIRE_ROOM];
+
+    for (int i = 0; i < EACH; i++)
+        uart_chip_write(&chip, DATA, (uint8_t)digest++);
+    uart_chip_ticks(&chip, EACH + 1);
+    digest += (unsigned)uart_chip_take_wire(&chip, wire, sizeof wire);
+}
+
+static void byte_in_and_read(void)
+{
+    for (int i = 0; i < EACH; i++) {
+        uart_chip_arrive(&chip, (uint8_t)digest, 0);
+        digest += uart_chip_read(&chip, DATA);
+    }
+}
+
+static void interrupt(void)
+{
+    for (int i = 0; i < EACH; i++)
+        digest += uart_chip_is_interrupting(&chip);
+}
+
+__attribute__((noinline)) static void save(void)
+{
+    saved = chip;
+}
+
+__attribute__((noinline)) static void restore(void)
+{
+    chip = saved;
+}
+
+static void save_and_restore(void)
+{
+    for (int i = 0; i < EACH; i++) {
+        save();
+        restore();
+    }
+}
+
+static const struct {
+    const char *name;
+    void (*make)(void);
+} BODIES[] = {
+    { "lsr", lsr },
+    { "lsr-full", lsr_full },
+    { "data-write", data_write },
+    { "byte-in-and-read", byte_in_and_read },
+    { "interrupt", interrupt },
+    { "save-and-restore", save_and_restore },
+};
+
+int main(int count, char **arguments)
+{
+    if (count != 3 || uart_chip_new(&chip, UART_16550A, 1, UART_WIRE_ROOM) != UART_OK)
+        return 1;
+    uart_chip_write(&chip, FCR, FIFO_ON);
+    for (size_t i = 0; i < sizeof BODIES / sizeof BODIES[0]; i++) {
+        if (strcmp(BODIES[i].name, arguments[1]))
+            continue;
+        for (long rounds = strtol(arguments[2], NULL, 10); rounds > 0; rounds--)
+            BODIES[i].make();
+    }
+    printf("%u\n", digest);
+    return 0;
+}
