@@ -6,11 +6,13 @@
 //! - [`run`] makes a list of calls over such a device. Its contract has the theorems about driver and chip together.
 //! - [`run_ring`] makes a list of calls of the rings over such a device, and returns a [`RingAnswer`] for each [`RingCall`]. Its
 //!   contract has the theorem about rings, driver and chip together.
+//! - [`LiveChip`] is the same chip in the hands of its owner, without a schedule, and can be saved and restored.
 //! - [`script`] plays a script from a reader to a writer.
 //! - [`laws`] has what follows from these contracts.
 //!
-//! The chip is the crate `uart_chip`, the device `uart_device`, calls and answers `uart_calls`, runs `uart_run`, runs of the rings
-//! `uart_ring_run`, and the script language `uart_language`. This crate joins them under one name, and has the tests that cross them.
+//! The chip is the crate `uart_chip`, the device `uart_device`, the live chip `uart_live`, calls and answers `uart_calls`, runs
+//! `uart_run`, runs of the rings `uart_ring_run`, and the script language `uart_language`. This crate joins them under one name, and has
+//! the tests that cross them.
 #![tactic(auto)]
 
 pub mod laws;
@@ -21,5 +23,9 @@ mod tests;
 pub use uart_calls::{Answer, CALL_BYTES, Call, perform};
 pub use uart_chip::{ArrivalMark, BuildError, Chip, Event};
 pub use uart_device::Device16550;
+pub use uart_live::{
+    Character, ChipData, InputError, Latches, LiveChip, ModemData, Origin, ReceiverData,
+    RestoreError, Shifting, TransmitterData,
+};
 pub use uart_ring_run::{RingAnswer, RingCall, run_ring};
 pub use uart_run::run;
