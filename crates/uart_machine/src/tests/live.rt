@@ -204,6 +204,7 @@ fn a_read_of_a_plain_register_changes_nothing(rt: HostRuntime) -> Result<(), Fai
 // One change of the data of a fresh chip.
 #[derive(Clone, Copy, Debug)]
 enum Change {
+    Cuts,
     TurnsFifoOn(Chip),
     Interrupts(u8),
     ModemControl(u8),
@@ -230,6 +231,7 @@ fn waits(data: &mut ChipData, errors: u8, origin: Origin) {
 
 fn make(change: Change, data: &mut ChipData) {
     match change {
+        Change::Cuts => data.cuts = true,
         Change::TurnsFifoOn(model) => {
             data.model = model;
             data.fifo = true;
@@ -262,6 +264,7 @@ fn make(change: Change, data: &mut ChipData) {
 #[test]
 fn only_data_of_a_live_chip_are_restored(rt: HostRuntime) -> Result<(), Fail> {
     for (change, is_restored) in [
+        (Change::Cuts, true),
         (Change::TurnsFifoOn(Chip::Uart16550A), true),
         (Change::TurnsFifoOn(Chip::Uart16450), false),
         (Change::Interrupts(0x0f), true),
