@@ -8,17 +8,16 @@ use uart_device::Device16550;
 use uart_ring::Uart16550Ring;
 use uart_ring_run::{RingAnswer, RingCall, run_ring};
 
-/// Makes ring calls in a session. No data write meets a full transmitter, whatever the schedule is, and the session goes on.
+/// Makes ring calls. In a session no data write meets a full transmitter, whatever the schedule is, and the session goes on.
 pub fn make_ring_calls(
     ring: &mut Uart16550Ring<Device16550>,
     calls: &[RingCall],
     answers: &mut [RingAnswer],
 )
-    requires ready { Ready (under ring.old) }
     requires runnable { All IsRingRunnable calls.now }
     requires slots { length calls.now ≡ length answers.old }
-    ensures goes_on { Ready (under ring.new) }
-    ensures no_overflow { overflows (under ring.new) ≡ overflows (under ring.old) }
+    ensures goes_on { Ready (under ring.old) → Ready (under ring.new) }
+    ensures no_overflow { Ready (under ring.old) → overflows (under ring.new) ≡ overflows (under ring.old) }
 {
     run_ring(ring, calls, answers);
 }
