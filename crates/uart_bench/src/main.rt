@@ -14,13 +14,13 @@ use rings::{RING_WORKS, perform as perform_ring};
 use std::env;
 use std::rt::Runtime;
 
-// How many bytes one call of a measured body sends, receives or prints.
+// The number of bytes that one call of a measured body sends, receives or prints.
 const MEASURED_BYTES: usize = 1 << 20;
 
-// The same in the short run: whole pieces and a rest.
+// The same in the short run: whole pieces and a remainder.
 const SHORT_BYTES: usize = 300;
 
-// Runs each body once, and prints what its accesses came to.
+// Runs each body once, and prints the totals of its accesses.
 fn short_run<R: Runtime + AllocGlobal>(rt: &R) -> Result<()> {
     let mut buffer = [0x55; SHORT_BYTES];
     let line = "A line of text for the terminal: plain.\n";
@@ -56,7 +56,7 @@ fn short_run<R: Runtime + AllocGlobal>(rt: &R) -> Result<()> {
     Ok(())
 }
 
-// Runs the body of this name so many times.
+// Runs the body of this name `count` times.
 fn measure<R: Runtime + AllocGlobal>(rt: &R, name: &str, count: u64, called: bool) -> Result<()> {
     let mut buffer = vec![in rt.alloc(); 0x55; MEASURED_BYTES]?;
     let letters = vec![in rt.alloc(); 0x55; MEASURED_BYTES]?;

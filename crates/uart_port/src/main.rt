@@ -31,10 +31,10 @@ use uart_16550::{Uart16550, Uart16550Tty};
 use uart_language::limits::MOST_BYTES;
 use uart_language::parse;
 
-// How many bytes of a script are read: one more than the longest has.
+// The most bytes of a script that are read: one more than the longest has.
 const MOST_READ: u64 = MOST_BYTES as u64 + 1;
 
-// The text of the script, from its file or else from standard input.
+// Returns the text of the script, from its file or else from standard input.
 fn script_text(rt: &HostRuntime, path: Option<&str>) -> io::Result<Vec<u8>> {
     let mut text = Vec::new(rt.alloc());
     match path {
@@ -55,7 +55,7 @@ fn device_at(rt: &HostRuntime, path: &str) -> Result<File, End> {
         .map_err(End::unopened)
 }
 
-// The file for the trace, if one is asked for.
+// Returns the file for the trace, if one is requested.
 fn trace_at(rt: &HostRuntime, path: Option<&str>) -> Result<Option<File>, End> {
     match path {
         Some(path) => Ok(Some(File::create(rt, path).map_err(End::Trace)?)),
@@ -63,7 +63,7 @@ fn trace_at(rt: &HostRuntime, path: Option<&str>) -> Result<Option<File>, End> {
     }
 }
 
-// The driver at a port of the device, with the script's limit.
+// Returns the driver at a port of the device, with the script's limit.
 fn terminal_at<'a>(
     port: u16,
     limit: NonZeroU64,
@@ -80,7 +80,7 @@ fn terminal_at<'a>(
     Uart16550Tty::from_inner(uart)
 }
 
-// Plays what the command line asks for.
+// Plays what the command line requests.
 fn played(rt: &HostRuntime, matches: &ArgMatches<'_>) -> Result<(), End> {
     let arguments = Arguments::new(matches)?;
     let text = script_text(rt, arguments.script).map_err(End::unread)?;

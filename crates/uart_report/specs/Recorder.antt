@@ -4,18 +4,18 @@ use Rattle.uart_spec.specs.Access.{Access, Read, Write}
 use Rattle.uart_report.specs.declared.recording.Entry.{Entry}
 use Rattle.uart_report.specs.declared.recording.Entry.TheVariants as entry
 
--- the access that an entry tells of
+-- the access of an entry
 abbrev pub access_of : Entry → Access
 access_of (entry.Read offset answer) = Read offset answer
 access_of (entry.Write offset value) = Write offset value
 
--- a device, and the accesses to it that were recorded: all of them, unless memory ran out
+-- a device, and the accesses to it that were recorded: all of them, unless out of memory
 pub record Recorded (B : Type 0) : Type 0 where
   pub device : B
   pub entries : List Entry
   pub is_complete : Bool
 
--- the device makes the access, and a list that is complete after it has it behind those before
+-- the device makes the access, which is appended to a list that is complete
 pub record RecordsStep {B : Type 0} (step : B → Access → B → Type 0) (old : Recorded B) (access : Access)
     (new : Recorded B) : Type 0 where
   pub made : step old.device access new.device

@@ -1,4 +1,4 @@
-//! What is told of a run: each call with its answer and its moments.
+//! The history of a run: each call with its answer and its moments.
 ghost use Rattle.uart_language.specs.Script.{plan_of, IsPlayable};
 
 use crate::replay::{Moment, replayed};
@@ -7,31 +7,37 @@ use crate::text::{line_at, printable, word_at};
 use std::alloc::{AllocError, Global};
 use uart_machine::script::Script;
 
-/// A call: its line of the script, its line of the output, and its moments, by their places among all.
+/// A call with its answer and its moments.
 #[derive(Drop)]
 pub struct ToldCall {
+    /// Its line of the script.
     pub line: String,
+    /// Its line of the output.
     pub answer: String,
+    /// The index of its first moment among all moments.
     pub start: usize,
+    /// The index after its last moment.
     pub end: usize,
 }
 
 /// A run of a script.
 #[derive(Drop)]
 pub struct History {
+    /// The calls.
     pub calls: Vec<ToldCall>,
+    /// The moments of all calls.
     pub moments: Vec<Moment>,
     /// The lines of the output after those of the calls: wire, held, waiting and marks.
     pub last: Vec<String>,
 }
 
 impl History {
-    /// The moments of a call.
+    /// Returns the moments of a call.
     pub fn moments_of(&self, call: &ToldCall) -> &[Moment] {
         self.moments.get(call.start..call.end).unwrap_or(&[])
     }
 
-    /// The letter of an arrival's mark at the end of the run.
+    /// Returns the letter of an arrival's mark at the end of the run.
     pub fn mark(&self, arrival: usize) -> char {
         let marks = self.last.last().map(|line| line.as_str()).unwrap_or("");
         let letters = marks.strip_prefix("marks ").unwrap_or("");
@@ -39,7 +45,7 @@ impl History {
     }
 }
 
-// Whether a line of a script is a call.
+// Returns whether a line of a script is a call.
 fn is_call(line: &[u8]) -> bool {
     match word_at(line, 0).unwrap_or(&[]) {
         b"" | b"chip" | b"limit" | b"tick" | b"arrive" | b"lines" | b"access" => false,
@@ -47,7 +53,7 @@ fn is_call(line: &[u8]) -> bool {
     }
 }
 
-/// What is told of a script, whose text and whose output these are.
+/// Returns the history of a script with this text and this output.
 pub fn told(
     alloc: Global,
     script: &Script,

@@ -1,4 +1,4 @@
-//! A backend that keeps a list of the accesses that are made through it.
+//! A backend that records the accesses that are made through it.
 ghost use Rattle.std.specs.Prelude.{◌≡◌, ◌∷◌, [], ◌++◌, true, IfOk, is_err, not, map};
 ghost use Rattle.uart_report.specs.Recorder.{RecordsStep, access_of};
 
@@ -6,14 +6,26 @@ use std::alloc::{AllocError, Global};
 use std::marker::Model;
 use uart_16550::backend::Backend;
 
-/// An access of a register, with what was read or written.
+/// An access to a register.
 #[derive(Clone, Copy, Debug, PartialEq, Eq)]
 pub enum Entry {
-    Read { offset: u8, answer: u8 },
-    Write { offset: u8, value: u8 },
+    /// A read of the register at this offset, and the byte that it returned.
+    Read {
+        /// The offset of the register.
+        offset: u8,
+        /// The byte that was read.
+        answer: u8,
+    },
+    /// A write of this byte to the register at this offset.
+    Write {
+        /// The offset of the register.
+        offset: u8,
+        /// The byte that was written.
+        value: u8,
+    },
 }
 
-/// A backend over another, with a list of the accesses that it passed on.
+/// A backend over another one, with a list of the accesses that it made.
 #[derive(Drop)]
 pub struct Recorder<B> {
     device: B,
@@ -30,7 +42,7 @@ impl<B> Model for Recorder<B> {
 }
 
 impl<B> Recorder<B> {
-    /// A recorder that has passed on nothing yet.
+    /// Returns a recorder that has made no access.
     pub fn new(alloc: Global, device: B) -> Self
         ensures { result ≡ record { device = device; entries = []; is_complete = true } }
     {
@@ -41,16 +53,16 @@ impl<B> Recorder<B> {
         }
     }
 
-    /// The device, for what only it can do. Accesses that are made so are not recorded.
+    /// Returns the device, for what only it can do. Accesses that are made through it are not recorded.
     pub fn device_mut(&mut self) -> &mut B {
         &mut self.device
     }
 
-    /// The accesses that were made, in order.
+    /// Returns the accesses that were made, in order.
     ///
     /// # Errors
     ///
-    /// `AllocError` if there was no memory to keep one of them.
+    /// `AllocError` if memory for one of them could not be allocated.
     pub fn entries(&self) -> Result<&[Entry], AllocError>
         ensures entries { IfOk result (λ entries. entries.now ≡ self.now.entries) }
         ensures complete { is_err result ≡ not self.now.is_complete }

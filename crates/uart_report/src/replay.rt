@@ -1,4 +1,4 @@
-//! Plays a recording again, tick by tick, and notes when each thing happened.
+//! Plays a recording again, tick by tick, and notes when each event happened.
 
 use crate::recording::Entry;
 use crate::run::{Recording, machine_for};
@@ -9,39 +9,47 @@ use uart_machine::script::Script;
 use uart_machine::{Call, Device16550, Event};
 use uart_spec::registers::{LCR, offsets};
 
-/// An access, and the register that it reached.
+/// An access, with the name of its register.
 #[derive(Clone, Copy)]
 pub struct Seen {
+    /// The access.
     pub access: Entry,
+    /// The name of the register.
     pub register: &'static str,
 }
 
-/// A byte that came in, and which arrival of the schedule it is, counted from 0.
+/// A byte that arrived.
 #[derive(Clone, Copy)]
 pub struct Arrival {
+    /// The byte.
     pub byte: u8,
+    /// The number of the arrival in the schedule, counted from 0.
     pub number: usize,
 }
 
 /// What happened at one tick, up to an access if there is one.
 #[derive(Clone, Copy)]
 pub struct Moment {
+    /// The tick, counted from power-on.
     pub tick: u64,
-    /// The call that was under way, counted from 0.
+    /// The call that was running, counted from 0.
     pub call: usize,
-    /// The byte that went onto the wire.
+    /// The byte that was sent.
     pub sent: Option<u8>,
+    /// The byte that arrived.
     pub arrival: Option<Arrival>,
-    /// The modem lines that came.
+    /// The new modem lines.
     pub lines: Option<u8>,
+    /// The access.
     pub access: Option<Seen>,
-    /// How many bytes are still to go out after that, and how many wait to be read.
+    /// The number of bytes in the transmitter after that.
     pub held: usize,
+    /// The number of bytes in the receiver after that.
     pub waiting: usize,
 }
 
 impl Moment {
-    /// Nothing but the access happened.
+    /// Returns whether nothing but the access happened.
     pub fn is_access_alone(&self) -> bool {
         self.access.is_some()
             && self.sent.is_none()
@@ -57,8 +65,8 @@ impl Moment {
     }
 }
 
-// A schedule in which each event of the chip lies between two marks: `next` twice performs one, and before it each access of the
-// replay has its tick.
+// A schedule in which each event of the chip is between two marks: `next` twice performs one, and before it each access of
+// the replay has its tick.
 fn spread(alloc: Global, events: &[Event]) -> Result<Vec<Event>, AllocError> {
     let mut schedule = Vec::new(alloc);
     for event in events {
@@ -71,7 +79,7 @@ fn spread(alloc: Global, events: &[Event]) -> Result<Vec<Event>, AllocError> {
     Ok(schedule)
 }
 
-// The name of the register that an access reaches.
+// Returns the name of the register of an access.
 fn register_of(access: Entry, is_dlab_set: bool) -> &'static str {
     let (offset, is_read) = match access {
         Entry::Read { offset, .. } => (offset as usize, true),
@@ -97,9 +105,9 @@ struct Replay<'a> {
     device: Device16550,
     capacity: usize,
     events: &'a [Event],
-    // How many of the events are behind.
+    // How many of the events have happened.
     done: usize,
-    // How many bytes of the wire and how many arrivals have been noted.
+    // How many bytes of the wire, and how many arrivals, have been noted.
     sent: usize,
     arrivals: usize,
     is_dlab_set: bool,
@@ -108,7 +116,7 @@ struct Replay<'a> {
 }
 
 impl Replay<'_> {
-    // Keeps the current moment, if anything happened in it, and begins another.
+    // Keeps the current moment if anything happened in it, and starts another.
     fn close(&mut self) -> Result<(), AllocError> {
         if !self.current.is_empty() {
             self.moments.push(self.current)?;
@@ -125,7 +133,7 @@ impl Replay<'_> {
         self.current.waiting = self.device.waiting_len();
     }
 
-    // Lets the time go on.
+    // Advances the time.
     fn advance(&mut self, ticks: u64) -> Result<(), AllocError> {
         if ticks > 0 {
             self.close()?;
@@ -134,7 +142,7 @@ impl Replay<'_> {
         Ok(())
     }
 
-    // Notes a byte that has gone onto the wire.
+    // Notes a byte that was sent.
     fn note_sent(&mut self) {
         if let Some(byte) = self.device.wire().get(self.sent).copied() {
             self.sent += 1;
@@ -143,7 +151,7 @@ impl Replay<'_> {
         self.count();
     }
 
-    // No byte can go onto the wire.
+    // Returns whether no byte can be sent.
     fn is_still(&self) -> bool {
         self.device.held_len() == 0 || self.device.wire().len() >= self.capacity
     }
@@ -164,7 +172,7 @@ impl Replay<'_> {
         Ok(())
     }
 
-    // Performs the event that the device is at.
+    // Performs the next event of the device.
     fn happen(&mut self) {
         self.device.next();
         self.device.next();
@@ -202,7 +210,7 @@ impl Replay<'_> {
         Ok(())
     }
 
-    // The next event of the schedule, which is then behind.
+    // Returns the next event of the schedule, and moves on.
     fn take(&mut self) -> Option<Event> {
         let event = self.events.get(self.done).copied();
         self.done = self.done.saturating_add(1);
@@ -269,7 +277,7 @@ impl Replay<'_> {
         self.close()
     }
 
-    // Makes the accesses of a call, and of a `next` the machine's own.
+    // Makes the accesses of a call, and `next` as a call of the machine.
     fn call(&mut self, number: usize, call: &Call, accesses: &[Entry]) -> Result<(), AllocError> {
         self.current.call = number;
         if *call == Call::Next {
@@ -282,14 +290,16 @@ impl Replay<'_> {
     }
 }
 
-/// The moments of a run, and how many of them there were when each call returned.
+/// The moments of a run.
 #[derive(Drop)]
 pub struct Moments {
+    /// The moments of all calls.
     pub all: Vec<Moment>,
+    /// How many moments there were when each call returned.
     pub ends: Vec<usize>,
 }
 
-/// Plays a script's recording again, and notes its moments.
+/// Plays the recording of a script again, and returns its moments.
 pub fn replayed(
     alloc: Global,
     script: &Script,

@@ -9,15 +9,16 @@ use uart_16550::{Uart16550, Uart16550Tty};
 use uart_machine::script::Script;
 use uart_machine::{Answer, Call, Device16550, Event, perform};
 
-/// The accesses that each call of a run made.
+/// The accesses of each call of a run.
 #[derive(Drop)]
 pub struct Recording {
+    /// The accesses of all calls.
     pub accesses: Vec<Entry>,
     /// How many accesses had been made when each call returned.
     pub ends: Vec<usize>,
 }
 
-/// The script's machine, under this schedule.
+/// Returns the machine of the script, under this schedule.
 pub fn machine_for(
     alloc: Global,
     script: &Script,
@@ -32,7 +33,7 @@ pub fn machine_for(
     machine.map_err(|_| AllocError)
 }
 
-// Makes one call, and `next` as the machine's own.
+// Makes one call, and `next` as a call of the machine.
 fn make(uart: &mut Uart16550Tty<Recorder<Device16550>>, call: &Call) -> Answer
     requires { IsRunnable call.now }
 {
@@ -61,7 +62,7 @@ fn make_all(
     Ok(ends)
 }
 
-/// Runs a script.
+/// Runs a script, and returns its accesses.
 pub fn recorded(alloc: Global, script: &Script) -> Result<Recording, AllocError>
     requires { IsPlayable (plan_of script.now) }
 {

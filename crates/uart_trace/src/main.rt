@@ -13,10 +13,10 @@ use std::process::ExitCode;
 use std::{env, io};
 use uart_traces::{judge, parse, push_stray};
 
-// The exit status if a list is not its call's.
+// The exit status if a list is not one of its call.
 const STRAYED: u8 = 1;
 
-// The text of the trace, from its file or else from standard input.
+// Returns the text of the trace, from its file or else from standard input.
 fn trace_text(rt: &HostRuntime, path: Option<&str>) -> io::Result<Vec<u8>> {
     let mut text = Vec::new(rt.alloc());
     match path {
@@ -26,7 +26,7 @@ fn trace_text(rt: &HostRuntime, path: Option<&str>) -> io::Result<Vec<u8>> {
     Ok(text)
 }
 
-// The line that tells where the trace strays, or nothing.
+// Returns the line that reports where the trace strays, or nothing.
 fn checked(rt: &HostRuntime, matches: &ArgMatches<'_>) -> Result<Vec<u8>, End> {
     let limit = limit_in(matches)?;
     let text = trace_text(rt, matches.get_str("FILE")).map_err(End::unread)?;
