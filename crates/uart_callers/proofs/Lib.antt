@@ -1,1 +1,2 @@
+pub mod RingSessions
 pub mod SessionCalls

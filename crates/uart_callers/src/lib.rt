@@ -5,10 +5,13 @@ pub mod chip;
 pub mod device;
 pub mod driver;
 pub mod language;
+pub mod live;
 pub mod machine;
 pub mod performing;
 pub mod ring;
+pub mod ring_running;
 pub mod running;
 pub mod spec;
 #[cfg(test)]
 mod tests;
+pub mod tracing;

@@ -1,16 +1,22 @@
 //! Each caller is run once, with what its contract says about the run.
-use crate::{chip, device, driver, language, machine, performing, ring, running, spec};
+use crate::{
+    chip, device, driver, language, live, machine, performing, ring, ring_running, running, spec,
+    tracing,
+};
 use bitflags::Flags;
 use std::test::Fail;
+use uart_16550::replay::Entry;
 use uart_16550::{Uart16550, Uart16550Tty};
 use uart_calls::{Answer, Call};
 use uart_chip::Uart;
 use uart_device::Device16550;
+use uart_live::LiveChip;
 use uart_machine::Chip;
 use uart_machine::script::Std;
 use uart_ring::Uart16550Ring;
-use uart_spec::registers::LSR;
-use uart_spec::{BaudRate, Config};
+use uart_ring_run::{RingAnswer, RingCall};
+use uart_spec::registers::{LSR, offsets};
+use uart_spec::{BaudRate, Config, NUM_REGISTERS};
 
 // A driver that has initialised a chip at which a byte arrives.
 fn ready_driver(rt: &HostRuntime) -> Result<Uart16550<Device16550>, Fail> {
@@ -40,7 +46,50 @@ fn a_message_in_a_ring(rt: HostRuntime) -> Result<(), Fail> {
         return Ok(());
     };
     assert_eq!(rt; ring::queue_message(&mut rings, b"hello"), b"o".as_slice());
+    let mut answers = [RingAnswer::Done];
+    ring_running::make_ring_calls(&mut rings, &[RingCall::Service], &mut answers);
+    assert_eq!(rt; answers, [RingAnswer::Count(0)]);
     Ok(())
+}
+
+#[test]
+fn a_turn_of_a_monitor(rt: HostRuntime) -> Result<(), Fail> {
+    let mut chip = LiveChip::new(rt.alloc(), Chip::Uart16550A, 4, 64)?;
+    let mut sink = [0; 8];
+    for (offset, value, elapsed, sent, is_interrupting) in [
+        // Nothing has gone out after four ticks, and after one more the byte has.
+        (offsets::DATA, 0x41, 4, 0, false),
+        (offsets::SPR, 0, 1, 1, false),
+        // THR_EMPTY is enabled, and the transmitter is empty.
+        (offsets::IER, 0x02, 0, 0, true),
+    ] {
+        assert!(rt; offset < NUM_REGISTERS);
+        let turn = live::turn(&mut chip, offset as u8, value, elapsed, &mut sink);
+        assert_eq!(rt;
+            turn,
+            live::Outcome {
+                sent,
+                is_interrupting
+            }
+        );
+    }
+    assert_eq!(rt; sink, [0x41, 0, 0, 0, 0, 0, 0, 0]);
+    Ok(())
+}
+
+#[test]
+fn accesses_of_a_flush(rt: HostRuntime) {
+    let (busy, empty) = (
+        Entry::Read(offsets::LSR, 0x20),
+        Entry::Read(offsets::LSR, 0x60),
+    );
+    for (accesses, is_flush) in [
+        ([busy, empty].as_slice(), true),
+        (&[busy, busy], false),
+        (&[empty, empty], false),
+    ] {
+        assert_eq!(rt; tracing::is_flush(accesses), is_flush, "{accesses:?}");
+    }
 }
 
 #[test]

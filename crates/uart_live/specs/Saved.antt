@@ -14,6 +14,7 @@ use Rattle.uart_chip.specs.declared.transmitter.TransmitterData.{TransmitterData
 use Rattle.uart_chip.specs.Masks.{ier_bits, mcr_bits}
 use Rattle.uart_chip.specs.Receiver.{is_stray}
 use Rattle.uart_chip.specs.Transmitter.{room}
+use Rattle.uart_live.specs.declared.sound.TheConstants.{TIMEOUT_CHARACTERS}
 use Rattle.uart_spec.specs.declared.registers.line_status.TheConstants.LSR
 use Rattle.uart_spec.specs.declared.registers.modem_status.TheConstants.MSR
 
@@ -25,11 +26,11 @@ is_within value mask = bit_and value mask == value
 abbrev pub is_live_character : Character → Bool
 is_live_character character = is_stray character.origin && is_within character.errors LSR.CHARACTER_ERRORS.0
 
--- the queue fits, its characters may be there, and the idle ticks end at four character times
+-- the queue fits, its characters may be there, and the idle ticks end when a reception timeout is due
 abbrev pub is_sound_receiver : Bool → ℕ → ReceiverData → Bool
 is_sound_receiver fifo char_ticks r =
     nat_le (length r.queue.items) (room fifo) &&
-    (list_all is_live_character r.queue.items && nat_le r.timeout_ticks (4 * char_ticks))
+    (list_all is_live_character r.queue.items && nat_le r.timeout_ticks (TIMEOUT_CHARACTERS * char_ticks))
 
 -- a character in the shift register has at least one tick left, and at most its whole time
 abbrev pub is_ticking : ℕ → Option Shifting → Bool

@@ -10,6 +10,7 @@ ghost use Rattle.uart_chip.specs.declared.event.BuildError.{BuildError};
 ghost use Rattle.uart_live.specs.declared.errors.InputError.{InputError};
 ghost use Rattle.uart_live.specs.Live.{IsLive};
 ghost use Rattle.uart_spec.specs.Bits.{has_any};
+ghost use Rattle.uart_spec.specs.declared.baud.TheConstants.{NUM_REGISTERS};
 ghost use Rattle.uart_spec.specs.declared.registers.interrupt_status.TheConstants.ISR;
 ghost use Rattle.uart_spec.specs.declared.registers.line_status.TheConstants.LSR;
 ghost use Rattle.uart_spec.specs.declared.registers.modem_status.TheConstants.MSR;
@@ -108,7 +109,7 @@ impl LiveChip {
     /// let line = chip.is_interrupting();
     /// ```
     pub fn read(&mut self, offset: u8) -> u8
-        requires { offset < 8 }
+        requires { offset < NUM_REGISTERS }
         ensures answers { result ≡ spec.answer offset self.old }
         ensures after { self.new ≡ spec.after_read offset self.old }
     {
@@ -127,7 +128,7 @@ impl LiveChip {
     /// chip.ticks(elapsed);
     /// ```
     pub fn write(&mut self, offset: u8, value: u8)
-        requires { offset < 8 }
+        requires { offset < NUM_REGISTERS }
         ensures { self.new ≡ spec.after_write offset value self.old }
     {
         self.uart.write(offset, value);

@@ -15,6 +15,9 @@ use uart_chip::{
 use uart_spec::FIFO_SIZE;
 use uart_spec::registers::{LSR, MSR};
 
+/// The number of character times after which a reception timeout is due, if no character comes or is read.
+pub const TIMEOUT_CHARACTERS: u32 = 4;
+
 // Returns the number of characters that a queue has room for.
 fn room_of(fifo: bool) -> usize
     ensures { result ≡ room fifo }
@@ -47,7 +50,7 @@ fn is_sound_receiver(saved: &ReceiverData, fifo: bool, char_ticks: u16) -> bool
 {
     saved.queue.as_slice().len() <= room_of(fifo)
         && are_live(saved.queue.as_slice())
-        && saved.timeout_ticks as u32 <= 4 * char_ticks as u32
+        && saved.timeout_ticks as u32 <= TIMEOUT_CHARACTERS * char_ticks as u32
 }
 
 // It has at least one tick left, and at most its whole time.

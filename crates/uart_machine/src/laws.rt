@@ -4,6 +4,9 @@
 ghost use Rattle.uart_machine.specs.OneOutcome.{RunsHaveOneOutcome, ScriptsHaveOneOutput};
 
 pub use uart_calls::laws::meanings_leave_no_choice;
+pub use uart_live::laws::{
+    bytes_leave_in_order, characters_are_read_in_order, plain_reads_change_nothing,
+};
 pub use uart_run::laws::idle_keeps_ready;
 
 /// The answers of `run`, and the state after it, are a function of the calls and the state before it.

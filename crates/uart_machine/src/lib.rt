@@ -7,12 +7,13 @@
 //! - [`run`] makes a list of calls over such a device. Its contract has the theorems about driver and chip together.
 //! - [`run_ring`] makes a list of calls of the rings over such a device, and returns a [`RingAnswer`] for each
 //!   [`RingCall`]. Its contract has the theorem about rings, driver and chip together.
+//! - [`LiveChip`] is the same chip in the hands of its owner, without a schedule, and can be saved and restored.
 //! - [`script`] plays a script from a reader to a writer.
 //! - [`laws`] has what follows from these contracts.
 //!
-//! The chip is in the crate `uart_chip`, the device in `uart_device`, calls and answers in `uart_calls`, runs in
-//! `uart_run`, runs of the rings in `uart_ring_run`, and the script language in `uart_language`. This crate re-exports
-//! them, and has the tests that cross them.
+//! The chip is in the crate `uart_chip`, the device in `uart_device`, the live chip in `uart_live`, calls and
+//! answers in `uart_calls`, runs in `uart_run`, runs of the rings in `uart_ring_run`, and the script language in
+//! `uart_language`. This crate re-exports them, and has the tests that cross them.
 #![tactic(auto)]
 
 pub mod laws;
@@ -23,5 +24,9 @@ mod tests;
 pub use uart_calls::{Answer, CALL_BYTES, Call, perform};
 pub use uart_chip::{ArrivalMark, BuildError, Chip, Event};
 pub use uart_device::Device16550;
+pub use uart_live::{
+    Character, ChipData, InputError, Latches, LiveChip, ModemData, Origin, ReceiverData,
+    RestoreError, Shifting, TransmitterData,
+};
 pub use uart_ring_run::{RingAnswer, RingCall, run_ring};
 pub use uart_run::run;

@@ -4,6 +4,7 @@ mod counts;
 mod cut;
 mod driver;
 mod idle;
+mod live;
 mod paths;
 mod readme;
 mod rings;

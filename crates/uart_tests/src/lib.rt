@@ -33,4 +33,6 @@ mod replays;
 #[cfg(test)]
 mod setup;
 #[cfg(test)]
+mod states;
+#[cfg(test)]
 mod terminal;

@@ -1,17 +1,23 @@
 //! Each public path of the crate, named once.
 use super::arrive;
 use crate::laws::{
-    idle_keeps_ready, meanings_leave_no_choice, runs_have_one_outcome, scripts_have_one_output,
+    bytes_leave_in_order, characters_are_read_in_order, idle_keeps_ready, meanings_leave_no_choice,
+    plain_reads_change_nothing, runs_have_one_outcome, scripts_have_one_output,
 };
 use crate::script::{
     Cause, Fault, Input, Output, PlayError, Script, ScriptError, Std, parse, play,
 };
 use crate::{
-    Answer, ArrivalMark, BuildError, CALL_BYTES, Call, Chip, Device16550, Event, perform, run,
+    Answer, ArrivalMark, BuildError, CALL_BYTES, Call, Character, Chip, ChipData, Device16550,
+    Event, InputError, Latches, LiveChip, ModemData, Origin, ReceiverData, RestoreError, Shifting,
+    TransmitterData, perform, run,
 };
+use arrayvec::ArrayVec;
+use bitflags::Flags;
 use std::alloc::Global;
 use std::test::Fail;
 use uart_16550::{Uart16550, Uart16550Tty};
+use uart_spec::registers::{FifoTriggerLevel, IER, LCR, LSR, MCR, MSR};
 
 fn built(alloc: Global, schedule: Vec<Event>) -> Result<Device16550, BuildError> {
     Device16550::new(alloc, Chip::Uart16450, 4, 64, schedule)
@@ -64,8 +70,75 @@ fn scripts_are_parsed_and_played(rt: HostRuntime) -> Result<(), Fail> {
 
 #[test]
 fn laws_are_called() {
+    bytes_leave_in_order();
+    characters_are_read_in_order();
     idle_keeps_ready();
     meanings_leave_no_choice();
+    plain_reads_change_nothing();
     runs_have_one_outcome();
     scripts_have_one_output();
+}
+
+// The data of a 16450 that shifts a byte out while a character waits.
+fn live_data() -> ChipData {
+    let mut queue = ArrayVec::new();
+    let _ = queue.try_push(Character {
+        byte: 0x42,
+        errors: 0,
+        origin: Origin::Live,
+    });
+    ChipData {
+        model: Chip::Uart16450,
+        latches: Latches {
+            ier: IER::empty(),
+            lcr: LCR::empty(),
+            mcr: MCR::empty(),
+            scr: 0,
+            dll: 12,
+            dlm: 0,
+        },
+        fifo: false,
+        transmitter: TransmitterData {
+            queue: ArrayVec::new(),
+            shift_place: Some(Shifting {
+                byte: 0x41,
+                ticks_left: 1,
+            }),
+            wire_capacity: 64,
+            char_ticks: 4,
+            overflows: 0,
+            is_thr_pending: true,
+        },
+        receiver: ReceiverData {
+            queue,
+            is_overrun: false,
+            is_front_reported: false,
+            last_byte: 0,
+            timeout_ticks: 0,
+            trigger: FifoTriggerLevel::One,
+        },
+        modem: ModemData {
+            inputs: MSR::empty(),
+            lines: MSR::empty(),
+            deltas: MSR::empty(),
+        },
+        cuts: false,
+    }
+}
+
+#[test]
+fn data_are_a_live_chip(rt: HostRuntime) -> Result<(), Fail> {
+    let restored: Result<LiveChip, RestoreError> = LiveChip::from_data(
+        rt.alloc(),
+        &live_data(),
+        &[],
+    );
+    let mut chip = restored?;
+    chip.ticks(1);
+    assert_eq!(rt; chip.wire(), [0x41].as_slice());
+    assert_eq!(rt; chip.waiting_len(), 1);
+    assert_eq!(rt; chip.divisor(), 12);
+    let refused: Result<(), InputError> = chip.arrive(0, LSR::DATA_READY);
+    assert_eq!(rt; refused, Err(InputError::BadErrors));
+    Ok(())
 }

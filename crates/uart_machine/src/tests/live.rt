@@ -1,0 +1,312 @@
+//! Worked examples on a live chip.
+use super::{DATA, FCR, IER, ISR, LCR, LSR, MCR, MSR, SPR};
+use crate::{
+    BuildError, Character, Chip, ChipData, InputError, LiveChip, Origin, RestoreError, Shifting,
+};
+use bitflags::Flags;
+use std::process::Abort;
+use std::test::Fail;
+use uart_spec::registers;
+
+fn live(rt: &HostRuntime, chip: Chip) -> Result<LiveChip, Fail> {
+    Ok(LiveChip::new(rt.alloc(), chip, 4, 64)?)
+}
+
+// An owner's view of the chip: what is on the wire, to go out, and waiting, and the room for both.
+fn lengths(chip: &LiveChip) -> [usize; 5] {
+    [
+        chip.wire().len(),
+        chip.held_len(),
+        chip.waiting_len(),
+        chip.wire_room(),
+        chip.receive_room(),
+    ]
+}
+
+#[test]
+fn a_byte_goes_out_and_a_character_comes_in(rt: HostRuntime) -> Result<(), Fail> {
+    let mut chip = live(&rt, Chip::Uart16550A)?;
+    chip.write(DATA, 0x41);
+    assert_eq!(rt; lengths(&chip), [0, 1, 0, 64, 1]);
+    assert_eq!(rt; chip.ticks(4), 2);
+    assert_eq!(rt; lengths(&chip), [0, 1, 0, 64, 1]);
+    assert_eq!(rt; chip.ticks(1), 1);
+    assert_eq!(rt; chip.wire(), [0x41].as_slice());
+    assert_eq!(rt; lengths(&chip), [1, 0, 0, 63, 1]);
+    chip.take_wire(1);
+    assert_eq!(rt; chip.arrive(0x42, registers::LSR::empty()), Ok(()));
+    assert_eq!(rt; lengths(&chip), [0, 0, 1, 64, 0]);
+    assert_eq!(rt; chip.read(DATA), 0x42);
+    Ok(())
+}
+
+#[test]
+fn live_chips_are_built_up_to_the_limits(rt: HostRuntime) -> Result<(), Fail> {
+    for (char_ticks, wire_capacity, want) in [
+        (1, 0, None),
+        (1000, 65_536, None),
+        (0, 65_537, Some(BuildError::BadTicks)),
+        (1001, 0, Some(BuildError::BadTicks)),
+        (1, 65_537, Some(BuildError::BadWire)),
+    ] {
+        let built = LiveChip::new(rt.alloc(), Chip::Uart16450, char_ticks, wire_capacity);
+        assert_eq!(rt;
+            built.err(),
+            want,
+            "{char_ticks} ticks, room for {wire_capacity}"
+        );
+    }
+    Ok(())
+}
+
+#[test]
+fn the_divisor_and_overflows(rt: HostRuntime) -> Result<(), Fail> {
+    let mut chip = live(&rt, Chip::Uart16450)?;
+    chip.write(LCR, 0x83);
+    chip.write(DATA, 0x0c);
+    chip.write(LCR, 0x03);
+    assert_eq!(rt; chip.divisor(), 12);
+    chip.write(DATA, 0x41);
+    chip.write(DATA, 0x42);
+    assert_eq!(rt; chip.overflows(), 1);
+    Ok(())
+}
+
+// The line is up as long as ISR shows an interrupt, and what serves the interrupt takes it down.
+#[test]
+fn the_interrupt_line(rt: HostRuntime) -> Result<(), Fail> {
+    let mut chip = live(&rt, Chip::Uart16450)?;
+    assert!(rt; !chip.is_interrupting());
+    chip.write(IER, 0x0f);
+    assert!(rt; chip.is_interrupting());
+    assert_eq!(rt; chip.read(ISR), 0x02);
+    assert!(rt; !chip.is_interrupting());
+    chip.arrive(0x41, registers::LSR::PARITY_ERROR)?;
+    chip.set_lines(registers::MSR::CTS)?;
+    for (shown, served_by, read) in [(0x06, LSR, 0x65), (0x04, DATA, 0x41), (0x00, MSR, 0x11)] {
+        assert!(rt; chip.is_interrupting() && served_by < 8);
+        assert_eq!(rt; chip.read(ISR), shown);
+        assert_eq!(rt; chip.read(served_by), read);
+    }
+    assert!(rt; !chip.is_interrupting());
+    Ok(())
+}
+
+#[test]
+fn other_bits_do_not_come_in(rt: HostRuntime) -> Result<(), Fail> {
+    let mut chip = live(&rt, Chip::Uart16450)?;
+    let refused = chip.arrive(0x41, registers::LSR::OVERRUN_ERROR);
+    assert_eq!(rt; refused, Err(InputError::BadErrors));
+    let refused = chip.set_lines(registers::MSR::DELTA_CTS);
+    assert_eq!(rt; refused, Err(InputError::BadLines));
+    assert_eq!(rt; (chip.read(LSR), chip.read(MSR)), (0x60, 0x00));
+    Ok(())
+}
+
+#[test]
+fn bytes_leave_a_full_wire_in_order(rt: HostRuntime) -> Result<(), Fail> {
+    let mut chip = LiveChip::new(rt.alloc(), Chip::Uart16550A, 1, 2)?;
+    chip.write(FCR, 0x01);
+    for byte in [1, 2, 3, 4, 5] {
+        chip.write(DATA, byte);
+    }
+    for (taken, left) in [(0, [1, 2]), (1, [2, 3]), (2, [4, 5])] {
+        chip.take_wire(taken);
+        chip.ticks(100);
+        assert_eq!(rt; chip.wire(), left.as_slice());
+    }
+    Ok(())
+}
+
+#[test]
+fn characters_are_read_in_order_or_an_overrun_shows(rt: HostRuntime) -> Result<(), Fail> {
+    for (chip, line, read) in [
+        (Chip::Uart16550A, 0x61, [1, 2, 3]),
+        (Chip::Uart16450, 0x63, [3, 3, 3]),
+    ] {
+        let mut chip = live(&rt, chip)?;
+        chip.write(FCR, 0x01);
+        for byte in [1, 2, 3] {
+            chip.arrive(byte, registers::LSR::empty())?;
+        }
+        assert_eq!(rt; chip.read(LSR), line);
+        assert_eq!(rt; [chip.read(DATA), chip.read(DATA), chip.read(DATA)], read);
+    }
+    Ok(())
+}
+
+// A chip that is busy in each part: bytes on the wire, in the shift place and behind it, characters of which one has an error, an
+// overrun, changed lines, and interrupts.
+fn busy(rt: &HostRuntime) -> Result<LiveChip, Fail> {
+    let mut chip = live(rt, Chip::Uart16550A)?;
+    chip.write(FCR, 0x41);
+    chip.write(IER, 0x0f);
+    chip.write(LCR, 0x1b);
+    chip.write(MCR, 0x0b);
+    chip.write(SPR, 0xa5);
+    for byte in [1, 2, 3] {
+        chip.write(DATA, byte);
+    }
+    chip.ticks(6);
+    for byte in 0..17 {
+        chip.arrive(byte, registers::LSR::PARITY_ERROR)?;
+    }
+    chip.set_lines(registers::MSR::DSR)?;
+    Ok(chip)
+}
+
+// What the guest reads of each register, one after the other.
+fn read_all(chip: &mut LiveChip) -> [u8; 8] {
+    [
+        chip.read(DATA),
+        chip.read(IER),
+        chip.read(ISR),
+        chip.read(LCR),
+        chip.read(MCR),
+        chip.read(LSR),
+        chip.read(MSR),
+        chip.read(SPR),
+    ]
+}
+
+// Both do the same from now on.
+fn go_on_alike(rt: &impl Abort, one: &mut LiveChip, other: &mut LiveChip) {
+    for count in [0, 1, 3, 100] {
+        assert_eq!(rt; one.ticks(count), other.ticks(count));
+        assert_eq!(rt; one.wire(), other.wire());
+        assert_eq!(rt; lengths(one), lengths(other));
+        assert_eq!(rt; one.is_interrupting(), other.is_interrupting());
+        assert_eq!(rt; read_all(one), read_all(other));
+    }
+}
+
+#[test]
+fn a_restored_chip_behaves_as_the_saved_one(rt: HostRuntime) -> Result<(), Fail> {
+    let mut saved = busy(&rt)?;
+    let mut restored = LiveChip::from_data(rt.alloc(), &saved.data(), saved.wire())?;
+    assert_eq!(rt; lengths(&restored), [1, 2, 16, 63, 0]);
+    go_on_alike(&rt, &mut saved, &mut restored);
+    assert_eq!(rt; restored.wire(), [1, 2, 3].as_slice());
+    Ok(())
+}
+
+#[test]
+fn a_read_of_a_plain_register_changes_nothing(rt: HostRuntime) -> Result<(), Fail> {
+    let (mut read, mut unread) = (busy(&rt)?, busy(&rt)?);
+    for (offset, want) in [(IER, 0x0f), (LCR, 0x1b), (MCR, 0x0b), (SPR, 0xa5)] {
+        assert!(rt; offset < 8);
+        assert_eq!(rt; read.read(offset), want);
+    }
+    go_on_alike(&rt, &mut read, &mut unread);
+    Ok(())
+}
+
+// One change of the data of a fresh chip.
+#[derive(Clone, Copy, Debug)]
+enum Change {
+    Cuts,
+    TurnsFifoOn(Chip),
+    Interrupts(u8),
+    ModemControl(u8),
+    Inputs(u8),
+    Lines(u8),
+    Deltas(u8),
+    Queued(&'static [u8]),
+    TicksLeft(u16),
+    CharTicks(u16),
+    WireCapacity(usize),
+    Waiting(u8),
+    TwoWait,
+    ScheduledWaits,
+    TimeoutTicks(u16),
+}
+
+fn waits(data: &mut ChipData, errors: u8, origin: Origin) {
+    let _ = data.receiver.queue.try_push(Character {
+        byte: 0x41,
+        errors,
+        origin,
+    });
+}
+
+fn make(change: Change, data: &mut ChipData) {
+    match change {
+        Change::Cuts => data.cuts = true,
+        Change::TurnsFifoOn(model) => {
+            data.model = model;
+            data.fifo = true;
+        }
+        Change::Interrupts(bits) => data.latches.ier = registers::IER::from_bits_retain(bits),
+        Change::ModemControl(bits) => data.latches.mcr = registers::MCR::from_bits_retain(bits),
+        Change::Inputs(bits) => data.modem.inputs = registers::MSR::from_bits_retain(bits),
+        Change::Lines(bits) => data.modem.lines = registers::MSR::from_bits_retain(bits),
+        Change::Deltas(bits) => data.modem.deltas = registers::MSR::from_bits_retain(bits),
+        Change::Queued(bytes) => {
+            let _ = data.transmitter.queue.try_extend_from_slice(bytes);
+        }
+        Change::TicksLeft(ticks_left) => {
+            let byte = 0x41;
+            data.transmitter.shift_place = Some(Shifting { byte, ticks_left });
+        }
+        Change::CharTicks(ticks) => data.transmitter.char_ticks = ticks,
+        Change::WireCapacity(capacity) => data.transmitter.wire_capacity = capacity,
+        Change::Waiting(errors) => waits(data, errors, Origin::Live),
+        Change::TwoWait => {
+            waits(data, 0, Origin::Live);
+            waits(data, 0, Origin::Looped);
+        }
+        Change::ScheduledWaits => waits(data, 0, Origin::Arrived(0)),
+        Change::TimeoutTicks(ticks) => data.receiver.timeout_ticks = ticks,
+    }
+}
+
+// A byte is on the wire of each.
+#[test]
+fn only_data_of_a_live_chip_are_restored(rt: HostRuntime) -> Result<(), Fail> {
+    for (change, is_restored) in [
+        (Change::Cuts, true),
+        (Change::TurnsFifoOn(Chip::Uart16550A), true),
+        (Change::TurnsFifoOn(Chip::Uart16450), false),
+        (Change::Interrupts(0x0f), true),
+        (Change::Interrupts(0x10), false),
+        (Change::ModemControl(0x1f), true),
+        (Change::ModemControl(0x20), false),
+        (Change::Inputs(0xf0), true),
+        (Change::Inputs(0x01), false),
+        (Change::Lines(0xf0), true),
+        (Change::Lines(0x08), false),
+        (Change::Deltas(0x0f), true),
+        (Change::Deltas(0x10), false),
+        (Change::Queued(&[1]), true),
+        (Change::Queued(&[1, 2]), false),
+        (Change::TicksLeft(0), false),
+        (Change::TicksLeft(1), true),
+        (Change::TicksLeft(4), true),
+        (Change::TicksLeft(5), false),
+        (Change::CharTicks(0), false),
+        (Change::CharTicks(1), true),
+        (Change::CharTicks(1000), true),
+        (Change::CharTicks(1001), false),
+        (Change::WireCapacity(0), false),
+        (Change::WireCapacity(1), true),
+        (Change::WireCapacity(65_536), true),
+        (Change::WireCapacity(65_537), false),
+        (Change::Waiting(0x1c), true),
+        (Change::Waiting(0x02), false),
+        (Change::TwoWait, false),
+        (Change::ScheduledWaits, false),
+        (Change::TimeoutTicks(16), true),
+        (Change::TimeoutTicks(17), false),
+    ] {
+        let mut data = live(&rt, Chip::Uart16450)?.data();
+        make(change, &mut data);
+        let refused = LiveChip::from_data(rt.alloc(), &data, &[0x41]).err();
+        let want = if is_restored {
+            None
+        } else {
+            Some(RestoreError::BadData)
+        };
+        assert_eq!(rt; refused, want, "{change:?}");
+    }
+    Ok(())
+}
