@@ -5,7 +5,8 @@ use uart_machine::script;
 use uart_report::{Request, Task, report_on};
 use uart_traces::judge;
 
-/// Whether in the trace of a script each list is its call's, with the answer that is printed. None if the bytes are no script.
+/// Returns whether in the trace of a script each list is its call's, with the answer that is printed; and `None` if the bytes
+/// are not a script.
 pub fn is_driver_trace(alloc: Global, text: &[u8]) -> Result<Option<bool>, AllocError> {
     let Ok(script) = script::parse(alloc, text) else {
         return Ok(None);

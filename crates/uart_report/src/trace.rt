@@ -36,7 +36,7 @@ fn push_access(text: &mut String, tick: u64, seen: Seen) -> Result<(), AllocErro
     }
 }
 
-// Whether a call is one of the driver: `next` is the machine's own.
+// Returns whether a call is one of the driver: `next` is the machine's own.
 fn is_of_the_driver(call: &ToldCall) -> bool {
     call.line.as_str() != "next"
 }
@@ -44,8 +44,8 @@ fn is_of_the_driver(call: &ToldCall) -> bool {
 /// Returns each call of a run as its line, its accesses and its answer; and at the end the last state of the machine, as
 /// remarks.
 ///
-/// An access is `r OFFSET VALUE` or `w OFFSET VALUE`, and an answer is after `= `. The text after a `#` is a remark, and so
-/// is `next`: a trace has calls of the driver.
+/// An access is `r OFFSET VALUE` or `w OFFSET VALUE`, and an answer is after `= `. The text after a `#` is a remark, as is
+/// `next`: a trace has calls of the driver.
 pub fn trace(alloc: Global, history: &History) -> Result<String, AllocError> {
     let mut text = String::new(alloc);
     for call in &history.calls {

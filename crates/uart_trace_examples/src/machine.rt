@@ -28,7 +28,7 @@ struct Arrival {
     byte: u8,
 }
 
-// The characters that came in while this was recorded.
+// Returns the characters that came in while this was recorded.
 fn arrivals_in(alloc: Global, text: &[u8]) -> Result<Vec<Arrival>, AllocError> {
     let mut arrivals = Vec::new(alloc);
     let mut number = 0_usize;
@@ -52,7 +52,7 @@ struct Machine<'a> {
 }
 
 impl<'a> Machine<'a> {
-    // A chip whose lines are up, and whose owner has seen that they are.
+    // Returns a chip whose lines are up, and whose owner has seen that they are.
     fn new(alloc: Global, coming: &'a [Arrival]) -> Result<Self, AllocError> {
         let Ok(mut chip) = LiveChip::new(alloc, Chip::Uart16550A, CHAR_TICKS, WIRE_CAPACITY) else {
             return Err(AllocError);
@@ -63,7 +63,7 @@ impl<'a> Machine<'a> {
         Ok(Machine { chip, coming })
     }
 
-    // What came before this line comes in, as far as there is room.
+    // Brings what came before this line, as far as there is room.
     fn bring(&mut self, line: usize) {
         for _ in 0..self.chip.receive_room() {
             let [next, rest @ ..] = self.coming else {
@@ -109,7 +109,7 @@ fn push_difference(
     out.extend_from_slice(b"'\n")
 }
 
-/// A line for each read of a recording that returns something else on the chip in software.
+/// Returns a line for each read of a recording that returns something else on the chip in software.
 ///
 /// # Errors
 ///

@@ -1,7 +1,7 @@
 //! Checks the traces of a folder, and prints for each whether its output is what is stored.
 //!
 //! The folder is the first argument, or else the current one. Beside `NAME.trace` is `NAME.out`: the line that the
-//! program `uart_trace` prints for it, or nothing. If there is a `NAME.machine` too, the accesses are made on the chip in
+//! program `uart_trace` prints for it, or nothing. If `NAME.machine` is there too, the accesses are made on the chip in
 //! software: it has a line for each read that returns something else there.
 #![tactic(auto)]
 
@@ -67,7 +67,7 @@ fn is_as_stored(rt: &HostRuntime, folder: Path<'_>, name: &str) -> io::Result<bo
     Ok(told(rt.alloc(), stray_line(rt.alloc(), &trace))? == stored)
 }
 
-// Whether the machine differs from the recording of this name just where it is stored.
+// Returns whether the machine differs from the recording of this name just where it is stored.
 fn is_as_stored_on_machine(rt: &HostRuntime, folder: Path<'_>, name: &str) -> io::Result<bool> {
     let trace = bytes_of(rt, folder, name, "trace")?;
     let stored = bytes_of(rt, folder, name, "machine")?;
