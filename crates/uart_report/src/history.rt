@@ -1,36 +1,30 @@
 //! What is told of a run: each call with its answer and its moments.
 ghost use Rattle.uart_language.specs.Script.{plan_of, IsPlayable};
 
+use crate::by_call::ByCall;
 use crate::replay::{Moment, replayed};
 use crate::run::recorded;
 use crate::text::{line_at, printable, word_at};
 use std::alloc::{AllocError, Global};
 use uart_machine::script::Script;
 
-/// A call: its line of the script, its line of the output, and its moments, by their places among all.
+/// A call: its line of the script, and its line of the output.
 #[derive(Drop)]
 pub struct ToldCall {
     pub line: String,
     pub answer: String,
-    pub start: usize,
-    pub end: usize,
 }
 
 /// A run of a script.
 #[derive(Drop)]
 pub struct History {
     pub calls: Vec<ToldCall>,
-    pub moments: Vec<Moment>,
+    pub moments: ByCall<Moment>,
     /// The lines of the output after those of the calls: wire, held, waiting and marks.
     pub last: Vec<String>,
 }
 
 impl History {
-    /// The moments of a call.
-    pub fn moments_of(&self, call: &ToldCall) -> &[Moment] {
-        self.moments.get(call.start..call.end).unwrap_or(&[])
-    }
-
     /// The letter of an arrival's mark at the end of the run.
     pub fn mark(&self, arrival: usize) -> char {
         let marks = self.last.last().map(|line| line.as_str()).unwrap_or("");
@@ -60,17 +54,10 @@ pub fn told(
     let mut lines = text.split(|b| *b == b'\n').filter(|line| is_call(line));
     let mut answers = output.split(|b| *b == b'\n');
     let mut calls = Vec::new(alloc);
-    let mut start = 0;
-    for end in &moments.ends {
+    for _ in script.calls() {
         let line = printable(alloc, lines.next().unwrap_or(&[]))?;
         let answer = printable(alloc, answers.next().unwrap_or(&[]))?;
-        calls.push(ToldCall {
-            line,
-            answer,
-            start,
-            end: *end,
-        })?;
-        start = *end;
+        calls.push(ToldCall { line, answer })?;
     }
     let mut last = Vec::new(alloc);
     for _ in 0..4 {
@@ -78,7 +65,7 @@ pub fn told(
     }
     Ok(History {
         calls,
-        moments: moments.all,
+        moments,
         last,
     })
 }

@@ -4,6 +4,7 @@
 //! Everything here goes from words and bytes to text. The program reads the file and prints.
 #![tactic(auto)]
 
+mod by_call;
 mod command_line;
 mod comments;
 mod fault;
@@ -21,5 +22,5 @@ mod trace;
 
 pub use command_line::{Form, Request, Task, asked};
 pub use comments::without_comments;
-pub use recording::{Entry, Recorder};
+pub use recording::Recorder;
 pub use reporting::{Report, report_on};

@@ -3,19 +3,13 @@ ghost use Rattle.std.specs.Prelude.{All};
 ghost use Rattle.uart_language.specs.Script.{plan_of, IsPlayable};
 ghost use Rattle.uart_calls.specs.Calls.{IsRunnable};
 
-use crate::recording::{Entry, Recorder};
+use crate::by_call::ByCall;
+use crate::recording::Recorder;
 use std::alloc::{AllocError, Global};
+use uart_16550::replay::Entry;
 use uart_16550::{Uart16550, Uart16550Tty};
 use uart_machine::script::Script;
 use uart_machine::{Answer, Call, Device16550, Event, perform};
-
-/// The accesses that each call of a run made.
-#[derive(Drop)]
-pub struct Recording {
-    pub accesses: Vec<Entry>,
-    /// How many accesses had been made when each call returned.
-    pub ends: Vec<usize>,
-}
 
 /// The script's machine, under this schedule.
 pub fn machine_for(
@@ -61,8 +55,8 @@ fn make_all(
     Ok(ends)
 }
 
-/// Runs a script.
-pub fn recorded(alloc: Global, script: &Script) -> Result<Recording, AllocError>
+/// Runs a script, and returns the accesses that it made.
+pub fn recorded(alloc: Global, script: &Script) -> Result<ByCall<Entry>, AllocError>
     requires { IsPlayable (plan_of script.now) }
 {
     let schedule = script.events().to_vec(alloc)?;
@@ -71,6 +65,6 @@ pub fn recorded(alloc: Global, script: &Script) -> Result<Recording, AllocError>
     uart.set_spin_limit(script.limit());
     let mut terminal = Uart16550Tty::from_inner(uart);
     let ends = make_all(alloc, &mut terminal, script.calls())?;
-    let accesses = terminal.inner().backend().entries()?.to_vec(alloc)?;
-    Ok(Recording { accesses, ends })
+    let all = terminal.inner().backend().entries()?.to_vec(alloc)?;
+    Ok(ByCall { all, ends })
 }
