@@ -9,28 +9,10 @@ use std::io::Write;
 use std::num::NonZeroU64;
 use std::path::Path;
 use std::process::ExitCode;
-use std::{env, fs, io};
+use std::{env, io};
 use uart_16550::DEFAULT_SPIN_LIMIT;
+use uart_stored::{bytes_and_output, names_in};
 use uart_traces::{TraceError, judge, parse, push_stray};
-
-// The names of the folder's traces, in order.
-fn names_in(rt: &HostRuntime, folder: Path<'_>) -> io::Result<Vec<String>> {
-    let mut names = Vec::new(rt.alloc());
-    for entry in fs::read_dir(rt, folder)? {
-        let entry = entry?;
-        if let Some(name) = entry.file_name().strip_suffix(".trace") {
-            names.push(name.to_string(rt.alloc())?)?;
-        }
-    }
-    names.sort()?;
-    Ok(names)
-}
-
-// A file of the folder.
-fn bytes_of(rt: &HostRuntime, folder: Path<'_>, name: &str, ending: &str) -> io::Result<Vec<u8>> {
-    let file = format!(in rt.alloc(); "{name}.{ending}")?;
-    fs::read(rt, folder.join(rt.alloc(), file.as_str())?)
-}
 
 // What is told of a trace, if it strays.
 fn stray_line(alloc: Global, bytes: &[u8]) -> Result<Vec<u8>, TraceError> {
@@ -58,8 +40,7 @@ fn told(alloc: Global, bytes: &[u8]) -> io::Result<Vec<u8>> {
 
 // Whether what is stored is told of the trace of this name.
 fn is_as_stored(rt: &HostRuntime, folder: Path<'_>, name: &str) -> io::Result<bool> {
-    let trace = bytes_of(rt, folder, name, "trace")?;
-    let stored = bytes_of(rt, folder, name, "out")?;
+    let (trace, stored) = bytes_and_output(rt, folder, name, ".trace")?;
     Ok(told(rt.alloc(), &trace)? == stored)
 }
 
@@ -67,7 +48,7 @@ fn main(rt: HostRuntime) -> io::Result<ExitCode> {
     let argument = env::args(&rt)?.nth(1);
     let folder = Path::new(argument.as_deref().unwrap_or("."));
     let mut code = ExitCode::SUCCESS;
-    for name in &names_in(&rt, folder)? {
+    for name in &names_in(&rt, folder, ".trace")? {
         if is_as_stored(&rt, folder, name)? {
             println!(rt; "{name} ok")?;
         } else {
