@@ -1,19 +1,21 @@
-//! Plays scripts of a serial chip and its driver, and shows what happened, for people: `geesetrunk --help` says what it does.
+//! Plays scripts of a serial chip and its driver, and shows what happened, for people: see `geesetrunk --help`.
 //!
-//! What is printed is made by `uart_report`, from bytes to text. Here are the command line, the file and the two outputs.
+//! What is printed is made by `uart_report`, from bytes to text. Here are the command line, the file and the two
+//! outputs.
 #![tactic(auto)]
 
 use std::io::{self, Read, Write};
 use std::process::ExitCode;
 use std::{env, fs};
-use uart_report::{Report, Request, asked, report_on};
+use uart_command::asked;
+use uart_report::{Report, Request, report_on};
 
-// The status of a file that cannot be read, or an output that cannot be written.
+// The status if a file cannot be read, or an output cannot be written.
 const FILE_FAULT: u8 = 2;
 
 const OUT_OF_MEMORY: u8 = 3;
 
-// The bytes of a file, or of standard input for `-`.
+// Returns the bytes of a file, or of standard input for `-`.
 fn bytes_of(rt: &HostRuntime, file: &str) -> io::Result<Vec<u8>> {
     if file == "-" {
         let mut bytes = Vec::new(rt.alloc());
@@ -34,7 +36,7 @@ fn printed(rt: &HostRuntime, report: &Report) -> u8 {
     }
 }
 
-// Does what is asked for, and returns the status.
+// Does what is requested, and returns the status.
 fn answered(rt: &HostRuntime, request: &Request<'_>) -> u8 {
     let file = request.file;
     match bytes_of(rt, file) {

@@ -15,7 +15,7 @@ use Rattle.uart_16550.specs.declared.driver.Uart16550.{Uart16550}
 use Rattle.uart_16550.proofs.Making.{made_then, made_among}
 use Rattle.uart_16550.proofs.Doings.{did_then, did_made, did_set}
 
--- the second pattern decides, where the first is kept
+-- the second pattern decides, if the first is kept
 pub second_decides : (kept : Bool) (s : Settings) (l : List Access) → Then (Keeps first_pattern true) (Keeps second_pattern kept) s l →
     KeepsPatterns kept s l
 second_decides true s l t = t

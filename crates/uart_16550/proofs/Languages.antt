@@ -85,7 +85,7 @@ receives_none n [] s l some none (inl t) = absurd (omega (arith, t.0))
 receives_none n [] s l some none (inr t) = let front : t.1.front ≡ [] = t.1.first.is in rw (t.1.whole, front) t.1.second
 receives_none n (b ∷ bytes) s l some none t = absurd (omega arith)
 
--- whether a send check hits is what a writer answers
+-- a writer returns whether a send check succeeds
 pub answers_write : {T : Type 0} (result : Result T ByteSendError) (s : Settings) (l : List Access) → ReadyToSend result s l →
     AnswersWrite (Ok (is_ok result)) s l
 answers_write (Ok x) s l t = t

@@ -13,7 +13,7 @@ use Rattle.uart_16550.specs.declared.driver.Uart16550.{Uart16550}
 use Rattle.uart_16550.proofs.Making.{made_among}
 use Rattle.uart_16550.proofs.Doings.{did_then}
 
--- what came back for a byte that was sent, or the wait for it in vain
+-- what was received for a byte that was sent, or the wait for it that reaches the limit
 pub echoed : (byte : ℕ) (back : Option ℕ) (s : Settings) (l : List Access) → Then (Round (byte ∷ [])) (Awaits back) s l →
     HasEchoed byte back s l
 echoed byte (Some back) s l t = t

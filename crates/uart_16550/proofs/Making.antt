@@ -156,7 +156,7 @@ pub made_round : {B : Type 0} {step : B → Access → B → Type 0} (bytes : Li
     Made step (Only (data_writes bytes)) b c → Made step (Round bytes) a c
 made_round bytes {a} p q = made_among (λ l t. then_later (FewMisses SendMiss) SendHit _ (settings a) l t) (made_then p q)
 
--- what is allowed where CTS is checked
+-- what is allowed if CTS is checked
 pub made_checked : {B : Type 0} {step : B → Access → B → Type 0} {P Q : Language} {a b : Uart16550 B} → (settings a).checks ≡ true →
     Made step P a b → Made step (IfChecks P Q) a b
 made_checked {P} {Q} {a} on p =

@@ -19,7 +19,7 @@ take_piece xs ys a k n within few =
     ap (λ (m : ℕ). take (m + n) (put_mid a k xs ys)) (sym front) ∙ take-append-add (take a xs) (ys ++ post_of a k xs) n
     ∙ ap (λ (zs : List ℕ). take a xs ++ zs) (take-append-le n ys (post_of a k xs) few)
 
--- where the last of a part is as it was, so is all that follows
+-- if the last of a part is as it was, so is all that follows
 pub drop_piece : (xs ys : List ℕ) (a k n : ℕ) → a ≤ length xs → n ≤ length ys → n ≤ length (mid_of a k xs) →
     drop n ys ≡ drop n (mid_of a k xs) → drop (a + n) (put_mid a k xs ys) ≡ drop (a + n) xs
 drop_piece xs ys a k n within few enough same =
@@ -49,7 +49,7 @@ in_order_then P Q items more s l t = record {
   second = t.second.second;
 }
 
--- a wait in vain after pieces that were received
+-- a wait that reaches the limit, after pieces that were received
 pub receives_stalled : (T : Type 0) (n m done e : ℕ) (items more : List ℕ) (s : Settings) (l : List Access) → length items ≡ done →
     done + m ≤ n →
     Then (InOrder Awaited items) (ReceivesExact {T = T} m more (Err (record { done = e }))) s l →
@@ -67,7 +67,7 @@ receives_stalled T n m done e items more s l front within t =
 pub take_within : (xs : List ℕ) (a k n : ℕ) → n ≤ k → take (a + n) xs ≡ take a xs ++ take n (take k (drop a xs))
 take_within xs a k n few = take-add a n xs ∙ ap (λ (zs : List ℕ). take a xs ++ zs) (sym (take-take n k (drop a xs) few))
 
--- a wait in vain after pieces that were sent
+-- a wait that reaches the limit, after pieces that were sent
 pub begins_later : (bytes : List ℕ) (a k n : ℕ) (s : Settings) (l : List Access) → a ≤ length bytes →
     Then (SendsEach (take a bytes)) (SendsBeginning (take k (drop a bytes)) n) s l → SendsBeginning bytes (a + n) s l
 begins_later bytes a k n s l within t =

@@ -18,7 +18,7 @@ still_whole a b [] p h = sym (ap (λ (t : Tape). t.whole) p) ∙ h
 still_whole a b (access ∷ accesses) p h =
     whole_before a.whole (nat_lt (length a.made) REPLAY_ROOM) (sym p.1.whole ∙ still_whole p.0 b accesses p.2 h)
 
--- its reads were answered by the first tape, in turn
+-- its reads returned the answers of the first tape, in turn
 pub fed_path : (a b : Tape) (l : List Access) → Path Plays a l b → FedBy a.answers l b.answers
 fed_path a b [] p = ap (λ (t : Tape). t.answers) p
 fed_path a b (access ∷ accesses) p = (p.0.answers, p.1.answers, fed_path p.0 b accesses p.2)

@@ -11,7 +11,7 @@ use Rattle.uart_16550.specs.declared.dump.ConfigRegisterDump.{ConfigRegisterDump
 use Rattle.uart_16550.proofs.Making.{made_only, lsr_kept, msr_kept, lsr_joined, msr_joined}
 use Rattle.uart_16550.proofs.Doings.{did_made}
 
--- the registers in the dump's order, with both statuses joined with the saved bits as they stand after their reads
+-- the registers in the dump's order, with both statuses joined with the saved bits as they are after their reads
 pub dumped : {B : Type 0} {step : B → Access → B → Type 0} (dump : ConfigRegisterDump) (lcr lsr msr : ℕ) {a b c d e : Uart16550 B} →
     Made step
     (Only (divisor_accesses lcr dump.dll dump.dlm ++
@@ -42,7 +42,7 @@ saved_are : {B : Type 0} {step : B → Access → B → Type 0} {L : Language} {
 saved_are p lsr msr x y same_lsr same_msr i =
     record { config = p.config i; fifo = p.fifo i; lsr = same_lsr i; msr = same_msr i; limit = non_zero_u64_get (p.limit i) }
 
--- one read of a status, joined with the saved bits as they stand after it, which are then none
+-- one read of a status, joined with the saved bits as they are after it, which are then cleared
 pub takes_lsr : {B : Type 0} {step : B → Access → B → Type 0} (status result none : ℕ) {a b : Uart16550 B} →
     Made step (Only (Read offsets.LSR status ∷ [])) a b →
     result ≡ bit_or status b.saved_lsr.0 → none ≡ 0 → Did step (TakesLsr result) a (record b { saved_lsr = record { 0 = none } })

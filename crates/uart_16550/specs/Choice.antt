@@ -1,4 +1,4 @@
--- What the answers of a backend decide.
+-- What the reads of a call determine.
 use Rattle.std.specs.Prelude.{◌≡◌, ◌≤◌, ℕ, List, [], ◌∷◌, ◌++◌, ◌⊎◌, Result, IfOk, IfErr, OnErr, length, take, drop}
 use Rattle.uart_spec.specs.declared.errors.StalledError.{StalledError}
 use Rattle.uart_spec.specs.Access.{Access, Read, Write}
@@ -8,8 +8,8 @@ use Rattle.uart_16550.specs.Receive.{Receives, ReceivesExact, filled}
 use Rattle.uart_16550.specs.Io.{Reads, got}
 use Rattle.uart_16550.specs.declared.driver.Uart16550.{Uart16550}
 
--- the lists are the same up to a read of one register, and this read answered one thing in the one list and another in
--- the other
+-- the lists are the same up to a read of one register, and this read returned one value in the one list and another
+-- value in the other
 pub record PartAtRead (one other : List Access) : Type 0 where
   pub front : List Access
   pub register : ℕ
@@ -21,23 +21,23 @@ pub record PartAtRead (one other : List Access) : Type 0 where
   pub is_other : other ≡ front ++ Read register other_answer ∷ other_rest
   pub differs : answer ≡ other_answer → ⊥
 
--- two lists that a call may make from the same fields are one list, with one outcome and the same fields after it; or
--- they part at a read: so what the reads answered so far decides the next access
+-- two lists that a call may make from the same fields are the same list, with the same outcome and the same fields
+-- after it; or they part at a read: so what the reads have returned so far determines the next access
 abbrev pub LeavesNoChoice : {R : Type 0} → (R → Doing) → Type 0
 LeavesNoChoice {R} G = (f : Fields) (a b : R) (l m : List Access) (after after' : Fields) →
     G a f l after → G b f m after' → ((a ≡ b) × (l ≡ m) × (after ≡ after')) ⊎ PartAtRead l m
 
--- what the reads of a list answered, in order
+-- what the reads of a list returned, in order
 abbrev pub answers : List Access → List ℕ
 answers [] = []
 answers (Read offset answer ∷ accesses) = answer ∷ answers accesses
 answers (Write offset value ∷ accesses) = answers accesses
 
--- the reads of the list were answered from the front of the stream
+-- the reads of the list returned the front of the stream
 abbrev pub IsAnsweredFrom : (stream : List ℕ) → List Access → Type 0
 IsAnsweredFrom stream accesses = (rest : List ℕ) × (stream ≡ answers accesses ++ rest)
 
--- two calls of drivers with equal fields, each over a backend of its own, whose reads were answered from one stream
+-- two calls of drivers with equal fields, each over its own backend, whose reads returned the front of one stream
 -- have the same outcome, the same list, and the same fields after it
 abbrev pub Agree : {R B C : Type 0} → (R → Doing) → (B → Access → B → Type 0) → (C → Access → C → Type 0) → Type 0
 Agree {R} {B} {C} G step other_step =
@@ -46,7 +46,7 @@ Agree {R} {B} {C} G step other_step =
     IsAnsweredFrom stream p.list → IsAnsweredFrom stream q.list →
     (a ≡ b) × (p.list ≡ q.list) × (fields new ≡ fields other_new)
 
--- the same of calls that save what their reads show, and change nothing else
+-- the same for calls that save what their reads clear, and change nothing else
 abbrev pub AgreeSaving : {R B C : Type 0} → (R → Language) → (B → Access → B → Type 0) → (C → Access → C → Type 0) →
     Type 0
 AgreeSaving {R} {B} {C} L step other_step =
@@ -73,7 +73,7 @@ HasOneOutcome {R} {B} G step =
     Did step (G a) old new → Did step (G b) other_old other_new → IsSame old other_old →
     (a ≡ b) × IsSame new other_new
 
--- the same of calls that save what their reads show, and change nothing else
+-- the same for calls that save what their reads clear, and change nothing else
 abbrev pub HasOneOutcomeSaving : {R B : Type 0} → (R → Language) → (B → Access → B → Type 0) → Type 0
 HasOneOutcomeSaving {R} {B} L step =
     (a b : R) (old new other_old other_new : Uart16550 B) →
@@ -86,13 +86,13 @@ ReceivesInto old new count s l =
     (length new ≡ length old) × (count ≤ length old) × (drop count new ≡ drop count old)
     × Receives (length old) (take count new) s l
 
--- what `receive_bytes_exact` does to its slots, with its answer
+-- what `receive_bytes_exact` does to its slots, with its result
 abbrev pub ReceivesExactInto : {T : Type 0} → (old new : List ℕ) → Result T StalledError → Language
 ReceivesExactInto old new result s l =
     (length new ≡ length old) × IfErr result (λ e. drop e.done new ≡ drop e.done old)
     × ReceivesExact (length old) (filled result new) result s l
 
--- what `read` does to its slots, with its answer
+-- what `read` does to its slots, with its result
 abbrev pub ReadsInto : (old new : List ℕ) → Result ℕ StalledError → Language
 ReadsInto old new result s l =
     (length new ≡ length old) × IfOk result (λ count. count ≤ length old)

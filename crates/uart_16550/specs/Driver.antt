@@ -8,11 +8,11 @@ use Rattle.uart_16550.specs.Grammar.{Language, Settings}
 use Rattle.uart_16550.specs.declared.driver.TheConstants.{DEFAULT_SPIN_LIMIT}
 use Rattle.uart_16550.specs.declared.driver.Uart16550.{Uart16550}
 
--- the backend that carries the driver's accesses
+-- the backend of a driver, which makes its accesses
 abbrev pub backend_of : {B : Type 0} → Uart16550 B → B
 backend_of d = d.backend
 
--- the driver beside its backend: its configuration, whether it takes the FIFO to be on, the saved bits of LSR and MSR,
+-- a driver without its backend: its configuration, whether it takes the FIFO to be on, the saved bits of LSR and MSR,
 -- the spin limit
 pub record Fields : Type 0 where
   pub config : Config
@@ -43,7 +43,7 @@ pub record IsFresh {B : Type 0} (d : Uart16550 B) (given : B) (config : Config) 
   pub backend : d.backend ≡ given
   pub begins : fields d ≡ record { config = config; fifo = true; lsr = 0; msr = 0; limit = DEFAULT_SPIN_LIMIT }
 
--- the call made a list of the language, saved what its reads showed, and changed nothing else
+-- the call made a list of the language, saved what its reads cleared, and changed nothing else
 pub record Made {B : Type 0} (step : B → Access → B → Type 0) (L : Language) (old new : Uart16550 B) : Type 0 where
   pub list : List Access
   pub path : Path step old.backend list new.backend
@@ -83,7 +83,7 @@ Saving L f l after = L (settings_of f) l × (after ≡ saving f l)
 abbrev pub Plain : Language → Doing
 Plain L f l after = L (settings_of f) l × (after ≡ f)
 
--- no access, and this change of the fields
+-- no access, and this change to the fields
 abbrev pub Sets : (Fields → Fields) → Doing
 Sets change f l after = (l ≡ []) × (after ≡ change f)
 

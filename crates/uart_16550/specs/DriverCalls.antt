@@ -1,4 +1,4 @@
--- The calls of a driver: what each may come to, and what it then did, as its contract says.
+-- The calls of a driver: the possible outcomes of each, and what it did for an outcome, as its contract says.
 use Rattle.std.specs.Prelude.{ℕ, Bool, List, [], ◌∷◌, Result}
 use Rattle.std.specs.declared.fmt.Error.{Error}
 use Rattle.uart_spec.specs.Config.{IsComputable}
@@ -24,8 +24,8 @@ use Rattle.uart_16550.specs.Tty.{Starts}
 use Rattle.uart_16550.specs.Choice.{ReceivesInto, ReceivesExactInto, ReadsInto}
 use Rattle.uart_16550.specs.declared.dump.ConfigRegisterDump.{ConfigRegisterDump}
 
--- the calls that save what their reads show, and change nothing else in the driver's fields
--- `read_register` stands for `ier`, `isr`, `lcr`, `mcr` and `spr`
+-- the calls that save what their reads clear, and change nothing else in the driver's fields
+-- -- `read_register` is `ier`, `isr`, `lcr`, `mcr` and `spr`
 pub data SavingCall : Type 0 where
   read_register : (register : ℕ) → SavingCall
   check_connected dll_dlm check_present : SavingCall
@@ -38,7 +38,7 @@ pub data SavingCall : Type 0 where
   flush read_ready write_ready : SavingCall
   write_text write_str : (text : List ℕ) → SavingCall
 
--- what it may come to: what it returns, and for a call that fills slots also what is in them after it
+-- its outcome: what it returns, and for a call that fills slots also the slots after it
 abbrev pub SavingOutcome : SavingCall → Type 0
 SavingOutcome (read_register register) = ℕ
 SavingOutcome check_connected = Result (Unit {0}) RemoteReadyToReceiveError
@@ -60,7 +60,7 @@ SavingOutcome write_ready = Result Bool StalledError
 SavingOutcome (write_text text) = Result (Unit {0}) StalledError
 SavingOutcome (write_str text) = Result (Unit {0}) Error
 
--- the lists that it may then have made
+-- the lists of accesses that it may have made for this outcome
 abbrev pub SavingLists : (call : SavingCall) → SavingOutcome call → Language
 SavingLists (read_register register) value = Only (Read register value ∷ [])
 SavingLists check_connected result = Connects result
@@ -82,7 +82,7 @@ SavingLists write_ready result = AnswersWrite result
 SavingLists (write_text text) result = SendsText text result
 SavingLists (write_str text) result = SendsStr text result
 
--- the other calls; `init` and `start`, of a terminal, with a configuration that the arithmetic takes
+-- the other calls; `init`, and `start` of a terminal, with a configuration that is computable
 pub data ChangingCall : Type 0 where
   lsr msr config_register_dump : ChangingCall
   enable_interrupts disable_interrupts : (bits : ℕ) → ChangingCall
@@ -90,7 +90,7 @@ pub data ChangingCall : Type 0 where
   init start : (config : Config) → IsComputable config → ChangingCall
   test_loopback : ChangingCall
 
--- what it may come to
+-- its outcome
 abbrev pub ChangingOutcome : ChangingCall → Type 0
 ChangingOutcome lsr = ℕ
 ChangingOutcome msr = ℕ
@@ -102,7 +102,7 @@ ChangingOutcome (init config computable) = Result (Unit {0}) InitError
 ChangingOutcome (start config computable) = Result (Unit {0}) Uart16550TtyError
 ChangingOutcome test_loopback = Result (Unit {0}) LoopbackError
 
--- what it then did
+-- what it did for this outcome
 abbrev pub ChangingDoing : (call : ChangingCall) → ChangingOutcome call → Doing
 ChangingDoing lsr status = TakesLsr status
 ChangingDoing msr status = TakesMsr status

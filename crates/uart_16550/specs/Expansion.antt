@@ -5,7 +5,7 @@ use Rattle.uart_spec.specs.declared.errors.StalledError.{StalledError}
 use Rattle.uart_16550.specs.Grammar.{Language, Then, InOrder, AllMisses}
 use Rattle.uart_16550.specs.Transmit.{Round, SendMiss}
 
--- the characters that are not sent as they are, and those that are sent for them
+-- the bytes that are not sent unchanged, and the bytes that are sent for them
 abbrev pub backspace : ℕ
 backspace = 8
 
@@ -21,7 +21,7 @@ space = 32
 abbrev pub delete : ℕ
 delete = 127
 
--- backspace and delete take the last character away, and a line feed brings a carriage return with it
+-- backspace and delete erase the last character, and a line feed is preceded by a carriage return
 abbrev pub expansion_of : ℕ → List ℕ
 expansion_of byte =
     if byte == backspace || byte == delete then backspace ∷ space ∷ backspace ∷ []
@@ -37,7 +37,7 @@ expansion (byte ∷ bytes) = expansion_of byte ++ expansion bytes
 abbrev pub SendsEach : List ℕ → Language
 SendsEach = InOrder (λ byte. Round (byte ∷ []))
 
--- so many of these bytes, which are not all of them, and then a wait in vain
+-- the first n of these bytes, which are not all of them, and then a wait that reaches the limit
 abbrev pub SendsBeginning : List ℕ → ℕ → Language
 SendsBeginning bytes n s l = (n < length bytes) × Then (SendsEach (take n bytes)) (AllMisses SendMiss) s l
 
@@ -46,7 +46,7 @@ abbrev pub SendsSingly : {T : Type 0} → List ℕ → Result T StalledError →
 SendsSingly bytes (Ok x) s l = SendsEach bytes s l
 SendsSingly bytes (Err e) s l = SendsBeginning bytes e.done s l
 
--- `write_text`: the whole expansion, or a beginning of it, as long as the stall tells: its count ends at 2 ^ 64 - 1
+-- `write_text`: the whole expansion; or a beginning of it, as long as the error reports, at most 2 ^ 64 - 1
 abbrev pub SendsText : {T : Type 0} → List ℕ → Result T StalledError → Language
 SendsText text (Ok x) s l = SendsEach (expansion text) s l
 SendsText text (Err e) s l = (sent : ℕ) × (e.done ≡ min sent (2 ^ 64 - 1)) × SendsBeginning (expansion text) sent s l

@@ -1,9 +1,10 @@
--- Languages of register accesses: which whole lists a call may make.
+-- Languages of register accesses: the lists that a call may make.
 use Rattle.std.specs.Prelude.{◌≡◌, ◌<◌, ℕ, Bool, List, [], ◌∷◌, ◌++◌, MatchBool, zero, suc}
 use Rattle.uart_spec.specs.Bits.{has}
 use Rattle.uart_spec.specs.Access.{Access, Read}
 
--- what a call's lists depend on: whether CTS is checked before sending, whether the FIFO is on, and the spin limit
+-- what the lists of a call depend on: whether CTS is checked before sending, whether the FIFO is on, and the spin
+-- limit
 pub record Settings : Type 0 where
   pub checks : Bool
   pub fifo : Bool
@@ -13,7 +14,7 @@ pub record Settings : Type 0 where
 abbrev pub Language : Type 1
 Language = Settings → List Access → Type 0
 
--- this list alone
+-- only this list
 pub record Only (list : List Access) (s : Settings) (l : List Access) : Type 0 where
   pub is : l ≡ list
 
@@ -25,7 +26,7 @@ pub record Then (P Q : Language) (s : Settings) (l : List Access) : Type 0 where
   pub first : P s front
   pub second : Q s back
 
--- for each item in order a list of its language
+-- a list of the language of each item, in order
 abbrev pub InOrder : {A : Type 0} → (A → Language) → List A → Language
 InOrder P [] = Only []
 InOrder P (item ∷ items) = Then (P item) (InOrder P items)
@@ -35,25 +36,25 @@ abbrev pub Times : ℕ → Language → Language
 Times zero P = Only []
 Times (suc n) P = Then P (Times n P)
 
--- fewer of them in a row than the limit
+-- fewer of them in a row than the spin limit
 abbrev pub FewMisses : Language → Language
 FewMisses P s l = (n : ℕ) × (n < s.limit) × Times n P s l
 
--- as many in a row as the limit
+-- as many of them in a row as the spin limit
 abbrev pub AllMisses : Language → Language
 AllMisses P s l = Times s.limit P s l
 
--- one read of the register, whose answer has all of these bits, or lacks some of them
+-- one read of the register, whose answer has all of these bits, or does not
 pub record Asks (register bits : ℕ) (outcome : Bool) (s : Settings) (l : List Access) : Type 0 where
   pub answer : ℕ
   pub shows : has answer bits ≡ outcome
   pub is : l ≡ Read register answer ∷ []
 
--- one read of the register, whatever it answers
+-- one read of the register, with any answer
 abbrev pub ReadsRegister : ℕ → Language
 ReadsRegister register s l = (answer : ℕ) × (l ≡ Read register answer ∷ [])
 
--- the first where the setting is on, else the second
+-- the first if the setting is on, else the second
 abbrev pub IfChecks : Language → Language → Language
 IfChecks P Q s l = MatchBool s.checks (P s l) (Q s l)
 

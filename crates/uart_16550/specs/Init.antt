@@ -22,7 +22,7 @@ use Rattle.uart_16550.specs.Receive.{Miss}
 use Rattle.uart_16550.specs.Transmit.{WaitsFor}
 use Rattle.uart_16550.specs.Driver.{Doing, Saving, Plain, Sets, Next, with_config, with_fifo, with_saved}
 
--- the two patterns that the scratch register is tried with
+-- the two patterns that are written to the scratch register
 abbrev pub first_pattern : ℕ
 first_pattern = 66
 
@@ -34,13 +34,13 @@ abbrev pub Keeps : ℕ → Bool → Language
 Keeps pattern outcome s l =
     (back : ℕ) × ((back == pattern) ≡ outcome) × (l ≡ Write offsets.SPR pattern ∷ Read offsets.SPR back ∷ [])
 
--- both patterns are kept; or the first is not, or only the second is not
+-- both patterns are kept; or the first is not; or only the second is not
 abbrev pub KeepsPatterns : Bool → Language
 KeepsPatterns true s l = Then (Keeps first_pattern true) (Keeps second_pattern true) s l
 KeepsPatterns false s l =
     Keeps first_pattern false s l ⊎ Then (Keeps first_pattern true) (Keeps second_pattern false) s l
 
--- `check_present`: the scratch register is read, tried with two patterns, and written back
+-- `check_present`: the scratch register is read, tested with the patterns, and restored
 abbrev pub ChecksPresence : Bool → Language
 ChecksPresence present s l =
     (old : ℕ) ×
@@ -64,30 +64,30 @@ fifo_bits None = FCR.RX_FIFO_RESET.0 + FCR.TX_FIFO_RESET.0
 fifo_bits (Some level) =
     FCR.FIFO_ENABLE.0 + FCR.RX_FIFO_RESET.0 + FCR.TX_FIFO_RESET.0 + FCR.RX_FIFO_TRIGGER_LEVEL0.0 * trigger_code level
 
--- the FIFO step: FCR is written and, where a level is configured, ISR tells whether the FIFO is on
+-- the FIFO step: FCR is written and, if a level is configured, ISR shows whether the FIFO is on
 abbrev pub SetsFifo : Option FifoTriggerLevel → Bool → Language
 SetsFifo None on s l = (on ≡ false) × (l ≡ Write offsets.FCR (fifo_bits None) ∷ [])
 SetsFifo (Some level) on s l =
     Then (Only (Write offsets.FCR (fifo_bits (Some level)) ∷ [])) (Asks offsets.ISR ISR.FIFOS_ENABLED.0 on) s l
 
--- a byte that waits is thrown away
+-- a received byte is discarded
 abbrev pub Discards : Language
 Discards = Then (Asks offsets.LSR LSR.DATA_READY.0 true) (ReadsRegister offsets.DATA)
 
--- the most that can wait to be received: what the FIFO holds, and the character in the shift register
+-- the most bytes that the receiver can hold: those in the FIFO, and the character in the shift register
 abbrev pub most_waiting : ℕ
 most_waiting = FIFO_SIZE + 1
 
--- bytes are thrown away until none waits, or as many as can wait
+-- received bytes are discarded until none is available, or as many as the receiver can hold
 abbrev pub DrainsReceiver : Language
 DrainsReceiver s l =
     Times most_waiting Discards s l ⊎ ((n : ℕ) × (n < most_waiting) × Then (Times n Discards) Miss s l)
 
--- the outputs that are raised: DTR, RTS and OUT2
+-- the outputs that are set: DTR, RTS and OUT2
 abbrev pub raised_outputs : ℕ
 raised_outputs = MCR.DTR.0 + MCR.RTS.0 + MCR.OUT_2_INT_ENABLE.0
 
--- from the configuration stored to MCR written
+-- from storing the configuration to writing MCR
 abbrev pub Begins : Config → (divisor : ℕ) → (fifo : Bool) → Doing
 Begins config divisor fifo =
     Next (Sets (with_config config))
@@ -97,18 +97,18 @@ Begins config divisor fifo =
     (Next (Plain DrainsReceiver)
     (Saving (Only (Write offsets.MCR raised_outputs ∷ []))))))
 
--- the statuses are read and forgotten, and the interrupts enabled
+-- the statuses are read without being saved, and the interrupts enabled
 abbrev pub Ends : Config → Doing
 Ends config =
     Next (Plain (Then (ReadsRegister offsets.LSR) (Then (ReadsRegister offsets.ISR) (ReadsRegister offsets.MSR))))
     (Next (Sets (with_saved 0 0))
     (Saving (Only (Write offsets.IER config.interrupts.0 ∷ []))))
 
--- the divisor that a configuration asks for, or why there is none
+-- the divisor for a configuration, or why there is none
 abbrev pub DivisorOf : Config → Result ℕ InvalidDivisorError → Type 0
 DivisorOf config = IsDivisorAnswer config.frequency (to_integer config.baud_rate) config.prescaler_division_factor
 
--- `init`: the whole list, or that up to the refusal
+-- `init`: the whole list, or the list up to the error
 abbrev pub Inits : {T : Type 0} → Config → Result T InitError → Doing
 Inits config (Ok x) f l after = (divisor : ℕ) × (fifo : Bool) × DivisorOf config (Ok divisor) ×
     Next (Begins config divisor fifo) (Next (Saving (WaitsFor LSR.TRANSMITTER_EMPTY.0 true)) (Ends config)) f l after

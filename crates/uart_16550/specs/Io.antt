@@ -1,4 +1,4 @@
--- Byte readers and writers, by what one call of them does.
+-- Byte readers and writers: what one call does.
 use Rattle.std.specs.Prelude.{◌≡◌, ◌<◌, ℕ, Bool, true, false, List, [], Result, Ok, Err, Some, None, length, take, ◌⊎◌}
 use Rattle.uart_spec.specs.declared.errors.StalledError.{StalledError}
 use Rattle.uart_spec.specs.declared.registers.offsets.TheConstants as offsets
@@ -7,18 +7,18 @@ use Rattle.uart_16550.specs.Grammar.{Language, Asks, Never}
 use Rattle.uart_16550.specs.Receive.{ReceivesSome}
 use Rattle.uart_16550.specs.Transmit.{SendsSome, SendHit, SendMiss, WaitsFor}
 
--- the bytes that a read left in its slots: as many as it answered, and none with an error
+-- the bytes that a read put into its slots: as many as it returned, and none if it failed
 abbrev pub got : {E : Type 0} → Result ℕ E → List ℕ → List ℕ
 got (Ok count) slots = take count slots
 got (Err e) slots = []
 
--- `read` into n slots: none where there are none; else some bytes, or a wait in vain
+-- `read` into n slots: nothing if n is 0; else some bytes, or a wait that reaches the limit
 abbrev pub Reads : ℕ → List ℕ → Result ℕ StalledError → Language
 Reads n bytes (Ok count) s l =
     (length bytes ≡ count) × (((n ≡ 0) × (count ≡ 0) × (l ≡ [])) ⊎ ((0 < n) × ReceivesSome n bytes true s l))
 Reads n bytes (Err e) s l = (0 < n) × (e.done ≡ 0) × ReceivesSome n bytes false s l
 
--- `write`: none of no bytes; else a burst, or a wait in vain
+-- `write`: nothing if there are no bytes; else a burst, or a wait that reaches the limit
 abbrev pub Writes : List ℕ → Result ℕ StalledError → Language
 Writes bytes (Ok count) s l =
     ((length bytes ≡ 0) × (count ≡ 0) × (l ≡ [])) ⊎ ((0 < length bytes) × SendsSome bytes (Some count) s l)
@@ -29,7 +29,7 @@ abbrev pub Flushes : {T : Type 0} → Result T StalledError → Language
 Flushes (Ok x) s l = WaitsFor LSR.TRANSMITTER_EMPTY.0 true s l
 Flushes (Err e) s l = (e.done ≡ 0) × WaitsFor LSR.TRANSMITTER_EMPTY.0 false s l
 
--- `read_ready`: one look for data
+-- `read_ready`: one check for data
 abbrev pub AnswersRead : Result Bool StalledError → Language
 AnswersRead (Ok ready) = Asks offsets.LSR LSR.DATA_READY.0 ready
 AnswersRead (Err e) = Never

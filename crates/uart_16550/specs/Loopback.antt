@@ -30,20 +30,20 @@ test_byte = 66
 abbrev pub test_message : List ℕ
 test_message = codes "hello world!1337"
 
--- a byte that waited from before is received
+-- a byte that was received before the test is taken
 abbrev pub TakesOne : Language
 TakesOne s l = (byte : ℕ) × Hit byte s l
 
--- what waited from before is received until nothing waits; or there was a byte as many times as the limit
+-- bytes that were received before the test are taken until none is available; or as many as the limit were taken
 abbrev pub DrainsLoopback : Bool → Language
 DrainsLoopback true = Then (FewMisses TakesOne) Miss
 DrainsLoopback false = AllMisses TakesOne
 
--- one byte is sent at once, and comes back
+-- the test byte is sent at once
 abbrev pub SendsTestByte : Language
 SendsTestByte = TrySends {T = Unit {0}} test_byte (Ok tt)
 
--- the test byte: sent and back; or not sent; or awaited in vain; or back as another
+-- the test byte: sent and received; or not sent; or not received within the limit; or another byte received
 abbrev pub ExchangesByte : {T : Type 0} → Result T LoopbackError → Language
 ExchangesByte (Ok x) s l = Then SendsTestByte (Awaited test_byte) s l
 ExchangesByte (Err (SendError e)) s l = TrySends {T = Unit {0}} test_byte (Err e) s l
@@ -52,11 +52,11 @@ ExchangesByte (Err (UnexpectedLoopbackByte expected actual)) s l =
     (expected ≡ test_byte) × (actual ≢ test_byte) × Then SendsTestByte (Awaited actual) s l
 ExchangesByte (Err (UnexpectedLoopbackMsg expected actual)) s l = ⊥
 
--- a byte and what came back for it
+-- a byte, and the byte that was received for it
 abbrev pub Echo : (ℕ × ℕ) → Language
 Echo pair = Then (Round (pair.0 ∷ [])) (Awaited pair.1)
 
--- a wait in vain, for room or for the byte that should come back
+-- a wait that reaches the limit, for room or for the byte that should return
 abbrev pub EchoFails : ℕ → Language
 EchoFails byte s l = AllMisses SendMiss s l ⊎ Then (Round (byte ∷ [])) (AllMisses Miss) s l
 
@@ -64,7 +64,7 @@ abbrev pub HasEchoed : ℕ → Option ℕ → Language
 HasEchoed byte (Some back) = Echo (byte, back)
 HasEchoed byte None = EchoFails byte
 
--- with a FIFO the bytes are sent whole, and as many are received
+-- with a FIFO all bytes are sent, and then as many are received
 abbrev pub WholeEchoes : (sent got : List ℕ) → Language
 WholeEchoes sent got s l = (length got ≡ length sent) × Then (SendsAll sent) (InOrder Awaited got) s l
 
@@ -73,7 +73,7 @@ WholeFails sent s l = ((e : StalledError) × SendsExact {T = Unit {0}} sent (Err
     ⊎ ((e : StalledError) × (got : List ℕ)
     × Then (SendsAll sent) (ReceivesExact {T = Unit {0}} (length sent) got (Err e)) s l)
 
--- without one each is sent and received by itself
+-- without a FIFO each byte is sent and received by itself
 abbrev pub EachEchoes : (sent got : List ℕ) → Language
 EachEchoes sent got s l =
     (pairs : List (ℕ × ℕ)) × (map (λ pair. pair.0) pairs ≡ sent) × (map (λ pair. pair.1) pairs ≡ got)
@@ -84,7 +84,7 @@ EachFails sent s l =
     (pairs : List (ℕ × ℕ)) × (byte : ℕ) × (rest : List ℕ) × (map (λ pair. pair.0) pairs ++ (byte ∷ rest) ≡ sent)
     × Then (InOrder Echo pairs) (EchoFails byte) s l
 
--- what came back for these bytes, or nothing where a wait was in vain
+-- what was received for these bytes, or nothing if a wait reached the limit
 abbrev pub HasEchoedWhole : List ℕ → Option (List ℕ) → Language
 HasEchoedWhole sent (Some got) = WholeEchoes sent got
 HasEchoedWhole sent None = WholeFails sent
@@ -96,7 +96,7 @@ HasEchoedEach sent None = EachFails sent
 abbrev pub HasEchoedAll : List ℕ → Option (List ℕ) → Language
 HasEchoedAll sent got = IfFifo (HasEchoedWhole sent got) (HasEchoedEach sent got)
 
--- the test message: sent and back; or a wait in vain; or back as another
+-- the test message: sent and received; or a wait that reaches the limit; or other bytes received
 abbrev pub ExchangesMessage : {T : Type 0} → Result T LoopbackError → Language
 ExchangesMessage (Ok x) s l = HasEchoedAll test_message (Some test_message) s l
 ExchangesMessage (Err (SendError e)) s l = ⊥
@@ -106,7 +106,7 @@ ExchangesMessage (Err (UnexpectedLoopbackMsg expected actual)) s l =
     (expected ≡ test_message) × (actual ≢ test_message) × (length actual ≡ length test_message)
     × HasEchoedAll test_message (Some actual) s l
 
--- inside the loopback: the drain, the byte, the message, up to the first fault
+-- in loopback: bytes from before the test taken, the byte, the message, up to the first error
 abbrev pub Exchanges : {T : Type 0} → Result T LoopbackError → Language
 Exchanges (Ok x) s l = Then (DrainsLoopback true) (Then (ExchangesByte (Ok x)) (ExchangesMessage (Ok x))) s l
 Exchanges (Err e) s l = ((e ≡ Stalled) × DrainsLoopback false s l)
@@ -114,11 +114,11 @@ Exchanges (Err e) s l = ((e ≡ Stalled) × DrainsLoopback false s l)
     ⊎ Then (DrainsLoopback true)
     (Then (ExchangesByte {T = Unit {0}} (Ok tt)) (ExchangesMessage {T = Unit {0}} (Err e))) s l)
 
--- the line differs
+-- the line differs between the two readings
 abbrev pub differs : ℕ → ℕ → ℕ → Bool
 differs before now line = not (bit_and before line == bit_and now line)
 
--- the changes between two readings of MSR, as their bits: of RI only its trailing edge
+-- the changes of the lines between two readings of MSR, as their bits: of RI only its trailing edge
 abbrev pub line_changes : (before now : ℕ) → ℕ
 line_changes before now =
     bit_or (bit_or (flag (differs before now MSR.CTS.0) MSR.DELTA_CTS.0)
@@ -126,18 +126,19 @@ line_changes before now =
     (bit_or (flag (has before MSR.RI.0 && not (has now MSR.RI.0)) MSR.TRAILING_EDGE_RI.0)
     (flag (differs before now MSR.CD.0) MSR.DELTA_CD.0))
 
--- from the lines read to the FIFO step, in loopback
+-- from the read of the lines to the FIFO step, in loopback
 abbrev pub Enters : (before : ℕ) → (fifo : Bool) → Doing
 Enters before fifo f l after =
     Next (Saving (Then (Only (Read offsets.MSR before ∷ Write offsets.IER 0 ∷ Write offsets.MCR MCR.LOOP_BACK.0 ∷ []))
     (SetsFifo f.config.fifo_trigger_level fifo)))
     (Sets (with_fifo fifo)) f l after
 
--- these changes are saved beside those saved before, and the saved errors are those noted
+-- these changes are added to the saved ones, and the saved errors are those noted before the test
 abbrev pub with_changes : (noted changes : ℕ) → Fields → Fields
 with_changes noted changes f = with_saved noted (bit_or f.msr changes) f
 
--- loopback is left, MCR and IER are written back, changes of the lines are saved, and the saved errors are those noted
+-- loopback is left, MCR and IER are restored, changes of the lines are saved, and the saved errors are those noted
+-- before
 abbrev pub Leaves : (mcr ier before noted : ℕ) → Doing
 Leaves mcr ier before noted f l after = (now : ℕ) ×
     Next (Saving (Only (Write offsets.MCR (without 8 mcr MCR.OUT_2_INT_ENABLE.0) ∷ [])))
@@ -145,22 +146,22 @@ Leaves mcr ier before noted f l after = (now : ℕ) ×
     (Next (Saving (Only (Write offsets.MCR mcr ∷ Write offsets.IER ier ∷ [])))
     (Sets (with_changes noted (line_changes before now))))) f l after
 
--- MCR and IER are read, and then the transmitter is awaited
+-- MCR and IER are read, and then there is a wait for an empty transmitter
 abbrev pub BeginsTest : (mcr ier : ℕ) → Bool → Language
 BeginsTest mcr ier empty =
     Then (Only (Read offsets.MCR mcr ∷ Read offsets.IER ier ∷ [])) (WaitsFor LSR.TRANSMITTER_EMPTY.0 empty)
 
--- after the first wait, whose end leaves the errors to be noted
+-- after the first wait; the errors saved at this point are those noted
 abbrev pub Tests : {T : Type 0} → (mcr ier : ℕ) → Result T LoopbackError → Doing
 Tests mcr ier result f l after = (before : ℕ) × (fifo : Bool) ×
     Next (Enters before fifo) (Next (Saving (Exchanges result)) (Leaves mcr ier before f.lsr)) f l after
 
--- the answer is a stall
+-- the result is a stall
 abbrev pub IsStalled : {T : Type 0} → Result T LoopbackError → Type 0
 IsStalled (Ok x) = ⊥
 IsStalled (Err e) = e ≡ Stalled
 
--- `test_loopback`: a first wait in vain, and nothing written; or the test
+-- `test_loopback`: a first wait that reaches the limit, and nothing written; or the test
 abbrev pub TestsLoopback : {T : Type 0} → Result T LoopbackError → Doing
 TestsLoopback result f l after = (mcr : ℕ) × (ier : ℕ) ×
     ((IsStalled result × Saving (BeginsTest mcr ier false) f l after)

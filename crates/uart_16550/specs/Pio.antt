@@ -6,7 +6,7 @@ use Rattle.uart_spec.specs.declared.registers.offsets.TheConstants as offsets
 use Rattle.uart_spec.specs.Access.{Access}
 use Rattle.uart_16550.specs.Backend.{access_at}
 
--- the port of the first register, and the object that reaches the ports
+-- the port of the first register, and the object that accesses the ports
 pub record Ports (P : Type 0) : Type 0 where
   pub base : ℕ
   pub access : P
@@ -15,22 +15,22 @@ pub record Ports (P : Type 0) : Type 0 where
 abbrev pub last_port : ℕ
 last_port = 65535
 
--- the last register's port is one of them
+-- the last register has a port
 abbrev pub IsPortBase : ℕ → Type 0
 IsPortBase base = base + offsets.SPR ≤ last_port
 
--- the registers lie at the ports from this one on, and this object reaches them
+-- the registers are at the ports from this one on, and this object accesses them
 pub record IsAtPorts {P : Type 0} (ports : Ports P) (port : ℕ) (object : P) : Type 0 where
   pub base : ports.base ≡ port
   pub access : ports.access ≡ object
   pub in_range : IsPortBase port
 
--- why no registers can lie at the ports from this one on: the last of them would lie beyond the last port
+-- why no registers can be at the ports from this one on: the last of them would be beyond the last port
 pub record IsPortRefusal (port : ℕ) (e : InvalidAddressError) : Type 0 where
   pub is : e ≡ InvalidBaseAddress port
   pub beyond : last_port < port + offsets.SPR
 
--- the object makes the access at the port base + offset, and the base stays
+-- the object makes the access at the port base + offset, and the base does not change
 pub record PortStep {P : Type 0} (step : P → Access → P → Type 0) (old : Ports P) (access : Access)
     (new : Ports P) : Type 0 where
   pub made : step old.access (access_at (λ offset. old.base + offset) access) new.access

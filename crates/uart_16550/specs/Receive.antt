@@ -7,11 +7,11 @@ use Rattle.uart_spec.specs.declared.registers.line_status.TheConstants.LSR
 use Rattle.uart_spec.specs.Access.{Read}
 use Rattle.uart_16550.specs.Grammar.{Language, Only, Then, InOrder, FewMisses, AllMisses, Asks}
 
--- a look at LSR that shows data, and the byte taken
+-- a read of LSR that shows data, and a read of the byte
 abbrev pub Hit : ℕ → Language
 Hit byte = Then (Asks offsets.LSR LSR.DATA_READY.0 true) (Only (Read offsets.DATA byte ∷ []))
 
--- a look that shows none
+-- a read of LSR that shows no data
 abbrev pub Miss : Language
 Miss = Asks offsets.LSR LSR.DATA_READY.0 false
 
@@ -34,22 +34,23 @@ Receives n bytes s l =
 abbrev pub Awaited : ℕ → Language
 Awaited byte = Then (FewMisses Miss) (Hit byte)
 
--- a wait for one byte: it came, or there were as many misses as the limit
+-- a wait for one byte: it was received, or there were as many misses as the limit
 abbrev pub Awaits : Option ℕ → Language
 Awaits (Some byte) = Awaited byte
 Awaits None = AllMisses Miss
 
--- a wait for bytes into n slots: some came, or there were as many misses as the limit
+-- a wait for bytes into n slots: some were received, or there were as many misses as the limit
 abbrev pub ReceivesSome : ℕ → List ℕ → Bool → Language
 ReceivesSome n bytes true s l = (0 < length bytes) × Then (FewMisses Miss) (Receives n bytes) s l
 ReceivesSome n bytes false s l = (length bytes ≡ 0) × AllMisses Miss s l
 
--- the bytes that an exact call put into its slots
+-- the bytes that `receive_bytes_exact` put into its slots
 abbrev pub filled : {T : Type 0} → Result T StalledError → List ℕ → List ℕ
 filled (Ok x) slots = slots
 filled (Err e) slots = take e.done slots
 
--- `receive_bytes_exact` into n slots: all are filled, each after its own wait; or those so far, and then a wait in vain
+-- `receive_bytes_exact` into n slots: all are filled, each after its own wait; or some, and then a wait reaches the
+-- limit
 abbrev pub ReceivesExact : {T : Type 0} → ℕ → List ℕ → Result T StalledError → Language
 ReceivesExact n bytes (Ok x) s l = (length bytes ≡ n) × InOrder Awaited bytes s l
 ReceivesExact n bytes (Err e) s l =

@@ -1,4 +1,4 @@
--- A backend that gives listed answers and keeps the accesses, and what it tells of a call.
+-- A backend that plays back answers and keeps the accesses, and what it shows about a call.
 use Rattle.std.specs.Prelude.{◌≡◌, ℕ, Bool, true, ◌&&◌, List, [], ◌∷◌, ◌++◌, nat_lt, length}
 use Rattle.uart_spec.specs.Access.{Access, Path, Read, Write}
 use Rattle.uart_16550.specs.Grammar.{Language}
@@ -9,7 +9,7 @@ use Rattle.uart_16550.specs.declared.replay.TheConstants.{REPLAY_ROOM}
 use Rattle.uart_16550.specs.declared.replay.Entry.{Entry}
 use Rattle.uart_16550.specs.declared.replay.Entry.TheVariants.{Read as ReadEntry, Write as WriteEntry}
 
--- the access that an entry names
+-- the access of an entry
 abbrev pub access_of : Entry → Access
 access_of (ReadEntry offset answer) = Read offset answer
 access_of (WriteEntry offset value) = Write offset value
@@ -20,25 +20,25 @@ pub record Tape : Type 0 where
   pub made : List Access
   pub whole : Bool
 
--- reads answer the bytes of the list in turn, and then 0, whatever the register
+-- reads return the bytes of the list in turn, and then 0, whatever the register
 abbrev pub AnswersInTurn : List ℕ → Access → List ℕ → Type 0
 AnswersInTurn [] (Read offset answer) left = (answer ≡ 0) × (left ≡ [])
 AnswersInTurn (byte ∷ bytes) (Read offset answer) left = (answer ≡ byte) × (left ≡ bytes)
 AnswersInTurn bytes (Write offset value) left = left ≡ bytes
 
--- a read takes the next answer, or 0 if none is left; and the access is kept, as long as there is room
+-- a read returns the next answer, or 0 if none is left; and the access is kept, as long as there is room
 pub record Plays (old : Tape) (access : Access) (new : Tape) : Type 0 where
   pub answers : AnswersInTurn old.answers access new.answers
   pub whole : new.whole ≡ (old.whole && nat_lt (length old.made) REPLAY_ROOM)
   pub made : new.whole ≡ true → new.made ≡ old.made ++ access ∷ []
 
--- the reads of a list are answered in turn, and these answers are left
+-- the reads of a list return these answers in turn, and those are left
 abbrev pub FedBy : (answers : List ℕ) → List Access → (left : List ℕ) → Type 0
 FedBy answers [] left = left ≡ answers
 FedBy answers (access ∷ accesses) left =
     (between : List ℕ) × AnswersInTurn answers access between × FedBy between accesses left
 
--- these accesses were added to the tape, and their reads were answered by it
+-- these accesses were added to the tape, and their reads returned its answers
 pub record Shows (old : Tape) (list : List Access) (new : Tape) : Type 0 where
   pub made : new.made ≡ old.made ++ list
   pub fed : FedBy old.answers list new.answers
@@ -54,9 +54,9 @@ Replayed G old new =
     new.backend.whole ≡ true →
     (list : List Access) × G (fields old) list (fields new) × Shows old.backend list new.backend
 
--- a call with outcome b over a tape repeats one with outcome a and this list, if it begins from equal fields, over a
--- tape with what the reads of that list were answered: the outcomes and the fields after it are equal, and the tape, if
--- it is whole, shows the list
+-- a call with outcome b over a tape repeats one with outcome a and this list, if it starts from equal fields, over a
+-- tape with what the reads of that list returned: the outcomes and the fields after it are equal, and the tape, if it
+-- is whole, shows the list
 abbrev pub IsRepeated : {R B : Type 0} → (a b : R) → List Access → (old new : Uart16550 B) →
     (before after : Uart16550 Tape) → Type 0
 IsRepeated a b list old new before after =
@@ -70,7 +70,7 @@ Repeats {R} {B} G step =
     (a b : R) (old new : Uart16550 B) (before after : Uart16550 Tape) → (p : Did step (G a) old new) →
     Did Plays (G b) before after → IsRepeated a b p.list old new before after
 
--- the same of calls that save what their reads show, and change nothing else
+-- the same for calls that save what their reads clear, and change nothing else
 abbrev pub RepeatsSaving : {R B : Type 0} → (R → Language) → (B → Access → B → Type 0) → Type 0
 RepeatsSaving {R} {B} L step =
     (a b : R) (old new : Uart16550 B) (before after : Uart16550 Tape) → (p : Made step (L a) old new) →

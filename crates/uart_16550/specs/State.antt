@@ -1,4 +1,4 @@
--- What a driver keeps beside its backend, as a value.
+-- The state of a driver without its backend, as a value.
 use Rattle.std.specs.Prelude.{true}
 use Rattle.std.specs.Int.NonZero.{non_zero_u64_get}
 use Rattle.uart_spec.specs.declared.config.TheConstants.Config.{DEFAULT}
@@ -16,6 +16,6 @@ fields_of s = record {
   limit = non_zero_u64_get s.spin_limit;
 }
 
--- the fields of a driver that was just made
+-- the fields of a new driver
 abbrev pub fresh_fields : Fields
 fresh_fields = record { config = DEFAULT; fifo = true; lsr = 0; msr = 0; limit = DEFAULT_SPIN_LIMIT }

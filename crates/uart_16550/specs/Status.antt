@@ -22,7 +22,7 @@ use Rattle.uart_16550.specs.Grammar.{Language}
 use Rattle.uart_16550.specs.Driver.{Fields, Doing, saving, with_saved, with_interrupts}
 use Rattle.uart_16550.specs.declared.dump.ConfigRegisterDump.{ConfigRegisterDump}
 
--- `lsr`: one read, answered joined with the saved bits, which are then none
+-- `lsr`: one read, returned joined with the saved bits, which are then cleared
 abbrev pub TakesLsr : ℕ → Doing
 TakesLsr result f l after =
     (status : ℕ) × (l ≡ Read offsets.LSR status ∷ []) × (result ≡ bit_or status f.lsr) × (after ≡ with_saved 0 f.msr f)
@@ -32,7 +32,7 @@ abbrev pub TakesMsr : ℕ → Doing
 TakesMsr result f l after =
     (status : ℕ) × (l ≡ Read offsets.MSR status ∷ []) × (result ≡ bit_or status f.msr) × (after ≡ with_saved f.lsr 0 f)
 
--- DSR and CTS are set, or the one told is clear
+-- DSR and CTS are set, or the line that the error reports is clear
 abbrev pub ShowsConnection : {T : Type 0} → Result T RemoteReadyToReceiveError → ℕ → Type 0
 ShowsConnection (Ok x) status = (has status MSR.DSR.0 ≡ true) × (has status MSR.CTS.0 ≡ true)
 ShowsConnection (Err NoRemoteConnectedNoDSR) status = has status MSR.DSR.0 ≡ false
@@ -43,7 +43,7 @@ ShowsConnection (Err RemoteNotClearToSend) status = (has status MSR.DSR.0 ≡ tr
 abbrev pub Connects : {T : Type 0} → Result T RemoteReadyToReceiveError → Language
 Connects result s l = (status : ℕ) × ShowsConnection result status × (l ≡ Read offsets.MSR status ∷ [])
 
--- the divisor latch is read under DLAB, and LCR written back
+-- the divisor latch is read while DLAB is set, and LCR restored
 abbrev pub divisor_accesses : (lcr low high : ℕ) → List Access
 divisor_accesses lcr low high =
     Read offsets.LCR lcr ∷ Write offsets.LCR (bit_or lcr LCR.DLAB.0) ∷ Read offsets.DLL low ∷ Read offsets.DLM high ∷
@@ -53,11 +53,11 @@ divisor_accesses lcr low high =
 abbrev pub ReadsDivisor : (low high : ℕ) → Language
 ReadsDivisor low high s l = (lcr : ℕ) × (l ≡ divisor_accesses lcr low high)
 
--- the interrupts are stored in the configuration and written
+-- the interrupts are stored in the configuration, and written
 abbrev pub StoresInterrupts : ℕ → Doing
 StoresInterrupts bits f l after = (l ≡ Write offsets.IER bits ∷ []) × (after ≡ with_interrupts bits f)
 
--- `enable_interrupts`, `disable_interrupts`: IER is read, and what it becomes is stored and written
+-- `enable_interrupts`, `disable_interrupts`: IER is read, and its new value is stored and written
 abbrev pub Enables : ℕ → Doing
 Enables bits f l after = (ier : ℕ) × (l ≡ Read offsets.IER ier ∷ Write offsets.IER (bit_or ier bits) ∷ [])
     × (after ≡ with_interrupts (bit_or ier bits) f)
@@ -73,7 +73,7 @@ dump_reads lsr msr dump =
     Read offsets.MCR dump.mcr.0 ∷
     Read offsets.LSR lsr ∷ Read offsets.MSR msr ∷ Read offsets.SPR dump.spr ∷ []
 
--- `config_register_dump`: what was read, LSR and MSR joined with the saved bits, which stay
+-- `config_register_dump`: what was read, LSR and MSR joined with the saved bits, which stay saved
 pub record Dumps (dump : ConfigRegisterDump) (f : Fields) (l : List Access) (after : Fields) : Type 0 where
   pub lcr : ℕ
   pub lsr : ℕ
@@ -87,7 +87,7 @@ pub record Dumps (dump : ConfigRegisterDump) (f : Fields) (l : List Access) (aft
 abbrev pub divisor_of : ConfigRegisterDump → ℕ
 divisor_of dump = 256 * dump.dlm + dump.dll
 
--- the baud rate that a dump's divisor gives, as the case with a name where there is one; or that no whole one is given
+-- the baud rate that a dump's divisor gives, with its name if it has one; or an error if it is not a whole number
 abbrev pub IsDumpRate : Config → ConfigRegisterDump → Result BaudRate NonIntegerBaudRateError → Type 0
 IsDumpRate config dump (Ok rate) =
     IsBaudRateAnswer config.frequency (divisor_of dump) config.prescaler_division_factor (Ok (to_integer rate))

@@ -13,23 +13,23 @@ use Rattle.uart_spec.specs.Access.{Access, Write}
 use Rattle.uart_16550.specs.Grammar.{Language, Settings, Only, Then, InOrder, FewMisses, AllMisses, Asks, IfChecks}
 use Rattle.uart_16550.specs.Grammar.{Never}
 
--- the modem lines allow to send or forbid it: in loopback they mean nothing
+-- the modem lines allow sending, or do not: in loopback they do not matter
 abbrev pub LinesAllow : Bool → Language
 LinesAllow allowed s l =
     ((allowed ≡ true) × Asks offsets.MCR MCR.LOOP_BACK.0 true s l)
     ⊎ Then (Asks offsets.MCR MCR.LOOP_BACK.0 false) (Asks offsets.MSR MSR.CTS.0 allowed) s l
 
--- a send check that hits: the holding register is empty, and with CTS checking the remote is clear to send
+-- a send check that succeeds: the holding register is empty, and with CTS checking the remote is clear to send
 abbrev pub SendHit : Language
 SendHit = IfChecks (Then (Asks offsets.LSR LSR.THR_EMPTY.0 true) (LinesAllow true))
     (Asks offsets.LSR LSR.THR_EMPTY.0 true)
 
--- a send check that misses for this reason
+-- a send check that fails for this reason
 abbrev pub SendRefused : ByteSendError → Language
 SendRefused NoCapacity = Asks offsets.LSR LSR.THR_EMPTY.0 false
 SendRefused RemoteNotClearToSend = IfChecks (Then (Asks offsets.LSR LSR.THR_EMPTY.0 true) (LinesAllow false)) Never
 
--- a send check that misses
+-- a send check that fails
 abbrev pub SendMiss : Language
 SendMiss s l = (e : ByteSendError) × SendRefused e s l
 
@@ -42,19 +42,19 @@ ReadyToSend (Err e) = SendRefused e
 abbrev pub data_writes : List ℕ → List Access
 data_writes bytes = map (λ byte. Write offsets.DATA byte) bytes
 
--- a send check that hits, and these bytes written
+-- a send check that succeeds, and these bytes written
 abbrev pub Burst : List ℕ → Language
 Burst bytes = Then SendHit (Only (data_writes bytes))
 
--- how many bytes one burst may take: as many as the FIFO holds, or the holding register's one
+-- the most bytes in one burst: as many as the FIFO holds, or the one of the holding register
 abbrev pub burst_limit : Bool → ℕ
 burst_limit fifo = if fifo then FIFO_SIZE else 1
 
--- how many of these bytes one burst takes
+-- how many of these bytes are in one burst
 abbrev pub burst_size : Settings → List ℕ → ℕ
 burst_size s bytes = min (length bytes) (burst_limit s.fifo)
 
--- `send_bytes`: no bytes are none; else a check that misses, or one burst from the front
+-- `send_bytes`: nothing if there are no bytes; else a check that fails, or one burst from the front
 abbrev pub Sends : List ℕ → ℕ → Language
 Sends bytes k s l =
     ((length bytes ≡ 0) × (k ≡ 0) × (l ≡ []))
@@ -65,7 +65,7 @@ Sends bytes k s l =
 abbrev pub Round : List ℕ → Language
 Round bytes = Then (FewMisses SendMiss) (Burst bytes)
 
--- a wait for room: a check hit after fewer misses in a row than the limit, or there were as many misses
+-- a wait for room: a check succeeded after fewer misses in a row than the limit, or there were as many misses
 abbrev pub WaitsToSend : Bool → Language
 WaitsToSend true = Then (FewMisses SendMiss) SendHit
 WaitsToSend false = AllMisses SendMiss
@@ -75,7 +75,7 @@ abbrev pub SendsSome : List ℕ → Option ℕ → Language
 SendsSome bytes (Some k) s l = (k ≡ burst_size s bytes) × Round (take k bytes) s l
 SendsSome bytes None s l = AllMisses SendMiss s l
 
--- these pieces were cut from the front of the bytes, each what one burst takes, and this is the rest
+-- these pieces were cut from the front of the bytes, each of the size of a burst, and this is the rest
 abbrev pub IsCut : Settings → List ℕ → List (List ℕ) → List ℕ → Type 0
 IsCut s bytes [] rest = rest ≡ bytes
 IsCut s bytes (piece ∷ pieces) rest =
@@ -86,7 +86,7 @@ IsCut s bytes (piece ∷ pieces) rest =
 abbrev pub SendsAll : List ℕ → Language
 SendsAll bytes s l = (pieces : List (List ℕ)) × IsCut s bytes pieces [] × InOrder Round pieces s l
 
--- `send_bytes_exact`: all is sent; or what comes before a rest, burst by burst, and then a wait in vain
+-- `send_bytes_exact`: all bytes; or all before a rest, burst by burst, and then a wait that reaches the limit
 abbrev pub SendsExact : {T : Type 0} → List ℕ → Result T StalledError → Language
 SendsExact bytes (Ok x) s l = SendsAll bytes s l
 SendsExact bytes (Err e) s l =
@@ -100,7 +100,8 @@ TrySends byte (Ok x) = Sends (byte ∷ []) 1
 TrySends byte (Err NoCapacity) = Sends (byte ∷ []) 0
 TrySends byte (Err RemoteNotClearToSend) = Never
 
--- a wait for these bits of LSR: fewer looks without them than the limit and then one with them; or as many in vain
+-- a wait for these bits of LSR: fewer reads without them than the limit and then one with them; or as many without
+-- them
 abbrev pub WaitsFor : ℕ → Bool → Language
 WaitsFor bits true = Then (FewMisses (Asks offsets.LSR bits false)) (Asks offsets.LSR bits true)
 WaitsFor bits false = AllMisses (Asks offsets.LSR bits false)

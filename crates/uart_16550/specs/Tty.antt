@@ -29,21 +29,21 @@ Starts config (Err (InitError e)) f l after = Inits {T = Unit {0}} config (Err e
 Starts config (Err (TestError e)) f l after =
     Next (Inits {T = Unit {0}} config (Ok tt)) (TestsLoopback {T = Unit {0}} (Err e)) f l after
 
--- the driver was started: then the terminal has it; or it was refused, and dropped in some state
+-- the driver was started, and the terminal has it; or the start failed, and the driver was dropped in some state
 pub record IsStarted {B : Type 0} (step : B → Access → B → Type 0) (config : Config) (driver : Uart16550 B)
     (result : Result (Uart16550Tty B) Uart16550TtyError) : Type 0 where
   pub last : Uart16550 B
   pub does : Did step (Starts config result) driver last
   pub kept : IfOk result (λ terminal. inner_of terminal ≡ last)
 
--- a fresh driver over this backend was started
+-- a new driver over this backend was started
 pub record BuildsTerminal {B : Type 0} (step : B → Access → B → Type 0) (backend : B) (config : Config)
     (result : Result (Uart16550Tty B) Uart16550TtyError) : Type 0 where
   pub driver : Uart16550 B
   pub fresh : IsFresh driver backend DEFAULT
   pub started : IsStarted step config driver result
 
--- the address was refused; or a fresh driver was started over a backend that lies there
+-- the address was refused; or a new driver was started over a backend at this address
 abbrev pub BuildsTerminalAt : {B : Type 0} → (B → Access → B → Type 0) → (B → Type 0) → (InvalidAddressError → Type 0) →
     Config → Result (Uart16550Tty B) Uart16550TtyError → Type 0
 BuildsTerminalAt step Lies Refuses config (Err (AddressError e)) = Refuses e

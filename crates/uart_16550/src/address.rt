@@ -1,4 +1,4 @@
-//! Drivers at ports and at addresses.
+//! Constructors of drivers for devices at I/O ports and in memory.
 ghost use Rattle.std.specs.Prelude.{IfOk, IfErr};
 ghost use Rattle.std.specs.Int.NonZero.{non_zero_usize_get};
 ghost use Rattle.uart_16550.specs.Pio.{IsAtPorts, IsPortRefusal};
@@ -11,12 +11,23 @@ use std::num::NonZeroUsize;
 use uart_spec::{Config, InvalidAddressError};
 
 impl<P: PortAccess + Drop> Uart16550<PioBackend<P>> {
-    /// A driver for the device whose registers lie at eight I/O ports from this one on. Makes no access yet: call `init`
-    /// before anything else.
+    /// Returns a driver for the device whose registers are at eight consecutive I/O ports, from `base_port` on.
+    ///
+    /// Makes no access: call `init` before any other call. The configuration is `Config::DEFAULT` until then. Port 0 is
+    /// accepted.
     ///
     /// # Errors
     ///
-    /// `InvalidBaseAddress` where the last register would lie beyond port 65535. The access object is then dropped.
+    /// `InvalidBaseAddress`, with the base port, if the last register would be beyond port 65535. The access object is
+    /// dropped then.
+    ///
+    /// # Examples
+    ///
+    /// ```
+    /// let mut uart = Uart16550::new_port(0x3f8, ports)?;
+    /// uart.init(Config::DEFAULT)?;
+    /// uart.send_bytes_exact(b"hello")?;
+    /// ```
     pub fn new_port(base_port: u16, access: P) -> Result<Self, InvalidAddressError>
         ensures fresh { IfOk result (λ driver. IsFresh driver (backend_of driver) Config.DEFAULT) }
         ensures place { IfOk result (λ driver. IsAtPorts (backend_of driver) base_port access) }
@@ -27,13 +38,24 @@ impl<P: PortAccess + Drop> Uart16550<PioBackend<P>> {
 }
 
 impl<M: ByteAccess + Drop> Uart16550<MmioBackend<M>> {
-    /// A driver for the device whose registers lie in memory from this address on, each a stride further than the one before.
-    /// Makes no access yet: call `init` before anything else.
+    /// Returns a driver for the device whose registers are in memory, from `base_address` on. The registers are `stride`
+    /// bytes apart, and each is one byte wide.
+    ///
+    /// Makes no access: call `init` before any other call. The configuration is `Config::DEFAULT` until then.
     ///
     /// # Errors
     ///
-    /// `InvalidStride` where the stride is zero or no power of two, and else `InvalidBaseAddress` where the last register would
-    /// lie beyond the last address. The access object is then dropped.
+    /// - `InvalidStride`, with the stride, if it is zero or not a power of two.
+    /// - Otherwise `InvalidBaseAddress`, with the base address, if the last register would be beyond the last address.
+    ///
+    /// The access object is dropped then.
+    ///
+    /// # Examples
+    ///
+    /// ```
+    /// let base = NonZeroUsize::new(0x1000).unwrap();
+    /// let mut uart = Uart16550::new_mmio(base, 4, Memory(cells))?;
+    /// ```
     pub fn new_mmio(
         base_address: NonZeroUsize,
         stride: u8,
@@ -46,7 +68,18 @@ impl<M: ByteAccess + Drop> Uart16550<MmioBackend<M>> {
         Ok(Uart16550::new_with_backend(MmioBackend::new(base_address, stride, access)?))
     }
 
-    /// The same as `new_mmio`: an address is a number here, and no pointer.
+    /// Does the same as `new_mmio`. Both take the base address as a number, not as a pointer.
+    ///
+    /// # Errors
+    ///
+    /// Those of `new_mmio`.
+    ///
+    /// # Examples
+    ///
+    /// ```
+    /// let base = NonZeroUsize::new(0x1000).ok_or("base 0")?;
+    /// let mut uart = Uart16550::new_mmio_from_address(base, 4, Memory(cells))?;
+    /// ```
     pub fn new_mmio_from_address(
         base_address: NonZeroUsize,
         stride: u8,

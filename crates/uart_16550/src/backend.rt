@@ -1,19 +1,19 @@
-//! How a driver reaches the registers.
+//! How a driver reads and writes the registers of its device.
 ghost use Rattle.uart_spec.specs.Access.{Access, Read, Write};
 
 pub use crate::mmio::MmioBackend;
 pub use crate::pio::PioBackend;
 pub use uart_spec::backend::Backend;
 
-/// Access to I/O ports, as by the instructions `in` and `out` of x86.
+/// Access to I/O ports, for example by the instructions `in` and `out` of x86.
 ///
-/// An implementation names its step relation, as a `Backend` does, with the port in the place of the register's offset.
-/// `PioBackend` makes a backend of it.
+/// An implementation defines a step relation, as a `Backend` does, with the port instead of the offset of the register.
+/// Pass it to `Uart16550::new_port`, which makes a `PioBackend` of it.
 pub trait PortAccess {
-    // From the first state this access of a port, with its answer or its value, may lead to the second.
+    // This access of a port, with the byte that it reads or writes, may lead from the first state to the second.
     ghost step: { Self → Access → Self → Type 0 };
 
-    /// Reads one byte from a port.
+    /// Reads one byte from a port, and returns it.
     fn port_in(&mut self, port: u16) -> u8
         ensures { step self.old (Read port result) self.new };
 
@@ -22,15 +22,15 @@ pub trait PortAccess {
         ensures { step self.old (Write port value) self.new };
 }
 
-/// Access to single bytes of memory, as by a volatile load and a volatile store.
+/// Access to single bytes of memory, for example by a volatile load and a volatile store.
 ///
-/// An implementation names its step relation, as a `Backend` does, with the address in the place of the register's offset.
-/// `MmioBackend` makes a backend of it.
+/// An implementation defines a step relation, as a `Backend` does, with the address instead of the offset of the register.
+/// Pass it to `Uart16550::new_mmio`, which makes an `MmioBackend` of it.
 pub trait ByteAccess {
-    // From the first state this access of an address, with its answer or its value, may lead to the second.
+    // This access of an address, with the byte that it loads or stores, may lead from the first state to the second.
     ghost step: { Self → Access → Self → Type 0 };
 
-    /// Loads the byte at an address.
+    /// Loads the byte at an address, and returns it.
     fn load(&mut self, address: usize) -> u8
         ensures { step self.old (Read address result) self.new };
 

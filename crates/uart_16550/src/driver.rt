@@ -23,14 +23,33 @@ use std::num::NonZeroU64;
 use uart_spec::Config;
 use uart_spec::registers::{LSR, MSR, offsets};
 
-/// How many unsuccessful polls in a row a wait makes before it answers a stall, until `set_spin_limit` says otherwise.
+/// The spin limit of a new driver: how many unsuccessful polls in a row a wait makes before it returns an error.
 pub const DEFAULT_SPIN_LIMIT: u64 = 1_000_000;
 
-// Slices are sent and received in pieces of this size, each in a copy: no access can change the copy, so the compiler may keep
-// a backend's fields in registers meanwhile. Of the slice itself it does not know that.
+// Slices are sent and received in pieces of this size, each in a copy. No access can change the copy, so the compiler may
+// keep a backend's fields in registers during the loop. It cannot assume that of the slice itself.
 const PIECE_SIZE: usize = 128;
 
 /// A driver for one serial chip of the 16550 family, over any backend.
+///
+/// Construct it with `new_port`, `new_mmio` or `new_with_backend`, and call `init` before any other call. `test_loopback`
+/// then tests whether the chip works, and `check_connected` whether a remote is ready.
+///
+/// No call blocks forever. `init`, `test_loopback`, `send_bytes_exact`, `receive_bytes_exact`, and the calls `read`,
+/// `write` and `flush` of the traits in [`embedded_io`](crate::embedded_io) poll LSR, and return an error after
+/// `spin_limit` unsuccessful polls in a row. The other calls do not wait.
+///
+/// A read of LSR clears its error bits in the chip, and a read of MSR its change bits. The driver saves those that its own
+/// reads clear, and the next `lsr` or `msr` returns them. So a poll loses no error and no change. `init` and the loopback
+/// test discard some.
+///
+/// # Examples
+///
+/// ```
+/// uart.init(Config::DEFAULT)?;
+/// uart.test_loopback()?;
+/// uart.check_connected()?;
+/// ```
 #[derive(Debug, Drop)]
 pub struct Uart16550<B> {
     backend: B,
@@ -42,9 +61,19 @@ pub struct Uart16550<B> {
 }
 
 impl<B: Backend> Uart16550<B> {
-    /// A driver over this backend, which makes no access yet: call `init` before anything else.
+    /// Returns a driver over this backend.
     ///
-    /// Until then the configuration is `Config::DEFAULT`, the FIFO is taken to be on, and no status bits are saved.
+    /// Makes no access: call `init` before any other call. Until then the configuration is `Config::DEFAULT`, no status
+    /// bits are saved, and the FIFO is taken to be on. So a send before `init` may write 16 bytes into a chip without a
+    /// FIFO, which keeps one of them.
+    ///
+    /// # Examples
+    ///
+    /// ```
+    /// let mut uart = Uart16550::new_with_backend(Console {
+    ///     shown: ArrayVec::new(),
+    /// });
+    /// ```
     pub fn new_with_backend(backend: B) -> Self
         ensures { IsFresh result backend Config.DEFAULT }
     {
@@ -58,17 +87,29 @@ impl<B: Backend> Uart16550<B> {
         }
     }
 
-    /// The backend, for reading its state. Makes no access.
+    /// Returns the backend, to read its state. Makes no access.
+    ///
+    /// # Examples
+    ///
+    /// ```
+    /// assert_eq!(rt; uart.backend().shown.as_slice(), b"hello".as_slice());
+    /// ```
     pub fn backend(&self) -> &B
         ensures { result.now ≡ backend_of self.now }
     {
         &self.backend
     }
 
-    /// The backend, for raw accesses of the caller's own. Makes no access itself.
+    /// Returns the backend, for raw accesses by the caller. Makes no access itself.
     ///
-    /// What such accesses read is not saved, and the driver does not see what they change: after a change of the chip's
-    /// configuration call `init` again with a configuration that matches.
+    /// Raw accesses bypass the driver: status bits that they clear are not saved, and the driver does not notice what they
+    /// change. After raw accesses that changed the setup of the chip, call `init` again with a configuration that matches.
+    ///
+    /// # Examples
+    ///
+    /// ```
+    /// uart.backend_mut().write(offsets::SPR as u8, 0x5a);
+    /// ```
     pub fn backend_mut(&mut self) -> &mut B
         ensures* writes_back { sem 𝓛 (Lends (the_row B.row) B.row self.entry result (λ b. record self.old { backend = b })) }
         ensures value { result.now ≡ backend_of self.old }
@@ -76,33 +117,68 @@ impl<B: Backend> Uart16550<B> {
         &mut self.backend
     }
 
-    /// The configuration that the last `init` was given, with the interrupts as they were enabled or disabled since.
+    /// Returns the configuration of the last `init`, with the interrupts as they were enabled and disabled since. Makes no
+    /// access.
     ///
-    /// An `init` that was refused for its baud rate leaves the configuration before it; one that was refused because no
-    /// device was present, or that stalled, leaves its own. Makes no access.
+    /// If that `init` failed with `InvalidBaudRate`, it is the configuration before it. If it failed with
+    /// `DeviceNotPresent` or `Stalled`, it is the new one.
+    ///
+    /// # Examples
+    ///
+    /// ```
+    /// uart.enable_interrupts(IER::THR_EMPTY);
+    /// assert_eq!(rt;
+    ///     uart.config().interrupts,
+    ///     IER::DATA_READY.union(IER::THR_EMPTY)
+    /// );
+    /// ```
     pub fn config(&self) -> &Config
         ensures { result.now ≡ (fields self.now).config }
     {
         &self.config
     }
 
-    /// Whether the chip has a FIFO that is on, as `init` found it; a driver that was never initialised takes it to be on.
-    /// Makes no access.
+    /// Returns whether the chip has a FIFO that is on, as the last `init` or `test_loopback` read it from ISR. Makes no
+    /// access.
+    ///
+    /// A driver that was never initialised takes the FIFO to be on. If it is on, a send check is followed by up to 16
+    /// bytes, else by one.
+    ///
+    /// # Examples
+    ///
+    /// ```
+    /// assert_eq!(rt; uart.fifo_enabled(), true);
+    /// ```
     pub fn fifo_enabled(&self) -> bool
         ensures { result ≡ (fields self.now).fifo }
     {
         self.fifo_enabled
     }
 
-    /// How many unsuccessful polls in a row a wait makes before it answers a stall. Makes no access.
+    /// Returns how many unsuccessful polls in a row a wait makes before it returns an error. Makes no access.
+    ///
+    /// # Examples
+    ///
+    /// ```
+    /// uart.spin_limit().get() == 7
+    /// ```
     pub fn spin_limit(&self) -> NonZeroU64
         ensures { non_zero_u64_get result ≡ (fields self.now).limit }
     {
         self.spin_limit
     }
 
-    /// Sets how many unsuccessful polls in a row a wait makes before it answers a stall. Makes no access, and changes
+    /// Sets how many unsuccessful polls in a row a wait makes before it returns an error. Makes no access, and changes
     /// nothing else.
+    ///
+    /// Choose it by the time of one poll: at 9,600 baud a full FIFO and shift register hold 17 characters of 10 bits, which
+    /// take about 17.7 ms to send.
+    ///
+    /// # Examples
+    ///
+    /// ```
+    /// uart.set_spin_limit(NonZeroU64::new(200).unwrap());
+    /// ```
     pub fn set_spin_limit(&mut self, limit: NonZeroU64)
         ensures { Did B.step (Sets (with_limit (non_zero_u64_get limit))) self.old self.new }
     {
@@ -119,7 +195,7 @@ impl<B: Backend> Uart16550<B> {
         self.backend.read(offset as u8)
     }
 
-    // Reads LSR, and saves the errors that this clears in the chip.
+    // Reads LSR, and saves the errors that the read clears in the chip.
     pub(crate) fn read_lsr(&mut self) -> LSR
         ensures { Made B.step (Only (Read offsets.LSR result.0 ∷ [])) self.old self.new }
     {
@@ -128,7 +204,7 @@ impl<B: Backend> Uart16550<B> {
         lsr
     }
 
-    // Reads MSR, and saves the changes that this clears in the chip.
+    // Reads MSR, and saves the changes that the read clears in the chip.
     pub(crate) fn read_msr(&mut self) -> MSR
         ensures { Made B.step (Only (Read offsets.MSR result.0 ∷ [])) self.old self.new }
     {
@@ -137,7 +213,7 @@ impl<B: Backend> Uart16550<B> {
         msr
     }
 
-    // Reads a register, and saves nothing of it.
+    // Reads a register, and saves none of its bits.
     pub(crate) fn read_plain(&mut self, offset: usize) -> u8
         requires { offset < NUM_REGISTERS }
         ensures { Did B.step (Plain (Only (Read offset result ∷ []))) self.old self.new }

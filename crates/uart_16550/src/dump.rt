@@ -1,4 +1,4 @@
-//! The register dump.
+//! The values of the registers, read one after another.
 ghost use Rattle.std.specs.Prelude.{◌≡◌, ◌<◌, ◌≤◌};
 ghost use Rattle.uart_spec.specs.Baud.{prescaler};
 ghost use Rattle.uart_16550.specs.Status.{divisor_of, IsDumpRate};
@@ -6,9 +6,9 @@ ghost use Rattle.uart_16550.specs.Status.{divisor_of, IsDumpRate};
 use uart_spec::registers::{DLL, DLM, IER, ISR, LCR, LSR, MCR, MSR, SPR};
 use uart_spec::{BaudRate, Config, NonIntegerBaudRateError, calc_baud_rate};
 
-/// What the registers of a device showed, one after another.
+/// The values of the registers of a device, read one after another by `Uart16550::config_register_dump`.
 ///
-/// Its default has all bits clear.
+/// In the default value all bits are clear.
 #[derive(Clone, Debug, Default, PartialEq, Eq, PartialOrd, Ord, Hash, Drop)]
 pub struct ConfigRegisterDump {
     /// The interrupt enable register.
@@ -19,9 +19,9 @@ pub struct ConfigRegisterDump {
     pub lcr: LCR,
     /// The modem control register.
     pub mcr: MCR,
-    /// The line status register, joined with the bits that the driver had saved.
+    /// The line status register, joined with the bits that the driver has saved.
     pub lsr: LSR,
-    /// The modem status register, joined with the bits that the driver had saved.
+    /// The modem status register, joined with the bits that the driver has saved.
     pub msr: MSR,
     /// The scratch register.
     pub spr: SPR,
@@ -32,20 +32,38 @@ pub struct ConfigRegisterDump {
 }
 
 impl ConfigRegisterDump {
-    /// The divisor that the latch holds, 0 to 65535.
+    /// Returns the divisor in the divisor latch, 0 to 65535.
+    ///
+    /// # Examples
+    ///
+    /// ```
+    /// assert_eq!(rt; shown.divisor(), 12);
+    /// ```
     pub fn divisor(&self) -> u16
         ensures { result ≡ divisor_of self.now }
     {
         256 * self.dlm as u16 + self.dll as u16
     }
 
-    /// The baud rate that the divisor gives at the configuration's frequency and prescaler: the case with a name, where there
-    /// is one. The configuration's own baud rate does not matter; its frequency must not be 0, and its prescaler division
-    /// factor absent or at most 15.
+    /// Returns the baud rate that the divisor gives at the configuration's frequency and prescaler division factor: the
+    /// case with a name if there is one, else `Custom`.
+    ///
+    /// The configuration's own baud rate does not matter. Its frequency must not be 0, and its prescaler division factor
+    /// must be `None` or at most 15.
     ///
     /// # Errors
     ///
-    /// `NonIntegerBaudRateError` where the divisor is 0, or the rate is not whole.
+    /// `NonIntegerBaudRateError` if the divisor is 0, or if the baud rate is not a whole number.
+    ///
+    /// # Examples
+    ///
+    /// ```
+    /// let dump = ConfigRegisterDump {
+    ///     dll: 12,
+    ///     ..ConfigRegisterDump::default()
+    /// };
+    /// assert_eq!(rt; dump.baud_rate(&Config::DEFAULT), Ok(BaudRate::Baud9600));
+    /// ```
     pub fn baud_rate(&self, config: &Config) -> Result<BaudRate, NonIntegerBaudRateError>
         requires frequency { 0 < config.now.frequency }
         requires prescaler { prescaler config.now.prescaler_division_factor ≤ 15 }

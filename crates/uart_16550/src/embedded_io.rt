@@ -1,7 +1,7 @@
 //! Traits for byte readers and writers, and their implementations for the driver.
 //!
-//! Generic code rests on the contracts that stand here: a reader or a writer names a relation of its state before a call, the
-//! bytes of the call, the answer and its state after, and its calls meet it.
+//! Generic code relies on the contracts of these traits. A reader or a writer defines a relation between its state
+//! before a call, the bytes of the call, its result, and its state after; each call is in this relation.
 ghost use Rattle.std.specs.Prelude.{◌≡◌, ◌≤◌, ℕ, Bool, List, Result, length, drop, IfOk, OnErr};
 ghost use Rattle.uart_spec.specs.declared.errors.StalledError.{StalledError};
 ghost use Rattle.uart_16550.specs.Driver.{Made};
@@ -12,7 +12,7 @@ use crate::driver::Uart16550;
 use uart_spec::StalledError;
 use uart_spec::registers::LSR;
 
-/// Names the error of a reader or a writer.
+/// Defines the error of a reader or a writer.
 pub trait ErrorType {
     /// The error of its calls.
     type Error;
@@ -20,12 +20,13 @@ pub trait ErrorType {
 
 /// A reader of bytes.
 pub trait Read: ErrorType {
-    // From the first state a call with so many slots may get these bytes, answer this, and leave the second state.
+    // From the first state a call with this number of slots may read these bytes, return this, and end in the second state.
     ghost reads: { Self → ℕ → List ℕ → Result ℕ Self.Error → Self → Type 0 };
 
-    /// Reads at least one byte into the slots, waits for it if need be, and answers how many were read. No slots get none.
+    /// Reads at least one byte into the slots, waits for it if necessary, and returns how many were read: 0 only if there
+    /// are no slots.
     ///
-    /// Slots past the count stay as they are; with an error all of them.
+    /// Slots beyond this number are unchanged. If the call fails, all slots are unchanged.
     fn read(&mut self, buf: &mut [u8]) -> Result<usize, Self::Error>
         ensures reads { reads self.old (length buf.old) (got result buf.new) result self.new }
         ensures count { IfOk result (λ count. count ≤ length buf.old) }
@@ -36,40 +37,40 @@ pub trait Read: ErrorType {
 
 /// A writer of bytes.
 pub trait Write: ErrorType {
-    // From the first state a call with these bytes may answer this and leave the second state.
+    // From the first state a call with these bytes may return this and end in the second state.
     ghost writes: { Self → List ℕ → Result ℕ Self.Error → Self → Type 0 };
 
-    // From the first state a flush may answer this and leave the second state.
+    // From the first state a flush may return this and end in the second state.
     ghost flushes: { Self → Result (Unit {0}) Self.Error → Self → Type 0 };
 
-    /// Writes at least one byte from the front, waits for room if need be, and answers how many were written. Of no bytes
-    /// none are written.
+    /// Writes at least one byte from the front, waits for room if necessary, and returns how many were written: 0 only if
+    /// there are no bytes.
     fn write(&mut self, buf: &[u8]) -> Result<usize, Self::Error>
         ensures writes { writes self.old buf.now result self.new }
         ensures count { IfOk result (λ count. count ≤ length buf.now) }
         ensures none { IfOk result (λ count. count ≡ 0 → length buf.now ≡ 0) };
 
-    /// Waits until all that was written has left.
+    /// Waits until everything that was written has been sent.
     fn flush(&mut self) -> Result<(), Self::Error>
         ensures { flushes self.old result self.new };
 }
 
-/// A reader that can tell whether a read would wait.
+/// A reader that can report whether a read would wait.
 pub trait ReadReady: ErrorType {
-    // From the first state the question may be answered so and leave the second state.
+    // From the first state a call may return this and end in the second state.
     ghost answers_read: { Self → Result Bool Self.Error → Self → Type 0 };
 
-    /// Whether a read would find a byte without waiting.
+    /// Returns whether a read would find a byte without waiting.
     fn read_ready(&mut self) -> Result<bool, Self::Error>
         ensures { answers_read self.old result self.new };
 }
 
-/// A writer that can tell whether a write would wait.
+/// A writer that can report whether a write would wait.
 pub trait WriteReady: ErrorType {
-    // From the first state the question may be answered so and leave the second state.
+    // From the first state a call may return this and end in the second state.
     ghost answers_write: { Self → Result Bool Self.Error → Self → Type 0 };
 
-    /// Whether a write would find room without waiting.
+    /// Returns whether a write would find room without waiting.
     fn write_ready(&mut self) -> Result<bool, Self::Error>
         ensures { answers_write self.old result self.new };
 }
@@ -81,6 +82,17 @@ impl<B: Backend> ErrorType for Uart16550<B> {
 impl<B: Backend> Read for Uart16550<B> {
     ghost reads = { λ old slots bytes answer new. Made B.step (Reads slots bytes answer) old new };
 
+    /// Waits for a byte, at most `spin_limit` polls of LSR, and then receives as `receive_bytes` does.
+    ///
+    /// # Errors
+    ///
+    /// `StalledError`, with `done` 0, after `spin_limit` unsuccessful polls in a row.
+    ///
+    /// # Examples
+    ///
+    /// ```
+    /// assert_eq!(rt; uart.read(&mut slots[1..]), Ok(1));
+    /// ```
     fn read(&mut self, buf: &mut [u8]) -> Result<usize, StalledError> {
         if buf.is_empty() {
             return Ok(0);
@@ -97,6 +109,21 @@ impl<B: Backend> Write for Uart16550<B> {
 
     ghost flushes = { λ old answer new. Made B.step (Flushes answer) old new };
 
+    /// Waits for room, at most `spin_limit` checks as `ready_to_send`, and then sends one burst: up to 16 bytes if the FIFO
+    /// is on, else one.
+    ///
+    /// # Errors
+    ///
+    /// `StalledError`, with `done` 0, after `spin_limit` unsuccessful checks in a row.
+    ///
+    /// # Examples
+    ///
+    /// ```
+    /// match writer.write(&bytes[done..]) {
+    ///     Ok(count) => done += count,
+    ///     Err(error) => return Err(error),
+    /// }
+    /// ```
     fn write(&mut self, buf: &[u8]) -> Result<usize, StalledError> {
         if buf.is_empty() {
             return Ok(0);
@@ -107,6 +134,12 @@ impl<B: Backend> Write for Uart16550<B> {
         }
     }
 
+    /// Waits until LSR shows `TRANSMITTER_EMPTY`, at most `spin_limit` polls: THR, or the transmitter FIFO, and the shift
+    /// register are empty then.
+    ///
+    /// # Errors
+    ///
+    /// `StalledError`, with `done` 0, after `spin_limit` unsuccessful polls in a row.
     fn flush(&mut self) -> Result<(), StalledError> {
         if self.wait_for(LSR::TRANSMITTER_EMPTY) {
             Ok(())
@@ -119,6 +152,7 @@ impl<B: Backend> Write for Uart16550<B> {
 impl<B: Backend> ReadReady for Uart16550<B> {
     ghost answers_read = { λ old answer new. Made B.step (AnswersRead answer) old new };
 
+    /// Returns whether `ready_to_receive` succeeds. Does not wait, and never fails.
     fn read_ready(&mut self) -> Result<bool, StalledError> {
         Ok(self.ready_to_receive().is_ok())
     }
@@ -127,6 +161,7 @@ impl<B: Backend> ReadReady for Uart16550<B> {
 impl<B: Backend> WriteReady for Uart16550<B> {
     ghost answers_write = { λ old answer new. Made B.step (AnswersWrite answer) old new };
 
+    /// Returns whether `ready_to_send` succeeds. Does not wait, and never fails.
     fn write_ready(&mut self) -> Result<bool, StalledError> {
         Ok(self.ready_to_send().is_ok())
     }

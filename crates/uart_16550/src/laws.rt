@@ -1,6 +1,6 @@
-//! Laws about the calls of a driver, which follow from what their contracts say.
+//! Laws about the calls of a driver. They follow from the contracts of the calls.
 //!
-//! Each function here has a law as its contract, for callers to cite, and does nothing.
+//! The contract of each function is a law that callers can cite. The functions do nothing.
 ghost use Rattle.std.specs.Prelude.{◌≡◌, [], ◌∷◌};
 ghost use Rattle.std.specs.Ordering.{nat_cmp};
 ghost use Rattle.uart_spec.specs.Orders.{in_turn};
@@ -15,39 +15,40 @@ use crate::backend::Backend;
 use crate::dump::ConfigRegisterDump;
 use uart_spec::registers::{IER, ISR, LCR, LSR, MCR, MSR};
 
-/// The contract of each call leaves no choice: what its reads answered so far decides the next access, and in the end what is
-/// returned, what is in the slots, and what is in the driver's fields.
+/// The contract of each call determines what the call does: what its reads have returned so far determines the next access,
+/// and in the end the result, the contents of the slots, and the driver's fields.
 pub fn calls_leave_no_choice()
     ensures saving { (call : SavingCall) → LeavesNoChoice (λ outcome. Saving (SavingLists call outcome)) }
     ensures changing { (call : ChangingCall) → LeavesNoChoice (ChangingDoing call) }
 {}
 
-/// Two drivers with equal fields, each over a backend of its own, do the same in a call whose reads are answered alike.
+/// Two drivers with equal fields, each over its own backend, do the same in a call whose reads return the same.
 pub fn calls_agree<B: Backend, C: Backend>()
     ensures saving { (call : SavingCall) → AgreeSaving (SavingLists call) B.step C.step }
     ensures changing { (call : ChangingCall) → Agree (ChangingDoing call) B.step C.step }
 {}
 
-/// Over a backend whose step relation is a function, a call has one outcome, and leaves the driver and the backend in one state.
+/// Over a backend whose step relation is a function, a call has one outcome, and leaves the driver and the backend in one
+/// state.
 pub fn calls_have_one_outcome<B: Backend>()
     ensures saving { IsFunction B.step → (call : SavingCall) → HasOneOutcomeSaving (SavingLists call) B.step }
     ensures changing { IsFunction B.step → (call : ChangingCall) → HasOneOutcome (ChangingDoing call) B.step }
 {}
 
-/// A call over a [`Replay`](crate::replay::Replay) of what the reads of a call were answered, from equal fields, repeats it: it
-/// has the same outcome, leaves equal fields, and makes the same accesses. So a replay is a function from fields and answers to the
-/// one list that the call may make.
+/// A call repeats another one if it starts from equal fields, over a [`Replay`](crate::replay::Replay) of what the reads of
+/// the other call returned: it has the same outcome, leaves equal fields, and makes the same accesses. So a replay is a
+/// function from fields and read bytes to the one list of accesses that the call may make.
 pub fn replays_repeat_calls<B: Backend>()
     ensures saving { (call : SavingCall) → RepeatsSaving (SavingLists call) B.step }
     ensures changing { (call : ChangingCall) → Repeats (ChangingDoing call) B.step }
 {}
 
-/// The spin limit of a driver that was given none.
+/// The spin limit of a driver until `set_spin_limit` is called.
 pub fn default_spin_limit_is_this()
     ensures { DEFAULT_SPIN_LIMIT ≡ 1000000 }
 {}
 
-/// Dumps are compared by their registers in this order, and the default has all bits clear.
+/// Dumps are compared by their registers, in this order. In the default value all bits are clear.
 pub fn dump_fields_are_in_order()
     ensures order { (a b : ConfigRegisterDump) → ⟦<ConfigRegisterDump as Ord>⟧.cmp a b ≡ in_turn (
         ⟦<IER as Ord>⟧.cmp a.ier b.ier

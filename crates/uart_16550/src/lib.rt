@@ -1,4 +1,20 @@
-//! A driver for the 16550 family of serial chips, proved over any backend.
+//! A driver for the serial chips of the 16550 family, proved over any backend.
+//!
+//! - [`Uart16550`] is the driver: initialisation, loopback test, sending and receiving by polling, status, interrupts.
+//! - [`Uart16550Tty`] sends text through it as terminals expect it.
+//! - [`backend`] has the access to registers at I/O ports and in memory, and the trait for a backend of your own.
+//! - [`embedded_io`] has traits for byte readers and writers, which the driver implements.
+//!
+//! No call blocks forever: each wait ends with an error after [`Uart16550::spin_limit`] unsuccessful polls in a row.
+//! The contract of each call says which accesses it makes, in which order, and how it changes the driver's fields.
+//!
+//! # Examples
+//!
+//! ```
+//! let mut uart = Uart16550::new_port(0x3f8, ports)?;
+//! uart.init(Config::DEFAULT)?;
+//! uart.send_bytes_exact(b"hello")?;
+//! ```
 #![tactic(auto)]
 
 mod address;

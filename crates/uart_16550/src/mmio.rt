@@ -1,4 +1,4 @@
-//! The backend in memory.
+//! The backend for a device in memory.
 ghost use Rattle.std.specs.Prelude.{◌≡◌, ◌<◌, IfOk, IfErr, IsTrue};
 ghost use Rattle.std.specs.Borrow.{Lends, sem};
 ghost use Rattle.std.specs.Int.{is_power_of_two};
@@ -13,9 +13,9 @@ use std::num::{NonZeroU8, NonZeroUsize};
 use uart_spec::InvalidAddressError;
 use uart_spec::registers::offsets;
 
-/// A device whose eight registers lie in memory, each a stride further than the one before.
+/// A device whose eight registers are in memory, at equal distances: the stride.
 ///
-/// An access of a register is one access of the byte at `base + offset * stride`, and of no other.
+/// An access to a register is one access to the byte at `base + offset * stride`, and to no other byte.
 #[derive(Clone, Debug, PartialEq, Eq, PartialOrd, Hash, Drop)]
 pub struct MmioBackend<M> {
     base: NonZeroUsize,
@@ -37,8 +37,8 @@ impl<M> Model for MmioBackend<M> {
 }
 
 impl<M: ByteAccess> MmioBackend<M> {
-    // The backend from this address on with this stride, unless the stride is no power of two or the last register would lie
-    // beyond the last address.
+    // Returns the backend from this address on with this stride, unless the stride is not a power of two or the last
+    // register would be beyond the last address.
     pub(crate) fn new(
         base: NonZeroUsize,
         stride: u8,
@@ -63,7 +63,7 @@ impl<M: ByteAccess> MmioBackend<M> {
         })
     }
 
-    /// The address of the first register.
+    /// Returns the address of the first register.
     pub fn base(&self) -> NonZeroUsize
         ensures value { result ≡ self.now.base }
         ensures in_range { IsMapping (non_zero_usize_get result) (non_zero_u8_get self.now.stride) }
@@ -71,7 +71,7 @@ impl<M: ByteAccess> MmioBackend<M> {
         self.base
     }
 
-    /// How many bytes the registers lie apart: a power of two.
+    /// Returns the distance between two registers in bytes: a power of two.
     pub fn stride(&self) -> NonZeroU8
         ensures value { result ≡ self.now.stride }
         ensures power { IsTrue (is_power_of_two (non_zero_u8_get result)) }
@@ -79,16 +79,18 @@ impl<M: ByteAccess> MmioBackend<M> {
         self.stride
     }
 
-    /// The access to memory, for reading its state. Makes no access.
+    /// Returns the access object, to read its state. Makes no access.
     pub fn access(&self) -> &M
         ensures { result.now ≡ self.now.access }
     {
         &self.access
     }
 
-    /// The access to memory, for what only it can do, as to report a fault. Makes no access itself.
+    /// Returns the access object, for what it can do besides the accesses, such as reporting a fault. Makes no access
+    /// itself.
     ///
-    /// Accesses of the caller's own bypass the driver: what they read is not saved, and the driver does not see what they change.
+    /// Accesses by the caller bypass the driver: status bits that they clear are not saved, and the driver does not notice
+    /// what they change.
     pub fn access_mut(&mut self) -> &mut M
         ensures* writes_back { sem 𝓛 (Lends (the_row M.row) M.row self.entry result (λ m. record self.old { access = m })) }
         ensures value { result.now ≡ self.old.access }

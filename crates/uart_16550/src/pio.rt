@@ -1,4 +1,4 @@
-//! The backend at I/O ports.
+//! The backend for a device at I/O ports.
 ghost use Rattle.std.specs.Prelude.{◌≡◌, ◌+◌, ◌<◌, IfOk, IfErr};
 ghost use Rattle.std.specs.Borrow.{Lends, sem};
 ghost use Rattle.uart_spec.specs.declared.baud.TheConstants.{NUM_REGISTERS};
@@ -10,9 +10,9 @@ use std::marker::Model;
 use uart_spec::InvalidAddressError;
 use uart_spec::registers::offsets;
 
-/// A device whose eight registers lie at eight I/O ports in a row.
+/// A device whose eight registers are at consecutive I/O ports.
 ///
-/// An access of a register is one access of the port `base + offset`, and of no other.
+/// An access to a register is one access to the port `base + offset`, and to no other port.
 #[derive(Clone, Debug, PartialEq, Eq, PartialOrd, Hash, Drop)]
 pub struct PioBackend<P> {
     base: u16,
@@ -32,7 +32,7 @@ impl<P> Model for PioBackend<P> {
 }
 
 impl<P: PortAccess> PioBackend<P> {
-    // The backend from this port on, unless the last register would lie beyond the last port.
+    // Returns the backend from this port on, unless the last register would be beyond the last port.
     pub(crate) fn new(base: u16, access: P) -> Result<Self, InvalidAddressError>
     where
         P: Drop,
@@ -45,7 +45,7 @@ impl<P: PortAccess> PioBackend<P> {
         Ok(PioBackend { base, access })
     }
 
-    /// The port of the first register.
+    /// Returns the port of the first register.
     pub fn base(&self) -> u16
         ensures value { result ≡ self.now.base }
         ensures in_range { IsPortBase result }
@@ -53,16 +53,18 @@ impl<P: PortAccess> PioBackend<P> {
         self.base
     }
 
-    /// The access to ports, for reading its state. Makes no access.
+    /// Returns the access object, to read its state. Makes no access.
     pub fn access(&self) -> &P
         ensures { result.now ≡ self.now.access }
     {
         &self.access
     }
 
-    /// The access to ports, for what only it can do, as to report a fault. Makes no access itself.
+    /// Returns the access object, for what it can do besides the accesses, such as reporting a fault. Makes no access
+    /// itself.
     ///
-    /// Accesses of the caller's own bypass the driver: what they read is not saved, and the driver does not see what they change.
+    /// Accesses by the caller bypass the driver: status bits that they clear are not saved, and the driver does not notice
+    /// what they change.
     pub fn access_mut(&mut self) -> &mut P
         ensures* writes_back { sem 𝓛 (Lends (the_row P.row) P.row self.entry result (λ p. record self.old { access = p })) }
         ensures value { result.now ≡ self.old.access }

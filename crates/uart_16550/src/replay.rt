@@ -1,8 +1,9 @@
-//! A backend that plays answers back, and keeps the accesses that were made.
+//! A backend that plays back what reads returned, and keeps the accesses that are made.
 //!
-//! A call's list of accesses is decided by the driver's fields and by what is answered. So a driver over a `Replay` is a function
-//! from these to the one list that the call may make: whatever another backend answers, the same call with the same fields over a
-//! replay of its answers makes the same accesses ([`replays_repeat_calls`](crate::laws::replays_repeat_calls)).
+//! The accesses of a call are determined by the driver's fields and by what its reads return. So a driver over a
+//! `Replay` is a function from these to the one list of accesses that the call may make: over any other backend, a call
+//! with the same fields whose reads return the same bytes makes the same accesses
+//! ([`replays_repeat_calls`](crate::laws::replays_repeat_calls)).
 ghost use Rattle.std.specs.Prelude.{◌≡◌, true, false, ◌&&◌, [], ◌∷◌, ◌++◌, nat_lt, length, map, IfSome, IsNone};
 ghost use Rattle.uart_spec.specs.Access.{Read};
 ghost use Rattle.uart_16550.specs.Replay.{Plays, TapesShow, access_of};
@@ -11,13 +12,15 @@ use crate::backend::Backend;
 use arrayvec::ArrayVec;
 use std::marker::Model;
 
-/// How many accesses a `Replay` keeps.
+/// The number of accesses that a `Replay` keeps.
 pub const REPLAY_ROOM: usize = 512;
 
-/// One access: where, and the byte that was read or written.
+/// One access: the offset of the register, and the byte that was read or written.
 #[derive(Clone, Copy, Debug, PartialEq, Eq)]
 pub enum Entry {
+    /// A read of the register at this offset, which returned this byte.
     Read(usize, u8),
+    /// A write of this byte to the register at this offset.
     Write(usize, u8),
 }
 
@@ -29,8 +32,8 @@ impl Default for Entry {
     }
 }
 
-/// A backend that answers the bytes of a list in turn, and then 0, whatever the register. It keeps its accesses, as long as there
-/// is room.
+/// A backend whose reads return the bytes of a list in turn, and then 0, whatever the register. It keeps the accesses until
+/// there is no more room.
 #[derive(Drop)]
 pub struct Replay<'a> {
     answers: &'a [u8],
@@ -48,7 +51,13 @@ impl<'a> Model for Replay<'a> {
 }
 
 impl<'a> Replay<'a> {
-    /// A replay of these answers, to which no access was made.
+    /// Returns a replay of these bytes, over which no access was made.
+    ///
+    /// # Examples
+    ///
+    /// ```
+    /// let mut uart = Uart16550::new_with_backend(Replay::new(&[0x1e, 0x60, 0x0f]));
+    /// ```
     pub fn new(answers: &'a [u8]) -> Self
         ensures { result ≡ record { answers = answers.now; made = []; whole = true } }
     {
@@ -59,7 +68,7 @@ impl<'a> Replay<'a> {
         }
     }
 
-    /// The accesses that were made; `None` if there were more than are kept.
+    /// Returns the accesses that were made, or `None` if there were more than `REPLAY_ROOM`.
     pub fn accesses(&self) -> Option<&[Entry]>
         ensures some { IfSome result (λ accesses. (self.now.whole ≡ true) × (self.now.made ≡ map access_of accesses.now)) }
         ensures none { IsNone result → self.now.whole ≡ false }
@@ -103,8 +112,9 @@ impl Backend for Replay<'_> {
     }
 }
 
-/// A replay that kept all of its accesses shows those that led to it, and its reads were answered by its answers, in turn. This is
-/// a law for callers to cite, and does nothing.
+/// If a replay kept all of its accesses, it shows those that led to it, and its reads returned its bytes in turn.
+///
+/// This is a law that callers can cite. The function does nothing.
 #[tactic(auto, using(crate::proofs::Replays::tapes_show))]
 pub fn replays_show_their_accesses()
     ensures { TapesShow }

@@ -19,8 +19,16 @@ use uart_spec::{Config, StalledError, Uart16550TtyError};
 
 /// A driver that sends text as terminals expect it.
 ///
-/// Backspace and delete are sent as backspace, space, backspace; a line feed as carriage return and line feed; all other
-/// bytes as they are, a carriage return too. Bytes are expanded, not characters.
+/// Backspace and delete are sent as backspace, space, backspace, and a line feed as carriage return, line feed. All other
+/// bytes are sent unchanged, also a carriage return. Bytes are expanded, not characters.
+///
+/// # Examples
+///
+/// ```
+/// let mut terminal = Uart16550Tty::from_inner(uart);
+/// assert!(rt; writeln!(terminal, "hello").is_ok());
+/// assert_eq!(rt; terminal.write_text("\x7f"), Ok(()));
+/// ```
 #[derive(Debug, Drop)]
 pub struct Uart16550Tty<B> {
     inner: Uart16550<B>,
@@ -34,7 +42,7 @@ struct Expansion {
     ghost in_range: { len ≤ 3 },
 }
 
-// What is sent for a byte of a text.
+// Returns what is sent for a byte of a text.
 fn expansion_of(byte: u8) -> Expansion
     ensures { take result.len result.bytes ≡ expansion_of byte }
 {
@@ -55,13 +63,23 @@ fn expansion_of(byte: u8) -> Expansion
 }
 
 impl<B: Backend + Drop> Uart16550Tty<B> {
-    /// A terminal over this backend: a new driver is initialised with this configuration, which must be computable
-    /// (`Config::is_computable`), and then tested in loopback.
+    /// Returns a terminal over this backend: constructs a driver, and calls its `init` with this configuration, which must
+    /// be computable (`Config::is_computable`), and then its `test_loopback`.
+    ///
+    /// Waits as these two calls do, with the default spin limit. Use `from_inner` for a device without loopback.
     ///
     /// # Errors
     ///
-    /// `InitError` where `init` was refused, `TestError` where it succeeded and `test_loopback` was refused. The backend is
-    /// then dropped, in the state in which the refused call left it.
+    /// - `InitError` if `init` failed.
+    /// - `TestError` if `init` succeeded and `test_loopback` failed. The device stays initialised.
+    ///
+    /// The backend is dropped then, in the state in which the failed call left it.
+    ///
+    /// # Examples
+    ///
+    /// ```
+    /// let tty = Uart16550Tty::new_with_backend(device(), Config::DEFAULT)?;
+    /// ```
     pub fn new_with_backend(backend: B, config: Config) -> Result<Self, Uart16550TtyError>
         requires { IsComputable config }
         ensures { BuildsTerminal B.step backend config result }
@@ -85,12 +103,19 @@ impl<B: Backend + Drop> Uart16550Tty<B> {
 }
 
 impl<P: PortAccess + Drop> Uart16550Tty<PioBackend<P>> {
-    /// A terminal over the device whose registers lie at eight I/O ports from this one on, set up as by `new_with_backend`.
+    /// Returns a terminal for the device whose registers are at eight consecutive I/O ports, from `base_port` on. Sets it
+    /// up as `new_with_backend` does.
     ///
     /// # Errors
     ///
-    /// `AddressError` as of `Uart16550::new_port`: no access was made. Else those of `new_with_backend`. The access object is
-    /// then dropped.
+    /// `AddressError` if `Uart16550::new_port` failed. No access was made then. Otherwise those of `new_with_backend`. The
+    /// access object is dropped.
+    ///
+    /// # Examples
+    ///
+    /// ```
+    /// let tty = Uart16550Tty::new_port(0x3f8, device(), Config::DEFAULT)?;
+    /// ```
     pub fn new_port(base_port: u16, access: P, config: Config) -> Result<Self, Uart16550TtyError>
         requires { IsComputable config }
         ensures { BuildsTerminalAt (PortStep P.step) (λ ports. IsAtPorts ports base_port access) (IsPortRefusal base_port) config result }
@@ -103,13 +128,20 @@ impl<P: PortAccess + Drop> Uart16550Tty<PioBackend<P>> {
 }
 
 impl<M: ByteAccess + Drop> Uart16550Tty<MmioBackend<M>> {
-    /// A terminal over the device whose registers lie in memory from this address on, each a stride further than the one
-    /// before, set up as by `new_with_backend`.
+    /// Returns a terminal for the device whose registers are in memory, from `base_address` on and `stride` bytes apart.
+    /// Sets it up as `new_with_backend` does.
     ///
     /// # Errors
     ///
-    /// `AddressError` as of `Uart16550::new_mmio`: no access was made. Else those of `new_with_backend`. The access object is
-    /// then dropped.
+    /// `AddressError` if `Uart16550::new_mmio` failed. No access was made then. Otherwise those of `new_with_backend`. The
+    /// access object is dropped.
+    ///
+    /// # Examples
+    ///
+    /// ```
+    /// let base = NonZeroUsize::new(0x1000).ok_or("base 0")?;
+    /// let tty = Uart16550Tty::new_mmio(base, 4, device(), Config::DEFAULT)?;
+    /// ```
     pub fn new_mmio(
         base_address: NonZeroUsize,
         stride: u8,
@@ -126,7 +158,18 @@ impl<M: ByteAccess + Drop> Uart16550Tty<MmioBackend<M>> {
         }
     }
 
-    /// The same as `new_mmio`: an address is a number here, and no pointer.
+    /// Does the same as `new_mmio`. Both take the base address as a number, not as a pointer.
+    ///
+    /// # Errors
+    ///
+    /// Those of `new_mmio`.
+    ///
+    /// # Examples
+    ///
+    /// ```
+    /// let base = NonZeroUsize::new(0x1000).ok_or("base 0")?;
+    /// let tty = Uart16550Tty::new_mmio_from_address(base, 4, device(), Config::DEFAULT)?;
+    /// ```
     pub fn new_mmio_from_address(
         base_address: NonZeroUsize,
         stride: u8,
@@ -142,23 +185,44 @@ impl<M: ByteAccess + Drop> Uart16550Tty<MmioBackend<M>> {
 }
 
 impl<B: Backend> Uart16550Tty<B> {
-    /// A terminal over a driver that was initialised already. Makes no access.
+    /// Returns a terminal over a driver that is already initialised. Makes no access.
     ///
-    /// The way for devices that have no loopback to test.
+    /// This is the way for a device without loopback, for a driver with its own spin limit, and after an `init` without a
+    /// test.
+    ///
+    /// # Examples
+    ///
+    /// ```
+    /// let mut terminal = Uart16550Tty::from_inner(uart);
+    /// assert!(rt; writeln!(terminal, "hello").is_ok());
+    /// ```
     pub fn from_inner(inner: Uart16550<B>) -> Self
         ensures { inner_of result ≡ inner }
     {
         Uart16550Tty { inner }
     }
 
-    /// The driver. Makes no access.
+    /// Returns the driver. Makes no access.
+    ///
+    /// # Examples
+    ///
+    /// ```
+    /// assert_eq!(rt; terminal.inner().fifo_enabled(), fifo_enabled);
+    /// ```
     pub fn inner(&self) -> &Uart16550<B>
         ensures { result.now ≡ inner_of self.now }
     {
         &self.inner
     }
 
-    /// The driver, for calls of the caller's own. Makes no access itself.
+    /// Returns the driver, for its own calls: to receive, or to read a status. Makes no access itself.
+    ///
+    /// # Examples
+    ///
+    /// ```
+    /// let uart = terminal.inner_mut();
+    /// assert_eq!(rt; uart.receive_bytes(&mut slots), 2);
+    /// ```
     pub fn inner_mut(&mut self) -> &mut Uart16550<B>
         ensures* writes_back { sem 𝓛 (Lends (the_row B.row) (driver_row B.row) self.entry result (λ d. record { inner = d })) }
         ensures value { result.now ≡ inner_of self.old }
@@ -166,12 +230,20 @@ impl<B: Backend> Uart16550Tty<B> {
         &mut self.inner
     }
 
-    /// Sends the text's expansion byte by byte, and waits for room before each.
+    /// Sends the expansion of the text byte by byte, and waits for room before each byte.
+    ///
+    /// Each wait makes at most `spin_limit` polls. Received bytes are not touched.
     ///
     /// # Errors
     ///
-    /// `StalledError` at the spin limit's number of unsuccessful polls in a row; `done` is how many bytes of the expansion were
-    /// sent before that. The count saturates.
+    /// `StalledError` after `spin_limit` unsuccessful polls in a row. `done` is the number of bytes of the expansion that
+    /// were sent before that, or `usize::MAX` if there were more.
+    ///
+    /// # Examples
+    ///
+    /// ```
+    /// assert_eq!(rt; terminal.write_text("\x7f"), Ok(()));
+    /// ```
     pub fn write_text(&mut self, text: &str) -> Result<(), StalledError>
         ensures { TerminalMade B.step (SendsText text.now result) self.old self.new }
     {
@@ -193,7 +265,11 @@ impl<B: Backend> Uart16550Tty<B> {
 impl<B: Backend> fmt::Write for Uart16550Tty<B> {
     ghost write_str_gives = { λ old text new. TerminalMade B.step (SendsEach (expansion text)) old new };
 
-    /// As `write_text`, without the count.
+    /// Sends the expansion of the text as `write_text` does.
+    ///
+    /// # Errors
+    ///
+    /// `fmt::Error` if `write_text` failed. It does not report how many bytes were sent.
     fn write_str(&mut self, text: &str) -> fmt::Result
         ensures ok { IsOk result → TerminalMade B.step (SendsEach (expansion text.now)) self.old self.new }
         ensures made { TerminalMade B.step (SendsStr text.now result) self.old self.new }

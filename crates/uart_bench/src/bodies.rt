@@ -1,6 +1,6 @@
 //! The bodies whose instructions are counted.
 //!
-//! Each is a function of its own in the built program, for each backend, so that a profiler can name it.
+//! Each is a function of its own in the built program, for each backend, so that a profiler can identify it.
 ghost use Rattle.std.specs.Prelude.{◌≡◌};
 ghost use Rattle.uart_spec.specs.Config.{IsComputable};
 
@@ -13,14 +13,23 @@ use uart_16550::{Config, ConfigRegisterDump, Uart16550, Uart16550Tty};
 /// A body.
 #[derive(Clone, Copy, Debug, PartialEq, Eq)]
 pub enum Body {
+    /// `send_bytes_exact` with the FIFO on.
     SendFifo,
+    /// `send_bytes_exact` with the FIFO off.
     SendSingle,
+    /// `receive_bytes_exact`.
     Receive,
+    /// `init` with a trigger level.
     InitFifo,
+    /// `init` without a trigger level.
     InitSingle,
+    /// `lsr`.
     Lsr,
+    /// `msr`.
     Msr,
+    /// `config_register_dump`.
     Dump,
+    /// `write_str` of a terminal.
     Text,
 }
 
@@ -71,7 +80,7 @@ fn config_with(level: Option<FifoTriggerLevel>) -> Config
     }
 }
 
-/// Runs a body so many times over a backend, and returns what came of its accesses.
+/// Runs a body `count` times over a backend, and returns the totals of its accesses.
 ///
 /// The buffer is what one call sends or receives, and the text what one call prints.
 pub fn run<B: Observed + Drop>(

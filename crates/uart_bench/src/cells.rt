@@ -1,29 +1,29 @@
-//! Memory cells in the place of a device.
+//! Memory cells instead of a device.
 ghost use Rattle.std.specs.Prelude.{⊤, ◌<◌};
 
 use uart_16550::backend::Backend;
 use uart_16550::spec::registers::offsets;
 
-/// What came of the accesses of a backend.
+/// The totals of the accesses of a backend.
 #[derive(Clone, Copy, Debug, PartialEq, Eq)]
 pub struct Totals {
-    /// How many reads were counted.
+    /// The number of counted reads.
     pub reads: u64,
-    /// How many writes were counted.
+    /// The number of counted writes.
     pub writes: u64,
     /// The digest of all bytes that were read and written.
     pub digest: u64,
 }
 
-/// A backend that tells what came of its accesses.
+/// A backend that reports the totals of its accesses.
 pub trait Observed: Backend {
-    /// What came of the accesses so far. Only `Counted` counts them.
+    /// Returns the totals so far. Only `Counted` counts accesses.
     fn totals(&self) -> Totals;
 }
 
 /// A cell for each register, and a digest of all bytes that were read and written.
 ///
-/// A write to LSR leaves its cell alone. The digest is there to be printed: else the compiler would leave out the accesses.
+/// A write to LSR does not change its cell. The digest is printed, so that the compiler cannot remove the accesses.
 #[derive(Drop)]
 pub struct Cells {
     cells: [u8; 8],
@@ -31,7 +31,7 @@ pub struct Cells {
 }
 
 impl Cells {
-    /// Cells that hold a filling, but for the one of LSR.
+    /// Returns cells with this filling, except for the one of LSR.
     pub fn new(filling: u8, lsr: u8) -> Self {
         let mut cells = [filling; 8];
         cells[offsets::LSR] = lsr;
@@ -51,7 +51,7 @@ impl Cells {
 }
 
 impl Backend for Cells {
-    // Nothing is promised of what a cell returns.
+    // Nothing is promised about what a cell returns.
     ghost step = { λ _ _ _. ⊤ };
 
     fn read(&mut self, register_offset: u8) -> u8 {
@@ -78,7 +78,7 @@ impl Observed for Cells {
     }
 }
 
-/// Cells whose accesses stay calls in the built program, as those of a device behind a library do.
+/// Cells whose accesses stay calls in the built program, as those of a device behind a library.
 #[derive(Drop)]
 pub struct Called(pub Cells);
 
@@ -111,7 +111,7 @@ pub struct Counted {
 }
 
 impl Counted {
-    /// Cells of which no access was counted yet.
+    /// Returns cells of which no access was counted.
     pub fn new(cells: Cells) -> Self {
         Counted {
             cells,

@@ -31,7 +31,7 @@ fn idle(machine: &mut Device16550) -> usize {
     machine.idle(1)
 }
 
-// A mark and 1,000 ticks, so many times.
+// Returns a mark and 1,000 ticks, `count` times.
 fn thousands(alloc: Global, count: u64) -> Result<Vec<Event>, AllocError> {
     let mut schedule = Vec::new(alloc);
     for _turn in 0..count {
@@ -41,7 +41,7 @@ fn thousands(alloc: Global, count: u64) -> Result<Vec<Event>, AllocError> {
     Ok(schedule)
 }
 
-/// Does this so many times on a machine that is given a character to send before, and returns what LSR shows then.
+/// Does this `count` times on a machine that was given a character to send before, and returns LSR after that.
 pub fn perform(alloc: Global, work: Work, count: u64) -> Result<u8, BuildError> {
     let schedule = match work {
         Work::Access | Work::Idle => Ok(Vec::new(alloc)),

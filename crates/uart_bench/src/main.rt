@@ -14,10 +14,10 @@ use rings::{RingWork, perform as perform_ring};
 use std::env;
 use std::rt::Runtime;
 
-// How many bytes one call of a measured body sends, receives or prints.
+// The number of bytes that one call of a measured body sends, receives or prints.
 const MEASURED_BYTES: usize = 1 << 20;
 
-// The same in the short run: whole pieces and a rest.
+// The same in the short run: whole pieces and a remainder.
 const SHORT_BYTES: usize = 300;
 
 // What is measured: a body of the driver over cells of which LSR holds this byte, the chip, or the rings.
@@ -48,7 +48,7 @@ const SUBJECTS: [(Subject, &str); 16] = [
     (Subject::Rings(RingWork::Receive), "ring-receive"),
 ];
 
-// What a body's accesses come to if it is run so many times.
+// Returns the totals of a body's accesses if it is run `count` times.
 fn counted(body: Body, count: u64, lsr: u8) -> Totals {
     let mut buffer = [0x55; SHORT_BYTES];
     let line = "A line of text for the terminal: plain.\n";
@@ -56,7 +56,7 @@ fn counted(body: Body, count: u64, lsr: u8) -> Totals {
     run(body, count, cells, &mut buffer, line)
 }
 
-// Runs each once, and prints what its accesses came to.
+// Runs each once, and prints the totals of its accesses.
 fn short_run<R: Runtime + AllocGlobal>(rt: &R) -> Result<()> {
     for (subject, name) in SUBJECTS {
         match subject {
@@ -83,7 +83,7 @@ fn short_run<R: Runtime + AllocGlobal>(rt: &R) -> Result<()> {
     Ok(())
 }
 
-// Runs the body so many times, and returns the digest of its accesses.
+// Runs the body `count` times, and returns the digest of its accesses.
 fn digest_of<R: Runtime + AllocGlobal>(
     rt: &R,
     body: Body,
@@ -102,7 +102,7 @@ fn digest_of<R: Runtime + AllocGlobal>(
     Ok(totals.digest)
 }
 
-// Runs what has this name so many times.
+// Runs what has this name `count` times.
 fn measure<R: Runtime + AllocGlobal>(rt: &R, name: &str, count: u64, called: bool) -> Result<()> {
     let Some((subject, _)) = SUBJECTS.iter().copied().find(|(_, known)| *known == name) else {
         bail!("no body is called {name}");

@@ -12,20 +12,20 @@ use uart_ring::{RingError, Uart16550Ring};
 /// What is counted.
 #[derive(Clone, Copy, Debug, PartialEq, Eq)]
 pub enum RingWork {
-    /// `queue` of 16 bytes, which the chip takes.
+    /// `queue` of 16 bytes, for which the chip has room.
     Queue,
     /// `send_bytes` of 16 bytes.
     Send,
-    /// `service` while 14 bytes wait in the chip.
+    /// `service` with 14 bytes in the chip.
     Service,
-    /// `receive_bytes` while 14 bytes wait in the chip.
+    /// `receive_bytes` with 14 bytes in the chip.
     Receive,
 }
 
-// How many bytes wait before each call.
+// The number of received bytes before each call.
 const WAITING: u8 = 14;
 
-/// Cells of a chip in which bytes wait: LSR and ISR show it, until so many reads of DATA were made.
+/// Cells of a chip with received bytes: LSR and ISR show that, until this number of reads of DATA was made.
 #[derive(Drop)]
 struct Chip {
     cells: Cells,
@@ -33,7 +33,7 @@ struct Chip {
 }
 
 impl Chip {
-    // So many bytes wait.
+    // Puts this number of bytes into the chip.
     fn refill(&mut self, waiting: u8) {
         self.waiting = waiting;
         self.cells.put(offsets::LSR, 0x61);
@@ -90,8 +90,8 @@ fn receive(uart: &mut Uart16550<Chip>, slots: &mut [u8]) -> usize {
     uart.receive_bytes(slots)
 }
 
-/// Does this so many times, and returns what the last call returned, how many bytes were then in the receive ring, and the digest of
-/// all accesses.
+/// Does this `count` times. Returns what the last call returned, how many bytes were in the receive ring after it, and the
+/// digest of all accesses.
 pub fn perform(
     alloc: Global,
     work: RingWork,

@@ -1,13 +1,17 @@
--- A run of calls that are all within a session is one session.
-use Rattle.std.proofs.Common.{List, [], ◌∷◌, refl, sym, subst}
+-- A run of one `init` that is done begins a session, and a run of calls that are all within a session is one.
+use Rattle.std.proofs.Common.{◌≡◌, List, [], ◌∷◌, get_or, refl, sym, subst}
 use Rattle.std.specs.Prelude.{All}
 use Rattle.std.proofs.lemmas.List.Elements.{All-head, All-tail}
 use Rattle.std.proofs.lemmas.List.{append-nil}
+use Rattle.uart_spec.specs.declared.config.Config.{Config}
 use Rattle.uart_calls.specs.declared.call.Call.{Call}
+use Rattle.uart_calls.specs.declared.call.Call.TheVariants as call
 use Rattle.uart_calls.specs.declared.call.Answer.{Answer}
-use Rattle.uart_run.specs.Ready.{Ready}
-use Rattle.uart_run.specs.Run.{State, Link, calls_of}
-use Rattle.uart_run.specs.Session.{IsWithinSession, AllWithinSession, Conserves, Ran}
+use Rattle.uart_calls.specs.declared.call.Answer.TheVariants.{Done}
+use Rattle.uart_run.specs.Ready.{Ready, ComesTo}
+use Rattle.uart_run.specs.Chains.{calls_of, answers_of}
+use Rattle.uart_run.specs.Run.{State, Link, Chain}
+use Rattle.uart_run.specs.Session.{IsWithinSession, AllWithinSession, Conserves, Ran, AllFollow}
 
 all_within : (links : List Link) → All IsWithinSession (calls_of links) → AllWithinSession links
 all_within [] within = tt
@@ -21,3 +25,19 @@ pub conserves_all : (s t : State) (calls : List Call) (answers : List Answer) �
 conserves_all s t calls answers within ran ready =
     let each = all_within ran.links (subst (λ (cs : List Call). All IsWithinSession cs) (sym ran.calls_same) within) in
     (ran.links, ran.sessions [] ran.links [] s t (sym (append-nil ran.links)) refl ran.chain refl (ready, each))
+
+initialised_by : (s t : State) (config : Config) (answers : List Answer) (other : Answer) (links : List Link) →
+    calls_of links ≡ call.Init config ∷ [] → answers_of links ≡ answers → AllFollow links → Chain s links t →
+    get_or answers 0 other ≡ Done → Ready t
+initialised_by s t config answers other [] calls same follows chain done = absurd (cc (calls))
+initialised_by s t config answers other (link ∷ []) calls same follows chain done =
+    let is_init : link.call ≡ call.Init config = cc (calls) in
+    let answered : link.answer ≡ Done = subst (λ (all : List Answer). get_or all 0 other ≡ Done) (sym same) done in
+    let comes = subst (λ (c : Call). ComesTo link.before c link.answer link.after) is_init follows.0.comes_to in
+    subst Ready (sym chain.2) (comes.leaves answered).ready
+initialised_by s t config answers other (link ∷ next ∷ links) calls same follows chain done = absurd (cc (calls))
+
+pub initialises_one : (s t : State) (config : Config) (answers : List Answer) (other : Answer) →
+    Ran s (call.Init config ∷ []) answers t → get_or answers 0 other ≡ Done → Ready t
+initialises_one s t config answers other ran done =
+    initialised_by s t config answers other ran.links ran.calls_same ran.answers_same ran.follows ran.chain done

@@ -7,7 +7,7 @@ use bitflags::Flags;
 use uart_chip::Uart;
 use uart_spec::registers::{LSR, offsets};
 
-/// Reads the line status of a chip, as a driver would.
+/// Reads the line status of a chip, as a driver does.
 pub fn line_status(chip: &mut Uart) -> LSR
     ensures value { result.0 ≡ answer offsets.LSR chip.old }
     ensures after { chip.new ≡ after_read offsets.LSR chip.old }

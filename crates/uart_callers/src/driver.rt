@@ -11,7 +11,8 @@ use uart_16550::spec::StalledError;
 ///
 /// # Errors
 ///
-/// If the device takes no byte for as many polls as the spin limit says, how many bytes of the line it took.
+/// `StalledError` if the device accepts no byte for as many polls as the spin limit. `done` is the number of bytes of the
+/// line that it accepted.
 pub fn log_line<B: Backend>(uart: &mut Uart16550<B>, line: &[u8]) -> Result<(), StalledError>
     ensures { Made B.step (SendsExact line.now result) uart.old uart.new }
 {

@@ -1,4 +1,4 @@
-//! The callers that the CALLING.md of each library crate shows: each is proved here, and run by a test.
+//! The callers in the CALLING.md of each library crate: each is proved here, and run by a test.
 #![tactic(auto)]
 
 pub mod chip;

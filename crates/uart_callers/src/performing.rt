@@ -6,7 +6,7 @@ use uart_16550::Uart16550Tty;
 use uart_16550::backend::Backend;
 use uart_calls::{Answer, Call, perform};
 
-/// Asks a driver over any backend whether its device is there.
+/// Checks with a driver over any backend whether its device is present.
 pub fn ask_presence<B: Backend>(uart: &mut Uart16550Tty<B>) -> Answer
     ensures { Performed B.step uart.old call.CheckPresent result uart.new }
 {

@@ -7,7 +7,7 @@ ghost use Rattle.uart_spec.specs.declared.baud.TheConstants.{CLK_FREQUENCY_HZ};
 
 use uart_spec::{BaudRate, CLK_FREQUENCY_HZ, InvalidDivisorError, calc_divisor};
 
-/// The divisor for a rate at the usual clock.
+/// Returns the divisor for a baud rate at the usual clock.
 pub fn divisor_for(baud_rate: BaudRate) -> Result<u16, InvalidDivisorError>
     requires { 0 < to_integer baud_rate }
     ensures { IsOnly (IsDivisorAnswer CLK_FREQUENCY_HZ (to_integer baud_rate) None) result }

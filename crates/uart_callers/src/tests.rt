@@ -1,4 +1,4 @@
-//! Each caller runs once, with what its contract says of the run.
+//! Each caller is run once, with what its contract says about the run.
 use crate::{chip, device, driver, language, machine, performing, ring, running, spec};
 use bitflags::Flags;
 use std::test::Fail;
@@ -47,8 +47,17 @@ fn a_message_in_a_ring(rt: HostRuntime) -> Result<(), Fail> {
 fn calls_on_a_chip(rt: HostRuntime) -> Result<(), Fail> {
     let mut terminal = Uart16550Tty::from_inner(ready_driver(&rt)?);
     assert_eq!(rt; performing::ask_presence(&mut terminal), Answer::Flag(true));
+    Ok(())
+}
+
+#[test]
+fn calls_in_a_session(rt: HostRuntime) -> Result<(), Fail> {
+    let machine = device::chip_that_receives(rt.alloc(), 0x41)?;
+    let mut terminal = Uart16550Tty::from_inner(Uart16550::new_with_backend(machine));
     let mut answers = [Answer::Done];
-    running::make_calls(&mut terminal, &[Call::FifoEnabled], &mut answers);
+    if running::begin_session(&mut terminal, Config::DEFAULT) {
+        running::make_calls(&mut terminal, &[Call::FifoEnabled], &mut answers);
+    }
     assert_eq!(rt; answers, [Answer::Flag(true)]);
     Ok(())
 }

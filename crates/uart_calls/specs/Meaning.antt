@@ -1,4 +1,4 @@
--- What each call means: its outcome, what the driver then did, and how the outcome is answered.
+-- The meaning of each call: its outcome, what the driver did then, and the answer for this outcome.
 use Rattle.std.specs.Prelude.{◌≡◌, ◌≤◌, ℕ, Bool, List, [], ◌∷◌, Result, Ok, Err, length}
 use Rattle.uart_spec.specs.declared.errors.ByteReceiveError.{ByteReceiveError}
 use Rattle.uart_spec.specs.declared.errors.ByteSendError.{ByteSendError}
@@ -28,7 +28,7 @@ use Rattle.uart_calls.specs.declared.call.Answer.TheVariants.{ReceiveStalled, In
 use Rattle.uart_calls.specs.declared.call.Answer.TheVariants.{NotConnected, NoData, NotSent}
 use Rattle.uart_calls.specs.declared.call.TheConstants.{CALL_BYTES}
 
--- ---- how an outcome is answered
+-- ---- the answer for an outcome
 
 abbrev pub bytes_answer : List ℕ → Answer
 bytes_answer bytes = Bytes (record { items = bytes })
@@ -80,27 +80,27 @@ ready_answer (Err e) = Stalled e.done
 abbrev pub latch_answer : (ℕ × ℕ) → Answer
 latch_answer (low, high) = Latch low high
 
--- ---- what the driver did, for calls that uart_16550 has no word for
+-- ---- what the driver did, for calls that are not defined in uart_16550
 
--- no access, and the fields stay
+-- no access, and the fields do not change
 abbrev pub MakesNoAccess : Doing
 MakesNoAccess f l after = (l ≡ []) × (after ≡ f)
 
--- the same, and it shows whether the driver takes the FIFO to be on
+-- the same, and the result is whether the driver takes the FIFO to be on
 abbrev pub ShowsFifo : Bool → Doing
 ShowsFifo on f l after = (on ≡ f.fifo) × MakesNoAccess f l after
 
--- one read of a register, which shows this value
+-- one read of a register, which returned this value
 abbrev pub ShowsRegister : (register value : ℕ) → Language
 ShowsRegister register value = Only (Read register value ∷ [])
 
--- a text of at most a call's bytes, of which a stall's count is exact
+-- a text of at most the bytes of a call, so that the count of a stall is exact
 abbrev pub SendsShortText : List ℕ → Result (Unit {0}) StalledError → Language
 SendsShortText text result s l = (length text ≤ CALL_BYTES) × SendsText text result s l
 
 -- ---- the table
 
--- a row: what the driver did if this was the call's outcome, and how the outcome is answered
+-- a row: what the driver did if this was the outcome of the call, and the answer for the outcome
 pub data Meaning : Type 1 where
   means : {Outcome : Type 0} → (Outcome → Doing) → (Outcome → Answer) → Meaning
 
@@ -110,11 +110,11 @@ outcome_of (means {Outcome = Outcome} doing answer) = Outcome
 abbrev pub doing_of : (m : Meaning) → outcome_of m → Doing
 doing_of (means doing answer) outcome = doing outcome
 
--- a call that makes a list of a language, saves what its reads show, and changes nothing else
+-- a call that makes a list of a language, saves what its reads clear, and changes nothing else
 abbrev pub saves : {R : Type 0} → (R → Language) → (R → Answer) → Meaning
 saves {R} lists answer = means {Outcome = R} (λ outcome. Saving (lists outcome)) answer
 
--- a call that has nothing to tell
+-- a call that returns nothing
 abbrev pub tells_nothing : Doing → Meaning
 tells_nothing doing = means {Outcome = Unit {0}} (λ outcome. doing) (λ outcome. Done)
 
@@ -154,18 +154,18 @@ meaning (call.Text text) = saves (SendsShortText text.bytes) exact_answer
 
 -- ---- one call
 
--- the call had some outcome, which was answered so, and the driver did what it then does
+-- the call had some outcome, for which this is the answer, and the driver did what it does for this outcome
 pub record CalledAs {B R : Type 0} (step : B → Access → B → Type 0) (doing : R → Doing) (answer_of : R → Answer)
     (answer : Answer) (d e : Uart16550 B) : Type 0 where
   pub outcome : R
   pub answered : answer ≡ answer_of outcome
   pub did : Did step (doing outcome) d e
 
--- this of a call that means this
+-- this for a call with this meaning
 abbrev pub Called : {B : Type 0} → (B → Access → B → Type 0) → Meaning → Answer → Uart16550 B → Uart16550 B → Type 0
 Called step (means doing answer_of) answer d e = CalledAs step doing answer_of answer d e
 
--- the driver under the terminal made this call, which was answered so
+-- the driver under the terminal made this call, with this answer
 abbrev pub Performed : {B : Type 0} → (B → Access → B → Type 0) → Uart16550Tty B → Call → Answer → Uart16550Tty B →
     Type 0
 Performed step s call answer t = Called step (meaning call) answer (inner_of s) (inner_of t)

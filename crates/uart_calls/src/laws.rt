@@ -1,6 +1,6 @@
 //! Laws about the meaning of calls.
 //!
-//! Each function here has a law as its contract, for callers to cite, and does nothing.
+//! The contract of each function is a law that callers can cite. The functions do nothing.
 ghost use Rattle.std.specs.Prelude.{◌≡◌};
 ghost use Rattle.uart_16550.specs.Choice.{LeavesNoChoice};
 ghost use Rattle.uart_calls.specs.Calls.{IsRunnable};
@@ -8,13 +8,13 @@ ghost use Rattle.uart_calls.specs.Meaning.{doing_of, meaning};
 ghost use Rattle.uart_calls.specs.declared.call.Call.{Call};
 ghost use Rattle.uart_calls.specs.declared.call.TheConstants.{CALL_BYTES};
 
-/// What a call means leaves the driver no choice: what its reads answered so far decides the next access, and in the end the answer
-/// and what is in the driver's fields.
+/// The meaning of a call determines what the driver does: what its reads have returned so far determines the next access,
+/// and in the end the answer and the driver's fields.
 pub fn meanings_leave_no_choice()
     ensures { (call : Call) → IsRunnable call → LeavesNoChoice (doing_of (meaning call)) }
 {}
 
-/// The value of the limit, which the definitions of calls name.
+/// The value of the limit in the definitions of calls.
 pub fn limits_are_these()
     ensures { CALL_BYTES ≡ 64 }
 {}

@@ -1,5 +1,4 @@
-//! Calls of the driver and their answers, as data: what a script says, and what a run makes; and the one function that makes a
-//! call, over any backend.
+//! Calls of the driver and their answers as data, and the function that makes such a call, over any backend.
 #![tactic(auto)]
 
 mod call;

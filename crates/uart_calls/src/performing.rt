@@ -17,13 +17,19 @@ use uart_spec::{
     StalledError,
 };
 
-/// Makes one call of the driver, over any backend. Takes no memory.
+/// Makes one call of the driver, over any backend, and returns its answer. Allocates no memory.
 ///
-/// Returns [`Answer::Done`] if the call succeeded and has nothing to tell, or else what it returned or received; and if it
-/// failed, its refusal or its stall.
+/// Returns [`Answer::Done`] if the call succeeded and returned nothing, and else what it returned or received, or why it
+/// failed. Waits as the driver's call does.
 ///
-/// For [`Call::Next`] this makes no access and returns `Done`, since a real chip has no schedule. A caller whose device has one
-/// makes that call itself.
+/// For [`Call::Next`] this makes no access and returns `Done`, since a real chip has no schedule. If the device has one,
+/// the caller must make that call itself.
+///
+/// # Examples
+///
+/// ```
+/// perform(uart, &Call::CheckPresent)
+/// ```
 pub fn perform<B: Backend>(uart: &mut Uart16550Tty<B>, call: &Call) -> Answer
     requires { IsRunnable call.now }
     ensures { Performed B.step uart.old call.now result uart.new }
@@ -75,7 +81,7 @@ pub fn perform<B: Backend>(uart: &mut Uart16550Tty<B>, call: &Call) -> Answer
     }
 }
 
-// These bytes, for an answer.
+// Returns a copy of these bytes, for an answer.
 fn copied(bytes: &[u8]) -> ArrayVec<u8, CALL_BYTES>
     requires { length bytes.now ≤ CALL_BYTES }
     ensures { result.items ≡ bytes.now }

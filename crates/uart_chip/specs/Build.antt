@@ -1,4 +1,4 @@
--- Which machines can be built, and which refusal comes first.
+-- Which machines can be built, and why others are refused.
 use Rattle.std.specs.Prelude.{ℕ, Bool, true, false, not, ◌&&◌, ◌==◌, nat_le, nat_lt, bit_and, List, Option, Some}
 use Rattle.std.specs.Prelude.{position, if◌then◌else◌}
 use Rattle.std.specs.Option.{option_map, option_or}
@@ -11,16 +11,16 @@ use Rattle.uart_spec.specs.declared.registers.line_status.TheConstants.LSR
 use Rattle.uart_spec.specs.declared.registers.modem_status.TheConstants.MSR
 use Rattle.uart_chip.specs.Masks.{IsWithin}
 
--- some bit lies outside of the mask
+-- some bit is outside of the mask
 abbrev pub is_outside : ℕ → ℕ → Bool
 is_outside value mask = not (bit_and value mask == value)
 
--- an arrival with a bit that is no error of a character
+-- an arrival with a bit that is not an error of a character
 abbrev pub has_bad_errors : Event → Bool
 has_bad_errors (Arrive byte errors) = is_outside errors LSR.CHARACTER_ERRORS.0
 has_bad_errors _ = false
 
--- a change of the lines with a bit that is no line
+-- a change of lines with a bit that is not a line
 abbrev pub has_bad_lines : Event → Bool
 has_bad_lines (Lines inputs) = is_outside inputs MSR.LINES.0
 has_bad_lines _ = false
@@ -36,7 +36,7 @@ abbrev pub is_arrival : Event → Bool
 is_arrival (Arrive byte errors) = true
 is_arrival _ = false
 
--- why no machine is built, whatever memory there is: the first reason in this order
+-- why no machine is built, however much memory there is: the first reason in this order
 abbrev pub refusal : ℕ → ℕ → List Event → Option BuildError
 refusal char_ticks capacity events =
     let errors = option_map BadErrors (position has_bad_errors events) in

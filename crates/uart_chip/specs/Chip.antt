@@ -33,7 +33,7 @@ use Rattle.uart_chip.specs.Receiver.{is_data_pending, is_timed_out}
 use Rattle.uart_chip.specs.Modem as modem
 use Rattle.uart_chip.specs.Modem.{ModemState, renew}
 
--- the registers that keep what is written, as bytes
+-- the registers that keep what is written to them, as bytes
 pub record LatchesState : Type 0 where
   pub ier : ℕ
   pub lcr : ℕ
@@ -42,8 +42,8 @@ pub record LatchesState : Type 0 where
   pub dll : ℕ
   pub dlm : ℕ
 
--- the model says whether there is a FIFO at all, fifo whether it is on, and cuts whether characters are cut to the word
--- length
+-- `model` determines whether there are FIFOs; `fifo` is whether they are on, and `cuts` whether characters are cut to
+-- the word length
 pub record ChipState : Type 0 where
   pub model : Chip
   pub latches : LatchesState
@@ -53,7 +53,7 @@ pub record ChipState : Type 0 where
   pub modem : ModemState
   pub cuts : Bool
 
--- a chip after power on, with so many arrivals to come
+-- a chip after power-on, for a schedule with this number of arrivals
 abbrev pub fresh : Chip → ℕ → ℕ → ℕ → ChipState
 fresh model char_ticks capacity arrivals =
     record {
@@ -66,11 +66,11 @@ fresh model char_ticks capacity arrivals =
       cuts = false;
     }
 
--- offsets 0 and 1 reach the divisor latch
+-- offsets 0 and 1 are the divisor latch
 abbrev pub is_dlab_set : LatchesState → Bool
 is_dlab_set l = has_any l.lcr LCR.DLAB.0
 
--- what leaves the transmitter comes back to the receiver
+-- what the transmitter sends returns to the receiver
 abbrev pub is_loopback : LatchesState → Bool
 is_loopback l = has_any l.mcr MCR.LOOP_BACK.0
 
@@ -78,7 +78,7 @@ is_loopback l = has_any l.mcr MCR.LOOP_BACK.0
 abbrev pub divisor : LatchesState → ℕ
 divisor l = 256 * l.dlm + l.dll
 
--- the word length: 5 to 8 data bits a character
+-- the word length: 5 to 8 data bits
 abbrev pub word_length : (lcr : ℕ) → ℕ
 word_length lcr = 5 + bit_and lcr LCR.WORD_LENGTH.0
 
@@ -101,7 +101,7 @@ tick c =
       receiver = receiver.tick c.fifo (looped_byte (is_loopback c.latches) c.transmitter.shift_place) c.receiver;
     }
 
--- so many ticks
+-- n ticks
 abbrev pub ticks : ℕ → ChipState → ChipState
 ticks zero c = c
 ticks (suc n) c = tick (ticks n c)
@@ -111,17 +111,17 @@ abbrev pub arrive : ℕ → ℕ → ChipState → ChipState
 arrive byte errors c =
     record c { receiver = receiver.arrive (is_loopback c.latches) c.fifo (cut_of c byte) errors c.receiver }
 
--- a character comes in without a schedule
+-- a character is received without a schedule
 abbrev pub bring : ℕ → ℕ → ChipState → ChipState
 bring byte errors c =
     record c { receiver = receiver.bring (is_loopback c.latches) c.fifo (cut_of c byte) errors c.receiver }
 
--- how many characters can come in before one is lost: in loopback each is
+-- how many characters can be received before one is lost: none in loopback
 abbrev pub receive_room : ChipState → ℕ
 receive_room c =
     if is_loopback c.latches then 0 else transmitter.room c.fifo - length c.receiver.queue
 
--- so many bytes are taken from the front of the wire
+-- bytes are removed from the front of the wire
 abbrev pub take_wire : ℕ → ChipState → ChipState
 take_wire count c = record c { transmitter = transmitter.take_wire count c.transmitter }
 
@@ -162,23 +162,23 @@ interrupt c =
     else if has_any c.latches.ier IER.MODEM_STATUS.0 && not (c.modem.deltas == 0) then Some ModemStatus
     else None
 
--- ISR for an interrupt: its code in bits 1 to 3, or bit 0 where none is pending
+-- ISR for an interrupt: its code in bits 1 to 3, or bit 0 if none is pending
 abbrev pub identification : Option InterruptType → ℕ
 identification None = ISR.INTERRUPT_STATUS.0
 identification (Some interrupt) = 2 * interrupt_code interrupt
 
--- the interrupt that a read of ISR withdraws
+-- the interrupt that a read of ISR acknowledges
 abbrev pub is_thr_empty : Option InterruptType → Bool
 is_thr_empty (Some TransmitterHoldingRegisterEmpty) = true
 is_thr_empty _ = false
 
--- THR-empty is pending, or is not
+-- whether a THR-empty interrupt is pending
 abbrev pub with_thr_pending : Bool → ChipState → ChipState
 with_thr_pending pending c = record c { transmitter = record c.transmitter { is_thr_pending = pending } }
 
 -- ---- a read
 
--- what a read of the register answers
+-- what a read of the register returns
 abbrev pub answer : ℕ → ChipState → ℕ
 answer offset c =
     if offset == offsets.DATA
@@ -191,7 +191,7 @@ answer offset c =
     else if offset == offsets.MSR then bit_or c.modem.lines c.modem.deltas
     else c.latches.scr
 
--- what a read of the register leaves
+-- the chip after a read of the register
 abbrev pub after_read : ℕ → ChipState → ChipState
 after_read offset c =
     if offset == offsets.DATA
@@ -211,7 +211,7 @@ level_of code =
     else if code == trigger_code Eight then Eight
     else Fourteen
 
--- the trigger level that FCR asks for
+-- the trigger level of a value of FCR
 abbrev pub trigger_level : (fcr : ℕ) → FifoTriggerLevel
 trigger_level fcr = level_of (field 6 2 fcr)
 
@@ -219,11 +219,11 @@ trigger_level fcr = level_of (field 6 2 fcr)
 abbrev pub switch : Bool → ChipState → ChipState
 switch on c = record c { fifo = on; receiver = clear c.receiver; transmitter = record c.transmitter { queue = [] } }
 
--- the receiver is reset where the bit asks for it
+-- the receiver is reset if the bit is set
 abbrev pub reset_receiver : ℕ → ChipState → ChipState
 reset_receiver value c = if has_any value FCR.RX_FIFO_RESET.0 then record c { receiver = clear c.receiver } else c
 
--- the transmitter is reset where the bit asks for it
+-- the transmitter is reset if the bit is set
 abbrev pub reset_transmitter : ℕ → ChipState → ChipState
 reset_transmitter value c =
     if has_any value FCR.TX_FIFO_RESET.0
@@ -239,7 +239,7 @@ abbrev pub is_same : Bool → Bool → Bool
 is_same true b = b
 is_same false b = not b
 
--- a write of the FIFO control register of a chip with FIFO: the switch, then the resets and the trigger where it is on
+-- a write of FCR to a chip with FIFOs: the switch and, if they are on, the resets and the trigger level
 abbrev pub set_fifo : ℕ → ChipState → ChipState
 set_fifo value c =
     let on = has_any value FCR.FIFO_ENABLE.0 in
@@ -251,11 +251,11 @@ abbrev pub control : Chip → ℕ → ChipState → ChipState
 control Uart16450 value c = c
 control Uart16550A value c = set_fifo value c
 
--- a write of a register that only keeps what is written
+-- a write of a register that only keeps what is written to it
 abbrev pub with_latches : LatchesState → ChipState → ChipState
 with_latches l c = record c { latches = l }
 
--- a write of the interrupt enable register: THR-empty is pending where it is newly enabled and the THR is empty
+-- a write of IER: a THR-empty interrupt becomes pending if it is newly enabled and THR is empty
 abbrev pub enable : ℕ → ChipState → ChipState
 enable value c =
     let is_enabled = has_any c.latches.ier IER.THR_EMPTY.0 in
@@ -267,7 +267,7 @@ enable value c =
       };
     }
 
--- a write of the modem control register, of what it keeps
+-- a write of MCR, of the bits that it keeps
 abbrev pub control_modem : ℕ → ChipState → ChipState
 control_modem mcr c = record c { latches = record c.latches { mcr = mcr }; modem = renew mcr c.modem }
 
@@ -278,7 +278,7 @@ write_data value c =
     then with_latches (record c.latches { dll = value }) c
     else record c { transmitter = load c.fifo (cut_of c value) c.transmitter }
 
--- what a write of the register leaves
+-- the chip after a write of the register
 abbrev pub after_write : ℕ → ℕ → ChipState → ChipState
 after_write offset value c =
     if offset == offsets.DATA then write_data value c

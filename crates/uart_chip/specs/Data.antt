@@ -1,4 +1,4 @@
--- A chip as plain data: which chip they are of.
+-- The parts of a chip as plain data.
 use Rattle.std.specs.Prelude.{ℕ, ◌*◌, false, List, []}
 use Rattle.uart_chip.specs.declared.transmitter.TransmitterData.{TransmitterData}
 use Rattle.uart_chip.specs.declared.receiver.ReceiverData.{ReceiverData}
@@ -7,7 +7,7 @@ use Rattle.uart_chip.specs.Transmitter.{TransmitterState}
 use Rattle.uart_chip.specs.Receiver.{ReceiverState}
 use Rattle.uart_chip.specs.Modem.{ModemState}
 
--- the transmitter of these data, with these bytes on its wire
+-- the transmitter with these data, and with these bytes on its wire
 abbrev pub transmitter_of : TransmitterData → List ℕ → TransmitterState
 transmitter_of t wire =
     record {
@@ -20,7 +20,7 @@ transmitter_of t wire =
       is_thr_pending = t.is_thr_pending;
     }
 
--- the receiver of these data, of a chip whose characters take so many ticks, without a schedule
+-- the receiver with these data, of a chip whose characters take this number of ticks, without a schedule
 abbrev pub receiver_of : ℕ → ReceiverData → ReceiverState
 receiver_of char_ticks r =
     record {
@@ -41,6 +41,6 @@ abbrev pub without_schedule : ℕ → ReceiverState → ReceiverState
 without_schedule char_ticks r =
     record r { timeout_limit = 4 * char_ticks; arrived = 0; marks = []; is_stray_lost = false }
 
--- the modem lines of these data
+-- the modem lines with these data
 abbrev pub modem_of : ModemData → ModemState
 modem_of m = record { inputs = m.inputs.0; lines = m.lines.0; deltas = m.deltas.0 }

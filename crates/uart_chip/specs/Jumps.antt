@@ -1,4 +1,4 @@
--- Ticks in turns: when a character moves next, what passes until then, and how many turns there may be.
+-- Ticks in turns: when a character moves next, what happens until then, and how many turns there are at most.
 use Rattle.std.specs.Prelude.{ℕ, ◌+◌, ◌-◌, min, max, zero, suc, Bool, List, [], ◌∷◌, length, Option, Some, None, nat_lt}
 use Rattle.std.specs.Prelude.{if◌then◌else◌}
 use Rattle.uart_chip.specs.declared.transmitter.Shifting.{Shifting}
@@ -6,7 +6,7 @@ use Rattle.uart_chip.specs.Transmitter.{TransmitterState}
 use Rattle.uart_chip.specs.Receiver.{ReceiverState}
 use Rattle.uart_chip.specs.Chip.{ChipState}
 
--- the ticks until the character in the shift place leaves it, if it may leave, or the next one enters a free place
+-- the ticks until the character in the shift register leaves it, if it may, or the next one enters an empty one
 abbrev pub next_move_of : (may_leave : Bool) → Option Shifting → List ℕ → Option ℕ
 next_move_of may_leave None [] = None
 next_move_of may_leave None (x ∷ xs) = Some 1
@@ -19,7 +19,7 @@ next_move loopback t =
 
 -- ---- n ticks in which no character moves
 
--- the ticks left of a character that stays: it waits at its last
+-- the ticks left for a character that stays: it stops at its last tick
 abbrev pub left_after : (n left : ℕ) → ℕ
 left_after n left = if nat_lt n left then left - n else min left 1
 
@@ -45,7 +45,7 @@ skip n c = record c { transmitter = count_down n c.transmitter; receiver = count
 
 -- ---- turns
 
--- how many more times a character may leave the shift place or enter a free one
+-- how many more times a character may leave the shift register or enter an empty one
 abbrev pub moves_of : Option Shifting → List ℕ → ℕ
 moves_of None [] = 0
 moves_of None (x ∷ xs) = suc (length (x ∷ xs))
@@ -54,7 +54,7 @@ moves_of (Some s) queue = suc (length queue)
 abbrev pub moves : TransmitterState → ℕ
 moves t = moves_of t.shift_place t.queue
 
--- the most turns that any number of ticks takes: a move of each of 16 characters in the queue and of the one in or into
--- the shift place, and then what is left
+-- the most turns that any number of ticks takes: one for each of 16 characters in the queue, and for the one that
+-- enters or leaves the shift register, and one for what is left
 abbrev pub most_turns : ℕ
 most_turns = 18

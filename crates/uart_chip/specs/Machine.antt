@@ -1,4 +1,4 @@
--- The chip under a schedule: which events come before an access, and the step that an access makes.
+-- The chip under a schedule: which events happen before an access, and the step that an access makes.
 use Rattle.std.specs.Prelude.{◌≡◌, ℕ, ◌+◌, Bool, List, [], ◌∷◌}
 use Rattle.uart_chip.specs.declared.event.Chip.{Chip}
 use Rattle.uart_chip.specs.declared.event.Event.{Event}
@@ -7,23 +7,23 @@ use Rattle.uart_spec.specs.Access.{Access, Read, Write}
 use Rattle.uart_chip.specs.Chip as chip
 use Rattle.uart_chip.specs.Chip.{ChipState, tick, ticks, arrive, change_lines, answer, after_read, after_write}
 
--- ahead are the events of the schedule that are still to come
+-- `ahead` has the events of the schedule that have not happened yet
 pub record MachineState : Type 0 where
   pub chip : ChipState
   pub ahead : List Event
 
--- how many characters these events bring
+-- the number of arrivals among these events
 abbrev pub arrivals : List Event → ℕ
 arrivals [] = 0
 arrivals (Arrive byte errors ∷ events) = 1 + arrivals events
 arrivals (_ ∷ events) = arrivals events
 
--- a machine after power on, with its whole schedule ahead
+-- a machine after power-on, with its whole schedule ahead
 abbrev pub fresh : Chip → ℕ → ℕ → List Event → MachineState
 fresh model char_ticks capacity events =
     record { chip = chip.fresh model char_ticks capacity (arrivals events); ahead = events }
 
--- the same machine, which cuts characters to the word length or does not
+-- the same machine, which cuts characters to the word length, or does not
 abbrev pub cutting : Bool → MachineState → MachineState
 cutting cuts m = record m { chip = record m.chip { cuts = cuts } }
 
@@ -34,22 +34,22 @@ perform (Arrive byte errors) c = arrive byte errors c
 perform (Lines inputs) c = change_lines inputs c
 perform _ c = c
 
--- the chip as an access finds it: the events up to the first Access were performed, or up to a Mark or the end and one
--- tick more
+-- the chip at an access: after the events up to the first Access; or after those up to a Mark or the end, and one
+-- more tick
 abbrev pub before_access : List Event → ChipState → ChipState
 before_access [] c = tick c
 before_access (Gate ∷ events) c = c
 before_access (Mark ∷ events) c = tick c
 before_access (event ∷ events) c = before_access events (perform event c)
 
--- the events that an access leaves: an Access is taken, a Mark stays
+-- the events after an access: an Access is removed, a Mark is not
 abbrev pub after_access : List Event → List Event
 after_access [] = []
 after_access (Gate ∷ events) = events
 after_access (Mark ∷ events) = Mark ∷ events
 after_access (_ ∷ events) = after_access events
 
--- the machine as an access finds it
+-- the machine at an access
 abbrev pub at_access : MachineState → MachineState
 at_access m = record { chip = before_access m.ahead m.chip; ahead = after_access m.ahead }
 
@@ -65,11 +65,11 @@ after_mark [] = []
 after_mark (Mark ∷ events) = events
 after_mark (_ ∷ events) = after_mark events
 
--- the machine after the next Mark was taken
+-- the machine after the next Mark was removed
 abbrev pub at_mark : MachineState → MachineState
 at_mark m = record { chip = before_mark m.ahead m.chip; ahead = after_mark m.ahead }
 
--- which machine may follow which by which access: the events come first, then the register's effect
+-- which access leads from which machine to which: first the events happen, then the effect on the register
 abbrev pub MachineStep : MachineState → Access → MachineState → Type 0
 MachineStep m (Read offset value) n =
     let r = at_access m in (n ≡ record r { chip = after_read offset r.chip }) × (value ≡ answer offset r.chip)

@@ -7,10 +7,10 @@ use Rattle.uart_spec.specs.declared.registers.modem_control.TheConstants.MCR
 abbrev pub IsWithin : ℕ → ℕ → Type 0
 IsWithin value mask = bit_and value mask ≡ value
 
--- what the interrupt enable register keeps
+-- what IER keeps
 abbrev pub ier_bits : ℕ
 ier_bits = IER.DATA_READY.0 + IER.THR_EMPTY.0 + IER.RECEIVER_LINE_STATUS.0 + IER.MODEM_STATUS.0
 
--- what the modem control register keeps
+-- what MCR keeps
 abbrev pub mcr_bits : ℕ
 mcr_bits = MCR.DTR.0 + MCR.RTS.0 + MCR.OUT_1.0 + MCR.OUT_2_INT_ENABLE.0 + MCR.LOOP_BACK.0

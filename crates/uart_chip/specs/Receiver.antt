@@ -1,4 +1,4 @@
--- The receiver: a queue of characters, and what became of each that arrived.
+-- The receiver: a queue of characters, and what became of each arrival.
 use Rattle.std.specs.Prelude.{ℕ, ◌+◌, ◌*◌, min, Bool, true, false, ◌&&◌, List, [], ◌∷◌, ◌++◌, map, length, drop}
 use Rattle.std.specs.Prelude.{replicate, slice_set, slice_index_or, Option, Some, None, nat_lt, nat_le, if◌then◌else◌}
 use Rattle.std.specs.Prelude.{◌==◌, bit_and}
@@ -14,7 +14,7 @@ use Rattle.uart_spec.specs.declared.registers.fifo_trigger_level.FifoTriggerLeve
 use Rattle.uart_spec.specs.declared.registers.fifo_trigger_level.FifoTriggerLevel.TheVariants.{Fourteen}
 use Rattle.uart_spec.specs.declared.registers.line_status.TheConstants.LSR
 
--- the marks are of the arrivals of the schedule, of which so many have arrived
+-- `marks` has one mark for each arrival of the schedule, and `arrived` is the number of those that have arrived
 pub record ReceiverState : Type 0 where
   pub queue : List Character
   pub is_overrun : Bool
@@ -27,7 +27,7 @@ pub record ReceiverState : Type 0 where
   pub marks : List ArrivalMark
   pub is_stray_lost : Bool
 
--- a receiver to which nothing has come yet, with so many arrivals to come
+-- a receiver that has received nothing, for a schedule with this number of arrivals
 abbrev pub fresh : ℕ → ℕ → ReceiverState
 fresh char_ticks arrivals =
     record {
@@ -47,19 +47,19 @@ fresh char_ticks arrivals =
 abbrev pub mark_at : List ArrivalMark → ℕ → ArrivalMark
 mark_at marks number = slice_index_or marks number Pending
 
--- the marks with that of this origin set; a stray character has none
+-- the marks after that of this origin was set; a stray character has none
 abbrev pub set_mark : Origin → ArrivalMark → List ArrivalMark → List ArrivalMark
 set_mark (Arrived number) mark marks = slice_set marks number mark
 set_mark Looped mark marks = marks
 set_mark Live mark marks = marks
 
--- the character is stray: no arrival of the schedule
+-- the character is stray: not an arrival of the schedule
 abbrev pub is_stray : Origin → Bool
 is_stray (Arrived number) = false
 is_stray Looped = true
 is_stray Live = true
 
--- a character comes in without FIFO while one waits: the one that waits is dropped
+-- a character is received without FIFO while there is one: that one is dropped
 abbrev pub replace : List Character → Character → ReceiverState → ReceiverState
 replace [] new r = r
 replace (old ∷ others) new r =
@@ -72,7 +72,7 @@ replace (old ∷ others) new r =
       is_stray_lost = if is_stray new.origin then false else if is_stray old.origin then true else r.is_stray_lost;
     }
 
--- a character comes in: it is put last, or is dropped where the FIFO is full, or replaces the one that waits
+-- a character is received: it is put last; or it is dropped if the FIFO is full; or it replaces the one without FIFO
 abbrev pub come_in : Bool → Character → ReceiverState → ReceiverState
 come_in fifo new r =
     if nat_lt (length r.queue) (room fifo)
@@ -92,7 +92,7 @@ come_in fifo new r =
     }
     else replace r.queue new r
 
--- the byte that came back in this tick, if any, comes in
+-- the byte that loopback returned in this tick, if any, is received
 abbrev pub come_back : Bool → Option ℕ → ReceiverState → ReceiverState
 come_back fifo None r = r
 come_back fifo (Some byte) r = come_in fifo (record { byte = byte; errors = 0; origin = Looped }) r
@@ -101,11 +101,11 @@ come_back fifo (Some byte) r = come_in fifo (record { byte = byte; errors = 0; o
 abbrev pub grow_timeout : ReceiverState → ReceiverState
 grow_timeout r = record r { timeout_ticks = min (r.timeout_ticks + 1) r.timeout_limit }
 
--- one tick, with the byte that came back in it
+-- one tick, with the byte that loopback returned in it
 abbrev pub tick : Bool → Option ℕ → ReceiverState → ReceiverState
 tick fifo looped r = grow_timeout (come_back fifo looped r)
 
--- the next arrival of the schedule: in loopback it is discarded, else it comes in
+-- the next arrival of the schedule: in loopback it is discarded, else received
 abbrev pub arrive : Bool → Bool → ℕ → ℕ → ReceiverState → ReceiverState
 arrive loopback fifo byte errors r =
     let new : Character = record { byte = byte; errors = errors; origin = Arrived r.arrived } in
@@ -113,7 +113,7 @@ arrive loopback fifo byte errors r =
     then record r { arrived = r.arrived + 1; marks = slice_set r.marks r.arrived Discarded }
     else come_in fifo new (record r { arrived = r.arrived + 1 })
 
--- a character comes in without a schedule; in loopback it is lost
+-- a character is received without a schedule; in loopback it is lost
 abbrev pub bring : Bool → Bool → ℕ → ℕ → ReceiverState → ReceiverState
 bring loopback fifo byte errors r =
     if loopback then r else come_in fifo (record { byte = byte; errors = errors; origin = Live }) r
@@ -135,15 +135,15 @@ abbrev pub front_errors : List Character → Bool → ℕ
 front_errors [] reported = 0
 front_errors (front ∷ others) reported = if reported then 0 else bit_and front.errors LSR.CHARACTER_ERRORS.0
 
--- the characters whose errors were not reported yet
+-- the characters whose errors were not reported
 abbrev pub unreported : List Character → Bool → List Character
 unreported queue reported = if reported then drop 1 queue else queue
 
--- the character has a parity or framing error or is a break
+-- the character has a parity error or a framing error, or is a break
 abbrev pub has_errors : Character → Bool
 has_errors character = has_any character.errors LSR.CHARACTER_ERRORS.0
 
--- the line status was read
+-- LSR was read
 abbrev pub report : ReceiverState → ReceiverState
 report r = record r {
   is_overrun = false;
@@ -159,21 +159,21 @@ discard (character ∷ characters) marks = discard characters (set_mark characte
 abbrev pub clear : ReceiverState → ReceiverState
 clear r = record r { queue = []; marks = discard r.queue r.marks }
 
--- how many characters a trigger level asks for
+-- the number of characters of a trigger level
 abbrev pub characters_of : FifoTriggerLevel → ℕ
 characters_of One = 1
 characters_of Four = 4
 characters_of Eight = 8
 characters_of Fourteen = 14
 
--- as many characters wait as the trigger says, or any without FIFO
+-- there are as many characters as the trigger level, or without FIFO any
 abbrev pub is_data_pending : Bool → ReceiverState → Bool
 is_data_pending fifo r = if fifo then nat_le (characters_of r.trigger) (length r.queue) else nat_lt 0 (length r.queue)
 
--- characters wait in the FIFO, and none came or was taken for four character times
+-- there are characters in the FIFO, and none was received or read for four character times
 abbrev pub is_timed_out : Bool → ReceiverState → Bool
 is_timed_out fifo r = fifo && (nat_lt 0 (length r.queue) && (r.timeout_ticks == r.timeout_limit))
 
--- the bytes that wait to be read
+-- the received bytes that have not been read
 abbrev pub waiting : ReceiverState → List ℕ
 waiting r = map (λ character. character.byte) r.queue

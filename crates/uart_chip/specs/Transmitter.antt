@@ -1,9 +1,9 @@
--- The transmitter: a queue, the place from which a character is shifted out, and the wire.
+-- The transmitter: a queue, the shift register, and the wire.
 use Rattle.std.specs.Prelude.{ℕ, ◌+◌, ◌-◌, ◌^◌, min, Bool, true, false, List, [], ◌∷◌, ◌++◌, length, Option, Some, None}
 use Rattle.std.specs.Prelude.{drop, nat_lt, if◌then◌else◌}
 use Rattle.uart_chip.specs.declared.transmitter.Shifting.{Shifting}
 
--- the queue is what a write of the data register fills; a character takes char_ticks in the shift place
+-- a write of DATA fills the queue; a character takes `char_ticks` in the shift register
 pub record TransmitterState : Type 0 where
   pub queue : List ℕ
   pub shift_place : Option Shifting
@@ -13,7 +13,7 @@ pub record TransmitterState : Type 0 where
   pub overflows : ℕ
   pub is_thr_pending : Bool
 
--- a transmitter that has sent nothing yet
+-- a transmitter that has sent nothing
 abbrev pub fresh : ℕ → ℕ → TransmitterState
 fresh char_ticks capacity =
     record {
@@ -26,7 +26,7 @@ fresh char_ticks capacity =
       is_thr_pending = false;
     }
 
--- the shift place's tick: a character that is done comes back in loopback, else goes onto the wire where there is room
+-- the tick of the shift register: a character that is done returns in loopback, else goes to the wire if it has room
 abbrev pub shift : Bool → Option Shifting → TransmitterState → TransmitterState
 shift loopback None t = t
 shift loopback (Some s) t =
@@ -36,13 +36,13 @@ shift loopback (Some s) t =
     else if nat_lt (length t.wire) t.capacity then record t { shift_place = None; wire = t.wire ++ s.byte ∷ [] }
     else t
 
--- the byte that comes back in this tick
+-- the byte that returns in this tick
 abbrev pub looped_byte : Bool → Option Shifting → Option ℕ
 looped_byte true (Some s) = if nat_lt 1 s.ticks_left then None else Some s.byte
 looped_byte true None = None
 looped_byte false place = None
 
--- a free shift place takes the front of the queue; where that was the last one, the THR is empty again
+-- an empty shift register takes the front of the queue; if that was the last one, THR is empty again
 abbrev pub refill : Option Shifting → List ℕ → TransmitterState → TransmitterState
 refill (Some s) queue t = t
 refill None [] t = t
@@ -55,11 +55,11 @@ refill None (x ∷ y ∷ xs) t =
 abbrev pub tick : Bool → TransmitterState → TransmitterState
 tick loopback t = let u = shift loopback t.shift_place t in refill u.shift_place u.queue u
 
--- how many characters a queue has room for
+-- the number of characters that a queue has room for
 abbrev pub room : Bool → ℕ
 room fifo = if fifo then 16 else 1
 
--- a byte is written to the data register: a full FIFO loses it, without FIFO it replaces the one that waits
+-- a byte is written to DATA: a full FIFO loses it, and without FIFO it replaces the one in THR
 abbrev pub load : Bool → ℕ → TransmitterState → TransmitterState
 load fifo byte t =
     if nat_lt (length t.queue) (room fifo)
@@ -70,19 +70,19 @@ load fifo byte t =
       is_thr_pending = false;
     }
 
--- so many bytes are taken from the wire, the first ones, and it has room again
+-- this number of bytes is removed from the front of the wire, which has more room then
 abbrev pub take_wire : ℕ → TransmitterState → TransmitterState
 take_wire count t = record t { wire = drop count t.wire }
 
--- the byte in the shift place
+-- the byte in the shift register
 abbrev pub shift_bytes : Option Shifting → List ℕ
 shift_bytes None = []
 shift_bytes (Some s) = s.byte ∷ []
 
--- what is still to leave, in order
+-- what is still to be sent, in order
 abbrev pub held : TransmitterState → List ℕ
 held t = shift_bytes t.shift_place ++ t.queue
 
--- what has left and what is still to leave, in order
+-- what has been sent and what is still to be sent, in order
 abbrev pub out : TransmitterState → List ℕ
 out t = t.wire ++ held t

@@ -21,30 +21,43 @@ use uart_spec::registers::{
     offsets,
 };
 
-/// The registers that keep what is written.
+/// The registers that keep what is written to them.
 #[derive(Clone, Copy)]
 pub struct Latches {
+    /// The interrupt enable register.
     pub ier: IER,
+    /// The line control register.
     pub lcr: LCR,
+    /// The modem control register.
     pub mcr: MCR,
+    /// The scratch register.
     pub scr: SPR,
+    /// The low byte of the divisor latch.
     pub dll: DLL,
+    /// The high byte of the divisor latch.
     pub dlm: DLM,
 }
 
 /// A chip without a schedule as plain data, without the bytes on its wire.
 #[derive(Drop)]
 pub struct ChipData {
+    /// The model.
     pub model: Chip,
+    /// The registers that keep what is written to them.
     pub latches: Latches,
+    /// Whether the FIFOs are on.
     pub fifo: bool,
+    /// The transmitter.
     pub transmitter: TransmitterData,
+    /// The receiver.
     pub receiver: ReceiverData,
+    /// The modem lines.
     pub modem: ModemData,
+    /// Whether characters are cut to the word length.
     pub cuts: bool,
 }
 
-/// A chip of either model, without a schedule. Under a schedule it is a `Device16550`, in the crate above.
+/// A chip of either model, without a schedule. `Device16550` of `uart_device` puts it under one.
 #[derive(Drop)]
 pub struct Uart {
     model: Chip,
@@ -80,7 +93,7 @@ impl Model for Uart {
     } };
 }
 
-// A read of ISR that shows this interrupt withdraws it.
+// Returns whether a read of ISR that shows this interrupt acknowledges it.
 fn is_thr_empty(interrupt: Option<InterruptType>) -> bool
     ensures { result ≡ spec.is_thr_empty interrupt }
 {
@@ -90,7 +103,7 @@ fn is_thr_empty(interrupt: Option<InterruptType>) -> bool
     )
 }
 
-// ISR without the bits that show the FIFO.
+// Returns ISR without the bits that show the FIFO.
 fn identification(interrupt: Option<InterruptType>) -> ISR
     ensures { result.0 ≡ spec.identification interrupt }
 {
@@ -100,7 +113,7 @@ fn identification(interrupt: Option<InterruptType>) -> ISR
     }
 }
 
-// The trigger level that FCR asks for.
+// Returns the trigger level of a value of FCR.
 fn trigger_level(fcr: FCR) -> FifoTriggerLevel
     ensures { result ≡ spec.trigger_level fcr.0 }
 {
@@ -108,7 +121,14 @@ fn trigger_level(fcr: FCR) -> FifoTriggerLevel
 }
 
 impl Uart {
-    /// A chip after power on, with so many arrivals to come. All its memory is reserved here.
+    /// Returns a chip after power-on, for a schedule with this number of arrivals. Allocates all of its memory.
+    ///
+    /// A character takes `char_ticks` ticks to be sent, the wire has room for `capacity` bytes, and characters are cut to
+    /// the word length if `cuts` is set.
+    ///
+    /// # Errors
+    ///
+    /// `AllocError` if memory could not be allocated.
     pub fn new(
         alloc: Global,
         model: Chip,
@@ -140,7 +160,11 @@ impl Uart {
         })
     }
 
-    /// The chip of these data, with these bytes on its wire. All its memory is reserved here.
+    /// Returns the chip with these data, and with these bytes on its wire. Allocates all of its memory.
+    ///
+    /// # Errors
+    ///
+    /// `AllocError` if memory could not be allocated.
     pub fn from_data(alloc: Global, saved: &ChipData, wire: &[u8]) -> Result<Self, AllocError>
         requires char_ticks { saved.now.transmitter.char_ticks ≤ MAX_CHAR_TICKS }
         requires room { length wire.now ≤ saved.now.transmitter.wire_capacity }
@@ -159,7 +183,7 @@ impl Uart {
         })
     }
 
-    /// The chip as plain data, without the bytes on its wire and without its schedule.
+    /// Returns the chip as plain data, without the bytes on its wire and without its schedule.
     pub fn data(&self) -> ChipData
         requires transmitter { length self.now.transmitter.queue ≤ FIFO_SIZE }
         requires receiver { length self.now.receiver.queue ≤ FIFO_SIZE }
@@ -176,24 +200,28 @@ impl Uart {
         }
     }
 
+    /// Returns the transmitter.
     pub fn transmitter(&self) -> &Transmitter
         ensures { result.now ≡ self.now.transmitter }
     {
         &self.transmitter
     }
 
+    /// Returns the receiver.
     pub fn receiver(&self) -> &Receiver
         ensures { result.now ≡ self.now.receiver }
     {
         &self.receiver
     }
 
+    /// Returns whether the FIFOs are on.
     pub fn fifo(&self) -> bool
         ensures { result ≡ self.now.fifo }
     {
         self.fifo
     }
 
+    /// Returns the divisor in the divisor latch.
     pub fn divisor(&self) -> u16
         ensures { result ≡ spec.divisor self.now.latches }
     {
@@ -206,7 +234,7 @@ impl Uart {
         self.latches.lcr.intersects(LCR::DLAB)
     }
 
-    // A byte as it is sent and received: if the option is on, its data bits alone.
+    // Returns a byte as it is sent and received: only its data bits if characters are cut.
     fn cut(&self, byte: u8) -> u8
         ensures { result ≡ spec.cut_of self.now byte }
     {
@@ -227,6 +255,7 @@ impl Uart {
         self.latches.mcr.intersects(MCR::LOOP_BACK)
     }
 
+    /// Lets one tick pass.
     pub fn tick(&mut self)
         ensures { self.new ≡ spec.tick self.old }
     {
@@ -235,7 +264,7 @@ impl Uart {
         self.receiver.tick(self.fifo, looped);
     }
 
-    // Ticks in which no character leaves the shift place and none enters it.
+    // Lets ticks pass in which no character enters or leaves the shift register.
     fn skip(&mut self, ticks: u16)
         ensures { self.new ≡ skip ticks self.old }
     {
@@ -243,8 +272,10 @@ impl Uart {
         self.receiver.count_up(ticks);
     }
 
-    /// Lets `n` ticks pass, and returns in how many turns. A turn goes on to the tick in which a character leaves the shift
-    /// place or enters it, or over all that is left if none does. So its cost does not grow with the number of ticks.
+    /// Lets `n` ticks pass, and returns the number of turns that this took.
+    ///
+    /// A turn ends at the tick in which a character enters or leaves the shift register, or takes all ticks that are left.
+    /// So its cost does not grow with the number of ticks.
     pub fn ticks(&mut self, n: u16) -> usize
         ensures after { self.new ≡ spec.ticks n self.old }
         ensures turns { result ≤ moves self.old.transmitter + 1 }
@@ -277,7 +308,7 @@ impl Uart {
         self.receiver.arrive(loopback, self.fifo, byte, errors);
     }
 
-    /// A character comes in without a schedule; in loopback it is lost.
+    /// Receives a character without a schedule, with these error bits. In loopback the character is lost.
     pub fn bring(&mut self, byte: u8, errors: u8)
         ensures { self.new ≡ spec.bring byte errors self.old }
     {
@@ -286,7 +317,7 @@ impl Uart {
         self.receiver.bring(loopback, self.fifo, cut, errors);
     }
 
-    /// How many characters can come in before one is lost.
+    /// Returns how many characters can be received before one is lost. In loopback that is 0.
     pub fn receive_room(&self) -> usize
         ensures { result ≡ spec.receive_room self.now }
     {
@@ -297,14 +328,14 @@ impl Uart {
         }
     }
 
-    /// Takes so many bytes from the front of the wire, or all if there are fewer.
+    /// Removes this number of bytes from the front of the wire, or all if there are fewer.
     pub fn take_wire(&mut self, count: usize)
         ensures { self.new ≡ spec.take_wire count self.old }
     {
         self.transmitter.take_wire(count);
     }
 
-    /// The modem's inputs become these.
+    /// Sets the inputs of the modem, as bits of MSR.
     pub fn change_lines(&mut self, inputs: u8)
         ensures { self.new ≡ spec.change_lines inputs self.old }
     {
@@ -312,7 +343,7 @@ impl Uart {
             .change_inputs(self.latches.mcr, MSR::from_bits_retain(inputs));
     }
 
-    /// Performs an event of the schedule; Access and Mark do nothing by themselves.
+    /// Performs an event of the schedule. `Access` and `Mark` do nothing by themselves.
     pub fn perform(&mut self, event: Event)
         requires { self.old.receiver.arrived + arrivals (event ∷ []) ≤ length self.old.receiver.marks }
         ensures { self.new ≡ perform event self.old }
@@ -345,7 +376,7 @@ impl Uart {
             .union(transmitter_empty.union(fifo_error))
     }
 
-    // The interrupt of the highest priority among those that are enabled and pending.
+    // Returns the interrupt of the highest priority among those that are enabled and pending.
     fn interrupt(&self) -> Option<InterruptType>
         ensures { result ≡ spec.interrupt self.now }
     {
@@ -367,14 +398,14 @@ impl Uart {
         }
     }
 
-    /// An interrupt is enabled and pending.
+    /// Returns whether an interrupt is enabled and pending: whether the interrupt output is active.
     pub fn is_interrupting(&self) -> bool
         ensures { result ≡ is_some (spec.interrupt self.now) }
     {
         self.interrupt().is_some()
     }
 
-    /// What a read of the register answers, with its effect.
+    /// Reads the register at this offset: returns its value, and has the effect of the read on the chip.
     pub fn read(&mut self, offset: u8) -> u8
         requires { offset < NUM_REGISTERS }
         ensures answers { result ≡ spec.answer offset self.old }
@@ -407,7 +438,7 @@ impl Uart {
         self.receiver.take_front()
     }
 
-    // The read that tells THR-empty withdraws it.
+    // Reads ISR. A read that shows `THR_EMPTY` acknowledges it.
     fn read_interrupt(&mut self) -> u8
         ensures answers { result ≡ spec.answer offsets.ISR self.old }
         ensures after { self.new ≡ spec.after_read offsets.ISR self.old }
@@ -420,7 +451,7 @@ impl Uart {
         identification(interrupt).union(fifo).bits()
     }
 
-    /// The effect of a write of the register.
+    /// Writes a value to the register at this offset.
     pub fn write(&mut self, offset: u8, value: u8)
         requires { offset < NUM_REGISTERS }
         ensures { self.new ≡ spec.after_write offset value self.old }
@@ -444,7 +475,7 @@ impl Uart {
         }
     }
 
-    // A write of the interrupt enable register.
+    // Writes IER.
     fn enable(&mut self, interrupts: IER)
         ensures { self.new ≡ spec.enable interrupts.0 self.old }
     {
@@ -457,7 +488,7 @@ impl Uart {
         self.latches.ier = kept_interrupts(interrupts);
     }
 
-    // A write of the FIFO control register.
+    // Writes FCR.
     fn control(&mut self, value: FCR)
         ensures { self.new ≡ spec.control self.old.model value.0 self.old }
     {
@@ -486,7 +517,7 @@ impl Uart {
         }
     }
 
-    // The FIFO is switched on or off, which empties both queues.
+    // Switches the FIFOs on or off, which empties both.
     fn switch(&mut self, on: bool)
         ensures { self.new ≡ spec.switch on self.old }
     {

@@ -1,4 +1,4 @@
-//! What a caller gives to a machine, and what it tells of it.
+//! What a machine is built from, and what it reports.
 
 ghost use Rattle.std.specs.Prelude.{◌≡◌, count_by, position};
 ghost use Rattle.uart_chip.specs.Build as spec;
@@ -7,7 +7,7 @@ use bitflags::Flags;
 use thiserror::Error;
 use uart_spec::registers::{LSR, MSR};
 
-/// The most ticks that a character may take to be shifted out.
+/// The most ticks that a character may take to be sent.
 pub const MAX_CHAR_TICKS: u16 = 1000;
 
 /// The most bytes that a wire may have room for.
@@ -16,30 +16,35 @@ pub const MAX_WIRE_CAPACITY: usize = 65_536;
 /// The model of a chip. The chip itself is [`Uart`](crate::Uart).
 #[derive(Clone, Copy, Debug, PartialEq, Eq)]
 pub enum Chip {
-    /// With queues of 16 characters, which the FIFO control register switches on.
+    /// With FIFOs of 16 characters, which FCR switches on.
     Uart16550A,
-    /// Without FIFOs; writes of the FIFO control register do nothing.
+    /// Without FIFOs. Writes to FCR do nothing.
     Uart16450,
 }
 
-/// What happens to the chip, in the order of the schedule.
+/// An event of a schedule: what happens to the chip, in order.
 #[derive(Clone, Copy, Debug, PartialEq, Eq)]
 pub enum Event {
-    /// So many ticks pass.
+    /// This number of ticks passes.
     Ticks(u16),
-    /// A character comes in from the remote. Error bits lie where the line status register has them: parity 0x04,
-    /// framing 0x08, break 0x10.
-    Arrive { byte: u8, errors: u8 },
-    /// The modem's inputs become these, as the modem status register shows them: CTS 0x10, DSR 0x20, RI 0x40, CD 0x80.
+    /// A character arrives from the remote, with these errors, which are bits of LSR: parity 0x04, framing 0x08, break
+    /// 0x10.
+    Arrive {
+        /// The byte.
+        byte: u8,
+        /// Its errors.
+        errors: u8,
+    },
+    /// The modem lines become these, which are bits of MSR: CTS 0x10, DSR 0x20, RI 0x40, CD 0x80.
     Lines(u8),
-    /// The next register access takes place here, without the tick that it takes elsewhere.
+    /// The next register access takes place here, without the tick that passes elsewhere.
     Access,
-    /// No register access goes past here, but `Device16550::next` does.
+    /// No register access goes beyond this event. `Device16550::next` does.
     Mark,
 }
 
 impl Event {
-    // It is an arrival with a bit that is no error of a character.
+    // Returns whether this is an arrival with a bit that is not an error of a character.
     fn has_bad_errors(&self) -> bool
         ensures { result ≡ spec.has_bad_errors self.now }
     {
@@ -52,7 +57,7 @@ impl Event {
         }
     }
 
-    // It is a change of lines with a bit that is no line.
+    // Returns whether this is a change of lines with a bit that is not a line.
     fn has_bad_lines(&self) -> bool
         ensures { result ≡ spec.has_bad_lines self.now }
     {
@@ -72,28 +77,28 @@ impl Event {
     }
 }
 
-/// How many characters these events bring.
+/// Returns the number of arrivals among these events.
 pub fn arrivals(events: &[Event]) -> usize
     ensures { result ≡ count_by spec.is_arrival events.now }
 {
     events.iter().filter(|event| event.is_arrival()).count()
 }
 
-// The first arrival with a bit that is no error of a character.
+// Returns the index of the first arrival with a bit that is not an error of a character.
 fn first_bad_errors(events: &[Event]) -> Option<usize>
     ensures { result ≡ position spec.has_bad_errors events.now }
 {
     events.iter().position(|event| event.has_bad_errors())
 }
 
-// The first change of lines with a bit that is no line.
+// Returns the index of the first change of lines with a bit that is not a line.
 fn first_bad_lines(events: &[Event]) -> Option<usize>
     ensures { result ≡ position spec.has_bad_lines events.now }
 {
     events.iter().position(|event| event.has_bad_lines())
 }
 
-/// Why no machine can be built, whatever memory there is: the first reason in the order of [`BuildError`].
+/// Returns why no machine can be built, however much memory there is: the first reason in the order of [`BuildError`].
 pub fn refusal(char_ticks: u16, wire_capacity: usize, events: &[Event]) -> Option<BuildError>
     ensures { result ≡ spec.refusal char_ticks wire_capacity events.now }
 {
@@ -111,29 +116,34 @@ pub fn refusal(char_ticks: u16, wire_capacity: usize, events: &[Event]) -> Optio
 /// What became of an arrival of the schedule.
 #[derive(Clone, Copy, Debug, PartialEq, Eq)]
 pub enum ArrivalMark {
-    /// It is still to come.
+    /// It has not arrived yet.
     Pending,
-    /// It waits to be read.
+    /// It is in the receiver, and has not been read.
     Waiting,
     /// It was read from the data register.
     Read,
-    /// It came in loopback, or a reset of the receiver threw it away.
+    /// It arrived in loopback, or was discarded by a reset of the receiver.
     Discarded,
     /// It was lost to an overrun.
     Dropped,
 }
 
-/// Why no machine was built. The first reason in this order is told.
+/// Why no machine was built: the first reason in this order.
 #[derive(Clone, Copy, Debug, PartialEq, Eq, Error)]
 pub enum BuildError {
+    /// A character takes no ticks, or more than `MAX_CHAR_TICKS`.
     #[error("a character takes 1 to {max} ticks", max = MAX_CHAR_TICKS)]
     BadTicks,
+    /// The wire has room for more than `MAX_WIRE_CAPACITY` bytes.
     #[error("the wire has room for at most {max} bytes", max = MAX_WIRE_CAPACITY)]
     BadWire,
+    /// An arrival has error bits other than parity, framing and break. Holds the index of the event.
     #[error("event {0}: an arrival has other error bits than parity, framing and break")]
     BadErrors(usize),
+    /// A change of lines has bits other than CTS, DSR, RI and CD. Holds the index of the event.
     #[error("event {0}: a change of lines has other bits than CTS, DSR, RI and CD")]
     BadLines(usize),
+    /// Memory could not be allocated.
     #[error("out of memory")]
     OutOfMemory,
 }

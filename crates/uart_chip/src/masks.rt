@@ -6,14 +6,14 @@ ghost use Rattle.uart_chip.specs.Masks as spec;
 use bitflags::Flags;
 use uart_spec::registers::{IER, MCR};
 
-/// These bits if the condition holds, else none.
+/// Returns these bits if the condition holds, else none.
 pub fn flag<F: Flags>(on: bool, bits: F) -> F
     ensures { F.exact → F.set_of result ≡ flag on (F.set_of bits) }
 {
     if on { bits } else { F::empty() }
 }
 
-/// What IER keeps of a write: the interrupts that the chip has.
+/// Returns what IER keeps of a write: the interrupts that the chip has.
 pub fn kept_interrupts(written: IER) -> IER
     ensures { result.0 ≡ bit_and written.0 spec.ier_bits }
 {
@@ -22,7 +22,7 @@ pub fn kept_interrupts(written: IER) -> IER
     written.intersection(receiver.union(others))
 }
 
-/// What MCR keeps of a write: the outputs and loopback.
+/// Returns what MCR keeps of a write: the outputs and loopback.
 pub fn kept_modem_control(written: MCR) -> MCR
     ensures { result.0 ≡ bit_and written.0 spec.mcr_bits }
 {

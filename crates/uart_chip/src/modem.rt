@@ -8,7 +8,7 @@ use bitflags::Flags;
 use std::marker::Model;
 use uart_spec::registers::{MCR, MSR};
 
-/// The modem's inputs, the lines that the status register shows, and their changes since its last read.
+/// The modem's inputs, the lines that MSR shows, and their changes since its last read.
 #[derive(Drop)]
 pub struct Modem {
     inputs: MSR,
@@ -27,8 +27,11 @@ impl Model for Modem {
 /// The modem lines as plain data.
 #[derive(Clone, Copy)]
 pub struct ModemData {
+    /// The inputs from the remote: CTS, DSR, RI and CD.
     pub inputs: MSR,
+    /// The lines that MSR shows: the inputs, or in loopback the outputs of MCR.
     pub lines: MSR,
+    /// The changes since the last read of MSR.
     pub deltas: MSR,
 }
 
@@ -38,7 +41,7 @@ fn is_changed(old: MSR, new: MSR, line: MSR) -> bool
     old.intersection(line) != new.intersection(line)
 }
 
-// The changes between two states of the lines: of RI only from set to clear.
+// Returns the changes between two states of the lines: of RI only from set to clear.
 fn changes(old: MSR, new: MSR) -> MSR
     ensures { result.0 ≡ spec.changes old.0 new.0 }
 {
@@ -52,7 +55,7 @@ fn changes(old: MSR, new: MSR) -> MSR
     cts.union(dsr).union(ri.union(cd))
 }
 
-// In loopback the outputs are in place of the inputs.
+// Returns the lines in loopback, where the outputs replace the inputs.
 fn looped_lines(mcr: MCR) -> MSR
     ensures { result.0 ≡ spec.looped_lines mcr.0 }
 {
@@ -63,7 +66,7 @@ fn looped_lines(mcr: MCR) -> MSR
     cts.union(dsr).union(ri.union(cd))
 }
 
-// The lines under a modem control register.
+// Returns the lines under this value of MCR.
 fn lines_under(mcr: MCR, inputs: MSR) -> MSR
     ensures { result.0 ≡ spec.lines_under mcr.0 inputs.0 }
 {
@@ -75,7 +78,7 @@ fn lines_under(mcr: MCR, inputs: MSR) -> MSR
 }
 
 impl Modem {
-    /// All lines are clear, and none has changed.
+    /// Returns modem lines that are all clear and have not changed.
     pub fn new() -> Self
         ensures { result ≡ spec.fresh }
     {
@@ -86,7 +89,7 @@ impl Modem {
         }
     }
 
-    /// The modem lines of these data.
+    /// Returns the modem lines with these data.
     pub fn from_data(saved: ModemData) -> Self
         ensures { result ≡ modem_of saved }
     {
@@ -97,7 +100,7 @@ impl Modem {
         }
     }
 
-    /// The modem lines as plain saved.
+    /// Returns the modem lines as plain data.
     pub fn data(&self) -> ModemData
         ensures { modem_of result ≡ self.now }
     {
@@ -108,7 +111,7 @@ impl Modem {
         }
     }
 
-    /// Renews the lines under this modem control register.
+    /// Computes the lines anew under this value of MCR, and adds their changes.
     pub fn renew(&mut self, mcr: MCR)
         ensures { self.new ≡ spec.renew mcr.0 self.old }
     {
@@ -117,7 +120,7 @@ impl Modem {
         self.lines = lines;
     }
 
-    /// The inputs become these.
+    /// Sets the inputs, and computes the lines anew.
     pub fn change_inputs(&mut self, mcr: MCR, inputs: MSR)
         ensures { self.new ≡ spec.renew mcr.0 (record self.old { inputs = inputs.0 }) }
     {
@@ -125,7 +128,7 @@ impl Modem {
         self.renew(mcr);
     }
 
-    /// A read of the modem status register, which clears the changes.
+    /// Returns what a read of MSR returns, and clears the changes, as the read does.
     pub fn read(&mut self) -> MSR
         ensures answers { result.0 ≡ bit_or self.old.lines self.old.deltas }
         ensures after { self.new ≡ record self.old { deltas = 0 } }
@@ -135,6 +138,7 @@ impl Modem {
         status
     }
 
+    /// Returns whether a line has changed since the last read of MSR.
     pub fn has_changes(&self) -> bool
         ensures { result ≡ not (self.now.deltas == 0) }
     {

@@ -1,4 +1,4 @@
-//! The queues of the chip: rings with a place for each character that there is ever room for.
+//! The queues of the chip: rings that have room for each character.
 ghost use Rattle.std.specs.Prelude.{◌≡◌, ◌<◌, ◌≤◌, true, [], ◌∷◌, ◌++◌, length, IfOk};
 ghost use Rattle.circular_buffer.specs.Buffer.{buffer};
 ghost use Rattle.uart_spec.specs.declared.baud.TheConstants.{FIFO_SIZE};
@@ -9,14 +9,14 @@ use circular_buffer::HeapCircularBuffer;
 use std::alloc::{AllocError, Global};
 use uart_spec::FIFO_SIZE;
 
-/// How many characters a queue has room for. Without FIFO that is one, although its ring has more places.
+/// Returns the number of characters that a queue has room for. Without FIFO that is one, although its ring is larger.
 pub fn room_of(fifo: bool) -> usize
     ensures { result ≡ room fifo }
 {
     if fifo { FIFO_SIZE } else { 1 }
 }
 
-/// Puts an item last. A full ring would overwrite its front, so the caller shows that this one is not full.
+/// Appends an item. A full ring would overwrite its front, so the caller must show that this one is not full.
 pub fn put<T: Drop>(ring: &mut HeapCircularBuffer<T>, item: T)
     requires { length ring.old.items < ring.old.capacity }
     ensures { ring.new ≡ buffer (ring.old.items ++ item ∷ []) ring.old.capacity }
@@ -24,7 +24,7 @@ pub fn put<T: Drop>(ring: &mut HeapCircularBuffer<T>, item: T)
     ring.push_back(item);
 }
 
-/// A ring that holds these items.
+/// Allocates a ring, and returns it with these items.
 pub fn filled<T: Copy + Drop>(
     alloc: Global,
     items: &ArrayVec<T, FIFO_SIZE>,
@@ -36,7 +36,7 @@ pub fn filled<T: Copy + Drop>(
     Ok(ring)
 }
 
-/// The items of a ring, the front first.
+/// Returns the items of a ring, from the front.
 pub fn items_of<T: Copy + Default + Drop>(ring: &HeapCircularBuffer<T>) -> ArrayVec<T, FIFO_SIZE>
     requires { length ring.now.items ≤ FIFO_SIZE }
     ensures { result.items ≡ ring.now.items }

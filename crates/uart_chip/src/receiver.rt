@@ -1,4 +1,4 @@
-//! The receiver: a queue of characters, and what became of each that arrived.
+//! The receiver: a queue of characters, and what became of each arrival.
 ghost use Rattle.std.specs.Prelude.{◌≡◌, ◌==◌, ◌<◌, ◌≤◌, ◌-◌, ℕ, length, slice_get, IfOk};
 ghost use Rattle.std.specs.List.{list_any};
 ghost use Rattle.uart_chip.specs.Receiver as spec;
@@ -19,27 +19,30 @@ use std::marker::Model;
 use uart_spec::FIFO_SIZE;
 use uart_spec::registers::{FifoTriggerLevel, LSR};
 
-/// Where a character comes from.
+/// Where a character is from.
 #[derive(Clone, Copy, Default)]
 pub enum Origin {
-    /// It is the arrival of the schedule with this number.
+    /// The arrival of the schedule with this number.
     Arrived(usize),
-    /// It came back in loopback.
+    /// Sent by the chip itself, in loopback.
     #[default]
     Looped,
-    /// It came in without a schedule.
+    /// Received without a schedule.
     Live,
 }
 
-/// A character that waits to be read, with its errors where the line status register has them.
+/// A received character that has not been read.
 #[derive(Clone, Copy, Default)]
 pub struct Character {
+    /// The byte.
     pub byte: u8,
+    /// Its errors, as bits of LSR.
     pub errors: u8,
+    /// Where it is from.
     pub origin: Origin,
 }
 
-/// What receives: characters wait in the queue for a read of the data register.
+/// The receiver: received characters are in its queue until DATA is read.
 #[derive(Drop)]
 pub struct Receiver {
     queue: HeapCircularBuffer<Character>,
@@ -78,7 +81,7 @@ impl Model for Receiver {
 }
 
 impl Character {
-    // It has a parity or framing error or is a break.
+    // Returns whether the character has a parity error or a framing error, or is a break.
     fn has_errors(&self) -> bool
         ensures { result ≡ has_errors self.now }
     {
@@ -87,7 +90,7 @@ impl Character {
 }
 
 impl Origin {
-    // It is no arrival of the schedule.
+    // Returns whether the character is not an arrival of the schedule.
     fn is_stray(&self) -> bool
         ensures { result ≡ spec.is_stray self.now }
     {
@@ -98,7 +101,7 @@ impl Origin {
     }
 }
 
-// How many characters a trigger level asks for.
+// Returns the number of characters of a trigger level.
 fn characters_of(level: FifoTriggerLevel) -> usize
     ensures { result ≡ spec.characters_of level }
 {
@@ -110,7 +113,7 @@ fn characters_of(level: FifoTriggerLevel) -> usize
     }
 }
 
-// Sets the mark of an arrival; a stray character has none.
+// Sets the mark of an arrival. A stray character has none.
 fn set_mark(marks: &mut Vec<ArrivalMark>, origin: Origin, mark: ArrivalMark)
     ensures { marks.new.items ≡ spec.set_mark origin mark marks.old.items }
 {
@@ -121,7 +124,7 @@ fn set_mark(marks: &mut Vec<ArrivalMark>, origin: Origin, mark: ArrivalMark)
     }
 }
 
-// Marks the characters that a reset throws away.
+// Marks the characters that a reset discards.
 fn discard(characters: &HeapCircularBuffer<Character>, marks: &mut Vec<ArrivalMark>)
     ensures { marks.new.items ≡ spec.discard characters.now.items marks.old.items }
 {
@@ -133,17 +136,27 @@ fn discard(characters: &HeapCircularBuffer<Character>, marks: &mut Vec<ArrivalMa
 /// A receiver without a schedule, as plain data.
 #[derive(Drop)]
 pub struct ReceiverData {
+    /// The characters that have not been read, from the front.
     pub queue: ArrayVec<Character, FIFO_SIZE>,
+    /// Whether a character was lost since the last read of LSR.
     pub is_overrun: bool,
+    /// Whether a read of LSR has reported the errors of the front.
     pub is_front_reported: bool,
+    /// The byte that was read last, which a read of an empty receiver returns.
     pub last_byte: u8,
+    /// The ticks since a character was received or read, counted up to the timeout.
     pub timeout_ticks: u16,
+    /// The trigger level of the FIFO.
     pub trigger: FifoTriggerLevel,
 }
 
 impl Receiver {
-    /// A receiver to which nothing has come yet, with this many arrivals to come. The memory of its queue and of the marks is
-    /// reserved here.
+    /// Returns a receiver that has received nothing, for a schedule with this number of arrivals. Allocates its queue and
+    /// the marks.
+    ///
+    /// # Errors
+    ///
+    /// `AllocError` if memory could not be allocated.
     pub fn new(alloc: Global, char_ticks: u16, arrivals: usize) -> Result<Self, AllocError>
         requires { char_ticks ≤ MAX_CHAR_TICKS }
         ensures { IfOk result (λ r. r ≡ spec.fresh char_ticks arrivals) }
@@ -167,7 +180,11 @@ impl Receiver {
         })
     }
 
-    /// The receiver of these data, without a schedule. The memory of its queue is reserved here.
+    /// Returns the receiver with these data, without a schedule. Allocates its queue.
+    ///
+    /// # Errors
+    ///
+    /// `AllocError` if memory could not be allocated.
     pub fn from_data(
         alloc: Global,
         char_ticks: u16,
@@ -191,7 +208,7 @@ impl Receiver {
         })
     }
 
-    /// The receiver as plain data, without its marks.
+    /// Returns the receiver as plain data, without its marks.
     pub fn data(&self) -> ReceiverData
         requires { length self.now.queue ≤ FIFO_SIZE }
         ensures { (char_ticks : ℕ) → receiver_of char_ticks result ≡ without_schedule char_ticks self.now }
@@ -206,7 +223,8 @@ impl Receiver {
         }
     }
 
-    // A character comes in.
+    // Puts a character into the queue. If there is no room, the FIFO loses it, and the single register loses the one that
+    // it held.
     fn come_in(&mut self, fifo: bool, new: Character)
         ensures { self.new ≡ spec.come_in fifo new self.old }
     {
@@ -229,7 +247,7 @@ impl Receiver {
         }
     }
 
-    // A character takes the place of the one that waits, which is dropped.
+    // Replaces the character in the receiver, which is dropped.
     fn replace(&mut self, new: Character)
         ensures { self.new ≡ spec.replace self.old.queue new self.old }
     {
@@ -250,7 +268,7 @@ impl Receiver {
         }
     }
 
-    /// The end of a tick, with the byte that came back in it.
+    /// Ends a tick, with the byte that loopback returned in it.
     pub fn tick(&mut self, fifo: bool, looped: Option<u8>)
         ensures { self.new ≡ spec.tick fifo looped self.old }
     {
@@ -267,7 +285,7 @@ impl Receiver {
         self.timeout_ticks = self.timeout_ticks.saturating_add(1).min(self.timeout_limit);
     }
 
-    /// Ticks in which no character comes in and none is taken.
+    /// Lets ticks pass in which no character is received or read.
     pub fn count_up(&mut self, ticks: u16)
         ensures { self.new ≡ count_up ticks self.old }
     {
@@ -279,7 +297,7 @@ impl Receiver {
         }
     }
 
-    /// The next arrival of the schedule.
+    /// Receives the next arrival of the schedule. In loopback it is discarded.
     pub fn arrive(&mut self, loopback: bool, fifo: bool, byte: u8, errors: u8)
         requires { self.old.arrived < length self.old.marks }
         ensures { self.new ≡ spec.arrive loopback fifo byte errors self.old }
@@ -300,7 +318,7 @@ impl Receiver {
         }
     }
 
-    /// A character that comes in without a schedule.
+    /// Receives a character without a schedule. In loopback it is lost.
     pub fn bring(&mut self, loopback: bool, fifo: bool, byte: u8, errors: u8)
         ensures { self.new ≡ spec.bring loopback fifo byte errors self.old }
     {
@@ -316,7 +334,7 @@ impl Receiver {
         }
     }
 
-    /// Takes the front, and answers the byte that was taken last.
+    /// Takes the front if there is one, and returns the byte that was taken last.
     pub fn take_front(&mut self) -> u8
         ensures after { self.new ≡ spec.take_front self.old.queue self.old }
         ensures byte { result ≡ self.new.last_byte }
@@ -330,7 +348,7 @@ impl Receiver {
         self.last_byte
     }
 
-    /// The line status was read.
+    /// Does what a read of LSR does: clears the overrun and the errors of the front.
     pub fn report(&mut self)
         ensures { self.new ≡ spec.report self.old }
     {
@@ -340,7 +358,7 @@ impl Receiver {
         }
     }
 
-    /// Empties the queue; what waited is discarded.
+    /// Empties the queue. Its characters are discarded.
     pub fn clear(&mut self)
         ensures { self.new ≡ spec.clear self.old }
     {
@@ -348,25 +366,28 @@ impl Receiver {
         self.queue.clear();
     }
 
+    /// Sets the trigger level.
     pub fn set_trigger(&mut self, trigger: FifoTriggerLevel)
         ensures { self.new ≡ record self.old { trigger = trigger } }
     {
         self.trigger = trigger;
     }
 
+    /// Returns whether there is no received character.
     pub fn is_empty(&self) -> bool
         ensures { result ≡ (length self.now.queue == 0) }
     {
         self.queue.is_empty()
     }
 
+    /// Returns whether a character was lost since the last read of LSR.
     pub fn is_overrun(&self) -> bool
         ensures { result ≡ self.now.is_overrun }
     {
         self.is_overrun
     }
 
-    /// The errors of the front, unless they were reported.
+    /// Returns the errors of the front, unless they were reported.
     pub fn front_errors(&self) -> LSR
         ensures { result.0 ≡ front_errors self.now.queue self.now.is_front_reported }
     {
@@ -378,7 +399,7 @@ impl Receiver {
         }
     }
 
-    /// Some character has errors that were not reported yet.
+    /// Returns whether a character has errors that were not reported.
     pub fn has_unreported_errors(&self) -> bool
         ensures { result ≡ list_any has_errors (unreported self.now.queue self.now.is_front_reported) }
     {
@@ -389,7 +410,7 @@ impl Receiver {
         characters.any(|character| character.has_errors())
     }
 
-    /// As many characters wait as the trigger says, or any without FIFO.
+    /// Returns whether there are as many characters as the trigger level, or without FIFO any.
     pub fn is_data_pending(&self, fifo: bool) -> bool
         ensures { result ≡ spec.is_data_pending fifo self.now }
     {
@@ -400,38 +421,42 @@ impl Receiver {
         }
     }
 
-    /// Characters wait in the FIFO, and none came or was taken for four character times.
+    /// Returns whether there are characters in the FIFO, and none was received or read for four character times.
     pub fn is_timed_out(&self, fifo: bool) -> bool
         ensures { result ≡ spec.is_timed_out fifo self.now }
     {
         fifo && !self.queue.is_empty() && self.timeout_ticks == self.timeout_limit
     }
 
-    /// How many characters can come in before one is lost.
+    /// Returns how many characters can be received before one is lost.
     pub fn room(&self, fifo: bool) -> usize
         ensures { result ≡ room fifo - length self.now.queue }
     {
         room_of(fifo).saturating_sub(self.queue.len())
     }
 
+    /// Returns the number of received bytes that have not been read.
     pub fn waiting_len(&self) -> usize
         ensures { result ≡ length (waiting self.now) }
     {
         self.queue.len()
     }
 
+    /// Returns the received byte with this index, from the front.
     pub fn waiting_at(&self, i: usize) -> Option<u8>
         ensures { result ≡ slice_get (waiting self.now) i }
     {
         self.queue.get(i).map(|character| character.byte)
     }
 
+    /// Returns the number of arrivals of the schedule, past and future.
     pub fn arrivals(&self) -> usize
         ensures { result ≡ length self.now.marks }
     {
         self.marks.len()
     }
 
+    /// Returns what became of the arrival with this number.
     pub fn mark(&self, i: usize) -> Option<ArrivalMark>
         ensures { result ≡ slice_get self.now.marks i }
     {

@@ -1,4 +1,4 @@
-//! The transmitter: a queue, the place from which a character is shifted out, and the wire.
+//! The transmitter: a queue, the shift register, and the wire.
 ghost use Rattle.std.specs.Prelude.{◌≡◌, ◌==◌, ◌<◌, ◌≤◌, ◌-◌, [], ◌∷◌, ◌++◌, length, slice_get, IfOk};
 ghost use Rattle.uart_chip.specs.Transmitter as spec;
 ghost use Rattle.uart_chip.specs.Transmitter.{room, looped_byte, held};
@@ -14,25 +14,34 @@ use std::alloc::{AllocError, Global};
 use std::marker::Model;
 use uart_spec::FIFO_SIZE;
 
-/// The character that is being shifted out, and the ticks that it still takes.
+/// The character in the shift register.
 #[derive(Clone, Copy)]
 pub struct Shifting {
+    /// The byte.
     pub byte: u8,
+    /// The ticks until it has left.
     pub ticks_left: u16,
 }
 
 /// A transmitter as plain data, without the bytes on its wire.
 #[derive(Drop)]
 pub struct TransmitterData {
+    /// The bytes in the FIFO or in THR, from the front.
     pub queue: ArrayVec<u8, FIFO_SIZE>,
+    /// The character in the shift register.
     pub shift_place: Option<Shifting>,
+    /// The number of bytes that the wire has room for.
     pub wire_capacity: usize,
+    /// The ticks that a character takes to be sent.
     pub char_ticks: u16,
+    /// How many bytes were written while there was no room. The count saturates.
     pub overflows: u64,
+    /// Whether a `THR_EMPTY` interrupt is pending.
     pub is_thr_pending: bool,
 }
 
-/// What sends: bytes written to the data register wait in the queue, one is shifted out, and then it is on the wire.
+/// The transmitter: bytes that are written to DATA are first in the queue, then in the shift register, and then on the
+/// wire.
 #[derive(Drop)]
 pub struct Transmitter {
     queue: HeapCircularBuffer<u8>,
@@ -64,7 +73,11 @@ impl Model for Transmitter {
 }
 
 impl Transmitter {
-    /// A transmitter that has sent nothing yet. The memory of its queue and of the wire is reserved here.
+    /// Returns a transmitter that has sent nothing. Allocates its queue and its wire.
+    ///
+    /// # Errors
+    ///
+    /// `AllocError` if memory could not be allocated.
     pub fn new(alloc: Global, char_ticks: u16, capacity: usize) -> Result<Self, AllocError>
         ensures { IfOk result (λ t. t ≡ spec.fresh char_ticks capacity) }
     {
@@ -81,7 +94,11 @@ impl Transmitter {
         })
     }
 
-    /// The transmitter of these data, with these bytes on its wire. The memory of its queue and of the wire is reserved here.
+    /// Returns the transmitter with these data, and with these bytes on its wire. Allocates its queue and its wire.
+    ///
+    /// # Errors
+    ///
+    /// `AllocError` if memory could not be allocated.
     pub fn from_data(
         alloc: Global,
         saved: &TransmitterData,
@@ -104,7 +121,7 @@ impl Transmitter {
         })
     }
 
-    /// The transmitter as plain data, without the bytes on its wire.
+    /// Returns the transmitter as plain data, without the bytes on its wire.
     pub fn data(&self) -> TransmitterData
         requires { length self.now.queue ≤ FIFO_SIZE }
         ensures { transmitter_of result self.now.wire ≡ self.now }
@@ -119,7 +136,7 @@ impl Transmitter {
         }
     }
 
-    // The shift place's tick, and the byte that comes back in it.
+    // Lets one tick pass in the shift register, and returns the byte that loopback returns in it.
     fn shift(&mut self, loopback: bool) -> Option<u8>
         ensures after { self.new ≡ spec.shift loopback self.old.shift_place self.old }
         ensures looped { result ≡ looped_byte loopback self.old.shift_place }
@@ -145,7 +162,7 @@ impl Transmitter {
         None
     }
 
-    // A free shift place takes the front of the queue.
+    // Moves the front of the queue into an empty shift register.
     fn refill(&mut self)
         ensures { self.new ≡ spec.refill self.old.shift_place self.old.queue self.old }
     {
@@ -163,7 +180,7 @@ impl Transmitter {
         }
     }
 
-    /// One tick, and the byte that comes back in it.
+    /// Lets one tick pass, and returns the byte that loopback returns in it.
     pub fn tick(&mut self, loopback: bool) -> Option<u8>
         ensures after { self.new ≡ spec.tick loopback self.old }
         ensures looped { result ≡ looped_byte loopback self.old.shift_place }
@@ -173,7 +190,7 @@ impl Transmitter {
         looped
     }
 
-    /// The ticks until a character leaves the shift place or enters it: `None` if none can, as with a full wire.
+    /// Returns the ticks until a character enters or leaves the shift register: `None` if none can, as with a full wire.
     pub fn next_move(&self, loopback: bool) -> Option<u16>
         ensures { result ≡ next_move loopback self.now }
     {
@@ -187,7 +204,7 @@ impl Transmitter {
         }
     }
 
-    /// Ticks in which no character leaves the shift place and none enters it.
+    /// Lets ticks pass in which no character enters or leaves the shift register.
     pub fn count_down(&mut self, ticks: u16)
         ensures { self.new ≡ count_down ticks self.old }
     {
@@ -204,7 +221,7 @@ impl Transmitter {
         }
     }
 
-    /// Takes a byte from the data register.
+    /// Takes a byte that is written to DATA. If there is no room, the FIFO loses it, and THR loses the byte that it held.
     pub fn load(&mut self, fifo: bool, byte: u8)
         ensures { self.new ≡ spec.load fifo byte self.old }
     {
@@ -220,46 +237,49 @@ impl Transmitter {
         self.is_thr_pending = false;
     }
 
-    /// Nothing waits in the queue.
+    /// Returns whether the FIFO, or THR, is empty.
     pub fn is_thr_empty(&self) -> bool
         ensures { result ≡ (length self.now.queue == 0) }
     {
         self.queue.is_empty()
     }
 
-    /// Nothing is left to send.
+    /// Returns whether there is nothing left to send.
     pub fn is_empty(&self) -> bool
         ensures { result ≡ is_transmitter_empty self.now.queue self.now.shift_place }
     {
         self.queue.is_empty() && self.shift_place.is_none()
     }
 
+    /// Returns whether a `THR_EMPTY` interrupt is pending.
     pub fn is_thr_pending(&self) -> bool
         ensures { result ≡ self.now.is_thr_pending }
     {
         self.is_thr_pending
     }
 
+    /// Sets whether a `THR_EMPTY` interrupt is pending.
     pub fn set_thr_pending(&mut self, on: bool)
         ensures { self.new ≡ record self.old { is_thr_pending = on } }
     {
         self.is_thr_pending = on;
     }
 
-    /// Empties the queue; the shift place stays.
+    /// Empties the queue. The shift register keeps its character.
     pub fn clear(&mut self)
         ensures { self.new ≡ record self.old { queue = [] } }
     {
         self.queue.clear();
     }
 
+    /// Returns the bytes on the wire, from the first that was sent.
     pub fn wire(&self) -> &[u8]
         ensures { result.now ≡ self.now.wire }
     {
         self.wire.as_slice()
     }
 
-    /// Takes so many bytes from the front of the wire, or all if there are fewer.
+    /// Removes this number of bytes from the front of the wire, or all if there are fewer.
     pub fn take_wire(&mut self, count: usize)
         ensures { self.new ≡ spec.take_wire count self.old }
     {
@@ -269,19 +289,21 @@ impl Transmitter {
         self.wire.truncate(len - count);
     }
 
-    /// How many bytes more the wire has room for.
+    /// Returns how many more bytes the wire has room for.
     pub fn wire_room(&self) -> usize
         ensures { result ≡ self.now.capacity - length self.now.wire }
     {
         self.capacity.saturating_sub(self.wire.len())
     }
 
+    /// Returns how many bytes were written while there was no room. The count saturates.
     pub fn overflows(&self) -> u64
         ensures { result ≡ self.now.overflows }
     {
         self.overflows
     }
 
+    /// Returns the number of bytes that are still to be sent.
     pub fn held_len(&self) -> usize
         ensures { result ≡ length (held self.now) }
     {
@@ -291,7 +313,7 @@ impl Transmitter {
         }
     }
 
-    /// The byte at a place of what is still to leave: the shift place first, then the queue.
+    /// Returns the byte with this index among those that are still to be sent: first the shift register, then the queue.
     pub fn held_at(&self, i: usize) -> Option<u8>
         ensures { result ≡ slice_get (held self.now) i }
     {

@@ -1,3 +1,3 @@
--- In loopback what is written comes back in order.
+-- In loopback what is written is received in order.
 pub mod Loops
 pub mod LoopAccesses

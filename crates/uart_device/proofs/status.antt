@@ -1,4 +1,4 @@
--- What the line status and the modem status tell.
+-- What the line status and the modem status report.
 pub mod Status
 pub mod Reports
 pub mod Turns

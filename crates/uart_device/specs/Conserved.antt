@@ -1,4 +1,4 @@
--- What has gone out, what came in, and what was kept of it.
+-- What has been sent, what was received, and what was kept of it.
 use Rattle.std.specs.Prelude.{◌≡◌, ℕ, ◌+◌, ◌-◌, Bool, true, false, not, List, [], ◌∷◌, ◌++◌, map, filter, take, length}
 use Rattle.uart_chip.specs.declared.event.ArrivalMark.{ArrivalMark}
 use Rattle.uart_chip.specs.declared.event.ArrivalMark.TheVariants.{Dropped}
@@ -13,15 +13,15 @@ use Rattle.uart_chip.specs.Receiver.{ReceiverState, mark_at}
 use Rattle.uart_chip.specs.Chip.{cut_of}
 use Rattle.uart_chip.specs.Machine.{MachineState}
 
--- what has gone onto the wire, and then what is still to go
+-- what has been sent, and then what is still to be sent
 abbrev pub out : MachineState → List ℕ
 out m = transmitter.out m.chip.transmitter
 
--- the bytes that wait to be read
+-- the received bytes that have not been read
 abbrev pub waiting : MachineState → List ℕ
 waiting m = receiver.waiting m.chip.receiver
 
--- the mark says that the character was dropped
+-- the mark of a character that was dropped
 abbrev pub is_dropped : ArrivalMark → Bool
 is_dropped Dropped = true
 is_dropped _ = false
@@ -32,11 +32,11 @@ origin_stands marks stray (Arrived number) = not (is_dropped (mark_at marks numb
 origin_stands marks stray Looped = not stray
 origin_stands marks stray Live = not stray
 
--- the character was not dropped, as the receiver tells
+-- the character was not dropped, according to the receiver
 abbrev pub stands : ReceiverState → Character → Bool
 stands r character = origin_stands r.marks r.is_stray_lost character.origin
 
--- the characters that these events bring, numbered from here
+-- the arrivals among these events, numbered from here
 abbrev pub arriving : ℕ → List Event → List Character
 arriving number [] = []
 arriving number (Arrive byte errors ∷ events) =
@@ -47,20 +47,21 @@ arriving number (_ ∷ events) = arriving number events
 abbrev pub cut_character : (ℕ → ℕ) → Character → Character
 cut_character cut character = record character { byte = cut character.byte }
 
--- the events that were performed from the first machine to the second
+-- the events that were performed between the first machine and the second
 abbrev pub between : MachineState → MachineState → List Event
 between m n = take (length m.ahead - length n.ahead) m.ahead
 
--- what waited in the first machine, and then what arrived up to the second, each cut to the word length
+-- what was in the receiver of the first machine, and then what arrived up to the second, each cut to the word length
 abbrev pub entered : MachineState → MachineState → List Character
 entered m n =
     m.chip.receiver.queue ++ map (cut_character (cut_of m.chip)) (arriving m.chip.receiver.arrived (between m n))
 
--- the bytes of these that the second machine tells were not dropped
+-- the bytes of these that were not dropped, according to the second machine
 abbrev pub kept : MachineState → MachineState → List ℕ
 kept m n = map (λ character. character.byte) (filter (stands n.chip.receiver) (entered m n))
 
--- a drop lies between the two: a character of this origin stood before and does not after
+-- a drop between the two machines: a character of this origin was not dropped in the first, and is dropped in the
+-- second
 pub record IsDrop (m n : MachineState) : Type 0 where
   pub origin : Origin
   pub stood : origin_stands m.chip.receiver.marks m.chip.receiver.is_stray_lost origin ≡ true

@@ -1,4 +1,4 @@
--- What holds of every machine that was built, whatever happened to it since.
+-- What holds of every machine that was built, whatever has happened to it since.
 use Rattle.std.specs.Prelude.{◌≡◌, ◌≢◌, ℕ, ◌+◌, ◌*◌, ◌<◌, ◌≤◌, Bool, true, false, List, [], ◌∷◌, length, Option, Some}
 use Rattle.std.specs.Prelude.{None}
 use Rattle.std.specs.List.{AllByRecursion}
@@ -23,7 +23,7 @@ use Rattle.uart_chip.specs.Build.{IsLegal}
 
 -- ---- the receiver
 
--- a character of this origin may be in the queue: an arrival is marked so, and of stray ones none was lost since
+-- a character of this origin may be in the queue: an arrival has this mark, and of stray ones none was lost since
 abbrev pub IsInQueue : ℕ → List ArrivalMark → Bool → Origin → Type 0
 IsInQueue arrived marks stray (Arrived number) = (number < arrived) × (mark_at marks number ≡ Waiting)
 IsInQueue arrived marks stray Looped = stray ≡ false
@@ -44,23 +44,23 @@ OtherOrigin number Live = Unit {0}
 abbrev pub NoneIs : ℕ → List Character → Type 0
 NoneIs number characters = AllByRecursion (λ (character : Character). OtherOrigin number character.origin) characters
 
--- none of these characters is the arrival that this origin names
+-- none of these characters is the arrival of this origin
 abbrev pub NoneHas : Origin → List Character → Type 0
 NoneHas (Arrived number) characters = NoneIs number characters
 NoneHas Looped characters = Unit {0}
 NoneHas Live characters = Unit {0}
 
--- each arrival is there at most once
+-- each arrival occurs at most once
 abbrev pub Distinct : List Character → Type 0
 Distinct [] = Unit {0}
 Distinct (character ∷ characters) = NoneHas character.origin characters × Distinct characters
 
--- each has errors of a character alone
+-- each has only errors of a character
 abbrev pub AllErrorsLegal : List Character → Type 0
 AllErrorsLegal characters =
     AllByRecursion (λ (character : Character). IsWithin character.errors LSR.CHARACTER_ERRORS.0) characters
 
--- what waits is marked so, each arrival once and within the room; the marks of those to come are Pending
+-- what is in the queue has this mark, each arrival at most once and within the room; those to come are marked Pending
 pub record IsMarked (fifo : Bool) (r : ReceiverState) : Type 0 where
   pub wait : AllInQueue r.arrived r.marks r.is_stray_lost r.queue
   pub distinct : Distinct r.queue
@@ -68,7 +68,8 @@ pub record IsMarked (fifo : Bool) (r : ReceiverState) : Type 0 where
   pub in_room : length r.queue ≤ room fifo
   pub counted : r.arrived ≤ length r.marks
 
--- the marks say what became of each arrival: also, what arrived is not Pending, and only what waits is Waiting
+-- the marks say what became of each arrival: an arrival that came is not Pending, and only those in the queue are
+-- Waiting
 pub record IsSoundReceiver (fifo : Bool) (r : ReceiverState) : Type 0 where
   pub marked : IsMarked fifo r
   pub settled : (number : ℕ) → number < r.arrived → mark_at r.marks number ≢ Pending
@@ -78,12 +79,12 @@ pub record IsSoundReceiver (fifo : Bool) (r : ReceiverState) : Type 0 where
 
 -- ---- the transmitter, the modem lines and the latches
 
--- a character that is shifted out has at least one tick left, and at most its whole time
+-- a character in the shift register has at least one tick left, and at most its whole time
 abbrev pub IsTicking : ℕ → Option Shifting → Type 0
 IsTicking char_ticks None = Unit {0}
 IsTicking char_ticks (Some s) = (1 ≤ s.ticks_left) × (s.ticks_left ≤ char_ticks)
 
--- the queue and the wire hold no more than they have room for
+-- the queue and the wire have no more than they have room for
 pub record IsSoundTransmitter (fifo : Bool) (t : TransmitterState) : Type 0 where
   pub in_room : length t.queue ≤ room fifo
   pub ticking : IsTicking t.char_ticks t.shift_place
@@ -91,13 +92,13 @@ pub record IsSoundTransmitter (fifo : Bool) (t : TransmitterState) : Type 0 wher
   pub at_most : t.char_ticks ≤ MAX_CHAR_TICKS
   pub on_wire : length t.wire ≤ t.capacity
 
--- inputs and lines lie in the high nibble, changes in the low one
+-- inputs and lines are in the high nibble, changes in the low one
 pub record IsSoundModem (m : ModemState) : Type 0 where
   pub inputs : IsWithin m.inputs MSR.LINES.0
   pub lines : IsWithin m.lines MSR.LINES.0
   pub deltas : IsWithin m.deltas MSR.CHANGES.0
 
--- the two latches that keep only some bits
+-- two latches that keep only some bits
 pub record IsSoundLatches (l : LatchesState) : Type 0 where
   pub ier : IsWithin l.ier ier_bits
   pub mcr : IsWithin l.mcr mcr_bits
@@ -122,12 +123,12 @@ pub record IsSoundChip (c : ChipState) : Type 0 where
   pub implemented : c.fifo ≡ true → c.model ≡ Uart16550A
   pub limit : c.receiver.timeout_limit ≡ 4 * c.transmitter.char_ticks
 
--- the events keep to the bits that they may have
+-- the events have only bits that they may have
 abbrev pub AllLegal : List Event → Type 0
 AllLegal events = AllByRecursion IsLegal events
 
--- the chip is sound, each arrival still to come has a mark, and the events to come are legal: every access keeps it,
--- whatever is written
+-- the chip is sound, each arrival still to come has a mark, and the events to come are legal: every access preserves
+-- this, whatever is written
 pub record IsSound (m : MachineState) : Type 0 where
   pub chip : IsSoundChip m.chip
   pub foreseen : m.chip.receiver.arrived + arrivals m.ahead ≡ length m.chip.receiver.marks

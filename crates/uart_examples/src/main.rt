@@ -1,8 +1,8 @@
-//! Plays the scripts and the sessions of a folder, and prints of each whether its output is what is stored.
+//! Plays the scripts and the sessions of a folder, and prints for each whether its output is what is stored.
 //!
-//! The folder is the first argument, or else the one in which the program runs. Beside `NAME.script` lies `NAME.out`: the bytes
-//! that the program `uart_script` prints for it. `NAME.session` is a use of `geesetrunk`: its first line is `$` and the command, and
-//! the others are what is printed for it, and the exit status if it is not 0.
+//! The folder is the first argument, or else the current one. Beside `NAME.script` is `NAME.out`: the bytes that the
+//! program `uart_script` prints for it. `NAME.session` is a use of `geesetrunk`: its first line is `$` and the command,
+//! and the other lines are what is printed for it, and the exit status if it is not 0.
 #![tactic(auto)]
 
 use std::alloc::Global;
@@ -10,11 +10,12 @@ use std::io::Write;
 use std::path::Path;
 use std::process::ExitCode;
 use std::{env, fs, io};
+use uart_command::asked;
 use uart_machine::script::{Std, play};
-use uart_report::{asked, report_on};
+use uart_report::report_on;
 use uart_stored::{bytes_and_output, bytes_of, names_in};
 
-// What is printed for a script: its output, or the line of its refusal.
+// Returns what is printed for a script: its output, or the line of its refusal.
 fn printed(alloc: Global, script: &[u8]) -> io::Result<Vec<u8>> {
     let mut output = Vec::new(alloc);
     let result = play(alloc, &mut Std::new(script), &mut Std::new(&mut output));
@@ -24,13 +25,13 @@ fn printed(alloc: Global, script: &[u8]) -> io::Result<Vec<u8>> {
     Ok(output)
 }
 
-// Whether the script of this name prints what is stored.
+// Returns whether the script of this name prints what is stored.
 fn is_as_stored(rt: &HostRuntime, folder: Path<'_>, name: &str) -> io::Result<bool> {
     let (script, stored) = bytes_and_output(rt, folder, name, ".script")?;
     Ok(printed(rt.alloc(), &script)? == stored)
 }
 
-// What is printed for a command, and the status that the program then has.
+// Returns what is printed for a command, and the exit status of the program.
 fn answer(rt: &HostRuntime, folder: Path<'_>, command: &str) -> io::Result<(Vec<u8>, i32)> {
     let words: Vec<&str> = command.split(' ').collect(rt.alloc())?;
     let mut text = Vec::new(rt.alloc());
@@ -49,7 +50,7 @@ fn answer(rt: &HostRuntime, folder: Path<'_>, command: &str) -> io::Result<(Vec<
     }
 }
 
-// The session that begins with a command.
+// Returns the session that starts with a command.
 fn session(rt: &HostRuntime, folder: Path<'_>, command: &str) -> io::Result<Vec<u8>> {
     let mut session = Vec::new(rt.alloc());
     let (text, status) = answer(rt, folder, command)?;
@@ -61,7 +62,7 @@ fn session(rt: &HostRuntime, folder: Path<'_>, command: &str) -> io::Result<Vec<
     Ok(session)
 }
 
-// Whether the session of this name is what is stored.
+// Returns whether the session of this name is what is stored.
 fn is_session_as_stored(rt: &HostRuntime, folder: Path<'_>, name: &str) -> io::Result<bool> {
     let stored = bytes_of(rt, folder, name, ".session")?;
     let line = stored.split(|b| *b == b'\n').next().unwrap_or(&[]);
@@ -74,7 +75,7 @@ fn is_session_as_stored(rt: &HostRuntime, folder: Path<'_>, name: &str) -> io::R
     }
 }
 
-// Prints of a script or a session whether it is as stored, and returns that.
+// Prints whether a script or a session is as stored, and returns that.
 fn told(rt: &HostRuntime, name: &str, is_as_stored: bool) -> io::Result<bool> {
     if is_as_stored {
         println!(rt; "{name} ok")?;

@@ -1,4 +1,4 @@
--- The parser reads exactly the scripts, and tells exactly the first fault of bytes that are none.
+-- The parser reads exactly the scripts, and reports exactly the first fault of other bytes.
 use Rattle.std.proofs.Common.{◌≡◌, ℕ, ◌+◌, ◌≤◌, Bool, true, false, cond, ltb, List, [], ◌∷◌, ◌++◌, length, Option, Some, None, Result, Ok}
 use Rattle.std.proofs.Common.{Err, refl, sym, ap, subst, ◌∙◌, arith, inl, inr, ◌⊎◌}
 use Rattle.std.specs.List.{position_or_len}
@@ -34,7 +34,7 @@ fault_where_told (Err g) f e = cc
 
 -- ---- one line with its number
 
--- a numbered line is read, or has the fault that the definition tells
+-- a numbered line is read, or has the fault of the definition
 numbered_ok : (number : ℕ) (line : List ℕ) (long : Bool) (r : Result Saying Cause) (s : Saying)
     → on_line number (cond long (Err TooLong) r) ≡ Ok s → (long ≡ false) × (r ≡ Ok s)
 numbered_ok number line true r s e = absurd cc
@@ -146,7 +146,7 @@ later_is_told number line lines at c none later = record {
   faulty = later.faulty;
 }
 
--- the fault that is told of lines is their first
+-- the fault that is reported for lines is their first
 told_is_first : (number : ℕ) (lines : List (List ℕ)) (f : Fault) → 2 ≤ number → sayings_from number lines ≡ Err f
     → IsFirstFault number lines f.line f.cause
 unfolding sayings_from
@@ -277,7 +277,7 @@ faulty_by bytes f true l e =
     long (ltb-true _ _ l) (ap (λ (x : Fault). x.line) (sym told)) (ap (λ (x : Fault). x.cause) (sym told))
 faulty_by bytes f false l e = faulty_by_lines bytes (lines_of bytes) f (ltb-false _ _ l) refl e
 
--- what is told of bytes that are no script is their first fault
+-- what is reported for bytes that are not a script is their first fault
 pub is_faulty : (bytes : List ℕ) (f : Fault) → script_of bytes ≡ Err f → IsFaulty bytes f.line f.cause
 unfolding script_of
 is_faulty bytes f e = faulty_by bytes f _ refl e
@@ -292,7 +292,7 @@ first_told (first ∷ front) line after number c none e told =
     let header = value_where (header_at first) (header_fault first ∙ none.0) in
     rw (header.1, first_is 2 front line after number c (omega arith) none.1 (omega (arith, e)) told) refl
 
--- the first fault of bytes that are no script is told
+-- the first fault of bytes that are not a script is reported
 pub fault_is_told : (bytes : List ℕ) (number : ℕ) (c : Cause) → IsFaulty bytes number c → script_of bytes ≡ Err (fault number c)
 unfolding script_of from_lines lines_of
 fault_is_told bytes number c (long lt n e) = rw (lt-ltb MOST_BYTES (length bytes) lt, n, e) refl

@@ -28,7 +28,7 @@ plan_where (Err f) e = absurd cc
 abbrev told : ℕ → Cause → Result Script ScriptError
 told line cause = Err (errors.Refused line cause)
 
--- a refusal is of the line and the cause that are told
+-- a refusal has the line and the cause that are reported
 told_is : (line at : ℕ) (cause c : Cause) → told line cause ≡ told at c → fault line cause ≡ fault at c
 told_is line at cause c e = cc
 

@@ -130,7 +130,7 @@ pub all_built : (number : ℕ) (bytes : List ℕ) (plan : Plan) (whole : Result 
     → ends_in plan (sayings_from number (lines_of bytes)) ≡ whole → whole ≡ Ok plan
 all_built number bytes plan whole e h = sym h ∙ ap (ends_in plan) (no_lines number bytes e) ∙ ended plan
 
--- a line that is told while the script is built
+-- a line that is reported while the script is built
 pub build_refuses : (plan : Plan) (part : Result (List Saying) Fault) (whole : Result Plan Fault) (e : ScriptError)
     → ends_in plan part ≡ whole → Refuses e part → Refuses e whole
 build_refuses plan part whole (errors.Refused line cause) h r = sym h ∙ ap (ends_in plan) r

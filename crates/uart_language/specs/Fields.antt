@@ -1,4 +1,4 @@
--- What a field of a line says, or what is wrong with it.
+-- The meaning of a field of a line, or what is wrong with it.
 use Rattle.std.specs.Prelude.{ℕ, ◌+◌, ◌*◌, ◌/◌, ◌%◌, Bool, true, false, List, [], ◌∷◌, length, Option, Some, None}
 use Rattle.std.specs.Prelude.{Result, Ok, Err, ◌==◌, ◌&&◌, nat_le, if◌then◌else◌, bytes_eq, codes}
 use Rattle.std.specs.List.{list_all}
@@ -38,23 +38,23 @@ number_in least most word =
     if is_number word && nat_le least (digits_value 10 word) && nat_le (digits_value 10 word) most
     then Ok (digits_value 10 word) else Err BadNumber
 
--- N of a call: how many bytes it has room for
+-- N of a call: the number of slots
 abbrev pub count_in : List ℕ → Result ℕ Cause
 count_in word = number_in 0 CALL_BYTES word
 
--- N of `limit`: the driver's limit
+-- N of `limit`: the spin limit of the driver
 abbrev pub limit_in : List ℕ → Result ℕ Cause
 limit_in word = number_in 1 MOST_LIMIT word
 
--- N of `tick`: how many ticks pass
+-- N of `tick`: the number of ticks
 abbrev pub ticks_in : List ℕ → Result ℕ Cause
 ticks_in word = number_in 0 MOST_TICKS word
 
--- T: how many ticks a character takes to leave the chip
+-- T: the number of ticks that a character takes to be sent
 abbrev pub char_ticks_in : List ℕ → Result ℕ Cause
 char_ticks_in word = number_in 1 MAX_CHAR_TICKS word
 
--- W: how many bytes the wire has room for
+-- W: the number of bytes that the wire has room for
 abbrev pub wire_capacity_in : List ℕ → Result ℕ Cause
 wire_capacity_in word = number_in 0 MAX_WIRE_CAPACITY word
 
@@ -67,7 +67,7 @@ unfoldable pub lines_in : List ℕ → Result ℕ Cause
 lines_in word =
     if length word == 1 && list_all is_ascii_hexdigit word then Ok (16 * digits_value 16 word) else Err BadHex
 
--- the bytes that pairs of digits write
+-- the bytes that are written in pairs of digits
 unfoldable pub pairs_of : List ℕ → List ℕ
 pairs_of [] = []
 pairs_of (high ∷ []) = []
@@ -90,7 +90,7 @@ text_in word = do
   bytes ← bytes_in word
   if is_utf8 bytes then Ok bytes else Err BadText
 
--- what is beside the word in a table
+-- what is in the row of the word in a table
 abbrev pub among : {A : Type 0} → List (List ℕ × A) → List ℕ → Result A Cause
 among [] word = Err BadWord
 among (row ∷ rows) word = if bytes_eq word row.0 then Ok row.1 else among rows word
@@ -104,7 +104,7 @@ errors_in word = among (
     ∷ (codes "fb", LSR.FRAMING_ERROR.0 + LSR.BREAK_INTERRUPT.0)
     ∷ (codes "pfb", LSR.CHARACTER_ERRORS.0) ∷ []) word
 
--- the chip
+-- the model of the chip
 unfoldable pub chip_in : List ℕ → Result Chip Cause
 chip_in word = among ((codes "16550a", Uart16550A) ∷ (codes "16450", Uart16450) ∷ []) word
 
@@ -118,7 +118,7 @@ level_in word = among (
     (codes "off", None) ∷ (codes "1", Some One) ∷ (codes "4", Some Four) ∷ (codes "8", Some Eight)
     ∷ (codes "14", Some Fourteen) ∷ []) word
 
--- the baud rate of a number: the case with a name, if there is one
+-- the baud rate with a number: the case with a name if there is one
 abbrev pub rate_of : ℕ → BaudRate
 rate_of n =
     if n == 115200 then rate.Baud115200
@@ -134,7 +134,7 @@ rate_of n =
     else if n == 110 then rate.Baud110
     else rate.Custom n
 
--- BAUD: the bits a second
+-- BAUD: the bits per second
 unfoldable pub rate_in : List ℕ → Result BaudRate Cause
 rate_in word = do
   n ← number_in 1 MOST_RATE word
@@ -160,7 +160,7 @@ word_length_in word = do
   n ← number_in 5 8 word
   Ok (word_length_of n)
 
--- what a function returned, seen by view
+-- the result of a function, with its value seen through `view`
 abbrev pub seen : {A B E : Type 0} → (A → B) → Result A E → Result B E
 seen view (Ok x) = Ok (view x)
 seen view (Err e) = Err e

@@ -22,7 +22,7 @@ use Rattle.uart_language.specs.Words.{word_of, has_count, is_placed}
 use Rattle.uart_language.specs.Sayings.{Saying, Nothing, Limit, Happens, Calls, Marks, configured, array_of, text_of}
 use Rattle.uart_language.specs.Sayings.{plain, bare_call}
 
--- what is made of what was read
+-- a value made of what was read
 abbrev pub read_as : {A B : Type 0} → Result A Cause → (A → B) → Result B Cause
 read_as read make = read >>= (λ x. Ok (make x))
 
@@ -43,7 +43,7 @@ arrival_in ws = do
   errors ← if length ws == 3 then errors_in (word_at 2 ws) else Ok 0
   Ok (event.Arrive byte errors)
 
--- the call that a line asks for
+-- the call of a line
 unfoldable pub call_of : Word → List (List ℕ) → Result Call Cause
 call_of word.Init ws = read_as (config_in ws) call.Init
 call_of word.TrySend ws = read_as (byte_in (word_at 1 ws)) call.TrySend
@@ -58,7 +58,7 @@ call_of word.Write ws = read_as (bytes_in (word_at 1 ws)) (λ bytes. call.Write 
 call_of word.Text ws = read_as (text_in (word_at 1 ws)) (λ bytes. call.Text (text_of bytes))
 call_of other ws = ok_or (bare_call other) UnknownWord
 
--- what the words of a line after the first say
+-- the meaning of the words of a line after the first
 unfoldable pub item_of : Word → List (List ℕ) → Result Saying Cause
 item_of word.Limit ws = read_as (limit_in (word_at 1 ws)) Limit
 item_of word.Tick ws = read_as (ticks_in (word_at 1 ws)) (λ n. Happens (event.Ticks n))
@@ -68,7 +68,7 @@ item_of word.Access ws = Ok (Happens event.Access)
 item_of word.Next ws = Ok Marks
 item_of word ws = read_as (call_of word ws) Calls
 
--- the first word, if it is in its place before as many words as it takes
+-- the first word, if it is at a place where it may be, and the line has a number of words that it may have
 abbrev pub placed_word : ℕ → List (List ℕ) → Option Word → Result Word Cause
 placed_word number ws None = if is_placed number None then Err UnknownWord else Err Misplaced
 placed_word number ws (Some word) =
@@ -99,7 +99,7 @@ header_in ws = do
 unfoldable pub header_at : List ℕ → Result Header Cause
 header_at line = starts_with 1 line >>= (λ word. header_in (words_of line))
 
--- an item of the parser as what it says
+-- the meaning of an item of the parser
 abbrev pub saying_of : Item → Saying
 saying_of item.Blank = Nothing
 saying_of (item.Limit n) = Limit (non_zero_u64_get n)

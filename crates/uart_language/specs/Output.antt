@@ -39,7 +39,7 @@ cause_text TooLong = codes "too long"
 abbrev pub hex_byte : ℕ → List ℕ
 hex_byte b = digit_char (b / 16) ∷ digit_char (b % 16) ∷ []
 
--- bytes in digits, or `-` for none
+-- bytes in digits, or `-` if there are none
 abbrev pub hex : List ℕ → List ℕ
 hex bytes = if length bytes == 0 then codes "-" else flat_map hex_byte bytes
 
@@ -96,7 +96,7 @@ answer_text (answer.NotConnected e) = codes "err " ++ remote_error_name e
 answer_text answer.NoData = codes "err ByteReceiveError"
 answer_text (answer.NotSent e) = codes "err " ++ send_error_name e
 
--- a line, ended by byte 0A
+-- a line, which ends with byte 0A
 abbrev pub line : List ℕ → List ℕ
 line text = text ++ 10 ∷ []
 
@@ -113,16 +113,16 @@ mark_letter mark.Read = 114
 mark_letter mark.Discarded = 100
 mark_letter mark.Dropped = 120
 
--- marks in letters, p w r d x, or `-` for none
+-- marks in letters, p w r d x, or `-` if there are none
 abbrev pub marks_text : List ArrivalMark → List ℕ
 marks_text marks = if length marks == 0 then codes "-" else map mark_letter marks
 
--- what went out on the wire, what the transmitter holds, what waits in the receiver, and what became of each arrival
+-- what was sent, what the transmitter holds, what is in the receiver, and what became of each arrival
 abbrev pub final_lines : (wire held waiting : List ℕ) → List ArrivalMark → List ℕ
 final_lines wire held waiting marks =
     line (codes "wire " ++ hex wire) ++ line (codes "held " ++ hex held) ++ line (codes "waiting " ++ hex waiting)
     ++ line (codes "marks " ++ marks_text marks)
 
--- all that is printed for a script that was played
+-- everything that is printed for a script that was played
 abbrev pub printed : List Answer → (wire held waiting : List ℕ) → List ArrivalMark → List ℕ
 printed answers wire held waiting marks = answer_lines answers ++ final_lines wire held waiting marks

@@ -19,7 +19,7 @@ pub record Fault : Type 0 where
   pub line : ℕ
   pub cause : Cause
 
--- a fault, told with the number of its line
+-- a fault, with the number of its line
 abbrev pub on_line : {A : Type 0} → ℕ → Result A Cause → Result A Fault
 on_line number (Ok x) = Ok x
 on_line number (Err c) = Err (record { line = number; cause = c })
@@ -35,7 +35,7 @@ abbrev pub before : Result Saying Fault → Result (List Saying) Fault → Resul
 before (Ok said) sayings = with_saying said sayings
 before (Err e) sayings = Err e
 
--- what lines say, the first of which has this number, or the first fault
+-- the meanings of lines, the first of which has this number, or the first fault
 unfoldable pub sayings_from : ℕ → List (List ℕ) → Result (List Saying) Fault
 sayings_from number [] = Ok []
 sayings_from number (line ∷ lines) = before (numbered number line) (sayings_from (number + 1) lines)
@@ -62,30 +62,30 @@ from_lines (first ∷ others) = do
   header ← on_line 1 (header_at first)
   planned header (sayings_from 2 others)
 
--- the script that bytes are, or the first faulty line and its cause
+-- the script of these bytes, or the first faulty line and its cause
 unfoldable pub script_of : List ℕ → Result Plan Fault
 script_of bytes =
     if nat_lt MOST_BYTES (length bytes) then Err (record { line = 0; cause = TooLong }) else from_lines (lines_of bytes)
 
 -- ---- what the parser returns
 
--- this line is told as the first faulty one
+-- this line is reported as the first faulty one
 abbrev pub Refuses : {A : Type 0} → ScriptError → Result A Fault → Type 0
 Refuses (errors.Refused line cause) read = read ≡ Err (record { line = line; cause = cause })
 Refuses errors.OutOfMemory read = ⊥
 
--- all lines are read, or this one is told
+-- no line has a fault, or this one is reported
 abbrev pub Checks : {A : Type 0} → Result (Unit {0}) ScriptError → Result A Fault → Type 0
 Checks (Ok done) read = IsOk read
 Checks (Err e) read = Refuses e read
 
--- the script, or the line that is told, or out of memory
+-- the script, or the line that is reported, or out of memory
 abbrev pub BuildsPlan : Result Script ScriptError → Result Plan Fault → Type 0
 BuildsPlan (Ok s) read = read ≡ Ok (plan_of s)
 BuildsPlan (Err (errors.Refused line cause)) read = read ≡ Err (record { line = line; cause = cause })
 BuildsPlan (Err errors.OutOfMemory) read = Unit {0}
 
--- the same, out of memory only at a script
+-- the same, and out of memory only for a script
 abbrev pub Parses : Result Script ScriptError → Result Plan Fault → Type 0
 Parses (Ok s) read = read ≡ Ok (plan_of s)
 Parses (Err (errors.Refused line cause)) read = read ≡ Err (record { line = line; cause = cause })

@@ -1,4 +1,4 @@
--- What each line of a script says.
+-- The meaning of each line of a script.
 use Rattle.std.specs.Prelude.{◌≡◌, ℕ, Bool, List, [], ◌∷◌, Option, Some, None, Ok, codes}
 use Rattle.arrayvec.specs.ArrayVec.{ArrayVec}
 use Rattle.arrayvec.specs.ArrayString.{ArrayString}
@@ -36,7 +36,7 @@ calls_said (Calls c) = c ∷ []
 calls_said Marks = call.Next ∷ []
 calls_said other = []
 
--- a configuration by the fields of an `init` line, the rest as in the default one
+-- the configuration of an `init` line: these fields, and the rest as by default
 abbrev pub configured : Option FifoTriggerLevel → BaudRate → Bool → IER → WordLength → Config
 configured level rate cts interrupts word_length = record DEFAULT {
   interrupts = interrupts;
@@ -49,16 +49,16 @@ configured level rate cts interrupts word_length = record DEFAULT {
 abbrev pub array_of : List ℕ → ArrayVec ℕ
 array_of bytes = record { items = bytes }
 
--- a text of these bytes; of the room that it leaves unused nothing is said
+-- a text of these bytes; nothing is said about the room that it does not use
 abbrev pub text_of : List ℕ → ArrayString
 text_of bytes = record { bytes = bytes; spare = [] }
 
--- a call without the room that its text leaves unused
+-- a call without the room that its text does not use
 abbrev pub plain : Call → Call
 plain (call.Text text) = call.Text (text_of text.bytes)
 plain c = c
 
--- the call that a word asks for by itself
+-- the call of a word without fields
 abbrev pub bare_call : Word → Option Call
 bare_call word.Loopback = Some call.TestLoopback
 bare_call word.Present = Some call.CheckPresent

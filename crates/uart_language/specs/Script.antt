@@ -1,4 +1,4 @@
--- What a script is, line by line, and the first faulty line of bytes that are none.
+-- The definition of a script, line by line, and of the first faulty line of bytes that are not a script.
 use Rattle.std.specs.Prelude.{◌≡◌, ◌↔◌, ℕ, ◌+◌, ◌<◌, ◌≤◌, ◌==◌, ◌&&◌, nat_lt, Bool, true, false, not, List}
 use Rattle.std.specs.Prelude.{[], ◌∷◌, ◌++◌, length, map, Option, Some, None, Result, Ok, Err, IfOk, All, if◌then◌else◌}
 use Rattle.std.specs.Prelude.{flat_map, codes, drop}
@@ -23,20 +23,20 @@ use Rattle.uart_language.specs.Sayings.{Saying, Nothing, Limit, events_said, cal
 
 -- ---- the script
 
--- A line after the first: a blank line says nothing, any other has no byte outside of 20 to 7E and the meaning of its
--- words.
+-- A line after the first: a blank line means nothing; any other has no byte outside of 20 to 7E, and the meaning of
+-- its words.
 pub data Says (number : ℕ) (line : List ℕ) (said : Saying) : Type 0 where
   blank : line ≡ [] → said ≡ Nothing → Says number line said
   printable : has_bad_byte line ≡ false → Means number (words_of line) said → Says number line said
 
--- the lines say this, one by one; the first has this number
+-- the meanings of the lines, in order; the first line has this number
 abbrev pub SayInOrder : ℕ → List (List ℕ) → List Saying → Type 0
 SayInOrder number [] [] = Unit {0}
 SayInOrder number [] (said ∷ sayings) = ⊥
 SayInOrder number (line ∷ lines) [] = ⊥
 SayInOrder number (line ∷ lines) (said ∷ sayings) = Says number line said × SayInOrder (number + 1) lines sayings
 
--- a script, without where it lies in memory
+-- a script, whatever its place in memory
 pub record Plan : Type 0 where
   pub chip : Chip
   pub ticks : ℕ
@@ -46,7 +46,7 @@ pub record Plan : Type 0 where
   pub events : List Event
   pub calls : List Call
 
--- what a parsed script holds
+-- the plan of a parsed script
 abbrev pub plan_of : Script → Plan
 plan_of s = record {
   chip = s.header.chip;
@@ -74,14 +74,14 @@ pub record IsHeader (line : List ℕ) (chip : Chip) (ticks wire_capacity : ℕ) 
   pub ticks_is : char_ticks_in T ≡ Ok ticks
   pub wire_capacity_is : wire_capacity_in W ≡ Ok wire_capacity
 
--- the limit that is said last, or else this one
+-- the limit that is set last, or this one if none is
 abbrev pub limit_from : ℕ → List Saying → ℕ
 limit_from limit [] = limit
 limit_from limit (Limit n ∷ sayings) = limit_from n sayings
 limit_from limit (other ∷ sayings) = limit_from limit sayings
 
--- The bytes are a script that says this: a header, and after it lines whose events form the schedule and whose calls
--- the list, in their order.
+-- The bytes are a script with this meaning: a header, and lines after it whose events are the schedule, and whose
+-- calls are the list of calls, in order.
 pub record IsScript (bytes : List ℕ) (plan : Plan) : Type 0 where
   pub first : List ℕ
   pub others : List (List ℕ)
@@ -97,7 +97,7 @@ pub record IsScript (bytes : List ℕ) (plan : Plan) : Type 0 where
 
 -- ---- the first faulty line
 
--- a fault, if the test says so
+-- a fault, if the test holds
 abbrev pub fault_where : Bool → Cause → Option Cause
 fault_where test cause = if test then Some cause else None
 
@@ -107,21 +107,21 @@ first_of [] = None
 first_of (None ∷ faults) = first_of faults
 first_of (Some cause ∷ faults) = Some cause
 
--- what is wrong with the words after the first, each by the field at its place
+-- what is wrong with the words after the first, each as the field at its place
 abbrev pub field_faults : List (List ℕ → Option Cause) → List (List ℕ) → List (Option Cause)
 field_faults [] rest = []
 field_faults (field ∷ fields) [] = []
 field_faults (field ∷ fields) (word ∷ rest) = field word ∷ field_faults fields rest
 
--- what is wrong with a line that begins with a word, and with one that begins with none
+-- what is wrong with a line that starts with a word of the language, and with one that does not
 abbrev pub word_faults : ℕ → Option Word → List (List ℕ) → List (Option Cause)
 word_faults number (Some word) ws =
     fault_where (not (is_placed number (Some word))) Misplaced
     ∷ fault_where (not (has_count word (length ws))) WrongCount ∷ field_faults (fields_of word) (drop 1 ws)
 word_faults number None ws = fault_where (not (is_placed number None)) Misplaced ∷ Some UnknownWord ∷ []
 
--- What is wrong with a line, found from the left. A line past the most lines is too long whatever it holds, and a blank
--- line after the first is fine.
+-- What is wrong with a line, from left to right. A line beyond the most lines is too long, whatever it has; and a
+-- blank line after the first has no fault.
 abbrev pub fault_at : ℕ → List ℕ → Option Cause
 fault_at number line =
     if nat_lt MOST_LINES number then Some TooLong
@@ -144,8 +144,8 @@ pub record IsFirstFault (start : ℕ) (lines : List (List ℕ)) (number : ℕ) (
   pub number_is : number ≡ start + length before
   pub faulty : fault_at number line ≡ Some cause
 
--- The bytes are no script, and this is told: too many bytes, before anything else; no line at all; or the first faulty
--- line.
+-- The bytes are not a script, and this is reported: too many bytes, before anything else; no line at all; or the
+-- first faulty line.
 pub data IsFaulty (bytes : List ℕ) (number : ℕ) (cause : Cause) : Type 0 where
   long : MOST_BYTES < length bytes → number ≡ 0 → cause ≡ TooLong → IsFaulty bytes number cause
   empty : bytes ≡ [] → number ≡ 1 → cause ≡ Misplaced → IsFaulty bytes number cause
@@ -153,8 +153,8 @@ pub data IsFaulty (bytes : List ℕ) (number : ℕ) (cause : Cause) : Type 0 whe
 
 -- ---- what parsing returns
 
--- The one script that the bytes are; or their first fault, exactly if they are none; or out of memory, and that only
--- of a script.
+-- The one script of the bytes; or their first fault, exactly if they are not a script; or out of memory, and that
+-- only for a script.
 pub record IsParsed (bytes : List ℕ) (result : Result Script ScriptError) : Type 0 where
   pub script : IfOk result (λ s. IsScript bytes (plan_of s))
   pub only : IfOk result (λ s. (plan : Plan) → IsScript bytes plan → plan ≡ plan_of s)

@@ -1,4 +1,4 @@
--- The words that a line may begin with, and the fields that follow each.
+-- The words that a line may start with, and the fields after each.
 use Rattle.std.specs.Prelude.{ℕ, ◌+◌, Bool, not, List, [], ◌∷◌, length, Option, Some, None, Result, Ok, Err, ◌==◌, ◌||◌}
 use Rattle.std.specs.Prelude.{bytes_eq, codes, find}
 use Rattle.uart_language.specs.declared.cause.Cause.{Cause}
@@ -56,7 +56,7 @@ words =
     ∷ word.Fifo ∷ word.Dump ∷ word.TrySend ∷ word.Enable ∷ word.Disable ∷ word.Receive ∷ word.ReceiveExact ∷ word.Read
     ∷ word.Send ∷ word.SendExact ∷ word.Write ∷ word.Text ∷ []
 
--- the word that a text is
+-- the word that is written like this
 unfoldable pub word_of : List ℕ → Option Word
 word_of text = find (λ w. bytes_eq (name_of w) text) words
 
@@ -69,7 +69,7 @@ fault_of (Err e) = Some e
 abbrev pub faulty : {A : Type 0} → (List ℕ → Result A Cause) → List ℕ → Option Cause
 faulty reader text = fault_of (reader text)
 
--- the fields that follow a word; the errors of an arrival and the option of a chip may be left out
+-- the fields after a word; the errors of an arrival and the option of a chip may be omitted
 abbrev pub fields_of : Word → List (List ℕ → Option Cause)
 fields_of word.Chip = faulty chip_in ∷ faulty char_ticks_in ∷ faulty wire_capacity_in ∷ faulty cut_in ∷ []
 fields_of word.Limit = faulty limit_in ∷ []
@@ -90,13 +90,13 @@ fields_of word.Write = faulty bytes_in ∷ []
 fields_of word.Text = faulty text_in ∷ []
 fields_of other = []
 
--- whether a line with this word may have so many words, itself among them
+-- whether a line with this word may have this number of words, including itself
 abbrev pub has_count : Word → ℕ → Bool
 has_count word.Chip count = count == 4 || count == 5
 has_count word.Arrive count = count == 2 || count == 3
 has_count word count = count == length (fields_of word) + 1
 
--- Line 1 is a chip line and no other is, and only line 2 may be the limit.
+-- Line 1 is a chip line and no other line is, and only line 2 may set the limit.
 abbrev pub is_placed : ℕ → Option Word → Bool
 is_placed number (Some word.Chip) = number == 1
 is_placed number (Some word.Limit) = number == 2

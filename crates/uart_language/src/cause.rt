@@ -1,4 +1,4 @@
-//! Why bytes are no script.
+//! Why bytes are not a script.
 
 ghost use Rattle.std.specs.Prelude.{◌≡◌};
 ghost use Rattle.uart_language.specs.declared.cause.ScriptError.TheVariants.{OutOfMemory};
@@ -9,33 +9,36 @@ use thiserror::Error;
 
 /// What is wrong with a line, in the order in which a line is checked.
 ///
-/// `TooLong` is told of a script as a whole, at line 0, or of the first line past [`MOST_LINES`](super::limits::MOST_LINES).
+/// `TooLong` is reported for a script of too many bytes, at line 0, and for the first line beyond
+/// [`MOST_LINES`](super::limits::MOST_LINES).
 #[derive(Clone, Copy, Debug, PartialEq, Eq)]
 pub enum Cause {
-    /// A byte outside of 20 to 7E.
+    /// The line has a byte outside of 20 to 7E.
     BadByte,
-    /// The first line is no `chip` line, or `chip` or `limit` begins another.
+    /// The first line is not a `chip` line, or another line starts with `chip`, or a line other than the second with
+    /// `limit`.
     Misplaced,
-    /// The line's first word is none of the language.
+    /// The first word of the line is not in the language.
     UnknownWord,
     /// The line has too few or too many words.
     WrongCount,
-    /// A field that takes one of a few words has another.
+    /// A field that takes one of a few words has a different one.
     BadWord,
-    /// A number of a wrong form, or out of its range.
+    /// A number has a wrong form, or is out of its range.
     BadNumber,
-    /// Hexadecimal digits of a wrong form.
+    /// Hexadecimal digits have a wrong form.
     BadHex,
-    /// More bytes than [`CALL_BYTES`](uart_calls::CALL_BYTES).
+    /// There are more bytes than [`CALL_BYTES`](uart_calls::CALL_BYTES).
     TooManyBytes,
     /// The bytes of a text are not UTF-8.
     BadText,
-    /// More lines than [`MOST_LINES`](super::limits::MOST_LINES), or more bytes than [`MOST_BYTES`](super::limits::MOST_BYTES).
+    /// There are more lines than [`MOST_LINES`](super::limits::MOST_LINES), or more bytes than
+    /// [`MOST_BYTES`](super::limits::MOST_BYTES).
     TooLong,
 }
 
 impl Cause {
-    /// The cause as it is printed.
+    /// Returns the text that is printed for the cause.
     pub fn text(self) -> &'static str
         ensures { result.now ≡ cause_text self }
     {
@@ -57,10 +60,16 @@ impl Cause {
 /// Why there is no [`Script`](super::Script).
 #[derive(Clone, Copy, Debug, PartialEq, Eq, Error)]
 pub enum ScriptError {
-    /// The first faulty line, counted from 1, and what is wrong with it; line 0 for a script of too many bytes.
+    /// The bytes are not a script: the first faulty line, counted from 1, and what is wrong with it; line 0 if there are
+    /// too many bytes.
     #[error("line {line}: {}", .cause.text())]
-    Refused { line: u32, cause: Cause },
-    /// The script did not fit into memory.
+    Refused {
+        /// The number of the line.
+        line: u32,
+        /// What is wrong with it.
+        cause: Cause,
+    },
+    /// Memory for the script could not be allocated.
     #[error("out of memory")]
     OutOfMemory,
 }

@@ -19,7 +19,7 @@ use uart_chip::{Chip, MAX_CHAR_TICKS, MAX_WIRE_CAPACITY};
 use uart_spec::BaudRate;
 use uart_spec::registers::{FifoTriggerLevel, IER, LSR, WordLength};
 
-/// Whether a word is 1 to 10 decimal digits.
+/// Returns whether a word has 1 to 10 decimal digits and nothing else.
 fn is_number(word: &[u8]) -> bool
     ensures { result ≡ is_number word.now }
 {
@@ -32,7 +32,7 @@ fn all_decimal(word: &[u8]) -> bool
     word.iter().all(|digit| digit.is_ascii_digit())
 }
 
-/// The value of a decimal digit.
+/// Returns the value of a decimal digit.
 fn decimal_digit(digit: u8) -> u8
     requires { IsTrue (is_ascii_digit digit) }
     ensures value { result ≡ digit_value digit }
@@ -41,7 +41,7 @@ fn decimal_digit(digit: u8) -> u8
     digit - b'0'
 }
 
-/// The number that decimal digits write.
+/// Returns the number that is written in decimal digits.
 fn decimal(word: &[u8]) -> u64
     requires digits { IsTrue (list_all is_ascii_digit word.now) }
     requires short { length word.now ≤ 10 }
@@ -54,7 +54,7 @@ fn decimal(word: &[u8]) -> u64
     value
 }
 
-/// A number from `least` to `most`.
+/// Reads a number from `least` to `most`.
 #[tactic(auto, unfolding(crate::specs::Fields::number_in))]
 pub fn number_in(least: u64, most: u64, word: &[u8]) -> Result<u64, Cause>
     ensures value { result ≡ number_in least most word.now }
@@ -71,7 +71,7 @@ pub fn number_in(least: u64, most: u64, word: &[u8]) -> Result<u64, Cause>
     }
 }
 
-/// The value of a hexadecimal digit.
+/// Returns the value of a hexadecimal digit.
 fn hex_digit(digit: u8) -> u8
     requires { IsTrue (is_ascii_hexdigit digit) }
     ensures value { result ≡ digit_value digit }
@@ -84,7 +84,7 @@ fn hex_digit(digit: u8) -> u8
     }
 }
 
-/// A byte as two hexadecimal digits.
+/// Reads a byte of two hexadecimal digits.
 #[tactic(auto, unfolding(crate::specs::Fields::byte_in))]
 pub fn byte_in(word: &[u8]) -> Result<u8, Cause>
     ensures { result ≡ byte_in word.now }
@@ -97,7 +97,7 @@ pub fn byte_in(word: &[u8]) -> Result<u8, Cause>
     }
 }
 
-/// The modem lines as one hexadecimal digit.
+/// Reads the modem lines as one hexadecimal digit.
 #[tactic(auto, unfolding(crate::specs::Fields::lines_in))]
 pub fn lines_in(word: &[u8]) -> Result<u8, Cause>
     ensures { result ≡ lines_in word.now }
@@ -108,7 +108,7 @@ pub fn lines_in(word: &[u8]) -> Result<u8, Cause>
     }
 }
 
-/// Whether a word is one or more pairs of hexadecimal digits.
+/// Returns whether a word has one or more pairs of hexadecimal digits and nothing else.
 fn is_pairs(word: &[u8]) -> bool
     ensures { result ≡ is_pairs word.now }
 {
@@ -121,7 +121,7 @@ fn all_hex(word: &[u8]) -> bool
     word.iter().all(|digit| digit.is_ascii_hexdigit())
 }
 
-/// The bytes that pairs of digits write.
+/// Returns the bytes that are written in pairs of digits.
 fn pairs_of(word: &[u8]) -> ArrayVec<u8, CALL_BYTES>
     requires digits { IsTrue (list_all is_ascii_hexdigit word.now) }
     requires fits { length word.now < 2 * CALL_BYTES + 2 }
@@ -136,7 +136,7 @@ fn pairs_of(word: &[u8]) -> ArrayVec<u8, CALL_BYTES>
     bytes
 }
 
-/// At most the bytes of a call.
+/// Reads bytes, at most those of a call.
 #[tactic(auto, unfolding(crate::specs::Fields::bytes_in))]
 pub fn bytes_in(word: &[u8]) -> Result<ArrayVec<u8, CALL_BYTES>, Cause>
     ensures { seen (λ bytes. bytes.items) result ≡ bytes_in word.now }
@@ -153,7 +153,7 @@ pub fn bytes_in(word: &[u8]) -> Result<ArrayVec<u8, CALL_BYTES>, Cause>
     Ok(pairs_of(word))
 }
 
-/// At most the bytes of a call, as text.
+/// Reads a text, of at most the bytes of a call.
 #[tactic(auto, unfolding(crate::specs::Fields::text_in))]
 pub fn text_in(word: &[u8]) -> Result<ArrayString<CALL_BYTES>, Cause>
     ensures { seen (λ text. text.bytes) result ≡ text_in word.now }
@@ -169,7 +169,7 @@ pub fn text_in(word: &[u8]) -> Result<ArrayString<CALL_BYTES>, Cause>
     }
 }
 
-/// The error bits of an arriving byte.
+/// Reads the error bits of an arrival.
 #[tactic(auto, unfolding(crate::specs::Fields::errors_in))]
 pub fn errors_in(word: &[u8]) -> Result<u8, Cause>
     ensures { result ≡ errors_in word.now }
@@ -186,7 +186,7 @@ pub fn errors_in(word: &[u8]) -> Result<u8, Cause>
     }
 }
 
-/// A number of bytes that a call has room for.
+/// Reads the number of slots of a call.
 pub fn count_in(word: &[u8]) -> Result<usize, Cause>
     ensures { result ≡ count_in word.now }
 {
@@ -194,7 +194,7 @@ pub fn count_in(word: &[u8]) -> Result<usize, Cause>
     Ok(count as usize)
 }
 
-/// The driver's limit.
+/// Reads the spin limit of the driver.
 pub fn limit_in(word: &[u8]) -> Result<NonZeroU64, Cause>
     ensures { seen non_zero_u64_get result ≡ limit_in word.now }
 {
@@ -202,7 +202,7 @@ pub fn limit_in(word: &[u8]) -> Result<NonZeroU64, Cause>
     NonZeroU64::new(limit).ok_or(Cause::BadNumber)
 }
 
-/// How many ticks pass at an event.
+/// Reads the number of ticks of an event.
 pub fn ticks_in(word: &[u8]) -> Result<u16, Cause>
     ensures { result ≡ ticks_in word.now }
 {
@@ -210,7 +210,7 @@ pub fn ticks_in(word: &[u8]) -> Result<u16, Cause>
     Ok(ticks as u16)
 }
 
-/// How many ticks a character takes to leave the chip.
+/// Reads the number of ticks that a character takes to be sent.
 pub fn char_ticks_in(word: &[u8]) -> Result<u16, Cause>
     ensures { result ≡ char_ticks_in word.now }
 {
@@ -218,7 +218,7 @@ pub fn char_ticks_in(word: &[u8]) -> Result<u16, Cause>
     Ok(ticks as u16)
 }
 
-/// How many bytes the wire has room for.
+/// Reads the number of bytes that the wire has room for.
 pub fn wire_capacity_in(word: &[u8]) -> Result<usize, Cause>
     ensures { result ≡ wire_capacity_in word.now }
 {
@@ -226,7 +226,7 @@ pub fn wire_capacity_in(word: &[u8]) -> Result<usize, Cause>
     Ok(capacity as usize)
 }
 
-/// Which chip the machine is.
+/// Reads the model of the chip.
 #[tactic(auto, unfolding(crate::specs::Fields::chip_in))]
 pub fn chip_in(word: &[u8]) -> Result<Chip, Cause>
     ensures { result ≡ chip_in word.now }
@@ -240,7 +240,7 @@ pub fn chip_in(word: &[u8]) -> Result<Chip, Cause>
     }
 }
 
-/// The option that may end the first line.
+/// Reads the option that may end the first line.
 #[tactic(auto, unfolding(crate::specs::Fields::cut_in))]
 pub fn cut_in(word: &[u8]) -> Result<bool, Cause>
     ensures { result ≡ cut_in word.now }
@@ -252,7 +252,7 @@ pub fn cut_in(word: &[u8]) -> Result<bool, Cause>
     }
 }
 
-/// The trigger level of the receiver FIFO.
+/// Reads the trigger level of the receiver FIFO.
 #[tactic(auto, unfolding(crate::specs::Fields::level_in))]
 pub fn level_in(word: &[u8]) -> Result<Option<FifoTriggerLevel>, Cause>
     ensures { result ≡ level_in word.now }
@@ -267,7 +267,7 @@ pub fn level_in(word: &[u8]) -> Result<Option<FifoTriggerLevel>, Cause>
     }
 }
 
-/// The baud rate, in bits a second.
+/// Reads the baud rate, in bits per second.
 #[tactic(auto, unfolding(crate::specs::Fields::rate_in))]
 pub fn rate_in(word: &[u8]) -> Result<BaudRate, Cause>
     ensures { result ≡ rate_in word.now }
@@ -276,7 +276,7 @@ pub fn rate_in(word: &[u8]) -> Result<BaudRate, Cause>
     Ok(BaudRate::from_integer(rate as u32))
 }
 
-/// Whether the driver checks CTS.
+/// Reads whether the driver checks CTS.
 #[tactic(auto, unfolding(crate::specs::Fields::cts_in))]
 pub fn cts_in(word: &[u8]) -> Result<bool, Cause>
     ensures { result ≡ cts_in word.now }
@@ -290,7 +290,7 @@ pub fn cts_in(word: &[u8]) -> Result<bool, Cause>
     }
 }
 
-/// The bits of IER.
+/// Reads the bits of IER.
 #[tactic(auto, unfolding(crate::specs::Fields::interrupts_in))]
 pub fn interrupts_in(word: &[u8]) -> Result<IER, Cause>
     ensures { result ≡ interrupts_in word.now }
@@ -298,7 +298,7 @@ pub fn interrupts_in(word: &[u8]) -> Result<IER, Cause>
     Ok(IER::from_bits_retain(byte_in(word)?))
 }
 
-/// The data bits of a character.
+/// Reads the number of data bits of a character.
 #[tactic(auto, unfolding(crate::specs::Fields::word_length_in))]
 pub fn word_length_in(word: &[u8]) -> Result<WordLength, Cause>
     ensures { result ≡ word_length_in word.now }

@@ -1,4 +1,4 @@
-//! What a line says.
+//! The meaning of a line.
 
 ghost use Rattle.std.specs.Prelude.{◌≡◌};
 ghost use Rattle.uart_language.specs.Text.{words_of};
@@ -18,23 +18,31 @@ use uart_calls::Call;
 use uart_chip::{Chip, Event};
 use uart_spec::Config;
 
-/// What a line after the first says.
+/// The meaning of a line after the first.
 #[derive(Drop)]
 pub enum Item {
+    /// A blank line, which means nothing.
     Blank,
+    /// The spin limit of the driver.
     Limit(NonZeroU64),
+    /// An event of the schedule.
     Event(Event),
+    /// A call.
     Call(Call),
-    /// A mark of the schedule, and the call that goes to it.
+    /// A mark of the schedule, and the call that goes on to it.
     Next,
 }
 
-/// What the first line says.
+/// The meaning of the first line.
 #[derive(Clone, Copy, Debug, PartialEq, Eq)]
 pub struct Header {
+    /// The model of the chip.
     pub chip: Chip,
+    /// The number of ticks that a character takes to be sent.
     pub ticks: u16,
+    /// The number of bytes that the wire has room for.
     pub wire_capacity: usize,
+    /// Whether the chip cuts characters to the word length.
     pub cuts: bool,
 }
 
@@ -65,7 +73,7 @@ fn arrival_in(line: &[u8]) -> Result<Event, Cause>
     Ok(Event::Arrive { byte, errors })
 }
 
-/// The call that a line asks for.
+/// Returns the call of a line.
 #[tactic(auto, unfolding(crate::specs::Items::call_of))]
 fn call_of(word: Word, line: &[u8]) -> Result<Call, Cause>
     ensures { seen plain result ≡ call_of word (words_of line.now) }
@@ -105,7 +113,7 @@ fn call_of(word: Word, line: &[u8]) -> Result<Call, Cause>
     })
 }
 
-/// What the words of a line after the first say.
+/// Returns the meaning of the words of a line after the first.
 #[tactic(auto, unfolding(crate::specs::Items::item_of))]
 fn item_of(word: Word, line: &[u8]) -> Result<Item, Cause>
     ensures { seen saying_of result ≡ item_of word (words_of line.now) }
@@ -121,7 +129,8 @@ fn item_of(word: Word, line: &[u8]) -> Result<Item, Cause>
     }
 }
 
-/// The first word of a line, if it is in its place before as many words as it takes.
+/// Returns the first word of a line, if it is at a place where it may be, and the line has a number of words that it may
+/// have.
 #[tactic(auto, unfolding(crate::specs::Items::starts_with))]
 fn first_word(number: u32, line: &[u8]) -> Result<Word, Cause>
     ensures { result ≡ starts_with number line.now }
@@ -142,7 +151,7 @@ fn first_word(number: u32, line: &[u8]) -> Result<Word, Cause>
     Ok(word)
 }
 
-/// What a line after the first says.
+/// Returns the meaning of a line after the first.
 #[tactic(auto, unfolding(crate::specs::Items::item_at))]
 pub fn item_at(number: u32, line: &[u8]) -> Result<Item, Cause>
     ensures { seen saying_of result ≡ item_at number line.now }
@@ -174,7 +183,7 @@ fn header_in(line: &[u8]) -> Result<Header, Cause>
     })
 }
 
-/// What the first line says.
+/// Returns the meaning of the first line.
 #[tactic(auto, unfolding(crate::specs::Items::header_at))]
 pub fn header_at(line: &[u8]) -> Result<Header, Cause>
     ensures { result ≡ header_at line.now }

@@ -1,25 +1,25 @@
 //! The limits of the language.
 ghost use Rattle.std.specs.Prelude.{◌≡◌};
 
-/// The longest script, in bytes. The crate that plays scripts reads no more than one byte beyond.
+/// The longest script, in bytes. The crate that plays scripts reads at most one byte more.
 pub const MOST_BYTES: usize = 65_536;
 
 /// The longest script, in lines.
 pub const MOST_LINES: u32 = 4_096;
 
-/// The largest limit of the driver that a line may set: how many unsuccessful polls in a row end a wait.
+/// The largest spin limit that a line may set: how many unsuccessful polls in a row end a wait.
 pub const MOST_LIMIT: u64 = 1_000_000;
 
-/// The driver's limit if no line sets one.
+/// The spin limit if no line sets one.
 pub const DEFAULT_LIMIT: u64 = MOST_LIMIT;
 
-/// The most ticks of a line, as many as an event holds.
+/// The most ticks of a line, as many as an event has.
 pub const MOST_TICKS: u64 = u16::MAX as u64;
 
-/// The highest baud rate, in bits a second.
+/// The highest baud rate, in bits per second.
 pub const MOST_RATE: u64 = u32::MAX as u64;
 
-/// The values of the limits, which the definition of the language names.
+/// The values of the limits in the definition of the language.
 pub fn limits_are_these()
     ensures bytes { MOST_BYTES ≡ 65536 }
     ensures lines { MOST_LINES ≡ 4096 }

@@ -1,4 +1,4 @@
-//! What a whole script says.
+//! The meaning of a whole script.
 
 ghost use Rattle.std.specs.Prelude.{◌≡◌, ◌+◌, ◌<◌, ◌≤◌, length, OnOk, IfOk, MatchResult, map};
 ghost use Rattle.std.specs.Int.NonZero.{non_zero_u64_get};
@@ -27,49 +27,49 @@ pub struct Script {
 }
 
 impl Script {
-    /// Which chip the machine is.
+    /// Returns the model of the chip.
     pub fn chip(&self) -> Chip
         ensures { result ≡ (plan_of self.now).chip }
     {
         self.header.chip
     }
 
-    /// How many ticks the chip takes to send a character.
+    /// Returns the number of ticks that the chip takes to send a character.
     pub fn ticks(&self) -> u16
         ensures { result ≡ (plan_of self.now).ticks }
     {
         self.header.ticks
     }
 
-    /// How many characters the wire takes.
+    /// Returns the number of bytes that the wire has room for.
     pub fn wire_capacity(&self) -> usize
         ensures { result ≡ (plan_of self.now).wire_capacity }
     {
         self.header.wire_capacity
     }
 
-    /// The driver's limit: how many unsuccessful polls in a row end a wait.
+    /// Returns the spin limit of the driver: how many unsuccessful polls in a row end a wait.
     pub fn limit(&self) -> NonZeroU64
         ensures { non_zero_u64_get result ≡ (plan_of self.now).limit }
     {
         self.limit
     }
 
-    /// Whether the chip cuts characters to the word length.
+    /// Returns whether the chip cuts characters to the word length.
     pub fn cut(&self) -> bool
         ensures { result ≡ (plan_of self.now).cuts }
     {
         self.header.cuts
     }
 
-    /// What happens to the chip, in the script's order.
+    /// Returns the events that happen to the chip, in the order of the script.
     pub fn events(&self) -> &[Event]
         ensures { result.now ≡ (plan_of self.now).events }
     {
         &self.events
     }
 
-    /// The calls, in the script's order.
+    /// Returns the calls, in the order of the script.
     pub fn calls(&self) -> &[Call]
         ensures { map plain result.now ≡ (plan_of self.now).calls }
     {
@@ -93,7 +93,7 @@ impl Script {
     }
 }
 
-/// What the first of some lines says, and the lines after it.
+/// Returns the meaning of the first of some lines, and the lines after it.
 fn next_item(number: u32, bytes: &[u8]) -> Result<(Item, &[u8]), ScriptError>
     requires { 0 < length bytes.now }
     ensures read { MatchResult result
@@ -117,7 +117,7 @@ fn next_item(number: u32, bytes: &[u8]) -> Result<(Item, &[u8]), ScriptError>
     }
 }
 
-/// Looks for a fault in the lines after the first.
+/// Checks the lines after the first for a fault.
 fn check(bytes: &[u8]) -> Result<(), ScriptError>
     ensures { Checks result (sayings_from 2 (lines_of bytes.now)) }
 {
@@ -131,7 +131,7 @@ fn check(bytes: &[u8]) -> Result<(), ScriptError>
     Ok(())
 }
 
-/// The script of a header and the lines after it.
+/// Returns the script of a header and the lines after it.
 fn build(alloc: Global, header: Header, bytes: &[u8]) -> Result<Script, ScriptError>
     ensures { BuildsPlan result (planned header (sayings_from 2 (lines_of bytes.now))) }
 {
@@ -152,7 +152,7 @@ fn build(alloc: Global, header: Header, bytes: &[u8]) -> Result<Script, ScriptEr
     Ok(script)
 }
 
-/// What the first line says, and the lines after it.
+/// Returns the meaning of the first line, and the lines after it.
 fn first_item(bytes: &[u8]) -> Result<(Header, &[u8]), ScriptError>
     ensures { MatchResult result
         (λ x. script_of bytes.now ≡ planned x.0 (sayings_from 2 (lines_of x.1.now)))
@@ -177,10 +177,22 @@ fn first_item(bytes: &[u8]) -> Result<(Header, &[u8]), ScriptError>
     }
 }
 
-/// The script that the bytes are.
+/// Reads a script.
 ///
-/// Every line is looked at before any memory is taken, so bytes that are no script are refused as such however little
+/// Every line is checked before any memory is allocated. So bytes that are not a script are refused as such, however little
 /// memory there is.
+///
+/// # Errors
+///
+/// - `Refused`, with the first faulty line and what is wrong with it, if the bytes are not a script.
+/// - `OutOfMemory` if memory for the script could not be allocated.
+///
+/// # Examples
+///
+/// ```
+/// let script = parse(alloc, script)?;
+/// Ok(script.calls().len())
+/// ```
 pub fn parse(alloc: Global, bytes: &[u8]) -> Result<Script, ScriptError>
     ensures { IsParsed bytes.now result }
 {

@@ -1,4 +1,4 @@
-//! How answers and the machine's last state are printed.
+//! What is printed for answers and for the last state of the machine.
 
 ghost use Rattle.std.specs.Prelude.{◌≡◌, ◌<◌, ◌++◌, OnOk, IfOk, map, codes};
 ghost use Rattle.std.specs.List.{flat_map};
@@ -17,7 +17,7 @@ use uart_spec::{
     ByteSendError, InitError, InvalidDivisorError, LoopbackError, RemoteReadyToReceiveError,
 };
 
-/// A digit below 16 as text, in lower case.
+/// Returns a digit below 16 as text, in lower case.
 pub fn hex_digit(digit: u8) -> u8
     requires { digit < 16 }
     ensures { result ≡ digit_char digit }
@@ -46,7 +46,7 @@ fn push_bytes(out: &mut Vec<u8>, bytes: &[u8]) -> Result<(), AllocError>
     Ok(())
 }
 
-/// Bytes in hexadecimal digits, or `-`.
+/// Appends bytes in hexadecimal digits, or `-` if there are none.
 fn push_hex(out: &mut Vec<u8>, bytes: &[u8]) -> Result<(), AllocError>
     ensures { OnOk result (out.new.items ≡ out.old.items ++ hex bytes.now) }
 {
@@ -99,7 +99,7 @@ fn push_init_error(alloc: Global, out: &mut Vec<u8>, error: &InitError) -> Resul
     }
 }
 
-/// A name, a number, ` actual ` and a number.
+/// Appends a name, a number, ` actual ` and a number.
 fn push_mismatch(
     alloc: Global,
     out: &mut Vec<u8>,
@@ -224,7 +224,7 @@ pub fn push_answer(alloc: Global, out: &mut Vec<u8>, answer: &Answer) -> Result<
     }
 }
 
-/// One line for each answer.
+/// Appends one line for each answer.
 fn push_answers(alloc: Global, out: &mut Vec<u8>, answers: &[Answer]) -> Result<(), AllocError>
     ensures { OnOk result (out.new.items ≡ out.old.items ++ answer_lines answers.now) }
 {
@@ -265,7 +265,7 @@ fn push_letters(out: &mut Vec<u8>, marks: &[ArrivalMark]) -> Result<(), AllocErr
     Ok(())
 }
 
-/// Marks in letters, or `-`.
+/// Appends marks in letters, or `-` if there are none.
 fn push_marks(out: &mut Vec<u8>, marks: &[ArrivalMark]) -> Result<(), AllocError>
     ensures { OnOk result (out.new.items ≡ out.old.items ++ marks_text marks.now) }
 {
@@ -285,8 +285,8 @@ fn push_marks_line(out: &mut Vec<u8>, marks: &[ArrivalMark]) -> Result<(), Alloc
     Ok(())
 }
 
-/// What is printed: one line for each answer, and four for what is left of the machine, which are the wire, what the transmitter
-/// holds, what waits in the receiver, and the mark of each arrival.
+/// Returns what is printed: one line for each answer, and four for the last state of the machine, which are the wire, what
+/// the transmitter holds, what is in the receiver, and the mark of each arrival.
 ///
 /// Only the crate that plays scripts needs this.
 pub fn render(

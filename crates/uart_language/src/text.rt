@@ -4,7 +4,7 @@ ghost use Rattle.std.specs.Prelude.{◌≡◌, ◌==◌, ◌<◌, ◌∷◌, [],
 ghost use Rattle.std.specs.List.{position_or_len};
 ghost use Rattle.uart_language.specs.Text.{lines_of, words_of, word_at, has_bad_byte};
 
-/// Where the first line ends.
+/// Returns where the first line ends.
 fn line_end(bytes: &[u8]) -> usize
     ensures { result ≡ position_or_len (λ b. b == 10) bytes.now }
 {
@@ -14,7 +14,7 @@ fn line_end(bytes: &[u8]) -> usize
         .unwrap_or(bytes.len())
 }
 
-/// The first line, without its end, and what follows it.
+/// Returns the first line, without its end, and what follows it.
 pub fn first_line(bytes: &[u8]) -> (&[u8], &[u8])
     requires { 0 < length bytes.now }
     ensures first { lines_of bytes.now ≡ result.0.now ∷ lines_of result.1.now }
@@ -27,21 +27,21 @@ pub fn first_line(bytes: &[u8]) -> (&[u8], &[u8])
     }
 }
 
-/// Whether a line has a byte that no script may have.
+/// Returns whether a line has a byte that no script may have.
 pub fn has_bad_byte(line: &[u8]) -> bool
     ensures { result ≡ has_bad_byte line.now }
 {
     line.iter().any(|b| *b < 0x20 || 0x7e < *b)
 }
 
-/// How many words a line has.
+/// Returns the number of words of a line.
 pub fn word_count(line: &[u8]) -> usize
     ensures { result ≡ length (words_of line.now) }
 {
     line.split(|b| *b == b' ').count()
 }
 
-/// A word of the line, counted from 0.
+/// Returns the word of the line with this index.
 pub fn word_at(line: &[u8], index: usize) -> &[u8]
     ensures { result.now ≡ word_at index (words_of line.now) }
 {

@@ -3,44 +3,82 @@
 ghost use Rattle.std.specs.Prelude.{◌≡◌, bytes_eq, find};
 ghost use Rattle.uart_language.specs.Words.{name_of, word_of, has_count, is_placed};
 
+/// A word that a line may start with.
 #[derive(Clone, Copy, Debug, PartialEq, Eq)]
 pub enum Word {
+    /// `chip`: the first line, which describes the machine.
     Chip,
+    /// `limit`: the spin limit of the driver.
     Limit,
+    /// `tick`: ticks pass.
     Tick,
+    /// `arrive`: a character arrives.
     Arrive,
+    /// `lines`: the modem lines change.
     Lines,
+    /// `access`: the next register access takes place here.
     Access,
+    /// `next`: a mark, and the call that goes on to it.
     Next,
+    /// `init`: the driver's `init`.
     Init,
+    /// `loopback`: the driver's `test_loopback`.
     Loopback,
+    /// `present`: the driver's `check_present`.
     Present,
+    /// `connected`: the driver's `check_connected`.
     Connected,
+    /// `ready-receive`: the driver's `ready_to_receive`.
     ReadyReceive,
+    /// `ready-send`: the driver's `ready_to_send`.
     ReadySend,
+    /// `try-receive`: the driver's `try_receive_byte`.
     TryReceive,
+    /// `flush`: the driver's `flush`.
     Flush,
+    /// `read-ready`: the driver's `read_ready`.
     ReadReady,
+    /// `write-ready`: the driver's `write_ready`.
     WriteReady,
+    /// `ier`: the driver's `ier`.
     Ier,
+    /// `isr`: the driver's `isr`.
     Isr,
+    /// `lcr`: the driver's `lcr`.
     Lcr,
+    /// `mcr`: the driver's `mcr`.
     Mcr,
+    /// `lsr`: the driver's `lsr`.
     Lsr,
+    /// `msr`: the driver's `msr`.
     Msr,
+    /// `spr`: the driver's `spr`.
     Spr,
+    /// `dll-dlm`: the driver's `dll_dlm`.
     DllDlm,
+    /// `fifo`: the driver's `fifo_enabled`.
     Fifo,
+    /// `dump`: the driver's `config_register_dump`.
     Dump,
+    /// `try-send`: the driver's `try_send_byte`.
     TrySend,
+    /// `enable`: the driver's `enable_interrupts`.
     Enable,
+    /// `disable`: the driver's `disable_interrupts`.
     Disable,
+    /// `receive`: the driver's `receive_bytes`.
     Receive,
+    /// `receive-exact`: the driver's `receive_bytes_exact`.
     ReceiveExact,
+    /// `read`: the driver's `read`.
     Read,
+    /// `send`: the driver's `send_bytes`.
     Send,
+    /// `send-exact`: the driver's `send_bytes_exact`.
     SendExact,
+    /// `write`: the driver's `write`.
     Write,
+    /// `text`: the `write_text` of the terminal.
     Text,
 }
 
@@ -85,7 +123,7 @@ const WORDS: [Word; 37] = [
 ];
 
 impl Word {
-    /// The word as it is written in a script.
+    /// Returns the word as it is written in a script.
     pub fn name(self) -> &'static [u8]
         ensures { result.now ≡ name_of self }
     {
@@ -143,7 +181,7 @@ fn word_among(words: &[Word], text: &[u8]) -> Option<Word>
     words.iter().copied().find(|word| is_named(*word, text))
 }
 
-/// The word that a text is.
+/// Returns the word that is written like this.
 #[tactic(auto, unfolding(crate::specs::Words::word_of))]
 pub fn word_of(text: &[u8]) -> Option<Word>
     ensures { result ≡ word_of text.now }
@@ -151,7 +189,7 @@ pub fn word_of(text: &[u8]) -> Option<Word>
     word_among(&WORDS, text)
 }
 
-/// Whether a line with this word may have so many words.
+/// Returns whether a line with this word may have this number of words.
 pub fn has_count(word: Word, count: usize) -> bool
     ensures { result ≡ has_count word count }
 {
@@ -176,7 +214,7 @@ pub fn has_count(word: Word, count: usize) -> bool
     }
 }
 
-/// Whether a line of this number may begin so.
+/// Returns whether the line with this number may start with this word.
 pub fn is_placed(number: u32, word: Option<Word>) -> bool
     ensures { result ≡ is_placed number word }
 {

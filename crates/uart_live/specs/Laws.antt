@@ -1,4 +1,4 @@
--- What an owner wants of a live chip: nothing is lost unseen, and nothing overtakes.
+-- What an owner expects of a live chip: nothing is lost unnoticed, and the order is kept.
 use Rattle.std.specs.Prelude.{◌≡◌, ◌≢◌, ℕ, ◌<◌, Bool, true, false, not, ◌&&◌, ◌||◌, ◌==◌, List, [], ◌∷◌, ◌++◌, length}
 use Rattle.std.specs.Prelude.{take, if◌then◌else◌}
 use Rattle.uart_chip.specs.declared.receiver.Character.{Character}
@@ -19,7 +19,7 @@ pub data Act : Type 0 where
   SetLines : (inputs : ℕ) → Act
   TakeWire : (count : ℕ) → Act
 
--- the chip after it, as the contract of the call says
+-- the chip after an act, according to the contract of the call
 abbrev pub after : Act → ChipState → ChipState
 after (Read offset) c = after_read offset c
 after (Write offset value) c = after_write offset value c
@@ -33,23 +33,23 @@ abbrev pub after_all : List Act → ChipState → ChipState
 after_all [] c = c
 after_all (act ∷ acts) c = after_all acts (after act c)
 
--- what these acts have of something, in turn, each as it finds the chip
+-- what these acts yield, in turn, each for the chip before it
 abbrev pub in_turn : {X : Type 0} → (Act → ChipState → List X) → List Act → ChipState → List X
 in_turn of_act [] c = []
 in_turn of_act (act ∷ acts) c = of_act act c ++ in_turn of_act acts (after act c)
 
--- each of these acts is so, as it finds the chip
+-- each of these acts has this property, for the chip before it
 abbrev pub AllInTurn : (Act → ChipState → Type 0) → List Act → ChipState → Type 0
 AllInTurn P [] c = Unit {0}
 AllInTurn P (act ∷ acts) c = P act c × AllInTurn P acts (after act c)
 
--- the act reaches the data register, and not the divisor latch
+-- the access is to the data register, and not to the divisor latch
 abbrev pub is_data : ℕ → ChipState → Bool
 is_data offset c = offset == offsets.DATA && not (is_dlab_set c.latches)
 
 -- ---- what goes out
 
--- the byte that the guest gives to the transmitter, as it is sent
+-- the byte that the guest writes to the transmitter, as it is sent
 abbrev pub sent : Act → ChipState → List ℕ
 sent (Write offset value) c = if is_data offset c then cut_of c value ∷ [] else []
 sent _ c = []
@@ -59,7 +59,7 @@ abbrev pub taken : Act → ChipState → List ℕ
 taken (TakeWire count) c = take count c.transmitter.wire
 taken _ c = []
 
--- time passes outside of loopback; FCR, which can throw away what waits, is not written; a byte is written to the
+-- time passes outside of loopback; FCR, whose resets discard bytes, is not written; a byte is written to the
 -- transmitter only if its queue has room
 abbrev pub IsCareful : Act → ChipState → Type 0
 IsCareful (Ticks count) c = is_loopback c.latches ≡ false
@@ -67,8 +67,8 @@ IsCareful (Write offset value) c =
     (offset ≢ offsets.FCR) × (is_data offset c ≡ true → length c.transmitter.queue < room c.fifo)
 IsCareful _ c = Unit {0}
 
--- bytes leave in the order in which they were written, each once, whether the wire is full or not: what was to go out
--- and what was written is what was taken and what is still to go out
+-- bytes are sent in the order in which they were written, each once, whether the wire is full or not: what was to be
+-- sent and what was written is what was taken and what is still to be sent
 abbrev pub BytesLeaveInOrder : Type 0
 BytesLeaveInOrder =
     (acts : List Act) (c : ChipState) → AllInTurn IsCareful acts c →
@@ -76,7 +76,7 @@ BytesLeaveInOrder =
 
 -- ---- what comes in
 
--- the character that comes in, unless it is lost to loopback
+-- the character that is received, unless it is lost in loopback
 abbrev pub came : Act → ChipState → List Character
 came (Arrive byte errors) c =
     if is_loopback c.latches then [] else record { byte = cut_of c byte; errors = errors; origin = Live } ∷ []
@@ -103,8 +103,9 @@ abbrev pub some_overrun : List Act → ChipState → Bool
 some_overrun [] c = false
 some_overrun (act ∷ acts) c = shows_overrun act c || some_overrun acts (after act c)
 
--- characters are read in the order in which they came, each once, or an overrun shows: if no read of LSR showed the
--- overrun flag and it is not set now, then what waited and came is what was read and what waits
+-- characters are read in the order in which they were received, each once, or an overrun is reported: if no read of
+-- LSR returned the overrun flag and it is not set now, then what was in the receiver and was received is what was
+-- read and what is in the receiver
 abbrev pub CharactersAreReadInOrder : Type 0
 CharactersAreReadInOrder =
     (acts : List Act) (c : ChipState) → AllInTurn IsUnreset acts c → some_overrun acts c ≡ false →
@@ -113,7 +114,7 @@ CharactersAreReadInOrder =
 
 -- ---- what a read leaves alone
 
--- the register only shows what it holds: IER, LCR, MCR, SCR, and under DLAB both halves of the divisor latch
+-- the register only shows its value: IER, LCR, MCR, SCR, and under DLAB both bytes of the divisor latch
 abbrev pub is_plain : ℕ → ChipState → Bool
 is_plain offset c =
     (offset == offsets.IER || offset == offsets.LCR) || (offset == offsets.MCR || offset == offsets.SPR) ||

@@ -4,8 +4,8 @@ use Rattle.uart_chip.specs.declared.event.TheConstants.{MAX_WIRE_CAPACITY}
 use Rattle.uart_chip.specs.Chip.{ChipState}
 use Rattle.uart_device.specs.Sound.{IsWhole}
 
--- the chip is sound, with nothing of a schedule: no event is to come, no arrival has a mark, none can be lost unseen;
--- the wire has room for no more than a wire may have
+-- the chip is sound and has nothing of a schedule: no event is to come, no arrival has a mark, none can be lost
+-- unnoticed; the wire has room for at most as much as a wire may have
 pub record IsLive (c : ChipState) : Type 0 where
   pub whole : IsWhole (record { chip = c; ahead = [] })
   pub no_marks : length c.receiver.marks ≡ 0

@@ -21,7 +21,7 @@ use Rattle.uart_spec.specs.declared.registers.modem_status.TheConstants.MSR
 abbrev pub is_within : ℕ → ℕ → Bool
 is_within value mask = bit_and value mask == value
 
--- a character without a schedule, with errors of a character alone
+-- a character without a schedule, with only errors of a character
 abbrev pub is_live_character : Character → Bool
 is_live_character character = is_stray character.origin && is_within character.errors LSR.CHARACTER_ERRORS.0
 
@@ -31,16 +31,16 @@ is_sound_receiver fifo char_ticks r =
     nat_le (length r.queue.items) (room fifo) &&
     (list_all is_live_character r.queue.items && nat_le r.timeout_ticks (4 * char_ticks))
 
--- a character that is shifted out has at least one tick left, and at most its whole time
+-- a character in the shift register has at least one tick left, and at most its whole time
 abbrev pub is_ticking : ℕ → Option Shifting → Bool
 is_ticking char_ticks None = true
 is_ticking char_ticks (Some s) = nat_le 1 s.ticks_left && nat_le s.ticks_left char_ticks
 
--- a character takes as many ticks as it may
+-- the ticks of a character are in their range
 abbrev pub is_char_time : ℕ → Bool
 is_char_time char_ticks = nat_le 1 char_ticks && nat_le char_ticks MAX_CHAR_TICKS
 
--- the queue fits, and so do these bytes on a wire that may be so large
+-- the queue fits, and so do these bytes on a wire, which may have this size
 abbrev pub is_sound_transmitter : Bool → TransmitterData → List ℕ → Bool
 is_sound_transmitter fifo t wire =
     is_char_time t.char_ticks && (is_ticking t.char_ticks t.shift_place &&

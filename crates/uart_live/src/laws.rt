@@ -1,14 +1,14 @@
-//! Laws of live chips, which follow from what the contracts say.
+//! Laws of live chips. They follow from the contracts.
 //!
-//! Each function here has a law as its contract, for callers to cite, and does nothing.
+//! The contract of each function is a law that callers can cite. The functions do nothing.
 ghost use Rattle.uart_live.specs.Laws.{BytesLeaveInOrder, CharactersAreReadInOrder, PlainReadsChangeNothing};
 
-/// Bytes leave in the order in which the guest wrote them, each once. A full wire loses none.
+/// Bytes are sent in the order in which the guest wrote them, each once. A full wire loses none.
 pub fn bytes_leave_in_order()
     ensures { BytesLeaveInOrder }
 {}
 
-/// Characters are read in the order in which they came, each once, or the guest sees the overrun flag.
+/// Characters are read in the order in which they were received, each once, or the guest sees the overrun flag.
 pub fn characters_are_read_in_order()
     ensures { CharactersAreReadInOrder }
 {}

@@ -1,7 +1,8 @@
 //! A live chip: the chip of [`uart_chip`] in the hands of its owner, without a schedule.
 //!
-//! An owner, as a virtual machine monitor, makes the guest's accesses, takes what goes out, brings characters and modem lines as
-//! they come, lets time pass, and asks for the interrupt line. Every call is what the chip does by its definitions.
+//! The owner, for example a virtual machine monitor, makes the guest's accesses, takes the bytes that are sent, passes
+//! characters and modem lines when they arrive, lets time pass, and reads the level of the interrupt line. Each call
+//! does what the definitions of the chip say.
 #![tactic(auto)]
 
 mod errors;

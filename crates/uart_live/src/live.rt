@@ -24,10 +24,24 @@ use std::marker::Model;
 use uart_chip::{BuildError, Chip, Uart, refusal};
 use uart_spec::registers::{LSR, MSR};
 
-/// A serial chip in software whose owner lets time pass, brings characters and takes what goes out.
+/// A serial chip in software whose owner lets time pass, passes characters to it, and takes the bytes that it sends.
 ///
-/// It takes memory in [`LiveChip::new`] and [`LiveChip::from_data`] alone, and keeps no record of what came and went: it may run
-/// for as long as one likes.
+/// For each access of the guest call `read` or `write`. As the clock goes on, call `ticks`, and take what was sent with
+/// `wire` and `take_wire`. When a character or a change of the modem lines arrives, call `arrive` or `set_lines`. After
+/// each of these calls set the guest's interrupt line to `is_interrupting`.
+///
+/// Only [`LiveChip::new`] and [`LiveChip::from_data`] allocate memory. The chip keeps no record of what was sent and
+/// received, so it can run without end. No call blocks.
+///
+/// # Examples
+///
+/// ```
+/// chip.write(offset, value);
+/// chip.ticks(elapsed);
+/// let sent = chip.wire().len().min(sink.len());
+/// sink[..sent].copy_from_slice(&chip.wire()[..sent]);
+/// chip.take_wire(sent);
+/// ```
 #[derive(Drop)]
 pub struct LiveChip {
     uart: Uart,
@@ -45,12 +59,24 @@ impl Model for LiveChip {
 }
 
 impl LiveChip {
-    /// A chip after power on. A character takes `char_ticks` ticks in the shift place, and the wire has room for `wire_capacity`
-    /// bytes until they are taken. If it is full, the transmitter keeps what it holds.
+    /// Returns a chip after power-on. Allocates all of its memory.
+    ///
+    /// A character takes `char_ticks` ticks in the shift register, and the wire has room for `wire_capacity` bytes until
+    /// they are taken. If it is full, the transmitter keeps what it holds.
     ///
     /// # Errors
     ///
-    /// The first of these: `BadTicks` for no 1 to 1000 ticks, `BadWire` for more than 65,536 bytes, and `OutOfMemory`.
+    /// The first of these:
+    ///
+    /// - `BadTicks` if `char_ticks` is 0 or more than 1000.
+    /// - `BadWire` if `wire_capacity` is more than 65,536.
+    /// - `OutOfMemory` if memory could not be allocated.
+    ///
+    /// # Examples
+    ///
+    /// ```
+    /// LiveChip::new(alloc, Chip::Uart16550A, 4, 64)
+    /// ```
     pub fn new(
         alloc: Global,
         chip: Chip,
@@ -70,7 +96,17 @@ impl LiveChip {
         Ok(Self { uart })
     }
 
-    /// The guest reads the register. Returns what it reads. No time passes.
+    /// Reads the register at this offset for the guest, and returns its value. No time passes.
+    ///
+    /// A read can change the chip: of DATA it takes a received byte, of LSR and MSR it clears the errors and changes, and
+    /// of ISR it may acknowledge an interrupt. So check `is_interrupting` after it.
+    ///
+    /// # Examples
+    ///
+    /// ```
+    /// let value = chip.read(offset);
+    /// let line = chip.is_interrupting();
+    /// ```
     pub fn read(&mut self, offset: u8) -> u8
         requires { offset < 8 }
         ensures answers { result ≡ spec.answer offset self.old }
@@ -79,7 +115,17 @@ impl LiveChip {
         self.uart.read(offset)
     }
 
-    /// The guest writes the register. No time passes.
+    /// Writes a value to the register at this offset for the guest. No time passes.
+    ///
+    /// Never fails: a byte that is written to DATA is sent by later `ticks`. If the transmitter has no room, a byte is
+    /// lost, and `overflows` counts it. Check `is_interrupting` after it.
+    ///
+    /// # Examples
+    ///
+    /// ```
+    /// chip.write(offset, value);
+    /// chip.ticks(elapsed);
+    /// ```
     pub fn write(&mut self, offset: u8, value: u8)
         requires { offset < 8 }
         ensures { self.new ≡ spec.after_write offset value self.old }
@@ -87,7 +133,15 @@ impl LiveChip {
         self.uart.write(offset, value);
     }
 
-    /// So many ticks pass. Returns in how many turns, of which there are at most 18, whatever `count` is.
+    /// Lets `count` ticks pass. Returns the number of turns that this took, which is at most 18, whatever `count` is.
+    ///
+    /// What was sent in this time is on the `wire`. Check `is_interrupting` after it.
+    ///
+    /// # Examples
+    ///
+    /// ```
+    /// chip.ticks(elapsed);
+    /// ```
     pub fn ticks(&mut self, count: u16) -> usize
         ensures after { self.new ≡ spec.ticks count self.old }
         ensures turns { result ≤ most_turns }
@@ -95,12 +149,23 @@ impl LiveChip {
         self.uart.ticks(count)
     }
 
-    /// A character comes in, with these errors: parity, framing and break lie where LSR has them. In loopback it is lost. If the
-    /// FIFO is full, it is dropped; without FIFO the one that waits is dropped for it. A drop shows in the overrun flag.
+    /// Receives a character from the remote, with these errors: parity, framing and break, as bits of LSR.
+    ///
+    /// In loopback the character is lost. If the FIFO is full, the character is dropped; without FIFO it replaces the one
+    /// that was received before, which is dropped. The guest sees a drop as the overrun flag. To lose none, check
+    /// `receive_room` first. Check `is_interrupting` after it.
     ///
     /// # Errors
     ///
-    /// `BadErrors` for any other bit of LSR. Then nothing is changed.
+    /// `BadErrors` if `errors` has any other bit. Nothing changes then.
+    ///
+    /// # Examples
+    ///
+    /// ```
+    /// if chip.receive_room() > 0 {
+    ///     chip.arrive(byte, LSR::empty())?;
+    /// }
+    /// ```
     pub fn arrive(&mut self, byte: u8, errors: LSR) -> Result<(), InputError>
         ensures accepted { IsWithin errors.0 LSR.CHARACTER_ERRORS.0 → IsOk result × (self.new ≡ spec.bring byte errors.0 self.old) }
         ensures refused { bit_and errors.0 LSR.CHARACTER_ERRORS.0 ≢ errors.0 → (result ≡ Err InputError.BadErrors) × (self.new ≡ self.old) }
@@ -112,11 +177,17 @@ impl LiveChip {
         Ok(())
     }
 
-    /// The modem's inputs become these: CTS, DSR, RI and CD, where MSR has them.
+    /// Sets the inputs of the modem: CTS, DSR, RI and CD, as bits of MSR. Check `is_interrupting` after it.
     ///
     /// # Errors
     ///
-    /// `BadLines` for any other bit of MSR. Then nothing is changed.
+    /// `BadLines` if `inputs` has any other bit. Nothing changes then.
+    ///
+    /// # Examples
+    ///
+    /// ```
+    /// chip.set_lines(MSR::CTS.union(MSR::DSR))?;
+    /// ```
     pub fn set_lines(&mut self, inputs: MSR) -> Result<(), InputError>
         ensures accepted { IsWithin inputs.0 MSR.LINES.0 → IsOk result × (self.new ≡ spec.change_lines inputs.0 self.old) }
         ensures refused { bit_and inputs.0 MSR.LINES.0 ≢ inputs.0 → (result ≡ Err InputError.BadLines) × (self.new ≡ self.old) }
@@ -128,7 +199,16 @@ impl LiveChip {
         Ok(())
     }
 
-    /// The chip asks for an interrupt: a read of ISR would show one. It is the level of the interrupt line.
+    /// Returns the level of the interrupt line: whether a read of ISR would show an interrupt. Changes nothing.
+    ///
+    /// # Examples
+    ///
+    /// ```
+    /// Outcome {
+    ///     sent,
+    ///     is_interrupting: chip.is_interrupting(),
+    /// }
+    /// ```
     pub fn is_interrupting(&self) -> bool
         ensures pending { result ≡ is_some (spec.interrupt self.now) }
         ensures shown { result ≡ not (has_any (spec.answer offsets.ISR self.now) ISR.INTERRUPT_STATUS.0) }
@@ -137,56 +217,77 @@ impl LiveChip {
         self.uart.is_interrupting()
     }
 
-    /// The bytes that have gone out and were not taken yet, in order.
+    /// Returns the bytes that were sent and have not been taken, in order.
+    ///
+    /// # Examples
+    ///
+    /// ```
+    /// let sent = chip.wire().len().min(sink.len());
+    /// sink[..sent].copy_from_slice(&chip.wire()[..sent]);
+    /// ```
     pub fn wire(&self) -> &[u8]
         ensures { result.now ≡ self.now.transmitter.wire }
     {
         self.uart.transmitter().wire()
     }
 
-    /// Takes so many bytes from the front of the wire, or all if there are fewer. The wire has room for others then.
+    /// Removes this number of bytes from the front of the wire, or all if there are fewer. The wire has room for more then.
+    ///
+    /// # Examples
+    ///
+    /// ```
+    /// chip.take_wire(sent);
+    /// ```
     pub fn take_wire(&mut self, count: usize)
         ensures { self.new ≡ spec.take_wire count self.old }
     {
         self.uart.take_wire(count);
     }
 
-    /// How many bytes more the wire has room for.
+    /// Returns how many more bytes the wire has room for.
     pub fn wire_room(&self) -> usize
         ensures { result ≡ self.now.transmitter.capacity - length self.now.transmitter.wire }
     {
         self.uart.transmitter().wire_room()
     }
 
-    /// How many characters can come in before one is lost. In loopback each is lost.
+    /// Returns how many characters can be received before one is lost. In loopback that is 0.
+    ///
+    /// # Examples
+    ///
+    /// ```
+    /// if chip.receive_room() > 0 {
+    ///     chip.arrive(byte, LSR::empty())?;
+    /// }
+    /// ```
     pub fn receive_room(&self) -> usize
         ensures { result ≡ spec.receive_room self.now }
     {
         self.uart.receive_room()
     }
 
-    /// How many characters wait for the guest to read them.
+    /// Returns the number of received characters that the guest has not read.
     pub fn waiting_len(&self) -> usize
         ensures { result ≡ length (waiting self.now.receiver) }
     {
         self.uart.receiver().waiting_len()
     }
 
-    /// How many bytes are still to go out.
+    /// Returns the number of bytes in the transmitter, which are still to be sent.
     pub fn held_len(&self) -> usize
         ensures { result ≡ length (held self.now.transmitter) }
     {
         self.uart.transmitter().held_len()
     }
 
-    /// The divisor latch, from which a baud rate follows.
+    /// Returns the divisor in the divisor latch, from which the baud rate follows.
     pub fn divisor(&self) -> u16
         ensures { result ≡ spec.divisor self.now.latches }
     {
         self.uart.divisor()
     }
 
-    /// How many writes of the data register met a full transmitter, up to `u64::MAX`.
+    /// Returns how many writes of DATA found no room in the transmitter, up to `u64::MAX`.
     pub fn overflows(&self) -> u64
         ensures { result ≡ self.now.transmitter.overflows }
     {

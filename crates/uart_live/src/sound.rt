@@ -1,4 +1,4 @@
-//! Whether data are those of a live chip: one question for each part of what holds of it.
+//! Whether data are those of a live chip: one test for each part of what holds of it.
 ghost use Rattle.std.specs.Prelude.{◌≡◌, true, false};
 ghost use Rattle.std.specs.List.{list_all};
 ghost use Rattle.uart_chip.specs.Snapshot.{latches_of, chip_of};
@@ -15,14 +15,14 @@ use uart_chip::{
 use uart_spec::FIFO_SIZE;
 use uart_spec::registers::{LSR, MSR};
 
-// How many characters a queue may hold.
+// Returns the number of characters that a queue has room for.
 fn room_of(fifo: bool) -> usize
     ensures { result ≡ room fifo }
 {
     if fifo { FIFO_SIZE } else { 1 }
 }
 
-// It is no arrival of a schedule, and has errors of a character alone.
+// It is not an arrival of a schedule, and has only errors of a character.
 fn is_live_character(character: &Character) -> bool
     ensures { result ≡ spec.is_live_character character.now }
 {
@@ -114,7 +114,7 @@ fn are_sound(saved: &ChipData, wire: &[u8]) -> bool
         && is_sound_transmitter(&saved.transmitter, saved.fifo, wire)
 }
 
-/// The data and these bytes on the wire are those of a live chip.
+/// Returns whether the data, and these bytes on the wire, are those of a live chip.
 pub fn is_live(saved: &ChipData, wire: &[u8]) -> bool
     ensures sound { result ≡ true → IsLive (chip_of saved.now wire.now) }
     ensures unsound { result ≡ false → IsLive (chip_of saved.now wire.now) → ⊥ }

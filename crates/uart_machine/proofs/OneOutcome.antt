@@ -15,7 +15,8 @@ use Rattle.uart_chip.specs.Machine.{MachineState, MachineStep, at_mark}
 use Rattle.uart_calls.specs.Calls.{IsRunnable}
 use Rattle.uart_calls.specs.Meaning.{Meaning, Called, doing_of, meaning}
 use Rattle.uart_calls.proofs.NoChoice.{meaning_leaves_no_choice}
-use Rattle.uart_run.specs.Run.{State, machine_of, CallStep, Link, Chain, calls_of, answers_of, IsRun}
+use Rattle.uart_run.specs.Chains.{calls_of, answers_of}
+use Rattle.uart_run.specs.Run.{State, machine_of, CallStep, Link, Chain, IsRun}
 use Rattle.uart_language.specs.Script.{Plan, IsScript}
 use Rattle.uart_machine.specs.ScriptOutput.{IsFirst, output_of}
 use Rattle.uart_language.specs.Reading.{Fault}

@@ -1,5 +1,5 @@
 -- From a script's calls to what is printed for it.
-use Rattle.std.proofs.Common.{◌≡◌, ◌<◌, ◌+◌, ℕ, List, [], ◌∷◌, ◌++◌, length, map, take, get_or, Some, None, inl, inr, refl, sym, ◌∙◌, ap}
+use Rattle.std.proofs.Common.{◌≡◌, ◌<◌, ◌+◌, ℕ, List, [], ◌∷◌, ◌++◌, length, map, take, Some, None, inl, inr, refl, sym, ◌∙◌, ap}
 use Rattle.std.proofs.Common.{arith, slice_get}
 use Rattle.std.proofs.lemmas.List.{take_more}
 use Rattle.std.proofs.lemmas.Option.{slice_get_cases}
@@ -7,7 +7,8 @@ use Rattle.uart_calls.specs.declared.call.Call.{Call}
 use Rattle.uart_calls.specs.declared.call.Call.TheVariants as call
 use Rattle.uart_calls.specs.declared.call.Answer.{Answer}
 use Rattle.uart_language.specs.Sayings.{plain}
-use Rattle.uart_run.specs.Run.{State, CallStep, Link, Chain, calls_of, answers_of, IsRun}
+use Rattle.uart_run.specs.Chains.{calls_of, answers_of}
+use Rattle.uart_run.specs.Run.{State, CallStep, Link, Chain, IsRun}
 use Rattle.uart_run.specs.Session.{Ran}
 
 -- one item more

@@ -3,6 +3,7 @@ pub mod Play
 pub mod OneOutcome
 pub use Rattle.uart_chip.specs.Build
 pub use Rattle.uart_calls.specs.Calls
+pub use Rattle.uart_run.specs.Chains
 pub use Rattle.uart_chip.specs.Chip
 pub use Rattle.uart_device.specs.Conserved
 pub use Rattle.uart_language.specs.Fields

@@ -1,4 +1,4 @@
--- What a reader gives, what is written for it, and which side failed.
+-- What a reader returns, what is written for it, and which of the two failed.
 use Rattle.std.specs.Prelude.{ℕ, ◌<◌, ◌≤◌, ◌==◌, ◌&&◌, nat_lt, Bool, true, false, List, length, take, Option, Result}
 use Rattle.std.specs.Prelude.{Ok, Err, ⊤}
 use Rattle.std.specs.Io.KnownBytes.{Consumes, Appends, Keeps, IsAtEnd}
@@ -11,7 +11,7 @@ use Rattle.uart_language.specs.declared.cause.ScriptError.TheVariants as script
 use Rattle.uart_language.specs.Script.{Plan, IsScript, IsFaulty}
 use Rattle.uart_machine.specs.ScriptOutput.{IsOutput}
 
--- what a reader or a writer of std wraps
+-- the wrapped reader or writer of std
 abbrev pub std_inner : {T : Type 0} → Std T → T
 std_inner s = s.inner
 
@@ -19,7 +19,7 @@ std_inner s = s.inner
 abbrev pub std_has_failed : {T : Type 0} → Std T → Bool
 std_has_failed s = s.failed
 
--- whether a write failed: an error, or nothing taken of something
+-- whether a write failed: an error, or no byte accepted of some
 abbrev pub takes_none : {E : Type 0} → Result ℕ E → List ℕ → Bool
 takes_none (Ok n) bytes = n == 0 && nat_lt 0 (length bytes)
 takes_none (Err e) bytes = true
@@ -40,11 +40,11 @@ IsReading errors.ReadFault = ⊤
 IsReading errors.OutOfMemory = ⊤
 IsReading e = ⊥
 
--- at most so many bytes are taken
+-- at most n bytes are read
 abbrev pub ConsumesAtMost : ℕ → Option (List ℕ) → Option (List ℕ) → Type 0
 ConsumesAtMost most old new = (bytes : List ℕ) × Consumes old new bytes × (length bytes ≤ most)
 
--- the text is all of the input, or as much of it as is read at most
+-- the text is the whole input, or as much of it as is read at most
 pub record IsReadText (old new : Option (List ℕ)) (text : List ℕ) : Type 0 where
   pub consumes : Consumes old new text
   pub to_end : length text < MOST_READ → IsAtEnd new
@@ -61,21 +61,21 @@ pub record IsPlayed (input : List ℕ) (writes : List ℕ → Type 0) : Type 0 w
   pub printed : IsOutput plan output
   pub written : writes output
 
--- What playing an input comes to: its whole output, or the first fault of an input that is no script, or a beginning of
--- its output if the writer failed.
+-- The outcome of playing an input: its whole output; or the first fault of an input that is not a script; or a
+-- beginning of its output if the writer failed.
 abbrev pub Outcome : List ℕ → Result (Unit {0}) PlayError → Option (List ℕ) → Option (List ℕ) → Type 0
 Outcome input (Ok done) old new = IsPlayed input (Appends old new)
 Outcome input (Err (errors.Refused line cause)) old new = IsFaulty input line cause
 Outcome input (Err errors.WriteFault) old new = IsPlayed input (WritesFront old new)
 Outcome input (Err other) old new = ⊤
 
--- nothing is written but by `Ok` and `WriteFault`
+-- nothing is written except for `Ok` and `WriteFault`
 abbrev pub WritesNothing : Result (Unit {0}) PlayError → Option (List ℕ) → Option (List ℕ) → Type 0
 WritesNothing (Ok done) old new = ⊤
 WritesNothing (Err errors.WriteFault) old new = ⊤
 WritesNothing (Err other) old new = Keeps old new
 
--- a script's error as that of playing it
+-- the error of a script as that of playing it
 abbrev pub play_error : ScriptError → PlayError
 play_error (script.Refused line cause) = errors.Refused line cause
 play_error script.OutOfMemory = errors.OutOfMemory

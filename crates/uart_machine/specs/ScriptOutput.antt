@@ -11,22 +11,22 @@ use Rattle.uart_run.specs.Run.{State, machine_of, IsRun}
 use Rattle.uart_language.specs.Script.{Plan}
 use Rattle.uart_language.specs.Output.{printed}
 
--- the script's machine after power on
+-- the machine of the script after power-on
 abbrev pub first_machine : Plan → MachineState
 first_machine plan = cutting plan.cuts (fresh plan.chip plan.ticks plan.wire_capacity plan.events)
 
--- this machine, and a new driver with the script's limit
+-- this machine, and a new driver with the limit of the script
 pub record IsFirst (plan : Plan) (s : State) : Type 0 where
   pub machine : machine_of s ≡ first_machine plan
   pub driver : fields (inner_of s) ≡ record { config = DEFAULT; fifo = true; lsr = 0; msr = 0; limit = plan.limit }
 
--- the lines for the answers of a run, and for what the last machine shows
+-- the lines for the answers of a run, and for the last state of the machine
 abbrev pub output_of : List Answer → MachineState → List ℕ
 output_of answers m =
     printed answers m.chip.transmitter.wire (held m.chip.transmitter) (waiting m) m.chip.receiver.marks
 
--- this is printed for the script: its calls ran from the first state, and their answers and the last machine were
--- written out
+-- this is printed for the script: its calls ran from the first state, and their answers and the last state of the
+-- machine were printed
 pub record IsOutput (plan : Plan) (output : List ℕ) : Type 0 where
   pub first : State
   pub last : State

@@ -1,12 +1,12 @@
-//! Laws about runs and scripts, which follow from what the contracts say.
+//! Laws about runs and scripts. They follow from the contracts.
 //!
-//! Each function here has a law as its contract, for callers to cite, and does nothing.
+//! The contract of each function is a law that callers can cite. The functions do nothing.
 ghost use Rattle.uart_machine.specs.OneOutcome.{RunsHaveOneOutcome, ScriptsHaveOneOutput};
 
 pub use uart_calls::laws::meanings_leave_no_choice;
 pub use uart_run::laws::idle_keeps_ready;
 
-/// The answers of `run`, and the state that it leaves, are a function of the calls and the state before.
+/// The answers of `run`, and the state after it, are a function of the calls and the state before it.
 pub fn runs_have_one_outcome()
     ensures { RunsHaveOneOutcome }
 {}

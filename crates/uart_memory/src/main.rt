@@ -1,7 +1,7 @@
-//! Makes each call of `uart_machine` and `uart_ring` that takes memory, and prints what it came to.
+//! Makes each call of `uart_machine` and `uart_ring` that allocates memory, and prints its outcome.
 //!
-//! Standard input is how many allocations are made before the first call. So if one allocation of a run is refused, as by
-//! `rt try --fail-alloc`, this number decides which one of the calls' allocations that is.
+//! Standard input is the number of allocations before the first call. So if one allocation of a run is refused, as by
+//! `rt try --fail-alloc`, this number decides which allocation of the calls that is.
 #![tactic(auto)]
 
 use bitflags::Flags;
@@ -18,7 +18,7 @@ use uart_machine::script::{PlayError, ScriptError, Std, parse, play};
 use uart_machine::{BuildError, Call, Chip, Device16550, Event};
 use uart_ring::{RingError, Uart16550Ring};
 
-// A script with so many calls and events that their lists grow, as its output does.
+// A script with so many calls and events that their lists grow, and its output too.
 const SCRIPT: &[u8] = b"chip 16550a 4 64
 limit 200
 init 14 9600 nocts 00 8
@@ -68,7 +68,7 @@ fn events(alloc: Global) -> Result<Vec<Event>, AllocError> {
     Ok(events)
 }
 
-// What a call came to.
+// The outcome of a call.
 #[derive(Clone, Copy, PartialEq, Eq)]
 enum Outcome {
     Expected,
@@ -96,7 +96,7 @@ impl fmt::Display for Outcome {
     }
 }
 
-// Plays the script. A refusal must have written nothing.
+// Plays the script. If it is refused, nothing may have been written.
 fn play_it(alloc: Global) -> Outcome {
     let mut room = [0u8; 512];
     let result = play(alloc, &mut Std::new(SCRIPT), &mut Std::new(&mut room[..]));
@@ -125,7 +125,8 @@ fn parse_it(alloc: Global, events: &[Event]) -> Outcome {
     }
 }
 
-// What a build came to, if a byte that is written to DATA is held as this one. Without FIFO the last arrival waits.
+// The outcome of a build, if a byte that is written to DATA is held as this one. Without FIFO the last arrival is in the
+// receiver.
 fn check(built: Result<Device16550, BuildError>, held: u8) -> Outcome {
     match built {
         Ok(mut machine) => {
@@ -151,7 +152,7 @@ fn used_driver() -> Uart16550<Replay<'static>> {
     uart
 }
 
-// It is that driver still: its settings, its only access so far, the errors that it saved, and the next answers.
+// It is still that driver: its settings, its only access so far, the errors that it saved, and what its reads will return.
 fn is_unchanged(mut uart: Uart16550<Replay<'static>>) -> bool {
     let is_same = uart.config() == &Config::DEFAULT
         && uart.fifo_enabled()
@@ -160,7 +161,7 @@ fn is_unchanged(mut uart: Uart16550<Replay<'static>>) -> bool {
     is_same && uart.lsr().bits() == 0x7e && uart.msr().bits() == 0x0f
 }
 
-// Makes rings. A refusal must return the driver as it was.
+// Makes rings. If they are refused, the driver is returned unchanged.
 fn make_rings(alloc: Global) -> Outcome {
     match Uart16550Ring::new(alloc, used_driver(), 64, 16) {
         Ok(ring) => Outcome::of(
@@ -176,7 +177,7 @@ fn make_rings(alloc: Global) -> Outcome {
     }
 }
 
-// The number that the input is.
+// Returns the number in the input.
 fn number<R: Read>(reader: &mut R) -> io::Result<usize> {
     let mut text = [0u8; 8];
     let count = reader.read(&mut text)?;
@@ -189,7 +190,7 @@ fn number<R: Read>(reader: &mut R) -> io::Result<usize> {
     }
 }
 
-// So many allocations, each given back.
+// Makes this number of allocations, and frees each.
 fn allocate(alloc: Global, count: usize) -> Result<(), AllocError> {
     for _ in 0..count {
         let _ = Vec::<u8>::with_capacity(alloc, 1)?;

@@ -17,7 +17,7 @@ is_event line =
     begins_with (codes "tick") line || begins_with (codes "arrive") line || begins_with (codes "lines") line
     || begins_with (codes "access") line
 
--- a line after the first that is no event is a call, if it is neither blank nor the limit
+-- a line after the first that is not an event is a call, if it is neither blank nor the limit
 abbrev pub is_call : List ℕ → Bool
 is_call line = not (length line == 0) && not (begins_with (codes "limit") line)
 

@@ -1,4 +1,4 @@
--- What playing calls on a real chip comes to.
+-- The outcome of playing calls on a real chip.
 use Rattle.std.specs.Prelude.{◌≡◌, ◌⊎◌, ℕ, List, [], ◌∷◌, ◌++◌, Option, None, IsSome}
 use Rattle.std.specs.Io.KnownBytes.{Appends}
 use Rattle.uart_16550.specs.Driver.{backend_of}
@@ -26,7 +26,7 @@ fault_in s = fault_of (backend_of (inner_of s)).access
 abbrev pub Makes : {F : Type 0} → (F → Attempt → F → Type 0) → Terminal F → Call → Answer → Terminal F → Type 0
 Makes step s call answer t = Performed (PortStep (GuardedStep step)) s call answer t
 
--- the calls were made one after the other and answered so, and none met a fault
+-- the calls were made one after the other with these answers, and none had a fault
 abbrev pub Answered : {F : Type 0} → (F → Attempt → F → Type 0) → Terminal F → List Call → List Answer → Terminal F →
     Type 0
 Answered step s [] [] t = t ≡ s
@@ -35,7 +35,7 @@ Answered step s (call ∷ calls) [] t = ⊥
 Answered {F} step s (call ∷ calls) (answer ∷ answers) t =
     (mid : Terminal F) × Makes step s call answer mid × (fault_in mid ≡ None) × Answered step mid calls answers t
 
--- the calls before one of them were answered so, that one met a fault, and no other was made
+-- the calls before one of them had these answers, that one had a fault, and no other was made
 pub record IsStopped {F : Type 0} (step : F → Attempt → F → Type 0) (s : Terminal F) (calls : List Call)
     (answers : List Answer) (t : Terminal F) : Type 0 where
   pub before : List Call
@@ -48,13 +48,13 @@ pub record IsStopped {F : Type 0} (step : F → Attempt → F → Type 0) (s : T
   pub makes : Makes step mid call answer t
   pub fault : IsSome (fault_in t)
 
--- these answers were printed: of all calls, or of those before the one that met a fault
+-- these answers were printed: of all calls, or of those before the one with the fault
 pub record IsPlayed {F : Type 0} (step : F → Attempt → F → Type 0) (s : Terminal F) (calls : List Call)
     (old new : Option (List ℕ)) (t : Terminal F) : Type 0 where
   pub answers : List Answer
   pub made : Answered step s calls answers t ⊎ IsStopped step s calls answers t
   pub printed : Appends old new (answer_lines answers)
 
--- what a journal prints to
+-- the writer to which a journal prints
 abbrev pub writer_of : {W : Type 0} → Journal W → W
 writer_of journal = journal.writer

@@ -1,16 +1,16 @@
--- Access to the ports of a file, which stops at the first fault.
+-- Access to the ports of a file, which ends at the first fault.
 use Rattle.std.specs.Prelude.{◌≡◌, ◌⊎◌, ℕ, ⊤, Option, Some, None, Result, Ok, Err, MatchOption}
 use Rattle.uart_spec.specs.Access.{Access, Read, Write}
 use Rattle.uart_port.specs.declared.ports.TheConstants.{FLOATING}
 use Rattle.uart_port.specs.declared.ports.Fault.{Fault}
 use Rattle.uart_port.specs.declared.ports.GuardedPorts.{GuardedPorts}
 
--- an access of a port that was made, with its answer or its value, or one that failed
+-- an access to a port that was made, with its answer or its value, or one that failed
 pub data Attempt : Type 0 where
   Made : Access → Attempt
   Failed : (port : ℕ) → Attempt
 
--- what trying to read a port, and to write to it, came to
+-- the attempt to read a port, and the one to write to it, with this result
 abbrev pub read_attempt : {E : Type 0} → ℕ → Result ℕ E → Attempt
 read_attempt port (Ok value) = Made (Read port value)
 read_attempt port (Err e) = Failed port
@@ -30,7 +30,7 @@ abbrev pub port_of : Access → ℕ
 port_of (Read port answer) = port
 port_of (Write port value) = port
 
--- a read returns what it does if nothing is at the port
+-- a read returns what it returns if nothing is at the port
 abbrev pub IsFloating : Access → Type 0
 IsFloating (Read port answer) = answer ≡ FLOATING
 IsFloating (Write port value) = ⊤
@@ -41,7 +41,7 @@ pub record IsMade {F : Type 0} (step : F → Attempt → F → Type 0) (old : Gu
   pub made : step (file_of old) (Made access) (file_of new)
   pub fault : fault_of new ≡ None
 
--- the file failed at the access, and this is the first fault
+-- the file failed at the access, which is the first fault
 pub record IsFailed {F : Type 0} (step : F → Attempt → F → Type 0) (old : GuardedPorts F) (access : Access)
     (new : GuardedPorts F) : Type 0 where
   pub first : Fault

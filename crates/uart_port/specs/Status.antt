@@ -6,7 +6,7 @@ use Rattle.uart_port.specs.declared.end.End.{End}
 use Rattle.uart_port.specs.declared.end.End.TheVariants.{NotAPort, PortTooHigh, Unread, Refused, Event, NoDevice}
 use Rattle.uart_port.specs.declared.end.End.TheVariants.{NoLeave, Fault, Trace, Output, OutOfMemory}
 
--- 1 for a port or a script that is refused, 2 for a file that failed, 3 for out of memory, 4 for no leave
+-- 1 for a port or a script that is refused, 2 for a file that failed, 3 for out of memory, 4 for no permission
 abbrev pub status_of : End → ℕ
 status_of NotAPort = 1
 status_of (PortTooHigh port) = 1

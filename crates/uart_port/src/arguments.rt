@@ -8,7 +8,7 @@ use clap::{Arg, ArgMatches, Command, Error};
 use std::alloc::Global;
 use uart_spec::registers::offsets;
 
-// The last port at which a chip can begin.
+// The last port at which a chip can start.
 const LAST_BASE: u16 = u16::MAX - offsets::SPR as u16;
 
 const ABOUT: &str = "Plays a script's calls on the 16550 at an I/O port, and prints each answer.";
@@ -23,12 +23,12 @@ since a port shows none of it.
 Exit status: 0 played, 1 the arguments or the script are refused, 2 a file or a port
 failed, 3 out of memory, 4 no leave to open the device.";
 
-// An option that names a file.
+// Returns an option that names a file.
 fn file_option<'a>(alloc: Global, name: &'a str) -> Arg<'a> {
     Arg::new(alloc, name).long(name).value_name("FILE")
 }
 
-// The command line that the program understands.
+// Returns the command line that the program accepts.
 fn command<'a>(alloc: Global) -> Result<Command<'a>, Error> {
     let port = Arg::new(alloc, "PORT").required(true).help(
         "the chip's first port in hexadecimal digits, as 3f8 or 0x3f8",
@@ -54,27 +54,31 @@ fn command<'a>(alloc: Global) -> Result<Command<'a>, Error> {
 /// The exit status if the words or the script are refused.
 pub const REFUSED: u8 = 1;
 
-/// The words of the command line, matched with what the program understands.
+/// Matches the words of the command line with what the program accepts.
 pub fn matched<'a>(alloc: Global, words: &'a [String]) -> Result<ArgMatches<'a>, Error> {
     command(alloc)?.try_get_matches_from(words)
 }
 
-/// What the program is asked for.
+/// The arguments of the program.
 #[derive(Drop)]
 pub struct Arguments<'a> {
+    /// The first port of the chip.
     pub port: u16,
+    /// The file of ports.
     pub device: &'a str,
+    /// The file for the trace, if one is requested.
     pub trace: Option<&'a str>,
+    /// The file of the script, or `None` for standard input.
     pub script: Option<&'a str>,
     ghost in_range: { IsPortBase port },
 }
 
 impl<'a> Arguments<'a> {
-    /// What the command line asks for.
+    /// Returns the arguments of a command line.
     ///
     /// # Errors
     ///
-    /// If the word for the port is none of a chip.
+    /// `NotAPort` or `PortTooHigh` if the word for the port is not a port at which a chip can start.
     pub fn new(matches: &ArgMatches<'a>) -> Result<Self, End> {
         Ok(Arguments {
             port: port_in(matches.get_str("PORT").unwrap_or(""))?,
@@ -85,7 +89,7 @@ impl<'a> Arguments<'a> {
     }
 }
 
-// The first port of a chip in hexadecimal digits, with or without 0x.
+// Reads the first port of a chip, in hexadecimal digits with or without 0x.
 pub(crate) fn port_in(word: &str) -> Result<u16, End>
     ensures { IfOk result IsPortBase }
 {

@@ -8,12 +8,12 @@ use std::fs::File;
 use std::io;
 use std::os::unix::fs::FileExt;
 
-/// How many ports a chip has.
+/// The number of ports of a chip.
 const PORTS: u16 = 8;
 
-/// A file of ports, whose accesses are noted in a trace, if there is one.
+/// A file of ports, whose accesses are written to a trace if there is one.
 ///
-/// An access that the trace does not take counts as failed.
+/// An access that cannot be written to the trace counts as failed.
 #[derive(Drop)]
 pub struct DeviceFile<'a> {
     file: File,
@@ -22,12 +22,12 @@ pub struct DeviceFile<'a> {
 }
 
 impl<'a> DeviceFile<'a> {
-    /// The ports of this file. A trace has offsets from the base.
+    /// Returns the ports of this file. A trace has offsets from the base.
     pub fn new(file: File, base: u16, trace: Option<Trace<'a>>) -> Self {
         DeviceFile { file, base, trace }
     }
 
-    // How far a port is from the base.
+    // Returns the distance of a port from the base.
     fn offset(&self, port: u16) -> u8
         ensures { result < 8 }
     {
@@ -36,7 +36,7 @@ impl<'a> DeviceFile<'a> {
 }
 
 impl PortFile for DeviceFile<'_> {
-    // Nothing is promised of what is at a port.
+    // Nothing is promised about what is at a port.
     ghost step = { λ _ _ _. ⊤ };
 
     fn read(&mut self, port: u16) -> io::Result<u8> {

@@ -14,28 +14,28 @@ use uart_language::{Cause, ScriptError};
 /// Why a script was not played to its end.
 #[derive(Clone, Copy, Debug, Drop, Error)]
 pub enum End {
-    /// The word for the port is no number of 16 bits.
+    /// The word for the port is not a number of 16 bits.
     #[error("PORT is one to four hexadecimal digits, as 3f8")]
     NotAPort,
-    /// The last of the eight registers would lie beyond the last port.
+    /// The last of the eight registers would be beyond the last port.
     #[error("port {port:x}: a chip has eight ports, and the last that one can begin at is fff8")]
     PortTooHigh { port: u16 },
     /// The script could not be read.
     #[error("the script cannot be read: {0}")]
     Unread(io::Error),
-    /// The first faulty line of the script, and what is wrong with it; line 0 for a script of too many bytes.
+    /// The script is refused: its first faulty line, and what is wrong with it; line 0 if there are too many bytes.
     #[error("line {line}: {}", .cause.text())]
     Refused { line: u32, cause: Cause },
-    /// The first line of the script that is an event.
+    /// The script has an event, and this is the first line with one.
     #[error("line {line}: an event, and a real chip has no schedule")]
     Event { line: usize },
     /// The file of ports could not be opened.
     #[error("the device cannot be opened: {0}")]
     NoDevice(io::Error),
-    /// The file of ports may not be opened.
+    /// There is no permission to open the file of ports.
     #[error("no leave to open the device: {0}; it takes root, and a kernel that is not locked down")]
     NoLeave(io::Error),
-    /// An access of a port failed.
+    /// An access to this port failed.
     #[error("port {port:x}: {cause}")]
     Fault { port: u16, cause: io::Error },
     /// The trace could not be written.
@@ -44,13 +44,13 @@ pub enum End {
     /// An answer could not be printed.
     #[error("standard output cannot be written: {0}")]
     Output(io::Error),
-    /// The script or an answer did not fit into memory.
+    /// Memory for the script or an answer could not be allocated.
     #[error("out of memory")]
     OutOfMemory,
 }
 
 impl End {
-    /// The program's exit status.
+    /// Returns the program's exit status.
     pub fn status(self) -> u8
         ensures { result ≡ status_of self }
     {
@@ -66,7 +66,7 @@ impl End {
         }
     }
 
-    /// Why the script could not be read.
+    /// Returns why the script could not be read.
     pub fn unread(cause: io::Error) -> Self
         ensures memory { error_kind cause ≡ ErrorKind.OutOfMemory → result ≡ End.OutOfMemory }
         ensures other { error_kind cause ≢ ErrorKind.OutOfMemory → result ≡ End.Unread cause }
@@ -77,7 +77,7 @@ impl End {
         }
     }
 
-    /// Why the text is no script.
+    /// Returns why the text is not a script.
     pub fn unparsed(error: ScriptError) -> Self
         ensures { result ≡ end_of error }
     {
@@ -87,7 +87,7 @@ impl End {
         }
     }
 
-    /// Why the device could not be opened.
+    /// Returns why the device could not be opened.
     pub fn unopened(cause: io::Error) -> Self
         ensures leave { error_kind cause ≡ ErrorKind.PermissionDenied → result ≡ End.NoLeave cause }
         ensures other { error_kind cause ≢ ErrorKind.PermissionDenied → result ≡ End.NoDevice cause }

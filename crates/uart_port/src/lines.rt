@@ -6,7 +6,7 @@ ghost use Rattle.uart_port.specs.Lines.{is_event, is_call, event_line, call_line
 use std::alloc::{AllocError, Global};
 use uart_language::word_at;
 
-// Whether a line is an event of a schedule.
+// Returns whether a line is an event of a schedule.
 fn is_event(line: &[u8]) -> bool
     ensures { result ≡ is_event line.now }
 {
@@ -17,14 +17,14 @@ fn is_event(line: &[u8]) -> bool
         || word == b"access".as_slice()
 }
 
-// Whether a line after the first is a call.
+// Returns whether a line after the first is a call.
 fn is_call(line: &[u8]) -> bool
     ensures { result ≡ is_call line.now }
 {
     !line.is_empty() && word_at(line, 0) != b"limit".as_slice()
 }
 
-/// The number of the first line that is an event of a schedule, counted from 1.
+/// Returns the number of the first line that is an event of a schedule, counted from 1.
 pub fn event_line(text: &[u8]) -> Option<usize>
     ensures { result ≡ event_line text.now }
 {
@@ -34,7 +34,7 @@ pub fn event_line(text: &[u8]) -> Option<usize>
     Some(before + 1)
 }
 
-/// The lines of a script that are calls, if it has no events.
+/// Returns the lines of a script that are calls, if it has no events.
 pub fn call_lines(alloc: Global, text: &[u8]) -> Result<Vec<&[u8]>, AllocError>
     ensures { IfOk result (λ lines. map (λ line. line.now) lines.items ≡ call_lines text.now) }
 {

@@ -34,10 +34,10 @@ use uart_language::limits::MOST_BYTES;
 use uart_language::{Script, parse};
 use uart_program::{bytes_of, failed, unmatched};
 
-// How many bytes of a script are read: one more than the longest has.
+// The most bytes of a script that are read: one more than the longest has.
 const MOST_READ: u64 = MOST_BYTES as u64 + 1;
 
-// The script that a text is, if it has no event.
+// Returns the script that a text is, if it has no event.
 fn script_in(alloc: Global, text: &[u8]) -> Result<Script, End>
     ensures { IfOk result (λ script. IsScript text.now (plan_of script)) }
 {
@@ -60,7 +60,7 @@ fn device_at(rt: &HostRuntime, path: &str) -> Result<File, End> {
         .map_err(End::unopened)
 }
 
-// The file for the trace, if one is asked for.
+// Returns the file for the trace, if one is requested.
 fn trace_at(rt: &HostRuntime, path: Option<&str>) -> Result<Option<File>, End> {
     match path {
         Some(path) => Ok(Some(File::create(rt, path).map_err(End::Trace)?)),
@@ -68,7 +68,7 @@ fn trace_at(rt: &HostRuntime, path: Option<&str>) -> Result<Option<File>, End> {
     }
 }
 
-// The driver at a port of the device, with the script's limit.
+// Returns the driver at a port of the device, with the script's limit.
 fn terminal_at<'a>(
     port: u16,
     limit: NonZeroU64,
@@ -85,7 +85,7 @@ fn terminal_at<'a>(
     Uart16550Tty::from_inner(uart)
 }
 
-// Plays what the command line asks for.
+// Plays what the command line requests.
 fn played(rt: &HostRuntime, matches: &ArgMatches<'_>) -> Result<(), End> {
     let arguments = Arguments::new(matches)?;
     let text = bytes_of(rt, arguments.script, MOST_READ).map_err(End::unread)?;

@@ -16,7 +16,7 @@ use uart_16550::backend::PioBackend;
 use uart_calls::{Answer, Call, perform};
 use uart_language::push_answer;
 
-/// Where answers are printed and, if there is one, the trace that is written beside them.
+/// Where answers are printed and, if there is one, the trace of the run.
 #[derive(Drop)]
 pub struct Journal<'a, W> {
     alloc: Global,
@@ -25,7 +25,7 @@ pub struct Journal<'a, W> {
 }
 
 impl<'a, W: Write> Journal<'a, W> {
-    /// Prints to this writer, and writes this trace.
+    /// Returns a journal that prints to this writer, and writes this trace.
     pub fn new(alloc: Global, writer: W, trace: Option<Trace<'a>>) -> Self
     where
         W: Drop,
@@ -38,7 +38,7 @@ impl<'a, W: Write> Journal<'a, W> {
         }
     }
 
-    // The trace of a call. `Next` is none of the driver.
+    // Returns the trace for a call. `Next` is not a call of the driver.
     fn trace_of(&self, call: &Call) -> Option<Trace<'a>> {
         match call {
             Call::Next => None,
@@ -46,7 +46,7 @@ impl<'a, W: Write> Journal<'a, W> {
         }
     }
 
-    // This call is made, and it stands so in the script.
+    // Writes that this call is made, as its line of the script.
     fn call(&mut self, call: &Call, line: &[u8]) -> Result<(), End>
         ensures { writer_of self.new ≡ writer_of self.old }
     {
@@ -56,7 +56,7 @@ impl<'a, W: Write> Journal<'a, W> {
         }
     }
 
-    // This call returned, and this is its answer.
+    // Prints the answer of this call, which has returned.
     fn answer(&mut self, call: &Call, answer: &Answer) -> Result<(), End>
         ensures { OnOk result
             (Appends (W.contents (writer_of self.old)) (W.contents (writer_of self.new)) (line (answer_text answer.now))) }
@@ -71,14 +71,14 @@ impl<'a, W: Write> Journal<'a, W> {
     }
 }
 
-/// Makes the calls in turn and prints each answer when it is there, up to the first fault.
+/// Makes the calls in turn and prints each answer when the call has returned, up to the first fault.
 ///
-/// The call that meets a fault has no answer, and no call after it is made: the access object tells the fault. The line of each
+/// The call with the fault has no answer, and no call after it is made; the access object has the fault. The line of each
 /// call is for the trace.
 ///
 /// # Errors
 ///
-/// If an answer cannot be printed, or the trace cannot be written. Then no further call is made.
+/// If an answer cannot be printed, or the trace cannot be written. No call is made after that.
 pub fn play<F: PortFile, W: Write>(
     uart: &mut Uart16550Tty<PioBackend<GuardedPorts<F>>>,
     calls: &[Call],

@@ -1,4 +1,4 @@
-//! Access to the I/O ports of a file, which stops at the first fault.
+//! Access to the I/O ports of a file, which ends at the first fault.
 
 ghost use Rattle.std.specs.Prelude.{◌≡◌, None};
 ghost use Rattle.uart_port.specs.Ports.{Attempt, GuardedStep, read_attempt, write_attempt};
@@ -11,12 +11,12 @@ pub const FLOATING: u8 = 0xff;
 
 /// A file that has a byte for each I/O port, as Linux shows them in `/dev/port`.
 ///
-/// An implementation names its step relation: from which state an attempt at a port may lead to which.
+/// An implementation defines a step relation: which attempts at a port lead from which state to which state.
 pub trait PortFile {
-    // From the first state this attempt may lead to the second.
+    // This attempt may lead from the first state to the second.
     ghost step: { Self → Attempt → Self → Type 0 };
 
-    /// Reads one byte from a port.
+    /// Reads one byte from a port, and returns it.
     fn read(&mut self, port: u16) -> io::Result<u8>
         ensures { step self.old (read_attempt port result) self.new };
 
@@ -28,14 +28,15 @@ pub trait PortFile {
 /// The first access that failed.
 #[derive(Clone, Copy, Debug, Drop)]
 pub struct Fault {
+    /// The port.
     pub port: u16,
+    /// The error of the file.
     pub cause: io::Error,
 }
 
-/// Access to the ports of a file, until one fails.
+/// Access to the ports of a file, until an access fails.
 ///
-/// A backend returns no error, so the first fault is remembered. After it no access is made any more, and each read returns
-/// [`FLOATING`].
+/// A backend returns no error, so the first fault is kept. After it no access is made, and each read returns [`FLOATING`].
 #[derive(Drop)]
 pub struct GuardedPorts<F> {
     file: F,
@@ -45,7 +46,7 @@ pub struct GuardedPorts<F> {
 impl<F: PortFile> GuardedPorts<F> {
     ghost use Rattle.uart_port.specs.Ports.{file_of, fault_of};
 
-    /// Access to the ports of this file, at which nothing has failed.
+    /// Returns access to the ports of this file, of which none has failed.
     pub fn new(file: F) -> Self
         ensures file { file_of result ≡ file }
         ensures fault { fault_of result ≡ None }
@@ -53,7 +54,7 @@ impl<F: PortFile> GuardedPorts<F> {
         GuardedPorts { file, fault: None }
     }
 
-    /// The first access that failed, if any did.
+    /// Returns the first access that failed, if any did.
     pub fn fault(&self) -> Option<Fault>
         ensures { result ≡ fault_of self.now }
     {

@@ -1,4 +1,4 @@
-//! What no clause says: texts, words, and what files do.
+//! What no contract covers: texts, words, and what files do.
 use crate::arguments::port_in;
 use crate::device::DeviceFile;
 use crate::end::End;

@@ -1,4 +1,4 @@
-//! A run as text: each call, the accesses that it made, and its answer.
+//! A run as text: each call, its accesses, and its answer.
 
 ghost use Rattle.std.specs.Prelude.{◌≡◌, ◌<◌};
 ghost use Rattle.uart_spec.specs.Access.{Read, Write as WriteAccess};
@@ -10,38 +10,38 @@ use std::io::Write;
 use std::num::NonZeroU64;
 use uart_language::hex_digit;
 
-/// How many bytes the line of an access has, with its end.
+/// The length of the line of an access, with its end.
 const ACCESS_LINE: usize = 7;
 
-/// A file that takes a trace, line by line as the run goes on.
+/// A file for a trace, which is written line by line during the run.
 ///
-/// Nothing is kept back, so what was done up to a fault or a crash is in the file.
+/// Nothing is buffered, so everything up to a fault or a crash is in the file.
 #[derive(Clone, Copy)]
 pub struct Trace<'a> {
     file: &'a File,
 }
 
 impl<'a> Trace<'a> {
-    /// A trace in this file.
+    /// Returns a trace in this file.
     pub fn new(file: &'a File) -> Self {
         Trace { file }
     }
 
-    /// Begins with a driver that was just made, and tells its spin limit in a remark.
+    /// Writes that the driver is new, with its spin limit in a remark.
     pub fn begin(self, limit: NonZeroU64) -> io::Result<()> {
         let mut file = self.file;
         writeln!(file, "fresh")?;
         writeln!(file, "# limit {}", limit.get())
     }
 
-    /// A call is made, which stands so in the script.
+    /// Writes that a call is made, as its line of the script.
     pub fn call(self, line: &[u8]) -> io::Result<()> {
         let mut file = self.file;
         file.write_all(line)?;
         file.write_all(b"\n")
     }
 
-    /// The register at this offset was read, and this is its answer.
+    /// Writes that the register at this offset was read, and what the read returned.
     pub fn read(self, offset: u8, answer: u8) -> io::Result<()>
         requires { offset < 8 }
     {
@@ -49,7 +49,7 @@ impl<'a> Trace<'a> {
         file.write_all(&read_line(offset, answer))
     }
 
-    /// This value was written to the register at this offset.
+    /// Writes that this value was written to the register at this offset.
     pub fn write(self, offset: u8, value: u8) -> io::Result<()>
         requires { offset < 8 }
     {
@@ -57,7 +57,7 @@ impl<'a> Trace<'a> {
         file.write_all(&write_line(offset, value))
     }
 
-    /// The call returned, and this is its answer as it is printed.
+    /// Writes that the call returned, with its answer as it is printed.
     pub fn answer(self, text: &[u8]) -> io::Result<()> {
         let mut file = self.file;
         file.write_all(b"= ")?;
@@ -66,7 +66,7 @@ impl<'a> Trace<'a> {
     }
 }
 
-/// The line of a read.
+/// Returns the line of a read.
 fn read_line(offset: u8, answer: u8) -> [u8; ACCESS_LINE]
     requires { offset < 8 }
     ensures { result ≡ access_line (Read offset answer) }
@@ -74,7 +74,7 @@ fn read_line(offset: u8, answer: u8) -> [u8; ACCESS_LINE]
     lettered(b'r', offset, answer)
 }
 
-/// The line of a write.
+/// Returns the line of a write.
 fn write_line(offset: u8, value: u8) -> [u8; ACCESS_LINE]
     requires { offset < 8 }
     ensures { result ≡ access_line (WriteAccess offset value) }

@@ -16,7 +16,7 @@ use std::rt::Files;
 /// The exit status of a program that is out of memory.
 pub const OUT_OF_MEMORY: u8 = 3;
 
-/// The exit status if the words do not match: 0 if they ask for the help, and this one if they are refused.
+/// Returns the exit status if the words do not match: 0 if they request the help, and this one if they are refused.
 pub fn unmatched_status(error: &Error, refused: u8) -> u8
     ensures help { kind_of error.now ≡ ErrorKind.DisplayHelp → result ≡ 0 }
     ensures memory { kind_of error.now ≡ ErrorKind.OutOfMemory → result ≡ OUT_OF_MEMORY }
@@ -29,19 +29,19 @@ pub fn unmatched_status(error: &Error, refused: u8) -> u8
     }
 }
 
-/// Prints why the words do not match, or the help that they ask for, and returns the exit status.
+/// Prints why the words do not match, or the help that they request, and returns the exit status.
 pub fn unmatched<R: Print + Eprint>(rt: &R, error: &Error, refused: u8) -> io::Result<ExitCode> {
     error.print(rt)?;
     Ok(ExitCode::from(unmatched_status(error, refused)))
 }
 
-/// Prints why the program did not do what it was asked for, and returns this exit status.
+/// Prints why the program did not do what was requested, and returns this exit status.
 pub fn failed<R: Eprint>(rt: &R, why: &impl Display, status: u8) -> io::Result<ExitCode> {
     eprintln!(rt; "{why}")?;
     Ok(ExitCode::from(status))
 }
 
-/// The bytes of a file, or of standard input if no file is named. No more than this many are read.
+/// Returns the bytes of a file, or of standard input if no file is named: at most this number.
 pub fn bytes_of<R: Files + Input + AllocGlobal>(
     rt: &R,
     path: Option<&str>,

@@ -1,7 +1,7 @@
 -- Comment lines of a script.
 use Rattle.std.specs.Prelude.{ℕ, List, [], ◌∷◌, ◌++◌, ◌==◌, if◌then◌else◌}
 
--- a line, and nothing of one whose first byte is #
+-- a line, or an empty one if its first byte is #
 abbrev pub uncommented : List ℕ → List ℕ
 uncommented [] = []
 uncommented (b ∷ line) = if b == 35 then [] else b ∷ line

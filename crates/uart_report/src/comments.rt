@@ -1,10 +1,10 @@
-//! Comment lines, which only this program knows.
+//! Comment lines, which only this program accepts.
 ghost use Rattle.std.specs.Prelude.{◌≡◌, ◌++◌, OnOk};
 ghost use Rattle.uart_report.specs.Comments.{uncommented, ended};
 
 use std::alloc::{AllocError, Global};
 
-// A line, or nothing of one that is a comment.
+// Returns the line, or an empty one if it is a comment.
 fn uncommented(line: &[u8]) -> &[u8]
     ensures { result.now ≡ uncommented line.now }
 {
@@ -14,7 +14,7 @@ fn uncommented(line: &[u8]) -> &[u8]
     }
 }
 
-// Adds a line, without a comment, and a line feed.
+// Appends a line, without a comment, and a line feed.
 fn push_line(text: &mut Vec<u8>, line: &[u8]) -> Result<(), AllocError>
     ensures { OnOk result (text.new.items ≡ text.old.items ++ ended line.now) }
 {
@@ -23,9 +23,10 @@ fn push_line(text: &mut Vec<u8>, line: &[u8]) -> Result<(), AllocError>
     Ok(())
 }
 
-/// The lines of a script, with nothing in the place of each that begins with `#`. So the others keep their numbers.
+/// Returns the lines of a script, with an empty line in place of each that starts with `#`. So the other lines keep their
+/// numbers.
 ///
-/// Each has a line feed behind it, also what follows the script's last one.
+/// Each line ends with a line feed, also the text after the script's last one.
 pub fn without_comments(alloc: Global, script: &[u8]) -> Result<Vec<u8>, AllocError> {
     let mut text = Vec::new(alloc);
     for line in script.split(|b| *b == b'\n') {

@@ -1,4 +1,4 @@
-//! A refused script, explained: where the fault is, the line, and what it takes there.
+//! A refused script, explained: the place of the fault, the line, and what is accepted there.
 
 use crate::grammar::{Field, fields_after, usage};
 use crate::text::{line_at, printable, word_at, word_count};
@@ -6,10 +6,10 @@ use std::alloc::{AllocError, Global};
 use std::fmt::Write;
 use uart_machine::script::{Cause, ScriptError, parse};
 
-// A first line for a line that is looked at alone.
+// A first line for a line that is checked by itself.
 const FIRST_LINE: &[u8] = b"chip 16550a 1 1\n";
 
-// In which column a word of the line begins, counted from 1. A word past the last begins behind the line.
+// Returns the column in which a word of the line starts, counted from 1. A word after the last would start after the line.
 fn column_of(line: &[u8], word: usize) -> usize {
     let mut column = 1usize;
     for before in line.split(|b| *b == b' ').take(word) {
@@ -18,7 +18,7 @@ fn column_of(line: &[u8], word: usize) -> usize {
     column
 }
 
-// A script of the line alone, in which each field past the first few has a word that it takes.
+// Returns a script of the line alone, in which each field after the first few has a word that is accepted.
 fn probe(alloc: Global, line: &[u8], fields: &[Field], kept: usize) -> Result<Vec<u8>, AllocError> {
     let mut script = Vec::new(alloc);
     let word = word_at(line, 0).unwrap_or(&[]);
@@ -35,7 +35,7 @@ fn probe(alloc: Global, line: &[u8], fields: &[Field], kept: usize) -> Result<Ve
     Ok(script)
 }
 
-// The first field that is refused, counted from 0: the one with which the refusals begin.
+// Returns the index of the first field that is refused.
 fn refused_field(alloc: Global, line: &[u8], fields: &[Field]) -> Result<usize, AllocError> {
     for field in 0..fields.len() {
         match parse(alloc, &probe(alloc, line, fields, field + 1)?) {
@@ -47,7 +47,7 @@ fn refused_field(alloc: Global, line: &[u8], fields: &[Field]) -> Result<usize, 
     Ok(0)
 }
 
-// Where a line is at fault, and what it takes there.
+// The column of a fault, and what is accepted there.
 #[derive(Drop)]
 struct Place {
     column: usize,
@@ -133,7 +133,8 @@ fn place_of(alloc: Global, number: u32, line: &[u8], cause: Cause) -> Result<Pla
     }
 }
 
-/// The fault of a script in three lines: `NAME:LINE:COLUMN: cause`, the line, and a caret with what the line takes there.
+/// Returns the fault of a script in three lines: `NAME:LINE:COLUMN: cause`, the line, and a caret with what is accepted
+/// there.
 ///
 /// A script of too many bytes has no faulty line, and its fault is one line.
 pub fn explained(

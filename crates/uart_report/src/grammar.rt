@@ -1,31 +1,48 @@
-//! The lines of the script language, as they are explained to a person.
+//! The lines of the script language, explained for people.
 //!
-//! What a line may be is decided by `parse` alone. This is the table of what to say where it refuses.
+//! Only `parse` decides which lines are accepted. This is the table of explanations for lines that it refuses.
 
 /// A field of a line.
 #[derive(Clone, Copy, Debug, PartialEq, Eq)]
 pub enum Field {
+    /// The model of the chip.
     Chip,
+    /// The ticks of a character.
     CharTicks,
+    /// The room on the wire.
     WireRoom,
+    /// The option that cuts characters to the word length.
     Cut,
+    /// The spin limit.
     Limit,
+    /// The ticks of an event.
     Ticks,
+    /// A byte.
     Byte,
+    /// The errors of an arrival.
     Errors,
+    /// The modem lines.
     Lines,
+    /// The trigger level.
     Level,
+    /// The baud rate.
     Rate,
+    /// Whether CTS is checked before sending.
     Cts,
+    /// The interrupts.
     Interrupts,
+    /// The data bits of a character.
     DataBits,
+    /// The number of slots of a call.
     Count,
+    /// The bytes of a call.
     Bytes,
+    /// The text of a call.
     Text,
 }
 
 impl Field {
-    /// What the field takes, for a person.
+    /// Returns what the field accepts, for people.
     pub fn wants(self) -> &'static str {
         match self {
             Field::Chip => "a chip: 16550a or 16450",
@@ -50,7 +67,7 @@ impl Field {
         }
     }
 
-    /// A word that the field takes.
+    /// Returns a word that the field accepts.
     pub fn sample(self) -> &'static [u8] {
         match self {
             Field::Chip => b"16550a",
@@ -66,7 +83,7 @@ impl Field {
     }
 }
 
-/// How a line with this first word is written, or none if the word is none of the language.
+/// Returns how a line with this first word is written, or `None` if the word is not in the language.
 pub fn usage(word: &[u8]) -> Option<&'static str> {
     Some(match word {
         b"chip" => "chip 16550a|16450 T W [cut]",
@@ -89,7 +106,7 @@ pub fn usage(word: &[u8]) -> Option<&'static str> {
     })
 }
 
-/// The fields that may follow this first word.
+/// Returns the fields that may follow this first word.
 pub fn fields_after(word: &[u8]) -> &'static [Field] {
     match word {
         b"chip" => &[Field::Chip, Field::CharTicks, Field::WireRoom, Field::Cut],

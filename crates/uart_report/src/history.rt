@@ -1,4 +1,4 @@
-//! What is told of a run: each call with its answer and its moments.
+//! The history of a run: each call with its answer and its moments.
 ghost use Rattle.uart_language.specs.Script.{plan_of, IsPlayable};
 
 use crate::by_call::ByCall;
@@ -8,24 +8,28 @@ use crate::text::{line_at, printable, word_at};
 use std::alloc::{AllocError, Global};
 use uart_machine::script::Script;
 
-/// A call: its line of the script, and its line of the output.
+/// A call with its answer.
 #[derive(Drop)]
 pub struct ToldCall {
+    /// Its line of the script.
     pub line: String,
+    /// Its line of the output.
     pub answer: String,
 }
 
 /// A run of a script.
 #[derive(Drop)]
 pub struct History {
+    /// The calls.
     pub calls: Vec<ToldCall>,
+    /// The moments of the calls.
     pub moments: ByCall<Moment>,
     /// The lines of the output after those of the calls: wire, held, waiting and marks.
     pub last: Vec<String>,
 }
 
 impl History {
-    /// The letter of an arrival's mark at the end of the run.
+    /// Returns the letter of an arrival's mark at the end of the run.
     pub fn mark(&self, arrival: usize) -> char {
         let marks = self.last.last().map(|line| line.as_str()).unwrap_or("");
         let letters = marks.strip_prefix("marks ").unwrap_or("");
@@ -33,7 +37,7 @@ impl History {
     }
 }
 
-// Whether a line of a script is a call.
+// Returns whether a line of a script is a call.
 fn is_call(line: &[u8]) -> bool {
     match word_at(line, 0).unwrap_or(&[]) {
         b"" | b"chip" | b"limit" | b"tick" | b"arrive" | b"lines" | b"access" => false,
@@ -41,7 +45,7 @@ fn is_call(line: &[u8]) -> bool {
     }
 }
 
-/// What is told of a script, whose text and whose output these are.
+/// Returns the history of a script with this text and this output.
 pub fn told(
     alloc: Global,
     script: &Script,

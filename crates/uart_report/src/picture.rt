@@ -6,7 +6,7 @@ use std::alloc::{AllocError, Global};
 use std::fmt::Write;
 use uart_16550::replay::Entry;
 
-// The width of a moment, how many of them stand in a row, and the room for names to the left of them.
+// The width of a moment, how many of them are in a row, and the room for names to the left of them.
 const COLUMN: usize = 26;
 
 const COLUMNS: usize = 34;
@@ -78,7 +78,7 @@ impl Lane {
         }
     }
 
-    // Whether a cell has anything in this row.
+    // Returns whether a cell has anything in this row.
     fn is_used(self, cell: &Cell) -> bool {
         let Some(shown) = cell.shown else {
             return false;
@@ -117,7 +117,7 @@ fn cells_of(alloc: Global, history: &History) -> Result<Vec<Cell>, AllocError> {
     Ok(cells)
 }
 
-// As much of a text as there is room for, with what XML takes for its own written out.
+// As much of a text as there is room for, with the characters escaped that XML reserves.
 fn push_text(text: &mut String, words: &str, width: usize) -> Result<(), AllocError> {
     let room = width.saturating_mul(10) / LETTER;
     let is_cut = words.len() > room;
@@ -144,7 +144,7 @@ fn push_box(text: &mut String, class: &str, words: &str) -> Result<(), AllocErro
     )
 }
 
-// A bar for so many bytes, of at most a full queue and a shift place.
+// A bar for this number of bytes, of at most a full queue and a shift register.
 fn push_bar(text: &mut String, class: &str, count: usize) -> Result<(), AllocError> {
     let height = 2 * count.min(17);
     let top = 34 - height;
@@ -309,7 +309,7 @@ impl Drawing<'_> {
     }
 }
 
-/// The timeline as a picture: for each moment a column, in as many rows of columns as it takes.
+/// Returns the timeline as a picture: for each moment a column, in as many rows of columns as necessary.
 pub fn picture(alloc: Global, history: &History, title: &str) -> Result<String, AllocError> {
     let cells = cells_of(alloc, history)?;
     let mut lanes = Vec::new(alloc);

@@ -1,4 +1,4 @@
-//! A backend that keeps a list of the accesses that are made through it.
+//! A backend that records the accesses that are made through it.
 ghost use Rattle.std.specs.Prelude.{◌≡◌, ◌∷◌, [], ◌++◌, true, IfOk, is_err, not, map};
 ghost use Rattle.uart_16550.specs.Replay.{access_of};
 ghost use Rattle.uart_report.specs.Recorder.{RecordsStep};
@@ -8,7 +8,7 @@ use std::marker::Model;
 use uart_16550::backend::Backend;
 use uart_16550::replay::Entry;
 
-/// A backend over another, with a list of the accesses that it passed on.
+/// A backend over another one, with a list of the accesses that it made.
 #[derive(Drop)]
 pub struct Recorder<B> {
     device: B,
@@ -25,7 +25,7 @@ impl<B> Model for Recorder<B> {
 }
 
 impl<B> Recorder<B> {
-    /// A recorder that has passed on nothing yet.
+    /// Returns a recorder that has made no access.
     pub fn new(alloc: Global, device: B) -> Self
         ensures { result ≡ record { device = device; entries = []; is_complete = true } }
     {
@@ -36,16 +36,16 @@ impl<B> Recorder<B> {
         }
     }
 
-    /// The device, for what only it can do. Accesses that are made so are not recorded.
+    /// Returns the device, for what only it can do. Accesses that are made through it are not recorded.
     pub fn device_mut(&mut self) -> &mut B {
         &mut self.device
     }
 
-    /// The accesses that were made, in order.
+    /// Returns the accesses that were made, in order.
     ///
     /// # Errors
     ///
-    /// `AllocError` if there was no memory to keep one of them.
+    /// `AllocError` if memory for one of them could not be allocated.
     pub fn entries(&self) -> Result<&[Entry], AllocError>
         ensures entries { IfOk result (λ entries. entries.now ≡ self.now.entries) }
         ensures complete { is_err result ≡ not self.now.is_complete }

@@ -1,4 +1,4 @@
-//! Plays a recording again, tick by tick, and notes when each thing happened.
+//! Plays a recording again, tick by tick, and notes when each event happened.
 
 use crate::by_call::ByCall;
 use crate::run::machine_for;
@@ -10,33 +10,39 @@ use uart_machine::script::Script;
 use uart_machine::{Call, Device16550, Event};
 use uart_spec::registers::{LCR, offsets};
 
-/// An access, and the register that it reached.
+/// An access, with the name of its register.
 #[derive(Clone, Copy, PartialEq)]
 pub struct Seen {
+    /// The access.
     pub access: Entry,
+    /// The name of the register.
     pub register: &'static str,
 }
 
-/// A byte that came in, and which arrival of the schedule it is, counted from 0.
+/// A byte that arrived.
 #[derive(Clone, Copy, PartialEq)]
 pub struct Arrival {
+    /// The byte.
     pub byte: u8,
+    /// The number of the arrival in the schedule, counted from 0.
     pub number: usize,
 }
 
 /// What happens at one tick, up to an access if there is one.
 #[derive(Clone, Copy, Default, PartialEq)]
 pub struct Happened {
-    /// The byte that went onto the wire.
+    /// The byte that was sent.
     pub sent: Option<u8>,
+    /// The byte that arrived.
     pub arrival: Option<Arrival>,
-    /// The modem lines that came.
+    /// The new modem lines.
     pub lines: Option<u8>,
+    /// The access.
     pub access: Option<Seen>,
 }
 
 impl Happened {
-    /// An access, and nothing else.
+    /// Returns whether nothing but the access happened.
     pub fn is_access_alone(&self) -> bool {
         self.access.is_some()
             && self.sent.is_none()
@@ -48,17 +54,20 @@ impl Happened {
 /// A tick at which something happened.
 #[derive(Clone, Copy, Default)]
 pub struct Moment {
+    /// The tick, counted from power-on.
     pub tick: u64,
-    /// The call that was under way, counted from 0.
+    /// The call that was running, counted from 0.
     pub call: usize,
+    /// What happened.
     pub happened: Happened,
-    /// How many bytes are still to go out after that, and how many wait to be read.
+    /// The number of bytes in the transmitter after that.
     pub held: usize,
+    /// The number of bytes in the receiver after that.
     pub waiting: usize,
 }
 
-// A schedule in which each event of the chip lies between two marks: `next` twice performs one, and before it each access of the
-// replay has its tick.
+// A schedule in which each event of the chip is between two marks: `next` twice performs one, and before it each access of
+// the replay has its tick.
 fn spread(alloc: Global, events: &[Event]) -> Result<Vec<Event>, AllocError> {
     let mut schedule = Vec::new(alloc);
     for event in events {
@@ -71,7 +80,7 @@ fn spread(alloc: Global, events: &[Event]) -> Result<Vec<Event>, AllocError> {
     Ok(schedule)
 }
 
-// The name of the register that an access reaches.
+// Returns the name of the register of an access.
 fn register_of(access: Entry, is_dlab_set: bool) -> &'static str {
     let (offset, is_read) = match access {
         Entry::Read(offset, _) => (offset, true),
@@ -97,9 +106,9 @@ struct Replay<'a> {
     device: Device16550,
     capacity: usize,
     events: &'a [Event],
-    // How many of the events are behind.
+    // How many of the events have happened.
     done: usize,
-    // How many bytes of the wire and how many arrivals have been noted.
+    // How many bytes of the wire, and how many arrivals, have been noted.
     sent: usize,
     arrivals: usize,
     is_dlab_set: bool,
@@ -108,7 +117,7 @@ struct Replay<'a> {
 }
 
 impl Replay<'_> {
-    // Keeps the current moment, if anything happened in it, and begins another.
+    // Keeps the current moment if anything happened in it, and starts another.
     fn close(&mut self) -> Result<(), AllocError> {
         if self.current.happened != Happened::default() {
             self.moments.push(self.current)?;
@@ -122,7 +131,7 @@ impl Replay<'_> {
         self.current.waiting = self.device.waiting_len();
     }
 
-    // Lets the time go on.
+    // Advances the time.
     fn advance(&mut self, ticks: u64) -> Result<(), AllocError> {
         if ticks > 0 {
             self.close()?;
@@ -131,7 +140,7 @@ impl Replay<'_> {
         Ok(())
     }
 
-    // Notes a byte that has gone onto the wire.
+    // Notes a byte that was sent.
     fn note_sent(&mut self) {
         if let Some(byte) = self.device.wire().get(self.sent).copied() {
             self.sent += 1;
@@ -140,7 +149,7 @@ impl Replay<'_> {
         self.count();
     }
 
-    // No byte can go onto the wire.
+    // Returns whether no byte can be sent.
     fn is_still(&self) -> bool {
         self.device.held_len() == 0 || self.device.wire().len() >= self.capacity
     }
@@ -161,7 +170,7 @@ impl Replay<'_> {
         Ok(())
     }
 
-    // Performs the event that the device is at.
+    // Performs the next event of the device.
     fn happen(&mut self) {
         self.device.next();
         self.device.next();
@@ -199,7 +208,7 @@ impl Replay<'_> {
         Ok(())
     }
 
-    // The next event of the schedule, which is then behind.
+    // Returns the next event of the schedule, and moves on.
     fn take(&mut self) -> Option<Event> {
         let event = self.events.get(self.done).copied();
         self.done = self.done.saturating_add(1);
@@ -266,7 +275,7 @@ impl Replay<'_> {
         self.close()
     }
 
-    // Makes the accesses of a call, and of a `next` the machine's own.
+    // Makes the accesses of a call, and `next` as a call of the machine.
     fn call(&mut self, number: usize, call: &Call, accesses: &[Entry]) -> Result<(), AllocError> {
         self.current.call = number;
         if *call == Call::Next {
@@ -279,7 +288,7 @@ impl Replay<'_> {
     }
 }
 
-/// Plays a script again, of whose run these are the accesses, and returns its moments.
+/// Plays a script again, whose run made these accesses, and returns its moments.
 pub fn replayed(
     alloc: Global,
     script: &Script,

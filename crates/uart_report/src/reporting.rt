@@ -1,11 +1,11 @@
 //! What is printed for a request.
 ghost use Rattle.uart_language.specs.Script.{plan_of, IsPlayable};
 
-use crate::command_line::{Form, Request, Task};
 use crate::comments::without_comments;
 use crate::fault::explained;
 use crate::history::{History, told};
 use crate::picture::picture;
+use crate::request::{Form, Request, Task};
 use crate::table::table;
 use crate::trace::trace;
 use std::alloc::{AllocError, Global};
@@ -13,18 +13,21 @@ use std::fmt::Write;
 use uart_machine::Chip;
 use uart_machine::script::{Script, ScriptError, Std, parse, play};
 
-/// What goes to standard output and to standard error, and the exit status.
+/// What is printed, and the exit status.
 #[derive(Debug, Drop)]
 pub struct Report {
+    /// What goes to standard output.
     pub output: Vec<u8>,
+    /// What goes to standard error.
     pub errors: String,
+    /// The exit status.
     pub status: u8,
 }
 
 // The status of a script that is refused.
 const REFUSED: u8 = 1;
 
-// What the program prints for the script by itself.
+// Returns what the program prints for the script by itself.
 fn played(alloc: Global, text: &[u8]) -> Result<Vec<u8>, AllocError> {
     let mut output = Vec::new(alloc);
     match play(alloc, &mut Std::new(text), &mut Std::new(&mut output)) {
@@ -42,7 +45,7 @@ fn title(alloc: Global, file: &str, script: &Script) -> Result<String, AllocErro
     format!(in alloc; "{file}: {chip}, {ticks} ticks a character")
 }
 
-// What is printed for a script that is one.
+// Returns what is printed for a script that is accepted.
 fn output_of(
     alloc: Global,
     request: &Request<'_>,
@@ -65,7 +68,7 @@ fn output_of(
     Ok(told.into_bytes())
 }
 
-// What is printed for a script that is refused.
+// Returns what is printed for a script that is refused.
 fn refusal(
     alloc: Global,
     request: &Request<'_>,
@@ -86,18 +89,18 @@ fn refusal(
     })
 }
 
-/// What is printed for a request about this script.
+/// Returns what is printed for a request about this script.
 ///
 /// # Errors
 ///
-/// `AllocError` if out of memory. Then nothing is to be printed but that.
+/// `AllocError` if out of memory. Only that should be printed then.
 pub fn report_on(
     alloc: Global,
     request: &Request<'_>,
     script: &[u8],
 ) -> Result<Report, AllocError> {
     let mut text = without_comments(alloc, script)?;
-    // What follows the script's last line feed had none.
+    // The text after the script's last line feed had none.
     text.pop();
     match parse(alloc, &text) {
         Ok(plan) => Ok(Report {

@@ -11,7 +11,7 @@ use uart_16550::{Uart16550, Uart16550Tty};
 use uart_machine::script::Script;
 use uart_machine::{Answer, Call, Device16550, Event, perform};
 
-/// The script's machine, under this schedule.
+/// Returns the machine of the script, under this schedule.
 pub fn machine_for(
     alloc: Global,
     script: &Script,
@@ -26,7 +26,7 @@ pub fn machine_for(
     machine.map_err(|_| AllocError)
 }
 
-// Makes one call, and `next` as the machine's own.
+// Makes one call, and `next` as a call of the machine.
 fn make(uart: &mut Uart16550Tty<Recorder<Device16550>>, call: &Call) -> Answer
     requires { IsRunnable call.now }
 {
@@ -55,7 +55,7 @@ fn make_all(
     Ok(ends)
 }
 
-/// Runs a script, and returns the accesses that it made.
+/// Runs a script, and returns its accesses.
 pub fn recorded(alloc: Global, script: &Script) -> Result<ByCall<Entry>, AllocError>
     requires { IsPlayable (plan_of script.now) }
 {

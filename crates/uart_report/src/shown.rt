@@ -3,14 +3,16 @@
 use crate::replay::Moment;
 use std::alloc::{AllocError, Global};
 
-/// A moment, and how often in a row it took place.
+/// A moment, and how many times in a row it happened.
 #[derive(Clone, Copy)]
 pub struct Shown {
+    /// The moment.
     pub moment: Moment,
+    /// How many times in a row it happened.
     pub times: usize,
 }
 
-// The same access again, with nothing else.
+// Returns whether it is the same access again, with nothing else.
 fn is_again(last: &Moment, next: &Moment) -> bool {
     last.happened.is_access_alone()
         && last.happened == next.happened
@@ -18,7 +20,7 @@ fn is_again(last: &Moment, next: &Moment) -> bool {
         && last.waiting == next.waiting
 }
 
-/// The moments as they are shown.
+/// Returns the moments as they are shown.
 pub fn merged(alloc: Global, moments: &[Moment]) -> Result<Vec<Shown>, AllocError> {
     let mut all = Vec::new(alloc);
     let mut moments = moments.iter().copied();

@@ -66,7 +66,7 @@ fn push_rows(
     Ok(())
 }
 
-/// The timeline as a table: a line for each call, and under it a row for each moment.
+/// Returns the timeline as a table: a line for each call, and under it a row for each moment.
 pub fn table(alloc: Global, history: &History) -> Result<String, AllocError> {
     let mut text = String::new(alloc);
     text.push_str(HEAD)?;

@@ -6,7 +6,7 @@ use std::alloc::{AllocError, Global};
 use std::fmt::Write;
 use uart_16550::replay::Entry;
 
-// What happened beside the access, as remarks.
+// Appends what happened besides the access, as remarks.
 fn push_events(text: &mut String, history: &History, moment: &Moment) -> Result<(), AllocError> {
     let tick = moment.tick;
     if let Some(byte) = moment.happened.sent {
@@ -36,9 +36,10 @@ fn push_access(text: &mut String, tick: u64, seen: Seen) -> Result<(), AllocErro
     }
 }
 
-/// Each call of a run as its line, its accesses and its answer; and at the end what is left of the machine, as remarks.
+/// Returns each call of a run as its line, its accesses and its answer; and at the end the last state of the machine, as
+/// remarks.
 ///
-/// An access is `r OFFSET VALUE` or `w OFFSET VALUE`, and an answer stands behind `= `. What follows a `#` is a remark.
+/// An access is `r OFFSET VALUE` or `w OFFSET VALUE`, and an answer is after `= `. The text after a `#` is a remark.
 pub fn trace(alloc: Global, history: &History) -> Result<String, AllocError> {
     let mut text = String::new(alloc);
     for (number, call) in history.calls.iter().enumerate() {

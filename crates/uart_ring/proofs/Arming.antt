@@ -53,7 +53,7 @@ kept_joined ier = ap (λ n. n == IER.THR_EMPTY.0) (and_or ier IER.DATA_READY.0 I
 kept_taken : LeavesThrEmpty (rid_of IER.DATA_READY.0)
 kept_taken ier = ap (λ n. n == IER.THR_EMPTY.0) (and_assoc ier (without 8 255 IER.DATA_READY.0) IER.THR_EMPTY.0)
 
--- ---- what lists tell
+-- ---- what lists show
 
 or_true : (b : Bool) → (b || true) ≡ true
 or_true true = refl

@@ -216,7 +216,7 @@ then_later G H K f l a t = record {
   second = record { front = t.first.back; back = t.back; mid = t.mid; whole = refl; first = t.first.second; second = t.second };
 }
 
--- so many were served, and then none was shown
+-- some were served, and then none was shown
 abbrev Stops : ℕ → RingDoing
 Stops n = RingNext (RingTimes n ServesOne) (ReadsIsr None)
 

@@ -157,7 +157,7 @@ arms_saves (byte ∷ bytes) f l after t = changes_saves (joined_with IER.THR_EMP
 
 -- ---- what the rings do
 
--- what was to be sent was written or is still to be sent, what was read is to be taken, and what was seen is to be told
+-- what was to be sent was written or is still to be sent, what was read is to be taken, and what was seen is to be returned
 pub record Carries (f : RingFields) (l : List Access) (after : RingFields) : Type 0 where
   pub sent : f.transmit.items ≡ data_written l ++ after.transmit.items
   pub received : after.receive.items ≡ f.receive.items ++ data_read l
@@ -211,7 +211,7 @@ carries_driver f e l after written read s same sent received line modem tx_room 
     same' : with_driver after.driver e ≡ after
     same' = sym same
 
--- the same where nothing moves in the rings
+-- the same if nothing moves in the rings
 carries_still : (f e : RingFields) (l : List Access) (after : RingFields) → Saves [] [] f.driver l after.driver →
     after ≡ with_driver after.driver e →
     e.transmit ≡ f.transmit → e.receive ≡ f.receive → e.line ≡ f.line → e.modem ≡ f.modem → Carries f l after
@@ -321,7 +321,7 @@ times_carry (suc n) f l after t =
 
 -- ---- each call
 
--- a call that accepts nothing, gives nothing and tells nothing
+-- a call that accepts no bytes, returns no bytes and no status
 carried : Implies Carries (LosesNothing [] [] 0 0)
 carried f l after c = record {
   sent = sym c.sent ∙ sym (append-nil f.transmit.items);

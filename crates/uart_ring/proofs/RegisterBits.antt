@@ -1,4 +1,4 @@
--- Bits of registers under masks, and bits of LSR and MSR that are saved, noted and told.
+-- Bits of registers under masks, and bits of LSR and MSR that are saved, noted and returned.
 use Rattle.std.proofs.Common.{◌≡◌, ℕ, Bool, true, false, ◌==◌, List, [], ◌∷◌, ◌++◌, sym, ◌∙◌, ap, arith, bit_and, bit_or, if◌then◌else◌}
 use Rattle.std.proofs.lemmas.Nat.Bits.{same_from_bits, bit_at_or, bit_at_and}
 use Rattle.std.specs.Int.Bits.{and_zero_l}
@@ -51,20 +51,20 @@ saved_lsr-append l m = saved-append offsets.LSR LSR.LINE_ERRORS.0 l m
 pub saved_msr-append : (l m : List Access) → saved_msr (l ++ m) ≡ bit_or (saved_msr l) (saved_msr m)
 saved_msr-append l m = saved-append offsets.MSR MSR.CHANGES.0 l m
 
--- what is still to be told, once more was saved
+-- what is still to be returned, after more was saved
 pub more_saved : (noted kept more mask : ℕ) → bit_and more mask ≡ more →
     bit_and (bit_or noted (bit_or kept more)) mask ≡ bit_or (bit_and (bit_or noted kept) mask) more
 more_saved noted kept more mask within =
     ap (λ n. bit_and n mask) (sym (or_assoc noted kept more))
     ∙ (and_or (bit_or noted kept) more mask ∙ ap (bit_or (bit_and (bit_or noted kept) mask)) within)
 
--- what is still to be told, once a status was noted, joined with what was kept of it
+-- what is still to be returned, after a status was noted, joined with what was kept of it
 pub now_noted : (noted kept status mask : ℕ) →
     bit_and (bit_or (bit_or noted (bit_and (bit_or status kept) mask)) 0) mask
     ≡ bit_or (bit_and (bit_or noted kept) mask) (bit_or (bit_and status mask) 0)
 now_noted noted kept status mask = same_from_bits _ _ (λ i. simp (or_zero_r, bit_at_and, bit_at_or) (omega arith))
 
--- what is told with a status, joined with what was kept and noted of it
+-- what is returned with a status, joined with what was kept and noted of it
 pub now_told : (noted kept status mask : ℕ) →
     bit_and (bit_or (bit_or status kept) noted) mask
     ≡ bit_or (bit_and (bit_or noted kept) mask) (bit_or (bit_and status mask) 0)

@@ -1,4 +1,4 @@
--- Why bytes never wait in the transmit ring with no interrupt to come: what accesses tell of the THR-empty interrupt.
+-- Why no bytes stay in the transmit ring with no interrupt to come: what accesses show of the THR-empty interrupt.
 use Rattle.std.specs.Prelude.{◌≡◌, ◌==◌, ◌⊎◌, ℕ, Bool, true, false, not, ◌&&◌, ◌||◌, ⊤, List, [], ◌∷◌, if◌then◌else◌}
 use Rattle.uart_spec.specs.Access.{Access, Read, Write}
 use Rattle.uart_spec.specs.Bits.{has, field}
@@ -9,25 +9,26 @@ use Rattle.uart_spec.specs.declared.registers.line_status.TheConstants.LSR
 use Rattle.uart_spec.specs.declared.registers.offsets.TheConstants as offsets
 use Rattle.uart_ring.specs.Ring.{RingDoing, RingFields}
 
--- what is known of the chip's THR-empty interrupt: that it is enabled; that it is due, that is, pending, or to come
--- once the chip has sent what it holds
+-- what is known of the chip's THR-empty interrupt: that it is enabled; that it is due, which means pending, or to
+-- come once the chip has sent what it holds
 pub record ThrEmpty : Type 0 where
   pub enabled : Bool
   pub due : Bool
 
--- ISR shows this interrupt, and so acknowledges it
+-- ISR identifies this interrupt, so the read acknowledges it
 abbrev pub shows_thr_empty : ℕ → Bool
 shows_thr_empty isr = (field 0 1 isr == 0) && (field 1 3 isr == interrupt_code TransmitterHoldingRegisterEmpty)
 
--- whether it is due after a read: a transmitter without room holds something, and a read of ISR may acknowledge it
+-- whether it is due after a read: a transmitter without room holds a byte, and a read of ISR may acknowledge the
+-- interrupt
 abbrev pub due_after_read : (offset answer : ℕ) → Bool → Bool
 due_after_read offset answer due =
     if offset == offsets.LSR then not (has answer LSR.THR_EMPTY.0) || due
     else if offset == offsets.ISR then not (shows_thr_empty answer) && due
     else due
 
--- what is known after an access: a byte that was written to DATA is held, IER keeps what is written to it, and after a
--- write of another register nothing is known
+-- what is known after an access: a byte that was written to DATA is held, IER keeps what is written to it, and after
+-- a write of another register nothing is known
 abbrev pub known_after : ThrEmpty → Access → ThrEmpty
 known_after known (Read offset answer) =
     record { enabled = known.enabled; due = due_after_read offset answer known.due }
@@ -50,17 +51,17 @@ abbrev pub KeepsIer : ThrEmpty → List Access → Type 0
 KeepsIer known [] = ⊤
 KeepsIer known (access ∷ accesses) = IsTrueOfIer known access × KeepsIer (known_after known access) accesses
 
--- nothing waits to be sent, or the THR-empty interrupt is enabled and due
+-- there is nothing to send, or the THR-empty interrupt is enabled and due
 abbrev pub IsArmed : ThrEmpty → RingFields → Type 0
 IsArmed known f = (f.transmit.items ≡ []) ⊎ ((known.enabled ≡ true) × (known.due ≡ true))
 
--- a call that does not check CTS leaves it so where it finds it so, on a chip that keeps IER
+-- after a call that does not check CTS this is so, if it was so before it and the chip keeps IER
 abbrev pub LeavesArmed : RingDoing
 LeavesArmed f l after =
     f.driver.config.check_cts_before_sending ≡ false → (known : ThrEmpty) → KeepsIer known l →
     IsArmed known f → IsArmed (known_after_all known l) after
 
--- a call that does not check CTS leaves it so, however it finds it
+-- after a call that does not check CTS this is so in any case
 abbrev pub Arms : RingDoing
 Arms f l after =
     f.driver.config.check_cts_before_sending ≡ false → (known : ThrEmpty) → IsArmed (known_after_all known l) after

@@ -1,14 +1,14 @@
--- How many accesses ring calls make at the most.
+-- The most accesses that ring calls make.
 use Rattle.std.specs.Prelude.{◌≤◌, ◌+◌, ◌*◌, ℕ, length}
 use Rattle.uart_spec.specs.declared.baud.TheConstants.{FIFO_SIZE}
 use Rattle.uart_ring.specs.Ring.{RingDoing}
 use Rattle.uart_ring.specs.declared.ring.service.TheConstants.{MAX_INTERRUPTS}
 
--- so many accesses, or fewer
+-- at most n accesses
 abbrev pub MakesAtMost : ℕ → RingDoing
 MakesAtMost most f l after = length l ≤ most
 
--- a change of IER: it is read and written
+-- a change of IER: one read and one write
 abbrev pub most_of_change : ℕ
 most_of_change = 2
 
@@ -16,10 +16,10 @@ most_of_change = 2
 abbrev pub most_of_pump : ℕ
 most_of_pump = 3 + FIFO_SIZE + most_of_change
 
--- a full FIFO is received, each byte after a look; then a change of IER
+-- a full FIFO is received, with a read of LSR before each byte; then a change of IER
 abbrev pub most_of_receiving : ℕ
 most_of_receiving = 2 * FIFO_SIZE + most_of_change
 
--- `service`: for each interrupt ISR is read, and none takes longer to be served than a full FIFO that is received
+-- `service`: for each interrupt a read of ISR, and at most the accesses that receive a full FIFO
 abbrev pub most_of_service : ℕ
 most_of_service = MAX_INTERRUPTS * (1 + most_of_receiving)

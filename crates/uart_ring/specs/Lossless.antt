@@ -1,4 +1,4 @@
--- What ring calls do not lose, whatever the backend answers: bytes on their way out and in, line errors, and changes of
+-- What ring calls do not lose, whatever reads return: bytes to be sent, received bytes, line errors, and changes of
 -- the modem lines.
 use Rattle.std.specs.Prelude.{◌≡◌, ◌==◌, ℕ, List, [], ◌∷◌, ◌++◌, bit_and, bit_or, if◌then◌else◌}
 use Rattle.uart_spec.specs.Access.{Access, Read, Write, saved_lsr, saved_msr}
@@ -22,27 +22,27 @@ data_read (Read offset answer ∷ accesses) =
     (if offset == offsets.DATA then answer ∷ [] else []) ++ data_read accesses
 data_read (Write offset value ∷ accesses) = data_read accesses
 
--- the line errors that are still to be told: those that the rings noted and those that the driver saved
+-- the line errors that are still to be returned: those that the rings noted, and those that the driver saved
 abbrev pub untold_line : RingFields → ℕ
 untold_line f = bit_and (bit_or f.line f.driver.lsr) LSR.LINE_ERRORS.0
 
--- the changes of the modem lines that are still to be told
+-- the changes of the modem lines that are still to be returned
 abbrev pub untold_modem : RingFields → ℕ
 untold_modem f = bit_and (bit_or f.modem f.driver.msr) MSR.CHANGES.0
 
--- a call that accepted some bytes, gave some bytes, and told what LSR and MSR showed
+-- a call that accepted some bytes, returned some bytes, and returned these bits of LSR and MSR
 pub record LosesNothing (accepted given : List ℕ) (line modem : ℕ)
     (f : RingFields) (l : List Access) (after : RingFields) : Type 0 where
   -- what was written, and what is still to be sent, is what was there and what was accepted
   pub sent : data_written l ++ after.transmit.items ≡ f.transmit.items ++ accepted
-  -- what was given, and what is still to be taken, is what was there and what was read
+  -- what was returned, and what is still to be taken, is what was there and what was read
   pub received : given ++ after.receive.items ≡ f.receive.items ++ data_read l
-  -- what was told, and what is still to be told, is what was there and what was seen
+  -- what was returned of LSR and MSR, and what is still to be returned, is what was there and what reads cleared
   pub line_told : bit_or (bit_and line LSR.LINE_ERRORS.0) (untold_line after) ≡ bit_or (untold_line f) (saved_lsr l)
   pub modem_told : bit_or (bit_and modem MSR.CHANGES.0) (untold_modem after) ≡ bit_or (untold_modem f) (saved_msr l)
   pub rooms : (after.transmit.capacity ≡ f.transmit.capacity) × (after.receive.capacity ≡ f.receive.capacity)
   pub settings : settings_of after.driver ≡ settings_of f.driver
 
--- whatever does the one does the other
+-- whatever does the first also does the second
 abbrev pub Implies : RingDoing → RingDoing → Type 0
 Implies G H = (f : RingFields) (l : List Access) (after : RingFields) → G f l after → H f l after

@@ -13,7 +13,7 @@ abbrev pub PausesIfFull : RingDoing
 PausesIfFull f l after =
     MatchBool (is_full f.receive) (OnDriver (Disables IER.DATA_READY.0) (with_paused true) f l after) (Stays f l after)
 
--- `receive_bytes` into as many slots as the receive ring has room for, at most 16; the bytes are put at its end
+-- `receive_bytes` into as many slots as the receive ring has room for, at most 16; the bytes are appended to it
 abbrev pub FillsReceiveRing : RingDoing
 FillsReceiveRing f l after =
     (bytes : List ℕ)
@@ -25,8 +25,8 @@ abbrev pub EndsPause : RingDoing
 EndsPause f l after =
     MatchBool f.is_paused (OnDriver (Enables IER.DATA_READY.0) (with_paused false) f l after) (Stays f l after)
 
--- `take` into so many slots gives these bytes: from the front of the receive ring, as many as there are slots for; if
--- there are any, a pause ends
+-- `take` into n slots returns these bytes: from the front of the receive ring, as many as there are slots; if there
+-- are any, a pause ends
 abbrev pub TakesBytes : ℕ → List ℕ → RingDoing
 TakesBytes slots bytes f l after =
     (bytes ≡ take slots f.receive.items) × IfAny (length bytes) EndsPause (without_taken (length bytes) f) l after

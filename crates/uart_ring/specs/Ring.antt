@@ -1,4 +1,4 @@
--- The rings over a driver: what they hold, and what a ring call does to them and to the backend.
+-- The rings over a driver: their contents, and what a ring call does to them and to the backend.
 use Rattle.std.specs.Prelude.{◌≡◌, ◌≤◌, ◌==◌, ◌-◌, ℕ, zero, suc, Bool, false, List, [], ◌++◌, length, drop}
 use Rattle.circular_buffer.specs.Buffer.{Buffer, buffer}
 use Rattle.uart_spec.specs.Access.{Access, Path}
@@ -7,15 +7,15 @@ use Rattle.uart_16550.specs.declared.driver.Uart16550.{Uart16550}
 use Rattle.uart_ring.specs.declared.ring.TheConstants.{MAX_CAPACITY}
 use Rattle.uart_ring.specs.declared.ring.Uart16550Ring.{Uart16550Ring}
 
--- for how many bytes a ring can be made
+-- the capacities that a ring can have
 abbrev pub IsCapacity : ℕ → Type 0
 IsCapacity capacity = (1 ≤ capacity) × (capacity ≤ MAX_CAPACITY)
 
--- for how many more bytes a ring has room
+-- how many more bytes a ring has room for
 abbrev pub free : Buffer ℕ → ℕ
 free ring = ring.capacity - length ring.items
 
--- it has room for no more
+-- it has no more room
 abbrev pub is_full : Buffer ℕ → Bool
 is_full ring = length ring.items == ring.capacity
 
@@ -23,7 +23,7 @@ is_full ring = length ring.items == ring.capacity
 abbrev pub with_last : List ℕ → Buffer ℕ → Buffer ℕ
 with_last bytes ring = buffer (ring.items ++ bytes) ring.capacity
 
--- the ring without so many bytes at its front
+-- the ring without n bytes at its front
 abbrev pub without_first : ℕ → Buffer ℕ → Buffer ℕ
 without_first count ring = buffer (drop count ring.items) ring.capacity
 
@@ -35,7 +35,7 @@ driver_of r = r.uart
 abbrev pub ring_backend_of : {B : Type 0} → Uart16550Ring B → B
 ring_backend_of r = backend_of r.uart
 
--- the rings beside their backend: the driver's fields, the two rings, the bits that were noted of LSR and MSR, and
+-- the rings without their backend: the driver's fields, the two rings, the bits that were noted of LSR and MSR, and
 -- whether receiving is paused
 pub record RingFields : Type 0 where
   pub driver : Fields
@@ -86,14 +86,14 @@ unchanged f = f
 abbrev pub with_driver : Fields → RingFields → RingFields
 with_driver driver f = record f { driver = driver }
 
--- bytes are put at the end of the transmit ring, and leave its front once they are sent
+-- bytes are appended to the transmit ring, and removed from its front when they are sent
 abbrev pub with_queued : List ℕ → RingFields → RingFields
 with_queued bytes f = record f { transmit = with_last bytes f.transmit }
 
 abbrev pub without_sent : ℕ → RingFields → RingFields
 without_sent count f = record f { transmit = without_first count f.transmit }
 
--- bytes are put at the end of the receive ring, and leave its front once they are taken
+-- bytes are appended to the receive ring, and removed from its front when they are taken
 abbrev pub with_received : List ℕ → RingFields → RingFields
 with_received bytes f = record f { receive = with_last bytes f.receive }
 
@@ -111,7 +111,7 @@ with_paused paused f = record f { is_paused = paused }
 
 -- ---- how doings are put together
 
--- the driver does this, and of the other fields this alone changes
+-- the driver does this, and of the other fields only this changes
 abbrev pub OnDriver : Doing → (RingFields → RingFields) → RingDoing
 OnDriver G change f l after = G f.driver l after.driver × (after ≡ with_driver after.driver (change f))
 
@@ -119,7 +119,7 @@ OnDriver G change f l after = G f.driver l after.driver × (after ≡ with_drive
 abbrev pub Stays : RingDoing
 Stays f l after = (l ≡ []) × (after ≡ f)
 
--- the one, and then the other
+-- the first, and then the second
 pub record RingNext (G H : RingDoing) (f : RingFields) (l : List Access) (after : RingFields) : Type 0 where
   pub front : List Access
   pub back : List Access
@@ -128,12 +128,12 @@ pub record RingNext (G H : RingDoing) (f : RingFields) (l : List Access) (after 
   pub first : G f front mid
   pub second : H mid back after
 
--- n times the same
+-- n times
 abbrev pub RingTimes : ℕ → RingDoing → RingDoing
 RingTimes zero G = Stays
 RingTimes (suc n) G = RingNext G (RingTimes n G)
 
--- this if the count is above 0, else nothing at all
+-- this if the count is more than 0, else nothing at all
 abbrev pub IfAny : ℕ → RingDoing → RingDoing
 IfAny zero G = Stays
 IfAny (suc n) G = G

@@ -19,7 +19,7 @@ use Rattle.uart_ring.specs.Transmit.{Pumps}
 use Rattle.uart_ring.specs.Receive.{FillsReceiveRing}
 use Rattle.uart_ring.specs.Status.{NotesLine, NotesModem}
 
--- one read of ISR, which shows this interrupt, or none that has a name
+-- one read of ISR, which identifies this interrupt, or no known one
 abbrev pub ShowsInterrupt : Option InterruptType → Doing
 ShowsInterrupt interrupt f l after =
     (isr : ℕ) × IsOnlyIfAny (Identifies isr) interrupt × Saving (Only (Read offsets.ISR isr ∷ [])) f l after
@@ -34,13 +34,13 @@ ServesInterrupt ModemStatus = NotesModem
 ServesInterrupt DmaReceptionEndOfTransfer = Stays
 ServesInterrupt DmaTransmissionEndOfTransfer = Stays
 
--- an interrupt is shown, and then served
+-- an interrupt is identified, and then served
 abbrev pub ServesOne : RingDoing
 ServesOne f l after =
     (interrupt : InterruptType)
     × RingNext (OnDriver (ShowsInterrupt (Some interrupt)) unchanged) (ServesInterrupt interrupt) f l after
 
--- `service`: fewer interrupts than the most were served, and then none was shown; or the most were
+-- `service`: fewer interrupts than the most were served, and then none was identified; or the most were served
 abbrev pub Services : ℕ → RingDoing
 Services count f l after =
     ((count < MAX_INTERRUPTS)

@@ -1,4 +1,4 @@
--- Line errors and changes of the modem lines: noted when they are served, and taken by the caller.
+-- Line errors and changes of the modem lines: noted when their interrupts are served, and taken by the caller.
 use Rattle.std.specs.Prelude.{◌≡◌, ℕ, bit_and, bit_or}
 use Rattle.uart_spec.specs.declared.registers.line_status.TheConstants.LSR
 use Rattle.uart_spec.specs.declared.registers.modem_status.TheConstants.MSR
@@ -15,7 +15,7 @@ abbrev pub NotesModem : RingDoing
 NotesModem f l after =
     (status : ℕ) × OnDriver (TakesMsr status) (with_modem (bit_or f.modem (bit_and status MSR.CHANGES.0))) f l after
 
--- `take_line`: `lsr` joined with what was noted, which is then nothing
+-- `take_line`: `lsr` joined with what was noted, which is then cleared
 abbrev pub TakesLine : ℕ → RingDoing
 TakesLine result f l after =
     (status : ℕ) × (result ≡ bit_or status f.line) × OnDriver (TakesLsr status) (with_line 0) f l after

@@ -1,6 +1,6 @@
-//! Laws about the ring calls, which follow from what their contracts say, over any backend.
+//! Laws about the ring calls, over any backend. They follow from the contracts of the calls.
 //!
-//! Each function here has a law as its contract, for callers to cite, and does nothing.
+//! The contract of each function is a law that callers can cite. The functions do nothing.
 ghost use Rattle.std.specs.Prelude.{◌<◌, ℕ, List, [], take};
 ghost use Rattle.uart_ring.specs.Ring.{RingDoing};
 ghost use Rattle.uart_ring.specs.Transmit.{Queues};
@@ -12,9 +12,10 @@ ghost use Rattle.uart_ring.specs.Armed.{Arms, LeavesArmed};
 ghost use Rattle.uart_ring.specs.Choice.{LeavesNoRingChoice};
 ghost use Rattle.uart_ring.specs.Bounded.{MakesAtMost, most_of_change, most_of_pump, most_of_service};
 
-/// No byte is lost between the rings and DATA, and nothing that LSR and MSR showed: what was written to DATA and what is left in the
-/// transmit ring is what was there and what was queued; what was taken and what is left in the receive ring is what was there
-/// and what was read from DATA; line errors and changes of the modem lines stay until `take_line` and `take_modem` tell them.
+/// No byte is lost between the rings and DATA, and nothing that reads of LSR and MSR cleared. What was written to DATA and
+/// what is left in the transmit ring is what was there and what was queued. What was taken and what is left in the receive
+/// ring is what was there and what was read from DATA. Line errors and changes of the modem lines are kept until
+/// `take_line` and `take_modem` return them.
 pub fn ring_calls_lose_nothing()
     ensures queue { (bytes : List ℕ) (count : ℕ) → Implies (Queues bytes count) (LosesNothing (take count bytes) [] 0 0) }
     ensures take { (slots : ℕ) (bytes : List ℕ) → Implies (TakesBytes slots bytes) (LosesNothing [] bytes 0 0) }
@@ -23,8 +24,9 @@ pub fn ring_calls_lose_nothing()
     ensures take_modem { (modem : ℕ) → Implies (TakesModem modem) (LosesNothing [] [] 0 modem) }
 {}
 
-/// If CTS is not checked, each ring call leaves an interrupt to come as long as bytes wait in the transmit ring, and a `queue` that
-/// accepts a byte does so however it found the chip. As far as accesses can tell it, on a chip that keeps IER as it was written.
+/// If CTS is not checked, then after each ring call an interrupt is to come as long as there are bytes in the transmit
+/// ring, if this was so before it; after a `queue` that accepts a byte in any case. This is as far as accesses show it, on
+/// a chip that keeps IER as it was written.
 pub fn ring_calls_leave_armed()
     ensures queue { (bytes : List ℕ) (count : ℕ) → Implies (Queues bytes count) LeavesArmed }
     ensures queue_arms { (bytes : List ℕ) (count : ℕ) → 0 < count → Implies (Queues bytes count) Arms }
@@ -34,7 +36,7 @@ pub fn ring_calls_leave_armed()
     ensures take_modem { (modem : ℕ) → Implies (TakesModem modem) LeavesArmed }
 {}
 
-/// No ring call waits: each makes at most so many accesses, whatever they are answered.
+/// No ring call waits: each makes at most this number of accesses, whatever they return.
 pub fn ring_calls_are_bounded()
     ensures queue { (bytes : List ℕ) (count : ℕ) → Implies (Queues bytes count) (MakesAtMost most_of_pump) }
     ensures take { (slots : ℕ) (bytes : List ℕ) → Implies (TakesBytes slots bytes) (MakesAtMost most_of_change) }
@@ -43,8 +45,8 @@ pub fn ring_calls_are_bounded()
     ensures take_modem { (modem : ℕ) → Implies (TakesModem modem) (MakesAtMost 1) }
 {}
 
-/// The contract of each ring call leaves no choice: what its reads answered so far decides the next access, and in the end what is
-/// returned, what is in the rings, and what is in the driver's fields.
+/// The contract of each ring call determines what the call does: what its reads have returned so far determines the next
+/// access, and in the end the result, the contents of the rings, and the driver's fields.
 pub fn ring_calls_leave_no_choice()
     ensures queue { (bytes : List ℕ) → LeavesNoRingChoice (Queues bytes) }
     ensures take { (slots : ℕ) → LeavesNoRingChoice (TakesBytes slots) }

@@ -1,4 +1,4 @@
-//! The rings over a driver: their fields, the constructor, and what is read of them.
+//! The rings over a driver: their fields, the constructor, and the calls that read their state.
 ghost use Rattle.std.specs.Prelude.{◌≡◌, ◌↔◌, length, IsTrue, IfOk, IsOkUnless};
 ghost use Rattle.std.specs.Borrow.{Lends, sem};
 ghost use Rattle.uart_16550.specs.contracts.driver.Uart16550.{the_row as driver_row};
@@ -19,33 +19,48 @@ use uart_16550::Uart16550;
 use uart_16550::backend::Backend;
 use uart_spec::registers::{LSR, MSR};
 
-/// The most bytes that a ring can be made for.
+/// The largest capacity of a ring, in bytes.
 pub const MAX_CAPACITY: usize = 4096;
 
-/// Why no rings were made. The first reason in this order is told.
+/// Why no rings were made: the first reason in this order.
 #[derive(Clone, Copy, Debug, PartialEq, Eq, Error)]
 pub enum RingError {
-    /// A capacity is 0 or above [`MAX_CAPACITY`].
+    /// A capacity is 0 or more than [`MAX_CAPACITY`].
     #[error("a ring has room for 1 to 4096 bytes")]
     BadCapacity,
-    /// There was no memory for the rings.
+    /// Memory for the rings could not be allocated.
     #[error("out of memory")]
     OutOfMemory,
 }
 
-/// A driver with a ring of bytes that are to be sent and a ring of bytes that were received.
+/// A driver with a ring for bytes that are to be sent, and a ring for received bytes.
+///
+/// Initialise the driver through `inner_mut`, with `DATA_READY`, `RECEIVER_LINE_STATUS` and `MODEM_STATUS` enabled and
+/// without `THR_EMPTY`, which the rings enable as long as there are bytes to send. Call `service` in the interrupt handler.
+/// Mask the interrupt during all other calls, since a call of the handler must not run in between.
+///
+/// No call waits, so none returns a stall.
+///
+/// # Examples
+///
+/// ```
+/// let mut ring = match Uart16550Ring::new(alloc, uart, 1024, 256) {
+///     Ok(ring) => ring,
+///     Err((_uart, cause)) => return Err(StartError::NoRings(cause)),
+/// };
+/// ```
 #[derive(Drop)]
 pub struct Uart16550Ring<B> {
     uart: Uart16550<B>,
     transmit: HeapCircularBuffer<u8>,
     receive: HeapCircularBuffer<u8>,
-    // What `service` saw of LSR and MSR, until it is taken.
+    // What `service` noted of LSR and MSR, until it is taken.
     line: LSR,
     modem: MSR,
     is_paused: bool,
 }
 
-// Whether a ring can be made for so many bytes.
+// Returns whether a ring can have this capacity.
 fn is_capacity(capacity: usize) -> bool
     ensures { IsTrue result ↔ IsCapacity capacity }
 {
@@ -53,13 +68,25 @@ fn is_capacity(capacity: usize) -> bool
 }
 
 impl<B: Backend> Uart16550Ring<B> {
-    /// Empty rings over this driver, with room for so many bytes to be sent and so many that were received.
+    /// Returns empty rings over this driver, for `tx_capacity` bytes that are to be sent and `rx_capacity` received bytes.
     ///
-    /// Makes no access. Takes all memory that the rings will ever need: no later call takes any.
+    /// Makes no access. Allocates all memory of the rings; no later call allocates.
     ///
     /// # Errors
     ///
-    /// `BadCapacity` if a capacity is 0 or above [`MAX_CAPACITY`], then `OutOfMemory`. Both return the driver as it was.
+    /// - `BadCapacity` if a capacity is 0 or more than [`MAX_CAPACITY`].
+    /// - `OutOfMemory` if memory could not be allocated.
+    ///
+    /// The driver is returned with the error, unchanged.
+    ///
+    /// # Examples
+    ///
+    /// ```
+    /// let mut ring = match Uart16550Ring::new(alloc, uart, 1024, 256) {
+    ///     Ok(ring) => ring,
+    ///     Err((_uart, cause)) => return Err(StartError::NoRings(cause)),
+    /// };
+    /// ```
     pub fn new(
         alloc: Global,
         uart: Uart16550<B>,
@@ -89,39 +116,80 @@ impl<B: Backend> Uart16550Ring<B> {
         })
     }
 
-    /// How many bytes are queued and not yet written to the chip. Makes no access.
+    /// Returns the number of bytes in the transmit ring: those that are queued and not yet written to the chip. Makes no
+    /// access.
+    ///
+    /// # Examples
+    ///
+    /// ```
+    /// assert_eq!(rt; ring.transmit_len(), 0);
+    /// ```
     pub fn transmit_len(&self) -> usize
         ensures { result ≡ length (ring_fields self.now).transmit.items }
     {
         self.transmit.len()
     }
 
-    /// How many received bytes are there to be taken. Makes no access.
+    /// Returns the number of bytes in the receive ring: those that were received and not yet taken. Makes no access.
+    ///
+    /// # Examples
+    ///
+    /// ```
+    /// assert_eq!(rt; ring.receive_len(), 2);
+    /// ```
     pub fn receive_len(&self) -> usize
         ensures { result ≡ length (ring_fields self.now).receive.items }
     {
         self.receive.len()
     }
 
-    /// Whether receiving is paused, because the receive ring was full: bytes that come are then left in the chip. The next
-    /// `take` of some bytes ends the pause. Makes no access.
+    /// Returns whether receiving is paused because the receive ring was full. Makes no access.
+    ///
+    /// During a pause `DATA_READY` is disabled and received bytes stay in the chip, which loses some if there are more than
+    /// it has room for. The next `take` of at least one byte ends the pause.
+    ///
+    /// # Examples
+    ///
+    /// ```
+    /// assert!(rt; ring.is_paused());
+    /// ```
     pub fn is_paused(&self) -> bool
         ensures { result ≡ (ring_fields self.now).is_paused }
     {
         self.is_paused
     }
 
-    /// The driver. Makes no access.
+    /// Returns the driver. Makes no access.
+    ///
+    /// # Examples
+    ///
+    /// ```
+    /// ring.inner().backend().mark(arrival)
+    /// ```
     pub fn inner(&self) -> &Uart16550<B>
         ensures { result.now ≡ driver_of self.now }
     {
         &self.uart
     }
 
-    /// The driver, for calls that the rings do not have, as `init` and `enable_interrupts`. Makes no access itself.
+    /// Returns the driver, for calls that the rings do not have, such as `init` and `enable_interrupts`. Makes no access
+    /// itself.
     ///
-    /// What such a call sends or receives goes past the rings. One that changes which interrupts are enabled can undo what the
-    /// rings rely on: DATA_READY is theirs while receiving is paused, THR_EMPTY always.
+    /// Bytes that such a call sends or receives bypass the rings. The rings change two bits of IER: `THR_EMPTY`, and
+    /// `DATA_READY` while receiving is paused. Do not change these two.
+    ///
+    /// # Examples
+    ///
+    /// ```
+    /// match ring.inner_mut().init(config) {
+    ///     Ok(()) => Ok(Port {
+    ///         ring,
+    ///         overruns: 0,
+    ///         bad_characters: 0,
+    ///     }),
+    ///     Err(cause) => Err(StartError::NoDevice(cause)),
+    /// }
+    /// ```
     pub fn inner_mut(&mut self) -> &mut Uart16550<B>
         ensures* writes_back { sem 𝓛 (Lends (the_row B.row) (driver_row B.row) self.entry result
             (λ uart. record self.old { uart = uart })) }
@@ -130,7 +198,13 @@ impl<B: Backend> Uart16550Ring<B> {
         &mut self.uart
     }
 
-    /// The driver. Drops the rings with all that they hold, and what was noted of LSR and MSR. Makes no access.
+    /// Returns the driver. Drops the rings with their bytes, and what was noted of LSR and MSR. Makes no access.
+    ///
+    /// # Examples
+    ///
+    /// ```
+    /// let uart = ring.into_inner();
+    /// ```
     pub fn into_inner(self) -> Uart16550<B>
         ensures { result ≡ driver_of self }
     {

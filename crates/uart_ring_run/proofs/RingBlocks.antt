@@ -15,7 +15,7 @@ use Rattle.uart_16550.specs.Driver.{Fields, Saving, settings_of}
 use Rattle.uart_16550.specs.Receive.{Receives, Hit}
 use Rattle.uart_16550.specs.Transmit.{Sends, SendHit, SendMiss, LinesAllow, data_writes}
 use Rattle.uart_16550.specs.Status.{Enables, Disables, TakesLsr, TakesMsr}
-use Rattle.uart_ring.specs.Ring.{RingDoing, OnDriver, Stays, RingTimes, IfAny, free, is_full, with_queued}
+use Rattle.uart_ring.specs.Ring.{RingDoing, RingFields, OnDriver, Stays, RingTimes, IfAny, free, is_full, with_queued}
 use Rattle.uart_ring.specs.Ring.{with_paused, without_taken}
 use Rattle.uart_ring.specs.Transmit.{ArmsIfLeft, Pumps, Queues}
 use Rattle.uart_ring.specs.Receive.{PausesIfFull, FillsReceiveRing, EndsPause, TakesBytes}
@@ -169,21 +169,21 @@ pumps_make f l after (sent, (t, same)) =
     (sends_make (take FIFO_SIZE f.transmit.items) sent f.driver t.front t.mid t.first)
     (arms_make (drop sent f.transmit.items) t.mid t.back after.driver t.second))
 
+-- something if a flag is set, and else nothing
+flagged_make : (flag : Bool) (G : RingDoing) → Implies G MakesRingBlocks → (f : RingFields) (l : List Access) (after : RingFields) →
+    MatchBool flag (G f l after) (Stays f l after) → MakesRingBlocks f l after
+flagged_make true G makes f l after t = makes f l after t
+flagged_make false G makes f l after t = stays_make f l after t
+
 pauses_make : Implies PausesIfFull MakesRingBlocks
-pauses_make f l after t = go (is_full f.receive) t
-  where
-    go : (full : Bool) → MatchBool full (OnDriver (Disables IER.DATA_READY.0) (with_paused true) f l after) (Stays f l after) →
-        MakesRingBlocks f l after
-    go true t = disables_make IER.DATA_READY.0 f.driver l after.driver t.0
-    go false t = stays_make f l after t
+pauses_make f l after t =
+    flagged_make (is_full f.receive) (OnDriver (Disables IER.DATA_READY.0) (with_paused true))
+    (λ f l after t. disables_make IER.DATA_READY.0 f.driver l after.driver t.0) f l after t
 
 ends_pause_makes : Implies EndsPause MakesRingBlocks
-ends_pause_makes f l after t = go f.is_paused t
-  where
-    go : (paused : Bool) → MatchBool paused (OnDriver (Enables IER.DATA_READY.0) (with_paused false) f l after) (Stays f l after) →
-        MakesRingBlocks f l after
-    go true t = enables_make IER.DATA_READY.0 f.driver l after.driver t.0
-    go false t = stays_make f l after t
+ends_pause_makes f l after t =
+    flagged_make f.is_paused (OnDriver (Enables IER.DATA_READY.0) (with_paused false))
+    (λ f l after t. enables_make IER.DATA_READY.0 f.driver l after.driver t.0) f l after t
 
 fills_make : Implies FillsReceiveRing MakesRingBlocks
 fills_make f l after (bytes, t) =

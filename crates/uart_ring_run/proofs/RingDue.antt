@@ -1,5 +1,5 @@
 -- The THR-empty interrupt of the chip: what accesses tell of it holds.
-use Rattle.std.proofs.Common.{◌≡◌, ℕ, ◌-◌, ◌<◌, ◌==◌, ◌⊎◌, ◌||◌, ◌&&◌, zero, suc, Bool, true, false, not, nat_lt, inl, inr, List, [], ◌∷◌}
+use Rattle.std.proofs.Common.{◌≡◌, ℕ, ◌-◌, ◌<◌, ◌==◌, ◌⊎◌, ◌||◌, ◌&&◌, Bool, true, false, not, nat_lt, inl, inr, List, [], ◌∷◌}
 use Rattle.std.proofs.Common.{◌++◌, length, length-append, Option, Some, None, refl, sym, ◌∙◌, ap, arith, bit_and, bit_or, if◌then◌else◌}
 use Rattle.std.proofs.lemmas.Bool.{false≢true}
 use Rattle.std.proofs.lemmas.Bool.Decides.{nat_tests}
@@ -14,17 +14,17 @@ use Rattle.uart_spec.specs.declared.registers.line_status.TheConstants.LSR
 use Rattle.uart_spec.specs.declared.registers.offsets.TheConstants as offsets
 use Rattle.uart_chip.specs.declared.event.Chip.{Chip}
 use Rattle.uart_chip.specs.declared.event.Chip.TheVariants.{Uart16550A, Uart16450}
-use Rattle.uart_chip.specs.declared.event.Event.{Event}
-use Rattle.uart_chip.specs.declared.event.Event.TheVariants.{Ticks, Access as Gate, Mark}
 use Rattle.uart_chip.specs.declared.transmitter.Shifting.{Shifting}
 use Rattle.uart_chip.specs.Masks.{ier_bits}
 use Rattle.uart_chip.specs.Receiver.{report}
+use Rattle.uart_chip.specs.Transmitter as transmitter
 use Rattle.uart_chip.specs.Transmitter.{TransmitterState, shift, refill, load, room}
-use Rattle.uart_chip.specs.Chip.{ChipState, cut_of, is_dlab_set, is_loopback, tick, ticks, interrupt, identification, is_thr_empty}
+use Rattle.uart_chip.specs.Chip.{ChipState, cut_of, is_dlab_set, interrupt, identification, is_thr_empty}
 use Rattle.uart_chip.specs.Chip.{after_read, enable, with_thr_pending}
-use Rattle.uart_chip.specs.Machine.{MachineState, MachineStep, perform, before_access, before_mark, at_access, at_mark}
+use Rattle.uart_chip.specs.Machine.{MachineState, MachineStep, at_access, at_mark}
 use Rattle.uart_chip.proofs.Bits.{has_one, has_and}
 use Rattle.uart_device.proofs.conservation.BlockLaws.{look_room}
+use Rattle.uart_device.proofs.lasting.Lasting.{either, lasts-before, lasts-before_mark}
 use Rattle.uart_run.proofs.Latches.{Kept, keep_control, keep_write, kept_in, kept_access, kept_step, kept-before_mark}
 use Rattle.uart_ring.specs.Armed.{ThrEmpty, shows_thr_empty, due_after_read, known_after, known_after_all, IsTrueOfIer, KeepsIer}
 use Rattle.uart_ring_run.specs.RingArmed.{is_due, thr_empty_of}
@@ -71,11 +71,10 @@ due-refill None [] t h = h
 due-refill None (x ∷ []) t h = inr refl
 due-refill None (x ∷ y ∷ xs) t h = inl (omega arith)
 
-due-tick : (c : ChipState) → IsDue c.transmitter → IsDue (tick c).transmitter
-due-tick c h =
-    let t : TransmitterState = c.transmitter in
-    let u : TransmitterState = shift (is_loopback c.latches) t.shift_place t in
-    due-refill u.shift_place u.queue u (due-shift (is_loopback c.latches) t.shift_place t h)
+due-tick : (loopback : Bool) (t : TransmitterState) → IsDue t → IsDue (transmitter.tick loopback t)
+due-tick loopback t h =
+    let u : TransmitterState = shift loopback t.shift_place t in
+    due-refill u.shift_place u.queue u (due-shift loopback t.shift_place t h)
 
 -- a byte that is written is held
 due-load : (fifo : Bool) (byte : ℕ) (t : TransmitterState) → IsDue (load fifo byte t)
@@ -89,42 +88,17 @@ due-load fifo byte t = go (nat_lt (length t.queue) (room fifo)) refl
     go true e = rw e (inl (omega (arith, length-append t.queue (byte ∷ []))))
     go false e = rw e (inl (full fifo e))
 
--- ---- events
-
-due-ticks : (n : ℕ) (c : ChipState) → IsDue c.transmitter → IsDue (ticks n c).transmitter
-due-ticks zero c h = h
-due-ticks (suc n) c h = due-tick (ticks n c) (due-ticks n c h)
-
-due-perform : (event : Event) (c : ChipState) → IsDue c.transmitter → IsDue (perform event c).transmitter
-due-perform (Ticks n) c h = due-ticks n c h
-due-perform _ c h = h
-
-due-before : (events : List Event) (c : ChipState) → IsDue c.transmitter → IsDue (before_access events c).transmitter
-due-before [] c h = due-tick c h
-due-before (Gate ∷ events) c h = h
-due-before (Mark ∷ events) c h = due-tick c h
-due-before (event ∷ events) c h = due-before events (perform event c) (due-perform event c h)
-
-due-before_mark : (events : List Event) (c : ChipState) → IsDue c.transmitter → IsDue (before_mark events c).transmitter
-due-before_mark [] c h = h
-due-before_mark (Mark ∷ events) c h = h
-due-before_mark (event ∷ events) c h = due-before_mark events (perform event c) (due-perform event c h)
-
 -- ---- accesses
-
-either_chip : (c d : ChipState) (b : Bool) → IsDue c.transmitter → IsDue d.transmitter → IsDue (if b then c else d).transmitter
-either_chip c d true p q = p
-either_chip c d false p q = q
 
 -- a read withdraws it only if it is of ISR, and shows it
 due-read : (offset : ℕ) (c : ChipState) → ((offset == offsets.ISR) ≡ true → is_thr_empty (interrupt c) ≡ false) → IsDue c.transmitter →
     IsDue (after_read offset c).transmitter
 due-read offset c other h =
-    either_chip _ _ (offset == offsets.DATA) (either_chip _ _ (is_dlab_set c.latches) h h) (isr (offset == offsets.ISR) refl)
+    either IsDue _ _ (offset == offsets.DATA) (either IsDue _ _ (is_dlab_set c.latches) h h) (isr (offset == offsets.ISR) refl)
   where
     rest : IsDue (if offset == offsets.LSR then record c { receiver = report c.receiver }
         else if offset == offsets.MSR then record c { modem = record c.modem { deltas = 0 } } else c).transmitter
-    rest = either_chip _ _ (offset == offsets.LSR) h (either_chip _ _ (offset == offsets.MSR) h h)
+    rest = either IsDue _ _ (offset == offsets.LSR) h (either IsDue _ _ (offset == offsets.MSR) h h)
 
     isr : (b : Bool) → (offset == offsets.ISR) ≡ b →
         IsDue (if b then (if is_thr_empty (interrupt c) then with_thr_pending false c else c)
@@ -193,7 +167,7 @@ read_due offset value due m n was s h = go (offset == offsets.LSR) (offset == of
         is_due n.chip.transmitter ≡ true
     lasts other is =
         says_due n.chip.transmitter (rw s.0 (due-read offset (at_access m).chip other
-        (due-before m.ahead m.chip (due_says m.chip.transmitter (was is)))))
+        (lasts-before IsDue due-tick m.ahead m.chip (due_says m.chip.transmitter (was is)))))
 
     room_shown : (offset == offsets.LSR) ≡ true → has value LSR.THR_EMPTY.0 ≡ false → is_due n.chip.transmitter ≡ true
     room_shown e none =
@@ -273,7 +247,7 @@ write_ier_holds known value m n off was s =
     has_one 1 (bit_and value ier_bits) ∙ (has_and 1 value ier_bits refl ∙ sym (has_one 1 value)) in (
       λ e. rw kept (bit ∙ e),
       λ e. says_due n.chip.transmitter (rw (s, there) (due-enable value (at_access m).chip
-          (due-before m.ahead m.chip (due_says m.chip.transmitter (was.1 e))))),
+          (lasts-before IsDue due-tick m.ahead m.chip (due_says m.chip.transmitter (was.1 e))))),
     )
 
 -- ---- one access, and some
@@ -310,5 +284,5 @@ path_holds known (access ∷ l) m n leaves off was p =
 pub mark_holds : (known : ThrEmpty) (m : MachineState) → Holds known m → Holds known (at_mark m)
 mark_holds known m was = (
   λ e. rw (ap (λ (k : Kept). k.latches.ier) (kept-before_mark m.ahead m.chip)) (was.0 e),
-  λ e. says_due (at_mark m).chip.transmitter (due-before_mark m.ahead m.chip (due_says m.chip.transmitter (was.1 e))),
+  λ e. says_due (at_mark m).chip.transmitter (lasts-before_mark IsDue due-tick m.ahead m.chip (due_says m.chip.transmitter (was.1 e))),
 )

@@ -1,5 +1,5 @@
 -- What the ring calls of a session do.
-use Rattle.std.proofs.Common.{◌≡◌, ℕ, Bool, List, [], ◌∷◌, ◌++◌, append_assoc, append-nil, refl, sym, ◌∙◌, ap, subst, bit_and, bit_or}
+use Rattle.std.proofs.Common.{◌≡◌, ◌≢◌, ℕ, Bool, List, [], ◌∷◌, ◌++◌, append_assoc, append-nil, refl, sym, ◌∙◌, ap, subst, bit_and, bit_or}
 use lib.Bits.{or_zero_r}
 use Rattle.uart_spec.specs.Access.{Access, saved_lsr, saved_msr}
 use Rattle.uart_spec.specs.declared.registers.line_status.TheConstants.LSR
@@ -11,6 +11,7 @@ use Rattle.uart_chip.proofs.Bits.{or_assoc}
 use Rattle.uart_device.proofs.conservation.Went.{Modes}
 use Rattle.uart_device.proofs.conservation.Passed.{passed-refl, passed-mark}
 use Rattle.uart_device.proofs.conservation.BlockLaws.{PassedBlocks, passed_blocks-trans, stands-after}
+use Rattle.uart_run.specs.Chains.{NoneIs}
 use Rattle.uart_run.proofs.CallBlocks.{InBlocks, passed_in_blocks}
 use Rattle.uart_run.proofs.CallLaws.{InSession}
 use Rattle.uart_ring.specs.Ring.{RingDoing, RingDid, RingFields, ring_fields}
@@ -23,7 +24,6 @@ use Rattle.uart_ring_run.specs.declared.call.RingCall.TheVariants as call
 use Rattle.uart_ring_run.specs.declared.call.RingAnswer.{RingAnswer}
 use Rattle.uart_ring_run.specs.RingRun.{RingState, under, ring_machine, RingCallStep, RingLink, RingChain}
 use Rattle.uart_ring_run.specs.RingBytes.{to_send, to_take, queued_by, taken_by, queued, taken}
-use Rattle.uart_ring_run.specs.RingStatuses.{IsNoTakeLine, IsNoTakeModem, AllNoTakeLine, AllNoTakeModem}
 use Rattle.uart_ring_run.proofs.RingBlocks.{MakesRingBlocks, queues_make, takes_make, services_make, takes_line_makes, takes_modem_makes}
 
 -- what is still to be told of LSR and MSR
@@ -77,8 +77,8 @@ ring_passes_still x N M s t p same = record {
 }
 
 -- each call
-pub ring_passes_call : (x : Modes) (s t : RingState) (call : RingCall) (a : RingAnswer) → InSession x (under s) → RingCallStep s call a t →
-    RingPasses x (IsNoTakeLine call) (IsNoTakeModem call) s t (queued_by call a) (taken_by call a)
+pub ring_passes_call : (x : Modes) (s t : RingState) (c : RingCall) (a : RingAnswer) → InSession x (under s) → RingCallStep s c a t →
+    RingPasses x (c ≢ call.TakeLine) (c ≢ call.TakeModem) s t (queued_by c a) (taken_by c a)
 ring_passes_call x s t (call.Queue bytes) a w h =
     rw h.answered (ring_passes_did x _ _ _ _ _ 0 0 s t w h.did (queues_make bytes.items h.outcome _ _ _ h.did.does)
     (queues_lose_nothing bytes.items h.outcome _ _ _ h.did.does) (λ n. refl) (λ m. refl))
@@ -90,10 +90,10 @@ ring_passes_call x s t call.Service a w h =
     (services_lose_nothing h.outcome _ _ _ h.did.does) (λ n. refl) (λ m. refl)
 ring_passes_call x s t call.TakeLine a w h =
     ring_passes_did x _ _ _ _ _ h.outcome 0 s t w h.did (takes_line_makes h.outcome _ _ _ h.did.does)
-    (takes_line_loses_nothing h.outcome _ _ _ h.did.does) (λ n. absurd n) (λ m. refl)
+    (takes_line_loses_nothing h.outcome _ _ _ h.did.does) (λ n. absurd (n refl)) (λ m. refl)
 ring_passes_call x s t call.TakeModem a w h =
     ring_passes_did x _ _ _ _ _ 0 h.outcome s t w h.did (takes_modem_makes h.outcome _ _ _ h.did.does)
-    (takes_modem_loses_nothing h.outcome _ _ _ h.did.does) (λ n. refl) (λ m. absurd m)
+    (takes_modem_loses_nothing h.outcome _ _ _ h.did.does) (λ n. refl) (λ m. absurd (m refl))
 ring_passes_call x s t call.Next a w h =
     let p = passed-mark x (ring_machine s) w.open_modes.loopback w.stands.sound w.stands.modes in
     ring_passes_still x _ _ s t (record { takes = []; bytes = refl; passed = rw h.machine p }) h.rings
@@ -130,7 +130,7 @@ ring_passes-trans x N M O P s t u q p e f a b = record {
 }
 
 pub ring_passes_chain : (x : Modes) (s t : RingState) (links : List RingLink) → InSession x (under s) → RingChain s links t →
-    RingPasses x (AllNoTakeLine links) (AllNoTakeModem links) s t (queued links) (taken links)
+    RingPasses x (NoneIs call.TakeLine links) (NoneIs call.TakeModem links) s t (queued links) (taken links)
 ring_passes_chain x s t [] w h =
     let p = passed-refl x (ring_machine s) w.stands.sound w.stands.modes in
     rw h (ring_passes_still x _ _ s s (record { takes = []; bytes = refl; passed = p }) refl)
@@ -139,7 +139,7 @@ ring_passes_chain x s t (link ∷ links) w h =
     let begins = subst W (sym h.0) w in
     let first = ring_passes_call x link.before link.after link.call link.answer begins h.1 in
     let rest = ring_passes_chain x link.after t links (ring_in_session-after x _ _ link.before link.after _ _ begins first) h.2 in
-    let P : RingState → Type 0 = λ v. RingPasses x (AllNoTakeLine (link ∷ links)) (AllNoTakeModem (link ∷ links)) v t
+    let P : RingState → Type 0 = λ v. RingPasses x (NoneIs call.TakeLine (link ∷ links)) (NoneIs call.TakeModem (link ∷ links)) v t
     (queued (link ∷ links)) (taken (link ∷ links)) in
     subst P h.0 (ring_passes-trans x _ _ _ _ link.before link.after t (queued_by link.call link.answer) (queued links)
     (taken_by link.call link.answer) (taken links) first rest)

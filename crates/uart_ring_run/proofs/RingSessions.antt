@@ -1,8 +1,7 @@
 -- What a session of ring calls conserves, and runs of them.
-use Rattle.std.proofs.Common.{◌≡◌, ℕ, ◌+◌, ◌≤◌, ◌<◌, List, [], ◌∷◌, ◌++◌, length, take, get_or, map, refl, sym, ◌∙◌, ap, subst}
-use Rattle.std.proofs.Common.{append_assoc, slice_set}
+use Rattle.std.proofs.Common.{◌≡◌, ℕ, ◌≤◌, List, ◌++◌, length, take, map, sym, ◌∙◌, ap, append_assoc}
 use Rattle.std.specs.List.{filter}
-use Rattle.std.proofs.lemmas.List.{map-id, map-append, take_more, take_more_set, take_all}
+use Rattle.std.proofs.lemmas.List.{map-id, map-append}
 use Rattle.uart_chip.specs.declared.receiver.Character.{Character}
 use Rattle.uart_chip.specs.Chip.{cut_of}
 use Rattle.uart_device.specs.Sound.{IsSound}
@@ -10,7 +9,9 @@ use Rattle.uart_device.specs.Conserved.{out, waiting, kept, stands}
 use Rattle.uart_device.proofs.conservation.Went.{Modes, dlab-in, loopback-in}
 use Rattle.uart_device.proofs.conservation.SessionLaws.{received_kept}
 use Rattle.uart_16550.specs.Grammar.{Settings}
+use Rattle.uart_run.specs.Chains.{RunOf}
 use Rattle.uart_run.specs.Uncut.{IsUncut}
+use Rattle.uart_run.proofs.Chains.{chain_keeps, run_whole}
 use Rattle.uart_run.proofs.CallLaws.{InSession}
 use Rattle.uart_run.proofs.SessionCalls.{modes_of, in_session}
 use Rattle.uart_run.proofs.Sessions.{lasts_sound}
@@ -19,7 +20,7 @@ use Rattle.uart_ring.specs.Lossless.{data_written, data_read}
 use Rattle.uart_ring_run.specs.declared.call.RingCall.{RingCall}
 use Rattle.uart_ring_run.specs.declared.call.RingCall.TheVariants as call
 use Rattle.uart_ring_run.specs.declared.call.RingAnswer.{RingAnswer}
-use Rattle.uart_ring_run.specs.RingRun.{RingState, under, ring_machine, RingCallStep, RingLink, RingChain, IsRingRun}
+use Rattle.uart_ring_run.specs.RingRun.{RingState, under, ring_machine, RingCallStep, RingLink, RingChain}
 use Rattle.uart_ring_run.specs.RingBytes.{to_send, to_take, queued, taken}
 use Rattle.uart_ring_run.specs.RingSession.{ConservesBytesUncut, RingConserves, RanRing}
 use Rattle.uart_ring_run.proofs.RingPasses.{ring_passes_chain}
@@ -38,10 +39,7 @@ ring_sound_call s t call.TakeLine a w h = lasts_sound.path h.did.list (ring_mach
 ring_sound_call s t call.TakeModem a w h = lasts_sound.path h.did.list (ring_machine s) (ring_machine t) w h.did.path
 
 ring_sound_chain : (s t : RingState) (links : List RingLink) → IsSound (ring_machine s) → RingChain s links t → IsSound (ring_machine t)
-ring_sound_chain s t [] w h = rw h w
-ring_sound_chain s t (link ∷ links) w h =
-    let S : RingState → Type 0 = λ v. IsSound (ring_machine v) in
-    ring_sound_chain link.after t links (ring_sound_call link.before link.after link.call link.answer (subst S (sym h.0) w) h.1) h.2
+ring_sound_chain = chain_keeps RingCallStep (λ s. IsSound (ring_machine s)) ring_sound_call
 
 -- ---- what is conserved
 
@@ -100,39 +98,11 @@ ring_conserves x s t links w chain =
 
 -- ---- runs
 
-ring_chain_more : (s t u : RingState) (links : List RingLink) (call : RingCall) (answer : RingAnswer) → RingChain s links t →
-    RingCallStep t call answer u → RingChain s (links ++ record { before = t; call = call; answer = answer; after = u } ∷ []) u
-ring_chain_more s t u [] call answer h k = (h, k, refl)
-ring_chain_more s t u (l ∷ ls) call answer h k = (h.0, h.1, ring_chain_more l.after t u ls call answer h.2 k)
-
-pub ring_run_nothing : (s : RingState) → IsRingRun s [] [] s
-ring_run_nothing s = record { links = []; chain = refl; calls_same = refl; answers_same = refl }
-
-ring_run_more : (s t u : RingState) (calls : List RingCall) (answers : List RingAnswer) (call : RingCall) (answer : RingAnswer) →
-    IsRingRun s calls answers t → RingCallStep t call answer u → IsRingRun s (calls ++ call ∷ []) (answers ++ answer ∷ []) u
-ring_run_more s t u calls answers call answer r h =
-    let last : RingLink = record { before = t; call = call; answer = answer; after = u } in
-    record {
-      links = r.links ++ last ∷ [];
-      chain = ring_chain_more s t u r.links call answer r.chain h;
-      calls_same = map-append (λ l. l.call) r.links (last ∷ []) ∙ ap (λ xs. xs ++ call ∷ []) r.calls_same;
-      answers_same = map-append (λ l. l.answer) r.links (last ∷ []) ∙ ap (λ xs. xs ++ answer ∷ []) r.answers_same;
-    }
-
--- the next call, its answer in the next slot
-pub ring_run_step : (s t u : RingState) (calls : List RingCall) (answers : List RingAnswer) (i : ℕ) (call : RingCall)
-    (answer : RingAnswer) → i < length calls → i < length answers → call ≡ get_or calls i call →
-    IsRingRun s (take i calls) (take i answers) t → RingCallStep t call answer u →
-    IsRingRun s (take (i + 1) calls) (take (i + 1) (slice_set answers i answer)) u
-ring_run_step s t u calls answers i call answer h k e r c =
-    rw (take_more calls i call h, ← e, take_more_set answers i answer k)
-    (ring_run_more s t u (take i calls) (take i answers) call answer r c)
-
 -- a run of all calls, from a sound machine
 pub ran_ring : (s t : RingState) (calls : List RingCall) (answers : List RingAnswer) (i : ℕ) → length calls ≤ i → length answers ≤ i →
-    IsSound (ring_machine s) → IsRingRun s (take i calls) (take i answers) t → RanRing s calls answers t
+    IsSound (ring_machine s) → RunOf RingCallStep s (take i calls) (take i answers) t → RanRing s calls answers t
 ran_ring s t calls answers i all slots sound run =
-    let r : IsRingRun s calls answers t = rw (take_all i calls all, take_all i answers slots) at run in
+    let r = run_whole RingCallStep s t calls answers i all slots run in
     record {
       links = r.links;
       chain = r.chain;

@@ -1,4 +1,5 @@
--- Why bytes never wait in the transmit ring with no interrupt to come: what holds of the chip's THR-empty interrupt.
+-- Why there are never bytes in the transmit ring with no interrupt to come: what holds of the chip's THR-empty
+-- interrupt.
 use Rattle.std.specs.Prelude.{◌⊎◌, ◌<◌, Bool, not, ◌||◌, ◌==◌, List, [], ◌∷◌, length}
 use Rattle.uart_spec.specs.Bits.{has}
 use Rattle.uart_spec.specs.declared.registers.interrupt_enable.TheConstants.IER
@@ -9,7 +10,7 @@ use Rattle.uart_ring.specs.Armed.{ThrEmpty, IsArmed}
 use Rattle.uart_ring_run.specs.RingRun.{RingState, ring_machine, RingLink}
 use Rattle.uart_ring_run.specs.RingBytes.{queued_by}
 
--- it is due: the transmit queue is not empty, or that it became empty is still to be told
+-- it is due: the transmit queue is not empty, or the interrupt that it became empty is pending
 abbrev pub is_due : TransmitterState → Bool
 is_due t = not (length t.queue == 0) || t.is_thr_pending
 
@@ -17,11 +18,11 @@ is_due t = not (length t.queue == 0) || t.is_thr_pending
 abbrev pub thr_empty_of : MachineState → ThrEmpty
 thr_empty_of m = record { enabled = has m.chip.latches.ier IER.THR_EMPTY.0; due = is_due m.chip.transmitter }
 
--- nothing waits in the transmit ring, or that interrupt is enabled and due
+-- the transmit ring is empty, or that interrupt is enabled and due
 abbrev pub IsRingArmed : RingState → Type 0
 IsRingArmed s = IsArmed (thr_empty_of (ring_machine s)) (ring_fields s)
 
--- the call leaves it so where it finds it so, and also where it accepts a byte
+-- this is so after the call if it was so before it, and also if the call accepts a byte
 abbrev pub LeavesRingArmed : RingLink → Type 0
 LeavesRingArmed link =
     IsRingArmed link.before ⊎ (0 < length (queued_by link.call link.answer)) → IsRingArmed link.after

@@ -1,5 +1,5 @@
--- The bytes that ring calls accept and give, and those that the rings hold.
-use Rattle.std.specs.Prelude.{ℕ, List, [], ◌∷◌, ◌++◌, take}
+-- The bytes that ring calls accept and return, and those that the rings hold.
+use Rattle.std.specs.Prelude.{ℕ, List, [], take, flat_map}
 use Rattle.uart_ring.specs.Ring.{ring_fields}
 use Rattle.uart_ring_run.specs.declared.call.RingCall.{RingCall}
 use Rattle.uart_ring_run.specs.declared.call.RingCall.TheVariants as call
@@ -14,21 +14,19 @@ to_send s = (ring_fields s).transmit.items
 abbrev pub to_take : RingState → List ℕ
 to_take s = (ring_fields s).receive.items
 
--- the bytes that a call accepted to be sent
+-- the bytes that a call accepted
 abbrev pub queued_by : RingCall → RingAnswer → List ℕ
 queued_by (call.Queue bytes) (answer.Count count) = take count bytes.items
 queued_by other a = []
 
--- the bytes that a call gave
+-- the bytes that a call returned
 abbrev pub taken_by : RingCall → RingAnswer → List ℕ
 taken_by (call.Take slots) (answer.Bytes bytes) = bytes.items
 taken_by other a = []
 
 -- over calls in turn
 abbrev pub queued : List RingLink → List ℕ
-queued [] = []
-queued (link ∷ links) = queued_by link.call link.answer ++ queued links
+queued links = flat_map (λ link. queued_by link.call link.answer) links
 
 abbrev pub taken : List RingLink → List ℕ
-taken [] = []
-taken (link ∷ links) = taken_by link.call link.answer ++ taken links
+taken links = flat_map (λ link. taken_by link.call link.answer) links

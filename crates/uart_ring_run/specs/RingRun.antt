@@ -1,7 +1,8 @@
 -- Runs of ring calls over the machine: what each call does, and lists of calls.
-use Rattle.std.specs.Prelude.{◌≡◌, ◌≤◌, ⊤, ℕ, List, [], ◌∷◌, map}
+use Rattle.std.specs.Prelude.{◌≡◌, ◌≤◌, ⊤, ℕ, List}
 use Rattle.uart_calls.specs.declared.call.TheConstants.{CALL_BYTES}
 use Rattle.uart_chip.specs.Machine.{MachineState, MachineStep, at_mark}
+use Rattle.uart_run.specs.Chains.{LinkOf, ChainOf}
 use Rattle.uart_run.specs.Run.{State, machine_of}
 use Rattle.uart_ring.specs.Ring.{RingDoing, RingDid, ring_fields, driver_of}
 use Rattle.uart_ring.specs.Transmit.{Queues}
@@ -14,16 +15,16 @@ use Rattle.uart_ring_run.specs.declared.call.RingCall.TheVariants as call
 use Rattle.uart_ring_run.specs.declared.call.RingAnswer.{RingAnswer}
 use Rattle.uart_ring_run.specs.declared.call.RingAnswer.TheVariants.{Count, Bytes, Line, Modem, Done}
 
--- there are at most as many slots as a call has bytes
+-- there are at most as many slots as a call may have
 abbrev pub IsRingRunnable : RingCall → Type 0
 IsRingRunnable (call.Take slots) = slots ≤ CALL_BYTES
 IsRingRunnable other = ⊤
 
--- the rings over a driver with the machine as it stands
+-- the rings over a driver with the machine in its state
 abbrev pub RingState : Type 0
 RingState = Uart16550Ring MachineState
 
--- the driver of a state under a terminal of its own: what is said of driver and machine is said of this
+-- the driver of a state under a terminal of its own, to which the definitions about driver and machine apply
 abbrev pub under : RingState → State
 under s = record { inner = driver_of s }
 
@@ -33,7 +34,7 @@ ring_machine s = machine_of (under s)
 
 -- ---- one call
 
--- the ring call had some result, did over the machine what it says of that result, and the result was answered so
+-- the ring call had some result, did over the machine what it does for this result, and had this answer for it
 pub record RingCalled {R : Type 0} (G : R → RingDoing) (answer_of : R → RingAnswer) (answer : RingAnswer)
     (s t : RingState) : Type 0 where
   pub outcome : R
@@ -49,17 +50,17 @@ line_answer bits = Line (record { 0 = bits })
 abbrev pub modem_answer : ℕ → RingAnswer
 modem_answer bits = Modem (record { 0 = bits })
 
--- `take` into so many slots
+-- `take` into n slots
 abbrev pub TakesInto : ℕ → RingAnswer → RingState → RingState → Type 0
 TakesInto slots = RingCalled (TakesBytes slots) taken_answer
 
--- `Next`: the events up to and with the next Mark, and no access
+-- `Next`: the events up to the next Mark, which is removed, and no access
 pub record RingGoesOn (answer : RingAnswer) (s t : RingState) : Type 0 where
   pub answered : answer ≡ Done
   pub machine : ring_machine t ≡ at_mark (ring_machine s)
   pub rings : ring_fields t ≡ ring_fields s
 
--- what a call leaves and answers
+-- the state after a call, and its answer
 abbrev pub RingCallStep : RingState → RingCall → RingAnswer → RingState → Type 0
 RingCallStep s (call.Queue bytes) answer t = RingCalled (Queues bytes.items) Count answer s t
 RingCallStep s (call.Take slots) answer t = TakesInto slots answer s t
@@ -71,27 +72,9 @@ RingCallStep s call.Next answer t = RingGoesOn answer s t
 -- ---- lists of calls
 
 -- a call of a run, between the states before and after it
-pub record RingLink : Type 0 where
-  pub before : RingState
-  pub call : RingCall
-  pub answer : RingAnswer
-  pub after : RingState
+abbrev pub RingLink : Type 0
+RingLink = LinkOf RingState RingCall RingAnswer
 
 -- the calls lead from s to t, one after the other
 abbrev pub RingChain : RingState → List RingLink → RingState → Type 0
-RingChain s [] t = t ≡ s
-RingChain s (link ∷ links) t =
-    (link.before ≡ s) × RingCallStep link.before link.call link.answer link.after × RingChain link.after links t
-
-abbrev pub ring_calls_of : List RingLink → List RingCall
-ring_calls_of links = map (λ link. link.call) links
-
-abbrev pub ring_answers_of : List RingLink → List RingAnswer
-ring_answers_of links = map (λ link. link.answer) links
-
--- these calls, answered so, lead from s to t
-pub record IsRingRun (s : RingState) (calls : List RingCall) (answers : List RingAnswer) (t : RingState) : Type 0 where
-  pub links : List RingLink
-  pub chain : RingChain s links t
-  pub calls_same : ring_calls_of links ≡ calls
-  pub answers_same : ring_answers_of links ≡ answers
+RingChain = ChainOf RingCallStep

@@ -1,4 +1,4 @@
-//! Calls of the rings, and what they return, as data.
+//! Calls of the rings, and their answers, as data.
 
 ghost use Rattle.std.specs.Prelude.{◌↔◌, IsTrue};
 ghost use Rattle.uart_ring_run.specs.RingRun.{IsRingRunnable};
@@ -7,22 +7,27 @@ use arrayvec::ArrayVec;
 use uart_calls::CALL_BYTES;
 use uart_spec::registers::{LSR, MSR};
 
-/// A call of the rings.
+/// A call of the rings as data.
 ///
-/// Each case is the call of that name, but for `Next`, which is the device's: it lets the schedule go on to its next mark.
+/// Each case is the call of that name, except for `Next`, which is a call of the device.
 #[derive(Debug, PartialEq, Drop)]
 pub enum RingCall {
+    /// `queue` of these bytes.
     Queue(ArrayVec<u8, CALL_BYTES>),
-    /// How many slots there are, at most [`CALL_BYTES`].
+    /// `take` into this number of slots, at most [`CALL_BYTES`].
     Take(usize),
+    /// `service`.
     Service,
+    /// `take_line`.
     TakeLine,
+    /// `take_modem`.
     TakeModem,
+    /// `Device16550::next`: goes on to the next mark of the schedule.
     Next,
 }
 
 impl RingCall {
-    /// Whether the call can be run: there are at most [`CALL_BYTES`] slots.
+    /// Returns whether the call can be made: there are at most [`CALL_BYTES`] slots.
     pub fn is_runnable(&self) -> bool
         ensures { IsTrue result ↔ IsRingRunnable self.now }
     {
@@ -33,14 +38,16 @@ impl RingCall {
     }
 }
 
-/// What a call of the rings returned.
+/// The answer of a call of the rings.
 #[derive(Debug, PartialEq, Drop)]
 pub enum RingAnswer {
-    /// How many bytes were queued, or how many interrupts were served.
+    /// The number of bytes that were queued, or of interrupts that were served.
     Count(usize),
     /// The bytes that were taken.
     Bytes(ArrayVec<u8, CALL_BYTES>),
+    /// What `take_line` returned.
     Line(LSR),
+    /// What `take_modem` returned.
     Modem(MSR),
     /// The schedule went on.
     Done,

@@ -9,21 +9,23 @@ use uart_calls::CALL_BYTES;
 use uart_device::Device16550;
 use uart_ring::Uart16550Ring;
 
-/// Makes the calls in turn, each with its answer in its slot.
+/// Makes the calls in turn, and stores the answer of each in its slot. Never fails, and allocates no memory.
 ///
-/// Never refuses and takes no memory. In each session, that is from a state in which DLAB and loopback are off and the driver
-/// knows whether the FIFO is on, whatever the rings hold then:
+/// A *session* begins in a ready state: DLAB and loopback are off, and the driver knows whether the FIFO is on. The rings
+/// may hold anything then. In each session
 ///
-/// - what has gone out, what is still in the transmitter, and then the transmit ring have grown by exactly the bytes that were
+/// - what has been sent, what is in the transmitter, and then the transmit ring have grown by exactly the bytes that were
 ///   queued, and no data write meets a full transmitter;
-/// - bytes taken, then the receive ring, then those that wait in the chip are those of the receive ring at the start, those that
-///   waited, and those that arrived, in order, less those dropped;
-/// - `TakeLine` tells of drops and line errors, and `TakeModem` of changes of the modem lines, whatever `Service` saw of them;
-/// - if CTS is not checked, bytes never wait in the transmit ring with no interrupt to come, unless they did at the start;
-/// - each call leaves such a state.
+/// - the bytes taken, then the receive ring, then those in the chip's receiver are those of the receive ring at the start,
+///   those that were in the receiver, and those that arrived, in order, without those that were dropped;
+/// - `TakeLine` reports drops and line errors, and `TakeModem` changes of the modem lines, also those that `Service` has
+///   read;
+/// - if CTS is not checked, there are never bytes in the transmit ring with no interrupt to come, unless there were at the
+///   start;
+/// - each call preserves a ready state.
 ///
-/// On a machine that cuts characters to the word length ([`Device16550::new_cut`]) the first holds of bytes that are cut so, and
-/// the second of arrivals that are.
+/// On a machine that cuts characters to the word length ([`Device16550::new_cut`]) the first holds of bytes that are cut,
+/// and the second of arrivals that are cut.
 pub fn run_ring(
     ring: &mut Uart16550Ring<Device16550>,
     calls: &[RingCall],
@@ -33,7 +35,7 @@ pub fn run_ring(
     requires slots { length calls.now ≡ length answers.old }
     ensures { RanRing ring.old calls.now answers.new ring.new }
 {
-    // Any observer tells what holds of every machine.
+    // The contract of this call states what holds of every machine.
     let _fifo = ring.inner().backend().fifo_enabled();
     for i in 0..calls.len() {
         answers[i] = run_ring_call(ring, &calls[i]);

@@ -1,5 +1,5 @@
 -- What each call of a session does to the machine.
-use Rattle.std.proofs.Common.{◌≡◌, ℕ, ◌≤◌, ◌*◌, Bool, List, [], ◌∷◌, Result, Ok, Err, refl}
+use Rattle.std.proofs.Common.{◌≡◌, ◌≢◌, ℕ, ◌≤◌, ◌*◌, Bool, List, [], ◌∷◌, Result, Ok, Err, refl}
 use Rattle.std.proofs.Common.{sym, ◌∙◌, ap, subst, take, length, arith, length-append, bit_or}
 use Rattle.std.proofs.lemmas.Grind.{common_steps}
 use lib.Bits.{or_zero_r}
@@ -26,7 +26,6 @@ use Rattle.uart_calls.specs.Meaning.{received_answer, sent_answer, exact_answer,
 use Rattle.uart_calls.specs.Meaning.{ready_answer, latch_answer, bytes_answer, receive_exact_answer, read_answer}
 use Rattle.uart_run.specs.Run.{State, machine_of, CallStep}
 use Rattle.uart_run.specs.Session.{count_of, sent_of, sent_byte_of, byte_of, bytes_of, reported_by, received_by, IsWithinSession}
-use Rattle.uart_run.specs.Statuses.{IsNoLsr, IsNoMsr}
 use Rattle.uart_device.proofs.conservation.Went.{Modes}
 use Rattle.uart_device.proofs.conservation.Passed.{passed-refl, passed-mark}
 use Rattle.uart_device.proofs.conservation.BlockLaws.{IsOpen, Stands, PassedBlocks}
@@ -153,8 +152,8 @@ pub passes_none : (x : Modes) (N M : Type 0) (s : State) → InSession x s → P
 passes_none x N M s w =
     passes_quietly x N M s s (record { takes = []; bytes = refl; passed = passed-refl x (machine_of s) w.stands.sound w.stands.modes }) refl
 
-pub passes_call : (x : Modes) (s t : State) (call : Call) (a : Answer) → InSession x s → IsWithinSession call → CallStep s call a t →
-    Passes x (IsNoLsr call) (IsNoMsr call) s t (reported_by call a) (received_by call a)
+pub passes_call : (x : Modes) (s t : State) (c : Call) (a : Answer) → InSession x s → IsWithinSession c → CallStep s c a t →
+    Passes x (c ≢ call.Lsr) (c ≢ call.Msr) s t (reported_by c a) (received_by c a)
 passes_call x s t call.Next a w i h =
     let p = passed-mark x (machine_of s) w.open_modes.loopback w.stands.sound w.stands.modes in
     passes_quietly x _ _ s t (record { takes = []; bytes = refl; passed = rw h.machine p }) h.driver
@@ -174,10 +173,10 @@ passes_call x s t call.Lcr a w i h = passes_silent x _ _ _ Register s t a w (λ 
 passes_call x s t call.Mcr a w i h = passes_silent x _ _ _ Register s t a w (λ v r. plain_blocks v offsets.MCR r refl) h
 passes_call x s t call.Lsr a w i h =
     let told = takes_lsr_keeps h.outcome (fields (inner_of s)) (fields (inner_of t)) h.did.list h.did.does in
-    passes_by x _ _ (TakesLsr h.outcome) [] [] s t w h.did told.blocks told.fifo (λ n. absurd n) (λ n. told.msr)
+    passes_by x _ _ (TakesLsr h.outcome) [] [] s t w h.did told.blocks told.fifo (λ n. absurd (n refl)) (λ n. told.msr)
 passes_call x s t call.Msr a w i h =
     let told = takes_msr_keeps h.outcome (fields (inner_of s)) (fields (inner_of t)) h.did.list h.did.does in
-    passes_by x _ _ (TakesMsr h.outcome) [] [] s t w h.did told.blocks told.fifo (λ n. told.lsr) (λ n. absurd n)
+    passes_by x _ _ (TakesMsr h.outcome) [] [] s t w h.did told.blocks told.fifo (λ n. told.lsr) (λ n. absurd (n refl))
 passes_call x s t call.Spr a w i h = passes_silent x _ _ _ Register s t a w (λ v r. plain_blocks v offsets.SPR r refl) h
 passes_call x s t call.DllDlm a w i h = passes_silent x _ _ _ latch_answer s t a w (λ v latch. reads_divisor_blocks v latch.0 latch.1) h
 passes_call x s t call.FifoEnabled a w i h =

@@ -1,3 +1,4 @@
+pub mod Chains
 pub mod EmptyTransmitter
 pub mod Latches
 pub mod Pieces

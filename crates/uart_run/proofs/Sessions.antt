@@ -1,5 +1,5 @@
 -- What a session conserves, carried over its calls.
-use Rattle.std.proofs.Common.{ℕ, List, [], ◌∷◌, ◌++◌, map, ap, sym, ◌∙◌, subst}
+use Rattle.std.proofs.Common.{ℕ, List, ◌++◌, map, ap, sym, ◌∙◌}
 use Rattle.uart_spec.specs.Access.{Access, Path}
 use Rattle.uart_calls.specs.declared.call.Call.{Call}
 use Rattle.uart_calls.specs.declared.call.Call.TheVariants as call
@@ -12,6 +12,7 @@ use Rattle.uart_run.specs.Session.{AllWithinSession, IsSession, reported, receiv
 use Rattle.uart_device.proofs.soundness.Sounds.{sound_path, sound_mark}
 use Rattle.uart_device.proofs.conservation.Went.{Modes, dlab-in, loopback-in}
 use Rattle.uart_device.proofs.conservation.SessionLaws.{received_kept}
+use Rattle.uart_run.proofs.Chains.{chain_keeps}
 use Rattle.uart_run.proofs.CallLaws.{InSession}
 use Rattle.uart_run.proofs.SessionCalls.{modes_of, in_session, passes_chain}
 use Rattle.uart_run.proofs.StatusSessions.{tells_in}
@@ -56,10 +57,7 @@ lasts_call s t other a k w h = k.path h.did.list (machine_of s) (machine_of t) w
 
 pub lasts_chain : {P : MachineState → Type 0} (s t : State) (links : List Link) → Lasts P → P (machine_of s) → Chain s links t →
     P (machine_of t)
-lasts_chain s t [] k w h = rw h w
-lasts_chain {P} s t (link ∷ links) k w h =
-    let S : State → Type 0 = λ v. P (machine_of v) in
-    lasts_chain link.after t links k (lasts_call link.before link.after link.call link.answer k (subst S (sym h.0) w) h.1) h.2
+lasts_chain {P} s t links k w h = chain_keeps CallStep (λ s. P (machine_of s)) (λ s t call a w h. lasts_call s t call a k w h) s t links w h
 
 -- soundness lasts
 pub lasts_sound : Lasts IsSound

@@ -19,6 +19,7 @@ use Rattle.uart_run.specs.Statuses.{AllNoLsr, AllNoMsr, receiver_of, TellsLine, 
 use Rattle.uart_device.proofs.conservation.Went.{Modes}
 use Rattle.uart_device.proofs.conservation.SessionLaws.{taken_entered, look_clears, status_clears}
 use Rattle.uart_device.proofs.status.StatusLaws.{LsrTells, lsr_tells, MsrTells, msr_tells}
+use Rattle.uart_run.proofs.Chains.{step_is, ended}
 use Rattle.uart_run.proofs.CallLaws.{Passes, InSession, passes_call}
 use Rattle.uart_run.proofs.SessionCalls.{in_session-after, passes_chain}
 
@@ -27,23 +28,6 @@ use Rattle.uart_run.proofs.SessionCalls.{in_session-after, passes_chain}
 within-front : (xs ys : List Link) → AllWithinSession (xs ++ ys) → AllWithinSession xs
 within-front [] ys h = tt
 within-front (x ∷ xs) ys h = (h.0, within-front xs ys h.1)
-
--- calls in turn, and then one more
-record Ends (s : State) (some : List Link) (last : Link) (t : State) : Type 0 where
-  pub chain : Chain s some last.before
-  pub step : CallStep last.before last.call last.answer last.after
-  pub same : last.after ≡ t
-
-ends : (s t : State) (some : List Link) (last : Link) → Chain s (some ++ last ∷ []) t → Ends s some last t
-ends s t [] last h = record { chain = h.0; step = h.1; same = sym h.2 }
-ends s t (link ∷ some) last h =
-    let e = ends link.after t some last h.2 in record { chain = (h.0, h.1, e.chain); step = e.step; same = e.same }
-
-call_is : (s t : State) (c d : Call) (a b : Answer) → c ≡ d → a ≡ b → CallStep s c a t → CallStep s d b t
-call_is s t c d a b e f h =
-    let C : Call → Type 0 = λ v. CallStep s v a t in
-    let A : Answer → Type 0 = λ v. CallStep s d v t in
-    subst A f (subst C e h)
 
 register_is : (v w : ℕ) → Register v ≡ Register w → v ≡ w
 register_is v w e = cc
@@ -134,15 +118,6 @@ after_first : (x : Modes) (first : Link) → InSession x first.before → IsWith
 after_first x first w within step =
     in_session-after x _ _ first.before first.after _ _ w (passes_call x first.before first.after first.call first.answer w within step)
 
--- what a last call tells that answers so, whatever comes before it
-ended : (s t : State) (some : List Link) (last : Link) (c : Call) (value : ℕ) (T : State → Type 0) →
-    ((n u : State) → AllWithinSession some → Chain s some n → CallStep n c (Register value) u → T u) →
-    AllWithinSession (some ++ last ∷ []) → Chain s (some ++ last ∷ []) t → last.call ≡ c → last.answer ≡ Register value → T t
-ended s t some last c value T tells within chain is answered =
-    let e = ends s t some last chain in
-    let step = call_is last.before last.after last.call c last.answer (Register value) is answered e.step in
-    subst T e.same (tells last.before last.after (within-front some (last ∷ []) within) e.chain step)
-
 module _ {x : Modes} {register : ℕ} {saved : Fields → ℕ}
     {T : MachineState → MachineState → List Access → List ℕ → List Character → ℕ → ℕ → Type 0} {c : Call} {NoneOf : List Link → Type 0}
     (i : IsStatus x register saved T c NoneOf) where
@@ -163,8 +138,8 @@ module _ {x : Modes} {register : ℕ} {saved : Fields → ℕ}
       Chain s (some ++ last ∷ []) t → NoneOf some → last.call ≡ c → last.answer ≡ Register value →
       After T (saved (fields (inner_of s))) s t value
   at_end s t some last value w within chain none is answered =
-      ended s t some last c value (λ u. After T (saved (fields (inner_of s))) s u value)
-      (λ n u v before step. status_after s n u some value w v none before step) within chain is answered
+      ended CallStep s t some last c (Register value) (λ u. After T (saved (fields (inner_of s))) s u value)
+      (λ n u before step. status_after s n u some value w (within-front some (last ∷ []) within) none before step) chain is answered
 
   -- and it begins with one
   since_first : (s t : State) (first : Link) (some : List Link) (last : Link) (value : ℕ) → InSession x s →
@@ -173,7 +148,7 @@ module _ {x : Modes} {register : ℕ} {saved : Fields → ℕ}
       Took register saved first.before first.answer first.after × After T (saved (fields (inner_of first.after))) first.after t value
   since_first s t first some last value w within chain none begins is answered =
       let W : State → Type 0 = λ v. InSession x v in
-      let step = call_is first.before first.after first.call c first.answer first.answer begins refl chain.1 in
+      let step = step_is CallStep first.before first.after first.call c first.answer first.answer begins refl chain.1 in
       let after = after_first x first (subst W (sym chain.0) w) within.0 chain.1 in
       (i.took first.before first.after first.answer step, at_end first.after t some last value after within.1 chain.2 none is answered)
 

@@ -1,3 +1,4 @@
+pub mod Chains
 pub mod Run
 pub mod Statuses
 pub mod Served

@@ -1,4 +1,4 @@
--- When a call must succeed: ticks come before each access, the spin limit is long enough, and the wire has room.
+-- When a call must succeed: ticks pass before each access, the spin limit is long enough, and the wire has room.
 use Rattle.std.specs.Prelude.{◌≡◌, ◌<◌, ◌≤◌, ℕ, ◌+◌, ◌*◌, false, List, [], ◌∷◌, length, Option, Some, None, Ok}
 use Rattle.uart_spec.specs.Config.{IsComputable}
 use Rattle.uart_spec.specs.declared.config.Config.{Config}
@@ -20,8 +20,8 @@ use Rattle.uart_run.specs.Run.{State, machine_of}
 use Rattle.uart_run.specs.Served.{transmitter_of}
 use Rattle.uart_run.specs.Ready.{Ready, is_narrow, test_answer}
 
--- each Access of these events has at least one tick after the Access or Mark before it, or after the beginning; of that
--- one so many ticks have passed already
+-- each Access of these events has at least one tick after the Access or Mark before it, or after the beginning; since
+-- then n ticks have already passed
 abbrev pub TickedAfter : ℕ → List Event → Type 0
 TickedAfter passed [] = Unit {0}
 TickedAfter passed (Ticks n ∷ events) = TickedAfter (passed + n) events
@@ -29,12 +29,12 @@ TickedAfter passed (Gate ∷ events) = (0 < passed) × TickedAfter 0 events
 TickedAfter passed (Mark ∷ events) = TickedAfter 0 events
 TickedAfter passed (_ ∷ events) = TickedAfter passed events
 
--- this of the schedule that is still to come
+-- this for the schedule that is still to come
 abbrev pub IsTicked : MachineState → Type 0
 IsTicked m = TickedAfter 0 m.ahead
 
--- the ticks until a shift place and a queue are empty: a character takes so many, and a free place
--- takes one tick to be filled
+-- the ticks until the shift register and the queue are empty: a character takes this number of ticks, and an empty
+-- shift register takes one tick to be filled
 abbrev pub left_of : ℕ → Option Shifting → List ℕ → ℕ
 left_of char_ticks None [] = 0
 left_of char_ticks None (x ∷ xs) = 1 + char_ticks * length (x ∷ xs)
@@ -44,11 +44,11 @@ left_of char_ticks (Some s) queue = s.ticks_left + char_ticks * length queue
 abbrev pub left : TransmitterState → ℕ
 left t = left_of t.char_ticks t.shift_place t.queue
 
--- the wire takes all that is to go out, and so many bytes more
+-- the wire has room for all that is to be sent, and for n bytes more
 abbrev pub HasRoom : ℕ → MachineState → Type 0
 HasRoom n m = length (out m) + n ≤ m.chip.transmitter.capacity
 
--- ticks come before each access, and the spin limit exceeds the ticks that the transmitter may take
+-- ticks pass before each access, and the spin limit is more than the ticks that the transmitter may take
 pub record IsTimely (s : State) : Type 0 where
   pub ticked : IsTicked (machine_of s)
   pub limit : 17 * ((transmitter_of s).char_ticks + 1) ≤ (fields (inner_of s)).limit
@@ -57,14 +57,13 @@ pub record IsTimely (s : State) : Type 0 where
 abbrev pub IsUnchecked : State → Type 0
 IsUnchecked s = (fields (inner_of s)).config.check_cts_before_sending ≡ false
 
--- the arithmetic takes the configuration, and it has a divisor
+-- the configuration is computable, and has a divisor
 pub record HasDivisor (config : Config) : Type 0 where
   pub computable : IsComputable config
   pub divisor : ℕ
   pub is_divisor : DivisorOf config (Ok divisor)
 
--- with room on the wire for what it sends the call does not stall: an `init` from any state,
--- the others from a ready one
+-- with room on the wire for what it sends the call does not stall: an `init` in any state, the others in a ready one
 abbrev pub Succeeds : State → Call → Answer → Type 0
 Succeeds s (call.Init config) a = HasRoom 0 (machine_of s) → HasDivisor config → a ≡ Done
 Succeeds s call.TestLoopback a = Ready s → HasRoom 0 (machine_of s) → a ≡ test_answer (is_narrow (machine_of s).chip)

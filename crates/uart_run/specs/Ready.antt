@@ -1,4 +1,4 @@
--- States in which a session may begin, and what an `init` and a loopback test come to over the machine.
+-- States in which a session may begin, and the outcomes of an `init` and a loopback test over the machine.
 use Rattle.std.specs.Prelude.{◌≡◌, ◌≢◌, ◌⊎◌, Bool, true, false, ◌&&◌, nat_lt, Option, Some, None, Ok, bit_and}
 use Rattle.uart_spec.specs.declared.config.Config.{Config}
 use Rattle.uart_spec.specs.declared.errors.InitError.TheVariants.{DeviceNotPresent}
@@ -25,13 +25,13 @@ use Rattle.uart_run.specs.Served.{transmitter_of, IsFlushed}
 abbrev pub latches_of : State → LatchesState
 latches_of s = (machine_of s).chip.latches
 
--- DLAB and loopback are off, and the chip's FIFO is on exactly if the driver takes it to be
+-- DLAB and loopback are off, and the chip's FIFO is on exactly if the driver takes it to be on
 pub record Ready (s : State) : Type 0 where
   pub dlab : is_dlab_set (latches_of s) ≡ false
   pub loopback : is_loopback (latches_of s) ≡ false
   pub fifo : (machine_of s).chip.fifo ≡ (fields (inner_of s)).fifo
 
--- with the driver as it is, the second machine is ready where the first is
+-- with this driver, the second machine is ready if the first is
 abbrev pub KeepsReady : MachineState → MachineState → Type 0
 KeepsReady m n =
     (s t : State) → machine_of s ≡ m → machine_of t ≡ n → fields (inner_of t) ≡ fields (inner_of s) → Ready s → Ready t
@@ -48,7 +48,7 @@ abbrev pub is_level : Option FifoTriggerLevel → Bool
 is_level (Some level) = true
 is_level None = false
 
--- what an `init` that is done leaves, whatever the machine was before it
+-- the state after an `init` that succeeds, whatever the machine was before it
 pub record IsInitialised (config : Config) (t : State) : Type 0 where
   pub ready : Ready t
   pub divisor_latch : DivisorOf config (Ok (divisor (latches_of t)))
@@ -58,7 +58,7 @@ pub record IsInitialised (config : Config) (t : State) : Type 0 where
   pub is_empty : is_transmitter_empty (transmitter_of t).queue (transmitter_of t).shift_place ≡ true
   pub fifo : (machine_of t).chip.fifo ≡ (is_level config.fifo_trigger_level && has_fifo (machine_of t).chip.model)
 
--- it finds the device, and leaves this where it is done
+-- it finds the device, and this is the state after it if it succeeds
 pub record Initialises (config : Config) (a : Answer) (t : State) : Type 0 where
   pub is_present : a ≢ InitRefused DeviceNotPresent
   pub leaves : a ≡ Done → IsInitialised config t
@@ -69,12 +69,12 @@ pub record Initialises (config : Config) (a : Answer) (t : State) : Type 0 where
 abbrev pub is_narrow : ChipState → Bool
 is_narrow c = c.cuts && nat_lt (word_length c.latches.lcr) 7
 
--- what a test answers that does not stall: it is done, or its first byte comes back without the bit of 64
+-- the answer of a test that does not stall: it succeeds, or its first byte returns without the bit of 64
 abbrev pub test_answer : (is_narrow : Bool) → Answer
 test_answer false = Done
 test_answer true = LoopbackRefused (UnexpectedLoopbackByte test_byte 2)
 
--- it answers this or stalls; if it does not stall, the transmitter is empty, and the wire holds what was to go out
+-- it has this answer or stalls; if it does not stall, the transmitter is empty, and the wire has what was to be sent
 -- before it, and nothing else
 pub record IsTested (s : State) (a : Answer) (t : State) : Type 0 where
   pub answers : (a ≡ test_answer (is_narrow (machine_of s).chip)) ⊎ (a ≡ LoopbackRefused Stalled)
@@ -82,7 +82,7 @@ pub record IsTested (s : State) (a : Answer) (t : State) : Type 0 where
 
 -- ---- each call
 
--- what a call comes to
+-- the outcome of a call
 abbrev pub ComesTo : State → Call → Answer → State → Type 0
 ComesTo s (call.Init config) a t = Initialises config a t
 ComesTo s call.TestLoopback a t = Ready s → IsTested s a t

@@ -1,5 +1,5 @@
 -- Runs of calls over the machine: what each call does, and lists of calls.
-use Rattle.std.specs.Prelude.{◌≡◌, List, [], ◌∷◌, map}
+use Rattle.std.specs.Prelude.{◌≡◌, List}
 use Rattle.uart_16550.specs.Driver.{fields, backend_of}
 use Rattle.uart_16550.specs.Tty.{inner_of}
 use Rattle.uart_16550.specs.declared.tty.Uart16550Tty.{Uart16550Tty}
@@ -9,8 +9,9 @@ use Rattle.uart_calls.specs.declared.call.Answer.{Answer}
 use Rattle.uart_calls.specs.declared.call.Answer.TheVariants.{Done}
 use Rattle.uart_calls.specs.Meaning.{Performed}
 use Rattle.uart_chip.specs.Machine.{MachineState, MachineStep, at_mark}
+use Rattle.uart_run.specs.Chains.{LinkOf, ChainOf, RunOf}
 
--- the driver, under its terminal, with the machine as it stands
+-- the driver, under its terminal, with the machine in its state
 abbrev pub State : Type 0
 State = Uart16550Tty MachineState
 
@@ -20,13 +21,13 @@ machine_of s = backend_of (inner_of s)
 
 -- ---- one call
 
--- `Next`: the events up to and with the next Mark, and no access
+-- `Next`: the events up to the next Mark, which is removed, and no access
 pub record GoesOn (answer : Answer) (s t : State) : Type 0 where
   pub answered : answer ≡ Done
   pub machine : machine_of t ≡ at_mark (machine_of s)
   pub driver : fields (inner_of t) ≡ fields (inner_of s)
 
--- what a call leaves and answers: `Next` goes on to the mark, and the driver makes each other call
+-- the state after a call, and its answer: `Next` goes on to the mark, and the driver makes each other call
 abbrev pub CallStep : State → Call → Answer → State → Type 0
 CallStep s call.Next answer t = GoesOn answer s t
 CallStep s other answer t = Performed MachineStep s other answer t
@@ -34,27 +35,13 @@ CallStep s other answer t = Performed MachineStep s other answer t
 -- ---- lists of calls
 
 -- a call of a run, between the states before and after it
-pub record Link : Type 0 where
-  pub before : State
-  pub call : Call
-  pub answer : Answer
-  pub after : State
+abbrev pub Link : Type 0
+Link = LinkOf State Call Answer
 
 -- the calls lead from s to t, one after the other
 abbrev pub Chain : State → List Link → State → Type 0
-Chain s [] t = t ≡ s
-Chain s (link ∷ links) t =
-    (link.before ≡ s) × CallStep link.before link.call link.answer link.after × Chain link.after links t
+Chain = ChainOf CallStep
 
-abbrev pub calls_of : List Link → List Call
-calls_of links = map (λ link. link.call) links
-
-abbrev pub answers_of : List Link → List Answer
-answers_of links = map (λ link. link.answer) links
-
--- these calls, answered so, lead from s to t
-pub record IsRun (s : State) (calls : List Call) (answers : List Answer) (t : State) : Type 0 where
-  pub links : List Link
-  pub chain : Chain s links t
-  pub calls_same : calls_of links ≡ calls
-  pub answers_same : answers_of links ≡ answers
+-- these calls, with these answers, lead from s to t
+abbrev pub IsRun : State → List Call → List Answer → State → Type 0
+IsRun = RunOf CallStep

@@ -1,5 +1,5 @@
--- What a call of a session does at least, whatever the schedule brings: it takes what waits, and a
--- flush empties the transmitter.
+-- What a call of a session does at least, whatever the schedule is: it takes received bytes, and a flush empties the
+-- transmitter.
 use Rattle.std.specs.Prelude.{◌≡◌, ◌<◌, ◌≤◌, ℕ, true, List, [], ◌∷◌, length, min}
 use Rattle.uart_calls.specs.declared.call.Call.{Call}
 use Rattle.uart_calls.specs.declared.call.Call.TheVariants as call
@@ -11,11 +11,11 @@ use Rattle.uart_device.specs.Conserved.{out, waiting}
 use Rattle.uart_calls.specs.Meaning.{bytes_answer}
 use Rattle.uart_run.specs.Run.{State, machine_of, Link}
 
--- the answer holds at least so many bytes
+-- the answer has at least n bytes
 abbrev pub HoldsAtLeast : ℕ → Answer → Type 0
 HoldsAtLeast n a = (bytes : List ℕ) × (a ≡ bytes_answer bytes) × (n ≤ length bytes)
 
--- how many bytes wait
+-- the number of received bytes that have not been read
 abbrev pub waiting_len : State → ℕ
 waiting_len s = length (waiting (machine_of s))
 
@@ -23,13 +23,13 @@ waiting_len s = length (waiting (machine_of s))
 abbrev pub transmitter_of : State → TransmitterState
 transmitter_of s = (machine_of s).chip.transmitter
 
--- the transmitter is empty, and all that was in it has gone onto the wire
+-- the transmitter is empty, and all that was in it has been sent
 pub record IsFlushed (s t : State) : Type 0 where
   pub is_empty : is_transmitter_empty (transmitter_of t).queue (transmitter_of t).shift_place ≡ true
   pub wire : (transmitter_of t).wire ≡ out (machine_of s)
 
--- where a byte waits, a `try_receive_byte` gives one; calls into slots take as many as fit of what waits, an exact one
--- doesn't stall if it asks for no more; and a `flush` that is done has emptied the transmitter
+-- if there is a received byte, a `try_receive_byte` returns one; calls into slots take as many of the received bytes
+-- as fit, an exact one does not stall if there are as many; and a `flush` that succeeds has emptied the transmitter
 abbrev pub Serves : State → Call → Answer → State → Type 0
 Serves s call.TryReceive a t = 0 < waiting_len s → (byte : ℕ) × (a ≡ answer.Register byte)
 Serves s (call.Receive slots) a t = 0 < waiting_len s → HoldsAtLeast (min slots (waiting_len s)) a

@@ -7,7 +7,8 @@ use Rattle.uart_calls.specs.declared.call.Answer.{Answer}
 use Rattle.uart_calls.specs.declared.call.Answer.TheVariants as answer
 use Rattle.uart_chip.specs.Chip.{cut_of}
 use Rattle.uart_device.specs.Conserved.{out, waiting, kept}
-use Rattle.uart_run.specs.Run.{State, machine_of, Link, Chain, calls_of, answers_of}
+use Rattle.uart_run.specs.Chains.{calls_of, answers_of}
+use Rattle.uart_run.specs.Run.{State, machine_of, Link, Chain}
 use Rattle.uart_run.specs.Statuses.{Tells}
 use Rattle.uart_run.specs.Served.{AllServe}
 use Rattle.uart_run.specs.Ready.{Ready, ComesTo}
@@ -23,18 +24,18 @@ abbrev pub AllWithinSession : List Link → Type 0
 AllWithinSession [] = Unit {0}
 AllWithinSession (link ∷ links) = IsWithinSession link.call × AllWithinSession links
 
--- a session: it begins where the state is ready, and no call in it is an `init` or a loopback test
+-- a session: it begins in a ready state, and no call in it is an `init` or a loopback test
 abbrev pub IsSession : State → List Link → Type 0
 IsSession s links = Ready s × AllWithinSession links
 
 -- ---- what a call reported as sent, and what it received
 
--- the count of an answer, and the count of a stall
+-- the count of an answer, or of a stall
 abbrev pub count_of : Answer → ℕ
 count_of (answer.Count count) = count
 count_of other = 0
 
--- of these bytes all, or as many as the stall tells
+-- all of these bytes, or as many as the stall reports
 abbrev pub sent_of : List ℕ → Answer → List ℕ
 sent_of bytes answer.Done = bytes
 sent_of bytes (answer.Stalled done) = take done bytes
@@ -82,9 +83,9 @@ received (link ∷ links) = received_by link.call link.answer ++ received links
 abbrev pub overflows : State → ℕ
 overflows s = (machine_of s).chip.transmitter.overflows
 
--- the wire and the transmitter grew by what was reported, no data write met a full transmitter, what was received
--- and waits is what was kept; an `lsr` or `msr` at the end tells of drops, line errors and changes; and each call
--- does at least what it is for
+-- the wire and the transmitter grew by what was reported, no data write met a full transmitter, what was received and
+-- what is in the receiver is what was kept; an `lsr` or `msr` at the end reports drops, line errors and changes; and
+-- each call does at least what it is for
 pub record Conserves (s : State) (links : List Link) (t : State) : Type 0 where
   pub ready : Ready t
   pub sent : out (machine_of t) ≡ out (machine_of s) ++ map (cut_of (machine_of s).chip) (reported links)
@@ -95,7 +96,8 @@ pub record Conserves (s : State) (links : List Link) (t : State) : Type 0 where
 
 -- ---- what each call of a run does, in a session or not
 
--- whatever it answers, it leaves a ready state ready; it comes to what it should; and where ticks come, it succeeds
+-- whatever its answer is, it preserves a ready state; it has an outcome that it should have; and if ticks pass, it
+-- succeeds
 pub record Follows (s : State) (call : Call) (a : Answer) (t : State) : Type 0 where
   pub ready : Ready s → Ready t
   pub comes_to : ComesTo s call a t
@@ -108,8 +110,8 @@ AllFollow (link ∷ links) = Follows link.before link.call link.answer link.afte
 
 -- ---- runs
 
--- these calls, answered so, lead from s to t; each follows what is promised of it alone, and
--- each session in them conserves
+-- these calls, with these answers, lead from s to t; each does what is promised of it alone, and each session in them
+-- conserves
 pub record Ran (s : State) (calls : List Call) (answers : List Answer) (t : State) : Type 0 where
   pub links : List Link
   pub chain : Chain s links t

@@ -1,6 +1,5 @@
--- What `lsr` and `msr` tell in a session: drops, line errors and changes of the modem lines.
+-- What `lsr` and `msr` report in a session: drops, line errors and changes of the modem lines.
 use Rattle.std.specs.Prelude.{◌≡◌, ℕ, true, List, [], ◌∷◌, ◌++◌, filter, take, bit_and}
-use Rattle.uart_calls.specs.declared.call.Call.{Call}
 use Rattle.uart_calls.specs.declared.call.Call.TheVariants as call
 use Rattle.uart_calls.specs.declared.call.Answer.TheVariants as answer
 use Rattle.uart_chip.specs.declared.receiver.Character.{Character}
@@ -11,27 +10,16 @@ use Rattle.uart_chip.specs.Masks.{IsWithin}
 use Rattle.uart_chip.specs.Receiver.{ReceiverState}
 use Rattle.uart_device.specs.Conserved.{stands, between, entered, IsDrop}
 use Rattle.uart_device.specs.Laws.{reported_front, AllTold, changes_in}
+use Rattle.uart_run.specs.Chains.{NoneIs}
 use Rattle.uart_run.specs.Run.{State, machine_of, Link}
-
--- the call is not `lsr`
-abbrev pub IsNoLsr : Call → Type 0
-IsNoLsr call.Lsr = ⊥
-IsNoLsr other = Unit {0}
 
 -- none of these calls is `lsr`
 abbrev pub AllNoLsr : List Link → Type 0
-AllNoLsr [] = Unit {0}
-AllNoLsr (link ∷ links) = IsNoLsr link.call × AllNoLsr links
-
--- the call is not `msr`
-abbrev pub IsNoMsr : Call → Type 0
-IsNoMsr call.Msr = ⊥
-IsNoMsr other = Unit {0}
+AllNoLsr = NoneIs call.Lsr
 
 -- none of these calls is `msr`
 abbrev pub AllNoMsr : List Link → Type 0
-AllNoMsr [] = Unit {0}
-AllNoMsr (link ∷ links) = IsNoMsr link.call × AllNoMsr links
+AllNoMsr = NoneIs call.Msr
 
 -- the receiver of a state
 abbrev pub receiver_of : State → ReceiverState
@@ -41,9 +29,9 @@ receiver_of s = (machine_of s).chip.receiver
 abbrev pub changes_between : State → State → ℕ
 changes_between s t = changes_in (machine_of s).chip.modem.lines (between (machine_of s) (machine_of t))
 
--- ---- from an earlier moment s to t, which an `lsr` or `msr` left that answered so
+-- ---- from an earlier moment s to t, the state after an `lsr` or `msr` with this answer
 
--- a drop shows as the overrun flag, and the errors of each character that was taken, and of the one in front, are told
+-- a drop is reported by the overrun flag, and so are the errors of each character that was taken, and of the front
 pub record TellsLine (s t : State) (line : ℕ) : Type 0 where
   pub drop : IsDrop (machine_of s) (machine_of t) → has_any line LSR.OVERRUN_ERROR.0 ≡ true
   pub taken : List Character
@@ -52,22 +40,22 @@ pub record TellsLine (s t : State) (line : ℕ) : Type 0 where
   pub errors : AllTold (machine_of t).chip.fifo (reported_front (receiver_of s)) line
       (taken ++ take 1 (receiver_of t).queue)
 
--- the overrun flag tells of a drop
+-- the overrun flag reports a drop
 abbrev pub TellsNoOtherDrop : State → State → ℕ → Type 0
 TellsNoOtherDrop s t line = has_any line LSR.OVERRUN_ERROR.0 ≡ true → IsDrop (machine_of s) (machine_of t)
 
--- each change shows
+-- each change is reported
 abbrev pub TellsChanges : State → State → ℕ → Type 0
 TellsChanges s t status = IsWithin (changes_between s t) status
 
--- nothing else shows as a change
+-- nothing else is reported as a change
 abbrev pub TellsNoOtherChange : State → State → ℕ → Type 0
 TellsNoOtherChange s t status = bit_and status MSR.CHANGES.0 ≡ changes_between s t
 
 -- ---- in a session
 
--- where the session ends with an `lsr` or `msr`, since its start; and where it also begins with one,
--- since that and nothing else
+-- if the session ends with an `lsr` or `msr`, it reports what happened since the start; and if the session also
+-- begins with one, what happened since that and nothing else
 pub record Tells (s : State) (links : List Link) (t : State) : Type 0 where
   pub line : (some : List Link) (last : Link) (value : ℕ) → links ≡ some ++ last ∷ [] → AllNoLsr some →
       last.call ≡ call.Lsr → last.answer ≡ answer.Register value → TellsLine s t value

@@ -8,7 +8,8 @@ use Rattle.uart_calls.specs.declared.call.Answer.{Answer}
 use Rattle.uart_calls.specs.declared.call.Answer.TheVariants.{Done, LoopbackRefused}
 use Rattle.uart_chip.specs.Machine.{MachineState}
 use Rattle.uart_device.specs.Conserved.{out, waiting, stands, arriving, between, entered}
-use Rattle.uart_run.specs.Run.{State, machine_of, Link, Chain, calls_of, answers_of}
+use Rattle.uart_run.specs.Chains.{calls_of, answers_of}
+use Rattle.uart_run.specs.Run.{State, machine_of, Link, Chain}
 use Rattle.uart_run.specs.Served.{AllServe, IsFlushed}
 use Rattle.uart_run.specs.Statuses.{Tells}
 use Rattle.uart_run.specs.Ready.{Ready}
@@ -19,16 +20,17 @@ use Rattle.uart_run.specs.Session.{IsSession, reported, received, overflows, All
 abbrev pub IsUncut : State → Type 0
 IsUncut s = (machine_of s).chip.cuts ≡ false
 
--- what waited in the first machine, and then what arrived up to the second
+-- what was in the receiver of the first machine, and then what arrived up to the second
 abbrev pub entered_uncut : MachineState → MachineState → List Character
 entered_uncut m n = m.chip.receiver.queue ++ arriving m.chip.receiver.arrived (between m n)
 
--- the bytes of these that were not dropped, as the second machine shows
+-- the bytes of these that were not dropped, according to the second machine
 abbrev pub kept_uncut : MachineState → MachineState → List ℕ
 kept_uncut m n = map (λ character. character.byte) (filter (stands n.chip.receiver) (entered_uncut m n))
 
--- a session: the wire and the transmitter grew by what was reported, no data write met a full transmitter, and what was
--- received and what waits is what was kept; the other clauses are those of any machine, of the characters that entered
+-- a session: the wire and the transmitter grew by what was reported, no data write met a full transmitter, and what
+-- was received and what is in the receiver is what was kept; the other clauses are those of any machine, for the
+-- characters that entered
 pub record ConservesUncut (s : State) (links : List Link) (t : State) : Type 0 where
   pub ready : Ready t
   pub sent : out (machine_of t) ≡ out (machine_of s) ++ reported links
@@ -38,9 +40,9 @@ pub record ConservesUncut (s : State) (links : List Link) (t : State) : Type 0 w
   pub tells : Tells s links t
   pub served : AllServe links
 
--- a loopback test that is called where a session may begin: it is done or stalls; if it is done, the
--- transmitter is empty and the wire holds what was to go out before it, and nothing else; and if ticks come and
--- the wire has room, it is done
+-- a loopback test in a state in which a session may begin: it succeeds or stalls; if it succeeds, the transmitter is
+-- empty and the wire has what was to be sent before it, and nothing else; and if ticks pass and the wire has room, it
+-- succeeds
 pub record TestsUncut (s : State) (a : Answer) (t : State) : Type 0 where
   pub answers : Ready s → (a ≡ Done) ⊎ (a ≡ LoopbackRefused Stalled)
   pub leaves : Ready s → a ≡ Done → IsFlushed s t
@@ -54,8 +56,8 @@ abbrev pub AllFollowUncut : List Link → Type 0
 AllFollowUncut [] = Unit {0}
 AllFollowUncut (link ∷ links) = FollowsUncut link.before link.call link.answer link.after × AllFollowUncut links
 
--- these calls, answered so, lead from s to t; each follows what is promised of it alone, and
--- each session in them conserves
+-- these calls, with these answers, lead from s to t; each does what is promised of it alone, and each session in them
+-- conserves
 pub record RanUncut (s : State) (calls : List Call) (answers : List Answer) (t : State) : Type 0 where
   pub links : List Link
   pub chain : Chain s links t

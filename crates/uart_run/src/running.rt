@@ -9,30 +9,42 @@ use uart_16550::Uart16550Tty;
 use uart_calls::{Answer, Call, perform};
 use uart_device::Device16550;
 
-/// Makes the calls in turn, each with its answer in its slot.
+/// Makes the calls in turn, and stores the answer of each in its slot. Never fails, and allocates no memory.
 ///
-/// Never refuses and takes no memory. In each session, that is from a state in which DLAB and loopback are off and the
-/// driver knows whether the FIFO is on, up to the next `Init` or `TestLoopback`: the wire and the transmitter grow by exactly
-/// the bytes that sends reported, no data write meets a full transmitter, and bytes received followed by those waiting are
-/// those waiting at the start and those arrived, in order, less those dropped.
+/// A *session* begins in a ready state: DLAB and loopback are off, and the driver knows whether the FIFO is on. It goes on
+/// up to the next `Init` or `TestLoopback`. In each session
 ///
-/// On a machine that cuts characters to the word length ([`Device16550::new_cut`]) this holds with the bytes that sends reported
-/// and those that arrived cut so. The clause `uncut` says it without a word about cutting, for every other machine.
+/// - the wire and the transmitter grow by exactly the bytes that sends reported;
+/// - no data write meets a full transmitter;
+/// - the bytes received, and then those in the receiver, are those that were in the receiver at the start and those that
+///   arrived, in order, without those that were dropped.
 ///
-/// An `Init` finds the device, and one that is done leaves such a state, whatever the machine was before it. A `TestLoopback`
-/// in such a state is done or stalls, and where it is done nothing of it went onto the wire. With characters of 5 or 6 bits it
-/// reports an unexpected byte in place of being done. Every call, whatever it answers, leaves such a state where it found one.
+/// On a machine that cuts characters to the word length ([`Device16550::new_cut`]) this holds with the bytes that sends
+/// reported and those that arrived cut in this way. The clause `uncut` states it without cutting, for every other machine.
 ///
-/// Where each access of the schedule has a tick before it, the spin limit is at least 17 (t + 1) for a character of t ticks, and
-/// the wire has room for all that is to go out, an `Init` with a divisor is done, and from such a state so are `TestLoopback`,
-/// `Flush` and, without CTS checking, `SendExact`, `Write` and `Text`.
+/// An `Init` finds the device. If it succeeds, the state after it is ready, whatever the machine was before. A
+/// `TestLoopback` in a ready state succeeds or stalls, and if it succeeds, nothing of it went to the wire. With characters
+/// of 5 or 6 bits it reports an unexpected byte instead of success. Every call preserves a ready state, whatever its answer
+/// is.
+///
+/// If each access of the schedule has a tick before it, the spin limit is at least 17 (t + 1) for a character of t ticks,
+/// and the wire has room for all that is to be sent, then an `Init` with a divisor succeeds, and in a ready state so do
+/// `TestLoopback`, `Flush` and, without CTS checking, `SendExact`, `Write` and `Text`.
+///
+/// # Examples
+///
+/// ```
+/// let mut answers = [Answer::Done];
+/// run(uart, &[Call::Init(config)], &mut answers);
+/// matches!(&answers[0], Answer::Done)
+/// ```
 pub fn run(uart: &mut Uart16550Tty<Device16550>, calls: &[Call], answers: &mut [Answer])
     requires runnable { All IsRunnable calls.now }
     requires slots { length calls.now ≡ length answers.old }
     ensures ran { Ran uart.old calls.now answers.new uart.new }
     ensures uncut { IsUncut uart.old → RanUncut uart.old calls.now answers.new uart.new }
 {
-    // Any observer tells what holds of every machine.
+    // The contract of this call states what holds of every machine.
     let _fifo = uart.inner().backend().fifo_enabled();
     for i in 0..calls.len() {
         answers[i] = run_call(uart, &calls[i]);

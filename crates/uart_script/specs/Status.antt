@@ -1,4 +1,4 @@
--- The program's statuses.
+-- The statuses of the program.
 use Rattle.std.specs.Prelude.{ℕ, Result, Ok, Err}
 use Rattle.uart_machine.specs.declared.script.playing.PlayError.{PlayError}
 use Rattle.uart_machine.specs.declared.script.playing.PlayError.TheVariants.{Refused, ReadFault, WriteFault}

@@ -27,7 +27,7 @@ impl<W: Output> fmt::Write for Printer<'_, W> {
     }
 }
 
-// The program's status for an error.
+// Returns the program's status for an error.
 fn status(error: PlayError) -> u8
     ensures { result ≡ error_status error }
 {
@@ -38,10 +38,10 @@ fn status(error: PlayError) -> u8
     }
 }
 
-/// Writes what went wrong as one line, if anything did and the writer still works, and returns the program's status: 0 if the
+/// Writes what went wrong as one line, if anything did and the writer still works. Returns the program's status: 0 if the
 /// script was played, 1 if it was refused, 2 if the reader or the writer failed, 3 if out of memory.
 ///
-/// A fault of this line's own writing is ignored. Takes no memory.
+/// If this line cannot be written, that is ignored. Allocates no memory.
 pub fn finish<W: Output>(outcome: Result<(), PlayError>, writer: &mut W) -> u8
     ensures { result ≡ status_of outcome }
 {
@@ -81,7 +81,7 @@ mod tests {
         Ok(())
     }
 
-    // A writer of so few bytes that the line is cut off.
+    // A writer with room for so few bytes that the line is cut off.
     #[test]
     fn a_fault_of_its_own_line_changes_no_status(rt: HostRuntime) {
         for (outcome, written, status) in [

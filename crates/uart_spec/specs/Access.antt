@@ -1,11 +1,11 @@
--- Accesses to the eight registers, paths of them, and the bits that the driver saves of their answers.
+-- Accesses to the eight registers, paths of accesses, and the bits of their answers that the driver saves.
 use Rattle.std.specs.Prelude.{◌≡◌, ℕ, List, [], ◌∷◌, ◌==◌, if◌then◌else◌}
 use Rattle.std.specs.Int.RustNames.{bit_and, bit_or}
 use Rattle.uart_spec.specs.declared.registers.line_status.TheConstants.LSR
 use Rattle.uart_spec.specs.declared.registers.modem_status.TheConstants.MSR
 use Rattle.uart_spec.specs.declared.registers.offsets.TheConstants as offsets
 
--- a read with its answer, or a write with its value
+-- a read with its answer, the value that it returned; or a write with its value
 pub data Access : Type 0 where
   Read : (offset answer : ℕ) → Access
   Write : (offset value : ℕ) → Access
@@ -15,20 +15,20 @@ abbrev pub Path : {S : Type 0} → (S → Access → S → Type 0) → S → Lis
 Path step a [] b = b ≡ a
 Path {S} step a (access ∷ accesses) b = (mid : S) × step a access mid × Path step mid accesses b
 
--- the bits of a register, among those of the mask, that one access answered
+-- the bits of this register, among those of the mask, that one access read
 abbrev pub saved_of : ℕ → ℕ → Access → ℕ
 saved_of register mask (Read offset answer) = if offset == register then bit_and answer mask else 0
 saved_of register mask (Write offset value) = 0
 
--- the join of these bits over a list
+-- the union of these bits over a list
 abbrev pub saved : ℕ → ℕ → List Access → ℕ
 saved register mask [] = 0
 saved register mask (access ∷ accesses) = bit_or (saved_of register mask access) (saved register mask accesses)
 
--- the line errors that reads of LSR showed
+-- the line errors that the reads of LSR returned
 abbrev pub saved_lsr : List Access → ℕ
 saved_lsr = saved offsets.LSR LSR.LINE_ERRORS.0
 
--- the changes of modem lines that reads of MSR showed
+-- the changes of modem lines that the reads of MSR returned
 abbrev pub saved_msr : List Access → ℕ
 saved_msr = saved offsets.MSR MSR.CHANGES.0

@@ -4,7 +4,7 @@ use Rattle.uart_spec.specs.declared.errors.InvalidDivisorError.{InvalidDivisorEr
 use Rattle.uart_spec.specs.declared.errors.InvalidDivisorError.TheVariants.{NonInteger, OutOfRange}
 use Rattle.uart_spec.specs.declared.errors.NonIntegerBaudRateError.{NonIntegerBaudRateError}
 
--- the prescaler division factor, which is 0 where there is none
+-- the prescaler division factor, 0 if there is none
 abbrev pub prescaler : Option ℕ → ℕ
 prescaler factor = unwrap_or factor 0
 
@@ -12,15 +12,15 @@ prescaler factor = unwrap_or factor 0
 abbrev pub frequency_of : (baud_rate divisor : ℕ) → Option ℕ → ℕ
 frequency_of baud_rate divisor factor = 16 * (prescaler factor + 1) * baud_rate * divisor
 
--- the baud rate at which the clock has this frequency, or that no whole one does
+-- the baud rate at which the clock has this frequency; or an error, if no whole one does
 abbrev pub IsBaudRateAnswer : (frequency divisor : ℕ) → Option ℕ → Result ℕ NonIntegerBaudRateError → Type 0
 IsBaudRateAnswer frequency divisor factor (Ok baud_rate) = frequency_of baud_rate divisor factor ≡ frequency
 IsBaudRateAnswer frequency divisor factor (Err error) =
     ((baud_rate : ℕ) → frequency_of baud_rate divisor factor ≢ frequency)
     × (error ≡ record { frequency = frequency; divisor = divisor; prescaler_division_factor = factor })
 
--- the divisor at which the clock has this frequency, which fits into the divisor latch or is too large for it;
--- or that no whole one does
+-- the divisor at which the clock has this frequency, if it fits into the divisor latch; an error with the divisor if
+-- it does not fit; an error with the arguments if no whole divisor does
 abbrev pub IsDivisorAnswer : (frequency baud_rate : ℕ) → Option ℕ → Result ℕ InvalidDivisorError → Type 0
 IsDivisorAnswer frequency baud_rate factor (Ok divisor) =
     (frequency_of baud_rate divisor factor ≡ frequency) × (1 ≤ divisor) × (divisor ≤ 65535)

@@ -7,7 +7,7 @@ use Rattle.uart_spec.specs.declared.config.BaudRate.TheVariants.{Baud115200, Bau
 use Rattle.uart_spec.specs.declared.config.BaudRate.TheVariants.{Baud2400, Baud1200, Baud600, Baud300, Baud150, Baud110}
 use Rattle.uart_spec.specs.declared.config.BaudRate.TheVariants.{Custom}
 
--- the bits a second of a baud rate
+-- the number of bits per second
 abbrev pub to_integer : BaudRate → ℕ
 to_integer (Custom rate) = rate
 to_integer Baud115200 = 115200

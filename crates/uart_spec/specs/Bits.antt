@@ -1,4 +1,4 @@
--- Registers as sets of bit places, and fields of neighbouring places.
+-- Registers as sets of bits, and fields of neighbouring bits.
 use Rattle.std.specs.Prelude.{◌≡◌, ℕ, ◌+◌, ◌/◌, ◌%◌, ◌^◌, ◌<◌, ◌≤◌, Bool, ◌==◌, not, ◌↔◌, ◌⊎◌, Option, Some, List}
 use Rattle.std.specs.Prelude.{if◌then◌else◌}
 use Rattle.std.specs.Int.RustNames.{bit_and}
@@ -8,24 +8,24 @@ use Rattle.bitflags.specs.Sets.{known_bits}
 abbrev pub has : ℕ → ℕ → Bool
 has value bits = bit_and value bits == bits
 
--- the value has some of these bits
+-- the value has at least one of these bits
 abbrev pub has_any : ℕ → ℕ → Bool
 has_any value bits = not (bit_and value bits == 0)
 
--- these bits if the flag is set, else none
+-- these bits if the flag is set, else no bits
 abbrev pub flag : Bool → ℕ → ℕ
 flag on bits = if on then bits else 0
 
--- the number in the places of a field, which is so many places wide from its lowest one on
+-- the number in a field of this width, from its lowest bit on
 abbrev pub field : (lowest width value : ℕ) → ℕ
 field lowest width value = value / 2 ^ lowest % 2 ^ width
 
--- of the eight places, those outside of a field are the same in both values
+-- the eight bits are the same in both values, except those of a field
 abbrev pub SameOutside : (lowest width old new : ℕ) → Type 0
 SameOutside lowest width old new =
     (place : ℕ) → place < 8 → (place < lowest) ⊎ (lowest + width ≤ place) → field place 1 new ≡ field place 1 old
 
--- no byte has a bit that the table of named bits lacks
+-- no byte has a bit that is not in the table of named bits
 abbrev pub NamesEachByte : List (List ℕ × ℕ) → Type 0
 NamesEachByte table = (byte : ℕ) → byte < 256 → bit_and byte (known_bits table) ≡ byte
 
@@ -33,6 +33,6 @@ NamesEachByte table = (byte : ℕ) → byte < 256 → bit_and byte (known_bits t
 abbrev pub IsOnly : {A : Type 0} → (A → Type 0) → A → Type 0
 IsOnly {A} P x = (y : A) → (x ≡ y) ↔ P y
 
--- the one value that has the property, where there is one
+-- the one value that has the property, or none if no value has it
 abbrev pub IsOnlyIfAny : {A : Type 0} → (A → Type 0) → Option A → Type 0
 IsOnlyIfAny {A} P o = (y : A) → (o ≡ Some y) ↔ P y

@@ -1,4 +1,4 @@
--- Which configurations a divisor can be computed for.
+-- The configurations for which a divisor can be computed.
 use Rattle.std.specs.Prelude.{◌<◌, ◌≤◌}
 use Rattle.uart_spec.specs.Baud.{prescaler}
 use Rattle.uart_spec.specs.BaudRate.{to_integer}

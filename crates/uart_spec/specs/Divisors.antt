@@ -126,7 +126,7 @@ number Divisor57600 = 57600
 abbrev pub IsDivisor : ℕ → Type 0
 IsDivisor n = (n ≤ 65535) × ((rate : ℕ) × (n * rate ≡ 115200))
 
--- all of them, from the least on
+-- all of them, in ascending order
 abbrev pub divisors : List Divisor
 divisors =
     Divisor1 ∷ Divisor2 ∷ Divisor3 ∷ Divisor4 ∷ Divisor5 ∷ Divisor6 ∷ Divisor8 ∷ Divisor9 ∷ Divisor10 ∷ Divisor12 ∷

@@ -31,7 +31,7 @@ word_length_code SixBits = 1
 word_length_code SevenBits = 2
 word_length_code EightBits = 3
 
--- how many data bits a word length has
+-- the number of data bits of a word length
 abbrev pub word_length_bits : WordLength → ℕ
 word_length_bits FiveBits = 5
 word_length_bits SixBits = 6
@@ -46,20 +46,20 @@ parity_code Even = 3
 parity_code Forced1 = 5
 parity_code Forced0 = 7
 
--- the two places from the lowest on hold the code of this trigger level
+-- the two bits from the lowest on are the code of this trigger level
 abbrev pub HasTrigger : (lowest value : ℕ) → FifoTriggerLevel → Type 0
 HasTrigger lowest value level = field lowest 2 value ≡ trigger_code level
 
--- the two places from the lowest on hold the code of this word length
+-- the two bits from the lowest on are the code of this word length
 abbrev pub HasWordLength : (lowest value : ℕ) → WordLength → Type 0
 HasWordLength lowest value length = field lowest 2 value ≡ word_length_code length
 
--- how many places of the parity field count: of no parity the lowest alone
+-- the number of bits of the parity field that matter: for no parity the lowest alone
 abbrev pub parity_places : Parity → ℕ
 parity_places Disabled = 1
 parity_places _ = 3
 
--- the three places from the lowest on hold a code of this parity
+-- the three bits from the lowest on are a code of this parity
 abbrev pub HasParity : (lowest value : ℕ) → Parity → Type 0
 HasParity lowest value parity = field lowest (parity_places parity) value ≡ parity_code parity
 
@@ -73,11 +73,11 @@ interrupt_code ModemStatus = 0
 interrupt_code DmaReceptionEndOfTransfer = 7
 interrupt_code DmaTransmissionEndOfTransfer = 5
 
--- bit 0 is clear, so an interrupt is pending, and its code is that of this interrupt
+-- bit 0 is clear, so an interrupt is pending, and the code is that of this interrupt
 abbrev pub Identifies : ℕ → InterruptType → Type 0
 Identifies isr interrupt = (field 0 1 isr ≡ 0) × (field 1 3 isr ≡ interrupt_code interrupt)
 
--- the priority, from 1, the highest, on
+-- the priority: 1 is the highest
 abbrev pub priority : InterruptType → ℕ
 priority ReceiverLineStatus = 1
 priority ReceivedDataReady = 2

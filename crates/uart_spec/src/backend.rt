@@ -1,22 +1,29 @@
-//! How the registers of a device are reached.
+//! How the registers of a device are read and written.
 ghost use Rattle.std.specs.Prelude.{◌<◌};
 ghost use Rattle.uart_spec.specs.declared.baud.TheConstants.{NUM_REGISTERS};
 ghost use Rattle.uart_spec.specs.Access.{Access, Read, Write};
 
 /// Access to the eight registers of one device.
 ///
-/// An implementation names its step relation: which state may follow which state by which access. The driver's contracts
-/// speak of paths of these steps, so they hold over every backend, whatever it answers.
+/// An implementation defines a step relation: which accesses lead from which state to which state. The driver's contracts
+/// are about paths of these steps, so they hold over every backend, whatever its reads return.
+///
+/// `PioBackend` and `MmioBackend` of `uart_16550` implement this trait over I/O ports and over memory. Implement it
+/// yourself for an emulated device or for any other kind of access.
 pub trait Backend {
-    // From the first state this access, with its answer or its value, may lead to the second.
+    // This access, with the byte that it reads or writes, may lead from the first state to the second.
     ghost step: { Self → Access → Self → Type 0 };
 
-    /// Reads the register at an offset of 0 to 7.
+    /// Reads the register at an offset of 0 to 7, and returns its value.
+    ///
+    /// Called once for each read that the driver makes. A read may change the device: one of LSR clears its error bits.
     fn read(&mut self, register_offset: u8) -> u8
         requires { register_offset < NUM_REGISTERS }
         ensures { step self.old (Read register_offset result) self.new };
 
-    /// Writes the register at an offset of 0 to 7.
+    /// Writes a value to the register at an offset of 0 to 7.
+    ///
+    /// Called once for each write that the driver makes, in the driver's order.
     fn write(&mut self, register_offset: u8, value: u8)
         requires { register_offset < NUM_REGISTERS }
         ensures { step self.old (Write register_offset value) self.new };

@@ -1,23 +1,29 @@
-//! The arithmetic of clock frequency, divisor and baud rate.
+//! Clock frequency, divisor and baud rate: each of the three from the other two.
 ghost use Rattle.std.specs.Prelude.{◌≡◌, ◌≢◌, ◌↔◌, ℕ, ◌+◌, ◌*◌, ◌<◌, ◌≤◌, ◌^◌, IfSome, IfNone};
 ghost use Rattle.uart_spec.specs.Bits.{IsOnly, IsOnlyIfAny};
 ghost use Rattle.uart_spec.specs.Baud.{IsBaudRateAnswer, IsDivisorAnswer, frequency_of, prescaler};
 
 use crate::errors::{InvalidDivisorError, NonIntegerBaudRateError, NonIntegerDivisorError};
 
-/// The usual frequency of the clock that drives the baud rate generator, in hertz: 16 ticks a bit at 115,200 baud.
+/// The usual frequency of the clock that drives the baud rate generator, in hertz: 16 clock ticks per bit at 115,200 baud.
 pub const CLK_FREQUENCY_HZ: u32 = 1_843_200;
 
-/// How many characters a FIFO of a 16550 holds.
+/// The number of characters that a FIFO of a 16550 holds.
 pub const FIFO_SIZE: usize = 16;
 
-/// How many registers a 16550 shows at a time, at offsets 0 to 7.
+/// The number of registers that a 16550 shows at a time, at offsets 0 to 7.
 pub const NUM_REGISTERS: usize = 8;
 
-/// The clock frequency in hertz at which a divisor gives a baud rate in bits a second.
+/// Returns the clock frequency in hertz at which a divisor gives a baud rate.
 ///
-/// The generator divides the clock by 16, by the divisor, and by the prescaler division factor plus 1. The factor is from 0
-/// to 15, and counts as 0 where it is absent.
+/// The generator divides the clock by 16, by the divisor, and by the prescaler division factor plus 1. The factor is
+/// between 0 and 15; `None` counts as 0.
+///
+/// # Examples
+///
+/// ```
+/// assert_eq!(rt; calc_frequency(9_600, 12, None), 1_843_200);
+/// ```
 pub fn calc_frequency(baud_rate: u32, divisor: u32, prescaler_division_factor: Option<u32>) -> u32
     requires baud_rate { 0 < baud_rate }
     requires divisor { 0 < divisor }
@@ -28,9 +34,17 @@ pub fn calc_frequency(baud_rate: u32, divisor: u32, prescaler_division_factor: O
     16 * (prescaler_division_factor.unwrap_or(0) + 1) * baud_rate * divisor
 }
 
-/// The baud rate in bits a second that a divisor gives at a clock frequency in hertz.
+/// Returns the baud rate that a divisor gives at a clock frequency in hertz. Nothing is rounded.
 ///
-/// Answers the arguments as an error where the baud rate is not whole.
+/// # Errors
+///
+/// `NonIntegerBaudRateError`, with the arguments, if the baud rate is not a whole number.
+///
+/// # Examples
+///
+/// ```
+/// assert_eq!(rt; calc_baud_rate(1_843_200, 12, None), Ok(9_600));
+/// ```
 pub fn calc_baud_rate(
     frequency: u32,
     divisor: u32,
@@ -51,10 +65,19 @@ pub fn calc_baud_rate(
     }
 }
 
-/// The divisor that gives a baud rate in bits a second at a clock frequency in hertz.
+/// Returns the divisor that gives a baud rate at a clock frequency in hertz. Nothing is rounded.
 ///
-/// Answers `NonInteger` where no whole divisor gives exactly this baud rate, and nothing is rounded. Answers `OutOfRange`
-/// where one does and the divisor latch, which has 16 bits, cannot hold it.
+/// # Errors
+///
+/// - `NonInteger`, with the arguments, if no whole divisor gives exactly this baud rate. At the usual clock that is the
+///   case for 110 baud.
+/// - `OutOfRange`, with the divisor, if one does, but it does not fit into the divisor latch of 16 bits.
+///
+/// # Examples
+///
+/// ```
+/// assert_eq!(rt; calc_divisor(1_843_200, 9_600, None), Ok(12));
+/// ```
 pub fn calc_divisor(
     frequency: u32,
     baud_rate: u32,
@@ -76,7 +99,7 @@ pub fn calc_divisor(
     }
 }
 
-// The divisor for a baud rate, and also the baud rate for a divisor: the two are factors of one product.
+// Returns the divisor for a baud rate, or the baud rate for a divisor: the two are factors of one product.
 fn other_factor(frequency: u32, factor: u32, prescaler_division_factor: Option<u32>) -> Option<u32>
     requires factor { 0 < factor }
     requires prescaler { prescaler prescaler_division_factor ≤ 15 }
@@ -88,7 +111,7 @@ fn other_factor(frequency: u32, factor: u32, prescaler_division_factor: Option<u
     whole_quotient(frequency, ticks)
 }
 
-// The number that times the divisor is the dividend.
+// Returns the quotient if there is no remainder.
 fn whole_quotient(dividend: u32, divisor: u64) -> Option<u32>
     requires { 0 < divisor }
     ensures { IsOnlyIfAny (λ quotient. divisor * quotient ≡ dividend) result }

@@ -1,4 +1,4 @@
-//! How a device is to be set up.
+//! The configuration of a device.
 ghost use Rattle.std.specs.Prelude.{◌≡◌, ◌↔◌, IsTrue};
 ghost use Rattle.std.proofs.Common.{rules};
 ghost use Rattle.std.specs.Cmp.{partial_order_from_own_ties};
@@ -13,10 +13,17 @@ use crate::baud::CLK_FREQUENCY_HZ;
 use crate::registers::{FifoTriggerLevel, IER, Parity, WordLength};
 use std::cmp::Ordering;
 
-/// A baud rate, in bits a second.
+/// A baud rate, in bits per second.
 ///
-/// Baud rates are ordered by their number. At one number the case with a name comes before `Custom`, so `Baud9600` and
-/// `Custom(9600)` are different values.
+/// Baud rates are ordered by their number. If two have the same number, the one with a name comes before `Custom`. So
+/// `Baud9600` and `Custom(9600)` are different values; `from_integer` returns the one with a name.
+///
+/// # Examples
+///
+/// ```
+/// assert_eq!(rt; BaudRate::from_integer(9600), BaudRate::Baud9600);
+/// assert!(rt; BaudRate::Baud9600 < BaudRate::Custom(9600));
+/// ```
 #[derive(Clone, Copy, Debug, PartialEq, Eq, Hash, Default)]
 pub enum BaudRate {
     /// 115,200 baud.
@@ -40,14 +47,20 @@ pub enum BaudRate {
     Baud300,
     /// 150 baud.
     Baud150,
-    /// 110 baud. The usual clock gives no such rate, since 110 does not divide 115,200.
+    /// 110 baud. `Uart16550::init` refuses it at the usual clock, since 110 does not divide 115,200.
     Baud110,
-    /// A baud rate by its number.
+    /// Any other baud rate, by its number. Zero is not computable.
     Custom(u32),
 }
 
 impl BaudRate {
-    /// The baud rate as a number, in bits a second.
+    /// Returns the number of bits per second.
+    ///
+    /// # Examples
+    ///
+    /// ```
+    /// calc_divisor(CLK_FREQUENCY_HZ, baud_rate.to_integer(), None)
+    /// ```
     pub fn to_integer(self) -> u32
         ensures { result ≡ to_integer self }
     {
@@ -67,7 +80,14 @@ impl BaudRate {
         }
     }
 
-    /// The baud rate of a number: the case with a name, where there is one.
+    /// Returns the baud rate with this number of bits per second: the case with a name if there is one, else `Custom`.
+    ///
+    /// # Examples
+    ///
+    /// ```
+    /// assert_eq!(rt; BaudRate::from_integer(9600), BaudRate::Baud9600);
+    /// assert_eq!(rt; BaudRate::from_integer(9601).to_integer(), 9601);
+    /// ```
     pub fn from_integer(value: u32) -> Self
         ensures number { to_integer result ≡ value }
         ensures named { (rate : BaudRate) → IsNamed rate → to_integer rate ≡ value → result ≡ rate }
@@ -88,7 +108,7 @@ impl BaudRate {
         }
     }
 
-    // 0 for a case with a name, 1 for `Custom`: how two rates of one number are ordered.
+    // 0 for a case with a name, 1 for `Custom`: the order of two rates with the same number.
     fn rank(self) -> u8
         ensures { result ≡ rank self }
     {
@@ -125,35 +145,49 @@ impl PartialOrd for BaudRate {
     }
 }
 
-/// How a device is to be set up: clock and baud rate, the format of a character, FIFOs and interrupts.
+/// The configuration of a device: clock and baud rate, the format of a character, FIFOs and interrupts.
+///
+/// Pass it to `Uart16550::init`, which requires that it is computable (`Config::is_computable`). Start from
+/// `Config::DEFAULT`, and set what differs.
+///
+/// # Examples
+///
+/// ```
+/// uart.init(Config {
+///     baud_rate: BaudRate::Baud38400,
+///     ..Config::DEFAULT
+/// })?;
+/// ```
 #[derive(Clone, Debug, PartialEq, Eq, PartialOrd, Ord, Hash, Drop)]
 pub struct Config {
-    /// The interrupts that the device raises from its initialisation on. One may be pending before the initialisation
-    /// returns, so initialise with the processor's interrupts masked.
+    /// The interrupts that are enabled at the end of the initialisation. One may be pending before `init` returns, so call
+    /// it with the processor's interrupts masked.
     pub interrupts: IER,
-    /// The frequency of the clock that drives the baud rate generator, in hertz, and not zero.
+    /// The frequency of the clock that drives the baud rate generator, in hertz. Not zero.
     pub frequency: u32,
-    /// The prescaler division factor, from 0 to 15, on chips that have a prescaler. Without one it counts as 0.
+    /// The prescaler division factor, between 0 and 15, if the chip has a prescaler. `None` counts as 0.
+    ///
+    /// It takes part in the computation of the divisor. `init` does not write it to the chip.
     pub prescaler_division_factor: Option<u32>,
-    /// The receiver FIFO's trigger level. Without one the FIFOs stay off; some versions of QEMU were reported to stall
-    /// then. A chip without FIFOs ignores it.
+    /// The trigger level of the receiver FIFO. `None` leaves the FIFOs off, and bytes are then sent one at a time; some
+    /// versions of QEMU were reported to stall in this mode. A chip without FIFOs ignores the level.
     pub fifo_trigger_level: Option<FifoTriggerLevel>,
-    /// The baud rate, which has to be a whole fraction of what the clock gives.
+    /// The baud rate. The clock must give exactly this rate, or `init` refuses it.
     pub baud_rate: BaudRate,
-    /// How many data bits a character has.
+    /// The number of data bits of a character.
     pub data_bits: WordLength,
     /// Whether a character ends with more than one stop bit: two, or one and a half after five data bits.
     pub extra_stop_bits: bool,
     /// The parity of a character.
     pub parity: Parity,
-    /// Whether bytes are sent only while the remote signals clear to send (CTS). Leave it off for a cable that does not
-    /// drive the line, as many do not: nothing is sent otherwise.
+    /// Whether bytes are sent only while the remote asserts clear to send (CTS). Enable it only for a remote that drives
+    /// this line: many cables do not, and nothing is sent then.
     pub check_cts_before_sending: bool,
 }
 
 impl Config {
-    /// 9,600 baud at the usual clock, eight data bits, no parity and one stop bit, FIFOs with a trigger level of fourteen,
-    /// no interrupts, and sending whatever CTS says.
+    /// 9,600 baud at the usual clock, eight data bits, no parity, one stop bit, FIFOs with a trigger level of fourteen, no
+    /// interrupts, and no CTS check before sending.
     pub const DEFAULT: Config = Config {
         interrupts: IER::NONE,
         frequency: CLK_FREQUENCY_HZ,
@@ -166,9 +200,16 @@ impl Config {
         check_cts_before_sending: false,
     };
 
-    /// Whether the baud rate arithmetic takes this configuration, as an initialisation asks for: the frequency and the
-    /// baud rate are not zero, and the prescaler division factor is absent or at most 15. The divisor may still turn out
-    /// not to be whole, or too large for the divisor latch.
+    /// Returns whether the arithmetic of the baud rate accepts this configuration, as `Uart16550::init` requires: the
+    /// frequency and the baud rate are not zero, and the prescaler division factor is `None` or at most 15.
+    ///
+    /// `init` may still refuse the baud rate, if its divisor is not a whole number or does not fit into the divisor latch.
+    ///
+    /// # Examples
+    ///
+    /// ```
+    /// assert!(rt; config.is_computable());
+    /// ```
     pub fn is_computable(&self) -> bool
         ensures { IsTrue result ↔ IsComputable self.now }
     {

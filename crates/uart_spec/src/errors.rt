@@ -1,4 +1,4 @@
-//! Why a call of the arithmetic or of the driver was refused.
+//! The errors of the baud rate arithmetic and of the driver.
 use std::fmt;
 use thiserror::Error;
 
@@ -15,14 +15,14 @@ pub struct NonIntegerBaudRateError {
     pub prescaler_division_factor: Option<u32>,
 }
 
-/// A clock frequency and a baud rate between which no whole divisor stands.
+/// A clock frequency and a baud rate for which there is no whole divisor.
 #[derive(Clone, Debug, Default, PartialEq, Eq, PartialOrd, Hash, Drop, Error)]
 #[error("input values do not result in even (integer representable) baud rate! \
     frequency={frequency}, baud_rate={baud_rate}, prescaler_division_factor={prescaler_division_factor:?}")]
 pub struct NonIntegerDivisorError {
     /// The clock frequency, in hertz.
     pub frequency: u32,
-    /// The baud rate, in bits a second.
+    /// The baud rate, in bits per second.
     pub baud_rate: u32,
     /// The prescaler division factor.
     pub prescaler_division_factor: Option<u32>,
@@ -34,7 +34,7 @@ pub enum InvalidDivisorError {
     /// No whole divisor gives the baud rate.
     #[error(transparent)]
     NonInteger(NonIntegerDivisorError),
-    /// The divisor does not fit into the divisor latch, which has 16 bits.
+    /// The divisor does not fit into the divisor latch of 16 bits.
     #[error("divisor {divisor} is out of range (1..=65535)")]
     OutOfRange {
         /// The divisor.
@@ -42,35 +42,35 @@ pub enum InvalidDivisorError {
     },
 }
 
-/// Why a device cannot have this address. The stride is looked at first.
+/// Why a device cannot be at an address. The stride is checked first.
 #[derive(Clone, Debug, PartialEq, Eq, Hash, Drop, Error)]
 pub enum InvalidAddressError {
-    /// The last of the eight registers would lie beyond the last address, or the last port. The field is the base, of a
-    /// port widened.
+    /// The last of the eight registers would be beyond the last address, or beyond port 65535. Holds the base address, or
+    /// the base port.
     #[error("invalid register address: {0:#x}")]
     InvalidBaseAddress(usize),
-    /// The distance between two registers is zero or no power of two.
+    /// The distance between two registers is zero, or not a power of two. Holds the stride.
     #[error("invalid stride {0}: must be non-zero and a power of two (typically 1, 2, 4, or 8)")]
     InvalidStride(u8),
 }
 
-/// Why an initialisation was refused.
+/// Why an initialisation failed.
 #[derive(Clone, Debug, PartialEq, Eq, Hash, Drop, Error)]
 pub enum InitError {
-    /// The scratchpad register did not keep what was written to it, so no device is at the address. The driver has the new
-    /// configuration all the same.
+    /// The scratch register did not keep what was written to it, so no device is at the address. The scratch register was
+    /// written back, and the driver has the new configuration.
     #[error("the device could not be detected")]
     DeviceNotPresent,
-    /// No divisor gives the baud rate that was asked for. The device was not accessed, and nothing changed.
+    /// There is no divisor for the baud rate. No access was made, and nothing changed.
     #[error("invalid baud rate: {0}")]
     InvalidBaudRate(InvalidDivisorError),
-    /// The transmitter did not become idle within the driver's limit. The device is set up except for its interrupts, which
-    /// are all disabled.
+    /// The transmitter did not become empty within the spin limit. The device is set up, except that all of its interrupts
+    /// are disabled.
     #[error("the device stalled")]
     Stalled,
 }
 
-/// No received byte waits.
+/// No received byte is available: LSR did not show `DATA_READY`.
 #[derive(Clone, Debug, PartialEq, Eq, Hash, Drop, Error)]
 #[error("there is no data to read")]
 pub struct ByteReceiveError;
@@ -81,20 +81,20 @@ pub enum ByteSendError {
     /// The transmitter holding register, or the transmitter FIFO, is not empty.
     #[error("device has no capacity to send another byte (the FIFO might be full)")]
     NoCapacity,
-    /// The remote does not signal clear to send (CTS), and the configuration asks to heed it.
+    /// The remote does not assert clear to send (CTS), and the configuration checks CTS before sending.
     #[error("the remote didn't raised its clear to send signal")]
     RemoteNotClearToSend,
 }
 
-/// Why the remote seems not to be connected or not ready.
+/// Why the remote seems not to be connected, or not to be ready.
 ///
-/// Many cables never raise DSR, CD or CTS, so sending may work all the same. Ask again after a modem status interrupt.
+/// Many cables never assert DSR, CD or CTS, so sending may still work. Check again after a modem status interrupt.
 #[derive(Clone, Debug, PartialEq, Eq, Hash, Drop, Error)]
 pub enum RemoteReadyToReceiveError {
     /// Data set ready (DSR) is clear.
     #[error("there is no remote connected: missing Data Set Ready (DSR)")]
     NoRemoteConnectedNoDSR,
-    /// Carrier detect (CD) is clear. No call answers this case at present.
+    /// Carrier detect (CD) is clear. No call returns this case.
     #[error("there is no remote connected: missing Carrier Detect (CD)")]
     NoRemoteConnectedNoCD,
     /// Clear to send (CTS) is clear, while DSR is set.
@@ -102,60 +102,63 @@ pub enum RemoteReadyToReceiveError {
     RemoteNotClearToSend,
 }
 
-/// Why a loopback test failed. After a stall a test byte may still leave the device.
+/// Why a loopback test failed.
 #[derive(Clone, Debug, PartialEq, Eq, Hash, Drop, Error)]
 pub enum LoopbackError {
-    /// The device did not take the single test byte, though it had shown an idle transmitter. The cause is always
+    /// The device did not accept the single test byte, although its transmitter had been empty. The cause is always
     /// `NoCapacity`.
     #[error("loopback test failed: couldn't send data: {0}")]
     SendError(ByteSendError),
-    /// The single test byte came back changed.
+    /// The device returned a byte other than the test byte.
     #[error("loopback test failed: read unexpected byte! expected={expected}, actual={actual}")]
     UnexpectedLoopbackByte {
         /// The byte that was sent, always 0x42.
         expected: u8,
-        /// The byte that came back.
+        /// The byte that was received.
         actual: u8,
     },
-    /// The test message came back changed.
+    /// The device returned bytes other than the test message.
     #[error("loopback test failed: read unexpected string! expected (str)={}, actual (str)={}, \
         actual (bytes)={actual:?}", Message(.expected), Message(.actual))]
     UnexpectedLoopbackMsg {
         /// The bytes that were sent, always the test message.
         expected: [u8; 16],
-        /// The bytes that came back.
+        /// The bytes that were received.
         actual: [u8; 16],
     },
-    /// The device made no progress within the driver's limit.
+    /// The device made no progress within the spin limit. A test byte may still be in its transmitter, and is then sent
+    /// after the test.
     #[error("loopback test failed: the device stalled")]
     Stalled,
 }
 
-/// A wait ended, since the driver's limit of unsuccessful polls in a row was reached. That need not mean a fault: the
-/// remote may be slow, or have nothing to send.
+/// A wait ended at the spin limit: that many polls in a row were unsuccessful.
+///
+/// This is not always a fault. The remote may be slow, or may have nothing to send. At 9,600 baud a full FIFO and shift
+/// register take about 17.7 ms to send.
 #[derive(Clone, Debug, PartialEq, Eq, Hash, Drop, Error)]
 #[error("the device stalled after {done} bytes")]
 pub struct StalledError {
-    /// How many bytes the call had sent or received before.
+    /// The number of bytes that the call had sent or received before the wait.
     pub done: usize,
 }
 
 /// Why a terminal could not be set up.
 #[derive(Clone, Debug, PartialEq, Eq, Hash, Drop, Error)]
 pub enum Uart16550TtyError {
-    /// No device can have the address.
+    /// No device can be at the address. No access was made.
     #[error(transparent)]
     AddressError(InvalidAddressError),
-    /// The device could not be initialised.
+    /// `Uart16550::init` failed.
     #[error("error initializing the device: {0}")]
     InitError(InitError),
-    /// The loopback test failed. The device stays initialised, with the interrupts of its configuration enabled. A device
-    /// without loopback can do without the test.
+    /// `Uart16550::test_loopback` failed. The device stays initialised, with the interrupts of its configuration enabled.
+    /// For a device without loopback use `Uart16550Tty::from_inner`.
     #[error("error testing the device: {0}")]
     TestError(LoopbackError),
 }
 
-// A test message as text, where each byte is printable ASCII.
+// A test message as text, if each byte is printable ASCII.
 #[derive(Drop)]
 struct Message<'a>(&'a [u8; 16]);
 

@@ -1,6 +1,6 @@
 //! Laws about the types and constants: defaults, orders, values.
 //!
-//! Each function here has a law as its contract, for callers to cite, and does nothing.
+//! The contract of each function is a law that callers can cite. The functions do nothing.
 ghost use Rattle.std.specs.Prelude.{◌≡◌, ℕ, List, [], ◌∷◌, None, Some, false};
 ghost use Rattle.std.specs.Ordering.{nat_cmp, bool_cmp};
 ghost use Rattle.std.specs.declared.cmp.Ordering.TheVariants.{Less};
@@ -45,7 +45,7 @@ use crate::registers::{
     WordLength,
 };
 
-/// The default of each type.
+/// The default value of each type.
 pub fn defaults_are_these()
     ensures ier { (value : IER) → ⟦<IER as Default>⟧.is_default value → value.0 ≡ 0 }
     ensures isr { (value : ISR) → ⟦<ISR as Default>⟧.is_default value → value.0 ≡ 0 }
@@ -93,7 +93,7 @@ pub fn cases_are_in_order()
     ensures divisors { IsAscending ⟦<Divisor as Ord>⟧.cmp divisors }
 {}
 
-/// Records are compared by their fields in this order.
+/// Structs are compared by their fields, in this order.
 pub fn fields_are_in_order()
     ensures config { (a b : Config) → ⟦<Config as Ord>⟧.cmp a b ≡ in_turn (
         ⟦<IER as Ord>⟧.cmp a.interrupts b.interrupts

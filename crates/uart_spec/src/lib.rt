@@ -1,7 +1,7 @@
-//! What is known of a 16550 serial chip before it is first accessed: its registers with their named bits and fields, the
-//! arithmetic of its baud rate generator, how it is configured, and why calls of its driver are refused.
+//! Everything about a 16550 serial chip that needs no access to it: its registers with their named bits and fields, the
+//! arithmetic of its baud rate generator, its configuration, and the errors of its driver.
 //!
-//! Bits are numbered from 0, the lowest, to 7. Frequencies are in hertz and baud rates in bits a second.
+//! Bits are numbered from 0, the lowest, to 7. Frequencies are in hertz and baud rates in bits per second.
 #![tactic(auto)]
 
 pub mod backend;

@@ -33,20 +33,22 @@ pub use modem_control::MCR;
 pub use modem_status::MSR;
 pub use prescaler_division::PSD;
 
-/// Data register: read, the front of the receiver; written, a byte for the transmitter.
+/// Data register, offset 0 while DLAB is clear: a read takes a byte from the receiver (RBR), a write gives one to the
+/// transmitter (THR).
 pub type DATA = u8;
 
-/// Scratchpad register, which the chip keeps and does not use.
+/// Scratch register (SPR), offset 7, which the chip keeps and does not use.
 pub type SPR = u8;
 
-/// Low byte of the divisor latch.
+/// Low byte of the divisor latch (DLL), offset 0 while DLAB is set.
 pub type DLL = u8;
 
-/// High byte of the divisor latch.
+/// High byte of the divisor latch (DLM), offset 1 while DLAB is set.
 pub type DLM = u8;
 
-/// Each byte is a value of each register, since each of the eight bits has a name: `from_bits` answers `Some` for it. This
-/// is a law for callers to cite, and does nothing.
+/// Each byte is a value of each register, since each of the eight bits has a name: `from_bits` never returns `None`.
+///
+/// This is a law that callers can cite. The function does nothing.
 #[tactic(auto, using(crate::proofs::NameLemmas::eight_names))]
 pub fn every_byte_is_a_value()
     ensures ier { NamesEachByte ⟦<IER as Flags>⟧.table }
@@ -59,7 +61,7 @@ pub fn every_byte_is_a_value()
     ensures psd { NamesEachByte ⟦<PSD as Flags>⟧.table }
 {}
 
-/// Which bits each mask joins. This is a law for callers to cite, and does nothing.
+/// The bits of each mask. This is a law that callers can cite. The function does nothing.
 pub fn masks_are_these()
     ensures fifos_enabled { ISR.FIFOS_ENABLED.0 ≡ ISR.FIFOS_ENABLED0.0 + ISR.FIFOS_ENABLED1.0 }
     ensures trigger_level { FCR.RX_FIFO_TRIGGER_LEVEL.0 ≡ FCR.RX_FIFO_TRIGGER_LEVEL0.0 + FCR.RX_FIFO_TRIGGER_LEVEL1.0 }

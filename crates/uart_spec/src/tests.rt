@@ -1,4 +1,4 @@
-//! Worked vectors, and texts, of which no clause speaks.
+//! Worked examples, and texts, which no contract covers.
 use super::*;
 use bitflags::Flags;
 use registers::{

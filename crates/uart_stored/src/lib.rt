@@ -5,7 +5,7 @@ use std::path::Path;
 use std::rt::Files;
 use std::{fs, io};
 
-/// The names of the folder's files with this ending, in order and without the ending.
+/// Returns the names of the folder's files with this ending, in order and without the ending.
 pub fn names_in<R: Files + AllocGlobal + Clone + Drop>(
     rt: &R,
     folder: Path<'_>,
@@ -22,7 +22,7 @@ pub fn names_in<R: Files + AllocGlobal + Clone + Drop>(
     Ok(names)
 }
 
-/// A file of the folder.
+/// Returns the bytes of a file of the folder.
 pub fn bytes_of<R: Files + AllocGlobal>(
     rt: &R,
     folder: Path<'_>,
@@ -33,7 +33,7 @@ pub fn bytes_of<R: Files + AllocGlobal>(
     fs::read(rt, folder.join(rt.alloc(), file.as_str())?)
 }
 
-/// A file of the folder, and what is stored for it in the file of this name whose ending is `.out`.
+/// Returns the bytes of a file of the folder, and those of the file of this name with the ending `.out`, which is stored for it.
 pub fn bytes_and_output<R: Files + AllocGlobal>(
     rt: &R,
     folder: Path<'_>,

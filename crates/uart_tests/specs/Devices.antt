@@ -8,12 +8,12 @@ use Rattle.uart_spec.specs.declared.registers.interrupt_status.TheConstants.ISR
 use Rattle.uart_spec.specs.declared.registers.line_control.TheConstants.LCR
 use Rattle.uart_spec.specs.Access.{Access, Read, Write}
 
--- a read answers this byte, whatever the register
+-- a read returns this byte, whatever the register
 abbrev pub AnswersAlways : ℕ → Access → Type 0
 AnswersAlways byte (Read offset answer) = answer ≡ byte
 AnswersAlways byte (Write offset value) = ⊤
 
--- a file of registers: whether there are FIFOs, what the registers answer, the divisor latch, the bytes that were sent
+-- a file of registers: whether there are FIFOs, what reads of the registers return, the divisor latch, the sent bytes
 pub record File : Type 0 where
   pub fifos : Bool
   pub registers : List ℕ
@@ -24,22 +24,22 @@ pub record File : Type 0 where
 abbrev pub is_latch : List ℕ → ℕ → Bool
 is_latch registers offset = nat_lt offset 2 && has (slice_index registers offsets.LCR) LCR.DLAB.0
 
--- what a register answers
+-- what a read of a register returns
 abbrev pub answer_of : File → ℕ → ℕ
 answer_of file offset =
     if is_latch file.registers offset then slice_index file.latch offset else slice_index file.registers offset
 
--- what ISR answers after a write of FCR: whether the FIFOs are on
+-- what ISR shows after a write of FCR: whether the FIFOs are on
 abbrev pub isr_after : Bool → ℕ → ℕ
 isr_after fifos value =
     if fifos && has value FCR.FIFO_ENABLE.0 then ISR.FIFOS_ENABLED.0 + ISR.INTERRUPT_STATUS.0
     else ISR.INTERRUPT_STATUS.0
 
--- the bytes that were sent, as far as there is room for them
+-- the bytes that were sent, as many as there is room for
 abbrev pub sent_after : List ℕ → ℕ → List ℕ
 sent_after sent value = if nat_lt (length sent) 64 then sent ++ value ∷ [] else sent
 
--- the file after a write: DATA is sent, FCR shows in ISR, LSR stays, and the others keep what is written
+-- the file after a write: DATA is sent, FCR shows in ISR, LSR does not change, and the others keep what is written
 abbrev pub file_after : File → ℕ → ℕ → File
 file_after file offset value =
     if is_latch file.registers offset then record file { latch = slice_set file.latch offset value }

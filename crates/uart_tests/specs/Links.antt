@@ -1,7 +1,7 @@
--- A writer's calls, one after another, by the writer's own relation alone.
+-- Several calls of a writer, by the writer's own relation alone.
 use Rattle.std.specs.Prelude.{◌≡◌, ℕ, List, [], ◌∷◌, ◌++◌, take, Result, Ok, Err}
 
--- one call of a writer: its state before, the bytes given, the answer, its state after
+-- one call of a writer: its state before, the bytes, the result, its state after
 pub record WriteLink (S E : Type 0) : Type 0 where
   pub before : S
   pub given : List ℕ
@@ -14,7 +14,7 @@ WriteChain writes s [] t = t ≡ s
 WriteChain writes s (link ∷ links) t =
     (link.before ≡ s) × writes link.before link.given link.answer link.after × WriteChain writes link.after links t
 
--- the bytes that a call took, and those that all took
+-- the bytes that a call accepted, and those that all calls accepted
 abbrev pub taken_by : {E : Type 0} → List ℕ → Result ℕ E → List ℕ
 taken_by given (Ok count) = take count given
 taken_by given (Err e) = []
@@ -23,7 +23,7 @@ abbrev pub taken : {S E : Type 0} → List (WriteLink S E) → List ℕ
 taken [] = []
 taken (link ∷ links) = taken_by link.given link.answer ++ taken links
 
--- what the calls took is the whole; or a beginning, and the last call answered the error
+-- the calls accepted all bytes; or a beginning, and the last call returned the error
 abbrev pub Takes : {S E T : Type 0} → List (WriteLink S E) → List ℕ → Result T E → Type 0
 Takes links bytes (Ok x) = taken links ≡ bytes
 Takes {S} {E} links bytes (Err e) = (front : List (WriteLink S E)) × (last : WriteLink S E) × (rest : List ℕ) ×

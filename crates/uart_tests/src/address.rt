@@ -1,4 +1,4 @@
-//! The constructors and the backends at ports and at addresses.
+//! The constructors and the backends for devices at ports and at addresses.
 use crate::devices::{Constant, Recorder};
 use crate::lists::Entry::{Read, Write};
 use std::collections::HashSet;
@@ -99,7 +99,7 @@ fn ports_are_reached_one_by_one(rt: HostRuntime) -> Result<(), Fail> {
     Ok(())
 }
 
-// A backend is written so, comes after another one, and is told from it in a set.
+// A backend has this debug text, is greater than another one, and differs from it in a set.
 fn is_value<B: Clone + Debug + Drop + Eq + Hash + PartialOrd>(
     rt: &(impl AllocGlobal + Abort),
     backend: &B,

@@ -1,5 +1,5 @@
-//! Every call over a device that always answers FF, over one that always answers 00, and over the register file: each on a new
-//! driver, with its whole list of accesses.
+//! Every call over a device whose reads always return FF, over one whose reads always return 00, and over the register
+//! file: each on a new driver, with its whole list of accesses.
 use crate::devices::{Constant, RegisterFile, driver};
 use crate::driving::Start::New;
 use crate::driving::{bytes, dump, init, over, row, text, then, writing};
@@ -32,7 +32,8 @@ fn filed(rt: &impl Abort, call: Call, answer: Answer, accesses: Accesses) {
     over(rt, RegisterFile::new(true), call, answer, accesses);
 }
 
-// The calls that look, over a device that always answers this byte: each of its lines and flags is on, or each is off.
+// The calls that make one check, over a device whose reads always return this byte: each of its lines and flags is on, or
+// each is off.
 fn looks_at(rt: &impl Abort, byte: u8, ready: bool, [enabled, disabled]: [u8; 2], under_dlab: u8) {
     let unless = |refusal| if ready { Done } else { refusal };
     let connected = unless(NotConnected(NoRemoteConnectedNoDSR));
@@ -65,7 +66,7 @@ fn looks_at(rt: &impl Abort, byte: u8, ready: bool, [enabled, disabled]: [u8; 2]
     }
 }
 
-// The calls that read one register, over a device that always answers this byte.
+// The calls that read one register, over a device whose reads always return this byte.
 fn registers_at(rt: &impl Abort, byte: u8) {
     for (call, offset) in [
         (Call::Ier, offsets::IER),
@@ -125,7 +126,7 @@ fn bytes_over_ff(rt: HostRuntime) {
 
 #[test]
 fn what_ff_showed_is_saved(rt: HostRuntime) {
-    // Three bytes in six accesses; then LSR is FF, also where it shows nothing itself any more.
+    // Three bytes in six accesses; then `lsr` returns FF, also if LSR itself shows nothing any more.
     let byte = list().look(0xff).read(offsets::DATA, 0xff);
     let three = list().then(&byte).then(&byte).then(&byte);
     for (shown, lsr) in [(0xff, 0xff), (0x00, 0x1e)] {
@@ -191,7 +192,7 @@ fn calls_over_the_register_file(rt: HostRuntime) {
     }
     let begun = list().look(0x60).data(b"a").look(0x60).data(b"\r");
     filed(&rt, text("a\n"), Done, begun.look(0x60).data(b"\n"));
-    // FCR shows in ISR; there is no loopback, so the byte does not come back.
+    // FCR shows in ISR; there is no loopback, so the byte does not return.
     let entered = list().enter(0x00, 0x00, 0x60, 0x00).fifo(0xc7, 0xc1);
     let awaited = entered.look(0x60).look(0x60).data(b"B").looks(3, 0x60);
     let all = awaited.leave(0x00, 0x00, 0x00, 0x00);
@@ -205,7 +206,7 @@ fn calls_over_the_register_file(rt: HostRuntime) {
 
 #[test]
 fn small_calls_over_the_register_file(rt: HostRuntime) {
-    // How many accesses each makes. DLAB is set for the divisor latch alone.
+    // The number of accesses of each. DLAB is set only for the divisor latch.
     let ier = || list().read(offsets::IER, 0x00).write(offsets::IER, 0x00);
     let latch = list().latch(0x00, 0x80, 0x00, 0x00);
     for (call, answer, accesses, count) in [

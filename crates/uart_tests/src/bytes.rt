@@ -99,7 +99,7 @@ fn send_bytes(rt: HostRuntime) {
 #[test]
 fn receive_bytes_exact(rt: HostRuntime) {
     row(&rt, New, ReceiveExact(0), Bytes(bytes(b"")), &list());
-    // Two looks in a row in vain before each byte, and no third.
+    // Two unsuccessful polls in a row before each byte, and no third.
     let all = list().looks(2, 0x00).hit(0x41).looks(2, 0x00).hit(0x42);
     row(&rt, New, ReceiveExact(2), Bytes(bytes(b"AB")), &all);
     let none = list().looks(3, 0x00);
@@ -221,7 +221,7 @@ fn texts_stall(rt: HostRuntime) {
     let none = list().looks(3, 0x00);
     row(&rt, New, text("a\n"), Stalled(0), &none);
     writing(&rt, New, "a\n", Err(fmt::Error), &none);
-    // After the byte, and in the midst of an expansion.
+    // After the byte, and in the middle of an expansion.
     let begun = list().burst(b"a").look(0x00).burst(b"\x08");
     let some = begun.burst(b" ").looks(3, 0x00);
     row(&rt, New, text("a\x7fb"), Stalled(3), &some);

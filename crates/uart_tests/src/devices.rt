@@ -14,11 +14,14 @@ use uart_spec::registers::offsets;
 /// A device whose accesses are recorded.
 #[derive(Drop)]
 pub struct Recorder<D> {
+    /// The device.
     pub device: D,
+    /// Its accesses.
     pub log: Accesses,
 }
 
 impl<D> Recorder<D> {
+    /// Returns the device with no access recorded.
     pub fn new(device: D) -> Self {
         Recorder {
             device,
@@ -70,7 +73,7 @@ impl<D: ByteAccess> PortAccess for Recorder<D> {
     }
 }
 
-/// Answers one byte to every read.
+/// A device whose reads all return this byte.
 #[derive(Clone, Debug, PartialEq, Eq, PartialOrd, Hash, Drop)]
 pub struct Constant(pub u8);
 
@@ -104,12 +107,12 @@ impl ByteAccess for Constant {
     fn store(&mut self, _address: usize, _value: u8) {}
 }
 
-/// Answers the bytes of a list in turn, and then 0.
+/// A device whose reads return the bytes of a list in turn, and then 0.
 #[derive(Drop)]
 pub struct Listed(pub &'static [u8]);
 
 impl Listed {
-    // The next answer.
+    // Returns the byte of the next read.
     fn next(&mut self) -> u8
         ensures { (place : ℕ) → AnswersInTurn self.old.0.now (read_access place result) self.new.0.now }
     {
@@ -149,10 +152,12 @@ pub struct RegisterFile {
     fifos: bool,
     registers: [u8; 8],
     latch: [u8; 2],
+    /// The bytes that were sent.
     pub sent: ArrayVec<u8, 64>,
 }
 
 impl RegisterFile {
+    /// Returns a device with or without FIFOs, to which nothing was written.
     pub fn new(fifos: bool) -> Self {
         let mut registers = [0; 8];
         registers[offsets::ISR] = 0x01;
@@ -165,7 +170,7 @@ impl RegisterFile {
         }
     }
 
-    // Whether the register is the divisor latch now.
+    // Returns whether the register is the divisor latch now.
     fn is_latch(&self, offset: usize) -> bool
         ensures { result ≡ is_latch self.now.registers offset }
     {

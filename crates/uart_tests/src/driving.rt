@@ -1,4 +1,4 @@
-//! What a row of a table says: how a driver is set up, the call that it makes, what that returns, and each of its accesses.
+//! The rows of tables: how a driver is set up, the call that it makes, what that returns, and each of its accesses.
 use crate::devices::impatient;
 use crate::lists::{Accesses, last_write};
 use arrayvec::{ArrayString, ArrayVec};
@@ -13,7 +13,7 @@ use uart_calls::{Answer, CALL_BYTES, Call, perform};
 use uart_spec::registers::{FifoTriggerLevel, IER, ISR, LCR, LSR, MCR, MSR, offsets};
 use uart_spec::{BaudRate, Config};
 
-/// A driver under a terminal, over a device that gives listed answers.
+/// A driver under a terminal, over a device whose reads return listed bytes.
 pub type Replaying<'a> = Uart16550Tty<Replay<'a>>;
 
 /// These bytes, for a call or an answer; none if there are too many.
@@ -69,7 +69,7 @@ pub enum Start {
 }
 
 impl Start {
-    // The configuration, and what a device answers to the initialisation with it before zeros; `None` if there is none.
+    // The configuration, and what the reads of its initialisation return before zeros; `None` if there is none.
     fn setup(self) -> Option<(Config, &'static [u8])> {
         let (fifo_trigger_level, check_cts_before_sending) = match self {
             Start::New => return None,
@@ -90,7 +90,7 @@ impl Start {
     }
 }
 
-// A driver that was initialised so over a device with these answers, and is now over one that gives others.
+// A driver that was initialised like this over a device with these answers, and is now over one with others.
 fn prepared<'a>(
     rt: &impl Abort,
     setup: Option<(Config, &'a [u8])>,
@@ -107,7 +107,7 @@ fn prepared<'a>(
     Uart16550Tty::from_inner(uart)
 }
 
-/// A driver that is set up so, over a device that gives these answers and then zeros.
+/// Returns a driver that is set up like this, over a device whose reads return these bytes and then zeros.
 pub fn started<'a>(rt: &impl Abort, start: Start, answers: &'a [u8]) -> Replaying<'a> {
     prepared(rt, start.setup(), answers)
 }
@@ -118,8 +118,8 @@ fn make<B: Backend>(rt: &impl Abort, terminal: &mut Uart16550Tty<B>, call: &Call
     perform(terminal, call)
 }
 
-/// One row: a driver that is set up so makes a call, over a device that answers its reads as they are listed. That returns this,
-/// and these are its accesses. Returns the driver after the call.
+/// One row: a driver that is set up like this makes a call, over a device whose reads return what the list has. The call
+/// returns this answer, and these are its accesses. Returns the driver after the call.
 pub fn row<'a>(
     rt: &impl Abort,
     start: Start,
@@ -185,23 +185,34 @@ pub fn over<D: Backend + Drop>(
     assert_eq!(rt; log.entries(), list.entries(), "{call:?}");
 }
 
-/// What a call left behind: in the driver's fields, and as the last write to each register.
+/// What a call left: the driver's fields, and the last write to each register.
 #[derive(Debug, PartialEq, Drop)]
 pub struct Left {
+    /// The configured baud rate.
     pub baud_rate: BaudRate,
+    /// The configured interrupts.
     pub interrupts: u8,
+    /// The configured trigger level.
     pub level: Option<FifoTriggerLevel>,
+    /// Whether CTS is checked before sending.
     pub checks_cts: bool,
+    /// Whether the driver takes the FIFO to be on.
     pub fifo_enabled: bool,
+    /// The saved errors.
     pub saved_lsr: u8,
+    /// The saved changes.
     pub saved_msr: u8,
+    /// The last write to IER, if any.
     pub ier: Option<u8>,
+    /// The last write to FCR, if any.
     pub fcr: Option<u8>,
+    /// The last write to LCR, if any.
     pub lcr: Option<u8>,
+    /// The last write to MCR, if any.
     pub mcr: Option<u8>,
 }
 
-/// What a new driver has, over a device to which nothing was written.
+/// A new driver, over a device to which nothing was written.
 pub const NOTHING: Left = Left {
     baud_rate: BaudRate::Baud9600,
     interrupts: 0,
@@ -216,8 +227,8 @@ pub const NOTHING: Left = Left {
     mcr: None,
 };
 
-/// Reads back what the last call left. The saved bits are those that `lsr` and `msr` return over a device that shows none, as the
-/// listed device does once its answers are at their end.
+/// Returns what the last call left. The saved bits are those that `lsr` and `msr` return over a device that shows none, as
+/// the listed device does after its last answer.
 pub fn read_back(mut terminal: Replaying<'_>) -> Left {
     let uart = terminal.inner_mut();
     let accesses = uart.backend().accesses().unwrap_or(&[]);

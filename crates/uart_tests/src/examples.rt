@@ -15,11 +15,12 @@ use uart_spec::{BaudRate, Config, StalledError};
 /// The ports of an emulated machine, of which eight belong to a serial device.
 #[derive(Drop)]
 pub struct Ports {
+    /// The byte at each of the eight ports.
     pub registers: [u8; 8],
 }
 
 impl PortAccess for Ports {
-    // Nothing is promised of what a port answers.
+    // Nothing is promised about what a port returns.
     ghost step = { λ _ _ _. ⊤ };
 
     fn port_in(&mut self, port: u16) -> u8 {
@@ -47,7 +48,7 @@ fn a_device_at_ports() -> Result<(), Fail> {
 pub struct Memory(pub [u8; 32]);
 
 impl ByteAccess for Memory {
-    // A load answers the cell of its address, and a store sets it.
+    // A load returns the cell of its address, and a store sets it.
     ghost step = { λ old access new. CellStep old.0 access new.0 };
 
     fn load(&mut self, address: usize) -> u8 {
@@ -80,7 +81,7 @@ pub struct Console {
 }
 
 impl Backend for Console {
-    // LSR answers that the transmitter is idle, and what is written to DATA is shown.
+    // LSR shows that the transmitter is idle, and what is written to DATA is shown.
     ghost step = { λ old access new. ConsoleStep old.shown.items access new.shown.items };
 
     fn read(&mut self, register_offset: u8) -> u8 {

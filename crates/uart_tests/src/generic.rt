@@ -1,4 +1,4 @@
-//! Generic code over a writer, which rests on the trait's contract alone.
+//! Generic code over a writer, which relies on the contract of the trait alone.
 ghost use Rattle.uart_tests.specs.Links.{SendsThrough};
 
 use crate::devices::{Constant, RegisterFile, driver, impatient};

@@ -1,4 +1,4 @@
-//! The initialisation: its whole list of accesses, each refusal, and what each leaves behind.
+//! The initialisation: its whole list of accesses, each error, and what each leaves behind.
 use crate::devices::{RegisterFile, driver};
 use crate::driving::Start::New;
 use crate::driving::{Left, NOTHING, init, read_back, row, then};
@@ -28,7 +28,7 @@ fn begun(isr: u8) -> Accesses {
 
 #[test]
 fn init_makes_its_list(rt: HostRuntime) {
-    // One byte waits, the transmitter is empty at the second look, and errors and changes stand in the last reads.
+    // One byte was received, the transmitter is empty at the second poll, and the last reads show errors and changes.
     let drained = begun(0xc1).hit(0x55).look(0x00).write(offsets::MCR, 0x0b);
     let all = drained.look(0x22).look(0x60).end(0x1e, 0xc1, 0x0f, 0x00);
     let terminal = row(&rt, New, init(Some(Fourteen), Baud9600), Done, &all);
@@ -55,7 +55,7 @@ fn init_takes_the_fifo_to_be_on_where_isr_shows_both_bits(rt: HostRuntime) {
 
 #[test]
 fn init_without_level(rt: HostRuntime) {
-    // ISR is not asked, whatever it would answer.
+    // ISR is not read, whatever it would show.
     let line = list().present(0xa5).line(0x80, 0x01, 0x03);
     let all = line.write(offsets::FCR, 0x06).undisturbed(0xc1, 0x00);
     let terminal = row(&rt, New, init(None, Baud300), Done, &all);
@@ -87,7 +87,7 @@ fn init_with_another_frame(rt: HostRuntime) {
 
 #[test]
 fn init_drains_17_bytes_at_the_most(rt: HostRuntime) {
-    // After the 17th byte nothing is looked for any more: the next look is that of the wait.
+    // After the 17th byte the drain ends without a check: the next poll is that of the wait.
     let drained = begun(0xc1).hits(b"abcdefghijklmnopq");
     let waited = drained.write(offsets::MCR, 0x0b).look(0x41);
     let all = waited.end(0x01, 0x00, 0x00, 0x00);
@@ -167,7 +167,7 @@ fn init_stalls(rt: HostRuntime) {
         ..SET_UP
     };
     assert_eq!(rt; read_back(terminal), left);
-    // A device without FIFO; the other refusal leaves it with the configuration that was asked for.
+    // A device without FIFO. The driver has the new configuration.
     let line = list().present(0x00).line(0x03, 0x00, 0x03);
     let drained = line.fifo(0xc7, 0x00).look(0x00).write(offsets::MCR, 0x0b);
     let polled = drained.looks(3, 0x00);

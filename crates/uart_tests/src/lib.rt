@@ -1,7 +1,7 @@
-//! Tests of the driver: what no contract says, as examples from outside.
+//! Tests of the driver: what no contract states, as examples from outside.
 //!
-//! Rows of calls, with their answers and whole lists of accesses, are tables in [`driving`]'s words. They stand in a crate of their own,
-//! since a crate with tests is proved twice.
+//! Rows of calls, with their answers and whole lists of accesses, are tables in the terms of [`driving`]. They are in a
+//! separate crate, since a crate with tests is proved twice.
 #![tactic(auto)]
 
 #[cfg(test)]

@@ -1,10 +1,10 @@
-//! Lists of accesses, as they are recorded, and as tables write them down.
+//! Lists of accesses, as they are recorded, and as tables write them.
 use arrayvec::ArrayVec;
 pub use uart_16550::replay::Entry;
 use uart_16550::replay::REPLAY_ROOM;
 use uart_spec::registers::offsets;
 
-/// A list of accesses, which knows what its reads answered, and whether it had room for all of them.
+/// A list of accesses, what its reads returned, and whether it had room for all of them.
 #[derive(Debug, PartialEq, Drop)]
 pub struct Accesses {
     entries: ArrayVec<Entry, REPLAY_ROOM>,
@@ -13,6 +13,7 @@ pub struct Accesses {
 }
 
 impl Accesses {
+    /// Returns the list without accesses.
     pub fn new() -> Self {
         Accesses {
             entries: ArrayVec::new(),
@@ -21,6 +22,7 @@ impl Accesses {
         }
     }
 
+    /// Appends an access, if there is room.
     pub fn push(&mut self, entry: Entry) {
         if let Entry::Read(_, answer) = entry {
             let _ = self.answers.try_push(answer);
@@ -30,7 +32,7 @@ impl Accesses {
         }
     }
 
-    /// The accesses; `None` if there was no room for all of them.
+    /// Returns the accesses; `None` if there was no room for all of them.
     pub fn entries(&self) -> Option<&[Entry]> {
         if self.is_whole {
             Some(self.entries.as_slice())
@@ -39,12 +41,12 @@ impl Accesses {
         }
     }
 
-    /// How many there are.
+    /// Returns the number of accesses.
     pub fn count(&self) -> usize {
         self.entries.len()
     }
 
-    /// What the reads answered, in turn.
+    /// Returns what the reads returned, in turn.
     pub fn answers(&self) -> &[u8] {
         self.answers.as_slice()
     }
@@ -66,7 +68,7 @@ impl Accesses {
         self.read(offsets::LSR, lsr)
     }
 
-    /// So many reads of LSR, each with this answer.
+    /// `count` reads of LSR, each with this value.
     pub fn looks(mut self, count: usize, lsr: u8) -> Self {
         for _turn in 0..count {
             self.push(Entry::Read(offsets::LSR, lsr));
@@ -74,7 +76,7 @@ impl Accesses {
         self
     }
 
-    /// A look that shows data, and the byte taken.
+    /// A read of LSR that shows data, and a read of the byte.
     pub fn hit(self, byte: u8) -> Self {
         self.look(0x01).read(offsets::DATA, byte)
     }
@@ -96,7 +98,8 @@ impl Accesses {
         self
     }
 
-    /// The accesses as they are made at ports or addresses: from a base on, each register a stride further than the one before.
+    /// Returns the accesses as they are made at ports or addresses: from a base on, with this distance between two
+    /// registers.
     pub fn placed(&self, base: usize, stride: usize) -> Self {
         let mut placed = Accesses::new();
         for entry in self.entries.as_slice() {
@@ -126,19 +129,19 @@ impl Accesses {
         self
     }
 
-    /// A send check that finds room, and then looks at MCR and MSR.
+    /// A send check that finds THR empty, and then reads MCR and MSR.
     pub fn check(self, mcr: u8, msr: u8) -> Self {
         self.look(0x20)
             .read(offsets::MCR, mcr)
             .read(offsets::MSR, msr)
     }
 
-    /// A send check that hits by LSR alone, and a burst of these bytes.
+    /// A send check that reads LSR alone and succeeds, and a burst of these bytes.
     pub fn burst(self, bytes: &[u8]) -> Self {
         self.look(0x20).data(bytes)
     }
 
-    /// Each byte sent by itself, and another one come back for it.
+    /// Each byte sent by itself, and another one received for it.
     pub fn echoes(mut self, sent: &[u8], back: u8) -> Self {
         for &byte in sent {
             self = self.burst(&[byte]).hit(back);
@@ -146,7 +149,7 @@ impl Accesses {
         self
     }
 
-    /// Each byte sent by itself, and come back.
+    /// Each byte sent by itself, and received.
     pub fn same_echoes(mut self, bytes: &[u8]) -> Self {
         for &byte in bytes {
             self = self.burst(&[byte]).hit(byte);
@@ -213,7 +216,8 @@ impl Accesses {
             .write(offsets::IER, ier)
     }
 
-    /// What follows the FIFO step of an initialisation if nothing waits and the transmitter is empty: MCR written, and the end.
+    /// What follows the FIFO step of an initialisation if no byte is received and the transmitter is empty: MCR written,
+    /// and the end.
     pub fn undisturbed(self, isr: u8, ier: u8) -> Self {
         self.look(0x00)
             .write(offsets::MCR, 0x0b)
@@ -241,12 +245,12 @@ impl Accesses {
     }
 }
 
-/// The list without accesses.
+/// Returns the list without accesses.
 pub fn list() -> Accesses {
     Accesses::new()
 }
 
-/// The last byte that was written to a register. While DLAB is set, the first two are the divisor latch.
+/// Returns the last byte that was written to a register. While DLAB is set, the first two are the divisor latch.
 pub fn last_write(accesses: &[Entry], offset: usize) -> Option<u8> {
     let mut is_latch = false;
     let mut last = None;

@@ -11,7 +11,7 @@ use uart_spec::registers::offsets;
 
 const MESSAGE: &[u8; 16] = b"hello world!1337";
 
-// What a test leaves behind that found MCR 0B and IER 05, and RI and CD set before it and clear after it.
+// What a test leaves behind that read MCR 0B and IER 05, with RI and CD set before it and clear after it.
 const RESTORED: Left = Left {
     saved_msr: 0x0c,
     ier: Some(0x05),
@@ -25,12 +25,12 @@ const WITHOUT_FIFO: Left = Left {
     ..RESTORED
 };
 
-// From the first access to the FIFO step, where the transmitter is empty at once.
+// From the first access to the FIFO step, if the transmitter is empty at once.
 fn entered(isr: u8) -> Accesses {
     list().enter(0x0b, 0x05, 0x40, 0xd0).fifo(0xc7, isr)
 }
 
-// The same, and nothing to be drained, and the test byte back at once.
+// The same, then no byte received before the test, and the test byte received at once.
 fn exchanged(isr: u8) -> Accesses {
     entered(isr).look(0x00).burst(b"B").hit(b'B')
 }
@@ -81,7 +81,7 @@ fn the_test_succeeds_with_fifo(rt: HostRuntime) {
 
 #[test]
 fn the_test_succeeds_without_fifo(rt: HostRuntime) {
-    // Two misses in a row before the last byte, and before it comes back.
+    // Two misses in a row before the last byte, and before it returns.
     let most = exchanged(0x01).same_echoes(b"hello world!133");
     let all = most.looks(2, 0x00).burst(b"7").looks(2, 0x00).hit(b'7');
     tested(&rt, New, Done, left(all), WITHOUT_FIFO);
@@ -115,7 +115,7 @@ fn the_first_wait_stalls(rt: HostRuntime) {
 
 #[test]
 fn the_drain_stalls(rt: HostRuntime) {
-    // After the third byte, without another look.
+    // After the third byte, without another poll.
     stalls_with_fifo(&rt, entered(0xc1).hits(b"abc"));
 }
 
@@ -125,10 +125,10 @@ fn the_test_byte_is_refused(rt: HostRuntime) {
     let unsent = entered(0x01).look(0x00).look(0xdf);
     let refusal = LoopbackRefused(SendError(NoCapacity));
     tested(&rt, New, refusal, left(unsent), WITHOUT_FIFO);
-    // It does not come back.
+    // It does not return.
     let awaited = entered(0x01).look(0x00).burst(b"B").looks(3, 0x00);
     stalls_without_fifo(&rt, awaited);
-    // Another comes back.
+    // Another one returns.
     let sent = entered(0xc1).look(0x00).burst(b"B");
     let other = left(sent.looks(2, 0x00).hit(0x43));
     let refusal = LoopbackRefused(UnexpectedLoopbackByte {
@@ -168,7 +168,7 @@ fn the_test_byte_is_refused_where_cts_is_checked(rt: HostRuntime) {
 
 #[test]
 fn the_message_stalls_with_fifo(rt: HostRuntime) {
-    // There is no room for it; nothing of it comes back; a part comes back, whatever it is.
+    // There is no room for it; nothing of it returns; a part returns, whatever it is.
     let sent = || exchanged(0xc1).burst(MESSAGE);
     stalls_with_fifo(&rt, exchanged(0xc1).looks(3, 0x00));
     stalls_with_fifo(&rt, sent().looks(3, 0x00));
@@ -178,7 +178,7 @@ fn the_message_stalls_with_fifo(rt: HostRuntime) {
 
 #[test]
 fn the_message_stalls_without_fifo(rt: HostRuntime) {
-    // There is no room for its first byte, or it does not come back.
+    // There is no room for its first byte, or it does not return.
     stalls_without_fifo(&rt, exchanged(0x01).looks(3, 0x00));
     stalls_without_fifo(&rt, exchanged(0x01).burst(b"h").looks(3, 0x00));
     // The same of a later byte.

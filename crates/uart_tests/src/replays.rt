@@ -1,5 +1,6 @@
-//! Calls over a replay, and what the replay then shows: a list of the call, whose reads were answered by the replay's answers in
-//! turn. So over any other backend too the accesses of a call are known from the driver's fields and the answers.
+//! Calls over a replay, and what the replay then shows: a list of the call, whose reads returned the bytes of the
+//! replay in turn. So over any other backend too the accesses of a call are known from the driver's fields and what its
+//! reads return.
 #![tactic(auto, using(uart_16550::proofs::Replays::made_replay))]
 
 ghost use Rattle.uart_calls.specs.Calls.{IsRunnable};
@@ -45,20 +46,20 @@ fn write_str(terminal: &mut Replaying<'_>, text: &str) -> fmt::Result
     fmt::Write::write_str(terminal, text)
 }
 
-// How many accesses were made, if all of them were kept.
+// Returns the number of accesses, if all of them were kept.
 fn kept(terminal: &Replaying<'_>) -> Option<usize> {
     let accesses = terminal.inner().backend().accesses()?;
     Some(accesses.len())
 }
 
-// The call returns this, and so many accesses were then made.
+// The call returns this answer, and this number of accesses was made.
 fn shows(rt: &impl Abort, terminal: &mut Replaying<'_>, call: Call, answer: Answer, count: usize) {
     assert!(rt; call.is_runnable());
     assert_eq!(rt; replayed(terminal, &call), answer, "{call:?}");
     assert_eq!(rt; kept(terminal), Some(count), "{call:?}");
 }
 
-// A new driver over a replay of these answers, with this spin limit.
+// Returns a new driver over a replay of these bytes, with this spin limit.
 fn replay(answers: &[u8], limit: u64) -> Replaying<'_> {
     let mut uart = Uart16550::new_with_backend(Replay::new(answers));
     if let Some(limit) = NonZeroU64::new(limit) {
@@ -93,7 +94,7 @@ fn a_replay_says_that_it_is_full(rt: HostRuntime) {
 
 #[test]
 fn looks_and_registers_over_a_replay(rt: HostRuntime) {
-    // Each read is answered by 60: there is room, and no data.
+    // Each read returns 60: there is room, and no data.
     let mut terminal = replay(&[0x60; 64], 3);
     for (call, answer, count) in [
         (CheckPresent, Flag(false), 4),
@@ -132,7 +133,7 @@ fn bytes_over_a_replay(rt: HostRuntime) {
         (Write(bytes(b"hi")), Count(2), 19),
         (Flush, Done, 20),
         (Init(Config::DEFAULT), InitRefused(DeviceNotPresent), 24),
-        // The transmitter is empty, the FIFO off, the byte sent, and none comes back.
+        // The transmitter is empty, the FIFO off, the byte sent, and none returns.
         (TestLoopback, LoopbackRefused(LoopbackError::Stalled), 42),
         (text("a"), Done, 44),
     ] {

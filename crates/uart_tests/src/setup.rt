@@ -1,4 +1,5 @@
-//! The constructors of terminals: an initialisation and then a loopback test, each with its whole list, up to the refusal.
+//! The constructors of terminals: an initialisation and then a loopback test, each with its whole list, up to the
+//! error.
 ghost use Rattle.std.specs.Prelude.{⊤};
 
 use crate::devices::{Constant, Listed, Recorder};
@@ -70,7 +71,7 @@ fn terminals_are_set_up(rt: HostRuntime) -> Result<(), Fail> {
     Ok(())
 }
 
-/// A device whose accesses are recorded somewhere else, so that they are known once it was dropped.
+/// A device whose accesses are recorded elsewhere, so that they are known after it was dropped.
 #[derive(Drop)]
 struct Watched<'a> {
     device: Listed,
@@ -86,7 +87,7 @@ impl Watched<'_> {
 }
 
 impl Backend for Watched<'_> {
-    // Nothing is promised of what an access answers.
+    // Nothing is promised about what an access returns.
     ghost step = { λ _ _ _. ⊤ };
 
     fn read(&mut self, register_offset: u8) -> u8 {
@@ -100,7 +101,7 @@ impl Backend for Watched<'_> {
     }
 }
 
-// Why there is no terminal over a device that gives these answers, and the accesses that were made before.
+// Why there is no terminal over a device whose reads return these bytes, and the accesses that were made before.
 fn refusal(answers: &'static [u8], config: Config) -> (Option<Uart16550TtyError>, Accesses) {
     let log = Cell::new(Accesses::new());
     let device = Watched {

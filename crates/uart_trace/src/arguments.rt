@@ -14,7 +14,7 @@ const NOTES: &str =
 Exit status: 0 each list is its call's, with its answer; 1 one is not, and a line says what the driver does in its place; \
 2 the arguments are refused, the file cannot be read, or it is no trace; 3 out of memory.";
 
-// The command line that the program understands.
+// Returns the command line that the program accepts.
 fn command<'a>(alloc: Global) -> Result<Command<'a>, Error> {
     let file = Arg::new(alloc, "FILE").help("the trace; without it standard input is read");
     let limit = Arg::new(alloc, "limit")
@@ -31,16 +31,16 @@ fn command<'a>(alloc: Global) -> Result<Command<'a>, Error> {
     )
 }
 
-/// The words of the command line, matched with what the program understands.
+/// Matches the words of the command line with what the program accepts.
 pub fn matched<'a>(alloc: Global, words: &'a [String]) -> Result<ArgMatches<'a>, Error> {
     command(alloc)?.try_get_matches_from(words)
 }
 
-/// The spin limit of the driver.
+/// Returns the spin limit of the driver.
 ///
 /// # Errors
 ///
-/// If it is no number from 1 on.
+/// `NoLimit` if it is not a number from 1 on.
 pub fn limit_in(matches: &ArgMatches<'_>) -> Result<NonZeroU64, End> {
     let word = matches.get_str("limit").unwrap_or("");
     match u64::from_str_radix(word, 10) {

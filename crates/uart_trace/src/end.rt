@@ -14,19 +14,19 @@ pub const REFUSED: u8 = 2;
 /// Why a trace was not checked.
 #[derive(Clone, Copy, Debug, Drop, Error)]
 pub enum End {
-    /// The limit is no number from 1 on.
+    /// The limit is not a number from 1 on.
     #[error("the limit is a number from 1 on")]
     NoLimit,
     /// The trace could not be read.
     #[error("the trace cannot be read: {0}")]
     Unread(io::Error),
-    /// What was read is no trace, or it did not fit into memory.
+    /// What was read is not a trace, or memory for it could not be allocated.
     #[error("{0}")]
     NoTrace(#[from] TraceError),
 }
 
 impl End {
-    /// The program's exit status.
+    /// Returns the program's exit status.
     pub fn status(self) -> u8
         ensures { result ≡ status_of self }
     {
@@ -36,7 +36,7 @@ impl End {
         }
     }
 
-    /// Why the trace could not be read.
+    /// Returns why the trace could not be read.
     pub fn unread(cause: io::Error) -> Self {
         match cause.kind() {
             ErrorKind::OutOfMemory => End::NoTrace(TraceError::OutOfMemory),

@@ -15,10 +15,10 @@ use std::{env, io};
 use uart_program::{bytes_of, failed, unmatched};
 use uart_traces::{TraceError, judge, parse, push_stray};
 
-// The exit status if a list is not its call's.
+// The exit status if a list is not one of its call.
 const STRAYED: u8 = 1;
 
-// The line that says where a trace strays, or nothing.
+// Returns the line that reports where a trace strays, or nothing.
 fn stray_line(alloc: Global, text: &[u8], limit: NonZeroU64) -> Result<Vec<u8>, TraceError> {
     let trace = parse(alloc, text)?;
     let mut line = Vec::new(alloc);
@@ -29,7 +29,7 @@ fn stray_line(alloc: Global, text: &[u8], limit: NonZeroU64) -> Result<Vec<u8>, 
     Ok(line)
 }
 
-// Where the trace strays that the command line names: one line, or nothing.
+// Returns the line that reports where the trace of the command line strays, or nothing.
 fn checked(rt: &HostRuntime, matches: &ArgMatches<'_>) -> Result<Vec<u8>, End> {
     let limit = limit_in(matches)?;
     let text = bytes_of(rt, matches.get_str("FILE"), u64::MAX).map_err(End::unread)?;

@@ -1,7 +1,7 @@
-//! Checks the traces of a folder, and prints of each whether it is told of it what is stored beside it.
+//! Checks the traces of a folder, and prints for each whether its output is what is stored.
 //!
-//! The folder is the first argument, or else the one in which the program runs. Beside `NAME.trace` lies `NAME.out`: the line that
-//! the program `uart_trace` writes of it, or nothing.
+//! The folder is the first argument, or else the current one. Beside `NAME.trace` is `NAME.out`: the line that the
+//! program `uart_trace` prints for it, or nothing.
 #![tactic(auto)]
 
 use std::alloc::Global;
@@ -14,7 +14,7 @@ use uart_16550::DEFAULT_SPIN_LIMIT;
 use uart_stored::{bytes_and_output, names_in};
 use uart_traces::{TraceError, judge, parse, push_stray};
 
-// What is told of a trace, if it strays.
+// Returns what is printed for a trace, if it strays.
 fn stray_line(alloc: Global, bytes: &[u8]) -> Result<Vec<u8>, TraceError> {
     let trace = parse(alloc, bytes)?;
     let mut line = Vec::new(alloc);
@@ -26,7 +26,7 @@ fn stray_line(alloc: Global, bytes: &[u8]) -> Result<Vec<u8>, TraceError> {
     Ok(line)
 }
 
-// What is told of a trace, or why the bytes are none.
+// Returns what is printed for a trace, or why the bytes are not a trace.
 fn told(alloc: Global, bytes: &[u8]) -> io::Result<Vec<u8>> {
     match stray_line(alloc, bytes) {
         Ok(line) => Ok(line),
@@ -38,7 +38,7 @@ fn told(alloc: Global, bytes: &[u8]) -> io::Result<Vec<u8>> {
     }
 }
 
-// Whether what is stored is told of the trace of this name.
+// Returns whether what is stored is printed for the trace of this name.
 fn is_as_stored(rt: &HostRuntime, folder: Path<'_>, name: &str) -> io::Result<bool> {
     let (trace, stored) = bytes_and_output(rt, folder, name, ".trace")?;
     Ok(told(rt.alloc(), &trace)? == stored)

@@ -65,7 +65,7 @@ pub no_call : (limit : ℕ) (f before : Fields) (x : Exchange) (xs : List Exchan
 no_call limit f before x xs is none all =
     let E : Fields → Type 0 = λ g. IsExchange x g all.0 in none all.0 (subst E (sym is) all.1)
 
--- of two answers to one list, each is printed as the other
+-- two answers for one list are printed the same
 pub not_printed : (call : Call) → IsRunnable call → (f after other : Fields) (entries recorded : List Entry) (a b : Answer)
     (text printed : List ℕ) → entries ≡ recorded → text ≡ printed → IsListOf call f (map access_of entries) a after →
     IsListOf call f (map access_of recorded) b other → answer_text b ≡ printed → answer_text a ≡ text

@@ -15,32 +15,32 @@ use Rattle.uart_traces.specs.declared.checking.NextStep.{NextStep}
 use Rattle.uart_traces.specs.declared.checking.NextStep.TheVariants.{Asked, Done, Strayed}
 use Rattle.uart_traces.specs.declared.checking.Followed.{Followed}
 
--- how an outcome is answered
+-- the answer for an outcome
 abbrev pub answer_of : (m : Meaning) → outcome_of m → Answer
 answer_of (means doing answer) outcome = answer outcome
 
--- from these fields the call makes this list, with this answer, and leaves those fields
+-- from these fields the call makes this list, with this answer, and those fields are after it
 pub record IsListOf (call : Call) (before : Fields) (list : List Access)
     (answer : Answer) (after : Fields) : Type 0 where
   pub outcome : outcome_of (meaning call)
   pub does : doing_of (meaning call) outcome before list after
   pub answered : answer ≡ answer_of (meaning call) outcome
 
--- the same, with an answer and a driver as they are returned
+-- the same, with the answer and the driver that are returned
 abbrev pub Makes : Call → Fields → List Access → Returned → Type 0
 Makes call before list returned = IsListOf call before list returned.answer (fields_of returned.state)
 
--- some list of the call goes on with the second after the first
+-- some list of the call has the second after the first
 pub record GoesOn (call : Call) (before : Fields) (front back : List Access) : Type 0 where
   pub answer : Answer
   pub after : Fields
   pub makes : IsListOf call before (front ++ back) answer after
 
--- some list of the call begins so
+-- some list of the call starts like this
 abbrev pub Begins : Call → Fields → List Access → Type 0
 Begins call before front = (back : List Access) × GoesOn call before front back
 
--- and then has an access that comes of this request
+-- and then has an access with this request
 abbrev pub BeginsAndAsks : Call → Fields → List Access → Request → Type 0
 BeginsAndAsks call before front request =
     (access : Access) × (back : List Access) × (request_of access ≡ request) × GoesOn call before front (access ∷ back)
@@ -50,7 +50,7 @@ abbrev pub IsTurn : Call → Fields → List Access → Turn → Type 0
 IsTurn call before front (Returns returned) = Makes call before front returned
 IsTurn call before front (Asks request) = BeginsAndAsks call before front request
 
--- the accesses up to the first that the driver does not make, and what it does in place of that one
+-- the accesses before the first that the driver does not make, and what it does instead of that one
 pub record IsFollowed (call : Call) (before : Fields) (list : List Access) (followed : Followed) : Type 0 where
   pub front : List Access
   pub back : List Access
@@ -60,7 +60,7 @@ pub record IsFollowed (call : Call) (before : Fields) (list : List Access) (foll
   pub farthest : (longer rest : List Access) → list ≡ longer ++ rest → length front < length longer →
       Begins call before longer → ⊥
 
--- all of the list was made, or no list of the call begins so
+-- the whole list was made, or no list of the call starts like this
 abbrev pub IsNext : Call → Fields → List Access → NextStep → Type 0
 IsNext call before made (Done returned) = Makes call before made returned
 IsNext call before made (Asked request) = BeginsAndAsks call before made request

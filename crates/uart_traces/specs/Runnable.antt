@@ -1,4 +1,4 @@
--- That a call is runnable is shown in one way at most, so that it can be kept beside a call.
+-- A proof that a call is runnable is unique, so that it can be kept beside a call.
 use Rattle.std.proofs.Props.{props}
 use Rattle.uart_calls.specs.Calls.{IsRunnable}
 use Rattle.uart_calls.specs.declared.call.Call.{Call}

@@ -4,22 +4,22 @@ use Rattle.uart_spec.specs.Access.{Access, Read, Write}
 use Rattle.uart_traces.specs.declared.tape.Request.{Request}
 use Rattle.uart_traces.specs.declared.tape.Request.TheVariants as request
 
--- what a driver asks for in an access
+-- the request of an access
 abbrev pub request_of : Access → Request
 request_of (Read offset answer) = request.Read offset
 request_of (Write offset value) = request.Write offset value
 
--- the access that comes of a request; a write has no answer
+-- the access of a request; a write has no answer
 abbrev pub answered : Request → ℕ → Access
 answered (request.Read offset) answer = Read offset answer
 answered (request.Write offset value) answer = Write offset value
 
--- what is left of the list, and the first request that it does not go on with
+-- what is left of the list, and the first request that is not its next access
 pub record Tape : Type 0 where
   pub left : List Access
   pub asked : Option Request
 
--- the first access of the list comes of this request
+-- the first access of the list has this request
 abbrev pub GoesOnBy : Request → List Access → Type 0
 GoesOnBy request [] = ⊥
 GoesOnBy request (access ∷ accesses) = request_of access ≡ request
@@ -34,7 +34,8 @@ abbrev pub first_of : Option Request → Request → Request
 first_of None request = request
 first_of (Some first) request = first
 
--- the list does not go on by this request, or did not by an earlier one: the first of them is kept
+-- the next access of the list has another request, or the list was already left at an earlier one: the first such
+-- request is kept
 pub record Strays (old : Tape) (access : Access) (new : Tape) : Type 0 where
   pub stays : new.left ≡ old.left
   pub asked : new.asked ≡ Some (first_of old.asked (request_of access))

@@ -8,18 +8,18 @@ use Rattle.uart_language.specs.Output.{answer_text}
 use Rattle.uart_traces.specs.Lists.{IsListOf}
 use Rattle.uart_traces.specs.declared.parsing.Exchange.{Exchange}
 
--- from these fields the call makes the recorded list, returns an answer that is printed as recorded, and leaves those
--- fields
+-- from these fields the call makes the recorded list, returns an answer that is printed as recorded, and those fields
+-- are after it
 pub record IsExchange (x : Exchange) (before after : Fields) : Type 0 where
   pub answer : Answer
   pub makes : IsListOf x.call before (map access_of x.accesses.items) answer after
   pub printed : answer_text answer ≡ x.answer.items
 
--- the fields at a call: those after the call before it, or those of a driver that was just made, with this limit
+-- the fields before a call: those after the call before it, or those of a new driver with this limit
 abbrev pub fields_before : ℕ → Exchange → Fields → Fields
 fields_before limit x fields = if x.is_first then with_limit limit fresh_fields else fields
 
--- so it is with each call in turn
+-- this holds for each call in turn
 abbrev pub AreCalls : ℕ → Fields → List Exchange → Type 0
 AreCalls limit fields [] = ⊤
 AreCalls limit fields (x ∷ xs) =

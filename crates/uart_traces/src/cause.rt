@@ -1,4 +1,4 @@
-//! Why bytes are no trace.
+//! Why bytes are not a trace.
 ghost use Rattle.std.specs.Prelude.{◌≡◌};
 ghost use Rattle.uart_traces.specs.declared.cause.TraceError.TheVariants.{OutOfMemory};
 
@@ -9,19 +9,19 @@ use uart_language::Cause;
 /// What is wrong with a line of a trace.
 #[derive(Clone, Copy, Debug, PartialEq, Eq, Error)]
 pub enum Fault {
-    /// The line is of no form that a trace has.
+    /// The line has no form that a line of a trace has.
     #[error("{}", .0.text())]
     Line(Cause),
-    /// An event of a schedule, or `next`: a trace has calls of the driver.
+    /// The line is an event of a schedule, or `next`: a trace has only calls of the driver.
     #[error("no call of the driver")]
     NoDriverCall,
-    /// An access or an answer that no call is before.
+    /// An access or an answer without a call before it.
     #[error("no call before it")]
     NoCallBefore,
-    /// Another call begins, the driver is made anew or the trace ends, and this call has no answer.
+    /// The call has no answer before another call, a new driver, or the end of the trace.
     #[error("the call has no answer")]
     NoAnswer,
-    /// The trace ends, and there was no call.
+    /// The trace has no call.
     #[error("no call")]
     Empty,
 }
@@ -29,10 +29,15 @@ pub enum Fault {
 /// Why bytes were not read as a trace.
 #[derive(Clone, Copy, Debug, PartialEq, Eq, Error)]
 pub enum TraceError {
-    /// The first faulty line, counted from 1, and what is wrong with it.
+    /// The bytes are not a trace: the first faulty line, counted from 1, and what is wrong with it.
     #[error("line {line}: {fault}")]
-    NoTrace { line: usize, fault: Fault },
-    /// The trace did not fit into memory.
+    NoTrace {
+        /// The number of the line.
+        line: usize,
+        /// What is wrong with it.
+        fault: Fault,
+    },
+    /// Memory for the trace could not be allocated.
     #[error("out of memory")]
     OutOfMemory,
 }

@@ -12,14 +12,16 @@ use uart_16550::replay::Entry;
 use uart_16550::{DriverState, Uart16550, Uart16550Tty};
 use uart_calls::{Answer, Call, perform};
 
-/// What a call returned, and what the driver keeps after it.
+/// What a call returned, and the state of the driver after it.
 #[derive(Debug, Drop)]
 pub struct Returned {
+    /// The answer of the call.
     pub answer: Answer,
+    /// The state of the driver after it.
     pub state: DriverState,
 }
 
-/// What a driver does at a place of a call.
+/// What a driver does at some point of a call.
 #[derive(Debug, Drop)]
 pub enum Turn {
     /// It makes this access.
@@ -28,28 +30,28 @@ pub enum Turn {
     Returns(Returned),
 }
 
-/// How far a driver makes the accesses of a list, and what it does then.
+/// How many of the accesses of a list a driver makes, and what it does then.
 #[derive(Debug, Drop)]
 pub struct Followed {
-    /// How many of the first accesses the driver makes.
+    /// The number of accesses from the first on that the driver makes.
     pub kept: usize,
     /// What it does after these.
     pub turn: Turn,
 }
 
-/// What comes next in a call of which some accesses were made.
+/// What the driver does next in a call, after some accesses.
 #[derive(Debug, Drop)]
 pub enum NextStep {
     /// The call is done.
     Done(Returned),
     /// The driver makes this access.
     Asked(Request),
-    /// No list of the call begins with the accesses that were made.
+    /// No list of the call starts with the accesses that were made.
     Strayed,
 }
 
-/// How far the driver makes these accesses in this call, from this state on, and what it does in place of the first that it does
-/// not make. Takes no memory.
+/// Returns how many of these accesses the driver makes in this call, starting from this state, and what it does instead of
+/// the first that it does not make. Allocates no memory.
 pub fn follow(accesses: &[Entry], state: &DriverState, call: &Call) -> Followed
     requires { IsRunnable call.now }
     ensures { IsFollowed call.now (fields_of state.now) (map access_of accesses.now) result }
@@ -70,10 +72,8 @@ pub fn follow(accesses: &[Entry], state: &DriverState, call: &Call) -> Followed
     }
 }
 
-/// Whether these accesses are a list of this call, from this state on: then what the call returned, and the driver after it. Takes
-/// no memory.
-///
-/// `None` if they are not, whatever the call might have returned.
+/// Returns whether these accesses are a list of this call, starting from this state: if so, what the call returned, and the
+/// state of the driver after it; `None` if they are not, whatever the call might have returned. Allocates no memory.
 pub fn check(accesses: &[Entry], state: &DriverState, call: &Call) -> Option<Returned>
     requires { IsRunnable call.now }
     ensures sound { IfSome result (λ returned. Makes call.now (fields_of state.now) (map access_of accesses.now) returned) }
@@ -87,7 +87,8 @@ pub fn check(accesses: &[Entry], state: &DriverState, call: &Call) -> Option<Ret
     }
 }
 
-/// What the driver does next in this call, from this state on, once it has made these accesses. Takes no memory.
+/// Returns what the driver does next in this call, starting from this state, after it has made these accesses. Allocates no
+/// memory.
 pub fn next(made: &[Entry], state: &DriverState, call: &Call) -> NextStep
     requires { IsRunnable call.now }
     ensures { IsNext call.now (fields_of state.now) (map access_of made.now) result }

@@ -1,4 +1,4 @@
-//! Whether each call of a trace made its list.
+//! Whether each call of a trace made one of its lists.
 ghost use Rattle.std.specs.Prelude.{◌≡◌, ◌↔◌, true, IfOk, IfSome, IsNone};
 ghost use Rattle.std.specs.Int.NonZero.{non_zero_u64_get};
 ghost use Rattle.uart_16550.specs.Driver.{Fields};
@@ -14,18 +14,18 @@ use uart_16550::DriverState;
 use uart_calls::Answer;
 use uart_language::push_answer;
 
-/// Where a trace is not what the driver does.
+/// The place at which a trace differs from what the driver does.
 #[derive(Debug, Drop)]
 pub struct Stray<'a> {
     /// The call that made another list, or returned something else.
     pub exchange: &'a Exchange,
-    /// How many of its first accesses the driver makes.
+    /// The number of its accesses, from the first on, that the driver makes.
     pub kept: usize,
     /// What the driver does then.
     pub turn: Turn,
 }
 
-// Whether an answer is printed so.
+// Returns whether an answer is printed as this text.
 fn is_printed(alloc: Global, answer: &Answer, text: &[u8]) -> Result<bool, AllocError>
     ensures { IfOk result (λ is. is ≡ true ↔ answer_text answer.now ≡ text.now) }
 {
@@ -34,7 +34,7 @@ fn is_printed(alloc: Global, answer: &Answer, text: &[u8]) -> Result<bool, Alloc
     Ok(printed.as_slice() == text)
 }
 
-// What the driver keeps before a call: what it kept after the one before, or what one keeps that was just made, with this limit.
+// Returns the state of the driver before a call: the one after the call before it, or that of a new driver with this limit.
 fn state_before(exchange: &Exchange, state: DriverState, limit: NonZeroU64) -> DriverState
     ensures { fields_of result ≡ fields_before (non_zero_u64_get limit) exchange.now (fields_of state) }
 {
@@ -48,7 +48,7 @@ fn state_before(exchange: &Exchange, state: DriverState, limit: NonZeroU64) -> D
     }
 }
 
-// What the driver keeps after a call, if it makes this list and returns this answer.
+// Returns the state of the driver after a call, if it makes this list and returns this answer.
 fn after(
     alloc: Global,
     exchange: &Exchange,
@@ -67,7 +67,7 @@ fn after(
     }
 }
 
-// What the driver does in place of what a trace says.
+// Returns what the driver does instead of what a trace has.
 fn stray_at<'a>(exchange: &'a Exchange, state: &DriverState) -> Stray<'a> {
     let followed = follow(&exchange.accesses, state, &exchange.call);
     Stray {
@@ -77,14 +77,14 @@ fn stray_at<'a>(exchange: &'a Exchange, state: &DriverState) -> Stray<'a> {
     }
 }
 
-/// Whether each list of a trace is its call's, with the answer that is recorded: `None` if it is so, and else the first call of
-/// which it is not.
+/// Checks whether each list of a trace is one of its call, with the recorded answer. Returns `None` if so, and else the
+/// first call for which it is not.
 ///
-/// The first call is of a driver that was just made, with this limit, as is each that follows a `fresh`.
+/// The first call is of a new driver with this limit, and so is each call after a `fresh`.
 ///
 /// # Errors
 ///
-/// Only if out of memory.
+/// `AllocError` if out of memory.
 pub fn judge<'a>(
     alloc: Global,
     trace: &'a [Exchange],

@@ -1,8 +1,9 @@
 //! Recorded traces of a driver's calls, and whether the driver makes them.
 //!
-//! A trace says of each call which registers it read and wrote, and what each read was answered. [`check`] says whether such a list
-//! is one that the call makes; a list for which it returns `None` is none, whatever the call might have returned. [`next`] says
-//! what the driver does next after some accesses, and [`follow`] how far it makes a list.
+//! A trace has for each call the registers that it read and wrote, and what each read returned. [`check`] returns
+//! whether such a list is one that the call makes; if it returns `None`, the list is not, whatever the call might have
+//! returned. [`next`] returns what the driver does next after some accesses, and [`follow`] how much of a list it
+//! makes.
 //!
 //! [`parse`] reads a trace from text, and [`judge`] checks its calls in turn.
 #![tactic(auto)]

@@ -1,26 +1,29 @@
-//! What a line of a trace says.
+//! The meaning of a line of a trace.
 
 use crate::cause::Fault;
 use uart_16550::replay::Entry;
 use uart_calls::Call;
 use uart_language::{Cause, Item, byte_in, has_bad_byte, item_at, word_at, word_count};
 
-// The number of a line at which neither the first word of a script may stand nor its limit.
+// The number of a line at which neither the first line of a script nor its limit may be.
 const AFTER_THE_HEAD: u32 = 3;
 
-/// What a line of a trace says.
+/// The meaning of a line of a trace.
 #[derive(Drop)]
 pub enum Line<'a> {
+    /// A blank line, which means nothing.
     Blank,
-    /// What follows is done by a driver that was just made.
+    /// The driver is new from here on.
     Fresh,
+    /// A call.
     Call(Call),
+    /// An access.
     Access(Entry),
-    /// What the call returned, in the words of an output.
+    /// What the call returned, as it is printed.
     Answer(&'a [u8]),
 }
 
-// A line without its remark, and without spaces at its end.
+// Returns a line without its remark, and without spaces at its end.
 fn before_remark(line: &[u8]) -> &[u8] {
     let end = line
         .iter()
@@ -33,7 +36,7 @@ fn before_remark(line: &[u8]) -> &[u8] {
     rest
 }
 
-// The offset of a register, as one digit.
+// Reads the offset of a register, which is one digit.
 fn offset_in(word: &[u8]) -> Result<usize, Fault> {
     match word {
         [digit @ b'0'..=b'7'] => Ok(usize::from(*digit - b'0')),
@@ -41,7 +44,7 @@ fn offset_in(word: &[u8]) -> Result<usize, Fault> {
     }
 }
 
-// The offset and the byte of an access.
+// Reads the offset and the byte of an access.
 fn access_in(line: &[u8]) -> Result<(usize, u8), Fault> {
     if word_count(line) != 3 {
         return Err(Fault::Line(Cause::WrongCount));
@@ -53,7 +56,7 @@ fn access_in(line: &[u8]) -> Result<(usize, u8), Fault> {
     }
 }
 
-// The call of the driver that a line asks for, as in a script.
+// Returns the driver's call of a line, as in a script.
 fn call_in(line: &[u8]) -> Result<Call, Fault> {
     match item_at(AFTER_THE_HEAD, line) {
         Ok(Item::Call(call)) => Ok(call),
@@ -62,7 +65,7 @@ fn call_in(line: &[u8]) -> Result<Call, Fault> {
     }
 }
 
-// What a line without its remark says.
+// Returns the meaning of a line without its remark.
 fn plain_line(line: &[u8]) -> Result<Line<'_>, Fault> {
     if has_bad_byte(line) {
         return Err(Fault::Line(Cause::BadByte));
@@ -83,7 +86,7 @@ fn plain_line(line: &[u8]) -> Result<Line<'_>, Fault> {
     }
 }
 
-/// What a line says. A remark, from `#` on, says nothing.
+/// Returns the meaning of a line. A remark, from `#` on, means nothing.
 pub fn line_in(line: &[u8]) -> Result<Line<'_>, Fault> {
     plain_line(before_remark(line))
 }

@@ -1,4 +1,4 @@
-//! What a whole trace says.
+//! The meaning of a whole trace.
 ghost use Rattle.uart_calls.specs.Calls.{IsRunnable};
 ghost use Rattle.uart_traces.specs.Runnable.{runnable_is_one};
 
@@ -8,18 +8,20 @@ use std::alloc::Global;
 use uart_16550::replay::Entry;
 use uart_calls::Call;
 
-/// One call of a trace: what was asked for, which accesses were made, and what was returned.
+/// One call of a trace: the call, its accesses, and what it returned.
 #[derive(Debug, Drop)]
 pub struct Exchange {
-    /// Whether the call is the first of a driver that was just made.
+    /// Whether the call is the first of a new driver.
     pub is_first: bool,
+    /// The call.
     pub call: Call,
+    /// Its accesses.
     pub accesses: Vec<Entry>,
     /// The line of each access, counted from 1.
     pub access_lines: Vec<usize>,
-    /// What was returned, in the words of an output.
+    /// What it returned, as it is printed.
     pub answer: Vec<u8>,
-    /// The line of the answer. Until there is one, it is that of the call.
+    /// The line of the answer, or that of the call until there is one.
     pub answer_line: usize,
     ghost runnable: { IsRunnable call } by { runnable_is_one call },
 }
@@ -38,7 +40,7 @@ fn fault(line: usize, fault: Fault) -> TraceError {
 }
 
 impl Reading {
-    // Nothing goes on before the call that was begun has its answer.
+    // Refuses to go on if the current call has no answer.
     fn require_answer(&self) -> Result<(), TraceError> {
         match &self.open {
             Some(exchange) => Err(fault(exchange.answer_line, Fault::NoAnswer)),
@@ -97,11 +99,12 @@ impl Reading {
     }
 }
 
-/// The calls that a trace tells.
+/// Returns the calls of a trace.
 ///
 /// # Errors
 ///
-/// The first line that is none of a trace, or that is not in its place; or out of memory.
+/// - `NoTrace`, with the first line that is not a line of a trace or is at a wrong place, and what is wrong with it.
+/// - `OutOfMemory` if memory could not be allocated.
 pub fn parse(alloc: Global, bytes: &[u8]) -> Result<Vec<Exchange>, TraceError> {
     let mut reading = Reading {
         exchanges: Vec::new(alloc),

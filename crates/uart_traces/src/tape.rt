@@ -7,17 +7,19 @@ use std::marker::Model;
 use uart_16550::backend::Backend;
 use uart_16550::replay::Entry;
 
-/// What a driver asks of a device: to read a register, or to write a byte into it.
+/// What a driver requests from a device.
 #[derive(Clone, Copy, Debug, PartialEq, Eq)]
 pub enum Request {
+    /// To read the register at this offset.
     Read(usize),
+    /// To write this byte to the register at this offset.
     Write(usize, u8),
 }
 
 /// A list of recorded accesses as a device.
 ///
-/// It answers a read as the list says, as long as the accesses are those of the list. It keeps the first request that is not. What
-/// it answers from then on is no chip's: every wait of a driver ends soon.
+/// A read returns what the list has, as long as the accesses are those of the list. The first request that is not is kept.
+/// What reads return from then on is from no chip, and lets every wait of a driver end soon.
 #[derive(Drop)]
 pub struct Tape<'a> {
     left: &'a [Entry],
@@ -35,7 +37,7 @@ impl<'a> Model for Tape<'a> {
     ghost view = { λ t. record { left = map access_of t.left.now; asked = t.asked } };
 }
 
-// What the driver asked for in this access.
+// Returns the request of this access.
 fn request_of(entry: Entry) -> Request
     ensures { result ≡ request_of (access_of entry) }
 {
@@ -45,7 +47,7 @@ fn request_of(entry: Entry) -> Request
     }
 }
 
-// The byte that was read or written.
+// Returns the byte that was read or written.
 fn byte_of(entry: Entry) -> u8
     ensures { access_of entry ≡ answered (request_of (access_of entry)) result }
 {
@@ -56,33 +58,33 @@ fn byte_of(entry: Entry) -> u8
 }
 
 impl<'a> Tape<'a> {
-    /// The whole list, of which no access was made yet.
+    /// Returns a tape with the whole list, of which no access was made.
     pub fn new(entries: &'a [Entry]) -> Self
         ensures { result ≡ record { left = map access_of entries.now; asked = None } }
     {
         Tape {
             left: entries,
             asked: None,
-            // Data waits at every other look, and the transmitter is always empty.
+            // Data is ready at every other read of LSR, and the transmitter is always empty.
             filler: 0x60,
         }
     }
 
-    /// How many accesses of the list were not made.
+    /// Returns how many accesses of the list were not made.
     pub fn left(&self) -> usize
         ensures { result ≡ length self.now.left }
     {
         self.left.len()
     }
 
-    /// The first request that the list does not go on with, if there was one.
+    /// Returns the first request that is not the next access of the list, if there was one.
     pub fn asked(&self) -> Option<Request>
         ensures { result ≡ self.now.asked }
     {
         self.asked
     }
 
-    // Keeps the first request, and answers something.
+    // Keeps the request if it is the first, and returns some byte.
     fn stray(&mut self, request: Request) -> u8
         ensures left { self.new.left ≡ self.old.left }
         ensures asked { self.new.asked ≡ Some (first_of self.old.asked request) }
@@ -94,7 +96,7 @@ impl<'a> Tape<'a> {
         self.filler
     }
 
-    // Goes on in the list, if its next access is this; else keeps the request, if it is the first.
+    // Goes on in the list if its next access has this request; else keeps the request if it is the first.
     fn turn(&mut self, request: Request) -> u8
         ensures { Plays self.old (answered request result) self.new }
     {

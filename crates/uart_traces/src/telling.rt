@@ -36,7 +36,7 @@ pub fn push_entry(out: &mut Vec<u8>, entry: Entry) -> Result<(), AllocError> {
     }
 }
 
-// A request as an access, of which a read has no answer.
+// Appends a request as an access. A read has no answer.
 fn push_request(out: &mut Vec<u8>, request: Request) -> Result<(), AllocError> {
     match request {
         Request::Read(offset) => push_place(out, b'r', offset),
@@ -51,7 +51,7 @@ fn push_line(alloc: Global, out: &mut Vec<u8>, line: usize) -> Result<(), AllocE
     out.extend_from_slice(b": '")
 }
 
-// The line that strays, and what is in it.
+// Appends the line that strays, and what is in it.
 fn push_found(alloc: Global, out: &mut Vec<u8>, stray: &Stray<'_>) -> Result<(), AllocError> {
     let exchange = stray.exchange;
     let line = exchange.access_lines.get(stray.kept);
@@ -68,7 +68,7 @@ fn push_found(alloc: Global, out: &mut Vec<u8>, stray: &Stray<'_>) -> Result<(),
     }
 }
 
-/// Appends which line of a trace strays, and what the driver does in its place, without the end of a line.
+/// Appends which line of a trace strays, and what the driver does instead, without the end of a line.
 pub fn push_stray(alloc: Global, out: &mut Vec<u8>, stray: &Stray<'_>) -> Result<(), AllocError> {
     push_found(alloc, out, stray)?;
     match &stray.turn {

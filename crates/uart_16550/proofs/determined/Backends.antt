@@ -16,7 +16,7 @@ answers_append [] m = refl
 answers_append (Read offset answer ∷ l) m = ap (λ xs. answer ∷ xs) (answers_append l m)
 answers_append (Write offset value ∷ l) m = answers_append l m
 
--- a list whose reads are answered from the stream, cut at a read
+-- a list whose reads return the front of the stream, cut at a read
 cut_at : (stream : List ℕ) (l front rest : List Access) (register answer : ℕ) → IsAnsweredFrom stream l →
     l ≡ front ++ Read register answer ∷ rest →
     (more : List ℕ) × (stream ≡ answers front ++ (answer ∷ more))
@@ -26,7 +26,7 @@ cut_at stream l front rest register answer fed is = (
       ∙ append_assoc (answers front) (answer ∷ answers rest) fed.0,
 )
 
--- lists that part at a read are not answered from one stream
+-- the reads of lists that part at a read do not return the front of one stream
 pub never_part : (stream : List ℕ) (l m : List Access) → IsAnsweredFrom stream l → IsAnsweredFrom stream m → PartAtRead l m → ⊥
 never_part stream l m p q part =
     let a = cut_at stream l part.front part.rest part.register part.answer p part.is_one in
@@ -67,7 +67,7 @@ path_one {B} {step} one s t u (Read register answer ∷ l) p q =
 path_one {B} {step} one s t u (Write register value ∷ l) p q =
     let P : B → Type 0 = λ x. Path step x l u in path_one one p.0 t u l p.2 (subst P (sym (one.write s p.0 q.0 register value p.1 q.1)) q.2)
 
--- and a read after it answers one thing
+-- and a read after it returns one value
 path_reads : {B : Type 0} {step : B → Access → B → Type 0} → IsFunction step →
     (s t u : B) (front rest other_rest : List Access) (register a b : ℕ) →
     Path step s (front ++ Read register a ∷ rest) t → Path step s (front ++ Read register b ∷ other_rest) u → a ≡ b

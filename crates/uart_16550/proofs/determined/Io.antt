@@ -68,7 +68,7 @@ pub exact_into_determined : (s : Settings) (old : List ℕ) (x y : Result (Unit 
     Determined (x ≡ y) (ReceivesExactInto old x.1 x.0 s) (ReceivesExactInto old y.1 y.0 s)
 exact_into_determined s old x y = determined_so (λ r i. (r.0 i, r.1 i)) (exact_into s old x.1 y.1 x.0 y.0)
 
--- a miss, where some bytes are received
+-- a miss, if some bytes are received
 miss_receives : (s : Settings) (n : ℕ) (xs : List ℕ) → 0 < length xs → Determined ⊥ (Miss s) (Receives n xs s)
 miss_receives s n [] some = absurd (omega (arith, some))
 miss_receives s n (x ∷ xs) some =

@@ -129,7 +129,7 @@ whole_echoes s sent xs ys = record {
       (sends_all_same s sent) (λ t. awaited_all s xs ys (p.0 ∙ sym q.0))).at l m p.1 q.1;
 }
 
--- all came back, and the wait for some was in vain
+-- all were received, and the wait for some reached the limit
 back_stall : (s : Settings) (n : ℕ) (xs ys : List ℕ) (e : StalledError) → length xs ≡ n →
     Determined ⊥ (InOrder Awaited xs s) (ReceivesExact {T = Unit {0}} n ys (Err e) s)
 back_stall s n xs ys e same = record {
@@ -176,7 +176,7 @@ echoes_determined s x y same =
 echoes : (s : Settings) → Items s Echo (λ x y. x.0 ≡ y.0)
 echoes s = record { item = echoes_determined s }
 
--- what follows a byte that was sent, beside the wait for room in vain
+-- what follows a byte that was sent, and the wait for room that reaches the limit
 unsent_apart : (s : Settings) (b : ℕ) (Q : Language) → Determined ⊥ (Then (Round (b ∷ [])) Q s) (AllMisses SendMiss s)
 unsent_apart s b Q = determined_front {P = Round (b ∷ [])} {Q = Q} (determined_sym (vain_round s (b ∷ [])))
 

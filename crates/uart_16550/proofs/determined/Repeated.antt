@@ -47,7 +47,7 @@ waits_end s M H H' miss miss' hit = record {
       (record { front = w.front; back = w.back; whole = w.whole; first = w.first.2; second = w.second });
 }
 
--- a wait that ends, beside one in vain
+-- a wait that ends, and one that reaches the limit
 pub wait_ends : (s : Settings) (M H : Language) → Misses s M H → Determined ⊥ (Then (FewMisses M) H s) (AllMisses M s)
 wait_ends s M H miss = record {
   at = λ l m t w.
@@ -55,7 +55,7 @@ wait_ends s M H miss = record {
       (record { front = t.front; back = t.back; whole = t.whole; first = t.first.2; second = t.second }) w;
 }
 
--- a wait in vain
+-- a wait that reaches the limit
 pub wait_fails : (s : Settings) (M : Language) → Determined (Unit {0}) (M s) (M s) → Determined (Unit {0}) (AllMisses M s) (AllMisses M s)
 wait_fails s M miss = times_same s M miss s.limit
 
@@ -65,7 +65,7 @@ Alike K [] ys = Unit {0}
 Alike K (x ∷ xs) [] = Unit {0}
 Alike K (x ∷ xs) (y ∷ ys) = K x y × Alike K xs ys
 
--- items whose lists are determined where the items are related
+-- items whose lists are determined if the items are related
 pub record Items {A : Type 0} (s : Settings) (P : A → Language) (Related : A → A → Type 0) : Type 0 where
   pub item : (x y : A) → Related x y → Determined (x ≡ y) (P x s) (P y s)
 
@@ -150,7 +150,7 @@ pub alike_self : {A : Type 0} (xs : List A) → Alike (λ (x y : A). x ≡ y) xs
 alike_self [] = tt
 alike_self (x ∷ xs) = (refl, alike_self xs)
 
--- items that the lists tell
+-- items that the lists determine
 pub told : {A : Type 0} {s : Settings} (P : A → Language) → ((x y : A) → Determined (x ≡ y) (P x s) (P y s)) → Items s P (λ x y. Unit {0})
 told P h = record { item = λ x y k. h x y }
 

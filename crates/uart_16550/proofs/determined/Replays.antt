@@ -12,7 +12,7 @@ use Rattle.uart_16550.proofs.determined.Backends.{answers_append, saved}
 no_head : (a : ℕ) (xs : List ℕ) → [] ≡ a ∷ xs → ⊥
 no_head a xs e = cc
 
--- what a tape answers after a front of accesses is what follows their answers on it
+-- after a front of accesses a tape returns what follows their answers on it
 fed_after : (xs more : List ℕ) (front rest : List Access) (register a b : ℕ) (left : List ℕ) → xs ≡ answers front ++ (a ∷ more) →
     FedBy xs (front ++ Read register b ∷ rest) left → a ≡ b
 fed_after [] more [] rest register a b left e (between, taken, fed) = absurd (no_head a more e)
@@ -30,7 +30,7 @@ fed_after xs more (Write offset value ∷ front) rest register a b left e (betwe
     written [] t = t
     written (x ∷ xs) t = t
 
--- so two lists do not part, of which the second was answered by what the first was answered
+-- so two lists do not part if the reads of the second returned what those of the first returned
 never_part : (l m : List Access) (left : List ℕ) → FedBy (answers l) m left → PartAtRead l m → ⊥
 never_part l m left fed part =
     let F : List Access → Type 0 = λ x. FedBy (answers l) x left in

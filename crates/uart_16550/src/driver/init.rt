@@ -13,15 +13,15 @@ use std::mem;
 use uart_spec::registers::{FCR, FifoTriggerLevel, ISR, LCR, LSR, MCR, MSR, offsets};
 use uart_spec::{Config, FIFO_SIZE, InitError, calc_divisor};
 
-// The patterns that the scratch register is tried with.
+// The patterns that are written to the scratch register.
 const FIRST_PATTERN: u8 = 0x42;
 
 const SECOND_PATTERN: u8 = 0x73;
 
-// What a FIFO and the shift register hold.
+// The number of characters in a full FIFO and the shift register.
 const MOST_WAITING: usize = FIFO_SIZE + 1;
 
-// LCR for a configuration.
+// Returns LCR for a configuration.
 fn frame_of(config: &Config) -> LCR
     ensures { result.0 ≡ frame_bits config.now }
 {
@@ -34,7 +34,7 @@ fn frame_of(config: &Config) -> LCR
     frame
 }
 
-// FCR for a trigger level.
+// Returns FCR for a trigger level.
 fn fifo_control_of(level: Option<FifoTriggerLevel>) -> FCR
     ensures { result.0 ≡ fifo_bits level }
 {
@@ -46,7 +46,7 @@ fn fifo_control_of(level: Option<FifoTriggerLevel>) -> FCR
 }
 
 impl<B: Backend> Uart16550<B> {
-    // Writes a pattern to the scratch register, and tells whether it reads back.
+    // Writes a pattern to the scratch register, and returns whether it reads back.
     fn keeps(&mut self, pattern: u8) -> bool
         ensures { Made B.step (Keeps pattern result) self.old self.new }
     {
@@ -63,9 +63,16 @@ impl<B: Backend> Uart16550<B> {
         self.keeps(SECOND_PATTERN)
     }
 
-    /// Whether a device is there: its scratch register keeps what is written to it.
+    /// Returns whether a device is present: whether its scratch register (SPR) keeps what is written to it.
     ///
-    /// Tries two patterns, the second only where the first was kept, and then writes the old value back.
+    /// Reads SPR, writes a pattern and reads it back, tries a second pattern if the first was kept, and restores SPR.
+    /// Nothing else changes in the chip. Does not wait: makes 4 or 6 accesses. `init` makes the same check.
+    ///
+    /// # Examples
+    ///
+    /// ```
+    /// assert!(rt; uart.check_present());
+    /// ```
     pub fn check_present(&mut self) -> bool
         ensures { Made B.step (ChecksPresence result) self.old self.new }
     {
@@ -75,7 +82,7 @@ impl<B: Backend> Uart16550<B> {
         present
     }
 
-    // Turns interrupts off, and sets divisor and frame.
+    // Turns interrupts off, and sets the divisor and the frame.
     fn set_line(&mut self, divisor: u16, frame: LCR)
         ensures { Made B.step (Only (line_writes divisor frame.0)) self.old self.new }
     {
@@ -88,7 +95,7 @@ impl<B: Backend> Uart16550<B> {
         self.write_register(offsets::LCR, frame.bits());
     }
 
-    // Resets the FIFOs, enables them where there is a level, and tells whether they are then on.
+    // Resets the FIFOs, enables them if there is a level, and returns whether they are on then.
     pub(crate) fn set_fifo(&mut self, level: Option<FifoTriggerLevel>) -> bool
         ensures { Made B.step (SetsFifo level result) self.old self.new }
     {
@@ -99,7 +106,7 @@ impl<B: Backend> Uart16550<B> {
         }
     }
 
-    // Throws away what waits to be received.
+    // Discards received bytes until none is available, or as many as the receiver can hold.
     fn drain(&mut self)
         ensures { Did B.step (Plain DrainsReceiver) self.old self.new }
     {
@@ -112,7 +119,7 @@ impl<B: Backend> Uart16550<B> {
         }
     }
 
-    // ReadsRegister the statuses and forgets them, and enables the configured interrupts.
+    // Reads the statuses without saving them, and enables the configured interrupts.
     fn finish_init(&mut self)
         ensures { Did B.step (Ends (fields self.old).config) self.old self.new }
     {
@@ -125,27 +132,50 @@ impl<B: Backend> Uart16550<B> {
         self.write_register(offsets::IER, interrupts.bits());
     }
 
-    /// Sets the device up by this configuration, which must be computable (`Config::is_computable`).
+    /// Initialises the device with this configuration, which must be computable (`Config::is_computable`).
     ///
-    /// Checks that the device is there, sets baud rate and frame, resets the FIFOs and enables them where a trigger level is
-    /// configured, throws away what waits to be received, raises DTR, RTS and OUT2, waits until the transmitter is empty,
-    /// and enables the configured interrupts. Bytes that a FIFO still held for sending may be lost. No status bits are saved
-    /// afterwards. `fifo_enabled` then tells whether the device has a FIFO that is on.
+    /// Call it before any other call, again after raw accesses that changed the setup of the chip, and to change the
+    /// configuration. Call it with the processor's interrupts masked: an interrupt may be pending before it returns.
     ///
-    /// Call it while interrupts are masked: one may be pending before this returns. Some versions of QEMU were reported to
-    /// stall with a configuration without a trigger level.
+    /// In this order it
+    ///
+    /// - computes the divisor, and checks that a device is present as `check_present` does;
+    /// - disables all interrupts, writes the divisor to DLL and DLM, and the frame to LCR;
+    /// - resets both FIFOs by FCR and, if a trigger level is configured, turns them on and reads from ISR whether they are.
+    ///   ISR with bit 7 alone, as one known broken chip returns it, counts as no FIFO;
+    /// - discards received bytes, at most 17;
+    /// - sets DTR, RTS and OUT2 in MCR, and clears loopback;
+    /// - waits until LSR shows `TRANSMITTER_EMPTY`, at most `spin_limit` polls;
+    /// - reads LSR, ISR and MSR to clear them, and writes the configured interrupts to IER.
+    ///
+    /// Afterwards no status bits are saved, `config` returns the new configuration, and `fifo_enabled` whether the FIFOs
+    /// are on. SPR is unchanged. Bytes that were in the transmitter FIFO may be lost by the reset.
+    ///
+    /// Without a trigger level the FIFOs are off, and bytes are sent one at a time. Some versions of QEMU were reported to
+    /// stall in this mode.
     ///
     /// # Errors
     ///
-    /// `InvalidBaudRate` where the divisor is not whole or does not fit the latch: no access was made and nothing changed.
-    /// `DeviceNotPresent` where the scratch register keeps no pattern: it was written back, and the configuration is the new
-    /// one. `Stalled` where the transmitter did not become empty within the spin limit: interrupts are off, the
-    /// configuration is the new one, and what the polls saw is saved.
+    /// - `InvalidBaudRate` if the divisor is not a whole number, or does not fit into the divisor latch. No access was
+    ///   made, and nothing changed.
+    /// - `DeviceNotPresent` if SPR does not keep a pattern. SPR was written back, and the driver has the new configuration.
+    ///   Saved bits and `fifo_enabled` are unchanged.
+    /// - `Stalled` if the transmitter was not empty after `spin_limit` polls. The interrupts of the device are disabled,
+    ///   the driver has the new configuration, and the status bits that the polls cleared are saved.
+    ///
+    /// # Examples
+    ///
+    /// ```
+    /// uart.init(Config {
+    ///     baud_rate: BaudRate::Baud38400,
+    ///     ..Config::DEFAULT
+    /// })?;
+    /// ```
     pub fn init(&mut self, config: Config) -> Result<(), InitError>
         requires { IsComputable config }
         ensures { Did B.step (Inits config result) self.old self.new }
     {
-        // Stored first and then read where it stands, the configuration is copied once, and as a whole.
+        // The configuration is stored first and then read in place. So it is copied once, and as a whole.
         let before = mem::replace(&mut self.config, config);
         let baud_rate = self.config.baud_rate.to_integer();
         let prescaler = self.config.prescaler_division_factor;

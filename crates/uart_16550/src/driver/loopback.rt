@@ -16,21 +16,21 @@ const TEST_BYTE: u8 = 0x42;
 
 const TEST_MESSAGE: [u8; 16] = *b"hello world!1337";
 
-// The bits where the flag is set, else none.
+// Returns the bits if the flag is set, else none.
 fn flag(on: bool, bits: MSR) -> MSR
     ensures { result.0 ≡ flag on bits.0 }
 {
     if on { bits } else { MSR::from_bits_retain(0) }
 }
 
-// Whether a line differs between two readings.
+// Returns whether a line differs between two readings.
 fn differs(before: MSR, now: MSR, line: MSR) -> bool
     ensures { result ≡ differs before.0 now.0 line.0 }
 {
     before.intersection(line) != now.intersection(line)
 }
 
-// The changes between two readings of the lines, as their bits.
+// Returns the changes of the lines between two readings, as their bits.
 fn line_changes(before: MSR, now: MSR) -> MSR
     ensures { result.0 ≡ line_changes before.0 now.0 }
 {
@@ -45,7 +45,7 @@ fn line_changes(before: MSR, now: MSR) -> MSR
 }
 
 impl<B: Backend> Uart16550<B> {
-    // Receives what waits from before, and tells whether that came to an end.
+    // Discards received bytes until none is available. Returns false after as many bytes as the spin limit.
     fn drain_received(&mut self) -> bool
         ensures { Made B.step (DrainsLoopback result) self.old self.new }
     {
@@ -57,7 +57,7 @@ impl<B: Backend> Uart16550<B> {
         false
     }
 
-    // Sends the test byte and compares what comes back.
+    // Sends the test byte, and compares what returns.
     fn exchange_byte(&mut self) -> Result<(), LoopbackError>
         ensures { Made B.step (ExchangesByte result) self.old self.new }
     {
@@ -76,7 +76,7 @@ impl<B: Backend> Uart16550<B> {
         })
     }
 
-    // Sends a byte and waits for what comes back.
+    // Sends a byte, and waits for the byte that returns.
     fn echo(&mut self, byte: u8) -> Option<u8>
         ensures { Made B.step (HasEchoed byte result) self.old self.new }
     {
@@ -84,7 +84,7 @@ impl<B: Backend> Uart16550<B> {
         self.receive_one()
     }
 
-    // Sends the test message whole, and receives it whole.
+    // Sends the whole test message, and then receives it.
     fn echo_whole(&mut self) -> Option<[u8; 16]>
         ensures made { Made B.step (HasEchoedWhole test_message result) self.old self.new }
         ensures length { IfSome result (λ actual. length actual ≡ length test_message) }
@@ -99,7 +99,7 @@ impl<B: Backend> Uart16550<B> {
         Some(actual)
     }
 
-    // Sends the test message byte by byte, and awaits each.
+    // Sends the test message byte by byte, and waits for each to return.
     fn echo_each(&mut self) -> Option<[u8; 16]>
         ensures made { Made B.step (HasEchoedEach test_message result) self.old self.new }
         ensures length { IfSome result (λ actual. length actual ≡ length test_message) }
@@ -111,7 +111,7 @@ impl<B: Backend> Uart16550<B> {
         Some(actual)
     }
 
-    // Sends the test message and awaits it: whole where the FIFO is on, else byte by byte.
+    // Sends and receives the test message: as a whole if the FIFO is on, else byte by byte.
     fn echo_message(&mut self) -> Option<[u8; 16]>
         ensures made { Made B.step (HasEchoedAll test_message result) self.old self.new }
         ensures length { IfSome result (λ actual. length actual ≡ length test_message) }
@@ -122,7 +122,7 @@ impl<B: Backend> Uart16550<B> {
         self.echo_each()
     }
 
-    // Sends the test message and compares what comes back.
+    // Sends the test message, and compares what returns.
     fn exchange_message(&mut self) -> Result<(), LoopbackError>
         ensures { Made B.step (ExchangesMessage result) self.old self.new }
     {
@@ -138,7 +138,7 @@ impl<B: Backend> Uart16550<B> {
         Ok(())
     }
 
-    // What is tried while the device loops back.
+    // The test itself, while the device is in loopback.
     fn exchange(&mut self) -> Result<(), LoopbackError>
         ensures { Made B.step (Exchanges result) self.old self.new }
     {
@@ -149,7 +149,7 @@ impl<B: Backend> Uart16550<B> {
         self.exchange_message()
     }
 
-    // Reads the lines, and sets the device to loopback with interrupts off.
+    // Reads the modem lines, and sets the device to loopback with interrupts off.
     fn enter_loopback(&mut self) -> MSR
         ensures { Did B.step (Enters result.0 (fields self.new).fifo) self.old self.new }
     {
@@ -160,7 +160,7 @@ impl<B: Backend> Uart16550<B> {
         before
     }
 
-    // Leaves the loopback, restores MCR and IER, and saves what changed beside the test.
+    // Leaves loopback, restores MCR and IER, and saves the changes of the lines that are not due to the test.
     fn leave_loopback(&mut self, mcr: MCR, ier: IER, before: MSR, noted: LSR)
         ensures { Did B.step (Leaves mcr.0 ier.0 before.0 noted.0) self.old self.new }
     {
@@ -172,19 +172,37 @@ impl<B: Backend> Uart16550<B> {
         self.saved_lsr = noted;
     }
 
-    /// Tests that bytes sent come back while the device is set to loopback: one byte, and then a message of 16.
+    /// Tests whether bytes that are sent return while the device is in loopback: first one byte, and then a message of 16.
     ///
-    /// First waits until the transmitter is empty. Received data and error bits that are seen inside the test are thrown
-    /// away; error bits saved before it stay saved. Nothing else may be sent meanwhile. Afterwards MCR and IER stand as before,
-    /// and changes of modem lines from before to after the test are saved for the next `msr`, of RI only its trailing edge.
-    /// On a device that was in loopback already, loopback is restored too.
+    /// Call it after `init`, to find out whether the chip works. Send nothing else while it runs. In loopback the chip
+    /// connects its transmitter to its receiver, and nothing goes out on the line. For a device without loopback do not
+    /// call it; wrap the driver with `Uart16550Tty::from_inner` instead of constructing a terminal.
+    ///
+    /// Waits until the transmitter is empty, and then for each byte, at most `spin_limit` polls each time. Received bytes
+    /// and error bits that are found in loopback are discarded; error bits that were saved before it stay saved. The FIFOs
+    /// are reset and set up again, and `fifo_enabled` is read again. Afterwards MCR and IER are as before, also on a chip
+    /// that was in loopback already.
+    ///
+    /// The modem lines before and after the test are compared, and their changes saved for the next `msr`; of RI only its
+    /// trailing edge. A line that changed and changed back in between is not reported.
+    ///
+    /// Whole bytes are compared. With 5 or 6 data bits a chip that cuts characters fails the test.
     ///
     /// # Errors
     ///
-    /// `Stalled` at the spin limit's number of unsuccessful polls in a row: in the first wait nothing was written, and what the
-    /// polls saw is saved; later a test byte may still leave the device. `SendError` where the byte was not taken,
-    /// `UnexpectedLoopbackByte` and `UnexpectedLoopbackMsg` where another came back. But for the first wait, MCR and IER are
-    /// written back.
+    /// - `Stalled` after `spin_limit` unsuccessful polls in a row. If the first wait failed, nothing was written, and what
+    ///   the polls cleared is saved. Later a test byte may still be in the transmitter, and is then sent after the test.
+    /// - `SendError` if the device does not accept the test byte. Its cause is always `NoCapacity`.
+    /// - `UnexpectedLoopbackByte`, `UnexpectedLoopbackMsg` if other bytes return.
+    ///
+    /// Except for the first wait, MCR and IER are restored before the error is returned.
+    ///
+    /// # Examples
+    ///
+    /// ```
+    /// uart.init(Config::DEFAULT)?;
+    /// uart.test_loopback()?;
+    /// ```
     pub fn test_loopback(&mut self) -> Result<(), LoopbackError>
         ensures { Did B.step (TestsLoopback result) self.old self.new }
     {

@@ -10,9 +10,19 @@ use uart_spec::registers::{LSR, offsets};
 use uart_spec::{ByteReceiveError, StalledError};
 
 impl<B: Backend> Uart16550<B> {
-    /// Whether a byte waits to be received: LSR shows DATA_READY.
+    /// Checks whether a received byte is available: whether LSR shows `DATA_READY`.
     ///
-    /// One read of LSR, whose error bits are saved for the next `lsr`.
+    /// Does not wait: reads LSR once. The error bits that this clears are saved for the next `lsr`.
+    ///
+    /// # Errors
+    ///
+    /// `ByteReceiveError` if no byte is available.
+    ///
+    /// # Examples
+    ///
+    /// ```
+    /// assert!(rt; uart.ready_to_receive().is_err());
+    /// ```
     pub fn ready_to_receive(&mut self) -> Result<(), ByteReceiveError>
         ensures { Made B.step (ReadyToReceive result) self.old self.new }
     {
@@ -22,7 +32,20 @@ impl<B: Backend> Uart16550<B> {
         Ok(())
     }
 
-    /// Receives one byte, if one waits.
+    /// Receives one byte if one is available: reads LSR, and if it shows `DATA_READY`, RBR.
+    ///
+    /// Does not wait. The error bits that the read of LSR clears are saved for the next `lsr`; they belong to the byte that
+    /// is then received, except for an overrun.
+    ///
+    /// # Errors
+    ///
+    /// `ByteReceiveError` if no byte is available. RBR was not read then.
+    ///
+    /// # Examples
+    ///
+    /// ```
+    /// uart.try_receive_byte().ok()
+    /// ```
     pub fn try_receive_byte(&mut self) -> Result<u8, ByteReceiveError>
         ensures { Made B.step (TryReceive result) self.old self.new }
     {
@@ -30,9 +53,19 @@ impl<B: Backend> Uart16550<B> {
         Ok(self.read_register(offsets::DATA))
     }
 
-    /// Receives bytes while some wait and there are free slots, and answers how many. Later slots stay as they are.
+    /// Receives bytes while some are available and there are free slots. Returns how many, and leaves the slots beyond them
+    /// unchanged.
     ///
-    /// Does not wait: call it repeatedly, with the rest of the slice. An empty slice makes no access.
+    /// Does not wait: reads LSR before each byte, and ends when it shows none. Call it again with the rest of the slice to
+    /// receive more. An empty slice makes no access. Error bits are saved for the next `lsr`, and do not end the call.
+    ///
+    /// # Examples
+    ///
+    /// ```
+    /// let mut slots = [0xee; 4];
+    /// assert_eq!(rt; uart.receive_bytes(&mut slots), 2);
+    /// assert_eq!(rt; slots, [0x41, 0x42, 0xee, 0xee]);
+    /// ```
     pub fn receive_bytes(&mut self, buffer: &mut [u8]) -> usize
         ensures made { Made B.step (Receives (length buffer.old) (take result buffer.new)) self.old self.new }
         ensures count { result ≤ length buffer.old }
@@ -47,7 +80,7 @@ impl<B: Backend> Uart16550<B> {
         buffer.len()
     }
 
-    // Waits until some bytes were received, and answers how many.
+    // Waits until some bytes were received, and returns how many.
     pub(crate) fn receive_some(&mut self, buffer: &mut [u8]) -> Option<usize>
         requires { 0 < length buffer.old }
         ensures made { Made B.step (ReceivesSome (length buffer.old) (take (unwrap_or result 0) buffer.new) (is_some result))
@@ -64,7 +97,7 @@ impl<B: Backend> Uart16550<B> {
         None
     }
 
-    // Waits for one byte. The first look stands by itself, since it mostly finds one.
+    // Waits for one byte. The first poll is separate, since it mostly finds one.
     pub(crate) fn receive_one(&mut self) -> Option<u8>
         ensures { Made B.step (Awaits result) self.old self.new }
     {
@@ -81,7 +114,7 @@ impl<B: Backend> Uart16550<B> {
         None
     }
 
-    // Receives as many bytes as there are slots, and waits for each.
+    // Receives a byte into each slot, and waits for each.
     fn receive_each(&mut self, slots: &mut [u8]) -> Result<(), StalledError>
         ensures made { Made B.step (ReceivesExact (length slots.old) (filled result slots.new) result) self.old self.new }
         ensures rest { IfErr result (λ e. drop e.done slots.new ≡ drop e.done slots.old) }
@@ -111,12 +144,25 @@ impl<B: Backend> Uart16550<B> {
         result
     }
 
-    /// Receives as many bytes as there are slots, and waits for each.
+    /// Receives a byte into each slot, and waits for each.
+    ///
+    /// Each wait makes at most `spin_limit` polls of LSR. Error bits are saved for the next `lsr`, and do not end the call.
+    /// An empty slice makes no access.
     ///
     /// # Errors
     ///
-    /// `StalledError` at the spin limit's number of unsuccessful polls in a row. `done` slots then hold the bytes that came,
-    /// and later slots stay as they are.
+    /// `StalledError` after `spin_limit` unsuccessful polls in a row: the remote sent nothing for so long. The first `done`
+    /// slots have the bytes that were received, and the other slots are unchanged.
+    ///
+    /// # Examples
+    ///
+    /// ```
+    /// if let Err(stall) = uart.receive_bytes_exact(answer) {
+    ///     return Err(PortError::NoAnswer {
+    ///         received: stall.done,
+    ///     });
+    /// }
+    /// ```
     pub fn receive_bytes_exact(&mut self, buffer: &mut [u8]) -> Result<(), StalledError>
         ensures made { Made B.step (ReceivesExact (length buffer.old) (filled result buffer.new) result) self.old self.new }
         ensures rest { IfErr result (λ e. drop e.done buffer.new ≡ drop e.done buffer.old) }

@@ -1,4 +1,4 @@
-//! What a driver keeps beside its backend, as a value.
+//! The state of a driver without its backend, as a value.
 ghost use Rattle.std.specs.Prelude.{◌≡◌};
 ghost use Rattle.uart_16550.specs.Driver.{backend_of, fields};
 ghost use Rattle.uart_16550.specs.State.{fields_of, fresh_fields};
@@ -10,23 +10,23 @@ use std::num::NonZeroU64;
 use uart_spec::Config;
 use uart_spec::registers::{LSR, MSR};
 
-/// What a driver keeps beside its backend: all that it takes to go on over another backend.
+/// The state of a driver without its backend: everything that a driver over another backend needs to continue.
 #[derive(Clone, Debug, PartialEq, Drop)]
 pub struct DriverState {
     /// The configuration, as `Uart16550::config` returns it.
     pub config: Config,
     /// Whether the chip is taken to have a FIFO that is on.
     pub fifo_enabled: bool,
-    /// The line errors that reads of LSR cleared in the chip, and that no call of `lsr` returned yet.
+    /// The line errors that reads of LSR cleared in the chip, and that no call of `lsr` has returned.
     pub saved_lsr: LSR,
-    /// The changes of modem lines that reads of MSR cleared in the chip, and that no call of `msr` returned yet.
+    /// The changes of modem lines that reads of MSR cleared in the chip, and that no call of `msr` has returned.
     pub saved_msr: MSR,
-    /// How many unsuccessful polls in a row a wait makes.
+    /// How many unsuccessful polls in a row a wait makes before it returns an error.
     pub spin_limit: NonZeroU64,
 }
 
 impl DriverState {
-    /// What a driver keeps that was just made by `new_with_backend`.
+    /// Returns the state of a driver that `new_with_backend` has just made.
     pub fn new() -> Self
         ensures { fields_of result ≡ fresh_fields }
     {
@@ -41,7 +41,13 @@ impl DriverState {
 }
 
 impl<B: Backend> Uart16550<B> {
-    /// A driver over this backend that goes on from this state. Makes no access.
+    /// Returns a driver over this backend that continues from this state. Makes no access.
+    ///
+    /// # Examples
+    ///
+    /// ```
+    /// let mut uart = Uart16550Tty::from_inner(Uart16550::from_state(Tape::new(accesses), state));
+    /// ```
     pub fn from_state(backend: B, state: &DriverState) -> Self
         ensures backend { backend_of result ≡ backend }
         ensures fields { fields result ≡ fields_of state.now }
@@ -56,7 +62,13 @@ impl<B: Backend> Uart16550<B> {
         }
     }
 
-    /// What the driver keeps beside its backend. Makes no access.
+    /// Returns the state of the driver, as a copy. Makes no access.
+    ///
+    /// # Examples
+    ///
+    /// ```
+    /// let state = uart.inner().state();
+    /// ```
     pub fn state(&self) -> DriverState
         ensures { fields_of result ≡ fields self.now }
     {

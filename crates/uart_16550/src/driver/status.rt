@@ -14,38 +14,71 @@ use uart_spec::RemoteReadyToReceiveError;
 use uart_spec::registers::{DLL, DLM, IER, ISR, LCR, LSR, MCR, MSR, SPR, offsets};
 
 impl<B: Backend> Uart16550<B> {
-    /// Reads the interrupt enable register.
+    /// Reads and returns the interrupt enable register (IER). Reading it changes nothing.
+    ///
+    /// # Examples
+    ///
+    /// ```
+    /// assert_eq!(rt; uart.ier(), IER::THR_EMPTY);
+    /// ```
     pub fn ier(&mut self) -> IER
         ensures { Made B.step (Only (Read offsets.IER result.0 ∷ [])) self.old self.new }
     {
         IER::from_bits_retain(self.read_register(offsets::IER))
     }
 
-    /// Reads the interrupt status register, which the datasheet also calls IIR.
+    /// Reads and returns the interrupt status register (ISR), which the datasheet also calls IIR.
     ///
-    /// A read that shows a THR-empty interrupt acknowledges it.
+    /// A read that shows a `THR_EMPTY` interrupt acknowledges it.
+    ///
+    /// # Examples
+    ///
+    /// ```
+    /// self.uart.isr().interrupt_type()
+    /// ```
     pub fn isr(&mut self) -> ISR
         ensures { Made B.step (Only (Read offsets.ISR result.0 ∷ [])) self.old self.new }
     {
         ISR::from_bits_retain(self.read_register(offsets::ISR))
     }
 
-    /// Reads the line control register.
+    /// Reads and returns the line control register (LCR). Reading it changes nothing.
+    ///
+    /// # Examples
+    ///
+    /// ```
+    /// assert_eq!(rt; uart.lcr(), shown.lcr);
+    /// ```
     pub fn lcr(&mut self) -> LCR
         ensures { Made B.step (Only (Read offsets.LCR result.0 ∷ [])) self.old self.new }
     {
         LCR::from_bits_retain(self.read_register(offsets::LCR))
     }
 
-    /// Reads the modem control register.
+    /// Reads and returns the modem control register (MCR). Reading it changes nothing.
+    ///
+    /// # Examples
+    ///
+    /// ```
+    /// assert_eq!(rt; uart.mcr(), shown.mcr);
+    /// ```
     pub fn mcr(&mut self) -> MCR
         ensures { Made B.step (Only (Read offsets.MCR result.0 ∷ [])) self.old self.new }
     {
         MCR::from_bits_retain(self.read_register(offsets::MCR))
     }
 
-    /// Reads the line status register, joined with the error bits that earlier reads of this driver saw and saved. These
-    /// are then saved no more.
+    /// Reads the line status register (LSR). Returns it joined with the error bits that earlier reads by this driver
+    /// cleared in the chip, and that are saved. Afterwards no error bits of LSR are saved.
+    ///
+    /// Call it to find out whether received bytes had errors or were lost. Does not wait. `has_error` of the result also
+    /// counts bit 7, an error somewhere in the FIFO, which is not saved.
+    ///
+    /// # Examples
+    ///
+    /// ```
+    /// assert_eq!(rt; uart.lsr(), shown.lsr);
+    /// ```
     pub fn lsr(&mut self) -> LSR
         ensures { Did B.step (TakesLsr result.0) self.old self.new }
     {
@@ -54,8 +87,16 @@ impl<B: Backend> Uart16550<B> {
         lsr
     }
 
-    /// Reads the modem status register, joined with the changes that earlier reads of this driver saw and saved. These are
-    /// then saved no more.
+    /// Reads the modem status register (MSR). Returns it joined with the changes that earlier reads by this driver cleared
+    /// in the chip, and that are saved. Afterwards no changes are saved.
+    ///
+    /// Call it to find out which modem lines changed. Does not wait.
+    ///
+    /// # Examples
+    ///
+    /// ```
+    /// assert_eq!(rt; uart.msr(), shown.msr);
+    /// ```
     pub fn msr(&mut self) -> MSR
         ensures { Did B.step (TakesMsr result.0) self.old self.new }
     {
@@ -64,21 +105,36 @@ impl<B: Backend> Uart16550<B> {
         msr
     }
 
-    /// Reads the scratch register, which the chip leaves to its users.
+    /// Reads and returns the scratch register (SPR), which the chip does not use.
+    ///
+    /// # Examples
+    ///
+    /// ```
+    /// assert_eq!(rt; uart.spr(), shown.spr);
+    /// ```
     pub fn spr(&mut self) -> SPR
         ensures { Made B.step (Only (Read offsets.SPR result ∷ [])) self.old self.new }
     {
         self.read_register(offsets::SPR)
     }
 
-    /// Whether a remote is there and ready to receive: MSR shows DSR and CTS.
+    /// Checks whether a remote is present and ready to receive: whether MSR shows DSR and CTS.
     ///
-    /// One read of MSR, whose changes are saved for the next `msr`. Many cables never raise these lines, so a refusal need
-    /// not mean that sending fails. Ask again after a modem status interrupt.
+    /// Does not wait: reads MSR once. The changes that this clears are saved for the next `msr`. Many cables never assert
+    /// DSR or CTS, so sending may work even if this call fails. Call it again after a modem status interrupt.
     ///
     /// # Errors
     ///
-    /// `NoRemoteConnectedNoDSR` without DSR, else `RemoteNotClearToSend` without CTS. `NoRemoteConnectedNoCD` never comes.
+    /// - `NoRemoteConnectedNoDSR` if DSR is clear.
+    /// - `RemoteNotClearToSend` if DSR is set and CTS is clear.
+    ///
+    /// `NoRemoteConnectedNoCD` is never returned.
+    ///
+    /// # Examples
+    ///
+    /// ```
+    /// uart.check_connected()?;
+    /// ```
     pub fn check_connected(&mut self) -> Result<(), RemoteReadyToReceiveError>
         ensures { Made B.step (Connects result) self.old self.new }
     {
@@ -92,11 +148,18 @@ impl<B: Backend> Uart16550<B> {
         Ok(())
     }
 
-    /// Enables these interrupts too: reads IER, joins it with them, stores the result in the configuration and writes it.
+    /// Enables these interrupts in addition to those that are enabled: reads IER, adds them, stores the result in the
+    /// configuration, and writes it.
     ///
-    /// Bits that the chip does not keep read as clear, and so vanish from the stored configuration at the next call. An
-    /// interrupt for THR_EMPTY does not come on every device when the transmitter is empty already: send the first bytes
-    /// directly, and more on interrupts.
+    /// Bits that the chip does not keep read as clear, so they vanish from `config().interrupts` at the next such call. Not
+    /// every device raises an interrupt if `THR_EMPTY` is enabled while the transmitter is already empty: send the first
+    /// bytes directly, and the rest on interrupts.
+    ///
+    /// # Examples
+    ///
+    /// ```
+    /// uart.enable_interrupts(IER::THR_EMPTY);
+    /// ```
     pub fn enable_interrupts(&mut self, interrupts: IER)
         ensures { Did B.step (Enables interrupts.0) self.old self.new }
     {
@@ -104,7 +167,15 @@ impl<B: Backend> Uart16550<B> {
         self.store_interrupts(enabled);
     }
 
-    /// Disables these interrupts: reads IER, takes them away, stores the result in the configuration and writes it.
+    /// Disables these interrupts and leaves the others: reads IER, removes them, stores the result in the configuration,
+    /// and writes it.
+    ///
+    /// # Examples
+    ///
+    /// ```
+    /// uart.disable_interrupts(IER::DATA_READY);
+    /// assert_eq!(rt; uart.ier(), IER::THR_EMPTY);
+    /// ```
     pub fn disable_interrupts(&mut self, interrupts: IER)
         ensures { Did B.step (Disables interrupts.0) self.old self.new }
     {
@@ -120,9 +191,16 @@ impl<B: Backend> Uart16550<B> {
         self.write_register(offsets::IER, enabled.bits());
     }
 
-    /// Reads the divisor latch, low byte first.
+    /// Reads and returns the divisor latch, low byte first.
     ///
-    /// DLAB is set for a moment, and LCR then written back as it was read.
+    /// Sets DLAB in LCR for the two reads, and then writes LCR back. In between offsets 0 and 1 are the latch, so nothing
+    /// else may access the chip: neither data nor IER can be reached.
+    ///
+    /// # Examples
+    ///
+    /// ```
+    /// assert_eq!(rt; uart.dll_dlm(), (12, 0));
+    /// ```
     pub fn dll_dlm(&mut self) -> (DLL, DLM)
         ensures { Made B.step (ReadsDivisor result.0 result.1) self.old self.new }
     {
@@ -134,10 +212,16 @@ impl<B: Backend> Uart16550<B> {
         (dll, dlm)
     }
 
-    /// Reads the divisor latch and then IER, ISR, LCR, MCR, LSR, MSR and SPR.
+    /// Reads the divisor latch and then IER, ISR, LCR, MCR, LSR, MSR and SPR, and returns them. It is meant for debugging.
     ///
-    /// LSR and MSR are shown joined with the saved bits, which stay saved. The read of ISR acknowledges a THR-empty
-    /// interrupt, and DLAB is set for a moment.
+    /// LSR and MSR are returned joined with the saved bits, which stay saved. The read of ISR acknowledges a `THR_EMPTY`
+    /// interrupt, and DLAB is set for a moment, as by `dll_dlm`. Does not wait: makes 12 accesses.
+    ///
+    /// # Examples
+    ///
+    /// ```
+    /// assert_eq!(rt; uart.config_register_dump().dll, 3);
+    /// ```
     pub fn config_register_dump(&mut self) -> ConfigRegisterDump
         ensures { Did B.step (Dumps result) self.old self.new }
     {

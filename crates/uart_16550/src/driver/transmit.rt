@@ -15,7 +15,7 @@ use uart_spec::registers::{LSR, MCR, MSR, offsets};
 use uart_spec::{ByteSendError, FIFO_SIZE, StalledError};
 
 impl<B: Backend> Uart16550<B> {
-    // Whether the modem lines allow to send. In loopback they mean nothing.
+    // Returns whether the modem lines allow sending. In loopback they do not matter.
     fn is_clear_to_send(&mut self) -> bool
         ensures { Made B.step (LinesAllow result) self.old self.new }
     {
@@ -25,11 +25,22 @@ impl<B: Backend> Uart16550<B> {
         self.read_msr().contains(MSR::CTS)
     }
 
-    /// Whether a byte can be sent now: LSR shows THR_EMPTY and, where the configuration checks CTS, the remote is clear
-    /// to send.
+    /// Checks whether a byte can be sent now: whether LSR shows `THR_EMPTY` and, if the configuration checks CTS, the
+    /// remote is clear to send.
     ///
-    /// One read of LSR; with CTS checking then one of MCR and, unless it shows loopback, one of MSR. What these show of
-    /// errors and changes is saved for the next `lsr` and `msr`.
+    /// Does not wait: reads LSR once. If the configuration checks CTS and THR is empty, it also reads MCR and, unless that
+    /// shows loopback, MSR. The errors and changes that these reads clear are saved for the next `lsr` and `msr`.
+    ///
+    /// # Errors
+    ///
+    /// - `NoCapacity` if THR, or the transmitter FIFO, is not empty.
+    /// - `RemoteNotClearToSend` if it is empty, but the remote does not assert CTS.
+    ///
+    /// # Examples
+    ///
+    /// ```
+    /// assert_eq!(rt; uart.ready_to_send(), Ok(()));
+    /// ```
     pub fn ready_to_send(&mut self) -> Result<(), ByteSendError>
         ensures { Made B.step (ReadyToSend result) self.old self.new }
     {
@@ -61,7 +72,7 @@ impl<B: Backend> Uart16550<B> {
         }
     }
 
-    // Writes one burst from the front to DATA, and answers how many bytes it took. A whole burst is written from a copy.
+    // Writes one burst from the front to DATA, and returns its length. A whole burst is written from a copy.
     fn write_burst(&mut self, bytes: &[u8]) -> usize
         requires { 0 < length bytes.now }
         ensures made { Made B.step (Only (data_writes (take result bytes.now))) self.old self.new }
@@ -84,10 +95,19 @@ impl<B: Backend> Uart16550<B> {
         }
     }
 
-    /// Sends bytes from the front, if the transmitter has room, and answers how many: up to 16 where the FIFO is on,
-    /// else one.
+    /// Sends bytes from the front of the slice if there is room, and returns how many: up to 16 if the FIFO is on, else
+    /// one; 0 if `ready_to_send` fails.
     ///
-    /// Does not wait: call it repeatedly, with the rest of the slice. An empty slice makes no access.
+    /// Does not wait: makes one check as `ready_to_send`, and one burst of writes to THR. The chip reports only an empty
+    /// FIFO, not how full it is, so nothing is sent until the last burst has left the FIFO. Call it again with the rest of
+    /// the slice to send more. An empty slice makes no access.
+    ///
+    /// # Examples
+    ///
+    /// ```
+    /// let sent = uart.send_bytes(bytes);
+    /// let rest = &bytes[sent..];
+    /// ```
     pub fn send_bytes(&mut self, buffer: &[u8]) -> usize
         ensures made { Made B.step (Sends buffer.now result) self.old self.new }
         ensures count { result ≤ length buffer.now }
@@ -101,11 +121,19 @@ impl<B: Backend> Uart16550<B> {
         self.write_burst(buffer)
     }
 
-    /// Sends one byte, if the transmitter has room.
+    /// Sends one byte if there is room: makes one check as `ready_to_send`, and one write to THR.
+    ///
+    /// Does not wait.
     ///
     /// # Errors
     ///
-    /// `NoCapacity` where it was not sent, whatever the cause: also where the remote is not clear to send.
+    /// `NoCapacity` if the byte was not sent, whatever the cause: also if the remote is not clear to send.
+    ///
+    /// # Examples
+    ///
+    /// ```
+    /// assert_eq!(rt; uart.try_send_byte(b'h'), Ok(()));
+    /// ```
     pub fn try_send_byte(&mut self, byte: u8) -> Result<(), ByteSendError>
         ensures { Made B.step (TrySends byte result) self.old self.new }
     {
@@ -115,7 +143,7 @@ impl<B: Backend> Uart16550<B> {
         Ok(())
     }
 
-    // WaitsFor until bytes may be written. The first look stands by itself, since it mostly hits.
+    // Waits until bytes may be written. The first check is separate, since it mostly succeeds.
     #[inline(always)]
     fn wait_to_send(&mut self) -> bool
         ensures { Made B.step (WaitsToSend result) self.old self.new }
@@ -133,7 +161,7 @@ impl<B: Backend> Uart16550<B> {
         false
     }
 
-    // WaitsFor until a burst was sent, and answers how many bytes it took.
+    // Waits until a burst was sent, and returns its length.
     pub(crate) fn send_some(&mut self, bytes: &[u8]) -> Option<usize>
         requires { 0 < length bytes.now }
         ensures made { Made B.step (SendsSome bytes.now result) self.old self.new }
@@ -193,7 +221,7 @@ impl<B: Backend> Uart16550<B> {
         Ok(())
     }
 
-    // Sends the bytes burst by burst, and waits for room before each.
+    // Sends the bytes burst by burst, and waits for room before each burst.
     fn send_bursts(&mut self, bytes: &[u8]) -> Result<(), StalledError>
         ensures made { Made B.step (SendsExact bytes.now result) self.old self.new }
         ensures done { IfErr result (λ e. e.done < length bytes.now) }
@@ -208,12 +236,24 @@ impl<B: Backend> Uart16550<B> {
         Ok(())
     }
 
-    /// Sends all of the bytes, and waits for room before each burst.
+    /// Sends all of the bytes, and waits for room before each burst: of up to 16 bytes if the FIFO is on, else of one.
+    ///
+    /// Each wait makes at most `spin_limit` checks as `ready_to_send`. It returns when the last burst is in THR or the
+    /// FIFO; `flush` of [`embedded_io`](crate::embedded_io) waits until all of it has left the chip. An empty slice makes
+    /// no access.
     ///
     /// # Errors
     ///
-    /// `StalledError` at the spin limit's number of unsuccessful polls in a row; `done` is how many bytes were written to
-    /// the chip before that.
+    /// `StalledError` after `spin_limit` unsuccessful checks in a row: the chip is slower than the limit allows, or CTS is
+    /// checked and the remote is not clear to send. The first `done` bytes were written to the chip.
+    ///
+    /// # Examples
+    ///
+    /// ```
+    /// if let Err(stall) = uart.send_bytes_exact(question) {
+    ///     return Err(PortError::NotSent { sent: stall.done });
+    /// }
+    /// ```
     pub fn send_bytes_exact(&mut self, bytes: &[u8]) -> Result<(), StalledError>
         ensures made { Made B.step (SendsExact bytes.now result) self.old self.new }
         ensures done { IfErr result (λ e. e.done < length bytes.now) }
@@ -225,7 +265,7 @@ impl<B: Backend> Uart16550<B> {
         }
     }
 
-    // Looks at LSR until it shows these bits.
+    // Polls LSR until it shows these bits.
     pub(crate) fn wait_for(&mut self, bits: LSR) -> bool
         ensures { Made B.step (WaitsFor bits.0 result) self.old self.new }
     {

@@ -140,7 +140,7 @@ went-write_lcr x c value s w same = record {
   turns = turns-refl c.modem;
 }
 
--- a register is read that tells of no data; of these only the modem status and the interrupt identification change anything
+-- a register is read that has no data; of these only the modem status and the interrupt identification change anything
 pub went-read_1 : (x : Modes) (c : ChipState) (value : ℕ) → IsSoundChip c → IsIn x c →
     Went x c (after_read offsets.IER c) [] (Read offsets.IER value ∷ []) [] []
 went-read_1 x c value s w = went-still x c c (Read offsets.IER value) s w refl refl refl (sends-refl c.transmitter) refl refl refl refl

@@ -117,7 +117,7 @@ moved_trans fifo r s t e f xs ys a b = record {
   taken_final = all_final-append fifo t xs ys (all_final-later fifo s t xs b.final a.taken_final) b.taken_final;
 }
 
--- the marks are set where nothing was read or dropped
+-- the marks are set if nothing was read or dropped
 pub falls-set : (marks : List ArrivalMark) (k : ℕ) (m : ArrivalMark) (j : ℕ) → is_dropped (mark_at marks k) ≡ false →
     not (is_dropped (mark_at (slice_set marks k m) j)) ≡ true → not (is_dropped (mark_at marks j)) ≡ true
 falls-set marks k m j h g = go (nat_eq j k) refl
@@ -202,7 +202,7 @@ pub cannot_stray-less : (fifo : Bool) (r s : ReceiverState) (front : Character) 
 cannot_stray-less true r s front i e c = e ∙ c
 cannot_stray-less false r s front i e c = let all = rw i at c.1 in (e ∙ c.0, all.1)
 
--- a looped character that was taken was the only one, where there is no queue
+-- a looped character that was taken was the only one, if there is no queue
 pub cannot_stray-taken : (fifo : Bool) (r s : ReceiverState) (front : Character) → r.queue ≡ front ∷ s.queue → length r.queue ≤ room fifo →
     s.is_stray_lost ≡ false → CannotStray fifo s
 cannot_stray-taken true r s front i h e = e

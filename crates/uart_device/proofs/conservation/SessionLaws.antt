@@ -28,7 +28,7 @@ between_passed x m n made ws ts p =
     let few : length m.ahead - length n.ahead ≡ length p.events = omega arith in
     rw (few, p.ahead) (take-append_seam p.events n.ahead)
 
--- what entered and stands was taken or waits
+-- what entered and was not dropped was taken or is in the receiver
 pub taken_entered : (x : Modes) (m n : MachineState) (made : List Access) (ws : List ℕ) (ts : List Character) → IsIn x m.chip →
     Passed x m n made ws ts →
     filter (stands n.chip.receiver) (entered m n) ≡ ts ++ n.chip.receiver.queue
@@ -59,7 +59,7 @@ drop_receivers m n d = record { origin = d.origin; stood = d.stood; lost = d.los
 pub look_clears : (m n : MachineState) (line : ℕ) → MachineStep m (Read offsets.LSR line) n → n.chip.receiver.is_overrun ≡ false
 look_clears m n line s = ap (λ (o : MachineState). o.chip.receiver.is_overrun) s.0
 
--- where a stretch ends with a look, a drop in it was shown
+-- if a part ends with a read of LSR, a drop in it was shown
 pub drop_shown : (x : Modes) (m n : MachineState) (made : List Access) (ws : List ℕ) (ts : List Character) → Passed x m n made ws ts →
     n.chip.receiver.is_overrun ≡ false →
     IsDrop m n → has_any (saved_lsr made) LSR.OVERRUN_ERROR.0 ≡ true
@@ -69,7 +69,7 @@ drop_shown x m n made ws ts p cleared d = go (p.went.receives.is_shown (inr (dro
     go (inl h) = h
     go (inr h) = absurd (cc)
 
--- where it began after one, what was shown was a drop in it
+-- if it began after one, what was shown was a drop in it
 pub shown_drop : (x : Modes) (m n : MachineState) (made : List Access) (ws : List ℕ) (ts : List Character) → Passed x m n made ws ts →
     m.chip.receiver.is_overrun ≡ false →
     has_any (saved_lsr made) LSR.OVERRUN_ERROR.0 ≡ true → IsDrop m n
@@ -85,7 +85,7 @@ shown_drop x m n made ws ts p cleared h = go (p.went.receives.was_owed (inl h))
 pub status_clears : (m n : MachineState) (status : ℕ) → MachineStep m (Read offsets.MSR status) n → n.chip.modem.deltas ≡ 0
 status_clears m n status s = ap (λ (o : MachineState). o.chip.modem.deltas) s.0
 
--- where a stretch ends with such a read, what was shown are the changes that stood and those of its events
+-- if a part ends with such a read, what was shown are the changes that there were and those of its events
 pub changes_shown : (x : Modes) (m n : MachineState) (made : List Access) (ws : List ℕ) (ts : List Character) → Passed x m n made ws ts →
     n.chip.modem.deltas ≡ 0 →
     saved_msr made ≡ bit_or m.chip.modem.deltas (changes_in m.chip.modem.lines (between m n))

@@ -56,7 +56,7 @@ fixed_in c = (c.fifo, cut_of c)
 abbrev pub dlab : Modes → Bool
 dlab x = has_any x.lcr LCR.DLAB.0
 
--- what leaves the transmitter comes back
+-- what leaves the transmitter is received
 abbrev pub loopback : Modes → Bool
 loopback x = has_any x.mcr MCR.LOOP_BACK.0
 

@@ -70,10 +70,10 @@ module _ (t : TransmitterState) where
       same_pace-path made mid n
       (rw step.0
       (lasts-read (SamePace t) pace_lasts.in_accesses offset (at_access m).chip
-      (lasts-before (SamePace t) pace_lasts m.ahead m.chip p))) rest
+      (lasts-before (SamePace t) pace_lasts.in_tick m.ahead m.chip p))) rest
   same_pace-path (Write offset value ∷ made) m n p (mid, step, rest) =
       same_pace-path made mid n
-      (rw step (write-pace offset value (at_access m).chip (lasts-before (SamePace t) pace_lasts m.ahead m.chip p))) rest
+      (rw step (write-pace offset value (at_access m).chip (lasts-before (SamePace t) pace_lasts.in_tick m.ahead m.chip p))) rest
 
 pub same_pace : (made : List Access) (m n : MachineState) → Path MachineStep m made n → SamePace m.chip.transmitter n.chip.transmitter
 same_pace made m n path = same_pace-path m.chip.transmitter made m n (record { capacity = refl; char_ticks = refl }) path

@@ -14,9 +14,9 @@ use Rattle.uart_chip.specs.Transmitter.{TransmitterState}
 use Rattle.uart_chip.specs.Receiver.{clear}
 use Rattle.uart_chip.specs.Chip.{ChipState, is_dlab_set, is_loopback, tick, ticks, interrupt, is_thr_empty, after_read, after_write}
 use Rattle.uart_chip.specs.Chip.{trigger_level, switch, reset_receiver, reset_transmitter, set_trigger, is_same, set_fifo, control}
-use Rattle.uart_chip.specs.Machine.{MachineState, MachineStep, perform, before_access, at_access}
+use Rattle.uart_chip.specs.Machine.{MachineState, MachineStep, perform, before_access, before_mark, at_access}
 
--- a property lasts where the queue is emptied and where the interrupt flag changes: that is all that an access does which sends nothing
+-- a property lasts if the queue is emptied or the interrupt flag changes: an access that sends nothing does no more than that
 pub record LastsInAccesses (P : TransmitterState → Type 0) : Type 0 where
   pub pending : (t : TransmitterState) (pending : Bool) → P t → P (record t { is_thr_pending = pending })
   pub cleared : (t : TransmitterState) (pending : Bool) → P t → P (record t { queue = []; is_thr_pending = pending })
@@ -39,7 +39,7 @@ AllSendNothing accesses = AllByRecursion SendsNothing accesses
 
 module _ (P : TransmitterState → Type 0) where
   -- either of two chips
-  either : (c d : ChipState) (b : Bool) → P c.transmitter → P d.transmitter → P (if b then c else d).transmitter
+  pub either : (c d : ChipState) (b : Bool) → P c.transmitter → P d.transmitter → P (if b then c else d).transmitter
   either c d true p q = p
   either c d false p q = q
 
@@ -84,9 +84,9 @@ module _ (P : TransmitterState → Type 0) (w : LastsInAccesses P) where
 
 -- ---- events, and accesses after them
 
-module _ (P : TransmitterState → Type 0) (w : Lasts P) where
+module _ (P : TransmitterState → Type 0) (in_tick : (loopback : Bool) (t : TransmitterState) → P t → P (transmitter.tick loopback t)) where
   lasts-tick : (c : ChipState) → P c.transmitter → P (tick c).transmitter
-  lasts-tick c p = w.in_tick (is_loopback c.latches) c.transmitter p
+  lasts-tick c p = in_tick (is_loopback c.latches) c.transmitter p
 
   lasts-ticks : (n : ℕ) (c : ChipState) → P c.transmitter → P (ticks n c).transmitter
   lasts-ticks zero c p = p
@@ -102,11 +102,18 @@ module _ (P : TransmitterState → Type 0) (w : Lasts P) where
   lasts-before (Mark ∷ events) c p = lasts-tick c p
   lasts-before (event ∷ events) c p = lasts-before events (perform event c) (lasts-perform event c p)
 
+  pub lasts-before_mark : (events : List Event) (c : ChipState) → P c.transmitter → P (before_mark events c).transmitter
+  lasts-before_mark [] c p = p
+  lasts-before_mark (Mark ∷ events) c p = p
+  lasts-before_mark (event ∷ events) c p = lasts-before_mark events (perform event c) (lasts-perform event c p)
+
+module _ (P : TransmitterState → Type 0) (w : Lasts P) where
   lasts-step : (access : Access) (m n : MachineState) → SendsNothing access → P m.chip.transmitter → MachineStep m access n →
       P n.chip.transmitter
-  lasts-step (Read offset value) m n q p s = rw s.0 (lasts-read P w.in_accesses offset (at_access m).chip (lasts-before m.ahead m.chip p))
+  lasts-step (Read offset value) m n q p s =
+      rw s.0 (lasts-read P w.in_accesses offset (at_access m).chip (lasts-before P w.in_tick m.ahead m.chip p))
   lasts-step (Write offset value) m n q p s =
-      rw s (lasts-write P w.in_accesses offset value (at_access m).chip q (lasts-before m.ahead m.chip p))
+      rw s (lasts-write P w.in_accesses offset value (at_access m).chip q (lasts-before P w.in_tick m.ahead m.chip p))
 
   pub lasts-path : (made : List Access) (m n : MachineState) → AllSendNothing made → P m.chip.transmitter → Path MachineStep m made n →
       P n.chip.transmitter

@@ -1,4 +1,4 @@
--- In loopback what is sent comes back: what waits to be read, what is shifted and what is queued are one line.
+-- In loopback what is sent is received: what is in the receiver, what is shifted and what is queued are one line.
 use Rattle.std.proofs.Common.{◌≡◌, ℕ, zero, suc, ◌+◌, ◌≤◌, Bool, true, false, nat_lt, List, [], ◌∷◌, ◌++◌, length, map, append_assoc}
 use Rattle.std.proofs.Common.{append-nil, length-append, Option, Some, None, refl, arith, sym, ◌∙◌, ap}
 use Rattle.std.proofs.lemmas.Grind.{common_steps}
@@ -16,7 +16,7 @@ use Rattle.uart_device.proofs.conservation.Went.{Modes, IsIn, loopback, loopback
 
 -- ---- the line
 
--- what waits to be read, and then what is still to come back, in order
+-- what is in the receiver, and then what is still to be received, in order
 abbrev pub line_of : TransmitterState → ReceiverState → List ℕ
 line_of t r = waiting r ++ held t
 

@@ -30,7 +30,7 @@ arrivals-count events = is_count_by arrivals is_arrival refl next events
     next (Arrive byte errors) events = refl
     next _ events = refl
 
--- nothing passes where there is no first place
+-- nothing passes if there is no first place
 none_passes : (p : Event → Bool) (events : List Event) → position p events ≡ None →
     length events ≤ prefix_len (λ event. not (p event)) events
 none_passes p events e = go (nat_lt (prefix_len (λ event. not (p event)) events) (length events)) refl e

@@ -22,7 +22,7 @@ use Rattle.uart_device.proofs.soundness.Marks.{NoOther}
 use Rattle.uart_device.proofs.soundness.Marks.{to_come-next, to_come-set, settled-next, settled-set, no_other-set, no_other-rest}
 use Rattle.uart_device.proofs.soundness.Marks.{no_other-next}
 
--- the receiver is sound after a move, of so many arrivals, as many to come
+-- the receiver is sound after a move, with the same number of arrivals, and as many to come
 pub record Safe (fifo : Bool) (arrived : ℕ) (r s : ReceiverState) : Type 0 where
   pub sound : IsSoundReceiver fifo s
   pub number : s.arrived ≡ arrived

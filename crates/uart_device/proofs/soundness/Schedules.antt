@@ -23,7 +23,7 @@ next_event : (events : List Event) (k : ℕ) (event : Event) → k < length even
     drop k events ≡ event ∷ drop (k + 1) events
 next_event events k event h e = rw (add-one, drop-cons events k event) (ap (λ (x : Event). x ∷ drop (suc k) events) (sym e))
 
--- a loop over a schedule: what it is to reach from where it stands is what it was to reach from the start
+-- a loop over a schedule: what it is to reach from its current place is what it was to reach from the start
 pub record IsOnTheWay (reach : MachineState → MachineState) (start : MachineState) (c : ChipState) (cursor : ℕ)
     (events : List Event) : Type 0 where
   pub in_schedule : cursor ≤ length events

@@ -29,7 +29,7 @@ use Rattle.uart_device.proofs.soundness.ReceiverSounds.{sound_trigger}
 use Rattle.uart_device.proofs.soundness.TransmitterSounds.{sound_tick as sound_shift_tick, sound_load, sound_clear, sound_pending}
 use Rattle.uart_device.proofs.soundness.TransmitterSounds.{sound_renew}
 
--- the chip is sound after a move, of so many arrivals, as many to come
+-- the chip is sound after a move, with the same number of arrivals, and as many to come
 pub record Steady (arrived : ℕ) (c d : ChipState) : Type 0 where
   pub sound : IsSoundChip d
   pub number : d.receiver.arrived ≡ arrived

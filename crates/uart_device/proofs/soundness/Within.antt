@@ -11,7 +11,7 @@ use Rattle.uart_chip.specs.Masks.{IsWithin}
 pub within_and : (value mask : ℕ) → IsWithin (bit_and value mask) mask
 within_and value mask = and_assoc mask value mask ∙ ap (λ m. bit_and value m) (and_self mask)
 
--- a join lies where its parts lie
+-- a join is within the mask of its parts
 pub within_or : (a b mask : ℕ) → IsWithin a mask → IsWithin b mask → IsWithin (bit_or a b) mask
 within_or a b mask p q = same_from_bits (bit_and (bit_or a b) mask) (bit_or a b) at
   where
@@ -26,7 +26,7 @@ within_or a b mask p q = same_from_bits (bit_and (bit_or a b) mask) (bit_or a b)
         joined : (x y z : ℕ) → min x z ≡ x → min y z ≡ y → min (max x y) z ≡ max x y
         joined x y z p q = omega arith
 
--- a flag's bits lie where they lie when it is set
+-- a flag's bits are within the mask that they are within when it is set
 pub within_flag : (on : Bool) (bits mask : ℕ) → IsWithin bits mask → IsWithin 0 mask → IsWithin (flag on bits) mask
 within_flag true bits mask p q = p
 within_flag false bits mask p q = q

@@ -1,4 +1,4 @@
--- What a stretch of a session tells of line errors: those of each character that is taken were shown by a look, or had been shown before.
+-- What a part of a session reports about line errors: those of each character that is taken were shown by a read of LSR, or before.
 use Rattle.std.proofs.Common.{◌≡◌, ℕ, ◌+◌, ◌<◌, min, max, Bool, true, false, ◌==◌, ◌⊎◌, inl, inr, nat_lt, List, [], ◌∷◌, ◌++◌, length}
 use Rattle.std.proofs.Common.{Option, Some, refl, arith, sym, ◌∙◌, ap, subst, if◌then◌else◌, bit_and, bit_or}
 use Rattle.std.proofs.lemmas.Grind.{common_steps}
@@ -37,17 +37,17 @@ within-right e a b p = subst (λ (m : ℕ). IsWithin e m) (or_comm b a) (within-
 pub within-both : (e a b : ℕ) → IsWithin e a → IsWithin e b → IsWithin e (bit_and a b)
 within-both e a b p q = sym (and_assoc b e a) ∙ (ap (λ v. bit_and v b) p ∙ q)
 
--- ---- what was told of a character
+-- ---- what was reported of a character
 
 -- its errors were shown, or it had been reported
 abbrev pub Told : Option Character → ℕ → Character → Type 0
 Told old seen f = (old ≡ Some f) ⊎ IsWithin f.errors seen
 
--- the front was told, where it says so
+-- the front was reported, if its flag says so
 pub record FrontTold (old : Option Character) (seen : ℕ) (r : ReceiverState) : Type 0 where
   pub told : (f : Character) (others : List Character) → r.is_front_reported ≡ true → r.queue ≡ f ∷ others → Told old seen f
 
--- each that was taken was told, or without FIFO an overrun is shown in its place
+-- each that was taken was reported, or without FIFO an overrun is shown instead
 abbrev pub TakenTold : Bool → Option Character → ℕ → ReceiverState → List Character → Type 0
 TakenTold fifo old seen s [] = Unit {0}
 TakenTold fifo old seen s (f ∷ fs) = (Told old seen f ⊎ ((fifo ≡ false) × Shows seen s)) × TakenTold fifo old seen s fs

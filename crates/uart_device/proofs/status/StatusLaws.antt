@@ -1,4 +1,4 @@
--- What `lsr` and `msr` tell after a stretch of a session.
+-- What `lsr` and `msr` report after a part of a session.
 use Rattle.std.proofs.Common.{◌≡◌, ℕ, ◌<◌, min, Bool, true, false, ◌||◌, ◌⊎◌, inl, inr, List, [], ◌∷◌, ◌++◌, length, Option, refl, arith}
 use Rattle.std.proofs.Common.{sym, ◌∙◌, ap, append-nil, ◌==◌, if◌then◌else◌, bit_and, bit_or}
 use Rattle.std.specs.Int.{bit_at}
@@ -46,7 +46,7 @@ taken-told fifo old seen s cleared (f ∷ fs) h = (one h.0, taken-told fifo old 
     one (inl (inr e)) = inr (inl e)
     one (inr e) = inr (inr (e.0, shown e.1))
 
--- each that was taken on a stretch that ends with a look was told on it
+-- each that was taken in a part that ends with a read of LSR was reported in it
 pub told_taken : (x : Modes) (m n : MachineState) (made : List Access) (ws : List ℕ) (ts : List Character) → Passed x m n made ws ts →
     n.chip.receiver.is_overrun ≡ false →
     AllTold x.fifo (reported_front m.chip.receiver) (saved_lsr made) ts
@@ -81,7 +81,7 @@ saved-within register mask (Read offset answer ∷ l) =
 saved-within register mask (Write offset value ∷ l) =
     within_or 0 (saved register mask l) mask (and_zero_l mask) (saved-within register mask l)
 
--- what was shown with the last look among it stands in the reply
+-- what was shown, also by the last read, is in the reply
 held : (e seen status mask kept : ℕ) → IsWithin e (bit_or seen (bit_or (bit_and status mask) 0)) →
     IsWithin e (bit_or status (bit_or kept seen))
 held e seen status mask kept h = same_from_bits _ _ (λ i. at i)
@@ -99,7 +99,7 @@ held e seen status mask kept h = same_from_bits _ _ (λ i. at i)
         let s = bit_at_or kept seen i in
         omega (arith, a, b, c, z, p, q, r, s)
 
--- the low bits of the reply are what was shown, where nothing was saved before
+-- the low bits of the reply are what was shown, if nothing was saved before
 exactly : (seen status mask : ℕ) → IsWithin seen mask →
     bit_and (bit_or status (bit_or 0 seen)) mask ≡ bit_or seen (bit_or (bit_and status mask) 0)
 exactly seen status mask h = same_from_bits _ _ (λ i. at i)

@@ -1,4 +1,4 @@
--- What a stretch of a session does to the modem lines: each change was seen, or still stands in the register.
+-- What a part of a session does to the modem lines: each change was seen, or is still in the register.
 use Rattle.std.proofs.Common.{◌≡◌, ℕ, min, max, false, List, [], ◌∷◌, ◌++◌, refl, arith, sym, ◌∙◌, ap, bit_and, bit_or}
 use Rattle.std.proofs.lemmas.Nat.Bits.{same_from_bits, bit_at_or, bit_at_and, bit_at-zero}
 use Rattle.std.specs.Int.{bit_at}

@@ -11,18 +11,33 @@ use std::alloc::Global;
 use uart_chip::{ChipData, Uart};
 
 impl LiveChip {
-    /// The chip as plain data. What is on its wire is [`LiveChip::wire`].
+    /// Returns the chip as plain data. The bytes on its wire are [`LiveChip::wire`].
+    ///
+    /// # Examples
+    ///
+    /// ```
+    /// let saved = chip.data();
+    /// let restored = LiveChip::from_data(alloc, &saved, chip.wire())?;
+    /// ```
     pub fn data(&self) -> ChipData
         ensures { chip_of result self.now.transmitter.wire ≡ self.now }
     {
         self.uart.data()
     }
 
-    /// The chip of these data, with these bytes on its wire: it goes on as the one that was saved would have.
+    /// Returns the chip with these data, and with these bytes on its wire. It continues as the chip that was saved.
+    /// Allocates all of its memory.
     ///
     /// # Errors
     ///
-    /// `BadData`, if the data are not those of a live chip, and `OutOfMemory`.
+    /// - `BadData` if the data are not those of a live chip.
+    /// - `OutOfMemory` if memory could not be allocated.
+    ///
+    /// # Examples
+    ///
+    /// ```
+    /// let restored = LiveChip::from_data(alloc, &saved, chip.wire())?;
+    /// ```
     pub fn from_data(alloc: Global, saved: &ChipData, wire: &[u8]) -> Result<Self, RestoreError>
         ensures restored { IfOk result (λ live. live ≡ chip_of saved.now wire.now) }
         ensures refused { (IsLive (chip_of saved.now wire.now) → ⊥) → result ≡ Err RestoreError.BadData }

@@ -1,6 +1,7 @@
-//! Plays scripts: [`play`] reads one, runs its calls over a new device, and writes what they answered and what is left of the device.
+//! Plays scripts: [`play`] reads one, runs its calls over a new device, and writes the answers and the last state of
+//! the device.
 //!
-//! What a script says is defined in `uart_language`, and so is what is printed for it.
+//! The meaning of a script, and what is printed for it, are defined in `uart_language`.
 
 mod playing;
 mod streams;

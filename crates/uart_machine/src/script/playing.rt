@@ -23,19 +23,25 @@ use uart_run::run;
 
 /// Why a script was not played to its end.
 ///
-/// Only at `WriteFault` was anything written: a beginning of the output.
+/// Something was written only at a `WriteFault`: a beginning of the output.
 #[derive(Clone, Copy, Debug, PartialEq, Eq, Error)]
 pub enum PlayError {
-    /// The first faulty line, counted from 1, and what is wrong with it; line 0 for a script of too many bytes.
+    /// The input is not a script: the first faulty line, counted from 1, and what is wrong with it; line 0 if there are too
+    /// many bytes.
     #[error("line {line}: {}", .cause.text())]
-    Refused { line: u32, cause: Cause },
+    Refused {
+        /// The number of the line.
+        line: u32,
+        /// What is wrong with it.
+        cause: Cause,
+    },
     /// The reader failed.
     #[error("read fault")]
     ReadFault,
-    /// The writer failed, or took nothing.
+    /// The writer failed, or accepted no byte.
     #[error("write fault")]
     WriteFault,
-    /// The script, its machine or its output did not fit into memory.
+    /// Memory for the script, its machine or its output could not be allocated.
     #[error("out of memory")]
     OutOfMemory,
 }
@@ -59,10 +65,10 @@ impl From<AllocError> for PlayError {
     }
 }
 
-/// How many bytes are read at most: one more than the longest script has.
+/// The most bytes that are read: one more than the longest script has.
 const MOST_READ: usize = MOST_BYTES + 1;
 
-/// How many bytes a read asks for at most.
+/// The size of the buffer of a read.
 const CHUNK: usize = 512;
 
 /// Reads to the end of the input, or `MOST_READ` bytes.
@@ -106,7 +112,7 @@ fn write_all<W: Output>(writer: &mut W, bytes: &[u8]) -> Result<(), Fault>
     Ok(())
 }
 
-// The script's machine.
+// Returns the machine of the script.
 fn machine_for(alloc: Global, script: &Script) -> Result<Device16550, AllocError>
     requires { IsPlayable (plan_of script.now) }
     ensures { IfOk result (λ machine. machine ≡ first_machine (plan_of script.now)) }
@@ -136,7 +142,7 @@ fn machine_for(alloc: Global, script: &Script) -> Result<Device16550, AllocError
     }
 }
 
-// The script's machine under a new driver with the script's limit.
+// Returns the machine of the script under a new driver with the limit of the script.
 fn terminal_for(alloc: Global, script: &Script) -> Result<Uart16550Tty<Device16550>, AllocError>
     requires { IsPlayable (plan_of script.now) }
     ensures { IfOk result (λ terminal. IsFirst (plan_of script.now) terminal) }
@@ -146,7 +152,7 @@ fn terminal_for(alloc: Global, script: &Script) -> Result<Uart16550Tty<Device165
     Ok(Uart16550Tty::from_inner(uart))
 }
 
-// As many answers as there are calls, for `run` to fill.
+// Returns as many answers as there are calls, for `run` to overwrite.
 fn empty_answers(alloc: Global, count: usize) -> Result<Vec<Answer>, AllocError>
     ensures { IfOk result (λ answers. length answers.items ≡ count) }
 {
@@ -157,7 +163,7 @@ fn empty_answers(alloc: Global, count: usize) -> Result<Vec<Answer>, AllocError>
     Ok(answers)
 }
 
-// The bytes that are still to leave, the shift place first.
+// Returns the bytes that are still to be sent, first the one in the shift register.
 fn held_of(alloc: Global, machine: &Device16550) -> Result<Vec<u8>, AllocError>
     ensures { IfOk result (λ bytes. bytes.items ≡ held machine.now.chip.transmitter) }
 {
@@ -171,7 +177,7 @@ fn held_of(alloc: Global, machine: &Device16550) -> Result<Vec<u8>, AllocError>
     Ok(bytes)
 }
 
-// The bytes that wait to be received.
+// Returns the received bytes that have not been read.
 fn waiting_of(alloc: Global, machine: &Device16550) -> Result<Vec<u8>, AllocError>
     ensures { IfOk result (λ bytes. bytes.items ≡ waiting machine.now) }
 {
@@ -185,7 +191,7 @@ fn waiting_of(alloc: Global, machine: &Device16550) -> Result<Vec<u8>, AllocErro
     Ok(bytes)
 }
 
-// What became of each arrival.
+// Returns what became of each arrival.
 fn marks_of(alloc: Global, machine: &Device16550) -> Result<Vec<ArrivalMark>, AllocError>
     ensures { IfOk result (λ marks. marks.items ≡ machine.now.chip.receiver.marks) }
 {
@@ -199,7 +205,7 @@ fn marks_of(alloc: Global, machine: &Device16550) -> Result<Vec<ArrivalMark>, Al
     Ok(marks)
 }
 
-// What is printed for answers and the last machine.
+// Returns what is printed for answers and the last state of the machine.
 fn printed_for(
     alloc: Global,
     answers: &[Answer],
@@ -226,23 +232,29 @@ fn output_for(alloc: Global, script: &Script) -> Result<Vec<u8>, AllocError>
     Ok(output)
 }
 
-/// Reads a script, plays it and writes its output.
+/// Reads a script, plays it, and writes its output.
 ///
-/// The output is built as a whole before any of it is written. What is written for a script is a function of the script
+/// The whole output is built before any of it is written. What is written for a script is a function of the script
 /// ([`scripts_have_one_output`](crate::laws::scripts_have_one_output)).
+///
+/// # Errors
+///
+/// - `Refused`, with the first faulty line and what is wrong with it, if the input is not a script.
+/// - `ReadFault` if the reader failed, `WriteFault` if the writer failed or accepted no byte.
+/// - `OutOfMemory` if memory could not be allocated.
 pub fn play<R: Input, W: Output>(
     alloc: Global,
     reader: &mut R,
     writer: &mut W,
 ) -> Result<(), PlayError>
-    // What an input comes to, if its bytes are known.
+    // The outcome of an input, if its bytes are known.
     ensures outcome { IfSome (R.remaining reader.old) (λ input. Outcome input result (W.contents writer.old) (W.contents writer.new)) }
     ensures whole { OnOk result (IsAtEnd (R.remaining reader.new)) }
     ensures most { ConsumesAtMost MOST_READ (R.remaining reader.old) (R.remaining reader.new) }
 
     ensures nothing { WritesNothing result (W.contents writer.old) (W.contents writer.new) }
 
-    // A read fault comes exactly if the reader failed, a write fault exactly if the writer did.
+    // A read fault is reported exactly if the reader failed, a write fault exactly if the writer did.
     ensures reader_fault { R.has_failed reader.new ≡ (R.has_failed reader.old || is_read_fault result) }
     ensures writer_fault { W.has_failed writer.new ≡ (W.has_failed writer.old || is_write_fault result) }
 {

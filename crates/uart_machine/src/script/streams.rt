@@ -1,4 +1,4 @@
-//! What a script is read from, and what its output is written to.
+//! Where a script is read from, and where its output is written to.
 
 ghost use Rattle.std.specs.Prelude.{◌≡◌, ◌≤◌, ◌||◌, Option, List, ℕ, Bool, false, length, IfOk, is_err};
 ghost use Rattle.std.specs.Io.KnownBytes.{ReadConsumes, WriteAppends};
@@ -7,37 +7,37 @@ ghost use Rattle.uart_machine.specs.Play.{takes_none};
 use std::io::{Read, Write};
 use thiserror::Error;
 
-/// A read or a write failed.
+/// The error of a read or a write.
 #[derive(Clone, Copy, Debug, PartialEq, Eq, Error)]
 #[error("a read or a write failed")]
 pub struct Fault;
 
-/// A reader whose contracts tell its bytes, if they are known, and whether it has failed.
+/// A reader whose contracts state its bytes, if they are known, and whether it has failed.
 pub trait Input {
-    // The bytes that reads will give from here on, if they are known.
+    // The bytes that reads will return from here on, if they are known.
     ghost remaining: { Self → Option (List ℕ) };
 
     // Whether a read has failed.
     ghost has_failed: { Self → Bool };
 
-    /// Fills the front of the buffer and returns how many bytes that are.
+    /// Fills the front of the buffer, and returns how many bytes that are.
     ///
-    /// `Ok(0)` at a buffer that isn't empty is the end of the input.
+    /// `Ok(0)` for a buffer that is not empty is the end of the input.
     fn read(&mut self, buf: &mut [u8]) -> Result<usize, Fault>
         ensures bound { IfOk result (λ n. n ≤ length buf.new) }
         ensures bytes { ReadConsumes (remaining self.old) (remaining self.new) result buf.new }
         ensures fault { has_failed self.new ≡ (has_failed self.old || is_err result) };
 }
 
-/// A writer whose contracts tell its bytes, if they are known, and whether it has failed.
+/// A writer whose contracts state its bytes, if they are known, and whether it has failed.
 pub trait Output {
-    // The bytes that the writer holds, if they are known.
+    // The bytes that were written, if they are known.
     ghost contents: { Self → Option (List ℕ) };
 
-    // Whether a write has failed: returned an error, or taken nothing of something.
+    // Whether a write has failed: returned an error, or accepted no byte of some.
     ghost has_failed: { Self → Bool };
 
-    /// Takes a front of the bytes and returns how many that are; an error takes none.
+    /// Writes bytes from the front, and returns how many. If it fails, nothing is written.
     fn write(&mut self, bytes: &[u8]) -> Result<usize, Fault>
         ensures bound { IfOk result (λ n. n ≤ length bytes.now) }
         ensures bytes { WriteAppends (contents self.old) (contents self.new) result bytes.now }
@@ -54,7 +54,7 @@ pub struct Std<T> {
 impl<T> Std<T> {
     ghost use Rattle.uart_machine.specs.Play.{std_inner, std_has_failed};
 
-    /// The reader or writer, which has not failed.
+    /// Returns the reader or writer, which has not failed.
     pub fn new(inner: T) -> Self
         ensures inner { std_inner result ≡ inner }
         ensures works { std_has_failed result ≡ false }

@@ -38,7 +38,7 @@ impl Backend for Counter {
     }
 }
 
-// A driver over an idle chip that it has initialised.
+// A driver for an idle chip, which it has initialised.
 fn idle(
     rt: &HostRuntime,
     chip: Chip,

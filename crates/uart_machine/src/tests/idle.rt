@@ -43,7 +43,7 @@ fn turns_pass_the_ticks(rt: HostRuntime) -> Result<(), Fail> {
         (UNGATED, (16, 64, 80), 0x00, (17, 15, 1)),
         (UNGATED, (16, 64, 81), 0x00, (17, 16, 0)),
         (UNGATED, (16, 64, 82), 0x00, (18, 16, 0)),
-        // Seventeen characters take at most 18 turns. The first has 985 of its 1,000 ticks left once the last is written.
+        // Seventeen characters take at most 18 turns. The first has 985 of its 1,000 ticks left when the last is written.
         (TICKING, (17, 64, 0), 0x00, (0, 0, 17)),
         (TICKING, (17, 64, 984), 0x00, (1, 0, 17)),
         (TICKING, (17, 64, 985), 0x00, (1, 1, 16)),

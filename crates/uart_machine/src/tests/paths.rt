@@ -34,7 +34,7 @@ fn no_calls_are_run_and_one_is_performed(rt: HostRuntime) -> Result<(), Fail> {
     Ok(())
 }
 
-// Gives one byte of the input to the output.
+// Moves one byte of the input to the output.
 fn moved<R: Input, W: Output>(reader: &mut R, writer: &mut W) -> Result<usize, Fault> {
     let mut byte = [0u8; 1];
     let count = reader.read(&mut byte)?;

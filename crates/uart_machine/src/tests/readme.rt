@@ -47,7 +47,7 @@ pub fn ask<B: Backend>(
     Ok(())
 }
 
-// An open port, whose remote sends these bytes after that. The wire has room for so many bytes.
+// An open port, whose remote sends these bytes after that. The wire has room for `room` bytes.
 fn opened(rt: &HostRuntime, room: usize, bytes: &[u8]) -> Result<Uart16550<Device16550>, Fail> {
     let mut events = vec![in rt.alloc(); Event::Lines(0xb0), Event::Mark]?;
     for &byte in bytes {

@@ -1,4 +1,4 @@
-//! Chips that others left in some state, and what an `init` makes of them.
+//! Chips that others left in some state, and an `init` of them.
 use super::{DATA, FCR, IER, ISR, LCR, MCR, SPR, WITHOUT_FIFO, initialised, machine, new_driver};
 use crate::{Chip, Device16550, Event};
 use bitflags::Flags;
@@ -27,7 +27,7 @@ fn fifos(uart: &Uart16550<Device16550>) -> (bool, bool) {
     (uart.fifo_enabled(), uart.backend().fifo_enabled())
 }
 
-// What was written to a chip before the driver came, and what its scratch register holds then.
+// What was written to a chip before the driver was made, and what its scratch register holds then.
 const LEFT_BEHIND: [(&str, &[(u8, u8)], u8); 10] = [
     ("nothing", &[], 0x00),
     ("loopback", &[(MCR, 0x1f)], 0x00),

@@ -19,7 +19,7 @@ impl<B: Backend> Uart16550Ring<B> {
         }
     }
 
-    // Receives bytes into the receive ring, as many as a FIFO holds and as there is room for.
+    // Receives bytes into the receive ring: as many as a FIFO holds, and as there is room for.
     pub(super) fn fill_receive_ring(&mut self)
         ensures { RingDid B.step FillsReceiveRing self.old self.new }
     {
@@ -30,11 +30,17 @@ impl<B: Backend> Uart16550Ring<B> {
         self.pause_if_full();
     }
 
-    /// Takes received bytes out of the receive ring, as many as there are slots for, and returns how many. Later slots stay as
-    /// they are.
+    /// Takes received bytes from the front of the receive ring, as many as there are slots, and returns how many. Leaves
+    /// the other slots unchanged.
     ///
-    /// If there are any and receiving is paused, the DATA_READY interrupt is enabled again, and the pause ends. Otherwise this
-    /// makes no access.
+    /// Does not wait. If it takes at least one byte and receiving is paused, it enables `DATA_READY` again and ends the
+    /// pause: one read and one write of IER. Otherwise it makes no access.
+    ///
+    /// # Examples
+    ///
+    /// ```
+    /// assert_eq!(rt; ring.take(&mut slots), 2);
+    /// ```
     pub fn take(&mut self, slots: &mut [u8]) -> usize
         ensures did { RingDid B.step (TakesBytes (length slots.old) (take result slots.new)) self.old self.new }
         ensures count { result ≡ min (length slots.old) (length (ring_fields self.old).receive.items) }

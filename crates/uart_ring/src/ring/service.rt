@@ -11,7 +11,7 @@ use uart_spec::registers::InterruptType;
 pub const MAX_INTERRUPTS: usize = 8;
 
 impl<B: Backend> Uart16550Ring<B> {
-    // Reads which interrupt is pending.
+    // Reads ISR, and returns the pending interrupt.
     fn next_interrupt(&mut self) -> Option<InterruptType>
         ensures { RingDid B.step (OnDriver (ShowsInterrupt result) unchanged) self.old self.new }
     {
@@ -34,14 +34,34 @@ impl<B: Backend> Uart16550Ring<B> {
         }
     }
 
-    /// Serves the interrupts that ISR shows, one after the other, and returns how many: until it shows none, or until so many
-    /// as [`MAX_INTERRUPTS`] were served.
+    /// Serves the interrupts that ISR identifies, until it identifies none or [`MAX_INTERRUPTS`] were served. Returns how
+    /// many.
     ///
-    /// Received data is moved to the receive ring. If that is then full, receiving is paused: the DATA_READY interrupt is
-    /// disabled, and bytes are left in the chip until a `take` makes room. With an empty transmitter, bytes are written from the
-    /// transmit ring. Line errors and changes of the modem lines are noted for `take_line` and `take_modem`.
+    /// Call it when the chip raises its interrupt. Does not wait. What it does depends on the interrupt:
     ///
-    /// If it returns `MAX_INTERRUPTS`, more may be pending: call it again where the interrupt is raised by an edge.
+    /// - Received data, or a reception timeout: bytes are moved to the receive ring. If that is full then, receiving is
+    ///   paused: `DATA_READY` is disabled, and bytes stay in the chip until a `take` makes room.
+    /// - `THR_EMPTY`: bytes of the transmit ring are sent, up to 16 if the FIFO is on, else one. If bytes are left in the
+    ///   ring, `THR_EMPTY` stays enabled, else it is disabled.
+    /// - Line status: the errors are noted for `take_line`.
+    /// - Modem status: the changes are noted for `take_modem`.
+    /// - End of DMA: nothing.
+    ///
+    /// If it returns `MAX_INTERRUPTS`, more may be pending. Call it again then if the interrupt controller detects edges.
+    ///
+    /// With CTS checking no byte is sent while CTS is clear, and no `THR_EMPTY` interrupt is raised when CTS returns. After
+    /// such a change, which `take_modem` reports, disable and enable `THR_EMPTY` once to raise it again, as the handler in
+    /// docs/INTERRUPTS.md does.
+    ///
+    /// # Examples
+    ///
+    /// ```
+    /// for _round in 0..4 {
+    ///     if self.ring.service() < MAX_INTERRUPTS {
+    ///         break;
+    ///     }
+    /// }
+    /// ```
     pub fn service(&mut self) -> usize
         ensures did { RingDid B.step (Services result) self.old self.new }
         ensures count { result ≤ MAX_INTERRUPTS }

@@ -1,4 +1,4 @@
-//! Line errors and changes of the modem lines: noted when they are served, and taken by the caller.
+//! Line errors and changes of the modem lines: noted when their interrupts are served, and taken by the caller.
 ghost use Rattle.uart_ring.specs.Ring.{RingDid};
 ghost use Rattle.uart_ring.specs.Status.{NotesLine, NotesModem, TakesLine, TakesModem};
 
@@ -8,7 +8,7 @@ use uart_16550::backend::Backend;
 use uart_spec::registers::{LSR, MSR};
 
 impl<B: Backend> Uart16550Ring<B> {
-    // Notes the errors that LSR shows and those that the driver saved.
+    // Notes the errors that LSR shows, and those that the driver has saved.
     pub(super) fn note_line(&mut self)
         ensures { RingDid B.step NotesLine self.old self.new }
     {
@@ -16,7 +16,7 @@ impl<B: Backend> Uart16550Ring<B> {
         self.line.insert(status.intersection(LSR::LINE_ERRORS));
     }
 
-    // Notes the changes that MSR shows and those that the driver saved.
+    // Notes the changes that MSR shows, and those that the driver has saved.
     pub(super) fn note_modem(&mut self)
         ensures { RingDid B.step NotesModem self.old self.new }
     {
@@ -24,7 +24,17 @@ impl<B: Backend> Uart16550Ring<B> {
         self.modem.insert(status.intersection(MSR::CHANGES));
     }
 
-    /// Reads LSR, joined with the errors that `service` noted and those that the driver saved. These are then forgotten.
+    /// Reads LSR once. Returns it joined with the errors that `service` noted and those that the driver has saved, which
+    /// are then forgotten.
+    ///
+    /// # Examples
+    ///
+    /// ```
+    /// let line = self.ring.take_line();
+    /// if line.contains(LSR::OVERRUN_ERROR) {
+    ///     self.overruns = self.overruns.saturating_add(1);
+    /// }
+    /// ```
     pub fn take_line(&mut self) -> LSR
         ensures { RingDid B.step (TakesLine result.0) self.old self.new }
     {
@@ -33,7 +43,15 @@ impl<B: Backend> Uart16550Ring<B> {
         line
     }
 
-    /// Reads MSR, joined with the changes that `service` noted and those that the driver saved. These are then forgotten.
+    /// Reads MSR once. Returns it joined with the changes that `service` noted and those that the driver has saved, which
+    /// are then forgotten.
+    ///
+    /// # Examples
+    ///
+    /// ```
+    /// let modem = self.ring.take_modem();
+    /// let came_back = modem.contains(MSR::DELTA_CTS.union(MSR::CTS));
+    /// ```
     pub fn take_modem(&mut self) -> MSR
         ensures { RingDid B.step (TakesModem result.0) self.old self.new }
     {

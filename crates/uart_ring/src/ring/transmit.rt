@@ -9,7 +9,7 @@ use uart_16550::backend::Backend;
 use uart_spec::FIFO_SIZE;
 use uart_spec::registers::IER;
 
-// Copies the first bytes of a ring, as many as the FIFO of a chip holds, and returns how many.
+// Copies the first bytes of a ring, as many as a FIFO holds, and returns how many.
 fn copy_front(ring: &HeapCircularBuffer<u8>, copy: &mut [u8; FIFO_SIZE]) -> usize
     ensures count { result ≤ FIFO_SIZE }
     ensures bytes { take result copy.new ≡ take FIFO_SIZE ring.now.items }
@@ -24,7 +24,7 @@ fn copy_front(ring: &HeapCircularBuffer<u8>, copy: &mut [u8; FIFO_SIZE]) -> usiz
 }
 
 impl<B: Backend> Uart16550Ring<B> {
-    // Sends bytes from the transmit ring, if the chip has room. If bytes are left, THR_EMPTY is enabled, else disabled.
+    // Sends bytes of the transmit ring if the chip has room. Then enables THR_EMPTY if bytes are left, else disables it.
     pub(super) fn pump(&mut self)
         ensures { RingDid B.step Pumps self.old self.new }
     {
@@ -39,11 +39,19 @@ impl<B: Backend> Uart16550Ring<B> {
         }
     }
 
-    /// Queues bytes from the front, as many as the transmit ring has room for, and returns how many.
+    /// Queues bytes from the front of the slice, as many as the transmit ring has room for, and returns how many.
     ///
-    /// If there are any, bytes are then written to the chip, up to 16 if its FIFO is on and else one, provided that it has room.
-    /// The THR_EMPTY interrupt is enabled if bytes are left in the ring, else disabled. Does not wait: if the ring had no room
-    /// for all, call it again after interrupts were served, with the rest of the slice.
+    /// If it queues any, it sends bytes of the ring if the chip has room: up to 16 if its FIFO is on, else one. Then it
+    /// enables `THR_EMPTY` if bytes are left in the ring, else it disables it. The rest is sent by `service`.
+    ///
+    /// Does not wait. If it did not queue all bytes, call it again with the rest of the slice after interrupts were served.
+    ///
+    /// # Examples
+    ///
+    /// ```
+    /// let count = ring.queue(message);
+    /// &message[count..]
+    /// ```
     pub fn queue(&mut self, bytes: &[u8]) -> usize
         ensures did { RingDid B.step (Queues bytes.now result) self.old self.new }
         ensures count { result ≡ min (length bytes.now) (free (ring_fields self.old).transmit) }

@@ -14,8 +14,10 @@ use uart_spec::registers::{IER, LSR, MSR, offsets};
 /// Why a port was not started.
 #[derive(Debug, Drop, Error)]
 pub enum StartError {
+    /// The rings could not be made.
     #[error(transparent)]
     NoRings(RingError),
+    /// The device could not be initialised.
     #[error(transparent)]
     NoDevice(InitError),
 }
@@ -57,7 +59,7 @@ impl<B: Backend + Drop> Port<B> {
 
     /// The interrupt handler. Does not wait.
     pub fn on_interrupt(&mut self) {
-        // After `MAX_INTERRUPTS` more may be pending. A controller that looks for edges does not tell of them again.
+        // After `MAX_INTERRUPTS` more may be pending. A controller that detects edges does not report them again.
         for _round in 0..4 {
             if self.ring.service() < MAX_INTERRUPTS {
                 break;
@@ -83,7 +85,7 @@ impl<B: Backend + Drop> Port<B> {
         let modem = self.ring.take_modem();
         let came_back = modem.contains(MSR::DELTA_CTS.union(MSR::CTS));
         if came_back && self.ring.transmit_len() > 0 {
-            // The chip told already that it is empty. Off and on, it tells it again.
+            // The chip has already reported that it is empty. Switched off and on, the interrupt is raised again.
             let uart = self.ring.inner_mut();
             uart.disable_interrupts(IER::THR_EMPTY);
             uart.enable_interrupts(IER::THR_EMPTY);

@@ -1,4 +1,4 @@
-//! Rings over a replay, what a chip answers, and lists of accesses as tests write them down.
+//! Rings over a replay, what the reads of a chip return, and lists of accesses as tests write them.
 use crate::{RingError, Uart16550Ring};
 use std::process::Abort;
 use std::test::Fail;
@@ -15,27 +15,36 @@ pub const FULL: u8 = 0x00;
 /// LSR: the transmitter is empty, and a character waits to be read.
 pub const WAITS: u8 = 0x61;
 
-/// ISR: no interrupt is pending, with the FIFO on; and each that may be.
+/// ISR: no interrupt is pending, with the FIFO on.
 pub const NONE: u8 = 0xc1;
 
+/// ISR: a line status interrupt.
 pub const LINE_STATUS: u8 = 0xc6;
 
+/// ISR: received data is ready.
 pub const DATA_READY: u8 = 0xc4;
 
+/// ISR: a reception timeout.
 pub const TIMEOUT: u8 = 0xcc;
 
+/// ISR: THR is empty.
 pub const THR_EMPTY: u8 = 0xc2;
 
+/// ISR: a modem status interrupt.
 pub const MODEM_STATUS: u8 = 0xc0;
 
+/// ISR: the end of a DMA reception.
 pub const DMA_RECEPTION: u8 = 0xce;
 
+/// ISR: the end of a DMA transmission.
 pub const DMA_TRANSMISSION: u8 = 0xca;
 
 /// One access, or those of a burst.
 #[derive(Clone, Copy)]
 pub enum Step {
+    /// The register is read, and returns this.
     Read(usize, u8),
+    /// This is written to the register.
     Write(usize, u8),
     /// The register is read, and then written.
     Changed(usize, u8, u8),
@@ -50,13 +59,15 @@ pub enum Step {
 /// A call of the rings, with what it returns.
 #[derive(Clone, Copy)]
 pub enum Call {
+    /// `queue` of these bytes accepts this number of them.
     Queue(&'static [u8], usize),
     /// How many bytes wait in the transmit ring.
     Left(usize),
+    /// `service` serves this number of interrupts.
     Service(usize),
 }
 
-/// Rings over a new driver, whose reads are answered by these bytes in turn.
+/// Rings over a new driver, whose reads return these bytes in turn.
 pub fn rings<'a>(
     rt: &impl AllocGlobal,
     answers: &'a [u8],
@@ -70,7 +81,7 @@ pub fn rings<'a>(
     }
 }
 
-/// What the reads among these accesses are answered.
+/// What the reads among these accesses return.
 pub fn answers_in(rt: &impl AllocGlobal, steps: &[Step]) -> Result<Vec<u8>, Fail> {
     let mut answers = Vec::new(rt.alloc());
     for step in steps {

@@ -5,30 +5,29 @@ use crate::registers::{FCR, IER, ISR, LCR, LSR, MCR, MSR, PSD};
 use bitflags::{Flag, Flags};
 
 impl IER {
-    /// Received data is available: a character waits or, with FIFOs, the trigger level is reached or a reception
-    /// timed out.
+    /// Received data is available. With FIFOs: as many characters as the trigger level, or a reception timeout.
     pub const DATA_READY: IER = IER(1 << 0);
 
-    /// The transmitter holding register is empty. Not every device raises an interrupt at the moment when this bit is set
-    /// with an empty transmitter, so send the first bytes directly and refill on interrupts.
+    /// The transmitter holding register (THR) is empty. Not every device raises an interrupt if this bit is set while the
+    /// transmitter is already empty, so send the first bytes directly, and the rest on interrupts.
     pub const THR_EMPTY: IER = IER(1 << 1);
 
-    /// An overrun, a parity error, a framing error or a break was seen.
+    /// An overrun, a parity error, a framing error or a break was detected.
     pub const RECEIVER_LINE_STATUS: IER = IER(1 << 2);
 
     /// One of the modem lines CTS, DSR, RI and CD changed.
     pub const MODEM_STATUS: IER = IER(1 << 3);
 
-    /// Without a function on a 16550.
+    /// No function on a 16550.
     pub const _RESERVED0: IER = IER(1 << 4);
 
-    /// Without a function on a 16550.
+    /// No function on a 16550.
     pub const _RESERVED1: IER = IER(1 << 5);
 
-    /// A DMA reception came to its end, on chips with DMA signals.
+    /// A DMA reception ended, on chips with DMA signals.
     pub const DMA_RX_END: IER = IER(1 << 6);
 
-    /// A DMA transmission came to its end, on chips with DMA signals.
+    /// A DMA transmission ended, on chips with DMA signals.
     pub const DMA_TX_END: IER = IER(1 << 7);
 
     // No interrupt, for constants: they cannot call `empty`.
@@ -113,20 +112,20 @@ impl ISR {
     /// Bit 2 of the interrupt identification code.
     pub const IIC_2: ISR = ISR(1 << 3);
 
-    /// A DMA reception came to its end, on chips with DMA signals.
+    /// A DMA reception ended, on chips with DMA signals.
     pub const DMA_RX_END: ISR = ISR(1 << 4);
 
-    /// A DMA transmission came to its end, on chips with DMA signals.
+    /// A DMA transmission ended, on chips with DMA signals.
     pub const DMA_TX_END: ISR = ISR(1 << 5);
 
     /// The first of two bits that are both set while the FIFOs are on.
     pub const FIFOS_ENABLED0: ISR = ISR(1 << 6);
 
-    /// The second of two bits that are both set while the FIFOs are on. A chip that shows this one alone has FIFOs that do
+    /// The second of two bits that are both set while the FIFOs are on. A chip that sets this one alone has FIFOs that do
     /// not work.
     pub const FIFOS_ENABLED1: ISR = ISR(1 << 7);
 
-    /// Both bits that show that the FIFOs are on.
+    /// The two bits that are both set while the FIFOs are on.
     pub const FIFOS_ENABLED: ISR = ISR(ISR::FIFOS_ENABLED0.0 | ISR::FIFOS_ENABLED1.0);
 
     const FLAGS: &'static [Flag<ISR>] = &[
@@ -208,10 +207,10 @@ impl FCR {
     /// Selects DMA mode 1, on chips with DMA signals.
     pub const DMA_MODE: FCR = FCR(1 << 3);
 
-    /// Turns the end-of-DMA signalling on, on chips that have it.
+    /// Enables the end-of-DMA signals, on chips that have them.
     pub const ENABLE_DMA_END: FCR = FCR(1 << 4);
 
-    /// Without a function on a 16550.
+    /// No function on a 16550.
     pub const _RESERVED0: FCR = FCR(1 << 5);
 
     /// Bit 0 of the receiver trigger level.
@@ -298,13 +297,13 @@ impl LCR {
     /// Bit 1 of the word length.
     pub const WORD_LENGTH1: LCR = LCR(1 << 1);
 
-    /// Two stop bits in place of one, or one and a half with words of five bits.
+    /// Two stop bits instead of one, or one and a half with words of five bits.
     pub const MORE_STOP_BITS: LCR = LCR(1 << 2);
 
     /// Bit 0 of the parity field: parity is sent and checked.
     pub const PARITY0: LCR = LCR(1 << 3);
 
-    /// Bit 1 of the parity field: even in place of odd.
+    /// Bit 1 of the parity field: even instead of odd.
     pub const PARITY1: LCR = LCR(1 << 4);
 
     /// Bit 2 of the parity field: the parity bit is forced to a constant.
@@ -386,7 +385,7 @@ impl Flags for LCR {
 }
 
 impl MCR {
-    /// Data terminal ready: this side is there.
+    /// Data terminal ready: this side is present.
     pub const DTR: MCR = MCR(1 << 0);
 
     /// Request to send: this side is ready to receive.
@@ -398,17 +397,17 @@ impl MCR {
     /// Auxiliary output 2. On a PC it gates the interrupt line, so interrupts need it set.
     pub const OUT_2_INT_ENABLE: MCR = MCR(1 << 3);
 
-    /// Loopback: what is sent comes back to the receiver, and the four outputs come back as modem inputs. Nothing goes out
-    /// on the line.
+    /// Loopback: what is sent returns to the receiver, and the four outputs return as modem inputs. Nothing goes out on the
+    /// line.
     pub const LOOP_BACK: MCR = MCR(1 << 4);
 
-    /// Without a function on a 16550.
+    /// No function on a 16550.
     pub const _RESERVED0: MCR = MCR(1 << 5);
 
-    /// Without a function on a 16550.
+    /// No function on a 16550.
     pub const _RESERVED1: MCR = MCR(1 << 6);
 
-    /// Without a function on a 16550.
+    /// No function on a 16550.
     pub const _RESERVED2: MCR = MCR(1 << 7);
 
     const FLAGS: &'static [Flag<MCR>] = &[
@@ -478,39 +477,39 @@ impl Flags for MCR {
 }
 
 impl LSR {
-    /// A received character waits.
+    /// A received character is available in the receiver buffer register (RBR) or the receiver FIFO.
     pub const DATA_READY: LSR = LSR(1 << 0);
 
-    /// A received character was lost, since the receiver was full.
+    /// A received character was lost because the receiver was full.
     pub const OVERRUN_ERROR: LSR = LSR(1 << 1);
 
-    /// The parity of the character in front was wrong.
+    /// The character at the front has a wrong parity.
     pub const PARITY_ERROR: LSR = LSR(1 << 2);
 
-    /// The character in front had no valid stop bit.
+    /// The character at the front has no valid stop bit.
     pub const FRAMING_ERROR: LSR = LSR(1 << 3);
 
-    /// The line was held in the break condition while the character in front was received.
+    /// The line was held in the break condition while the character at the front was received.
     pub const BREAK_INTERRUPT: LSR = LSR(1 << 4);
 
-    /// The transmitter holding register, or with FIFOs the transmitter FIFO, is empty.
+    /// The transmitter holding register (THR), or with FIFOs the transmitter FIFO, is empty.
     pub const THR_EMPTY: LSR = LSR(1 << 5);
 
-    /// The transmitter is idle: the holding register or FIFO and the shift register are all empty.
+    /// The transmitter is idle: THR or the transmitter FIFO, and the shift register, are empty.
     pub const TRANSMITTER_EMPTY: LSR = LSR(1 << 6);
 
     /// Some character in the receiver FIFO has a parity error, a framing error or a break. Clear without FIFOs.
     pub const FIFO_DATA_ERROR: LSR = LSR(1 << 7);
 
-    /// The errors of the character in front: parity, framing and break.
+    /// The errors of the character at the front: parity, framing and break.
     pub const CHARACTER_ERRORS: LSR = LSR(
         LSR::PARITY_ERROR.0 | LSR::FRAMING_ERROR.0 | LSR::BREAK_INTERRUPT.0,
     );
 
-    /// The errors that a read clears: overrun, and those of the character in front.
+    /// The errors that a read clears: an overrun, and those of the character at the front.
     pub const LINE_ERRORS: LSR = LSR(LSR::OVERRUN_ERROR.0 | LSR::CHARACTER_ERRORS.0);
 
-    /// Every bit that shows an error.
+    /// All bits that report an error.
     pub const ERRORS: LSR = LSR(LSR::LINE_ERRORS.0 | LSR::FIFO_DATA_ERROR.0);
 
     const FLAGS: &'static [Flag<LSR>] = &[
@@ -595,7 +594,7 @@ impl MSR {
     /// Clear to send: the remote is ready to receive. Many cables do not drive this line.
     pub const CTS: MSR = MSR(1 << 4);
 
-    /// Data set ready: the remote is there. Many cables do not drive this line.
+    /// Data set ready: the remote is present. Many cables do not drive this line.
     pub const DSR: MSR = MSR(1 << 5);
 
     /// Ring indicator.
@@ -691,16 +690,16 @@ impl PSD {
     /// Bit 3 of the prescaler division factor.
     pub const PDF3: PSD = PSD(1 << 3);
 
-    /// Without a function.
+    /// No function.
     pub const _RESERVED0: PSD = PSD(1 << 4);
 
-    /// Without a function.
+    /// No function.
     pub const _RESERVED1: PSD = PSD(1 << 5);
 
-    /// Without a function.
+    /// No function.
     pub const _RESERVED2: PSD = PSD(1 << 6);
 
-    /// Without a function.
+    /// No function.
     pub const _RESERVED3: PSD = PSD(1 << 7);
 
     const FLAGS: &'static [Flag<PSD>] = &[

@@ -6,7 +6,7 @@ ghost use Rattle.uart_spec.specs.Fields.{HasParity, HasTrigger, HasWordLength, p
 use crate::registers::{FifoTriggerLevel, Parity, WordLength};
 
 impl FifoTriggerLevel {
-    /// The level of a code of two bits. Higher bits do not count.
+    /// Returns the trigger level with this code, which is in the low two bits. Higher bits are ignored.
     pub fn from_raw_bits(bits: u8) -> Self
         ensures { IsOnly (HasTrigger 0 bits) result }
     {
@@ -18,7 +18,7 @@ impl FifoTriggerLevel {
         }
     }
 
-    /// The code of this level, in the low two bits.
+    /// Returns the code of this trigger level, in the low two bits.
     pub fn to_raw_bits(self) -> u8
         ensures code { result ≡ trigger_code self }
         ensures read_back { HasTrigger 0 result self }
@@ -33,7 +33,7 @@ impl FifoTriggerLevel {
 }
 
 impl WordLength {
-    /// The word length of a code of two bits. Higher bits do not count.
+    /// Returns the word length with this code, which is in the low two bits. Higher bits are ignored.
     pub fn from_raw_bits(bits: u8) -> Self
         ensures { IsOnly (HasWordLength 0 bits) result }
     {
@@ -45,7 +45,7 @@ impl WordLength {
         }
     }
 
-    /// The code of this word length, in the low two bits.
+    /// Returns the code of this word length, in the low two bits.
     pub fn to_raw_bits(self) -> u8
         ensures code { result ≡ word_length_code self }
         ensures read_back { HasWordLength 0 result self }
@@ -60,7 +60,8 @@ impl WordLength {
 }
 
 impl Parity {
-    /// The parity of a code of three bits. Higher bits do not count, and each code whose lowest bit is clear is `Disabled`.
+    /// Returns the parity with this code, which is in the low three bits. Higher bits are ignored, and each code whose
+    /// lowest bit is clear is `Disabled`.
     pub fn from_raw_bits(bits: u8) -> Self
         ensures { IsOnly (HasParity 0 bits) result }
     {
@@ -73,7 +74,7 @@ impl Parity {
         }
     }
 
-    /// The code of this parity, in the low three bits.
+    /// Returns the code of this parity, in the low three bits.
     pub fn to_raw_bits(self) -> u8
         ensures code { result ≡ parity_code self }
         ensures read_back { HasParity 0 result self }

@@ -188,7 +188,7 @@ pub enum Divisor {
 }
 
 impl Divisor {
-    /// The divisor as a number, as the divisor latch takes it.
+    /// Returns the divisor as a number, as it is written to the divisor latch.
     pub fn number(self) -> u16
         ensures value { result ≡ number self }
         ensures divides { IsDivisor result }
@@ -198,7 +198,7 @@ impl Divisor {
         self.discriminant()
     }
 
-    // The cast alone, since its proof goes case by case.
+    // The cast alone, since its proof has one case for each divisor.
     fn discriminant(self) -> u16
         ensures { result ≡ number self }
     {

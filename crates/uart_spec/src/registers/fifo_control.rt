@@ -6,12 +6,12 @@ ghost use Rattle.uart_spec.specs.Fields.{HasTrigger, trigger_code};
 
 use crate::registers::FifoTriggerLevel;
 
-/// FIFO control register (FCR), written at offset 2. It cannot be read back.
+/// FIFO control register (FCR), offset 2, write only.
 #[derive(Clone, Copy, Debug, PartialEq, Eq, PartialOrd, Ord, Hash, Default)]
 pub struct FCR(pub(super) u8);
 
 impl FCR {
-    /// The register with this trigger level. No other bit changes.
+    /// Returns the register with this trigger level. No other bit changes.
     pub fn set_fifo_trigger_level(self, level: FifoTriggerLevel) -> Self
         ensures own { HasTrigger 6 result.0 level }
         ensures others { SameOutside 6 2 self.0 result.0 }
@@ -20,7 +20,7 @@ impl FCR {
         FCR((self.0 & 0b0011_1111) | (level.to_raw_bits() << 6))
     }
 
-    /// The receiver FIFO's trigger level.
+    /// Returns the trigger level of the receiver FIFO.
     pub fn fifo_trigger_level(self) -> FifoTriggerLevel
         ensures { IsOnly (HasTrigger 6 self.0) result }
     {

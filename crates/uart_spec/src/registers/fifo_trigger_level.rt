@@ -1,6 +1,8 @@
 //! The receiver FIFO's trigger level.
 
-/// How many characters wait in the receiver FIFO before a `DATA_READY` interrupt is raised.
+/// The number of characters in the receiver FIFO at which a `DATA_READY` interrupt is raised.
+///
+/// A high level needs fewer interrupts. A low level leaves more time to read before the FIFO overruns.
 #[derive(Clone, Copy, Debug, PartialEq, Eq, PartialOrd, Ord, Hash, Default)]
 pub enum FifoTriggerLevel {
     /// One character.

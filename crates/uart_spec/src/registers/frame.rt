@@ -4,7 +4,7 @@ ghost use Rattle.uart_spec.specs.Fields.{word_length_bits};
 ghost use Rattle.uart_spec.specs.declared.registers.frame.WordLength.{WordLength};
 ghost use Rattle.uart_spec.specs.declared.registers.frame.WordLength.TheVariants.{EightBits};
 
-/// How many data bits a character has.
+/// The number of data bits of a character.
 #[derive(Clone, Copy, Debug, PartialEq, Eq, PartialOrd, Ord, Hash, Default)]
 pub enum WordLength {
     /// Five data bits.
@@ -19,7 +19,7 @@ pub enum WordLength {
 }
 
 impl WordLength {
-    /// The word length of this many data bits. A number outside of 5 to 8 gives `EightBits`.
+    /// Returns the word length with this number of data bits. A number outside of 5 to 8 gives `EightBits`.
     pub fn from_integer(bits: u8) -> Self
         ensures known { (length : WordLength) → word_length_bits length ≡ bits → result ≡ length }
         ensures unknown { (bits < 5) ⊎ (8 < bits) → result ≡ EightBits }
@@ -32,7 +32,7 @@ impl WordLength {
         }
     }
 
-    /// The number of data bits.
+    /// Returns the number of data bits.
     pub fn to_integer(self) -> u32
         ensures { result ≡ word_length_bits self }
     {
@@ -51,12 +51,12 @@ pub enum Parity {
     /// No parity bit is sent or checked.
     #[default]
     Disabled,
-    /// The data and parity bits hold an odd number of ones.
+    /// The data bits and the parity bit together have an odd number of ones.
     Odd,
-    /// The data and parity bits hold an even number of ones.
+    /// The data bits and the parity bit together have an even number of ones.
     Even,
-    /// The parity bit is always one. Other documents call this mark parity.
+    /// The parity bit is always one, also called mark parity.
     Forced1,
-    /// The parity bit is always zero. Other documents call this space parity.
+    /// The parity bit is always zero, also called space parity.
     Forced0,
 }

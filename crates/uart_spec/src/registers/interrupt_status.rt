@@ -6,28 +6,28 @@ ghost use Rattle.uart_spec.specs.Fields.{Identifies};
 use crate::registers::InterruptType;
 use bitflags::Flags;
 
-/// Interrupt status register (ISR), read at offset 2. Other documents call it interrupt identification register (IIR).
+/// Interrupt status register (ISR), offset 2, read only. Also called interrupt identification register (IIR).
 ///
-/// A read acknowledges a pending `THR_EMPTY` interrupt.
+/// A read that identifies a `THR_EMPTY` interrupt acknowledges it.
 #[derive(Clone, Copy, Debug, PartialEq, Eq, PartialOrd, Ord, Hash, Default)]
 pub struct ISR(pub(super) u8);
 
 impl ISR {
-    /// The interrupt that is pending, where there is one that has a name.
+    /// Returns the pending interrupt. `None` if none is pending, or if its code is not known.
     pub fn interrupt_type(self) -> Option<InterruptType>
         ensures { IsOnlyIfAny (Identifies self.0) result }
     {
         InterruptType::from_bits(self.0)
     }
 
-    /// Whether an interrupt is pending.
+    /// Returns whether an interrupt is pending: bit 0 is clear then.
     pub fn has_pending_interrupt(self) -> bool
         ensures { result ≡ not (has self.0 ISR.INTERRUPT_STATUS.0) }
     {
         !self.contains(ISR::INTERRUPT_STATUS)
     }
 
-    /// Whether the FIFOs are on and work.
+    /// Returns whether the FIFOs are on and work: bits 6 and 7 are both set then.
     pub fn fifo_enabled(self) -> bool
         ensures { result ≡ has self.0 ISR.FIFOS_ENABLED.0 }
     {

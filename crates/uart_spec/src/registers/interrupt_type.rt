@@ -3,28 +3,29 @@ ghost use Rattle.std.specs.Prelude.{◌≡◌, ◌*◌};
 ghost use Rattle.uart_spec.specs.Bits.{IsOnlyIfAny};
 ghost use Rattle.uart_spec.specs.Fields.{Identifies, interrupt_code, priority};
 
-/// An interrupt, in the order in which a chip reports those that are pending together.
+/// An interrupt, in the order in which a chip reports interrupts that are pending together.
 #[derive(Clone, Copy, Debug, PartialEq, Eq, PartialOrd, Ord, Hash)]
 pub enum InterruptType {
     /// An overrun, a parity error, a framing error or a break. A read of LSR acknowledges it.
     ReceiverLineStatus,
-    /// Received characters wait, with FIFOs as many as the trigger level says. Reads of DATA acknowledge it.
+    /// Received characters are available, with FIFOs as many as the trigger level. Reads of DATA acknowledge it.
     ReceivedDataReady,
-    /// Characters wait in the receiver FIFO, fewer than the trigger level, and for some time none came or was taken. Reads
-    /// of DATA acknowledge it.
+    /// The receiver FIFO holds fewer characters than the trigger level, and for a while none was received or read. Reads of
+    /// DATA acknowledge it.
     ReceptionTimeout,
-    /// The transmitter holding register or FIFO is empty. A read of ISR or a write of DATA acknowledges it.
+    /// The transmitter holding register (THR), or the transmitter FIFO, is empty. A read of ISR or a write of DATA
+    /// acknowledges it.
     TransmitterHoldingRegisterEmpty,
     /// A modem line changed. A read of MSR acknowledges it.
     ModemStatus,
-    /// A DMA reception came to its end, on chips with DMA signals.
+    /// A DMA reception ended, on chips with DMA signals.
     DmaReceptionEndOfTransfer,
-    /// A DMA transmission came to its end, on chips with DMA signals.
+    /// A DMA transmission ended, on chips with DMA signals.
     DmaTransmissionEndOfTransfer,
 }
 
 impl InterruptType {
-    /// The priority, from 1, the highest, to 6. Two cases share priority 2.
+    /// Returns the priority, from 1, the highest, to 6. Two cases share priority 2.
     pub fn priority(self) -> u8
         ensures { result ≡ priority self }
     {
@@ -38,10 +39,10 @@ impl InterruptType {
         }
     }
 
-    /// The interrupt that the low nibble of an ISR value identifies.
+    /// Returns the interrupt that the low nibble of an ISR value identifies.
     ///
-    /// There is none where bit 0 is set, since no interrupt is pending then, and none for the code 100 in bits 3 to 1,
-    /// although an interrupt is pending.
+    /// Returns `None` if bit 0 is set, since no interrupt is pending then, and also for the code 100 in bits 3 to 1,
+    /// although an interrupt is pending then.
     pub fn from_bits(isr_bits: u8) -> Option<Self>
         ensures { IsOnlyIfAny (Identifies isr_bits) result }
     {
@@ -57,7 +58,7 @@ impl InterruptType {
         }
     }
 
-    /// The low nibble of an ISR value that identifies this interrupt.
+    /// Returns the low nibble of an ISR value that identifies this interrupt.
     pub fn to_bits(self) -> u8
         ensures bits { result ≡ 2 * interrupt_code self }
         ensures read_back { Identifies result self }

@@ -11,14 +11,14 @@ use crate::registers::{Parity, WordLength};
 pub struct LCR(pub(super) u8);
 
 impl LCR {
-    /// How many data bits a character has.
+    /// Returns the number of data bits of a character.
     pub fn word_length(self) -> WordLength
         ensures { IsOnly (HasWordLength 0 self.0) result }
     {
         WordLength::from_raw_bits(self.0)
     }
 
-    /// The register with this word length. No other bit changes.
+    /// Returns the register with this word length. No other bit changes.
     pub fn set_word_length(self, length: WordLength) -> Self
         ensures own { HasWordLength 0 result.0 length }
         ensures others { SameOutside 0 2 self.0 result.0 }
@@ -27,14 +27,14 @@ impl LCR {
         LCR((self.0 & 0b1111_1100) | length.to_raw_bits())
     }
 
-    /// The parity of a character.
+    /// Returns the parity of a character.
     pub fn parity(self) -> Parity
         ensures { IsOnly (HasParity 3 self.0) result }
     {
         Parity::from_raw_bits(self.0 >> 3)
     }
 
-    /// The register with this parity. No other bit changes.
+    /// Returns the register with this parity. No other bit changes.
     pub fn set_parity(self, parity: Parity) -> Self
         ensures own { HasParity 3 result.0 parity }
         ensures others { SameOutside 3 3 self.0 result.0 }

@@ -6,7 +6,7 @@ use std::io;
 use std::io::{Read, Write};
 use std::test::Fail;
 
-// Gives at most a piece of the text a read, and fails once no reads are left.
+// Returns at most a piece of the text for each read, and fails once no reads are left.
 #[derive(Drop)]
 struct Reader<'a> {
     text: &'a [u8],
@@ -27,7 +27,7 @@ impl Read for Reader<'_> {
     }
 }
 
-// Takes at most a piece of the bytes a write, and fails once no writes are left.
+// Accepts at most a piece of the bytes for each write, and fails once no writes are left.
 #[derive(Drop)]
 struct Writer {
     taken: Vec<u8>,
@@ -51,7 +51,7 @@ impl Write for Writer {
     }
 }
 
-// What comes of a text by a reader that fails after so many reads, and what is written.
+// The outcome of a text by a reader that fails after this number of reads, and what is written.
 fn read_by(
     rt: &HostRuntime,
     text: &[u8],

@@ -7,7 +7,7 @@ use uart_language::limits::{MOST_BYTES, MOST_LINES};
 // As many lines as may follow the first.
 const LINES_AFTER_HEADER: usize = MOST_LINES as usize - 1;
 
-// Of each of these pairs, the first is a script after a front, and the second is told so.
+// In each of these pairs the first is a script after a beginning, and the second is reported so.
 fn assert_limits(
     rt: &(impl AllocGlobal + Abort),
     front: &str,
@@ -20,7 +20,7 @@ fn assert_limits(
     Ok(())
 }
 
-// So many copies of some bytes after a front.
+// This number of copies of some bytes, after a beginning.
 fn repeated(rt: &HostRuntime, front: &str, bytes: &[u8], count: usize) -> Result<Vec<u8>, Fail> {
     let mut text = front.as_bytes().to_vec(rt.alloc())?;
     for _ in 0..count {
@@ -139,7 +139,7 @@ fn scripts_have_at_most_65536_bytes(rt: HostRuntime) -> Result<(), Fail> {
     text.push(b'\n')?;
     assert_eq!(rt; told(&rt, &text)?.as_str(), "line 0: too long");
 
-    // Too many bytes are told before too many lines.
+    // Too many bytes are reported before too many lines.
     let mut blank = repeated(&rt, "chip 16450 4 64\nlsr\n", b"\n", MOST_BYTES - 20)?;
     assert_eq!(rt; blank.len(), MOST_BYTES);
     assert_eq!(rt; told(&rt, &blank)?.as_str(), "line 4097: too long");

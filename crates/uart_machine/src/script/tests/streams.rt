@@ -3,7 +3,7 @@ use std::io;
 use std::io::Write;
 use std::test::Fail;
 
-// Takes at most three bytes a write, and fails once it holds ten.
+// Accepts at most three bytes for each write, and fails once it has ten.
 #[derive(Drop)]
 struct FailsAfterTen {
     held: Vec<u8>,
@@ -27,11 +27,11 @@ impl Write for FailsAfterTen {
     }
 }
 
-// 67 bytes.
+// A script of 67 bytes.
 pub const SCRIPT: &[u8] =
     b"chip 16450 4 64\nlimit 200\ninit off 9600 nocts 00 8\nsend 48656c6c6f\n";
 
-// 41 bytes.
+// Its output, of 41 bytes.
 pub const OUTPUT: &[u8] = b"ok\nok 1\nwire -\nheld 48\nwaiting -\nmarks -\n";
 
 #[test]

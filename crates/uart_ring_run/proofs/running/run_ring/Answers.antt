@@ -1,14 +1,15 @@
 use Rattle.std.proofs.Common.{arith}
-use Rattle.uart_ring_run.proofs.RingSessions.{ring_run_nothing, ring_run_step, ran_ring}
+use Rattle.uart_run.proofs.Chains.{run_nothing, run_step}
+use Rattle.uart_ring_run.specs.RingRun.{RingCallStep}
+use Rattle.uart_ring_run.proofs.RingSessions.{ran_ring}
 use Rattle.uart_ring_run.proofs.running.run_ring.Goals as goal
 
 pub loop-i-init : goal.loop-i-init
-loop-i-init c = ring_run_nothing _
+loop-i-init c = run_nothing RingCallStep _
 
 pub loop-i-preserved : goal.loop-i-preserved
 loop-i-preserved c =
-    ring_run_step _ _ _ c.args.calls.now c.loop-i.answers c.loop-i.i _ _ (omega arith) (omega arith) c.index-calls-i.is
-    c.loop-i.invariant c.run_ring_call.ensures
+    run_step RingCallStep _ _ (omega arith) (omega arith) c.index-calls-i.is c.loop-i.invariant c.run_ring_call.ensures
 
 pub returns : goal.returns
 returns c =

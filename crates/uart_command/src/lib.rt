@@ -1,32 +1,13 @@
-//! The command line.
+//! The command line of the program `geesetrunk`: from its words to what is asked for.
+//!
+//! It is a crate of its own so that only this page of code is checked together with `clap`.
+#![tactic(auto)]
 
 use clap::error::ErrorKind;
 use clap::{Arg, ArgAction, ArgMatches, Command, Error};
 use std::alloc::{AllocError, Global};
 use std::convert::AsStr;
-
-/// How a timeline is shown.
-#[derive(Clone, Copy, Debug, PartialEq, Eq)]
-pub enum Form {
-    Picture,
-    Table,
-}
-
-/// What is asked for.
-#[derive(Clone, Copy, Debug, PartialEq, Eq)]
-pub enum Task {
-    Play,
-    Check,
-    Trace,
-    Timeline(Form),
-}
-
-/// What is asked for, and the script's file; `-` is standard input.
-#[derive(Clone, Copy, Debug, PartialEq, Eq)]
-pub struct Request<'a> {
-    pub task: Task,
-    pub file: &'a str,
-}
+use uart_report::{Form, Request, Task};
 
 const ABOUT: &str = "Plays scripts of a serial chip and its driver, and shows what happened";
 
@@ -60,7 +41,7 @@ fn subcommand<'a>(alloc: Global, name: &'a str, about: &'a str) -> Result<Comman
         .arg(file_argument(alloc))
 }
 
-// The command line that the program takes.
+// Returns the command line that the program accepts.
 fn command<'a>(alloc: Global) -> Result<Command<'a>, AllocError> {
     let text = Arg::new(alloc, "text")
         .long("text")
@@ -89,11 +70,11 @@ fn task_of(name: &str, matches: &ArgMatches<'_>) -> Task {
     }
 }
 
-/// What a command line asks for. Its first word is the program's name.
+/// Returns the request of a command line. Its first word is the program's name.
 ///
 /// # Errors
 ///
-/// What clap has to say: the help, the version, or what is wrong with the words.
+/// The error of clap: the help, the version, or what is wrong with the words.
 pub fn asked<'a, S: AsStr>(alloc: Global, words: &'a [S]) -> Result<Request<'a>, Error> {
     let mut command = command(alloc)?;
     let matches = command.try_get_matches_from_mut(words)?;

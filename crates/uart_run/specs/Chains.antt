@@ -1,0 +1,34 @@
+-- Calls in turn, each with its answer: over states, calls and answers of any type, and whatever one call does.
+use Rattle.std.specs.Prelude.{◌≡◌, ◌≢◌, List, [], ◌∷◌, map}
+use Rattle.std.specs.List.{AllByRecursion}
+
+-- a call of a run, between the states before and after it
+pub record LinkOf (State Call Answer : Type 0) : Type 0 where
+  pub before : State
+  pub call : Call
+  pub answer : Answer
+  pub after : State
+
+-- the calls lead from s to t, one after the other
+abbrev pub ChainOf : {S C A : Type 0} → (S → C → A → S → Type 0) → S → List (LinkOf S C A) → S → Type 0
+ChainOf Step s [] t = t ≡ s
+ChainOf Step s (link ∷ links) t =
+    (link.before ≡ s) × Step link.before link.call link.answer link.after × ChainOf Step link.after links t
+
+abbrev pub calls_of : {S C A : Type 0} → List (LinkOf S C A) → List C
+calls_of links = map (λ link. link.call) links
+
+abbrev pub answers_of : {S C A : Type 0} → List (LinkOf S C A) → List A
+answers_of links = map (λ link. link.answer) links
+
+-- these calls, with these answers, lead from s to t
+pub record RunOf {S C A : Type 0} (Step : S → C → A → S → Type 0) (s : S) (calls : List C) (answers : List A) (t : S) :
+    Type 0 where
+  pub links : List (LinkOf S C A)
+  pub chain : ChainOf Step s links t
+  pub calls_same : calls_of links ≡ calls
+  pub answers_same : answers_of links ≡ answers
+
+-- none of these calls is c
+abbrev pub NoneIs : {S C A : Type 0} → C → List (LinkOf S C A) → Type 0
+NoneIs c links = AllByRecursion (λ link. link.call ≢ c) links
