@@ -33,19 +33,6 @@ pub enum Body {
     Text,
 }
 
-/// All bodies, each with its name and the value of LSR that it needs.
-pub const BODIES: [(Body, &str, u8); 9] = [
-    (Body::SendFifo, "send-fifo", 0x60),
-    (Body::SendSingle, "send-single", 0x60),
-    (Body::Receive, "receive", 0x61),
-    (Body::InitFifo, "init-fifo", 0x60),
-    (Body::InitSingle, "init-single", 0x60),
-    (Body::Lsr, "lsr", 0x60),
-    (Body::Msr, "msr", 0x60),
-    (Body::Dump, "dump", 0x60),
-    (Body::Text, "text", 0x60),
-];
-
 #[inline(never)]
 fn send<B: Backend>(uart: &mut Uart16550<B>, bytes: &[u8]) -> bool {
     uart.send_bytes_exact(bytes).is_ok()

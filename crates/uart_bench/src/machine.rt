@@ -16,13 +16,6 @@ pub enum Work {
     Idle,
 }
 
-/// All of it, each with its name.
-pub const WORKS: [(Work, &str); 3] = [
-    (Work::Access, "machine-access"),
-    (Work::Ticks, "machine-ticks"),
-    (Work::Idle, "machine-idle"),
-];
-
 #[inline(never)]
 fn access(machine: &mut Device16550) -> u8 {
     machine.read(offsets::LSR as u8)

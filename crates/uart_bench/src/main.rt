@@ -7,10 +7,10 @@ mod machine;
 mod rings;
 
 use anyhow::{Result, bail};
-use bodies::{BODIES, Body, run};
-use cells::{Called, Cells, Counted};
-use machine::{WORKS, perform};
-use rings::{RING_WORKS, perform as perform_ring};
+use bodies::{Body, run};
+use cells::{Called, Cells, Counted, Totals};
+use machine::{Work, perform};
+use rings::{RingWork, perform as perform_ring};
 use std::env;
 use std::rt::Runtime;
 
@@ -20,74 +20,106 @@ const MEASURED_BYTES: usize = 1 << 20;
 // The same in the short run: whole pieces and a remainder.
 const SHORT_BYTES: usize = 300;
 
-// Runs each body once, and prints the totals of its accesses.
-fn short_run<R: Runtime + AllocGlobal>(rt: &R) -> Result<()> {
+// What is measured: a body of the driver over cells of which LSR holds this byte, the chip, or the rings.
+#[derive(Clone, Copy)]
+enum Subject {
+    Driver(Body, u8),
+    Machine(Work),
+    Rings(RingWork),
+}
+
+// All of it, each with its name.
+const SUBJECTS: [(Subject, &str); 16] = [
+    (Subject::Driver(Body::SendFifo, 0x60), "send-fifo"),
+    (Subject::Driver(Body::SendSingle, 0x60), "send-single"),
+    (Subject::Driver(Body::Receive, 0x61), "receive"),
+    (Subject::Driver(Body::InitFifo, 0x60), "init-fifo"),
+    (Subject::Driver(Body::InitSingle, 0x60), "init-single"),
+    (Subject::Driver(Body::Lsr, 0x60), "lsr"),
+    (Subject::Driver(Body::Msr, 0x60), "msr"),
+    (Subject::Driver(Body::Dump, 0x60), "dump"),
+    (Subject::Driver(Body::Text, 0x60), "text"),
+    (Subject::Machine(Work::Access), "machine-access"),
+    (Subject::Machine(Work::Ticks), "machine-ticks"),
+    (Subject::Machine(Work::Idle), "machine-idle"),
+    (Subject::Rings(RingWork::Queue), "ring-queue"),
+    (Subject::Rings(RingWork::Send), "ring-send"),
+    (Subject::Rings(RingWork::Service), "ring-service"),
+    (Subject::Rings(RingWork::Receive), "ring-receive"),
+];
+
+// Returns the totals of a body's accesses if it is run `count` times.
+fn counted(body: Body, count: u64, lsr: u8) -> Totals {
     let mut buffer = [0x55; SHORT_BYTES];
     let line = "A line of text for the terminal: plain.\n";
-    for (body, name, lsr) in BODIES {
-        let before = run(
-            body,
-            0,
-            Counted::new(Cells::new(0xc0, lsr)),
-            &mut buffer,
-            line,
-        );
-        let after = run(
-            body,
-            1,
-            Counted::new(Cells::new(0xc0, lsr)),
-            &mut buffer,
-            line,
-        );
-        println!(rt;
-            "{name} reads {} writes {} digest {:016x}",
-            after.reads.saturating_sub(before.reads),
-            after.writes.saturating_sub(before.writes),
-            after.digest
-        )?;
-    }
-    for (work, name) in WORKS {
-        println!(rt; "{name} lsr {:02x}", perform(rt.alloc(), work, 1)?)?;
-    }
-    for (work, name) in RING_WORKS {
-        let (returned, received, digest) = perform_ring(rt.alloc(), work, 1, 0xc0)?;
-        println!(rt; "{name} returned {returned} received {received} digest {digest:016x}")?;
+    let cells = Counted::new(Cells::new(0xc0, lsr));
+    run(body, count, cells, &mut buffer, line)
+}
+
+// Runs each once, and prints the totals of its accesses.
+fn short_run<R: Runtime + AllocGlobal>(rt: &R) -> Result<()> {
+    for (subject, name) in SUBJECTS {
+        match subject {
+            Subject::Driver(body, lsr) => {
+                let (before, after) = (counted(body, 0, lsr), counted(body, 1, lsr));
+                println!(rt;
+                    "{name} reads {} writes {} digest {:016x}",
+                    after.reads.saturating_sub(before.reads),
+                    after.writes.saturating_sub(before.writes),
+                    after.digest
+                )?;
+            }
+            Subject::Machine(work) => {
+                println!(rt; "{name} lsr {:02x}", perform(rt.alloc(), work, 1)?)?;
+            }
+            Subject::Rings(work) => {
+                let (returned, received, digest) = perform_ring(rt.alloc(), work, 1, 0xc0)?;
+                println!(rt;
+                    "{name} returned {returned} received {received} digest {digest:016x}"
+                )?;
+            }
+        }
     }
     Ok(())
 }
 
-// Runs the body of this name `count` times.
-fn measure<R: Runtime + AllocGlobal>(rt: &R, name: &str, count: u64, called: bool) -> Result<()> {
+// Runs the body `count` times, and returns the digest of its accesses.
+fn digest_of<R: Runtime + AllocGlobal>(
+    rt: &R,
+    body: Body,
+    count: u64,
+    cells: Cells,
+    called: bool,
+) -> Result<u64> {
     let mut buffer = vec![in rt.alloc(); 0x55; MEASURED_BYTES]?;
     let letters = vec![in rt.alloc(); 0x55; MEASURED_BYTES]?;
     let line = std::str::from_utf8(&letters)?;
+    let totals = if called {
+        run(body, count, Called(cells), &mut buffer, line)
+    } else {
+        run(body, count, cells, &mut buffer, line)
+    };
+    Ok(totals.digest)
+}
+
+// Runs what has this name `count` times.
+fn measure<R: Runtime + AllocGlobal>(rt: &R, name: &str, count: u64, called: bool) -> Result<()> {
+    let Some((subject, _)) = SUBJECTS.iter().copied().find(|(_, known)| *known == name) else {
+        bail!("no body is called {name}");
+    };
     let filling = (count % 256) as u8;
-    for (body, known, lsr) in BODIES {
-        if known == name {
-            let cells = Cells::new(filling, lsr);
-            let totals = if called {
-                run(body, count, Called(cells), &mut buffer, line)
-            } else {
-                run(body, count, cells, &mut buffer, line)
-            };
-            println!(rt; "{:016x}", totals.digest)?;
-            return Ok(());
+    match subject {
+        Subject::Driver(body, lsr) => {
+            let digest = digest_of(rt, body, count, Cells::new(filling, lsr), called)?;
+            println!(rt; "{digest:016x}")?;
         }
-    }
-    for (work, known) in WORKS {
-        if known == name {
-            println!(rt; "{:02x}", perform(rt.alloc(), work, count)?)?;
-            return Ok(());
-        }
-    }
-    for (work, known) in RING_WORKS {
-        if known == name {
+        Subject::Machine(work) => println!(rt; "{:02x}", perform(rt.alloc(), work, count)?)?,
+        Subject::Rings(work) => {
             let (_returned, _received, digest) = perform_ring(rt.alloc(), work, count, filling)?;
             println!(rt; "{digest:016x}")?;
-            return Ok(());
         }
     }
-    bail!("no body is called {name}")
+    Ok(())
 }
 
 fn main(rt: HostRuntime) -> Result<()> {

@@ -22,14 +22,6 @@ pub enum RingWork {
     Receive,
 }
 
-/// All of it, each with its name.
-pub const RING_WORKS: [(RingWork, &str); 4] = [
-    (RingWork::Queue, "ring-queue"),
-    (RingWork::Send, "ring-send"),
-    (RingWork::Service, "ring-service"),
-    (RingWork::Receive, "ring-receive"),
-];
-
 // The number of received bytes before each call.
 const WAITING: u8 = 14;
 

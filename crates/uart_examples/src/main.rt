@@ -17,25 +17,7 @@ use traced::is_driver_trace;
 use uart_command::asked;
 use uart_machine::script::{Std, play};
 use uart_report::report_on;
-
-// Returns the names of the folder's files with this ending, in order.
-fn names_in(rt: &HostRuntime, folder: Path<'_>, ending: &str) -> io::Result<Vec<String>> {
-    let mut names = Vec::new(rt.alloc());
-    for entry in fs::read_dir(rt, folder)? {
-        let entry = entry?;
-        if let Some(name) = entry.file_name().strip_suffix(ending) {
-            names.push(name.to_string(rt.alloc())?)?;
-        }
-    }
-    names.sort()?;
-    Ok(names)
-}
-
-// Returns the bytes of a file of the folder.
-fn bytes_of(rt: &HostRuntime, folder: Path<'_>, name: &str, ending: &str) -> io::Result<Vec<u8>> {
-    let file = format!(in rt.alloc(); "{name}.{ending}")?;
-    fs::read(rt, folder.join(rt.alloc(), file.as_str())?)
-}
+use uart_stored::{bytes_and_output, bytes_of, names_in};
 
 // Returns what is printed for a script: its output, or the line of its refusal.
 fn printed(alloc: Global, script: &[u8]) -> io::Result<Vec<u8>> {
@@ -49,8 +31,7 @@ fn printed(alloc: Global, script: &[u8]) -> io::Result<Vec<u8>> {
 
 // Returns whether the script of this name prints what is stored.
 fn is_as_stored(rt: &HostRuntime, folder: Path<'_>, name: &str) -> io::Result<bool> {
-    let script = bytes_of(rt, folder, name, "script")?;
-    let stored = bytes_of(rt, folder, name, "out")?;
+    let (script, stored) = bytes_and_output(rt, folder, name, ".script")?;
     Ok(printed(rt.alloc(), &script)? == stored)
 }
 
@@ -87,7 +68,7 @@ fn session(rt: &HostRuntime, folder: Path<'_>, command: &str) -> io::Result<Vec<
 
 // Returns whether the session of this name is what is stored.
 fn is_session_as_stored(rt: &HostRuntime, folder: Path<'_>, name: &str) -> io::Result<bool> {
-    let stored = bytes_of(rt, folder, name, "session")?;
+    let stored = bytes_of(rt, folder, name, ".session")?;
     let line = stored.split(|b| *b == b'\n').next().unwrap_or(&[]);
     match line {
         [b'$', b' ', command @ ..] => {

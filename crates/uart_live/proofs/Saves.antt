@@ -21,7 +21,7 @@ use Rattle.uart_chip.specs.Chip.{ChipState}
 use Rattle.uart_chip.specs.Data.{transmitter_of, receiver_of}
 use Rattle.uart_chip.specs.Snapshot.{latches_of, chip_of, unscheduled}
 use Rattle.uart_device.specs.Sound.{IsInQueue, AllInQueue, NoneHas, Distinct, AllErrorsLegal, IsSoundReceiver, IsTicking}
-use Rattle.uart_device.specs.Sound.{IsSoundTransmitter, HoldBytes}
+use Rattle.uart_device.specs.Sound.{IsSoundTransmitter, IsSoundChip, IsSound, HoldBytes}
 use Rattle.uart_live.specs.Live.{IsLive}
 use Rattle.uart_live.specs.Saved.{is_within, is_live_character, is_sound_receiver, is_ticking, is_char_time, is_sound_transmitter}
 use Rattle.uart_live.specs.Saved.{is_implemented, is_live}
@@ -174,22 +174,17 @@ live_of c wire e bytes =
     let lines = both-true _ _ modem.1 in
     let f = both-true (is_sound_receiver c.fifo c.transmitter.char_ticks c.receiver) _ d.1 in
     let fits = sound_transmitter c.fifo c.transmitter wire f.1 in
+    let chip : IsSoundChip (chip_of c wire) = record {
+      receiver = sound_receiver c.fifo c.transmitter.char_ticks c.receiver f.0;
+      transmitter = fits.sound;
+      modem = record { inputs = within _ _ modem.0; lines = within _ _ lines.0; deltas = within _ _ lines.1 };
+      latches = record { ier = within _ _ latches.0; mcr = within _ _ latches.1 };
+      implemented = implemented c.model c.fifo b.0;
+      limit = refl;
+    } in
+    let sound : IsSound (record { chip = chip_of c wire; ahead = [] }) = record { chip = chip; foreseen = refl; legal = tt } in
     record {
-      whole = record {
-        sound = record {
-          chip = record {
-            receiver = sound_receiver c.fifo c.transmitter.char_ticks c.receiver f.0;
-            transmitter = fits.sound;
-            modem = record { inputs = within _ _ modem.0; lines = within _ _ lines.0; deltas = within _ _ lines.1 };
-            latches = record { ier = within _ _ latches.0; mcr = within _ _ latches.1 };
-            implemented = implemented c.model c.fifo b.0;
-            limit = refl;
-          };
-          foreseen = refl;
-          legal = tt;
-        };
-        bytes = bytes;
-      };
+      whole = record { sound = sound; bytes = bytes };
       no_marks = refl;
       none_lost = refl;
       room = fits.room;

@@ -1,5 +1,7 @@
--- The statuses of the program.
+-- How the program ends.
 use Rattle.std.specs.Prelude.{ℕ}
+use Rattle.uart_language.specs.declared.cause.ScriptError.{ScriptError}
+use Rattle.uart_language.specs.declared.cause.ScriptError.TheVariants as script
 use Rattle.uart_port.specs.declared.end.End.{End}
 use Rattle.uart_port.specs.declared.end.End.TheVariants.{NotAPort, PortTooHigh, Unread, Refused, Event, NoDevice}
 use Rattle.uart_port.specs.declared.end.End.TheVariants.{NoLeave, Fault, Trace, Output, OutOfMemory}
@@ -17,3 +19,8 @@ status_of (Trace cause) = 2
 status_of (Output cause) = 2
 status_of OutOfMemory = 3
 status_of (NoLeave cause) = 4
+
+-- how it ends on a text that is no script
+abbrev pub end_of : ScriptError → End
+end_of (script.Refused line cause) = Refused line cause
+end_of script.OutOfMemory = OutOfMemory

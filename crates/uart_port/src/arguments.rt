@@ -4,7 +4,6 @@ ghost use Rattle.std.specs.Prelude.{IfOk};
 ghost use Rattle.uart_16550.specs.Pio.{IsPortBase};
 
 use crate::end::End;
-use clap::error::ErrorKind;
 use clap::{Arg, ArgMatches, Command, Error};
 use std::alloc::Global;
 use uart_spec::registers::offsets;
@@ -24,21 +23,23 @@ since a port shows none of it.
 Exit status: 0 played, 1 the arguments or the script are refused, 2 a file or a port
 failed, 3 out of memory, 4 no leave to open the device.";
 
+// Returns an option that names a file.
+fn file_option<'a>(alloc: Global, name: &'a str) -> Arg<'a> {
+    Arg::new(alloc, name).long(name).value_name("FILE")
+}
+
 // Returns the command line that the program accepts.
 fn command<'a>(alloc: Global) -> Result<Command<'a>, Error> {
     let port = Arg::new(alloc, "PORT").required(true).help(
         "the chip's first port in hexadecimal digits, as 3f8 or 0x3f8",
     );
     let script = Arg::new(alloc, "SCRIPT").help("the script; without it standard input is read");
-    let device = Arg::new(alloc, "device")
-        .long("device")
-        .value_name("FILE")
+    let device = file_option(alloc, "device")
         .default_value("/dev/port")
         .help("the file that has a byte for each port");
-    let trace = Arg::new(alloc, "trace")
-        .long("trace")
-        .value_name("FILE")
-        .help("writes each call, its accesses and its answer to this file");
+    let trace = file_option(alloc, "trace").help(
+        "writes each call, its accesses and its answer to this file",
+    );
     Ok(
         Command::new(alloc, "uart_port")
             .about(ABOUT)
@@ -50,18 +51,12 @@ fn command<'a>(alloc: Global) -> Result<Command<'a>, Error> {
     )
 }
 
+/// The exit status if the words or the script are refused.
+pub const REFUSED: u8 = 1;
+
 /// Matches the words of the command line with what the program accepts.
 pub fn matched<'a>(alloc: Global, words: &'a [String]) -> Result<ArgMatches<'a>, Error> {
     command(alloc)?.try_get_matches_from(words)
-}
-
-/// Returns the program's status if the words do not match, or if they request the help.
-pub fn unmatched_status(error: &Error) -> u8 {
-    match error.kind() {
-        ErrorKind::DisplayHelp => 0,
-        ErrorKind::OutOfMemory => 3,
-        _ => 1,
-    }
 }
 
 /// The arguments of the program.

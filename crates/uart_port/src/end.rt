@@ -3,7 +3,7 @@
 ghost use Rattle.std.specs.Prelude.{◌≡◌, ◌≢◌};
 ghost use Rattle.std.specs.IoError.{error_kind};
 ghost use Rattle.uart_port.specs.declared.end.End.TheVariants.{OutOfMemory};
-ghost use Rattle.uart_port.specs.Status.{status_of};
+ghost use Rattle.uart_port.specs.Status.{end_of, status_of};
 
 use std::alloc::AllocError;
 use std::io;
@@ -77,6 +77,16 @@ impl End {
         }
     }
 
+    /// Returns why the text is not a script.
+    pub fn unparsed(error: ScriptError) -> Self
+        ensures { result ≡ end_of error }
+    {
+        match error {
+            ScriptError::Refused { line, cause } => End::Refused { line, cause },
+            ScriptError::OutOfMemory => End::OutOfMemory,
+        }
+    }
+
     /// Returns why the device could not be opened.
     pub fn unopened(cause: io::Error) -> Self
         ensures leave { error_kind cause ≡ ErrorKind.PermissionDenied → result ≡ End.NoLeave cause }
@@ -85,15 +95,6 @@ impl End {
         match cause.kind() {
             ErrorKind::PermissionDenied => End::NoLeave(cause),
             _ => End::NoDevice(cause),
-        }
-    }
-}
-
-impl From<ScriptError> for End {
-    fn from(error: ScriptError) -> End {
-        match error {
-            ScriptError::Refused { line, cause } => End::Refused { line, cause },
-            ScriptError::OutOfMemory => End::OutOfMemory,
         }
     }
 }

@@ -1,7 +1,9 @@
 //! Plays the calls of a script on a real chip at an I/O port, through Linux's file of ports.
 #![tactic(auto)]
 
+ghost use Rattle.std.specs.Prelude.{IfOk};
 ghost use Rattle.uart_16550.specs.Pio.{IsPortBase};
+ghost use Rattle.uart_language.specs.Script.{plan_of, IsScript};
 
 mod arguments;
 mod device;
@@ -13,15 +15,15 @@ mod ports;
 mod tests;
 mod trace;
 
-use arguments::{Arguments, matched, unmatched_status};
+use arguments::{Arguments, REFUSED, matched};
 use clap::ArgMatches;
 use device::DeviceFile;
 use end::End;
 use lines::{call_lines, event_line};
 use playing::{Journal, play};
 use ports::{Fault, GuardedPorts};
+use std::alloc::Global;
 use std::fs::File;
-use std::io::Read;
 use std::num::NonZeroU64;
 use std::process::ExitCode;
 use std::{env, io};
@@ -29,21 +31,24 @@ use trace::Trace;
 use uart_16550::backend::PioBackend;
 use uart_16550::{Uart16550, Uart16550Tty};
 use uart_language::limits::MOST_BYTES;
-use uart_language::parse;
+use uart_language::{Script, parse};
+use uart_program::{bytes_of, failed, unmatched};
 
 // The most bytes of a script that are read: one more than the longest has.
 const MOST_READ: u64 = MOST_BYTES as u64 + 1;
 
-// Returns the text of the script, from its file or else from standard input.
-fn script_text(rt: &HostRuntime, path: Option<&str>) -> io::Result<Vec<u8>> {
-    let mut text = Vec::new(rt.alloc());
-    match path {
-        Some(path) => File::open(rt, path)?
-            .take(MOST_READ)
-            .read_to_end(&mut text)?,
-        None => rt.stdin().take(MOST_READ).read_to_end(&mut text)?,
+// Returns the script that a text is, if it has no event.
+fn script_in(alloc: Global, text: &[u8]) -> Result<Script, End>
+    ensures { IfOk result (λ script. IsScript text.now (plan_of script)) }
+{
+    let script = match parse(alloc, text) {
+        Ok(script) => script,
+        Err(error) => return Err(End::unparsed(error)),
     };
-    Ok(text)
+    match event_line(text) {
+        Some(line) => Err(End::Event { line }),
+        None => Ok(script),
+    }
 }
 
 // The file of ports.
@@ -83,11 +88,8 @@ fn terminal_at<'a>(
 // Plays what the command line requests.
 fn played(rt: &HostRuntime, matches: &ArgMatches<'_>) -> Result<(), End> {
     let arguments = Arguments::new(matches)?;
-    let text = script_text(rt, arguments.script).map_err(End::unread)?;
-    let script = parse(rt.alloc(), &text)?;
-    if let Some(line) = event_line(&text) {
-        return Err(End::Event { line });
-    }
+    let text = bytes_of(rt, arguments.script, MOST_READ).map_err(End::unread)?;
+    let script = script_in(rt.alloc(), &text)?;
     let lines = call_lines(rt.alloc(), &text)?;
     let device = device_at(rt, arguments.device)?;
     let file = trace_at(rt, arguments.trace)?;
@@ -106,18 +108,11 @@ fn played(rt: &HostRuntime, matches: &ArgMatches<'_>) -> Result<(), End> {
 
 fn main(rt: HostRuntime) -> io::Result<ExitCode> {
     let words: Vec<String> = env::args(&rt)?.collect(rt.alloc())?;
-    let matches = match matched(rt.alloc(), &words) {
-        Ok(matches) => matches,
-        Err(error) => {
-            error.print(&rt)?;
-            return Ok(ExitCode::from(unmatched_status(&error)));
-        }
-    };
-    match played(&rt, &matches) {
-        Ok(()) => Ok(ExitCode::SUCCESS),
-        Err(end) => {
-            eprintln!(rt; "{end}")?;
-            Ok(ExitCode::from(end.status()))
-        }
+    match matched(rt.alloc(), &words) {
+        Ok(matches) => match played(&rt, &matches) {
+            Ok(()) => Ok(ExitCode::SUCCESS),
+            Err(end) => failed(&rt, &end, end.status()),
+        },
+        Err(error) => unmatched(&rt, &error, REFUSED),
     }
 }

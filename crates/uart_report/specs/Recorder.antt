@@ -1,13 +1,8 @@
 -- A backend that records.
 use Rattle.std.specs.Prelude.{◌≡◌, Bool, true, List, [], ◌∷◌, ◌++◌, map}
-use Rattle.uart_spec.specs.Access.{Access, Read, Write}
-use Rattle.uart_report.specs.declared.recording.Entry.{Entry}
-use Rattle.uart_report.specs.declared.recording.Entry.TheVariants as entry
-
--- the access of an entry
-abbrev pub access_of : Entry → Access
-access_of (entry.Read offset answer) = Read offset answer
-access_of (entry.Write offset value) = Write offset value
+use Rattle.uart_spec.specs.Access.{Access}
+use Rattle.uart_16550.specs.Replay.{access_of}
+use Rattle.uart_16550.specs.declared.replay.Entry.{Entry}
 
 -- a device, and the accesses to it that were recorded: all of them, unless out of memory
 pub record Recorded (B : Type 0) : Type 0 where

@@ -54,6 +54,15 @@ struct Place {
     wants: String,
 }
 
+impl Place {
+    fn new(alloc: Global, column: usize, wants: &str) -> Result<Self, AllocError> {
+        Ok(Place {
+            column,
+            wants: wants.to_string(alloc)?,
+        })
+    }
+}
+
 fn bad_byte(alloc: Global, line: &[u8]) -> Result<Place, AllocError> {
     let index = line
         .iter()
@@ -74,10 +83,7 @@ fn misplaced(alloc: Global, number: u32, line: &[u8]) -> Result<Place, AllocErro
     } else {
         "only line 1 names the chip"
     };
-    Ok(Place {
-        column: 1,
-        wants: wants.to_string(alloc)?,
-    })
+    Place::new(alloc, 1, wants)
 }
 
 fn unknown_word(alloc: Global, line: &[u8]) -> Result<Place, AllocError> {
@@ -86,19 +92,18 @@ fn unknown_word(alloc: Global, line: &[u8]) -> Result<Place, AllocError> {
     } else {
         "a word of the language, as in docs/SCRIPTS.md"
     };
-    Ok(Place {
-        column: 1,
-        wants: wants.to_string(alloc)?,
-    })
+    Place::new(alloc, 1, wants)
 }
 
 fn wrong_count(alloc: Global, line: &[u8]) -> Result<Place, AllocError> {
     let word = word_at(line, 0).unwrap_or(&[]);
     if let Some(empty) = line.split(|b| *b == b' ').position(|word| word.is_empty()) {
-        return Ok(Place {
-            column: column_of(line, empty),
-            wants: "exactly one space between two words, and none at the end".to_string(alloc)?,
-        });
+        let column = column_of(line, empty);
+        return Place::new(
+            alloc,
+            column,
+            "exactly one space between two words, and none at the end",
+        );
     }
     let most = fields_after(word).len() + 1;
     let place = most.min(word_count(line));
@@ -114,10 +119,7 @@ fn bad_field(alloc: Global, line: &[u8]) -> Result<Place, AllocError> {
     let fields = fields_after(word_at(line, 0).unwrap_or(&[]));
     let index = refused_field(alloc, line, fields)?;
     let wants = fields.get(index).map(|field| field.wants()).unwrap_or("");
-    Ok(Place {
-        column: column_of(line, index.saturating_add(1)),
-        wants: wants.to_string(alloc)?,
-    })
+    Place::new(alloc, column_of(line, index.saturating_add(1)), wants)
 }
 
 fn place_of(alloc: Global, number: u32, line: &[u8], cause: Cause) -> Result<Place, AllocError> {
@@ -126,10 +128,7 @@ fn place_of(alloc: Global, number: u32, line: &[u8], cause: Cause) -> Result<Pla
         Cause::Misplaced => misplaced(alloc, number, line),
         Cause::UnknownWord => unknown_word(alloc, line),
         Cause::WrongCount => wrong_count(alloc, line),
-        Cause::TooLong => Ok(Place {
-            column: 1,
-            wants: "a script has at most 4096 lines".to_string(alloc)?,
-        }),
+        Cause::TooLong => Place::new(alloc, 1, "a script has at most 4096 lines"),
         _ => bad_field(alloc, line),
     }
 }

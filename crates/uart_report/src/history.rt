@@ -1,23 +1,20 @@
 //! The history of a run: each call with its answer and its moments.
 ghost use Rattle.uart_language.specs.Script.{plan_of, IsPlayable};
 
+use crate::by_call::ByCall;
 use crate::replay::{Moment, replayed};
 use crate::run::recorded;
 use crate::text::{line_at, printable, word_at};
 use std::alloc::{AllocError, Global};
 use uart_machine::script::Script;
 
-/// A call with its answer and its moments.
+/// A call with its answer.
 #[derive(Drop)]
 pub struct ToldCall {
     /// Its line of the script.
     pub line: String,
     /// Its line of the output.
     pub answer: String,
-    /// The index of its first moment among all moments.
-    pub start: usize,
-    /// The index after its last moment.
-    pub end: usize,
 }
 
 /// A run of a script.
@@ -25,18 +22,13 @@ pub struct ToldCall {
 pub struct History {
     /// The calls.
     pub calls: Vec<ToldCall>,
-    /// The moments of all calls.
-    pub moments: Vec<Moment>,
+    /// The moments of the calls.
+    pub moments: ByCall<Moment>,
     /// The lines of the output after those of the calls: wire, held, waiting and marks.
     pub last: Vec<String>,
 }
 
 impl History {
-    /// Returns the moments of a call.
-    pub fn moments_of(&self, call: &ToldCall) -> &[Moment] {
-        self.moments.get(call.start..call.end).unwrap_or(&[])
-    }
-
     /// Returns the letter of an arrival's mark at the end of the run.
     pub fn mark(&self, arrival: usize) -> char {
         let marks = self.last.last().map(|line| line.as_str()).unwrap_or("");
@@ -66,17 +58,10 @@ pub fn told(
     let mut lines = text.split(|b| *b == b'\n').filter(|line| is_call(line));
     let mut answers = output.split(|b| *b == b'\n');
     let mut calls = Vec::new(alloc);
-    let mut start = 0;
-    for end in &moments.ends {
+    for _ in script.calls() {
         let line = printable(alloc, lines.next().unwrap_or(&[]))?;
         let answer = printable(alloc, answers.next().unwrap_or(&[]))?;
-        calls.push(ToldCall {
-            line,
-            answer,
-            start,
-            end: *end,
-        })?;
-        start = *end;
+        calls.push(ToldCall { line, answer })?;
     }
     let mut last = Vec::new(alloc);
     for _ in 0..4 {
@@ -84,7 +69,7 @@ pub fn told(
     }
     Ok(History {
         calls,
-        moments: moments.all,
+        moments,
         last,
     })
 }

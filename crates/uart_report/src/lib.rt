@@ -4,6 +4,7 @@
 //! Everything here goes from bytes to text. The program reads the file and prints.
 #![tactic(auto)]
 
+mod by_call;
 mod comments;
 mod fault;
 mod grammar;
@@ -20,6 +21,6 @@ mod text;
 mod trace;
 
 pub use comments::without_comments;
-pub use recording::{Entry, Recorder};
+pub use recording::Recorder;
 pub use reporting::{Report, report_on};
 pub use request::{Form, Request, Task};

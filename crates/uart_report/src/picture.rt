@@ -1,10 +1,10 @@
 //! The timeline of a run as an SVG picture.
 
 use crate::history::History;
-use crate::recording::Entry;
 use crate::shown::{Shown, merged};
 use std::alloc::{AllocError, Global};
 use std::fmt::Write;
+use uart_16550::replay::Entry;
 
 // The width of a moment, how many of them are in a row, and the room for names to the left of them.
 const COLUMN: usize = 26;
@@ -86,11 +86,11 @@ impl Lane {
         let moment = shown.moment;
         match self {
             Lane::Call | Lane::Access | Lane::Tick => true,
-            Lane::Arrives => moment.arrival.is_some(),
+            Lane::Arrives => moment.happened.arrival.is_some(),
             Lane::Waiting => moment.waiting > 0,
-            Lane::Lines => moment.lines.is_some(),
+            Lane::Lines => moment.happened.lines.is_some(),
             Lane::Held => moment.held > 0,
-            Lane::Wire => moment.sent.is_some(),
+            Lane::Wire => moment.happened.sent.is_some(),
         }
     }
 
@@ -102,8 +102,8 @@ impl Lane {
 
 fn cells_of(alloc: Global, history: &History) -> Result<Vec<Cell>, AllocError> {
     let mut cells = Vec::new(alloc);
-    for (call, told) in history.calls.iter().enumerate() {
-        let moments = merged(alloc, history.moments_of(told))?;
+    for call in 0..history.calls.len() {
+        let moments = merged(alloc, history.moments.of(call))?;
         if moments.is_empty() {
             cells.push(Cell { call, shown: None })?;
         }
@@ -155,12 +155,12 @@ fn push_bar(text: &mut String, class: &str, count: usize) -> Result<(), AllocErr
 }
 
 fn push_access(text: &mut String, shown: Shown) -> Result<(), AllocError> {
-    let Some(seen) = shown.moment.access else {
+    let Some(seen) = shown.moment.happened.access else {
         return Ok(());
     };
     let (class, value) = match seen.access {
-        Entry::Read { answer, .. } => ("r", answer),
-        Entry::Write { value, .. } => ("w", value),
+        Entry::Read(_, answer) => ("r", answer),
+        Entry::Write(_, value) => ("w", value),
     };
     let register = seen.register;
     write!(
@@ -181,158 +181,132 @@ fn push_access(text: &mut String, shown: Shown) -> Result<(), AllocError> {
     Ok(())
 }
 
-// What a row shows of a moment.
-fn push_moment(
+// What is drawn, and as much of the picture as is written.
+#[derive(Drop)]
+struct Drawing<'a> {
     alloc: Global,
-    text: &mut String,
-    history: &History,
-    lane: Lane,
-    shown: Shown,
-) -> Result<(), AllocError> {
-    let moment = shown.moment;
-    match lane {
-        Lane::Call => Ok(()),
-        Lane::Access => push_access(text, shown),
-        Lane::Arrives => match moment.arrival {
-            Some(arrival) => {
-                let byte = arrival.byte;
-                let mark = history.mark(arrival.number);
-                push_box(text, "a", &format!(in alloc; "{byte:02x}{mark}")?)
+    history: &'a History,
+    text: String,
+}
+
+impl Drawing<'_> {
+    // What a row shows of a moment.
+    fn push_moment(&mut self, lane: Lane, shown: Shown) -> Result<(), AllocError> {
+        let moment = shown.moment;
+        match lane {
+            Lane::Call => Ok(()),
+            Lane::Access => push_access(&mut self.text, shown),
+            Lane::Arrives => match moment.happened.arrival {
+                Some(arrival) => {
+                    let byte = arrival.byte;
+                    let mark = self.history.mark(arrival.number);
+                    push_box(
+                        &mut self.text,
+                        "a",
+                        &format!(in self.alloc; "{byte:02x}{mark}")?,
+                    )
+                }
+                None => Ok(()),
+            },
+            Lane::Waiting => push_bar(&mut self.text, "b", moment.waiting),
+            Lane::Lines => match moment.happened.lines {
+                Some(lines) => {
+                    let digit = lines / 16;
+                    push_box(&mut self.text, "a", &format!(in self.alloc; "{digit:x}")?)
+                }
+                None => Ok(()),
+            },
+            Lane::Held => push_bar(&mut self.text, "h", moment.held),
+            Lane::Wire => match moment.happened.sent {
+                Some(byte) => push_box(&mut self.text, "o", &format!(in self.alloc; "{byte:02x}")?),
+                None => Ok(()),
+            },
+            Lane::Tick => {
+                let tick = moment.tick;
+                writeln!(
+                    self.text,
+                    "<text class=\"m s\" x=\"13\" y=\"10\">{tick}</text>"
+                )
             }
-            None => Ok(()),
-        },
-        Lane::Waiting => push_bar(text, "b", moment.waiting),
-        Lane::Lines => match moment.lines {
-            Some(lines) => {
-                let digit = lines / 16;
-                push_box(text, "a", &format!(in alloc; "{digit:x}")?)
+        }
+    }
+
+    fn push_lane(&mut self, lane: Lane, cells: &[Cell]) -> Result<(), AllocError> {
+        for (i, cell) in cells.iter().enumerate() {
+            if let Some(shown) = cell.shown.filter(|_| lane.is_used(cell)) {
+                let x = COLUMN.saturating_mul(i);
+                writeln!(self.text, "<g transform=\"translate({x},0)\">")?;
+                self.push_moment(lane, shown)?;
+                writeln!(self.text, "</g>")?;
             }
-            None => Ok(()),
-        },
-        Lane::Held => push_bar(text, "h", moment.held),
-        Lane::Wire => match moment.sent {
-            Some(byte) => push_box(text, "o", &format!(in alloc; "{byte:02x}")?),
-            None => Ok(()),
-        },
-        Lane::Tick => {
-            let tick = moment.tick;
-            writeln!(text, "<text class=\"m s\" x=\"13\" y=\"10\">{tick}</text>")
         }
+        Ok(())
     }
-}
 
-fn push_lane(
-    alloc: Global,
-    text: &mut String,
-    history: &History,
-    lane: Lane,
-    cells: &[Cell],
-) -> Result<(), AllocError> {
-    for (i, cell) in cells.iter().enumerate() {
-        if let Some(shown) = cell.shown.filter(|_| lane.is_used(cell)) {
-            let x = COLUMN.saturating_mul(i);
-            writeln!(text, "<g transform=\"translate({x},0)\">")?;
-            push_moment(alloc, text, history, lane, shown)?;
-            writeln!(text, "</g>")?;
-        }
-    }
-    Ok(())
-}
-
-// A call over its columns.
-fn push_call(
-    alloc: Global,
-    text: &mut String,
-    history: &History,
-    call: usize,
-    first: usize,
-    columns: usize,
-) -> Result<(), AllocError> {
-    let Some(told) = history.calls.get(call) else {
-        return Ok(());
-    };
-    let (line, answer) = (&told.line, &told.answer);
-    let words = format!(in alloc; "{line} = {answer}")?;
-    let x = COLUMN.saturating_mul(first).saturating_add(1);
-    let width = COLUMN.saturating_mul(columns).saturating_sub(2);
-    let inner = x.saturating_add(3);
-    write!(
-        text,
-        "<rect class=\"c\" x=\"{x}\" y=\"0\" width=\"{width}\" height=\"17\"/><text x=\"{inner}\" y=\"12\"><title>"
-    )?;
-    push_text(text, &words, usize::MAX)?;
-    text.push_str("</title>")?;
-    push_text(text, &words, width.saturating_sub(4))?;
-    writeln!(text, "</text>")
-}
-
-fn push_calls(
-    alloc: Global,
-    text: &mut String,
-    history: &History,
-    cells: &[Cell],
-) -> Result<(), AllocError> {
-    let mut first = 0;
-    for (i, cell) in cells.iter().enumerate() {
-        let next = cells.get(i.saturating_add(1)).map(|next| next.call);
-        if next != Some(cell.call) {
-            let end = i.saturating_add(1);
-            push_call(
-                alloc,
-                text,
-                history,
-                cell.call,
-                first,
-                end.saturating_sub(first),
-            )?;
-            first = end;
-        }
-    }
-    Ok(())
-}
-
-// The rows of some moments, and how high they are together.
-fn push_band(
-    alloc: Global,
-    text: &mut String,
-    history: &History,
-    lanes: &[Lane],
-    cells: &[Cell],
-) -> Result<usize, AllocError> {
-    let mut y = 0usize;
-    for lane in lanes {
-        let name = lane.name();
-        writeln!(
-            text,
-            "<g transform=\"translate({LEFT},{y})\"><text class=\"n\" x=\"-64\" y=\"12\">{name}</text>"
+    // A call over its columns.
+    fn push_call(&mut self, call: usize, first: usize, columns: usize) -> Result<(), AllocError> {
+        let Some(told) = self.history.calls.get(call) else {
+            return Ok(());
+        };
+        let (line, answer) = (&told.line, &told.answer);
+        let words = format!(in self.alloc; "{line} = {answer}")?;
+        let x = COLUMN.saturating_mul(first).saturating_add(1);
+        let width = COLUMN.saturating_mul(columns).saturating_sub(2);
+        let inner = x.saturating_add(3);
+        write!(
+            self.text,
+            "<rect class=\"c\" x=\"{x}\" y=\"0\" width=\"{width}\" height=\"17\"/><text x=\"{inner}\" y=\"12\"><title>"
         )?;
-        if *lane == Lane::Call {
-            push_calls(alloc, text, history, cells)?;
-        } else {
-            push_lane(alloc, text, history, *lane, cells)?;
-        }
-        writeln!(text, "</g>")?;
-        y = y.saturating_add(lane.height());
+        push_text(&mut self.text, &words, usize::MAX)?;
+        self.text.push_str("</title>")?;
+        push_text(&mut self.text, &words, width.saturating_sub(4))?;
+        writeln!(self.text, "</text>")
     }
-    Ok(y)
-}
 
-// All bands, one below the other, and where they end.
-fn push_bands(
-    alloc: Global,
-    text: &mut String,
-    history: &History,
-    lanes: &[Lane],
-    cells: &[Cell],
-) -> Result<usize, AllocError> {
-    let mut y = 36usize;
-    for band in cells.chunks(COLUMNS) {
-        writeln!(text, "<g transform=\"translate(0,{y})\">")?;
-        let height = push_band(alloc, text, history, lanes, band)?;
-        writeln!(text, "</g>")?;
-        y = y.saturating_add(height);
+    fn push_calls(&mut self, cells: &[Cell]) -> Result<(), AllocError> {
+        let mut first = 0;
+        for (i, cell) in cells.iter().enumerate() {
+            let end = i.saturating_add(1);
+            let next = cells.get(end).map(|next| next.call);
+            if next != Some(cell.call) {
+                self.push_call(cell.call, first, end.saturating_sub(first))?;
+                first = end;
+            }
+        }
+        Ok(())
     }
-    Ok(y)
+
+    // The rows of some moments, and how high they are together.
+    fn push_band(&mut self, lanes: &[Lane], cells: &[Cell]) -> Result<usize, AllocError> {
+        let mut y = 0usize;
+        for lane in lanes {
+            let name = lane.name();
+            writeln!(
+                self.text,
+                "<g transform=\"translate({LEFT},{y})\"><text class=\"n\" x=\"-64\" y=\"12\">{name}</text>"
+            )?;
+            if *lane == Lane::Call {
+                self.push_calls(cells)?;
+            } else {
+                self.push_lane(*lane, cells)?;
+            }
+            writeln!(self.text, "</g>")?;
+            y = y.saturating_add(lane.height());
+        }
+        Ok(y)
+    }
+
+    // All bands, one below the other, and where they end.
+    fn push_bands(&mut self, lanes: &[Lane], cells: &[Cell]) -> Result<usize, AllocError> {
+        let mut y = 36usize;
+        for band in cells.chunks(COLUMNS) {
+            writeln!(self.text, "<g transform=\"translate(0,{y})\">")?;
+            let height = self.push_band(lanes, band)?;
+            writeln!(self.text, "</g>")?;
+            y = y.saturating_add(height);
+        }
+        Ok(y)
+    }
 }
 
 /// Returns the timeline as a picture: for each moment a column, in as many rows of columns as necessary.
@@ -344,8 +318,13 @@ pub fn picture(alloc: Global, history: &History, title: &str) -> Result<String, 
             lanes.push(lane)?;
         }
     }
-    let mut body = String::new(alloc);
-    let mut y = push_bands(alloc, &mut body, history, &lanes, &cells)?;
+    let mut drawing = Drawing {
+        alloc,
+        history,
+        text: String::new(alloc),
+    };
+    let mut y = drawing.push_bands(&lanes, &cells)?;
+    let mut body = drawing.text;
     for line in &history.last {
         write!(body, "<text x=\"10\" y=\"{y}\">")?;
         push_text(&mut body, line, WIDTH - 20)?;

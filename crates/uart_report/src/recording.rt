@@ -1,29 +1,12 @@
 //! A backend that records the accesses that are made through it.
 ghost use Rattle.std.specs.Prelude.{◌≡◌, ◌∷◌, [], ◌++◌, true, IfOk, is_err, not, map};
-ghost use Rattle.uart_report.specs.Recorder.{RecordsStep, access_of};
+ghost use Rattle.uart_16550.specs.Replay.{access_of};
+ghost use Rattle.uart_report.specs.Recorder.{RecordsStep};
 
 use std::alloc::{AllocError, Global};
 use std::marker::Model;
 use uart_16550::backend::Backend;
-
-/// An access to a register.
-#[derive(Clone, Copy, Debug, PartialEq, Eq)]
-pub enum Entry {
-    /// A read of the register at this offset, and the byte that it returned.
-    Read {
-        /// The offset of the register.
-        offset: u8,
-        /// The byte that was read.
-        answer: u8,
-    },
-    /// A write of this byte to the register at this offset.
-    Write {
-        /// The offset of the register.
-        offset: u8,
-        /// The byte that was written.
-        value: u8,
-    },
-}
+use uart_16550::replay::Entry;
 
 /// A backend over another one, with a list of the accesses that it made.
 #[derive(Drop)]
@@ -91,18 +74,12 @@ impl<B: Backend> Backend for Recorder<B> {
 
     fn read(&mut self, register_offset: u8) -> u8 {
         let answer = self.device.read(register_offset);
-        self.keep(Entry::Read {
-            offset: register_offset,
-            answer,
-        });
+        self.keep(Entry::Read(register_offset as usize, answer));
         answer
     }
 
     fn write(&mut self, register_offset: u8, value: u8) {
         self.device.write(register_offset, value);
-        self.keep(Entry::Write {
-            offset: register_offset,
-            value,
-        });
+        self.keep(Entry::Write(register_offset as usize, value));
     }
 }

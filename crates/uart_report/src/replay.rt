@@ -1,16 +1,17 @@
 //! Plays a recording again, tick by tick, and notes when each event happened.
 
-use crate::recording::Entry;
-use crate::run::{Recording, machine_for};
+use crate::by_call::ByCall;
+use crate::run::machine_for;
 use bitflags::Flags;
 use std::alloc::{AllocError, Global};
 use uart_16550::backend::Backend;
+use uart_16550::replay::Entry;
 use uart_machine::script::Script;
 use uart_machine::{Call, Device16550, Event};
 use uart_spec::registers::{LCR, offsets};
 
 /// An access, with the name of its register.
-#[derive(Clone, Copy)]
+#[derive(Clone, Copy, PartialEq)]
 pub struct Seen {
     /// The access.
     pub access: Entry,
@@ -19,7 +20,7 @@ pub struct Seen {
 }
 
 /// A byte that arrived.
-#[derive(Clone, Copy)]
+#[derive(Clone, Copy, PartialEq)]
 pub struct Arrival {
     /// The byte.
     pub byte: u8,
@@ -27,13 +28,9 @@ pub struct Arrival {
     pub number: usize,
 }
 
-/// What happened at one tick, up to an access if there is one.
-#[derive(Clone, Copy)]
-pub struct Moment {
-    /// The tick, counted from power-on.
-    pub tick: u64,
-    /// The call that was running, counted from 0.
-    pub call: usize,
+/// What happens at one tick, up to an access if there is one.
+#[derive(Clone, Copy, Default, PartialEq)]
+pub struct Happened {
     /// The byte that was sent.
     pub sent: Option<u8>,
     /// The byte that arrived.
@@ -42,13 +39,9 @@ pub struct Moment {
     pub lines: Option<u8>,
     /// The access.
     pub access: Option<Seen>,
-    /// The number of bytes in the transmitter after that.
-    pub held: usize,
-    /// The number of bytes in the receiver after that.
-    pub waiting: usize,
 }
 
-impl Moment {
+impl Happened {
     /// Returns whether nothing but the access happened.
     pub fn is_access_alone(&self) -> bool {
         self.access.is_some()
@@ -56,13 +49,21 @@ impl Moment {
             && self.arrival.is_none()
             && self.lines.is_none()
     }
+}
 
-    fn is_empty(&self) -> bool {
-        self.access.is_none()
-            && self.sent.is_none()
-            && self.arrival.is_none()
-            && self.lines.is_none()
-    }
+/// A tick at which something happened.
+#[derive(Clone, Copy, Default)]
+pub struct Moment {
+    /// The tick, counted from power-on.
+    pub tick: u64,
+    /// The call that was running, counted from 0.
+    pub call: usize,
+    /// What happened.
+    pub happened: Happened,
+    /// The number of bytes in the transmitter after that.
+    pub held: usize,
+    /// The number of bytes in the receiver after that.
+    pub waiting: usize,
 }
 
 // A schedule in which each event of the chip is between two marks: `next` twice performs one, and before it each access of
@@ -82,8 +83,8 @@ fn spread(alloc: Global, events: &[Event]) -> Result<Vec<Event>, AllocError> {
 // Returns the name of the register of an access.
 fn register_of(access: Entry, is_dlab_set: bool) -> &'static str {
     let (offset, is_read) = match access {
-        Entry::Read { offset, .. } => (offset as usize, true),
-        Entry::Write { offset, .. } => (offset as usize, false),
+        Entry::Read(offset, _) => (offset, true),
+        Entry::Write(offset, _) => (offset, false),
     };
     match offset {
         offsets::DLL if is_dlab_set => "DLL",
@@ -118,13 +119,10 @@ struct Replay<'a> {
 impl Replay<'_> {
     // Keeps the current moment if anything happened in it, and starts another.
     fn close(&mut self) -> Result<(), AllocError> {
-        if !self.current.is_empty() {
+        if self.current.happened != Happened::default() {
             self.moments.push(self.current)?;
         }
-        self.current.sent = None;
-        self.current.arrival = None;
-        self.current.lines = None;
-        self.current.access = None;
+        self.current.happened = Happened::default();
         Ok(())
     }
 
@@ -146,7 +144,7 @@ impl Replay<'_> {
     fn note_sent(&mut self) {
         if let Some(byte) = self.device.wire().get(self.sent).copied() {
             self.sent += 1;
-            self.current.sent = Some(byte);
+            self.current.happened.sent = Some(byte);
         }
         self.count();
     }
@@ -180,22 +178,22 @@ impl Replay<'_> {
     }
 
     fn arrive(&mut self, byte: u8) -> Result<(), AllocError> {
-        if self.current.arrival.is_some() {
+        if self.current.happened.arrival.is_some() {
             self.close()?;
         }
         self.happen();
         let number = self.arrivals;
         self.arrivals = number.saturating_add(1);
-        self.current.arrival = Some(Arrival { byte, number });
+        self.current.happened.arrival = Some(Arrival { byte, number });
         Ok(())
     }
 
     fn turn(&mut self, lines: u8) -> Result<(), AllocError> {
-        if self.current.lines.is_some() {
+        if self.current.happened.lines.is_some() {
             self.close()?;
         }
         self.happen();
-        self.current.lines = Some(lines);
+        self.current.happened.lines = Some(lines);
         Ok(())
     }
 
@@ -250,12 +248,12 @@ impl Replay<'_> {
     // Makes an access on the device.
     fn reach(&mut self, access: Entry) {
         match access {
-            Entry::Read { offset, .. } => {
-                self.device.read(offset % 8);
+            Entry::Read(offset, _) => {
+                self.device.read((offset % 8) as u8);
             }
-            Entry::Write { offset, value } => {
-                self.device.write(offset % 8, value);
-                if offset as usize == offsets::LCR {
+            Entry::Write(offset, value) => {
+                self.device.write((offset % 8) as u8, value);
+                if offset == offsets::LCR {
                     self.is_dlab_set = LCR::from_bits_retain(value).contains(LCR::DLAB);
                 }
             }
@@ -273,7 +271,7 @@ impl Replay<'_> {
             self.reach(access);
         }
         self.note_sent();
-        self.current.access = Some(Seen { access, register });
+        self.current.happened.access = Some(Seen { access, register });
         self.close()
     }
 
@@ -290,21 +288,12 @@ impl Replay<'_> {
     }
 }
 
-/// The moments of a run.
-#[derive(Drop)]
-pub struct Moments {
-    /// The moments of all calls.
-    pub all: Vec<Moment>,
-    /// How many moments there were when each call returned.
-    pub ends: Vec<usize>,
-}
-
-/// Plays the recording of a script again, and returns its moments.
+/// Plays a script again, whose run made these accesses, and returns its moments.
 pub fn replayed(
     alloc: Global,
     script: &Script,
-    recording: &Recording,
-) -> Result<Moments, AllocError> {
+    accesses: &ByCall<Entry>,
+) -> Result<ByCall<Moment>, AllocError> {
     let schedule = spread(alloc, script.events())?;
     let mut replay = Replay {
         device: machine_for(alloc, script, schedule)?,
@@ -314,28 +303,15 @@ pub fn replayed(
         sent: 0,
         arrivals: 0,
         is_dlab_set: false,
-        current: Moment {
-            tick: 0,
-            call: 0,
-            sent: None,
-            arrival: None,
-            lines: None,
-            access: None,
-            held: 0,
-            waiting: 0,
-        },
+        current: Moment::default(),
         moments: Vec::new(alloc),
     };
     let mut ends = Vec::new(alloc);
-    let mut start = 0;
     for (number, call) in script.calls().iter().enumerate() {
-        let end = recording.ends.get(number).copied().unwrap_or(start);
-        let accesses = recording.accesses.get(start..end).unwrap_or(&[]);
-        replay.call(number, call, accesses)?;
+        replay.call(number, call, accesses.of(number))?;
         ends.push(replay.moments.len())?;
-        start = end;
     }
-    Ok(Moments {
+    Ok(ByCall {
         all: replay.moments,
         ends,
     })

@@ -3,20 +3,13 @@ ghost use Rattle.std.specs.Prelude.{All};
 ghost use Rattle.uart_language.specs.Script.{plan_of, IsPlayable};
 ghost use Rattle.uart_calls.specs.Calls.{IsRunnable};
 
-use crate::recording::{Entry, Recorder};
+use crate::by_call::ByCall;
+use crate::recording::Recorder;
 use std::alloc::{AllocError, Global};
+use uart_16550::replay::Entry;
 use uart_16550::{Uart16550, Uart16550Tty};
 use uart_machine::script::Script;
 use uart_machine::{Answer, Call, Device16550, Event, perform};
-
-/// The accesses of each call of a run.
-#[derive(Drop)]
-pub struct Recording {
-    /// The accesses of all calls.
-    pub accesses: Vec<Entry>,
-    /// How many accesses had been made when each call returned.
-    pub ends: Vec<usize>,
-}
 
 /// Returns the machine of the script, under this schedule.
 pub fn machine_for(
@@ -63,7 +56,7 @@ fn make_all(
 }
 
 /// Runs a script, and returns its accesses.
-pub fn recorded(alloc: Global, script: &Script) -> Result<Recording, AllocError>
+pub fn recorded(alloc: Global, script: &Script) -> Result<ByCall<Entry>, AllocError>
     requires { IsPlayable (plan_of script.now) }
 {
     let schedule = script.events().to_vec(alloc)?;
@@ -72,6 +65,6 @@ pub fn recorded(alloc: Global, script: &Script) -> Result<Recording, AllocError>
     uart.set_spin_limit(script.limit());
     let mut terminal = Uart16550Tty::from_inner(uart);
     let ends = make_all(alloc, &mut terminal, script.calls())?;
-    let accesses = terminal.inner().backend().entries()?.to_vec(alloc)?;
-    Ok(Recording { accesses, ends })
+    let all = terminal.inner().backend().entries()?.to_vec(alloc)?;
+    Ok(ByCall { all, ends })
 }

@@ -14,13 +14,8 @@ pub struct Shown {
 
 // Returns whether it is the same access again, with nothing else.
 fn is_again(last: &Moment, next: &Moment) -> bool {
-    let accesses = match (last.access, next.access) {
-        (Some(last), Some(next)) => last.access == next.access && last.register == next.register,
-        _ => false,
-    };
-    accesses
-        && last.is_access_alone()
-        && next.is_access_alone()
+    last.happened.is_access_alone()
+        && last.happened == next.happened
         && last.held == next.held
         && last.waiting == next.waiting
 }

@@ -1,11 +1,11 @@
 //! The timeline of a run as a table, for a terminal.
 
-use crate::history::{History, ToldCall};
-use crate::recording::Entry;
+use crate::history::History;
 use crate::replay::{Moment, Seen};
 use crate::shown::{Shown, merged};
 use std::alloc::{AllocError, Global};
 use std::fmt::Write;
+use uart_16550::replay::Entry;
 
 const HEAD: &str = "    tick  access              wire  arrives  lines  held  waiting\n";
 
@@ -14,8 +14,8 @@ fn push_access(text: &mut String, seen: Option<Seen>, times: usize) -> Result<()
         return write!(text, "                  ");
     };
     let (letter, value) = match seen.access {
-        Entry::Read { answer, .. } => ('r', answer),
-        Entry::Write { value, .. } => ('w', value),
+        Entry::Read(_, answer) => ('r', answer),
+        Entry::Write(_, value) => ('w', value),
     };
     let register = seen.register;
     write!(text, "{letter} {register:<4} {value:02x}")?;
@@ -28,14 +28,14 @@ fn push_access(text: &mut String, seen: Option<Seen>, times: usize) -> Result<()
 
 fn push_row(text: &mut String, history: &History, shown: &Shown) -> Result<(), AllocError> {
     let moment = shown.moment;
-    let tick = moment.tick;
+    let (tick, happened) = (moment.tick, moment.happened);
     write!(text, "{tick:>8}  ")?;
-    push_access(text, moment.access, shown.times)?;
-    match moment.sent {
+    push_access(text, happened.access, shown.times)?;
+    match happened.sent {
         Some(byte) => write!(text, "    {byte:02x}")?,
         None => write!(text, "      ")?,
     }
-    match moment.arrival {
+    match happened.arrival {
         Some(arrival) => {
             let byte = arrival.byte;
             let mark = history.mark(arrival.number);
@@ -43,7 +43,7 @@ fn push_row(text: &mut String, history: &History, shown: &Shown) -> Result<(), A
         }
         None => write!(text, "         ")?,
     }
-    match moment.lines {
+    match happened.lines {
         Some(lines) => {
             let digit = lines / 16;
             write!(text, "      {digit:x}")?;
@@ -54,15 +54,13 @@ fn push_row(text: &mut String, history: &History, shown: &Shown) -> Result<(), A
     writeln!(text, "{held:>6}{waiting:>9}")
 }
 
-fn push_call(
+fn push_rows(
     alloc: Global,
     text: &mut String,
     history: &History,
-    call: &ToldCall,
+    moments: &[Moment],
 ) -> Result<(), AllocError> {
-    let (line, answer) = (&call.line, &call.answer);
-    writeln!(text, "{line} = {answer}")?;
-    for row in &merged(alloc, history.moments_of(call))? {
+    for row in &merged(alloc, moments)? {
         push_row(text, history, row)?;
     }
     Ok(())
@@ -72,8 +70,10 @@ fn push_call(
 pub fn table(alloc: Global, history: &History) -> Result<String, AllocError> {
     let mut text = String::new(alloc);
     text.push_str(HEAD)?;
-    for call in &history.calls {
-        push_call(alloc, &mut text, history, call)?;
+    for (number, call) in history.calls.iter().enumerate() {
+        let (line, answer) = (&call.line, &call.answer);
+        writeln!(text, "{line} = {answer}")?;
+        push_rows(alloc, &mut text, history, history.moments.of(number))?;
     }
     for line in &history.last {
         writeln!(text, "{line}")?;

@@ -1,23 +1,23 @@
 //! The accesses of a run, call by call.
 
 use crate::history::{History, ToldCall};
-use crate::recording::Entry;
 use crate::replay::{Moment, Seen};
 use std::alloc::{AllocError, Global};
 use std::fmt::Write;
+use uart_16550::replay::Entry;
 
 // Appends what happened besides the access, as remarks.
 fn push_events(text: &mut String, history: &History, moment: &Moment) -> Result<(), AllocError> {
     let tick = moment.tick;
-    if let Some(byte) = moment.sent {
+    if let Some(byte) = moment.happened.sent {
         writeln!(text, "# tick {tick}: {byte:02x} is on the wire")?;
     }
-    if let Some(arrival) = moment.arrival {
+    if let Some(arrival) = moment.happened.arrival {
         let byte = arrival.byte;
         let mark = history.mark(arrival.number);
         writeln!(text, "# tick {tick}: {byte:02x} arrives, mark {mark}")?;
     }
-    if let Some(lines) = moment.lines {
+    if let Some(lines) = moment.happened.lines {
         let digit = lines / 16;
         writeln!(text, "# tick {tick}: the modem lines are {digit:x}")?;
     }
@@ -27,10 +27,10 @@ fn push_events(text: &mut String, history: &History, moment: &Moment) -> Result<
 fn push_access(text: &mut String, tick: u64, seen: Seen) -> Result<(), AllocError> {
     let register = seen.register;
     match seen.access {
-        Entry::Read { offset, answer } => {
+        Entry::Read(offset, answer) => {
             writeln!(text, "r {offset} {answer:02x} # {register}, tick {tick}")
         }
-        Entry::Write { offset, value } => {
+        Entry::Write(offset, value) => {
             writeln!(text, "w {offset} {value:02x} # {register}, tick {tick}")
         }
     }
@@ -48,13 +48,13 @@ fn is_of_the_driver(call: &ToldCall) -> bool {
 /// `next`: a trace has calls of the driver.
 pub fn trace(alloc: Global, history: &History) -> Result<String, AllocError> {
     let mut text = String::new(alloc);
-    for call in &history.calls {
+    for (number, call) in history.calls.iter().enumerate() {
         let remark = if is_of_the_driver(call) { "" } else { "# " };
         let line = &call.line;
         writeln!(text, "{remark}{line}")?;
-        for moment in history.moments_of(call) {
+        for moment in history.moments.of(number) {
             push_events(&mut text, history, moment)?;
-            if let Some(seen) = moment.access {
+            if let Some(seen) = moment.happened.access {
                 push_access(&mut text, moment.tick, seen)?;
             }
         }

@@ -1,13 +1,15 @@
 //! How the program ends.
 ghost use Rattle.std.specs.Prelude.{◌≡◌};
-ghost use Rattle.uart_trace.specs.declared.end.End.TheVariants.{OutOfMemory};
 ghost use Rattle.uart_trace.specs.Status.{status_of};
 
-use std::alloc::AllocError;
 use std::io;
 use std::io::ErrorKind;
 use thiserror::Error;
+use uart_program::OUT_OF_MEMORY;
 use uart_traces::TraceError;
+
+/// The exit status if the arguments are refused, or if what is read is no trace.
+pub const REFUSED: u8 = 2;
 
 /// Why a trace was not checked.
 #[derive(Clone, Copy, Debug, Drop, Error)]
@@ -18,12 +20,9 @@ pub enum End {
     /// The trace could not be read.
     #[error("the trace cannot be read: {0}")]
     Unread(io::Error),
-    /// What was read is not a trace.
+    /// What was read is not a trace, or memory for it could not be allocated.
     #[error("{0}")]
-    NoTrace(TraceError),
-    /// Memory for the trace could not be allocated.
-    #[error("out of memory")]
-    OutOfMemory,
+    NoTrace(#[from] TraceError),
 }
 
 impl End {
@@ -32,33 +31,16 @@ impl End {
         ensures { result ≡ status_of self }
     {
         match self {
-            End::NoLimit | End::Unread(_) | End::NoTrace(_) => 2,
-            End::OutOfMemory => 3,
+            End::NoTrace(TraceError::OutOfMemory) => OUT_OF_MEMORY,
+            End::NoLimit | End::Unread(_) | End::NoTrace(_) => REFUSED,
         }
     }
 
     /// Returns why the trace could not be read.
     pub fn unread(cause: io::Error) -> Self {
         match cause.kind() {
-            ErrorKind::OutOfMemory => End::OutOfMemory,
+            ErrorKind::OutOfMemory => End::NoTrace(TraceError::OutOfMemory),
             _ => End::Unread(cause),
         }
-    }
-}
-
-impl From<TraceError> for End {
-    fn from(error: TraceError) -> End {
-        match error {
-            TraceError::OutOfMemory => End::OutOfMemory,
-            _ => End::NoTrace(error),
-        }
-    }
-}
-
-impl From<AllocError> for End {
-    ghost from_gives = { λ _ end. end ≡ OutOfMemory };
-
-    fn from(_error: AllocError) -> End {
-        End::OutOfMemory
     }
 }

@@ -13,28 +13,10 @@ use std::io::Write;
 use std::num::NonZeroU64;
 use std::path::Path;
 use std::process::ExitCode;
-use std::{env, fs, io};
+use std::{env, io};
 use uart_16550::DEFAULT_SPIN_LIMIT;
+use uart_stored::{bytes_and_output, bytes_of, names_in};
 use uart_traces::{TraceError, judge, parse, push_stray};
-
-// Returns the names of the folder's files with this ending, in order.
-fn names_in(rt: &HostRuntime, folder: Path<'_>, ending: &str) -> io::Result<Vec<String>> {
-    let mut names = Vec::new(rt.alloc());
-    for entry in fs::read_dir(rt, folder)? {
-        let entry = entry?;
-        if let Some(name) = entry.file_name().strip_suffix(ending) {
-            names.push(name.to_string(rt.alloc())?)?;
-        }
-    }
-    names.sort()?;
-    Ok(names)
-}
-
-// Returns the bytes of a file of the folder.
-fn bytes_of(rt: &HostRuntime, folder: Path<'_>, name: &str, ending: &str) -> io::Result<Vec<u8>> {
-    let file = format!(in rt.alloc(); "{name}.{ending}")?;
-    fs::read(rt, folder.join(rt.alloc(), file.as_str())?)
-}
 
 // Returns what is printed for a trace, if it strays.
 fn stray_line(alloc: Global, bytes: &[u8]) -> Result<Vec<u8>, TraceError> {
@@ -62,15 +44,14 @@ fn told(alloc: Global, lines: Result<Vec<u8>, TraceError>) -> io::Result<Vec<u8>
 
 // Returns whether what is stored is printed for the trace of this name.
 fn is_as_stored(rt: &HostRuntime, folder: Path<'_>, name: &str) -> io::Result<bool> {
-    let trace = bytes_of(rt, folder, name, "trace")?;
-    let stored = bytes_of(rt, folder, name, "out")?;
+    let (trace, stored) = bytes_and_output(rt, folder, name, ".trace")?;
     Ok(told(rt.alloc(), stray_line(rt.alloc(), &trace))? == stored)
 }
 
 // Returns whether the machine differs from the recording of this name just where it is stored.
 fn is_as_stored_on_machine(rt: &HostRuntime, folder: Path<'_>, name: &str) -> io::Result<bool> {
-    let trace = bytes_of(rt, folder, name, "trace")?;
-    let stored = bytes_of(rt, folder, name, "machine")?;
+    let trace = bytes_of(rt, folder, name, ".trace")?;
+    let stored = bytes_of(rt, folder, name, ".machine")?;
     Ok(told(rt.alloc(), differences(rt.alloc(), &trace))? == stored)
 }
 

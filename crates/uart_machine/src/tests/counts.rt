@@ -18,8 +18,10 @@ struct Counter {
 }
 
 impl Counter {
-    fn count(&mut self) {
+    // The machine, for one more access.
+    fn counted(&mut self) -> &mut Device16550 {
         self.accesses = self.accesses.wrapping_add(1);
+        &mut self.machine
     }
 }
 
@@ -28,13 +30,11 @@ impl Backend for Counter {
     ghost step = { λ _ _ _. ⊤ };
 
     fn read(&mut self, register_offset: u8) -> u8 {
-        self.count();
-        self.machine.read(register_offset)
+        self.counted().read(register_offset)
     }
 
     fn write(&mut self, register_offset: u8, value: u8) {
-        self.count();
-        self.machine.write(register_offset, value);
+        self.counted().write(register_offset, value);
     }
 }
 
