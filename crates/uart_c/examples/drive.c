@@ -23,13 +23,16 @@ static void board_write(void *context, size_t offset, uint8_t value)
     uart_chip_write(chip, (uint8_t)offset, value);
 }
 
+/* As many accesses as a call may make here. */
+enum { TAPE_ROOM = 4096 };
+
 /* Makes a call of the driver over the chip, and says what it returned. */
 static struct uart_answer make(const char *name, struct uart_driver *driver, struct uart_chip *chip, const struct uart_call *call)
 {
-    static struct uart_access tape[UART_TAPE_ROOM];
+    static struct uart_access tape[TAPE_ROOM];
     const struct uart_io io = {chip, board_read, board_write};
     struct uart_answer answer = {0};
-    uint32_t status = uart_make(driver, call, &io, tape, UART_TAPE_ROOM, &answer);
+    uint32_t status = uart_make(driver, call, &io, tape, TAPE_ROOM, &answer);
 
     printf("%s: step %" PRIu32 ", answer %d", name, status, answer.kind);
     if (answer.kind == UART_ANSWER_COUNT || answer.kind == UART_ANSWER_BYTES)

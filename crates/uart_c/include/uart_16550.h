@@ -257,9 +257,6 @@ struct uart_access {
     uint8_t value;
 };
 
-/* How many accesses a call can make here. A call that needs more, as a long wait, does not come to an end. */
-#define UART_TAPE_ROOM 512
-
 enum uart_answer_kind {
     UART_ANSWER_DONE = 0,
     UART_ANSWER_FLAG = 1,            /* value */
@@ -290,7 +287,7 @@ enum uart_step_status {
     UART_STEP_ASKED = 1,        /* make the access in *access, put it after those that were made, and step again */
     UART_STEP_STRAYED = 2,      /* no run of the call begins with the accesses that were made */
     UART_STEP_NOT_RUNNABLE = 3, /* no such call, len is too large, or the baud rate cannot be computed */
-    UART_STEP_TAPE_FULL = 4     /* the call makes more accesses than UART_TAPE_ROOM, or than uart_make has room for */
+    UART_STEP_TAPE_FULL = 4     /* uart_make: the call makes more accesses than the tape has room for */
 };
 
 /* A driver that was just made, with the default configuration: 9600 baud, eight data bits, FIFO trigger level 14. */

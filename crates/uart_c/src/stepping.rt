@@ -6,7 +6,7 @@ ghost use Rattle.uart_c.specs.Driver.{fields_of, numbered};
 ghost use Rattle.uart_c.specs.Steps.{IsAsked, IsDone, IsStrayed};
 ghost use Rattle.uart_c.specs.declared.stepping.TheConstants.{UART_STEP_DONE, UART_STEP_ASKED, UART_STEP_STRAYED};
 
-use crate::access::{UartAccess, asked, entries_of};
+use crate::access::{UartAccess, asked};
 use crate::answer::{UartAnswer, shown};
 use crate::call::{UartCall, call_of};
 use crate::driver::{UartDriver, kept, state_of};
@@ -20,8 +20,6 @@ pub const UART_STEP_ASKED: u32 = 1;
 pub const UART_STEP_STRAYED: u32 = 2;
 
 pub const UART_STEP_NOT_RUNNABLE: u32 = 3;
-
-pub const UART_STEP_TAPE_FULL: u32 = 4;
 
 /// Makes a driver that has made no access.
 #[unsafe(no_mangle)]
@@ -55,10 +53,7 @@ pub extern "C" fn uart_step(
     if !call.is_runnable() {
         return UART_STEP_NOT_RUNNABLE;
     }
-    let Some(entries) = entries_of(made) else {
-        return UART_STEP_TAPE_FULL;
-    };
-    match next(entries.as_slice(), &state_of(driver), &call) {
+    match next(made, &state_of(driver), &call) {
         NextStep::Done(returned) => {
             *answer = shown(&returned.answer);
             *driver = kept(&returned.state);

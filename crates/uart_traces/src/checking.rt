@@ -1,14 +1,12 @@
 //! Whether a recorded list of accesses is one that a call of the driver makes.
 ghost use Rattle.std.specs.Prelude.{◌≡◌, IfSome, IsNone, map};
 ghost use Rattle.uart_16550.specs.Driver.{Fields};
-ghost use Rattle.uart_16550.specs.Replay.{access_of};
 ghost use Rattle.uart_16550.specs.State.{fields_of};
 ghost use Rattle.uart_calls.specs.Calls.{IsRunnable};
 ghost use Rattle.uart_calls.specs.declared.call.Answer.{Answer};
 ghost use Rattle.uart_traces.specs.Lists.{IsFollowed, IsListOf, IsNext, Makes};
 
-use crate::tape::{Request, Tape};
-use uart_16550::replay::Entry;
+use crate::tape::{Recorded, Request, Tape};
 use uart_16550::{DriverState, Uart16550, Uart16550Tty};
 use uart_calls::{Answer, Call, perform};
 
@@ -52,9 +50,9 @@ pub enum NextStep {
 
 /// Returns how many of these accesses the driver makes in this call, starting from this state, and what it does instead of
 /// the first that it does not make. Allocates no memory.
-pub fn follow(accesses: &[Entry], state: &DriverState, call: &Call) -> Followed
+pub fn follow<R: Recorded>(accesses: &[R], state: &DriverState, call: &Call) -> Followed
     requires { IsRunnable call.now }
-    ensures { IsFollowed call.now (fields_of state.now) (map access_of accesses.now) result }
+    ensures { IsFollowed call.now (fields_of state.now) (map R.access accesses.now) result }
 {
     let mut uart = Uart16550Tty::from_inner(Uart16550::from_state(Tape::new(accesses), state));
     let answer = perform(&mut uart, call);
@@ -74,11 +72,11 @@ pub fn follow(accesses: &[Entry], state: &DriverState, call: &Call) -> Followed
 
 /// Returns whether these accesses are a list of this call, starting from this state: if so, what the call returned, and the
 /// state of the driver after it; `None` if they are not, whatever the call might have returned. Allocates no memory.
-pub fn check(accesses: &[Entry], state: &DriverState, call: &Call) -> Option<Returned>
+pub fn check<R: Recorded>(accesses: &[R], state: &DriverState, call: &Call) -> Option<Returned>
     requires { IsRunnable call.now }
-    ensures sound { IfSome result (λ returned. Makes call.now (fields_of state.now) (map access_of accesses.now) returned) }
+    ensures sound { IfSome result (λ returned. Makes call.now (fields_of state.now) (map R.access accesses.now) returned) }
     ensures complete { IsNone result → (answer : Answer) (after : Fields) →
-        IsListOf call.now (fields_of state.now) (map access_of accesses.now) answer after → ⊥ }
+        IsListOf call.now (fields_of state.now) (map R.access accesses.now) answer after → ⊥ }
 {
     match next(accesses, state, call) {
         NextStep::Done(returned) => Some(returned),
@@ -89,9 +87,9 @@ pub fn check(accesses: &[Entry], state: &DriverState, call: &Call) -> Option<Ret
 
 /// Returns what the driver does next in this call, starting from this state, after it has made these accesses. Allocates no
 /// memory.
-pub fn next(made: &[Entry], state: &DriverState, call: &Call) -> NextStep
+pub fn next<R: Recorded>(made: &[R], state: &DriverState, call: &Call) -> NextStep
     requires { IsRunnable call.now }
-    ensures { IsNext call.now (fields_of state.now) (map access_of made.now) result }
+    ensures { IsNext call.now (fields_of state.now) (map R.access made.now) result }
 {
     let Followed { kept, turn } = follow(made, state, call);
     if kept < made.len() {

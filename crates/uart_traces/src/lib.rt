@@ -20,5 +20,5 @@ pub use cause::{Fault, TraceError};
 pub use checking::{Followed, NextStep, Returned, Turn, check, follow, next};
 pub use judging::{Stray, judge};
 pub use parsing::{Exchange, parse};
-pub use tape::{Request, Tape};
+pub use tape::{Recorded, Request, Tape};
 pub use telling::{push_entry, push_stray};

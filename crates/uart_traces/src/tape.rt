@@ -1,11 +1,30 @@
 //! A backend that plays a recorded list back, access by access.
 ghost use Rattle.std.specs.Prelude.{◌≡◌, Some, None, map, length};
 ghost use Rattle.uart_16550.specs.Replay.{access_of};
+ghost use Rattle.uart_spec.specs.Access.{Access};
 ghost use Rattle.uart_traces.specs.Tape.{Plays, answered, first_of, request_of};
 
 use std::marker::Model;
 use uart_16550::backend::Backend;
 use uart_16550::replay::Entry;
+
+/// An access as its owner keeps it: [`Entry`], or a struct of another language.
+pub trait Recorded: Copy {
+    // The access that this value is.
+    ghost access: { Self → Access };
+
+    /// Returns the access as an entry of a list.
+    fn entry(self) -> Entry
+        ensures { access_of result ≡ access self };
+}
+
+impl Recorded for Entry {
+    ghost access = { access_of };
+
+    fn entry(self) -> Entry {
+        self
+    }
+}
 
 /// What a driver requests from a device.
 #[derive(Clone, Copy, Debug, PartialEq, Eq)]
@@ -21,20 +40,19 @@ pub enum Request {
 /// A read returns what the list has, as long as the accesses are those of the list. The first request that is not is kept.
 /// What reads return from then on is from no chip, and lets every wait of a driver end soon.
 #[derive(Drop)]
-pub struct Tape<'a> {
-    left: &'a [Entry],
+pub struct Tape<'a, R: Recorded> {
+    left: &'a [R],
     asked: Option<Request>,
     filler: u8,
 }
 
-impl<'a> Model for Tape<'a> {
+impl<'a, R: Recorded> Model for Tape<'a, R> {
     ghost use Rattle.std.specs.Prelude.{map};
-    ghost use Rattle.uart_16550.specs.Replay.{access_of};
     ghost use Rattle.uart_traces.specs.Tape.{Tape};
 
     ghost Value = { Tape };
 
-    ghost view = { λ t. record { left = map access_of t.left.now; asked = t.asked } };
+    ghost view = { λ t. record { left = map R.access t.left.now; asked = t.asked } };
 }
 
 // Returns the request of this access.
@@ -57,10 +75,10 @@ fn byte_of(entry: Entry) -> u8
     }
 }
 
-impl<'a> Tape<'a> {
+impl<'a, R: Recorded> Tape<'a, R> {
     /// Returns a tape with the whole list, of which no access was made.
-    pub fn new(entries: &'a [Entry]) -> Self
-        ensures { result ≡ record { left = map access_of entries.now; asked = None } }
+    pub fn new(entries: &'a [R]) -> Self
+        ensures { result ≡ record { left = map R.access entries.now; asked = None } }
     {
         Tape {
             left: entries,
@@ -101,16 +119,16 @@ impl<'a> Tape<'a> {
         ensures { Plays self.old (answered request result) self.new }
     {
         match self.left {
-            [next, rest @ ..] if self.asked.is_none() && request_of(*next) == request => {
+            [next, rest @ ..] if self.asked.is_none() && request_of(next.entry()) == request => {
                 self.left = rest;
-                byte_of(*next)
+                byte_of(next.entry())
             }
             _ => self.stray(request),
         }
     }
 }
 
-impl Backend for Tape<'_> {
+impl<R: Recorded> Backend for Tape<'_, R> {
     ghost step = { Plays };
 
     fn read(&mut self, register_offset: u8) -> u8 {

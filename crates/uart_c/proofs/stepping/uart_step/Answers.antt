@@ -1,5 +1,4 @@
-use Rattle.std.proofs.Common.{◌∙◌, ap, map}
-use Rattle.uart_16550.specs.Replay as replay
+use Rattle.std.proofs.Common.{refl}
 use Rattle.uart_c.proofs.Steps.{made_so}
 use Rattle.uart_c.proofs.stepping.uart_step.Goals as goal
 
@@ -8,8 +7,7 @@ returns-in-Done-clause-done c e = record {
   call = c.in-Some.call;
   returned = c.in-Done.returned;
   is = c.in-Some.ensures;
-  makes = made_so c.in-Done.returned c.state_of.ensures
-      (ap (λ es. map replay.access_of es) c.as_slice.ensures.value ∙ c.in-Some-entries_of.ensures) c.in-Done.ensures;
+  makes = made_so c.in-Done.returned c.state_of.ensures refl c.in-Done.ensures;
   shows = c.shown.ensures;
   keeps = c.kept.ensures;
 }
