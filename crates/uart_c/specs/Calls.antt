@@ -4,9 +4,8 @@ use Rattle.uart_c.specs.Driver.{config_of}
 use Rattle.uart_c.specs.Queue.{is_on}
 use Rattle.uart_c.specs.declared.access.UartAccess.{UartAccess}
 use Rattle.uart_c.specs.declared.answer.UartAnswer.{UartAnswer}
-use Rattle.uart_c.specs.declared.answer.TheConstants as kind
+use Rattle.uart_c.specs.declared.codes.TheConstants as code
 use Rattle.uart_c.specs.declared.call.UartCall.{UartCall}
-use Rattle.uart_c.specs.declared.call.TheConstants as call_kind
 use Rattle.uart_calls.specs.declared.call.Call.{Call}
 use Rattle.uart_calls.specs.declared.call.Call.TheVariants as call
 use Rattle.uart_calls.specs.declared.call.Answer.{Answer}
@@ -30,35 +29,35 @@ IsGiven c bytes = (length bytes ≡ c.len) × (bytes ≡ take c.len c.bytes)
 
 -- the data of C are this call
 abbrev pub IsCall : UartCall → Call → Type 0
-IsCall c (call.Init config) = (c.kind ≡ call_kind.UART_INIT) × (config ≡ config_of c.config)
-IsCall c call.TestLoopback = c.kind ≡ call_kind.UART_TEST_LOOPBACK
-IsCall c call.CheckPresent = c.kind ≡ call_kind.UART_CHECK_PRESENT
-IsCall c call.CheckConnected = c.kind ≡ call_kind.UART_CHECK_CONNECTED
-IsCall c call.ReadyToReceive = c.kind ≡ call_kind.UART_READY_TO_RECEIVE
-IsCall c call.ReadyToSend = c.kind ≡ call_kind.UART_READY_TO_SEND
-IsCall c call.TryReceive = c.kind ≡ call_kind.UART_TRY_RECEIVE
-IsCall c call.Flush = c.kind ≡ call_kind.UART_FLUSH
-IsCall c call.ReadReady = c.kind ≡ call_kind.UART_READ_READY
-IsCall c call.WriteReady = c.kind ≡ call_kind.UART_WRITE_READY
-IsCall c call.Ier = c.kind ≡ call_kind.UART_IER
-IsCall c call.Isr = c.kind ≡ call_kind.UART_ISR
-IsCall c call.Lcr = c.kind ≡ call_kind.UART_LCR
-IsCall c call.Mcr = c.kind ≡ call_kind.UART_MCR
-IsCall c call.Lsr = c.kind ≡ call_kind.UART_LSR
-IsCall c call.Msr = c.kind ≡ call_kind.UART_MSR
-IsCall c call.Spr = c.kind ≡ call_kind.UART_SPR
-IsCall c call.DllDlm = c.kind ≡ call_kind.UART_DLL_DLM
-IsCall c call.FifoEnabled = c.kind ≡ call_kind.UART_FIFO_ENABLED
+IsCall c (call.Init config) = (c.kind ≡ code.UART_INIT) × (config ≡ config_of c.config)
+IsCall c call.TestLoopback = c.kind ≡ code.UART_TEST_LOOPBACK
+IsCall c call.CheckPresent = c.kind ≡ code.UART_CHECK_PRESENT
+IsCall c call.CheckConnected = c.kind ≡ code.UART_CHECK_CONNECTED
+IsCall c call.ReadyToReceive = c.kind ≡ code.UART_READY_TO_RECEIVE
+IsCall c call.ReadyToSend = c.kind ≡ code.UART_READY_TO_SEND
+IsCall c call.TryReceive = c.kind ≡ code.UART_TRY_RECEIVE
+IsCall c call.Flush = c.kind ≡ code.UART_FLUSH
+IsCall c call.ReadReady = c.kind ≡ code.UART_READ_READY
+IsCall c call.WriteReady = c.kind ≡ code.UART_WRITE_READY
+IsCall c call.Ier = c.kind ≡ code.UART_IER
+IsCall c call.Isr = c.kind ≡ code.UART_ISR
+IsCall c call.Lcr = c.kind ≡ code.UART_LCR
+IsCall c call.Mcr = c.kind ≡ code.UART_MCR
+IsCall c call.Lsr = c.kind ≡ code.UART_LSR
+IsCall c call.Msr = c.kind ≡ code.UART_MSR
+IsCall c call.Spr = c.kind ≡ code.UART_SPR
+IsCall c call.DllDlm = c.kind ≡ code.UART_DLL_DLM
+IsCall c call.FifoEnabled = c.kind ≡ code.UART_FIFO_ENABLED
 IsCall c call.Dump = ⊥
-IsCall c (call.TrySend byte) = (c.kind ≡ call_kind.UART_TRY_SEND) × (byte ≡ c.byte)
-IsCall c (call.Enable interrupts) = (c.kind ≡ call_kind.UART_ENABLE) × (interrupts.0 ≡ c.byte)
-IsCall c (call.Disable interrupts) = (c.kind ≡ call_kind.UART_DISABLE) × (interrupts.0 ≡ c.byte)
-IsCall c (call.Receive count) = (c.kind ≡ call_kind.UART_RECEIVE) × (count ≡ c.len)
-IsCall c (call.ReceiveExact count) = (c.kind ≡ call_kind.UART_RECEIVE_EXACT) × (count ≡ c.len)
-IsCall c (call.Read count) = (c.kind ≡ call_kind.UART_READ) × (count ≡ c.len)
-IsCall c (call.Send bytes) = (c.kind ≡ call_kind.UART_SEND) × IsGiven c bytes.items
-IsCall c (call.SendExact bytes) = (c.kind ≡ call_kind.UART_SEND_EXACT) × IsGiven c bytes.items
-IsCall c (call.Write bytes) = (c.kind ≡ call_kind.UART_WRITE) × IsGiven c bytes.items
+IsCall c (call.TrySend byte) = (c.kind ≡ code.UART_TRY_SEND) × (byte ≡ c.byte)
+IsCall c (call.Enable interrupts) = (c.kind ≡ code.UART_ENABLE) × (interrupts.0 ≡ c.byte)
+IsCall c (call.Disable interrupts) = (c.kind ≡ code.UART_DISABLE) × (interrupts.0 ≡ c.byte)
+IsCall c (call.Receive count) = (c.kind ≡ code.UART_RECEIVE) × (count ≡ c.len)
+IsCall c (call.ReceiveExact count) = (c.kind ≡ code.UART_RECEIVE_EXACT) × (count ≡ c.len)
+IsCall c (call.Read count) = (c.kind ≡ code.UART_READ) × (count ≡ c.len)
+IsCall c (call.Send bytes) = (c.kind ≡ code.UART_SEND) × IsGiven c bytes.items
+IsCall c (call.SendExact bytes) = (c.kind ≡ code.UART_SEND_EXACT) × IsGiven c bytes.items
+IsCall c (call.Write bytes) = (c.kind ≡ code.UART_WRITE) × IsGiven c bytes.items
 IsCall c call.Next = ⊥
 IsCall c (call.Text text) = ⊥
 
@@ -68,17 +67,17 @@ Holds a bytes = (a.count ≡ length bytes) × (take a.count a.bytes ≡ bytes)
 
 -- the data of C are this answer; of a refusal they say which call was refused, and not why
 abbrev pub Shows : UartAnswer → Answer → Type 0
-Shows a answer.Done = a.kind ≡ kind.UART_ANSWER_DONE
-Shows a (answer.Flag on) = (a.kind ≡ kind.UART_ANSWER_FLAG) × (a.value ≡ flag on 1)
-Shows a (answer.Count count) = (a.kind ≡ kind.UART_ANSWER_COUNT) × (a.count ≡ count)
-Shows a (answer.Bytes bytes) = (a.kind ≡ kind.UART_ANSWER_BYTES) × Holds a bytes.items
-Shows a (answer.Register value) = (a.kind ≡ kind.UART_ANSWER_REGISTER) × (a.value ≡ value)
-Shows a (answer.Latch dll dlm) = (a.kind ≡ kind.UART_ANSWER_LATCH) × (a.value ≡ dll) × (a.second ≡ dlm)
-Shows a (answer.Dump dump) = a.kind ≡ kind.UART_ANSWER_DUMP
-Shows a (answer.Stalled count) = (a.kind ≡ kind.UART_ANSWER_STALLED) × (a.count ≡ count)
-Shows a (answer.ReceiveStalled bytes) = (a.kind ≡ kind.UART_ANSWER_RECEIVE_STALLED) × Holds a bytes.items
-Shows a (answer.InitRefused error) = a.kind ≡ kind.UART_ANSWER_INIT_REFUSED
-Shows a (answer.LoopbackRefused error) = a.kind ≡ kind.UART_ANSWER_LOOPBACK_REFUSED
-Shows a (answer.NotConnected error) = a.kind ≡ kind.UART_ANSWER_NOT_CONNECTED
-Shows a answer.NoData = a.kind ≡ kind.UART_ANSWER_NO_DATA
-Shows a (answer.NotSent error) = a.kind ≡ kind.UART_ANSWER_NOT_SENT
+Shows a answer.Done = a.kind ≡ code.UART_ANSWER_DONE
+Shows a (answer.Flag on) = (a.kind ≡ code.UART_ANSWER_FLAG) × (a.value ≡ flag on 1)
+Shows a (answer.Count count) = (a.kind ≡ code.UART_ANSWER_COUNT) × (a.count ≡ count)
+Shows a (answer.Bytes bytes) = (a.kind ≡ code.UART_ANSWER_BYTES) × Holds a bytes.items
+Shows a (answer.Register value) = (a.kind ≡ code.UART_ANSWER_REGISTER) × (a.value ≡ value)
+Shows a (answer.Latch dll dlm) = (a.kind ≡ code.UART_ANSWER_LATCH) × (a.value ≡ dll) × (a.second ≡ dlm)
+Shows a (answer.Dump dump) = a.kind ≡ code.UART_ANSWER_DUMP
+Shows a (answer.Stalled count) = (a.kind ≡ code.UART_ANSWER_STALLED) × (a.count ≡ count)
+Shows a (answer.ReceiveStalled bytes) = (a.kind ≡ code.UART_ANSWER_RECEIVE_STALLED) × Holds a bytes.items
+Shows a (answer.InitRefused error) = a.kind ≡ code.UART_ANSWER_INIT_REFUSED
+Shows a (answer.LoopbackRefused error) = a.kind ≡ code.UART_ANSWER_LOOPBACK_REFUSED
+Shows a (answer.NotConnected error) = a.kind ≡ code.UART_ANSWER_NOT_CONNECTED
+Shows a answer.NoData = a.kind ≡ code.UART_ANSWER_NO_DATA
+Shows a (answer.NotSent error) = a.kind ≡ code.UART_ANSWER_NOT_SENT

@@ -3,8 +3,8 @@ use Rattle.std.specs.Prelude.{ℕ, max, ◌==◌, Option, Some, None, if◌then�
 use Rattle.uart_16550.specs.Driver.{Fields}
 use Rattle.uart_c.specs.Queue.{is_on}
 use Rattle.uart_c.specs.State.{trigger_of}
-use Rattle.uart_c.specs.declared.driver.TheConstants.{UART_PARITY_ODD, UART_PARITY_EVEN, UART_PARITY_FORCED_1}
-use Rattle.uart_c.specs.declared.driver.TheConstants.{UART_PARITY_FORCED_0}
+use Rattle.uart_c.specs.declared.codes.TheConstants.{UART_PARITY_ODD, UART_PARITY_EVEN}
+use Rattle.uart_c.specs.declared.codes.TheConstants.{UART_PARITY_FORCED_1, UART_PARITY_FORCED_0}
 use Rattle.uart_c.specs.declared.driver.UartConfig.{UartConfig}
 use Rattle.uart_c.specs.declared.driver.UartDriver.{UartDriver}
 use Rattle.uart_spec.specs.BaudRate.{to_integer}

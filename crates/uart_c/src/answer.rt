@@ -2,36 +2,14 @@
 ghost use Rattle.std.specs.Prelude.{◌≡◌, ◌≤◌, length};
 ghost use Rattle.uart_c.specs.Calls.{Holds, Shows};
 
+use crate::codes::{
+    UART_ANSWER_BYTES, UART_ANSWER_COUNT, UART_ANSWER_DONE, UART_ANSWER_DUMP, UART_ANSWER_FLAG,
+    UART_ANSWER_INIT_REFUSED, UART_ANSWER_LATCH, UART_ANSWER_LOOPBACK_REFUSED, UART_ANSWER_NO_DATA,
+    UART_ANSWER_NOT_CONNECTED, UART_ANSWER_NOT_SENT, UART_ANSWER_RECEIVE_STALLED,
+    UART_ANSWER_REGISTER, UART_ANSWER_STALLED,
+};
 use arrayvec::ArrayVec;
 use uart_calls::{Answer, CALL_BYTES};
-
-pub const UART_ANSWER_DONE: u8 = 0;
-
-pub const UART_ANSWER_FLAG: u8 = 1;
-
-pub const UART_ANSWER_COUNT: u8 = 2;
-
-pub const UART_ANSWER_BYTES: u8 = 3;
-
-pub const UART_ANSWER_REGISTER: u8 = 4;
-
-pub const UART_ANSWER_LATCH: u8 = 5;
-
-pub const UART_ANSWER_DUMP: u8 = 6;
-
-pub const UART_ANSWER_STALLED: u8 = 7;
-
-pub const UART_ANSWER_RECEIVE_STALLED: u8 = 8;
-
-pub const UART_ANSWER_INIT_REFUSED: u8 = 9;
-
-pub const UART_ANSWER_LOOPBACK_REFUSED: u8 = 10;
-
-pub const UART_ANSWER_NOT_CONNECTED: u8 = 11;
-
-pub const UART_ANSWER_NO_DATA: u8 = 12;
-
-pub const UART_ANSWER_NOT_SENT: u8 = 13;
 
 /// What a call returned. Which of the other fields count depends on its kind.
 #[repr(C)]

@@ -2,67 +2,18 @@
 ghost use Rattle.std.specs.Prelude.{◌≡◌, ◌≤◌, length, IfSome};
 ghost use Rattle.uart_c.specs.Calls.{IsCall, IsGiven};
 
+use crate::codes::{
+    UART_CHECK_CONNECTED, UART_CHECK_PRESENT, UART_DISABLE, UART_DLL_DLM, UART_ENABLE,
+    UART_FIFO_ENABLED, UART_FLUSH, UART_IER, UART_INIT, UART_ISR, UART_LCR, UART_LSR, UART_MCR,
+    UART_MSR, UART_READ, UART_READ_READY, UART_READY_TO_RECEIVE, UART_READY_TO_SEND, UART_RECEIVE,
+    UART_RECEIVE_EXACT, UART_SEND, UART_SEND_EXACT, UART_SPR, UART_TEST_LOOPBACK, UART_TRY_RECEIVE,
+    UART_TRY_SEND, UART_WRITE, UART_WRITE_READY,
+};
 use crate::driver::{UartConfig, config_of};
 use arrayvec::ArrayVec;
 use bitflags::Flags;
 use uart_calls::{CALL_BYTES, Call};
 use uart_spec::registers::IER;
-
-pub const UART_INIT: u8 = 0;
-
-pub const UART_TEST_LOOPBACK: u8 = 1;
-
-pub const UART_CHECK_PRESENT: u8 = 2;
-
-pub const UART_CHECK_CONNECTED: u8 = 3;
-
-pub const UART_READY_TO_RECEIVE: u8 = 4;
-
-pub const UART_READY_TO_SEND: u8 = 5;
-
-pub const UART_TRY_RECEIVE: u8 = 6;
-
-pub const UART_FLUSH: u8 = 7;
-
-pub const UART_READ_READY: u8 = 8;
-
-pub const UART_WRITE_READY: u8 = 9;
-
-pub const UART_IER: u8 = 10;
-
-pub const UART_ISR: u8 = 11;
-
-pub const UART_LCR: u8 = 12;
-
-pub const UART_MCR: u8 = 13;
-
-pub const UART_LSR: u8 = 14;
-
-pub const UART_MSR: u8 = 15;
-
-pub const UART_SPR: u8 = 16;
-
-pub const UART_DLL_DLM: u8 = 17;
-
-pub const UART_FIFO_ENABLED: u8 = 18;
-
-pub const UART_TRY_SEND: u8 = 19;
-
-pub const UART_ENABLE: u8 = 20;
-
-pub const UART_DISABLE: u8 = 21;
-
-pub const UART_RECEIVE: u8 = 22;
-
-pub const UART_RECEIVE_EXACT: u8 = 23;
-
-pub const UART_READ: u8 = 24;
-
-pub const UART_SEND: u8 = 25;
-
-pub const UART_SEND_EXACT: u8 = 26;
-
-pub const UART_WRITE: u8 = 27;
 
 /// A call of the driver. Which of the other fields count depends on its kind.
 #[repr(C)]

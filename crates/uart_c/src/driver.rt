@@ -5,6 +5,9 @@ ghost use Rattle.uart_c.specs.Driver as spec;
 ghost use Rattle.uart_spec.specs.BaudRate.{to_integer};
 ghost use Rattle.uart_spec.specs.declared.config.BaudRate.TheVariants.{Custom};
 
+use crate::codes::{
+    UART_PARITY_EVEN, UART_PARITY_FORCED_0, UART_PARITY_FORCED_1, UART_PARITY_NONE, UART_PARITY_ODD,
+};
 use crate::queue::is_on;
 use crate::receiver::trigger_of;
 use bitflags::Flags;
@@ -12,16 +15,6 @@ use std::num::NonZeroU64;
 use uart_16550::DriverState;
 use uart_spec::registers::{FifoTriggerLevel, IER, LSR, MSR, Parity, WordLength};
 use uart_spec::{BaudRate, Config};
-
-pub const UART_PARITY_NONE: u8 = 0;
-
-pub const UART_PARITY_ODD: u8 = 1;
-
-pub const UART_PARITY_EVEN: u8 = 2;
-
-pub const UART_PARITY_FORCED_1: u8 = 3;
-
-pub const UART_PARITY_FORCED_0: u8 = 4;
 
 /// How a device is to be set up.
 #[repr(C)]

@@ -2,7 +2,7 @@
 ghost use Rattle.std.specs.Prelude.{◌≡◌, ◌≢◌, ◌++◌, ◌-◌, ◌%◌, take, drop, min, length, is_some, bit_and};
 ghost use Rattle.uart_c.specs.State.{chip_of, model_of};
 ghost use Rattle.uart_c.specs.Status.{new_status};
-ghost use Rattle.uart_c.specs.declared.status.TheConstants.{UART_OK, UART_BAD_ERRORS, UART_BAD_LINES};
+ghost use Rattle.uart_c.specs.declared.codes.TheConstants.{UART_OK, UART_BAD_ERRORS, UART_BAD_LINES};
 ghost use Rattle.uart_chip.specs.Chip as spec;
 ghost use Rattle.uart_chip.specs.Masks.{IsWithin};
 ghost use Rattle.uart_chip.specs.Receiver.{waiting};
@@ -13,8 +13,8 @@ ghost use Rattle.uart_spec.specs.declared.registers.line_status.TheConstants.LSR
 ghost use Rattle.uart_spec.specs.declared.registers.modem_status.TheConstants.MSR;
 
 use crate::chip::UartChip;
+use crate::codes::{UART_BAD_ERRORS, UART_BAD_LINES, UART_BAD_TICKS, UART_BAD_WIRE, UART_OK};
 use crate::queue::WIRE_ROOM;
-use crate::status::{UART_BAD_ERRORS, UART_BAD_LINES, UART_BAD_TICKS, UART_BAD_WIRE, UART_OK};
 use bitflags::Flags;
 use uart_chip::MAX_CHAR_TICKS;
 use uart_spec::NUM_REGISTERS;

@@ -4,22 +4,15 @@ ghost use Rattle.uart_16550.specs.Driver.{with_limit};
 ghost use Rattle.uart_16550.specs.State.{fresh_fields};
 ghost use Rattle.uart_c.specs.Driver.{fields_of, numbered};
 ghost use Rattle.uart_c.specs.Steps.{IsAsked, IsDone, IsStrayed};
-ghost use Rattle.uart_c.specs.declared.stepping.TheConstants.{UART_STEP_DONE, UART_STEP_ASKED, UART_STEP_STRAYED};
+ghost use Rattle.uart_c.specs.declared.codes.TheConstants.{UART_STEP_DONE, UART_STEP_ASKED, UART_STEP_STRAYED};
 
 use crate::access::{UartAccess, asked};
 use crate::answer::{UartAnswer, shown};
 use crate::call::{UartCall, call_of};
+use crate::codes::{UART_STEP_ASKED, UART_STEP_DONE, UART_STEP_NOT_RUNNABLE, UART_STEP_STRAYED};
 use crate::driver::{UartDriver, kept, state_of};
 use uart_16550::DriverState;
 use uart_traces::{NextStep, next};
-
-pub const UART_STEP_DONE: u32 = 0;
-
-pub const UART_STEP_ASKED: u32 = 1;
-
-pub const UART_STEP_STRAYED: u32 = 2;
-
-pub const UART_STEP_NOT_RUNNABLE: u32 = 3;
 
 /// Makes a driver that has made no access.
 #[unsafe(no_mangle)]

@@ -1,0 +1,127 @@
+//! The numbers of the enums in the header.
+
+// What most functions return: `enum uart_status`.
+
+pub const UART_OK: u32 = 0;
+
+/// A character takes no 1 to 1000 ticks.
+pub const UART_BAD_TICKS: u32 = 1;
+
+/// The wire has room for more bytes than one may have.
+pub const UART_BAD_WIRE: u32 = 2;
+
+/// A character has other errors than parity, framing and break.
+pub const UART_BAD_ERRORS: u32 = 3;
+
+/// The modem lines have other bits than CTS, DSR, RI and CD.
+pub const UART_BAD_LINES: u32 = 4;
+
+// The calls of the driver: `enum uart_call_kind`.
+
+pub const UART_INIT: u8 = 0;
+
+pub const UART_TEST_LOOPBACK: u8 = 1;
+
+pub const UART_CHECK_PRESENT: u8 = 2;
+
+pub const UART_CHECK_CONNECTED: u8 = 3;
+
+pub const UART_READY_TO_RECEIVE: u8 = 4;
+
+pub const UART_READY_TO_SEND: u8 = 5;
+
+pub const UART_TRY_RECEIVE: u8 = 6;
+
+pub const UART_FLUSH: u8 = 7;
+
+pub const UART_READ_READY: u8 = 8;
+
+pub const UART_WRITE_READY: u8 = 9;
+
+pub const UART_IER: u8 = 10;
+
+pub const UART_ISR: u8 = 11;
+
+pub const UART_LCR: u8 = 12;
+
+pub const UART_MCR: u8 = 13;
+
+pub const UART_LSR: u8 = 14;
+
+pub const UART_MSR: u8 = 15;
+
+pub const UART_SPR: u8 = 16;
+
+pub const UART_DLL_DLM: u8 = 17;
+
+pub const UART_FIFO_ENABLED: u8 = 18;
+
+pub const UART_TRY_SEND: u8 = 19;
+
+pub const UART_ENABLE: u8 = 20;
+
+pub const UART_DISABLE: u8 = 21;
+
+pub const UART_RECEIVE: u8 = 22;
+
+pub const UART_RECEIVE_EXACT: u8 = 23;
+
+pub const UART_READ: u8 = 24;
+
+pub const UART_SEND: u8 = 25;
+
+pub const UART_SEND_EXACT: u8 = 26;
+
+pub const UART_WRITE: u8 = 27;
+
+// Parities: `enum uart_parity`.
+
+pub const UART_PARITY_NONE: u8 = 0;
+
+pub const UART_PARITY_ODD: u8 = 1;
+
+pub const UART_PARITY_EVEN: u8 = 2;
+
+pub const UART_PARITY_FORCED_1: u8 = 3;
+
+pub const UART_PARITY_FORCED_0: u8 = 4;
+
+// What a call returned: `enum uart_answer_kind`.
+
+pub const UART_ANSWER_DONE: u8 = 0;
+
+pub const UART_ANSWER_FLAG: u8 = 1;
+
+pub const UART_ANSWER_COUNT: u8 = 2;
+
+pub const UART_ANSWER_BYTES: u8 = 3;
+
+pub const UART_ANSWER_REGISTER: u8 = 4;
+
+pub const UART_ANSWER_LATCH: u8 = 5;
+
+pub const UART_ANSWER_DUMP: u8 = 6;
+
+pub const UART_ANSWER_STALLED: u8 = 7;
+
+pub const UART_ANSWER_RECEIVE_STALLED: u8 = 8;
+
+pub const UART_ANSWER_INIT_REFUSED: u8 = 9;
+
+pub const UART_ANSWER_LOOPBACK_REFUSED: u8 = 10;
+
+pub const UART_ANSWER_NOT_CONNECTED: u8 = 11;
+
+pub const UART_ANSWER_NO_DATA: u8 = 12;
+
+pub const UART_ANSWER_NOT_SENT: u8 = 13;
+
+// What a step returns: `enum uart_step_status`.
+
+pub const UART_STEP_DONE: u32 = 0;
+
+pub const UART_STEP_ASKED: u32 = 1;
+
+pub const UART_STEP_STRAYED: u32 = 2;
+
+pub const UART_STEP_NOT_RUNNABLE: u32 = 3;
