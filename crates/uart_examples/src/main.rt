@@ -91,7 +91,7 @@ fn told(rt: &HostRuntime, name: &str, is_as_stored: bool) -> io::Result<bool> {
 
 // Prints of the trace of a script whether the driver makes it, and returns that. There is none of a script that is refused.
 fn told_of_trace(rt: &HostRuntime, folder: Path<'_>, name: &str) -> io::Result<bool> {
-    let script = bytes_of(rt, folder, name, "script")?;
+    let script = bytes_of(rt, folder, name, ".script")?;
     match is_driver_trace(rt.alloc(), &script)? {
         Some(is_made) => {
             let trace = format!(in rt.alloc(); "trace of {name}")?;
