@@ -20,7 +20,8 @@ after_call g c = c.backend-tape.ensures ∙ ap backend_of c.inner.ensures
 left_after : (g : _) (c : goal.After-left g) → c.left.result ≡ length (backend_of (inner_of c.perform-answer.new.uart)).left
 left_after g c = c.left.ensures ∙ ap (λ (t : Tape). length t.left) (after_call g c)
 
-list_at : (g : _) (c : goal.After-left g) → (backend_of (inner_of c.from_inner-uart.result)).left ≡ map g.R.Recorded.access c.args.accesses.now
+list_at : (g : _) (c : goal.After-left g) →
+    (backend_of (inner_of c.from_inner-uart.result)).left ≡ map g.R.Recorded.access c.args.accesses.now
 list_at g c = ap (λ (t : Tape). t.left) (at_call g c ∙ c.new.ensures)
 
 none_at : (g : _) (c : goal.After-left g) → (backend_of (inner_of c.from_inner-uart.result)).asked ≡ None
