@@ -1,9 +1,9 @@
 /*
  * uart_16550.h - a 16550A or 16450 serial chip in software, and a driver of such chips.
  *
- * Link with libuart_c.a. The library allocates nothing, keeps no global, and calls nothing but memcpy, and that for
- * the driver alone: all state is in structs of the caller, and two threads may call it at once as long as no struct is
- * in both calls. Whatever bytes a struct holds, each function is defined and stays within it.
+ * Link with libuart_c.a. The library allocates nothing, keeps no global, and calls nothing, not even memcpy: all state is
+ * in structs of the caller, and two threads may call it at once as long as no struct is in both calls. Whatever bytes a
+ * struct holds, each function is defined and stays within it.
  *
  * Every pointer must be valid, aligned and not null, also one to an array of length 0. Pointers that a function writes
  * through must not overlap with its others.

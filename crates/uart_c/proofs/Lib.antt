@@ -1,3 +1,4 @@
+pub mod Copies
 pub mod Errors
 pub mod Marks
 pub mod Queues

@@ -60,15 +60,19 @@ fn of_count(kind: u8, count: usize) -> UartAnswer
     }
 }
 
+// Copies one by one, and looks at the bound each time, because a copy of the whole would call `memcpy`.
 fn of_bytes(kind: u8, received: &ArrayVec<u8, CALL_BYTES>) -> UartAnswer
     ensures kind { result.kind ≡ kind }
     ensures bytes { Holds result received.now.items }
 {
-    let count = received.len();
     let mut bytes = [0; CALL_BYTES];
-    bytes[..count].copy_from_slice(received.as_slice());
+    for (place, byte) in received.as_slice().iter().enumerate() {
+        if place < CALL_BYTES {
+            bytes[place] = *byte;
+        }
+    }
     UartAnswer {
-        count,
+        count: received.len(),
         kind,
         bytes,
         ..EMPTY

@@ -26,13 +26,15 @@ pub struct UartCall {
     pub bytes: [u8; CALL_BYTES],
 }
 
-// The bytes that are given with a call.
+// The bytes that are given with a call. Copies one by one, because a copy of the whole would call `memcpy`.
 fn given(call: &UartCall) -> Option<ArrayVec<u8, CALL_BYTES>>
     ensures { IfSome result (λ bytes. IsGiven call.now bytes.items) }
 {
     let bytes = call.bytes.get(..call.len as usize)?;
     let mut copy = ArrayVec::new();
-    copy.try_extend_from_slice(bytes).ok()?;
+    for byte in bytes {
+        copy.try_push(*byte).ok()?;
+    }
     Some(copy)
 }
 

@@ -81,13 +81,16 @@ pub fn perform<B: Backend>(uart: &mut Uart16550Tty<B>, call: &Call) -> Answer
     }
 }
 
-// Returns a copy of these bytes, for an answer.
+// Returns a copy of these bytes, for an answer. Copies one by one, because a copy of the whole would call `memcpy`, and the
+// library for C calls nothing.
 fn copied(bytes: &[u8]) -> ArrayVec<u8, CALL_BYTES>
     requires { length bytes.now ≤ CALL_BYTES }
     ensures { result.items ≡ bytes.now }
 {
     let mut copy = ArrayVec::new();
-    let _ = copy.try_extend_from_slice(bytes);
+    for byte in bytes {
+        let _ = copy.try_push(*byte);
+    }
     copy
 }
 

@@ -1,0 +1,9 @@
+use Rattle.std.proofs.Common.{◌≡◌, take, length}
+use Rattle.uart_calls.specs.declared.call.TheConstants.{CALL_BYTES}
+use Rattle.uart_c.proofs.answer.of_bytes.Given as goal
+
+abbrev pub invariant-loop-place : goal.invariant-loop-place
+invariant-loop-place l = record {
+  copied : take l.place l.bytes ≡ take l.place l.byte-items;
+  room : length l.bytes ≡ CALL_BYTES;
+}
