@@ -266,11 +266,39 @@ enum uart_answer_kind {
     UART_ANSWER_LATCH = 5,           /* value and second: DLL and DLM */
     UART_ANSWER_STALLED = 7,         /* count: how many bytes were sent before a wait came to the limit */
     UART_ANSWER_RECEIVE_STALLED = 8, /* bytes and count: what was received before a wait came to the limit */
-    UART_ANSWER_INIT_REFUSED = 9,    /* stalled, no device, or a bad baud rate */
-    UART_ANSWER_LOOPBACK_REFUSED = 10,
-    UART_ANSWER_NOT_CONNECTED = 11,
+    UART_ANSWER_INIT_REFUSED = 9,    /* value: an enum uart_init_error */
+    UART_ANSWER_LOOPBACK_REFUSED = 10, /* value: an enum uart_loopback_error */
+    UART_ANSWER_NOT_CONNECTED = 11,  /* value: an enum uart_remote_error */
     UART_ANSWER_NO_DATA = 12,
-    UART_ANSWER_NOT_SENT = 13
+    UART_ANSWER_NOT_SENT = 13        /* value: an enum uart_send_error */
+};
+
+/* Why an initialisation failed. */
+enum uart_init_error {
+    UART_INIT_DEVICE_NOT_PRESENT = 0,
+    UART_INIT_INVALID_BAUD_RATE = 1, /* no whole divisor gives it */
+    UART_INIT_STALLED = 2            /* the transmitter did not become empty within the limit */
+};
+
+/* Why a loopback test failed. */
+enum uart_loopback_error {
+    UART_LOOPBACK_SEND_ERROR = 0,    /* the device took no byte */
+    UART_LOOPBACK_UNEXPECTED_BYTE = 1, /* second: what came back for the byte 42 */
+    UART_LOOPBACK_UNEXPECTED_MSG = 2, /* bytes and count: what came back for the message */
+    UART_LOOPBACK_STALLED = 3
+};
+
+/* Why the remote seems not to be connected. */
+enum uart_remote_error {
+    UART_REMOTE_NO_DSR = 0,
+    UART_REMOTE_NO_CD = 1,           /* no call returns this */
+    UART_REMOTE_NOT_CLEAR_TO_SEND = 2
+};
+
+/* Why no byte can be sent at the moment. */
+enum uart_send_error {
+    UART_SEND_NO_CAPACITY = 0,
+    UART_SEND_REMOTE_NOT_CLEAR_TO_SEND = 1 /* CTS is clear, and the configuration checks it */
 };
 
 /* What a call returned. Which fields count depends on its kind. */

@@ -12,6 +12,14 @@ use Rattle.uart_calls.specs.declared.call.Answer.{Answer}
 use Rattle.uart_calls.specs.declared.call.Answer.TheVariants as answer
 use Rattle.uart_spec.specs.Access.{Access, Read, Write}
 use Rattle.uart_spec.specs.Bits.{flag}
+use Rattle.uart_spec.specs.declared.errors.ByteSendError.{ByteSendError}
+use Rattle.uart_spec.specs.declared.errors.ByteSendError.TheVariants as send_error
+use Rattle.uart_spec.specs.declared.errors.InitError.{InitError}
+use Rattle.uart_spec.specs.declared.errors.InitError.TheVariants as init_error
+use Rattle.uart_spec.specs.declared.errors.LoopbackError.{LoopbackError}
+use Rattle.uart_spec.specs.declared.errors.LoopbackError.TheVariants as loopback_error
+use Rattle.uart_spec.specs.declared.errors.RemoteReadyToReceiveError.{RemoteReadyToReceiveError}
+use Rattle.uart_spec.specs.declared.errors.RemoteReadyToReceiveError.TheVariants as remote_error
 use Rattle.uart_traces.specs.declared.tape.Request.{Request}
 use Rattle.uart_traces.specs.declared.tape.Request.TheVariants as request
 
@@ -65,7 +73,31 @@ IsCall c (call.Text text) = ⊥
 abbrev pub Holds : UartAnswer → List ℕ → Type 0
 Holds a bytes = (a.count ≡ length bytes) × (take a.count a.bytes ≡ bytes)
 
--- the data of C are this answer; of a refusal they say which call was refused, and not why
+-- the number of each error
+abbrev pub init_code : InitError → ℕ
+init_code init_error.DeviceNotPresent = code.UART_INIT_DEVICE_NOT_PRESENT
+init_code (init_error.InvalidBaudRate error) = code.UART_INIT_INVALID_BAUD_RATE
+init_code init_error.Stalled = code.UART_INIT_STALLED
+
+abbrev pub remote_code : RemoteReadyToReceiveError → ℕ
+remote_code remote_error.NoRemoteConnectedNoDSR = code.UART_REMOTE_NO_DSR
+remote_code remote_error.NoRemoteConnectedNoCD = code.UART_REMOTE_NO_CD
+remote_code remote_error.RemoteNotClearToSend = code.UART_REMOTE_NOT_CLEAR_TO_SEND
+
+abbrev pub send_code : ByteSendError → ℕ
+send_code send_error.NoCapacity = code.UART_SEND_NO_CAPACITY
+send_code send_error.RemoteNotClearToSend = code.UART_SEND_REMOTE_NOT_CLEAR_TO_SEND
+
+-- the answer says why a loopback test failed, and what came back
+abbrev pub ShowsLoopback : UartAnswer → LoopbackError → Type 0
+ShowsLoopback a (loopback_error.SendError error) = a.value ≡ code.UART_LOOPBACK_SEND_ERROR
+ShowsLoopback a (loopback_error.UnexpectedLoopbackByte expected actual) =
+    (a.value ≡ code.UART_LOOPBACK_UNEXPECTED_BYTE) × (a.second ≡ actual)
+ShowsLoopback a (loopback_error.UnexpectedLoopbackMsg expected actual) =
+    (a.value ≡ code.UART_LOOPBACK_UNEXPECTED_MSG) × Holds a actual
+ShowsLoopback a loopback_error.Stalled = a.value ≡ code.UART_LOOPBACK_STALLED
+
+-- the data of C are this answer
 abbrev pub Shows : UartAnswer → Answer → Type 0
 Shows a answer.Done = a.kind ≡ code.UART_ANSWER_DONE
 Shows a (answer.Flag on) = (a.kind ≡ code.UART_ANSWER_FLAG) × (a.value ≡ flag on 1)
@@ -76,8 +108,8 @@ Shows a (answer.Latch dll dlm) = (a.kind ≡ code.UART_ANSWER_LATCH) × (a.value
 Shows a (answer.Dump dump) = a.kind ≡ code.UART_ANSWER_DUMP
 Shows a (answer.Stalled count) = (a.kind ≡ code.UART_ANSWER_STALLED) × (a.count ≡ count)
 Shows a (answer.ReceiveStalled bytes) = (a.kind ≡ code.UART_ANSWER_RECEIVE_STALLED) × Holds a bytes.items
-Shows a (answer.InitRefused error) = a.kind ≡ code.UART_ANSWER_INIT_REFUSED
-Shows a (answer.LoopbackRefused error) = a.kind ≡ code.UART_ANSWER_LOOPBACK_REFUSED
-Shows a (answer.NotConnected error) = a.kind ≡ code.UART_ANSWER_NOT_CONNECTED
+Shows a (answer.InitRefused error) = (a.kind ≡ code.UART_ANSWER_INIT_REFUSED) × (a.value ≡ init_code error)
+Shows a (answer.LoopbackRefused error) = (a.kind ≡ code.UART_ANSWER_LOOPBACK_REFUSED) × ShowsLoopback a error
+Shows a (answer.NotConnected error) = (a.kind ≡ code.UART_ANSWER_NOT_CONNECTED) × (a.value ≡ remote_code error)
 Shows a answer.NoData = a.kind ≡ code.UART_ANSWER_NO_DATA
-Shows a (answer.NotSent error) = a.kind ≡ code.UART_ANSWER_NOT_SENT
+Shows a (answer.NotSent error) = (a.kind ≡ code.UART_ANSWER_NOT_SENT) × (a.value ≡ send_code error)

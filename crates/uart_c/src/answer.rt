@@ -1,15 +1,19 @@
 //! What a call returned, as plain data.
 ghost use Rattle.std.specs.Prelude.{◌≡◌, ◌≤◌, length};
-ghost use Rattle.uart_c.specs.Calls.{Holds, Shows};
+ghost use Rattle.uart_c.specs.Calls.{Holds, Shows, ShowsLoopback, init_code, remote_code, send_code};
 
 use crate::codes::{
     UART_ANSWER_BYTES, UART_ANSWER_COUNT, UART_ANSWER_DONE, UART_ANSWER_DUMP, UART_ANSWER_FLAG,
     UART_ANSWER_INIT_REFUSED, UART_ANSWER_LATCH, UART_ANSWER_LOOPBACK_REFUSED, UART_ANSWER_NO_DATA,
     UART_ANSWER_NOT_CONNECTED, UART_ANSWER_NOT_SENT, UART_ANSWER_RECEIVE_STALLED,
-    UART_ANSWER_REGISTER, UART_ANSWER_STALLED,
+    UART_ANSWER_REGISTER, UART_ANSWER_STALLED, UART_INIT_DEVICE_NOT_PRESENT,
+    UART_INIT_INVALID_BAUD_RATE, UART_INIT_STALLED, UART_LOOPBACK_SEND_ERROR,
+    UART_LOOPBACK_STALLED, UART_LOOPBACK_UNEXPECTED_BYTE, UART_LOOPBACK_UNEXPECTED_MSG,
+    UART_REMOTE_NO_CD, UART_REMOTE_NO_DSR, UART_REMOTE_NOT_CLEAR_TO_SEND, UART_SEND_NO_CAPACITY,
+    UART_SEND_REMOTE_NOT_CLEAR_TO_SEND,
 };
-use arrayvec::ArrayVec;
 use uart_calls::{Answer, CALL_BYTES};
+use uart_spec::{ByteSendError, InitError, LoopbackError, RemoteReadyToReceiveError};
 
 /// What a call returned. Which of the other fields count depends on its kind.
 #[repr(C)]
@@ -61,12 +65,13 @@ fn of_count(kind: u8, count: usize) -> UartAnswer
 }
 
 // Copies one by one, and looks at the bound each time, because a copy of the whole would call `memcpy`.
-fn of_bytes(kind: u8, received: &ArrayVec<u8, CALL_BYTES>) -> UartAnswer
+fn of_bytes(kind: u8, received: &[u8]) -> UartAnswer
+    requires { length received.now ≤ CALL_BYTES }
     ensures kind { result.kind ≡ kind }
-    ensures bytes { Holds result received.now.items }
+    ensures bytes { Holds result received.now }
 {
     let mut bytes = [0; CALL_BYTES];
-    for (place, byte) in received.as_slice().iter().enumerate() {
+    for (place, byte) in received.iter().enumerate() {
         if place < CALL_BYTES {
             bytes[place] = *byte;
         }
@@ -79,6 +84,53 @@ fn of_bytes(kind: u8, received: &ArrayVec<u8, CALL_BYTES>) -> UartAnswer
     }
 }
 
+fn init_error(error: &InitError) -> u8
+    ensures { result ≡ init_code error.now }
+{
+    match error {
+        InitError::DeviceNotPresent => UART_INIT_DEVICE_NOT_PRESENT,
+        InitError::InvalidBaudRate(_) => UART_INIT_INVALID_BAUD_RATE,
+        InitError::Stalled => UART_INIT_STALLED,
+    }
+}
+
+fn remote_error(error: &RemoteReadyToReceiveError) -> u8
+    ensures { result ≡ remote_code error.now }
+{
+    match error {
+        RemoteReadyToReceiveError::NoRemoteConnectedNoDSR => UART_REMOTE_NO_DSR,
+        RemoteReadyToReceiveError::NoRemoteConnectedNoCD => UART_REMOTE_NO_CD,
+        RemoteReadyToReceiveError::RemoteNotClearToSend => UART_REMOTE_NOT_CLEAR_TO_SEND,
+    }
+}
+
+fn send_error(error: &ByteSendError) -> u8
+    ensures { result ≡ send_code error.now }
+{
+    match error {
+        ByteSendError::NoCapacity => UART_SEND_NO_CAPACITY,
+        ByteSendError::RemoteNotClearToSend => UART_SEND_REMOTE_NOT_CLEAR_TO_SEND,
+    }
+}
+
+fn loopback_refused(error: &LoopbackError) -> UartAnswer
+    ensures kind { result.kind ≡ UART_ANSWER_LOOPBACK_REFUSED }
+    ensures error { ShowsLoopback result error.now }
+{
+    let kind = UART_ANSWER_LOOPBACK_REFUSED;
+    match error {
+        LoopbackError::SendError(_) => of_value(kind, UART_LOOPBACK_SEND_ERROR, 0),
+        LoopbackError::UnexpectedLoopbackByte { actual, .. } => {
+            of_value(kind, UART_LOOPBACK_UNEXPECTED_BYTE, *actual)
+        }
+        LoopbackError::UnexpectedLoopbackMsg { actual, .. } => UartAnswer {
+            value: UART_LOOPBACK_UNEXPECTED_MSG,
+            ..of_bytes(kind, actual)
+        },
+        LoopbackError::Stalled => of_value(kind, UART_LOOPBACK_STALLED, 0),
+    }
+}
+
 /// The answer as data of C.
 pub fn shown(answer: &Answer) -> UartAnswer
     ensures { Shows result answer.now }
@@ -87,16 +139,16 @@ pub fn shown(answer: &Answer) -> UartAnswer
         Answer::Done => of_kind(UART_ANSWER_DONE),
         Answer::Flag(on) => of_value(UART_ANSWER_FLAG, *on as u8, 0),
         Answer::Count(count) => of_count(UART_ANSWER_COUNT, *count),
-        Answer::Bytes(bytes) => of_bytes(UART_ANSWER_BYTES, bytes),
+        Answer::Bytes(bytes) => of_bytes(UART_ANSWER_BYTES, bytes.as_slice()),
         Answer::Register(value) => of_value(UART_ANSWER_REGISTER, *value, 0),
         Answer::Latch(dll, dlm) => of_value(UART_ANSWER_LATCH, *dll, *dlm),
         Answer::Dump(_) => of_kind(UART_ANSWER_DUMP),
         Answer::Stalled(count) => of_count(UART_ANSWER_STALLED, *count),
-        Answer::ReceiveStalled(bytes) => of_bytes(UART_ANSWER_RECEIVE_STALLED, bytes),
-        Answer::InitRefused(_) => of_kind(UART_ANSWER_INIT_REFUSED),
-        Answer::LoopbackRefused(_) => of_kind(UART_ANSWER_LOOPBACK_REFUSED),
-        Answer::NotConnected(_) => of_kind(UART_ANSWER_NOT_CONNECTED),
+        Answer::ReceiveStalled(bytes) => of_bytes(UART_ANSWER_RECEIVE_STALLED, bytes.as_slice()),
+        Answer::InitRefused(error) => of_value(UART_ANSWER_INIT_REFUSED, init_error(error), 0),
+        Answer::LoopbackRefused(error) => loopback_refused(error),
+        Answer::NotConnected(error) => of_value(UART_ANSWER_NOT_CONNECTED, remote_error(error), 0),
         Answer::NoData => of_kind(UART_ANSWER_NO_DATA),
-        Answer::NotSent(_) => of_kind(UART_ANSWER_NOT_SENT),
+        Answer::NotSent(error) => of_value(UART_ANSWER_NOT_SENT, send_error(error), 0),
     }
 }

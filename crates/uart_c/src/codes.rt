@@ -116,6 +116,38 @@ pub const UART_ANSWER_NO_DATA: u8 = 12;
 
 pub const UART_ANSWER_NOT_SENT: u8 = 13;
 
+// Why an initialisation failed: `enum uart_init_error`.
+
+pub const UART_INIT_DEVICE_NOT_PRESENT: u8 = 0;
+
+pub const UART_INIT_INVALID_BAUD_RATE: u8 = 1;
+
+pub const UART_INIT_STALLED: u8 = 2;
+
+// Why a loopback test failed: `enum uart_loopback_error`.
+
+pub const UART_LOOPBACK_SEND_ERROR: u8 = 0;
+
+pub const UART_LOOPBACK_UNEXPECTED_BYTE: u8 = 1;
+
+pub const UART_LOOPBACK_UNEXPECTED_MSG: u8 = 2;
+
+pub const UART_LOOPBACK_STALLED: u8 = 3;
+
+// Why the remote seems not to be connected: `enum uart_remote_error`.
+
+pub const UART_REMOTE_NO_DSR: u8 = 0;
+
+pub const UART_REMOTE_NO_CD: u8 = 1;
+
+pub const UART_REMOTE_NOT_CLEAR_TO_SEND: u8 = 2;
+
+// Why no byte can be sent: `enum uart_send_error`.
+
+pub const UART_SEND_NO_CAPACITY: u8 = 0;
+
+pub const UART_SEND_REMOTE_NOT_CLEAR_TO_SEND: u8 = 1;
+
 // What a step returns: `enum uart_step_status`.
 
 pub const UART_STEP_DONE: u32 = 0;

@@ -8,9 +8,9 @@ pub loop-place-preserved : goal.loop-place-preserved
 loop-place-preserved c = elim c.if-place-lt-CALL_BYTES.branch [
   | then-place-lt-CALL_BYTES w ↦
       let one =
-      one_copied c.loop-place.place CALL_BYTES c.as_slice-byte-items.result.now c.loop-place.bytes c.if-place-lt-CALL_BYTES.bytes
+      one_copied c.loop-place.place CALL_BYTES c.args.received.now c.loop-place.bytes c.if-place-lt-CALL_BYTES.bytes
       c.loop-place.invariant.room c.loop-place-test.true w.if-place-lt-CALL_BYTES.true w.bytes-is c.loop-place.invariant.copied in
       record { copied = one.0; room = one.1 }
   | else-place-lt-CALL_BYTES w ↦
-      absurd (omega (arith, w.if-place-lt-CALL_BYTES.false, c.loop-place-test.true, c.as_slice-byte-items.ensures.fits))
+      absurd (omega (arith, w.if-place-lt-CALL_BYTES.false, c.loop-place-test.true, c.requires))
 ]

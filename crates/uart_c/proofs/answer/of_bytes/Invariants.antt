@@ -4,6 +4,6 @@ use Rattle.uart_c.proofs.answer.of_bytes.Given as goal
 
 abbrev pub invariant-loop-place : goal.invariant-loop-place
 invariant-loop-place l = record {
-  copied : take l.place l.bytes ≡ take l.place l.byte-items;
+  copied : take l.place l.bytes ≡ take l.place l.received;
   room : length l.bytes ≡ CALL_BYTES;
 }
