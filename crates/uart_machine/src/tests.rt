@@ -6,7 +6,6 @@ mod driver;
 mod idle;
 mod live;
 mod paths;
-mod readme;
 mod rings;
 mod schedules;
 
