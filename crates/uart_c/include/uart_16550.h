@@ -314,7 +314,7 @@ enum uart_step_status {
     UART_STEP_DONE = 0,         /* the call is done: answer says what it returned, and driver has gone on */
     UART_STEP_ASKED = 1,        /* make the access in *access, put it after those that were made, and step again */
     UART_STEP_STRAYED = 2,      /* no run of the call begins with the accesses that were made */
-    UART_STEP_NOT_RUNNABLE = 3, /* no such call, len is too large, or the baud rate cannot be computed */
+    UART_STEP_NOT_RUNNABLE = 3, /* the call is none that can be run, whatever accesses were made */
     UART_STEP_TAPE_FULL = 4     /* uart_make: the call makes more accesses than the tape has room for */
 };
 
@@ -322,8 +322,12 @@ enum uart_step_status {
 void uart_driver_new(struct uart_driver *driver, uint64_t spin_limit);
 
 /*
- * What the driver does next in a call in which it made these accesses. Returns an enum uart_step_status. The driver and
- * *answer are written when the call is done, and *access if one is asked for; nothing else is changed.
+ * What the driver does next in a call in which it made these accesses. The driver and *answer are written when the call is
+ * done, and *access if one is asked for; nothing else is changed.
+ *
+ * Returns an enum uart_step_status, but never UART_STEP_TAPE_FULL. It is UART_STEP_NOT_RUNNABLE exactly if kind is none of
+ * enum uart_call_kind; or len is more than UART_CALL_BYTES in a call in which it counts; or, in UART_INIT, frequency or
+ * baud_rate is 0, or the prescaler division factor is more than 15.
  */
 uint32_t uart_step(struct uart_driver *driver, const struct uart_call *call, const struct uart_access *made, size_t made_len,
                    struct uart_access *access, struct uart_answer *answer);

@@ -1,4 +1,4 @@
--- What a step of the driver of C promises: that of `next` over the data of C.
+-- What a step of the driver of C promises: that of `next` over the data of C, which are a call that can be run.
 use Rattle.std.specs.Prelude.{◌≡◌, List, map}
 use Rattle.uart_16550.specs.State as driver_state
 use Rattle.uart_c.specs.Calls.{IsCall, Shows, access_of, request_of}
@@ -7,6 +7,7 @@ use Rattle.uart_c.specs.declared.access.UartAccess.{UartAccess}
 use Rattle.uart_c.specs.declared.answer.UartAnswer.{UartAnswer}
 use Rattle.uart_c.specs.declared.call.UartCall.{UartCall}
 use Rattle.uart_c.specs.declared.driver.UartDriver.{UartDriver}
+use Rattle.uart_calls.specs.Calls.{IsRunnable}
 use Rattle.uart_calls.specs.declared.call.Call.{Call}
 use Rattle.uart_traces.specs.Lists.{Begins, BeginsAndAsks, Makes}
 use Rattle.uart_traces.specs.declared.checking.Returned.{Returned}
@@ -17,6 +18,7 @@ pub record IsDone (c : UartCall) (before : UartDriver) (made : List UartAccess) 
   pub call : Call
   pub returned : Returned
   pub is : IsCall c call
+  pub runs : IsRunnable call
   pub makes : Makes call (fields_of before) (map access_of made) returned
   pub shows : Shows answer returned.answer
   pub keeps : fields_of after ≡ numbered (driver_state.fields_of returned.state)
@@ -25,10 +27,16 @@ pub record IsDone (c : UartCall) (before : UartDriver) (made : List UartAccess) 
 pub record IsAsked (c : UartCall) (before : UartDriver) (made : List UartAccess) (access : UartAccess) : Type 0 where
   pub call : Call
   pub is : IsCall c call
+  pub runs : IsRunnable call
   pub asks : BeginsAndAsks call (fields_of before) (map access_of made) (request_of access)
 
 -- no list of the call begins with the accesses
 pub record IsStrayed (c : UartCall) (before : UartDriver) (made : List UartAccess) : Type 0 where
   pub call : Call
   pub is : IsCall c call
+  pub runs : IsRunnable call
   pub strays : Begins call (fields_of before) (map access_of made) → ⊥
+
+-- the data of C are no call, or one that cannot be run
+abbrev pub IsNotRunnable : UartCall → Type 0
+IsNotRunnable c = (call : Call) → IsCall c call → IsRunnable call → ⊥

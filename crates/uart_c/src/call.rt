@@ -1,6 +1,7 @@
 //! A call of the driver, as plain data.
-ghost use Rattle.std.specs.Prelude.{◌≡◌, ◌≤◌, length, IfSome};
+ghost use Rattle.std.specs.Prelude.{◌≡◌, ◌≤◌, ℕ, List, length, IfSome, IfNone};
 ghost use Rattle.uart_c.specs.Calls.{IsCall, IsGiven};
+ghost use Rattle.uart_calls.specs.declared.call.Call.{Call};
 
 use crate::codes::{
     UART_CHECK_CONNECTED, UART_CHECK_PRESENT, UART_DISABLE, UART_DLL_DLM, UART_ENABLE,
@@ -26,9 +27,11 @@ pub struct UartCall {
     pub bytes: [u8; CALL_BYTES],
 }
 
-// The bytes that are given with a call. Copies one by one, because a copy of the whole would call `memcpy`.
+// The bytes that are given with a call, or `None` if it has no room for so many. Copies one by one, because a copy of the
+// whole would call `memcpy`.
 fn given(call: &UartCall) -> Option<ArrayVec<u8, CALL_BYTES>>
-    ensures { IfSome result (λ bytes. IsGiven call.now bytes.items) }
+    ensures some { IfSome result (λ bytes. IsGiven call.now bytes.items) }
+    ensures none { IfNone result ((bytes : List ℕ) → IsGiven call.now bytes → ⊥) }
 {
     let bytes = call.bytes.get(..call.len as usize)?;
     let mut copy = ArrayVec::new();
@@ -38,30 +41,13 @@ fn given(call: &UartCall) -> Option<ArrayVec<u8, CALL_BYTES>>
     Some(copy)
 }
 
-// A call that is not told by its kind alone.
-fn with_arguments(call: &UartCall) -> Option<Call>
-    ensures { IfSome result (λ meant. IsCall call.now meant) }
+/// The call that the data of C are, or `None` if they are no call.
+pub fn call_of(call: &UartCall) -> Option<Call>
+    ensures some { IfSome result (λ meant. IsCall call.now meant) }
+    ensures none { IfNone result ((meant : Call) → IsCall call.now meant → ⊥) }
 {
     Some(match call.kind {
         UART_INIT => Call::Init(config_of(&call.config)),
-        UART_TRY_SEND => Call::TrySend(call.byte),
-        UART_ENABLE => Call::Enable(IER::from_bits_retain(call.byte)),
-        UART_DISABLE => Call::Disable(IER::from_bits_retain(call.byte)),
-        UART_RECEIVE => Call::Receive(call.len as usize),
-        UART_RECEIVE_EXACT => Call::ReceiveExact(call.len as usize),
-        UART_READ => Call::Read(call.len as usize),
-        UART_SEND => Call::Send(given(call)?),
-        UART_SEND_EXACT => Call::SendExact(given(call)?),
-        UART_WRITE => Call::Write(given(call)?),
-        _ => return None,
-    })
-}
-
-/// The call that the data of C are.
-pub fn call_of(call: &UartCall) -> Option<Call>
-    ensures { IfSome result (λ meant. IsCall call.now meant) }
-{
-    Some(match call.kind {
         UART_TEST_LOOPBACK => Call::TestLoopback,
         UART_CHECK_PRESENT => Call::CheckPresent,
         UART_CHECK_CONNECTED => Call::CheckConnected,
@@ -80,6 +66,15 @@ pub fn call_of(call: &UartCall) -> Option<Call>
         UART_SPR => Call::Spr,
         UART_DLL_DLM => Call::DllDlm,
         UART_FIFO_ENABLED => Call::FifoEnabled,
-        _ => return with_arguments(call),
+        UART_TRY_SEND => Call::TrySend(call.byte),
+        UART_ENABLE => Call::Enable(IER::from_bits_retain(call.byte)),
+        UART_DISABLE => Call::Disable(IER::from_bits_retain(call.byte)),
+        UART_RECEIVE => Call::Receive(call.len as usize),
+        UART_RECEIVE_EXACT => Call::ReceiveExact(call.len as usize),
+        UART_READ => Call::Read(call.len as usize),
+        UART_SEND => Call::Send(given(call)?),
+        UART_SEND_EXACT => Call::SendExact(given(call)?),
+        UART_WRITE => Call::Write(given(call)?),
+        _ => return None,
     })
 }
