@@ -11,7 +11,7 @@
 
 #include "uart_16550.h"
 
-enum { DATA = 0, FCR = 2, LSR = 5, FIFO_ON = 0x01, EACH = 16 };
+enum { DATA = 0, IER = 1, ISR = 2, FCR = 2, LSR = 5, SPR = 7, FIFO_ON = 0x01, RX_RESET = 0x02, ALL_INTERRUPTS = 0x0f, EACH = 16 };
 
 static struct uart_chip chip, saved;
 
@@ -22,6 +22,13 @@ static void lsr(void)
 {
     for (int i = 0; i < EACH; i++)
         digest += uart_chip_read(&chip, LSR);
+}
+
+static void lsr_one(void)
+{
+    uart_chip_arrive(&chip, (uint8_t)digest, 0);
+    lsr();
+    uart_chip_write(&chip, FCR, FIFO_ON | RX_RESET);
 }
 
 /* With as many characters waiting as the FIFO holds. */
@@ -42,6 +49,38 @@ static void data_write(void)
     digest += (unsigned)uart_chip_take_wire(&chip, wire, sizeof wire);
 }
 
+/* The first round fills the FIFO, and no time passes. */
+static void data_write_full(void)
+{
+    for (int i = 0; i < EACH; i++)
+        uart_chip_write(&chip, DATA, (uint8_t)digest++);
+}
+
+static void scratch_write(void)
+{
+    for (int i = 0; i < EACH; i++)
+        uart_chip_write(&chip, SPR, (uint8_t)digest++);
+}
+
+/* A tick with nothing to send. */
+static void tick(void)
+{
+    for (int i = 0; i < EACH; i++)
+        uart_chip_ticks(&chip, 1);
+}
+
+/* One tick brings the byte to the shift place, and one sends it. */
+static void byte_out(void)
+{
+    uint8_t byte = 0;
+
+    for (int i = 0; i < EACH; i++) {
+        uart_chip_write(&chip, DATA, (uint8_t)digest++);
+        uart_chip_ticks(&chip, 2);
+        digest += (unsigned)uart_chip_take_wire(&chip, &byte, 1) + byte;
+    }
+}
+
 static void byte_in_and_read(void)
 {
     for (int i = 0; i < EACH; i++) {
@@ -54,6 +93,14 @@ static void interrupt(void)
 {
     for (int i = 0; i < EACH; i++)
         digest += uart_chip_is_interrupting(&chip);
+}
+
+/* With all of them enabled and none pending: the read withdraws that THR is empty. */
+static void interrupt_enabled(void)
+{
+    uart_chip_write(&chip, IER, ALL_INTERRUPTS);
+    digest += uart_chip_read(&chip, ISR);
+    interrupt();
 }
 
 __attribute__((noinline)) static void save(void)
@@ -79,10 +126,16 @@ static const struct {
     void (*make)(void);
 } BODIES[] = {
     { "lsr", lsr },
+    { "lsr-one", lsr_one },
     { "lsr-full", lsr_full },
     { "data-write", data_write },
+    { "data-write-full", data_write_full },
+    { "scratch-write", scratch_write },
+    { "tick", tick },
+    { "byte-out", byte_out },
     { "byte-in-and-read", byte_in_and_read },
     { "interrupt", interrupt },
+    { "interrupt-enabled", interrupt_enabled },
     { "save-and-restore", save_and_restore },
 };
 

@@ -26,10 +26,16 @@ each() {
 }
 
 each lsr uart_chip_read
+each lsr-one uart_chip_read
 each lsr-full uart_chip_read
 each data-write uart_chip_write
 each data-write uart_chip_ticks uart_chip_take_wire
+each data-write-full uart_chip_write
+each scratch-write uart_chip_write
+each tick uart_chip_ticks
+each byte-out uart_chip_write uart_chip_ticks uart_chip_take_wire
 each byte-in-and-read uart_chip_arrive uart_chip_read
 each interrupt uart_chip_is_interrupting
+each interrupt-enabled uart_chip_is_interrupting
 each save-and-restore save
 each save-and-restore restore

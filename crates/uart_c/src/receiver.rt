@@ -95,18 +95,22 @@ impl UartReceiver {
     fn come_in(&mut self, fifo: bool, new: UartCharacter)
         ensures { receiver_of self.new ≡ spec.come_in fifo (character_of new) (receiver_of self.old) }
     {
-        if self.queue.len() < room_of(fifo) {
+        if fifo {
             if self.queue.is_empty() {
                 self.is_front_reported = 0;
             }
-            self.queue.push(new);
-        } else {
-            self.is_overrun = 1;
-            if !fifo {
-                self.queue.clear();
+            if self.queue.len() < FIFO_SIZE {
                 self.queue.push(new);
-                self.is_front_reported = 0;
+            } else {
+                self.is_overrun = 1;
             }
+        } else {
+            if !self.queue.is_empty() {
+                self.is_overrun = 1;
+            }
+            self.queue.clear();
+            self.queue.push(new);
+            self.is_front_reported = 0;
         }
         self.timeout_ticks = 0;
     }

@@ -8,7 +8,6 @@ ghost use Rattle.uart_chip.specs.Transmitter as spec;
 ghost use Rattle.uart_chip.specs.Transmitter.{held, looped_byte};
 
 use crate::queue::{UartBytes, UartWire, WIRE_ROOM, is_on};
-use uart_chip::room_of;
 use uart_spec::FIFO_SIZE;
 
 /// What sends: bytes wait in the queue, one is shifted out, and then it is on the wire.
@@ -140,14 +139,18 @@ impl UartTransmitter {
     pub fn load(&mut self, fifo: bool, byte: u8)
         ensures { transmitter_of self.new ≡ spec.load fifo byte (transmitter_of self.old) }
     {
-        if self.queue.len() < room_of(fifo) {
-            self.queue.push(byte);
-        } else {
-            if !fifo {
-                self.queue.clear();
+        if fifo {
+            if self.queue.len() < FIFO_SIZE {
                 self.queue.push(byte);
+            } else {
+                self.overflows = self.overflows.saturating_add(1);
             }
-            self.overflows = self.overflows.saturating_add(1);
+        } else {
+            if !self.queue.is_empty() {
+                self.overflows = self.overflows.saturating_add(1);
+            }
+            self.queue.clear();
+            self.queue.push(byte);
         }
         self.is_thr_pending = 0;
     }
