@@ -7,7 +7,7 @@
 use std::io::{self, Read, Write};
 use std::process::ExitCode;
 use std::{env, fs};
-use uart_command::asked;
+use uart_command::request_of;
 use uart_report::{Report, Request, report_on};
 
 // The status if a file cannot be read, or an output cannot be written.
@@ -36,8 +36,8 @@ fn printed(rt: &HostRuntime, report: &Report) -> u8 {
     }
 }
 
-// Does what is requested, and returns the status.
-fn answered(rt: &HostRuntime, request: &Request<'_>) -> u8 {
+// Handles a request, and returns the status.
+fn handled(rt: &HostRuntime, request: &Request<'_>) -> u8 {
     let file = request.file;
     match bytes_of(rt, file) {
         Ok(script) => match report_on(rt.alloc(), request, &script) {
@@ -56,8 +56,8 @@ fn answered(rt: &HostRuntime, request: &Request<'_>) -> u8 {
 
 fn main(rt: HostRuntime) -> io::Result<ExitCode> {
     let words: Vec<String> = env::args(&rt)?.collect(rt.alloc())?;
-    match asked(rt.alloc(), &words) {
-        Ok(request) => Ok(ExitCode::from(answered(&rt, &request))),
+    match request_of(rt.alloc(), &words) {
+        Ok(request) => Ok(ExitCode::from(handled(&rt, &request))),
         Err(error) => {
             error.print(&rt)?;
             Ok(ExitCode::from(error.exit_code() as u8))

@@ -1,4 +1,4 @@
-//! The command line of the program `geesetrunk`: from its words to what is asked for.
+//! The command line of the program `geesetrunk`: from its words to a request.
 //!
 //! It is a crate of its own so that only this page of code is checked together with `clap`.
 #![tactic(auto)]
@@ -9,13 +9,13 @@ use std::alloc::{AllocError, Global};
 use std::convert::AsStr;
 use uart_report::{Form, Request, Task};
 
-const ABOUT: &str = "Plays scripts of a serial chip and its driver, and shows what happened";
+const ABOUT: &str = "Plays scripts for a serial chip and its driver, and shows what happened";
 
 const PLAY: &str = "Plays a script and prints its output, as uart_script does";
 
-const CHECK: &str = "Looks for the first fault of a script, and says what the line takes there";
+const CHECK: &str = "Finds the first fault of a script, and says what is expected there";
 
-const TRACE: &str = "Prints each register access with its answer, call by call";
+const TRACE: &str = "Prints each register access with the value read or written, call by call";
 
 const TIMELINE: &str = "Prints the timeline of a run as an SVG picture";
 
@@ -24,13 +24,13 @@ A line of a script that begins with # is a comment, and counts as a blank line.
 
 Exit status:
   0  done
-  1  the script is refused: the line, its fault and what it takes there are on standard error
+  1  the script is refused: standard error has the line, the fault and what is expected there
   2  the command line is wrong, or a file cannot be read or written
   3  out of memory";
 
 fn file_argument<'a>(alloc: Global) -> Arg<'a> {
     Arg::new(alloc, "FILE")
-        .help("The script; - is standard input")
+        .help("The script, or - for standard input")
         .required(true)
         .action(ArgAction::Set)
 }
@@ -45,7 +45,7 @@ fn subcommand<'a>(alloc: Global, name: &'a str, about: &'a str) -> Result<Comman
 fn command<'a>(alloc: Global) -> Result<Command<'a>, AllocError> {
     let text = Arg::new(alloc, "text")
         .long("text")
-        .help("Prints a table for a terminal in place of the picture")
+        .help("Prints a table for a terminal instead of a picture")
         .action(ArgAction::SetTrue);
     Command::new(alloc, "geesetrunk")
         .bin_name("geesetrunk")?
@@ -75,7 +75,7 @@ fn task_of(name: &str, matches: &ArgMatches<'_>) -> Task {
 /// # Errors
 ///
 /// The error of clap: the help, the version, or what is wrong with the words.
-pub fn asked<'a, S: AsStr>(alloc: Global, words: &'a [S]) -> Result<Request<'a>, Error> {
+pub fn request_of<'a, S: AsStr>(alloc: Global, words: &'a [S]) -> Result<Request<'a>, Error> {
     let mut command = command(alloc)?;
     let matches = command.try_get_matches_from_mut(words)?;
     match matches.subcommand() {

@@ -1,3 +1,5 @@
+pub mod Arguments
+pub mod Base
 pub mod Lines
 pub mod Playing
 pub mod Ports

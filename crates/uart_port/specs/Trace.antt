@@ -1,5 +1,5 @@
 -- The lines of a trace.
-use Rattle.std.specs.Prelude.{ℕ, List, [], ◌∷◌, ◌++◌}
+use Rattle.std.specs.Prelude.{ℕ, List, ◌∷◌}
 use Rattle.std.specs.Char.{digit_char}
 use Rattle.uart_spec.specs.Access.{Access, Read, Write}
 use Rattle.uart_language.specs.Output.{hex_byte, line}

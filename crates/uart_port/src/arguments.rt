@@ -1,27 +1,24 @@
 //! The program's arguments.
 
-ghost use Rattle.std.specs.Prelude.{IfOk};
+ghost use Rattle.std.specs.Prelude.{◌≡◌, Err, IfOk, IfErr};
 ghost use Rattle.uart_16550.specs.Pio.{IsPortBase};
 
+use crate::base::base_in;
 use crate::end::End;
 use clap::{Arg, ArgMatches, Command, Error};
 use std::alloc::Global;
-use uart_spec::registers::offsets;
-
-// The last port at which a chip can start.
-const LAST_BASE: u16 = u16::MAX - offsets::SPR as u16;
 
 const ABOUT: &str = "Plays a script's calls on the 16550 at an I/O port, and prints each answer.";
 
 const NOTES: &str = "\
-A script is as uart_script takes it, but without events: tick, arrive, lines and
-access are refused, and next does nothing. Its chip line is read and means nothing
-here, since the chip is the one at the port. Its line limit N sets how many
-unsuccessful polls end a wait. No lines of what is left of the machine are printed,
-since a port shows none of it.
+A script is written as for uart_script, but without events: tick, arrive, lines and
+access are refused, and next does nothing. The chip line is checked and has no effect,
+since the chip is the one at the port. The line limit N sets how many unsuccessful
+polls in a row end a wait. The lines wire, held, waiting and marks are not printed,
+since a port does not show what they report.
 
 Exit status: 0 played, 1 the arguments or the script are refused, 2 a file or a port
-failed, 3 out of memory, 4 no leave to open the device.";
+failed, 3 out of memory, 4 no permission to open the device.";
 
 // Returns an option that names a file.
 fn file_option<'a>(alloc: Global, name: &'a str) -> Arg<'a> {
@@ -31,12 +28,14 @@ fn file_option<'a>(alloc: Global, name: &'a str) -> Arg<'a> {
 // Returns the command line that the program accepts.
 fn command<'a>(alloc: Global) -> Result<Command<'a>, Error> {
     let port = Arg::new(alloc, "PORT").required(true).help(
-        "the chip's first port in hexadecimal digits, as 3f8 or 0x3f8",
+        "the chip's first port in hexadecimal digits, such as 3f8 or 0x3f8",
     );
-    let script = Arg::new(alloc, "SCRIPT").help("the script; without it standard input is read");
+    let script = Arg::new(alloc, "SCRIPT").help(
+        "the script; standard input is read if no file is named",
+    );
     let device = file_option(alloc, "device")
         .default_value("/dev/port")
-        .help("the file that has a byte for each port");
+        .help("the file with a byte for each port");
     let trace = file_option(alloc, "trace").help(
         "writes each call, its accesses and its answer to this file",
     );
@@ -74,32 +73,22 @@ pub struct Arguments<'a> {
 }
 
 impl<'a> Arguments<'a> {
+    ghost use Rattle.uart_port.specs.Arguments.{base_for, AreArguments};
+
     /// Returns the arguments of a command line.
     ///
     /// # Errors
     ///
-    /// `NotAPort` or `PortTooHigh` if the word for the port is not a port at which a chip can start.
-    pub fn new(matches: &ArgMatches<'a>) -> Result<Self, End> {
+    /// `NotAPort` or `PortTooHigh` if the word for the port is not a port at which a chip can begin.
+    pub fn new(matches: &ArgMatches<'a>) -> Result<Self, End>
+        ensures ok { IfOk result (AreArguments matches.now) }
+        ensures refused { IfErr result (λ end. base_for matches.now ≡ Err end) }
+    {
         Ok(Arguments {
-            port: port_in(matches.get_str("PORT").unwrap_or(""))?,
+            port: base_in(matches.get_str("PORT").unwrap_or(""))?,
             device: matches.get_str("device").unwrap_or(""),
             trace: matches.get_str("trace"),
             script: matches.get_str("SCRIPT"),
         })
-    }
-}
-
-// Reads the first port of a chip, in hexadecimal digits with or without 0x.
-pub(crate) fn port_in(word: &str) -> Result<u16, End>
-    ensures { IfOk result IsPortBase }
-{
-    let digits = word.strip_prefix("0x").unwrap_or(word);
-    if digits.starts_with('+') {
-        return Err(End::NotAPort);
-    }
-    match u16::from_str_radix(digits, 16) {
-        Ok(port) if port <= LAST_BASE => Ok(port),
-        Ok(port) => Err(End::PortTooHigh { port }),
-        Err(_) => Err(End::NotAPort),
     }
 }

@@ -1,15 +1,17 @@
 //! The file of a device's ports.
 
-ghost use Rattle.std.specs.Prelude.{⊤, ◌<◌};
+ghost use Rattle.std.specs.Prelude.{◌≡◌, ◌-◌, ◌%◌, ◌<◌, ⊤};
+ghost use Rattle.uart_spec.specs.declared.baud.TheConstants.{NUM_REGISTERS};
 
 use crate::ports::{FLOATING, PortFile};
 use crate::trace::Trace;
 use std::fs::File;
 use std::io;
 use std::os::unix::fs::FileExt;
+use uart_spec::NUM_REGISTERS;
 
-/// The number of ports of a chip.
-const PORTS: u16 = 8;
+// The number of ports of a chip.
+const PORTS: u16 = NUM_REGISTERS as u16;
 
 /// A file of ports, whose accesses are written to a trace if there is one.
 ///
@@ -27,11 +29,12 @@ impl<'a> DeviceFile<'a> {
         DeviceFile { file, base, trace }
     }
 
-    // Returns the distance of a port from the base.
+    // Returns the offset of the register at a port, which is the distance from the base.
     fn offset(&self, port: u16) -> u8
-        ensures { result < 8 }
+        ensures value { result ≡ (port - self.now.base) % NUM_REGISTERS }
+        ensures below { result < NUM_REGISTERS }
     {
-        (port.wrapping_sub(self.base) % PORTS) as u8
+        (port.saturating_sub(self.base) % PORTS) as u8
     }
 }
 

@@ -14,11 +14,11 @@ use uart_language::{Cause, ScriptError};
 /// Why a script was not played to its end.
 #[derive(Clone, Copy, Debug, Drop, Error)]
 pub enum End {
-    /// The word for the port is not a number of 16 bits.
-    #[error("PORT is one to four hexadecimal digits, as 3f8")]
+    /// The word for the port is not a hexadecimal number of 16 bits.
+    #[error("PORT must be a hexadecimal number up to fff8, such as 3f8")]
     NotAPort,
     /// The last of the eight registers would be beyond the last port.
-    #[error("port {port:x}: a chip has eight ports, and the last that one can begin at is fff8")]
+    #[error("port {port:x} is too high: a chip has eight ports, so its first one is at most fff8")]
     PortTooHigh { port: u16 },
     /// The script could not be read.
     #[error("the script cannot be read: {0}")]
@@ -27,14 +27,14 @@ pub enum End {
     #[error("line {line}: {}", .cause.text())]
     Refused { line: u32, cause: Cause },
     /// The script has an event, and this is the first line with one.
-    #[error("line {line}: an event, and a real chip has no schedule")]
+    #[error("line {line}: events cannot be played on a real chip")]
     Event { line: usize },
     /// The file of ports could not be opened.
     #[error("the device cannot be opened: {0}")]
     NoDevice(io::Error),
     /// There is no permission to open the file of ports.
-    #[error("no leave to open the device: {0}; it takes root, and a kernel that is not locked down")]
-    NoLeave(io::Error),
+    #[error("no permission to open the device: {0}; you need root, and a kernel that is not locked down")]
+    NoPermission(io::Error),
     /// An access to this port failed.
     #[error("port {port:x}: {cause}")]
     Fault { port: u16, cause: io::Error },
@@ -62,7 +62,7 @@ impl End {
             | End::Trace(_)
             | End::Output(_) => 2,
             End::OutOfMemory => 3,
-            End::NoLeave(_) => 4,
+            End::NoPermission(_) => 4,
         }
     }
 
@@ -89,11 +89,11 @@ impl End {
 
     /// Returns why the device could not be opened.
     pub fn unopened(cause: io::Error) -> Self
-        ensures leave { error_kind cause ≡ ErrorKind.PermissionDenied → result ≡ End.NoLeave cause }
+        ensures permission { error_kind cause ≡ ErrorKind.PermissionDenied → result ≡ End.NoPermission cause }
         ensures other { error_kind cause ≢ ErrorKind.PermissionDenied → result ≡ End.NoDevice cause }
     {
         match cause.kind() {
-            ErrorKind::PermissionDenied => End::NoLeave(cause),
+            ErrorKind::PermissionDenied => End::NoPermission(cause),
             _ => End::NoDevice(cause),
         }
     }

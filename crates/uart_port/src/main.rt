@@ -6,6 +6,7 @@ ghost use Rattle.uart_16550.specs.Pio.{IsPortBase};
 ghost use Rattle.uart_language.specs.Script.{plan_of, IsScript};
 
 mod arguments;
+mod base;
 mod device;
 mod end;
 mod lines;

@@ -1,5 +1,5 @@
 //! What no contract covers: texts, words, and what files do.
-use crate::arguments::port_in;
+use crate::base::base_in;
 use crate::device::DeviceFile;
 use crate::end::End;
 use crate::lines::event_line;
@@ -87,7 +87,7 @@ fn a_port_is_hexadecimal(rt: HostRuntime) {
         ("com1", None),
     ];
     for (word, port) in rows {
-        assert_eq!(rt; port_in(word).ok(), port, "at {word}");
+        assert_eq!(rt; base_in(word).ok(), port, "at {word}");
     }
 }
 
@@ -103,17 +103,17 @@ fn each_end_has_its_line_and_status(rt: HostRuntime) -> Result<(), Fail> {
         (refused, "line 2: bad hex", 1),
         (
             End::Event { line: 3 },
-            "line 3: an event, and a real chip has no schedule",
+            "line 3: events cannot be played on a real chip",
             1,
         ),
         (
             End::NotAPort,
-            "PORT is one to four hexadecimal digits, as 3f8",
+            "PORT must be a hexadecimal number up to fff8, such as 3f8",
             1,
         ),
         (
             End::PortTooHigh { port: 0xfff9 },
-            "port fff9: a chip has eight ports, and the last that one can begin at is fff8",
+            "port fff9 is too high: a chip has eight ports, so its first one is at most fff8",
             1,
         ),
         (
@@ -136,7 +136,7 @@ fn each_end_has_its_line_and_status(rt: HostRuntime) -> Result<(), Fail> {
         ),
         (
             End::unopened(denied),
-            "no leave to open the device: Permission denied (os error 13); it takes root, and a kernel that is not locked down",
+            "no permission to open the device: Permission denied (os error 13); you need root, and a kernel that is not locked down",
             4,
         ),
     ];

@@ -11,12 +11,14 @@ const ABOUT: &str =
 const NOTES: &str =
     "A trace has a line for each call, each access and each answer; docs/TRACES.md describes it.
 
-Exit status: 0 each list is its call's, with its answer; 1 one is not, and a line says what the driver does in its place; \
-2 the arguments are refused, the file cannot be read, or it is no trace; 3 out of memory.";
+Exit status: 0 each list is its call's, with its answer; 1 one is not, and a line says what the driver does instead; \
+2 the arguments are refused, the file cannot be read, or it is not a trace; 3 out of memory.";
 
 // Returns the command line that the program accepts.
 fn command<'a>(alloc: Global) -> Result<Command<'a>, Error> {
-    let file = Arg::new(alloc, "FILE").help("the trace; without it standard input is read");
+    let file = Arg::new(alloc, "FILE").help(
+        "the trace; standard input is read if no file is named",
+    );
     let limit = Arg::new(alloc, "limit")
         .long("limit")
         .value_name("N")
@@ -40,7 +42,7 @@ pub fn matched<'a>(alloc: Global, words: &'a [String]) -> Result<ArgMatches<'a>,
 ///
 /// # Errors
 ///
-/// `NoLimit` if it is not a number from 1 on.
+/// `NoLimit` if it is not a number, or is 0.
 pub fn limit_in(matches: &ArgMatches<'_>) -> Result<NonZeroU64, End> {
     let word = matches.get_str("limit").unwrap_or("");
     match u64::from_str_radix(word, 10) {

@@ -1,5 +1,6 @@
 //! How the program ends.
-ghost use Rattle.std.specs.Prelude.{◌≡◌};
+ghost use Rattle.std.specs.Prelude.{◌≡◌, ◌≢◌};
+ghost use Rattle.std.specs.IoError.{error_kind};
 ghost use Rattle.uart_trace.specs.Status.{status_of};
 
 use std::io;
@@ -14,8 +15,8 @@ pub const REFUSED: u8 = 2;
 /// Why a trace was not checked.
 #[derive(Clone, Copy, Debug, Drop, Error)]
 pub enum End {
-    /// The limit is not a number from 1 on.
-    #[error("the limit is a number from 1 on")]
+    /// The limit is not a number, or is 0.
+    #[error("the limit must be a number from 1 to 18446744073709551615")]
     NoLimit,
     /// The trace could not be read.
     #[error("the trace cannot be read: {0}")]
@@ -37,7 +38,10 @@ impl End {
     }
 
     /// Returns why the trace could not be read.
-    pub fn unread(cause: io::Error) -> Self {
+    pub fn unread(cause: io::Error) -> Self
+        ensures memory { error_kind cause ≡ ErrorKind.OutOfMemory → result ≡ End.NoTrace TraceError.OutOfMemory }
+        ensures other { error_kind cause ≢ ErrorKind.OutOfMemory → result ≡ End.Unread cause }
+    {
         match cause.kind() {
             ErrorKind::OutOfMemory => End::NoTrace(TraceError::OutOfMemory),
             _ => End::Unread(cause),

@@ -37,7 +37,7 @@ fn checked(rt: &HostRuntime, matches: &ArgMatches<'_>) -> Result<Vec<u8>, End> {
 }
 
 // Prints where the trace strays, or why it was not checked, and returns the exit status.
-fn told(rt: &HostRuntime, matches: &ArgMatches<'_>) -> io::Result<ExitCode> {
+fn reported(rt: &HostRuntime, matches: &ArgMatches<'_>) -> io::Result<ExitCode> {
     match checked(rt, matches) {
         Ok(line) if line.is_empty() => Ok(ExitCode::SUCCESS),
         Ok(line) => {
@@ -51,7 +51,7 @@ fn told(rt: &HostRuntime, matches: &ArgMatches<'_>) -> io::Result<ExitCode> {
 fn main(rt: HostRuntime) -> io::Result<ExitCode> {
     let words: Vec<String> = env::args(&rt)?.collect(rt.alloc())?;
     match matched(rt.alloc(), &words) {
-        Ok(matches) => told(&rt, &matches),
+        Ok(matches) => reported(&rt, &matches),
         Err(error) => unmatched(&rt, &error, REFUSED),
     }
 }
