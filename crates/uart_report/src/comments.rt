@@ -1,6 +1,6 @@
 //! Comment lines, which only this program accepts.
-ghost use Rattle.std.specs.Prelude.{◌≡◌, ◌++◌, OnOk};
-ghost use Rattle.uart_report.specs.Comments.{uncommented, ended};
+ghost use Rattle.std.specs.Prelude.{◌≡◌, ◌++◌, IfOk, OnOk};
+ghost use Rattle.uart_report.specs.Comments.{uncommented, ended, lines_uncommented};
 
 use std::alloc::{AllocError, Global};
 
@@ -27,7 +27,9 @@ fn push_line(text: &mut Vec<u8>, line: &[u8]) -> Result<(), AllocError>
 /// numbers.
 ///
 /// Each line ends with a line feed, also the text after the script's last one.
-pub fn without_comments(alloc: Global, script: &[u8]) -> Result<Vec<u8>, AllocError> {
+pub fn without_comments(alloc: Global, script: &[u8]) -> Result<Vec<u8>, AllocError>
+    ensures { IfOk result (λ text. text.items ≡ lines_uncommented script.now) }
+{
     let mut text = Vec::new(alloc);
     for line in script.split(|b| *b == b'\n') {
         push_line(&mut text, line)?;
