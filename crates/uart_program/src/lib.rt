@@ -1,7 +1,8 @@
 //! What the programs with a command line share: how they read their text, and how they end.
 #![tactic(auto)]
 
-ghost use Rattle.std.specs.Prelude.{◌≡◌, ◌≢◌};
+ghost use Rattle.std.specs.Prelude.{◌≡◌, ◌≢◌, IfOk};
+ghost use Rattle.std.specs.Process.{exit_status};
 ghost use Rattle.clap.specs.Values.{kind_of};
 
 use clap::Error;
@@ -30,13 +31,20 @@ pub fn unmatched_status(error: &Error, refused: u8) -> u8
 }
 
 /// Prints why the words do not match, or the help that they request, and returns the exit status.
-pub fn unmatched<R: Print + Eprint>(rt: &R, error: &Error, refused: u8) -> io::Result<ExitCode> {
+pub fn unmatched<R: Print + Eprint>(rt: &R, error: &Error, refused: u8) -> io::Result<ExitCode>
+    ensures help { kind_of error.now ≡ ErrorKind.DisplayHelp → IfOk result (λ code. exit_status code ≡ 0) }
+    ensures memory { kind_of error.now ≡ ErrorKind.OutOfMemory → IfOk result (λ code. exit_status code ≡ OUT_OF_MEMORY) }
+    ensures other { kind_of error.now ≢ ErrorKind.DisplayHelp → kind_of error.now ≢ ErrorKind.OutOfMemory
+        → IfOk result (λ code. exit_status code ≡ refused) }
+{
     error.print(rt)?;
     Ok(ExitCode::from(unmatched_status(error, refused)))
 }
 
 /// Prints why the program did not do what was requested, and returns this exit status.
-pub fn failed<R: Eprint>(rt: &R, why: &impl Display, status: u8) -> io::Result<ExitCode> {
+pub fn failed<R: Eprint>(rt: &R, why: &impl Display, status: u8) -> io::Result<ExitCode>
+    ensures { IfOk result (λ code. exit_status code ≡ status) }
+{
     eprintln!(rt; "{why}")?;
     Ok(ExitCode::from(status))
 }

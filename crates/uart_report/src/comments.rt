@@ -1,6 +1,6 @@
 //! Comment lines, which only this program accepts.
-ghost use Rattle.std.specs.Prelude.{◌≡◌, ◌++◌, OnOk};
-ghost use Rattle.uart_report.specs.Comments.{uncommented, ended};
+ghost use Rattle.std.specs.Prelude.{◌≡◌, ◌++◌, IfOk, OnOk};
+ghost use Rattle.uart_report.specs.Comments.{uncommented, ended, without_comments};
 
 use std::alloc::{AllocError, Global};
 
@@ -23,14 +23,15 @@ fn push_line(text: &mut Vec<u8>, line: &[u8]) -> Result<(), AllocError>
     Ok(())
 }
 
-/// Returns the lines of a script, with an empty line in place of each that starts with `#`. So the other lines keep their
-/// numbers.
-///
-/// Each line ends with a line feed, also the text after the script's last one.
-pub fn without_comments(alloc: Global, script: &[u8]) -> Result<Vec<u8>, AllocError> {
+/// Returns a script with an empty line in place of each that starts with `#`. So the other lines keep their numbers.
+pub fn without_comments(alloc: Global, script: &[u8]) -> Result<Vec<u8>, AllocError>
+    ensures { IfOk result (λ text. text.items ≡ without_comments script.now) }
+{
     let mut text = Vec::new(alloc);
     for line in script.split(|b| *b == b'\n') {
         push_line(&mut text, line)?;
     }
+    // The text after the script's last line feed had none.
+    text.pop();
     Ok(text)
 }

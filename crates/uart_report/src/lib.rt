@@ -19,6 +19,7 @@ mod shown;
 mod table;
 mod text;
 mod trace;
+mod written;
 
 pub use comments::without_comments;
 pub use recording::Recorder;

@@ -1,5 +1,11 @@
 //! What is printed for a request.
+ghost use Rattle.std.specs.Prelude.{◌≡◌, ◌≢◌, ℕ, [], IfOk};
 ghost use Rattle.uart_language.specs.Script.{plan_of, IsPlayable};
+ghost use Rattle.uart_language.specs.declared.cause.Cause.{Cause};
+ghost use Rattle.uart_language.specs.declared.cause.ScriptError.TheVariants as errors;
+ghost use Rattle.uart_report.specs.Comments.{without_comments};
+ghost use Rattle.uart_report.specs.Report.{IsPlayedAs, IsAccepted, IsRefused};
+ghost use Rattle.uart_report.specs.declared.request.Task.TheVariants as task;
 
 use crate::comments::without_comments;
 use crate::fault::explained;
@@ -8,6 +14,7 @@ use crate::picture::picture;
 use crate::request::{Form, Request, Task};
 use crate::table::table;
 use crate::trace::trace;
+use crate::written::Written;
 use std::alloc::{AllocError, Global};
 use std::fmt::Write;
 use uart_machine::Chip;
@@ -28,10 +35,15 @@ pub struct Report {
 const REFUSED: u8 = 1;
 
 // Returns what the program prints for the script by itself.
-fn played(alloc: Global, text: &[u8]) -> Result<Vec<u8>, AllocError> {
-    let mut output = Vec::new(alloc);
-    match play(alloc, &mut Std::new(text), &mut Std::new(&mut output)) {
-        Ok(()) => Ok(output),
+fn played(alloc: Global, text: &[u8]) -> Result<Vec<u8>, AllocError>
+    ensures { IfOk result (λ output. IsPlayedAs text.now output.items) }
+{
+    let mut output = Written {
+        bytes: Vec::new(alloc),
+        has_failed: false,
+    };
+    match play(alloc, &mut Std::new(text), &mut output) {
+        Ok(()) => Ok(output.bytes),
         Err(_) => Err(AllocError),
     }
 }
@@ -53,6 +65,8 @@ fn output_of(
     text: &[u8],
 ) -> Result<Vec<u8>, AllocError>
     requires { IsPlayable (plan_of script.now) }
+    ensures played { request.now.task ≡ task.Play → IfOk result (λ output. IsPlayedAs text.now output.items) }
+    ensures checked { request.now.task ≡ task.Check → IfOk result (λ output. output.items ≡ []) }
 {
     let output = played(alloc, text)?;
     let told = match request.task {
@@ -74,7 +88,11 @@ fn refusal(
     request: &Request<'_>,
     script: &[u8],
     error: ScriptError,
-) -> Result<Report, AllocError> {
+) -> Result<Report, AllocError>
+    ensures status { IfOk result (λ report. report.status ≡ 1) }
+    ensures cause { IfOk result (λ _. (line : ℕ) × (cause : Cause) × (error ≡ errors.Refused line cause)) }
+    ensures silent { request.now.task ≢ task.Play → IfOk result (λ report. report.output.items ≡ []) }
+{
     let ScriptError::Refused { line, cause } = error else {
         return Err(AllocError);
     };
@@ -94,14 +112,12 @@ fn refusal(
 /// # Errors
 ///
 /// `AllocError` if out of memory. Only that should be printed then.
-pub fn report_on(
-    alloc: Global,
-    request: &Request<'_>,
-    script: &[u8],
-) -> Result<Report, AllocError> {
-    let mut text = without_comments(alloc, script)?;
-    // The text after the script's last line feed had none.
-    text.pop();
+pub fn report_on(alloc: Global, request: &Request<'_>, script: &[u8]) -> Result<Report, AllocError>
+    ensures accepted { IfOk result (λ report. report.status ≡ 0 → IsAccepted request.now.task (without_comments script.now) report) }
+    ensures refused { IfOk result (λ report. report.status ≢ 0 → (report.status ≡ 1)
+        × IsRefused request.now.task (without_comments script.now) report) }
+{
+    let text = without_comments(alloc, script)?;
     match parse(alloc, &text) {
         Ok(plan) => Ok(Report {
             output: output_of(alloc, request, &plan, &text)?,

@@ -1,5 +1,6 @@
 //! Runs a script over a recorder.
-ghost use Rattle.std.specs.Prelude.{All};
+ghost use Rattle.std.specs.Prelude.{◌≡◌, All, IfOk};
+ghost use Rattle.uart_chip.specs.Machine.{fresh, cutting};
 ghost use Rattle.uart_language.specs.Script.{plan_of, IsPlayable};
 ghost use Rattle.uart_calls.specs.Calls.{IsRunnable};
 
@@ -16,14 +17,20 @@ pub fn machine_for(
     alloc: Global,
     script: &Script,
     schedule: Vec<Event>,
-) -> Result<Device16550, AllocError> {
+) -> Result<Device16550, AllocError>
+    ensures { let plan = plan_of script.now in
+        IfOk result (λ machine. machine ≡ cutting plan.cuts (fresh plan.chip plan.ticks plan.wire_capacity schedule.items)) }
+{
     let (chip, ticks, capacity) = (script.chip(), script.ticks(), script.wire_capacity());
     let machine = if script.cut() {
         Device16550::new_cut(alloc, chip, ticks, capacity, schedule)
     } else {
         Device16550::new(alloc, chip, ticks, capacity, schedule)
     };
-    machine.map_err(|_| AllocError)
+    match machine {
+        Ok(machine) => Ok(machine),
+        Err(_) => Err(AllocError),
+    }
 }
 
 // Makes one call, and `next` as a call of the machine.

@@ -1,6 +1,9 @@
 //! A folder of examples: files, and beside each of them what is stored for it.
 #![tactic(auto)]
 
+ghost use Rattle.std.specs.Prelude.{IfOk, IsSorted};
+ghost use Rattle.std.specs.String.{string_cmp};
+
 use std::path::Path;
 use std::rt::Files;
 use std::{fs, io};
@@ -10,7 +13,9 @@ pub fn names_in<R: Files + AllocGlobal + Clone + Drop>(
     rt: &R,
     folder: Path<'_>,
     ending: &str,
-) -> io::Result<Vec<String>> {
+) -> io::Result<Vec<String>>
+    ensures { IfOk result (λ names. IsSorted string_cmp names.items) }
+{
     let mut names = Vec::new(rt.alloc());
     for entry in fs::read_dir(rt, folder)? {
         let entry = entry?;

@@ -1,0 +1,2 @@
+mod EndedLines
+mod Refusals

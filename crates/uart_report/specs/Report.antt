@@ -1,0 +1,25 @@
+-- What is reported for a script.
+use Rattle.std.specs.Prelude.{◌≡◌, ◌≢◌, ℕ, List, []}
+use Rattle.std.specs.String.{string_bytes}
+use Rattle.uart_language.specs.Script.{Plan, IsScript, IsFaulty}
+use Rattle.uart_language.specs.declared.cause.Cause.{Cause}
+use Rattle.uart_machine.specs.Play.{IsPlayed}
+use Rattle.uart_report.specs.declared.reporting.Report.{Report}
+use Rattle.uart_report.specs.declared.request.Task.{Task}
+use Rattle.uart_report.specs.declared.request.Task.TheVariants as task
+
+-- this is what a run of the script prints
+abbrev pub IsPlayedAs : List ℕ → List ℕ → Type 0
+IsPlayedAs text output = IsPlayed text (λ printed. output ≡ printed)
+
+-- the text is a script, and this is reported for it: no error, and its output if it is to be played
+pub record IsAccepted (wanted : Task) (text : List ℕ) (report : Report) : Type 0 where
+  pub script : (plan : Plan) × IsScript text plan
+  pub silent : string_bytes report.errors ≡ []
+  pub played : wanted ≡ task.Play → IsPlayedAs text report.output.items
+  pub checked : wanted ≡ task.Check → report.output.items ≡ []
+
+-- the text is no script, and only a request to play it has an output
+pub record IsRefused (wanted : Task) (text : List ℕ) (report : Report) : Type 0 where
+  pub faulty : (line : ℕ) × (cause : Cause) × IsFaulty text line cause
+  pub silent : wanted ≢ task.Play → report.output.items ≡ []
