@@ -1,5 +1,5 @@
 -- LSR while no character waits and none was lost: it shows the transmitter alone.
-use Rattle.std.proofs.Common.{◌≡◌, ◌==◌, ℕ, Bool, true, false, ◌&&◌, List, [], ◌∷◌, length, bit_or, refl, sym, ap, ◌∙◌, arith}
+use Rattle.std.proofs.Common.{◌≡◌, ◌==◌, ℕ, Bool, true, false, List, [], ◌∷◌, length, bit_or, sym, ap, ◌∙◌, arith}
 use Rattle.std.specs.Int.Bits.{or_zero_l, or_zero_r}
 use Rattle.uart_chip.specs.Chip.{ChipState, line_status, is_transmitter_empty}
 use Rattle.uart_chip.specs.declared.receiver.Character.{Character}

@@ -20,14 +20,16 @@ use uart_ring_run::{RingAnswer, RingCall, run_ring};
 pub fn receive_at_mark(ring: &mut Uart16550Ring<Device16550>) -> ArrayVec<u8, CALL_BYTES>
     ensures goes_on { Ready (under ring.old) → Ready (under ring.new) }
     ensures no_overflow { Ready (under ring.old) → overflows (under ring.new) ≡ overflows (under ring.old) }
-    ensures received {
-        Ready (under ring.old) →
-            result.items ++ (to_take ring.new ++ waiting (ring_machine ring.new)) ≡
-            to_take ring.old ++ kept (ring_machine ring.old) (ring_machine ring.new)
-    }
+    ensures received { Ready (under ring.old) →
+        result.items ++ (to_take ring.new ++ waiting (ring_machine ring.new)) ≡
+        to_take ring.old ++ kept (ring_machine ring.old) (ring_machine ring.new) }
 {
     let mut answers = [RingAnswer::Done, RingAnswer::Done, RingAnswer::Done];
-    let calls = [RingCall::Next, RingCall::Service, RingCall::Take(CALL_BYTES)];
+    let calls = [
+        RingCall::Next,
+        RingCall::Service,
+        RingCall::Take(CALL_BYTES),
+    ];
     run_ring(ring, &calls, &mut answers);
     match mem::replace(&mut answers[2], RingAnswer::Done) {
         RingAnswer::Bytes(bytes) => bytes,
