@@ -72,17 +72,17 @@ pub fn push<T: Copy>(len: &mut u8, items: &mut [T], item: T)
 /// Takes the front.
 #[tactic(auto, using(crate::proofs::Queues::alone))]
 pub fn pop_front<T: Copy>(len: &mut u8, items: &mut [T]) -> Option<T>
-    requires { length items.old ≤ WIRE_ROOM }
+    requires some { 0 < length items.old }
+    requires fits { length items.old ≤ WIRE_ROOM }
     ensures size { length items.new ≡ length items.old }
     ensures front { result ≡ slice_get (take len.old items.old) 0 }
     ensures after { take len.new items.new ≡ drop 1 (take len.old items.old) }
 {
-    let count = count(*len, items);
-    if count == 0 {
+    if *len == 0 {
         return None;
     }
     let front = items[0];
-    if count == 1 {
+    if *len == 1 {
         *len = 0;
         return Some(front);
     }

@@ -5,7 +5,7 @@ ghost use Rattle.uart_c.specs.Queue.{character_of};
 ghost use Rattle.uart_c.specs.State.{receiver_of, trigger_of};
 ghost use Rattle.uart_chip.specs.Jumps as jumps;
 ghost use Rattle.uart_chip.specs.Receiver as spec;
-ghost use Rattle.uart_chip.specs.Receiver.{front_errors, has_errors, unreported, waiting};
+ghost use Rattle.uart_chip.specs.Receiver.{front_errors, has_errors, unreported};
 ghost use Rattle.uart_chip.specs.Transmitter.{room};
 ghost use Rattle.uart_chip.specs.declared.event.TheConstants.{MAX_CHAR_TICKS};
 ghost use Rattle.uart_spec.specs.declared.baud.TheConstants.{FIFO_SIZE};
@@ -112,13 +112,6 @@ impl UartReceiver {
         self.timeout_ticks = 0;
     }
 
-    // How many characters are in the queue.
-    fn len(&self) -> usize
-        ensures { result ≡ length (receiver_of self.now).queue }
-    {
-        count(self.queue.len, &self.queue.items)
-    }
-
     // Puts a character last in the queue.
     fn put(&mut self, new: UartCharacter)
         requires { length (receiver_of self.old).queue < FIFO_SIZE }
@@ -142,7 +135,7 @@ impl UartReceiver {
                 },
             );
         }
-        self.timeout_ticks = self.timeout_ticks.saturating_add(1).min(self.timeout_limit);
+        self.count_up(1);
     }
 
     /// Ticks in which no character comes in and none is taken.
@@ -150,10 +143,8 @@ impl UartReceiver {
         ensures { receiver_of self.new ≡ jumps.count_up ticks (receiver_of self.old) }
     {
         if ticks > 0 {
-            self.timeout_ticks = self
-                .timeout_ticks
-                .saturating_add(ticks)
-                .min(self.timeout_limit);
+            let counted = self.timeout_ticks.saturating_add(ticks);
+            self.timeout_ticks = counted.min(self.timeout_limit);
         }
     }
 
@@ -273,9 +264,9 @@ impl UartReceiver {
     }
 
     /// How many characters wait to be read.
-    pub fn waiting_len(&self) -> usize
-        ensures { result ≡ length (waiting (receiver_of self.now)) }
+    pub fn len(&self) -> usize
+        ensures { result ≡ length (receiver_of self.now).queue }
     {
-        self.len()
+        count(self.queue.len, &self.queue.items)
     }
 }

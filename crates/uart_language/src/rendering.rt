@@ -256,15 +256,6 @@ fn mark_letter(mark: ArrivalMark) -> u8
     }
 }
 
-fn push_letters(out: &mut Vec<u8>, marks: &[ArrivalMark]) -> Result<(), AllocError>
-    ensures { OnOk result (out.new.items ≡ out.old.items ++ map mark_letter marks.now) }
-{
-    for mark in marks {
-        out.push(mark_letter(*mark))?;
-    }
-    Ok(())
-}
-
 /// Appends marks in letters, or `-` if there are none.
 fn push_marks(out: &mut Vec<u8>, marks: &[ArrivalMark]) -> Result<(), AllocError>
     ensures { OnOk result (out.new.items ≡ out.old.items ++ marks_text marks.now) }
@@ -273,7 +264,10 @@ fn push_marks(out: &mut Vec<u8>, marks: &[ArrivalMark]) -> Result<(), AllocError
         out.push(b'-')?;
         return Ok(());
     }
-    push_letters(out, marks)
+    for mark in marks {
+        out.push(mark_letter(*mark))?;
+    }
+    Ok(())
 }
 
 fn push_marks_line(out: &mut Vec<u8>, marks: &[ArrivalMark]) -> Result<(), AllocError>
