@@ -7,7 +7,7 @@
 use std::io::{self, Read, Write};
 use std::process::ExitCode;
 use std::{env, fs};
-use uart_command::request_of;
+use uart_command::request_in;
 use uart_report::{Report, Request, report_on};
 
 // The status if a file cannot be read, or an output cannot be written.
@@ -56,7 +56,7 @@ fn handled(rt: &HostRuntime, request: &Request<'_>) -> u8 {
 
 fn main(rt: HostRuntime) -> io::Result<ExitCode> {
     let words: Vec<String> = env::args(&rt)?.collect(rt.alloc())?;
-    match request_of(rt.alloc(), &words) {
+    match request_in(rt.alloc(), &words) {
         Ok(request) => Ok(ExitCode::from(handled(&rt, &request))),
         Err(error) => {
             error.print(&rt)?;

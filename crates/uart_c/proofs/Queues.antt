@@ -1,26 +1,6 @@
 -- The front of a queue in an array is taken away.
-use Rattle.std.proofs.Common.{◌≡◌, ℕ, zero, suc, ◌+◌, ◌-◌, ◌<◌, ◌≤◌, min, List, [], ◌∷◌, ◌++◌, Some, take, drop, map, length, slice_get}
-use Rattle.std.proofs.Common.{slice_set, refl, sym, ap, ◌∙◌, arith}
-use Rattle.std.proofs.lemmas.List.{take-take, take_min, drop-take, drop-map, length-take, length-map}
-
--- the rest of the array moves down, and the length falls by one
-pub popped : {X : Type 0} (n room len : ℕ) (items new : List X) → len ≡ length (take n items) → length items ≡ room → 0 < len →
-    take (room - 1) new ≡ take (room - 1) (drop 1 items) → take (len - 1) new ≡ drop 1 (take n items)
-popped n room len items new is full some moved =
-    let short : len ≡ min n (length items) = is ∙ length-take n items in
-    let le : len - 1 ≤ room - 1 = omega (arith, short, full) in
-    let more : 1 + (len - 1) ≡ len = omega (arith, some) in
-    sym (take-take (len - 1) (room - 1) new le) ∙ ap (λ xs. take (len - 1) xs) moved ∙
-    take-take (len - 1) (room - 1) (drop 1 items) le ∙
-    (sym (drop-take 1 (len - 1) items) ∙ ap (λ k. drop 1 (take k items)) (more ∙ short) ∙ ap (λ xs. drop 1 xs) (take_min n items))
-
--- the same of what the items mean
-pub popped_map : {X Y : Type 0} (f : X → Y) (n room len : ℕ) (items new : List X) → len ≡ length (map f (take n items)) →
-    length items ≡ room → 0 < len → take (room - 1) new ≡ take (room - 1) (drop 1 items) →
-    map f (take (len - 1) new) ≡ drop 1 (map f (take n items))
-popped_map f n room len items new is full some moved =
-    ap (λ xs. map f xs) (popped n room len items new (is ∙ length-map (take n items) f) full some moved) ∙
-    sym (drop-map f 1 (take n items))
+use Rattle.std.proofs.Common.{◌≡◌, ℕ, zero, suc, ◌+◌, ◌<◌, List, [], ◌∷◌, ◌++◌, Some, take, drop, length, slice_get}
+use Rattle.std.proofs.Common.{slice_set, refl, ap, ◌∙◌, arith}
 
 -- nothing is left behind the only item
 pub alone : {X : Type 0} (xs : List X) → 1 ≡ length xs → [] ≡ drop 1 xs

@@ -34,15 +34,15 @@ parity_of parity =
     else if parity == UART_PARITY_FORCED_0 then Forced0
     else Disabled
 
--- the rate is its number
+-- in the order of the header; the rate is its number
 abbrev pub config_of : UartConfig → Config
 config_of c =
     record {
-      interrupts = record { 0 = c.interrupts };
       frequency = c.frequency;
-      prescaler_division_factor = if is_on c.has_prescaler then Some c.prescaler_division_factor else None;
-      fifo_trigger_level = level_of c.fifo_trigger_level;
       baud_rate = Custom c.baud_rate;
+      prescaler_division_factor = if is_on c.has_prescaler then Some c.prescaler_division_factor else None;
+      interrupts = record { 0 = c.interrupts };
+      fifo_trigger_level = level_of c.fifo_trigger_level;
       data_bits = word_length_of c.data_bits;
       extra_stop_bits = is_on c.extra_stop_bits;
       parity = parity_of c.parity;

@@ -1,5 +1,5 @@
 -- The chip that the data of C are.
-use Rattle.std.specs.Prelude.{ℕ, false, [], Option, Some, None, if◌then◌else◌, ◌==◌}
+use Rattle.std.specs.Prelude.{ℕ, Option, Some, None, if◌then◌else◌, ◌==◌}
 use Rattle.uart_c.specs.Queue.{is_on, bytes_of, characters_of, wire_of, capacity_of}
 use Rattle.uart_c.specs.declared.chip.UartChip.{UartChip}
 use Rattle.uart_c.specs.declared.chip.UartLatches.{UartLatches}
@@ -11,7 +11,7 @@ use Rattle.uart_chip.specs.declared.event.Chip.TheVariants.{Uart16550A, Uart1645
 use Rattle.uart_chip.specs.declared.transmitter.Shifting.{Shifting}
 use Rattle.uart_chip.specs.Chip.{ChipState, LatchesState}
 use Rattle.uart_chip.specs.Modem.{ModemState}
-use Rattle.uart_chip.specs.Receiver.{ReceiverState}
+use Rattle.uart_chip.specs.Receiver.{ReceiverState, fresh}
 use Rattle.uart_chip.specs.Transmitter.{TransmitterState}
 use Rattle.uart_spec.specs.declared.registers.fifo_trigger_level.FifoTriggerLevel.{FifoTriggerLevel}
 use Rattle.uart_spec.specs.declared.registers.fifo_trigger_level.FifoTriggerLevel.TheVariants.{One, Four, Eight}
@@ -39,10 +39,10 @@ abbrev pub trigger_of : (characters : ℕ) → FifoTriggerLevel
 trigger_of characters =
     if characters == 1 then One else if characters == 4 then Four else if characters == 8 then Eight else Fourteen
 
--- without a schedule
+-- without a schedule: no arrivals and no marks, as after power-on
 abbrev pub receiver_of : UartReceiver → ReceiverState
 receiver_of r =
-    record {
+    record (fresh 0 0) {
       queue = characters_of r.queue;
       is_overrun = is_on r.is_overrun;
       is_front_reported = is_on r.is_front_reported;
@@ -50,9 +50,6 @@ receiver_of r =
       timeout_ticks = r.timeout_ticks;
       timeout_limit = r.timeout_limit;
       trigger = trigger_of r.trigger;
-      arrived = 0;
-      marks = [];
-      is_stray_lost = false;
     }
 
 abbrev pub modem_of : UartModem → ModemState

@@ -5,7 +5,6 @@ ghost use Rattle.uart_c.specs.Status.{new_status};
 ghost use Rattle.uart_c.specs.declared.codes.TheConstants.{UART_OK, UART_BAD_ERRORS, UART_BAD_LINES};
 ghost use Rattle.uart_chip.specs.Chip as spec;
 ghost use Rattle.uart_chip.specs.Masks.{IsWithin};
-ghost use Rattle.uart_chip.specs.Receiver.{waiting};
 ghost use Rattle.uart_chip.specs.Transmitter.{held};
 ghost use Rattle.uart_spec.specs.Bits.{flag};
 ghost use Rattle.uart_spec.specs.declared.baud.TheConstants.{NUM_REGISTERS};
@@ -142,9 +141,9 @@ pub extern "C" fn uart_chip_receive_room(chip: &UartChip) -> usize
 /// How many characters wait for the guest to read them.
 #[unsafe(no_mangle)]
 pub extern "C" fn uart_chip_waiting_len(chip: &UartChip) -> usize
-    ensures { result ≡ length (waiting (chip_of chip.now).receiver) }
+    ensures { result ≡ length (chip_of chip.now).receiver.queue }
 {
-    chip.receiver.waiting_len()
+    chip.receiver.len()
 }
 
 /// How many bytes are still to go out.

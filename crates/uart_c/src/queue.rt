@@ -1,6 +1,5 @@
-//! Queues: the first items of an array are in the queue.
+//! Queues: the first items of an array are in the queue. The functions are over its length and its array, whatever the items are.
 ghost use Rattle.std.specs.Prelude.{◌≡◌, ◌==◌, ◌+◌, ◌-◌, ◌<◌, ◌≤◌, [], ◌∷◌, ◌++◌, take, drop, min, length, slice_get, Some};
-ghost use Rattle.std.specs.Option.{option_map};
 ghost use Rattle.uart_c.specs.Queue as spec;
 ghost use Rattle.uart_spec.specs.declared.baud.TheConstants.{FIFO_SIZE};
 ghost use Rattle.uart_c.specs.declared.queue.TheConstants.{WIRE_ROOM};
@@ -17,13 +16,13 @@ pub fn is_on(flag: u8) -> bool
     flag != 0
 }
 
-/// A character that waits to be read, with its errors where the line status register has them.
+/// The bytes that have gone out, and how many there is room for.
 #[repr(C)]
 #[derive(Clone, Copy)]
-pub struct UartCharacter {
-    pub byte: u8,
-    pub errors: u8,
-    pub is_looped: u8,
+pub struct UartWire {
+    pub len: u8,
+    pub capacity: u8,
+    pub items: [u8; WIRE_ROOM],
 }
 
 /// A queue of bytes.
@@ -34,6 +33,15 @@ pub struct UartBytes {
     pub items: [u8; FIFO_SIZE],
 }
 
+/// A character that waits to be read, with its errors where the line status register has them.
+#[repr(C)]
+#[derive(Clone, Copy)]
+pub struct UartCharacter {
+    pub byte: u8,
+    pub errors: u8,
+    pub is_looped: u8,
+}
+
 /// A queue of characters.
 #[repr(C)]
 #[derive(Clone, Copy)]
@@ -42,146 +50,57 @@ pub struct UartCharacters {
     pub items: [UartCharacter; FIFO_SIZE],
 }
 
-/// The bytes that have gone out, and how many there is room for.
-#[repr(C)]
-#[derive(Clone, Copy)]
-pub struct UartWire {
-    pub len: u8,
-    pub capacity: u8,
-    pub items: [u8; WIRE_ROOM],
-}
-
-// Puts an item behind the first `len`.
-fn put<T: Copy>(items: &mut [T], len: usize, item: T)
-    requires { len < length items.old }
-    ensures len { length items.new ≡ length items.old }
-    ensures items { take (len + 1) items.new ≡ take len items.old ++ item ∷ [] }
+/// How many items are in the queue.
+pub fn count<T>(len: u8, items: &[T]) -> usize
+    ensures { result ≡ length (take len items.now) }
 {
-    items[len] = item;
+    (len as usize).min(items.len())
 }
 
-// Moves what is behind the first `count` of `room` items to the front.
-fn move_down<T: Copy>(items: &mut [T], count: usize, room: usize)
-    requires count { count ≤ room }
-    requires room { room ≤ length items.old }
-    ensures len { length items.new ≡ length items.old }
-    ensures items { take (room - count) items.new ≡ take (room - count) (drop count items.old) }
+/// Puts an item last.
+pub fn push<T: Copy>(len: &mut u8, items: &mut [T], item: T)
+    requires room { length (take len.old items.old) < length items.old }
+    requires fits { length items.old ≤ WIRE_ROOM }
+    ensures size { length items.new ≡ length items.old }
+    ensures items { take len.new items.new ≡ take len.old items.old ++ item ∷ [] }
 {
-    items.copy_within(count..room, 0);
+    let last = count(*len, items);
+    items[last] = item;
+    *len = last as u8 + 1;
 }
 
-impl UartBytes {
-    /// How many bytes are in the queue.
-    pub fn len(&self) -> usize
-        ensures { result ≡ length (spec.bytes_of self.now) }
-    {
-        (self.len as usize).min(FIFO_SIZE)
+/// Takes the front.
+#[tactic(auto, using(crate::proofs::Queues::alone))]
+pub fn pop_front<T: Copy>(len: &mut u8, items: &mut [T]) -> Option<T>
+    requires some { 0 < length items.old }
+    requires fits { length items.old ≤ WIRE_ROOM }
+    ensures size { length items.new ≡ length items.old }
+    ensures front { result ≡ slice_get (take len.old items.old) 0 }
+    ensures after { take len.new items.new ≡ drop 1 (take len.old items.old) }
+{
+    if *len == 0 {
+        return None;
     }
-
-    pub fn is_empty(&self) -> bool
-        ensures { result ≡ (length (spec.bytes_of self.now) == 0) }
-    {
-        self.len == 0
+    let front = items[0];
+    if *len == 1 {
+        *len = 0;
+        return Some(front);
     }
-
-    /// Puts a byte last.
-    pub fn push(&mut self, byte: u8)
-        requires { length (spec.bytes_of self.old) < FIFO_SIZE }
-        ensures { spec.bytes_of self.new ≡ spec.bytes_of self.old ++ byte ∷ [] }
-    {
-        let len = self.len();
-        put(&mut self.items, len, byte);
-        self.len = len as u8 + 1;
-    }
-
-    /// Takes the front.
-    #[tactic(auto, using(crate::proofs::Queues::alone))]
-    pub fn pop_front(&mut self) -> Option<u8>
-        ensures front { result ≡ slice_get (spec.bytes_of self.old) 0 }
-        ensures after { spec.bytes_of self.new ≡ drop 1 (spec.bytes_of self.old) }
-    {
-        let len = self.len();
-        if len == 0 {
-            return None;
-        }
-        let front = self.items[0];
-        if len == 1 {
-            self.len = 0;
-            return Some(front);
-        }
-        move_down(&mut self.items, 1, FIFO_SIZE);
-        self.len = len as u8 - 1;
-        Some(front)
-    }
-
-    /// Empties the queue.
-    pub fn clear(&mut self)
-        ensures { spec.bytes_of self.new ≡ [] }
-    {
-        self.len = 0;
-    }
+    drop_front(len, items);
+    Some(front)
 }
 
-impl UartCharacters {
-    /// How many characters are in the queue.
-    pub fn len(&self) -> usize
-        ensures { result ≡ length (spec.characters_of self.now) }
-    {
-        (self.len as usize).min(FIFO_SIZE)
-    }
-
-    pub fn is_empty(&self) -> bool
-        ensures { result ≡ (length (spec.characters_of self.now) == 0) }
-    {
-        self.len == 0
-    }
-
-    /// Puts a character last.
-    pub fn push(&mut self, character: UartCharacter)
-        requires { length (spec.characters_of self.old) < FIFO_SIZE }
-        ensures { spec.characters_of self.new ≡ spec.characters_of self.old ++ spec.character_of character ∷ [] }
-    {
-        let len = self.len();
-        put(&mut self.items, len, character);
-        self.len = len as u8 + 1;
-    }
-
-    /// The front.
-    pub fn front(&self) -> Option<UartCharacter>
-        ensures { option_map spec.character_of result ≡ slice_get (spec.characters_of self.now) 0 }
-    {
-        if self.len == 0 {
-            return None;
-        }
-        Some(self.items[0])
-    }
-
-    /// Takes the front.
-    #[tactic(auto, using(crate::proofs::Queues::alone))]
-    pub fn pop_front(&mut self) -> Option<UartCharacter>
-        ensures front { option_map spec.character_of result ≡ slice_get (spec.characters_of self.old) 0 }
-        ensures after { spec.characters_of self.new ≡ drop 1 (spec.characters_of self.old) }
-    {
-        let len = self.len();
-        if len == 0 {
-            return None;
-        }
-        let front = self.items[0];
-        if len == 1 {
-            self.len = 0;
-            return Some(front);
-        }
-        move_down(&mut self.items, 1, FIFO_SIZE);
-        self.len = len as u8 - 1;
-        Some(front)
-    }
-
-    /// Empties the queue.
-    pub fn clear(&mut self)
-        ensures { spec.characters_of self.new ≡ [] }
-    {
-        self.len = 0;
-    }
+// The items behind the front move down by one place.
+fn drop_front<T: Copy>(len: &mut u8, items: &mut [T])
+    requires some { 0 < length (take len.old items.old) }
+    requires fits { length items.old ≤ WIRE_ROOM }
+    ensures size { length items.new ≡ length items.old }
+    ensures items { take len.new items.new ≡ drop 1 (take len.old items.old) }
+{
+    let count = count(*len, items);
+    let room = items.len();
+    items.copy_within(1..room, 0);
+    *len = count as u8 - 1;
 }
 
 impl UartWire {
@@ -189,7 +108,7 @@ impl UartWire {
     pub fn len(&self) -> usize
         ensures { result ≡ length (spec.wire_of self.now) }
     {
-        (self.len as usize).min(WIRE_ROOM)
+        count(self.len, &self.items)
     }
 
     /// How many bytes there is room for.
@@ -205,9 +124,7 @@ impl UartWire {
         ensures items { spec.wire_of self.new ≡ spec.wire_of self.old ++ byte ∷ [] }
         ensures capacity { self.new.capacity ≡ self.old.capacity }
     {
-        let len = self.len();
-        put(&mut self.items, len, byte);
-        self.len = len as u8 + 1;
+        push(&mut self.len, &mut self.items, byte);
     }
 
     // Takes the front.
@@ -218,9 +135,7 @@ impl UartWire {
         ensures capacity { self.new.capacity ≡ self.old.capacity }
     {
         let front = self.items[0];
-        let len = self.len();
-        move_down(&mut self.items, 1, WIRE_ROOM);
-        self.len = len as u8 - 1;
+        drop_front(&mut self.len, &mut self.items);
         front
     }
 

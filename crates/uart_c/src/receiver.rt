@@ -1,15 +1,16 @@
 //! The receiver as plain data.
-ghost use Rattle.std.specs.Prelude.{◌≡◌, ◌==◌, ◌-◌, ◌≤◌, length};
+ghost use Rattle.std.specs.Prelude.{◌≡◌, ◌==◌, ◌-◌, ◌<◌, ◌≤◌, [], ◌∷◌, ◌++◌, length};
 ghost use Rattle.std.specs.List.{list_any};
 ghost use Rattle.uart_c.specs.Queue.{character_of};
 ghost use Rattle.uart_c.specs.State.{receiver_of, trigger_of};
 ghost use Rattle.uart_chip.specs.Jumps as jumps;
 ghost use Rattle.uart_chip.specs.Receiver as spec;
-ghost use Rattle.uart_chip.specs.Receiver.{front_errors, has_errors, unreported, waiting};
+ghost use Rattle.uart_chip.specs.Receiver.{front_errors, has_errors, unreported};
 ghost use Rattle.uart_chip.specs.Transmitter.{room};
 ghost use Rattle.uart_chip.specs.declared.event.TheConstants.{MAX_CHAR_TICKS};
+ghost use Rattle.uart_spec.specs.declared.baud.TheConstants.{FIFO_SIZE};
 
-use crate::queue::{UartCharacter, UartCharacters, is_on};
+use crate::queue::{UartCharacter, UartCharacters, count, is_on, pop_front, push};
 use bitflags::Flags;
 use uart_chip::room_of;
 use uart_spec::FIFO_SIZE;
@@ -96,23 +97,32 @@ impl UartReceiver {
         ensures { receiver_of self.new ≡ spec.come_in fifo (character_of new) (receiver_of self.old) }
     {
         if fifo {
-            if self.queue.is_empty() {
+            if self.is_empty() {
                 self.is_front_reported = 0;
             }
-            if self.queue.len() < FIFO_SIZE {
-                self.queue.push(new);
+            if self.len() < FIFO_SIZE {
+                self.put(new);
             } else {
                 self.is_overrun = 1;
             }
         } else {
-            if !self.queue.is_empty() {
+            if !self.is_empty() {
                 self.is_overrun = 1;
             }
-            self.queue.clear();
-            self.queue.push(new);
+            self.queue.len = 0;
+            self.put(new);
             self.is_front_reported = 0;
         }
         self.timeout_ticks = 0;
+    }
+
+    // Puts a character last in the queue.
+    fn put(&mut self, new: UartCharacter)
+        requires { length (receiver_of self.old).queue < FIFO_SIZE }
+        ensures { receiver_of self.new ≡
+            record (receiver_of self.old) { queue = (receiver_of self.old).queue ++ character_of new ∷ [] } }
+    {
+        push(&mut self.queue.len, &mut self.queue.items, new);
     }
 
     /// The end of a tick, with the byte that came back in it.
@@ -129,7 +139,7 @@ impl UartReceiver {
                 },
             );
         }
-        self.timeout_ticks = self.timeout_ticks.saturating_add(1).min(self.timeout_limit);
+        self.count_up(1);
     }
 
     /// Ticks in which no character comes in and none is taken.
@@ -137,10 +147,8 @@ impl UartReceiver {
         ensures { receiver_of self.new ≡ jumps.count_up ticks (receiver_of self.old) }
     {
         if ticks > 0 {
-            self.timeout_ticks = self
-                .timeout_ticks
-                .saturating_add(ticks)
-                .min(self.timeout_limit);
+            let counted = self.timeout_ticks.saturating_add(ticks);
+            self.timeout_ticks = counted.min(self.timeout_limit);
         }
     }
 
@@ -165,7 +173,7 @@ impl UartReceiver {
         ensures after { receiver_of self.new ≡ spec.take_front (receiver_of self.old).queue (receiver_of self.old) }
         ensures byte { result ≡ (receiver_of self.new).last_byte }
     {
-        if let Some(front) = self.queue.pop_front() {
+        if let Some(front) = pop_front(&mut self.queue.len, &mut self.queue.items) {
             self.is_front_reported = 0;
             self.timeout_ticks = 0;
             self.last_byte = front.byte;
@@ -178,7 +186,7 @@ impl UartReceiver {
         ensures { receiver_of self.new ≡ spec.report (receiver_of self.old) }
     {
         self.is_overrun = 0;
-        if !self.queue.is_empty() {
+        if !self.is_empty() {
             self.is_front_reported = 1;
         }
     }
@@ -188,7 +196,7 @@ impl UartReceiver {
     pub fn clear(&mut self)
         ensures { receiver_of self.new ≡ spec.clear (receiver_of self.old) }
     {
-        self.queue.clear();
+        self.queue.len = 0;
     }
 
     pub fn set_trigger(&mut self, trigger: FifoTriggerLevel)
@@ -200,7 +208,7 @@ impl UartReceiver {
     pub fn is_empty(&self) -> bool
         ensures { result ≡ (length (receiver_of self.now).queue == 0) }
     {
-        self.queue.is_empty()
+        self.queue.len == 0
     }
 
     pub fn is_overrun(&self) -> bool
@@ -213,12 +221,10 @@ impl UartReceiver {
     pub fn front_errors(&self) -> LSR
         ensures { result.0 ≡ front_errors (receiver_of self.now).queue (receiver_of self.now).is_front_reported }
     {
-        match self.queue.front() {
-            Some(front) if !is_on(self.is_front_reported) => {
-                LSR::from_bits_retain(front.errors).intersection(LSR::CHARACTER_ERRORS)
-            }
-            _ => LSR::empty(),
+        if self.is_empty() || is_on(self.is_front_reported) {
+            return LSR::empty();
         }
+        LSR::from_bits_retain(self.queue.items[0].errors).intersection(LSR::CHARACTER_ERRORS)
     }
 
     /// Some character has errors that were not reported yet.
@@ -226,7 +232,7 @@ impl UartReceiver {
     pub fn has_unreported_errors(&self) -> bool
         ensures { result ≡ list_any has_errors (unreported (receiver_of self.now).queue (receiver_of self.now).is_front_reported) }
     {
-        let len = self.queue.len();
+        let len = self.len();
         if len == 0 {
             return false;
         }
@@ -241,9 +247,9 @@ impl UartReceiver {
         ensures { result ≡ spec.is_data_pending fifo (receiver_of self.now) }
     {
         if fifo {
-            characters_of(trigger_of(self.trigger)) as usize <= self.queue.len()
+            characters_of(trigger_of(self.trigger)) as usize <= self.len()
         } else {
-            !self.queue.is_empty()
+            !self.is_empty()
         }
     }
 
@@ -251,20 +257,20 @@ impl UartReceiver {
     pub fn is_timed_out(&self, fifo: bool) -> bool
         ensures { result ≡ spec.is_timed_out fifo (receiver_of self.now) }
     {
-        fifo && !self.queue.is_empty() && self.timeout_ticks == self.timeout_limit
+        fifo && !self.is_empty() && self.timeout_ticks == self.timeout_limit
     }
 
     /// How many characters can come in before one is lost.
     pub fn room(&self, fifo: bool) -> usize
         ensures { result ≡ room fifo - length (receiver_of self.now).queue }
     {
-        room_of(fifo).saturating_sub(self.queue.len())
+        room_of(fifo).saturating_sub(self.len())
     }
 
     /// How many characters wait to be read.
-    pub fn waiting_len(&self) -> usize
-        ensures { result ≡ length (waiting (receiver_of self.now)) }
+    pub fn len(&self) -> usize
+        ensures { result ≡ length (receiver_of self.now).queue }
     {
-        self.queue.len()
+        count(self.queue.len, &self.queue.items)
     }
 }

@@ -7,7 +7,7 @@ ghost use Rattle.uart_chip.specs.Jumps as jumps;
 ghost use Rattle.uart_chip.specs.Transmitter as spec;
 ghost use Rattle.uart_chip.specs.Transmitter.{held, looped_byte};
 
-use crate::queue::{UartBytes, UartWire, WIRE_ROOM, is_on};
+use crate::queue::{UartBytes, UartWire, WIRE_ROOM, count, is_on, pop_front, push};
 use uart_spec::FIFO_SIZE;
 
 /// What sends: bytes wait in the queue, one is shifted out, and then it is on the wire.
@@ -49,6 +49,13 @@ impl UartTransmitter {
         }
     }
 
+    // How many bytes are in the queue.
+    fn len(&self) -> usize
+        ensures { result ≡ length (transmitter_of self.now).queue }
+    {
+        count(self.queue.len, &self.queue.items)
+    }
+
     // The wire has room for one more byte.
     fn has_room(&self) -> bool
         ensures { result ≡ nat_lt (length (transmitter_of self.now).wire) (transmitter_of self.now).capacity }
@@ -87,11 +94,11 @@ impl UartTransmitter {
         if is_on(self.is_shifting) {
             return;
         }
-        if let Some(byte) = self.queue.pop_front() {
+        if let Some(byte) = pop_front(&mut self.queue.len, &mut self.queue.items) {
             self.is_shifting = 1;
             self.shift_byte = byte;
             self.ticks_left = self.char_ticks;
-            if self.queue.is_empty() {
+            if self.is_thr_empty() {
                 self.is_thr_pending = 1;
             }
         }
@@ -112,7 +119,7 @@ impl UartTransmitter {
         ensures { result ≡ jumps.next_move loopback (transmitter_of self.now) }
     {
         if !is_on(self.is_shifting) {
-            if self.queue.is_empty() {
+            if self.is_thr_empty() {
                 return None;
             }
             return Some(1);
@@ -140,17 +147,17 @@ impl UartTransmitter {
         ensures { transmitter_of self.new ≡ spec.load fifo byte (transmitter_of self.old) }
     {
         if fifo {
-            if self.queue.len() < FIFO_SIZE {
-                self.queue.push(byte);
+            if self.len() < FIFO_SIZE {
+                push(&mut self.queue.len, &mut self.queue.items, byte);
             } else {
                 self.overflows = self.overflows.saturating_add(1);
             }
         } else {
-            if !self.queue.is_empty() {
+            if !self.is_thr_empty() {
                 self.overflows = self.overflows.saturating_add(1);
             }
-            self.queue.clear();
-            self.queue.push(byte);
+            self.queue.len = 0;
+            push(&mut self.queue.len, &mut self.queue.items, byte);
         }
         self.is_thr_pending = 0;
     }
@@ -159,14 +166,14 @@ impl UartTransmitter {
     pub fn is_thr_empty(&self) -> bool
         ensures { result ≡ (length (transmitter_of self.now).queue == 0) }
     {
-        self.queue.is_empty()
+        self.queue.len == 0
     }
 
     /// Nothing is left to send.
     pub fn is_empty(&self) -> bool
         ensures { result ≡ is_transmitter_empty (transmitter_of self.now).queue (transmitter_of self.now).shift_place }
     {
-        self.queue.is_empty() && !is_on(self.is_shifting)
+        self.is_thr_empty() && !is_on(self.is_shifting)
     }
 
     pub fn is_thr_pending(&self) -> bool
@@ -185,7 +192,7 @@ impl UartTransmitter {
     pub fn clear(&mut self)
         ensures { transmitter_of self.new ≡ record (transmitter_of self.old) { queue = [] } }
     {
-        self.queue.clear();
+        self.queue.len = 0;
     }
 
     /// Takes bytes from the front of the wire: as many as there are, and as `bytes` has room for. Returns how many.
@@ -201,6 +208,6 @@ impl UartTransmitter {
     pub fn held_len(&self) -> usize
         ensures { result ≡ length (held (transmitter_of self.now)) }
     {
-        self.queue.len() + is_on(self.is_shifting) as usize
+        self.len() + is_on(self.is_shifting) as usize
     }
 }

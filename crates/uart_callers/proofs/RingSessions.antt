@@ -1,13 +1,51 @@
--- A run of ring calls is one session.
-use Rattle.std.proofs.Common.{List, [], refl, sym}
+-- A run of ring calls is one session, and what is taken in one with a single `take`.
+use Rattle.std.proofs.Common.{◌≡◌, ℕ, List, [], ◌∷◌, ◌++◌, get_or, refl, sym, ap, ◌∙◌}
 use Rattle.std.proofs.lemmas.List.{append-nil}
+use Rattle.uart_device.specs.Conserved.{kept, waiting}
+use Rattle.uart_run.specs.Chains.{calls_of, answers_of}
 use Rattle.uart_run.specs.Ready.{Ready}
 use Rattle.uart_ring_run.specs.declared.call.RingCall.{RingCall}
+use Rattle.uart_ring_run.specs.declared.call.RingCall.TheVariants as call
 use Rattle.uart_ring_run.specs.declared.call.RingAnswer.{RingAnswer}
-use Rattle.uart_ring_run.specs.RingRun.{RingState, RingLink, under}
+use Rattle.uart_ring_run.specs.declared.call.RingAnswer.TheVariants as answer
+use Rattle.uart_ring_run.specs.RingBytes.{taken, taken_by, to_take}
+use Rattle.uart_ring_run.specs.RingRun.{RingState, RingLink, ring_machine, under}
 use Rattle.uart_ring_run.specs.RingSession.{RanRing, RingConserves}
 
-pub ring_conserves : (s t : RingState) (calls : List RingCall) (answers : List RingAnswer) → RanRing s calls answers t →
-    Ready (under s) → (links : List RingLink) × RingConserves s links t
+pub ring_conserves : (s t : RingState) (calls : List RingCall) (answers : List RingAnswer) (ran : RanRing s calls answers t) →
+    Ready (under s) → RingConserves s ran.links t
 ring_conserves s t calls answers ran ready =
-    (ran.links, ran.sessions [] ran.links [] s t (sym (append-nil ran.links)) refl ran.chain refl ready)
+    ran.sessions [] ran.links [] s t (sym (append-nil ran.links)) refl ran.chain refl ready
+
+last_took : (n : ℕ) (answers : List RingAnswer) (other : RingAnswer) (links : List RingLink) →
+    calls_of links ≡ call.Next ∷ call.Service ∷ call.Take n ∷ [] → answers_of links ≡ answers →
+    taken links ≡ taken_by (call.Take n) (get_or answers 2 other)
+last_took n answers other [] calls same = absurd (cc (calls))
+last_took n answers other (a ∷ []) calls same = absurd (cc (calls))
+last_took n answers other (a ∷ b ∷ []) calls same = absurd (cc (calls))
+last_took n answers other (a ∷ b ∷ c ∷ []) calls same =
+    let next : a.call ≡ call.Next = cc (calls) in
+    let service : b.call ≡ call.Service = cc (calls) in
+    let take : c.call ≡ call.Take n = cc (calls) in
+    ap (λ x. taken_by x a.answer ++ (taken_by b.call b.answer ++ (taken_by c.call c.answer ++ []))) next ∙
+    ap (λ x. taken_by x b.answer ++ (taken_by c.call c.answer ++ [])) service ∙ append-nil (taken_by c.call c.answer) ∙
+    ap (λ x. taken_by x c.answer) take ∙ ap (λ all. taken_by (call.Take n) (get_or all 2 other)) same
+last_took n answers other (a ∷ b ∷ c ∷ d ∷ links) calls same = absurd (cc (calls))
+
+-- on to a mark, a service, and a `take`: its bytes are those taken
+pub received : (s t : RingState) (n : ℕ) (answers : List RingAnswer) (other : RingAnswer) (bytes : List ℕ) →
+    RanRing s (call.Next ∷ call.Service ∷ call.Take n ∷ []) answers t → Ready (under s) →
+    bytes ≡ taken_by (call.Take n) (get_or answers 2 other) →
+    bytes ++ (to_take t ++ waiting (ring_machine t)) ≡ to_take s ++ kept (ring_machine s) (ring_machine t)
+received s t n answers other bytes ran ready is =
+    ap (λ xs. xs ++ (to_take t ++ waiting (ring_machine t)))
+    (is ∙ sym (last_took n answers other ran.links ran.calls_same ran.answers_same)) ∙
+    (ring_conserves s t _ answers ran ready).kept
+
+-- no other answer has bytes
+pub none_taken : (n : ℕ) (a : RingAnswer) → ((bytes : _) → a ≡ answer.Bytes bytes → ⊥) → [] ≡ taken_by (call.Take n) a
+none_taken n (answer.Count count) isnt = refl
+none_taken n (answer.Bytes bytes) isnt = absurd (isnt bytes refl)
+none_taken n (answer.Line line) isnt = refl
+none_taken n (answer.Modem modem) isnt = refl
+none_taken n answer.Done isnt = refl

@@ -14,7 +14,6 @@ use uart_live::LiveChip;
 use uart_machine::Chip;
 use uart_machine::script::Std;
 use uart_ring::Uart16550Ring;
-use uart_ring_run::{RingAnswer, RingCall};
 use uart_spec::registers::{LSR, offsets};
 use uart_spec::{BaudRate, Config, NUM_REGISTERS};
 
@@ -46,9 +45,8 @@ fn a_message_in_a_ring(rt: HostRuntime) -> Result<(), Fail> {
         return Ok(());
     };
     assert_eq!(rt; ring::queue_message(&mut rings, b"hello"), b"o".as_slice());
-    let mut answers = [RingAnswer::Done];
-    ring_running::make_ring_calls(&mut rings, &[RingCall::Service], &mut answers);
-    assert_eq!(rt; answers, [RingAnswer::Count(0)]);
+    let received = ring_running::receive_at_mark(&mut rings);
+    assert_eq!(rt; received.as_slice(), [].as_slice());
     Ok(())
 }
 

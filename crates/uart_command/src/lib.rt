@@ -75,7 +75,7 @@ fn task_of(name: &str, matches: &ArgMatches<'_>) -> Task {
 /// # Errors
 ///
 /// The error of clap: the help, the version, or what is wrong with the words.
-pub fn request_of<'a, S: AsStr>(alloc: Global, words: &'a [S]) -> Result<Request<'a>, Error> {
+pub fn request_in<'a, S: AsStr>(alloc: Global, words: &'a [S]) -> Result<Request<'a>, Error> {
     let mut command = command(alloc)?;
     let matches = command.try_get_matches_from_mut(words)?;
     match matches.subcommand() {

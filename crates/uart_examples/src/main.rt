@@ -14,7 +14,7 @@ use std::path::Path;
 use std::process::ExitCode;
 use std::{env, fs, io};
 use traced::is_driver_trace;
-use uart_command::request_of;
+use uart_command::request_in;
 use uart_machine::script::{Std, play};
 use uart_report::report_on;
 use uart_stored::{bytes_and_output, bytes_of, names_in};
@@ -39,7 +39,7 @@ fn is_as_stored(rt: &HostRuntime, folder: Path<'_>, name: &str) -> io::Result<bo
 fn answer(rt: &HostRuntime, folder: Path<'_>, command: &str) -> io::Result<(Vec<u8>, i32)> {
     let words: Vec<&str> = command.split(' ').collect(rt.alloc())?;
     let mut text = Vec::new(rt.alloc());
-    match request_of(rt.alloc(), &words) {
+    match request_in(rt.alloc(), &words) {
         Ok(request) => {
             let script = fs::read(rt, folder.join(rt.alloc(), request.file)?)?;
             let report = report_on(rt.alloc(), &request, &script)?;

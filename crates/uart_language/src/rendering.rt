@@ -154,13 +154,10 @@ fn push_setup(out: &mut Vec<u8>, dump: &ConfigRegisterDump) -> Result<(), AllocE
     push_register(out, b" mcr ", dump.mcr.bits())
 }
 
-fn push_status(
-    alloc: Global,
-    out: &mut Vec<u8>,
-    dump: &ConfigRegisterDump,
-) -> Result<(), AllocError>
-    ensures { OnOk result (out.new.items ≡ out.old.items ++ status_text dump.now) }
+fn push_dump(alloc: Global, out: &mut Vec<u8>, dump: &ConfigRegisterDump) -> Result<(), AllocError>
+    ensures { OnOk result (out.new.items ≡ out.old.items ++ (setup_text dump.now ++ status_text dump.now)) }
 {
+    push_setup(out, dump)?;
     push_register(out, b" lsr ", dump.lsr.bits())?;
     push_register(out, b" msr ", dump.msr.bits())?;
     push_register(out, b" spr ", dump.spr)?;
@@ -191,8 +188,7 @@ pub fn push_answer(alloc: Global, out: &mut Vec<u8>, answer: &Answer) -> Result<
         }
         Answer::Dump(dump) => {
             out.extend_from_slice(b"ok")?;
-            push_setup(out, dump)?;
-            push_status(alloc, out, dump)
+            push_dump(alloc, out, dump)
         }
         Answer::Stalled(count) => {
             out.extend_from_slice(b"stalled ")?;
@@ -256,15 +252,6 @@ fn mark_letter(mark: ArrivalMark) -> u8
     }
 }
 
-fn push_letters(out: &mut Vec<u8>, marks: &[ArrivalMark]) -> Result<(), AllocError>
-    ensures { OnOk result (out.new.items ≡ out.old.items ++ map mark_letter marks.now) }
-{
-    for mark in marks {
-        out.push(mark_letter(*mark))?;
-    }
-    Ok(())
-}
-
 /// Appends marks in letters, or `-` if there are none.
 fn push_marks(out: &mut Vec<u8>, marks: &[ArrivalMark]) -> Result<(), AllocError>
     ensures { OnOk result (out.new.items ≡ out.old.items ++ marks_text marks.now) }
@@ -273,7 +260,10 @@ fn push_marks(out: &mut Vec<u8>, marks: &[ArrivalMark]) -> Result<(), AllocError
         out.push(b'-')?;
         return Ok(());
     }
-    push_letters(out, marks)
+    for mark in marks {
+        out.push(mark_letter(*mark))?;
+    }
+    Ok(())
 }
 
 fn push_marks_line(out: &mut Vec<u8>, marks: &[ArrivalMark]) -> Result<(), AllocError>

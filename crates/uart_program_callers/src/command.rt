@@ -6,7 +6,7 @@ ghost use Rattle.uart_report.specs.Comments.{without_comments};
 
 use clap::Error;
 use std::alloc::Global;
-use uart_command::asked;
+use uart_command::request_in;
 use uart_report::report_on;
 
 /// Returns whether `geesetrunk` accepts a script, whatever these words request for it. The first word is the program's name.
@@ -19,7 +19,7 @@ pub fn is_accepted(alloc: Global, words: &[&str], script: &[u8]) -> Result<bool,
     ensures refused { IfOk result (λ is. is ≡ false →
         (line : ℕ) × (cause : Cause) × IsFaulty (without_comments script.now) line cause) }
 {
-    let request = asked(alloc, words)?;
+    let request = request_in(alloc, words)?;
     let report = report_on(alloc, &request, script)?;
     Ok(report.status == 0)
 }

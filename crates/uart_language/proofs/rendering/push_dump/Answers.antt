@@ -1,5 +1,5 @@
 use Rattle.std.proofs.Common.{append_assoc}
-use Rattle.uart_language.proofs.rendering.push_status.Goals as goal
+use Rattle.uart_language.proofs.rendering.push_dump.Goals as goal
 
 pub returns : goal.returns
 returns c =
@@ -9,6 +9,7 @@ returns c =
       c.in_ok-push_register-3.ensures,
       c.in_ok-push_register-2.ensures,
       c.in_ok-push_register.ensures,
+      c.in_ok-push_setup.ensures,
       c.bits.ensures,
       c.bits-2.ensures,
       c.from.ensures,
