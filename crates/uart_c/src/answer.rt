@@ -84,13 +84,15 @@ fn of_bytes(kind: u8, received: &[u8]) -> UartAnswer
     }
 }
 
-fn init_error(error: &InitError) -> u8
-    ensures { result ≡ init_code error.now }
+fn init_refused(error: &InitError) -> UartAnswer
+    ensures kind { result.kind ≡ UART_ANSWER_INIT_REFUSED }
+    ensures error { result.value ≡ init_code error.now }
 {
+    let kind = UART_ANSWER_INIT_REFUSED;
     match error {
-        InitError::DeviceNotPresent => UART_INIT_DEVICE_NOT_PRESENT,
-        InitError::InvalidBaudRate(_) => UART_INIT_INVALID_BAUD_RATE,
-        InitError::Stalled => UART_INIT_STALLED,
+        InitError::DeviceNotPresent => of_value(kind, UART_INIT_DEVICE_NOT_PRESENT, 0),
+        InitError::InvalidBaudRate(_) => of_value(kind, UART_INIT_INVALID_BAUD_RATE, 0),
+        InitError::Stalled => of_value(kind, UART_INIT_STALLED, 0),
     }
 }
 
@@ -145,7 +147,7 @@ pub fn shown(answer: &Answer) -> UartAnswer
         Answer::Dump(_) => of_kind(UART_ANSWER_DUMP),
         Answer::Stalled(count) => of_count(UART_ANSWER_STALLED, *count),
         Answer::ReceiveStalled(bytes) => of_bytes(UART_ANSWER_RECEIVE_STALLED, bytes.as_slice()),
-        Answer::InitRefused(error) => of_value(UART_ANSWER_INIT_REFUSED, init_error(error), 0),
+        Answer::InitRefused(error) => init_refused(error),
         Answer::LoopbackRefused(error) => loopback_refused(error),
         Answer::NotConnected(error) => of_value(UART_ANSWER_NOT_CONNECTED, remote_error(error), 0),
         Answer::NoData => of_kind(UART_ANSWER_NO_DATA),

@@ -6,6 +6,9 @@ use std::alloc::{AllocError, Global};
 use std::fmt::Write;
 use uart_machine::script::{Cause, ScriptError, parse};
 
+// What is expected where a word is empty.
+const ONE_SPACE: &str = "exactly one space between two words, and none at the end";
+
 // A first line for a line that is checked by itself.
 const FIRST_LINE: &[u8] = b"chip 16550a 1 1\n";
 
@@ -99,11 +102,7 @@ fn wrong_count(alloc: Global, line: &[u8]) -> Result<Place, AllocError> {
     let word = word_at(line, 0).unwrap_or(&[]);
     if let Some(empty) = line.split(|b| *b == b' ').position(|word| word.is_empty()) {
         let column = column_of(line, empty);
-        return Place::new(
-            alloc,
-            column,
-            "exactly one space between two words, and none at the end",
-        );
+        return Place::new(alloc, column, ONE_SPACE);
     }
     let most = fields_after(word).len() + 1;
     let place = most.min(word_count(line));
@@ -118,8 +117,12 @@ fn wrong_count(alloc: Global, line: &[u8]) -> Result<Place, AllocError> {
 fn bad_field(alloc: Global, line: &[u8]) -> Result<Place, AllocError> {
     let fields = fields_after(word_at(line, 0).unwrap_or(&[]));
     let index = refused_field(alloc, line, fields)?;
-    let wants = fields.get(index).map(|field| field.wants()).unwrap_or("");
-    Place::new(alloc, column_of(line, index.saturating_add(1)), wants)
+    let place = index.saturating_add(1);
+    let wants = match word_at(line, place) {
+        Some(b"") => ONE_SPACE,
+        _ => fields.get(index).map(|field| field.wants()).unwrap_or(""),
+    };
+    Place::new(alloc, column_of(line, place), wants)
 }
 
 fn place_of(alloc: Global, number: u32, line: &[u8], cause: Cause) -> Result<Place, AllocError> {

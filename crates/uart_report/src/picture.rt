@@ -1,6 +1,7 @@
 //! The timeline of a run as an SVG picture.
 
 use crate::history::History;
+use crate::replay::Arrival;
 use crate::shown::{Shown, merged};
 use std::alloc::{AllocError, Global};
 use std::fmt::Write;
@@ -20,8 +21,8 @@ const LETTER: usize = 61;
 
 const STYLE: &str =
     "<style>text{fill:#1f2328}.m{text-anchor:middle}.s{font-size:8px}.c{fill:#ddf4ff;stroke:#0969da}\
-.r{fill:#dafbe1;stroke:#1a7f37}.w{fill:#ffeff7;stroke:#bf3989}.a{fill:#fff8c5;stroke:#9a6700}.o{fill:#fbefff;stroke:#8250df}\
-.b{fill:#b6e3ff;stroke:#0969da}.h{fill:#eac54f;stroke:#7d4e00}.n{font-weight:bold}</style>\n";
+.r{fill:#dafbe1;stroke:#1a7f37}.w{fill:#ffeff7;stroke:#bf3989}.a{fill:#fff8c5;stroke:#9a6700}.e{fill:#ffebe9;stroke:#cf222e}\
+.o{fill:#fbefff;stroke:#8250df}.b{fill:#b6e3ff;stroke:#0969da}.h{fill:#eac54f;stroke:#7d4e00}.n{font-weight:bold}</style>\n";
 
 // A moment of a call, or the call alone if nothing happened in it.
 #[derive(Clone, Copy)]
@@ -144,6 +145,19 @@ fn push_box(text: &mut String, class: &str, words: &str) -> Result<(), AllocErro
     )
 }
 
+// A byte that arrived, with the letters of its errors and of its mark beside it, in small.
+fn push_arrival(
+    alloc: Global,
+    text: &mut String,
+    arrival: Arrival,
+    mark: char,
+) -> Result<(), AllocError> {
+    let (byte, letters) = (arrival.byte, arrival.letters());
+    let class = if letters.is_empty() { "a" } else { "e" };
+    let words = format!(in alloc; "{byte:02x}<tspan class=\"s\" dx=\"1\">{letters}{mark}</tspan>")?;
+    push_box(text, class, &words)
+}
+
 // A bar for this number of bytes, of at most a full queue and a shift register.
 fn push_bar(text: &mut String, class: &str, count: usize) -> Result<(), AllocError> {
     let height = 2 * count.min(17);
@@ -198,13 +212,8 @@ impl Drawing<'_> {
             Lane::Access => push_access(&mut self.text, shown),
             Lane::Arrives => match moment.happened.arrival {
                 Some(arrival) => {
-                    let byte = arrival.byte;
                     let mark = self.history.mark(arrival.number);
-                    push_box(
-                        &mut self.text,
-                        "a",
-                        &format!(in self.alloc; "{byte:02x}{mark}")?,
-                    )
+                    push_arrival(self.alloc, &mut self.text, arrival, mark)
                 }
                 None => Ok(()),
             },

@@ -8,7 +8,7 @@ use uart_16550::backend::Backend;
 use uart_16550::replay::Entry;
 use uart_machine::script::Script;
 use uart_machine::{Call, Device16550, Event};
-use uart_spec::registers::{LCR, offsets};
+use uart_spec::registers::{LCR, LSR, offsets};
 
 /// An access, with the name of its register.
 #[derive(Clone, Copy, PartialEq)]
@@ -24,8 +24,29 @@ pub struct Seen {
 pub struct Arrival {
     /// The byte.
     pub byte: u8,
+    /// Its errors.
+    pub errors: LSR,
     /// The number of the arrival in the schedule, counted from 0.
     pub number: usize,
+}
+
+impl Arrival {
+    /// Returns the letters of its errors, as a script has them: `p` for parity, `f` for framing, `b` for break.
+    pub fn letters(self) -> &'static str {
+        let has_parity = self.errors.contains(LSR::PARITY_ERROR);
+        let has_framing = self.errors.contains(LSR::FRAMING_ERROR);
+        let is_break = self.errors.contains(LSR::BREAK_INTERRUPT);
+        match (has_parity, has_framing, is_break) {
+            (false, false, false) => "",
+            (true, false, false) => "p",
+            (false, true, false) => "f",
+            (false, false, true) => "b",
+            (true, true, false) => "pf",
+            (true, false, true) => "pb",
+            (false, true, true) => "fb",
+            (true, true, true) => "pfb",
+        }
+    }
 }
 
 /// What happens at one tick, up to an access if there is one.
@@ -177,14 +198,18 @@ impl Replay<'_> {
         self.count();
     }
 
-    fn arrive(&mut self, byte: u8) -> Result<(), AllocError> {
+    fn arrive(&mut self, byte: u8, errors: LSR) -> Result<(), AllocError> {
         if self.current.happened.arrival.is_some() {
             self.close()?;
         }
         self.happen();
         let number = self.arrivals;
         self.arrivals = number.saturating_add(1);
-        self.current.happened.arrival = Some(Arrival { byte, number });
+        self.current.happened.arrival = Some(Arrival {
+            byte,
+            errors,
+            number,
+        });
         Ok(())
     }
 
@@ -200,7 +225,7 @@ impl Replay<'_> {
     fn perform(&mut self, event: Event) -> Result<(), AllocError> {
         match event {
             Event::Ticks(ticks) => self.pass(ticks)?,
-            Event::Arrive { byte, .. } => self.arrive(byte)?,
+            Event::Arrive { byte, errors } => self.arrive(byte, LSR::from_bits_retain(errors))?,
             Event::Lines(lines) => self.turn(lines)?,
             Event::Access => self.happen(),
             Event::Mark => {}

@@ -39,7 +39,10 @@ fn push_row(text: &mut String, history: &History, shown: &Shown) -> Result<(), A
         Some(arrival) => {
             let byte = arrival.byte;
             let mark = history.mark(arrival.number);
-            write!(text, "     {byte:02x} {mark}")?;
+            match arrival.letters() {
+                "" => write!(text, "     {byte:02x} {mark}")?,
+                letters => write!(text, " {byte:02x} {letters:>3} {mark}")?,
+            }
         }
         None => write!(text, "         ")?,
     }

@@ -15,7 +15,15 @@ fn push_events(text: &mut String, history: &History, moment: &Moment) -> Result<
     if let Some(arrival) = moment.happened.arrival {
         let byte = arrival.byte;
         let mark = history.mark(arrival.number);
-        writeln!(text, "# tick {tick}: {byte:02x} arrives, mark {mark}")?;
+        match arrival.letters() {
+            "" => writeln!(text, "# tick {tick}: {byte:02x} arrives, mark {mark}")?,
+            letters => {
+                writeln!(
+                    text,
+                    "# tick {tick}: {byte:02x} arrives with errors {letters}, mark {mark}"
+                )?;
+            }
+        }
     }
     if let Some(lines) = moment.happened.lines {
         let digit = lines / 16;
