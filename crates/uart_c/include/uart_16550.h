@@ -238,7 +238,8 @@ enum uart_call_kind {
     UART_READ = 24,             /* len: how many bytes at most */
     UART_SEND = 25,             /* bytes and len */
     UART_SEND_EXACT = 26,       /* bytes and len */
-    UART_WRITE = 27             /* bytes and len */
+    UART_WRITE = 27,            /* bytes and len */
+    UART_DUMP = 28              /* all registers, and the divisor latch */
 };
 
 /* A call. Which fields count depends on its kind. */
@@ -264,6 +265,7 @@ enum uart_answer_kind {
     UART_ANSWER_BYTES = 3,           /* bytes and count */
     UART_ANSWER_REGISTER = 4,        /* value: a register, or the byte that was received */
     UART_ANSWER_LATCH = 5,           /* value and second: DLL and DLM */
+    UART_ANSWER_DUMP = 6,            /* bytes and count: IER, ISR, LCR, MCR, LSR, MSR, SPR, DLL and DLM */
     UART_ANSWER_STALLED = 7,         /* count: how many bytes were sent before a wait came to the limit */
     UART_ANSWER_RECEIVE_STALLED = 8, /* bytes and count: what was received before a wait came to the limit */
     UART_ANSWER_INIT_REFUSED = 9,    /* value: an enum uart_init_error */

@@ -1,5 +1,6 @@
 -- The calls of the driver, their accesses and their answers, as data of C.
-use Rattle.std.specs.Prelude.{◌≡◌, ℕ, List, take, length, if◌then◌else◌}
+use Rattle.std.specs.Prelude.{◌≡◌, ℕ, List, [], ◌∷◌, take, length, if◌then◌else◌}
+use Rattle.uart_16550.specs.declared.dump.ConfigRegisterDump.{ConfigRegisterDump}
 use Rattle.uart_c.specs.Driver.{config_of}
 use Rattle.uart_c.specs.Queue.{is_on}
 use Rattle.uart_c.specs.declared.access.UartAccess.{UartAccess}
@@ -56,7 +57,7 @@ IsCall c call.Msr = c.kind ≡ code.UART_MSR
 IsCall c call.Spr = c.kind ≡ code.UART_SPR
 IsCall c call.DllDlm = c.kind ≡ code.UART_DLL_DLM
 IsCall c call.FifoEnabled = c.kind ≡ code.UART_FIFO_ENABLED
-IsCall c call.Dump = ⊥
+IsCall c call.Dump = c.kind ≡ code.UART_DUMP
 IsCall c (call.TrySend byte) = (c.kind ≡ code.UART_TRY_SEND) × (byte ≡ c.byte)
 IsCall c (call.Enable interrupts) = (c.kind ≡ code.UART_ENABLE) × (interrupts.0 ≡ c.byte)
 IsCall c (call.Disable interrupts) = (c.kind ≡ code.UART_DISABLE) × (interrupts.0 ≡ c.byte)
@@ -72,6 +73,11 @@ IsCall c (call.Text text) = ⊥
 -- these bytes are in the answer
 abbrev pub Holds : UartAnswer → List ℕ → Type 0
 Holds a bytes = (a.count ≡ length bytes) × (take a.count a.bytes ≡ bytes)
+
+-- the registers of a dump, in the order in which they are listed
+abbrev pub registers_of : ConfigRegisterDump → List ℕ
+registers_of d =
+    d.ier.0 ∷ d.isr.0 ∷ d.lcr.0 ∷ d.mcr.0 ∷ d.lsr.0 ∷ d.msr.0 ∷ d.spr ∷ d.dll ∷ d.dlm ∷ []
 
 -- the number of each error
 abbrev pub init_code : InitError → ℕ
@@ -105,7 +111,7 @@ Shows a (answer.Count count) = (a.kind ≡ code.UART_ANSWER_COUNT) × (a.count �
 Shows a (answer.Bytes bytes) = (a.kind ≡ code.UART_ANSWER_BYTES) × Holds a bytes.items
 Shows a (answer.Register value) = (a.kind ≡ code.UART_ANSWER_REGISTER) × (a.value ≡ value)
 Shows a (answer.Latch dll dlm) = (a.kind ≡ code.UART_ANSWER_LATCH) × (a.value ≡ dll) × (a.second ≡ dlm)
-Shows a (answer.Dump dump) = a.kind ≡ code.UART_ANSWER_DUMP
+Shows a (answer.Dump dump) = (a.kind ≡ code.UART_ANSWER_DUMP) × Holds a (registers_of dump)
 Shows a (answer.Stalled count) = (a.kind ≡ code.UART_ANSWER_STALLED) × (a.count ≡ count)
 Shows a (answer.ReceiveStalled bytes) = (a.kind ≡ code.UART_ANSWER_RECEIVE_STALLED) × Holds a bytes.items
 Shows a (answer.InitRefused error) = (a.kind ≡ code.UART_ANSWER_INIT_REFUSED) × (a.value ≡ init_code error)

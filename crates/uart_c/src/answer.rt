@@ -1,6 +1,6 @@
 //! What a call returned, as plain data.
 ghost use Rattle.std.specs.Prelude.{◌≡◌, ◌≤◌, length};
-ghost use Rattle.uart_c.specs.Calls.{Holds, Shows, ShowsLoopback, init_code, remote_code, send_code};
+ghost use Rattle.uart_c.specs.Calls.{Holds, Shows, ShowsLoopback, init_code, registers_of, remote_code, send_code};
 
 use crate::codes::{
     UART_ANSWER_BYTES, UART_ANSWER_COUNT, UART_ANSWER_DONE, UART_ANSWER_DUMP, UART_ANSWER_FLAG,
@@ -12,6 +12,8 @@ use crate::codes::{
     UART_REMOTE_NO_CD, UART_REMOTE_NO_DSR, UART_REMOTE_NOT_CLEAR_TO_SEND, UART_SEND_NO_CAPACITY,
     UART_SEND_REMOTE_NOT_CLEAR_TO_SEND,
 };
+use bitflags::Flags;
+use uart_16550::ConfigRegisterDump;
 use uart_calls::{Answer, CALL_BYTES};
 use uart_spec::{ByteSendError, InitError, LoopbackError, RemoteReadyToReceiveError};
 
@@ -84,6 +86,23 @@ fn of_bytes(kind: u8, received: &[u8]) -> UartAnswer
     }
 }
 
+// The registers of a dump, in the order of its fields.
+fn registers_of(dump: &ConfigRegisterDump) -> [u8; 9]
+    ensures { result ≡ registers_of dump.now }
+{
+    [
+        dump.ier.bits(),
+        dump.isr.bits(),
+        dump.lcr.bits(),
+        dump.mcr.bits(),
+        dump.lsr.bits(),
+        dump.msr.bits(),
+        dump.spr,
+        dump.dll,
+        dump.dlm,
+    ]
+}
+
 fn init_refused(error: &InitError) -> UartAnswer
     ensures kind { result.kind ≡ UART_ANSWER_INIT_REFUSED }
     ensures error { result.value ≡ init_code error.now }
@@ -144,7 +163,7 @@ pub fn shown(answer: &Answer) -> UartAnswer
         Answer::Bytes(bytes) => of_bytes(UART_ANSWER_BYTES, bytes.as_slice()),
         Answer::Register(value) => of_value(UART_ANSWER_REGISTER, *value, 0),
         Answer::Latch(dll, dlm) => of_value(UART_ANSWER_LATCH, *dll, *dlm),
-        Answer::Dump(_) => of_kind(UART_ANSWER_DUMP),
+        Answer::Dump(dump) => of_bytes(UART_ANSWER_DUMP, &registers_of(dump)),
         Answer::Stalled(count) => of_count(UART_ANSWER_STALLED, *count),
         Answer::ReceiveStalled(bytes) => of_bytes(UART_ANSWER_RECEIVE_STALLED, bytes.as_slice()),
         Answer::InitRefused(error) => init_refused(error),

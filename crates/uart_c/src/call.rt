@@ -4,7 +4,7 @@ ghost use Rattle.uart_c.specs.Calls.{IsCall, IsGiven};
 ghost use Rattle.uart_calls.specs.declared.call.Call.{Call};
 
 use crate::codes::{
-    UART_CHECK_CONNECTED, UART_CHECK_PRESENT, UART_DISABLE, UART_DLL_DLM, UART_ENABLE,
+    UART_CHECK_CONNECTED, UART_CHECK_PRESENT, UART_DISABLE, UART_DLL_DLM, UART_DUMP, UART_ENABLE,
     UART_FIFO_ENABLED, UART_FLUSH, UART_IER, UART_INIT, UART_ISR, UART_LCR, UART_LSR, UART_MCR,
     UART_MSR, UART_READ, UART_READ_READY, UART_READY_TO_RECEIVE, UART_READY_TO_SEND, UART_RECEIVE,
     UART_RECEIVE_EXACT, UART_SEND, UART_SEND_EXACT, UART_SPR, UART_TEST_LOOPBACK, UART_TRY_RECEIVE,
@@ -75,6 +75,7 @@ pub fn call_of(call: &UartCall) -> Option<Call>
         UART_SEND => Call::Send(given(call)?),
         UART_SEND_EXACT => Call::SendExact(given(call)?),
         UART_WRITE => Call::Write(given(call)?),
+        UART_DUMP => Call::Dump,
         _ => return None,
     })
 }

@@ -74,6 +74,8 @@ pub const UART_SEND_EXACT: u8 = 26;
 
 pub const UART_WRITE: u8 = 27;
 
+pub const UART_DUMP: u8 = 28;
+
 // Parities: `enum uart_parity`.
 
 pub const UART_PARITY_NONE: u8 = 0;
