@@ -90,16 +90,27 @@ fn of_bytes(kind: u8, received: &[u8]) -> UartAnswer
 fn registers_of(dump: &ConfigRegisterDump) -> [u8; 9]
     ensures { result ≡ registers_of dump.now }
 {
+    let ConfigRegisterDump {
+        ier,
+        isr,
+        lcr,
+        mcr,
+        lsr,
+        msr,
+        spr,
+        dll,
+        dlm,
+    } = *dump;
     [
-        dump.ier.bits(),
-        dump.isr.bits(),
-        dump.lcr.bits(),
-        dump.mcr.bits(),
-        dump.lsr.bits(),
-        dump.msr.bits(),
-        dump.spr,
-        dump.dll,
-        dump.dlm,
+        ier.bits(),
+        isr.bits(),
+        lcr.bits(),
+        mcr.bits(),
+        lsr.bits(),
+        msr.bits(),
+        spr,
+        dll,
+        dlm,
     ]
 }
 
