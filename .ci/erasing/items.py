@@ -269,7 +269,7 @@ class File:
         self.names.append((name, self.at + 1, None))
         at = self.behind_generics(self.at + 2)
         self.bounds(self.at + 2, at)
-        is_register = self.words(at, at + 7) == "( pub ( super ) u8 ) ;"
+        is_register = self.words(at, at + 8) == "( pub ( super ) u8 ) ;"
         if is_register:
             self.change("field", at + 1, at + 4, "pub(crate)")
         self.attribute([one for one in attributes if one[0] != "derive"], ("automatically_derived",))

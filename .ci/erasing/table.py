@@ -54,7 +54,7 @@ LEMMA_FILES = ["uart_spec/src/laws.rt", "uart_16550/src/laws.rt", "uart_ring/src
 LEMMAS = ["uart_spec::registers::every_byte_is_a_value", "uart_spec::registers::masks_are_these"]
 
 # Files whose errors have `core::error::Error` by hand, in errors.rs: Rattle's has no `source`.
-ERRORS = ["uart_spec/src/errors.rs"]
+ERRORS = ["uart_spec/src/errors.rt"]
 
 # The functions that are `const fn`, so that callers can make a driver or a configuration in a `static`.
 CONSTANT = """

@@ -32,9 +32,6 @@ impl ::core::fmt::Display for NonIntegerBaudRateError {
     }
 }
 
-#[automatically_derived]
-impl ::core::error::Error for NonIntegerBaudRateError {}
-
 /// A clock frequency and a baud rate for which there is no whole divisor.
 #[derive(Clone, Debug, Default, PartialEq, Eq, PartialOrd, Hash)]
 pub struct NonIntegerDivisorError {
@@ -65,9 +62,6 @@ impl ::core::fmt::Display for NonIntegerDivisorError {
     }
 }
 
-#[automatically_derived]
-impl ::core::error::Error for NonIntegerDivisorError {}
-
 /// Why there is no divisor for a baud rate.
 #[derive(Clone, Debug, PartialEq, Eq, PartialOrd, Hash)]
 pub enum InvalidDivisorError {
@@ -91,9 +85,6 @@ impl ::core::fmt::Display for InvalidDivisorError {
         }
     }
 }
-
-#[automatically_derived]
-impl ::core::error::Error for InvalidDivisorError {}
 
 /// Why a device cannot be at an address. The stride is checked first.
 #[derive(Clone, Debug, PartialEq, Eq, Hash)]
@@ -124,9 +115,6 @@ impl ::core::fmt::Display for InvalidAddressError {
     }
 }
 
-#[automatically_derived]
-impl ::core::error::Error for InvalidAddressError {}
-
 /// Why an initialisation failed.
 #[derive(Clone, Debug, PartialEq, Eq, Hash)]
 pub enum InitError {
@@ -155,9 +143,6 @@ impl ::core::fmt::Display for InitError {
     }
 }
 
-#[automatically_derived]
-impl ::core::error::Error for InitError {}
-
 /// No received byte is available: LSR did not show `DATA_READY`.
 #[derive(Clone, Debug, PartialEq, Eq, Hash)]
 pub struct ByteReceiveError;
@@ -170,9 +155,6 @@ impl ::core::fmt::Display for ByteReceiveError {
         }
     }
 }
-
-#[automatically_derived]
-impl ::core::error::Error for ByteReceiveError {}
 
 /// Why no byte can be sent at the moment.
 #[derive(Clone, Debug, PartialEq, Eq, Hash)]
@@ -202,9 +184,6 @@ impl ::core::fmt::Display for ByteSendError {
         }
     }
 }
-
-#[automatically_derived]
-impl ::core::error::Error for ByteSendError {}
 
 /// Why the remote seems not to be connected, or not to be ready.
 ///
@@ -243,9 +222,6 @@ impl ::core::fmt::Display for RemoteReadyToReceiveError {
         }
     }
 }
-
-#[automatically_derived]
-impl ::core::error::Error for RemoteReadyToReceiveError {}
 
 /// Why a loopback test failed.
 #[derive(Clone, Debug, PartialEq, Eq, Hash)]
@@ -307,9 +283,6 @@ impl ::core::fmt::Display for LoopbackError {
     }
 }
 
-#[automatically_derived]
-impl ::core::error::Error for LoopbackError {}
-
 /// A wait ended at the spin limit: that many polls in a row were unsuccessful.
 ///
 /// This is not always a fault. The remote may be slow, or may have nothing to send. At 9,600 baud a full FIFO and shift
@@ -330,9 +303,6 @@ impl ::core::fmt::Display for StalledError {
         }
     }
 }
-
-#[automatically_derived]
-impl ::core::error::Error for StalledError {}
 
 /// Why a terminal could not be set up.
 #[derive(Clone, Debug, PartialEq, Eq, Hash)]
@@ -360,9 +330,6 @@ impl ::core::fmt::Display for Uart16550TtyError {
         }
     }
 }
-
-#[automatically_derived]
-impl ::core::error::Error for Uart16550TtyError {}
 
 // A test message as text, if each byte is printable ASCII.
 struct Message<'a>(&'a [u8; 16]);

@@ -3,8 +3,8 @@
 use crate::proved::uart_spec::registers::FifoTriggerLevel;
 
 /// FIFO control register (FCR), offset 2, write only.
-#[derive(Clone, Copy, Debug, PartialEq, Eq, PartialOrd, Ord, Hash, Default)]
-pub struct FCR(pub(super) u8);
+#[derive(Clone, Copy, PartialEq, Eq, PartialOrd, Ord, Hash, Default)]
+pub struct FCR(pub(crate) u8);
 
 impl FCR {
     /// Returns the register with this trigger level. No other bit changes.

@@ -4,5 +4,5 @@
 ///
 /// Every 16550 has the four low bits. A chip without the others ignores them, so a value may read back with fewer bits than
 /// were written.
-#[derive(Clone, Copy, Debug, PartialEq, Eq, PartialOrd, Ord, Hash, Default)]
-pub struct IER(pub(super) u8);
+#[derive(Clone, Copy, PartialEq, Eq, PartialOrd, Ord, Hash, Default)]
+pub struct IER(pub(crate) u8);

@@ -6,8 +6,8 @@ use crate::flags::Flags;
 /// Interrupt status register (ISR), offset 2, read only. Also called interrupt identification register (IIR).
 ///
 /// A read that identifies a `THR_EMPTY` interrupt acknowledges it.
-#[derive(Clone, Copy, Debug, PartialEq, Eq, PartialOrd, Ord, Hash, Default)]
-pub struct ISR(pub(super) u8);
+#[derive(Clone, Copy, PartialEq, Eq, PartialOrd, Ord, Hash, Default)]
+pub struct ISR(pub(crate) u8);
 
 impl ISR {
     /// Returns the pending interrupt. `None` if none is pending, or if its code is not known.

@@ -3,8 +3,8 @@
 use crate::proved::uart_spec::registers::{Parity, WordLength};
 
 /// Line control register (LCR), offset 3: the format of a character on the line, and the divisor latch access bit.
-#[derive(Clone, Copy, Debug, PartialEq, Eq, PartialOrd, Ord, Hash, Default)]
-pub struct LCR(pub(super) u8);
+#[derive(Clone, Copy, PartialEq, Eq, PartialOrd, Ord, Hash, Default)]
+pub struct LCR(pub(crate) u8);
 
 impl LCR {
     /// Returns the number of data bits of a character.

@@ -2,5 +2,5 @@
 
 /// Modem status register (MSR), offset 6: the modem lines, and which of them changed. A read clears the four changes, the
 /// low bits.
-#[derive(Clone, Copy, Debug, PartialEq, Eq, PartialOrd, Ord, Hash, Default)]
-pub struct MSR(pub(super) u8);
+#[derive(Clone, Copy, PartialEq, Eq, PartialOrd, Ord, Hash, Default)]
+pub struct MSR(pub(crate) u8);

@@ -1,8 +1,8 @@
 //! Prescaler division.
 
 /// Prescaler division register (PSD), offset 6 while DLAB is set, on chips that have a prescaler.
-#[derive(Clone, Copy, Debug, PartialEq, Eq, PartialOrd, Ord, Hash, Default)]
-pub struct PSD(pub(super) u8);
+#[derive(Clone, Copy, PartialEq, Eq, PartialOrd, Ord, Hash, Default)]
+pub struct PSD(pub(crate) u8);
 
 impl PSD {
     /// Returns the prescaler division factor, 0 to 15.
