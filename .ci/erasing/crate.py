@@ -175,7 +175,7 @@ def erase(file):
     return text
 
 
-def emitted(root):
+def emitted(root, expand=expanded, kit_of=kit):
     """All files of the emitted folder by name, with their bytes."""
     found = sources(root, table.CRATES)
     wanted = [name for name in found if name not in table.LEFT_OUT]
@@ -184,8 +184,8 @@ def emitted(root):
             raise Failed(f"crates/{name}: listed, and not there")
     to_expand = [name for name in wanted if b"use thiserror::Error" in found[name]]
     with concurrent.futures.ThreadPoolExecutor(4) as pool:
-        version = pool.submit(kit)
-        texts = dict(zip(to_expand, pool.map(lambda name: expanded(root, name), to_expand)))
+        version = pool.submit(kit_of)
+        texts = dict(zip(to_expand, pool.map(lambda name: expand(root, name), to_expand)))
         texts = {name: text_of(name, texts.get(name, found[name])) for name in wanted}
         for name in wanted:
             text_of(name, found[name])
@@ -269,6 +269,19 @@ def manifest(version, found, files):
     lines += [f"{hashlib.sha256(data).hexdigest()}  crates/{name}\n" for name, data in sorted(found.items())]
     lines += [f"{hashlib.sha256(text.encode()).hexdigest()}  {table.OUTPUT}/{name}\n" for name, text in sorted(files.items())]
     return MANIFEST_TEXT + "".join(lines)
+
+
+def compare(files, found, odd):
+    """What differs between the files that are expected and those that are there."""
+    causes = [f"{name}: not a plain file" for name in odd]
+    for name in sorted(files.keys() | found.keys()):
+        if name not in found:
+            causes.append(f"{name}: missing")
+        elif name not in files:
+            causes.append(f"{name}: not expected")
+        elif files[name] != found[name]:
+            causes.append(f"{name}: not what the sources give: run .ci/erase emit")
+    return causes
 
 
 def there(folder):
