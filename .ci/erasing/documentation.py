@@ -1,0 +1,5 @@
+"""The documentation of an emitted file."""
+
+
+def rust(file, text):
+    return text
