@@ -7,6 +7,7 @@ import re
 import subprocess
 
 import documentation
+import examples
 import table
 import words
 from items import File
@@ -112,12 +113,20 @@ def known_functions(files):
     return known
 
 
+def is_inside(one, other):
+    """Whether an edit is inside another one, with which it goes."""
+    if one is other or other.start == other.end:
+        return False
+    if one.start == one.end:
+        return other.start < one.start < other.end
+    return other.start <= one.start and one.end <= other.end
+
+
 def apply(file):
     """The text with its edits, and its tokens as they are to be."""
     out, expected, at = [], [], 0
-    edits = sorted(set(file.edits), key=lambda edit: (edit.start, edit.end))
-    # an edit inside a dropped one goes with it
-    outer = [a for a in edits if not any(b is not a and b.start <= a.start and a.end <= b.end and b.end > b.start for b in edits)]
+    edits = sorted(dict.fromkeys(file.edits), key=lambda edit: (edit.start, edit.end))
+    outer = [one for one in edits if not any(is_inside(one, other) for other in edits)]
     starts = iter(file.code + [None])
     token = next(starts)
     for edit in outer:
@@ -150,8 +159,9 @@ def tidy(text):
 def erase(file):
     """The Rust text of a file."""
     try:
+        file.edits += documentation.edits(file)
         text, expected = apply(file)
-        text = tidy(documentation.rust(file, text))
+        text = tidy(text)
         found = [token.text for token in tokens(text, False)[0]]
     except Refused as cause:
         raise Failed(refusal(file.name, file.text, cause)) from cause
@@ -203,7 +213,7 @@ def files_of(texts):
     if causes:
         raise Failed("\n".join(causes))
     check_whole(read_files, texts)
-    files = {"mod.rs": ROOT_TEXT}
+    files = {"mod.rs": ROOT_TEXT, examples.SHARED_NAME: examples.SHARED}
     dropped = collections.Counter()
     for file in read_files:
         dropped.update(one for one in file.dropped)

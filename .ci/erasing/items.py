@@ -27,6 +27,7 @@ class File:
         self.name, self.module, self.text, self.table = name, module, text, allow
         self.code, self.comments = tokens(text)
         self.edits, self.dropped, self.functions = [], [], []
+        self.places = []
         self.modules, self.types, self.traits, self.implementations, self.names = [], [], [], [], []
         self.is_lemmas = name in allow.LEMMA_FILES
         self.at = 0
@@ -43,6 +44,10 @@ class File:
 
     def kind(self, at):
         return self.code[at].kind if 0 <= at < len(self.code) else ""
+
+    def next_code(self, offset):
+        """Where the next token begins."""
+        return next((token.start for token in self.code if token.start >= offset), None)
 
     def words(self, start, end):
         return " ".join(token.text for token in self.code[start:end])
@@ -265,6 +270,7 @@ class File:
         if owner or self.is_lemmas:
             self.refuse("a type inside an item")
         name = self.word(self.at + 1)
+        self.places.append((self.code[first].start, f"{path}::{name}"))
         self.types.append(name)
         self.names.append((name, self.at + 1, None))
         at = self.behind_generics(self.at + 2)
@@ -393,6 +399,7 @@ class File:
         start = self.at
         name = self.word(start + 1)
         whole = f"{path}::{name}"
+        self.places.append((self.code[first].start, whole))
         at = self.behind_generics(start + 2)
         if self.word(at) != "(":
             self.refuse("a function without parameters", at)

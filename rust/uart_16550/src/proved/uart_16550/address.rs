@@ -19,9 +19,13 @@ impl<P: PortAccess> Uart16550<PioBackend<P>> {
     /// # Examples
     ///
     /// ```
+    /// # include!(concat!(env!("CARGO_MANIFEST_DIR"), "/src/proved/examples.rs"));
+    /// # fn main() {}
+    /// # fn example(ports: Device) -> Outcome<()> {
     /// let mut uart = Uart16550::new_port(0x3f8, ports)?;
     /// uart.init(Config::DEFAULT)?;
     /// uart.send_bytes_exact(b"hello")?;
+    /// # Ok(()) }
     /// ```
     pub fn new_port(base_port: u16, access: P) -> Result<Self, InvalidAddressError> {
         Ok(Uart16550::new_with_backend(PioBackend::new(base_port, access)?))
@@ -44,8 +48,17 @@ impl<M: ByteAccess> Uart16550<MmioBackend<M>> {
     /// # Examples
     ///
     /// ```
+    /// # include!(concat!(env!("CARGO_MANIFEST_DIR"), "/src/proved/examples.rs"));
+    /// # fn main() {}
+    /// # struct Memory(Device);
+    /// # impl ByteAccess for Memory {
+    /// #     fn load(&mut self, address: usize) -> u8 { self.0.load(address) }
+    /// #     fn store(&mut self, address: usize, value: u8) { self.0.store(address, value) }
+    /// # }
+    /// # fn example(cells: Device) -> Outcome<()> {
     /// let base = NonZeroUsize::new(0x1000).unwrap();
     /// let mut uart = Uart16550::new_mmio(base, 4, Memory(cells))?;
+    /// # Ok(()) }
     /// ```
     pub fn new_mmio(
         base_address: NonZeroUsize,
@@ -64,8 +77,17 @@ impl<M: ByteAccess> Uart16550<MmioBackend<M>> {
     /// # Examples
     ///
     /// ```
+    /// # include!(concat!(env!("CARGO_MANIFEST_DIR"), "/src/proved/examples.rs"));
+    /// # fn main() {}
+    /// # struct Memory(Device);
+    /// # impl ByteAccess for Memory {
+    /// #     fn load(&mut self, address: usize) -> u8 { self.0.load(address) }
+    /// #     fn store(&mut self, address: usize, value: u8) { self.0.store(address, value) }
+    /// # }
+    /// # fn example(cells: Device) -> Outcome<()> {
     /// let base = NonZeroUsize::new(0x1000).ok_or("base 0")?;
     /// let mut uart = Uart16550::new_mmio_from_address(base, 4, Memory(cells))?;
+    /// # Ok(()) }
     /// ```
     pub fn new_mmio_from_address(
         base_address: NonZeroUsize,

@@ -37,9 +37,13 @@ const PIECE_SIZE: usize = 128;
 /// # Examples
 ///
 /// ```
+/// # include!(concat!(env!("CARGO_MANIFEST_DIR"), "/src/proved/examples.rs"));
+/// # fn main() {}
+/// # fn example(uart: &mut Uart16550<Device>) -> Outcome<()> {
 /// uart.init(Config::DEFAULT)?;
 /// uart.test_loopback()?;
 /// uart.check_connected()?;
+/// # Ok(()) }
 /// ```
 #[derive(Debug)]
 pub struct Uart16550<B> {
@@ -61,9 +65,20 @@ impl<B: Backend> Uart16550<B> {
     /// # Examples
     ///
     /// ```
+    /// # include!(concat!(env!("CARGO_MANIFEST_DIR"), "/src/proved/examples.rs"));
+    /// # fn main() {}
+    /// # struct Console { shown: ArrayVec }
+    /// # struct ArrayVec;
+    /// # impl ArrayVec { fn new() -> Self { ArrayVec } }
+    /// # impl Backend for Console {
+    /// #     fn read(&mut self, _: u8) -> u8 { 0 }
+    /// #     fn write(&mut self, _: u8, _: u8) {}
+    /// # }
+    /// # fn example() -> Outcome<()> {
     /// let mut uart = Uart16550::new_with_backend(Console {
     ///     shown: ArrayVec::new(),
     /// });
+    /// # Ok(()) }
     /// ```
     pub const fn new_with_backend(backend: B) -> Self {
         Uart16550 {
@@ -81,7 +96,11 @@ impl<B: Backend> Uart16550<B> {
     /// # Examples
     ///
     /// ```
-    /// assert_eq!(rt; uart.backend().shown.as_slice(), b"hello".as_slice());
+    /// # include!(concat!(env!("CARGO_MANIFEST_DIR"), "/src/proved/examples.rs"));
+    /// # fn main() {}
+    /// # fn example(uart: &mut Uart16550<Device>) -> Outcome<()> {
+    /// assert_eq!(uart.backend().shown.as_slice(), b"hello".as_slice());
+    /// # Ok(()) }
     /// ```
     pub const fn backend(&self) -> &B {
         &self.backend
@@ -95,7 +114,11 @@ impl<B: Backend> Uart16550<B> {
     /// # Examples
     ///
     /// ```
+    /// # include!(concat!(env!("CARGO_MANIFEST_DIR"), "/src/proved/examples.rs"));
+    /// # fn main() {}
+    /// # fn example(uart: &mut Uart16550<Device>) -> Outcome<()> {
     /// uart.backend_mut().write(offsets::SPR as u8, 0x5a);
+    /// # Ok(()) }
     /// ```
     pub const fn backend_mut(&mut self) -> &mut B {
         &mut self.backend
@@ -110,11 +133,15 @@ impl<B: Backend> Uart16550<B> {
     /// # Examples
     ///
     /// ```
+    /// # include!(concat!(env!("CARGO_MANIFEST_DIR"), "/src/proved/examples.rs"));
+    /// # fn main() {}
+    /// # fn example(uart: &mut Uart16550<Device>) -> Outcome<()> {
     /// uart.enable_interrupts(IER::THR_EMPTY);
-    /// assert_eq!(rt;
+    /// assert_eq!(
     ///     uart.config().interrupts,
     ///     IER::DATA_READY.union(IER::THR_EMPTY)
     /// );
+    /// # Ok(()) }
     /// ```
     pub const fn config(&self) -> &Config {
         &self.config
@@ -129,7 +156,11 @@ impl<B: Backend> Uart16550<B> {
     /// # Examples
     ///
     /// ```
-    /// assert_eq!(rt; uart.fifo_enabled(), true);
+    /// # include!(concat!(env!("CARGO_MANIFEST_DIR"), "/src/proved/examples.rs"));
+    /// # fn main() {}
+    /// # fn example(uart: &mut Uart16550<Device>) -> Outcome<()> {
+    /// assert_eq!(uart.fifo_enabled(), true);
+    /// # Ok(()) }
     /// ```
     pub const fn fifo_enabled(&self) -> bool {
         self.fifo_enabled
@@ -140,7 +171,12 @@ impl<B: Backend> Uart16550<B> {
     /// # Examples
     ///
     /// ```
+    /// # include!(concat!(env!("CARGO_MANIFEST_DIR"), "/src/proved/examples.rs"));
+    /// # fn main() {}
+    /// # fn example(uart: &mut Uart16550<Device>) -> Outcome<bool> {
+    /// # Ok({
     /// uart.spin_limit().get() == 7
+    /// # }) }
     /// ```
     pub const fn spin_limit(&self) -> NonZeroU64 {
         self.spin_limit
@@ -155,7 +191,11 @@ impl<B: Backend> Uart16550<B> {
     /// # Examples
     ///
     /// ```
+    /// # include!(concat!(env!("CARGO_MANIFEST_DIR"), "/src/proved/examples.rs"));
+    /// # fn main() {}
+    /// # fn example(uart: &mut Uart16550<Device>) -> Outcome<()> {
     /// uart.set_spin_limit(NonZeroU64::new(200).unwrap());
+    /// # Ok(()) }
     /// ```
     pub const fn set_spin_limit(&mut self, limit: NonZeroU64) {
         self.spin_limit = limit;

@@ -34,7 +34,11 @@ impl ConfigRegisterDump {
     /// # Examples
     ///
     /// ```
-    /// assert_eq!(rt; shown.divisor(), 12);
+    /// # include!(concat!(env!("CARGO_MANIFEST_DIR"), "/src/proved/examples.rs"));
+    /// # fn main() {}
+    /// # fn example(shown: &ConfigRegisterDump) -> Outcome<()> {
+    /// assert_eq!(shown.divisor(), 12);
+    /// # Ok(()) }
     /// ```
     pub const fn divisor(&self) -> u16 {
         256 * self.dlm as u16 + self.dll as u16
@@ -50,14 +54,19 @@ impl ConfigRegisterDump {
     ///
     /// `NonIntegerBaudRateError` if the divisor is 0, or if the baud rate is not a whole number.
     ///
+    /// # Panics
+    ///
+    /// If the divisor is not 0, and the frequency is 0 or the prescaler division factor is above 15.
+    ///
     /// # Examples
     ///
     /// ```
+    /// # use uart_16550::native::*;
     /// let dump = ConfigRegisterDump {
     ///     dll: 12,
     ///     ..ConfigRegisterDump::default()
     /// };
-    /// assert_eq!(rt; dump.baud_rate(&Config::DEFAULT), Ok(BaudRate::Baud9600));
+    /// assert_eq!(dump.baud_rate(&Config::DEFAULT), Ok(BaudRate::Baud9600));
     /// ```
     pub fn baud_rate(&self, config: &Config) -> Result<BaudRate, NonIntegerBaudRateError> {
         let frequency = config.frequency;

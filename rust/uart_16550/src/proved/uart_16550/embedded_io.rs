@@ -59,7 +59,11 @@ impl<B: Backend> Read for Uart16550<B> {
     /// # Examples
     ///
     /// ```
-    /// assert_eq!(rt; uart.read(&mut slots[1..]), Ok(1));
+    /// # include!(concat!(env!("CARGO_MANIFEST_DIR"), "/src/proved/examples.rs"));
+    /// # fn main() {}
+    /// # fn example(uart: &mut Uart16550<Device>, slots: &mut [u8]) -> Outcome<()> {
+    /// assert_eq!(uart.read(&mut slots[1..]), Ok(1));
+    /// # Ok(()) }
     /// ```
     fn read(&mut self, buf: &mut [u8]) -> Result<usize, StalledError> {
         if buf.is_empty() {
@@ -83,10 +87,14 @@ impl<B: Backend> Write for Uart16550<B> {
     /// # Examples
     ///
     /// ```
+    /// # include!(concat!(env!("CARGO_MANIFEST_DIR"), "/src/proved/examples.rs"));
+    /// # fn main() {}
+    /// # fn example(writer: &mut Uart16550<Device>, bytes: &[u8], mut done: usize) -> Result<(), StalledError> {
     /// match writer.write(&bytes[done..]) {
     ///     Ok(count) => done += count,
     ///     Err(error) => return Err(error),
     /// }
+    /// # Ok(()) }
     /// ```
     fn write(&mut self, buf: &[u8]) -> Result<usize, StalledError> {
         if buf.is_empty() {

@@ -11,9 +11,13 @@
 //! # Examples
 //!
 //! ```
+//! # include!(concat!(env!("CARGO_MANIFEST_DIR"), "/src/proved/examples.rs"));
+//! # fn main() {}
+//! # fn example(ports: Device) -> Outcome<()> {
 //! let mut uart = Uart16550::new_port(0x3f8, ports)?;
 //! uart.init(Config::DEFAULT)?;
 //! uart.send_bytes_exact(b"hello")?;
+//! # Ok(()) }
 //! ```
 
 mod address;

@@ -14,9 +14,13 @@ use crate::proved::uart_spec::{Config, StalledError, Uart16550TtyError};
 /// # Examples
 ///
 /// ```
+/// # include!(concat!(env!("CARGO_MANIFEST_DIR"), "/src/proved/examples.rs"));
+/// # fn main() {}
+/// # fn example(uart: Uart16550<Device>) -> Outcome<()> {
 /// let mut terminal = Uart16550Tty::from_inner(uart);
-/// assert!(rt; writeln!(terminal, "hello").is_ok());
-/// assert_eq!(rt; terminal.write_text("\x7f"), Ok(()));
+/// assert!(writeln!(terminal, "hello").is_ok());
+/// assert_eq!(terminal.write_text("\x7f"), Ok(()));
+/// # Ok(()) }
 /// ```
 #[derive(Debug)]
 pub struct Uart16550Tty<B> {
@@ -61,10 +65,18 @@ impl<B: Backend> Uart16550Tty<B> {
     ///
     /// The backend is dropped then, in the state in which the failed call left it.
     ///
+    /// # Panics
+    ///
+    /// If the configuration is not computable (`Config::is_computable`).
+    ///
     /// # Examples
     ///
     /// ```
+    /// # include!(concat!(env!("CARGO_MANIFEST_DIR"), "/src/proved/examples.rs"));
+    /// # fn main() {}
+    /// # fn example() -> Outcome<()> {
     /// let tty = Uart16550Tty::new_with_backend(device(), Config::DEFAULT)?;
+    /// # Ok(()) }
     /// ```
     pub fn new_with_backend(backend: B, config: Config) -> Result<Self, Uart16550TtyError> {
         Self::start(Uart16550::new_with_backend(backend), config)
@@ -91,10 +103,18 @@ impl<P: PortAccess> Uart16550Tty<PioBackend<P>> {
     /// `AddressError` if `Uart16550::new_port` failed. No access was made then. Otherwise those of `new_with_backend`. The
     /// access object is dropped.
     ///
+    /// # Panics
+    ///
+    /// If the configuration is not computable (`Config::is_computable`).
+    ///
     /// # Examples
     ///
     /// ```
+    /// # include!(concat!(env!("CARGO_MANIFEST_DIR"), "/src/proved/examples.rs"));
+    /// # fn main() {}
+    /// # fn example() -> Outcome<()> {
     /// let tty = Uart16550Tty::new_port(0x3f8, device(), Config::DEFAULT)?;
+    /// # Ok(()) }
     /// ```
     pub fn new_port(base_port: u16, access: P, config: Config) -> Result<Self, Uart16550TtyError> {
         match Uart16550::new_port(base_port, access) {
@@ -113,11 +133,19 @@ impl<M: ByteAccess> Uart16550Tty<MmioBackend<M>> {
     /// `AddressError` if `Uart16550::new_mmio` failed. No access was made then. Otherwise those of `new_with_backend`. The
     /// access object is dropped.
     ///
+    /// # Panics
+    ///
+    /// If the configuration is not computable (`Config::is_computable`).
+    ///
     /// # Examples
     ///
     /// ```
+    /// # include!(concat!(env!("CARGO_MANIFEST_DIR"), "/src/proved/examples.rs"));
+    /// # fn main() {}
+    /// # fn example() -> Outcome<()> {
     /// let base = NonZeroUsize::new(0x1000).ok_or("base 0")?;
     /// let tty = Uart16550Tty::new_mmio(base, 4, device(), Config::DEFAULT)?;
+    /// # Ok(()) }
     /// ```
     pub fn new_mmio(
         base_address: NonZeroUsize,
@@ -137,11 +165,19 @@ impl<M: ByteAccess> Uart16550Tty<MmioBackend<M>> {
     ///
     /// Those of `new_mmio`.
     ///
+    /// # Panics
+    ///
+    /// If the configuration is not computable (`Config::is_computable`).
+    ///
     /// # Examples
     ///
     /// ```
+    /// # include!(concat!(env!("CARGO_MANIFEST_DIR"), "/src/proved/examples.rs"));
+    /// # fn main() {}
+    /// # fn example() -> Outcome<()> {
     /// let base = NonZeroUsize::new(0x1000).ok_or("base 0")?;
     /// let tty = Uart16550Tty::new_mmio_from_address(base, 4, device(), Config::DEFAULT)?;
+    /// # Ok(()) }
     /// ```
     pub fn new_mmio_from_address(
         base_address: NonZeroUsize,
@@ -162,8 +198,12 @@ impl<B: Backend> Uart16550Tty<B> {
     /// # Examples
     ///
     /// ```
+    /// # include!(concat!(env!("CARGO_MANIFEST_DIR"), "/src/proved/examples.rs"));
+    /// # fn main() {}
+    /// # fn example(uart: Uart16550<Device>) -> Outcome<()> {
     /// let mut terminal = Uart16550Tty::from_inner(uart);
-    /// assert!(rt; writeln!(terminal, "hello").is_ok());
+    /// assert!(writeln!(terminal, "hello").is_ok());
+    /// # Ok(()) }
     /// ```
     pub const fn from_inner(inner: Uart16550<B>) -> Self {
         Uart16550Tty { inner }
@@ -174,7 +214,11 @@ impl<B: Backend> Uart16550Tty<B> {
     /// # Examples
     ///
     /// ```
-    /// assert_eq!(rt; terminal.inner().fifo_enabled(), fifo_enabled);
+    /// # include!(concat!(env!("CARGO_MANIFEST_DIR"), "/src/proved/examples.rs"));
+    /// # fn main() {}
+    /// # fn example(terminal: &mut Uart16550Tty<Device>, fifo_enabled: bool) -> Outcome<()> {
+    /// assert_eq!(terminal.inner().fifo_enabled(), fifo_enabled);
+    /// # Ok(()) }
     /// ```
     pub const fn inner(&self) -> &Uart16550<B> {
         &self.inner
@@ -185,8 +229,12 @@ impl<B: Backend> Uart16550Tty<B> {
     /// # Examples
     ///
     /// ```
+    /// # include!(concat!(env!("CARGO_MANIFEST_DIR"), "/src/proved/examples.rs"));
+    /// # fn main() {}
+    /// # fn example(terminal: &mut Uart16550Tty<Device>, mut slots: [u8; 2]) -> Outcome<()> {
     /// let uart = terminal.inner_mut();
-    /// assert_eq!(rt; uart.receive_bytes(&mut slots), 2);
+    /// assert_eq!(uart.receive_bytes(&mut slots), 2);
+    /// # Ok(()) }
     /// ```
     pub const fn inner_mut(&mut self) -> &mut Uart16550<B> {
         &mut self.inner
@@ -204,7 +252,11 @@ impl<B: Backend> Uart16550Tty<B> {
     /// # Examples
     ///
     /// ```
-    /// assert_eq!(rt; terminal.write_text("\x7f"), Ok(()));
+    /// # include!(concat!(env!("CARGO_MANIFEST_DIR"), "/src/proved/examples.rs"));
+    /// # fn main() {}
+    /// # fn example(terminal: &mut Uart16550Tty<Device>) -> Outcome<()> {
+    /// assert_eq!(terminal.write_text("\x7f"), Ok(()));
+    /// # Ok(()) }
     /// ```
     pub fn write_text(&mut self, text: &str) -> Result<(), StalledError> {
         let mut done = 0_usize;

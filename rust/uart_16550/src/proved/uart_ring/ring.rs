@@ -51,10 +51,16 @@ impl ::core::error::Error for RingError {}
 /// # Examples
 ///
 /// ```
+/// # include!(concat!(env!("CARGO_MANIFEST_DIR"), "/src/proved/examples.rs"));
+/// # fn main() {}
+/// # use uart_16550::ring::*;
+/// # enum StartError { NoRings(RingError) }
+/// # fn example(alloc: Global, uart: Uart16550<Device>) -> Result<(), StartError> {
 /// let mut ring = match Uart16550Ring::new(alloc, uart, 1024, 256) {
 ///     Ok(ring) => ring,
 ///     Err((_uart, cause)) => return Err(StartError::NoRings(cause)),
 /// };
+/// # Ok(()) }
 /// ```
 pub struct Uart16550Ring<B> {
     uart: Uart16550<B>,
@@ -86,10 +92,16 @@ impl<B: Backend> Uart16550Ring<B> {
     /// # Examples
     ///
     /// ```
+    /// # include!(concat!(env!("CARGO_MANIFEST_DIR"), "/src/proved/examples.rs"));
+    /// # fn main() {}
+    /// # use uart_16550::ring::*;
+    /// # enum StartError { NoRings(RingError) }
+    /// # fn example(alloc: Global, uart: Uart16550<Device>) -> Result<(), StartError> {
     /// let mut ring = match Uart16550Ring::new(alloc, uart, 1024, 256) {
     ///     Ok(ring) => ring,
     ///     Err((_uart, cause)) => return Err(StartError::NoRings(cause)),
     /// };
+    /// # Ok(()) }
     /// ```
     pub fn new(
         alloc: Global,
@@ -122,7 +134,12 @@ impl<B: Backend> Uart16550Ring<B> {
     /// # Examples
     ///
     /// ```
-    /// assert_eq!(rt; ring.transmit_len(), 0);
+    /// # include!(concat!(env!("CARGO_MANIFEST_DIR"), "/src/proved/examples.rs"));
+    /// # fn main() {}
+    /// # use uart_16550::ring;
+    /// # fn example(ring: &mut ring::Uart16550Ring<Device>) -> Outcome<()> {
+    /// assert_eq!(ring.transmit_len(), 0);
+    /// # Ok(()) }
     /// ```
     pub fn transmit_len(&self) -> usize {
         self.transmit.len()
@@ -133,7 +150,12 @@ impl<B: Backend> Uart16550Ring<B> {
     /// # Examples
     ///
     /// ```
-    /// assert_eq!(rt; ring.receive_len(), 2);
+    /// # include!(concat!(env!("CARGO_MANIFEST_DIR"), "/src/proved/examples.rs"));
+    /// # fn main() {}
+    /// # use uart_16550::ring;
+    /// # fn example(ring: &mut ring::Uart16550Ring<Device>) -> Outcome<()> {
+    /// assert_eq!(ring.receive_len(), 2);
+    /// # Ok(()) }
     /// ```
     pub fn receive_len(&self) -> usize {
         self.receive.len()
@@ -147,7 +169,12 @@ impl<B: Backend> Uart16550Ring<B> {
     /// # Examples
     ///
     /// ```
-    /// assert!(rt; ring.is_paused());
+    /// # include!(concat!(env!("CARGO_MANIFEST_DIR"), "/src/proved/examples.rs"));
+    /// # fn main() {}
+    /// # use uart_16550::ring;
+    /// # fn example(ring: &mut ring::Uart16550Ring<Device>) -> Outcome<()> {
+    /// assert!(ring.is_paused());
+    /// # Ok(()) }
     /// ```
     pub fn is_paused(&self) -> bool {
         self.is_paused
@@ -158,7 +185,14 @@ impl<B: Backend> Uart16550Ring<B> {
     /// # Examples
     ///
     /// ```
+    /// # include!(concat!(env!("CARGO_MANIFEST_DIR"), "/src/proved/examples.rs"));
+    /// # fn main() {}
+    /// # use uart_16550::ring;
+    /// # trait Mark { fn mark(&self, _: u8) -> u8 { 0 } }
+    /// # impl Mark for Device {}
+    /// # fn example(ring: &mut ring::Uart16550Ring<Device>, arrival: u8) -> u8 {
     /// ring.inner().backend().mark(arrival)
+    /// # }
     /// ```
     pub fn inner(&self) -> &Uart16550<B> {
         &self.uart
@@ -173,6 +207,12 @@ impl<B: Backend> Uart16550Ring<B> {
     /// # Examples
     ///
     /// ```
+    /// # include!(concat!(env!("CARGO_MANIFEST_DIR"), "/src/proved/examples.rs"));
+    /// # fn main() {}
+    /// # use uart_16550::ring::*;
+    /// # enum StartError { NoDevice(InitError) }
+    /// # struct Port { ring: Uart16550Ring<Device>, overruns: u32, bad_characters: u32 }
+    /// # fn example(mut ring: Uart16550Ring<Device>, config: Config) -> Result<Port, StartError> {
     /// match ring.inner_mut().init(config) {
     ///     Ok(()) => Ok(Port {
     ///         ring,
@@ -181,6 +221,7 @@ impl<B: Backend> Uart16550Ring<B> {
     ///     }),
     ///     Err(cause) => Err(StartError::NoDevice(cause)),
     /// }
+    /// # }
     /// ```
     pub fn inner_mut(&mut self) -> &mut Uart16550<B> {
         &mut self.uart
@@ -191,7 +232,12 @@ impl<B: Backend> Uart16550Ring<B> {
     /// # Examples
     ///
     /// ```
+    /// # include!(concat!(env!("CARGO_MANIFEST_DIR"), "/src/proved/examples.rs"));
+    /// # fn main() {}
+    /// # use uart_16550::ring;
+    /// # fn example(ring: ring::Uart16550Ring<Device>) -> Outcome<()> {
     /// let uart = ring.into_inner();
+    /// # Ok(()) }
     /// ```
     pub fn into_inner(self) -> Uart16550<B> {
         self.uart

@@ -16,10 +16,16 @@ pub const NUM_REGISTERS: usize = 8;
 /// The generator divides the clock by 16, by the divisor, and by the prescaler division factor plus 1. The factor is
 /// between 0 and 15; `None` counts as 0.
 ///
+/// # Panics
+///
+/// If the baud rate or the divisor is 0, if the prescaler division factor is above 15, or if the frequency does
+/// not fit into 32 bits.
+///
 /// # Examples
 ///
 /// ```
-/// assert_eq!(rt; calc_frequency(9_600, 12, None), 1_843_200);
+/// # use uart_16550::native::{*, spec::*};
+/// assert_eq!(calc_frequency(9_600, 12, None), 1_843_200);
 /// ```
 pub fn calc_frequency(baud_rate: u32, divisor: u32, prescaler_division_factor: Option<u32>) -> u32 {
     assert!(
@@ -40,10 +46,15 @@ pub fn calc_frequency(baud_rate: u32, divisor: u32, prescaler_division_factor: O
 ///
 /// `NonIntegerBaudRateError`, with the arguments, if the baud rate is not a whole number.
 ///
+/// # Panics
+///
+/// If the frequency or the divisor is 0, or if the prescaler division factor is above 15.
+///
 /// # Examples
 ///
 /// ```
-/// assert_eq!(rt; calc_baud_rate(1_843_200, 12, None), Ok(9_600));
+/// # use uart_16550::native::{*, spec::*};
+/// assert_eq!(calc_baud_rate(1_843_200, 12, None), Ok(9_600));
 /// ```
 pub fn calc_baud_rate(
     frequency: u32,
@@ -74,10 +85,15 @@ pub fn calc_baud_rate(
 ///   case for 110 baud.
 /// - `OutOfRange`, with the divisor, if one does, but it does not fit into the divisor latch of 16 bits.
 ///
+/// # Panics
+///
+/// If the frequency or the baud rate is 0, or if the prescaler division factor is above 15.
+///
 /// # Examples
 ///
 /// ```
-/// assert_eq!(rt; calc_divisor(1_843_200, 9_600, None), Ok(12));
+/// # use uart_16550::native::{*, spec::*};
+/// assert_eq!(calc_divisor(1_843_200, 9_600, None), Ok(12));
 /// ```
 pub fn calc_divisor(
     frequency: u32,

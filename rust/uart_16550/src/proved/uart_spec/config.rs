@@ -12,8 +12,9 @@ use ::core::cmp::Ordering;
 /// # Examples
 ///
 /// ```
-/// assert_eq!(rt; BaudRate::from_integer(9600), BaudRate::Baud9600);
-/// assert!(rt; BaudRate::Baud9600 < BaudRate::Custom(9600));
+/// # use uart_16550::native::{*, spec::*};
+/// assert_eq!(BaudRate::from_integer(9600), BaudRate::Baud9600);
+/// assert!(BaudRate::Baud9600 < BaudRate::Custom(9600));
 /// ```
 #[derive(Clone, Copy, Debug, PartialEq, Eq, Hash, Default)]
 pub enum BaudRate {
@@ -50,7 +51,13 @@ impl BaudRate {
     /// # Examples
     ///
     /// ```
+    /// # include!(concat!(env!("CARGO_MANIFEST_DIR"), "/src/proved/examples.rs"));
+    /// # fn main() {}
+    /// # use uart_16550::native::spec::{CLK_FREQUENCY_HZ, calc_divisor};
+    /// # fn example(baud_rate: BaudRate) -> Outcome<Result<u16, InvalidDivisorError>> {
+    /// # Ok({
     /// calc_divisor(CLK_FREQUENCY_HZ, baud_rate.to_integer(), None)
+    /// # }) }
     /// ```
     pub const fn to_integer(self) -> u32 {
         match self {
@@ -74,8 +81,9 @@ impl BaudRate {
     /// # Examples
     ///
     /// ```
-    /// assert_eq!(rt; BaudRate::from_integer(9600), BaudRate::Baud9600);
-    /// assert_eq!(rt; BaudRate::from_integer(9601).to_integer(), 9601);
+    /// # use uart_16550::native::{*, spec::*};
+    /// assert_eq!(BaudRate::from_integer(9600), BaudRate::Baud9600);
+    /// assert_eq!(BaudRate::from_integer(9601).to_integer(), 9601);
     /// ```
     pub const fn from_integer(value: u32) -> Self {
         match value {
@@ -125,10 +133,14 @@ impl PartialOrd for BaudRate {
 /// # Examples
 ///
 /// ```
+/// # include!(concat!(env!("CARGO_MANIFEST_DIR"), "/src/proved/examples.rs"));
+/// # fn main() {}
+/// # fn example(uart: &mut Uart16550<Device>) -> Outcome<()> {
 /// uart.init(Config {
 ///     baud_rate: BaudRate::Baud38400,
 ///     ..Config::DEFAULT
 /// })?;
+/// # Ok(()) }
 /// ```
 #[derive(Clone, Debug, PartialEq, Eq, PartialOrd, Ord, Hash)]
 pub struct Config {
@@ -180,7 +192,9 @@ impl Config {
     /// # Examples
     ///
     /// ```
-    /// assert!(rt; config.is_computable());
+    /// # use uart_16550::native::{*, spec::*};
+    /// # let config = Config::DEFAULT;
+    /// assert!(config.is_computable());
     /// ```
     pub fn is_computable(&self) -> bool {
         self.frequency != 0

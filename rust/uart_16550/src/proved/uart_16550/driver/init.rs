@@ -57,7 +57,11 @@ impl<B: Backend> Uart16550<B> {
     /// # Examples
     ///
     /// ```
-    /// assert!(rt; uart.check_present());
+    /// # include!(concat!(env!("CARGO_MANIFEST_DIR"), "/src/proved/examples.rs"));
+    /// # fn main() {}
+    /// # fn example(uart: &mut Uart16550<Device>) -> Outcome<()> {
+    /// assert!(uart.check_present());
+    /// # Ok(()) }
     /// ```
     pub fn check_present(&mut self) -> bool {
         let old = self.read_register(offsets::SPR);
@@ -139,13 +143,21 @@ impl<B: Backend> Uart16550<B> {
     /// - `Stalled` if the transmitter was not empty after `spin_limit` polls. The interrupts of the device are disabled,
     ///   the driver has the new configuration, and the status bits that the polls cleared are saved.
     ///
+    /// # Panics
+    ///
+    /// If the configuration is not computable (`Config::is_computable`). No access was made then.
+    ///
     /// # Examples
     ///
     /// ```
+    /// # include!(concat!(env!("CARGO_MANIFEST_DIR"), "/src/proved/examples.rs"));
+    /// # fn main() {}
+    /// # fn example(uart: &mut Uart16550<Device>) -> Outcome<()> {
     /// uart.init(Config {
     ///     baud_rate: BaudRate::Baud38400,
     ///     ..Config::DEFAULT
     /// })?;
+    /// # Ok(()) }
     /// ```
     pub fn init(&mut self, config: Config) -> Result<(), InitError> {
         // The configuration is stored first and then read in place. So it is copied once, and as a whole.

@@ -165,8 +165,12 @@ impl<B: Backend> Uart16550<B> {
     /// # Examples
     ///
     /// ```
+    /// # include!(concat!(env!("CARGO_MANIFEST_DIR"), "/src/proved/examples.rs"));
+    /// # fn main() {}
+    /// # fn example(uart: &mut Uart16550<Device>) -> Outcome<()> {
     /// uart.init(Config::DEFAULT)?;
     /// uart.test_loopback()?;
+    /// # Ok(()) }
     /// ```
     pub fn test_loopback(&mut self) -> Result<(), LoopbackError> {
         let mcr = self.mcr();

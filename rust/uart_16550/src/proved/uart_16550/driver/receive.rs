@@ -18,7 +18,11 @@ impl<B: Backend> Uart16550<B> {
     /// # Examples
     ///
     /// ```
-    /// assert!(rt; uart.ready_to_receive().is_err());
+    /// # include!(concat!(env!("CARGO_MANIFEST_DIR"), "/src/proved/examples.rs"));
+    /// # fn main() {}
+    /// # fn example(uart: &mut Uart16550<Device>) -> Outcome<()> {
+    /// assert!(uart.ready_to_receive().is_err());
+    /// # Ok(()) }
     /// ```
     pub fn ready_to_receive(&mut self) -> Result<(), ByteReceiveError> {
         if !self.read_lsr().contains(LSR::DATA_READY) {
@@ -39,7 +43,12 @@ impl<B: Backend> Uart16550<B> {
     /// # Examples
     ///
     /// ```
+    /// # include!(concat!(env!("CARGO_MANIFEST_DIR"), "/src/proved/examples.rs"));
+    /// # fn main() {}
+    /// # fn example(uart: &mut Uart16550<Device>) -> Outcome<Option<u8>> {
+    /// # Ok({
     /// uart.try_receive_byte().ok()
+    /// # }) }
     /// ```
     pub fn try_receive_byte(&mut self) -> Result<u8, ByteReceiveError> {
         self.ready_to_receive()?;
@@ -55,9 +64,13 @@ impl<B: Backend> Uart16550<B> {
     /// # Examples
     ///
     /// ```
+    /// # include!(concat!(env!("CARGO_MANIFEST_DIR"), "/src/proved/examples.rs"));
+    /// # fn main() {}
+    /// # fn example(uart: &mut Uart16550<Device>) -> Outcome<()> {
     /// let mut slots = [0xee; 4];
-    /// assert_eq!(rt; uart.receive_bytes(&mut slots), 2);
-    /// assert_eq!(rt; slots, [0x41, 0x42, 0xee, 0xee]);
+    /// assert_eq!(uart.receive_bytes(&mut slots), 2);
+    /// assert_eq!(slots, [0x41, 0x42, 0xee, 0xee]);
+    /// # Ok(()) }
     /// ```
     pub fn receive_bytes(&mut self, buffer: &mut [u8]) -> usize {
         for (count, slot) in buffer.iter_mut().enumerate() {
@@ -132,11 +145,16 @@ impl<B: Backend> Uart16550<B> {
     /// # Examples
     ///
     /// ```
+    /// # include!(concat!(env!("CARGO_MANIFEST_DIR"), "/src/proved/examples.rs"));
+    /// # fn main() {}
+    /// # enum PortError { NoAnswer { received: usize } }
+    /// # fn example(uart: &mut Uart16550<Device>, answer: &mut [u8]) -> Result<(), PortError> {
     /// if let Err(stall) = uart.receive_bytes_exact(answer) {
     ///     return Err(PortError::NoAnswer {
     ///         received: stall.done,
     ///     });
     /// }
+    /// # Ok(()) }
     /// ```
     pub fn receive_bytes_exact(&mut self, buffer: &mut [u8]) -> Result<(), StalledError> {
         let mut done = 0;

@@ -41,7 +41,13 @@ impl<B: Backend> Uart16550<B> {
     /// # Examples
     ///
     /// ```
+    /// # include!(concat!(env!("CARGO_MANIFEST_DIR"), "/src/proved/examples.rs"));
+    /// # fn main() {}
+    /// # struct Tape;
+    /// # impl Tape { fn new(device: Device) -> Device { device } }
+    /// # fn example(state: &DriverState, accesses: Device) -> Outcome<()> {
     /// let mut uart = Uart16550Tty::from_inner(Uart16550::from_state(Tape::new(accesses), state));
+    /// # Ok(()) }
     /// ```
     pub fn from_state(backend: B, state: &DriverState) -> Self {
         Uart16550 {
@@ -59,7 +65,11 @@ impl<B: Backend> Uart16550<B> {
     /// # Examples
     ///
     /// ```
+    /// # include!(concat!(env!("CARGO_MANIFEST_DIR"), "/src/proved/examples.rs"));
+    /// # fn main() {}
+    /// # fn example(uart: &Uart16550Tty<Device>) -> Outcome<()> {
     /// let state = uart.inner().state();
+    /// # Ok(()) }
     /// ```
     pub fn state(&self) -> DriverState {
         DriverState {

@@ -13,7 +13,11 @@ impl<B: Backend> Uart16550<B> {
     /// # Examples
     ///
     /// ```
-    /// assert_eq!(rt; uart.ier(), IER::THR_EMPTY);
+    /// # include!(concat!(env!("CARGO_MANIFEST_DIR"), "/src/proved/examples.rs"));
+    /// # fn main() {}
+    /// # fn example(uart: &mut Uart16550<Device>) -> Outcome<()> {
+    /// assert_eq!(uart.ier(), IER::THR_EMPTY);
+    /// # Ok(()) }
     /// ```
     pub fn ier(&mut self) -> IER {
         IER::from_bits_retain(self.read_register(offsets::IER))
@@ -26,7 +30,13 @@ impl<B: Backend> Uart16550<B> {
     /// # Examples
     ///
     /// ```
+    /// # include!(concat!(env!("CARGO_MANIFEST_DIR"), "/src/proved/examples.rs"));
+    /// # fn main() {}
+    /// # struct Port { uart: Uart16550<Device> }
+    /// # impl Port {
+    /// # fn example(&mut self) -> Option<InterruptType> {
     /// self.uart.isr().interrupt_type()
+    /// # } }
     /// ```
     pub fn isr(&mut self) -> ISR {
         ISR::from_bits_retain(self.read_register(offsets::ISR))
@@ -37,7 +47,11 @@ impl<B: Backend> Uart16550<B> {
     /// # Examples
     ///
     /// ```
-    /// assert_eq!(rt; uart.lcr(), shown.lcr);
+    /// # include!(concat!(env!("CARGO_MANIFEST_DIR"), "/src/proved/examples.rs"));
+    /// # fn main() {}
+    /// # fn example(uart: &mut Uart16550<Device>, shown: &ConfigRegisterDump) -> Outcome<()> {
+    /// assert_eq!(uart.lcr(), shown.lcr);
+    /// # Ok(()) }
     /// ```
     pub fn lcr(&mut self) -> LCR {
         LCR::from_bits_retain(self.read_register(offsets::LCR))
@@ -48,7 +62,11 @@ impl<B: Backend> Uart16550<B> {
     /// # Examples
     ///
     /// ```
-    /// assert_eq!(rt; uart.mcr(), shown.mcr);
+    /// # include!(concat!(env!("CARGO_MANIFEST_DIR"), "/src/proved/examples.rs"));
+    /// # fn main() {}
+    /// # fn example(uart: &mut Uart16550<Device>, shown: &ConfigRegisterDump) -> Outcome<()> {
+    /// assert_eq!(uart.mcr(), shown.mcr);
+    /// # Ok(()) }
     /// ```
     pub fn mcr(&mut self) -> MCR {
         MCR::from_bits_retain(self.read_register(offsets::MCR))
@@ -63,7 +81,11 @@ impl<B: Backend> Uart16550<B> {
     /// # Examples
     ///
     /// ```
-    /// assert_eq!(rt; uart.lsr(), shown.lsr);
+    /// # include!(concat!(env!("CARGO_MANIFEST_DIR"), "/src/proved/examples.rs"));
+    /// # fn main() {}
+    /// # fn example(uart: &mut Uart16550<Device>, shown: &ConfigRegisterDump) -> Outcome<()> {
+    /// assert_eq!(uart.lsr(), shown.lsr);
+    /// # Ok(()) }
     /// ```
     pub fn lsr(&mut self) -> LSR {
         let lsr = self.read_lsr().union(self.saved_lsr);
@@ -79,7 +101,11 @@ impl<B: Backend> Uart16550<B> {
     /// # Examples
     ///
     /// ```
-    /// assert_eq!(rt; uart.msr(), shown.msr);
+    /// # include!(concat!(env!("CARGO_MANIFEST_DIR"), "/src/proved/examples.rs"));
+    /// # fn main() {}
+    /// # fn example(uart: &mut Uart16550<Device>, shown: &ConfigRegisterDump) -> Outcome<()> {
+    /// assert_eq!(uart.msr(), shown.msr);
+    /// # Ok(()) }
     /// ```
     pub fn msr(&mut self) -> MSR {
         let msr = self.read_msr().union(self.saved_msr);
@@ -92,7 +118,11 @@ impl<B: Backend> Uart16550<B> {
     /// # Examples
     ///
     /// ```
-    /// assert_eq!(rt; uart.spr(), shown.spr);
+    /// # include!(concat!(env!("CARGO_MANIFEST_DIR"), "/src/proved/examples.rs"));
+    /// # fn main() {}
+    /// # fn example(uart: &mut Uart16550<Device>, shown: &ConfigRegisterDump) -> Outcome<()> {
+    /// assert_eq!(uart.spr(), shown.spr);
+    /// # Ok(()) }
     /// ```
     pub fn spr(&mut self) -> SPR {
         self.read_register(offsets::SPR)
@@ -113,7 +143,11 @@ impl<B: Backend> Uart16550<B> {
     /// # Examples
     ///
     /// ```
+    /// # include!(concat!(env!("CARGO_MANIFEST_DIR"), "/src/proved/examples.rs"));
+    /// # fn main() {}
+    /// # fn example(uart: &mut Uart16550<Device>) -> Outcome<()> {
     /// uart.check_connected()?;
+    /// # Ok(()) }
     /// ```
     pub fn check_connected(&mut self) -> Result<(), RemoteReadyToReceiveError> {
         let msr = self.read_msr();
@@ -136,7 +170,11 @@ impl<B: Backend> Uart16550<B> {
     /// # Examples
     ///
     /// ```
+    /// # include!(concat!(env!("CARGO_MANIFEST_DIR"), "/src/proved/examples.rs"));
+    /// # fn main() {}
+    /// # fn example(uart: &mut Uart16550<Device>) -> Outcome<()> {
     /// uart.enable_interrupts(IER::THR_EMPTY);
+    /// # Ok(()) }
     /// ```
     pub fn enable_interrupts(&mut self, interrupts: IER) {
         let enabled = self.ier().union(interrupts);
@@ -149,8 +187,12 @@ impl<B: Backend> Uart16550<B> {
     /// # Examples
     ///
     /// ```
+    /// # include!(concat!(env!("CARGO_MANIFEST_DIR"), "/src/proved/examples.rs"));
+    /// # fn main() {}
+    /// # fn example(uart: &mut Uart16550<Device>) -> Outcome<()> {
     /// uart.disable_interrupts(IER::DATA_READY);
-    /// assert_eq!(rt; uart.ier(), IER::THR_EMPTY);
+    /// assert_eq!(uart.ier(), IER::THR_EMPTY);
+    /// # Ok(()) }
     /// ```
     pub fn disable_interrupts(&mut self, interrupts: IER) {
         let enabled = self.ier().difference(interrupts);
@@ -171,7 +213,11 @@ impl<B: Backend> Uart16550<B> {
     /// # Examples
     ///
     /// ```
-    /// assert_eq!(rt; uart.dll_dlm(), (12, 0));
+    /// # include!(concat!(env!("CARGO_MANIFEST_DIR"), "/src/proved/examples.rs"));
+    /// # fn main() {}
+    /// # fn example(uart: &mut Uart16550<Device>) -> Outcome<()> {
+    /// assert_eq!(uart.dll_dlm(), (12, 0));
+    /// # Ok(()) }
     /// ```
     pub fn dll_dlm(&mut self) -> (DLL, DLM) {
         let lcr = self.read_register(offsets::LCR);
@@ -190,7 +236,11 @@ impl<B: Backend> Uart16550<B> {
     /// # Examples
     ///
     /// ```
-    /// assert_eq!(rt; uart.config_register_dump().dll, 3);
+    /// # include!(concat!(env!("CARGO_MANIFEST_DIR"), "/src/proved/examples.rs"));
+    /// # fn main() {}
+    /// # fn example(uart: &mut Uart16550<Device>) -> Outcome<()> {
+    /// assert_eq!(uart.config_register_dump().dll, 3);
+    /// # Ok(()) }
     /// ```
     pub fn config_register_dump(&mut self) -> ConfigRegisterDump {
         let (dll, dlm) = self.dll_dlm();

@@ -29,7 +29,11 @@ impl<B: Backend> Uart16550<B> {
     /// # Examples
     ///
     /// ```
-    /// assert_eq!(rt; uart.ready_to_send(), Ok(()));
+    /// # include!(concat!(env!("CARGO_MANIFEST_DIR"), "/src/proved/examples.rs"));
+    /// # fn main() {}
+    /// # fn example(uart: &mut Uart16550<Device>) -> Outcome<()> {
+    /// assert_eq!(uart.ready_to_send(), Ok(()));
+    /// # Ok(()) }
     /// ```
     pub fn ready_to_send(&mut self) -> Result<(), ByteSendError> {
         if !self.read_lsr().contains(LSR::THR_EMPTY) {
@@ -85,8 +89,12 @@ impl<B: Backend> Uart16550<B> {
     /// # Examples
     ///
     /// ```
+    /// # include!(concat!(env!("CARGO_MANIFEST_DIR"), "/src/proved/examples.rs"));
+    /// # fn main() {}
+    /// # fn example(uart: &mut Uart16550<Device>, bytes: &[u8]) -> Outcome<()> {
     /// let sent = uart.send_bytes(bytes);
     /// let rest = &bytes[sent..];
+    /// # Ok(()) }
     /// ```
     pub fn send_bytes(&mut self, buffer: &[u8]) -> usize {
         if buffer.is_empty() {
@@ -109,7 +117,11 @@ impl<B: Backend> Uart16550<B> {
     /// # Examples
     ///
     /// ```
-    /// assert_eq!(rt; uart.try_send_byte(b'h'), Ok(()));
+    /// # include!(concat!(env!("CARGO_MANIFEST_DIR"), "/src/proved/examples.rs"));
+    /// # fn main() {}
+    /// # fn example(uart: &mut Uart16550<Device>) -> Outcome<()> {
+    /// assert_eq!(uart.try_send_byte(b'h'), Ok(()));
+    /// # Ok(()) }
     /// ```
     pub fn try_send_byte(&mut self, byte: u8) -> Result<(), ByteSendError> {
         if self.send_bytes(&[byte]) == 0 {
@@ -207,9 +219,14 @@ impl<B: Backend> Uart16550<B> {
     /// # Examples
     ///
     /// ```
+    /// # include!(concat!(env!("CARGO_MANIFEST_DIR"), "/src/proved/examples.rs"));
+    /// # fn main() {}
+    /// # enum PortError { NotSent { sent: usize } }
+    /// # fn example(uart: &mut Uart16550<Device>, question: &[u8]) -> Result<(), PortError> {
     /// if let Err(stall) = uart.send_bytes_exact(question) {
     ///     return Err(PortError::NotSent { sent: stall.done });
     /// }
+    /// # Ok(()) }
     /// ```
     pub fn send_bytes_exact(&mut self, bytes: &[u8]) -> Result<(), StalledError> {
         if self.fifo_enabled {

@@ -32,7 +32,12 @@ impl<B: Backend> Uart16550Ring<B> {
     /// # Examples
     ///
     /// ```
-    /// assert_eq!(rt; ring.take(&mut slots), 2);
+    /// # include!(concat!(env!("CARGO_MANIFEST_DIR"), "/src/proved/examples.rs"));
+    /// # fn main() {}
+    /// # use uart_16550::ring;
+    /// # fn example(ring: &mut ring::Uart16550Ring<Device>, mut slots: [u8; 2]) -> Outcome<()> {
+    /// assert_eq!(ring.take(&mut slots), 2);
+    /// # Ok(()) }
     /// ```
     pub fn take(&mut self, slots: &mut [u8]) -> usize {
         let count = self.receive.read_into(slots);

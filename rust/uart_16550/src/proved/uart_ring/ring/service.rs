@@ -49,11 +49,18 @@ impl<B: Backend> Uart16550Ring<B> {
     /// # Examples
     ///
     /// ```
+    /// # include!(concat!(env!("CARGO_MANIFEST_DIR"), "/src/proved/examples.rs"));
+    /// # fn main() {}
+    /// # use uart_16550::ring::{self, *};
+    /// # struct Port { ring: Uart16550Ring<Device>, overruns: u32 }
+    /// # impl Port {
+    /// # fn example(&mut self) {
     /// for _round in 0..4 {
     ///     if self.ring.service() < MAX_INTERRUPTS {
     ///         break;
     ///     }
     /// }
+    /// # } }
     /// ```
     pub fn service(&mut self) -> usize {
         for count in 0..MAX_INTERRUPTS {

@@ -24,10 +24,17 @@ impl<B: Backend> Uart16550Ring<B> {
     /// # Examples
     ///
     /// ```
+    /// # include!(concat!(env!("CARGO_MANIFEST_DIR"), "/src/proved/examples.rs"));
+    /// # fn main() {}
+    /// # use uart_16550::ring::{self, *};
+    /// # struct Port { ring: Uart16550Ring<Device>, overruns: u32 }
+    /// # impl Port {
+    /// # fn example(&mut self) {
     /// let line = self.ring.take_line();
     /// if line.contains(LSR::OVERRUN_ERROR) {
     ///     self.overruns = self.overruns.saturating_add(1);
     /// }
+    /// # } }
     /// ```
     pub fn take_line(&mut self) -> LSR {
         let line = self.uart.lsr().union(self.line);
@@ -41,8 +48,15 @@ impl<B: Backend> Uart16550Ring<B> {
     /// # Examples
     ///
     /// ```
+    /// # include!(concat!(env!("CARGO_MANIFEST_DIR"), "/src/proved/examples.rs"));
+    /// # fn main() {}
+    /// # use uart_16550::ring::{self, *};
+    /// # struct Port { ring: Uart16550Ring<Device>, overruns: u32 }
+    /// # impl Port {
+    /// # fn example(&mut self) {
     /// let modem = self.ring.take_modem();
     /// let came_back = modem.contains(MSR::DELTA_CTS.union(MSR::CTS));
+    /// # } }
     /// ```
     pub fn take_modem(&mut self) -> MSR {
         let modem = self.uart.msr().union(self.modem);

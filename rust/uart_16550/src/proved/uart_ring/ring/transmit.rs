@@ -41,8 +41,13 @@ impl<B: Backend> Uart16550Ring<B> {
     /// # Examples
     ///
     /// ```
+    /// # include!(concat!(env!("CARGO_MANIFEST_DIR"), "/src/proved/examples.rs"));
+    /// # fn main() {}
+    /// # use uart_16550::ring;
+    /// # fn example<'a>(ring: &mut ring::Uart16550Ring<Device>, message: &'a [u8]) -> &'a [u8] {
     /// let count = ring.queue(message);
     /// &message[count..]
+    /// # }
     /// ```
     pub fn queue(&mut self, bytes: &[u8]) -> usize {
         let count = self.transmit.fill_from_slice(bytes);

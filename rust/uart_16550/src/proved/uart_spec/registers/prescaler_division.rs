@@ -11,6 +11,10 @@ impl PSD {
     }
 
     /// Returns the register with this prescaler division factor. No other bit changes.
+    ///
+    /// # Panics
+    ///
+    /// If the factor is above 15.
     pub const fn set_pdf(self, pdf: u8) -> Self {
         assert!(pdf <= 15, "a prescaler division factor above 15");
         PSD((self.0 & 0b1111_0000) | pdf)
