@@ -28,7 +28,7 @@ class File:
         self.code, self.comments = tokens(text)
         self.edits, self.dropped, self.functions = [], [], []
         self.places = []
-        self.modules, self.types, self.traits, self.implementations, self.names = [], [], [], [], []
+        self.modules, self.types, self.traits, self.implementations = [], [], [], []
         self.is_lemmas = name in allow.LEMMA_FILES
         self.at = 0
         self.inner_attributes()
@@ -196,10 +196,9 @@ class File:
             self.refuse("a `use` of everything")
         elif text == "use std :: fmt ;" and re.search(r"\.write_char\(", self.text):
             self.change("writer", self.at, close, "use ::core::fmt;\nuse ::core::fmt::Write as _;")
-        if visibility == "":
-            for at in range(self.at, close):
-                if self.word(at) == "as" and self.word(at + 1) in self.table.NAMES_OF_STD:
-                    self.refuse("a name of std for something else", at)
+        for at in range(self.at, close):
+            if self.word(at) == "as":
+                self.own_name(at + 1, None)
         self.at = close + 1
 
     def mod(self, first, attributes, visibility, path, owner, end):
@@ -235,8 +234,8 @@ class File:
         if self.is_lemmas:
             self.refuse("a file of lemmas with another item")
         self.attribute(attributes, ())
-        if owner and owner.startswith("trait ") or owner is None:
-            self.names.append((self.word(self.at + 1), self.at + 1, owner))
+        if owner is None or owner.startswith("trait "):
+            self.own_name(self.at + 1, owner)
         close = self.semicolon(self.at)
         if self.word(self.at) == "const":
             self.small_numbers(self.at, close)
@@ -272,7 +271,7 @@ class File:
         name = self.word(self.at + 1)
         self.places.append((self.code[first].start, f"{path}::{name}"))
         self.types.append(name)
-        self.names.append((name, self.at + 1, None))
+        self.own_name(self.at + 1, None)
         at = self.behind_generics(self.at + 2)
         self.bounds(self.at + 2, at)
         is_register = self.words(at, at + 8) == "( pub ( super ) u8 ) ;"
@@ -334,7 +333,7 @@ class File:
             self.refuse("a trait inside an item")
         self.attribute(attributes, ())
         name = self.word(self.at + 1)
-        self.names.append((name, self.at + 1, None))
+        self.own_name(self.at + 1, None)
         self.traits.append(name)
         at = self.at + 2
         while self.word(at) != "{":
@@ -393,12 +392,24 @@ class File:
             self.edits.append(Edit("empty", self.code[first].start, self.code[first + 1].end, ""))
             self.dropped.append(Dropped("empty", self.module, "<>"))
 
+    def own_name(self, at, owner):
+        """Refuses an own name that Rust could take for one of std or of a library."""
+        name = self.word(at)
+        if name in self.table.PRELUDE:
+            self.refuse(f"an own item with a name of the prelude: {name}", at)
+        libraries = self.table.METHODS + self.table.FLAGS + self.table.QUEUE
+        if name in self.table.NAMES_OF_STD or name in libraries:
+            where, _ = self.table.SAME_NAME.get(name, ("nowhere", ""))
+            if not (owner or "").startswith(where):
+                self.refuse(f"an own item with a name of std or of a library: {name}", at)
+
     # Functions.
 
     def function(self, first, attributes, visibility, path, owner, end):
         start = self.at
         name = self.word(start + 1)
         whole = f"{path}::{name}"
+        self.own_name(start + 1, owner)
         self.places.append((self.code[first].start, whole))
         at = self.behind_generics(start + 2)
         if self.word(at) != "(":

@@ -1,5 +1,6 @@
 """What the eraser knows. docs/ERASER.md shows these tables."""
 import collections
+import pathlib
 
 # Rule, what it finds, what it becomes.
 RULES = [
@@ -251,14 +252,23 @@ intersects is_all is_empty iter iter_names remove set symmetric_difference toggl
 """.split()
 # Methods of the queue, in queue.rs.
 QUEUE = "as_slices capacity fill_from_slice is_empty is_full len read_into truncate_front with_capacity".split()
-# Own functions that have the name of one of the above, with the reason that each call is the one that is meant.
+# Own functions that have the name of one of the above or of std (names_of_std.txt): where they may be, and why each call is of
+# the one that is meant.
 SAME_NAME = {
-    "bits": "implements `Flags`",
-    "flags": "implements `Flags`",
-    "from_bits_retain": "implements `Flags`",
-    "from_bits": "`InterruptType` is no register, and has no `Flags`",
-    "cmp": "implements `Ord`",
-    "write_str": "implements `fmt::Write`",
+    "bits": ("impl Flags for ", "implements `Flags`"),
+    "flags": ("impl Flags for ", "implements `Flags`"),
+    "from_bits_retain": ("impl Flags for ", "implements `Flags`"),
+    "from_bits": ("impl InterruptType", "`InterruptType` is no register, and has no `Flags`"),
+    "cmp": ("impl Ord for ", "implements `Ord`"),
+    "partial_cmp": ("impl PartialOrd for ", "implements `PartialOrd`"),
+    "default": ("impl Default for ", "implements `Default`"),
+    "write_str": ("impl fmt :: Write for ", "implements `fmt::Write`"),
+    "fmt": (("impl fmt :: Display for ", "impl std :: fmt :: Display for "), "implements `Display`"),
+    "new": (("impl DriverState", "impl PioBackend", "impl MmioBackend", "impl Uart16550Ring"), "is called by its path alone"),
+    "take": ("impl Uart16550Ring", "a method of a type that has no trait with this name"),
+    "read": (("trait Backend", "trait Read", "impl Backend for ", "impl Read for "), "is called on a `B: Backend` alone"),
+    "write": (("trait Backend", "trait Write", "impl Backend for ", "impl Write for "), "is called on a `B: Backend` alone"),
+    "flush": (("trait Write", "impl Write for "), "is not called"),
 }
 # Casts to `usize`, which has 64 bits in Rattle: the function, and what is cast. All are from `u8` or `u16`.
 CASTS = {
@@ -277,6 +287,15 @@ addr_of include include_str env concat stringify Rc Arc Cell RefCell UnsafeCell 
 WORDS_BEFORE = "if match return in let while for else as mut ref move derive inline where impl".split()
 # Names that a module may not have.
 RESERVED_MODULES = CRATES + "core std alloc proved bitflags circular_buffer arrayvec thiserror flags queue embedded_io_".split()
-# Own functions whose names std has on other types, with the reason that no call can be of std's.
-OWN_NAMES = {}
-NAMES_OF_STD = set()
+NAMES_OF_STD = set(
+    word
+    for line in (pathlib.Path(__file__).parent / "names_of_std.txt").read_text(encoding="ascii").splitlines()
+    if not line.startswith("#")
+    for word in line.split()
+)
+# Names of types, traits and cases that every Rust module sees.
+PRELUDE = """
+Option Some None Result Ok Err Vec String Box Clone Copy Send Sync Sized Unpin Drop Fn FnMut FnOnce AsRef AsMut Into From TryInto
+TryFrom Default Iterator IntoIterator Extend FromIterator DoubleEndedIterator ExactSizeIterator Eq PartialEq Ord PartialOrd
+ToOwned ToString Future IntoFuture Self
+""".split()

@@ -76,10 +76,7 @@ def check_call(file, at, known):
     libraries = set(table.METHODS) | set(table.FLAGS) | set(table.QUEUE)
     is_call = after == "(" or after == "::" and file.word(at + 2) == "<"
     if before == "fn":
-        if word in libraries and word not in table.SAME_NAME:
-            file.refuse(f"an own function with the name of one of a library: {word}", at)
-        if word in table.NAMES_OF_STD and word not in table.SAME_NAME and word not in table.OWN_NAMES:
-            file.refuse(f"an own function with the name of one of std: {word}", at)
+        pass
     elif before == "." and is_call:
         if word not in libraries | known["methods"]:
             file.refuse(f"the method `{word}`", at)
