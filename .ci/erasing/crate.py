@@ -96,8 +96,8 @@ def refusal(name, text, cause):
 
 
 def known_functions(files):
-    """The names of the functions that are kept, by how they are called, and the names of fields and bindings."""
-    known = {"methods": set(), "functions": set(), "free": set(), "values": set()}
+    """The names of the functions that are kept, by how they are called."""
+    known = {"methods": set(), "functions": set(), "free": set()}
     for file in files:
         for function in file.functions:
             if not function.kept:
@@ -106,10 +106,6 @@ def known_functions(files):
             known["functions"].add(function.name)
             if function.owner is None:
                 known["free"].add(function.name)
-        for at, token in enumerate(file.code):
-            if file.word(at - 1) in ("let", "mut", "for", "pub", "&") or file.word(at + 1) in (":", "=") or file.word(at - 1) in ("(", "|"):
-                if token.kind == "word":
-                    known["values"].add(token.text)
     return known
 
 
@@ -175,7 +171,7 @@ def erase(file):
     return text
 
 
-def emitted(root):
+def emitted(root, expand=expanded, kit_of=kit):
     """All files of the emitted folder by name, with their bytes."""
     found = sources(root, table.CRATES)
     wanted = [name for name in found if name not in table.LEFT_OUT]
@@ -184,8 +180,8 @@ def emitted(root):
             raise Failed(f"crates/{name}: listed, and not there")
     to_expand = [name for name in wanted if b"use thiserror::Error" in found[name]]
     with concurrent.futures.ThreadPoolExecutor(4) as pool:
-        version = pool.submit(kit)
-        texts = dict(zip(to_expand, pool.map(lambda name: expanded(root, name), to_expand)))
+        version = pool.submit(kit_of)
+        texts = dict(zip(to_expand, pool.map(lambda name: expand(root, name), to_expand)))
         texts = {name: text_of(name, texts.get(name, found[name])) for name in wanted}
         for name in wanted:
             text_of(name, found[name])
@@ -235,6 +231,10 @@ def check_whole(files, texts):
     for path in special:
         if paths[path] != 1:
             raise Failed(f"{path}: listed, and there are {paths[path]} of it")
+    testing = {path.split("::")[-1] for path, guard in table.GUARDS.items() if guard.test or guard.tested_by}
+    for path, name in [(path, guard.tested_by) for path, guard in table.GUARDS.items()] + list(table.IMPLEMENTED.items()):
+        if name is not None and name not in testing:
+            raise Failed(f"{path}: {name} tests nothing")
     reachable = {file for one in files for file in one.modules} | {f"{crate}/src/lib.rt" for crate in table.CRATES}
     for file in files:
         if file.name not in reachable and not file.is_lemmas:
@@ -269,6 +269,19 @@ def manifest(version, found, files):
     lines += [f"{hashlib.sha256(data).hexdigest()}  crates/{name}\n" for name, data in sorted(found.items())]
     lines += [f"{hashlib.sha256(text.encode()).hexdigest()}  {table.OUTPUT}/{name}\n" for name, text in sorted(files.items())]
     return MANIFEST_TEXT + "".join(lines)
+
+
+def compare(files, found, odd):
+    """What differs between the files that are expected and those that are there."""
+    causes = [f"{name}: not a plain file" for name in odd]
+    for name in sorted(files.keys() | found.keys()):
+        if name not in found:
+            causes.append(f"{name}: missing")
+        elif name not in files:
+            causes.append(f"{name}: not expected")
+        elif files[name] != found[name]:
+            causes.append(f"{name}: not what the sources give: run .ci/erase emit")
+    return causes
 
 
 def there(folder):

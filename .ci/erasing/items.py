@@ -288,7 +288,12 @@ class File:
 
     def fields(self, at, end, path):
         """The fields of a struct or the cases of an enum: ghost fields are dropped, and attributes are known ones."""
+        last = -1
         while at < end:
+            if self.word(at) == "=":
+                if self.kind(at + 1) != "number" or number(self.word(at + 1)) <= last or self.word(at + 2) not in (",", "}"):
+                    self.refuse("numbers of cases that do not ascend", at)
+                last = number(self.word(at + 1))
             if self.kind(at) == "ghost":
                 if self.word(at - 1) not in ("{", ","):
                     self.refuse("something in front of a ghost field", at)
@@ -306,8 +311,11 @@ class File:
             at += 1
 
     def bounds(self, first, end):
-        """Drops `Drop` from the bounds between two indices."""
+        """Drops `Drop` from the bounds between two indices, and refuses parameters that could be taken for a type."""
         for at in range(first, end):
+            if self.word(at - 1) in ("<", ",") and self.kind(at) == "word" and self.word(at + 1) in (":", ",", ">"):
+                if len(self.word(at)) > 1 and at > first:
+                    self.refuse(f"a parameter `{self.word(at)}` that is no single letter", at)
             if self.word(at) != "Drop":
                 continue
             if self.word(at - 1) == "+" and self.word(at + 1) in (",", ">", "+"):
