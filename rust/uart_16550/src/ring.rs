@@ -9,10 +9,10 @@
 //! # Examples
 //!
 //! ```
-//! use uart_16550::backend::Backend;
+//! use uart_16550::native::backend::Backend;
 //! use uart_16550::ring::{Memory, Uart16550Ring};
 //! use uart_16550::spec::registers::IER;
-//! use uart_16550::{Config, Uart16550};
+//! use uart_16550::native::{Config, Uart16550};
 //!
 //! # struct Cells([u8; 8]);
 //! # impl Backend for Cells {
