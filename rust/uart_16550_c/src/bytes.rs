@@ -5,8 +5,8 @@ use crate::settings::{perform, report};
 use crate::status::{Failure, status};
 use core::ffi::{c_char, c_int};
 use core::mem;
-use uart_16550::embedded_io::{Read, ReadReady, Write, WriteReady};
-use uart_16550::{StalledError, Uart16550, Uart16550Tty};
+use uart_16550::native::embedded_io::{Read, ReadReady, Write, WriteReady};
+use uart_16550::native::{StalledError, Uart16550, Uart16550Tty};
 
 #[unsafe(no_mangle)]
 pub unsafe extern "C" fn u16550_ready_to_receive(uart: *mut Memory) -> c_int {
@@ -193,7 +193,7 @@ pub unsafe extern "C" fn u16550_write_text(
     let send = |driver: &mut Driver| {
         // SAFETY: the caller promises that pointers are null or valid.
         let text = unsafe { bytes(text.cast(), len) }?;
-        let text = str::from_utf8(text).map_err(|_| Failure::NotUtf8)?;
+        let text = core::str::from_utf8(text).map_err(|_| Failure::NotUtf8)?;
         Ok(send_text(driver, text))
     };
     // SAFETY: the same.

@@ -3,8 +3,8 @@
 use crate::status::Failure;
 use core::mem::{offset_of, size_of};
 use core::num::NonZeroU64;
-use uart_16550::spec::registers::{FifoTriggerLevel, IER, LSR, MSR, Parity, WordLength};
-use uart_16550::{BaudRate, Config, ConfigRegisterDump, DriverState};
+use uart_16550::native::spec::registers::{FifoTriggerLevel, IER, LSR, MSR, Parity, WordLength};
+use uart_16550::native::{BaudRate, Config, ConfigRegisterDump, DriverState};
 
 // The largest prescaler division factor of which a divisor can be computed.
 const MAX_PRESCALER: u32 = 15;

@@ -2,7 +2,7 @@
 
 use crate::status::Failure;
 use core::ffi::c_void;
-use uart_16550::backend::{Backend, ByteAccess, PortAccess};
+use uart_16550::native::backend::{Backend, ByteAccess, PortAccess};
 
 type ReadFunction = unsafe extern "C" fn(*mut c_void, usize) -> u8;
 type WriteFunction = unsafe extern "C" fn(*mut c_void, usize, u8);

@@ -6,7 +6,7 @@ use crate::memory::{Driver, Memory, end, given, make};
 use crate::status::{Failure, status};
 use core::ffi::c_int;
 use core::num::NonZeroUsize;
-use uart_16550::{InvalidAddressError, Uart16550};
+use uart_16550::native::{InvalidAddressError, Uart16550};
 
 // The place of eight ports, if the proved constructor accepts it.
 fn at_ports(base: u16) -> Result<Place, Failure> {

@@ -5,7 +5,7 @@ use crate::status::Failure;
 use core::mem::{align_of, size_of};
 use core::slice;
 use core::sync::atomic::{AtomicU32, Ordering, compiler_fence};
-use uart_16550::Uart16550;
+use uart_16550::native::Uart16550;
 use uart_16550::ring::Uart16550Ring;
 
 /// A driver over functions of C.

@@ -5,7 +5,7 @@ use crate::memory::{Driver, Memory, given, usable};
 use crate::settings::{perform, report};
 use crate::status::{Failure, status};
 use core::ffi::c_int;
-use uart_16550::spec::registers::IER;
+use uart_16550::native::spec::registers::IER;
 
 #[unsafe(no_mangle)]
 pub unsafe extern "C" fn u16550_ier(uart: *mut Memory, value: *mut u8) -> c_int {

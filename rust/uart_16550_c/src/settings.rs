@@ -5,7 +5,7 @@ use crate::device::Io;
 use crate::memory::{Driver, Memory, given, usable, with};
 use crate::status::{Failure, status};
 use core::ffi::c_int;
-use uart_16550::{Config, LoopbackError};
+use uart_16550::native::{Config, LoopbackError};
 
 /// Makes a call over a driver.
 ///

@@ -1,11 +1,11 @@
 //! What the functions return: one number for each error of the driver, and for each misuse of a function.
 
 use core::ffi::{CStr, c_char, c_int};
-use uart_16550::ring::RingError;
-use uart_16550::{
+use uart_16550::native::{
     ByteReceiveError, ByteSendError, InitError, InvalidAddressError, InvalidDivisorError,
     LoopbackError, NonIntegerBaudRateError, RemoteReadyToReceiveError, StalledError,
 };
+use uart_16550::ring::RingError;
 
 /// Why a call did not do what it is for. The header has the same numbers: those of misuses are negative.
 #[derive(Clone, Copy)]
