@@ -96,8 +96,8 @@ def refusal(name, text, cause):
 
 
 def known_functions(files):
-    """The names of the functions that are kept, by how they are called, and the names of fields and bindings."""
-    known = {"methods": set(), "functions": set(), "free": set(), "values": set()}
+    """The names of the functions that are kept, by how they are called."""
+    known = {"methods": set(), "functions": set(), "free": set()}
     for file in files:
         for function in file.functions:
             if not function.kept:
@@ -106,10 +106,6 @@ def known_functions(files):
             known["functions"].add(function.name)
             if function.owner is None:
                 known["free"].add(function.name)
-        for at, token in enumerate(file.code):
-            if file.word(at - 1) in ("let", "mut", "for", "pub", "&") or file.word(at + 1) in (":", "=") or file.word(at - 1) in ("(", "|"):
-                if token.kind == "word":
-                    known["values"].add(token.text)
     return known
 
 

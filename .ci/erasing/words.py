@@ -76,23 +76,21 @@ def check_call(file, at, known):
     libraries = set(table.METHODS) | set(table.FLAGS) | set(table.QUEUE)
     is_call = after == "(" or after == "::" and file.word(at + 2) == "<"
     if before == "fn":
-        pass
-    elif before == "." and is_call:
+        return
+    if before == "." and is_call:
         if word not in libraries | known["methods"]:
             file.refuse(f"the method `{word}`", at)
-    elif before == "::" and is_call and re.match(r"[a-z_]", word):
+    elif before == "::" and is_call and re.match(r"_*[a-z]", word):
         owner = file.word(at - 2)
         if f"{owner}::{word}" not in table.FUNCTIONS and word not in known["functions"] | set(table.FLAGS):
             file.refuse(f"the function `{owner}::{word}`", at)
-    elif before == "::" and re.match(r"[a-z_]", word) and after != "::" and not in_use(file, at):
-        if word in known["functions"] | libraries or re.match(r"[a-z]", word) and file.word(at - 2)[:1].isupper():
-            file.refuse(f"a function as a value: {word}", at)
-    elif is_call and re.match(r"[a-z_]", word) and before not in (".", "::", "!"):
+    elif before == "::" and re.match(r"_*[a-z]", word) and after != "::" and not in_use(file, at):
+        file.refuse(f"a function as a value: {word}", at)
+    elif is_call and re.match(r"_*[a-z]", word) and before not in (".", "::", "!"):
         if word not in known["free"] | {"u8", "pub", "crate", "super", "Some", "Ok", "Err"} and word not in table.WORDS_BEFORE:
             file.refuse(f"the call `{word}`", at)
-    elif word in known["free"] and not is_call and before not in (".", "::", "fn") and after not in (":", "!", "="):
-        if not in_use(file, at) and word not in known["values"]:
-            file.refuse(f"a function as a value: {word}", at)
+    elif word in known["free"] and not is_call and before not in (".", "::", "fn") and not in_use(file, at):
+        file.refuse(f"a function as a value: {word}", at)
 
 
 def in_use(file, at):
