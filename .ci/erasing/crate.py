@@ -114,7 +114,7 @@ def known_functions(files):
         for function in file.functions:
             if not function.kept:
                 continue
-            known["methods" if function.method else "functions"].add(function.name)
+            known["methods" if function.is_method else "functions"].add(function.name)
             known["functions"].add(function.name)
             if function.owner is None:
                 known["free"].add(function.name)
@@ -264,7 +264,7 @@ def check_traits(files, functions):
     types = {name for file in files for name in file.types}
     traits = {name for file in files for name in file.traits}
     for file in files:
-        for trait, name, _ in file.implementations:
+        for _, name in file.implementations:
             if name not in types:
                 raise Failed(f"crates/{file.name}: an `impl` for {name}, which is not ours")
     for function in functions:

@@ -115,6 +115,7 @@ FORMS = [
     ("struct S;\nimpl Model for S {\n    fn f(&self) -> u8 {\n        3\n    }\n}", "a `Model` with code"),
     # bounds
     ("fn f<B>(x: B) -> B\nwhere\n    B: Drop,\n    B: Copy,\n{\n    x\n}", "a `where` of more than `Drop`"),
+    ("fn f<B>(x: B) -> B\nwhere\n    B: Copy\n    ensures { a }\n{\n    x\n}", "a `where` of more than `Drop`"),
     ("fn f<B: Drop + Copy>(x: B) -> B {\n    x\n}", "a bound `Drop` of another form"),
     ("struct S;\nimpl fmt::Display for S {\n    fn fmt<W: Other>(&self, f: &mut F<W>) -> u8 {\n        3\n    }\n}", "a `fmt` of another form"),
     ("struct S;\nimpl Drop for S {\n    fn drop(self) {\n        let S = self;\n    }\n}", "a name of std or of a library: drop"),
