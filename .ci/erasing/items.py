@@ -39,6 +39,7 @@ class File:
         self.edits, self.dropped, self.functions = [], [], []
         self.places = []
         self.modules, self.types, self.traits, self.implementations = [], [], [], []
+        self.aliases = []
         self.is_lemmas = name in allow.LEMMA_FILES
         self.at = 0
         self.inner_attributes()
@@ -212,6 +213,7 @@ class File:
         for at in range(self.at, close):
             if self.word(at) == "as":
                 self.own_name(at + 1, None)
+                self.aliases.append(self.word(at + 1))
         self.at = close + 1
 
     def mod(self, first, attributes, visibility, path, owner, end):
@@ -252,6 +254,8 @@ class File:
         close = self.semicolon(self.at)
         if self.word(self.at) == "const":
             self.small_numbers(self.at, close)
+        elif owner is None:
+            self.aliases.append(self.word(self.at + 1))
         self.at = close + 1
 
     def small_numbers(self, first, close):

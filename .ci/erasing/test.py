@@ -108,6 +108,9 @@ FORMS = [
     ("pub trait T {}\nimpl<X> T for X {}", "an `impl` for X, which is not ours"),
     ("pub trait T {}\nimpl T for &S {}", "an `impl` for a type that is not ours"),
     ("pub struct S;\npub trait T {}\nimpl<Config> T for Config {}", "a parameter `Config` that is no single letter"),
+    ("pub trait T {}\npub struct X;\nimpl<X> T for X {}", "an `impl` for X, which is not ours"),
+    ("pub trait T {}\npub type Config = u8;\nimpl T for Config {}", "an `impl` for Config, which is not ours"),
+    ("use std::num::NonZeroU8 as Config;\npub trait T {}\nimpl T for Config {}", "an `impl` for Config, which is not ours"),
     # lemmas and models
     ("fn more()\n    ensures { a }\n{}", "a lemma that is not listed"),
     ("struct S;\nimpl S {\n    fn law()\n        ensures { a }\n    {}\n}", "a lemma that is not listed"),
