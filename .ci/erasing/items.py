@@ -39,7 +39,7 @@ class File:
         self.edits, self.dropped, self.functions = [], [], []
         self.places = []
         self.modules, self.types, self.traits, self.implementations = [], [], [], []
-        self.aliases = []
+        self.aliases, self.models, self.open_types = [], [], []
         self.is_lemmas = name in allow.LEMMA_FILES
         self.at = 0
         self.inner_attributes()
@@ -303,6 +303,11 @@ class File:
             self.fields(at + 1, close, f"{path}::{name}")
         else:
             close = self.semicolon(at)
+        inside = self.code[at:close]
+        if any(token.text == "pub" for token in inside):
+            self.open_types.append(name)
+        if any(token.kind == "ghost" for token in inside):
+            self.models.append(name)
         self.at = close + 1
 
     def fields(self, at, end, path):
@@ -387,6 +392,7 @@ class File:
             if any(token.kind not in ("ghost", "ghost use") for token in inside):
                 self.refuse("a `Model` with code")
             rule = "model"
+            self.models.append(name)
         elif trait == "std :: error :: Error" and not inside and self.name in self.table.ERRORS:
             rule = "error"
         if rule:
