@@ -174,6 +174,7 @@ FORMS = [
     ("async fn f() {}", "an item that begins with `async`"),
     ("fn f() -> u8 {\n    1e3 as u8\n}", "a number that is not whole"),
     ("pub struct S {\n    x: u8,\n}\nfn f(v: &[S], i: usize) -> S {\n    S { x: 1, ..v[i] }\n}", "the rest of a struct from an index"),
+    ("pub struct S(pub(super) u8);", "a register without `Debug`"),
     ("#[derive(Clone)]\npub struct S(pub(super) u8);", "a register without `Debug`"),
     # documentation
     ("/// ```\n/// f()\n/// ```\nfn f(x: u8) -> u8 {\n    x\n}", "an example that is not listed"),
