@@ -14,6 +14,8 @@ ROOT = pathlib.Path(__file__).resolve().parent.parent.parent
 
 # Forms behind the code of uart_spec/src/backend.rt that are accepted, so that the refusals below have their own causes.
 ACCEPTED = [
+    "const A: u32 = 70_000;",
+    "fn f(x: usize) -> usize {\n    x + 0xffff\n}",
     "fn f(x: u8) -> u8 {\n    x\n}",
     "fn f(x: u8) -> u8\n    ensures { result ≡ x }\n{\n    x\n}",
     "fn f(x: &[u8]) -> u8 {\n    x[1..].len().min(3) as u8\n}",
@@ -155,8 +157,9 @@ FORMS = [
     ("fn f(x: &dyn T) -> u8 {\n    3\n}", "the word `dyn`"),
     ("fn f() -> usize {\n    usize::MAX\n}", "a limit of `usize`"),
     ("fn f() -> u32 {\n    usize::BITS\n}", "a limit of `usize`"),
-    ("const A: usize = 70_000;", "a `usize` above 65,535"),
-    ("fn f() -> usize {\n    70_000_usize\n}", "a `usize` above 65,535"),
+    ("const A: usize = 70_000;", "a number above 65,535"),
+    ("fn f() -> usize {\n    70_000_usize\n}", "a number above 65,535"),
+    ("fn f(x: usize) -> usize {\n    x + 0x1_0000\n}", "a number above 65,535"),
     ("fn f(x: u64) -> usize {\n    x as usize\n}", "a cast to `usize` that is not listed"),
     ("fn f(x: *const u8) -> u8 {\n    3\n}", "a raw pointer"),
     ("fn f(x: u8) -> u8 {\n    let y = &raw mut x;\n    3\n}", "a raw pointer"),
