@@ -231,6 +231,10 @@ def check_whole(files, texts):
     for path in special:
         if paths[path] != 1:
             raise Failed(f"{path}: listed, and there are {paths[path]} of it")
+    testing = {path.split("::")[-1] for path, guard in table.GUARDS.items() if guard.test or guard.tested_by}
+    for path, name in [(path, guard.tested_by) for path, guard in table.GUARDS.items()] + list(table.IMPLEMENTED.items()):
+        if name is not None and name not in testing:
+            raise Failed(f"{path}: {name} tests nothing")
     reachable = {file for one in files for file in one.modules} | {f"{crate}/src/lib.rt" for crate in table.CRATES}
     for file in files:
         if file.name not in reachable and not file.is_lemmas:

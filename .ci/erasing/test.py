@@ -382,6 +382,7 @@ class Tests:
         for what, name, value, cause in (
             ("GUARDS", "uart_spec::baud::no_function", guard, "no_function: listed, and there are 0 of it"),
             ("IMPLEMENTED", "uart_16550::mmio::MmioBackend::reads", "address", "reads: listed, and there are 0 of it"),
+            ("IMPLEMENTED", "uart_16550::mmio::MmioBackend::read", "load", "MmioBackend::read: load tests nothing"),
             ("CASTS", "uart_spec::baud::cast", ["x"], "cast: listed, and there are 0 of it"),
         ):
             with changed(getattr(table, what), name, value):
