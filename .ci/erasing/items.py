@@ -527,7 +527,7 @@ class File:
         """A cast to `usize` is one of those that are listed for this function."""
         for what in self.table.CASTS.get(whole, []):
             count = len(what.split())
-            if self.words(at - count, at) == what and self.word(at - count - 1) in ("(", ",", "*", "+", "="):
+            if self.words(at - count, at) == what and self.word(at - count - 1) in ("(", "[", ",", "*", "+", "="):
                 return
         self.refuse("a cast to `usize` that is not listed", at)
 
