@@ -108,6 +108,9 @@ FORMS = [
     ("pub trait T {}\nimpl<X> T for X {}", "an `impl` for X, which is not ours"),
     ("pub trait T {}\nimpl T for &S {}", "an `impl` for a type that is not ours"),
     ("pub struct S;\npub trait T {}\nimpl<Config> T for Config {}", "a parameter `Config` that is no single letter"),
+    ("pub trait T {}\npub struct X;\nimpl<X> T for X {}", "an `impl` for X, which is not ours"),
+    ("pub trait T {}\npub type Config = u8;\nimpl T for Config {}", "an `impl` for Config, which is not ours"),
+    ("use std::num::NonZeroU8 as Config;\npub trait T {}\nimpl T for Config {}", "an `impl` for Config, which is not ours"),
     # lemmas and models
     ("fn more()\n    ensures { a }\n{}", "a lemma that is not listed"),
     ("struct S;\nimpl S {\n    fn law()\n        ensures { a }\n    {}\n}", "a lemma that is not listed"),
@@ -115,6 +118,7 @@ FORMS = [
     ("struct S;\nimpl Model for S {\n    fn f(&self) -> u8 {\n        3\n    }\n}", "a `Model` with code"),
     # bounds
     ("fn f<B>(x: B) -> B\nwhere\n    B: Drop,\n    B: Copy,\n{\n    x\n}", "a `where` of more than `Drop`"),
+    ("fn f<B>(x: B) -> B\nwhere\n    B: Copy\n    ensures { a }\n{\n    x\n}", "a `where` of more than `Drop`"),
     ("fn f<B: Drop + Copy>(x: B) -> B {\n    x\n}", "a bound `Drop` of another form"),
     ("struct S;\nimpl fmt::Display for S {\n    fn fmt<W: Other>(&self, f: &mut F<W>) -> u8 {\n        3\n    }\n}", "a `fmt` of another form"),
     ("struct S;\nimpl Drop for S {\n    fn drop(self) {\n        let S = self;\n    }\n}", "a name of std or of a library: drop"),
