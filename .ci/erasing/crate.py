@@ -267,6 +267,11 @@ def check_whole(files, texts):
 
 def check_traits(files, functions):
     """Own traits are for own types alone, and what a method of a trait requires is tested in each."""
+    for file in files:
+        for name in set(file.models) & set(file.open_types):
+            raise Failed(f"crates/{file.name}: {name} has an invariant and a field that others can set")
+        for name in set(file.models) - set(file.types):
+            raise Failed(f"crates/{file.name}: a model of {name}, which is a type of another file")
     types = {name for file in files for name in file.types}
     types -= {name for file in files for name in file.aliases}
     traits = {name for file in files for name in file.traits}

@@ -39,7 +39,7 @@ class File:
         self.edits, self.dropped, self.functions = [], [], []
         self.places = []
         self.modules, self.types, self.traits, self.implementations = [], [], [], []
-        self.aliases = []
+        self.aliases, self.models, self.open_types = [], [], []
         self.is_lemmas = name in allow.LEMMA_FILES
         self.at = 0
         self.inner_attributes()
@@ -258,10 +258,16 @@ class File:
             self.aliases.append(self.word(self.at + 1))
         self.at = close + 1
 
+    def number(self, at):
+        try:
+            return number(self.word(at))
+        except ValueError:
+            self.refuse("a number that is not whole", at)
+
     def small_numbers(self, first, close):
         if self.begins(first + 2, ": usize ="):
             for at in range(first, close):
-                if self.kind(at) == "number" and number(self.word(at)) > 0xFFFF:
+                if self.kind(at) == "number" and self.number(at) > 0xFFFF:
                     self.refuse("a `usize` above 65,535", at)
 
     def derive(self, attributes, is_register):
@@ -296,6 +302,8 @@ class File:
         is_register = self.words(at, at + 8) == "( pub ( super ) u8 ) ;"
         if is_register:
             self.change("field", at + 1, at + 4, "pub(crate)")
+        if is_register and not any(attribute == "derive" for attribute, _, _ in attributes):
+            self.refuse("a register without `Debug`", first)
         self.attribute([one for one in attributes if one[0] != "derive"], ("automatically_derived",))
         self.derive(attributes, is_register)
         if self.word(at) == "{":
@@ -303,6 +311,11 @@ class File:
             self.fields(at + 1, close, f"{path}::{name}")
         else:
             close = self.semicolon(at)
+        inside = self.code[at:close]
+        if any(token.text == "pub" for token in inside):
+            self.open_types.append(name)
+        if any(token.kind == "ghost" for token in inside):
+            self.models.append(name)
         self.at = close + 1
 
     def fields(self, at, end, path):
@@ -311,9 +324,9 @@ class File:
         while at < end:
             if self.word(at) == "=":
                 is_number = self.kind(at + 1) == "number" and self.word(at + 2) in (",", "}")
-                if not is_number or number(self.word(at + 1)) <= last:
+                if not is_number or self.number(at + 1) <= last:
                     self.refuse("numbers of cases that do not ascend", at)
-                last = number(self.word(at + 1))
+                last = self.number(at + 1)
             if self.kind(at) == "ghost":
                 if self.word(at - 1) not in ("{", ","):
                     self.refuse("something in front of a ghost field", at)
@@ -387,6 +400,7 @@ class File:
             if any(token.kind not in ("ghost", "ghost use") for token in inside):
                 self.refuse("a `Model` with code")
             rule = "model"
+            self.models.append(name)
         elif trait == "std :: error :: Error" and not inside and self.name in self.table.ERRORS:
             rule = "error"
         if rule:

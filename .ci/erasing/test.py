@@ -112,6 +112,9 @@ FORMS = [
     ("pub trait T {}\npub type Config = u8;\nimpl T for Config {}", "an `impl` for Config, which is not ours"),
     ("use std::num::NonZeroU8 as Config;\npub trait T {}\nimpl T for Config {}", "an `impl` for Config, which is not ours"),
     # lemmas and models
+    ("struct S {\n    pub x: u8,\n    ghost in_range: { x ≤ 3 },\n}", "S has an invariant and a field that others can set"),
+    ("struct S {\n    pub(crate) x: u8,\n}\nimpl Model for S {\n    ghost view = { a };\n}", "S has an invariant and a field"),
+    ("impl Model for Other {\n    ghost view = { a };\n}", "a model of Other, which is a type of another file"),
     ("fn more()\n    ensures { a }\n{}", "a lemma that is not listed"),
     ("struct S;\nimpl S {\n    fn law()\n        ensures { a }\n    {}\n}", "a lemma that is not listed"),
     ("pub trait T {\n    fn law()\n        ensures { a }\n    {}\n}", "a lemma that is not listed"),
@@ -171,6 +174,7 @@ FORMS = [
     ("async fn f() {}", "an item that begins with `async`"),
     ("fn f() -> u8 {\n    1e3 as u8\n}", "a number that is not whole"),
     ("pub struct S {\n    x: u8,\n}\nfn f(v: &[S], i: usize) -> S {\n    S { x: 1, ..v[i] }\n}", "the rest of a struct from an index"),
+    ("pub struct S(pub(super) u8);", "a register without `Debug`"),
     ("#[derive(Clone)]\npub struct S(pub(super) u8);", "a register without `Debug`"),
     # documentation
     ("/// ```\n/// f()\n/// ```\nfn f(x: u8) -> u8 {\n    x\n}", "an example that is not listed"),
@@ -275,6 +279,7 @@ AROUND = [
     ("src/lib.rs", "#![no_std]", "#![no_std]\n#![cfg_attr(all(), feature(x))]", "`feature`"),
     ("src/lib.rs", "#![no_std]", "#![no_implicit_prelude]", "`no_implicit_prelude`"),
     ("src/flags.rs", "macro_rules!", "#[macro_use]\nmod more {}\nmacro_rules!", "src/flags.rs: `macro_use`"),
+    ("src/flags.rs", "macro_rules!", "fn f(u: &mut U) { u.write_register(9, 1) }\nmacro_rules!", "`write_register`, which requires"),
     ("src/proved.rs", "", "pub mod uart_spec;", "src/proved.rs: there"),
     ("build.rs", "", "fn main() {}", "build.rs: there"),
     (".cargo/config.toml", "", "[build]\nrustflags = []\n", "more than the stand-in"),
