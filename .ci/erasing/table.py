@@ -33,9 +33,6 @@ RULES = [
 CRATES = ["uart_spec", "uart_16550", "uart_ring"]
 OUTPUT = "rust/uart_16550/src/proved"
 
-# The sections that Cargo.toml may have: none that changes how the library is compiled.
-SECTIONS = ["package", "lib", "features", "dependencies", "dev-dependencies", "package.metadata.docs.rs", "workspace", "lints.rust"]
-
 # What is written by hand in place of a library: the head of a path, and the module.
 MODULES = {
     "bitflags": "crate::flags",
@@ -287,7 +284,7 @@ macro yield try loop unwrap_unchecked catch_unwind panic assert assert_eq assert
 addr_of include include_str env concat stringify Rc Arc Cell RefCell UnsafeCell Atomic PhantomData Pin
 """.split()
 # Words that stand before a bracket and call nothing.
-WORDS_BEFORE = "if match return in let while for else as mut ref move derive inline where impl".split()
+WORDS_BEFORE = "pub if match return in let while for else as mut ref move derive inline where impl".split()
 # Names that a module may not have.
 RESERVED_MODULES = CRATES + "core std alloc proved bitflags circular_buffer arrayvec thiserror flags queue embedded_io_".split()
 NAMES_OF_STD = set(
