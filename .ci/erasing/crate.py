@@ -1,0 +1,296 @@
+"""Reads the crates, erases each file, and makes all files of the emitted folder."""
+import collections
+import concurrent.futures
+import hashlib
+import pathlib
+import re
+import subprocess
+
+import documentation
+import examples
+import table
+import words
+from items import File
+from tokens import Refused, tokens
+
+ROOT_TEXT = """//! The proved crates, erased: made by `.ci/erase emit` from `crates/`. Do not edit.
+#![forbid(unsafe_code)]
+#![allow(unused_imports, unused_parens, unused_braces, dead_code, clippy::all, clippy::pedantic)]
+
+pub mod uart_16550;
+pub mod uart_ring;
+pub mod uart_spec;
+"""
+LIST_TEXT = "# What the eraser dropped: rule, item, what. Made by `.ci/erase emit`; a change in it is to be read in review.\n"
+MANIFEST_TEXT = "# Made by `.ci/erase emit`: the kit, and the SHA-256 of each source and of each file that was made of it.\n"
+
+
+class Failed(Exception):
+    """The causes why nothing was emitted, one for each line."""
+
+
+def sources(root, crates):
+    """The sources of the crates by name, as `uart_spec/src/lib.rt`, with their bytes."""
+    found = {}
+    for crate in crates:
+        folder = root / "crates" / crate / "src"
+        for path in sorted(folder.rglob("*")):
+            name = f"{crate}/src/{path.relative_to(folder)}"
+            if path.is_symlink():
+                raise Failed(f"crates/{name}: a symlink")
+            if path.is_dir():
+                continue
+            if not re.fullmatch(r"[a-z0-9_/]+\.rt", name):
+                raise Failed(f"crates/{name}: not a source")
+            found[name] = path.read_bytes()
+    return found
+
+
+def kit():
+    return subprocess.run(["rt", "version"], check=True, capture_output=True, text=True).stdout.strip()
+
+
+def expanded(root, name):
+    """The source of a file with the implementations of thiserror written out."""
+    crate, file = name.split("/", 1)
+    done = subprocess.run(
+        ["rt", "expand", "--file", file], cwd=root / "crates" / crate, capture_output=True, timeout=120, check=False
+    )
+    if done.returncode != 0:
+        raise Failed(f"crates/{name}: rt expand failed: {done.stderr.decode()[-300:]}")
+    return done.stdout
+
+
+def module_of(name):
+    """`uart_spec/src/registers/bits.rt` is `uart_spec::registers::bits`."""
+    parts = name[: -len(".rt")].split("/")
+    parts.remove("src")
+    return "::".join(parts[:1] if parts[1:] == ["lib"] else parts)
+
+
+def target_of(name):
+    crate, file = name.split("/src/")
+    return f"{crate}/mod.rs" if file == "lib.rt" else f"{crate}/{file[:-len('.rt')]}.rs"
+
+
+def text_of(name, data):
+    if b"\r" in data:
+        raise Failed(f"crates/{name}: a carriage return")
+    try:
+        return data.decode("utf-8")
+    except UnicodeDecodeError as cause:
+        raise Failed(f"crates/{name}: {cause}") from cause
+
+
+def read(name, text, allow=table):
+    """A file's items. A refusal names the file and the line."""
+    try:
+        return File(name, module_of(name), text, allow)
+    except Refused as cause:
+        raise Failed(refusal(name, text, cause)) from cause
+
+
+def refusal(name, text, cause):
+    line = "" if cause.at is None else f":{text.count(chr(10), 0, cause.at) + 1}"
+    return f"crates/{name}{line}: refused: {cause.cause}"
+
+
+def known_functions(files):
+    """The names of the functions that are kept, by how they are called."""
+    known = {"methods": set(), "functions": set(), "free": set()}
+    for file in files:
+        for function in file.functions:
+            if not function.kept:
+                continue
+            known["methods" if function.method else "functions"].add(function.name)
+            known["functions"].add(function.name)
+            if function.owner is None:
+                known["free"].add(function.name)
+    return known
+
+
+def is_inside(one, other):
+    """Whether an edit is inside another one, with which it goes."""
+    if one is other or other.start == other.end:
+        return False
+    if one.start == one.end:
+        return other.start < one.start < other.end
+    return other.start <= one.start and one.end <= other.end
+
+
+def apply(file):
+    """The text with its edits, and its tokens as they are to be."""
+    out, expected, at = [], [], 0
+    edits = sorted(dict.fromkeys(file.edits), key=lambda edit: (edit.start, edit.end))
+    outer = [one for one in edits if not any(is_inside(one, other) for other in edits)]
+    starts = iter(file.code + [None])
+    token = next(starts)
+    for edit in outer:
+        if edit.start < at:
+            raise Refused(f"edits that overlap: {edit.rule}", edit.start)
+        while token and token.end <= edit.start:
+            expected.append(token.text)
+            token = next(starts)
+        while token and token.start < edit.end:
+            token = next(starts)
+        expected += [one.text for one in tokens(edit.text, False)[0]]
+        out += [file.text[at : edit.start], edit.text]
+        at = edit.end
+    while token:
+        expected.append(token.text)
+        token = next(starts)
+    return "".join(out) + file.text[at:], expected
+
+
+def tidy(text):
+    """No blank lines at the ends of braces and of the file, and no two in a row."""
+    text = re.sub(r"(///[^\n]*\n)\n+(?= *[A-Za-z])", r"\1", text)
+    text = re.sub(r"[ ]+(?=\n)", "", text)
+    text = re.sub(r"\n{3,}", "\n\n", text)
+    text = re.sub(r"\{\n\n+", "{\n", text)
+    text = re.sub(r"\n\n+( *\})", r"\n\1", text)
+    return text.strip("\n") + "\n"
+
+
+def erase(file):
+    """The Rust text of a file."""
+    try:
+        file.edits += documentation.edits(file)
+        text, expected = apply(file)
+        text = tidy(text)
+        found = [token.text for token in tokens(text, False)[0]]
+    except Refused as cause:
+        raise Failed(refusal(file.name, file.text, cause)) from cause
+    if found != expected:
+        place = next((i for i, pair in enumerate(zip(found, expected)) if pair[0] != pair[1]), min(len(found), len(expected)))
+        raise Failed(
+            f"crates/{file.name}: the tokens changed: {' '.join(found[place - 3:place + 5])} is not {' '.join(expected[place - 3:place + 5])}"
+        )
+    if not text.isascii():
+        raise Failed(f"crates/{file.name}: not ASCII")
+    return text
+
+
+def emitted(root, expand=expanded, kit_of=kit):
+    """All files of the emitted folder by name, with their bytes."""
+    found = sources(root, table.CRATES)
+    wanted = [name for name in found if name not in table.LEFT_OUT]
+    for name in list(table.LEFT_OUT) + table.LEMMA_FILES:
+        if name not in found:
+            raise Failed(f"crates/{name}: listed, and not there")
+    to_expand = [name for name in wanted if b"use thiserror::Error" in found[name]]
+    with concurrent.futures.ThreadPoolExecutor(4) as pool:
+        version = pool.submit(kit_of)
+        texts = dict(zip(to_expand, pool.map(lambda name: expand(root, name), to_expand)))
+        texts = {name: text_of(name, texts.get(name, found[name])) for name in wanted}
+        for name in wanted:
+            text_of(name, found[name])
+        files, dropped = files_of(texts)
+        listed = manifest(version.result(), found, files)
+    files["DROPPED"] = dropped
+    files["MANIFEST"] = listed + f"{hashlib.sha256(dropped.encode()).hexdigest()}  {table.OUTPUT}/DROPPED\n"
+    return {name: text.encode("ascii") for name, text in files.items()}
+
+
+def files_of(texts):
+    """The Rust files and the list of what was dropped, of sources by name."""
+    causes, read_files = [], []
+    for name, text in texts.items():
+        try:
+            read_files.append(read(name, text))
+        except Failed as cause:
+            causes.append(str(cause))
+    known = known_functions(read_files)
+    for file in read_files:
+        try:
+            words.check(file, known)
+        except Refused as cause:
+            causes.append(refusal(file.name, file.text, cause))
+    if causes:
+        raise Failed("\n".join(causes))
+    check_whole(read_files, texts)
+    files = {"mod.rs": ROOT_TEXT, examples.SHARED_NAME: examples.SHARED}
+    dropped = collections.Counter()
+    for file in read_files:
+        dropped.update(one for one in file.dropped)
+        if not file.is_lemmas:
+            files[target_of(file.name)] = erase(file)
+    for name, reason in table.LEFT_OUT.items():
+        dropped[("file", name, reason)] += 1
+    for name in table.LEMMA_FILES:
+        dropped[("file", name, "lemmas")] += 1
+    lines = [f"{' | '.join(part for part in one if part)}{f' ({count} times)' if count > 1 else ''}\n" for one, count in dropped.items()]
+    return files, LIST_TEXT + "".join(sorted(lines))
+
+
+def check_whole(files, texts):
+    """What is to be looked at over all files."""
+    functions = [function for file in files for function in file.functions]
+    paths = collections.Counter(function.path for function in functions)
+    special = list(table.GUARDS) + table.CONSTANT + table.LEMMAS + list(table.IMPLEMENTED) + list(table.CASTS)
+    for path in special:
+        if paths[path] != 1:
+            raise Failed(f"{path}: listed, and there are {paths[path]} of it")
+    testing = {path.split("::")[-1] for path, guard in table.GUARDS.items() if guard.test or guard.tested_by}
+    for path, name in [(path, guard.tested_by) for path, guard in table.GUARDS.items()] + list(table.IMPLEMENTED.items()):
+        if name is not None and name not in testing:
+            raise Failed(f"{path}: {name} tests nothing")
+    reachable = {file for one in files for file in one.modules} | {f"{crate}/src/lib.rt" for crate in table.CRATES}
+    for file in files:
+        if file.name not in reachable and not file.is_lemmas:
+            raise Failed(f"crates/{file.name}: no module declares it")
+        count = len(re.findall(r"(?m)^ *(?:pub(?:\([a-z]+\))? )?fn [a-z]", texts[file.name]))
+        if count != len(file.functions):
+            raise Failed(f"crates/{file.name}: {count} lines begin a function, and {len(file.functions)} were read")
+    for name in reachable - {file.name for file in files}:
+        raise Failed(f"crates/{name}: declared, and not there")
+    check_traits(files, functions)
+
+
+def check_traits(files, functions):
+    """Own traits are implemented for own types alone, and what a method of a trait requires is tested in each implementation."""
+    types = {name for file in files for name in file.types}
+    traits = {name for file in files for name in file.traits}
+    for file in files:
+        for trait, name, _ in file.implementations:
+            if name not in types:
+                raise Failed(f"crates/{file.name}: an `impl` for {name}, which is not ours")
+    for function in functions:
+        if not function.kept or not function.owner or not function.owner.startswith("impl ") or " for " not in function.owner:
+            continue
+        trait = function.owner[len("impl ") :].split(" for ")[0].split(" :: ")[-1]
+        declared = [f for f in functions if trait in traits and f.owner == f"trait {trait}" and f.name == function.name and f.requires]
+        if declared and function.path not in table.IMPLEMENTED:
+            raise Failed(f"{function.path}: {trait} requires something of its callers, and nothing says what tests it")
+
+
+def manifest(version, found, files):
+    lines = [f"kit {version}\n"]
+    lines += [f"{hashlib.sha256(data).hexdigest()}  crates/{name}\n" for name, data in sorted(found.items())]
+    lines += [f"{hashlib.sha256(text.encode()).hexdigest()}  {table.OUTPUT}/{name}\n" for name, text in sorted(files.items())]
+    return MANIFEST_TEXT + "".join(lines)
+
+
+def compare(files, found, odd):
+    """What differs between the files that are expected and those that are there."""
+    causes = [f"{name}: not a plain file" for name in odd]
+    for name in sorted(files.keys() | found.keys()):
+        if name not in found:
+            causes.append(f"{name}: missing")
+        elif name not in files:
+            causes.append(f"{name}: not expected")
+        elif files[name] != found[name]:
+            causes.append(f"{name}: not what the sources give: run .ci/erase emit")
+    return causes
+
+
+def there(folder):
+    """The files of a folder by name, with their bytes, and what is no plain file."""
+    found, odd = {}, []
+    for path in sorted(folder.rglob("*")):
+        name = str(path.relative_to(folder))
+        if path.is_symlink() or not (path.is_dir() or path.is_file()):
+            odd.append(name)
+        elif path.is_file():
+            found[name] = path.read_bytes()
+    return found, odd

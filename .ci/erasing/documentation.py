@@ -1,0 +1,76 @@
+"""The documentation of an emitted file: examples that compile in Rust, and what a guard panics for."""
+import re
+
+from examples import EXAMPLES
+from items import Edit
+from tokens import Refused
+
+FENCE = re.compile(r"(//[/!]) ```(.*)$")
+
+
+def edits(file):
+    """The edits of a file's documentation."""
+    found = []
+    for comments, path in blocks(file):
+        found += example(file, comments, path)
+        guard = file.table.GUARDS.get(path)
+        if guard and guard.panics:
+            found.append(panics(file, comments, path, guard.panics))
+    return found
+
+
+def blocks(file):
+    """Each run of lines of documentation, with the path of the item that it is about."""
+    places = sorted(file.places)
+    block = []
+    for comment in [one for one in file.comments if re.match(r"//[/!]( |$)", one.text)] + [None]:
+        if block and (comment is None or file.text[block[-1].end : comment.start].strip() or comment.text[:3] != block[-1].text[:3]):
+            item = next((path for start, path in places if start > block[0].start), None)
+            between = next((start for start, _ in places if start > block[0].start), None)
+            inner = block[0].text.startswith("//!")
+            is_next = between is not None and file.next_code(block[-1].end) == between
+            yield block, file.module if inner else item if is_next else None
+            block = []
+        if comment:
+            block.append(comment)
+
+
+def example(file, comments, path):
+    """Hidden lines around each example, and the calls of its assertions without the handle."""
+    found, inside = [], False
+    for comment in comments:
+        fence = FENCE.match(comment.text)
+        if fence:
+            if fence[2] or path not in EXAMPLES:
+                raise Refused(f"an example that is not listed: {path}", comment.start)
+            before, behind = EXAMPLES[path]
+            line = file.text.rfind("\n", 0, comment.start) + 1
+            indent = file.text[line : comment.start]
+            lines = [f"{indent}{fence[1]} {one}\n" for one in (behind if inside else before)]
+            at = line if inside else comment.end + 1
+            if lines:
+                found.append(Edit("documentation", at, at, "".join(lines)))
+            inside = not inside
+        elif inside and re.search(r"\brt;", comment.text):
+            text = re.sub(r"\b(assert(?:_eq|_ne)?!)\(rt;(?: |$)", r"\1(", comment.text)
+            if "rt;" in text:
+                raise Refused("an example with `rt;` of another form", comment.start)
+            found.append(Edit("documentation", comment.start, comment.end, text))
+    if inside:
+        raise Refused("an example with no end", comments[-1].start)
+    return found
+
+
+def panics(file, comments, path, text):
+    """A section Panics, before the examples or at the end."""
+    if any(re.match(r"/// # Panics", comment.text) for comment in comments):
+        raise Refused("a section Panics in the source", comments[0].start)
+    place = next((one for one in comments if one.text == "/// # Examples"), None)
+    line = file.text.rfind("\n", 0, comments[0].start) + 1
+    indent = file.text[line : comments[0].start]
+    lines = ["/// # Panics", "///"] + [f"/// {one}" for one in text.split("\n")]
+    if place:
+        at = file.text.rfind("\n", 0, place.start) + 1
+        return Edit("panics", at, at, "".join(f"{indent}{one}\n" for one in lines + ["///"]))
+    at = comments[-1].end + 1
+    return Edit("panics", at, at, "".join(f"{indent}{one}\n" for one in ["///"] + lines))

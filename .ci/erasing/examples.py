@@ -1,0 +1,233 @@
+"""What each example of the documentation needs to compile: hidden lines before and behind it.
+
+An example without an entry in EXAMPLES is refused, so that none is left out silently.
+"""
+
+# A file that the examples include. It is no module of the crate.
+SHARED_NAME = "examples.rs"
+SHARED = """// What the examples of the documentation share. Each includes this file; the crate itself does not.
+#[allow(unused_imports)]
+use core::fmt::Write as _;
+#[allow(unused_imports)]
+use core::num::{NonZeroU64, NonZeroUsize};
+#[allow(unused_imports)]
+use uart_16550::native::backend::{Backend, ByteAccess, PortAccess};
+#[allow(unused_imports)]
+use uart_16550::native::embedded_io::{Read as _, Write as _};
+#[allow(unused_imports)]
+use uart_16550::native::*;
+#[allow(unused_imports)]
+use uart_16550::native::spec::registers::*;
+
+/// Eight registers that keep what is written to them.
+#[derive(Debug)]
+#[allow(dead_code)]
+struct Device {
+    registers: [u8; 8],
+    shown: Vec<u8>,
+}
+
+#[allow(dead_code)]
+fn device() -> Device {
+    Device { registers: [0; 8], shown: Vec::new() }
+}
+
+impl Backend for Device {
+    fn read(&mut self, register_offset: u8) -> u8 {
+        self.registers[register_offset as usize]
+    }
+
+    fn write(&mut self, register_offset: u8, value: u8) {
+        self.registers[register_offset as usize] = value;
+    }
+}
+
+impl PortAccess for Device {
+    fn port_in(&mut self, port: u16) -> u8 {
+        self.registers[(port % 8) as usize]
+    }
+
+    fn port_out(&mut self, port: u16, value: u8) {
+        self.registers[(port % 8) as usize] = value;
+    }
+}
+
+impl ByteAccess for Device {
+    fn load(&mut self, address: usize) -> u8 {
+        self.registers[address / 4 % 8]
+    }
+
+    fn store(&mut self, address: usize, value: u8) {
+        self.registers[address / 4 % 8] = value;
+    }
+}
+
+#[allow(dead_code)]
+type Outcome<T = ()> = Result<T, Box<dyn std::error::Error>>;
+"""
+INCLUDE = ['# include!(concat!(env!("CARGO_MANIFEST_DIR"), "/src/proved/examples.rs"));', "# fn main() {}"]
+
+
+def compiles(parameters, result="()", value=False, items=()):
+    """An example that is the body of a function with these parameters. It compiles; it is not called."""
+    before = INCLUDE + [f"# {line}" for line in items]
+    before.append(f"# fn example({parameters}) -> Outcome<{result}> {{")
+    if value:
+        return before + ["# Ok({"], ["# }) }"]
+    return before, ["# Ok(()) }"]
+
+
+def runs(*lines):
+    """An example that runs, behind these hidden lines."""
+    return [f"# {line}" for line in lines], []
+
+
+UART = "uart: &mut Uart16550<Device>"
+TTY = "terminal: &mut Uart16550Tty<Device>"
+RING = "ring: &mut ring::Uart16550Ring<Device>"
+PORT = [
+    "use uart_16550::ring::{self, *};",
+    "struct Port { ring: Uart16550Ring<Device>, overruns: u32 }",
+    "impl Port {",
+]
+
+SPEC = "use uart_16550::native::{*, spec::*};"
+
+
+def in_port():
+    """An example that is the body of a method of a port."""
+    return INCLUDE + [f"# {line}" for line in PORT] + ["# fn example(&mut self) {"], ["# } }"]
+
+
+EXAMPLES = {
+    "uart_16550": compiles("ports: Device"),
+    "uart_16550::address::Uart16550::new_port": compiles("ports: Device"),
+    "uart_16550::address::Uart16550::new_mmio": compiles(
+        "cells: Device",
+        items=[
+            "struct Memory(Device);",
+            "impl ByteAccess for Memory {",
+            "    fn load(&mut self, address: usize) -> u8 { self.0.load(address) }",
+            "    fn store(&mut self, address: usize, value: u8) { self.0.store(address, value) }",
+            "}",
+        ],
+    ),
+    "uart_16550::driver::init::Uart16550::check_present": compiles(UART),
+    "uart_16550::driver::init::Uart16550::init": compiles(UART),
+    "uart_16550::driver::loopback::Uart16550::test_loopback": compiles(UART),
+    "uart_16550::driver::receive::Uart16550::ready_to_receive": compiles(UART),
+    "uart_16550::driver::receive::Uart16550::try_receive_byte": compiles(UART, "Option<u8>", True),
+    "uart_16550::driver::receive::Uart16550::receive_bytes": compiles(UART),
+    "uart_16550::driver::receive::Uart16550::receive_bytes_exact": (
+        INCLUDE
+        + ["# enum PortError { NoAnswer { received: usize } }", f"# fn example({UART}, answer: &mut [u8]) -> Result<(), PortError> {{"],
+        ["# Ok(()) }"],
+    ),
+    "uart_16550::driver::state::Uart16550::from_state": compiles(
+        "state: &DriverState, accesses: Device", items=["struct Tape;", "impl Tape { fn new(device: Device) -> Device { device } }"]
+    ),
+    "uart_16550::driver::state::Uart16550::state": compiles("uart: &Uart16550Tty<Device>"),
+    "uart_16550::driver::status::Uart16550::ier": compiles(UART),
+    "uart_16550::driver::status::Uart16550::isr": (
+        INCLUDE
+        + ["# struct Port { uart: Uart16550<Device> }", "# impl Port {", "# fn example(&mut self) -> Option<InterruptType> {"],
+        ["# } }"],
+    ),
+    "uart_16550::driver::status::Uart16550::check_connected": compiles(UART),
+    "uart_16550::driver::status::Uart16550::enable_interrupts": compiles(UART),
+    "uart_16550::driver::status::Uart16550::disable_interrupts": compiles(UART),
+    "uart_16550::driver::status::Uart16550::dll_dlm": compiles(UART),
+    "uart_16550::driver::status::Uart16550::config_register_dump": compiles(UART),
+    "uart_16550::driver::transmit::Uart16550::ready_to_send": compiles(UART),
+    "uart_16550::driver::transmit::Uart16550::send_bytes": compiles(UART + ", bytes: &[u8]"),
+    "uart_16550::driver::transmit::Uart16550::try_send_byte": compiles(UART),
+    "uart_16550::driver::transmit::Uart16550::send_bytes_exact": (
+        INCLUDE
+        + ["# enum PortError { NotSent { sent: usize } }", f"# fn example({UART}, question: &[u8]) -> Result<(), PortError> {{"],
+        ["# Ok(()) }"],
+    ),
+    "uart_16550::driver::Uart16550": compiles(UART),
+    "uart_16550::driver::Uart16550::new_with_backend": compiles(
+        "",
+        items=[
+            "struct Console { shown: ArrayVec }",
+            "struct ArrayVec;",
+            "impl ArrayVec { fn new() -> Self { ArrayVec } }",
+            "impl Backend for Console {",
+            "    fn read(&mut self, _: u8) -> u8 { 0 }",
+            "    fn write(&mut self, _: u8, _: u8) {}",
+            "}",
+        ],
+    ),
+    "uart_16550::driver::Uart16550::backend": compiles(UART),
+    "uart_16550::driver::Uart16550::backend_mut": compiles(UART),
+    "uart_16550::driver::Uart16550::config": compiles(UART),
+    "uart_16550::driver::Uart16550::fifo_enabled": compiles(UART),
+    "uart_16550::driver::Uart16550::spin_limit": compiles(UART, "bool", True),
+    "uart_16550::driver::Uart16550::set_spin_limit": compiles(UART),
+    "uart_16550::dump::ConfigRegisterDump::divisor": compiles("shown: &ConfigRegisterDump"),
+    "uart_16550::dump::ConfigRegisterDump::baud_rate": runs("use uart_16550::native::*;"),
+    "uart_16550::embedded_io::Uart16550::read": compiles(UART + ", slots: &mut [u8]"),
+    "uart_16550::embedded_io::Uart16550::write": (
+        INCLUDE + ["# fn example(writer: &mut Uart16550<Device>, bytes: &[u8], mut done: usize) -> Result<(), StalledError> {"],
+        ["# Ok(()) }"],
+    ),
+    "uart_16550::tty::Uart16550Tty": compiles("uart: Uart16550<Device>"),
+    "uart_16550::tty::Uart16550Tty::new_with_backend": compiles(""),
+    "uart_16550::tty::Uart16550Tty::from_inner": compiles("uart: Uart16550<Device>"),
+    "uart_16550::tty::Uart16550Tty::inner": compiles(TTY + ", fifo_enabled: bool"),
+    "uart_16550::tty::Uart16550Tty::inner_mut": compiles(TTY + ", mut slots: [u8; 2]"),
+    "uart_16550::tty::Uart16550Tty::write_text": compiles(TTY),
+    "uart_spec::baud::calc_frequency": runs(SPEC),
+    "uart_spec::config::BaudRate": runs(SPEC),
+    "uart_spec::config::BaudRate::to_integer": compiles(
+        "baud_rate: BaudRate", "Result<u16, InvalidDivisorError>", True, ["use uart_16550::native::spec::{CLK_FREQUENCY_HZ, calc_divisor};"]
+    ),
+    "uart_spec::config::BaudRate::from_integer": runs(SPEC),
+    "uart_spec::config::Config": compiles(UART),
+    "uart_spec::config::Config::is_computable": runs(SPEC, "let config = Config::DEFAULT;"),
+    "uart_ring::ring::receive::Uart16550Ring::take": compiles(RING + ", mut slots: [u8; 2]", items=["use uart_16550::ring;"]),
+    "uart_ring::ring::service::Uart16550Ring::service": in_port(),
+    "uart_ring::ring::status::Uart16550Ring::take_line": in_port(),
+    "uart_ring::ring::status::Uart16550Ring::take_modem": in_port(),
+    "uart_ring::ring::transmit::Uart16550Ring::queue": (
+        INCLUDE
+        + ["# use uart_16550::ring;", f"# fn example<'a>({RING}, message: &'a [u8]) -> &'a [u8] {{"],
+        ["# }"],
+    ),
+    "uart_ring::ring::Uart16550Ring": (
+        INCLUDE
+        + ["# use uart_16550::ring::*;", "# enum StartError { NoRings(RingError) }"]
+        + ["# fn example(alloc: Global, uart: Uart16550<Device>) -> Result<(), StartError> {"],
+        ["# Ok(()) }"],
+    ),
+    "uart_ring::ring::Uart16550Ring::transmit_len": compiles(RING, items=["use uart_16550::ring;"]),
+    "uart_ring::ring::Uart16550Ring::inner": (
+        INCLUDE
+        + ["# use uart_16550::ring;", "# trait Mark { fn mark(&self, _: u8) -> u8 { 0 } }", "# impl Mark for Device {}"]
+        + [f"# fn example({RING}, arrival: u8) -> u8 {{"],
+        ["# }"],
+    ),
+    "uart_ring::ring::Uart16550Ring::inner_mut": (
+        INCLUDE
+        + ["# use uart_16550::ring::*;", "# enum StartError { NoDevice(InitError) }"]
+        + ["# struct Port { ring: Uart16550Ring<Device>, overruns: u32, bad_characters: u32 }"]
+        + ["# fn example(mut ring: Uart16550Ring<Device>, config: Config) -> Result<Port, StartError> {"],
+        ["# }"],
+    ),
+    "uart_ring::ring::Uart16550Ring::into_inner": compiles("ring: ring::Uart16550Ring<Device>", items=["use uart_16550::ring;"]),
+}
+for path, like in {
+    "uart_16550::address::Uart16550::new_mmio_from_address": "uart_16550::address::Uart16550::new_mmio",
+    "uart_16550::tty::Uart16550Tty::new_port": "uart_16550::tty::Uart16550Tty::new_with_backend",
+    "uart_16550::tty::Uart16550Tty::new_mmio": "uart_16550::tty::Uart16550Tty::new_with_backend",
+    "uart_16550::tty::Uart16550Tty::new_mmio_from_address": "uart_16550::tty::Uart16550Tty::new_with_backend",
+    "uart_spec::baud::calc_baud_rate": "uart_spec::baud::calc_frequency",
+    "uart_spec::baud::calc_divisor": "uart_spec::baud::calc_frequency",
+    "uart_ring::ring::Uart16550Ring::new": "uart_ring::ring::Uart16550Ring",
+    "uart_ring::ring::Uart16550Ring::receive_len": "uart_ring::ring::Uart16550Ring::transmit_len",
+    "uart_ring::ring::Uart16550Ring::is_paused": "uart_ring::ring::Uart16550Ring::transmit_len",
+}.items():
+    EXAMPLES[path] = EXAMPLES[like]
+for register in ("lcr", "mcr", "lsr", "msr", "spr"):
+    EXAMPLES[f"uart_16550::driver::status::Uart16550::{register}"] = compiles(UART + ", shown: &ConfigRegisterDump")

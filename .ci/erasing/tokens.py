@@ -1,0 +1,115 @@
+"""The tokens of a source in Rattle or Rust. A clause or a ghost item is one token."""
+import collections
+import re
+import unicodedata
+
+Token = collections.namedtuple("Token", "kind text start end")
+
+
+class Refused(Exception):
+    """What the eraser does not know. `at` is the offset in the text, or None."""
+
+    def __init__(self, cause, at=None):
+        super().__init__(cause)
+        self.cause = cause
+        self.at = at
+
+
+TOKEN = re.compile(
+    r"""(?P<space>[ \n]+)
+    |(?P<comment>//[^\n]*)
+    |(?P<string>b?"(?:\\[^\n]|[^"\\\n])*")
+    |(?P<character>b?'(?:\\x[0-9a-fA-F]{2}|\\u\{[0-9a-fA-F]+\}|\\[^\n]|[^'\\\n])')
+    |(?P<lifetime>'[A-Za-z_][A-Za-z_0-9]*)
+    |(?P<number>[0-9](?:[0-9A-Za-z_]|\.(?=[0-9]))*)
+    |(?P<word>[A-Za-z_][A-Za-z_0-9]*)
+    |(?P<sign>::|->|=>|==|!=|<=|>=|&&|\|\||\.\.=|\.\.|[-+*/%&|^]=|[!#$%&()*+,\-./:;<=>?@\[\]^_{|}~])""",
+    re.VERBOSE,
+)
+# What Rust code has and a clause does not.
+CODE = re.compile(r"\b(fn|pub|impl|mod|use|struct|enum|trait|unsafe|extern|macro_rules)\b|->|=>|[;'`#\\\"@!?]|--|//|/\*|\*/")
+# The letters and signs of clauses that are not ASCII.
+LETTERS = set("≡≢≤◌∷→λ⟦⟧ℕ⊤⊥×↔𝓛⊎")
+RECORD = re.compile(r"\brecord (?:[\w.]+ )?\{[^{}]*\}")
+NAME = re.compile(r'"[A-Z_][A-Z_0-9]*"')
+
+
+def closing_brace(text, start):
+    """The offset behind the braces that open at `start`."""
+    depth = 0
+    for at in range(start, len(text)):
+        depth += {"{": 1, "}": -1}.get(text[at], 0)
+        if depth == 0:
+            return at + 1
+    raise Refused("braces of a clause that are not closed", start)
+
+
+def check_clause(text, start, ghost):
+    """Refuses a clause with anything that code or a comment could be made of."""
+    inner = text
+    if ghost:
+        inner = NAME.sub("", inner)
+    # the fields of a record are separated by semicolons
+    while RECORD.search(inner):
+        inner = RECORD.sub(lambda found: found[0].replace(";", "").replace("{", "(").replace("}", ")"), inner)
+    found = CODE.search(inner)
+    if found:
+        raise Refused(f"`{found[0]}` in a clause", start)
+    for letter in inner:
+        if not letter.isascii() and letter not in LETTERS:
+            raise Refused(f"the letter {ascii(letter)} in a clause", start)
+
+
+def clause(text, start, word):
+    """The token of a clause or a ghost item that begins with `word` at `start`."""
+    if word != "ghost":
+        head = re.compile(r"(requires|ensures)\*?(?: [a-z_0-9]+)? \{").match(text, start)
+        if not head or word == "requires" and head[0].startswith("requires*"):
+            raise Refused(f"a word `{word}` without a clause", start)
+        end = closing_brace(text, head.end() - 1)
+        check_clause(text[head.end() : end - 1], start, False)
+        return Token("clause", text[start:end], start, end)
+    if text.startswith("ghost use ", start):
+        found = re.compile(r"ghost use [\w.]+(?:\.\{[^{};]*\}| as \w+)?;").match(text, start)
+        if not found:
+            raise Refused("a `ghost use` of no known form", start)
+        check_clause(found[0][len("ghost use ") : -1], start, False)
+        return Token("ghost use", found[0], start, found.end())
+    head = re.compile(r"ghost (\w+)( =|:) \{").match(text, start)
+    if not head:
+        raise Refused("a ghost item of no known form", start)
+    end = closing_brace(text, head.end() - 1)
+    check_clause(text[head.end() : end - 1], start, True)
+    if text[end : end + 1] not in (";", ","):
+        raise Refused("a ghost item with no end", start)
+    return Token("ghost", text[start : end + 1], start, end + 1)
+
+
+def check_letters(text):
+    """Refuses control characters, and what is not ASCII outside of clauses is refused by `tokens`."""
+    for at, letter in enumerate(text):
+        if letter != "\n" and unicodedata.category(letter) in ("Cc", "Cf", "Zl", "Zp", "Co", "Cn", "Cs"):
+            raise Refused(f"the character {ascii(letter)}", at)
+
+
+def tokens(text, clauses=True):
+    """The tokens of a text, comments apart: (code, comments)."""
+    check_letters(text)
+    code, comments, at = [], [], 0
+    while at < len(text):
+        found = TOKEN.match(text, at)
+        if text.startswith("/*", at) or text.startswith("*/", at):
+            raise Refused("a block comment", at)
+        if re.compile(r"b?r#*\"|r#|c\"").match(text, at) or not found:
+            raise Refused(f"no token: {ascii(text[at:at + 12])}", at)
+        token = Token(found.lastgroup, found[0], at, found.end())
+        if not token.text.isascii():
+            raise Refused(f"not ASCII: {ascii(token.text[:40])}", at)
+        if clauses and token.kind == "word" and token.text in ("requires", "ensures", "ghost"):
+            token = clause(text, at, token.text)
+        if token.kind == "comment":
+            comments.append(token)
+        elif token.kind != "space":
+            code.append(token)
+        at = token.end
+    return code, comments

@@ -1,0 +1,184 @@
+//! Forms that return an error for arguments at which the proved function panics.
+//!
+//! In Rattle a caller is proved to meet what a function requires. In Rust nobody does that, so the
+//! function tests it and panics; these functions test it before the call.
+
+use crate::proved::uart_16550::backend::Backend;
+use crate::proved::uart_16550::{ConfigRegisterDump, Uart16550};
+use crate::proved::uart_spec::registers::PSD;
+use crate::proved::uart_spec::{
+    self, BaudRate, Config, InitError, InvalidDivisorError, NonIntegerBaudRateError,
+    NonIntegerDivisorError,
+};
+
+// The largest prescaler division factor.
+const MAX_FACTOR: u32 = 15;
+
+// The clock ticks of a bit, before the prescaler.
+const TICKS_PER_BIT: u32 = 16;
+
+fn is_factor(prescaler_division_factor: Option<u32>) -> bool {
+    prescaler_division_factor.is_none_or(|factor| factor <= MAX_FACTOR)
+}
+
+/// Does the same as [`calc_frequency`](crate::native::spec::calc_frequency), but returns `None` if
+/// that would panic: if the baud rate or the divisor is 0, if the prescaler division factor is above
+/// 15, or if the frequency does not fit.
+///
+/// # Examples
+///
+/// ```
+/// use uart_16550::native::spec::checked_frequency;
+///
+/// assert_eq!(checked_frequency(9_600, 12, None), Some(1_843_200));
+/// assert_eq!(checked_frequency(9_600, 12, Some(16)), None);
+/// assert_eq!(checked_frequency(u32::MAX, 12, None), None);
+/// ```
+#[must_use]
+pub fn checked_frequency(
+    baud_rate: u32,
+    divisor: u32,
+    prescaler_division_factor: Option<u32>,
+) -> Option<u32> {
+    if baud_rate == 0 || divisor == 0 || !is_factor(prescaler_division_factor) {
+        return None;
+    }
+    TICKS_PER_BIT
+        .checked_mul(prescaler_division_factor.unwrap_or(0) + 1)?
+        .checked_mul(baud_rate)?
+        .checked_mul(divisor)
+}
+
+/// Does the same as [`calc_baud_rate`](crate::native::spec::calc_baud_rate), but also returns the
+/// error if that would panic: if the frequency or the divisor is 0, or if the prescaler division
+/// factor is above 15.
+///
+/// # Errors
+///
+/// `NonIntegerBaudRateError`, with the arguments.
+///
+/// # Examples
+///
+/// ```
+/// use uart_16550::native::spec::checked_baud_rate;
+///
+/// assert_eq!(checked_baud_rate(1_843_200, 12, None), Ok(9_600));
+/// assert!(checked_baud_rate(1_843_200, 0, None).is_err());
+/// ```
+pub fn checked_baud_rate(
+    frequency: u32,
+    divisor: u32,
+    prescaler_division_factor: Option<u32>,
+) -> Result<u32, NonIntegerBaudRateError> {
+    if frequency == 0 || divisor == 0 || !is_factor(prescaler_division_factor) {
+        return Err(NonIntegerBaudRateError {
+            frequency,
+            divisor,
+            prescaler_division_factor,
+        });
+    }
+    uart_spec::calc_baud_rate(frequency, divisor, prescaler_division_factor)
+}
+
+/// Does the same as [`calc_divisor`](crate::native::spec::calc_divisor), but also returns an error if
+/// that would panic: if the frequency or the baud rate is 0, or if the prescaler division factor is
+/// above 15.
+///
+/// # Errors
+///
+/// Those of `calc_divisor`. A baud rate of 0 or a larger factor gives `NonInteger`, and otherwise a
+/// frequency of 0 gives `OutOfRange` with the divisor 0.
+///
+/// # Examples
+///
+/// ```
+/// use uart_16550::native::spec::{InvalidDivisorError, checked_divisor};
+///
+/// assert_eq!(checked_divisor(1_843_200, 9_600, None), Ok(12));
+/// let refused = checked_divisor(0, 9_600, None);
+/// assert_eq!(refused, Err(InvalidDivisorError::OutOfRange { divisor: 0 }));
+/// ```
+pub fn checked_divisor(
+    frequency: u32,
+    baud_rate: u32,
+    prescaler_division_factor: Option<u32>,
+) -> Result<u16, InvalidDivisorError> {
+    if baud_rate == 0 || !is_factor(prescaler_division_factor) {
+        return Err(InvalidDivisorError::NonInteger(NonIntegerDivisorError {
+            frequency,
+            baud_rate,
+            prescaler_division_factor,
+        }));
+    }
+    if frequency == 0 {
+        return Err(InvalidDivisorError::OutOfRange { divisor: 0 });
+    }
+    uart_spec::calc_divisor(frequency, baud_rate, prescaler_division_factor)
+}
+
+impl<B: Backend> Uart16550<B> {
+    /// Does the same as [`init`](Self::init), but returns `InvalidBaudRate` if that would panic: if
+    /// the configuration is not computable.
+    ///
+    /// # Errors
+    ///
+    /// Those of `init`. The cause of a refused baud rate is that of
+    /// [`checked_divisor`](crate::native::spec::checked_divisor). No access was made then, and
+    /// nothing changed.
+    ///
+    /// # Examples
+    ///
+    /// ```
+    /// use uart_16550::native::backend::Backend;
+    /// use uart_16550::native::{Config, InitError, Uart16550};
+    ///
+    /// fn set_up<B: Backend>(uart: &mut Uart16550<B>, clock: u32) -> Result<(), InitError> {
+    ///     uart.checked_init(Config { frequency: clock, ..Config::DEFAULT })
+    /// }
+    /// # struct Nothing;
+    /// # impl Backend for Nothing {
+    /// #     fn read(&mut self, _: u8) -> u8 { 0xff }
+    /// #     fn write(&mut self, _: u8, _: u8) {}
+    /// # }
+    /// # let mut uart = Uart16550::new_with_backend(Nothing);
+    /// # assert!(matches!(set_up(&mut uart, 0), Err(InitError::InvalidBaudRate(_))));
+    /// # assert_eq!(set_up(&mut uart, 1_843_200), Err(InitError::DeviceNotPresent));
+    /// ```
+    pub fn checked_init(&mut self, config: Config) -> Result<(), InitError> {
+        if config.is_computable() {
+            return self.init(config);
+        }
+        let rate = config.baud_rate.to_integer();
+        match checked_divisor(config.frequency, rate, config.prescaler_division_factor) {
+            Err(cause) => Err(InitError::InvalidBaudRate(cause)),
+            // A divisor was computed, so the configuration is computable.
+            Ok(_) => self.init(config),
+        }
+    }
+}
+
+impl ConfigRegisterDump {
+    /// Does the same as [`baud_rate`](Self::baud_rate), but also returns the error if that would
+    /// panic: if the frequency is 0, or if the prescaler division factor is above 15.
+    ///
+    /// # Errors
+    ///
+    /// `NonIntegerBaudRateError`, with the frequency, the divisor and the factor.
+    pub fn checked_baud_rate(&self, config: &Config) -> Result<BaudRate, NonIntegerBaudRateError> {
+        let divisor = u32::from(self.divisor());
+        checked_baud_rate(config.frequency, divisor, config.prescaler_division_factor)
+            .map(BaudRate::from_integer)
+    }
+}
+
+impl PSD {
+    /// Does the same as [`set_pdf`](Self::set_pdf), but returns `None` if that would panic: if the
+    /// factor is above 15.
+    #[must_use]
+    pub const fn checked_set_pdf(self, pdf: u8) -> Option<Self> {
+        if pdf as u32 > MAX_FACTOR {
+            return None;
+        }
+        Some(self.set_pdf(pdf))
+    }
+}

@@ -1,0 +1,43 @@
+//! The driver's own interface. It is here whatever features are on.
+//!
+//! Without the feature `compat` the root of the crate has the same items. A library that uses this
+//! crate should name them by this module: then it also builds if another crate of the same program
+//! turns `compat` on.
+
+pub use crate::proved::uart_16550::{
+    BaudRate, ByteReceiveError, ByteSendError, Config, ConfigRegisterDump, DEFAULT_SPIN_LIMIT,
+    DriverState, InitError, InvalidAddressError, InvalidDivisorError, LoopbackError,
+    NonIntegerBaudRateError, NonIntegerDivisorError, RemoteReadyToReceiveError, StalledError,
+    Uart16550, Uart16550Tty, Uart16550TtyError, embedded_io,
+};
+
+/// How the driver reads and writes the registers of its device.
+///
+/// | backend | for | `unsafe` |
+/// |---|---|---|
+/// | [`X86Ports`](crate::native::backend::X86Ports) | a device at I/O ports of x86 | its constructor |
+/// | [`VolatileMemory`] | a device in memory | its constructors |
+/// | [`PioBackend`], [`MmioBackend`] | ports or memory that code of yours accesses: [`PortAccess`], [`ByteAccess`] | |
+/// | your own | anything with eight registers: implement [`Backend`] | |
+pub mod backend {
+    pub use crate::access::VolatileMemory;
+    #[cfg(any(target_arch = "x86", target_arch = "x86_64"))]
+    pub use crate::access::X86Ports;
+    pub use crate::proved::uart_16550::backend::{
+        Backend, ByteAccess, MmioBackend, PioBackend, PortAccess,
+    };
+}
+
+/// Everything about a 16550 that needs no access to it: its registers with their named bits and
+/// fields, and the arithmetic of its baud rate generator.
+///
+/// Bits are numbered from 0, the lowest, to 7. Frequencies are in hertz and baud rates in bits per
+/// second. The functions `calc_..` panic for arguments that mean nothing, as a divisor of 0. Each has
+/// a form `checked_..` that does not.
+pub mod spec {
+    pub use crate::checked::{checked_baud_rate, checked_divisor, checked_frequency};
+    pub use crate::proved::uart_spec::{
+        CLK_FREQUENCY_HZ, FIFO_SIZE, InvalidDivisorError, NUM_REGISTERS, NonIntegerBaudRateError,
+        NonIntegerDivisorError, calc_baud_rate, calc_divisor, calc_frequency, registers,
+    };
+}

@@ -1,0 +1,187 @@
+//! The loopback test.
+
+use super::Uart16550;
+use crate::proved::uart_16550::backend::Backend;
+use crate::flags::Flags;
+use crate::proved::uart_spec::LoopbackError;
+use crate::proved::uart_spec::registers::{IER, LSR, MCR, MSR, offsets};
+
+const TEST_BYTE: u8 = 0x42;
+
+const TEST_MESSAGE: [u8; 16] = *b"hello world!1337";
+
+// Returns the bits if the flag is set, else none.
+fn flag(on: bool, bits: MSR) -> MSR {
+    if on { bits } else { MSR::from_bits_retain(0) }
+}
+
+// Returns whether a line differs between two readings.
+fn differs(before: MSR, now: MSR, line: MSR) -> bool {
+    before.intersection(line) != now.intersection(line)
+}
+
+// Returns the changes of the lines between two readings, as their bits.
+fn line_changes(before: MSR, now: MSR) -> MSR {
+    let cts = flag(differs(before, now, MSR::CTS), MSR::DELTA_CTS);
+    let dsr = flag(differs(before, now, MSR::DSR), MSR::DELTA_DSR);
+    let ri = flag(
+        before.contains(MSR::RI) && !now.contains(MSR::RI),
+        MSR::TRAILING_EDGE_RI,
+    );
+    let cd = flag(differs(before, now, MSR::CD), MSR::DELTA_CD);
+    cts.union(dsr).union(ri.union(cd))
+}
+
+impl<B: Backend> Uart16550<B> {
+    // Discards received bytes until none is available. Returns false after as many bytes as the spin limit.
+    fn drain_received(&mut self) -> bool {
+        for _turn in 0..self.spin_limit.get() {
+            let Ok(_) = self.try_receive_byte() else {
+                return true;
+            };
+        }
+        false
+    }
+
+    // Sends the test byte, and compares what returns.
+    fn exchange_byte(&mut self) -> Result<(), LoopbackError> {
+        if let Err(cause) = self.try_send_byte(TEST_BYTE) {
+            return Err(LoopbackError::SendError(cause));
+        }
+        let Some(actual) = self.receive_one() else {
+            return Err(LoopbackError::Stalled);
+        };
+        if actual == TEST_BYTE {
+            return Ok(());
+        }
+        Err(LoopbackError::UnexpectedLoopbackByte {
+            expected: TEST_BYTE,
+            actual,
+        })
+    }
+
+    // Sends a byte, and waits for the byte that returns.
+    fn echo(&mut self, byte: u8) -> Option<u8> {
+        self.send_some(&[byte])?;
+        self.receive_one()
+    }
+
+    // Sends the whole test message, and then receives it.
+    fn echo_whole(&mut self) -> Option<[u8; 16]> {
+        let Ok(()) = self.send_bytes_exact(&TEST_MESSAGE) else {
+            return None;
+        };
+        let mut actual = [0; 16];
+        let Ok(()) = self.receive_bytes_exact(&mut actual) else {
+            return None;
+        };
+        Some(actual)
+    }
+
+    // Sends the test message byte by byte, and waits for each to return.
+    fn echo_each(&mut self) -> Option<[u8; 16]> {
+        let mut actual = [0; 16];
+        for (i, &byte) in TEST_MESSAGE.iter().enumerate() {
+            actual[i] = self.echo(byte)?;
+        }
+        Some(actual)
+    }
+
+    // Sends and receives the test message: as a whole if the FIFO is on, else byte by byte.
+    fn echo_message(&mut self) -> Option<[u8; 16]> {
+        if self.fifo_enabled {
+            return self.echo_whole();
+        }
+        self.echo_each()
+    }
+
+    // Sends the test message, and compares what returns.
+    fn exchange_message(&mut self) -> Result<(), LoopbackError> {
+        let Some(actual) = self.echo_message() else {
+            return Err(LoopbackError::Stalled);
+        };
+        if actual != TEST_MESSAGE {
+            return Err(LoopbackError::UnexpectedLoopbackMsg {
+                expected: TEST_MESSAGE,
+                actual,
+            });
+        }
+        Ok(())
+    }
+
+    // The test itself, while the device is in loopback.
+    fn exchange(&mut self) -> Result<(), LoopbackError> {
+        if !self.drain_received() {
+            return Err(LoopbackError::Stalled);
+        }
+        self.exchange_byte()?;
+        self.exchange_message()
+    }
+
+    // Reads the modem lines, and sets the device to loopback with interrupts off.
+    fn enter_loopback(&mut self) -> MSR {
+        let before = self.read_msr();
+        self.write_register(offsets::IER, 0);
+        self.write_register(offsets::MCR, MCR::LOOP_BACK.bits());
+        self.fifo_enabled = self.set_fifo(self.config.fifo_trigger_level);
+        before
+    }
+
+    // Leaves loopback, restores MCR and IER, and saves the changes of the lines that are not due to the test.
+    fn leave_loopback(&mut self, mcr: MCR, ier: IER, before: MSR, noted: LSR) {
+        self.write_register(offsets::MCR, mcr.difference(MCR::OUT_2_INT_ENABLE).bits());
+        let now = MSR::from_bits_retain(self.read_plain(offsets::MSR));
+        self.write_register(offsets::MCR, mcr.bits());
+        self.write_register(offsets::IER, ier.bits());
+        self.saved_msr.insert(line_changes(before, now));
+        self.saved_lsr = noted;
+    }
+
+    /// Tests whether bytes that are sent return while the device is in loopback: first one byte, and then a message of 16.
+    ///
+    /// Call it after `init`, to find out whether the chip works. Send nothing else while it runs. In loopback the chip
+    /// connects its transmitter to its receiver, and nothing goes out on the line. For a device without loopback do not
+    /// call it; wrap the driver with `Uart16550Tty::from_inner` instead of constructing a terminal.
+    ///
+    /// Waits until the transmitter is empty, and then for each byte, at most `spin_limit` polls each time. Received bytes
+    /// and error bits that are found in loopback are discarded; error bits that were saved before it stay saved. The FIFOs
+    /// are reset and set up again, and `fifo_enabled` is read again. Afterwards MCR and IER are as before, also on a chip
+    /// that was in loopback already.
+    ///
+    /// The modem lines before and after the test are compared, and their changes saved for the next `msr`; of RI only its
+    /// trailing edge. A line that changed and changed back in between is not reported.
+    ///
+    /// Whole bytes are compared. With 5 or 6 data bits a chip that cuts characters fails the test.
+    ///
+    /// # Errors
+    ///
+    /// - `Stalled` after `spin_limit` unsuccessful polls in a row. If the first wait failed, nothing was written, and what
+    ///   the polls cleared is saved. Later a test byte may still be in the transmitter, and is then sent after the test.
+    /// - `SendError` if the device does not accept the test byte. Its cause is always `NoCapacity`.
+    /// - `UnexpectedLoopbackByte`, `UnexpectedLoopbackMsg` if other bytes return.
+    ///
+    /// Except for the first wait, MCR and IER are restored before the error is returned.
+    ///
+    /// # Examples
+    ///
+    /// ```
+    /// # include!(concat!(env!("CARGO_MANIFEST_DIR"), "/src/proved/examples.rs"));
+    /// # fn main() {}
+    /// # fn example(uart: &mut Uart16550<Device>) -> Outcome<()> {
+    /// uart.init(Config::DEFAULT)?;
+    /// uart.test_loopback()?;
+    /// # Ok(()) }
+    /// ```
+    pub fn test_loopback(&mut self) -> Result<(), LoopbackError> {
+        let mcr = self.mcr();
+        let ier = self.ier();
+        if !self.wait_for(LSR::TRANSMITTER_EMPTY) {
+            return Err(LoopbackError::Stalled);
+        }
+        let noted = self.saved_lsr;
+        let before = self.enter_loopback();
+        let outcome = self.exchange();
+        self.leave_loopback(mcr, ier, before, noted);
+        outcome
+    }
+}

@@ -1,0 +1,172 @@
+//! Receiving.
+
+use super::{PIECE_SIZE, Uart16550};
+use crate::proved::uart_16550::backend::Backend;
+use crate::flags::Flags;
+use crate::proved::uart_spec::registers::{LSR, offsets};
+use crate::proved::uart_spec::{ByteReceiveError, StalledError};
+
+impl<B: Backend> Uart16550<B> {
+    /// Checks whether a received byte is available: whether LSR shows `DATA_READY`.
+    ///
+    /// Does not wait: reads LSR once. The error bits that this clears are saved for the next `lsr`.
+    ///
+    /// # Errors
+    ///
+    /// `ByteReceiveError` if no byte is available.
+    ///
+    /// # Examples
+    ///
+    /// ```
+    /// # include!(concat!(env!("CARGO_MANIFEST_DIR"), "/src/proved/examples.rs"));
+    /// # fn main() {}
+    /// # fn example(uart: &mut Uart16550<Device>) -> Outcome<()> {
+    /// assert!(uart.ready_to_receive().is_err());
+    /// # Ok(()) }
+    /// ```
+    pub fn ready_to_receive(&mut self) -> Result<(), ByteReceiveError> {
+        if !self.read_lsr().contains(LSR::DATA_READY) {
+            return Err(ByteReceiveError);
+        }
+        Ok(())
+    }
+
+    /// Receives one byte if one is available: reads LSR, and if it shows `DATA_READY`, RBR.
+    ///
+    /// Does not wait. The error bits that the read of LSR clears are saved for the next `lsr`; they belong to the byte that
+    /// is then received, except for an overrun.
+    ///
+    /// # Errors
+    ///
+    /// `ByteReceiveError` if no byte is available. RBR was not read then.
+    ///
+    /// # Examples
+    ///
+    /// ```
+    /// # include!(concat!(env!("CARGO_MANIFEST_DIR"), "/src/proved/examples.rs"));
+    /// # fn main() {}
+    /// # fn example(uart: &mut Uart16550<Device>) -> Outcome<Option<u8>> {
+    /// # Ok({
+    /// uart.try_receive_byte().ok()
+    /// # }) }
+    /// ```
+    pub fn try_receive_byte(&mut self) -> Result<u8, ByteReceiveError> {
+        self.ready_to_receive()?;
+        Ok(self.read_register(offsets::DATA))
+    }
+
+    /// Receives bytes while some are available and there are free slots. Returns how many, and leaves the slots beyond them
+    /// unchanged.
+    ///
+    /// Does not wait: reads LSR before each byte, and ends when it shows none. Call it again with the rest of the slice to
+    /// receive more. An empty slice makes no access. Error bits are saved for the next `lsr`, and do not end the call.
+    ///
+    /// # Examples
+    ///
+    /// ```
+    /// # include!(concat!(env!("CARGO_MANIFEST_DIR"), "/src/proved/examples.rs"));
+    /// # fn main() {}
+    /// # fn example(uart: &mut Uart16550<Device>) -> Outcome<()> {
+    /// let mut slots = [0xee; 4];
+    /// assert_eq!(uart.receive_bytes(&mut slots), 2);
+    /// assert_eq!(slots, [0x41, 0x42, 0xee, 0xee]);
+    /// # Ok(()) }
+    /// ```
+    pub fn receive_bytes(&mut self, buffer: &mut [u8]) -> usize {
+        for (count, slot) in buffer.iter_mut().enumerate() {
+            match self.try_receive_byte() {
+                Ok(byte) => *slot = byte,
+                Err(_) => return count,
+            }
+        }
+        buffer.len()
+    }
+
+    // Waits until some bytes were received, and returns how many.
+    pub(crate) fn receive_some(&mut self, buffer: &mut [u8]) -> Option<usize> {
+        for _turn in 0..self.spin_limit.get() {
+            let count = self.receive_bytes(buffer);
+            if count > 0 {
+                return Some(count);
+            }
+        }
+        None
+    }
+
+    // Waits for one byte. The first poll is separate, since it mostly finds one.
+    pub(crate) fn receive_one(&mut self) -> Option<u8> {
+        match self.try_receive_byte() {
+            Ok(byte) => return Some(byte),
+            Err(_) => {}
+        }
+        for _turn in 1..self.spin_limit.get() {
+            match self.try_receive_byte() {
+                Ok(byte) => return Some(byte),
+                Err(_) => {}
+            }
+        }
+        None
+    }
+
+    // Receives a byte into each slot, and waits for each.
+    fn receive_each(&mut self, slots: &mut [u8]) -> Result<(), StalledError> {
+        for (done, slot) in slots.iter_mut().enumerate() {
+            match self.receive_one() {
+                Some(byte) => *slot = byte,
+                None => return Err(StalledError { done }),
+            }
+        }
+        Ok(())
+    }
+
+    // The same. A whole piece is received into a copy.
+    #[inline(always)]
+    fn receive_piece(&mut self, slots: &mut [u8]) -> Result<(), StalledError> {
+        if slots.len() != PIECE_SIZE {
+            return self.receive_each(slots);
+        }
+        let mut copy = [0; PIECE_SIZE];
+        copy.copy_from_slice(slots);
+        let result = self.receive_each(&mut copy);
+        slots.copy_from_slice(&copy);
+        result
+    }
+
+    /// Receives a byte into each slot, and waits for each.
+    ///
+    /// Each wait makes at most `spin_limit` polls of LSR. Error bits are saved for the next `lsr`, and do not end the call.
+    /// An empty slice makes no access.
+    ///
+    /// # Errors
+    ///
+    /// `StalledError` after `spin_limit` unsuccessful polls in a row: the remote sent nothing for so long. The first `done`
+    /// slots have the bytes that were received, and the other slots are unchanged.
+    ///
+    /// # Examples
+    ///
+    /// ```
+    /// # include!(concat!(env!("CARGO_MANIFEST_DIR"), "/src/proved/examples.rs"));
+    /// # fn main() {}
+    /// # enum PortError { NoAnswer { received: usize } }
+    /// # fn example(uart: &mut Uart16550<Device>, answer: &mut [u8]) -> Result<(), PortError> {
+    /// if let Err(stall) = uart.receive_bytes_exact(answer) {
+    ///     return Err(PortError::NoAnswer {
+    ///         received: stall.done,
+    ///     });
+    /// }
+    /// # Ok(()) }
+    /// ```
+    pub fn receive_bytes_exact(&mut self, buffer: &mut [u8]) -> Result<(), StalledError> {
+        let mut done = 0;
+        while done < buffer.len() {
+            let end = buffer.len().min(done + PIECE_SIZE);
+            if let Err(stall) = self.receive_piece(&mut buffer[done..end]) {
+                return Err(StalledError {
+                    done: done + stall.done,
+                });
+            }
+            done = end;
+        }
+        Ok(())
+    }
+}

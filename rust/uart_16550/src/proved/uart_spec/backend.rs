@@ -1,0 +1,20 @@
+//! How the registers of a device are read and written.
+
+/// Access to the eight registers of one device.
+///
+/// An implementation defines a step relation: which accesses lead from which state to which state. The driver's contracts
+/// are about paths of these steps, so they hold over every backend, whatever its reads return.
+///
+/// `PioBackend` and `MmioBackend` of `uart_16550` implement this trait over I/O ports and over memory. Implement it
+/// yourself for an emulated device or for any other kind of access.
+pub trait Backend {
+    /// Reads the register at an offset of 0 to 7, and returns its value.
+    ///
+    /// Called once for each read that the driver makes. A read may change the device: one of LSR clears its error bits.
+    fn read(&mut self, register_offset: u8) -> u8;
+
+    /// Writes a value to the register at an offset of 0 to 7.
+    ///
+    /// Called once for each write that the driver makes, in the driver's order.
+    fn write(&mut self, register_offset: u8, value: u8);
+}
