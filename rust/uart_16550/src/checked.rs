@@ -22,8 +22,8 @@ fn is_factor(prescaler_division_factor: Option<u32>) -> bool {
 }
 
 /// Does the same as [`calc_frequency`](crate::native::spec::calc_frequency), but returns `None` if
-/// that would panic: if the baud rate or the divisor is 0, if the prescaler division factor is above
-/// 15, or if the frequency does not fit.
+/// that would panic: if the baud rate or the divisor is 0, if the prescaler division factor is
+/// above 15, or if the frequency does not fit.
 ///
 /// # Examples
 ///
@@ -80,9 +80,9 @@ pub fn checked_baud_rate(
     uart_spec::calc_baud_rate(frequency, divisor, prescaler_division_factor)
 }
 
-/// Does the same as [`calc_divisor`](crate::native::spec::calc_divisor), but also returns an error if
-/// that would panic: if the frequency or the baud rate is 0, or if the prescaler division factor is
-/// above 15.
+/// Does the same as [`calc_divisor`](crate::native::spec::calc_divisor), but also returns an error
+/// if that would panic: if the frequency or the baud rate is 0, or if the prescaler division factor
+/// is above 15.
 ///
 /// # Errors
 ///

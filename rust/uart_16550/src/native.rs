@@ -32,8 +32,8 @@ pub mod backend {
 /// fields, and the arithmetic of its baud rate generator.
 ///
 /// Bits are numbered from 0, the lowest, to 7. Frequencies are in hertz and baud rates in bits per
-/// second. The functions `calc_..` panic for arguments that mean nothing, as a divisor of 0. Each has
-/// a form `checked_..` that does not.
+/// second. The functions `calc_..` panic for arguments that mean nothing, as a divisor of 0. Each
+/// has a form `checked_..` that does not.
 pub mod spec {
     pub use crate::checked::{checked_baud_rate, checked_divisor, checked_frequency};
     pub use crate::proved::uart_spec::{
