@@ -4,6 +4,7 @@ import concurrent.futures
 import hashlib
 import pathlib
 import re
+import shutil
 import subprocess
 
 import documentation
@@ -29,11 +30,20 @@ class Failed(Exception):
     """The causes why nothing was emitted, one for each line."""
 
 
+def no_links(root, path):
+    """Refuses a path below the root that leads over a link."""
+    while path != root:
+        if path.is_symlink():
+            raise Failed(f"{path.relative_to(root)}: a symlink")
+        path = path.parent
+
+
 def sources(root, crates):
     """The sources of the crates by name, as `uart_spec/src/lib.rt`, with their bytes."""
     found = {}
     for crate in crates:
         folder = root / "crates" / crate / "src"
+        no_links(root, folder)
         for path in sorted(folder.rglob("*")):
             name = f"{crate}/src/{path.relative_to(folder)}"
             if path.is_symlink():
@@ -47,6 +57,8 @@ def sources(root, crates):
 
 
 def kit():
+    if shutil.which("rt") is None:
+        raise Failed("rt: not there")
     return subprocess.run(["rt", "version"], check=True, capture_output=True, text=True).stdout.strip()
 
 

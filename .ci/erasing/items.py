@@ -256,6 +256,8 @@ class File:
             for one in kept:
                 if one not in self.table.DERIVES:
                     self.refuse(f"the derive `{one}`", first)
+            if is_register and "Debug" not in kept:
+                self.refuse("a register without `Debug`", first)
             if is_register:
                 kept.remove("Debug")
             rule = "debug" if is_register else "drop"
@@ -527,7 +529,7 @@ class File:
         """A cast to `usize` is one of those that are listed for this function."""
         for what in self.table.CASTS.get(whole, []):
             count = len(what.split())
-            if self.words(at - count, at) == what and self.word(at - count - 1) in ("(", ",", "*", "+", "="):
+            if self.words(at - count, at) == what and self.word(at - count - 1) in ("(", "[", ",", "*", "+", "="):
                 return
         self.refuse("a cast to `usize` that is not listed", at)
 
@@ -576,6 +578,6 @@ class File:
 
 
 def number(text):
-    """The value of a number, without its suffix."""
+    """The value of a number without its suffix. Raises `ValueError` if it is no whole number."""
     digits = re.sub(r"(?<=[0-9a-fA-F])_?(u8|u16|u32|u64|u128|usize|i8|i16|i32|i64|i128|isize)$", "", text).replace("_", "")
     return int(digits, 0)

@@ -24,12 +24,10 @@ def guard(path, entry):
     """A row for a function that requires something."""
     tests = "tests it, and panics" if entry.test else f"{code(entry.tested_by)} tests it" if entry.tested_by else "no test"
     clauses = ", ".join(code(re.sub(r"^requires (\w+ )?\{ (.*) \}$", r"\2", one)) for one in entry.clauses)
-    return [code(last(path, 2)), clauses, tests, (entry.reason or "").replace(" requires", " requires")]
+    return [code(last(path, 2)), clauses, tests, entry.reason or ""]
 
 
 def blocks():
-    reached = [(path, entry) for path, entry in table.GUARDS.items() if entry.reason not in (table.INSIDE, table.NO_BODY)]
-    inside = [path for path, entry in table.GUARDS.items() if entry.reason == table.INSIDE]
     constant = {}
     for path in table.CONSTANT:
         constant.setdefault(path.split("::")[-2], []).append(path.split("::")[-1])
@@ -37,8 +35,7 @@ def blocks():
     left_out += [[code(name), "lemmas"] for name in table.LEMMA_FILES] + [[code(name), "a lemma"] for name in table.LEMMAS]
     return {
         "rules": rows(["rule", "in the source", "in Rust"], table.RULES),
-        "guards": rows(["function", "requires", "in Rust", "why"], [guard(*one) for one in reached])
-        + f"\nPrivate, with callers that are proved, and so without a test: {', '.join(code(last(one, 2)) for one in inside)}.\n",
+        "guards": rows(["function", "requires", "in Rust", "why"], [guard(*one) for one in table.GUARDS.items()]),
         "constant": rows(["type", "`const fn` in Rust"], [[code(name), ", ".join(map(code, sorted(names)))] for name, names in constant.items()]),
         "left out": rows(["left out", "why"], left_out),
         "let through": rows(

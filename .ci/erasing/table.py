@@ -33,9 +33,6 @@ RULES = [
 CRATES = ["uart_spec", "uart_16550", "uart_ring"]
 OUTPUT = "rust/uart_16550/src/proved"
 
-# The sections that Cargo.toml may have: none that changes how the library is compiled.
-SECTIONS = ["package", "lib", "features", "dependencies", "dev-dependencies", "package.metadata.docs.rs", "workspace", "lints.rust"]
-
 # What is written by hand in place of a library: the head of a path, and the module.
 MODULES = {
     "bitflags": "crate::flags",

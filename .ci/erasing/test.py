@@ -158,13 +158,16 @@ FORMS = [
     ("fn g(x: u8) -> bool {\n    true\n}\n\nfn f(x: &[u8]) -> bool {\n    x.iter().all(g)\n}", "a function as a value: g"),
     ("fn f() -> u8 {\n    u8::from(3)\n}", "the function `u8::from`"),
     ("fn f() -> u8 {\n    g(3)\n}", "the call `g`"),
-    ("fn f() -> u8 {\n    1.5 as u8\n}", "a number with a point"),
+    ("fn f() -> u8 {\n    1.5 as u8\n}", "a number that is not whole"),
     ("fn f() -> u8 {\n    fn g() -> u8 {\n        3\n    }\n    3\n}", "`fn` in a body"),
     ("fn f() -> u8 {\n    use crate::a;\n    3\n}", "`use` in a body"),
     ("fn f() -> u8 {\n    #[cfg(unix)]\n    return 4;\n    3\n}", "`#` in a body"),
     ("fn f(x: u8) -> u8 {\n    (x]\n}", "brackets that do not match"),
     ("fn f(x: u8) -> u8 {\n    loop {\n    }\n}", "the word `loop`"),
     ("async fn f() {}", "an item that begins with `async`"),
+    ("fn f() -> u8 {\n    1e3 as u8\n}", "a number that is not whole"),
+    ("pub struct S {\n    x: u8,\n}\nfn f(v: &[S], i: usize) -> S {\n    S { x: 1, ..v[i] }\n}", "the rest of a struct from an index"),
+    ("#[derive(Clone)]\npub struct S(pub(super) u8);", "a register without `Debug`"),
     # documentation
     ("/// ```\n/// f()\n/// ```\nfn f(x: u8) -> u8 {\n    x\n}", "an example that is not listed"),
 ]
@@ -258,20 +261,29 @@ AROUND = [
     ("src/lib.rs", "mod proved;", "pub mod proved;", "not one plain line"),
     ("src/lib.rs", "mod proved;", "#[path = \"other/mod.rs\"]\nmod proved;", "not one plain line"),
     ("src/lib.rs", "mod proved;", "#[cfg(unix)]\nmod proved;", "not one plain line"),
+    ("src/lib.rs", "mod proved;", "#[cfg(unix)]\n\n// a\n\nmod proved;", "not one plain line"),
+    ("src/lib.rs", "mod proved;", "#[cfg_attr(all(), path = \"x.rs\")]\nmod proved;", "not one plain line"),
     ("src/lib.rs", "mod proved;", "mod proved;\n#[cfg(windows)]\nmod proved;", "not one plain line"),
     ("src/lib.rs", "mod flags;", "macro_rules! matches { () => {} }\nmod flags;", "a macro, or `extern crate`"),
     ("src/lib.rs", "mod flags;", "extern crate std as core;\nmod flags;", "a macro, or `extern crate`"),
     ("src/lib.rs", "mod flags;", "#[macro_use]\nmod flags;", "`macro_use`"),
     ("src/lib.rs", "#![no_std]", "#![no_std]\n#![feature(x)]", "`feature`"),
+    ("src/lib.rs", "#![no_std]", "#![no_std]\n#![cfg_attr(all(), feature(x))]", "`feature`"),
     ("src/lib.rs", "#![no_std]", "#![no_implicit_prelude]", "`no_implicit_prelude`"),
+    ("src/flags.rs", "macro_rules!", "#[macro_use]\nmod more {}\nmacro_rules!", "src/flags.rs: `macro_use`"),
     ("src/proved.rs", "", "pub mod uart_spec;", "src/proved.rs: there"),
     ("build.rs", "", "fn main() {}", "build.rs: there"),
     (".cargo/config.toml", "", "[build]\nrustflags = []\n", "more than the stand-in"),
     ("Cargo.toml", 'edition = "2024"', 'edition = "2021"', 'not `edition = "2024"`'),
-    ("Cargo.toml", "[lib]\n", '[lib]\npath = "src/other.rs"\n', "`path`"),
-    ("Cargo.toml", "[package]\n", '[package]\nbuild = "src/x.rs"\n', "`build`"),
-    ("Cargo.toml", "[dependencies]\n", '[dependencies]\nbitflags = "2"\n', 'the dependency `bitflags = "2"`'),
-    ("Cargo.toml", "[dependencies]\n", '[patch.crates-io]\n[dependencies]\n', "the section [patch.crates-io]"),
+    ("Cargo.toml", "[lib]\n", '[lib]\npath = "src/other.rs"\n', "`path` of the library"),
+    ("Cargo.toml", "[lib]\n", '[lib]\nedition = "2021"\n', "`edition` of the library"),
+    ("Cargo.toml", "[package]\n", '[package]\nbuild = "src/x.rs"\n', "`build` of the package"),
+    ("Cargo.toml", "[dependencies]\n", '[dependencies]\nbitflags = "2"\n', "the dependency bitflags"),
+    ("Cargo.toml", "[dependencies]\n", "[patch.crates-io]\n[dependencies]\n", "the section [patch]"),
+    ("Cargo.toml", "[dependencies]\n", "[profile.release]\noverflow-checks = true\n[dependencies]\n", "the section [profile]"),
+    ("Cargo.toml", "[dependencies]\n", "[target.'cfg(unix)'.dependencies]\nx = \"1\"\n[dependencies]\n", "the section [target]"),
+    ("Cargo.toml", "[package]\n", 'cargo-features = ["x"]\n[package]\n', "the section [cargo-features]"),
+    ("Cargo.toml", "[lib]\n", "[lib\n", "cannot be read"),
 ]
 
 
@@ -365,6 +377,9 @@ class Tests:
                 make(source / name)
                 self.count(failure(lambda: crate.sources(folder, ["one"])) == cause, cause)
                 (source / name).unlink()
+            (folder / "linked").symlink_to(folder / "crates")
+            cause = failure(lambda: crate.no_links(folder, folder / "linked" / "one"))
+            self.count(cause == "linked: a symlink", f"a folder that is a link: {cause}")
         self.count(failure(lambda: crate.text_of("a.rt", b"a\r\n")) == "crates/a.rt: a carriage return", "a carriage return")
         self.count("invalid" in failure(lambda: crate.text_of("a.rt", b"\xff")), "no UTF-8")
 

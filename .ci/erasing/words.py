@@ -24,10 +24,8 @@ def check(file, known):
             file.refuse(f"a {token.kind} that no rule drops", at)
         if token.kind == "string" and "\n" in word:
             file.refuse("a text of several lines", at)
-        if token.kind == "number" and re.search(r"usize$", word) and number(word) > 0xFFFF:
-            file.refuse("a `usize` above 65,535", at)
-        if token.kind == "number" and "." in word:
-            file.refuse("a number with a point", at)
+        if token.kind == "number":
+            check_number(file, at)
         if word in ("&", "*") and after in ("raw", "const", "mut") and (word, after) != ("&", "mut"):
             file.refuse("a raw pointer", at)
         if word in ("..", "..="):
@@ -53,10 +51,22 @@ def is_path_of_alloc(file, at):
     )
 
 
+def check_number(file, at):
+    word = file.word(at)
+    try:
+        value = number(word)
+    except ValueError:
+        file.refuse("a number that is not whole", at)
+    if word.endswith("usize") and value > 0xFFFF:
+        file.refuse("a `usize` above 65,535", at)
+
+
 def check_range(file, at, brackets):
     """A range has an end, but for `..` in the index of a slice, in a pattern of fields and in a struct."""
     before, after = file.word(at - 1), file.word(at + 1)
     if after not in ENDS:
+        if before in ("{", ","):
+            check_update(file, at)
         return
     opened = brackets[-1] if brackets else -1
     if file.word(at) == ".." and after == "}" and before in ("{", ","):
@@ -68,6 +78,15 @@ def check_range(file, at, brackets):
     if file.word(at) == ".." and after == "]" and is_index and "," not in file.words(opened, at).split():
         return
     file.refuse("a range with no end", at)
+
+
+def check_update(file, at):
+    """The rest of a struct is from a value that is named, and not from an index, which Rattle does not look at."""
+    at += 1
+    while file.word(at) not in ("}", ",", ")"):
+        if file.word(at) == "[":
+            file.refuse("the rest of a struct from an index", at)
+        at += 1
 
 
 def check_call(file, at, known):

@@ -3,8 +3,6 @@
 #![no_std]
 #![no_main]
 
-extern crate memory as _;
-
 use core::fmt::Write;
 use core::num::NonZeroUsize;
 use uart_16550::native::backend::VolatileMemory;

@@ -3,8 +3,6 @@
 #![no_std]
 #![no_main]
 
-extern crate memory as _;
-
 mod machine;
 
 use core::fmt::Write;
