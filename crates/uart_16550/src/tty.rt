@@ -230,6 +230,19 @@ impl<B: Backend> Uart16550Tty<B> {
         &mut self.inner
     }
 
+    /// Returns the driver. Makes no access.
+    ///
+    /// # Examples
+    ///
+    /// ```
+    /// let uart = terminal.into_inner();
+    /// ```
+    pub fn into_inner(self) -> Uart16550<B>
+        ensures { result ≡ inner_of self }
+    {
+        self.inner
+    }
+
     /// Sends the expansion of the text byte by byte, and waits for room before each byte.
     ///
     /// Each wait makes at most `spin_limit` polls. Received bytes are not touched.
