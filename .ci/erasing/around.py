@@ -2,6 +2,8 @@
 import re
 import tomllib
 
+import table
+
 # In lib.rs: the line, behind one that is no attribute of it.
 MODULE = re.compile(r"(?:^|\n)(?:[^\n]*[;}]|#!\[[^\n]*\])\n\s*mod proved;\n")
 ODD = re.compile(r"\b(macro_use|no_implicit_prelude|register_tool|no_core)\b|#!?\[\s*(path)\b|\b(feature)\s*\(")
@@ -49,6 +51,11 @@ def causes(files):
         odd = ODD.search(text)
         if odd and name.endswith(".rs"):
             found.append(f"{name}: `{odd[1] or odd[2] or odd[3]}`")
+        code = re.sub(r"(?m)//.*$", "", text)
+        for path, guard in table.GUARDS.items():
+            function = path.split("::")[-1]
+            if guard.reason == table.INSIDE and re.search(rf"\b{function}\b", code):
+                found.append(f"{name}: `{function}`, which requires something and tests nothing")
     return found + cargo(files["Cargo.toml"])
 
 

@@ -22,7 +22,9 @@ def last(path, count):
 
 def guard(path, entry):
     """A row for a function that requires something."""
-    tests = "tests it, and panics" if entry.test else f"{code(entry.tested_by)} tests it" if entry.tested_by else "no test"
+    tests = "tests it, and panics" if entry.test else "no test"
+    if entry.tested_by:
+        tests = f"{code(entry.tested_by)} tests it"
     clauses = ", ".join(code(re.sub(r"^requires (\w+ )?\{ (.*) \}$", r"\2", one)) for one in entry.clauses)
     return [code(last(path, 2)), clauses, tests, entry.reason or ""]
 
@@ -32,11 +34,13 @@ def blocks():
     for path in table.CONSTANT:
         constant.setdefault(path.split("::")[-2], []).append(path.split("::")[-1])
     left_out = [[code(name), reason] for name, reason in table.LEFT_OUT.items()]
-    left_out += [[code(name), "lemmas"] for name in table.LEMMA_FILES] + [[code(name), "a lemma"] for name in table.LEMMAS]
+    left_out += [[code(name), "lemmas"] for name in table.LEMMA_FILES]
+    left_out += [[code(name), "a lemma"] for name in table.LEMMAS]
+    constant = [[code(name), ", ".join(map(code, sorted(names)))] for name, names in constant.items()]
     return {
         "rules": rows(["rule", "in the source", "in Rust"], table.RULES),
         "guards": rows(["function", "requires", "in Rust", "why"], [guard(*one) for one in table.GUARDS.items()]),
-        "constant": rows(["type", "`const fn` in Rust"], [[code(name), ", ".join(map(code, sorted(names)))] for name, names in constant.items()]),
+        "constant": rows(["type", "`const fn` in Rust"], constant),
         "left out": rows(["left out", "why"], left_out),
         "let through": rows(
             ["of its kind, only"],

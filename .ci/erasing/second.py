@@ -26,7 +26,10 @@ GONE = [
 ]
 CHANGED = [
     (r"(?m)^#\[derive\(([^)]*)Debug, ([^)]*)\)\](\s*pub struct \w+\(pub\()super\) u8\)", r"#[derive(\1\2)]\3crate) u8)"),
-    (r"fn fmt<(\w+): ((?:std::)?)fmt::Write>\(&self, f: &mut (?:std::)?fmt::Formatter<\1>\)", r"fn fmt(&self, f: &mut \2fmt::Formatter<'_>)"),
+    (
+        r"fn fmt<(\w+): ((?:std::)?)fmt::Write>\(&self, f: &mut (?:std::)?fmt::Formatter<\1>\)",
+        r"fn fmt(&self, f: &mut \2fmt::Formatter<'_>)",
+    ),
     (r"\bformat_fields!", "format_args!"),
 ]
 
@@ -89,6 +92,7 @@ def differences(texts, files):
         target = f"{crate}/{'mod' if file == 'lib.rt' else file[: -len('.rt')]}.rs"
         mine, theirs = words(erased(name, text)), words(files.get(target, ""))
         if mine != theirs:
-            at = next((i for i, pair in enumerate(zip(mine, theirs)) if pair[0] != pair[1]), min(len(mine), len(theirs)))
-            found.append(f"{target}: `{' '.join(mine[at - 4:at + 6])}` became `{' '.join(theirs[at - 4:at + 6])}`")
+            at = next((i for i, pair in enumerate(zip(mine, theirs)) if pair[0] != pair[1]), -1)
+            ours, other = (" ".join(one[max(at - 4, 0) : at + 6]) for one in (mine, theirs))
+            found.append(f"{target}: `{ours}` became `{other}`")
     return found

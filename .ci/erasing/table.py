@@ -284,7 +284,7 @@ macro yield try loop unwrap_unchecked catch_unwind panic assert assert_eq assert
 addr_of include include_str env concat stringify Rc Arc Cell RefCell UnsafeCell Atomic PhantomData Pin
 """.split()
 # Words that stand before a bracket and call nothing.
-WORDS_BEFORE = "if match return in let while for else as mut ref move derive inline where impl".split()
+WORDS_BEFORE = "pub if match return in let while for else as mut ref move derive inline where impl".split()
 # Names that a module may not have.
 RESERVED_MODULES = CRATES + "core std alloc proved bitflags circular_buffer arrayvec thiserror flags queue embedded_io_".split()
 NAMES_OF_STD = set(

@@ -1,23 +1,25 @@
 """Refuses, in the code of a file that is left, what is not known to mean the same in Rattle and in Rust."""
 import re
 
-from items import number
 
+# Rules that keep what they rewrite as code.
+REWRITES = ("field", "path", "std", "writer", "fields")
 ENDS = (")", "]", "}", ",", ";", "{", "=>", "")
 STARTS_EXPRESSION = ("word", "number", "string", "character")
 
 
 def check(file, known):
-    """`known` has the names of all own functions: `methods`, `functions` and `free` (those outside of an impl or a trait)."""
-    kept = [edit for edit in file.edits if edit.rule not in ("field", "path", "std", "guard", "const", "writer", "fields")]
-    gone = [(edit.start, edit.end) for edit in kept if edit.end > edit.start]
+    """`known` has the names of all own functions: `methods`, `functions`, and `free` ones."""
+    gone = [(edit.start, edit.end) for edit in file.edits if edit.rule not in REWRITES and edit.end > edit.start]
     table, brackets = file.table, []
     for at, token in enumerate(file.code):
         word, before, after = token.text, file.word(at - 1), file.word(at + 1)
         if token.kind == "sign" and word in ("(", "[", "{"):
             brackets.append(at)
         elif token.kind == "sign" and word in (")", "]", "}"):
-            opened = brackets.pop()
+            if not brackets:
+                file.refuse("brackets that do not match", at)
+            brackets.pop()
         if any(start <= token.start < end for start, end in gone):
             continue
         if token.kind in ("clause", "ghost", "ghost use"):
@@ -45,19 +47,15 @@ def check(file, known):
 
 
 def is_path_of_alloc(file, at):
-    """Whether this is `alloc` in `std::alloc::Global`, or the parameter that has this name in the constructor of the rings."""
+    """Whether this is `alloc` in `std::alloc::Global`, or the parameter of the rings' constructor."""
     return file.words(at - 2, at + 3) == "std :: alloc :: Global" or file.word(at) == "alloc" and (
         file.words(at, at + 3) == "alloc : Global" or file.words(at - 2, at) == "with_capacity ("
     )
 
 
 def check_number(file, at):
-    word = file.word(at)
-    try:
-        value = number(word)
-    except ValueError:
-        file.refuse("a number that is not whole", at)
-    if word.endswith("usize") and value > 0xFFFF:
+    value = file.number(at)
+    if file.word(at).endswith("usize") and value > 0xFFFF:
         file.refuse("a `usize` above 65,535", at)
 
 
@@ -106,7 +104,7 @@ def check_call(file, at, known):
     elif before == "::" and re.match(r"_*[a-z]", word) and after != "::" and not in_use(file, at):
         file.refuse(f"a function as a value: {word}", at)
     elif is_call and re.match(r"_*[a-z]", word) and before not in (".", "::", "!"):
-        if word not in known["free"] | {"u8", "pub", "crate", "super", "Some", "Ok", "Err"} and word not in table.WORDS_BEFORE:
+        if word not in known["free"] and word not in table.WORDS_BEFORE:
             file.refuse(f"the call `{word}`", at)
     elif word in known["free"] and not is_call and before not in (".", "::", "fn") and not in_use(file, at):
         file.refuse(f"a function as a value: {word}", at)

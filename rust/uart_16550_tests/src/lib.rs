@@ -5,5 +5,6 @@
 #![cfg(test)]
 
 mod erased;
+mod guards;
 mod libraries;
 mod runtime;
