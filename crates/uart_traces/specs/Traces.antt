@@ -31,7 +31,8 @@ AreCalls limit fields (x ∷ xs) =
 pub record StraysHere (before : Fields) (x : Exchange) (stray : Stray) : Type 0 where
   pub call : stray.exchange.now ≡ x
   pub none : (after : Fields) → IsExchange x before after → ⊥
-  pub first : IsFollowed x.call before (map access_of x.accesses.items) (record { kept = stray.kept; turn = stray.turn })
+  pub first :
+      IsFollowed x.call before (map access_of x.accesses.items) (record { kept = stray.kept; turn = stray.turn })
 
 -- so it is for the first call that is not as recorded
 abbrev pub IsStray : ℕ → Fields → List Exchange → Stray → Type 0
