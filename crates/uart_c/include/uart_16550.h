@@ -200,7 +200,7 @@ struct uart_config {
     uint8_t check_cts_before_sending;
 };
 
-/* What the driver keeps from call to call. */
+/* What the driver keeps from call to call. A flag that the library writes is 0 or 1. */
 struct uart_driver {
     uint64_t spin_limit;                /* how many unsuccessful polls in a row a wait makes; 0 counts as 1 */
     struct uart_config config;
@@ -304,7 +304,7 @@ enum uart_send_error {
     UART_SEND_REMOTE_NOT_CLEAR_TO_SEND = 1 /* CTS is clear, and the configuration checks it */
 };
 
-/* What a call returned. Which fields count depends on its kind. */
+/* What a call returned. Which fields count depends on its kind; the others are 0. */
 struct uart_answer {
     size_t count;
     uint8_t kind;                    /* an enum uart_answer_kind */
