@@ -155,7 +155,8 @@ refused_due known s l (RemoteNotClearToSend, t) = go s.checks t
     held : (front back : List Access) → Asks offsets.LSR LSR.THR_EMPTY.0 true s front → LinesAllow false s back →
         ShowsCtsClear (front ++ back)
     held front back look (inl (lies, loops)) = absurd (cc (lies))
-    held front back look (inr lines) = rw (look.is, lines.whole, lines.first.is, lines.second.is) (inr (inr (inl (refl, lines.second.shows))))
+    held front back look (inr lines) =
+        rw (look.is, lines.whole, lines.first.is, lines.second.is) (inr (inr (inl (refl, lines.second.shows))))
 
     go : (checks : Bool) → MatchBool checks (Then (Asks offsets.LSR LSR.THR_EMPTY.0 true) (LinesAllow false) s l) ⊥ →
         ((known_after_all known l).due ≡ true) ⊎ ShowsCtsClear l

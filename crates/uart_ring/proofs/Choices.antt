@@ -289,7 +289,9 @@ queues_leave_no_choice bytes = no_choice (λ f x y. record { at = λ l m a b p q
 
 pub resumes_leave_no_choice : LeavesNoRingChoice (λ (_ : ⊤). ResumesTransmit)
 resumes_leave_no_choice =
-    no_choice (λ f x y. record { at = λ l m a b p q. so (λ r. (refl, r.1)) ((any_same (length f.transmit.items) Pumps f (pumps_same f)).at l m a b p q) })
+    no_choice (λ f x y. record {
+      at = λ l m a b p q. so (λ r. (refl, r.1)) ((any_same (length f.transmit.items) Pumps f (pumps_same f)).at l m a b p q);
+    })
 
 pub takes_leave_no_choice : (slots : ℕ) → LeavesNoRingChoice (TakesBytes slots)
 takes_leave_no_choice slots = no_choice (λ f x y. record { at = λ l m a b p q. at f x y l m a b (p.0 ∙ sym q.0) p.1 q.1 })
