@@ -252,7 +252,8 @@ impl<B: Backend> Uart16550Tty<B> {
     /// # Ok(()) }
     /// ```
     pub fn into_inner(self) -> Uart16550<B> {
-        self.inner
+        let Uart16550Tty { inner: uart } = self;
+        uart
     }
 
     // Sends the expansion of a byte, and returns its length. Most bytes are printable, and are sent without a look at the
