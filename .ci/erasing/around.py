@@ -56,6 +56,10 @@ def causes(files):
             function = path.split("::")[-1]
             if guard.reason == table.INSIDE and re.search(rf"\b{function}\b", code):
                 found.append(f"{name}: `{function}`, which requires something and tests nothing")
+    reserved = table.NAMES_OF_STD.union(table.FLAGS, table.FLAGS_TOO)
+    for function in re.findall(r"\bfn (\w+)", files.get("src/flags.rs", "")):
+        if function not in reserved and function not in table.SAME_NAME:
+            found.append(f"src/flags.rs: `{function}`, a name that is not reserved")
     return found + cargo(files["Cargo.toml"])
 
 

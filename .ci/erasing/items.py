@@ -443,7 +443,7 @@ class File:
         name = self.word(at)
         if name in self.table.PRELUDE:
             self.refuse(f"an own item with a name of the prelude: {name}", at)
-        libraries = self.table.METHODS + self.table.FLAGS + self.table.QUEUE
+        libraries = self.table.METHODS + self.table.FLAGS + self.table.FLAGS_TOO + self.table.QUEUE
         if name in self.table.NAMES_OF_STD or name in libraries:
             where, _ = self.table.SAME_NAME.get(name, ("nowhere", ""))
             if not (owner or "").startswith(where):

@@ -408,6 +408,7 @@ AROUND = [
         "fn f(u: &mut U) { u.write_register(9, 1) }\nmacro_rules!",
         "`write_register`, which requires",
     ),
+    ("src/flags.rs", "fn toggle", "fn has_error", "`has_error`, a name that is not reserved"),
     ("src/proved.rs", "", "pub mod uart_spec;", "src/proved.rs: there"),
     ("build.rs", "", "fn main() {}", "build.rs: there"),
     (".cargo/config.toml", "", "[build]\nrustflags = []\n", "more than the stand-in"),

@@ -11,15 +11,20 @@ pub use crate::proved::uart_16550::{
     Uart16550, Uart16550Tty, Uart16550TtyError, embedded_io,
 };
 
-/// How the driver reads and writes the registers of its device.
-///
-/// | backend | for | `unsafe` |
-/// |---|---|---|
-/// | [`X86Ports`](crate::native::backend::X86Ports) | a device at I/O ports of x86 | its constructor |
-/// | [`VolatileMemory`] | a device in memory | its constructors |
-/// | [`PioBackend`], [`MmioBackend`] | ports or memory that code of yours accesses: [`PortAccess`], [`ByteAccess`] | |
-/// | your own | anything with eight registers: implement [`Backend`] | |
 pub mod backend {
+    //! How the driver reads and writes the registers of its device.
+    //!
+    //! | backend | for | `unsafe` |
+    //! |---|---|---|
+    //! | `X86Ports` | a device at I/O ports of x86 | its constructor |
+    //! | [`VolatileMemory`] | a device in memory | its constructors |
+    //! | [`PioBackend`] | ports that code of yours accesses: [`PortAccess`] | |
+    //! | [`MmioBackend`] | memory that code of yours accesses: [`ByteAccess`] | |
+    //! | your own | anything with eight registers: implement [`Backend`] | |
+    //!
+    //! The driver passes offsets of 0 to 7. Other code that gets hold of a backend may pass any, so a
+    //! backend that is unsafe inside tests its offset, as the two first do.
+
     pub use crate::access::VolatileMemory;
     #[cfg(any(target_arch = "x86", target_arch = "x86_64"))]
     pub use crate::access::X86Ports;
