@@ -211,9 +211,8 @@ class File:
         elif text == "use std :: fmt ;" and re.search(r"\.write_char\(", self.text):
             self.change("writer", self.at, close, "use ::core::fmt;\nuse ::core::fmt::Write as _;")
         for at in range(self.at, close):
-            if self.word(at) == "as":
-                self.own_name(at + 1, None)
-                self.aliases.append(self.word(at + 1))
+            if self.word(at) == "as" and self.words(at - 1, at + 2) not in self.table.RENAMED:
+                self.refuse("another name for something", at)
         self.at = close + 1
 
     def mod(self, first, attributes, visibility, path, owner, end):

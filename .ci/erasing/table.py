@@ -226,6 +226,9 @@ IMPLEMENTED = {
     "uart_16550::mmio::MmioBackend::write": "address",
 }
 
+# Names that a `use` changes.
+RENAMED = ["uart_spec as spec"]
+
 # What is let through. Anything else of its kind is refused.
 MACROS = ["matches", "format_args", "format_fields"]
 ATTRIBUTES = ["inline", "default", "automatically_derived"]

@@ -93,7 +93,8 @@ FORMS = [
     ("use std::fmt::{Display, Pointer};", "the path std::fmt::Pointer"),
     ("use crate::registers::*;", "a `use` of everything"),
     ("#[allow(unused)]\nuse crate::registers::IER;", "an attribute of a `use`"),
-    ("use crate::registers::IER as Option;", "a name of the prelude: Option"),
+    ("use crate::registers::IER as Option;", "another name for something"),
+    ("use crate::backend::{Backend as Other};", "another name for something"),
     ("enum E {\n    A = 5,\n    B = 1,\n}", "numbers of cases that do not ascend"),
     # names that Rust could take for others
     ("pub trait T {\n    fn midpoint(self, other: u8) -> u8;\n}", "a name of std or of a library: midpoint"),
@@ -121,7 +122,7 @@ FORMS = [
     ("pub trait T {}\npub type Config = u8;\nimpl T for Config {}", "an `impl` for Config, which is not ours"),
     (
         "use std::num::NonZeroU8 as Config;\npub trait T {}\nimpl T for Config {}",
-        "an `impl` for Config, which is not ours",
+        "another name for something",
     ),
     # lemmas and models
     (
