@@ -19,7 +19,8 @@ PATCH = {"patch": {"crates-io": {"embedded-io": {"path": "tests/embedded-io"}}}}
 def of(package):
     """The files by hand of a package, by name, as text."""
     files = {}
-    for path in sorted([package / "Cargo.toml", package / "build.rs", *(package / ".cargo").rglob("*"), *(package / "src").rglob("*")]):
+    folders = [*(package / ".cargo").rglob("*"), *(package / "src").rglob("*")]
+    for path in sorted([package / "Cargo.toml", package / "build.rs", *folders]):
         name = str(path.relative_to(package))
         if path.is_symlink():
             files[name] = None

@@ -1,11 +1,13 @@
-"""The eraser's own tests, as tables: what it refuses, with the cause that it prints, and what its check and its second reader find."""
+"""The eraser's own tests, as tables.
+
+What it refuses, with the cause that it prints, and what its check and its second reader find.
+"""
 import contextlib
 import pathlib
 import tempfile
 
 import around
 import crate
-import items
 import second
 import table
 import words
