@@ -252,9 +252,7 @@ class File:
         if owner is None or owner.startswith("trait "):
             self.own_name(self.at + 1, owner)
         close = self.semicolon(self.at)
-        if self.word(self.at) == "const":
-            self.small_numbers(self.at, close)
-        elif owner is None:
+        if self.word(self.at) == "type" and owner is None:
             self.aliases.append(self.word(self.at + 1))
         self.at = close + 1
 
@@ -263,12 +261,6 @@ class File:
             return number(self.word(at))
         except ValueError:
             self.refuse("a number that is not whole", at)
-
-    def small_numbers(self, first, close):
-        if self.begins(first + 2, ": usize ="):
-            for at in range(first, close):
-                if self.kind(at) == "number" and self.number(at) > 0xFFFF:
-                    self.refuse("a `usize` above 65,535", at)
 
     def derive(self, attributes, is_register):
         for name, first, close in attributes:

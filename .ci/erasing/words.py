@@ -1,7 +1,6 @@
 """Refuses, in the code of a file that is left, what is not known to mean the same in Rattle and in Rust."""
 import re
 
-
 # Rules that keep what they rewrite as code.
 REWRITES = ("field", "path", "std", "writer", "fields")
 ENDS = (")", "]", "}", ",", ";", "{", "=>", "")
@@ -54,9 +53,11 @@ def is_path_of_alloc(file, at):
 
 
 def check_number(file, at):
-    value = file.number(at)
-    if file.word(at).endswith("usize") and value > 0xFFFF:
-        file.refuse("a `usize` above 65,535", at)
+    """A number above 65,535 is none of `usize`: it is a constant of another type, or it is listed."""
+    if file.number(at) <= 0xFFFF or file.word(at) in file.table.LARGE.get(file.name, []):
+        return
+    if not re.fullmatch(r": u(32|64) =", file.words(at - 3, at)):
+        file.refuse("a number above 65,535 that may be a `usize`", at)
 
 
 def check_range(file, at, brackets):
