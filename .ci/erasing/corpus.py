@@ -25,6 +25,7 @@ TABLE = types.SimpleNamespace(
         "CONSTANT": [],
         "GUARDS": {},
         "IMPLEMENTED": {},
+        "LARGE": {"corpus/src/values.rt": ["115_200"]},
         "CASTS": {f"corpus::traits::Cells::{name}": ["offset"] for name in ("read_one", "write_one")},
         "SAME_NAME": {**table.SAME_NAME, "new": ("impl Cells", "")},
     }

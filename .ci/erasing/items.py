@@ -252,17 +252,15 @@ class File:
         if owner is None or owner.startswith("trait "):
             self.own_name(self.at + 1, owner)
         close = self.semicolon(self.at)
-        if self.word(self.at) == "const":
-            self.small_numbers(self.at, close)
-        elif owner is None:
+        if self.word(self.at) == "type" and owner is None:
             self.aliases.append(self.word(self.at + 1))
         self.at = close + 1
 
-    def small_numbers(self, first, close):
-        if self.begins(first + 2, ": usize ="):
-            for at in range(first, close):
-                if self.kind(at) == "number" and number(self.word(at)) > 0xFFFF:
-                    self.refuse("a `usize` above 65,535", at)
+    def number(self, at):
+        try:
+            return number(self.word(at))
+        except ValueError:
+            self.refuse("a number that is not whole", at)
 
     def derive(self, attributes, is_register):
         for name, first, close in attributes:
@@ -296,6 +294,8 @@ class File:
         is_register = self.words(at, at + 8) == "( pub ( super ) u8 ) ;"
         if is_register:
             self.change("field", at + 1, at + 4, "pub(crate)")
+        if is_register and not any(attribute == "derive" for attribute, _, _ in attributes):
+            self.refuse("a register without `Debug`", first)
         self.attribute([one for one in attributes if one[0] != "derive"], ("automatically_derived",))
         self.derive(attributes, is_register)
         if self.word(at) == "{":
@@ -316,9 +316,9 @@ class File:
         while at < end:
             if self.word(at) == "=":
                 is_number = self.kind(at + 1) == "number" and self.word(at + 2) in (",", "}")
-                if not is_number or number(self.word(at + 1)) <= last:
+                if not is_number or self.number(at + 1) <= last:
                     self.refuse("numbers of cases that do not ascend", at)
-                last = number(self.word(at + 1))
+                last = self.number(at + 1)
             if self.kind(at) == "ghost":
                 if self.word(at - 1) not in ("{", ","):
                     self.refuse("something in front of a ghost field", at)

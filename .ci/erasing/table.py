@@ -276,6 +276,8 @@ CASTS = {
     "uart_16550::mmio::MmioBackend::new": ["stride . get ( )"],
     "uart_16550::mmio::MmioBackend::address": ["register_offset", "self . stride . get ( )"],
 }
+# Numbers above 65,535 that are no constants of `u32` or `u64`: the file, and the numbers. They are baud rates.
+LARGE = {"uart_spec/src/config.rt": ["115_200"]}
 # Words that no emitted code has.
 WORDS = """
 unsafe async await dyn static extern macro_rules rt alloc clone prove unreachable invariant decreases measure size_of align_of

@@ -14,6 +14,8 @@ ROOT = pathlib.Path(__file__).resolve().parent.parent.parent
 
 # Forms behind the code of uart_spec/src/backend.rt that are accepted, so that the refusals below have their own causes.
 ACCEPTED = [
+    "const A: u32 = 70_000;",
+    "fn f(x: usize) -> usize {\n    x + 0xffff\n}",
     "fn f(x: u8) -> u8 {\n    x\n}",
     "fn f(x: u8) -> u8\n    ensures { result ≡ x }\n{\n    x\n}",
     "fn f(x: &[u8]) -> u8 {\n    x[1..].len().min(3) as u8\n}",
@@ -100,20 +102,36 @@ FORMS = [
     ("pub trait T {\n    fn into(self) -> u8;\n}", "a name of std or of a library: into"),
     ("pub trait T {\n    const BITS: u8;\n}", "a name of std or of a library: BITS"),
     ("pub trait T {\n    fn is_empty(&self) -> bool;\n}", "a name of std or of a library: is_empty"),
-    ("struct S;\nimpl S {\n    fn contains(&self) -> bool {\n        true\n    }\n}", "a name of std or of a library: contains"),
+    (
+        "struct S;\nimpl S {\n    fn contains(&self) -> bool {\n        true\n    }\n}",
+        "a name of std or of a library: contains",
+    ),
     ("struct Option(u8);", "a name of the prelude: Option"),
     ("trait Clone {}", "a name of the prelude: Clone"),
     ("const None: u8 = 1;", "a name of the prelude: None"),
-    ("pub trait T {\n    fn f(&self) -> u8;\n}\nimpl T for u8 {\n    fn f(&self) -> u8 {\n        3\n    }\n}", "an `impl` for u8, which is not ours"),
+    (
+        "pub trait T {\n    fn f(&self) -> u8;\n}\nimpl T for u8 {\n    fn f(&self) -> u8 {\n        3\n"
+        "    }\n}",
+        "an `impl` for u8, which is not ours",
+    ),
     ("pub trait T {}\nimpl<X> T for X {}", "an `impl` for X, which is not ours"),
     ("pub trait T {}\nimpl T for &S {}", "an `impl` for a type that is not ours"),
     ("pub struct S;\npub trait T {}\nimpl<Config> T for Config {}", "a parameter `Config` that is no single letter"),
     ("pub trait T {}\npub struct X;\nimpl<X> T for X {}", "an `impl` for X, which is not ours"),
     ("pub trait T {}\npub type Config = u8;\nimpl T for Config {}", "an `impl` for Config, which is not ours"),
-    ("use std::num::NonZeroU8 as Config;\npub trait T {}\nimpl T for Config {}", "an `impl` for Config, which is not ours"),
+    (
+        "use std::num::NonZeroU8 as Config;\npub trait T {}\nimpl T for Config {}",
+        "an `impl` for Config, which is not ours",
+    ),
     # lemmas and models
-    ("struct S {\n    pub x: u8,\n    ghost in_range: { x ≤ 3 },\n}", "S has an invariant and a field that others can set"),
-    ("struct S {\n    pub(crate) x: u8,\n}\nimpl Model for S {\n    ghost view = { a };\n}", "S has an invariant and a field"),
+    (
+        "struct S {\n    pub x: u8,\n    ghost in_range: { x ≤ 3 },\n}",
+        "S has an invariant and a field that others can set",
+    ),
+    (
+        "struct S {\n    pub(crate) x: u8,\n}\nimpl Model for S {\n    ghost view = { a };\n}",
+        "S has an invariant and a field",
+    ),
     ("impl Model for Other {\n    ghost view = { a };\n}", "a model of Other, which is a type of another file"),
     ("fn more()\n    ensures { a }\n{}", "a lemma that is not listed"),
     ("struct S;\nimpl S {\n    fn law()\n        ensures { a }\n    {}\n}", "a lemma that is not listed"),
@@ -123,12 +141,28 @@ FORMS = [
     ("fn f<B>(x: B) -> B\nwhere\n    B: Drop,\n    B: Copy,\n{\n    x\n}", "a `where` of more than `Drop`"),
     ("fn f<B>(x: B) -> B\nwhere\n    B: Copy\n    ensures { a }\n{\n    x\n}", "a `where` of more than `Drop`"),
     ("fn f<B: Drop + Copy>(x: B) -> B {\n    x\n}", "a bound `Drop` of another form"),
-    ("struct S;\nimpl fmt::Display for S {\n    fn fmt<W: Other>(&self, f: &mut F<W>) -> u8 {\n        3\n    }\n}", "a `fmt` of another form"),
-    ("struct S;\nimpl Drop for S {\n    fn drop(self) {\n        let S = self;\n    }\n}", "a name of std or of a library: drop"),
+    (
+        "struct S;\nimpl fmt::Display for S {\n    fn fmt<W: Other>(&self, f: &mut F<W>) -> u8 {\n"
+        "        3\n    }\n}",
+        "a `fmt` of another form",
+    ),
+    (
+        "struct S;\nimpl Drop for S {\n    fn drop(self) {\n        let S = self;\n    }\n}",
+        "a name of std or of a library: drop",
+    ),
     # guards
-    ("pub fn f(x: u8) -> u8\n    requires { x ≤ 3 }\n{\n    x\n}", "backend::f requires other things than its guard is for: requires { x ≤ 3 }"),
-    ("fn f(x: u8) -> u8\n    requires { x ≤ 3 }\n{\n    x\n}", "backend::f requires other things than its guard is for"),
-    ("pub trait T {\n    fn f(&self, x: u8) -> u8\n        requires { x ≤ 3 }\n    {\n        x\n    }\n}", "backend::T::f requires other things"),
+    (
+        "pub fn f(x: u8) -> u8\n    requires { x ≤ 3 }\n{\n    x\n}",
+        "backend::f requires other things than its guard is for: requires { x ≤ 3 }",
+    ),
+    (
+        "fn f(x: u8) -> u8\n    requires { x ≤ 3 }\n{\n    x\n}",
+        "backend::f requires other things than its guard is for",
+    ),
+    (
+        "pub trait T {\n    fn f(&self, x: u8) -> u8\n        requires { x ≤ 3 }\n    {\n        x\n    }\n}",
+        "backend::T::f requires other things",
+    ),
     (
         "pub struct S;\nimpl Backend for S {\n    fn read(&mut self, x: u8) -> u8 {\n        x\n    }\n\n"
         "    fn write(&mut self, x: u8, y: u8) {\n        return;\n    }\n}",
@@ -155,14 +189,18 @@ FORMS = [
     ("fn f(x: &dyn T) -> u8 {\n    3\n}", "the word `dyn`"),
     ("fn f() -> usize {\n    usize::MAX\n}", "a limit of `usize`"),
     ("fn f() -> u32 {\n    usize::BITS\n}", "a limit of `usize`"),
-    ("const A: usize = 70_000;", "a `usize` above 65,535"),
-    ("fn f() -> usize {\n    70_000_usize\n}", "a `usize` above 65,535"),
+    ("const A: usize = 70_000;", "a number above 65,535"),
+    ("fn f() -> usize {\n    70_000_usize\n}", "a number above 65,535"),
+    ("fn f(x: usize) -> usize {\n    x + 0x1_0000\n}", "a number above 65,535"),
     ("fn f(x: u64) -> usize {\n    x as usize\n}", "a cast to `usize` that is not listed"),
     ("fn f(x: *const u8) -> u8 {\n    3\n}", "a raw pointer"),
     ("fn f(x: u8) -> u8 {\n    let y = &raw mut x;\n    3\n}", "a raw pointer"),
     ("fn f(x: Option<u8>) -> u8 {\n    x.unwrap_or_default()\n}", "the method `unwrap_or_default`"),
     ("fn f(x: &[u8]) -> bool {\n    x.iter().all(u8::is_ascii)\n}", "a function as a value: is_ascii"),
-    ("fn g(x: u8) -> bool {\n    true\n}\n\nfn f(x: &[u8]) -> bool {\n    x.iter().all(g)\n}", "a function as a value: g"),
+    (
+        "fn g(x: u8) -> bool {\n    true\n}\n\nfn f(x: &[u8]) -> bool {\n    x.iter().all(g)\n}",
+        "a function as a value: g",
+    ),
     ("fn f() -> u8 {\n    u8::from(3)\n}", "the function `u8::from`"),
     ("fn f() -> u8 {\n    g(3)\n}", "the call `g`"),
     ("fn f() -> u8 {\n    1.5 as u8\n}", "a number that is not whole"),
@@ -173,7 +211,11 @@ FORMS = [
     ("fn f(x: u8) -> u8 {\n    loop {\n    }\n}", "the word `loop`"),
     ("async fn f() {}", "an item that begins with `async`"),
     ("fn f() -> u8 {\n    1e3 as u8\n}", "a number that is not whole"),
-    ("pub struct S {\n    x: u8,\n}\nfn f(v: &[S], i: usize) -> S {\n    S { x: 1, ..v[i] }\n}", "the rest of a struct from an index"),
+    (
+        "pub struct S {\n    x: u8,\n}\nfn f(v: &[S], i: usize) -> S {\n    S { x: 1, ..v[i] }\n}",
+        "the rest of a struct from an index",
+    ),
+    ("pub struct S(pub(super) u8);", "a register without `Debug`"),
     ("#[derive(Clone)]\npub struct S(pub(super) u8);", "a register without `Debug`"),
     # documentation
     ("/// ```\n/// f()\n/// ```\nfn f(x: u8) -> u8 {\n    x\n}", "an example that is not listed"),
@@ -181,32 +223,101 @@ FORMS = [
 
 # An edit of a source, and the cause.
 SOURCES = [
-    ("uart_spec/src/registers/prescaler_division.rt", "requires { pdf ≤ 15 }", "requires { pdf ≤ 31 }", "set_pdf requires other things"),
+    (
+        "uart_spec/src/registers/prescaler_division.rt",
+        "requires { pdf ≤ 15 }",
+        "requires { pdf ≤ 31 }",
+        "set_pdf requires other things",
+    ),
     ("uart_spec/src/registers/prescaler_division.rt", "        requires { pdf ≤ 15 }\n", "", "for: nothing"),
-    ("uart_spec/src/baud.rt", "requires divisor { 0 < divisor }", "requires divisor { 1 < divisor }", "calc_frequency requires other things"),
+    (
+        "uart_spec/src/baud.rt",
+        "requires divisor { 0 < divisor }",
+        "requires divisor { 1 < divisor }",
+        "calc_frequency requires other things",
+    ),
     ("uart_spec/src/baud.rt", "pub fn calc_divisor(", "pub fn calc_divisors(", "calc_divisors requires other things"),
     ("uart_spec/src/baud.rt", "\nfn other_factor(", "\npub fn other_factor(", "other_factor can be reached"),
     ("uart_16550/src/driver/init.rt", "match calc_divisor(", "match calc_other(", "init does not call calc_divisor"),
-    ("uart_16550/src/mmio.rt", "let address = self.address(register_offset);", "let address = 3;", "MmioBackend::read does not call address"),
+    (
+        "uart_16550/src/mmio.rt",
+        "let address = self.address(register_offset);",
+        "let address = 3;",
+        "MmioBackend::read does not call address",
+    ),
     ("uart_16550/src/pio.rt", "    fn port(&self", "    fn ports(&self", "PioBackend::ports requires other things"),
-    ("uart_16550/src/driver.rt", "    pub(crate) fn read_plain", "    pub fn read_plain", "read_plain can be reached"),
-    ("uart_16550/src/laws.rt", "\npub fn calls_leave_no_choice()", "\npub fn real() -> u8 {\n    3\n}\n\npub fn calls_leave_no_choice()", "a lemma that is not listed, or listed and no lemma"),
-    ("uart_16550/src/laws.rt", "\npub fn calls_leave_no_choice()", "\npub const A: u8 = 3;\n\npub fn calls_leave_no_choice()", "a file of lemmas with another item"),
-    ("uart_spec/src/registers.rt", "{}\n\n/// The bits of each mask.", "{ 3 }\n\n/// The bits of each mask.", "listed and no lemma"),
-    ("uart_spec/src/registers.rt", "pub fn masks_are_these()", "pub fn masks_are_those()", "a lemma that is not listed"),
+    (
+        "uart_16550/src/driver.rt",
+        "    pub(crate) fn read_plain",
+        "    pub fn read_plain",
+        "read_plain can be reached",
+    ),
+    (
+        "uart_16550/src/laws.rt",
+        "\npub fn calls_leave_no_choice()",
+        "\npub fn real() -> u8 {\n    3\n}\n\npub fn calls_leave_no_choice()",
+        "a lemma that is not listed, or listed and no lemma",
+    ),
+    (
+        "uart_16550/src/laws.rt",
+        "\npub fn calls_leave_no_choice()",
+        "\npub const A: u8 = 3;\n\npub fn calls_leave_no_choice()",
+        "a file of lemmas with another item",
+    ),
+    (
+        "uart_spec/src/registers.rt",
+        "{}\n\n/// The bits of each mask.",
+        "{ 3 }\n\n/// The bits of each mask.",
+        "listed and no lemma",
+    ),
+    (
+        "uart_spec/src/registers.rt",
+        "pub fn masks_are_these()",
+        "pub fn masks_are_those()",
+        "a lemma that is not listed",
+    ),
     ("uart_spec/src/lib.rt", "mod config;\n", "", "config.rt: no module declares it"),
     ("uart_spec/src/lib.rt", "mod config;\n", "mod config;\nmod extra;\n", "extra.rt: declared, and not there"),
     ("uart_spec/src/lib.rt", "#![tactic(auto)]", "#![no_std]", "an inner attribute other than tactic"),
-    ("uart_spec/src/config.rt", "    pub fn to_integer(self)", "    pub fn as_integer(self)", "BaudRate::to_integer: listed, and there are 0 of it"),
-    ("uart_spec/src/backend.rt", "        ensures { step self.old (Write register_offset value) self.new };\n}", "        ensures { a } fn hidden(&mut self);\n}", "a function without a body or a semicolon"),
-    ("uart_spec/src/backend.rt", "    ghost step: {", "    ghost use a.b; ghost step: {", "something else on the line"),
-    ("uart_16550/src/dump.rt", "/// # Errors\n    ///\n    /// `NonInteger", "/// # Panics\n    ///\n    /// `NonInteger", "a section Panics in the source"),
-    ("uart_16550/src/driver.rt", "assert_eq!(rt; uart.fifo_enabled(), true);", "check!(rt; uart.fifo_enabled(), true);", "an example with `rt;` of another form"),
+    (
+        "uart_spec/src/config.rt",
+        "    pub fn to_integer(self)",
+        "    pub fn as_integer(self)",
+        "BaudRate::to_integer: listed, and there are 0 of it",
+    ),
+    (
+        "uart_spec/src/backend.rt",
+        "        ensures { step self.old (Write register_offset value) self.new };\n}",
+        "        ensures { a } fn hidden(&mut self);\n}",
+        "a function without a body or a semicolon",
+    ),
+    (
+        "uart_spec/src/backend.rt",
+        "    ghost step: {",
+        "    ghost use a.b; ghost step: {",
+        "something else on the line",
+    ),
+    (
+        "uart_16550/src/dump.rt",
+        "/// # Errors\n    ///\n    /// `NonInteger",
+        "/// # Panics\n    ///\n    /// `NonInteger",
+        "a section Panics in the source",
+    ),
+    (
+        "uart_16550/src/driver.rt",
+        "assert_eq!(rt; uart.fifo_enabled(), true);",
+        "check!(rt; uart.fifo_enabled(), true);",
+        "an example with `rt;` of another form",
+    ),
 ]
 
 # An edit of an emitted file: a wrong erasure. Both readers find it.
 ERASURES = [
-    ("uart_16550/driver/transmit.rs", "self.write_byte(bytes[0]);", "self.write_byte(bytes[0]); self.write_byte(bytes[0]);"),
+    (
+        "uart_16550/driver/transmit.rs",
+        "self.write_byte(bytes[0]);",
+        "self.write_byte(bytes[0]); self.write_byte(bytes[0]);",
+    ),
     ("uart_16550/driver/init.rs", "0x42", "0x43"),
     ("uart_16550/driver/init.rs", "        self.drain();\n", ""),
     ("uart_16550/driver/init.rs", "if !self.keeps(FIRST_PATTERN)", "if self.keeps(FIRST_PATTERN)"),
@@ -239,12 +350,25 @@ ERASURES = [
     ("uart_16550/driver/loopback.rs", "0..self", "1..self"),
     ("uart_16550/driver/loopback.rs", "MSR::DELTA_CTS", "MSR::DELTA_DSR"),
     ("uart_16550/driver/transmit.rs", "#[inline(always)]\n", ""),
-    ("uart_16550/backend.rs", "fn load(&mut self, address: usize) -> u8;", "fn load(&mut self, address: usize) -> u8\n    ensures { step self.old (Read address result) self.new };"),
-    ("uart_16550/driver/state.rs", "spin_limit: self.spin_limit,\n        }\n    }", "spin_limit: NonZeroU64::MIN,\n        }\n    }"),
+    (
+        "uart_16550/backend.rs",
+        "fn load(&mut self, address: usize) -> u8;",
+        "fn load(&mut self, address: usize) -> u8\n"
+        "    ensures { step self.old (Read address result) self.new };",
+    ),
+    (
+        "uart_16550/driver/state.rs",
+        "spin_limit: self.spin_limit,\n        }\n    }",
+        "spin_limit: NonZeroU64::MIN,\n        }\n    }",
+    ),
     ("uart_16550/embedded_io.rs", "type Error = StalledError;", "type Error = ();"),
     ("uart_ring/ring.rs", "4096;", "4097;"),
     ("uart_ring/ring.rs", "capacity <= MAX_CAPACITY", "capacity < MAX_CAPACITY"),
-    ("uart_ring/ring/service.rs", "InterruptType::ModemStatus => self.note_modem()", "InterruptType::ModemStatus => self.note_line()"),
+    (
+        "uart_ring/ring/service.rs",
+        "InterruptType::ModemStatus => self.note_modem()",
+        "InterruptType::ModemStatus => self.note_line()",
+    ),
     ("uart_ring/ring/transmit.rs", "self.transmit.len() - sent", "sent"),
     ("uart_ring/mod.rs", "mod ring;", "pub mod ring;"),
 ]
@@ -278,7 +402,12 @@ AROUND = [
     ("src/lib.rs", "#![no_std]", "#![no_std]\n#![cfg_attr(all(), feature(x))]", "`feature`"),
     ("src/lib.rs", "#![no_std]", "#![no_implicit_prelude]", "`no_implicit_prelude`"),
     ("src/flags.rs", "macro_rules!", "#[macro_use]\nmod more {}\nmacro_rules!", "src/flags.rs: `macro_use`"),
-    ("src/flags.rs", "macro_rules!", "fn f(u: &mut U) { u.write_register(9, 1) }\nmacro_rules!", "`write_register`, which requires"),
+    (
+        "src/flags.rs",
+        "macro_rules!",
+        "fn f(u: &mut U) { u.write_register(9, 1) }\nmacro_rules!",
+        "`write_register`, which requires",
+    ),
     ("src/proved.rs", "", "pub mod uart_spec;", "src/proved.rs: there"),
     ("build.rs", "", "fn main() {}", "build.rs: there"),
     (".cargo/config.toml", "", "[build]\nrustflags = []\n", "more than the stand-in"),
@@ -288,8 +417,18 @@ AROUND = [
     ("Cargo.toml", "[package]\n", '[package]\nbuild = "src/x.rs"\n', "`build` of the package"),
     ("Cargo.toml", "[dependencies]\n", '[dependencies]\nbitflags = "2"\n', "the dependency bitflags"),
     ("Cargo.toml", "[dependencies]\n", "[patch.crates-io]\n[dependencies]\n", "the section [patch]"),
-    ("Cargo.toml", "[dependencies]\n", "[profile.release]\noverflow-checks = true\n[dependencies]\n", "the section [profile]"),
-    ("Cargo.toml", "[dependencies]\n", "[target.'cfg(unix)'.dependencies]\nx = \"1\"\n[dependencies]\n", "the section [target]"),
+    (
+        "Cargo.toml",
+        "[dependencies]\n",
+        "[profile.release]\noverflow-checks = true\n[dependencies]\n",
+        "the section [profile]",
+    ),
+    (
+        "Cargo.toml",
+        "[dependencies]\n",
+        "[target.'cfg(unix)'.dependencies]\nx = \"1\"\n[dependencies]\n",
+        "the section [target]",
+    ),
     ("Cargo.toml", "[package]\n", 'cargo-features = ["x"]\n[package]\n', "the section [cargo-features]"),
     ("Cargo.toml", "[lib]\n", "[lib\n", "cannot be read"),
 ]

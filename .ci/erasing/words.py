@@ -1,8 +1,6 @@
 """Refuses, in the code of a file that is left, what is not known to mean the same in Rattle and in Rust."""
 import re
 
-from items import number
-
 # Rules that keep what they rewrite as code.
 REWRITES = ("field", "path", "std", "writer", "fields")
 ENDS = (")", "]", "}", ",", ";", "{", "=>", "")
@@ -18,7 +16,9 @@ def check(file, known):
         if token.kind == "sign" and word in ("(", "[", "{"):
             brackets.append(at)
         elif token.kind == "sign" and word in (")", "]", "}"):
-            opened = brackets.pop()
+            if not brackets:
+                file.refuse("brackets that do not match", at)
+            brackets.pop()
         if any(start <= token.start < end for start, end in gone):
             continue
         if token.kind in ("clause", "ghost", "ghost use"):
@@ -53,13 +53,11 @@ def is_path_of_alloc(file, at):
 
 
 def check_number(file, at):
-    word = file.word(at)
-    try:
-        value = number(word)
-    except ValueError:
-        file.refuse("a number that is not whole", at)
-    if word.endswith("usize") and value > 0xFFFF:
-        file.refuse("a `usize` above 65,535", at)
+    """A number above 65,535 is none of `usize`: it is a constant of another type, or it is listed."""
+    if file.number(at) <= 0xFFFF or file.word(at) in file.table.LARGE.get(file.name, []):
+        return
+    if not re.fullmatch(r": u(32|64) =", file.words(at - 3, at)):
+        file.refuse("a number above 65,535 that may be a `usize`", at)
 
 
 def check_range(file, at, brackets):
