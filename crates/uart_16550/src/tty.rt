@@ -1,10 +1,10 @@
 //! A terminal over the driver.
-ghost use Rattle.std.specs.Prelude.{◌≡◌, ◌<◌, ◌≤◌, length, take, IfErr, IsOk};
+ghost use Rattle.std.specs.Prelude.{◌≡◌, ◌<◌, ◌≤◌, length, take, IfErr, IfOk, IsOk};
 ghost use Rattle.std.specs.Borrow.{Lends, sem};
 ghost use Rattle.std.specs.Int.NonZero.{non_zero_usize_get};
 ghost use Rattle.uart_spec.specs.Config.{IsComputable};
 ghost use Rattle.uart_16550.specs.Driver.{Made};
-ghost use Rattle.uart_16550.specs.Expansion.{expansion, expansion_of, SendsEach, SendsText, SendsStr};
+ghost use Rattle.uart_16550.specs.Expansion.{expansion, expansion_of, SendsEach, SendsSingly, SendsText, SendsStr};
 ghost use Rattle.uart_16550.specs.Tty.{inner_of, TerminalMade, IsStarted, BuildsTerminal, BuildsTerminalAt};
 ghost use Rattle.uart_16550.specs.Pio.{IsAtPorts, IsPortRefusal, PortStep};
 ghost use Rattle.uart_16550.specs.Mmio.{IsInMemory, IsMappingRefusal, MemoryStep};
@@ -230,6 +230,27 @@ impl<B: Backend> Uart16550Tty<B> {
         &mut self.inner
     }
 
+    // Sends the expansion of a byte, and returns its length. Most bytes are printable, and are sent without a look at the
+    // others.
+    #[inline(always)]
+    fn send_expansion(&mut self, byte: u8) -> Result<usize, StalledError>
+        ensures made { TerminalMade B.step (SendsSingly (expansion_of byte) result) self.old self.new }
+        ensures count { IfOk result (λ n. n ≡ length (expansion_of byte)) }
+        ensures done { IfErr result (λ e. e.done < length (expansion_of byte)) }
+    {
+        match byte {
+            b' '..=b'~' => {
+                self.inner.send_singly(&[byte])?;
+                Ok(1)
+            }
+            _ => {
+                let expansion = expansion_of(byte);
+                self.inner.send_singly(&expansion.bytes[..expansion.len])?;
+                Ok(expansion.len)
+            }
+        }
+    }
+
     /// Sends the expansion of the text byte by byte, and waits for room before each byte.
     ///
     /// Each wait makes at most `spin_limit` polls. Received bytes are not touched.
@@ -249,9 +270,8 @@ impl<B: Backend> Uart16550Tty<B> {
     {
         let mut done = 0_usize;
         for &byte in text.as_bytes() {
-            let expansion = expansion_of(byte);
-            match self.inner.send_singly(&expansion.bytes[..expansion.len]) {
-                Ok(()) => done = done.saturating_add(expansion.len),
+            match self.send_expansion(byte) {
+                Ok(count) => done = done.saturating_add(count),
                 Err(stall) => {
                     let done = done.saturating_add(stall.done);
                     return Err(StalledError { done });

@@ -21,6 +21,9 @@ pub mod backend {
     //! | [`PioBackend`] | ports that code of yours accesses: [`PortAccess`] | |
     //! | [`MmioBackend`] | memory that code of yours accesses: [`ByteAccess`] | |
     //! | your own | anything with eight registers: implement [`Backend`] | |
+    //!
+    //! The driver passes offsets of 0 to 7. Other code that gets hold of a backend may pass any, so a
+    //! backend that is unsafe inside tests its offset, as the two first do.
 
     pub use crate::access::VolatileMemory;
     #[cfg(any(target_arch = "x86", target_arch = "x86_64"))]

@@ -240,6 +240,23 @@ impl<B: Backend> Uart16550Tty<B> {
         &mut self.inner
     }
 
+    // Sends the expansion of a byte, and returns its length. Most bytes are printable, and are sent without a look at the
+    // others.
+    #[inline(always)]
+    fn send_expansion(&mut self, byte: u8) -> Result<usize, StalledError> {
+        match byte {
+            b' '..=b'~' => {
+                self.inner.send_singly(&[byte])?;
+                Ok(1)
+            }
+            _ => {
+                let expansion = expansion_of(byte);
+                self.inner.send_singly(&expansion.bytes[..expansion.len])?;
+                Ok(expansion.len)
+            }
+        }
+    }
+
     /// Sends the expansion of the text byte by byte, and waits for room before each byte.
     ///
     /// Each wait makes at most `spin_limit` polls. Received bytes are not touched.
@@ -261,9 +278,8 @@ impl<B: Backend> Uart16550Tty<B> {
     pub fn write_text(&mut self, text: &str) -> Result<(), StalledError> {
         let mut done = 0_usize;
         for &byte in text.as_bytes() {
-            let expansion = expansion_of(byte);
-            match self.inner.send_singly(&expansion.bytes[..expansion.len]) {
-                Ok(()) => done = done.saturating_add(expansion.len),
+            match self.send_expansion(byte) {
+                Ok(count) => done = done.saturating_add(count),
                 Err(stall) => {
                     let done = done.saturating_add(stall.done);
                     return Err(StalledError { done });

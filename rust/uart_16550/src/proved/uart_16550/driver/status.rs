@@ -243,17 +243,18 @@ impl<B: Backend> Uart16550<B> {
     /// # Ok(()) }
     /// ```
     pub fn config_register_dump(&mut self) -> ConfigRegisterDump {
+        // The result is written field by field, so that no value waits in a register for the others.
+        let mut dump = ConfigRegisterDump::default();
         let (dll, dlm) = self.dll_dlm();
-        ConfigRegisterDump {
-            ier: self.ier(),
-            isr: self.isr(),
-            lcr: self.lcr(),
-            mcr: self.mcr(),
-            lsr: self.read_lsr().union(self.saved_lsr),
-            msr: self.read_msr().union(self.saved_msr),
-            spr: self.spr(),
-            dll,
-            dlm,
-        }
+        dump.dll = dll;
+        dump.dlm = dlm;
+        dump.ier = self.ier();
+        dump.isr = self.isr();
+        dump.lcr = self.lcr();
+        dump.mcr = self.mcr();
+        dump.lsr = self.read_lsr().union(self.saved_lsr);
+        dump.msr = self.read_msr().union(self.saved_msr);
+        dump.spr = self.spr();
+        dump
     }
 }
