@@ -1,12 +1,19 @@
 """What is by hand around the emitted folder: nothing there may change what the emitted code means."""
 import re
+import tomllib
 
 import table
 
-MODULE = re.compile(r"(?:(?<=;\n)|(?<=\n\n))mod proved;\n")
-ODD = re.compile(r"\b(macro_use|no_implicit_prelude|register_tool)\b|#!?\[\s*(path)\b|#!\[\s*(feature)\b")
-PATCH = re.compile(r'#.*|\[patch\.crates-io\]|embedded-io = \{ path = "tests/embedded-io" \}|')
-DEPENDENCY = re.compile(r'#.*|embedded-io = \{ version = "[0-9.]+", optional = true \}')
+# In lib.rs: the line, behind one that is no attribute of it.
+MODULE = re.compile(r"(?:^|\n)(?:[^\n]*[;}]|#!\[[^\n]*\])\n\s*mod proved;\n")
+ODD = re.compile(r"\b(macro_use|no_implicit_prelude|register_tool|no_core)\b|#!?\[\s*(path)\b|\b(feature)\s*\(")
+# What Cargo.toml may have: nothing that changes how the library is compiled.
+PACKAGE = """
+name version edition rust-version description keywords categories license readme include repository documentation authors publish
+metadata
+""".split()
+SECTIONS = ["package", "lib", "features", "dependencies", "dev-dependencies", "workspace"]
+PATCH = {"patch": {"crates-io": {"embedded-io": {"path": "tests/embedded-io"}}}}
 
 
 def of(package):
@@ -32,10 +39,11 @@ def causes(files):
         if name not in files:
             return found + [f"{name}: missing"]
     for name, text in files.items():
-        if name.startswith(".cargo/") and not all(PATCH.fullmatch(line) for line in text.splitlines()):
+        if name.startswith(".cargo/") and read(text) != PATCH:
             found.append(f"{name}: more than the stand-in for embedded-io")
     library = files["src/lib.rs"]
-    if len(MODULE.findall(library)) != 1 or library.count("mod proved") != 1:
+    plain = re.sub(r"(?m)^\s*//.*\n", "", library)
+    if len(MODULE.findall(plain)) != 1 or library.count("mod proved") != 1:
         found.append("src/lib.rs: not one plain line `mod proved;`")
     if re.search(r"macro_rules|extern\s+crate", library):
         found.append("src/lib.rs: a macro, or `extern crate`")
@@ -43,21 +51,34 @@ def causes(files):
         odd = ODD.search(text)
         if odd and name.endswith(".rs"):
             found.append(f"{name}: `{odd[1] or odd[2] or odd[3]}`")
+        code = re.sub(r"(?m)//.*$", "", text)
+        for path, guard in table.GUARDS.items():
+            function = path.split("::")[-1]
+            if guard.reason == table.INSIDE and re.search(rf"\b{function}\b", code):
+                found.append(f"{name}: `{function}`, which requires something and tests nothing")
     return found + cargo(files["Cargo.toml"])
 
 
+def read(text):
+    """A file of Cargo, or nothing if it is none."""
+    try:
+        return tomllib.loads(text)
+    except tomllib.TOMLDecodeError:
+        return None
+
+
 def cargo(text):
+    entries = read(text)
+    if entries is None:
+        return ["Cargo.toml: cannot be read"]
     found = []
-    if not re.search(r'(?m)^edition = "2024"$', text):
+    package, library = entries.get("package", {}), entries.get("lib", {})
+    if package.get("edition") != "2024":
         found.append('Cargo.toml: not `edition = "2024"`')
-    for section in re.findall(r"(?m)^\[+([^\]]+)\]+$", text):
-        if section not in table.SECTIONS:
-            found.append(f"Cargo.toml: the section [{section}]")
-    listed = re.search(r"(?ms)^\[dependencies\]\n(.*?)(?=^\[|\Z)", text)
-    for line in (listed[1] if listed else "").splitlines():
-        if line and not DEPENDENCY.fullmatch(line):
-            found.append(f"Cargo.toml: the dependency `{line}`")
-    odd = re.search(r"(?m)^(build|links|autolib|crate-type|path|proc-macro) *=", text)
-    if odd:
-        found.append(f"Cargo.toml: `{odd[1]}`")
+    found += [f"Cargo.toml: `{name}` of the package" for name in package if name not in PACKAGE]
+    found += [f"Cargo.toml: `{name}` of the library" for name in library if name != "name"]
+    found += [f"Cargo.toml: the section [{name}]" for name in entries if name not in SECTIONS]
+    for name, wanted in entries.get("dependencies", {}).items():
+        if name != "embedded-io" or set(wanted) != {"version", "optional"} or wanted["optional"] is not True:
+            found.append(f"Cargo.toml: the dependency {name}")
     return found

@@ -4,6 +4,7 @@ import concurrent.futures
 import hashlib
 import pathlib
 import re
+import shutil
 import subprocess
 
 import documentation
@@ -21,12 +22,23 @@ pub mod uart_16550;
 pub mod uart_ring;
 pub mod uart_spec;
 """
-LIST_TEXT = "# What the eraser dropped: rule, item, what. Made by `.ci/erase emit`; a change in it is to be read in review.\n"
-MANIFEST_TEXT = "# Made by `.ci/erase emit`: the kit, and the SHA-256 of each source and of each file that was made of it.\n"
+LIST_TEXT = """# What the eraser dropped: rule, item, what. Made by `.ci/erase emit`.
+# Read each change of it in a review.
+"""
+MANIFEST_TEXT = """# Made by `.ci/erase emit`: the kit, and the SHA-256 of each source and of each file that was made of it.
+"""
 
 
 class Failed(Exception):
     """The causes why nothing was emitted, one for each line."""
+
+
+def no_links(root, path):
+    """Refuses a path below the root that leads over a link."""
+    while path != root:
+        if path.is_symlink():
+            raise Failed(f"{path.relative_to(root)}: a symlink")
+        path = path.parent
 
 
 def sources(root, crates):
@@ -34,6 +46,7 @@ def sources(root, crates):
     found = {}
     for crate in crates:
         folder = root / "crates" / crate / "src"
+        no_links(root, folder)
         for path in sorted(folder.rglob("*")):
             name = f"{crate}/src/{path.relative_to(folder)}"
             if path.is_symlink():
@@ -47,6 +60,8 @@ def sources(root, crates):
 
 
 def kit():
+    if shutil.which("rt") is None:
+        raise Failed("rt: not there")
     return subprocess.run(["rt", "version"], check=True, capture_output=True, text=True).stdout.strip()
 
 
@@ -96,20 +111,16 @@ def refusal(name, text, cause):
 
 
 def known_functions(files):
-    """The names of the functions that are kept, by how they are called, and the names of fields and bindings."""
-    known = {"methods": set(), "functions": set(), "free": set(), "values": set()}
+    """The names of the functions that are kept, by how they are called."""
+    known = {"methods": set(), "functions": set(), "free": set()}
     for file in files:
         for function in file.functions:
             if not function.kept:
                 continue
-            known["methods" if function.method else "functions"].add(function.name)
+            known["methods" if function.is_method else "functions"].add(function.name)
             known["functions"].add(function.name)
             if function.owner is None:
                 known["free"].add(function.name)
-        for at, token in enumerate(file.code):
-            if file.word(at - 1) in ("let", "mut", "for", "pub", "&") or file.word(at + 1) in (":", "=") or file.word(at - 1) in ("(", "|"):
-                if token.kind == "word":
-                    known["values"].add(token.text)
     return known
 
 
@@ -166,10 +177,9 @@ def erase(file):
     except Refused as cause:
         raise Failed(refusal(file.name, file.text, cause)) from cause
     if found != expected:
-        place = next((i for i, pair in enumerate(zip(found, expected)) if pair[0] != pair[1]), min(len(found), len(expected)))
-        raise Failed(
-            f"crates/{file.name}: the tokens changed: {' '.join(found[place - 3:place + 5])} is not {' '.join(expected[place - 3:place + 5])}"
-        )
+        place = next((i for i, pair in enumerate(zip(found, expected)) if pair[0] != pair[1]), -1)
+        mine, theirs = (" ".join(one[max(place - 3, 0) : place + 5]) for one in (found, expected))
+        raise Failed(f"crates/{file.name}: the tokens changed: {mine} is not {theirs}")
     if not text.isascii():
         raise Failed(f"crates/{file.name}: not ASCII")
     return text
@@ -223,7 +233,10 @@ def files_of(texts):
         dropped[("file", name, reason)] += 1
     for name in table.LEMMA_FILES:
         dropped[("file", name, "lemmas")] += 1
-    lines = [f"{' | '.join(part for part in one if part)}{f' ({count} times)' if count > 1 else ''}\n" for one, count in dropped.items()]
+    lines = []
+    for one, count in dropped.items():
+        times = f" ({count} times)" if count > 1 else ""
+        lines.append(" | ".join(part for part in one if part) + times + "\n")
     return files, LIST_TEXT + "".join(sorted(lines))
 
 
@@ -235,6 +248,11 @@ def check_whole(files, texts):
     for path in special:
         if paths[path] != 1:
             raise Failed(f"{path}: listed, and there are {paths[path]} of it")
+    testing = {path.split("::")[-1] for path, guard in table.GUARDS.items() if guard.test or guard.tested_by}
+    tested = {path: guard.tested_by for path, guard in table.GUARDS.items()}
+    for path, name in [*tested.items(), *table.IMPLEMENTED.items()]:
+        if name is not None and name not in testing:
+            raise Failed(f"{path}: {name} tests nothing")
     reachable = {file for one in files for file in one.modules} | {f"{crate}/src/lib.rt" for crate in table.CRATES}
     for file in files:
         if file.name not in reachable and not file.is_lemmas:
@@ -248,26 +266,36 @@ def check_whole(files, texts):
 
 
 def check_traits(files, functions):
-    """Own traits are implemented for own types alone, and what a method of a trait requires is tested in each implementation."""
+    """Own traits are for own types alone, and what a method of a trait requires is tested in each."""
+    for file in files:
+        for name in set(file.models) & set(file.open_types):
+            raise Failed(f"crates/{file.name}: {name} has an invariant and a field that others can set")
+        for name in set(file.models) - set(file.types):
+            raise Failed(f"crates/{file.name}: a model of {name}, which is a type of another file")
     types = {name for file in files for name in file.types}
+    types -= {name for file in files for name in file.aliases}
     traits = {name for file in files for name in file.traits}
     for file in files:
-        for trait, name, _ in file.implementations:
+        for _, name in file.implementations:
             if name not in types:
                 raise Failed(f"crates/{file.name}: an `impl` for {name}, which is not ours")
     for function in functions:
-        if not function.kept or not function.owner or not function.owner.startswith("impl ") or " for " not in function.owner:
+        implemented = re.match(r"impl (.* :: )?(\w+) for ", function.owner or "")
+        if not implemented or implemented[2] not in traits:
             continue
-        trait = function.owner[len("impl ") :].split(" for ")[0].split(" :: ")[-1]
-        declared = [f for f in functions if trait in traits and f.owner == f"trait {trait}" and f.name == function.name and f.requires]
-        if declared and function.path not in table.IMPLEMENTED:
-            raise Failed(f"{function.path}: {trait} requires something of its callers, and nothing says what tests it")
+        trait = implemented[2]
+        declared = [one for one in functions if (one.owner, one.name) == (f"trait {trait}", function.name)]
+        if any(one.requires for one in declared) and function.path not in table.IMPLEMENTED:
+            cause = f"{trait} requires something of its callers, and nothing says what tests it"
+            raise Failed(f"{function.path}: {cause}")
 
 
 def manifest(version, found, files):
     lines = [f"kit {version}\n"]
-    lines += [f"{hashlib.sha256(data).hexdigest()}  crates/{name}\n" for name, data in sorted(found.items())]
-    lines += [f"{hashlib.sha256(text.encode()).hexdigest()}  {table.OUTPUT}/{name}\n" for name, text in sorted(files.items())]
+    for name, data in sorted(found.items()):
+        lines.append(f"{hashlib.sha256(data).hexdigest()}  crates/{name}\n")
+    for name, text in sorted(files.items()):
+        lines.append(f"{hashlib.sha256(text.encode()).hexdigest()}  {table.OUTPUT}/{name}\n")
     return MANIFEST_TEXT + "".join(lines)
 
 

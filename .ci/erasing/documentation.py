@@ -19,12 +19,17 @@ def edits(file):
     return found
 
 
+def continues(file, last, comment):
+    """Whether a comment is the next line of the same documentation."""
+    return not file.text[last.end : comment.start].strip() and comment.text[:3] == last.text[:3]
+
+
 def blocks(file):
     """Each run of lines of documentation, with the path of the item that it is about."""
     places = sorted(file.places)
     block = []
     for comment in [one for one in file.comments if re.match(r"//[/!]( |$)", one.text)] + [None]:
-        if block and (comment is None or file.text[block[-1].end : comment.start].strip() or comment.text[:3] != block[-1].text[:3]):
+        if block and (comment is None or not continues(file, block[-1], comment)):
             item = next((path for start, path in places if start > block[0].start), None)
             between = next((start for start, _ in places if start > block[0].start), None)
             inner = block[0].text.startswith("//!")

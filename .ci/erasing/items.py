@@ -1,7 +1,7 @@
 """Reads the items of one file, and makes the list of edits that erase it.
 
-An item is read whole: attributes, visibility, and all that belongs to it. So nothing of a dropped item can be left in front of
-the next one, and each function is known by its whole path.
+An item is read whole: attributes, visibility, and all that belongs to it. So nothing of a dropped
+item can be left in front of the next one, and each function is known by its whole path.
 """
 import collections
 import re
@@ -13,10 +13,20 @@ from tokens import Refused, tokens
 Edit = collections.namedtuple("Edit", "rule start end text")
 # What was dropped, for the committed list.
 Dropped = collections.namedtuple("Dropped", "rule item what")
-# A function: its path, whether it is kept, and how it is reached.
-Function = collections.namedtuple("Function", "path name kept public owner trait requires code start end method")
+# A function: its path and name, whether it is kept, what it is in, what it requires, whether it is a method.
+Function = collections.namedtuple("Function", "path name kept owner requires is_method")
+# Where the parts of a function are: indices of tokens.
+Form = collections.namedtuple(
+    "Form",
+    "path visibility owner first start generics behind body close clauses requires has_body is_lemma is_method",
+)
+FORMATTER = re.compile(
+    r"fn fmt < (\w+) : ((?:std :: )?)fmt :: Write > "
+    r"\( & self , f : & mut \2fmt :: Formatter < \1 > \) -> "
+)
 
 OPENING = {"(": ")", "[": "]", "{": "}"}
+ITEMS = ("fn", "impl", "mod", "trait", "struct", "enum", "use", "pub", "const", "type")
 VISIBILITIES = ("pub", "pub ( crate )", "pub ( super )")
 
 
@@ -29,6 +39,7 @@ class File:
         self.edits, self.dropped, self.functions = [], [], []
         self.places = []
         self.modules, self.types, self.traits, self.implementations = [], [], [], []
+        self.aliases, self.models, self.open_types = [], [], []
         self.is_lemmas = name in allow.LEMMA_FILES
         self.at = 0
         self.inner_attributes()
@@ -124,7 +135,10 @@ class File:
             self.at = close + 1
 
     def items(self, end, path, owner):
-        """Reads items up to this index. `owner` is None, or what the items are in: `trait NAME`, `impl TYPE`, `impl TRAIT for TYPE`."""
+        """Reads items up to this index. `owner` is what they are in, or None.
+
+        It is `trait NAME`, `impl TYPE` or `impl TRAIT for TYPE`.
+        """
         while self.at < end:
             self.item(end, path, owner)
 
@@ -199,6 +213,7 @@ class File:
         for at in range(self.at, close):
             if self.word(at) == "as":
                 self.own_name(at + 1, None)
+                self.aliases.append(self.word(at + 1))
         self.at = close + 1
 
     def mod(self, first, attributes, visibility, path, owner, end):
@@ -239,12 +254,20 @@ class File:
         close = self.semicolon(self.at)
         if self.word(self.at) == "const":
             self.small_numbers(self.at, close)
+        elif owner is None:
+            self.aliases.append(self.word(self.at + 1))
         self.at = close + 1
+
+    def number(self, at):
+        try:
+            return number(self.word(at))
+        except ValueError:
+            self.refuse("a number that is not whole", at)
 
     def small_numbers(self, first, close):
         if self.begins(first + 2, ": usize ="):
             for at in range(first, close):
-                if self.kind(at) == "number" and number(self.word(at)) > 0xFFFF:
+                if self.kind(at) == "number" and self.number(at) > 0xFFFF:
                     self.refuse("a `usize` above 65,535", at)
 
     def derive(self, attributes, is_register):
@@ -256,6 +279,8 @@ class File:
             for one in kept:
                 if one not in self.table.DERIVES:
                     self.refuse(f"the derive `{one}`", first)
+            if is_register and "Debug" not in kept:
+                self.refuse("a register without `Debug`", first)
             if is_register:
                 kept.remove("Debug")
             rule = "debug" if is_register else "drop"
@@ -277,6 +302,8 @@ class File:
         is_register = self.words(at, at + 8) == "( pub ( super ) u8 ) ;"
         if is_register:
             self.change("field", at + 1, at + 4, "pub(crate)")
+        if is_register and not any(attribute == "derive" for attribute, _, _ in attributes):
+            self.refuse("a register without `Debug`", first)
         self.attribute([one for one in attributes if one[0] != "derive"], ("automatically_derived",))
         self.derive(attributes, is_register)
         if self.word(at) == "{":
@@ -284,6 +311,11 @@ class File:
             self.fields(at + 1, close, f"{path}::{name}")
         else:
             close = self.semicolon(at)
+        inside = self.code[at:close]
+        if any(token.text == "pub" for token in inside):
+            self.open_types.append(name)
+        if any(token.kind == "ghost" for token in inside):
+            self.models.append(name)
         self.at = close + 1
 
     def fields(self, at, end, path):
@@ -291,9 +323,10 @@ class File:
         last = -1
         while at < end:
             if self.word(at) == "=":
-                if self.kind(at + 1) != "number" or number(self.word(at + 1)) <= last or self.word(at + 2) not in (",", "}"):
+                is_number = self.kind(at + 1) == "number" and self.word(at + 2) in (",", "}")
+                if not is_number or self.number(at + 1) <= last:
                     self.refuse("numbers of cases that do not ascend", at)
-                last = number(self.word(at + 1))
+                last = self.number(at + 1)
             if self.kind(at) == "ghost":
                 if self.word(at - 1) not in ("{", ","):
                     self.refuse("something in front of a ghost field", at)
@@ -331,7 +364,8 @@ class File:
         """The index behind a `where` and its conditions, which are all `NAME: Drop`. It is dropped by the caller."""
         at += 1
         while self.kind(at) == "word":
-            if not (self.word(at + 1) == ":" and self.word(at + 2) == "Drop" and self.word(at + 3) in (",", "{") or self.kind(at + 3) == "clause"):
+            is_end = self.word(at + 3) in (",", "{") or self.kind(at + 3) == "clause"
+            if self.words(at + 1, at + 3) != ": Drop" or not is_end:
                 self.refuse("a `where` of more than `Drop`", at)
             at += 4 if self.word(at + 3) == "," else 3
         return at
@@ -357,43 +391,55 @@ class File:
         if owner or visibility or self.is_lemmas:
             self.refuse("an `impl` inside an item")
         self.attribute(attributes, ("automatically_derived",))
+        known = len(self.edits)
+        trait, name, at = self.implemented(path)
+        close = self.closing(at)
+        inside = self.code[at + 1 : close]
+        rule = None
+        if trait == "Model":
+            if any(token.kind not in ("ghost", "ghost use") for token in inside):
+                self.refuse("a `Model` with code")
+            rule = "model"
+            self.models.append(name)
+        elif trait == "std :: error :: Error" and not inside and self.name in self.table.ERRORS:
+            rule = "error"
+        if rule:
+            del self.edits[known:]
+            self.drop(rule, first, close, f"{path}::{name}", "impl")
+        else:
+            self.implementations.append((trait, name))
+            self.at = at + 1
+            kind = f"impl {trait} for {name}" if trait else f"impl {name}"
+            self.items(close, f"{path}::{name}", kind)
+        self.at = close + 1
+
+    def implemented(self, path):
+        """The trait of an `impl` or None, its type, and the index of its brace."""
         head = self.behind_generics(self.at + 1)
         self.empty_generics(self.at + 1, head)
         self.bounds(self.at + 1, head)
+        parameters = self.words(self.at + 1, head).split()
         at, trait, target = head, None, head
         while self.word(at) not in ("{", "where"):
             if self.word(at) == "for":
                 trait, target = self.words(head, at), at + 1
             if self.word(at) == "<":
                 self.empty_generics(at, self.behind_generics(at))
-            if self.kind(at) not in ("word", "sign", "lifetime") or self.word(at) in ("(", "[", "&", "*", "!", ";"):
+            if self.word(at) in ("(", "[", "&", "*", "!", ";") or self.kind(at) == "clause":
                 self.refuse("an `impl` for a type that is not ours", at)
             at += 1
         name = self.word(target)
-        head_end = at
+        if name in parameters:
+            self.refuse(f"an `impl` for {name}, which is not ours", target)
         if self.word(at) == "where":
-            at = self.where(at)
-            self.edits.append(Edit("empty", self.code[head_end - 1].end, self.code[at].start, " "))
+            behind = self.where(at)
+            start, end = self.code[at - 1].end, self.code[min(behind, len(self.code) - 1)].start
+            self.edits.append(Edit("empty", start, end, " "))
             self.dropped.append(Dropped("empty", f"{path}::{name}", "where"))
+            at = behind
         if self.word(at) != "{":
             self.refuse("an `impl` of another form", at)
-        close = self.closing(at)
-        if trait == "Model":
-            if any(token.kind not in ("ghost", "ghost use") for token in self.code[at + 1 : close]):
-                self.refuse("a `Model` with code")
-            self.edits = [edit for edit in self.edits if edit.start < self.code[first].start]
-            self.drop("model", first, close, f"{path}::{name}", "impl")
-            self.at = close + 1
-            return
-        if trait == "std :: error :: Error" and close == at + 1 and self.name in self.table.ERRORS:
-            self.edits = [edit for edit in self.edits if edit.start < self.code[first].start]
-            self.drop("error", first, close, f"{path}::{name}", "impl")
-            self.at = close + 1
-            return
-        self.implementations.append((trait, name, target))
-        self.at = at + 1
-        self.items(close, f"{path}::{name}", f"impl {trait} for {name}" if trait else f"impl {name}")
-        self.at = close + 1
+        return trait, name, at
 
     def empty_generics(self, first, end):
         if end == first + 2:
@@ -414,25 +460,35 @@ class File:
     # Functions.
 
     def function(self, first, attributes, visibility, path, owner, end):
+        name = self.word(self.at + 1)
+        form = self.form(first, f"{path}::{name}", visibility, owner, end)
+        self.own_name(self.at + 1, owner)
+        self.places.append((self.code[first].start, form.path))
+        is_listed = form.path in self.table.LEMMAS or self.is_lemmas
+        if form.is_lemma or is_listed:
+            self.lemma(form, attributes, is_listed)
+        else:
+            self.attribute(attributes, ("inline",))
+            self.functions.append(Function(form.path, name, True, owner, form.requires, form.is_method))
+            self.signature(form)
+            self.contract(form)
+            self.body(form)
+            self.guard(form)
+        self.at = form.close + 1
+
+    def form(self, first, path, visibility, owner, end):
+        """Where the parts of a function are."""
         start = self.at
-        name = self.word(start + 1)
-        whole = f"{path}::{name}"
-        self.own_name(start + 1, owner)
-        self.places.append((self.code[first].start, whole))
-        at = self.behind_generics(start + 2)
-        if self.word(at) != "(":
-            self.refuse("a function without parameters", at)
-        close = self.closing(at)
-        has_parameters = close > at + 1
-        generics = (start + 2, at)
-        method = self.word(at + 1) == "self" or self.words(at + 1, close).startswith(("& self", "& mut self", "mut self", "& '"))
-        at = close + 1
-        has_result = self.word(at) == "->"
+        generics = self.behind_generics(start + 2)
+        if self.word(generics) != "(":
+            self.refuse("a function without parameters", generics)
+        parameters = self.closing(generics)
+        at = parameters + 1
         while self.kind(at) != "clause" and self.word(at) not in ("where", "{", ";"):
             if at >= end:
                 self.refuse("a function with no end")
             at = self.closing(at) + 1 if self.word(at) in OPENING else at + 1
-        signature_end = at
+        behind = at
         if self.word(at) == "where":
             at = self.where(at)
         clauses = []
@@ -441,93 +497,104 @@ class File:
             at += 1
         if self.word(at) not in ("{", ";"):
             self.refuse("a function without a body or a semicolon", at)
-        has_body = self.word(at) == "{"
-        close = self.closing(at) if has_body else at
-        is_empty = has_body and close == at + 1
-        lemma_form = not has_parameters and not has_result and is_empty and any(c.startswith("ensures") for c in clauses)
-        listed = whole in self.table.LEMMAS or self.is_lemmas
-        requires = [one for one in clauses if one.startswith("requires")]
-        if lemma_form or listed:
-            if not lemma_form or not listed or owner:
-                self.refuse("a lemma that is not listed, or listed and no lemma", start)
-            for attribute, _, _ in attributes:
-                if attribute != "tactic":
-                    self.refuse(f"the attribute `{attribute}` of a lemma", first)
-            if visibility not in ("", "pub"):
-                self.refuse("a lemma of another visibility", first)
-            self.functions.append(Function(whole, name, False, False, None, None, [], None, first, close, False))
-            self.drop("lemma", first, close, whole, f"{len(clauses)} clauses")
-            self.at = close + 1
-            return
-        self.attribute(attributes, ("inline",))
-        if visibility == "" and self.is_lemmas:
-            self.refuse("a file of lemmas with another function", start)
-        trait = owner.split()[1] if owner and (" for " in owner or owner.startswith("trait ")) else None
-        self.functions.append(
-            Function(whole, name, True, visibility == "pub", owner, trait, requires, self.words(at, close + 1), first, close, method)
+        close = self.closing(at) if self.word(at) == "{" else at
+        is_bare = parameters == generics + 1 and behind == parameters + 1
+        ensures = [one for one in clauses if one.startswith("ensures")]
+        first_parameter = self.words(generics + 1, parameters)
+        return Form(
+            path=path,
+            visibility=visibility,
+            owner=owner,
+            first=first,
+            start=start,
+            generics=(start + 2, generics),
+            behind=behind,
+            body=at,
+            close=close,
+            clauses=clauses,
+            requires=[one for one in clauses if one.startswith("requires")],
+            has_body=self.word(at) == "{",
+            is_lemma=bool(is_bare and ensures and self.word(at) == "{" and close == at + 1),
+            is_method=re.match(r"(& ('\w+ )?)?(mut )?self\b", first_parameter) is not None,
         )
-        self.signature(start, generics, signature_end, whole)
-        self.bodies(start, at, close, whole, clauses, signature_end, has_body, visibility, owner, requires)
-        self.at = close + 1
 
-    def signature(self, start, generics, end, whole):
-        text = self.words(start, end)
+    def lemma(self, form, attributes, is_listed):
+        if not form.is_lemma or not is_listed or form.owner:
+            self.refuse("a lemma that is not listed, or listed and no lemma", form.start)
+        if any(name != "tactic" for name, _, _ in attributes):
+            self.refuse("an attribute of a lemma", form.first)
+        if form.visibility not in ("", "pub"):
+            self.refuse("a lemma of another visibility", form.first)
+        name = form.path.split("::")[-1]
+        self.functions.append(Function(form.path, name, False, None, [], False))
+        self.drop("lemma", form.first, form.close, form.path, f"{len(form.clauses)} clauses")
+
+    def signature(self, form):
+        text = self.words(form.start, form.behind)
         if text.startswith("fn fmt <"):
-            form = re.match(
-                r"fn fmt < (\w+) : ((?:std :: )?)fmt :: Write > \( & self , f : & mut \2fmt :: Formatter < \1 > \) -> ", text
-            )
-            if not form:
-                self.refuse("a `fmt` of another form", start)
-            head = "::core::" if form[2] else ""
-            last = start + len(form[0].split()) - 2
-            self.change("formatter", start, last, f"fn fmt(&self, f: &mut {head}fmt::Formatter<'_>)")
+            found = FORMATTER.match(text)
+            if not found:
+                self.refuse("a `fmt` of another form", form.start)
+            head = "::core::" if found[2] else ""
+            last = form.start + len(found[0].split()) - 2
+            to = f"fn fmt(&self, f: &mut {head}fmt::Formatter<'_>)"
+            self.change("formatter", form.start, last, to)
         else:
-            self.bounds(*generics)
-        if whole in self.table.CONSTANT:
-            self.insert("const", self.code[start].start, "const ")
+            self.bounds(*form.generics)
+        if form.path in self.table.CONSTANT:
+            self.insert("const", self.code[form.start].start, "const ")
 
-    def bodies(self, start, at, close, whole, clauses, signature_end, has_body, visibility, owner, requires):
-        """The clauses between the signature and the body, the guard, and what the body may not have."""
-        if at > signature_end:
-            self.edits.append(Edit("clause", self.code[signature_end - 1].end, self.code[at].start, " " if has_body else ""))
-            heads = [re.match(r"(requires|ensures\*?)( \w+)?", one)[0] for one in clauses]
-            rule = "clause" if clauses else "drop"
-            self.dropped.append(Dropped(rule, whole, ", ".join(heads)))
-        for here in range(at + 1, close):
-            if self.kind(here) in ("clause", "ghost", "ghost use"):
-                self.refuse("a clause or a ghost item in a body", here)
-            if self.begins(here, "# [") or self.word(here) in ("fn", "impl", "mod", "trait", "struct", "enum", "use", "pub", "const"):
-                self.refuse(f"`{self.word(here)}` in a body", here)
-            if self.word(here) == "as" and self.word(here + 1) == "usize":
-                self.cast(here, whole)
-        guard = self.table.GUARDS.get(whole)
-        if guard is None and whole in self.table.IMPLEMENTED:
-            if f" {self.table.IMPLEMENTED[whole]} (" not in self.words(at, close + 1):
-                self.refuse(f"{whole} does not call {self.table.IMPLEMENTED[whole]}", start)
+    def contract(self, form):
+        """Drops what is between the signature and the body."""
+        if form.body == form.behind:
             return
-        if (guard.clauses if guard else []) != requires:
-            self.refuse(f"{whole} requires other things than its guard is for: {'; '.join(requires) or 'nothing'}", start)
+        start, end = self.code[form.behind - 1].end, self.code[form.body].start
+        self.edits.append(Edit("clause", start, end, " " if form.has_body else ""))
+        heads = [re.match(r"(requires|ensures\*?)( \w+)?", one)[0] for one in form.clauses]
+        self.dropped.append(Dropped("clause" if heads else "drop", form.path, ", ".join(heads)))
+
+    def body(self, form):
+        """Refuses what a body may not have."""
+        for at in range(form.body + 1, form.close):
+            if self.kind(at) in ("clause", "ghost", "ghost use"):
+                self.refuse("a clause or a ghost item in a body", at)
+            if self.word(at) in ITEMS or self.begins(at, "# [") or self.begins(at, "# ! ["):
+                self.refuse(f"`{self.word(at)}` in a body", at)
+            if self.word(at) == "as" and self.word(at + 1) == "usize":
+                self.cast(at, form.path)
+
+    def guard(self, form):
+        """The test of what a function requires, or the reason why it has none."""
+        body = self.words(form.body, form.close + 1)
+        guard = self.table.GUARDS.get(form.path)
+        tested_by = guard.tested_by if guard else self.table.IMPLEMENTED.get(form.path)
+        if (guard.clauses if guard else []) != form.requires:
+            found = "; ".join(form.requires) or "nothing"
+            cause = f"{form.path} requires other things than its guard is for: {found}"
+            self.refuse(cause, form.start)
+        if tested_by and f" {tested_by} (" not in body:
+            self.refuse(f"{form.path} does not call {tested_by}", form.start)
         if guard is None:
             return
-        reached = visibility == "pub" or owner is not None and (owner.startswith("trait ") or " for " in owner)
-        if guard.reason == self.table.INSIDE and (reached or guard.test):
-            self.refuse(f"{whole} can be reached, and its guard says that it is private", start)
-        if guard.reason == self.table.NO_BODY and has_body:
-            self.refuse(f"{whole} has a body, and its guard says that it has none", start)
+        owner = form.owner or ""
+        is_reached = form.visibility == "pub" or owner.startswith("trait ") or " for " in owner
+        if guard.reason == self.table.INSIDE and (is_reached or guard.test):
+            self.refuse(f"{form.path} can be reached, and its guard says that it is private", form.start)
+        if guard.reason == self.table.NO_BODY and form.has_body:
+            self.refuse(f"{form.path} has a body, and its guard says that it has none", form.start)
         if not guard.test and not guard.tested_by and not guard.reason:
-            self.refuse(f"{whole} has neither a test nor a reason", start)
-        if guard.tested_by and f" {guard.tested_by} (" not in self.words(at, close + 1):
-            self.refuse(f"{whole} does not call {guard.tested_by}", start)
+            self.refuse(f"{form.path} has neither a test nor a reason", form.start)
         if guard.test:
-            line = self.text[self.text.rfind("\n", 0, self.code[at].start) + 1 : self.code[at].start]
-            indent = " " * (len(line) - len(line.lstrip()) + 4)
-            self.insert("guard", self.code[at].end, "".join(f"\n{indent}{line}" for line in guard.test.split("\n")))
+            line = self.text.rfind("\n", 0, self.code[form.body].start) + 1
+            indent = re.compile(" *").match(self.text, line)[0] + "    "
+            lines = [f"\n{indent}{one}" for one in guard.test.split("\n")]
+            self.insert("guard", self.code[form.body].end, "".join(lines))
 
     def cast(self, at, whole):
         """A cast to `usize` is one of those that are listed for this function."""
         for what in self.table.CASTS.get(whole, []):
             count = len(what.split())
-            if self.words(at - count, at) == what and self.word(at - count - 1) in ("(", ",", "*", "+", "="):
+            if self.words(at - count, at) == what and self.word(at - count - 1) in ("(", "[", ",", "*", "+", "="):
                 return
         self.refuse("a cast to `usize` that is not listed", at)
 
@@ -576,6 +643,6 @@ class File:
 
 
 def number(text):
-    """The value of a number, without its suffix."""
-    digits = re.sub(r"(?<=[0-9a-fA-F])_?(u8|u16|u32|u64|u128|usize|i8|i16|i32|i64|i128|isize)$", "", text).replace("_", "")
-    return int(digits, 0)
+    """The value of a number without its suffix. Raises `ValueError` if it is no whole number."""
+    digits = re.sub(r"(?<=[0-9a-fA-F])_?[ui](8|16|32|64|128|size)$", "", text)
+    return int(digits.replace("_", ""), 0)

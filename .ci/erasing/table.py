@@ -33,9 +33,6 @@ RULES = [
 CRATES = ["uart_spec", "uart_16550", "uart_ring"]
 OUTPUT = "rust/uart_16550/src/proved"
 
-# The sections that Cargo.toml may have: none that changes how the library is compiled.
-SECTIONS = ["package", "lib", "features", "dependencies", "dev-dependencies", "package.metadata.docs.rs", "workspace", "lints.rust"]
-
 # What is written by hand in place of a library: the head of a path, and the module.
 MODULES = {
     "bitflags": "crate::flags",
@@ -191,7 +188,7 @@ GUARDS = {
         COMPUTABLE,
         tested_by="calc_divisor",
         panics=NOT_COMPUTABLE + " No access was made then.",
-        reason="`calc_divisor` tests the same before the first access, so a test here would be the second",
+        reason="before the first access; a test here would be the second",
     ),
     "uart_16550::dump::ConfigRegisterDump::baud_rate": Guard(
         [
@@ -200,24 +197,24 @@ GUARDS = {
         ],
         tested_by="calc_baud_rate",
         panics="If the divisor is not 0, and the frequency is 0 or the prescaler division factor is above 15.",
-        reason="`calc_baud_rate` tests the same, and the divisor 0 is refused before",
+        reason="the divisor 0 is refused before",
     ),
     "uart_16550::pio::PioBackend::port": Guard(OFFSET, test=EIGHT, reason="private, but reached by `Backend::read` and `Backend::write`"),
     "uart_16550::mmio::MmioBackend::address": Guard(
         OFFSET, test=EIGHT, reason="private, but reached by `Backend::read` and `Backend::write`"
     ),
-    "uart_16550::tty::Uart16550Tty::start": Guard(COMPUTABLE, reason=INSIDE),
+    "uart_16550::tty::Uart16550Tty::start": Guard(COMPUTABLE, tested_by="init", reason="before the first access"),
     "uart_16550::tty::Uart16550Tty::new_with_backend": Guard(
-        COMPUTABLE, tested_by="start", panics=NOT_COMPUTABLE, reason="`init` tests it"
+        COMPUTABLE, tested_by="start", panics=NOT_COMPUTABLE, reason="so does `init`, which `start` calls"
     ),
     "uart_16550::tty::Uart16550Tty::new_port": Guard(
-        COMPUTABLE, tested_by="start", panics=NOT_COMPUTABLE, reason="`init` tests it"
+        COMPUTABLE, tested_by="start", panics=NOT_COMPUTABLE, reason="so does `init`, which `start` calls"
     ),
     "uart_16550::tty::Uart16550Tty::new_mmio": Guard(
-        COMPUTABLE, tested_by="start", panics=NOT_COMPUTABLE, reason="`init` tests it"
+        COMPUTABLE, tested_by="start", panics=NOT_COMPUTABLE, reason="so does `init`, which `start` calls"
     ),
     "uart_16550::tty::Uart16550Tty::new_mmio_from_address": Guard(
-        COMPUTABLE, tested_by="new_mmio", panics=NOT_COMPUTABLE, reason="`new_mmio` tests it"
+        COMPUTABLE, tested_by="new_mmio", panics=NOT_COMPUTABLE, reason="it does nothing else"
     ),
 }
 
@@ -287,7 +284,7 @@ macro yield try loop unwrap_unchecked catch_unwind panic assert assert_eq assert
 addr_of include include_str env concat stringify Rc Arc Cell RefCell UnsafeCell Atomic PhantomData Pin
 """.split()
 # Words that stand before a bracket and call nothing.
-WORDS_BEFORE = "if match return in let while for else as mut ref move derive inline where impl".split()
+WORDS_BEFORE = "pub if match return in let while for else as mut ref move derive inline where impl".split()
 # Names that a module may not have.
 RESERVED_MODULES = CRATES + "core std alloc proved bitflags circular_buffer arrayvec thiserror flags queue embedded_io_".split()
 NAMES_OF_STD = set(

@@ -26,6 +26,7 @@ TOKEN = re.compile(
     |(?P<sign>::|->|=>|==|!=|<=|>=|&&|\|\||\.\.=|\.\.|[-+*/%&|^]=|[!#$%&()*+,\-./:;<=>?@\[\]^_{|}~])""",
     re.VERBOSE,
 )
+STRING = re.compile(r'(?P<string>b?"(?:\\.|[^"\\])*")', re.DOTALL)
 # What Rust code has and a clause does not.
 CODE = re.compile(r"\b(fn|pub|impl|mod|use|struct|enum|trait|unsafe|extern|macro_rules)\b|->|=>|[;'`#\\\"@!?]|--|//|/\*|\*/")
 # The letters and signs of clauses that are not ASCII.
@@ -60,14 +61,15 @@ def check_clause(text, start, ghost):
             raise Refused(f"the letter {ascii(letter)} in a clause", start)
 
 
-def clause(text, start, word):
+def clause(text, start, word, strict=True):
     """The token of a clause or a ghost item that begins with `word` at `start`."""
     if word != "ghost":
         head = re.compile(r"(requires|ensures)\*?(?: [a-z_0-9]+)? \{").match(text, start)
         if not head or word == "requires" and head[0].startswith("requires*"):
             raise Refused(f"a word `{word}` without a clause", start)
         end = closing_brace(text, head.end() - 1)
-        check_clause(text[head.end() : end - 1], start, False)
+        if strict:
+            check_clause(text[head.end() : end - 1], start, False)
         return Token("clause", text[start:end], start, end)
     if text.startswith("ghost use ", start):
         found = re.compile(r"ghost use [\w.]+(?:\.\{[^{};]*\}| as \w+)?;").match(text, start)
@@ -92,12 +94,15 @@ def check_letters(text):
             raise Refused(f"the character {ascii(letter)}", at)
 
 
-def tokens(text, clauses=True):
-    """The tokens of a text, comments apart: (code, comments)."""
+def tokens(text, clauses=True, strict=True):
+    """The tokens of a text, comments apart: (code, comments).
+
+    If not strict, a string may have several lines, and a clause anything: for the sources of tests.
+    """
     check_letters(text)
     code, comments, at = [], [], 0
     while at < len(text):
-        found = TOKEN.match(text, at)
+        found = not strict and STRING.match(text, at) or TOKEN.match(text, at)
         if text.startswith("/*", at) or text.startswith("*/", at):
             raise Refused("a block comment", at)
         if re.compile(r"b?r#*\"|r#|c\"").match(text, at) or not found:
@@ -106,7 +111,7 @@ def tokens(text, clauses=True):
         if not token.text.isascii():
             raise Refused(f"not ASCII: {ascii(token.text[:40])}", at)
         if clauses and token.kind == "word" and token.text in ("requires", "ensures", "ghost"):
-            token = clause(text, at, token.text)
+            token = clause(text, at, token.text, strict)
         if token.kind == "comment":
             comments.append(token)
         elif token.kind != "space":

@@ -1,33 +1,33 @@
 """Refuses, in the code of a file that is left, what is not known to mean the same in Rattle and in Rust."""
 import re
 
-from items import number
 
+# Rules that keep what they rewrite as code.
+REWRITES = ("field", "path", "std", "writer", "fields")
 ENDS = (")", "]", "}", ",", ";", "{", "=>", "")
 STARTS_EXPRESSION = ("word", "number", "string", "character")
 
 
 def check(file, known):
-    """`known` has the names of all own functions: `methods`, `functions` and `free` (those outside of an impl or a trait)."""
-    kept = [edit for edit in file.edits if edit.rule not in ("field", "path", "std", "guard", "const", "writer", "fields")]
-    gone = [(edit.start, edit.end) for edit in kept if edit.end > edit.start]
+    """`known` has the names of all own functions: `methods`, `functions`, and `free` ones."""
+    gone = [(edit.start, edit.end) for edit in file.edits if edit.rule not in REWRITES and edit.end > edit.start]
     table, brackets = file.table, []
     for at, token in enumerate(file.code):
         word, before, after = token.text, file.word(at - 1), file.word(at + 1)
         if token.kind == "sign" and word in ("(", "[", "{"):
             brackets.append(at)
         elif token.kind == "sign" and word in (")", "]", "}"):
-            opened = brackets.pop()
+            if not brackets:
+                file.refuse("brackets that do not match", at)
+            brackets.pop()
         if any(start <= token.start < end for start, end in gone):
             continue
         if token.kind in ("clause", "ghost", "ghost use"):
             file.refuse(f"a {token.kind} that no rule drops", at)
         if token.kind == "string" and "\n" in word:
             file.refuse("a text of several lines", at)
-        if token.kind == "number" and re.search(r"usize$", word) and number(word) > 0xFFFF:
-            file.refuse("a `usize` above 65,535", at)
-        if token.kind == "number" and "." in word:
-            file.refuse("a number with a point", at)
+        if token.kind == "number":
+            check_number(file, at)
         if word in ("&", "*") and after in ("raw", "const", "mut") and (word, after) != ("&", "mut"):
             file.refuse("a raw pointer", at)
         if word in ("..", "..="):
@@ -47,16 +47,24 @@ def check(file, known):
 
 
 def is_path_of_alloc(file, at):
-    """Whether this is `alloc` in `std::alloc::Global`, or the parameter that has this name in the constructor of the rings."""
+    """Whether this is `alloc` in `std::alloc::Global`, or the parameter of the rings' constructor."""
     return file.words(at - 2, at + 3) == "std :: alloc :: Global" or file.word(at) == "alloc" and (
         file.words(at, at + 3) == "alloc : Global" or file.words(at - 2, at) == "with_capacity ("
     )
+
+
+def check_number(file, at):
+    value = file.number(at)
+    if file.word(at).endswith("usize") and value > 0xFFFF:
+        file.refuse("a `usize` above 65,535", at)
 
 
 def check_range(file, at, brackets):
     """A range has an end, but for `..` in the index of a slice, in a pattern of fields and in a struct."""
     before, after = file.word(at - 1), file.word(at + 1)
     if after not in ENDS:
+        if before in ("{", ","):
+            check_update(file, at)
         return
     opened = brackets[-1] if brackets else -1
     if file.word(at) == ".." and after == "}" and before in ("{", ","):
@@ -70,29 +78,36 @@ def check_range(file, at, brackets):
     file.refuse("a range with no end", at)
 
 
+def check_update(file, at):
+    """The rest of a struct is from a value that is named, and not from an index, which Rattle does not look at."""
+    at += 1
+    while file.word(at) not in ("}", ",", ")"):
+        if file.word(at) == "[":
+            file.refuse("the rest of a struct from an index", at)
+        at += 1
+
+
 def check_call(file, at, known):
     """Each call is of a function that is known; a function is no value."""
     table, word, before, after = file.table, file.word(at), file.word(at - 1), file.word(at + 1)
     libraries = set(table.METHODS) | set(table.FLAGS) | set(table.QUEUE)
     is_call = after == "(" or after == "::" and file.word(at + 2) == "<"
     if before == "fn":
-        pass
-    elif before == "." and is_call:
+        return
+    if before == "." and is_call:
         if word not in libraries | known["methods"]:
             file.refuse(f"the method `{word}`", at)
-    elif before == "::" and is_call and re.match(r"[a-z_]", word):
+    elif before == "::" and is_call and re.match(r"_*[a-z]", word):
         owner = file.word(at - 2)
         if f"{owner}::{word}" not in table.FUNCTIONS and word not in known["functions"] | set(table.FLAGS):
             file.refuse(f"the function `{owner}::{word}`", at)
-    elif before == "::" and re.match(r"[a-z_]", word) and after != "::" and not in_use(file, at):
-        if word in known["functions"] | libraries or re.match(r"[a-z]", word) and file.word(at - 2)[:1].isupper():
-            file.refuse(f"a function as a value: {word}", at)
-    elif is_call and re.match(r"[a-z_]", word) and before not in (".", "::", "!"):
-        if word not in known["free"] | {"u8", "pub", "crate", "super", "Some", "Ok", "Err"} and word not in table.WORDS_BEFORE:
+    elif before == "::" and re.match(r"_*[a-z]", word) and after != "::" and not in_use(file, at):
+        file.refuse(f"a function as a value: {word}", at)
+    elif is_call and re.match(r"_*[a-z]", word) and before not in (".", "::", "!"):
+        if word not in known["free"] and word not in table.WORDS_BEFORE:
             file.refuse(f"the call `{word}`", at)
-    elif word in known["free"] and not is_call and before not in (".", "::", "fn") and after not in (":", "!", "="):
-        if not in_use(file, at) and word not in known["values"]:
-            file.refuse(f"a function as a value: {word}", at)
+    elif word in known["free"] and not is_call and before not in (".", "::", "fn") and not in_use(file, at):
+        file.refuse(f"a function as a value: {word}", at)
 
 
 def in_use(file, at):

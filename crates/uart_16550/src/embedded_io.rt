@@ -1,7 +1,7 @@
 //! Traits for byte readers and writers, and their implementations for the driver.
 //!
-//! Generic code relies on the contracts of these traits. A reader or a writer defines a relation between its state
-//! before a call, the bytes of the call, its result, and its state after; each call is in this relation.
+//! In Rattle generic code relies on the contracts of these traits. A reader or a writer defines a relation between its
+//! state before a call, the bytes of the call, its result, and its state after; each call is in this relation.
 ghost use Rattle.std.specs.Prelude.{◌≡◌, ◌≤◌, ℕ, Bool, List, Result, length, drop, IfOk, OnErr};
 ghost use Rattle.uart_spec.specs.declared.errors.StalledError.{StalledError};
 ghost use Rattle.uart_16550.specs.Driver.{Made};

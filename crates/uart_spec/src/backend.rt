@@ -5,11 +5,14 @@ ghost use Rattle.uart_spec.specs.Access.{Access, Read, Write};
 
 /// Access to the eight registers of one device.
 ///
-/// An implementation defines a step relation: which accesses lead from which state to which state. The driver's contracts
-/// are about paths of these steps, so they hold over every backend, whatever its reads return.
-///
 /// `PioBackend` and `MmioBackend` of `uart_16550` implement this trait over I/O ports and over memory. Implement it
 /// yourself for an emulated device or for any other kind of access.
+///
+/// The driver passes offsets of 0 to 7, and in Rattle every caller must. In Rust, whoever is given the backend may pass any
+/// offset; `PioBackend` and `MmioBackend` panic for one above 7.
+///
+/// In Rattle an implementation also defines a step relation: which accesses lead from which state to which state. The
+/// driver's contracts are about paths of these steps, so they hold over every backend, whatever its reads return.
 pub trait Backend {
     // This access, with the byte that it reads or writes, may lead from the first state to the second.
     ghost step: { Self → Access → Self → Type 0 };

@@ -1,7 +1,8 @@
-//! The accesses to a device: ports of x86 by `in` and `out`, and memory by volatile loads and stores.
+//! The accesses to a device: ports of x86 by `in` and `out`, and memory by volatile loads and
+//! stores.
 //!
-//! This is the one file with `unsafe`, and no proof covers it. An access object has its base and its
-//! stride in itself, tested when it is made, so safe code can make it access nothing else.
+//! This is the one file with `unsafe`, and no proof covers it. An access object has its base and
+//! its stride in itself, tested when it is made, so safe code can make it access nothing else.
 #![allow(unsafe_code)]
 
 use crate::proved::uart_spec::InvalidAddressError;
@@ -16,8 +17,8 @@ use core::ptr::NonNull;
 
 /// The eight I/O ports of a device, accessed by the instructions `in` and `out`.
 ///
-/// It can be sent to another thread, but neither shared nor cloned: one object is the one way to its
-/// ports.
+/// It can be sent to another thread, but neither shared nor cloned: one object is the one way to
+/// its ports.
 ///
 /// # Panics
 ///
@@ -82,7 +83,8 @@ impl X86Ports {
 impl Backend for X86Ports {
     #[inline]
     fn read(&mut self, register_offset: u8) -> u8 {
-        // SAFETY: `new` has tested the base, and its caller promised that these ports may be accessed.
+        // SAFETY: `new` has tested the base, and its caller promised that these ports may be
+        // accessed.
         unsafe { port_in(port_of(self.base, register_offset)) }
     }
 
@@ -95,8 +97,8 @@ impl Backend for X86Ports {
 
 /// Eight registers in memory, each of one byte, accessed by volatile loads and stores.
 ///
-/// It can be sent to another thread, but neither shared nor cloned: one object is the one way to its
-/// registers.
+/// It can be sent to another thread, but neither shared nor cloned: one object is the one way to
+/// its registers.
 ///
 /// # Panics
 ///
@@ -128,14 +130,14 @@ pub struct VolatileMemory {
 unsafe impl Send for VolatileMemory {}
 
 impl VolatileMemory {
-    /// Returns the access to eight registers that are `stride` bytes apart, from `base` on. Makes no
-    /// access.
+    /// Returns the access to eight registers that are `stride` bytes apart, from `base` on. Makes
+    /// no access.
     ///
     /// # Errors
     ///
     /// - `InvalidStride`, with the stride, if it is zero or not a power of two.
-    /// - Otherwise `InvalidBaseAddress`, with the base address, if the last register would be beyond
-    ///   the last address.
+    /// - Otherwise `InvalidBaseAddress`, with the base address, if the last register would be
+    ///   beyond the last address.
     ///
     /// # Safety
     ///
@@ -145,17 +147,19 @@ impl VolatileMemory {
     ///   loads and stores of one byte. The gaps between them are not accessed, and may be anything.
     /// - The pointer must have the provenance of all eight: it comes from one allocation that has
     ///   them, or they are outside of every allocation that Rust knows of, as a device is.
-    /// - A device of the 16550 family must be there, or anything that does no harm if it is accessed
-    ///   as one. A mapping of a device must be one for devices: not cached, and not reordered.
+    /// - A device of the 16550 family must be there, or anything that does no harm if it is
+    ///   accessed as one. A mapping of a device must be one for devices: not cached, and not
+    ///   reordered.
     /// - Nothing else may access these bytes: no reference, no other object, no other thread, no
-    ///   handler of interrupts. If several of them need the device, they share this object by a lock,
-    ///   and a handler must not wait for a lock that it has interrupted.
+    ///   handler of interrupts. If several of them need the device, they share this object by a
+    ///   lock, and a handler must not wait for a lock that it has interrupted.
     pub unsafe fn new(base: NonNull<u8>, stride: u8) -> Result<Self, InvalidAddressError> {
         let stride = check_memory(base.addr().get(), stride)?;
         Ok(VolatileMemory { base, stride })
     }
 
-    /// Does the same as [`new`](Self::new) for an address that is a number. Can be used in constants.
+    /// Does the same as [`new`](Self::new) for an address that is a number. Can be used in
+    /// constants.
     ///
     /// # Errors
     ///
@@ -437,8 +441,8 @@ pub(crate) mod original {
     impl Backend for MmioBackend {
         #[inline]
         unsafe fn read(&mut self, register_offset: u8) -> u8 {
-            // SAFETY: the constructor has tested base and stride, and its caller promised that these
-            // eight bytes are valid.
+            // SAFETY: the constructor has tested base and stride, and its caller promised that
+            // these eight bytes are valid.
             unsafe { load(address_of(self.base, self.stride, register_offset)) }
         }
 
@@ -462,8 +466,8 @@ pub(crate) mod original {
     impl<B: Backend> native::backend::Backend for Adapter<B> {
         #[inline]
         fn read(&mut self, register_offset: u8) -> u8 {
-            // SAFETY: the driver alone has the adapter, and passes offsets below 8. The caller of the
-            // constructor promised that the device is there.
+            // SAFETY: the driver alone has the adapter, and passes offsets below 8. The caller of
+            // the constructor promised that the device is there.
             unsafe { self.0.read(register_offset) }
         }
 
@@ -476,15 +480,15 @@ pub(crate) mod original {
 
     /// A driver for one serial chip of the 16550 family, with the calls of the original crate.
     ///
-    /// Construct it, and call [`init`](Self::init) before any other call. Its waits do not end until
-    /// the device lets them: [`native::Uart16550`] is the driver whose waits have a limit.
+    /// Construct it, and call [`init`](Self::init) before any other call. Its waits do not end
+    /// until the device lets them: [`native::Uart16550`] is the driver whose waits have a limit.
     #[repr(transparent)]
     pub struct Uart16550<B: Backend>(pub(crate) native::Uart16550<Adapter<B>>);
 
     #[cfg(any(target_arch = "x86", target_arch = "x86_64"))]
     impl Uart16550<PioBackend> {
-        /// Returns a driver for the device at eight consecutive I/O ports, from `base_port` on. Makes
-        /// no access.
+        /// Returns a driver for the device at eight consecutive I/O ports, from `base_port` on.
+        /// Makes no access.
         ///
         /// # Errors
         ///
@@ -504,8 +508,8 @@ pub(crate) mod original {
     }
 
     impl Uart16550<MmioBackend> {
-        /// Returns a driver for the device in memory, from `base_address` on, with registers that are
-        /// `stride` bytes apart. Makes no access.
+        /// Returns a driver for the device in memory, from `base_address` on, with registers that
+        /// are `stride` bytes apart. Makes no access.
         ///
         /// # Errors
         ///
@@ -514,8 +518,8 @@ pub(crate) mod original {
         ///
         /// # Safety
         ///
-        /// That of [`VolatileMemory::new`](native::backend::VolatileMemory::new), for the driver and
-        /// for each copy of its backend.
+        /// That of [`VolatileMemory::new`](native::backend::VolatileMemory::new), for the driver
+        /// and for each copy of its backend.
         pub unsafe fn new_mmio(
             base_address: NonNull<u8>,
             stride: u8,

@@ -17,13 +17,23 @@ const MAX_FACTOR: u32 = 15;
 // The clock ticks of a bit, before the prescaler.
 const TICKS_PER_BIT: u32 = 16;
 
-fn is_factor(prescaler_division_factor: Option<u32>) -> bool {
-    prescaler_division_factor.is_none_or(|factor| factor <= MAX_FACTOR)
+// Returns the factor if it is a factor. It is taken apart and put together again, so that the compiler
+// sees that the test of the proved function holds, and leaves no path to its panic.
+#[inline(always)]
+fn known(prescaler_division_factor: Option<u32>) -> Result<Option<u32>, UnknownFactor> {
+    match prescaler_division_factor {
+        None => Ok(None),
+        Some(factor) if factor <= MAX_FACTOR => Ok(Some(factor)),
+        Some(_) => Err(UnknownFactor),
+    }
 }
 
+// The factor is above 15.
+struct UnknownFactor;
+
 /// Does the same as [`calc_frequency`](crate::native::spec::calc_frequency), but returns `None` if
-/// that would panic: if the baud rate or the divisor is 0, if the prescaler division factor is above
-/// 15, or if the frequency does not fit.
+/// that would panic: if the baud rate or the divisor is 0, if the prescaler division factor is
+/// above 15, or if the frequency does not fit.
 ///
 /// # Examples
 ///
@@ -40,13 +50,12 @@ pub fn checked_frequency(
     divisor: u32,
     prescaler_division_factor: Option<u32>,
 ) -> Option<u32> {
-    if baud_rate == 0 || divisor == 0 || !is_factor(prescaler_division_factor) {
+    let factor = known(prescaler_division_factor).ok()?;
+    if baud_rate == 0 || divisor == 0 {
         return None;
     }
-    TICKS_PER_BIT
-        .checked_mul(prescaler_division_factor.unwrap_or(0) + 1)?
-        .checked_mul(baud_rate)?
-        .checked_mul(divisor)
+    let ticks = TICKS_PER_BIT * (factor.unwrap_or(0) + 1);
+    ticks.checked_mul(baud_rate)?.checked_mul(divisor)
 }
 
 /// Does the same as [`calc_baud_rate`](crate::native::spec::calc_baud_rate), but also returns the
@@ -70,19 +79,23 @@ pub fn checked_baud_rate(
     divisor: u32,
     prescaler_division_factor: Option<u32>,
 ) -> Result<u32, NonIntegerBaudRateError> {
-    if frequency == 0 || divisor == 0 || !is_factor(prescaler_division_factor) {
-        return Err(NonIntegerBaudRateError {
-            frequency,
-            divisor,
-            prescaler_division_factor,
-        });
+    let refused = NonIntegerBaudRateError {
+        frequency,
+        divisor,
+        prescaler_division_factor,
+    };
+    if frequency == 0 || divisor == 0 {
+        return Err(refused);
     }
-    uart_spec::calc_baud_rate(frequency, divisor, prescaler_division_factor)
+    match known(prescaler_division_factor) {
+        Ok(factor) => uart_spec::calc_baud_rate(frequency, divisor, factor),
+        Err(UnknownFactor) => Err(refused),
+    }
 }
 
-/// Does the same as [`calc_divisor`](crate::native::spec::calc_divisor), but also returns an error if
-/// that would panic: if the frequency or the baud rate is 0, or if the prescaler division factor is
-/// above 15.
+/// Does the same as [`calc_divisor`](crate::native::spec::calc_divisor), but also returns an error
+/// if that would panic: if the frequency or the baud rate is 0, or if the prescaler division factor
+/// is above 15.
 ///
 /// # Errors
 ///
@@ -103,17 +116,17 @@ pub fn checked_divisor(
     baud_rate: u32,
     prescaler_division_factor: Option<u32>,
 ) -> Result<u16, InvalidDivisorError> {
-    if baud_rate == 0 || !is_factor(prescaler_division_factor) {
-        return Err(InvalidDivisorError::NonInteger(NonIntegerDivisorError {
-            frequency,
-            baud_rate,
-            prescaler_division_factor,
-        }));
+    let refused = InvalidDivisorError::NonInteger(NonIntegerDivisorError {
+        frequency,
+        baud_rate,
+        prescaler_division_factor,
+    });
+    match known(prescaler_division_factor) {
+        _ if baud_rate == 0 => Err(refused),
+        Err(UnknownFactor) => Err(refused),
+        Ok(_) if frequency == 0 => Err(InvalidDivisorError::OutOfRange { divisor: 0 }),
+        Ok(factor) => uart_spec::calc_divisor(frequency, baud_rate, factor),
     }
-    if frequency == 0 {
-        return Err(InvalidDivisorError::OutOfRange { divisor: 0 });
-    }
-    uart_spec::calc_divisor(frequency, baud_rate, prescaler_division_factor)
 }
 
 impl<B: Backend> Uart16550<B> {
@@ -145,14 +158,10 @@ impl<B: Backend> Uart16550<B> {
     /// # assert_eq!(set_up(&mut uart, 1_843_200), Err(InitError::DeviceNotPresent));
     /// ```
     pub fn checked_init(&mut self, config: Config) -> Result<(), InitError> {
-        if config.is_computable() {
-            return self.init(config);
-        }
         let rate = config.baud_rate.to_integer();
         match checked_divisor(config.frequency, rate, config.prescaler_division_factor) {
-            Err(cause) => Err(InitError::InvalidBaudRate(cause)),
-            // A divisor was computed, so the configuration is computable.
             Ok(_) => self.init(config),
+            Err(cause) => Err(InitError::InvalidBaudRate(cause)),
         }
     }
 }

@@ -1,5 +1,5 @@
-//! The traits of the crate `embedded-io`, for the driver. They do what the traits of the same names in
-//! [`embedded_io`](crate::native::embedded_io) do.
+//! The traits of the crate `embedded-io`, for the driver. They do what the traits of the same names
+//! in [`embedded_io`](crate::native::embedded_io) do.
 
 use crate::native::backend::Backend;
 use crate::native::{StalledError, Uart16550, embedded_io};

@@ -11,15 +11,20 @@ pub use crate::proved::uart_16550::{
     Uart16550, Uart16550Tty, Uart16550TtyError, embedded_io,
 };
 
-/// How the driver reads and writes the registers of its device.
-///
-/// | backend | for | `unsafe` |
-/// |---|---|---|
-/// | [`X86Ports`](crate::native::backend::X86Ports) | a device at I/O ports of x86 | its constructor |
-/// | [`VolatileMemory`] | a device in memory | its constructors |
-/// | [`PioBackend`], [`MmioBackend`] | ports or memory that code of yours accesses: [`PortAccess`], [`ByteAccess`] | |
-/// | your own | anything with eight registers: implement [`Backend`] | |
 pub mod backend {
+    //! How the driver reads and writes the registers of its device.
+    //!
+    //! | backend | for | `unsafe` |
+    //! |---|---|---|
+    //! | `X86Ports` | a device at I/O ports of x86 | its constructor |
+    //! | [`VolatileMemory`] | a device in memory | its constructors |
+    //! | [`PioBackend`] | ports that code of yours accesses: [`PortAccess`] | |
+    //! | [`MmioBackend`] | memory that code of yours accesses: [`ByteAccess`] | |
+    //! | your own | anything with eight registers: implement [`Backend`] | |
+    //!
+    //! The driver passes offsets of 0 to 7. Other code that gets hold of a backend may pass any, so a
+    //! backend that is unsafe inside tests its offset, as the two first do.
+
     pub use crate::access::VolatileMemory;
     #[cfg(any(target_arch = "x86", target_arch = "x86_64"))]
     pub use crate::access::X86Ports;
@@ -32,8 +37,8 @@ pub mod backend {
 /// fields, and the arithmetic of its baud rate generator.
 ///
 /// Bits are numbered from 0, the lowest, to 7. Frequencies are in hertz and baud rates in bits per
-/// second. The functions `calc_..` panic for arguments that mean nothing, as a divisor of 0. Each has
-/// a form `checked_..` that does not.
+/// second. The functions `calc_..` panic for arguments that mean nothing, as a divisor of 0. Each
+/// has a form `checked_..` that does not.
 pub mod spec {
     pub use crate::checked::{checked_baud_rate, checked_divisor, checked_frequency};
     pub use crate::proved::uart_spec::{

@@ -194,13 +194,12 @@ impl<B: Backend> Uart16550<B> {
         ensures made { Made B.step (SendsSingly bytes.now result) self.old self.new }
         ensures done { IfErr result (λ e. e.done < length bytes.now) }
     {
-        match bytes.as_array::<PIECE_SIZE>() {
-            Some(piece) => {
-                let copy = *piece;
-                self.send_singly(&copy)
-            }
-            None => self.send_singly(bytes),
+        if bytes.len() != PIECE_SIZE {
+            return self.send_singly(bytes);
         }
+        let mut copy = [0; PIECE_SIZE];
+        copy.copy_from_slice(bytes);
+        self.send_singly(&copy)
     }
 
     // The same, piece by piece.

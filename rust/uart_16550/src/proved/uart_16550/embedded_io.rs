@@ -1,7 +1,7 @@
 //! Traits for byte readers and writers, and their implementations for the driver.
 //!
-//! Generic code relies on the contracts of these traits. A reader or a writer defines a relation between its state
-//! before a call, the bytes of the call, its result, and its state after; each call is in this relation.
+//! In Rattle generic code relies on the contracts of these traits. A reader or a writer defines a relation between its
+//! state before a call, the bytes of the call, its result, and its state after; each call is in this relation.
 
 use crate::proved::uart_16550::backend::Backend;
 use crate::proved::uart_16550::driver::Uart16550;

@@ -169,13 +169,12 @@ impl<B: Backend> Uart16550<B> {
     // The same. A whole piece is sent from a copy.
     #[inline(always)]
     fn send_piece(&mut self, bytes: &[u8]) -> Result<(), StalledError> {
-        match bytes.as_array::<PIECE_SIZE>() {
-            Some(piece) => {
-                let copy = *piece;
-                self.send_singly(&copy)
-            }
-            None => self.send_singly(bytes),
+        if bytes.len() != PIECE_SIZE {
+            return self.send_singly(bytes);
         }
+        let mut copy = [0; PIECE_SIZE];
+        copy.copy_from_slice(bytes);
+        self.send_singly(&copy)
     }
 
     // The same, piece by piece.

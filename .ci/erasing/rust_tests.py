@@ -1,0 +1,114 @@
+"""The tests of the proved crates as Rust tests: rust/uart_16550_tests/src/erased.
+
+Tests are not trusted, so this works on text: clauses and ghost items are taken out, and the words of REPLACED become others.
+A word that nothing replaces is an error of rustc, and none that goes unnoticed.
+"""
+import re
+
+import crate
+import tokens
+
+OUTPUT = "rust/uart_16550_tests/src/erased"
+
+# A folder or file of sources, its module of the crate of tests, and what `crate::` and `super::*` are there.
+PARTS = [
+    ("uart_16550/src/replay.rt", "replay", "crate::libraries::uart_16550"),
+    ("uart_calls/src/lib.rt", "uart_calls", "crate::erased::uart_calls"),
+    ("uart_calls/src/call.rt", "uart_calls/call", "crate::erased::uart_calls"),
+    ("uart_calls/src/performing.rt", "uart_calls/performing", "crate::erased::uart_calls"),
+    ("uart_spec/src/tests.rt", "uart_spec", "crate::libraries::uart_spec"),
+    ("uart_ring/src/tests.rt", "uart_ring", "crate::libraries::uart_ring"),
+    ("uart_ring/src/tests/calls.rt", "uart_ring/calls", "crate::libraries::uart_ring"),
+    ("uart_ring/src/tests/handler.rt", "uart_ring/handler", "crate::libraries::uart_ring"),
+    ("uart_ring/src/tests/lists.rt", "uart_ring/lists", "crate::libraries::uart_ring"),
+]
+DRIVER = "uart_tests"
+
+# Heads of paths.
+HEADS = {
+    "uart_16550": "crate::libraries::uart_16550",
+    "uart_spec": "crate::libraries::uart_spec",
+    "uart_calls": "crate::erased::uart_calls",
+    "arrayvec": "crate::libraries::arrayvec",
+    "bitflags": "crate::libraries::bitflags",
+    "std::test": "crate::runtime",
+    "std::process": "crate::runtime",
+    "std::fmt::InlineText": "crate::runtime::InlineText",
+    "std::alloc::Global": "crate::runtime::Global",
+}
+REPLACED = [
+    (r"(?m)^ *#!?\[tactic\(.*\)\]\n", ""),
+    (r"(?m)^(?:use std::marker::Model;|use thiserror::Error;)\n", ""),
+    (r"(?m)^pub mod laws;\n", ""),
+    (r"\bimpl<('?\w+)> Model for [^{]*\{\s*\}\n", ""),
+    (r"(?m)^(?:pub )?fn \w+(?:<[^>]*>)?\(\)\s*\{\}\n", ""),
+    (r"(?<=[(])Drop, |, Drop(?=[,)])", ""),
+    (r", Error(?=[,)]\]?)(?=[^\n]*\)\]\n)|#\[derive\(Drop\)\]\n| *#\[error\([^\n]*\)\]\n", ""),
+    (r" \+ Drop\b|: Drop\b", ""),
+    (r"\bwhere\s*(?=[{;])", ""),
+    (r"fn fmt<W: fmt::Write>\(&self, f: &mut fmt::Formatter<W>\)", "fn fmt(&self, f: &mut fmt::Formatter<'_>)"),
+    (r"(fn \w+)\(rt: HostRuntime\)([^{]*)\{", r"\1()\2{\n    let rt = HostRuntime;"),
+    (r"impl AllocGlobal \+ Abort", "HostRuntime"),
+    (r"\bclone\(\)\?", "clone()"),
+    (r"\bVec::new\(rt\.alloc\(\)\)", "Vec::new()"),
+    (r"\bpush\((\w+)\)\?", r"push(\1)"),
+    (r"HashSet::new\(rt\.alloc\(\)\)", "HashSet::new()"),
+    # `Debug` of a register is not the derived one
+    (r"\b(IER|LSR|MSR)\(0\)", r"\1(0x0)"),
+    (r"seen\.insert\((.*)\)\?;", r"seen.insert(\1);"),
+]
+# What a derive of the sources writes, behind the file.
+APPENDED = {
+    "crate::libraries::uart_ring": """
+impl std::fmt::Display for StartError {
+    fn fmt(&self, f: &mut std::fmt::Formatter<'_>) -> std::fmt::Result {
+        match self {
+            StartError::NoRings(cause) => cause.fmt(f),
+            StartError::NoDevice(cause) => cause.fmt(f),
+        }
+    }
+}
+
+impl std::error::Error for StartError {}
+"""
+}
+PRELUDE = "#[allow(unused_imports)]\nuse crate::runtime::{AllocGlobal, HostRuntime, assert, assert_eq, assert_ne, format};\n"
+
+
+def erased(text, module):
+    """A source of tests as Rust."""
+    code, _ = tokens.tokens(text, strict=False)
+    out, at = [], 0
+    for token in code:
+        if token.kind in ("clause", "ghost", "ghost use"):
+            start = text.rfind("\n", 0, token.start) + 1
+            out.append(text[at : start if not text[start : token.start].strip() else token.start])
+            at = token.end
+    text = "".join(out) + text[at:]
+    for pattern, to in REPLACED:
+        text = re.sub(pattern, to, text)
+    text = re.sub(r"(?<![\w:])crate(?=::)", module, text)
+    for head, to in HEADS.items():
+        text = re.sub(rf"(?<![\w:]){head}(?=::|\b(?=[;<])|\()(?!\w)" if "::" in head else rf"(?<![\w:]){head}(?=::)", to, text)
+    text = text.replace("use super::*;", f"use {module}::*;").replace("use registers::", f"use {module}::registers::")
+    text = re.sub(r"(?m)^( *)//[/!]", r"\1//", text)
+    return re.sub(r"\n{3,}", "\n\n", PRELUDE + text) + APPENDED.get(module if "Port<B>" in text else "", "")
+
+
+def emitted(root):
+    """The files of the erased tests by name, with their bytes."""
+    found = crate.sources(root, ["uart_spec", "uart_16550", "uart_calls", "uart_tests", "uart_ring"])
+    files = {}
+    parts = [(name, target, module) for name, target, module in PARTS]
+    for name in found:
+        if name.startswith(f"{DRIVER}/src/"):
+            target = name[len(f"{DRIVER}/src/") : -len(".rt")]
+            parts.append((name, DRIVER if target == "lib" else f"{DRIVER}/{target}", f"crate::erased::{DRIVER}"))
+    folders = {target.split("/")[0] for _, target, _ in parts if "/" in target}
+    for name, target, module in parts:
+        text = erased(crate.text_of(name, found[name]), module)
+        files[f"{target}/mod.rs" if target in folders else f"{target}.rs"] = text
+    modules = sorted({target.split("/")[0] for _, target, _ in parts})
+    head = "//! Made by `.ci/erase emit` from the tests in `crates/`. Do not edit.\n#![allow(warnings)]\n\n"
+    files["mod.rs"] = head + "".join(f"pub mod {module};\n" for module in modules)
+    return {name: text.encode("ascii") for name, text in files.items()}

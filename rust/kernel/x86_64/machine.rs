@@ -1,0 +1,138 @@
+//! What the kernel needs of a PC beside its console: the end of the machine, interrupts, and values that their handler shares.
+
+use core::arch::asm;
+use core::cell::UnsafeCell;
+
+/// How the machine ends, as the emulator's port for it gets it. The emulator's status is twice this and one.
+#[derive(Clone, Copy)]
+#[repr(u8)]
+pub enum End {
+    Done = 0x10,
+    NoConsole = 0x20,
+    NoRings = 0x21,
+    NotSent = 0x22,
+    NoInterrupts = 0x23,
+    Panic = 0x3f,
+}
+
+const EXIT_PORT: u16 = 0xf4;
+
+// The two interrupt controllers, each a port for commands and behind it one for data.
+const PRIMARY: u16 = 0x20;
+const SECONDARY: u16 = 0xa0;
+
+const END_OF_INTERRUPT: u8 = 0x20;
+
+// COM1's line of the first controller, and the vector of its line 0.
+const COM1_LINE: usize = 4;
+const FIRST_VECTOR: usize = 0x20;
+
+const VECTORS: usize = 256;
+const CODE_SEGMENT: u64 = 8;
+const INTERRUPT_GATE: u64 = 0x8e;
+
+fn write_port(port: u16, value: u8) {
+    // SAFETY: the kernel alone uses the ports of this file, and none of them changes memory.
+    unsafe {
+        asm!("out dx, al", in("dx") port, in("al") value, options(nomem, nostack, preserves_flags))
+    }
+}
+
+/// Ends the machine.
+pub fn end(how: End) -> ! {
+    write_port(EXIT_PORT, how as u8);
+    loop {
+        // SAFETY: nothing is left to do.
+        unsafe { asm!("cli", "hlt") }
+    }
+}
+
+/// Tells the interrupt controller that an interrupt was served.
+pub fn end_of_interrupt() {
+    write_port(PRIMARY, END_OF_INTERRUPT);
+}
+
+unsafe extern "C" {
+    fn interrupt_entry();
+    fn fault_entry();
+}
+
+/// A value that the interrupt handler shares with the rest of the kernel, which has one processor.
+pub struct Shared<T>(UnsafeCell<T>);
+
+// SAFETY: it is used with interrupts off alone.
+unsafe impl<T> Sync for Shared<T> {}
+
+impl<T> Shared<T> {
+    pub const fn new(value: T) -> Self {
+        Self(UnsafeCell::new(value))
+    }
+
+    /// Calls the function, with interrupts off as they were.
+    pub fn in_handler(&self, call: impl FnOnce(&mut T)) {
+        // SAFETY: interrupts are off in the handler, and it does not call itself.
+        call(unsafe { &mut *self.0.get() });
+    }
+
+    /// Calls the function with interrupts off. If it returns false, sleeps until an interrupt was served.
+    pub fn or_sleep(&self, call: impl FnOnce(&mut T) -> bool) {
+        // SAFETY: with interrupts off nobody else uses the value. The two instructions at the end are one step, so that no
+        // interrupt comes between the look and the sleep.
+        unsafe {
+            asm!("cli");
+            if call(&mut *self.0.get()) {
+                asm!("sti", "nop", "cli");
+            } else {
+                asm!("sti", "hlt", "cli");
+            }
+        }
+    }
+
+    /// Changes the value before interrupts are on for the first time, or after they are off for good.
+    pub fn alone(&self) -> &mut T {
+        // SAFETY: interrupts are on within `or_sleep` alone, and there is one processor.
+        unsafe { &mut *self.0.get() }
+    }
+}
+
+// The descriptor of an interrupt: where its code is.
+fn gate(entry: unsafe extern "C" fn()) -> [u64; 2] {
+    let entry = entry as usize as u64;
+    let low =
+        entry & 0xffff | CODE_SEGMENT << 16 | INTERRUPT_GATE << 40 | (entry >> 16 & 0xffff) << 48;
+    [low, entry >> 32]
+}
+
+#[repr(C, packed)]
+struct TablePointer {
+    limit: u16,
+    base: *const [[u64; 2]; VECTORS],
+}
+
+static TABLE: Shared<[[u64; 2]; VECTORS]> = Shared::new([[0; 2]; VECTORS]);
+
+/// Lets COM1's interrupt in, as soon as interrupts are on, and no other.
+pub fn set_up_interrupts() {
+    let table = TABLE.alone();
+    *table = [gate(fault_entry); VECTORS];
+    table[FIRST_VECTOR + COM1_LINE] = gate(interrupt_entry);
+    let pointer = TablePointer {
+        limit: (size_of_val(table) - 1) as u16,
+        base: table,
+    };
+    // SAFETY: the table is there for good.
+    unsafe {
+        asm!("lidt [{}]", in(reg) &raw const pointer, options(readonly, nostack, preserves_flags))
+    };
+    // Edges, two controllers, their vectors, how they are connected, their mode, and which lines are masked.
+    let all_but_com1 = !(1 << COM1_LINE);
+    for (controller, data) in [
+        (PRIMARY, [FIRST_VECTOR as u8, 1 << 2, 1, all_but_com1]),
+        (SECONDARY, [FIRST_VECTOR as u8 + 8, 2, 1, 0xff]),
+    ] {
+        write_port(controller, 0x11);
+        for byte in data {
+            write_port(controller + 1, byte);
+        }
+    }
+}

@@ -1,0 +1,332 @@
+//! Every public call of the crate once, as a function with a name, over a backend that is somewhere
+//! else. `panics` compiles it, and follows the calls from here.
+#![no_std]
+#![allow(missing_docs, clippy::missing_errors_doc)]
+
+use core::fmt::{self, Write as _};
+use core::num::{NonZeroU64, NonZeroUsize};
+use uart_16550::Flags;
+use uart_16550::native::backend::{
+    Backend, ByteAccess, MmioBackend, PioBackend, PortAccess, VolatileMemory,
+};
+use uart_16550::native::embedded_io::{Read, ReadReady, Write, WriteReady};
+use uart_16550::native::{
+    BaudRate, ByteReceiveError, ByteSendError, Config, ConfigRegisterDump, DriverState, InitError,
+    InvalidAddressError, InvalidDivisorError, LoopbackError, NonIntegerBaudRateError,
+    NonIntegerDivisorError, RemoteReadyToReceiveError, StalledError, Uart16550, Uart16550Tty,
+    Uart16550TtyError,
+};
+use uart_16550::ring::{Global, Memory, RingError, Uart16550Ring};
+use uart_16550::spec::registers::{
+    DLL, DLM, FCR, FifoTriggerLevel, IER, ISR, InterruptType, LCR, LSR, MCR, MSR, PSD, Parity, SPR,
+    WordLength,
+};
+
+unsafe extern "Rust" {
+    safe fn device_read(offset: usize) -> u8;
+    safe fn device_write(offset: usize, value: u8);
+}
+
+/// A device somewhere else.
+pub struct Device;
+
+impl Backend for Device {
+    fn read(&mut self, register_offset: u8) -> u8 {
+        device_read(register_offset.into())
+    }
+
+    fn write(&mut self, register_offset: u8, value: u8) {
+        device_write(register_offset.into(), value);
+    }
+}
+
+impl PortAccess for Device {
+    fn port_in(&mut self, port: u16) -> u8 {
+        device_read(port.into())
+    }
+
+    fn port_out(&mut self, port: u16, value: u8) {
+        device_write(port.into(), value);
+    }
+}
+
+impl ByteAccess for Device {
+    fn load(&mut self, address: usize) -> u8 {
+        device_read(address)
+    }
+
+    fn store(&mut self, address: usize, value: u8) {
+        device_write(address, value);
+    }
+}
+
+type Uart = Uart16550<Device>;
+type Tty = Uart16550Tty<Device>;
+type Ring = Uart16550Ring<Device>;
+
+macro_rules! calls {
+    ($($name:ident($($arg:ident: $Arg:ty),*) $(-> $Result:ty)? { $call:expr })*) => { $(
+        #[unsafe(no_mangle)]
+        pub fn $name($($arg: $Arg),*) $(-> $Result)? { $call }
+    )* };
+}
+
+calls! {
+    uart_new_with_backend() -> Uart { Uart::new_with_backend(Device) }
+    uart_new_port(base: u16) -> Result<Uart16550<PioBackend<Device>>, InvalidAddressError> { Uart16550::new_port(base, Device) }
+    uart_new_mmio(base: NonZeroUsize, stride: u8) -> Result<Uart16550<MmioBackend<Device>>, InvalidAddressError> { Uart16550::new_mmio(base, stride, Device) }
+    uart_new_mmio_from_address(base: NonZeroUsize, stride: u8) -> Result<Uart16550<MmioBackend<Device>>, InvalidAddressError> { Uart16550::new_mmio_from_address(base, stride, Device) }
+    uart_from_state(state: &DriverState) -> Uart { Uart::from_state(Device, state) }
+    uart_state(uart: &Uart) -> DriverState { uart.state() }
+    state_new() -> DriverState { DriverState::new() }
+    uart_backend(uart: &Uart) -> &Device { uart.backend() }
+    uart_backend_mut(uart: &mut Uart) -> &mut Device { uart.backend_mut() }
+    uart_config(uart: &Uart) -> &Config { uart.config() }
+    uart_fifo_enabled(uart: &Uart) -> bool { uart.fifo_enabled() }
+    uart_spin_limit(uart: &Uart) -> NonZeroU64 { uart.spin_limit() }
+    uart_set_spin_limit(uart: &mut Uart, limit: NonZeroU64) { uart.set_spin_limit(limit) }
+    uart_check_present(uart: &mut Uart) -> bool { uart.check_present() }
+    uart_init(uart: &mut Uart, config: Config) -> Result<(), InitError> { uart.init(config) }
+    uart_checked_init(uart: &mut Uart, config: Config) -> Result<(), InitError> { uart.checked_init(config) }
+    uart_test_loopback(uart: &mut Uart) -> Result<(), LoopbackError> { uart.test_loopback() }
+    uart_check_connected(uart: &mut Uart) -> Result<(), RemoteReadyToReceiveError> { uart.check_connected() }
+    uart_ready_to_receive(uart: &mut Uart) -> Result<(), ByteReceiveError> { uart.ready_to_receive() }
+    uart_ready_to_send(uart: &mut Uart) -> Result<(), ByteSendError> { uart.ready_to_send() }
+    uart_try_receive_byte(uart: &mut Uart) -> Result<u8, ByteReceiveError> { uart.try_receive_byte() }
+    uart_try_send_byte(uart: &mut Uart, byte: u8) -> Result<(), ByteSendError> { uart.try_send_byte(byte) }
+    uart_receive_bytes(uart: &mut Uart, buffer: &mut [u8]) -> usize { uart.receive_bytes(buffer) }
+    uart_send_bytes(uart: &mut Uart, buffer: &[u8]) -> usize { uart.send_bytes(buffer) }
+    uart_receive_bytes_exact(uart: &mut Uart, buffer: &mut [u8]) -> Result<(), StalledError> { uart.receive_bytes_exact(buffer) }
+    uart_send_bytes_exact(uart: &mut Uart, bytes: &[u8]) -> Result<(), StalledError> { uart.send_bytes_exact(bytes) }
+    uart_enable_interrupts(uart: &mut Uart, interrupts: IER) { uart.enable_interrupts(interrupts) }
+    uart_disable_interrupts(uart: &mut Uart, interrupts: IER) { uart.disable_interrupts(interrupts) }
+    uart_ier(uart: &mut Uart) -> IER { uart.ier() }
+    uart_isr(uart: &mut Uart) -> ISR { uart.isr() }
+    uart_lcr(uart: &mut Uart) -> LCR { uart.lcr() }
+    uart_mcr(uart: &mut Uart) -> MCR { uart.mcr() }
+    uart_lsr(uart: &mut Uart) -> LSR { uart.lsr() }
+    uart_msr(uart: &mut Uart) -> MSR { uart.msr() }
+    uart_spr(uart: &mut Uart) -> SPR { uart.spr() }
+    uart_dll_dlm(uart: &mut Uart) -> (DLL, DLM) { uart.dll_dlm() }
+    uart_config_register_dump(uart: &mut Uart) -> ConfigRegisterDump { uart.config_register_dump() }
+
+    io_read(uart: &mut Uart, buffer: &mut [u8]) -> Result<usize, StalledError> { Read::read(uart, buffer) }
+    io_write(uart: &mut Uart, buffer: &[u8]) -> Result<usize, StalledError> { Write::write(uart, buffer) }
+    io_flush(uart: &mut Uart) -> Result<(), StalledError> { Write::flush(uart) }
+    io_read_ready(uart: &mut Uart) -> Result<bool, StalledError> { uart.read_ready() }
+    io_write_ready(uart: &mut Uart) -> Result<bool, StalledError> { uart.write_ready() }
+
+    tty_new_with_backend(config: Config) -> Result<Tty, Uart16550TtyError> { Tty::new_with_backend(Device, config) }
+    tty_new_port(base: u16, config: Config) -> Result<Uart16550Tty<PioBackend<Device>>, Uart16550TtyError> { Uart16550Tty::new_port(base, Device, config) }
+    tty_new_mmio(base: NonZeroUsize, stride: u8, config: Config) -> Result<Uart16550Tty<MmioBackend<Device>>, Uart16550TtyError> { Uart16550Tty::new_mmio(base, stride, Device, config) }
+    tty_new_mmio_from_address(base: NonZeroUsize, stride: u8, config: Config) -> Result<Uart16550Tty<MmioBackend<Device>>, Uart16550TtyError> { Uart16550Tty::new_mmio_from_address(base, stride, Device, config) }
+    tty_from_inner(uart: Uart) -> Tty { Tty::from_inner(uart) }
+    tty_inner(tty: &Tty) -> &Uart { tty.inner() }
+    tty_inner_mut(tty: &mut Tty) -> &mut Uart { tty.inner_mut() }
+    tty_write_text(tty: &mut Tty, text: &str) -> Result<(), StalledError> { tty.write_text(text) }
+    tty_write_str(tty: &mut Tty, text: &str) -> fmt::Result { tty.write_str(text) }
+
+    pio_read(backend: &mut PioBackend<Device>, offset: u8) -> u8 { backend.read(offset) }
+    pio_write(backend: &mut PioBackend<Device>, offset: u8, value: u8) { backend.write(offset, value) }
+    pio_base(backend: &PioBackend<Device>) -> u16 { backend.base() }
+    pio_access(backend: &PioBackend<Device>) -> &Device { backend.access() }
+    pio_access_mut(backend: &mut PioBackend<Device>) -> &mut Device { backend.access_mut() }
+    mmio_read(backend: &mut MmioBackend<Device>, offset: u8) -> u8 { backend.read(offset) }
+    mmio_write(backend: &mut MmioBackend<Device>, offset: u8, value: u8) { backend.write(offset, value) }
+    mmio_base(backend: &MmioBackend<Device>) -> NonZeroUsize { backend.base() }
+    mmio_stride(backend: &MmioBackend<Device>) -> u8 { backend.stride().get() }
+    mmio_access(backend: &MmioBackend<Device>) -> &Device { backend.access() }
+    mmio_access_mut(backend: &mut MmioBackend<Device>) -> &mut Device { backend.access_mut() }
+    // SAFETY: these are only compiled.
+    volatile_new(base: core::ptr::NonNull<u8>, stride: u8) -> Result<VolatileMemory, InvalidAddressError> { unsafe { VolatileMemory::new(base, stride) } }
+    volatile_from_address(base: NonZeroUsize, stride: u8) -> Result<VolatileMemory, InvalidAddressError> { unsafe { VolatileMemory::from_address(base, stride) } }
+    volatile_read(backend: &mut VolatileMemory, offset: u8) -> u8 { backend.read(offset) }
+    volatile_write(backend: &mut VolatileMemory, offset: u8, value: u8) { backend.write(offset, value) }
+    volatile_base(backend: &VolatileMemory) -> core::ptr::NonNull<u8> { backend.base() }
+    volatile_stride(backend: &VolatileMemory) -> u8 { backend.stride().get() }
+    volatile_init(uart: &mut Uart16550<VolatileMemory>, config: Config) -> Result<(), InitError> { uart.checked_init(config) }
+    volatile_test_loopback(uart: &mut Uart16550<VolatileMemory>) -> Result<(), LoopbackError> { uart.test_loopback() }
+    volatile_send_bytes_exact(uart: &mut Uart16550<VolatileMemory>, bytes: &[u8]) -> Result<(), StalledError> { uart.send_bytes_exact(bytes) }
+    volatile_receive_bytes_exact(uart: &mut Uart16550<VolatileMemory>, buffer: &mut [u8]) -> Result<(), StalledError> { uart.receive_bytes_exact(buffer) }
+
+    ring_new(memory: Global<'_>, uart: Uart, transmit: usize, receive: usize) -> Result<Ring, (Uart, RingError)> { Ring::new(memory, uart, transmit, receive) }
+    ring_memory(bytes: &'static mut [u8]) -> Memory { Memory::new(bytes) }
+    ring_global(memory: &Memory) -> Global<'_> { memory.global() }
+    ring_transmit_len(ring: &Ring) -> usize { ring.transmit_len() }
+    ring_receive_len(ring: &Ring) -> usize { ring.receive_len() }
+    ring_is_paused(ring: &Ring) -> bool { ring.is_paused() }
+    ring_inner(ring: &Ring) -> &Uart { ring.inner() }
+    ring_inner_mut(ring: &mut Ring) -> &mut Uart { ring.inner_mut() }
+    ring_into_inner(ring: Ring) -> Uart { ring.into_inner() }
+    ring_queue(ring: &mut Ring, bytes: &[u8]) -> usize { ring.queue(bytes) }
+    ring_take(ring: &mut Ring, slots: &mut [u8]) -> usize { ring.take(slots) }
+    ring_take_line(ring: &mut Ring) -> LSR { ring.take_line() }
+    ring_take_modem(ring: &mut Ring) -> MSR { ring.take_modem() }
+    ring_service(ring: &mut Ring) -> usize { ring.service() }
+    ring_resume_transmit(ring: &mut Ring) { ring.resume_transmit() }
+
+    calc_frequency(rate: u32, divisor: u32, factor: Option<u32>) -> u32 { uart_16550::native::spec::calc_frequency(rate, divisor, factor) }
+    calc_baud_rate(frequency: u32, divisor: u32, factor: Option<u32>) -> Result<u32, NonIntegerBaudRateError> { uart_16550::native::spec::calc_baud_rate(frequency, divisor, factor) }
+    calc_divisor(frequency: u32, rate: u32, factor: Option<u32>) -> Result<u16, InvalidDivisorError> { uart_16550::native::spec::calc_divisor(frequency, rate, factor) }
+    checked_frequency(rate: u32, divisor: u32, factor: Option<u32>) -> Option<u32> { uart_16550::native::spec::checked_frequency(rate, divisor, factor) }
+    checked_baud_rate(frequency: u32, divisor: u32, factor: Option<u32>) -> Result<u32, NonIntegerBaudRateError> { uart_16550::native::spec::checked_baud_rate(frequency, divisor, factor) }
+    checked_divisor(frequency: u32, rate: u32, factor: Option<u32>) -> Result<u16, InvalidDivisorError> { uart_16550::native::spec::checked_divisor(frequency, rate, factor) }
+    dump_divisor(dump: &ConfigRegisterDump) -> u16 { dump.divisor() }
+    dump_baud_rate(dump: &ConfigRegisterDump, config: &Config) -> Result<BaudRate, NonIntegerBaudRateError> { dump.baud_rate(config) }
+    dump_checked_baud_rate(dump: &ConfigRegisterDump, config: &Config) -> Result<BaudRate, NonIntegerBaudRateError> { dump.checked_baud_rate(config) }
+    config_is_computable(config: &Config) -> bool { config.is_computable() }
+    config_cmp(config: &Config, other: &Config) -> core::cmp::Ordering { config.cmp(other) }
+    baud_rate_to_integer(rate: BaudRate) -> u32 { rate.to_integer() }
+    baud_rate_from_integer(rate: u32) -> BaudRate { BaudRate::from_integer(rate) }
+    divisor_number(divisor: uart_16550::spec::registers::Divisor) -> u16 { divisor.number() }
+    interrupt_type_priority(interrupt: InterruptType) -> u8 { interrupt.priority() }
+    interrupt_type_from_bits(bits: u8) -> Option<InterruptType> { InterruptType::from_bits(bits) }
+    interrupt_type_to_bits(interrupt: InterruptType) -> u8 { interrupt.to_bits() }
+    isr_interrupt_type(isr: ISR) -> Option<InterruptType> { isr.interrupt_type() }
+    isr_has_pending_interrupt(isr: ISR) -> bool { isr.has_pending_interrupt() }
+    isr_fifo_enabled(isr: ISR) -> bool { isr.fifo_enabled() }
+    fcr_set_fifo_trigger_level(fcr: FCR, level: FifoTriggerLevel) -> FCR { fcr.set_fifo_trigger_level(level) }
+    fcr_fifo_trigger_level(fcr: FCR) -> FifoTriggerLevel { fcr.fifo_trigger_level() }
+    level_from_raw_bits(bits: u8) -> FifoTriggerLevel { FifoTriggerLevel::from_raw_bits(bits) }
+    level_to_raw_bits(level: FifoTriggerLevel) -> u8 { level.to_raw_bits() }
+    lcr_word_length(lcr: LCR) -> WordLength { lcr.word_length() }
+    lcr_set_word_length(lcr: LCR, length: WordLength) -> LCR { lcr.set_word_length(length) }
+    lcr_parity(lcr: LCR) -> Parity { lcr.parity() }
+    lcr_set_parity(lcr: LCR, parity: Parity) -> LCR { lcr.set_parity(parity) }
+    length_from_integer(bits: u8) -> WordLength { WordLength::from_integer(bits) }
+    length_to_integer(length: WordLength) -> u32 { length.to_integer() }
+    lsr_has_error(lsr: LSR) -> bool { lsr.has_error() }
+    psd_pdf(psd: PSD) -> u8 { psd.pdf() }
+    psd_set_pdf(psd: PSD, factor: u8) -> PSD { psd.set_pdf(factor) }
+    psd_checked_set_pdf(psd: PSD, factor: u8) -> Option<PSD> { psd.checked_set_pdf(factor) }
+
+    flags_from_name(name: &str) -> Option<IER> { IER::from_name(name) }
+    flags_all() -> IER { <IER as Flags>::all() }
+    flags_from_bits(bits: u8) -> Option<IER> { <IER as Flags>::from_bits(bits) }
+    flags_complement(ier: IER) -> IER { Flags::complement(ier) }
+    flags_truncate(ier: &mut IER) { Flags::truncate(ier) }
+    flags_set(ier: &mut IER, other: IER, value: bool) { Flags::set(ier, other, value) }
+    flags_iter(ier: IER) -> usize { ier.iter().count() }
+    flags_iter_names(ier: IER) -> Option<(&'static str, IER)> { ier.iter_names().last() }
+    flags_collect(bits: &[IER]) -> IER { bits.iter().copied().collect() }
+}
+
+#[cfg(any(target_arch = "x86", target_arch = "x86_64"))]
+mod ports {
+    use super::{Backend, Config, InitError, InvalidAddressError, StalledError, Uart16550};
+    use uart_16550::native::backend::X86Ports;
+
+    calls! {
+        // SAFETY: this is only compiled.
+        ports_new(base: u16) -> Result<X86Ports, InvalidAddressError> { unsafe { X86Ports::new(base) } }
+        ports_base(backend: &X86Ports) -> u16 { backend.base() }
+        ports_read(backend: &mut X86Ports, offset: u8) -> u8 { backend.read(offset) }
+        ports_write(backend: &mut X86Ports, offset: u8, value: u8) { backend.write(offset, value) }
+        ports_init(uart: &mut Uart16550<X86Ports>, config: Config) -> Result<(), InitError> { uart.checked_init(config) }
+        ports_send_bytes_exact(uart: &mut Uart16550<X86Ports>, bytes: &[u8]) -> Result<(), StalledError> { uart.send_bytes_exact(bytes) }
+        ports_receive_bytes_exact(uart: &mut Uart16550<X86Ports>, buffer: &mut [u8]) -> Result<(), StalledError> { uart.receive_bytes_exact(buffer) }
+    }
+}
+
+/// Texts are written to something else.
+pub struct Text;
+
+impl fmt::Write for Text {
+    fn write_str(&mut self, text: &str) -> fmt::Result {
+        text.bytes().for_each(|byte| device_write(0, byte));
+        Ok(())
+    }
+}
+
+macro_rules! texts {
+    ($($name:ident: $Type:ty;)*) => { $(
+        #[unsafe(no_mangle)]
+        pub fn $name(value: &$Type) -> fmt::Result { write!(Text, "{value} {value:?}") }
+    )* };
+}
+
+texts! {
+    text_of_baud_rate: NonIntegerBaudRateError;
+    text_of_not_whole: NonIntegerDivisorError;
+    text_of_divisor: InvalidDivisorError;
+    text_of_address: InvalidAddressError;
+    text_of_init: InitError;
+    text_of_receive: ByteReceiveError;
+    text_of_send: ByteSendError;
+    text_of_remote: RemoteReadyToReceiveError;
+    text_of_loopback: LoopbackError;
+    text_of_stalled: StalledError;
+    text_of_tty: Uart16550TtyError;
+    text_of_ring: RingError;
+}
+
+macro_rules! debugs {
+    ($($name:ident: $Type:ty;)*) => { $(
+        #[unsafe(no_mangle)]
+        pub fn $name(value: &$Type) -> fmt::Result { write!(Text, "{value:?}") }
+    )* };
+}
+
+debugs! {
+    debug_of_config: Config;
+    debug_of_dump: ConfigRegisterDump;
+    debug_of_state: DriverState;
+    debug_of_uart: Uart16550<VolatileMemory>;
+    debug_of_registers: (IER, ISR, FCR, LCR, MCR, LSR, MSR, PSD);
+}
+
+/// The signatures of the original.
+#[cfg(feature = "compat")]
+mod compat {
+    use super::{Text, device_read, device_write, fmt};
+    use core::fmt::Write as _;
+    use core::num::NonZeroUsize;
+    use core::ptr::NonNull;
+    use uart_16550::compat::backend::{Backend, MmioBackend};
+    use uart_16550::compat::spec::{InvalidDivisorError, NonIntegerBaudRateError};
+    use uart_16550::compat::{
+        BaudRate, Config, ConfigRegisterDump, InitError, InvalidAddressError, LoopbackError,
+        Uart16550, Uart16550Tty, Uart16550TtyError,
+    };
+
+    pub struct Device;
+
+    impl Backend for Device {
+        unsafe fn read(&mut self, register_offset: u8) -> u8 {
+            device_read(register_offset.into())
+        }
+
+        unsafe fn write(&mut self, register_offset: u8, value: u8) {
+            device_write(register_offset.into(), value);
+        }
+    }
+
+    // SAFETY: all of this is only compiled.
+    calls! {
+        compat_new_with_backend() -> Uart16550<Device> { unsafe { Uart16550::new_with_backend(Device) } }
+        compat_new_mmio(base: NonNull<u8>, stride: u8) -> Result<Uart16550<MmioBackend>, InvalidAddressError> { unsafe { Uart16550::new_mmio(base, stride) } }
+        compat_new_mmio_from_address(base: NonZeroUsize, stride: u8) -> Result<Uart16550<MmioBackend>, InvalidAddressError> { unsafe { Uart16550::new_mmio_from_address(base, stride) } }
+        compat_init(uart: &mut Uart16550<Device>, config: Config) -> Result<(), InitError> { uart.init(config) }
+        compat_test_loopback(uart: &mut Uart16550<Device>) -> Result<(), LoopbackError> { uart.test_loopback() }
+        compat_send_bytes_exact(uart: &mut Uart16550<Device>, bytes: &[u8]) { uart.send_bytes_exact(bytes) }
+        compat_receive_bytes_exact(uart: &mut Uart16550<Device>, buffer: &mut [u8]) { uart.receive_bytes_exact(buffer) }
+        compat_config_register_dump(uart: &mut Uart16550<Device>) -> ConfigRegisterDump { uart.config_register_dump() }
+        compat_dump_divisor(dump: &ConfigRegisterDump) -> u16 { dump.divisor() }
+        compat_dump_baud_rate(dump: &ConfigRegisterDump, config: &Config) -> BaudRate { dump.baud_rate(config) }
+        compat_calc_baud_rate(frequency: u32, divisor: u32, factor: Option<u32>) -> Result<u32, NonIntegerBaudRateError> { uart_16550::compat::spec::calc_baud_rate(frequency, divisor, factor) }
+        compat_calc_divisor(frequency: u32, rate: u32, factor: Option<u32>) -> Result<u16, InvalidDivisorError> { uart_16550::compat::spec::calc_divisor(frequency, rate, factor) }
+        compat_tty_new_with_backend(config: Config) -> Result<Uart16550Tty<Device>, Uart16550TtyError> { unsafe { Uart16550Tty::new_with_backend(Device, config) } }
+        compat_tty_new_mmio(base: NonNull<u8>, stride: u8, config: Config) -> Result<Uart16550Tty<MmioBackend>, Uart16550TtyError> { unsafe { Uart16550Tty::new_mmio(base, stride, config) } }
+        compat_tty_from_inner(uart: Uart16550<Device>) -> Uart16550Tty<Device> { Uart16550Tty::from_inner(uart) }
+        compat_tty_inner_mut(tty: &mut Uart16550Tty<Device>) -> &mut Uart16550<Device> { tty.inner_mut() }
+        compat_tty_write_str(tty: &mut Uart16550Tty<Device>, text: &str) -> fmt::Result { tty.write_str(text) }
+        compat_mmio_read(backend: &mut MmioBackend, offset: u8) -> u8 { unsafe { backend.read(offset) } }
+        compat_mmio_write(backend: &mut MmioBackend, offset: u8, value: u8) { unsafe { backend.write(offset, value) } }
+    }
+
+    texts! {
+        compat_text_of_init: InitError;
+        compat_text_of_loopback: LoopbackError;
+        compat_text_of_tty: Uart16550TtyError;
+    }
+}

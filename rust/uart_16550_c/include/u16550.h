@@ -1,0 +1,361 @@
+/*
+ * u16550.h - a driver for serial chips of the 16550 family, for kernels and firmware.
+ *
+ * The device is reached by two functions of the caller, and the driver is in memory of the caller. The library allocates
+ * nothing and has no variables. Link with libu16550.a.
+ *
+ * The program defines u16550_panic, and memcpy, memmove, memset and memcmp as for any freestanding C.
+ *
+ * Every function that returns an int returns U16550_OK, or a number of the enums below: a negative one if the call was a
+ * misuse, which made no access and changed nothing, or a positive one, which is the error of the call. What a call reports
+ * through a pointer is written only if it returns U16550_OK, unless the function says otherwise.
+ *
+ * Pointers must point to what they say, or be null, which is refused if nothing else is said. An array of length 0 may be
+ * null. Arrays and structs of one call must not overlap.
+ */
+#ifndef U16550_H
+#define U16550_H
+
+#include <stddef.h>
+#include <stdint.h>
+
+#if defined(__cplusplus)
+#define U16550_ASSERT(condition, text) static_assert(condition, text)
+extern "C" {
+#elif defined(__STDC_VERSION__) && __STDC_VERSION__ >= 201112L
+#define U16550_ASSERT(condition, text) _Static_assert(condition, text)
+#else
+#define U16550_ASSERT(condition, text) struct u16550_no_assert
+#endif
+
+enum u16550_status { U16550_OK = 0 };
+
+/* The call was a misuse. It made no access and changed nothing. */
+enum u16550_misuse {
+    U16550_NULL_POINTER = -1,
+    U16550_MISALIGNED = -2,
+    U16550_NOT_MADE = -3,         /* there is no driver in this memory */
+    U16550_BUSY = -4,             /* a call over this driver is not done: the caller is a callback or an interrupt handler */
+    U16550_BAD_LENGTH = -5,       /* no array is so long */
+    U16550_BAD_CODE = -6,         /* a number in a configuration or a state stands for nothing */
+    U16550_NOT_COMPUTABLE = -7,   /* frequency or baud rate 0, or a prescaler division factor above 15 */
+    U16550_ZERO_LIMIT = -8,       /* a spin limit of 0 */
+    U16550_NOT_UTF8 = -9,
+    U16550_NO_RINGS = -10,
+    U16550_HAS_RINGS = -11
+};
+
+/* Why the registers cannot be there. */
+enum u16550_address_error {
+    U16550_BAD_BASE = 10,         /* the base is null, or the last register is behind the end */
+    U16550_BAD_STRIDE = 11        /* the stride is no power of two */
+};
+
+/* Why an initialisation failed. */
+enum u16550_init_error {
+    U16550_INIT_DEVICE_NOT_PRESENT = 20,
+    U16550_INIT_NON_INTEGER_DIVISOR = 21, /* no whole divisor gives the baud rate; no access was made */
+    U16550_INIT_DIVISOR_OUT_OF_RANGE = 22, /* it is above 65535; no access was made */
+    U16550_INIT_STALLED = 23      /* the transmitter did not become empty within the spin limit */
+};
+
+/* Why a loopback test failed. */
+enum u16550_loopback_error {
+    U16550_LOOPBACK_NO_CAPACITY = 30, /* the device took no byte */
+    U16550_LOOPBACK_NOT_CLEAR_TO_SEND = 31, /* no call returns this */
+    U16550_LOOPBACK_UNEXPECTED_BYTE = 32,
+    U16550_LOOPBACK_UNEXPECTED_MSG = 33,
+    U16550_LOOPBACK_STALLED = 34
+};
+
+/* Why the remote seems not to be connected. */
+enum u16550_remote_error {
+    U16550_REMOTE_NO_DSR = 40,
+    U16550_REMOTE_NO_CD = 41,     /* no call returns this */
+    U16550_REMOTE_NOT_CLEAR_TO_SEND = 42
+};
+
+/* Why no byte can be sent at the moment. */
+enum u16550_send_error {
+    U16550_SEND_NO_CAPACITY = 50,
+    U16550_SEND_NOT_CLEAR_TO_SEND = 51 /* CTS is clear, and the configuration checks it */
+};
+
+enum u16550_receive_error { U16550_RECEIVE_NO_DATA = 60 };
+
+enum u16550_stalled_error { U16550_STALLED = 70 }; /* a wait came to the spin limit */
+
+enum u16550_baud_rate_error { U16550_NON_INTEGER_BAUD_RATE = 80 }; /* the divisor is 0, or gives no whole baud rate */
+
+/* Why there are no rings. */
+enum u16550_ring_error {
+    U16550_RING_BAD_CAPACITY = 90, /* a capacity is 0 or more than U16550_MAX_CAPACITY */
+    U16550_RING_OUT_OF_MEMORY = 91 /* the memory is smaller than both capacities together */
+};
+
+/* Returns a text for what a function returned, for a log. Never null. */
+const char *u16550_text(int status);
+
+/*
+ * The library calls this in a panic. The program defines it; it must not return, throw or jump back into the library. No
+ * call of the library is known to panic, so a panic is a defect of the library: stop the machine, or end the program.
+ */
+void u16550_panic(void);
+
+/* --------------------------------------------------------------- the device and the memory of a driver */
+
+/*
+ * How the device is reached. The functions get the context and an address: the offset of a register, 0 to 7, or after
+ * u16550_new_port a port, or after u16550_new_mmio an address of memory. They must return, and must not throw. If one of
+ * them calls a function over the same driver, that function returns U16550_BUSY.
+ */
+struct u16550_io {
+    void *context;
+    uint8_t (*read)(void *context, uintptr_t address);
+    void (*write)(void *context, uintptr_t address, uint8_t value);
+};
+
+/*
+ * The memory of a driver. What is in it is the library's. It may be copied to another place between two calls, if only one
+ * of the copies is used from then on. One thread at a time may use a driver; different drivers are independent.
+ */
+struct u16550 {
+    uint64_t opaque[28];
+};
+
+enum u16550_parity {
+    U16550_PARITY_NONE = 0,
+    U16550_PARITY_ODD = 1,
+    U16550_PARITY_EVEN = 2,
+    U16550_PARITY_FORCED_1 = 3,
+    U16550_PARITY_FORCED_0 = 4
+};
+
+/* How a device is to be set up. Another number than these is refused by U16550_BAD_CODE. */
+struct u16550_config {
+    uint32_t frequency;                 /* of the clock, in hertz: usually 1843200 */
+    uint32_t baud_rate;
+    uint32_t prescaler_division_factor; /* 0 to 15; counts only with has_prescaler */
+    uint8_t has_prescaler;              /* 0 or 1 */
+    uint8_t interrupts;                 /* as in IER */
+    uint8_t fifo_trigger_level;         /* 0 for no FIFO, or 1, 4, 8, 14 */
+    uint8_t data_bits;                  /* 5 to 8 */
+    uint8_t extra_stop_bits;            /* 0 or 1 */
+    uint8_t parity;                     /* an enum u16550_parity */
+    uint8_t check_cts_before_sending;   /* 0 or 1 */
+};
+
+/* What a driver keeps from call to call. */
+struct u16550_state {
+    uint64_t spin_limit;                /* how many unsuccessful polls in a row a wait makes; not 0 */
+    struct u16550_config config;
+    uint8_t fifo_enabled;               /* 0 or 1 */
+    uint8_t saved_lsr;                  /* errors that reads of LSR cleared in the chip, and that were not reported yet */
+    uint8_t saved_msr;                  /* the same for changes of the modem lines */
+};
+
+/* All registers at one time. */
+struct u16550_dump {
+    uint8_t ier, isr, lcr, mcr, lsr, msr, spr, dll, dlm;
+};
+
+/* What came back in a loopback test. What does not belong to the error is 0. */
+struct u16550_loopback_failure {
+    uint8_t expected, actual;
+    uint8_t expected_msg[16], actual_msg[16];
+};
+
+U16550_ASSERT(sizeof(struct u16550) == 224, "struct u16550");
+U16550_ASSERT(sizeof(struct u16550_io) == 3 * sizeof(void *), "struct u16550_io");
+U16550_ASSERT(sizeof(struct u16550_config) == 20, "struct u16550_config");
+U16550_ASSERT(offsetof(struct u16550_config, has_prescaler) == 12, "struct u16550_config");
+U16550_ASSERT(offsetof(struct u16550_config, check_cts_before_sending) == 18, "struct u16550_config");
+U16550_ASSERT(sizeof(struct u16550_state) == 32, "struct u16550_state");
+U16550_ASSERT(offsetof(struct u16550_state, config) == 8, "struct u16550_state");
+U16550_ASSERT(offsetof(struct u16550_state, saved_msr) == 30, "struct u16550_state");
+U16550_ASSERT(sizeof(struct u16550_dump) == 9, "struct u16550_dump");
+U16550_ASSERT(sizeof(struct u16550_loopback_failure) == 34, "struct u16550_loopback_failure");
+
+/* --------------------------------------------------------------- making a driver
+ *
+ * These make a driver in the memory, whatever is in it. They make no access. The driver has the default configuration and
+ * a spin limit of 1000000 polls.
+ */
+
+/* A driver whose functions get offsets. */
+int u16550_new(struct u16550 *uart, const struct u16550_io *io);
+
+/* A driver whose functions get ports, from base on. Refused by U16550_BAD_BASE if base + 7 is above 65535. */
+int u16550_new_port(struct u16550 *uart, const struct u16550_io *io, uint16_t base);
+
+/*
+ * A driver whose functions get addresses of memory, from base on and stride apart. Refused by U16550_BAD_STRIDE if stride
+ * is no power of two, else by U16550_BAD_BASE if base is 0 or base + 7 * stride is too large.
+ */
+int u16550_new_mmio(struct u16550 *uart, const struct u16550_io *io, uintptr_t base, uint8_t stride);
+
+/* A driver in this state, whose functions get offsets. */
+int u16550_from_state(struct u16550 *uart, const struct u16550_io *io, const struct u16550_state *state);
+
+/* Ends a driver: the memory is the caller's again, and so is that of its rings. */
+int u16550_end(struct u16550 *uart);
+
+/* --------------------------------------------------------------- what a driver keeps; none of these makes an access */
+
+/* Writes the default: no interrupts, 1843200 Hz, 9600 baud, FIFO with trigger level 14, 8 data bits, 1 stop bit, no parity. */
+int u16550_default_config(struct u16550_config *config);
+
+int u16550_get_io(struct u16550 *uart, struct u16550_io *io);
+int u16550_set_io(struct u16550 *uart, const struct u16550_io *io);
+int u16550_get_config(struct u16550 *uart, struct u16550_config *config);
+int u16550_get_state(struct u16550 *uart, struct u16550_state *state);
+int u16550_fifo_enabled(struct u16550 *uart, uint8_t *enabled);
+int u16550_spin_limit(struct u16550 *uart, uint64_t *limit);
+int u16550_set_spin_limit(struct u16550 *uart, uint64_t limit);
+
+/* --------------------------------------------------------------- setting up */
+
+/* Whether a chip is there: its scratch register keeps two patterns. */
+int u16550_check_present(struct u16550 *uart, uint8_t *present);
+
+/* Sets the device up. Returns an enum u16550_init_error if it cannot be. */
+int u16550_init(struct u16550 *uart, const struct u16550_config *config);
+
+/*
+ * Tests the chip in loopback. Returns an enum u16550_loopback_error if it fails; *failure then has what came back. failure
+ * may be null.
+ */
+int u16550_test_loopback(struct u16550 *uart, struct u16550_loopback_failure *failure);
+
+/* Whether a remote is there and ready to receive. Returns an enum u16550_remote_error if not. */
+int u16550_check_connected(struct u16550 *uart);
+
+/* --------------------------------------------------------------- sending and receiving */
+
+/* These two and the next two do not wait. They return U16550_RECEIVE_NO_DATA or an enum u16550_send_error. */
+int u16550_ready_to_receive(struct u16550 *uart);
+int u16550_ready_to_send(struct u16550 *uart);
+int u16550_try_receive_byte(struct u16550 *uart, uint8_t *byte);
+int u16550_try_send_byte(struct u16550 *uart, uint8_t byte);
+
+/* Receive what is there, or send one burst, without waiting. *count is how many bytes it was, perhaps 0. */
+int u16550_receive_bytes(struct u16550 *uart, uint8_t *buffer, size_t len, size_t *count);
+int u16550_send_bytes(struct u16550 *uart, const uint8_t *buffer, size_t len, size_t *count);
+
+/*
+ * Receive or send all bytes, and wait for each. They return U16550_STALLED after as many unsuccessful polls in a row as the
+ * spin limit. *done is how many bytes were done, also after a stall. done may be null.
+ */
+int u16550_receive_bytes_exact(struct u16550 *uart, uint8_t *buffer, size_t len, size_t *done);
+int u16550_send_bytes_exact(struct u16550 *uart, const uint8_t *buffer, size_t len, size_t *done);
+
+/* As the traits of embedded-io: some bytes, and a wait for the first. They return U16550_STALLED as the last two. */
+int u16550_read(struct u16550 *uart, uint8_t *buffer, size_t len, size_t *count);
+int u16550_write(struct u16550 *uart, const uint8_t *buffer, size_t len, size_t *count);
+int u16550_flush(struct u16550 *uart);
+int u16550_read_ready(struct u16550 *uart, uint8_t *ready);
+int u16550_write_ready(struct u16550 *uart, uint8_t *ready);
+
+/*
+ * Sends a text as terminals expect it: a line feed as carriage return and line feed, backspace and delete as backspace,
+ * space and backspace. The text is UTF-8, and needs no zero at its end. After U16550_STALLED *done is how many bytes were
+ * sent. done may be null.
+ */
+int u16550_write_text(struct u16550 *uart, const char *text, size_t len, size_t *done);
+
+/* --------------------------------------------------------------- registers */
+
+/* LSR and MSR are joined with what the driver saved of them, which is then forgotten. */
+int u16550_ier(struct u16550 *uart, uint8_t *value);
+int u16550_isr(struct u16550 *uart, uint8_t *value);
+int u16550_lcr(struct u16550 *uart, uint8_t *value);
+int u16550_mcr(struct u16550 *uart, uint8_t *value);
+int u16550_lsr(struct u16550 *uart, uint8_t *value);
+int u16550_msr(struct u16550 *uart, uint8_t *value);
+int u16550_spr(struct u16550 *uart, uint8_t *value);
+int u16550_dll_dlm(struct u16550 *uart, uint8_t *dll, uint8_t *dlm);
+
+int u16550_enable_interrupts(struct u16550 *uart, uint8_t interrupts);
+int u16550_disable_interrupts(struct u16550 *uart, uint8_t interrupts);
+
+/* Reads all registers. What the driver saved of LSR and MSR is in the dump, and stays saved. */
+int u16550_config_register_dump(struct u16550 *uart, struct u16550_dump *dump);
+
+/* The divisor of a dump, and the baud rate that it gives with the frequency and the prescaler of a configuration. */
+int u16550_dump_divisor(const struct u16550_dump *dump, uint16_t *divisor);
+int u16550_dump_baud_rate(const struct u16550_dump *dump, const struct u16550_config *config, uint32_t *baud_rate);
+
+/* Bits of registers. */
+enum u16550_ier_bits {
+    U16550_IER_DATA_READY = 0x01,
+    U16550_IER_THR_EMPTY = 0x02,
+    U16550_IER_RECEIVER_LINE_STATUS = 0x04,
+    U16550_IER_MODEM_STATUS = 0x08
+};
+enum u16550_lsr_bits {
+    U16550_LSR_DATA_READY = 0x01,
+    U16550_LSR_OVERRUN_ERROR = 0x02,
+    U16550_LSR_PARITY_ERROR = 0x04,
+    U16550_LSR_FRAMING_ERROR = 0x08,
+    U16550_LSR_BREAK_INTERRUPT = 0x10,
+    U16550_LSR_THR_EMPTY = 0x20,
+    U16550_LSR_TRANSMITTER_EMPTY = 0x40,
+    U16550_LSR_FIFO_DATA_ERROR = 0x80
+};
+enum u16550_msr_bits {
+    U16550_MSR_DELTA_CTS = 0x01,
+    U16550_MSR_DELTA_DSR = 0x02,
+    U16550_MSR_TRAILING_EDGE_RI = 0x04,
+    U16550_MSR_DELTA_CD = 0x08,
+    U16550_MSR_CTS = 0x10,
+    U16550_MSR_DSR = 0x20,
+    U16550_MSR_RI = 0x40,
+    U16550_MSR_CD = 0x80
+};
+
+/* --------------------------------------------------------------- rings, for use with interrupts
+ *
+ * Rings keep bytes until the chip has room for them, and received bytes until they are taken. Initialise the driver with
+ * DATA_READY and RECEIVER_LINE_STATUS enabled, call u16550_ring_service in the interrupt handler, and mask the interrupt
+ * during all other calls. No ring call waits. All calls above work on a driver with rings; what they send and receive
+ * bypasses the rings.
+ */
+
+#define U16550_MAX_CAPACITY 4096
+#define U16550_MAX_INTERRUPTS 8
+
+/*
+ * Gives a driver rings for so many bytes to be sent and so many received bytes, in this memory of size bytes. The memory is
+ * the rings' until u16550_ring_end or u16550_end. Refused by an enum u16550_ring_error.
+ */
+int u16550_ring_new(struct u16550 *uart, uint8_t *memory, size_t size, size_t tx_capacity, size_t rx_capacity);
+
+/* Ends the rings, with the bytes in them. The driver stays. */
+int u16550_ring_end(struct u16550 *uart);
+
+/* How many bytes wait to be sent, how many were received and not taken, and whether receiving is paused. */
+int u16550_ring_transmit_len(struct u16550 *uart, size_t *len);
+int u16550_ring_receive_len(struct u16550 *uart, size_t *len);
+int u16550_ring_is_paused(struct u16550 *uart, uint8_t *paused);
+
+/* Queues bytes to be sent, as many as there is room for. *count is how many. */
+int u16550_ring_queue(struct u16550 *uart, const uint8_t *buffer, size_t len, size_t *count);
+
+/* Takes received bytes, as many as there are and as there is room for. *count is how many. */
+int u16550_ring_take(struct u16550 *uart, uint8_t *buffer, size_t len, size_t *count);
+
+/*
+ * Serves the interrupts that are pending, at most U16550_MAX_INTERRUPTS. *count is how many. If it is the most, more may be
+ * pending: call it again if the interrupt controller detects edges.
+ */
+int u16550_ring_service(struct u16550 *uart, size_t *count);
+
+/* LSR or MSR, joined with the errors or changes that were noted since the last of these calls. */
+int u16550_ring_take_line(struct u16550 *uart, uint8_t *lsr);
+int u16550_ring_take_modem(struct u16550 *uart, uint8_t *msr);
+
+#ifdef __cplusplus
+}
+#endif
+
+#endif

@@ -1,0 +1,201 @@
+//! Sending and receiving.
+
+use crate::memory::{Driver, Memory, bytes, slots, with};
+use crate::settings::{perform, report};
+use crate::status::{Failure, status};
+use core::ffi::{c_char, c_int};
+use core::mem;
+use uart_16550::native::embedded_io::{Read, ReadReady, Write, WriteReady};
+use uart_16550::native::{StalledError, Uart16550, Uart16550Tty};
+
+#[unsafe(no_mangle)]
+pub unsafe extern "C" fn u16550_ready_to_receive(uart: *mut Memory) -> c_int {
+    // SAFETY: the caller promises that the pointer is null or valid.
+    unsafe { perform(uart, |driver| Ok(driver.ready_to_receive()?)) }
+}
+
+#[unsafe(no_mangle)]
+pub unsafe extern "C" fn u16550_ready_to_send(uart: *mut Memory) -> c_int {
+    // SAFETY: the caller promises that the pointer is null or valid.
+    unsafe { perform(uart, |driver| Ok(driver.ready_to_send()?)) }
+}
+
+#[unsafe(no_mangle)]
+pub unsafe extern "C" fn u16550_try_receive_byte(uart: *mut Memory, byte: *mut u8) -> c_int {
+    // SAFETY: the caller promises that pointers are null or valid.
+    unsafe { report(uart, byte, |driver| Ok(driver.try_receive_byte()?)) }
+}
+
+#[unsafe(no_mangle)]
+pub unsafe extern "C" fn u16550_try_send_byte(uart: *mut Memory, byte: u8) -> c_int {
+    // SAFETY: the caller promises that the pointer is null or valid.
+    unsafe { perform(uart, |driver| Ok(driver.try_send_byte(byte)?)) }
+}
+
+#[unsafe(no_mangle)]
+pub unsafe extern "C" fn u16550_receive_bytes(
+    uart: *mut Memory,
+    buffer: *mut u8,
+    len: usize,
+    count: *mut usize,
+) -> c_int {
+    // SAFETY: the caller promises that pointers are null or valid.
+    unsafe {
+        report(uart, count, |driver| {
+            Ok(driver.receive_bytes(slots(buffer, len)?))
+        })
+    }
+}
+
+#[unsafe(no_mangle)]
+pub unsafe extern "C" fn u16550_send_bytes(
+    uart: *mut Memory,
+    buffer: *const u8,
+    len: usize,
+    count: *mut usize,
+) -> c_int {
+    // SAFETY: the caller promises that pointers are null or valid.
+    unsafe {
+        report(uart, count, |driver| {
+            Ok(driver.send_bytes(bytes(buffer, len)?))
+        })
+    }
+}
+
+// Makes a call, and writes how many bytes were done: the number that a stall has, or after a success that of all.
+unsafe fn exact(
+    uart: *mut Memory,
+    all: Option<usize>,
+    done: *mut usize,
+    call: impl FnOnce(&mut Driver) -> Result<Result<(), StalledError>, Failure>,
+) -> c_int {
+    let make_it = || {
+        if !done.is_aligned() {
+            return Err(Failure::Misaligned);
+        }
+        // SAFETY: the caller promises that pointers are null or valid.
+        let outcome = unsafe { with(uart, |held| call(held.driver()?)) }?;
+        let count = outcome
+            .as_ref()
+            .map_or_else(|stall| Some(stall.done), |()| all);
+        if let (Some(count), false) = (count, done.is_null()) {
+            // SAFETY: the same.
+            unsafe { done.write(count) };
+        }
+        Ok(outcome?)
+    };
+    status(make_it())
+}
+
+#[unsafe(no_mangle)]
+pub unsafe extern "C" fn u16550_receive_bytes_exact(
+    uart: *mut Memory,
+    buffer: *mut u8,
+    len: usize,
+    done: *mut usize,
+) -> c_int {
+    // SAFETY: the caller promises that pointers are null or valid.
+    unsafe {
+        exact(uart, Some(len), done, |driver| {
+            Ok(driver.receive_bytes_exact(slots(buffer, len)?))
+        })
+    }
+}
+
+#[unsafe(no_mangle)]
+pub unsafe extern "C" fn u16550_send_bytes_exact(
+    uart: *mut Memory,
+    buffer: *const u8,
+    len: usize,
+    done: *mut usize,
+) -> c_int {
+    // SAFETY: the caller promises that pointers are null or valid.
+    unsafe {
+        exact(uart, Some(len), done, |driver| {
+            Ok(driver.send_bytes_exact(bytes(buffer, len)?))
+        })
+    }
+}
+
+#[unsafe(no_mangle)]
+pub unsafe extern "C" fn u16550_read(
+    uart: *mut Memory,
+    buffer: *mut u8,
+    len: usize,
+    count: *mut usize,
+) -> c_int {
+    // SAFETY: the caller promises that pointers are null or valid.
+    unsafe {
+        report(uart, count, |driver| {
+            Ok(Read::read(driver, slots(buffer, len)?)?)
+        })
+    }
+}
+
+#[unsafe(no_mangle)]
+pub unsafe extern "C" fn u16550_write(
+    uart: *mut Memory,
+    buffer: *const u8,
+    len: usize,
+    count: *mut usize,
+) -> c_int {
+    // SAFETY: the caller promises that pointers are null or valid.
+    unsafe {
+        report(uart, count, |driver| {
+            Ok(Write::write(driver, bytes(buffer, len)?)?)
+        })
+    }
+}
+
+#[unsafe(no_mangle)]
+pub unsafe extern "C" fn u16550_flush(uart: *mut Memory) -> c_int {
+    // SAFETY: the caller promises that the pointer is null or valid.
+    unsafe { perform(uart, |driver| Ok(Write::flush(driver)?)) }
+}
+
+#[unsafe(no_mangle)]
+pub unsafe extern "C" fn u16550_read_ready(uart: *mut Memory, ready: *mut u8) -> c_int {
+    // SAFETY: the caller promises that pointers are null or valid.
+    unsafe {
+        report(uart, ready, |driver| {
+            Ok(ReadReady::read_ready(driver)?.into())
+        })
+    }
+}
+
+#[unsafe(no_mangle)]
+pub unsafe extern "C" fn u16550_write_ready(uart: *mut Memory, ready: *mut u8) -> c_int {
+    // SAFETY: the caller promises that pointers are null or valid.
+    unsafe {
+        report(uart, ready, |driver| {
+            Ok(WriteReady::write_ready(driver)?.into())
+        })
+    }
+}
+
+// Sends a text over a terminal, which has the driver meanwhile.
+fn send_text(driver: &mut Driver, text: &str) -> Result<(), StalledError> {
+    let spare = Uart16550::new_with_backend(*driver.backend());
+    let mut terminal = Uart16550Tty::from_inner(spare);
+    mem::swap(driver, terminal.inner_mut());
+    let outcome = terminal.write_text(text);
+    mem::swap(driver, terminal.inner_mut());
+    outcome
+}
+
+#[unsafe(no_mangle)]
+pub unsafe extern "C" fn u16550_write_text(
+    uart: *mut Memory,
+    text: *const c_char,
+    len: usize,
+    done: *mut usize,
+) -> c_int {
+    let send = |driver: &mut Driver| {
+        // SAFETY: the caller promises that pointers are null or valid.
+        let text = unsafe { bytes(text.cast(), len) }?;
+        let text = core::str::from_utf8(text).map_err(|_| Failure::NotUtf8)?;
+        Ok(send_text(driver, text))
+    };
+    // SAFETY: the same.
+    unsafe { exact(uart, None, done, send) }
+}

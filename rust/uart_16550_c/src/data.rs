@@ -1,0 +1,258 @@
+//! The data of the header as those of Rust, and back. A number that stands for nothing is refused.
+
+use crate::status::Failure;
+use core::mem::{offset_of, size_of};
+use core::num::NonZeroU64;
+use uart_16550::native::spec::registers::{FifoTriggerLevel, IER, LSR, MSR, Parity, WordLength};
+use uart_16550::native::{BaudRate, Config, ConfigRegisterDump, DriverState};
+
+// The largest prescaler division factor of which a divisor can be computed.
+const MAX_PRESCALER: u32 = 15;
+
+/// The header's `struct u16550_config`.
+#[repr(C)]
+#[derive(Clone, Copy)]
+pub struct CConfig {
+    frequency: u32,
+    baud_rate: u32,
+    prescaler_division_factor: u32,
+    has_prescaler: u8,
+    interrupts: u8,
+    fifo_trigger_level: u8,
+    data_bits: u8,
+    extra_stop_bits: u8,
+    parity: u8,
+    check_cts_before_sending: u8,
+}
+
+const _: () = assert!(size_of::<CConfig>() == 20);
+const _: () = assert!(offset_of!(CConfig, has_prescaler) == 12);
+const _: () = assert!(offset_of!(CConfig, check_cts_before_sending) == 18);
+
+const NO_FIFO: u8 = 0;
+
+const PARITIES: [Parity; 5] = [
+    Parity::Disabled,
+    Parity::Odd,
+    Parity::Even,
+    Parity::Forced1,
+    Parity::Forced0,
+];
+
+fn flag(byte: u8) -> Result<bool, Failure> {
+    match byte {
+        0 => Ok(false),
+        1 => Ok(true),
+        _ => Err(Failure::BadCode),
+    }
+}
+
+fn level(characters: u8) -> Result<Option<FifoTriggerLevel>, Failure> {
+    Ok(Some(match characters {
+        NO_FIFO => return Ok(None),
+        1 => FifoTriggerLevel::One,
+        4 => FifoTriggerLevel::Four,
+        8 => FifoTriggerLevel::Eight,
+        14 => FifoTriggerLevel::Fourteen,
+        _ => return Err(Failure::BadCode),
+    }))
+}
+
+fn characters(level: Option<FifoTriggerLevel>) -> u8 {
+    match level {
+        None => NO_FIFO,
+        Some(FifoTriggerLevel::One) => 1,
+        Some(FifoTriggerLevel::Four) => 4,
+        Some(FifoTriggerLevel::Eight) => 8,
+        Some(FifoTriggerLevel::Fourteen) => 14,
+    }
+}
+
+fn word_length(bits: u8) -> Result<WordLength, Failure> {
+    match bits {
+        5..=8 => Ok(WordLength::from_integer(bits)),
+        _ => Err(Failure::BadCode),
+    }
+}
+
+fn parity(code: u8) -> Result<Parity, Failure> {
+    let parity = PARITIES.get(usize::from(code));
+    parity.copied().ok_or(Failure::BadCode)
+}
+
+fn parity_code(parity: Parity) -> u8 {
+    match parity {
+        Parity::Disabled => 0,
+        Parity::Odd => 1,
+        Parity::Even => 2,
+        Parity::Forced1 => 3,
+        Parity::Forced0 => 4,
+    }
+}
+
+impl CConfig {
+    /// Returns the configuration, of which perhaps no divisor can be computed.
+    pub fn decoded(&self) -> Result<Config, Failure> {
+        let factor = self.prescaler_division_factor;
+        Ok(Config {
+            interrupts: IER::from_bits_retain(self.interrupts),
+            frequency: self.frequency,
+            prescaler_division_factor: flag(self.has_prescaler)?.then_some(factor),
+            fifo_trigger_level: level(self.fifo_trigger_level)?,
+            baud_rate: BaudRate::from_integer(self.baud_rate),
+            data_bits: word_length(self.data_bits)?,
+            extra_stop_bits: flag(self.extra_stop_bits)?,
+            parity: parity(self.parity)?,
+            check_cts_before_sending: flag(self.check_cts_before_sending)?,
+        })
+    }
+
+    /// Returns the configuration, if a divisor can be computed of it.
+    pub fn computable(&self) -> Result<Config, Failure> {
+        let config = self.decoded()?;
+        if config.is_computable() {
+            Ok(config)
+        } else {
+            Err(Failure::NotComputable)
+        }
+    }
+
+    /// Returns the configuration, if a baud rate can be computed of it and a divisor.
+    pub fn with_frequency(&self) -> Result<Config, Failure> {
+        let config = self.decoded()?;
+        let factor = config.prescaler_division_factor;
+        if config.frequency == 0 || factor.is_some_and(|factor| factor > MAX_PRESCALER) {
+            return Err(Failure::NotComputable);
+        }
+        Ok(config)
+    }
+}
+
+impl From<&Config> for CConfig {
+    fn from(config: &Config) -> Self {
+        Self {
+            frequency: config.frequency,
+            baud_rate: config.baud_rate.to_integer(),
+            prescaler_division_factor: config.prescaler_division_factor.unwrap_or(0),
+            has_prescaler: config.prescaler_division_factor.is_some().into(),
+            interrupts: config.interrupts.bits(),
+            fifo_trigger_level: characters(config.fifo_trigger_level),
+            // A word has 5 to 8 bits.
+            data_bits: config.data_bits.to_integer() as u8,
+            extra_stop_bits: config.extra_stop_bits.into(),
+            parity: parity_code(config.parity),
+            check_cts_before_sending: config.check_cts_before_sending.into(),
+        }
+    }
+}
+
+/// The header's `struct u16550_state`.
+#[repr(C)]
+#[derive(Clone, Copy)]
+pub struct CState {
+    spin_limit: u64,
+    config: CConfig,
+    fifo_enabled: u8,
+    saved_lsr: u8,
+    saved_msr: u8,
+}
+
+const _: () = assert!(size_of::<CState>() == 32);
+const _: () = assert!(offset_of!(CState, config) == 8 && offset_of!(CState, saved_msr) == 30);
+
+/// Returns the spin limit, unless it is 0.
+pub fn spin_limit(limit: u64) -> Result<NonZeroU64, Failure> {
+    NonZeroU64::new(limit).ok_or(Failure::ZeroLimit)
+}
+
+impl CState {
+    /// Returns the state of a driver.
+    pub fn decoded(&self) -> Result<DriverState, Failure> {
+        Ok(DriverState {
+            config: self.config.decoded()?,
+            fifo_enabled: flag(self.fifo_enabled)?,
+            saved_lsr: LSR::from_bits_retain(self.saved_lsr),
+            saved_msr: MSR::from_bits_retain(self.saved_msr),
+            spin_limit: spin_limit(self.spin_limit)?,
+        })
+    }
+}
+
+impl From<&DriverState> for CState {
+    fn from(state: &DriverState) -> Self {
+        Self {
+            spin_limit: state.spin_limit.get(),
+            config: CConfig::from(&state.config),
+            fifo_enabled: state.fifo_enabled.into(),
+            saved_lsr: state.saved_lsr.bits(),
+            saved_msr: state.saved_msr.bits(),
+        }
+    }
+}
+
+/// The header's `struct u16550_dump`.
+#[repr(C)]
+#[derive(Clone, Copy)]
+pub struct CDump {
+    ier: u8,
+    isr: u8,
+    lcr: u8,
+    mcr: u8,
+    lsr: u8,
+    msr: u8,
+    spr: u8,
+    dll: u8,
+    dlm: u8,
+}
+
+const _: () = assert!(size_of::<CDump>() == 9);
+
+impl From<&ConfigRegisterDump> for CDump {
+    fn from(dump: &ConfigRegisterDump) -> Self {
+        let ConfigRegisterDump {
+            ier,
+            isr,
+            lcr,
+            mcr,
+            lsr,
+            msr,
+            spr,
+            dll,
+            dlm,
+        } = *dump;
+        Self {
+            ier: ier.bits(),
+            isr: isr.bits(),
+            lcr: lcr.bits(),
+            mcr: mcr.bits(),
+            lsr: lsr.bits(),
+            msr: msr.bits(),
+            spr,
+            dll,
+            dlm,
+        }
+    }
+}
+
+impl CDump {
+    /// Returns the dump. Which bits the other registers have does not count for the divisor and the baud rate.
+    pub fn latch(&self) -> ConfigRegisterDump {
+        ConfigRegisterDump {
+            dll: self.dll,
+            dlm: self.dlm,
+            ..ConfigRegisterDump::default()
+        }
+    }
+}
+
+/// The header's `struct u16550_loopback_failure`.
+#[repr(C)]
+#[derive(Clone, Copy, Default)]
+pub struct CLoopbackFailure {
+    pub expected: u8,
+    pub actual: u8,
+    pub expected_msg: [u8; 16],
+    pub actual_msg: [u8; 16],
+}
+
+const _: () = assert!(size_of::<CLoopbackFailure>() == 34);

@@ -1,0 +1,104 @@
+//! The device: two functions of C and a context.
+
+use crate::status::Failure;
+use core::ffi::c_void;
+use uart_16550::native::backend::{Backend, ByteAccess, PortAccess};
+
+type ReadFunction = unsafe extern "C" fn(*mut c_void, usize) -> u8;
+type WriteFunction = unsafe extern "C" fn(*mut c_void, usize, u8);
+
+/// The header's `struct u16550_io`.
+#[repr(C)]
+#[derive(Clone, Copy)]
+pub struct Io {
+    context: *mut c_void,
+    read: Option<ReadFunction>,
+    write: Option<WriteFunction>,
+}
+
+/// Where the registers are: the first address, and how far apart they are.
+#[derive(Clone, Copy)]
+pub struct Place {
+    pub base: usize,
+    pub stride: u8,
+}
+
+impl Place {
+    /// Addresses that are offsets.
+    pub const OFFSETS: Self = Self { base: 0, stride: 1 };
+}
+
+/// The functions of C as a backend.
+#[derive(Clone, Copy)]
+pub struct Device {
+    context: *mut c_void,
+    read: ReadFunction,
+    write: WriteFunction,
+    place: Place,
+}
+
+impl Device {
+    /// Returns a device, if both functions are there.
+    pub fn new(io: &Io, place: Place) -> Result<Self, Failure> {
+        let (Some(read), Some(write)) = (io.read, io.write) else {
+            return Err(Failure::NullPointer);
+        };
+        Ok(Self {
+            context: io.context,
+            read,
+            write,
+            place,
+        })
+    }
+
+    /// Returns the same device, reached by other functions.
+    pub fn reached_by(&self, io: &Io) -> Result<Self, Failure> {
+        Self::new(io, self.place)
+    }
+
+    /// Returns the functions.
+    pub fn io(&self) -> Io {
+        Io {
+            context: self.context,
+            read: Some(self.read),
+            write: Some(self.write),
+        }
+    }
+
+    // The address of a register. It does not overflow: the constructors refuse such places.
+    fn address(&self, offset: u8) -> usize {
+        let distance = usize::from(offset).wrapping_mul(usize::from(self.place.stride));
+        self.place.base.wrapping_add(distance)
+    }
+}
+
+impl Backend for Device {
+    fn read(&mut self, offset: u8) -> u8 {
+        // SAFETY: who made the driver promised that the functions may be called with this context.
+        unsafe { (self.read)(self.context, self.address(offset)) }
+    }
+
+    fn write(&mut self, offset: u8, value: u8) {
+        // SAFETY: who made the driver promised that the functions may be called with this context.
+        unsafe { (self.write)(self.context, self.address(offset), value) }
+    }
+}
+
+/// Access to nothing, for the refusals of the proved constructors, which make no access.
+pub struct Nowhere;
+
+impl PortAccess for Nowhere {
+    fn port_in(&mut self, _port: u16) -> u8 {
+        0
+    }
+
+    fn port_out(&mut self, _port: u16, _value: u8) {}
+}
+
+impl ByteAccess for Nowhere {
+    fn load(&mut self, _address: usize) -> u8 {
+        0
+    }
+
+    fn store(&mut self, _address: usize, _value: u8) {}
+}

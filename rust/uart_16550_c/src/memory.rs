@@ -1,0 +1,185 @@
+//! The memory of a driver, which is the caller's: the mark of a driver that was made, and the sign that a call is not done.
+
+use crate::device::Device;
+use crate::status::Failure;
+use core::mem::{align_of, size_of};
+use core::slice;
+use core::sync::atomic::{AtomicU32, Ordering, compiler_fence};
+use uart_16550::native::Uart16550;
+use uart_16550::ring::Uart16550Ring;
+
+/// A driver over functions of C.
+pub type Driver = Uart16550<Device>;
+
+/// What the memory holds: a driver, with rings or without.
+pub enum Held {
+    Plain(Driver),
+    WithRings(Uart16550Ring<Device>),
+    /// Nothing, in the middle of a call that changes between the two.
+    Nothing,
+}
+
+impl Held {
+    /// Returns the driver, the rings left aside.
+    pub fn driver(&mut self) -> Result<&mut Driver, Failure> {
+        match self {
+            Self::Plain(driver) => Ok(driver),
+            Self::WithRings(ring) => Ok(ring.inner_mut()),
+            Self::Nothing => Err(Failure::NotMade),
+        }
+    }
+
+    /// Returns the rings, if there are any.
+    pub fn ring(&mut self) -> Result<&mut Uart16550Ring<Device>, Failure> {
+        match self {
+            Self::WithRings(ring) => Ok(ring),
+            Self::Plain(_) | Self::Nothing => Err(Failure::NoRings),
+        }
+    }
+}
+
+// How many words `struct u16550` of the header has.
+const WORDS: usize = 28;
+
+/// The header's `struct u16550`.
+#[repr(C)]
+pub struct Memory([u64; WORDS]);
+
+/// What is in it once a driver was made.
+#[repr(C)]
+struct Made {
+    mark: u32,
+    is_busy: AtomicU32,
+    held: Held,
+}
+
+const _: () = assert!(size_of::<Memory>() == 8 * WORDS);
+const _: () =
+    assert!(size_of::<Made>() <= size_of::<Memory>() && align_of::<Made>() <= align_of::<Memory>());
+
+// Marks a driver that was made.
+const MARK: u32 = 0x1655_0a5e;
+
+const FREE: u32 = 0;
+const BUSY: u32 = 1;
+
+/// Returns the pointer, if it is neither null nor misaligned.
+pub fn usable<T>(at: *mut T) -> Result<*mut T, Failure> {
+    if at.is_null() {
+        return Err(Failure::NullPointer);
+    }
+    if !at.is_aligned() {
+        return Err(Failure::Misaligned);
+    }
+    Ok(at)
+}
+
+/// Returns what is behind the pointer.
+///
+/// # Safety
+///
+/// If the pointer is usable, a value is behind it, which nobody changes meanwhile.
+pub unsafe fn given<'a, T>(at: *const T) -> Result<&'a T, Failure> {
+    let at = usable(at.cast_mut())?;
+    // SAFETY: the pointer is usable, and the caller promises the rest.
+    Ok(unsafe { &*at })
+}
+
+// Returns whether an array of this length can begin here.
+fn fits(at: *const u8, len: usize) -> Result<(), Failure> {
+    if at.is_null() {
+        return Err(Failure::NullPointer);
+    }
+    if len > isize::MAX as usize || at.addr().checked_add(len).is_none() {
+        return Err(Failure::BadLength);
+    }
+    Ok(())
+}
+
+/// Returns the bytes of an array. The pointer may be null if it has none.
+///
+/// # Safety
+///
+/// The array is there, and nobody changes it meanwhile.
+pub unsafe fn bytes<'a>(at: *const u8, len: usize) -> Result<&'a [u8], Failure> {
+    if len == 0 {
+        return Ok(&[]);
+    }
+    fits(at, len)?;
+    // SAFETY: the pointer is not null, the length is one of an array, and the caller promises the rest.
+    Ok(unsafe { slice::from_raw_parts(at, len) })
+}
+
+/// Returns the slots of an array. The pointer may be null if it has none.
+///
+/// # Safety
+///
+/// The array is there, and nobody else uses it meanwhile.
+pub unsafe fn slots<'a>(at: *mut u8, len: usize) -> Result<&'a mut [u8], Failure> {
+    if len == 0 {
+        return Ok(&mut []);
+    }
+    fits(at, len)?;
+    // SAFETY: the pointer is not null, the length is one of an array, and the caller promises the rest.
+    Ok(unsafe { slice::from_raw_parts_mut(at, len) })
+}
+
+/// Puts a new driver into the memory, whatever is in it.
+///
+/// # Safety
+///
+/// If the pointer is usable, there is memory behind it, which nobody else uses.
+pub unsafe fn make(at: *mut Memory, driver: Driver) -> Result<(), Failure> {
+    let made = usable(at)?.cast::<Made>();
+    let value = Made {
+        mark: MARK,
+        is_busy: AtomicU32::new(FREE),
+        held: Held::Plain(driver),
+    };
+    // SAFETY: the memory is large enough and aligned.
+    unsafe { made.write(value) };
+    Ok(())
+}
+
+/// Makes a call over what the memory holds, unless a call over it is not done.
+///
+/// # Safety
+///
+/// If the pointer is usable, there is memory behind it. No other thread uses it, and only the functions of this library
+/// changed it since a driver was made.
+pub unsafe fn with<R>(
+    at: *mut Memory,
+    call: impl FnOnce(&mut Held) -> Result<R, Failure>,
+) -> Result<R, Failure> {
+    let made = usable(at)?.cast::<Made>();
+    // SAFETY: there is memory. A read by volatile takes what is there, whoever wrote it.
+    if unsafe { (&raw const (*made).mark).read_volatile() } != MARK {
+        return Err(Failure::NotMade);
+    }
+    // SAFETY: a driver was made. A call that is not done borrows `held` alone.
+    let is_busy = unsafe { &(*made).is_busy };
+    if is_busy.load(Ordering::Relaxed) != FREE {
+        return Err(Failure::Busy);
+    }
+    // An interrupt handler of the same processor sees the sign in between, so loads and stores alone are enough.
+    is_busy.store(BUSY, Ordering::Relaxed);
+    compiler_fence(Ordering::SeqCst);
+    // SAFETY: no other call borrows it.
+    let result = call(unsafe { &mut (*made).held });
+    compiler_fence(Ordering::SeqCst);
+    is_busy.store(FREE, Ordering::Relaxed);
+    result
+}
+
+/// Takes the mark away: there is no driver in the memory any more.
+///
+/// # Safety
+///
+/// That of [`with`].
+pub unsafe fn end(at: *mut Memory) -> Result<(), Failure> {
+    // SAFETY: the caller promises it.
+    unsafe { with(at, |_held| Ok(())) }?;
+    // SAFETY: a driver was made there. Neither driver nor rings own anything.
+    unsafe { (&raw mut (*at.cast::<Made>()).mark).write_volatile(0) };
+    Ok(())
+}

@@ -1,0 +1,143 @@
+//! The rings, for use with interrupts.
+
+use crate::device::Device;
+use crate::memory::{Held, Memory, bytes, slots, usable, with};
+use crate::status::{Failure, status};
+use core::ffi::c_int;
+use core::mem;
+use uart_16550::ring::{Memory as RingMemory, Uart16550Ring};
+
+type Rings = Uart16550Ring<Device>;
+
+// Makes a call over the rings.
+unsafe fn report<T>(
+    uart: *mut Memory,
+    to: *mut T,
+    call: impl FnOnce(&mut Rings) -> Result<T, Failure>,
+) -> c_int {
+    let reported = usable(to).and_then(|to| {
+        // SAFETY: the caller promises that pointers are null or valid.
+        let value = unsafe { with(uart, |held| call(held.ring()?)) }?;
+        // SAFETY: the same.
+        unsafe { to.write(value) };
+        Ok(())
+    });
+    status(reported)
+}
+
+// Adds rings in this memory to a driver that has none. If they are refused, the driver is as it was.
+fn add(held: &mut Held, memory: &'static mut [u8], tx: usize, rx: usize) -> Result<(), Failure> {
+    let driver = match mem::replace(held, Held::Nothing) {
+        Held::Plain(driver) => driver,
+        other => {
+            *held = other;
+            return Err(Failure::HasRings);
+        }
+    };
+    let memory = RingMemory::new(memory);
+    match Uart16550Ring::new(memory.global(), driver, tx, rx) {
+        Ok(ring) => {
+            *held = Held::WithRings(ring);
+            Ok(())
+        }
+        Err((driver, error)) => {
+            *held = Held::Plain(driver);
+            Err(error.into())
+        }
+    }
+}
+
+#[unsafe(no_mangle)]
+pub unsafe extern "C" fn u16550_ring_new(
+    uart: *mut Memory,
+    memory: *mut u8,
+    size: usize,
+    tx_capacity: usize,
+    rx_capacity: usize,
+) -> c_int {
+    // SAFETY: the caller promises that pointers are null or valid, and that the memory is the rings' until they end.
+    let new = |held: &mut Held| {
+        add(
+            held,
+            unsafe { slots(memory, size) }?,
+            tx_capacity,
+            rx_capacity,
+        )
+    };
+    // SAFETY: the same.
+    status(unsafe { with(uart, new) })
+}
+
+#[unsafe(no_mangle)]
+pub unsafe extern "C" fn u16550_ring_end(uart: *mut Memory) -> c_int {
+    let end = |held: &mut Held| match mem::replace(held, Held::Nothing) {
+        Held::WithRings(ring) => {
+            *held = Held::Plain(ring.into_inner());
+            Ok(())
+        }
+        other => {
+            *held = other;
+            Err(Failure::NoRings)
+        }
+    };
+    // SAFETY: the caller promises that the pointer is null or valid.
+    status(unsafe { with(uart, end) })
+}
+
+#[unsafe(no_mangle)]
+pub unsafe extern "C" fn u16550_ring_transmit_len(uart: *mut Memory, len: *mut usize) -> c_int {
+    // SAFETY: the caller promises that pointers are null or valid.
+    unsafe { report(uart, len, |ring| Ok(ring.transmit_len())) }
+}
+
+#[unsafe(no_mangle)]
+pub unsafe extern "C" fn u16550_ring_receive_len(uart: *mut Memory, len: *mut usize) -> c_int {
+    // SAFETY: the caller promises that pointers are null or valid.
+    unsafe { report(uart, len, |ring| Ok(ring.receive_len())) }
+}
+
+#[unsafe(no_mangle)]
+pub unsafe extern "C" fn u16550_ring_is_paused(uart: *mut Memory, paused: *mut u8) -> c_int {
+    // SAFETY: the caller promises that pointers are null or valid.
+    unsafe { report(uart, paused, |ring| Ok(ring.is_paused().into())) }
+}
+
+#[unsafe(no_mangle)]
+pub unsafe extern "C" fn u16550_ring_queue(
+    uart: *mut Memory,
+    buffer: *const u8,
+    len: usize,
+    count: *mut usize,
+) -> c_int {
+    // SAFETY: the caller promises that pointers are null or valid.
+    unsafe { report(uart, count, |ring| Ok(ring.queue(bytes(buffer, len)?))) }
+}
+
+#[unsafe(no_mangle)]
+pub unsafe extern "C" fn u16550_ring_take(
+    uart: *mut Memory,
+    buffer: *mut u8,
+    len: usize,
+    count: *mut usize,
+) -> c_int {
+    // SAFETY: the caller promises that pointers are null or valid.
+    unsafe { report(uart, count, |ring| Ok(ring.take(slots(buffer, len)?))) }
+}
+
+#[unsafe(no_mangle)]
+pub unsafe extern "C" fn u16550_ring_service(uart: *mut Memory, count: *mut usize) -> c_int {
+    // SAFETY: the caller promises that pointers are null or valid.
+    unsafe { report(uart, count, |ring| Ok(ring.service())) }
+}
+
+#[unsafe(no_mangle)]
+pub unsafe extern "C" fn u16550_ring_take_line(uart: *mut Memory, lsr: *mut u8) -> c_int {
+    // SAFETY: the caller promises that pointers are null or valid.
+    unsafe { report(uart, lsr, |ring| Ok(ring.take_line().bits())) }
+}
+
+#[unsafe(no_mangle)]
+pub unsafe extern "C" fn u16550_ring_take_modem(uart: *mut Memory, msr: *mut u8) -> c_int {
+    // SAFETY: the caller promises that pointers are null or valid.
+    unsafe { report(uart, msr, |ring| Ok(ring.take_modem().bits())) }
+}

@@ -1,0 +1,223 @@
+//! What the functions return: one number for each error of the driver, and for each misuse of a function.
+
+use core::ffi::{CStr, c_char, c_int};
+use uart_16550::native::{
+    ByteReceiveError, ByteSendError, InitError, InvalidAddressError, InvalidDivisorError,
+    LoopbackError, NonIntegerBaudRateError, RemoteReadyToReceiveError, StalledError,
+};
+use uart_16550::ring::RingError;
+
+/// Why a call did not do what it is for. The header has the same numbers: those of misuses are negative.
+#[derive(Clone, Copy)]
+#[repr(i32)]
+pub enum Failure {
+    NullPointer = -1,
+    Misaligned = -2,
+    NotMade = -3,
+    Busy = -4,
+    BadLength = -5,
+    BadCode = -6,
+    NotComputable = -7,
+    ZeroLimit = -8,
+    NotUtf8 = -9,
+    NoRings = -10,
+    HasRings = -11,
+    BadBase = 10,
+    BadStride = 11,
+    InitDeviceNotPresent = 20,
+    InitNonIntegerDivisor = 21,
+    InitDivisorOutOfRange = 22,
+    InitStalled = 23,
+    LoopbackNoCapacity = 30,
+    LoopbackNotClearToSend = 31,
+    LoopbackUnexpectedByte = 32,
+    LoopbackUnexpectedMsg = 33,
+    LoopbackStalled = 34,
+    RemoteNoDsr = 40,
+    RemoteNoCd = 41,
+    RemoteNotClearToSend = 42,
+    SendNoCapacity = 50,
+    SendNotClearToSend = 51,
+    ReceiveNoData = 60,
+    Stalled = 70,
+    NonIntegerBaudRate = 80,
+    RingBadCapacity = 90,
+    RingOutOfMemory = 91,
+}
+
+impl Failure {
+    const ALL: [Self; 32] = [
+        Self::NullPointer,
+        Self::Misaligned,
+        Self::NotMade,
+        Self::Busy,
+        Self::BadLength,
+        Self::BadCode,
+        Self::NotComputable,
+        Self::ZeroLimit,
+        Self::NotUtf8,
+        Self::NoRings,
+        Self::HasRings,
+        Self::BadBase,
+        Self::BadStride,
+        Self::InitDeviceNotPresent,
+        Self::InitNonIntegerDivisor,
+        Self::InitDivisorOutOfRange,
+        Self::InitStalled,
+        Self::LoopbackNoCapacity,
+        Self::LoopbackNotClearToSend,
+        Self::LoopbackUnexpectedByte,
+        Self::LoopbackUnexpectedMsg,
+        Self::LoopbackStalled,
+        Self::RemoteNoDsr,
+        Self::RemoteNoCd,
+        Self::RemoteNotClearToSend,
+        Self::SendNoCapacity,
+        Self::SendNotClearToSend,
+        Self::ReceiveNoData,
+        Self::Stalled,
+        Self::NonIntegerBaudRate,
+        Self::RingBadCapacity,
+        Self::RingOutOfMemory,
+    ];
+
+    const fn text(self) -> &'static CStr {
+        match self {
+            Self::NullPointer => c"a pointer is null",
+            Self::Misaligned => c"a pointer is not aligned",
+            Self::NotMade => c"there is no driver in this memory",
+            Self::Busy => c"another call over this driver is not done",
+            Self::BadLength => c"a length is larger than any array",
+            Self::BadCode => c"a number stands for nothing",
+            Self::NotComputable => c"no divisor can be computed for the configuration",
+            Self::ZeroLimit => c"the spin limit is 0",
+            Self::NotUtf8 => c"the text is not UTF-8",
+            Self::NoRings => c"the driver has no rings",
+            Self::HasRings => c"the driver has rings already",
+            Self::BadBase => c"the registers do not fit behind the base address",
+            Self::BadStride => c"the stride is not a power of two",
+            Self::InitDeviceNotPresent => c"there is no device",
+            Self::InitNonIntegerDivisor => c"no whole divisor gives the baud rate",
+            Self::InitDivisorOutOfRange => c"the divisor for the baud rate does not fit",
+            Self::InitStalled => c"the transmitter did not become empty",
+            Self::LoopbackNoCapacity => c"loopback: the device took no byte",
+            Self::LoopbackNotClearToSend => c"loopback: the remote is not clear to send",
+            Self::LoopbackUnexpectedByte => c"loopback: another byte came back",
+            Self::LoopbackUnexpectedMsg => c"loopback: another message came back",
+            Self::LoopbackStalled => c"loopback: the device did not respond in time",
+            Self::RemoteNoDsr => c"no remote is connected: DSR is clear",
+            Self::RemoteNoCd => c"no remote is connected: CD is clear",
+            Self::RemoteNotClearToSend => c"the remote is not clear to send",
+            Self::SendNoCapacity => c"the transmitter has no room",
+            Self::SendNotClearToSend => c"nothing is sent, because CTS is clear",
+            Self::ReceiveNoData => c"no byte was received",
+            Self::Stalled => c"a wait came to the spin limit",
+            Self::NonIntegerBaudRate => c"the divisor gives no whole baud rate",
+            Self::RingBadCapacity => c"a ring has room for 1 to 4096 bytes",
+            Self::RingOutOfMemory => c"the memory is too small for the rings",
+        }
+    }
+}
+
+impl From<InvalidAddressError> for Failure {
+    fn from(error: InvalidAddressError) -> Self {
+        match error {
+            InvalidAddressError::InvalidBaseAddress(_) => Self::BadBase,
+            InvalidAddressError::InvalidStride(_) => Self::BadStride,
+        }
+    }
+}
+
+impl From<InitError> for Failure {
+    fn from(error: InitError) -> Self {
+        match error {
+            InitError::DeviceNotPresent => Self::InitDeviceNotPresent,
+            InitError::InvalidBaudRate(InvalidDivisorError::NonInteger(_)) => {
+                Self::InitNonIntegerDivisor
+            }
+            InitError::InvalidBaudRate(InvalidDivisorError::OutOfRange { .. }) => {
+                Self::InitDivisorOutOfRange
+            }
+            InitError::Stalled => Self::InitStalled,
+        }
+    }
+}
+
+impl From<&LoopbackError> for Failure {
+    fn from(error: &LoopbackError) -> Self {
+        match error {
+            LoopbackError::SendError(ByteSendError::NoCapacity) => Self::LoopbackNoCapacity,
+            LoopbackError::SendError(ByteSendError::RemoteNotClearToSend) => {
+                Self::LoopbackNotClearToSend
+            }
+            LoopbackError::UnexpectedLoopbackByte { .. } => Self::LoopbackUnexpectedByte,
+            LoopbackError::UnexpectedLoopbackMsg { .. } => Self::LoopbackUnexpectedMsg,
+            LoopbackError::Stalled => Self::LoopbackStalled,
+        }
+    }
+}
+
+impl From<RemoteReadyToReceiveError> for Failure {
+    fn from(error: RemoteReadyToReceiveError) -> Self {
+        match error {
+            RemoteReadyToReceiveError::NoRemoteConnectedNoDSR => Self::RemoteNoDsr,
+            RemoteReadyToReceiveError::NoRemoteConnectedNoCD => Self::RemoteNoCd,
+            RemoteReadyToReceiveError::RemoteNotClearToSend => Self::RemoteNotClearToSend,
+        }
+    }
+}
+
+impl From<ByteSendError> for Failure {
+    fn from(error: ByteSendError) -> Self {
+        match error {
+            ByteSendError::NoCapacity => Self::SendNoCapacity,
+            ByteSendError::RemoteNotClearToSend => Self::SendNotClearToSend,
+        }
+    }
+}
+
+impl From<ByteReceiveError> for Failure {
+    fn from(_: ByteReceiveError) -> Self {
+        Self::ReceiveNoData
+    }
+}
+
+impl From<StalledError> for Failure {
+    fn from(_: StalledError) -> Self {
+        Self::Stalled
+    }
+}
+
+impl From<NonIntegerBaudRateError> for Failure {
+    fn from(_: NonIntegerBaudRateError) -> Self {
+        Self::NonIntegerBaudRate
+    }
+}
+
+impl From<RingError> for Failure {
+    fn from(error: RingError) -> Self {
+        match error {
+            RingError::BadCapacity => Self::RingBadCapacity,
+            RingError::OutOfMemory => Self::RingOutOfMemory,
+        }
+    }
+}
+
+/// What a function of C returns for this result.
+pub fn status(result: Result<(), Failure>) -> c_int {
+    match result {
+        Ok(()) => 0,
+        Err(failure) => failure as c_int,
+    }
+}
+
+#[unsafe(no_mangle)]
+pub extern "C" fn u16550_text(status: c_int) -> *const c_char {
+    if status == 0 {
+        return c"no error".as_ptr();
+    }
+    let known = Failure::ALL
+        .into_iter()
+        .find(|failure| *failure as c_int == status);
+    known.map_or(c"no known status", Failure::text).as_ptr()
+}

@@ -1,0 +1,814 @@
+/*
+ * Every call of the library and every number that it can return, over a small device. Prints each comparison that fails, and
+ * their number. The expected values are those of the driver's specification and of the header.
+ */
+#include <stdint.h>
+#include <stdio.h>
+#include <stdlib.h>
+#include <string.h>
+
+#include "device.h"
+#include "u16550.h"
+
+static int compared, failed;
+
+static void compare(const char *file, int line, const char *what, long long got, long long wanted)
+{
+    compared++;
+    if (got != wanted) {
+        failed++;
+        printf("%s:%d: %s is %lld, not %lld\n", file, line, what, got, wanted);
+    }
+}
+
+#define IS(expression, wanted) compare(__FILE__, __LINE__, #expression, (long long)(expression), (long long)(wanted))
+#define OK(expression) IS(expression, U16550_OK)
+#define BYTES(at, wanted) IS(memcmp(at, wanted, sizeof(wanted) - 1), 0)
+
+void u16550_panic(void)
+{
+    puts("panic");
+    abort();
+}
+
+static struct device d;
+static struct u16550 uart;
+static struct u16550_config config;
+
+/* A new device, and a driver of it in its default state. */
+static void anew(void)
+{
+    struct u16550_io io;
+    d = device_new();
+    io = device_io(&d);
+    memset(&uart, 0xa5, sizeof uart);
+    OK(u16550_new(&uart, &io));
+    OK(u16550_default_config(&config));
+}
+
+/* The same, set up, with a spin limit of 3. */
+static void ready(void)
+{
+    anew();
+    OK(u16550_init(&uart, &config));
+    OK(u16550_set_spin_limit(&uart, 3));
+}
+
+/* A call that was a misuse made no access. */
+static void misuse(int got, int wanted, const char *what, int line)
+{
+    compare(__FILE__, line, what, got, wanted);
+    compare(__FILE__, line, "accesses", d.accesses, 0);
+}
+
+#define MISUSE(expression, wanted) misuse(expression, wanted, #expression, __LINE__)
+
+static void sizes(void)
+{
+    IS(sizeof(struct u16550), 224);
+    IS(sizeof(struct u16550_io), 3 * sizeof(void *));
+    IS(offsetof(struct u16550_io, read), sizeof(void *));
+    IS(offsetof(struct u16550_io, write), 2 * sizeof(void *));
+    IS(sizeof(struct u16550_config), 20);
+    IS(offsetof(struct u16550_config, baud_rate), 4);
+    IS(offsetof(struct u16550_config, prescaler_division_factor), 8);
+    IS(offsetof(struct u16550_config, has_prescaler), 12);
+    IS(offsetof(struct u16550_config, interrupts), 13);
+    IS(offsetof(struct u16550_config, fifo_trigger_level), 14);
+    IS(offsetof(struct u16550_config, data_bits), 15);
+    IS(offsetof(struct u16550_config, extra_stop_bits), 16);
+    IS(offsetof(struct u16550_config, parity), 17);
+    IS(offsetof(struct u16550_config, check_cts_before_sending), 18);
+    IS(sizeof(struct u16550_state), 32);
+    IS(offsetof(struct u16550_state, config), 8);
+    IS(offsetof(struct u16550_state, fifo_enabled), 28);
+    IS(offsetof(struct u16550_state, saved_lsr), 29);
+    IS(offsetof(struct u16550_state, saved_msr), 30);
+    IS(sizeof(struct u16550_dump), 9);
+    IS(offsetof(struct u16550_dump, dlm), 8);
+    IS(sizeof(struct u16550_loopback_failure), 34);
+    IS(offsetof(struct u16550_loopback_failure, actual_msg), 18);
+    IS(sizeof(U16550_OK), sizeof(int));
+    IS(sizeof(U16550_NULL_POINTER), sizeof(int));
+    IS(sizeof(U16550_STALLED), sizeof(int));
+}
+
+/* Makes a driver of the default state from each constructor, and sends a byte over it. */
+static void making(void)
+{
+    struct u16550_io io, none;
+    struct u16550_state state;
+    anew();
+    io = device_io(&d);
+    d.base = 0x3f8;
+    OK(u16550_new_port(&uart, &io, 0x3f8));
+    OK(u16550_try_send_byte(&uart, 'p'));
+    IS(u16550_new_port(&uart, &io, 0xfff9), U16550_BAD_BASE);
+    OK(u16550_new_port(&uart, &io, 0xfff8));
+    d.base = 0x10000000;
+    d.stride = 4;
+    OK(u16550_new_mmio(&uart, &io, 0x10000000, 4));
+    OK(u16550_try_send_byte(&uart, 'm'));
+    IS(d.sent_len, 2);
+    BYTES(d.sent, "pm");
+    IS(u16550_new_mmio(&uart, &io, 0x10000000, 0), U16550_BAD_STRIDE);
+    IS(u16550_new_mmio(&uart, &io, 0x10000000, 3), U16550_BAD_STRIDE);
+    IS(u16550_new_mmio(&uart, &io, 0, 1), U16550_BAD_BASE);
+    IS(u16550_new_mmio(&uart, &io, UINTPTR_MAX - 27, 4), U16550_BAD_BASE);
+    OK(u16550_new_mmio(&uart, &io, UINTPTR_MAX - 28, 4));
+
+    ready();
+    io = device_io(&d);
+    d.errors = U16550_LSR_OVERRUN_ERROR;
+    OK(u16550_ready_to_send(&uart));
+    OK(u16550_get_state(&uart, &state));
+    IS(state.saved_lsr, U16550_LSR_OVERRUN_ERROR);
+    IS(state.saved_msr, 0);
+    IS(state.fifo_enabled, 1);
+    IS(state.spin_limit, 3);
+    IS(memcmp(&state.config, &config, sizeof config - 1), 0);
+    OK(u16550_end(&uart));
+    OK(u16550_from_state(&uart, &io, &state));
+    {
+        uint8_t lsr;
+        OK(u16550_lsr(&uart, &lsr));
+        IS(lsr, U16550_LSR_OVERRUN_ERROR | U16550_LSR_THR_EMPTY | U16550_LSR_TRANSMITTER_EMPTY);
+    }
+    anew();
+    io = device_io(&d);
+    state.spin_limit = 0;
+    MISUSE(u16550_from_state(&uart, &io, &state), U16550_ZERO_LIMIT);
+    state.spin_limit = 1;
+    state.fifo_enabled = 2;
+    MISUSE(u16550_from_state(&uart, &io, &state), U16550_BAD_CODE);
+    state.fifo_enabled = 0;
+    state.config.parity = 5;
+    MISUSE(u16550_from_state(&uart, &io, &state), U16550_BAD_CODE);
+    none = io;
+    none.read = NULL;
+    MISUSE(u16550_new(&uart, &none), U16550_NULL_POINTER);
+    none = io;
+    none.write = NULL;
+    MISUSE(u16550_new(&uart, &none), U16550_NULL_POINTER);
+    MISUSE(u16550_set_io(&uart, &none), U16550_NULL_POINTER);
+}
+
+static void settings(void)
+{
+    struct u16550_io io;
+    struct u16550_config kept;
+    uint64_t limit;
+    uint8_t enabled, present;
+    static struct device other;
+    anew();
+    OK(u16550_fifo_enabled(&uart, &enabled));
+    IS(enabled, 1);
+    OK(u16550_spin_limit(&uart, &limit));
+    IS(limit, 1000000);
+    MISUSE(u16550_set_spin_limit(&uart, 0), U16550_ZERO_LIMIT);
+    OK(u16550_set_spin_limit(&uart, UINT64_MAX));
+    OK(u16550_spin_limit(&uart, &limit));
+    IS(limit == UINT64_MAX, 1);
+    OK(u16550_get_config(&uart, &kept));
+    IS(kept.frequency, 1843200);
+    IS(kept.baud_rate, 9600);
+    IS(kept.has_prescaler, 0);
+    IS(kept.interrupts, 0);
+    IS(kept.fifo_trigger_level, 14);
+    IS(kept.data_bits, 8);
+    IS(kept.extra_stop_bits, 0);
+    IS(kept.parity, U16550_PARITY_NONE);
+    IS(kept.check_cts_before_sending, 0);
+    OK(u16550_get_io(&uart, &io));
+    IS(io.context == &d && io.read == device_read && io.write == device_write, 1);
+    IS(d.accesses, 0);
+    OK(u16550_check_present(&uart, &present));
+    IS(present, 1);
+    IS(d.accesses, 6);
+    d.is_absent = 1;
+    OK(u16550_check_present(&uart, &present));
+    IS(present, 0);
+    IS(d.accesses, 10);
+    other = device_new();
+    io.context = &other;
+    OK(u16550_set_io(&uart, &io));
+    OK(u16550_try_send_byte(&uart, 'o'));
+    IS(other.sent_len, 1);
+}
+
+/* Settings of every field, and what the device's registers are then. */
+static void init(void)
+{
+    static const struct {
+        uint8_t bits, stop, parity, level, lcr, fifo;
+    } rows[] = {
+        { 5, 0, U16550_PARITY_NONE, 0, 0x00, 0 },      { 6, 1, U16550_PARITY_ODD, 1, 0x0d, 1 },
+        { 7, 0, U16550_PARITY_EVEN, 4, 0x1a, 1 },      { 8, 1, U16550_PARITY_FORCED_1, 8, 0x2f, 1 },
+        { 8, 0, U16550_PARITY_FORCED_0, 14, 0x3b, 1 },
+    };
+    size_t i;
+    for (i = 0; i < sizeof rows / sizeof rows[0]; i++) {
+        uint8_t enabled;
+        anew();
+        config.data_bits = rows[i].bits;
+        config.extra_stop_bits = rows[i].stop;
+        config.parity = rows[i].parity;
+        config.fifo_trigger_level = rows[i].level;
+        config.baud_rate = 300; /* the divisor is 384 */
+        config.interrupts = U16550_IER_DATA_READY;
+        OK(u16550_init(&uart, &config));
+        IS(d.registers[LCR], rows[i].lcr);
+        IS(d.dll, 0x80);
+        IS(d.dlm, 0x01);
+        IS(d.registers[IER], U16550_IER_DATA_READY);
+        IS(d.registers[MCR], 0x0b);
+        OK(u16550_fifo_enabled(&uart, &enabled));
+        IS(enabled, rows[i].fifo);
+    }
+    anew();
+    config.has_prescaler = 1;
+    config.prescaler_division_factor = 3; /* divides by 4: the divisor is 3 */
+    OK(u16550_init(&uart, &config));
+    IS(d.dll, 3);
+}
+
+static void init_errors(void)
+{
+    anew();
+    config.baud_rate = 7777;
+    IS(u16550_init(&uart, &config), U16550_INIT_NON_INTEGER_DIVISOR);
+    IS(d.accesses, 0);
+    config.frequency = 1600000;
+    config.baud_rate = 1; /* the divisor would be 100000 */
+    IS(u16550_init(&uart, &config), U16550_INIT_DIVISOR_OUT_OF_RANGE);
+    IS(d.accesses, 0);
+    anew();
+    d.is_absent = 1;
+    IS(u16550_init(&uart, &config), U16550_INIT_DEVICE_NOT_PRESENT);
+    anew();
+    d.is_stuck = 1;
+    OK(u16550_set_spin_limit(&uart, 3));
+    IS(u16550_init(&uart, &config), U16550_INIT_STALLED);
+}
+
+/* Configurations that stand for nothing. */
+static void bad_configs(void)
+{
+    static const struct {
+        size_t field;
+        uint8_t value;
+    } rows[] = {
+        { offsetof(struct u16550_config, has_prescaler), 2 },
+        { offsetof(struct u16550_config, fifo_trigger_level), 2 },
+        { offsetof(struct u16550_config, fifo_trigger_level), 15 },
+        { offsetof(struct u16550_config, data_bits), 4 },
+        { offsetof(struct u16550_config, data_bits), 9 },
+        { offsetof(struct u16550_config, data_bits), 99 },
+        { offsetof(struct u16550_config, extra_stop_bits), 0xff },
+        { offsetof(struct u16550_config, parity), 5 },
+        { offsetof(struct u16550_config, check_cts_before_sending), 2 },
+    };
+    size_t i;
+    for (i = 0; i < sizeof rows / sizeof rows[0]; i++) {
+        anew();
+        ((uint8_t *)&config)[rows[i].field] = rows[i].value;
+        MISUSE(u16550_init(&uart, &config), U16550_BAD_CODE);
+    }
+    anew();
+    config.frequency = 0;
+    MISUSE(u16550_init(&uart, &config), U16550_NOT_COMPUTABLE);
+    anew();
+    config.baud_rate = 0;
+    MISUSE(u16550_init(&uart, &config), U16550_NOT_COMPUTABLE);
+    anew();
+    config.prescaler_division_factor = 16;
+    OK(u16550_init(&uart, &config));
+    anew();
+    config.prescaler_division_factor = 16;
+    config.has_prescaler = 1;
+    MISUSE(u16550_init(&uart, &config), U16550_NOT_COMPUTABLE);
+}
+
+static void loopback(void)
+{
+    struct u16550_loopback_failure failure;
+    ready();
+    OK(u16550_test_loopback(&uart, &failure));
+    OK(u16550_test_loopback(&uart, NULL));
+    IS(d.registers[MCR], 0x0b);
+    IS(d.sent_len, 0);
+    d.flips = 0x01;
+    IS(u16550_test_loopback(&uart, &failure), U16550_LOOPBACK_UNEXPECTED_BYTE);
+    IS(failure.expected, 0x42);
+    IS(failure.actual, 0x43);
+    d.flips_after = 2;
+    IS(u16550_test_loopback(&uart, &failure), U16550_LOOPBACK_UNEXPECTED_MSG);
+    BYTES(failure.expected_msg, "hello world!1337");
+    BYTES(failure.actual_msg, "hdmmn!vnsme 0226");
+    IS(failure.expected, 0);
+    IS(u16550_test_loopback(&uart, NULL), U16550_LOOPBACK_UNEXPECTED_BYTE);
+    d.flips = 0;
+    d.arrived_len = 0;
+    d.is_silent = 1;
+    IS(u16550_test_loopback(&uart, &failure), U16550_LOOPBACK_STALLED);
+    ready();
+    d.is_stuck = 1;
+    IS(u16550_test_loopback(&uart, &failure), U16550_LOOPBACK_STALLED);
+}
+
+static void remote(void)
+{
+    ready();
+    d.registers[MSR] = U16550_MSR_CTS;
+    IS(u16550_check_connected(&uart), U16550_REMOTE_NO_DSR);
+    d.registers[MSR] = U16550_MSR_DSR;
+    IS(u16550_check_connected(&uart), U16550_REMOTE_NOT_CLEAR_TO_SEND);
+    d.registers[MSR] = U16550_MSR_DSR | U16550_MSR_CTS;
+    OK(u16550_check_connected(&uart));
+    config.check_cts_before_sending = 1;
+    OK(u16550_init(&uart, &config));
+    OK(u16550_ready_to_send(&uart));
+    d.registers[MSR] = 0;
+    IS(u16550_ready_to_send(&uart), U16550_SEND_NOT_CLEAR_TO_SEND);
+    IS(u16550_try_send_byte(&uart, 'x'), U16550_SEND_NO_CAPACITY);
+}
+
+static void bytes(void)
+{
+    uint8_t byte = 0, slots[24], ready_now = 7;
+    size_t count = 99;
+    static const uint8_t twenty[] = "abcdefghijklmnopqrst";
+    ready();
+    IS(u16550_ready_to_receive(&uart), U16550_RECEIVE_NO_DATA);
+    IS(u16550_try_receive_byte(&uart, &byte), U16550_RECEIVE_NO_DATA);
+    OK(u16550_read_ready(&uart, &ready_now));
+    IS(ready_now, 0);
+    OK(u16550_write_ready(&uart, &ready_now));
+    IS(ready_now, 1);
+    device_arrive(&d, "12345");
+    OK(u16550_ready_to_receive(&uart));
+    OK(u16550_read_ready(&uart, &ready_now));
+    IS(ready_now, 1);
+    OK(u16550_try_receive_byte(&uart, &byte));
+    IS(byte, '1');
+    memset(slots, '-', sizeof slots);
+    OK(u16550_receive_bytes(&uart, slots, 3, &count));
+    IS(count, 3);
+    BYTES(slots, "234-");
+    OK(u16550_receive_bytes(&uart, slots, sizeof slots, &count));
+    IS(count, 1);
+    BYTES(slots, "534-");
+    OK(u16550_receive_bytes(&uart, slots, sizeof slots, &count));
+    IS(count, 0);
+    OK(u16550_receive_bytes(&uart, NULL, 0, &count));
+    IS(count, 0);
+    OK(u16550_send_bytes(&uart, twenty, 20, &count));
+    IS(count, 16);
+    OK(u16550_send_bytes(&uart, NULL, 0, &count));
+    IS(count, 0);
+    OK(u16550_try_send_byte(&uart, 'z'));
+    IS(d.sent_len, 17);
+    BYTES(d.sent, "abcdefghijklmnopz");
+    d.is_stuck = 1;
+    IS(u16550_ready_to_send(&uart), U16550_SEND_NO_CAPACITY);
+    IS(u16550_try_send_byte(&uart, 'z'), U16550_SEND_NO_CAPACITY);
+    OK(u16550_send_bytes(&uart, twenty, 20, &count));
+    IS(count, 0);
+    OK(u16550_write_ready(&uart, &ready_now));
+    IS(ready_now, 0);
+    d.is_stuck = 0;
+    config.fifo_trigger_level = 0;
+    OK(u16550_init(&uart, &config));
+    OK(u16550_send_bytes(&uart, twenty, 20, &count));
+    IS(count, 1);
+}
+
+static void exact(void)
+{
+    uint8_t slots[8];
+    size_t done = 99;
+    ready();
+    OK(u16550_send_bytes_exact(&uart, (const uint8_t *)"0123456789abcdefghij", 20, &done));
+    IS(done, 20);
+    BYTES(d.sent, "0123456789abcdefghij");
+    OK(u16550_send_bytes_exact(&uart, NULL, 0, &done));
+    IS(done, 0);
+    OK(u16550_send_bytes_exact(&uart, (const uint8_t *)"k", 1, NULL));
+    device_arrive(&d, "xyz");
+    memset(slots, '-', sizeof slots);
+    OK(u16550_receive_bytes_exact(&uart, slots, 2, &done));
+    IS(done, 2);
+    IS(u16550_receive_bytes_exact(&uart, slots + 2, 3, &done), U16550_STALLED);
+    IS(done, 1);
+    BYTES(slots, "xyz-----");
+    IS(u16550_receive_bytes_exact(&uart, slots, 1, NULL), U16550_STALLED);
+    d.room = 16;
+    IS(u16550_send_bytes_exact(&uart, (const uint8_t *)"0123456789abcdefghij", 20, &done), U16550_STALLED);
+    IS(done, 16);
+}
+
+static void io_traits(void)
+{
+    uint8_t slots[8];
+    size_t count = 99;
+    ready();
+    device_arrive(&d, "ab");
+    OK(u16550_read(&uart, slots, sizeof slots, &count));
+    IS(count, 2);
+    IS(u16550_read(&uart, slots, sizeof slots, &count), U16550_STALLED);
+    OK(u16550_read(&uart, NULL, 0, &count));
+    IS(count, 0);
+    OK(u16550_write(&uart, (const uint8_t *)"cd", 2, &count));
+    IS(count, 2);
+    OK(u16550_write(&uart, NULL, 0, &count));
+    IS(count, 0);
+    OK(u16550_flush(&uart));
+    d.is_stuck = 1;
+    IS(u16550_write(&uart, (const uint8_t *)"cd", 2, &count), U16550_STALLED);
+    IS(u16550_flush(&uart), U16550_STALLED);
+}
+
+static void text(void)
+{
+    size_t done = 99;
+    ready();
+    OK(u16550_write_text(&uart, "a\n\b\x7f\xc3\xbc\r", 7, &done));
+    IS(done, 99);
+    IS(d.sent_len, 12);
+    BYTES(d.sent, "a\r\n\b \b\b \b\xc3\xbc\r");
+    OK(u16550_write_text(&uart, NULL, 0, NULL));
+    d.room = 2;
+    IS(u16550_write_text(&uart, "x\n\n", 3, &done), U16550_STALLED);
+    IS(done, 2);
+    IS(u16550_write_text(&uart, "x", 1, NULL), U16550_STALLED);
+    anew();
+    MISUSE(u16550_write_text(&uart, "x\xff", 2, &done), U16550_NOT_UTF8);
+    IS(done, 2);
+}
+
+static void registers(void)
+{
+    uint8_t value = 0, dll = 0, dlm = 0;
+    uint16_t divisor = 0;
+    uint32_t rate = 0;
+    struct u16550_dump dump;
+    ready();
+    OK(u16550_enable_interrupts(&uart, U16550_IER_DATA_READY | U16550_IER_MODEM_STATUS));
+    OK(u16550_disable_interrupts(&uart, U16550_IER_MODEM_STATUS));
+    OK(u16550_ier(&uart, &value));
+    IS(value, U16550_IER_DATA_READY);
+    OK(u16550_isr(&uart, &value));
+    IS(value, FIFOS_ENABLED | NO_INTERRUPT);
+    OK(u16550_lcr(&uart, &value));
+    IS(value, 0x03);
+    OK(u16550_mcr(&uart, &value));
+    IS(value, 0x0b);
+    d.registers[SPR] = 0x5a;
+    OK(u16550_spr(&uart, &value));
+    IS(value, 0x5a);
+    d.errors = U16550_LSR_FRAMING_ERROR;
+    d.registers[MSR] |= U16550_MSR_DELTA_CD;
+    OK(u16550_ready_to_send(&uart));
+    OK(u16550_check_connected(&uart));
+    OK(u16550_dll_dlm(&uart, &dll, &dlm));
+    IS(dll, 12);
+    IS(dlm, 0);
+    IS(d.registers[LCR], 0x03);
+    OK(u16550_config_register_dump(&uart, &dump));
+    IS(dump.ier, U16550_IER_DATA_READY);
+    IS(dump.isr, FIFOS_ENABLED | NO_INTERRUPT);
+    IS(dump.lcr, 0x03);
+    IS(dump.mcr, 0x0b);
+    IS(dump.lsr, 0x60 | U16550_LSR_FRAMING_ERROR);
+    IS(dump.msr, U16550_MSR_CTS | U16550_MSR_DSR | U16550_MSR_DELTA_CD);
+    IS(dump.spr, 0x5a);
+    IS(dump.dll, 12);
+    IS(dump.dlm, 0);
+    OK(u16550_lsr(&uart, &value));
+    IS(value, 0x60 | U16550_LSR_FRAMING_ERROR);
+    OK(u16550_lsr(&uart, &value));
+    IS(value, 0x60);
+    OK(u16550_msr(&uart, &value));
+    IS(value, U16550_MSR_CTS | U16550_MSR_DSR | U16550_MSR_DELTA_CD);
+    OK(u16550_msr(&uart, &value));
+    IS(value, U16550_MSR_CTS | U16550_MSR_DSR);
+    dump.dlm = 1;
+    OK(u16550_dump_divisor(&dump, &divisor));
+    IS(divisor, 268);
+    IS(u16550_dump_baud_rate(&dump, &config, &rate), U16550_NON_INTEGER_BAUD_RATE);
+    dump.dlm = 0;
+    OK(u16550_dump_baud_rate(&dump, &config, &rate));
+    IS(rate, 9600);
+    dump.dll = 0;
+    IS(u16550_dump_baud_rate(&dump, &config, &rate), U16550_NON_INTEGER_BAUD_RATE);
+    config.frequency = 0;
+    IS(u16550_dump_baud_rate(&dump, &config, &rate), U16550_NOT_COMPUTABLE);
+    config.frequency = 1;
+    config.has_prescaler = 1;
+    config.prescaler_division_factor = 16;
+    IS(u16550_dump_baud_rate(&dump, &config, &rate), U16550_NOT_COMPUTABLE);
+    config.data_bits = 9;
+    IS(u16550_dump_baud_rate(&dump, &config, &rate), U16550_BAD_CODE);
+}
+
+static uint8_t memory[64];
+
+static void rings_ready(void)
+{
+    anew();
+    OK(u16550_ring_new(&uart, memory, sizeof memory, 40, 24));
+    config.interrupts = U16550_IER_DATA_READY | U16550_IER_RECEIVER_LINE_STATUS | U16550_IER_MODEM_STATUS;
+    OK(u16550_init(&uart, &config));
+}
+
+static void rings(void)
+{
+    size_t count = 99;
+    uint8_t slots[40], value = 9;
+    static const char fifty[] = "abcdefghijklmnopqrstuvwxyzABCDEFGHIJKLMNOPQRSTUVWX";
+    rings_ready();
+    OK(u16550_ring_queue(&uart, (const uint8_t *)fifty, 50, &count));
+    IS(count, 40);
+    IS(d.sent_len, 16);
+    IS(d.registers[IER] & U16550_IER_THR_EMPTY, U16550_IER_THR_EMPTY);
+    OK(u16550_ring_transmit_len(&uart, &count));
+    IS(count, 24);
+    OK(u16550_ring_service(&uart, &count));
+    IS(count, 2);
+    IS(d.sent_len, 40);
+    BYTES(d.sent, "abcdefghijklmnopqrstuvwxyzABCDEFGHIJKLMN");
+    IS(d.registers[IER] & U16550_IER_THR_EMPTY, 0);
+    OK(u16550_ring_transmit_len(&uart, &count));
+    IS(count, 0);
+    OK(u16550_ring_is_paused(&uart, &value));
+    IS(value, 0);
+    device_arrive(&d, fifty);
+    OK(u16550_ring_service(&uart, &count));
+    IS(count, 2);
+    OK(u16550_ring_receive_len(&uart, &count));
+    IS(count, 24);
+    OK(u16550_ring_is_paused(&uart, &value));
+    IS(value, 1);
+    OK(u16550_ring_take(&uart, slots, 10, &count));
+    IS(count, 10);
+    BYTES(slots, "abcdefghij");
+    OK(u16550_ring_is_paused(&uart, &value));
+    IS(value, 0);
+    OK(u16550_ring_take(&uart, slots, sizeof slots, &count));
+    IS(count, 14);
+    BYTES(slots, "klmnopqrstuvwx");
+    d.arrived_len = 0;
+    d.errors = U16550_LSR_OVERRUN_ERROR;
+    d.registers[MSR] |= U16550_MSR_DELTA_DSR;
+    OK(u16550_ring_service(&uart, &count));
+    IS(count, 2);
+    OK(u16550_ring_take_line(&uart, &value));
+    IS(value, 0x60 | U16550_LSR_OVERRUN_ERROR);
+    OK(u16550_ring_take_line(&uart, &value));
+    IS(value, 0x60);
+    OK(u16550_ring_take_modem(&uart, &value));
+    IS(value, U16550_MSR_CTS | U16550_MSR_DSR | U16550_MSR_DELTA_DSR);
+    OK(u16550_ring_take_modem(&uart, &value));
+    IS(value, U16550_MSR_CTS | U16550_MSR_DSR);
+    OK(u16550_write_text(&uart, "t\n", 2, NULL));
+    IS(d.sent_len, 43);
+    IS(u16550_ring_new(&uart, memory, sizeof memory, 40, 24), U16550_HAS_RINGS);
+    OK(u16550_ring_end(&uart));
+    IS(u16550_ring_end(&uart), U16550_NO_RINGS);
+    OK(u16550_try_send_byte(&uart, 'u'));
+    BYTES(d.sent + 40, "t\r\nu");
+}
+
+static void ring_errors(void)
+{
+    size_t count;
+    uint8_t value;
+    anew();
+    IS(u16550_ring_new(&uart, memory, sizeof memory, 0, 1), U16550_RING_BAD_CAPACITY);
+    IS(u16550_ring_new(&uart, memory, sizeof memory, 1, 0), U16550_RING_BAD_CAPACITY);
+    IS(u16550_ring_new(&uart, memory, sizeof memory, 4097, 1), U16550_RING_BAD_CAPACITY);
+    IS(u16550_ring_new(&uart, memory, sizeof memory, 1, 4097), U16550_RING_BAD_CAPACITY);
+    IS(u16550_ring_new(&uart, memory, sizeof memory, 41, 24), U16550_RING_OUT_OF_MEMORY);
+    IS(u16550_ring_new(&uart, memory, sizeof memory, 4096, 1), U16550_RING_OUT_OF_MEMORY);
+    IS(u16550_ring_new(&uart, NULL, 0, 1, 1), U16550_RING_OUT_OF_MEMORY);
+    MISUSE(u16550_ring_new(&uart, NULL, 1, 1, 1), U16550_NULL_POINTER);
+    MISUSE(u16550_ring_end(&uart), U16550_NO_RINGS);
+    MISUSE(u16550_ring_transmit_len(&uart, &count), U16550_NO_RINGS);
+    MISUSE(u16550_ring_receive_len(&uart, &count), U16550_NO_RINGS);
+    MISUSE(u16550_ring_is_paused(&uart, &value), U16550_NO_RINGS);
+    MISUSE(u16550_ring_queue(&uart, &value, 1, &count), U16550_NO_RINGS);
+    MISUSE(u16550_ring_take(&uart, &value, 1, &count), U16550_NO_RINGS);
+    MISUSE(u16550_ring_service(&uart, &count), U16550_NO_RINGS);
+    MISUSE(u16550_ring_take_line(&uart, &value), U16550_NO_RINGS);
+    MISUSE(u16550_ring_take_modem(&uart, &value), U16550_NO_RINGS);
+}
+
+/* Each call over this memory is refused by this number, and makes no access. `u` is the memory. */
+static void refused(struct u16550 *u, int wanted)
+{
+    struct u16550_io io = device_io(&d);
+    struct u16550_state state;
+    struct u16550_dump dump;
+    uint8_t byte;
+    uint64_t limit;
+    size_t count;
+    MISUSE(u16550_end(u), wanted);
+    MISUSE(u16550_get_io(u, &io), wanted);
+    MISUSE(u16550_set_io(u, &io), wanted);
+    MISUSE(u16550_get_config(u, &config), wanted);
+    MISUSE(u16550_get_state(u, &state), wanted);
+    MISUSE(u16550_fifo_enabled(u, &byte), wanted);
+    MISUSE(u16550_spin_limit(u, &limit), wanted);
+    MISUSE(u16550_set_spin_limit(u, 1), wanted);
+    MISUSE(u16550_check_present(u, &byte), wanted);
+    MISUSE(u16550_init(u, &config), wanted);
+    MISUSE(u16550_test_loopback(u, NULL), wanted);
+    MISUSE(u16550_check_connected(u), wanted);
+    MISUSE(u16550_ready_to_receive(u), wanted);
+    MISUSE(u16550_ready_to_send(u), wanted);
+    MISUSE(u16550_try_receive_byte(u, &byte), wanted);
+    MISUSE(u16550_try_send_byte(u, 0), wanted);
+    MISUSE(u16550_receive_bytes(u, &byte, 1, &count), wanted);
+    MISUSE(u16550_send_bytes(u, &byte, 1, &count), wanted);
+    MISUSE(u16550_receive_bytes_exact(u, &byte, 1, &count), wanted);
+    MISUSE(u16550_send_bytes_exact(u, &byte, 1, &count), wanted);
+    MISUSE(u16550_read(u, &byte, 1, &count), wanted);
+    MISUSE(u16550_write(u, &byte, 1, &count), wanted);
+    MISUSE(u16550_flush(u), wanted);
+    MISUSE(u16550_read_ready(u, &byte), wanted);
+    MISUSE(u16550_write_ready(u, &byte), wanted);
+    MISUSE(u16550_write_text(u, "t", 1, &count), wanted);
+    MISUSE(u16550_ier(u, &byte), wanted);
+    MISUSE(u16550_isr(u, &byte), wanted);
+    MISUSE(u16550_lcr(u, &byte), wanted);
+    MISUSE(u16550_mcr(u, &byte), wanted);
+    MISUSE(u16550_lsr(u, &byte), wanted);
+    MISUSE(u16550_msr(u, &byte), wanted);
+    MISUSE(u16550_spr(u, &byte), wanted);
+    MISUSE(u16550_dll_dlm(u, &byte, &byte), wanted);
+    MISUSE(u16550_enable_interrupts(u, 1), wanted);
+    MISUSE(u16550_disable_interrupts(u, 1), wanted);
+    MISUSE(u16550_config_register_dump(u, &dump), wanted);
+    MISUSE(u16550_ring_new(u, memory, sizeof memory, 1, 1), wanted);
+    MISUSE(u16550_ring_end(u), wanted);
+    MISUSE(u16550_ring_transmit_len(u, &count), wanted);
+    MISUSE(u16550_ring_receive_len(u, &count), wanted);
+    MISUSE(u16550_ring_is_paused(u, &byte), wanted);
+    MISUSE(u16550_ring_queue(u, &byte, 1, &count), wanted);
+    MISUSE(u16550_ring_take(u, &byte, 1, &count), wanted);
+    MISUSE(u16550_ring_service(u, &count), wanted);
+    MISUSE(u16550_ring_take_line(u, &byte), wanted);
+    MISUSE(u16550_ring_take_modem(u, &byte), wanted);
+}
+
+static void misuses(void)
+{
+    static struct u16550 zeros;
+    static uint64_t room[sizeof(struct u16550) / 8 + 1];
+    struct u16550 *crooked = (struct u16550 *)((uint8_t *)room + 4);
+    struct u16550_io io;
+    anew();
+    io = device_io(&d);
+    refused(NULL, U16550_NULL_POINTER);
+    refused(crooked, U16550_MISALIGNED);
+    refused(&zeros, U16550_NOT_MADE);
+    memset(&zeros, 0xff, sizeof zeros);
+    refused(&zeros, U16550_NOT_MADE);
+    OK(u16550_new(&zeros, &io));
+    OK(u16550_end(&zeros));
+    refused(&zeros, U16550_NOT_MADE);
+    MISUSE(u16550_new(NULL, &io), U16550_NULL_POINTER);
+    MISUSE(u16550_new(crooked, &io), U16550_MISALIGNED);
+    MISUSE(u16550_new_port(NULL, &io, 0), U16550_NULL_POINTER);
+    MISUSE(u16550_new_mmio(NULL, &io, 1, 1), U16550_NULL_POINTER);
+}
+
+/* Null in place of each other pointer. */
+static void nulls(void)
+{
+    struct u16550_io io;
+    struct u16550_dump dump = { 0, 0, 0, 0, 0, 0, 0, 0, 0 };
+    uint8_t byte;
+    uint16_t divisor;
+    uint32_t rate;
+    size_t count;
+    const int null = U16550_NULL_POINTER;
+    anew();
+    io = device_io(&d);
+    MISUSE(u16550_new(&uart, NULL), null);
+    MISUSE(u16550_new_port(&uart, NULL, 0), null);
+    MISUSE(u16550_new_mmio(&uart, NULL, 1, 1), null);
+    MISUSE(u16550_from_state(&uart, NULL, NULL), null);
+    MISUSE(u16550_from_state(&uart, &io, NULL), null);
+    MISUSE(u16550_default_config(NULL), null);
+    MISUSE(u16550_get_io(&uart, NULL), null);
+    MISUSE(u16550_set_io(&uart, NULL), null);
+    MISUSE(u16550_get_config(&uart, NULL), null);
+    MISUSE(u16550_get_state(&uart, NULL), null);
+    MISUSE(u16550_fifo_enabled(&uart, NULL), null);
+    MISUSE(u16550_spin_limit(&uart, NULL), null);
+    MISUSE(u16550_check_present(&uart, NULL), null);
+    MISUSE(u16550_init(&uart, NULL), null);
+    MISUSE(u16550_try_receive_byte(&uart, NULL), null);
+    MISUSE(u16550_receive_bytes(&uart, NULL, 1, &count), null);
+    MISUSE(u16550_receive_bytes(&uart, &byte, 1, NULL), null);
+    MISUSE(u16550_send_bytes(&uart, NULL, 1, &count), null);
+    MISUSE(u16550_send_bytes(&uart, &byte, 1, NULL), null);
+    MISUSE(u16550_receive_bytes_exact(&uart, NULL, 1, &count), null);
+    MISUSE(u16550_send_bytes_exact(&uart, NULL, 1, &count), null);
+    MISUSE(u16550_read(&uart, NULL, 1, &count), null);
+    MISUSE(u16550_read(&uart, &byte, 1, NULL), null);
+    MISUSE(u16550_write(&uart, NULL, 1, &count), null);
+    MISUSE(u16550_write(&uart, &byte, 1, NULL), null);
+    MISUSE(u16550_read_ready(&uart, NULL), null);
+    MISUSE(u16550_write_ready(&uart, NULL), null);
+    MISUSE(u16550_write_text(&uart, NULL, 1, &count), null);
+    MISUSE(u16550_ier(&uart, NULL), null);
+    MISUSE(u16550_isr(&uart, NULL), null);
+    MISUSE(u16550_lcr(&uart, NULL), null);
+    MISUSE(u16550_mcr(&uart, NULL), null);
+    MISUSE(u16550_lsr(&uart, NULL), null);
+    MISUSE(u16550_msr(&uart, NULL), null);
+    MISUSE(u16550_spr(&uart, NULL), null);
+    MISUSE(u16550_dll_dlm(&uart, NULL, &byte), null);
+    MISUSE(u16550_dll_dlm(&uart, &byte, NULL), null);
+    MISUSE(u16550_config_register_dump(&uart, NULL), null);
+    MISUSE(u16550_dump_divisor(NULL, &divisor), null);
+    MISUSE(u16550_dump_divisor(&dump, NULL), null);
+    MISUSE(u16550_dump_baud_rate(NULL, &config, &rate), null);
+    MISUSE(u16550_dump_baud_rate(&dump, NULL, &rate), null);
+    MISUSE(u16550_dump_baud_rate(&dump, &config, NULL), null);
+    MISUSE(u16550_receive_bytes(&uart, &byte, SIZE_MAX / 2 + 1, &count), U16550_BAD_LENGTH);
+    MISUSE(u16550_send_bytes(&uart, &byte, SIZE_MAX, &count), U16550_BAD_LENGTH);
+    OK(u16550_ring_new(&uart, memory, sizeof memory, 1, 1));
+    MISUSE(u16550_ring_transmit_len(&uart, NULL), null);
+    MISUSE(u16550_ring_receive_len(&uart, NULL), null);
+    MISUSE(u16550_ring_is_paused(&uart, NULL), null);
+    MISUSE(u16550_ring_queue(&uart, NULL, 1, &count), null);
+    MISUSE(u16550_ring_queue(&uart, &byte, 1, NULL), null);
+    MISUSE(u16550_ring_take(&uart, NULL, 1, &count), null);
+    MISUSE(u16550_ring_take(&uart, &byte, 1, NULL), null);
+    MISUSE(u16550_ring_service(&uart, NULL), null);
+    MISUSE(u16550_ring_take_line(&uart, NULL), null);
+    MISUSE(u16550_ring_take_modem(&uart, NULL), null);
+}
+
+/* A callback that calls the same driver, and a driver that is copied to another place. */
+static void reentry_and_moves(void)
+{
+    struct u16550 moved;
+    uint8_t value;
+    ready();
+    d.calls = &uart;
+    d.called = 99;
+    OK(u16550_ier(&uart, &value));
+    IS(d.called, U16550_BUSY);
+    d.calls = NULL;
+    OK(u16550_ier(&uart, &value));
+    moved = uart;
+    memset(&uart, 0, sizeof uart);
+    OK(u16550_try_send_byte(&moved, 'v'));
+    BYTES(d.sent, "v");
+}
+
+static void texts(void)
+{
+    static const int known[] = {
+        0, -1, -2, -3, -4, -5, -6, -7, -8, -9, -10, -11, 10, 11, 20, 21, 22, 23, 30, 31, 32, 33, 34, 40, 41, 42, 50, 51,
+        60, 70, 80, 90, 91,
+    };
+    size_t count = sizeof known / sizeof known[0], i, j;
+    for (i = 0; i < count; i++)
+        for (j = 0; j <= i; j++)
+            IS(strcmp(u16550_text(known[i]), u16550_text(known[j])) == 0, i == j);
+    IS(strcmp(u16550_text(1), "no known status"), 0);
+    IS(strcmp(u16550_text(-12), "no known status"), 0);
+    IS(strcmp(u16550_text(INT32_MIN), "no known status"), 0);
+    for (i = 0; i < count; i++)
+        IS(strcmp(u16550_text(known[i]), "no known status") != 0, 1);
+}
+
+int main(void)
+{
+    sizes();
+    making();
+    settings();
+    init();
+    init_errors();
+    bad_configs();
+    loopback();
+    remote();
+    bytes();
+    exact();
+    io_traits();
+    text();
+    registers();
+    rings();
+    ring_errors();
+    misuses();
+    nulls();
+    reentry_and_moves();
+    texts();
+    printf("%d compared, %d failed\n", compared, failed);
+    return failed != 0;
+}

@@ -1,0 +1,164 @@
+/* A small 16550A for tests: what is written goes out at once, and tests put into it what arrives. */
+#ifndef DEVICE_H
+#define DEVICE_H
+
+#include <stdint.h>
+#include <string.h>
+
+#include "u16550.h"
+
+enum {
+    DATA = 0, IER = 1, ISR = 2, FCR = 2, LCR = 3, MCR = 4, LSR = 5, MSR = 6, SPR = 7,
+    DLAB = 0x80, LOOP_BACK = 0x10, FIFOS_ENABLED = 0xc0, FIFO_ENABLE = 0x01,
+    NO_INTERRUPT = 0x01, LINE_STATUS = 0x06, RECEIVED_DATA = 0x04, THR_IS_EMPTY = 0x02, MODEM = 0x00,
+    CHANGES = 0x0f, ROOM = 256
+};
+
+struct device {
+    uintptr_t base, stride;
+    uint8_t registers[8];
+    uint8_t dll, dlm;
+    uint8_t errors;              /* that the next read of LSR shows */
+    uint8_t arrived[ROOM];
+    unsigned arrived_len;
+    uint8_t sent[ROOM];
+    unsigned sent_len;
+    unsigned accesses;
+    uint8_t fifo_on, thr_pending;
+    /* what is wrong with it */
+    uint8_t is_absent, is_stuck, is_silent;
+    unsigned room;               /* how many more bytes it sends; it is then full */
+    uint8_t flips;               /* that a byte in loopback comes back with */
+    unsigned flips_after;        /* so many bytes */
+    /* a call that a read makes over the driver, and what that call returned */
+    struct u16550 *calls;
+    int called;
+};
+
+static inline uint8_t device_isr(struct device *d)
+{
+    uint8_t ier = d->registers[IER], fifo = d->fifo_on ? FIFOS_ENABLED : 0;
+    if ((ier & U16550_IER_RECEIVER_LINE_STATUS) && d->errors)
+        return fifo | LINE_STATUS;
+    if ((ier & U16550_IER_DATA_READY) && d->arrived_len)
+        return fifo | RECEIVED_DATA;
+    if ((ier & U16550_IER_THR_EMPTY) && d->thr_pending) {
+        d->thr_pending = 0;
+        return fifo | THR_IS_EMPTY;
+    }
+    if ((ier & U16550_IER_MODEM_STATUS) && (d->registers[MSR] & CHANGES))
+        return fifo | MODEM;
+    return fifo | NO_INTERRUPT;
+}
+
+static inline uint8_t device_lsr(struct device *d)
+{
+    uint8_t lsr = d->errors | (d->arrived_len ? U16550_LSR_DATA_READY : 0);
+    d->errors = 0;
+    if (d->is_stuck || !d->room)
+        return lsr;
+    return lsr | U16550_LSR_THR_EMPTY | U16550_LSR_TRANSMITTER_EMPTY;
+}
+
+static inline uint8_t device_read(void *context, uintptr_t address)
+{
+    struct device *d = (struct device *)context;
+    unsigned offset = (unsigned)((address - d->base) / d->stride);
+    uint8_t value;
+
+    d->accesses++;
+    if (d->calls) {
+        uint8_t unused;
+        d->called = u16550_lsr(d->calls, &unused);
+    }
+    switch (offset) {
+    case DATA:
+        if (d->registers[LCR] & DLAB)
+            return d->dll;
+        value = d->arrived[0];
+        if (d->arrived_len)
+            memmove(d->arrived, d->arrived + 1, --d->arrived_len);
+        return value;
+    case IER:
+        return d->registers[LCR] & DLAB ? d->dlm : d->registers[IER];
+    case ISR:
+        return device_isr(d);
+    case LSR:
+        return device_lsr(d);
+    case MSR:
+        value = d->registers[MSR];
+        d->registers[MSR] &= (uint8_t)~CHANGES;
+        return value;
+    case SPR:
+        return d->is_absent ? 0xff : d->registers[SPR];
+    default:
+        return d->registers[offset];
+    }
+}
+
+static inline void device_send(struct device *d, uint8_t byte)
+{
+    d->thr_pending = 1;
+    if (d->registers[MCR] & LOOP_BACK) {
+        if (d->flips_after)
+            d->flips_after--;
+        else
+            byte ^= d->flips;
+        if (!d->is_silent)
+            d->arrived[d->arrived_len++] = byte;
+    } else if (d->room) {
+        d->room--;
+        d->sent[d->sent_len++] = byte;
+    }
+}
+
+static inline void device_write(void *context, uintptr_t address, uint8_t value)
+{
+    struct device *d = (struct device *)context;
+    unsigned offset = (unsigned)((address - d->base) / d->stride);
+
+    d->accesses++;
+    if (offset <= IER && (d->registers[LCR] & DLAB)) {
+        *(offset ? &d->dlm : &d->dll) = value;
+        return;
+    }
+    switch (offset) {
+    case DATA:
+        device_send(d, value);
+        return;
+    case FCR:
+        d->fifo_on = value & FIFO_ENABLE;
+        return;
+    case LSR:
+    case MSR:
+        return;
+    default:
+        d->registers[offset] = value;
+    }
+}
+
+/* A device that works, with CTS and DSR set. */
+static inline struct device device_new(void)
+{
+    struct device d;
+    memset(&d, 0, sizeof d);
+    d.stride = 1;
+    d.room = ROOM;
+    d.registers[MSR] = U16550_MSR_CTS | U16550_MSR_DSR;
+    return d;
+}
+
+static inline struct u16550_io device_io(struct device *d)
+{
+    struct u16550_io io = { d, device_read, device_write };
+    return io;
+}
+
+static inline void device_arrive(struct device *d, const char *bytes)
+{
+    size_t len = strlen(bytes);
+    memcpy(d->arrived + d->arrived_len, bytes, len);
+    d->arrived_len += (unsigned)len;
+}
+
+#endif

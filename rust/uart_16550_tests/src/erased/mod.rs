@@ -1,0 +1,8 @@
+//! Made by `.ci/erase emit` from the tests in `crates/`. Do not edit.
+#![allow(warnings)]
+
+pub mod replay;
+pub mod uart_calls;
+pub mod uart_ring;
+pub mod uart_spec;
+pub mod uart_tests;

@@ -1,0 +1,100 @@
+#[allow(unused_imports)]
+use crate::runtime::{AllocGlobal, HostRuntime, assert, assert_eq, assert_ne, format};
+// A backend that plays back what reads returned, and keeps the accesses that are made.
+//
+// The accesses of a call are determined by the driver's fields and by what its reads return. So a driver over a
+// `Replay` is a function from these to the one list of accesses that the call may make: over any other backend, a call
+// with the same fields whose reads return the same bytes makes the same accesses
+// ([`replays_repeat_calls`](crate::libraries::uart_16550::laws::replays_repeat_calls)).
+
+use crate::libraries::uart_16550::backend::Backend;
+use crate::libraries::arrayvec::ArrayVec;
+
+// The number of accesses that a `Replay` keeps.
+pub const REPLAY_ROOM: usize = 512;
+
+// One access: the offset of the register, and the byte that was read or written.
+#[derive(Clone, Copy, Debug, PartialEq, Eq)]
+pub enum Entry {
+    // A read of the register at this offset, which returned this byte.
+    Read(usize, u8),
+    // A write of this byte to the register at this offset.
+    Write(usize, u8),
+}
+
+impl Default for Entry {
+
+    fn default() -> Self {
+        Entry::Read(0, 0)
+    }
+}
+
+// A backend whose reads return the bytes of a list in turn, and then 0, whatever the register. It keeps the accesses until
+// there is no more room.
+pub struct Replay<'a> {
+    answers: &'a [u8],
+    accesses: ArrayVec<Entry, REPLAY_ROOM>,
+    is_whole: bool,
+}
+
+impl<'a> Replay<'a> {
+    // Returns a replay of these bytes, over which no access was made.
+    //
+    // # Examples
+    //
+    // ```
+    // let mut uart = Uart16550::new_with_backend(Replay::new(&[0x1e, 0x60, 0x0f]));
+    // ```
+    pub fn new(answers: &'a [u8]) -> Self
+
+    {
+        Replay {
+            answers,
+            accesses: ArrayVec::new(),
+            is_whole: true,
+        }
+    }
+
+    // Returns the accesses that were made, or `None` if there were more than `REPLAY_ROOM`.
+    pub fn accesses(&self) -> Option<&[Entry]>
+
+    {
+        if self.is_whole {
+            Some(self.accesses.as_slice())
+        } else {
+            None
+        }
+    }
+
+    // Keeps an access.
+    fn keep(&mut self, entry: Entry)
+
+    {
+        if self.accesses.try_push(entry).is_err() {
+            self.is_whole = false;
+        }
+    }
+}
+
+impl Backend for Replay<'_> {
+
+    fn read(&mut self, register_offset: u8) -> u8 {
+        let answer = match self.answers {
+            [first, rest @ ..] => {
+                self.answers = rest;
+                *first
+            }
+            [] => 0,
+        };
+        self.keep(Entry::Read(register_offset as usize, answer));
+        answer
+    }
+
+    fn write(&mut self, register_offset: u8, value: u8) {
+        self.keep(Entry::Write(register_offset as usize, value));
+    }
+}
+
+// If a replay kept all of its accesses, it shows those that led to it, and its reads returned its bytes in turn.
+//
+// This is a law that callers can cite. The function does nothing.
