@@ -177,6 +177,7 @@ EXAMPLES = {
     "uart_16550::tty::Uart16550Tty::from_inner": compiles("uart: Uart16550<Device>"),
     "uart_16550::tty::Uart16550Tty::inner": compiles(TTY + ", fifo_enabled: bool"),
     "uart_16550::tty::Uart16550Tty::inner_mut": compiles(TTY + ", mut slots: [u8; 2]"),
+    "uart_16550::tty::Uart16550Tty::into_inner": compiles("terminal: Uart16550Tty<Device>"),
     "uart_16550::tty::Uart16550Tty::write_text": compiles(TTY),
     "uart_spec::baud::calc_frequency": runs(SPEC),
     "uart_spec::config::BaudRate": runs(SPEC),
@@ -190,6 +191,7 @@ EXAMPLES = {
     "uart_ring::ring::service::Uart16550Ring::service": in_port(),
     "uart_ring::ring::status::Uart16550Ring::take_line": in_port(),
     "uart_ring::ring::status::Uart16550Ring::take_modem": in_port(),
+    "uart_ring::ring::transmit::Uart16550Ring::resume_transmit": in_port(),
     "uart_ring::ring::transmit::Uart16550Ring::queue": (
         INCLUDE
         + ["# use uart_16550::ring;", f"# fn example<'a>({RING}, message: &'a [u8]) -> &'a [u8] {{"],

@@ -163,6 +163,7 @@ calls! {
     ring_take_line(ring: &mut Ring) -> LSR { ring.take_line() }
     ring_take_modem(ring: &mut Ring) -> MSR { ring.take_modem() }
     ring_service(ring: &mut Ring) -> usize { ring.service() }
+    ring_resume_transmit(ring: &mut Ring) { ring.resume_transmit() }
 
     calc_frequency(rate: u32, divisor: u32, factor: Option<u32>) -> u32 { uart_16550::native::spec::calc_frequency(rate, divisor, factor) }
     calc_baud_rate(frequency: u32, divisor: u32, factor: Option<u32>) -> Result<u32, NonIntegerBaudRateError> { uart_16550::native::spec::calc_baud_rate(frequency, divisor, factor) }

@@ -3,16 +3,19 @@
 //! The contract of each function is a law that callers can cite. The functions do nothing.
 ghost use Rattle.std.specs.Prelude.{◌≡◌, [], ◌∷◌};
 ghost use Rattle.std.specs.Ordering.{nat_cmp};
-ghost use Rattle.uart_spec.specs.Orders.{in_turn};
+ghost use Rattle.uart_spec.specs.Orders.{in_turn, partial_in_turn};
 ghost use Rattle.uart_16550.specs.Choice.{Agree, AgreeSaving, HasOneOutcome, HasOneOutcomeSaving, IsFunction, LeavesNoChoice};
 ghost use Rattle.uart_16550.specs.Driver.{Saving};
 ghost use Rattle.uart_16550.specs.DriverCalls.{ChangingCall, ChangingDoing, SavingCall, SavingLists};
+ghost use Rattle.uart_16550.specs.Mmio.{Mapped};
+ghost use Rattle.uart_16550.specs.Pio.{Ports};
 ghost use Rattle.uart_16550.specs.Replay.{Repeats, RepeatsSaving};
 ghost use Rattle.uart_16550.specs.declared.driver.TheConstants.{DEFAULT_SPIN_LIMIT};
 ghost use Rattle.uart_16550.specs.declared.dump.ConfigRegisterDump.{ConfigRegisterDump};
 
-use crate::backend::Backend;
+use crate::backend::{Backend, MmioBackend, PioBackend};
 use crate::dump::ConfigRegisterDump;
+use std::num::{NonZeroU8, NonZeroUsize};
 use uart_spec::registers::{IER, ISR, LCR, LSR, MCR, MSR};
 
 /// The contract of each call determines what the call does: what its reads have returned so far determines the next access,
@@ -72,4 +75,17 @@ pub fn dump_fields_are_in_order()
       dll = 0;
       dlm = 0;
     } }
+{}
+
+/// Backends are compared by where the first register is, then those in memory by their stride, and last by the access object.
+pub fn backends_are_in_order<P: PartialOrd, M: PartialOrd>()
+    ensures ports { (a b : Ports P) → ⟦<PioBackend<P> as PartialOrd>⟧.partial_cmp a b ≡ partial_in_turn (
+        ⟦<u16 as PartialOrd>⟧.partial_cmp a.base b.base
+        ∷ ⟦<P as PartialOrd>⟧.partial_cmp a.access b.access
+        ∷ []) }
+    ensures memory { (a b : Mapped M) → ⟦<MmioBackend<M> as PartialOrd>⟧.partial_cmp a b ≡ partial_in_turn (
+        ⟦<NonZeroUsize as PartialOrd>⟧.partial_cmp a.base b.base
+        ∷ ⟦<NonZeroU8 as PartialOrd>⟧.partial_cmp a.stride b.stride
+        ∷ ⟦<M as PartialOrd>⟧.partial_cmp a.access b.access
+        ∷ []) }
 {}

@@ -230,6 +230,20 @@ impl<B: Backend> Uart16550Tty<B> {
         &mut self.inner
     }
 
+    /// Returns the driver. Makes no access.
+    ///
+    /// # Examples
+    ///
+    /// ```
+    /// let uart = terminal.into_inner();
+    /// ```
+    pub fn into_inner(self) -> Uart16550<B>
+        ensures { result ≡ inner_of self }
+    {
+        let Uart16550Tty { inner: uart } = self;
+        uart
+    }
+
     // Sends the expansion of a byte, and returns its length. Most bytes are printable, and are sent without a look at the
     // others.
     #[inline(always)]

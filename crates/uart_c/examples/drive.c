@@ -32,7 +32,8 @@ static struct uart_answer make(const char *name, struct uart_driver *driver, str
     static struct uart_access tape[TAPE_ROOM];
     const struct uart_io io = {chip, board_read, board_write};
     struct uart_answer answer = {0};
-    uint32_t status = uart_make(driver, call, &io, tape, TAPE_ROOM, &answer);
+    size_t made = 0;
+    uint32_t status = uart_make(driver, call, &io, tape, TAPE_ROOM, &made, &answer);
 
     printf("%s: step %" PRIu32 ", answer %d", name, status, answer.kind);
     if (answer.kind == UART_ANSWER_COUNT || answer.kind == UART_ANSWER_BYTES)

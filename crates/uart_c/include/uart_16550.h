@@ -174,7 +174,8 @@ uint16_t uart_chip_divisor(const struct uart_chip *chip);
  *
  * The driver never reaches a device itself: uart_step says which access it makes next in a call, the caller makes it,
  * puts it after those that were made, and asks again, until the call is done. uart_make does so over two functions of the
- * caller. Each step goes through the accesses that were made before, so choose spin_limit no larger than is needed.
+ * caller. Each step goes through the accesses that were made before, so choose spin_limit no larger than is needed. A step
+ * whose accesses stray returns soon, whatever the limit.
  */
 
 enum uart_parity {
@@ -199,7 +200,7 @@ struct uart_config {
     uint8_t check_cts_before_sending;
 };
 
-/* What the driver keeps from call to call. */
+/* What the driver keeps from call to call. A flag that the library writes is 0 or 1. */
 struct uart_driver {
     uint64_t spin_limit;                /* how many unsuccessful polls in a row a wait makes; 0 counts as 1 */
     struct uart_config config;
@@ -303,7 +304,7 @@ enum uart_send_error {
     UART_SEND_REMOTE_NOT_CLEAR_TO_SEND = 1 /* CTS is clear, and the configuration checks it */
 };
 
-/* What a call returned. Which fields count depends on its kind. */
+/* What a call returned. Which fields count depends on its kind; the others are 0. */
 struct uart_answer {
     size_t count;
     uint8_t kind;                    /* an enum uart_answer_kind */
@@ -317,7 +318,7 @@ enum uart_step_status {
     UART_STEP_ASKED = 1,        /* make the access in *access, put it after those that were made, and step again */
     UART_STEP_STRAYED = 2,      /* no run of the call begins with the accesses that were made */
     UART_STEP_NOT_RUNNABLE = 3, /* the call is none that can be run, whatever accesses were made */
-    UART_STEP_TAPE_FULL = 4     /* uart_make: the call makes more accesses than the tape has room for */
+    UART_STEP_TAPE_FULL = 4     /* uart_make: the tape has no room for the next access; the call can go on */
 };
 
 /* A driver that was just made, with the default configuration: 9600 baud, eight data bits, FIFO trigger level 14. */
@@ -342,26 +343,29 @@ struct uart_io {
 };
 
 /*
- * Makes a whole call over a device. tape has room for so many accesses. Returns an enum uart_step_status. If the tape is
- * full, the accesses were made and the driver is as before the call.
+ * Makes a whole call over a device. tape has room for so many accesses. *made says how many accesses of this call are on it,
+ * which is 0 for a new call, and is set to how many are on it then.
+ *
+ * Returns an enum uart_step_status. If it is UART_STEP_TAPE_FULL, the call is not done and the driver is as before it. What
+ * reads of LSR and MSR have cleared in the device is then on the tape alone, so do not drop it: copy the *made accesses to a
+ * longer tape, and make the same call with it and *made. The call goes on from there, and the driver keeps what they cleared.
  */
 static inline uint32_t uart_make(struct uart_driver *driver, const struct uart_call *call, const struct uart_io *io,
-                                 struct uart_access *tape, size_t room, struct uart_answer *answer)
+                                 struct uart_access *tape, size_t room, size_t *made, struct uart_answer *answer)
 {
     struct uart_access access;
-    size_t made = 0;
 
     for (;;) {
-        uint32_t status = uart_step(driver, call, tape, made, &access, answer);
+        uint32_t status = uart_step(driver, call, tape, *made, &access, answer);
         if (status != UART_STEP_ASKED)
             return status;
-        if (made == room)
+        if (*made >= room)
             return UART_STEP_TAPE_FULL;
         if (access.is_write)
             io->write(io->context, access.offset, access.value);
         else
             access.value = io->read(io->context, access.offset);
-        tape[made++] = access;
+        tape[(*made)++] = access;
     }
 }
 

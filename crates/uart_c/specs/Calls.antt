@@ -1,5 +1,5 @@
 -- The calls of the driver, their accesses and their answers, as data of C.
-use Rattle.std.specs.Prelude.{◌≡◌, ℕ, List, [], ◌∷◌, take, length, if◌then◌else◌}
+use Rattle.std.specs.Prelude.{◌≡◌, ℕ, List, [], ◌∷◌, ◌++◌, ◌-◌, take, length, replicate, if◌then◌else◌}
 use Rattle.uart_16550.specs.declared.dump.ConfigRegisterDump.{ConfigRegisterDump}
 use Rattle.uart_c.specs.Driver.{config_of}
 use Rattle.uart_c.specs.Queue.{is_on}
@@ -9,6 +9,7 @@ use Rattle.uart_c.specs.declared.codes.TheConstants as code
 use Rattle.uart_c.specs.declared.call.UartCall.{UartCall}
 use Rattle.uart_calls.specs.declared.call.Call.{Call}
 use Rattle.uart_calls.specs.declared.call.Call.TheVariants as call
+use Rattle.uart_calls.specs.declared.call.TheConstants.{CALL_BYTES}
 use Rattle.uart_calls.specs.declared.call.Answer.{Answer}
 use Rattle.uart_calls.specs.declared.call.Answer.TheVariants as answer
 use Rattle.uart_spec.specs.Access.{Access, Read, Write}
@@ -70,9 +71,27 @@ IsCall c (call.Write bytes) = (c.kind ≡ code.UART_WRITE) × IsGiven c bytes.it
 IsCall c call.Next = ⊥
 IsCall c (call.Text text) = ⊥
 
--- these bytes are in the answer
-abbrev pub Holds : UartAnswer → List ℕ → Type 0
-Holds a bytes = (a.count ≡ length bytes) × (take a.count a.bytes ≡ bytes)
+-- the data of C that ask for an access
+abbrev pub asked : Request → UartAccess
+asked (request.Read offset) = record { offset = offset; is_write = 0; value = 0 }
+asked (request.Write offset value) = record { offset = offset; is_write = 1; value = value }
+
+-- ---- answers: one value for each, with 0 in each place that does not count
+
+-- nothing but a kind
+abbrev pub of_kind : (kind : ℕ) → UartAnswer
+of_kind kind = record { count = 0; kind = kind; value = 0; second = 0; bytes = replicate CALL_BYTES 0 }
+
+abbrev pub of_value : (kind value second : ℕ) → UartAnswer
+of_value kind value second = record (of_kind kind) { value = value; second = second }
+
+abbrev pub of_count : (kind count : ℕ) → UartAnswer
+of_count kind count = record (of_kind kind) { count = count }
+
+-- bytes, with 0 in the places behind them
+abbrev pub of_bytes : (kind : ℕ) → List ℕ → UartAnswer
+of_bytes kind bytes =
+    record (of_kind kind) { count = length bytes; bytes = bytes ++ replicate (CALL_BYTES - length bytes) 0 }
 
 -- the registers of a dump, in the order in which they are listed
 abbrev pub registers_of : ConfigRegisterDump → List ℕ
@@ -94,28 +113,29 @@ abbrev pub send_code : ByteSendError → ℕ
 send_code send_error.NoCapacity = code.UART_SEND_NO_CAPACITY
 send_code send_error.RemoteNotClearToSend = code.UART_SEND_REMOTE_NOT_CLEAR_TO_SEND
 
--- the answer says why a loopback test failed, and what came back
-abbrev pub ShowsLoopback : UartAnswer → LoopbackError → Type 0
-ShowsLoopback a (loopback_error.SendError error) = a.value ≡ code.UART_LOOPBACK_SEND_ERROR
-ShowsLoopback a (loopback_error.UnexpectedLoopbackByte expected actual) =
-    (a.value ≡ code.UART_LOOPBACK_UNEXPECTED_BYTE) × (a.second ≡ actual)
-ShowsLoopback a (loopback_error.UnexpectedLoopbackMsg expected actual) =
-    (a.value ≡ code.UART_LOOPBACK_UNEXPECTED_MSG) × Holds a actual
-ShowsLoopback a loopback_error.Stalled = a.value ≡ code.UART_LOOPBACK_STALLED
+-- why a loopback test failed, and what came back
+abbrev pub loopback_refused : LoopbackError → UartAnswer
+loopback_refused (loopback_error.SendError error) =
+    of_value code.UART_ANSWER_LOOPBACK_REFUSED code.UART_LOOPBACK_SEND_ERROR 0
+loopback_refused (loopback_error.UnexpectedLoopbackByte expected actual) =
+    of_value code.UART_ANSWER_LOOPBACK_REFUSED code.UART_LOOPBACK_UNEXPECTED_BYTE actual
+loopback_refused (loopback_error.UnexpectedLoopbackMsg expected actual) =
+    record (of_bytes code.UART_ANSWER_LOOPBACK_REFUSED actual) { value = code.UART_LOOPBACK_UNEXPECTED_MSG }
+loopback_refused loopback_error.Stalled = of_value code.UART_ANSWER_LOOPBACK_REFUSED code.UART_LOOPBACK_STALLED 0
 
--- the data of C are this answer
-abbrev pub Shows : UartAnswer → Answer → Type 0
-Shows a answer.Done = a.kind ≡ code.UART_ANSWER_DONE
-Shows a (answer.Flag on) = (a.kind ≡ code.UART_ANSWER_FLAG) × (a.value ≡ flag on 1)
-Shows a (answer.Count count) = (a.kind ≡ code.UART_ANSWER_COUNT) × (a.count ≡ count)
-Shows a (answer.Bytes bytes) = (a.kind ≡ code.UART_ANSWER_BYTES) × Holds a bytes.items
-Shows a (answer.Register value) = (a.kind ≡ code.UART_ANSWER_REGISTER) × (a.value ≡ value)
-Shows a (answer.Latch dll dlm) = (a.kind ≡ code.UART_ANSWER_LATCH) × (a.value ≡ dll) × (a.second ≡ dlm)
-Shows a (answer.Dump dump) = (a.kind ≡ code.UART_ANSWER_DUMP) × Holds a (registers_of dump)
-Shows a (answer.Stalled count) = (a.kind ≡ code.UART_ANSWER_STALLED) × (a.count ≡ count)
-Shows a (answer.ReceiveStalled bytes) = (a.kind ≡ code.UART_ANSWER_RECEIVE_STALLED) × Holds a bytes.items
-Shows a (answer.InitRefused error) = (a.kind ≡ code.UART_ANSWER_INIT_REFUSED) × (a.value ≡ init_code error)
-Shows a (answer.LoopbackRefused error) = (a.kind ≡ code.UART_ANSWER_LOOPBACK_REFUSED) × ShowsLoopback a error
-Shows a (answer.NotConnected error) = (a.kind ≡ code.UART_ANSWER_NOT_CONNECTED) × (a.value ≡ remote_code error)
-Shows a answer.NoData = a.kind ≡ code.UART_ANSWER_NO_DATA
-Shows a (answer.NotSent error) = (a.kind ≡ code.UART_ANSWER_NOT_SENT) × (a.value ≡ send_code error)
+-- the data of C of an answer
+abbrev pub shown : Answer → UartAnswer
+shown answer.Done = of_kind code.UART_ANSWER_DONE
+shown (answer.Flag on) = of_value code.UART_ANSWER_FLAG (flag on 1) 0
+shown (answer.Count count) = of_count code.UART_ANSWER_COUNT count
+shown (answer.Bytes bytes) = of_bytes code.UART_ANSWER_BYTES bytes.items
+shown (answer.Register value) = of_value code.UART_ANSWER_REGISTER value 0
+shown (answer.Latch dll dlm) = of_value code.UART_ANSWER_LATCH dll dlm
+shown (answer.Dump dump) = of_bytes code.UART_ANSWER_DUMP (registers_of dump)
+shown (answer.Stalled count) = of_count code.UART_ANSWER_STALLED count
+shown (answer.ReceiveStalled bytes) = of_bytes code.UART_ANSWER_RECEIVE_STALLED bytes.items
+shown (answer.InitRefused error) = of_value code.UART_ANSWER_INIT_REFUSED (init_code error) 0
+shown (answer.LoopbackRefused error) = loopback_refused error
+shown (answer.NotConnected error) = of_value code.UART_ANSWER_NOT_CONNECTED (remote_code error) 0
+shown answer.NoData = of_kind code.UART_ANSWER_NO_DATA
+shown (answer.NotSent error) = of_value code.UART_ANSWER_NOT_SENT (send_code error) 0

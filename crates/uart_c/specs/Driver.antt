@@ -1,13 +1,15 @@
 -- The driver that the data of C are.
-use Rattle.std.specs.Prelude.{ℕ, max, ◌==◌, Option, Some, None, if◌then◌else◌}
+use Rattle.std.specs.Prelude.{ℕ, max, ◌==◌, Option, Some, None, is_some, unwrap_or, if◌then◌else◌}
 use Rattle.uart_16550.specs.Driver.{Fields}
 use Rattle.uart_c.specs.Queue.{is_on}
 use Rattle.uart_c.specs.State.{trigger_of}
-use Rattle.uart_c.specs.declared.codes.TheConstants.{UART_PARITY_ODD, UART_PARITY_EVEN}
+use Rattle.uart_c.specs.declared.codes.TheConstants.{UART_PARITY_NONE, UART_PARITY_ODD, UART_PARITY_EVEN}
 use Rattle.uart_c.specs.declared.codes.TheConstants.{UART_PARITY_FORCED_1, UART_PARITY_FORCED_0}
 use Rattle.uart_c.specs.declared.driver.UartConfig.{UartConfig}
 use Rattle.uart_c.specs.declared.driver.UartDriver.{UartDriver}
+use Rattle.uart_chip.specs.Receiver.{characters_of}
 use Rattle.uart_spec.specs.BaudRate.{to_integer}
+use Rattle.uart_spec.specs.Bits.{flag}
 use Rattle.uart_spec.specs.declared.config.BaudRate.TheVariants.{Custom}
 use Rattle.uart_spec.specs.declared.config.Config.{Config}
 use Rattle.uart_spec.specs.declared.registers.fifo_trigger_level.FifoTriggerLevel.{FifoTriggerLevel}
@@ -63,3 +65,48 @@ fields_of d =
 -- the same fields, with the baud rate as its number
 abbrev pub numbered : Fields → Fields
 numbered f = record f { config = record f.config { baud_rate = Custom (to_integer f.config.baud_rate) } }
+
+-- ---- the data of C that a driver is: one value for each
+
+abbrev pub number_of_level : Option FifoTriggerLevel → ℕ
+number_of_level None = 0
+number_of_level (Some level) = characters_of level
+
+abbrev pub number_of_word_length : WordLength → ℕ
+number_of_word_length FiveBits = 5
+number_of_word_length SixBits = 6
+number_of_word_length SevenBits = 7
+number_of_word_length EightBits = 8
+
+abbrev pub number_of_parity : Parity → ℕ
+number_of_parity Disabled = UART_PARITY_NONE
+number_of_parity Odd = UART_PARITY_ODD
+number_of_parity Even = UART_PARITY_EVEN
+number_of_parity Forced1 = UART_PARITY_FORCED_1
+number_of_parity Forced0 = UART_PARITY_FORCED_0
+
+-- a flag is 0 or 1, and a factor that does not count is 0
+abbrev pub data_of_config : Config → UartConfig
+data_of_config c =
+    record {
+      frequency = c.frequency;
+      baud_rate = to_integer c.baud_rate;
+      prescaler_division_factor = unwrap_or c.prescaler_division_factor 0;
+      has_prescaler = flag (is_some c.prescaler_division_factor) 1;
+      interrupts = c.interrupts.0;
+      fifo_trigger_level = number_of_level c.fifo_trigger_level;
+      data_bits = number_of_word_length c.data_bits;
+      extra_stop_bits = flag c.extra_stop_bits 1;
+      parity = number_of_parity c.parity;
+      check_cts_before_sending = flag c.check_cts_before_sending 1;
+    }
+
+abbrev pub data_of : Fields → UartDriver
+data_of f =
+    record {
+      spin_limit = f.limit;
+      config = data_of_config f.config;
+      fifo_enabled = flag f.fifo 1;
+      saved_lsr = f.lsr;
+      saved_msr = f.msr;
+    }

@@ -1,8 +1,8 @@
 -- What a step of the driver of C promises: that of `next` over the data of C, which are a call that can be run.
 use Rattle.std.specs.Prelude.{◌≡◌, List, map}
 use Rattle.uart_16550.specs.State as driver_state
-use Rattle.uart_c.specs.Calls.{IsCall, Shows, access_of, request_of}
-use Rattle.uart_c.specs.Driver.{fields_of, numbered}
+use Rattle.uart_c.specs.Calls.{IsCall, access_of, asked, request_of, shown}
+use Rattle.uart_c.specs.Driver.{data_of, fields_of, numbered}
 use Rattle.uart_c.specs.declared.access.UartAccess.{UartAccess}
 use Rattle.uart_c.specs.declared.answer.UartAnswer.{UartAnswer}
 use Rattle.uart_c.specs.declared.call.UartCall.{UartCall}
@@ -20,8 +20,9 @@ pub record IsDone (c : UartCall) (before : UartDriver) (made : List UartAccess) 
   pub is : IsCall c call
   pub runs : IsRunnable call
   pub makes : Makes call (fields_of before) (map access_of made) returned
-  pub shows : Shows answer returned.answer
+  pub shows : answer ≡ shown returned.answer
   pub keeps : fields_of after ≡ numbered (driver_state.fields_of returned.state)
+  pub written : after ≡ data_of (driver_state.fields_of returned.state)
 
 -- some list of the call begins with the accesses and goes on with the one that is asked for
 pub record IsAsked (c : UartCall) (before : UartDriver) (made : List UartAccess) (access : UartAccess) : Type 0 where
@@ -29,6 +30,7 @@ pub record IsAsked (c : UartCall) (before : UartDriver) (made : List UartAccess)
   pub is : IsCall c call
   pub runs : IsRunnable call
   pub asks : BeginsAndAsks call (fields_of before) (map access_of made) (request_of access)
+  pub written : access ≡ asked (request_of access)
 
 -- no list of the call begins with the accesses
 pub record IsStrayed (c : UartCall) (before : UartDriver) (made : List UartAccess) : Type 0 where

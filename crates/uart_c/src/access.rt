@@ -1,5 +1,6 @@
 //! An access of the driver, as plain data.
 ghost use Rattle.std.specs.Prelude.{◌≡◌};
+ghost use Rattle.uart_c.specs.Calls as spec;
 ghost use Rattle.uart_c.specs.Calls.{access_of, request_of};
 
 use crate::queue::is_on;
@@ -29,7 +30,8 @@ impl Recorded for UartAccess {
 
 /// The access that is asked for.
 pub fn asked(request: Request) -> UartAccess
-    ensures { request_of result ≡ request }
+    ensures request { request_of result ≡ request }
+    ensures written { result ≡ spec.asked request }
 {
     match request {
         Request::Read(offset) => UartAccess {

@@ -1,6 +1,7 @@
 //! What a call returned, as plain data.
 ghost use Rattle.std.specs.Prelude.{◌≡◌, ◌≤◌, length};
-ghost use Rattle.uart_c.specs.Calls.{Holds, Shows, ShowsLoopback, init_code, registers_of, remote_code, send_code};
+ghost use Rattle.uart_c.specs.Calls as spec;
+ghost use Rattle.uart_c.specs.Calls.{init_code, registers_of, remote_code, send_code};
 
 use crate::codes::{
     UART_ANSWER_BYTES, UART_ANSWER_COUNT, UART_ANSWER_DONE, UART_ANSWER_DUMP, UART_ANSWER_FLAG,
@@ -37,15 +38,13 @@ const EMPTY: UartAnswer = UartAnswer {
 };
 
 fn of_kind(kind: u8) -> UartAnswer
-    ensures { result.kind ≡ kind }
+    ensures { result ≡ spec.of_kind kind }
 {
     UartAnswer { kind, ..EMPTY }
 }
 
 fn of_value(kind: u8, value: u8, second: u8) -> UartAnswer
-    ensures kind { result.kind ≡ kind }
-    ensures value { result.value ≡ value }
-    ensures second { result.second ≡ second }
+    ensures { result ≡ spec.of_value kind value second }
 {
     UartAnswer {
         kind,
@@ -56,8 +55,7 @@ fn of_value(kind: u8, value: u8, second: u8) -> UartAnswer
 }
 
 fn of_count(kind: u8, count: usize) -> UartAnswer
-    ensures kind { result.kind ≡ kind }
-    ensures count { result.count ≡ count }
+    ensures { result ≡ spec.of_count kind count }
 {
     UartAnswer {
         kind,
@@ -69,8 +67,7 @@ fn of_count(kind: u8, count: usize) -> UartAnswer
 // Copies one by one, and looks at the bound each time, because a copy of the whole would call `memcpy`.
 fn of_bytes(kind: u8, received: &[u8]) -> UartAnswer
     requires { length received.now ≤ CALL_BYTES }
-    ensures kind { result.kind ≡ kind }
-    ensures bytes { Holds result received.now }
+    ensures { result ≡ spec.of_bytes kind received.now }
 {
     let mut bytes = [0; CALL_BYTES];
     for (place, byte) in received.iter().enumerate() {
@@ -115,8 +112,7 @@ fn registers_of(dump: &ConfigRegisterDump) -> [u8; 9]
 }
 
 fn init_refused(error: &InitError) -> UartAnswer
-    ensures kind { result.kind ≡ UART_ANSWER_INIT_REFUSED }
-    ensures error { result.value ≡ init_code error.now }
+    ensures { result ≡ spec.of_value UART_ANSWER_INIT_REFUSED (init_code error.now) 0 }
 {
     let kind = UART_ANSWER_INIT_REFUSED;
     match error {
@@ -146,8 +142,7 @@ fn send_error(error: &ByteSendError) -> u8
 }
 
 fn loopback_refused(error: &LoopbackError) -> UartAnswer
-    ensures kind { result.kind ≡ UART_ANSWER_LOOPBACK_REFUSED }
-    ensures error { ShowsLoopback result error.now }
+    ensures { result ≡ spec.loopback_refused error.now }
 {
     let kind = UART_ANSWER_LOOPBACK_REFUSED;
     match error {
@@ -163,9 +158,9 @@ fn loopback_refused(error: &LoopbackError) -> UartAnswer
     }
 }
 
-/// The answer as data of C.
+/// The answer as data of C: the fields that do not count are 0.
 pub fn shown(answer: &Answer) -> UartAnswer
-    ensures { Shows result answer.now }
+    ensures { result ≡ spec.shown answer.now }
 {
     match answer {
         Answer::Done => of_kind(UART_ANSWER_DONE),

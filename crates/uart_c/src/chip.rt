@@ -1,11 +1,13 @@
 //! The chip as plain data: what an access does, and what happens between accesses.
 ghost use Rattle.std.specs.Prelude.{◌≡◌, ◌<◌, ◌≤◌, is_some, bit_and};
+ghost use Rattle.uart_c.specs.Queue as queue_spec;
 ghost use Rattle.uart_c.specs.State.{chip_of, latches_of, model_of};
 ghost use Rattle.uart_c.specs.declared.queue.TheConstants.{WIRE_ROOM};
 ghost use Rattle.uart_chip.specs.Chip as spec;
 ghost use Rattle.uart_chip.specs.Jumps.{skip};
 ghost use Rattle.uart_chip.specs.Masks.{mcr_bits};
 ghost use Rattle.uart_chip.specs.declared.event.TheConstants.{MAX_CHAR_TICKS};
+ghost use Rattle.uart_spec.specs.Bits as bits_spec;
 ghost use Rattle.uart_spec.specs.declared.baud.TheConstants.{NUM_REGISTERS};
 ghost use Rattle.uart_spec.specs.declared.registers.offsets.TheConstants as offsets;
 
@@ -69,7 +71,8 @@ impl UartChip {
     pub fn new(model: u8, char_ticks: u16, capacity: u8) -> Self
         requires char_ticks { char_ticks ≤ MAX_CHAR_TICKS }
         requires capacity { capacity ≤ WIRE_ROOM }
-        ensures { chip_of result ≡ spec.fresh (model_of model) char_ticks capacity 0 }
+        ensures chip { chip_of result ≡ spec.fresh (model_of model) char_ticks capacity 0 }
+        ensures model { result.model ≡ bits_spec.flag (queue_spec.is_on model) 1 }
     {
         UartChip {
             transmitter: UartTransmitter::new(char_ticks, capacity),
@@ -87,7 +90,7 @@ impl UartChip {
                 lines: 0,
                 deltas: 0,
             },
-            model,
+            model: is_on(model) as u8,
             fifo: 0,
             cuts: 0,
         }

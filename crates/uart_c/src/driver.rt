@@ -54,7 +54,8 @@ fn level_of(characters: u8) -> Option<FifoTriggerLevel>
 }
 
 fn number_of_level(level: Option<FifoTriggerLevel>) -> u8
-    ensures { spec.level_of result ≡ level }
+    ensures number { result ≡ spec.number_of_level level }
+    ensures level { spec.level_of result ≡ level }
 {
     match level {
         None => 0,
@@ -77,7 +78,8 @@ fn word_length_of(bits: u8) -> WordLength
 }
 
 fn number_of_word_length(length: WordLength) -> u8
-    ensures { spec.word_length_of result ≡ length }
+    ensures number { result ≡ spec.number_of_word_length length }
+    ensures length { spec.word_length_of result ≡ length }
 {
     match length {
         WordLength::FiveBits => 5,
@@ -100,7 +102,8 @@ fn parity_of(parity: u8) -> Parity
 }
 
 fn number_of_parity(parity: Parity) -> u8
-    ensures { spec.parity_of result ≡ parity }
+    ensures number { result ≡ spec.number_of_parity parity }
+    ensures parity { spec.parity_of result ≡ parity }
 {
     match parity {
         Parity::Disabled => UART_PARITY_NONE,
@@ -134,7 +137,8 @@ pub fn config_of(config: &UartConfig) -> Config
 
 // The data of C of a configuration.
 fn kept_config(config: &Config) -> UartConfig
-    ensures { spec.config_of result ≡ record config.now { baud_rate = Custom (to_integer config.now.baud_rate) } }
+    ensures written { result ≡ spec.data_of_config config.now }
+    ensures config { spec.config_of result ≡ record config.now { baud_rate = Custom (to_integer config.now.baud_rate) } }
 {
     UartConfig {
         frequency: config.frequency,
@@ -165,7 +169,8 @@ pub fn state_of(driver: &UartDriver) -> DriverState
 
 /// The data of C of a driver.
 pub fn kept(state: &DriverState) -> UartDriver
-    ensures { spec.fields_of result ≡ spec.numbered (driver_state.fields_of state.now) }
+    ensures written { result ≡ spec.data_of (driver_state.fields_of state.now) }
+    ensures fields { spec.fields_of result ≡ spec.numbered (driver_state.fields_of state.now) }
 {
     UartDriver {
         spin_limit: state.spin_limit.get(),

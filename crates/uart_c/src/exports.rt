@@ -1,11 +1,13 @@
 //! The functions of the chip that C calls. The header says what each does.
 ghost use Rattle.std.specs.Prelude.{◌≡◌, ◌≢◌, ◌++◌, ◌-◌, ◌%◌, take, drop, min, length, is_some, bit_and};
+ghost use Rattle.uart_c.specs.Queue as queue_spec;
 ghost use Rattle.uart_c.specs.State.{chip_of, model_of};
 ghost use Rattle.uart_c.specs.Status.{new_status};
 ghost use Rattle.uart_c.specs.declared.codes.TheConstants.{UART_OK, UART_BAD_ERRORS, UART_BAD_LINES};
 ghost use Rattle.uart_chip.specs.Chip as spec;
 ghost use Rattle.uart_chip.specs.Masks.{IsWithin};
 ghost use Rattle.uart_chip.specs.Transmitter.{held};
+ghost use Rattle.uart_spec.specs.Bits as bits_spec;
 ghost use Rattle.uart_spec.specs.Bits.{flag};
 ghost use Rattle.uart_spec.specs.declared.baud.TheConstants.{NUM_REGISTERS};
 ghost use Rattle.uart_spec.specs.declared.registers.line_status.TheConstants.LSR;
@@ -29,6 +31,7 @@ pub extern "C" fn uart_chip_new(
 ) -> u32
     ensures status { result ≡ new_status char_ticks wire_capacity }
     ensures built { result ≡ UART_OK → chip_of chip.new ≡ spec.fresh (model_of model) char_ticks wire_capacity 0 }
+    ensures model { result ≡ UART_OK → chip.new.model ≡ bits_spec.flag (queue_spec.is_on model) 1 }
     ensures kept { result ≢ UART_OK → chip.new ≡ chip.old }
 {
     if char_ticks == 0 || char_ticks > MAX_CHAR_TICKS {

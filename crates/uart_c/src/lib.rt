@@ -10,6 +10,7 @@ mod chip;
 mod codes;
 mod driver;
 mod exports;
+mod laws;
 mod modem;
 mod queue;
 mod receiver;

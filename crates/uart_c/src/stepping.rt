@@ -2,7 +2,7 @@
 ghost use Rattle.std.specs.Prelude.{◌≡◌, ◌≢◌, ◌≤◌, ◌↔◌, max};
 ghost use Rattle.uart_16550.specs.Driver.{with_limit};
 ghost use Rattle.uart_16550.specs.State.{fresh_fields};
-ghost use Rattle.uart_c.specs.Driver.{fields_of, numbered};
+ghost use Rattle.uart_c.specs.Driver.{data_of, fields_of, numbered};
 ghost use Rattle.uart_c.specs.Steps.{IsAsked, IsDone, IsNotRunnable, IsStrayed};
 ghost use Rattle.uart_c.specs.declared.codes.TheConstants.{UART_STEP_DONE, UART_STEP_ASKED, UART_STEP_STRAYED, UART_STEP_NOT_RUNNABLE};
 
@@ -17,10 +17,11 @@ use uart_traces::{NextStep, next};
 /// Makes a driver that has made no access.
 #[unsafe(no_mangle)]
 pub extern "C" fn uart_driver_new(driver: &mut UartDriver, spin_limit: u64)
-    ensures { fields_of driver.new ≡ with_limit (max spin_limit 1) (numbered fresh_fields) }
+    ensures fields { fields_of driver.new ≡ with_limit (max spin_limit 1) (numbered fresh_fields) }
+    ensures written { driver.new ≡ data_of (with_limit (max spin_limit 1) fresh_fields) }
 {
     *driver = UartDriver {
-        spin_limit,
+        spin_limit: spin_limit.max(1),
         ..kept(&DriverState::new())
     };
 }

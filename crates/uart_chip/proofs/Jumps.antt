@@ -1,5 +1,5 @@
 -- Ticks in turns come to the same as ticks.
-use Rattle.std.proofs.Common.{◌≡◌, ℕ, zero, suc, ◌+◌, ◌-◌, min, max, ◌≤◌, ◌<◌, Bool, true, false, nat_lt, List, [], ◌∷◌, ◌++◌, length}
+use Rattle.std.proofs.Common.{◌≡◌, ℕ, zero, suc, ◌+◌, ◌-◌, min, max, ◌≤◌, ◌<◌, Bool, true, false, ◌==◌, nat_lt, List, [], ◌∷◌, ◌++◌, length}
 use Rattle.std.proofs.Common.{Option, Some, None, refl, arith, sym, ◌∙◌, ap, subst, if◌then◌else◌}
 use Rattle.std.proofs.lemmas.Grind.{common_steps}
 use Rattle.uart_chip.specs.declared.transmitter.Shifting.{Shifting}
@@ -9,6 +9,7 @@ use Rattle.uart_chip.specs.Receiver as receiver
 use Rattle.uart_chip.specs.Receiver.{ReceiverState, grow_timeout}
 use Rattle.uart_chip.specs.Chip.{ChipState, is_loopback, tick, ticks}
 use Rattle.uart_chip.specs.Jumps.{next_move_of, next_move, left_after, place_after, count_down, count_up, skip, moves}
+use Rattle.uart_chip.specs.Jumps.{is_one, is_moving, turns}
 
 -- nothing moves within so many ticks
 abbrev pub StillFor : ℕ → Option ℕ → Type 0
@@ -108,6 +109,11 @@ place-same (Some s) = ap (λ (k : ℕ). with_left s k) (same s.ticks_left)
     same : (left : ℕ) → left_after 0 left ≡ left
     same left = grind (arith, common_steps)
 
+skip-none : (c : ChipState) → skip 0 c ≡ c
+skip-none c =
+    ap (λ (place : Option Shifting). record c { transmitter = record c.transmitter { shift_place = place } })
+    (place-same c.transmitter.shift_place)
+
 -- ticks in which nothing moves
 pub ticks_skip : (n : ℕ) (c : ChipState) → StillFor n (next_move (is_loopback c.latches) c.transmitter) → ticks n c ≡ skip n c
 ticks_skip zero c h =
@@ -159,6 +165,104 @@ moved-tick loopback k (Some s) queue t h = go loopback refl (nat_lt (length t.wi
         ap suc (freed queue u)
     go false f false g = let none : None ≡ Some (suc k) = rw (f, g) at h in absurd (cc)
 
+-- ---- turns
+
+-- no character moves in the tick after j still ones, if it is still too
+still-unmoving : (j : ℕ) (c : ChipState) → StillFor (suc j) (next_move (is_loopback c.latches) c.transmitter) → is_moving (skip j c) ≡ false
+still-unmoving j c h =
+    go (leaves (is_loopback c.latches) c.transmitter) c.transmitter.shift_place c.transmitter.queue h
+  where
+    still-left : (left : ℕ) → suc j < max left 1 → (max (left_after j left) 1 == 1) ≡ false
+    still-left left h = grind (arith, common_steps)
+
+    go : (b : Bool) (place : Option Shifting) (queue : List ℕ) → StillFor (suc j) (next_move_of b place queue) →
+        is_one (next_move_of b (place_after j place) queue) ≡ false
+    go b None [] h = refl
+    go b None (x ∷ xs) h = absurd (omega arith)
+    go true (Some s) queue h = still-left s.ticks_left h
+    go false (Some s) queue h = refl
+
+-- a character moves in the tick after k still ones
+moving : (k : ℕ) (c : ChipState) → next_move (is_loopback c.latches) c.transmitter ≡ Some (suc k) → is_moving (skip k c) ≡ true
+moving k c h =
+    go (leaves (is_loopback c.latches) c.transmitter) c.transmitter.shift_place c.transmitter.queue h
+  where
+    some-same : (i j : ℕ) → Some i ≡ Some j → i ≡ j
+    some-same i j e = cc
+
+    last : (left : ℕ) → max left 1 ≡ suc k → (max (left_after k left) 1 == 1) ≡ true
+    last left h = grind (arith, common_steps)
+
+    go : (b : Bool) (place : Option Shifting) (queue : List ℕ) → next_move_of b place queue ≡ Some (suc k) →
+        is_one (next_move_of b (place_after k place) queue) ≡ true
+    go b None [] e = absurd (cc)
+    go b None (x ∷ xs) e = refl
+    go true (Some s) queue e = last s.ticks_left (some-same _ _ e)
+    go false (Some s) queue e = absurd (cc)
+
+-- a tick in which no character moves ends no turn, and one in which a character moves does
+goes-on : (b : Bool) (later : ℕ) → b ≡ false → 1 ≤ later → (if b then suc later else max 1 later) ≡ later
+goes-on true later e least = absurd (cc)
+goes-on false later e least = omega (arith, least)
+
+ends : (b : Bool) (later : ℕ) → b ≡ true → (if b then suc later else max 1 later) ≡ suc later
+ends true later e = refl
+ends false later e = absurd (cc)
+
+ends-last : (b : Bool) → (if b then suc 0 else max 1 0) ≡ 1
+ends-last true = refl
+ends-last false = refl
+
+at-least : (n : ℕ) (c : ChipState) → 0 < n → 1 ≤ turns n c
+at-least zero c some = absurd (omega arith)
+at-least (suc n) c some = go (is_moving c) (turns n (tick c))
+  where
+    go : (b : Bool) (later : ℕ) → 1 ≤ (if b then suc later else max 1 later)
+    go true later = omega arith
+    go false later = omega arith
+
+none-first : (n : ℕ) → 0 + n ≡ n
+none-first n = omega arith
+
+still-tick-turns : (n : ℕ) (c d : ChipState) → 0 < n → is_moving c ≡ false → tick c ≡ d → turns (suc n) c ≡ turns n d
+still-tick-turns n c d some e f =
+    goes-on (is_moving c) (turns n (tick c)) e (at-least n (tick c) some) ∙ ap (λ (x : ChipState). turns n x) f
+
+turns-still : (k j n : ℕ) (c : ChipState) → StillFor (j + k) (next_move (is_loopback c.latches) c.transmitter) →
+    turns (k + suc n) (skip j c) ≡ turns (suc n) (skip (j + k) c)
+turns-still zero j n c h =
+    ap (λ (m : ℕ). turns m (skip j c)) (none-first (suc n)) ∙ ap (λ (i : ℕ). turns (suc n) (skip i c)) (sym (none_more j))
+  where
+    none_more : (j : ℕ) → j + 0 ≡ j
+    none_more j = omega arith
+turns-still (suc k) j n c h =
+    ap (λ (m : ℕ). turns m (skip j c)) (one_more k (suc n)) ∙
+    (still-tick-turns (k + suc n) (skip j c) (skip (suc j) c) (omega arith) (still-unmoving j c (still h)) (tick_skip j c (still h)) ∙
+    (turns-still k (suc j) n c (subst (λ (i : ℕ). StillFor i (next_move (is_loopback c.latches) c.transmitter)) (moved j k) h) ∙
+    ap (λ (i : ℕ). turns (suc n) (skip i c)) (sym (moved j k))))
+  where
+    one_more : (k n : ℕ) → suc k + n ≡ suc (k + n)
+    one_more k n = omega arith
+
+    fewer-still : (i m : ℕ) (move : Option ℕ) → i ≤ m → StillFor m move → StillFor i move
+    fewer-still i m None le h = tt
+    fewer-still i m (Some x) le h = omega (arith, le, h)
+
+    still : StillFor (j + suc k) (next_move (is_loopback c.latches) c.transmitter) →
+        StillFor (suc j) (next_move (is_loopback c.latches) c.transmitter)
+    still h = fewer-still (suc j) (j + suc k) _ (omega arith) h
+
+    moved : (j k : ℕ) → j + suc k ≡ suc j + k
+    moved j k = omega arith
+
+-- still ticks begin a turn, and end none
+still-first : (k n : ℕ) (c : ChipState) → StillFor k (next_move (is_loopback c.latches) c.transmitter) →
+    turns (k + suc n) c ≡ turns (suc n) (skip k c)
+still-first k n c h =
+    ap (λ (d : ChipState). turns (k + suc n) d) (sym (skip-none c)) ∙
+    (turns-still k 0 n c (subst (λ (i : ℕ). StillFor i (next_move (is_loopback c.latches) c.transmitter)) (sym (none-first k)) h) ∙
+    ap (λ (i : ℕ). turns (suc n) (skip i c)) (none-first k))
+
 -- how many turns there may be for so many ticks
 abbrev pub turns_left : ℕ → TransmitterState → ℕ
 turns_left zero t = 0
@@ -168,6 +272,7 @@ turns_left (suc n) t = suc (moves t)
 pub record IsTurn (left : ℕ) (c : ChipState) (left_after : ℕ) (d : ChipState) : Type 0 where
   pub same : ticks left_after d ≡ ticks left c
   pub fewer : turns_left left_after d.transmitter + 1 ≤ turns_left left c.transmitter
+  pub counted : turns left_after d + 1 ≡ turns left c
 
 turns-most : (n : ℕ) (t : TransmitterState) → turns_left n t ≤ suc (moves t)
 turns-most zero t = omega arith
@@ -180,7 +285,7 @@ turns-some (suc n) t h = refl
 -- something moves after k more ticks and one
 goes_after : (left k : ℕ) (c : ChipState) → next_move (is_loopback c.latches) c.transmitter ≡ Some (suc k) → suc k ≤ left →
     IsTurn left c (left - suc k) (tick (skip k c))
-goes_after left k c h le = record { same = same; fewer = fewer }
+goes_after left k c h le = record { same = same; fewer = fewer; counted = counted }
   where
     loopback : Bool
     loopback = is_loopback c.latches
@@ -203,6 +308,18 @@ goes_after left k c h le = record { same = same; fewer = fewer }
         let d = turns-some left c.transmitter (omega arith) in
         omega (arith, a, b, d)
 
+    split : (left k : ℕ) → suc k ≤ left → k + suc (left - suc k) ≡ left
+    split left k le = omega arith
+
+    plus_one : (i : ℕ) → i + 1 ≡ suc i
+    plus_one i = omega arith
+
+    counted : turns (left - suc k) (tick (skip k c)) + 1 ≡ turns left c
+    counted =
+        plus_one (turns (left - suc k) (tick (skip k c))) ∙
+        (sym (ends (is_moving (skip k c)) (turns (left - suc k) (tick (skip k c))) (moving k c h)) ∙
+        (sym (still-first k (left - suc k) c (still _ h)) ∙ ap (λ (n : ℕ). turns n c) (split left k le)))
+
 -- something moves after k ticks
 pub goes_on : (left k : ℕ) (c d e : ChipState) → next_move (is_loopback c.latches) c.transmitter ≡ Some k → 1 ≤ k → k ≤ left →
     d ≡ skip (k - 1) c → e ≡ tick d → IsTurn left c (left - k) e
@@ -212,11 +329,23 @@ goes_on left (suc k) c d e h few le p q =
     let here : e ≡ tick (skip k c) = q ∙ ap tick (p ∙ ap (λ (n : ℕ). skip n c) one) in
     subst (λ (e : ChipState). IsTurn left c (left - suc k) e) (sym here) (goes_after left k c h le)
 
+one-turn : (left : ℕ) (c : ChipState) → 0 < left → StillFor left (next_move (is_loopback c.latches) c.transmitter) → turns left c ≡ 1
+one-turn zero c some still = absurd (omega arith)
+one-turn (suc m) c some still =
+    ap (λ (n : ℕ). turns n c) (last m) ∙ (still-first m 0 c (still-less m _ still) ∙ ends-last (is_moving (skip m c)))
+  where
+    last : (m : ℕ) → suc m ≡ m + suc 0
+    last m = omega arith
+
 -- nothing moves
 pub stays : (left : ℕ) (c d : ChipState) → 0 < left → StillFor left (next_move (is_loopback c.latches) c.transmitter) → d ≡ skip left c →
     IsTurn left c 0 d
 stays left c d some still p =
-    rw p (record { same = sym (ticks_skip left c still); fewer = let e = turns-some left c.transmitter some in omega (arith, e) })
+    rw p (record {
+      same = sym (ticks_skip left c still);
+      fewer = let e = turns-some left c.transmitter some in omega (arith, e);
+      counted = sym (one-turn left c some still);
+    })
 
 -- ---- a turn of the loop, as the code sees it
 

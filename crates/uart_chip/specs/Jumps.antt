@@ -1,10 +1,11 @@
 -- Ticks in turns: when a character moves next, what happens until then, and how many turns there are at most.
-use Rattle.std.specs.Prelude.{ℕ, ◌+◌, ◌-◌, min, max, zero, suc, Bool, List, [], ◌∷◌, length, Option, Some, None, nat_lt}
+use Rattle.std.specs.Prelude.{ℕ, ◌+◌, ◌-◌, ◌==◌, min, max, zero, suc, Bool, false, List, [], ◌∷◌, length}
+use Rattle.std.specs.Prelude.{Option, Some, None, nat_lt}
 use Rattle.std.specs.Prelude.{if◌then◌else◌}
 use Rattle.uart_chip.specs.declared.transmitter.Shifting.{Shifting}
 use Rattle.uart_chip.specs.Transmitter.{TransmitterState}
 use Rattle.uart_chip.specs.Receiver.{ReceiverState}
-use Rattle.uart_chip.specs.Chip.{ChipState}
+use Rattle.uart_chip.specs.Chip.{ChipState, is_loopback, tick}
 
 -- the ticks until the character in the shift register leaves it, if it may, or the next one enters an empty one
 abbrev pub next_move_of : (may_leave : Bool) → Option Shifting → List ℕ → Option ℕ
@@ -44,6 +45,20 @@ abbrev pub skip : ℕ → ChipState → ChipState
 skip n c = record c { transmitter = count_down n c.transmitter; receiver = count_up n c.receiver }
 
 -- ---- turns
+
+abbrev pub is_one : Option ℕ → Bool
+is_one None = false
+is_one (Some k) = k == 1
+
+-- whether a character leaves the shift register or enters it in the next tick
+abbrev pub is_moving : ChipState → Bool
+is_moving c = is_one (next_move (is_loopback c.latches) c.transmitter)
+
+-- how many turns so many ticks are: each ends with a tick in which a character moves, and the last one with the last
+-- tick
+abbrev pub turns : ℕ → ChipState → ℕ
+turns zero c = 0
+turns (suc n) c = if is_moving c then suc (turns n (tick c)) else max 1 (turns n (tick c))
 
 -- how many more times a character may leave the shift register or enter an empty one
 abbrev pub moves_of : Option Shifting → List ℕ → ℕ

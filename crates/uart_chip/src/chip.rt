@@ -3,7 +3,7 @@ ghost use Rattle.std.specs.Prelude.{◌≡◌, ◌<◌, ◌≤◌, ◌+◌, [], 
 ghost use Rattle.uart_chip.specs.Chip as spec;
 ghost use Rattle.uart_chip.specs.Snapshot.{chip_of, unscheduled};
 ghost use Rattle.uart_chip.specs.Machine.{arrivals, perform};
-ghost use Rattle.uart_chip.specs.Jumps.{skip, moves};
+ghost use Rattle.uart_chip.specs.Jumps.{skip, moves, turns};
 ghost use Rattle.uart_chip.specs.declared.event.TheConstants.{MAX_CHAR_TICKS};
 ghost use Rattle.uart_spec.specs.declared.baud.TheConstants.{FIFO_SIZE, NUM_REGISTERS};
 ghost use Rattle.uart_spec.specs.declared.registers.offsets.TheConstants as offsets;
@@ -285,7 +285,8 @@ impl Uart {
     /// So its cost does not grow with the number of ticks.
     pub fn ticks(&mut self, n: u16) -> usize
         ensures after { self.new ≡ spec.ticks n self.old }
-        ensures turns { result ≤ moves self.old.transmitter + 1 }
+        ensures turns { result ≡ turns n self.old }
+        ensures most { result ≤ moves self.old.transmitter + 1 }
     {
         let mut left = n;
         let mut turns = 0;

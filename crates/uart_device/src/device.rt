@@ -6,7 +6,7 @@ ghost use Rattle.uart_device.specs.Sound.{IsWhole};
 ghost use Rattle.uart_chip.specs.Transmitter.{held};
 ghost use Rattle.uart_device.specs.Conserved.{waiting};
 ghost use Rattle.uart_chip.specs.Chip.{divisor, ticks};
-ghost use Rattle.uart_chip.specs.Jumps.{most_turns};
+ghost use Rattle.uart_chip.specs.Jumps.{most_turns, turns};
 ghost use Rattle.uart_chip.specs.declared.event.BuildError.{BuildError};
 
 use std::alloc::Global;
@@ -292,7 +292,8 @@ impl Device16550 {
     /// ```
     pub fn idle(&mut self, n: u16) -> usize
         ensures after { self.new ≡ record self.old { chip = ticks n self.old.chip } }
-        ensures turns { result ≤ most_turns }
+        ensures turns { result ≡ turns n self.old.chip }
+        ensures most { result ≤ most_turns }
     {
         self.uart.ticks(n)
     }

@@ -2,7 +2,7 @@
 ghost use Rattle.std.specs.Prelude.{◌≡◌, ◌≢◌, ◌<◌, ◌≤◌, ◌-◌, [], length, Some, None, not, bit_and, is_some, Err, IfOk, IsOk, IsOkUnless};
 ghost use Rattle.uart_chip.specs.Build.{refusal};
 ghost use Rattle.uart_chip.specs.Chip as spec;
-ghost use Rattle.uart_chip.specs.Jumps.{most_turns};
+ghost use Rattle.uart_chip.specs.Jumps.{most_turns, turns};
 ghost use Rattle.uart_chip.specs.Masks.{IsWithin};
 ghost use Rattle.uart_chip.specs.Receiver.{waiting};
 ghost use Rattle.uart_chip.specs.Transmitter.{held};
@@ -136,6 +136,8 @@ impl LiveChip {
 
     /// Lets `count` ticks pass. Returns the number of turns that this took, which is at most 18, whatever `count` is.
     ///
+    /// A turn ends at the tick in which a character enters or leaves the shift register, or takes all ticks that are left.
+    ///
     /// What was sent in this time is on the `wire`. Check `is_interrupting` after it.
     ///
     /// # Examples
@@ -145,7 +147,8 @@ impl LiveChip {
     /// ```
     pub fn ticks(&mut self, count: u16) -> usize
         ensures after { self.new ≡ spec.ticks count self.old }
-        ensures turns { result ≤ most_turns }
+        ensures turns { result ≡ turns count self.old }
+        ensures most { result ≤ most_turns }
     {
         self.uart.ticks(count)
     }

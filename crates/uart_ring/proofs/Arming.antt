@@ -1,7 +1,7 @@
 -- That ring calls leave the THR-empty interrupt armed.
 use Rattle.std.proofs.Common.{◌≡◌, ◌<◌, ◌==◌, ◌||◌, ◌&&◌, ◌⊎◌, ℕ, zero, suc, Bool, true, false, not, List}
 use Rattle.std.proofs.Common.{[], ◌∷◌, ◌++◌, length, take, drop, length-take, length-drop, append-nil, refl, arith, ◌∙◌, ap, inl, inr}
-use Rattle.std.proofs.Common.{Option, Some, None, bit_and, bit_or, if◌then◌else◌}
+use Rattle.std.proofs.Common.{Option, Some, None, bit_and, bit_or, if◌then◌else◌, MatchBool}
 use Rattle.std.specs.Prelude.{⊤}
 use Rattle.std.proofs.lemmas.Bool.Decides.{nat_tests}
 use lib.Bits.{or_zero_r}
@@ -19,20 +19,20 @@ use Rattle.uart_spec.specs.declared.registers.interrupt_type.InterruptType.TheVa
 use Rattle.uart_spec.specs.declared.registers.interrupt_type.InterruptType.TheVariants.{DmaTransmissionEndOfTransfer}
 use Rattle.uart_spec.specs.declared.registers.line_status.TheConstants.LSR
 use Rattle.uart_spec.specs.declared.registers.offsets.TheConstants as offsets
-use Rattle.uart_16550.specs.Grammar.{Settings, Asks, InOrder}
+use Rattle.uart_16550.specs.Grammar.{Settings, Asks, Then, InOrder}
 use Rattle.uart_16550.specs.Driver.{Fields, settings_of}
 use Rattle.uart_16550.specs.Receive.{Receives, Hit}
-use Rattle.uart_16550.specs.Transmit.{Sends, SendMiss, burst_limit, data_writes}
+use Rattle.uart_16550.specs.Transmit.{Sends, SendMiss, LinesAllow, Burst, burst_limit, burst_size, data_writes}
 use Rattle.uart_16550.specs.Status.{Enables}
 use Rattle.uart_ring.specs.Ring.{RingFields, OnDriver, Stays, RingNext, RingTimes, IfAny, with_queued, without_taken}
 use Rattle.uart_ring.specs.Ring.{unchanged, is_full}
-use Rattle.uart_ring.specs.Transmit.{ArmsIfLeft, Pumps, Queues}
+use Rattle.uart_ring.specs.Transmit.{ArmsIfLeft, Pumps, Queues, ResumesTransmit}
 use Rattle.uart_ring.specs.Receive.{PausesIfFull, FillsReceiveRing, EndsPause, TakesBytes}
 use Rattle.uart_ring.specs.Status.{NotesLine, NotesModem, TakesLine, TakesModem}
 use Rattle.uart_ring.specs.Service.{ShowsInterrupt, ServesInterrupt, ServesOne, Services}
 use Rattle.uart_ring.specs.Lossless.{Implies}
 use Rattle.uart_ring.specs.Armed.{ThrEmpty, shows_thr_empty, due_after_read, known_after, known_after_all, KeepsIer, IsArmed, LeavesArmed}
-use Rattle.uart_ring.specs.Armed.{Arms}
+use Rattle.uart_ring.specs.Armed.{Arms, ShowsCtsClear, ArmsUnlessHeld}
 use Rattle.uart_ring.proofs.RegisterBits.{and_or, and_assoc, or_and}
 use Rattle.uart_ring.proofs.Pausing.{ChangesIer, Pausing, joined_with, rid_of}
 use Rattle.uart_ring.proofs.Losses.{Carries, received_carries, shows_carry, serves_one_carries, times_carry}
@@ -130,17 +130,50 @@ asks_miss : (s : Settings) → s.checks ≡ false → (l : List Access) → Send
 asks_miss s off l (NoCapacity, t) = t
 asks_miss s off l (RemoteNotClearToSend, t) = absurd (rw off at t)
 
+-- after a burst
+burst_due : (known : ThrEmpty) (s : Settings) (bytes : List ℕ) (sent : ℕ) (l : List Access) → 0 < length bytes → sent ≡ burst_size s bytes →
+    Burst (take sent bytes) s l → (known_after_all known l).due ≡ true
+burst_due known s bytes sent l any size t =
+    let one : 0 < burst_limit s.fifo = elim s.fifo as (λ b. 0 < burst_limit b) [ true ↦ omega arith | false ↦ omega arith ] in
+    let written : 0 < length (take sent bytes) = omega (arith, any, size, one, length-take sent bytes) in
+    rw (t.whole, t.second.is, after-append known t.front (data_writes (take sent bytes)))
+    (writes_due (known_after_all known t.front) (take sent bytes) (inr written))
+
 -- after a send of some bytes: the transmitter had no room, or it holds them
 sent_due : (known : ThrEmpty) (s : Settings) (bytes : List ℕ) (sent : ℕ) (l : List Access) → s.checks ≡ false → Sends bytes sent s l →
     0 < length bytes → (known_after_all known l).due ≡ true
 sent_due known s bytes sent l off (inl (none, unsent, is)) some = absurd (omega (arith, none, some))
 sent_due known s bytes sent l off (inr (inl (any, unsent, t))) some = let miss = asks_miss s off l t in
     rw miss.is (miss_due known miss.answer miss.shows)
-sent_due known s bytes sent l off (inr (inr (any, size, t))) some =
-    let one : 0 < burst_limit s.fifo = elim s.fifo as (λ b. 0 < burst_limit b) [ true ↦ omega arith | false ↦ omega arith ] in
-    let written : 0 < length (take sent bytes) = omega (arith, any, size, one, length-take sent bytes) in
-    rw (t.whole, t.second.is, after-append known t.front (data_writes (take sent bytes)))
-    (writes_due (known_after_all known t.front) (take sent bytes) (inr written))
+sent_due known s bytes sent l off (inr (inr (any, size, t))) some = burst_due known s bytes sent l any size t
+
+-- whether CTS is checked or not: it is due, or CTS was clear
+refused_due : (known : ThrEmpty) (s : Settings) (l : List Access) → SendMiss s l → ((known_after_all known l).due ≡ true) ⊎ ShowsCtsClear l
+refused_due known s l (NoCapacity, t) = inl (rw t.is (miss_due known t.answer t.shows))
+refused_due known s l (RemoteNotClearToSend, t) = go s.checks t
+  where
+    held : (front back : List Access) → Asks offsets.LSR LSR.THR_EMPTY.0 true s front → LinesAllow false s back →
+        ShowsCtsClear (front ++ back)
+    held front back look (inl (lies, loops)) = absurd (cc (lies))
+    held front back look (inr lines) =
+        rw (look.is, lines.whole, lines.first.is, lines.second.is) (inr (inr (inl (refl, lines.second.shows))))
+
+    go : (checks : Bool) → MatchBool checks (Then (Asks offsets.LSR LSR.THR_EMPTY.0 true) (LinesAllow false) s l) ⊥ →
+        ((known_after_all known l).due ≡ true) ⊎ ShowsCtsClear l
+    go true t = inr (rw t.whole (held t.front t.back t.first t.second))
+    go false t = absurd t
+
+sent_or_held : (known : ThrEmpty) (s : Settings) (bytes : List ℕ) (sent : ℕ) (l : List Access) → Sends bytes sent s l → 0 < length bytes →
+    ((known_after_all known l).due ≡ true) ⊎ ShowsCtsClear l
+sent_or_held known s bytes sent l (inl (none, unsent, is)) some = absurd (omega (arith, none, some))
+sent_or_held known s bytes sent l (inr (inl (any, unsent, t))) some = refused_due known s l t
+sent_or_held known s bytes sent l (inr (inr (any, size, t))) some = inl (burst_due known s bytes sent l any size t)
+
+shows-append : (l m : List Access) → ShowsCtsClear l → ShowsCtsClear (l ++ m)
+shows-append [] m h = absurd h
+shows-append (Read offset answer ∷ l) m (inl h) = inl h
+shows-append (Read offset answer ∷ l) m (inr h) = inr (shows-append l m h)
+shows-append (Write offset value ∷ l) m h = shows-append l m h
 
 -- ---- IER
 
@@ -186,17 +219,25 @@ leaves_others : (f : RingFields) (l : List Access) (after : RingFields) → afte
     LeavesArmed f l after
 leaves_others f l after items others = leaves_live f l after items (λ known keeps live. live_others known l others live)
 
--- a pump arms
-pub pumps_arm : Implies Pumps Arms
-pumps_arm f l after (sent, (t, same)) = λ off known. go off known (drop sent f.transmit.items) refl t.second
+-- a pump whose send leaves the interrupt due arms, or else this holds
+pumped_arms : (H : Type 0) (f : RingFields) (l : List Access) (after : RingFields) (p : Pumps f l after) (known : ThrEmpty) →
+    (0 < length (take FIFO_SIZE f.transmit.items) → ((known_after_all known p.1.0.front).due ≡ true) ⊎ H) →
+    IsArmed (known_after_all known l) after ⊎ H
+pumped_arms H f l after (sent, (t, same)) known due = go (drop sent f.transmit.items) refl t.second
   where
     items : after.transmit.items ≡ drop sent f.transmit.items
     items = ap (λ (g : RingFields). g.transmit.items) same
 
-    go : f.driver.config.check_cts_before_sending ≡ false → (known : ThrEmpty) (left : List ℕ) → drop sent f.transmit.items ≡ left →
-        ArmsIfLeft left t.mid t.back after.driver → IsArmed (known_after_all known l) after
-    go off known [] e arms = inl (items ∙ e)
-    go off known (byte ∷ bytes) e arms =
+    enabled : (byte : ℕ) (bytes : List ℕ) → ArmsIfLeft (byte ∷ bytes) t.mid t.back after.driver →
+        ((known_after_all known t.front).due ≡ true) ⊎ H → IsArmed (known_after_all known l) after ⊎ H
+    enabled byte bytes arms (inr h) = inr h
+    enabled byte bytes arms (inl is) = inl (inr (rw (t.whole, after-append known t.front t.back)
+        (enabled_live (known_after_all known t.front) t.mid t.back after.driver arms is)))
+
+    go : (left : List ℕ) → drop sent f.transmit.items ≡ left → ArmsIfLeft left t.mid t.back after.driver →
+        IsArmed (known_after_all known l) after ⊎ H
+    go [] e arms = inl (inl (items ∙ e))
+    go (byte ∷ bytes) e arms =
         let long : 0 < length (drop sent f.transmit.items) = rw e (omega arith) in
         let some : 0 < length (take FIFO_SIZE f.transmit.items) = omega (
           arith,
@@ -204,9 +245,27 @@ pumps_arm f l after (sent, (t, same)) = λ off known. go off known (drop sent f.
           length-drop sent f.transmit.items,
           length-take FIFO_SIZE f.transmit.items,
         ) in
-        let due = sent_due known (settings_of f.driver) (take FIFO_SIZE f.transmit.items) sent t.front off t.first.0 some in
-        inr (rw (t.whole, after-append known t.front t.back)
-        (enabled_live (known_after_all known t.front) t.mid t.back after.driver arms due))
+        enabled byte bytes arms (due some)
+
+surely : {T : Type 0} → T ⊎ ⊥ → T
+surely (inl h) = h
+surely (inr none) = absurd none
+
+-- a pump arms
+pub pumps_arm : Implies Pumps Arms
+pumps_arm f l after p = λ off known. surely (pumped_arms ⊥ f l after p known
+    (λ some. inl (sent_due known (settings_of f.driver) (take FIFO_SIZE f.transmit.items) p.0 p.1.0.front off p.1.0.first.0 some)))
+
+-- also with CTS checking, unless CTS is clear
+pumps_arm_unless_held : Implies Pumps ArmsUnlessHeld
+pumps_arm_unless_held f l after p = λ known.
+    let t = p.1.0 in
+    pumped_arms (ShowsCtsClear l) f l after p known (λ some. in_whole t.front t.back l t.whole
+    (sent_or_held known (settings_of f.driver) (take FIFO_SIZE f.transmit.items) p.0 t.front t.first.0 some))
+  where
+    in_whole : {T : Type 0} → (front back whole : List Access) → whole ≡ front ++ back → T ⊎ ShowsCtsClear front → T ⊎ ShowsCtsClear whole
+    in_whole front back whole is (inl h) = inl h
+    in_whole front back whole is (inr h) = inr (rw is (shows-append front back h))
 
 pumps_leave : Implies Pumps LeavesArmed
 pumps_leave f l after t = λ off known keeps armed. pumps_arm f l after t off known
@@ -311,6 +370,38 @@ queues_leave bytes (suc n) f l after (is, t) = λ off known keeps armed. pumps_a
 
 pub queues_arm : (bytes : List ℕ) (count : ℕ) → 0 < count → Implies (Queues bytes count) Arms
 queues_arm bytes count some f l after (is, t) = any_pumps_arm count (with_queued (take count bytes) f) l after some t
+
+any_pumps_arm_unless_held : (count : ℕ) (f : RingFields) (l : List Access) (after : RingFields) → 0 < count →
+    IfAny count Pumps f l after → ArmsUnlessHeld f l after
+any_pumps_arm_unless_held zero f l after some t = absurd (omega (arith, some))
+any_pumps_arm_unless_held (suc n) f l after some t = pumps_arm_unless_held f l after t
+
+pub queues_arm_unless_held : (bytes : List ℕ) (count : ℕ) → 0 < count → Implies (Queues bytes count) ArmsUnlessHeld
+queues_arm_unless_held bytes count some f l after (is, t) =
+    any_pumps_arm_unless_held count (with_queued (take count bytes) f) l after some t
+
+-- there is nothing to send, or a pump
+resumes_by : (f : RingFields) (l : List Access) (after : RingFields) → ResumesTransmit f l after →
+    (after.transmit.items ≡ []) ⊎ Pumps f l after
+resumes_by f l after t = go f.transmit.items refl t
+  where
+    go : (items : List ℕ) → f.transmit.items ≡ items → IfAny (length items) Pumps f l after → (after.transmit.items ≡ []) ⊎ Pumps f l after
+    go [] e t = inl (ap (λ (g : RingFields). g.transmit.items) t.1 ∙ e)
+    go (byte ∷ bytes) e t = inr t
+
+pub resumes_arm : Implies ResumesTransmit Arms
+resumes_arm f l after t = go (resumes_by f l after t)
+  where
+    go : (after.transmit.items ≡ []) ⊎ Pumps f l after → Arms f l after
+    go (inl none) = λ off known. inl none
+    go (inr p) = pumps_arm f l after p
+
+pub resumes_arm_unless_held : Implies ResumesTransmit ArmsUnlessHeld
+resumes_arm_unless_held f l after t = go (resumes_by f l after t)
+  where
+    go : (after.transmit.items ≡ []) ⊎ Pumps f l after → ArmsUnlessHeld f l after
+    go (inl none) = λ known. inl (inl none)
+    go (inr p) = pumps_arm_unless_held f l after p
 
 any_ends_pause_leaves : (count : ℕ) → Implies (IfAny count EndsPause) LeavesArmed
 any_ends_pause_leaves zero f l after t = leaves_stays f l after t

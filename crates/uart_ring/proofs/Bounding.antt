@@ -18,7 +18,7 @@ use Rattle.uart_16550.specs.Receive.{Receives, Hit}
 use Rattle.uart_16550.specs.Transmit.{Sends, SendHit, SendMiss, LinesAllow, data_writes}
 use Rattle.uart_ring.specs.Ring.{RingTimes, IfAny, with_queued, without_taken}
 use Rattle.uart_ring.specs.Ring.{free, is_full}
-use Rattle.uart_ring.specs.Transmit.{ArmsIfLeft, Pumps, Queues}
+use Rattle.uart_ring.specs.Transmit.{ArmsIfLeft, Pumps, Queues, ResumesTransmit}
 use Rattle.uart_ring.specs.Receive.{PausesIfFull, FillsReceiveRing, EndsPause, TakesBytes}
 use Rattle.uart_ring.specs.Status.{TakesLine, TakesModem}
 use Rattle.uart_ring.specs.Service.{ServesInterrupt, ServesOne, Services}
@@ -165,9 +165,15 @@ services_size count f l after (inl (fewer, t)) =
     omega (arith, fewer, ap length t.whole, length-append t.front t.back, times_size count f t.front t.mid t.first, read)
 services_size count f l after (inr (all, t)) = omega (arith, all, times_size count f l after t)
 
+any_pumps_size : (count : ℕ) → Implies (IfAny count Pumps) (MakesAtMost most_of_pump)
+any_pumps_size zero f l after t = omega (arith, ap length t.0)
+any_pumps_size (suc n) f l after t = pumps_size f l after t
+
 pub queues_size : (bytes : List ℕ) (count : ℕ) → Implies (Queues bytes count) (MakesAtMost most_of_pump)
-queues_size bytes zero f l after (is, t) = omega (arith, ap length t.0)
-queues_size bytes (suc n) f l after (is, t) = pumps_size (with_queued (take (suc n) bytes) f) l after t
+queues_size bytes count f l after (is, t) = any_pumps_size count (with_queued (take count bytes) f) l after t
+
+pub resumes_size : Implies ResumesTransmit (MakesAtMost most_of_pump)
+resumes_size f l after t = any_pumps_size (length f.transmit.items) f l after t
 
 any_ends_pause_size : (count : ℕ) → Implies (IfAny count EndsPause) (MakesAtMost most_of_change)
 any_ends_pause_size zero f l after t = omega (arith, ap length t.0)

@@ -1,6 +1,7 @@
 -- That ring calls leave no choice.
 use Rattle.std.proofs.Common.{◌≡◌, ◌<◌, ℕ, zero, suc, Bool, true, false, min, List, [], ◌∷◌, ◌++◌, length, take, drop}
 use Rattle.std.proofs.Common.{append_assoc, refl, arith}
+use Rattle.std.specs.Prelude.{⊤}
 use Rattle.std.proofs.Common.{sym, ◌∙◌, ap, subst, inl, inr, ◌⊎◌, Option, Some, None, bit_and, bit_or}
 use Rattle.uart_spec.specs.Access.{Access, Read}
 use Rattle.uart_spec.specs.Bits.{IsOnlyIfAny}
@@ -29,7 +30,7 @@ use Rattle.uart_16550.proofs.determined.Transmit.{sends_determined}
 use Rattle.uart_ring.specs.Ring.{RingDoing, RingFields, OnDriver, Stays, RingNext, RingTimes, IfAny, unchanged, with_driver, with_queued}
 use Rattle.uart_ring.specs.Ring.{with_received, with_paused, with_line, with_modem, without_sent, without_taken, free, is_full}
 use Rattle.uart_ring.proofs.Pausing.{ChangesIer, Pausing, joined_with, rid_of}
-use Rattle.uart_ring.specs.Transmit.{ArmsIfLeft, Pumps, Queues}
+use Rattle.uart_ring.specs.Transmit.{ArmsIfLeft, Pumps, Queues, ResumesTransmit}
 use Rattle.uart_ring.specs.Receive.{EndsPause, FillsReceiveRing, PausesIfFull, TakesBytes}
 use Rattle.uart_ring.specs.Status.{TakesLine, TakesModem}
 use Rattle.uart_ring.specs.Service.{ServesInterrupt, ServesOne, Services, ShowsInterrupt}
@@ -285,6 +286,12 @@ queues_leave_no_choice bytes = no_choice (λ f x y. record { at = λ l m a b p q
         let g = with_queued (take x bytes) f in
         let P : ℕ → Type 0 = λ n. IfAny n Pumps (with_queued (take n bytes) f) m b in
         so (λ r. (e, r.1)) ((any_same x Pumps g (pumps_same g)).at l m a b p (subst P (sym e) q))
+
+pub resumes_leave_no_choice : LeavesNoRingChoice (λ (_ : ⊤). ResumesTransmit)
+resumes_leave_no_choice =
+    no_choice (λ f x y. record {
+      at = λ l m a b p q. so (λ r. (refl, r.1)) ((any_same (length f.transmit.items) Pumps f (pumps_same f)).at l m a b p q);
+    })
 
 pub takes_leave_no_choice : (slots : ℕ) → LeavesNoRingChoice (TakesBytes slots)
 takes_leave_no_choice slots = no_choice (λ f x y. record { at = λ l m a b p q. at f x y l m a b (p.0 ∙ sym q.0) p.1 q.1 })

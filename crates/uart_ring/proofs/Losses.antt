@@ -23,7 +23,7 @@ use Rattle.uart_16550.specs.Transmit.{Sends, SendHit, SendMiss, LinesAllow, data
 use Rattle.uart_16550.proofs.Paths.{or_assoc}
 use Rattle.uart_ring.specs.Ring.{RingFields, OnDriver, Stays, RingTimes, IfAny, with_driver, with_queued, with_received}
 use Rattle.uart_ring.specs.Ring.{with_paused, without_sent, without_taken, unchanged, is_full}
-use Rattle.uart_ring.specs.Transmit.{ArmsIfLeft, Pumps, Queues}
+use Rattle.uart_ring.specs.Transmit.{ArmsIfLeft, Pumps, Queues, ResumesTransmit}
 use Rattle.uart_ring.specs.Receive.{PausesIfFull, FillsReceiveRing, EndsPause, TakesBytes}
 use Rattle.uart_ring.specs.Status.{NotesLine, NotesModem, TakesLine, TakesModem}
 use Rattle.uart_ring.specs.Service.{ShowsInterrupt, ServesInterrupt, ServesOne, Services}
@@ -357,6 +357,18 @@ queues_lose_nothing bytes count f l after (is, t) =
 any_ends_pause_carries : (count : ℕ) → Implies (IfAny count EndsPause) Carries
 any_ends_pause_carries zero f l after t = stays_carries f l after t
 any_ends_pause_carries (suc n) f l after t = ends_pause_carries f l after t
+
+pub resumes_lose_nothing : Implies ResumesTransmit (LosesNothing [] [] 0 0)
+resumes_lose_nothing f l after t =
+    let c = any_pumps_carry (length f.transmit.items) f l after t in
+    record {
+      sent = sym c.sent ∙ sym (append-nil f.transmit.items);
+      received = c.received;
+      line_told = c.line;
+      modem_told = c.modem;
+      rooms = c.rooms;
+      settings = c.settings;
+    }
 
 -- the first of a list, and what is left without as many
 taken_first : (slots : ℕ) (items bytes : List ℕ) → bytes ≡ take slots items → bytes ++ drop (length bytes) items ≡ items

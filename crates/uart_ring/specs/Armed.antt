@@ -6,6 +6,7 @@ use Rattle.uart_spec.specs.Fields.{interrupt_code}
 use Rattle.uart_spec.specs.declared.registers.interrupt_enable.TheConstants.IER
 use Rattle.uart_spec.specs.declared.registers.interrupt_type.InterruptType.TheVariants.{TransmitterHoldingRegisterEmpty}
 use Rattle.uart_spec.specs.declared.registers.line_status.TheConstants.LSR
+use Rattle.uart_spec.specs.declared.registers.modem_status.TheConstants.MSR
 use Rattle.uart_spec.specs.declared.registers.offsets.TheConstants as offsets
 use Rattle.uart_ring.specs.Ring.{RingDoing, RingFields}
 
@@ -65,3 +66,14 @@ LeavesArmed f l after =
 abbrev pub Arms : RingDoing
 Arms f l after =
     f.driver.config.check_cts_before_sending ≡ false → (known : ThrEmpty) → IsArmed (known_after_all known l) after
+
+-- a read of MSR shows that CTS is clear
+abbrev pub ShowsCtsClear : List Access → Type 0
+ShowsCtsClear [] = ⊥
+ShowsCtsClear (Read offset answer ∷ accesses) =
+    ((offset ≡ offsets.MSR) × (has answer MSR.CTS.0 ≡ false)) ⊎ ShowsCtsClear accesses
+ShowsCtsClear (Write offset value ∷ accesses) = ShowsCtsClear accesses
+
+-- after a call this is so in any case, unless the call saw that CTS is clear
+abbrev pub ArmsUnlessHeld : RingDoing
+ArmsUnlessHeld f l after = (known : ThrEmpty) → IsArmed (known_after_all known l) after ⊎ ShowsCtsClear l

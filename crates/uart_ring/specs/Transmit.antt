@@ -25,3 +25,7 @@ Pumps f l after =
 abbrev pub Queues : List ℕ → ℕ → RingDoing
 Queues bytes count f l after =
     (count ≡ min (length bytes) (free f.transmit)) × IfAny count Pumps (with_queued (take count bytes) f) l after
+
+-- `resume_transmit`: if bytes wait in the transmit ring, a pump
+abbrev pub ResumesTransmit : RingDoing
+ResumesTransmit f l after = IfAny (length f.transmit.items) Pumps f l after

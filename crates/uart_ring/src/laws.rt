@@ -1,16 +1,18 @@
 //! Laws about the ring calls, over any backend. They follow from the contracts of the calls.
 //!
 //! The contract of each function is a law that callers can cite. The functions do nothing.
-ghost use Rattle.std.specs.Prelude.{◌<◌, ℕ, List, [], take};
+ghost use Rattle.std.specs.Prelude.{◌≡◌, ◌<◌, ⊤, ℕ, List, [], take};
 ghost use Rattle.uart_ring.specs.Ring.{RingDoing};
-ghost use Rattle.uart_ring.specs.Transmit.{Queues};
+ghost use Rattle.uart_ring.specs.Transmit.{Queues, ResumesTransmit};
 ghost use Rattle.uart_ring.specs.Receive.{TakesBytes};
 ghost use Rattle.uart_ring.specs.Status.{TakesLine, TakesModem};
 ghost use Rattle.uart_ring.specs.Service.{Services};
 ghost use Rattle.uart_ring.specs.Lossless.{LosesNothing, Implies};
-ghost use Rattle.uart_ring.specs.Armed.{Arms, LeavesArmed};
+ghost use Rattle.uart_ring.specs.Armed.{Arms, ArmsUnlessHeld, LeavesArmed};
 ghost use Rattle.uart_ring.specs.Choice.{LeavesNoRingChoice};
 ghost use Rattle.uart_ring.specs.Bounded.{MakesAtMost, most_of_change, most_of_pump, most_of_service};
+ghost use Rattle.uart_ring.specs.declared.ring.TheConstants.{MAX_CAPACITY};
+ghost use Rattle.uart_ring.specs.declared.ring.service.TheConstants.{MAX_INTERRUPTS};
 
 /// No byte is lost between the rings and DATA, and nothing that reads of LSR and MSR cleared. What was written to DATA and
 /// what is left in the transmit ring is what was there and what was queued. What was taken and what is left in the receive
@@ -18,6 +20,7 @@ ghost use Rattle.uart_ring.specs.Bounded.{MakesAtMost, most_of_change, most_of_p
 /// `take_line` and `take_modem` return them.
 pub fn ring_calls_lose_nothing()
     ensures queue { (bytes : List ℕ) (count : ℕ) → Implies (Queues bytes count) (LosesNothing (take count bytes) [] 0 0) }
+    ensures resume_transmit { Implies ResumesTransmit (LosesNothing [] [] 0 0) }
     ensures take { (slots : ℕ) (bytes : List ℕ) → Implies (TakesBytes slots bytes) (LosesNothing [] bytes 0 0) }
     ensures service { (count : ℕ) → Implies (Services count) (LosesNothing [] [] 0 0) }
     ensures take_line { (line : ℕ) → Implies (TakesLine line) (LosesNothing [] [] line 0) }
@@ -25,11 +28,16 @@ pub fn ring_calls_lose_nothing()
 {}
 
 /// If CTS is not checked, then after each ring call an interrupt is to come as long as there are bytes in the transmit
-/// ring, if this was so before it; after a `queue` that accepts a byte in any case. This is as far as accesses show it, on
-/// a chip that keeps IER as it was written.
+/// ring, if this was so before it; after a `queue` that accepts a byte and after a `resume_transmit` in any case. This is
+/// as far as accesses show it, on a chip that keeps IER as it was written.
+///
+/// If CTS is checked, it is so after these two unless they read that CTS is clear.
 pub fn ring_calls_leave_armed()
     ensures queue { (bytes : List ℕ) (count : ℕ) → Implies (Queues bytes count) LeavesArmed }
     ensures queue_arms { (bytes : List ℕ) (count : ℕ) → 0 < count → Implies (Queues bytes count) Arms }
+    ensures queue_arms_unless_held { (bytes : List ℕ) (count : ℕ) → 0 < count → Implies (Queues bytes count) ArmsUnlessHeld }
+    ensures resume_transmit { Implies ResumesTransmit Arms }
+    ensures resume_transmit_unless_held { Implies ResumesTransmit ArmsUnlessHeld }
     ensures take { (slots : ℕ) (bytes : List ℕ) → Implies (TakesBytes slots bytes) LeavesArmed }
     ensures service { (count : ℕ) → Implies (Services count) LeavesArmed }
     ensures take_line { (line : ℕ) → Implies (TakesLine line) LeavesArmed }
@@ -39,6 +47,7 @@ pub fn ring_calls_leave_armed()
 /// No ring call waits: each makes at most this number of accesses, whatever they return.
 pub fn ring_calls_are_bounded()
     ensures queue { (bytes : List ℕ) (count : ℕ) → Implies (Queues bytes count) (MakesAtMost most_of_pump) }
+    ensures resume_transmit { Implies ResumesTransmit (MakesAtMost most_of_pump) }
     ensures take { (slots : ℕ) (bytes : List ℕ) → Implies (TakesBytes slots bytes) (MakesAtMost most_of_change) }
     ensures service { (count : ℕ) → Implies (Services count) (MakesAtMost most_of_service) }
     ensures take_line { (line : ℕ) → Implies (TakesLine line) (MakesAtMost 1) }
@@ -49,8 +58,15 @@ pub fn ring_calls_are_bounded()
 /// access, and in the end the result, the contents of the rings, and the driver's fields.
 pub fn ring_calls_leave_no_choice()
     ensures queue { (bytes : List ℕ) → LeavesNoRingChoice (Queues bytes) }
+    ensures resume_transmit { LeavesNoRingChoice (λ (_ : ⊤). ResumesTransmit) }
     ensures take { (slots : ℕ) → LeavesNoRingChoice (TakesBytes slots) }
     ensures service { LeavesNoRingChoice Services }
     ensures take_line { LeavesNoRingChoice TakesLine }
     ensures take_modem { LeavesNoRingChoice TakesModem }
+{}
+
+/// The values of the limits.
+pub fn constants_are_these()
+    ensures capacity { MAX_CAPACITY ≡ 4096 }
+    ensures interrupts { MAX_INTERRUPTS ≡ 8 }
 {}

@@ -4,3 +4,4 @@ pub mod RingTold
 pub mod RingDue
 pub mod RingArming
 pub mod RingSessions
+pub mod RingReady

@@ -7,14 +7,14 @@ use Rattle.uart_run.specs.Progress.{IsUnchecked}
 use Rattle.uart_run.proofs.CallLaws.{InSession}
 use Rattle.uart_ring.specs.Ring.{RingDoing, RingDid, RingFields, ring_fields}
 use Rattle.uart_ring.specs.Armed.{ThrEmpty, known_after_all, IsArmed, LeavesArmed, Arms}
-use Rattle.uart_ring.proofs.Arming.{queues_leave, queues_arm, takes_leave, services_leave, takes_line_leave, takes_modem_leave}
+use Rattle.uart_ring.proofs.Arming.{queues_leave, queues_arm, resumes_arm, takes_leave, services_leave, takes_line_leave, takes_modem_leave}
 use Rattle.uart_ring_run.specs.declared.call.RingCall.{RingCall}
 use Rattle.uart_ring_run.specs.declared.call.RingCall.TheVariants as call
 use Rattle.uart_ring_run.specs.declared.call.RingAnswer.{RingAnswer}
 use Rattle.uart_ring_run.specs.RingRun.{RingState, under, ring_machine, RingCallStep, RingLink, RingChain}
-use Rattle.uart_ring_run.specs.RingBytes.{queued_by}
-use Rattle.uart_ring_run.specs.RingArmed.{thr_empty_of, IsRingArmed, AllLeaveRingArmed}
-use Rattle.uart_ring_run.proofs.RingBlocks.{MakesRingBlocks, queues_make, takes_make, services_make, takes_line_makes, takes_modem_makes}
+use Rattle.uart_ring_run.specs.RingArmed.{thr_empty_of, IsRingArmed, RearmsRing, AllLeaveRingArmed}
+use Rattle.uart_ring_run.proofs.RingBlocks.{MakesRingBlocks, queues_make, resumes_make, takes_make, services_make}
+use Rattle.uart_ring_run.proofs.RingBlocks.{takes_line_makes, takes_modem_makes}
 use Rattle.uart_ring_run.proofs.RingPasses.{ring_passes_call, ring_in_session-after}
 use Rattle.uart_ring_run.proofs.RingDue.{Holds, IsDlabOff, path_holds, mark_holds}
 
@@ -50,7 +50,7 @@ none_accepted (inr some) = absurd (omega (arith, some))
 
 -- each call
 call_leaves : (s t : RingState) (call : RingCall) (a : RingAnswer) → IsUnchecked (under s) → IsDlabOff (ring_machine s) →
-    RingCallStep s call a t → IsRingArmed s ⊎ (0 < length (queued_by call a)) → IsRingArmed t
+    RingCallStep s call a t → IsRingArmed s ⊎ RearmsRing call a → IsRingArmed t
 call_leaves s t (call.Queue bytes) a unchecked off h armed =
     let makes = queues_make bytes.items h.outcome _ _ _ h.did.does in
     go makes (rw h.answered at armed)
@@ -61,6 +61,8 @@ call_leaves s t (call.Queue bytes) a unchecked off h armed =
     go makes (inr some) =
         did_arms _ s t unchecked off h.did makes
         (queues_arm bytes.items h.outcome (omega (arith, some, length-take h.outcome bytes.items)) _ _ _ h.did.does)
+call_leaves s t call.ResumeTransmit a unchecked off h armed =
+    did_arms _ s t unchecked off h.did (resumes_make _ _ _ h.did.does) (resumes_arm _ _ _ h.did.does)
 call_leaves s t (call.Take slots) a unchecked off h armed =
     did_leaves _ s t unchecked off h.did (takes_make slots h.outcome _ _ _ h.did.does) (takes_leave slots h.outcome _ _ _ h.did.does)
     (none_accepted armed)

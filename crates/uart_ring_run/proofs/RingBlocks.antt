@@ -17,7 +17,7 @@ use Rattle.uart_16550.specs.Transmit.{Sends, SendHit, SendMiss, LinesAllow, data
 use Rattle.uart_16550.specs.Status.{Enables, Disables, TakesLsr, TakesMsr}
 use Rattle.uart_ring.specs.Ring.{RingDoing, RingFields, OnDriver, Stays, RingTimes, IfAny, free, is_full, with_queued}
 use Rattle.uart_ring.specs.Ring.{with_paused, without_taken}
-use Rattle.uart_ring.specs.Transmit.{ArmsIfLeft, Pumps, Queues}
+use Rattle.uart_ring.specs.Transmit.{ArmsIfLeft, Pumps, Queues, ResumesTransmit}
 use Rattle.uart_ring.specs.Receive.{PausesIfFull, FillsReceiveRing, EndsPause, TakesBytes}
 use Rattle.uart_ring.specs.Status.{TakesLine, TakesModem}
 use Rattle.uart_ring.specs.Service.{ShowsInterrupt, ServesInterrupt, ServesOne, Services}
@@ -225,6 +225,9 @@ any_make (suc n) k f l after t = k f l after t
 
 pub queues_make : (bytes : List ℕ) (count : ℕ) → Implies (Queues bytes count) MakesRingBlocks
 queues_make bytes count f l after (is, t) = any_make count pumps_make (with_queued (take count bytes) f) l after t
+
+pub resumes_make : Implies ResumesTransmit MakesRingBlocks
+resumes_make f l after t = any_make (length f.transmit.items) pumps_make f l after t
 
 pub takes_make : (slots : ℕ) (bytes : List ℕ) → Implies (TakesBytes slots bytes) MakesRingBlocks
 takes_make slots bytes f l after (is, t) = any_make (length bytes) ends_pause_makes (without_taken (length bytes) f) l after t

@@ -18,13 +18,14 @@ use Rattle.uart_ring.specs.Ring.{RingDoing, RingDid, RingFields, ring_fields}
 use Rattle.uart_ring.specs.Lossless.{data_written, data_read, untold_line, untold_modem, LosesNothing}
 use Rattle.uart_ring.proofs.RegisterBits.{saved_lsr-append, saved_msr-append}
 use Rattle.uart_ring.proofs.Losses.{data_written-append, data_read-append, queues_lose_nothing, takes_lose_nothing, services_lose_nothing}
-use Rattle.uart_ring.proofs.Losses.{takes_line_loses_nothing, takes_modem_loses_nothing}
+use Rattle.uart_ring.proofs.Losses.{resumes_lose_nothing, takes_line_loses_nothing, takes_modem_loses_nothing}
 use Rattle.uart_ring_run.specs.declared.call.RingCall.{RingCall}
 use Rattle.uart_ring_run.specs.declared.call.RingCall.TheVariants as call
 use Rattle.uart_ring_run.specs.declared.call.RingAnswer.{RingAnswer}
 use Rattle.uart_ring_run.specs.RingRun.{RingState, under, ring_machine, RingCallStep, RingLink, RingChain}
 use Rattle.uart_ring_run.specs.RingBytes.{to_send, to_take, queued_by, taken_by, queued, taken}
-use Rattle.uart_ring_run.proofs.RingBlocks.{MakesRingBlocks, queues_make, takes_make, services_make, takes_line_makes, takes_modem_makes}
+use Rattle.uart_ring_run.proofs.RingBlocks.{MakesRingBlocks, queues_make, resumes_make, takes_make, services_make}
+use Rattle.uart_ring_run.proofs.RingBlocks.{takes_line_makes, takes_modem_makes}
 
 -- what is still to be told of LSR and MSR
 abbrev pub untold_line_of : RingState → ℕ
@@ -82,6 +83,9 @@ pub ring_passes_call : (x : Modes) (s t : RingState) (c : RingCall) (a : RingAns
 ring_passes_call x s t (call.Queue bytes) a w h =
     rw h.answered (ring_passes_did x _ _ _ _ _ 0 0 s t w h.did (queues_make bytes.items h.outcome _ _ _ h.did.does)
     (queues_lose_nothing bytes.items h.outcome _ _ _ h.did.does) (λ n. refl) (λ m. refl))
+ring_passes_call x s t call.ResumeTransmit a w h =
+    ring_passes_did x _ _ _ _ _ 0 0 s t w h.did (resumes_make _ _ _ h.did.does) (resumes_lose_nothing _ _ _ h.did.does)
+    (λ n. refl) (λ m. refl)
 ring_passes_call x s t (call.Take slots) a w h =
     rw h.answered (ring_passes_did x _ _ _ _ _ 0 0 s t w h.did (takes_make slots h.outcome _ _ _ h.did.does)
     (takes_lose_nothing slots h.outcome _ _ _ h.did.does) (λ n. refl) (λ m. refl))

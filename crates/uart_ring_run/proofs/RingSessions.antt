@@ -33,6 +33,7 @@ ring_sound_call : (s t : RingState) (call : RingCall) (a : RingAnswer) → IsSou
     IsSound (ring_machine t)
 ring_sound_call s t call.Next a w h = rw h.machine (lasts_sound.mark (ring_machine s) w)
 ring_sound_call s t (call.Queue bytes) a w h = lasts_sound.path h.did.list (ring_machine s) (ring_machine t) w h.did.path
+ring_sound_call s t call.ResumeTransmit a w h = lasts_sound.path h.did.list (ring_machine s) (ring_machine t) w h.did.path
 ring_sound_call s t (call.Take slots) a w h = lasts_sound.path h.did.list (ring_machine s) (ring_machine t) w h.did.path
 ring_sound_call s t call.Service a w h = lasts_sound.path h.did.list (ring_machine s) (ring_machine t) w h.did.path
 ring_sound_call s t call.TakeLine a w h = lasts_sound.path h.did.list (ring_machine s) (ring_machine t) w h.did.path

@@ -1,12 +1,15 @@
 -- Why there are never bytes in the transmit ring with no interrupt to come: what holds of the chip's THR-empty
 -- interrupt.
-use Rattle.std.specs.Prelude.{◌⊎◌, ◌<◌, Bool, not, ◌||◌, ◌==◌, List, [], ◌∷◌, length}
+use Rattle.std.specs.Prelude.{◌⊎◌, ◌<◌, ⊤, Bool, not, ◌||◌, ◌==◌, List, [], ◌∷◌, length}
 use Rattle.uart_spec.specs.Bits.{has}
 use Rattle.uart_spec.specs.declared.registers.interrupt_enable.TheConstants.IER
 use Rattle.uart_chip.specs.Transmitter.{TransmitterState}
 use Rattle.uart_chip.specs.Machine.{MachineState}
 use Rattle.uart_ring.specs.Ring.{ring_fields}
 use Rattle.uart_ring.specs.Armed.{ThrEmpty, IsArmed}
+use Rattle.uart_ring_run.specs.declared.call.RingCall.{RingCall}
+use Rattle.uart_ring_run.specs.declared.call.RingCall.TheVariants as call
+use Rattle.uart_ring_run.specs.declared.call.RingAnswer.{RingAnswer}
 use Rattle.uart_ring_run.specs.RingRun.{RingState, ring_machine, RingLink}
 use Rattle.uart_ring_run.specs.RingBytes.{queued_by}
 
@@ -22,10 +25,14 @@ thr_empty_of m = record { enabled = has m.chip.latches.ier IER.THR_EMPTY.0; due 
 abbrev pub IsRingArmed : RingState → Type 0
 IsRingArmed s = IsArmed (thr_empty_of (ring_machine s)) (ring_fields s)
 
--- this is so after the call if it was so before it, and also if the call accepts a byte
+-- the call arms it however it was: it resumes sending, or accepts a byte
+abbrev pub RearmsRing : RingCall → RingAnswer → Type 0
+RearmsRing call.ResumeTransmit answer = ⊤
+RearmsRing other answer = 0 < length (queued_by other answer)
+
+-- this is so after the call if it was so before it, or if the call arms it
 abbrev pub LeavesRingArmed : RingLink → Type 0
-LeavesRingArmed link =
-    IsRingArmed link.before ⊎ (0 < length (queued_by link.call link.answer)) → IsRingArmed link.after
+LeavesRingArmed link = IsRingArmed link.before ⊎ RearmsRing link.call link.answer → IsRingArmed link.after
 
 -- each of these calls does
 abbrev pub AllLeaveRingArmed : List RingLink → Type 0

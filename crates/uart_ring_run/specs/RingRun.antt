@@ -5,7 +5,7 @@ use Rattle.uart_chip.specs.Machine.{MachineState, MachineStep, at_mark}
 use Rattle.uart_run.specs.Chains.{LinkOf, ChainOf}
 use Rattle.uart_run.specs.Run.{State, machine_of}
 use Rattle.uart_ring.specs.Ring.{RingDoing, RingDid, ring_fields, driver_of}
-use Rattle.uart_ring.specs.Transmit.{Queues}
+use Rattle.uart_ring.specs.Transmit.{Queues, ResumesTransmit}
 use Rattle.uart_ring.specs.Receive.{TakesBytes}
 use Rattle.uart_ring.specs.Service.{Services}
 use Rattle.uart_ring.specs.Status.{TakesLine, TakesModem}
@@ -63,6 +63,7 @@ pub record RingGoesOn (answer : RingAnswer) (s t : RingState) : Type 0 where
 -- the state after a call, and its answer
 abbrev pub RingCallStep : RingState → RingCall → RingAnswer → RingState → Type 0
 RingCallStep s (call.Queue bytes) answer t = RingCalled (Queues bytes.items) Count answer s t
+RingCallStep s call.ResumeTransmit answer t = RingCalled (λ (_ : ⊤). ResumesTransmit) (λ _. Done) answer s t
 RingCallStep s (call.Take slots) answer t = TakesInto slots answer s t
 RingCallStep s call.Service answer t = RingCalled Services Count answer s t
 RingCallStep s call.TakeLine answer t = RingCalled TakesLine line_answer answer s t

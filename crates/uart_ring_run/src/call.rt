@@ -14,6 +14,8 @@ use uart_spec::registers::{LSR, MSR};
 pub enum RingCall {
     /// `queue` of these bytes.
     Queue(ArrayVec<u8, CALL_BYTES>),
+    /// `resume_transmit`.
+    ResumeTransmit,
     /// `take` into this number of slots, at most [`CALL_BYTES`].
     Take(usize),
     /// `service`.
@@ -49,6 +51,6 @@ pub enum RingAnswer {
     Line(LSR),
     /// What `take_modem` returned.
     Modem(MSR),
-    /// The schedule went on.
+    /// The call returned nothing: sending was resumed, or the schedule went on.
     Done,
 }

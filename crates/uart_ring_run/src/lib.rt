@@ -2,6 +2,7 @@
 #![tactic(auto)]
 
 mod call;
+pub mod laws;
 mod running;
 
 pub use call::{RingAnswer, RingCall};

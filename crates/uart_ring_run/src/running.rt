@@ -21,7 +21,7 @@ use uart_ring::Uart16550Ring;
 /// - `TakeLine` reports drops and line errors, and `TakeModem` changes of the modem lines, also those that `Service` has
 ///   read;
 /// - if CTS is not checked, there are never bytes in the transmit ring with no interrupt to come, unless there were at the
-///   start;
+///   start and no byte was queued and sending not resumed since;
 /// - each call preserves a ready state.
 ///
 /// On a machine that cuts characters to the word length ([`Device16550::new_cut`]) the first holds of bytes that are cut,
@@ -49,6 +49,10 @@ fn run_ring_call(ring: &mut Uart16550Ring<Device16550>, call: &RingCall) -> Ring
 {
     match call {
         RingCall::Queue(bytes) => RingAnswer::Count(ring.queue(bytes.as_slice())),
+        RingCall::ResumeTransmit => {
+            ring.resume_transmit();
+            RingAnswer::Done
+        }
         RingCall::Take(slots) => take(ring, &mut [0; CALL_BYTES][..*slots]),
         RingCall::Service => RingAnswer::Count(ring.service()),
         RingCall::TakeLine => RingAnswer::Line(ring.take_line()),

@@ -119,6 +119,18 @@ pub fn fields_are_in_order()
         ∷ []) }
 {}
 
+/// Registers are compared as the numbers that their bytes are.
+pub fn registers_are_in_order()
+    ensures ier { (a b : IER) → ⟦<IER as Ord>⟧.cmp a b ≡ nat_cmp a.0 b.0 }
+    ensures isr { (a b : ISR) → ⟦<ISR as Ord>⟧.cmp a b ≡ nat_cmp a.0 b.0 }
+    ensures fcr { (a b : FCR) → ⟦<FCR as Ord>⟧.cmp a b ≡ nat_cmp a.0 b.0 }
+    ensures lcr { (a b : LCR) → ⟦<LCR as Ord>⟧.cmp a b ≡ nat_cmp a.0 b.0 }
+    ensures mcr { (a b : MCR) → ⟦<MCR as Ord>⟧.cmp a b ≡ nat_cmp a.0 b.0 }
+    ensures lsr { (a b : LSR) → ⟦<LSR as Ord>⟧.cmp a b ≡ nat_cmp a.0 b.0 }
+    ensures msr { (a b : MSR) → ⟦<MSR as Ord>⟧.cmp a b ≡ nat_cmp a.0 b.0 }
+    ensures psd { (a b : PSD) → ⟦<PSD as Ord>⟧.cmp a b ≡ nat_cmp a.0 b.0 }
+{}
+
 /// The values of the constants.
 pub fn constants_are_these()
     ensures clock { CLK_FREQUENCY_HZ ≡ 1843200 }

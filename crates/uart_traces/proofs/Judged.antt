@@ -12,8 +12,9 @@ use Rattle.uart_calls.specs.declared.call.Answer.{Answer}
 use Rattle.uart_calls.specs.Calls.{IsRunnable}
 use Rattle.uart_calls.specs.Meaning.{meaning, outcome_of}
 use Rattle.uart_calls.proofs.NoChoice.{meaning_leaves_no_choice}
-use Rattle.uart_traces.specs.Lists.{IsListOf, answer_of}
-use Rattle.uart_traces.specs.Traces.{AreCalls, IsExchange, fields_before}
+use Rattle.uart_traces.specs.Lists.{IsFollowed, IsListOf, answer_of}
+use Rattle.uart_traces.specs.Traces.{AreCalls, IsExchange, IsStray, StraysHere, fields_before}
+use Rattle.uart_traces.specs.declared.judging.Stray.{Stray}
 use Rattle.uart_traces.specs.declared.parsing.Exchange.{Exchange}
 use Rattle.uart_traces.proofs.Played.{same_head, same_answer}
 
@@ -89,3 +90,33 @@ pub no_first_call : (limit : ℕ) (f before : Fields) (x : Exchange) (xs all : L
 no_first_call limit f before x xs all whole is none calls =
     let C : List Exchange → Type 0 = λ l. AreCalls limit f l in
     no_call limit f before x xs is none (subst C whole calls)
+
+-- what is left of a trace decides whether all of it is as recorded, and where it strays
+pub record LeavesOpen (limit : ℕ) (f : Fields) (all : List Exchange) (g : Fields) (left : List Exchange) : Type 0 where
+  pub calls : AreAlike (AreCalls limit f all) (AreCalls limit g left)
+  pub strays : (stray : Stray) → IsStray limit g left stray → IsStray limit f all stray
+
+pub all_left : (limit : ℕ) (f : Fields) (all : List Exchange) → LeavesOpen limit f all f all
+all_left limit f all = record { calls = record { to = λ x. x; from = λ x. x }; strays = λ stray p. p }
+
+pub one_less : (limit : ℕ) (f g before after : Fields) (x : Exchange) (xs left all : List Exchange) → LeavesOpen limit f all g left →
+    left ≡ x ∷ xs → before ≡ fields_before limit x g → IsExchange x before after → LeavesOpen limit f all after xs
+one_less limit f g before after x xs left all so_far whole is made =
+    let E : Fields → Type 0 = λ b. IsExchange x b after in
+    record {
+      calls = alike_then so_far.calls (first_call limit g before after x xs left whole is made);
+      strays = λ stray p.
+          let S : List Exchange → Type 0 = λ l. IsStray limit g l stray in
+          so_far.strays stray (subst S (sym whole) (inr (after, subst E is made, p)));
+    }
+
+pub stray_here : (limit : ℕ) (f g before : Fields) (x : Exchange) (xs left all : List Exchange) (stray : Stray) →
+    LeavesOpen limit f all g left → left ≡ x ∷ xs → before ≡ fields_before limit x g → stray.exchange.now ≡ x →
+    ((fields : Fields) → IsExchange x before fields → ⊥) →
+    IsFollowed x.call before (map access_of x.accesses.items) (record { kept = stray.kept; turn = stray.turn }) →
+    IsStray limit f all stray
+stray_here limit f g before x xs left all stray so_far whole is same none first =
+    let H : Fields → Type 0 = λ b. StraysHere b x stray in
+    let S : List Exchange → Type 0 = λ l. IsStray limit g l stray in
+    let here : StraysHere before x stray = record { call = same; none = none; first = first } in
+    so_far.strays stray (subst S (sym whole) (inl (subst H is here)))

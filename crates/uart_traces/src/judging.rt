@@ -1,10 +1,12 @@
 //! Whether each call of a trace made one of its lists.
-ghost use Rattle.std.specs.Prelude.{◌≡◌, ◌↔◌, true, IfOk, IfSome, IsNone};
+ghost use Rattle.std.specs.Prelude.{◌≡◌, ◌↔◌, true, map, IfOk, IfSome, IsNone};
 ghost use Rattle.std.specs.Int.NonZero.{non_zero_u64_get};
 ghost use Rattle.uart_16550.specs.Driver.{Fields};
+ghost use Rattle.uart_16550.specs.Replay.{access_of};
 ghost use Rattle.uart_16550.specs.State.{fields_of, fresh_fields};
 ghost use Rattle.uart_language.specs.Output.{answer_text};
-ghost use Rattle.uart_traces.specs.Traces.{AreCalls, IsExchange, fields_before};
+ghost use Rattle.uart_traces.specs.Lists.{IsFollowed};
+ghost use Rattle.uart_traces.specs.Traces.{AreCalls, IsExchange, IsStray, fields_before};
 
 use crate::checking::{Turn, check, follow};
 use crate::parsing::Exchange;
@@ -68,7 +70,11 @@ fn after(
 }
 
 // Returns what the driver does instead of what a trace has.
-fn stray_at<'a>(exchange: &'a Exchange, state: &DriverState) -> Stray<'a> {
+fn stray_at<'a>(exchange: &'a Exchange, state: &DriverState) -> Stray<'a>
+    ensures call { result.exchange.now ≡ exchange.now }
+    ensures first { IsFollowed exchange.now.call (fields_of state.now) (map access_of exchange.now.accesses.items)
+        (record { kept = result.kept; turn = result.turn }) }
+{
     let followed = follow(&exchange.accesses, state, &exchange.call);
     Stray {
         exchange,
@@ -77,8 +83,8 @@ fn stray_at<'a>(exchange: &'a Exchange, state: &DriverState) -> Stray<'a> {
     }
 }
 
-/// Checks whether each list of a trace is one of its call, with the recorded answer. Returns `None` if so, and else the
-/// first call for which it is not.
+/// Checks whether each list of a trace is one of its call, with the recorded answer. Returns `None` if so. Else returns the
+/// first call for which it is not, with its first access that no list of the call has, and what the driver does there.
 ///
 /// The first call is of a new driver with this limit, and so is each call after a `fresh`.
 ///
@@ -90,7 +96,8 @@ pub fn judge<'a>(
     trace: &'a [Exchange],
     limit: NonZeroU64,
 ) -> Result<Option<Stray<'a>>, AllocError>
-    ensures { IfOk result (λ stray. IsNone stray ↔ AreCalls (non_zero_u64_get limit) fresh_fields trace.now) }
+    ensures calls { IfOk result (λ stray. IsNone stray ↔ AreCalls (non_zero_u64_get limit) fresh_fields trace.now) }
+    ensures first { IfOk result (λ stray. IfSome stray (IsStray (non_zero_u64_get limit) fresh_fields trace.now)) }
 {
     let mut state = DriverState::new();
     let mut left = trace;

@@ -15,6 +15,8 @@ mod lines;
 mod parsing;
 mod tape;
 mod telling;
+#[cfg(test)]
+mod tests;
 
 pub use cause::{Fault, TraceError};
 pub use checking::{Followed, NextStep, Returned, Turn, check, follow, next};

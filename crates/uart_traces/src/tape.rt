@@ -4,9 +4,11 @@ ghost use Rattle.uart_16550.specs.Replay.{access_of};
 ghost use Rattle.uart_spec.specs.Access.{Access};
 ghost use Rattle.uart_traces.specs.Tape.{Plays, answered, first_of, request_of};
 
+use bitflags::Flags;
 use std::marker::Model;
 use uart_16550::backend::Backend;
 use uart_16550::replay::Entry;
+use uart_spec::registers::{LSR, MSR, offsets};
 
 /// An access as its owner keeps it: [`Entry`], or a struct of another language.
 pub trait Recorded: Copy {
@@ -38,7 +40,8 @@ pub enum Request {
 /// A list of recorded accesses as a device.
 ///
 /// A read returns what the list has, as long as the accesses are those of the list. The first request that is not is kept.
-/// What reads return from then on is from no chip, and lets every wait of a driver end soon.
+/// What reads return from then on is from no chip, and lets every wait of a driver end after two polls: the transmitter is
+/// empty, CTS is asserted, and every other read of LSR shows data.
 #[derive(Drop)]
 pub struct Tape<'a, R: Recorded> {
     left: &'a [R],
@@ -83,8 +86,7 @@ impl<'a, R: Recorded> Tape<'a, R> {
         Tape {
             left: entries,
             asked: None,
-            // Data is ready at every other read of LSR, and the transmitter is always empty.
-            filler: 0x60,
+            filler: LSR::THR_EMPTY.bits() | LSR::TRANSMITTER_EMPTY.bits() | MSR::CTS.bits(),
         }
     }
 
@@ -110,7 +112,10 @@ impl<'a, R: Recorded> Tape<'a, R> {
         if self.asked.is_none() {
             self.asked = Some(request);
         }
-        self.filler ^= 1;
+        // At reads of LSR alone: a drain reads DATA between them, and must see its end too.
+        if request == Request::Read(offsets::LSR) {
+            self.filler ^= LSR::DATA_READY.bits();
+        }
         self.filler
     }
 

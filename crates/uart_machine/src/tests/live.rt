@@ -4,6 +4,8 @@ use crate::{
     BuildError, Character, Chip, ChipData, InputError, LiveChip, Origin, RestoreError, Shifting,
 };
 use bitflags::Flags;
+use std::error::Error;
+use std::fmt::InlineText;
 use std::process::Abort;
 use std::test::Fail;
 use uart_spec::registers;
@@ -309,4 +311,30 @@ fn only_data_of_a_live_chip_are_restored(rt: HostRuntime) -> Result<(), Fail> {
         assert_eq!(rt; refused, want, "{change:?}");
     }
     Ok(())
+}
+
+fn text<E: Error>(error: E) -> InlineText<128> {
+    InlineText::of(error)
+}
+
+#[test]
+fn texts_of_the_refusals(rt: HostRuntime) {
+    let texts = [
+        (
+            text(InputError::BadErrors),
+            "a character has other error bits than parity, framing and break",
+        ),
+        (
+            text(InputError::BadLines),
+            "the modem lines have other bits than CTS, DSR, RI and CD",
+        ),
+        (
+            text(RestoreError::BadData),
+            "the data are not those of a sound chip",
+        ),
+        (text(RestoreError::OutOfMemory), "out of memory"),
+    ];
+    for (shown, expected) in &texts {
+        assert_eq!(rt; shown.as_str(), *expected);
+    }
 }

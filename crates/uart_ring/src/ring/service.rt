@@ -50,8 +50,7 @@ impl<B: Backend> Uart16550Ring<B> {
     /// If it returns `MAX_INTERRUPTS`, more may be pending. Call it again then if the interrupt controller detects edges.
     ///
     /// With CTS checking no byte is sent while CTS is clear, and no `THR_EMPTY` interrupt is raised when CTS returns. After
-    /// such a change, which `take_modem` reports, disable and enable `THR_EMPTY` once to raise it again, as the handler in
-    /// docs/INTERRUPTS.md does.
+    /// such a change, which `take_modem` reports, call `resume_transmit`.
     ///
     /// # Examples
     ///

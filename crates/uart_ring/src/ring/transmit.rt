@@ -1,7 +1,7 @@
 //! From the transmit ring to the chip.
 ghost use Rattle.std.specs.Prelude.{◌≡◌, ◌≤◌, length, take, min};
 ghost use Rattle.uart_ring.specs.Ring.{RingDid, free, ring_fields};
-ghost use Rattle.uart_ring.specs.Transmit.{Pumps, Queues};
+ghost use Rattle.uart_ring.specs.Transmit.{Pumps, Queues, ResumesTransmit};
 
 use super::Uart16550Ring;
 use circular_buffer::HeapCircularBuffer;
@@ -61,5 +61,32 @@ impl<B: Backend> Uart16550Ring<B> {
             self.pump();
         }
         count
+    }
+
+    /// Starts sending again if bytes wait in the transmit ring with no interrupt to come.
+    ///
+    /// If bytes wait, it sends some of them if the chip has room: up to 16 if its FIFO is on, else one. Then it enables
+    /// `THR_EMPTY` if bytes are left in the ring, else it disables it. The rest is sent by `service`. If none wait, it makes
+    /// no access.
+    ///
+    /// Does not wait. Call it
+    ///
+    /// - after an `init` through `inner_mut`, which disables `THR_EMPTY` and may acknowledge its interrupt;
+    /// - with CTS checking, when `take_modem` reports that CTS came back. While CTS is clear, it sends nothing.
+    ///
+    /// # Examples
+    ///
+    /// ```
+    /// let modem = self.ring.take_modem();
+    /// if modem.contains(MSR::DELTA_CTS.union(MSR::CTS)) {
+    ///     self.ring.resume_transmit();
+    /// }
+    /// ```
+    pub fn resume_transmit(&mut self)
+        ensures { RingDid B.step ResumesTransmit self.old self.new }
+    {
+        if !self.transmit.is_empty() {
+            self.pump();
+        }
     }
 }

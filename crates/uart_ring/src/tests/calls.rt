@@ -1,5 +1,5 @@
 //! Each call over a replay, with lists of accesses that were written down by hand.
-use super::lists::Call::{Left, Queue, Service};
+use super::lists::Call::{Left, Queue, Resume, Service};
 use super::lists::Step::{Burst, Changed, Read, Received, Write};
 use super::lists::{
     DATA_READY, DMA_RECEPTION, DMA_TRANSMISSION, EMPTY, FULL, LINE_STATUS, MODEM_STATUS, NONE,
@@ -61,6 +61,34 @@ fn a_queue_without_room(rt: HostRuntime) -> Result<(), Fail> {
         Changed(IER, 0x03, 0x03),
     ];
     play(&rt, 4, &calls, &steps)
+}
+
+#[test]
+fn sending_is_resumed(rt: HostRuntime) -> Result<(), Fail> {
+    // Of an empty ring nothing is sent, and no access is made.
+    let calls = [
+        Resume,
+        Queue(b"hello, world! 123456", 20),
+        Resume,
+        Left(20),
+        Resume,
+        Left(4),
+        Resume,
+        Left(0),
+        Resume,
+    ];
+    // IER reads as an `init` left it.
+    let steps = [
+        Read(LSR, FULL),
+        Changed(IER, 0x01, 0x03),
+        Read(LSR, FULL),
+        Changed(IER, 0x01, 0x03),
+        Burst(b"hello, world! 12"),
+        Changed(IER, 0x01, 0x03),
+        Burst(b"3456"),
+        Changed(IER, 0x01, 0x01),
+    ];
+    play(&rt, 32, &calls, &steps)
 }
 
 #[test]

@@ -1,6 +1,7 @@
-use Rattle.std.proofs.Common.{arith}
+use Rattle.std.proofs.Common.{ℕ, List, length, ap, arith}
 use Rattle.uart_calls.specs.declared.call.TheConstants.{CALL_BYTES}
-use Rattle.uart_c.proofs.Copies.{one_copied}
+use Rattle.uart_c.specs.declared.answer.UartAnswer.{UartAnswer}
+use Rattle.uart_c.proofs.Copies.{all_copied, one_copied}
 use Rattle.uart_c.proofs.answer.of_bytes.Goals as goal
 use Rattle.uart_c.proofs.answer.of_bytes.Goals.{then-place-lt-CALL_BYTES, else-place-lt-CALL_BYTES}
 
@@ -14,3 +15,15 @@ loop-place-preserved c = elim c.if-place-lt-CALL_BYTES.branch [
   | else-place-lt-CALL_BYTES w ↦
       absurd (omega (arith, w.if-place-lt-CALL_BYTES.false, c.loop-place-test.true, c.requires))
 ]
+
+pub returns : goal.returns
+returns c =
+    ap {B = UartAnswer} (λ (bytes : List ℕ). record {
+      count = length c.args.received.now;
+      kind = c.args.kind;
+      value = 0;
+      second = 0;
+      bytes = bytes;
+    })
+    (all_copied c.loop-place.place CALL_BYTES c.args.received.now c.loop-place.bytes
+    (omega (arith, c.loop-place-test.false, c.loop-place.auto.place-end)) c.loop-place.invariant.copied)

@@ -10,5 +10,6 @@ returns-in-Done-clause-done c e = record {
   runs = c.if-not-is_runnable.ensures.0 refl;
   makes = made_so c.in-Done.returned c.state_of.ensures refl c.in-Done.ensures;
   shows = c.shown.ensures;
-  keeps = c.kept.ensures;
+  keeps = c.kept.ensures.fields;
+  written = c.kept.ensures.written;
 }

@@ -1,13 +1,11 @@
 use Rattle.std.proofs.Common.{length}
 use Rattle.std.specs.Int.NonZero.{non_zero_u64_get}
 use Rattle.uart_16550.specs.State.{fields_of, fresh_fields}
-use Rattle.uart_traces.specs.Traces.{AreCalls}
-use Rattle.uart_traces.proofs.Judged.{AreAlike}
+use Rattle.uart_traces.proofs.Judged.{LeavesOpen}
 use Rattle.uart_traces.proofs.judging.judge.Given as goal
 
 abbrev pub invariant-loop-exchange : goal.invariant-loop-exchange
-invariant-loop-exchange l =
-    AreAlike (AreCalls (non_zero_u64_get l.limit) fresh_fields l.trace) (AreCalls (non_zero_u64_get l.limit) (fields_of l.state) l.left)
+invariant-loop-exchange l = LeavesOpen (non_zero_u64_get l.limit) fresh_fields l.trace (fields_of l.state) l.left
 
 abbrev pub decreases-loop-exchange : goal.decreases-loop-exchange
 decreases-loop-exchange l = length l.left

@@ -240,6 +240,22 @@ impl<B: Backend> Uart16550Tty<B> {
         &mut self.inner
     }
 
+    /// Returns the driver. Makes no access.
+    ///
+    /// # Examples
+    ///
+    /// ```
+    /// # include!(concat!(env!("CARGO_MANIFEST_DIR"), "/src/proved/examples.rs"));
+    /// # fn main() {}
+    /// # fn example(terminal: Uart16550Tty<Device>) -> Outcome<()> {
+    /// let uart = terminal.into_inner();
+    /// # Ok(()) }
+    /// ```
+    pub fn into_inner(self) -> Uart16550<B> {
+        let Uart16550Tty { inner: uart } = self;
+        uart
+    }
+
     // Sends the expansion of a byte, and returns its length. Most bytes are printable, and are sent without a look at the
     // others.
     #[inline(always)]

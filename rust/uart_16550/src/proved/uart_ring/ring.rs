@@ -202,7 +202,8 @@ impl<B: Backend> Uart16550Ring<B> {
     /// itself.
     ///
     /// Bytes that such a call sends or receives bypass the rings. The rings change two bits of IER: `THR_EMPTY`, and
-    /// `DATA_READY` while receiving is paused. Do not change these two.
+    /// `DATA_READY` while receiving is paused. Do not change these two. After an `init` while bytes wait in the transmit
+    /// ring, call `resume_transmit`.
     ///
     /// # Examples
     ///

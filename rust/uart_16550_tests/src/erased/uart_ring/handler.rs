@@ -1,8 +1,8 @@
 #[allow(unused_imports)]
 use crate::runtime::{AllocGlobal, HostRuntime, assert, assert_eq, assert_ne, format};
 // The interrupt handler of the documentation, over a replay.
-use super::lists::Step::{Changed, Read, Received, Sent, Write};
-use super::lists::{DATA_READY, EMPTY, LINE_STATUS, MODEM_STATUS, NONE, THR_EMPTY, WAITS, made};
+use super::lists::Step::{self, Burst, Changed, Read, Received, Sent, Write};
+use super::lists::{DATA_READY, EMPTY, LINE_STATUS, MODEM_STATUS, NONE, answers_in, made};
 use crate::libraries::uart_ring::{MAX_INTERRUPTS, RingError, Uart16550Ring};
 use crate::libraries::bitflags::Flags;
 use crate::runtime::Global;
@@ -28,6 +28,18 @@ pub struct Port<B> {
     bad_characters: u32,
 }
 
+// THR_EMPTY is not among the interrupts: the rings enable it as long as bytes wait to be sent.
+fn config() -> Config {
+    let interrupts = IER::DATA_READY
+        .union(IER::RECEIVER_LINE_STATUS)
+        .union(IER::MODEM_STATUS);
+    Config {
+        interrupts,
+        check_cts_before_sending: true,
+        ..Config::DEFAULT
+    }
+}
+
 impl<B: Backend> Port<B> {
     // Starts the port. The interrupt is to be masked at the interrupt controller until this has returned.
     pub fn start(alloc: Global, backend: B) -> Result<Self, StartError> {
@@ -36,16 +48,7 @@ impl<B: Backend> Port<B> {
             Ok(ring) => ring,
             Err((_uart, cause)) => return Err(StartError::NoRings(cause)),
         };
-        // THR_EMPTY is not among them: the rings enable it as long as bytes wait to be sent.
-        let interrupts = IER::DATA_READY
-            .union(IER::RECEIVER_LINE_STATUS)
-            .union(IER::MODEM_STATUS);
-        let config = Config {
-            interrupts,
-            check_cts_before_sending: true,
-            ..Config::DEFAULT
-        };
-        match ring.inner_mut().init(config) {
+        match ring.inner_mut().init(config()) {
             Ok(()) => Ok(Port {
                 ring,
                 overruns: 0,
@@ -78,16 +81,20 @@ impl<B: Backend> Port<B> {
         }
     }
 
-    // Lets the transmitter go on when CTS came back.
+    // Sends what waits when CTS came back: the chip has already reported that it is empty.
     fn look_at_modem(&mut self) {
         let modem = self.ring.take_modem();
-        let came_back = modem.contains(MSR::DELTA_CTS.union(MSR::CTS));
-        if came_back && self.ring.transmit_len() > 0 {
-            // The chip has already reported that it is empty. Switched off and on, the interrupt is raised again.
-            let uart = self.ring.inner_mut();
-            uart.disable_interrupts(IER::THR_EMPTY);
-            uart.enable_interrupts(IER::THR_EMPTY);
+        if modem.contains(MSR::DELTA_CTS.union(MSR::CTS)) {
+            self.ring.resume_transmit();
         }
+    }
+
+    // Changes the configuration while bytes may wait. The interrupt is to be masked meanwhile.
+    pub fn configure(&mut self, config: Config) -> Result<(), InitError> {
+        self.ring.inner_mut().init(config)?;
+        // `init` has disabled THR_EMPTY.
+        self.ring.resume_transmit();
+        Ok(())
     }
 
     // Sends bytes from the front, and returns how many were accepted. The interrupt is to be masked meanwhile.
@@ -101,107 +108,65 @@ impl<B: Backend> Port<B> {
     }
 }
 
+// An `init` of an idle chip with this configuration.
+const INIT: [Step; 22] = [
+    Read(offsets::SPR, 0xa5),
+    Write(offsets::SPR, 0x42),
+    Read(offsets::SPR, 0x42),
+    Write(offsets::SPR, 0x73),
+    Read(offsets::SPR, 0x73),
+    Write(offsets::SPR, 0xa5),
+    Write(offsets::LCR, 0x00),
+    Write(offsets::IER, 0x00),
+    Write(offsets::LCR, 0x80),
+    Write(offsets::DLL, 0x0c),
+    Write(offsets::DLM, 0x00),
+    Write(offsets::LCR, 0x00),
+    Write(offsets::LCR, 0x03),
+    Write(offsets::FCR, 0xc7),
+    Read(offsets::ISR, 0xc1),
+    Read(offsets::LSR, 0x00),
+    Write(offsets::MCR, 0x0b),
+    Read(offsets::LSR, 0x40),
+    Read(offsets::LSR, 0x00),
+    Read(offsets::ISR, 0xc1),
+    Read(offsets::MSR, 0x00),
+    Write(offsets::IER, 0x0d),
+];
+
+// A write of five bytes is held back, and THR_EMPTY enabled.
+const HELD: [Step; 4] = [
+    Read(offsets::LSR, EMPTY),
+    Read(offsets::MCR, 0x0b),
+    Read(offsets::MSR, 0x00),
+    Changed(offsets::IER, 0x0d, 0x0f),
+];
+
+fn in_turn(rt: &impl AllocGlobal, parts: &[&[Step]]) -> Result<Vec<Step>, Fail> {
+    let mut steps = Vec::new();
+    for part in parts {
+        for &step in *part {
+            steps.push(step);
+        }
+    }
+    Ok(steps)
+}
+
 #[test]
 fn a_port_that_is_served_by_interrupts() -> Result<(), Fail> {
     let rt = HostRuntime;
-    let answers = [
-        0xa5,
-        0x42,
-        0x73,
-        0xc1,
-        0x00,
-        0x40,
-        0x00,
-        0xc1,
-        0x00, // `init`
-        EMPTY,
-        0x0b,
-        0x00,
-        0x0d, // a write, while the remote is not clear to send
-        MODEM_STATUS,
-        0x11,
-        NONE,
-        EMPTY,
-        0x10,
-        0x0f,
-        0x0d, // it is clear again
-        THR_EMPTY,
-        EMPTY,
-        0x0b,
-        0x10,
-        0x0f,
-        NONE,
-        EMPTY,
-        0x10, // so the bytes are sent
-        LINE_STATUS,
-        0x63,
-        DATA_READY,
-        WAITS,
-        0x6f,
-        WAITS,
-        0x6b,
-        EMPTY,
-        NONE,
-        EMPTY,
-        0x10, // an overrun
-    ];
-    let mut port = Port::start(rt.alloc(), Replay::new(&answers))?;
-    assert_eq!(rt; port.write(b"hello"), 5);
-    port.on_interrupt();
-    assert_eq!(rt; port.ring.transmit_len(), 5);
-    port.on_interrupt();
-    assert_eq!(rt; port.ring.transmit_len(), 0);
-    port.on_interrupt();
-    let mut slots = [0; 4];
-    assert_eq!(rt; port.read(&mut slots), 2);
-    assert_eq!(rt; slots, *b"ok\0\0");
-    assert_eq!(rt; (port.overruns, port.bad_characters), (1, 0));
-    let steps = [
-        Read(offsets::SPR, 0xa5),
-        Write(offsets::SPR, 0x42),
-        Read(offsets::SPR, 0x42),
-        Write(offsets::SPR, 0x73),
-        Read(offsets::SPR, 0x73),
-        Write(offsets::SPR, 0xa5),
-        Write(offsets::LCR, 0x00),
-        Write(offsets::IER, 0x00),
-        Write(offsets::LCR, 0x80),
-        Write(offsets::DLL, 0x0c),
-        Write(offsets::DLM, 0x00),
-        Write(offsets::LCR, 0x00),
-        Write(offsets::LCR, 0x03),
-        Write(offsets::FCR, 0xc7),
-        Read(offsets::ISR, 0xc1),
-        Read(offsets::LSR, 0x00),
-        Write(offsets::MCR, 0x0b),
-        Read(offsets::LSR, 0x40),
-        Read(offsets::LSR, 0x00),
-        Read(offsets::ISR, 0xc1),
-        Read(offsets::MSR, 0x00),
-        Write(offsets::IER, 0x0d),
-        // The write is held back, and THR_EMPTY enabled.
-        Read(offsets::LSR, EMPTY),
-        Read(offsets::MCR, 0x0b),
-        Read(offsets::MSR, 0x00),
-        Changed(offsets::IER, 0x0d, 0x0f),
-        // CTS came back: THR_EMPTY off and on.
+    let served = [
+        // CTS came back: the bytes are sent, and THR_EMPTY is disabled.
         Read(offsets::ISR, MODEM_STATUS),
         Read(offsets::MSR, 0x11),
         Read(offsets::ISR, NONE),
         Read(offsets::LSR, EMPTY),
         Read(offsets::MSR, 0x10),
-        Changed(offsets::IER, 0x0f, 0x0d),
-        Changed(offsets::IER, 0x0d, 0x0f),
-        // The bytes are sent, and THR_EMPTY disabled.
-        Read(offsets::ISR, THR_EMPTY),
         Read(offsets::LSR, EMPTY),
         Read(offsets::MCR, 0x0b),
         Read(offsets::MSR, 0x10),
         Sent(b"hello"),
         Changed(offsets::IER, 0x0f, 0x0d),
-        Read(offsets::ISR, NONE),
-        Read(offsets::LSR, EMPTY),
-        Read(offsets::MSR, 0x10),
         // Two characters are received, and an overrun is noted.
         Read(offsets::ISR, LINE_STATUS),
         Read(offsets::LSR, 0x63),
@@ -212,6 +177,36 @@ fn a_port_that_is_served_by_interrupts() -> Result<(), Fail> {
         Read(offsets::LSR, EMPTY),
         Read(offsets::MSR, 0x10),
     ];
+    let steps = in_turn(&rt, &[&INIT, &HELD, &served])?;
+    let answers = answers_in(&rt, &steps)?;
+    let mut port = Port::start(rt.alloc(), Replay::new(&answers))?;
+    assert_eq!(rt; port.write(b"hello"), 5);
+    assert_eq!(rt; port.ring.transmit_len(), 5);
+    port.on_interrupt();
+    assert_eq!(rt; port.ring.transmit_len(), 0);
+    port.on_interrupt();
+    let mut slots = [0; 4];
+    assert_eq!(rt; port.read(&mut slots), 2);
+    assert_eq!(rt; slots, *b"ok\0\0");
+    assert_eq!(rt; (port.overruns, port.bad_characters), (1, 0));
+    made(&rt, port.ring.inner().backend(), &steps);
+    Ok(())
+}
+
+#[test]
+fn a_port_that_is_configured_again() -> Result<(), Fail> {
+    let rt = HostRuntime;
+    // Without CTS checking the bytes are sent after the `init`.
+    let sent = [Burst(b"hello"), Changed(offsets::IER, 0x0d, 0x0d)];
+    let steps = in_turn(&rt, &[&INIT, &HELD, &INIT, &sent])?;
+    let answers = answers_in(&rt, &steps)?;
+    let mut port = Port::start(rt.alloc(), Replay::new(&answers))?;
+    assert_eq!(rt; port.write(b"hello"), 5);
+    port.configure(Config {
+        check_cts_before_sending: false,
+        ..config()
+    })?;
+    assert_eq!(rt; port.ring.transmit_len(), 0);
     made(&rt, port.ring.inner().backend(), &steps);
     Ok(())
 }

@@ -65,6 +65,8 @@ pub enum Call {
     Queue(&'static [u8], usize),
     // How many bytes wait in the transmit ring.
     Left(usize),
+    // `resume_transmit`.
+    Resume,
     // `service` serves this number of interrupts.
     Service(usize),
 }
@@ -115,6 +117,7 @@ pub fn play(
         match *call {
             Call::Queue(bytes, accepted) => assert_eq!(rt; ring.queue(bytes), accepted),
             Call::Left(count) => assert_eq!(rt; ring.transmit_len(), count),
+            Call::Resume => ring.resume_transmit(),
             Call::Service(count) => assert_eq!(rt; ring.service(), count),
         }
     }

@@ -20,6 +20,7 @@ loop-left-preserved c =
           (record {
             same = turn.same ∙ c.loop-left.invariant.same;
             turns = omega (arith, turn.fewer, c.loop-left.invariant.turns);
+            counted = omega (arith, turn.counted, c.loop-left.invariant.counted);
             within = omega (arith, least, w.if-ticks-left.true, c.loop-left.invariant.within);
           })
       | in_default w ↦
@@ -34,6 +35,7 @@ loop-left-preserved c =
           (record {
             same = turn.same ∙ c.loop-left.invariant.same;
             turns = omega (arith, turn.fewer, c.loop-left.invariant.turns);
+            counted = omega (arith, turn.counted, c.loop-left.invariant.counted);
             within = omega (arith, c.loop-left.invariant.within);
           })
     ]

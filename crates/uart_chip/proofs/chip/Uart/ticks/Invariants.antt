@@ -1,5 +1,6 @@
 use Rattle.std.proofs.Common.{◌≡◌, ◌+◌, ◌≤◌}
 use Rattle.uart_chip.specs.Chip.{ticks}
+use Rattle.uart_chip.specs.Jumps as jumps
 use Rattle.uart_chip.specs.Jumps.{moves}
 use Rattle.uart_chip.proofs.Jumps.{turns_left}
 use Rattle.uart_chip.proofs.chip.Uart.ticks.Given as goal
@@ -8,6 +9,7 @@ abbrev pub invariant-loop-left : goal.invariant-loop-left
 invariant-loop-left l = record {
   same : ticks l.left l.self ≡ ticks l.n l.fn.self;
   turns : l.turns + turns_left l.left l.self.transmitter ≤ moves l.fn.self.transmitter + 1;
+  counted : l.turns + jumps.turns l.left l.self ≡ jumps.turns l.n l.fn.self;
   within : l.turns + l.left ≤ l.n;
 }
 

@@ -9,7 +9,7 @@ invariant_of-self c = (
       (drop c.self.inside.cursor c.self.inside.schedule.items) c.ticks.ensures.after c.self.invariant.1,
 )
 
-pub returns-clause-turns : goal.returns-clause-turns
-returns-clause-turns c = let most =
+pub returns-clause-most : goal.returns-clause-most
+returns-clause-most c = let most =
     moves-most c.self.inside.uart.fifo c.self.inside.uart.transmitter c.self.invariant.1.sound.chip.transmitter in
-    omega (arith, most, c.ticks.ensures.turns)
+    omega (arith, most, c.ticks.ensures.most)

@@ -6,7 +6,7 @@ use Rattle.uart_live.proofs.live.LiveChip.ticks.Goals as goal
 pub invariant_of-self : goal.invariant_of-self
 invariant_of-self c = rw c.ticks.ensures.after (live-ticks c.args.count _ c.self.invariant)
 
-pub returns-clause-turns : goal.returns-clause-turns
-returns-clause-turns c =
+pub returns-clause-most : goal.returns-clause-most
+returns-clause-most c =
     let most = moves-most c.self.inside.uart.fifo c.self.inside.uart.transmitter c.self.invariant.whole.sound.chip.transmitter in
-    omega (arith, most, c.ticks.ensures.turns)
+    omega (arith, most, c.ticks.ensures.most)

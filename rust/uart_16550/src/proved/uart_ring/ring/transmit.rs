@@ -56,4 +56,36 @@ impl<B: Backend> Uart16550Ring<B> {
         }
         count
     }
+
+    /// Starts sending again if bytes wait in the transmit ring with no interrupt to come.
+    ///
+    /// If bytes wait, it sends some of them if the chip has room: up to 16 if its FIFO is on, else one. Then it enables
+    /// `THR_EMPTY` if bytes are left in the ring, else it disables it. The rest is sent by `service`. If none wait, it makes
+    /// no access.
+    ///
+    /// Does not wait. Call it
+    ///
+    /// - after an `init` through `inner_mut`, which disables `THR_EMPTY` and may acknowledge its interrupt;
+    /// - with CTS checking, when `take_modem` reports that CTS came back. While CTS is clear, it sends nothing.
+    ///
+    /// # Examples
+    ///
+    /// ```
+    /// # include!(concat!(env!("CARGO_MANIFEST_DIR"), "/src/proved/examples.rs"));
+    /// # fn main() {}
+    /// # use uart_16550::ring::{self, *};
+    /// # struct Port { ring: Uart16550Ring<Device>, overruns: u32 }
+    /// # impl Port {
+    /// # fn example(&mut self) {
+    /// let modem = self.ring.take_modem();
+    /// if modem.contains(MSR::DELTA_CTS.union(MSR::CTS)) {
+    ///     self.ring.resume_transmit();
+    /// }
+    /// # } }
+    /// ```
+    pub fn resume_transmit(&mut self) {
+        if !self.transmit.is_empty() {
+            self.pump();
+        }
+    }
 }

@@ -1,0 +1,152 @@
+//! Makes a call of the crate's driver.
+
+use crate::call::{CALL_BYTES, Call, Kind, digits_of};
+use uart_16550::backend::Backend;
+use uart_16550::embedded_io::{Read, ReadReady, Write, WriteReady};
+use uart_16550::{ConfigRegisterDump, InitError, InvalidDivisorError, LoopbackError, StalledError};
+use uart_16550::{Uart16550, Uart16550Tty};
+
+/// Makes one call, and returns its answer in the words of traces.
+pub fn perform<B: Backend>(terminal: &mut Uart16550Tty<B>, call: &Call) -> String {
+    if call.kind == Kind::Text {
+        return done(terminal.write_text(call.text()));
+    }
+    let uart = terminal.inner_mut();
+    match call.kind {
+        Kind::Init => named(uart.init(call.config.clone()), init_error),
+        Kind::TestLoopback => named(uart.test_loopback(), loopback_error),
+        Kind::CheckPresent => format!("ok {}", uart.check_present()),
+        Kind::CheckConnected => named(uart.check_connected(), |error| format!("{error:?}")),
+        Kind::ReadyToReceive => named(uart.ready_to_receive(), |error| format!("{error:?}")),
+        Kind::ReadyToSend => named(uart.ready_to_send(), |error| format!("{error:?}")),
+        Kind::TryReceive => match uart.try_receive_byte() {
+            Ok(byte) => format!("ok {byte:02x}"),
+            Err(error) => format!("err {error:?}"),
+        },
+        Kind::Flush => done(uart.flush()),
+        Kind::ReadReady => shown(uart.read_ready()),
+        Kind::WriteReady => shown(uart.write_ready()),
+        Kind::FifoEnabled => format!("ok {}", uart.fifo_enabled()),
+        Kind::TrySend => named(uart.try_send_byte(call.byte), |error| format!("{error:?}")),
+        Kind::Enable => {
+            uart.enable_interrupts(uart_16550::spec::registers::IER::from_bits_retain(
+                call.byte,
+            ));
+            "ok".into()
+        }
+        Kind::Disable => {
+            uart.disable_interrupts(uart_16550::spec::registers::IER::from_bits_retain(
+                call.byte,
+            ));
+            "ok".into()
+        }
+        Kind::Receive | Kind::ReceiveExact | Kind::Read => receive(uart, call),
+        Kind::Send => format!("ok {}", uart.send_bytes(&call.bytes)),
+        Kind::SendExact => done(uart.send_bytes_exact(&call.bytes)),
+        Kind::Write => shown(uart.write(&call.bytes)),
+        _ => look(uart, call.kind),
+    }
+}
+
+/// Makes a call that returns registers.
+fn look<B: Backend>(uart: &mut Uart16550<B>, kind: Kind) -> String {
+    let register = match kind {
+        Kind::Ier => uart.ier().bits(),
+        Kind::Isr => uart.isr().bits(),
+        Kind::Lcr => uart.lcr().bits(),
+        Kind::Mcr => uart.mcr().bits(),
+        Kind::Lsr => uart.lsr().bits(),
+        Kind::Msr => uart.msr().bits(),
+        Kind::Spr => uart.spr(),
+        Kind::DllDlm => {
+            let (dll, dlm) = uart.dll_dlm();
+            return format!("ok {dll:02x} {dlm:02x}");
+        }
+        Kind::Dump => return dumped(&uart.config_register_dump()),
+        _ => panic!("{kind:?} is made elsewhere"),
+    };
+    format!("ok {register:02x}")
+}
+
+/// Makes a call that receives into slots.
+fn receive<B: Backend>(uart: &mut Uart16550<B>, call: &Call) -> String {
+    let mut buffer = [0xee; CALL_BYTES];
+    let slots = &mut buffer[..call.slots];
+    let (words, count) = match call.kind {
+        Kind::Receive => (String::from("ok"), uart.receive_bytes(slots)),
+        Kind::ReceiveExact => match uart.receive_bytes_exact(slots) {
+            Ok(()) => ("ok".into(), slots.len()),
+            Err(stall) => (format!("stalled {}", stall.done), stall.done),
+        },
+        _ => match uart.read(slots) {
+            Ok(count) => ("ok".into(), count),
+            Err(stall) => return format!("stalled {}", stall.done),
+        },
+    };
+    assert!(
+        buffer[count..].iter().all(|&slot| slot == 0xee),
+        "a slot beyond the count was written"
+    );
+    format!("{words} {}", digits_of(&buffer[..count]))
+}
+
+fn dumped(dump: &ConfigRegisterDump) -> String {
+    format!(
+        "ok ier {:02x} isr {:02x} lcr {:02x} mcr {:02x} lsr {:02x} msr {:02x} spr {:02x} divisor {}",
+        dump.ier.bits(),
+        dump.isr.bits(),
+        dump.lcr.bits(),
+        dump.mcr.bits(),
+        dump.lsr.bits(),
+        dump.msr.bits(),
+        dump.spr,
+        dump.divisor()
+    )
+}
+
+fn named<E>(outcome: Result<(), E>, name: impl Fn(E) -> String) -> String {
+    match outcome {
+        Ok(()) => "ok".into(),
+        Err(error) => format!("err {}", name(error)),
+    }
+}
+
+fn done(outcome: Result<(), StalledError>) -> String {
+    match outcome {
+        Ok(()) => "ok".into(),
+        Err(stall) => format!("stalled {}", stall.done),
+    }
+}
+
+fn shown<T: std::fmt::Display>(outcome: Result<T, StalledError>) -> String {
+    match outcome {
+        Ok(value) => format!("ok {value}"),
+        Err(stall) => format!("stalled {}", stall.done),
+    }
+}
+
+fn init_error(error: InitError) -> String {
+    match error {
+        InitError::DeviceNotPresent => "DeviceNotPresent".into(),
+        InitError::InvalidBaudRate(InvalidDivisorError::NonInteger(_)) => {
+            "InvalidBaudRate NonInteger".into()
+        }
+        InitError::InvalidBaudRate(InvalidDivisorError::OutOfRange { divisor }) => {
+            format!("InvalidBaudRate OutOfRange {divisor}")
+        }
+        InitError::Stalled => "Stalled".into(),
+    }
+}
+
+fn loopback_error(error: LoopbackError) -> String {
+    match error {
+        LoopbackError::SendError(cause) => format!("SendError {cause:?}"),
+        LoopbackError::UnexpectedLoopbackByte { expected, actual } => {
+            format!("UnexpectedLoopbackByte expected {expected} actual {actual}")
+        }
+        LoopbackError::UnexpectedLoopbackMsg { actual, .. } => {
+            format!("UnexpectedLoopbackMsg {}", digits_of(&actual))
+        }
+        LoopbackError::Stalled => "Stalled".into(),
+    }
+}
