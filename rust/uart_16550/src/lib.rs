@@ -21,6 +21,10 @@ pub mod ring;
 #[doc(inline)]
 pub use compat::*;
 pub use flags::{Bits, Flag, Flags};
+// For links of the documentation.
+#[cfg(feature = "compat")]
+#[allow(unused_imports)]
+use native::embedded_io;
 #[cfg(not(feature = "compat"))]
 #[doc(inline)]
 pub use native::*;
