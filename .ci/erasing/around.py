@@ -19,7 +19,8 @@ PATCH = {"patch": {"crates-io": {"embedded-io": {"path": "tests/embedded-io"}}}}
 def of(package):
     """The files by hand of a package, by name, as text."""
     files = {}
-    for path in sorted([package / "Cargo.toml", package / "build.rs", *(package / ".cargo").rglob("*"), *(package / "src").rglob("*")]):
+    folders = [*(package / ".cargo").rglob("*"), *(package / "src").rglob("*")]
+    for path in sorted([package / "Cargo.toml", package / "build.rs", *folders]):
         name = str(path.relative_to(package))
         if path.is_symlink():
             files[name] = None
@@ -56,6 +57,10 @@ def causes(files):
             function = path.split("::")[-1]
             if guard.reason == table.INSIDE and re.search(rf"\b{function}\b", code):
                 found.append(f"{name}: `{function}`, which requires something and tests nothing")
+    reserved = table.NAMES_OF_STD.union(table.FLAGS, table.FLAGS_TOO)
+    for function in re.findall(r"\bfn (\w+)", files.get("src/flags.rs", "")):
+        if function not in reserved and function not in table.SAME_NAME:
+            found.append(f"src/flags.rs: `{function}`, a name that is not reserved")
     return found + cargo(files["Cargo.toml"])
 
 

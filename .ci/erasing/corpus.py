@@ -13,6 +13,7 @@ import crate
 import table
 import words
 
+RUNNER = re.compile(r"(interpreter|checked|native): |run=")
 FOLDER = pathlib.Path(__file__).resolve().parent / "corpus"
 TABLE = types.SimpleNamespace(
     **{
@@ -57,15 +58,13 @@ def run():
         if shutil.which("rustc") is None:
             print("skipped: there is no rustc\n0 passed, 0 failed")
             return True
-        subprocess.run(
-            ["rustc", "--edition", "2024", "-A", "warnings", "-C", "overflow-checks=yes", "-o", folder / "program", folder / "main.rs"],
-            check=True,
-        )
+        options = ["--edition", "2024", "-A", "warnings", "-C", "overflow-checks=yes"]
+        subprocess.run(["rustc", *options, "-o", folder / "program", folder / "main.rs"], check=True)
         in_rust = subprocess.run([folder / "program"], check=True, capture_output=True, text=True).stdout.splitlines()
         (folder / "crates.txt").write_text("corpus:\n", encoding="ascii")
         shutil.copytree(FOLDER, folder / "crates/corpus/src")
         tried = subprocess.run(["rt", "try"], cwd=folder / "crates/corpus", capture_output=True, text=True, check=False)
-        in_rattle = [line for line in tried.stdout.splitlines() if not re.match(r"(interpreter|checked|native): |run=", line)]
+        in_rattle = [line for line in tried.stdout.splitlines() if not RUNNER.match(line)]
     if tried.returncode != 0:
         print(f"rt try failed: {tried.stdout[-500:]}{tried.stderr[-500:]}\n0 passed, 1 failed")
         return False

@@ -27,6 +27,7 @@ FORMATTER = re.compile(
 
 OPENING = {"(": ")", "[": "]", "{": "}"}
 ITEMS = ("fn", "impl", "mod", "trait", "struct", "enum", "use", "pub", "const", "type")
+INLINES = ("inline", "inline ( always )")
 VISIBILITIES = ("pub", "pub ( crate )", "pub ( super )")
 
 
@@ -113,12 +114,14 @@ class File:
         for comment in reversed(self.comments if comments else []):
             if before <= comment.start < start and not comment.text.startswith("//!"):
                 between = self.text[comment.end : start]
-                own_line = self.text[self.text.rfind("\n", 0, comment.start) + 1 : comment.start].strip() == ""
-                if between.strip() or between.count("\n") > 1 or not own_line:
+                line = self.text.rfind("\n", 0, comment.start) + 1
+                is_alone = not self.text[line : comment.start].strip()
+                if between.strip() or between.count("\n") > 1 or not is_alone:
                     break
                 start = comment.start
         line = self.text.rfind("\n", 0, start) + 1
-        if self.text[line:start].strip() or not re.compile(r" *(//[^/\n][^\n]*)?(\n|$)").match(self.text, end):
+        rest = re.compile(r" *(//[^/\n][^\n]*)?(\n|$)").match(self.text, end)
+        if self.text[line:start].strip() or not rest:
             self.refuse(f"{rule}: something else on the line of what is dropped", first)
         newline = self.text.find("\n", end)
         self.edits.append(Edit(rule, line, newline + 1 if newline >= 0 else len(self.text), ""))
@@ -158,8 +161,15 @@ class File:
             self.at = close + 1
         word = self.word(self.at)
         reads = {
-            "use": self.use, "mod": self.mod, "const": self.constant, "type": self.constant, "struct": self.data,
-            "enum": self.data, "trait": self.trait, "impl": self.implementation, "fn": self.function,
+            "use": self.use,
+            "mod": self.mod,
+            "const": self.constant,
+            "type": self.constant,
+            "struct": self.data,
+            "enum": self.data,
+            "trait": self.trait,
+            "impl": self.implementation,
+            "fn": self.function,
         }
         if self.kind(self.at) in ("ghost", "ghost use"):
             if attributes or visibility not in ("", "pub"):
@@ -182,7 +192,7 @@ class File:
                 self.drop("tactic", first, close, self.module, comments=False)
             elif name not in names:
                 self.refuse(f"the attribute `{name}` here", first)
-            elif name == "inline" and self.words(first, close + 1) not in ("# [ inline ( always ) ]", "# [ inline ]"):
+            elif name == "inline" and self.words(first + 2, close) not in INLINES:
                 self.refuse("an `inline` of another form", first)
             elif name in ("default", "automatically_derived") and close != first + 3:
                 self.refuse(f"a `{name}` of another form", first)
@@ -211,9 +221,8 @@ class File:
         elif text == "use std :: fmt ;" and re.search(r"\.write_char\(", self.text):
             self.change("writer", self.at, close, "use ::core::fmt;\nuse ::core::fmt::Write as _;")
         for at in range(self.at, close):
-            if self.word(at) == "as":
-                self.own_name(at + 1, None)
-                self.aliases.append(self.word(at + 1))
+            if self.word(at) == "as" and self.words(at - 1, at + 2) not in self.table.RENAMED:
+                self.refuse("another name for something", at)
         self.at = close + 1
 
     def mod(self, first, attributes, visibility, path, owner, end):
@@ -443,7 +452,7 @@ class File:
         name = self.word(at)
         if name in self.table.PRELUDE:
             self.refuse(f"an own item with a name of the prelude: {name}", at)
-        libraries = self.table.METHODS + self.table.FLAGS + self.table.QUEUE
+        libraries = self.table.METHODS + self.table.FLAGS + self.table.FLAGS_TOO + self.table.QUEUE
         if name in self.table.NAMES_OF_STD or name in libraries:
             where, _ = self.table.SAME_NAME.get(name, ("nowhere", ""))
             if not (owner or "").startswith(where):
@@ -598,7 +607,8 @@ class File:
         for at, token in enumerate(self.code):
             if token.kind != "word" or any(edit.start <= token.start < edit.end for edit in dropped):
                 continue
-            is_head = self.word(at - 1) not in ("::", ".") and (self.word(at + 1) == "::" or self.word(at - 1) == "use")
+            is_head = self.word(at - 1) not in ("::", ".")
+            is_head = is_head and (self.word(at + 1) == "::" or self.word(at - 1) == "use")
             if self.begins(at, "format_fields !"):
                 self.change("fields", at, at, "format_args")
             if not is_head:

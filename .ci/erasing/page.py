@@ -1,7 +1,6 @@
 """The tables of docs/ERASER.md, which are the tables of the program."""
 import re
 
-import examples
 import table
 
 NAME = "docs/ERASER.md"
@@ -55,7 +54,6 @@ def blocks():
                 ["methods of `queue.rs`: " + ", ".join(map(code, table.QUEUE))],
             ],
         ),
-        "examples": f"{len(examples.EXAMPLES)} examples are doctests.\n",
     }
 
 

@@ -1,7 +1,7 @@
 """The tests of the proved crates as Rust tests: rust/uart_16550_tests/src/erased.
 
-Tests are not trusted, so this works on text: clauses and ghost items are taken out, and the words of REPLACED become others.
-A word that nothing replaces is an error of rustc, and none that goes unnoticed.
+Tests are not trusted, so this works on text: clauses and ghost items are taken out, and the words
+of REPLACED become others. A word that nothing replaces is an error of rustc.
 """
 import re
 
@@ -72,7 +72,9 @@ impl std::fmt::Display for StartError {
 impl std::error::Error for StartError {}
 """
 }
-PRELUDE = "#[allow(unused_imports)]\nuse crate::runtime::{AllocGlobal, HostRuntime, assert, assert_eq, assert_ne, format};\n"
+PRELUDE = """#[allow(unused_imports)]
+use crate::runtime::{AllocGlobal, HostRuntime, assert, assert_eq, assert_ne, format};
+"""
 
 
 def erased(text, module):
@@ -89,7 +91,8 @@ def erased(text, module):
         text = re.sub(pattern, to, text)
     text = re.sub(r"(?<![\w:])crate(?=::)", module, text)
     for head, to in HEADS.items():
-        text = re.sub(rf"(?<![\w:]){head}(?=::|\b(?=[;<])|\()(?!\w)" if "::" in head else rf"(?<![\w:]){head}(?=::)", to, text)
+        behind = r"\b" if "::" in head else "(?=::)"
+        text = re.sub(rf"(?<![\w:]){head}{behind}", to, text)
     text = text.replace("use super::*;", f"use {module}::*;").replace("use registers::", f"use {module}::registers::")
     text = re.sub(r"(?m)^( *)//[/!]", r"\1//", text)
     return re.sub(r"\n{3,}", "\n\n", PRELUDE + text) + APPENDED.get(module if "Port<B>" in text else "", "")

@@ -226,6 +226,9 @@ IMPLEMENTED = {
     "uart_16550::mmio::MmioBackend::write": "address",
 }
 
+# Names that a `use` changes.
+RENAMED = ["uart_spec as spec"]
+
 # What is let through. Anything else of its kind is refused.
 MACROS = ["matches", "format_args", "format_fields"]
 ATTRIBUTES = ["inline", "default", "automatically_derived"]
@@ -250,6 +253,8 @@ FLAGS = """
 all bits complement contains difference empty flags from_bits from_bits_retain from_bits_truncate from_name insert intersection
 intersects is_all is_empty iter iter_names remove set symmetric_difference toggle union
 """.split()
+# The other functions of flags.rs: with those above and std's, names that no own item has.
+FLAGS_TOO = "clear contains_unknown_bits name names truncate value".split()
 # Methods of the queue, in queue.rs.
 QUEUE = "as_slices capacity fill_from_slice is_empty is_full len read_into truncate_front with_capacity".split()
 # Own functions that have the name of one of the above or of std (names_of_std.txt): where they may be, and why each call is of

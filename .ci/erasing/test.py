@@ -1,11 +1,13 @@
-"""The eraser's own tests, as tables: what it refuses, with the cause that it prints, and what its check and its second reader find."""
+"""The eraser's own tests, as tables.
+
+What it refuses, with the cause that it prints, and what its check and its second reader find.
+"""
 import contextlib
 import pathlib
 import tempfile
 
 import around
 import crate
-import items
 import second
 import table
 import words
@@ -93,7 +95,8 @@ FORMS = [
     ("use std::fmt::{Display, Pointer};", "the path std::fmt::Pointer"),
     ("use crate::registers::*;", "a `use` of everything"),
     ("#[allow(unused)]\nuse crate::registers::IER;", "an attribute of a `use`"),
-    ("use crate::registers::IER as Option;", "a name of the prelude: Option"),
+    ("use crate::registers::IER as Option;", "another name for something"),
+    ("use crate::backend::{Backend as Other};", "another name for something"),
     ("enum E {\n    A = 5,\n    B = 1,\n}", "numbers of cases that do not ascend"),
     # names that Rust could take for others
     ("pub trait T {\n    fn midpoint(self, other: u8) -> u8;\n}", "a name of std or of a library: midpoint"),
@@ -121,7 +124,7 @@ FORMS = [
     ("pub trait T {}\npub type Config = u8;\nimpl T for Config {}", "an `impl` for Config, which is not ours"),
     (
         "use std::num::NonZeroU8 as Config;\npub trait T {}\nimpl T for Config {}",
-        "an `impl` for Config, which is not ours",
+        "another name for something",
     ),
     # lemmas and models
     (
@@ -408,6 +411,7 @@ AROUND = [
         "fn f(u: &mut U) { u.write_register(9, 1) }\nmacro_rules!",
         "`write_register`, which requires",
     ),
+    ("src/flags.rs", "fn toggle", "fn has_error", "`has_error`, a name that is not reserved"),
     ("src/proved.rs", "", "pub mod uart_spec;", "src/proved.rs: there"),
     ("build.rs", "", "fn main() {}", "build.rs: there"),
     (".cargo/config.toml", "", "[build]\nrustflags = []\n", "more than the stand-in"),

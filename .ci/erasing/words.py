@@ -4,7 +4,6 @@ import re
 # Rules that keep what they rewrite as code.
 REWRITES = ("field", "path", "std", "writer", "fields")
 ENDS = (")", "]", "}", ",", ";", "{", "=>", "")
-STARTS_EXPRESSION = ("word", "number", "string", "character")
 
 
 def check(file, known):

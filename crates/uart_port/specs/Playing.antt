@@ -1,8 +1,9 @@
 -- The outcome of playing calls on a real chip.
 use Rattle.std.specs.Prelude.{◌≡◌, ◌⊎◌, ℕ, List, [], ◌∷◌, ◌++◌, Option, None, IsSome}
 use Rattle.std.specs.Io.KnownBytes.{Appends}
-use Rattle.uart_16550.specs.Driver.{backend_of}
-use Rattle.uart_16550.specs.Pio.{Ports, PortStep}
+use Rattle.uart_16550.specs.Driver.{backend_of, fields, with_limit}
+use Rattle.uart_16550.specs.Pio.{Ports, PortStep, IsAtPorts}
+use Rattle.uart_16550.specs.State.{fresh_fields}
 use Rattle.uart_16550.specs.Tty.{inner_of}
 use Rattle.uart_16550.specs.declared.tty.Uart16550Tty.{Uart16550Tty}
 use Rattle.uart_calls.specs.declared.call.Call.{Call}
@@ -12,7 +13,8 @@ use Rattle.uart_language.specs.Output.{answer_lines}
 use Rattle.uart_port.specs.declared.ports.Fault.{Fault}
 use Rattle.uart_port.specs.declared.ports.GuardedPorts.{GuardedPorts}
 use Rattle.uart_port.specs.declared.playing.Journal.{Journal}
-use Rattle.uart_port.specs.Ports.{Attempt, GuardedStep, fault_of}
+use Rattle.uart_port.specs.Ports.{Attempt, GuardedStep, file_of, fault_of}
+use Rattle.uart_port.specs.Trace.{traced}
 
 -- the driver under its terminal, at eight ports of a file
 abbrev pub Terminal : Type 0 → Type 0
@@ -56,5 +58,16 @@ pub record IsPlayed {F : Type 0} (step : F → Attempt → F → Type 0) (s : Te
   pub printed : Appends old new (answer_lines answers)
 
 -- the writer to which a journal prints
-abbrev pub writer_of : {W : Type 0} → Journal W → W
+abbrev pub writer_of : {W T : Type 0} → Journal W T → W
 writer_of journal = journal.writer
+
+-- the bytes of its trace, if there is one and they are known
+abbrev pub traced_by : {W T : Type 0} → (T → Option (List ℕ)) → Journal W T → Option (List ℕ)
+traced_by contents journal = traced contents journal.trace
+
+-- a driver that has made no access, with this limit, at eight ports of this file, none of which has failed
+pub record IsTerminalAt {F : Type 0} (port limit : ℕ) (given : F) (terminal : Terminal F) : Type 0 where
+  pub begins : fields (inner_of terminal) ≡ with_limit limit fresh_fields
+  pub place : IsAtPorts (backend_of (inner_of terminal)) port (backend_of (inner_of terminal)).access
+  pub file : file_of (backend_of (inner_of terminal)).access ≡ given
+  pub fault : fault_in terminal ≡ None

@@ -1,23 +1,24 @@
 -- Access to the ports of a file, which ends at the first fault.
 use Rattle.std.specs.Prelude.{◌≡◌, ◌⊎◌, ℕ, ⊤, Option, Some, None, Result, Ok, Err, MatchOption}
+use Rattle.std.specs.declared.io.Error.{Error}
 use Rattle.uart_spec.specs.Access.{Access, Read, Write}
 use Rattle.uart_port.specs.declared.ports.TheConstants.{FLOATING}
 use Rattle.uart_port.specs.declared.ports.Fault.{Fault}
 use Rattle.uart_port.specs.declared.ports.GuardedPorts.{GuardedPorts}
 
--- an access to a port that was made, with its answer or its value, or one that failed
+-- an access to a port that was made, with its answer or its value, or one that failed for a cause
 pub data Attempt : Type 0 where
   Made : Access → Attempt
-  Failed : (port : ℕ) → Attempt
+  Failed : (port : ℕ) → (cause : Error) → Attempt
 
 -- the attempt to read a port, and the one to write to it, with this result
-abbrev pub read_attempt : {E : Type 0} → ℕ → Result ℕ E → Attempt
+abbrev pub read_attempt : ℕ → Result ℕ Error → Attempt
 read_attempt port (Ok value) = Made (Read port value)
-read_attempt port (Err e) = Failed port
+read_attempt port (Err cause) = Failed port cause
 
-abbrev pub write_attempt : {E : Type 0} → ℕ → ℕ → Result (Unit {0}) E → Attempt
+abbrev pub write_attempt : ℕ → ℕ → Result (Unit {0}) Error → Attempt
 write_attempt port value (Ok x) = Made (Write port value)
-write_attempt port value (Err e) = Failed port
+write_attempt port value (Err cause) = Failed port cause
 
 -- the file, and the first fault
 abbrev pub file_of : {F : Type 0} → GuardedPorts F → F
@@ -41,11 +42,11 @@ pub record IsMade {F : Type 0} (step : F → Attempt → F → Type 0) (old : Gu
   pub made : step (file_of old) (Made access) (file_of new)
   pub fault : fault_of new ≡ None
 
--- the file failed at the access, which is the first fault
+-- the file failed at the access, which is the first fault, with its cause
 pub record IsFailed {F : Type 0} (step : F → Attempt → F → Type 0) (old : GuardedPorts F) (access : Access)
     (new : GuardedPorts F) : Type 0 where
   pub first : Fault
-  pub failed : step (file_of old) (Failed (port_of access)) (file_of new)
+  pub failed : step (file_of old) (Failed (port_of access) first.cause) (file_of new)
   pub fault : fault_of new ≡ Some first
   pub port : first.port ≡ port_of access
   pub floating : IsFloating access

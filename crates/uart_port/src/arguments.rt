@@ -7,18 +7,16 @@ use crate::base::base_in;
 use crate::end::End;
 use clap::{Arg, ArgMatches, Command, Error};
 use std::alloc::Global;
+use uart_program::STATUSES;
 
-const ABOUT: &str = "Plays a script's calls on the 16550 at an I/O port, and prints each answer.";
+const ABOUT: &str = "\
+Plays a script's calls on the 16550 at an I/O port, and prints each answer.
 
-const NOTES: &str = "\
 A script is written as for uart_script, but without events: tick, arrive, lines and
 access are refused, and next does nothing. The chip line is checked and has no effect,
 since the chip is the one at the port. The line limit N sets how many unsuccessful
 polls in a row end a wait. The lines wire, held, waiting and marks are not printed,
-since a port does not show what they report.
-
-Exit status: 0 played, 1 the arguments or the script are refused, 2 a file or a port
-failed, 3 out of memory, 4 no permission to open the device.";
+since a port does not show what they report.";
 
 // Returns an option that names a file.
 fn file_option<'a>(alloc: Global, name: &'a str) -> Arg<'a> {
@@ -31,7 +29,7 @@ fn command<'a>(alloc: Global) -> Result<Command<'a>, Error> {
         "the chip's first port in hexadecimal digits, such as 3f8 or 0x3f8",
     );
     let script = Arg::new(alloc, "SCRIPT").help(
-        "the script; standard input is read if no file is named",
+        "the script; standard input is read if it is - or left out",
     );
     let device = file_option(alloc, "device")
         .default_value("/dev/port")
@@ -42,16 +40,13 @@ fn command<'a>(alloc: Global) -> Result<Command<'a>, Error> {
     Ok(
         Command::new(alloc, "uart_port")
             .about(ABOUT)
-            .after_help(NOTES)
+            .after_help(STATUSES)
             .arg(port)?
             .arg(script)?
             .arg(device)?
             .arg(trace)?,
     )
 }
-
-/// The exit status if the words or the script are refused.
-pub const REFUSED: u8 = 1;
 
 /// Matches the words of the command line with what the program accepts.
 pub fn matched<'a>(alloc: Global, words: &'a [String]) -> Result<ArgMatches<'a>, Error> {

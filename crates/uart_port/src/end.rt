@@ -10,6 +10,7 @@ use std::io;
 use std::io::ErrorKind;
 use thiserror::Error;
 use uart_language::{Cause, ScriptError};
+use uart_program::Status;
 
 /// Why a script was not played to its end.
 #[derive(Clone, Copy, Debug, Drop, Error)]
@@ -50,19 +51,21 @@ pub enum End {
 }
 
 impl End {
-    /// Returns the program's exit status.
-    pub fn status(self) -> u8
+    /// Returns how the program ends.
+    pub fn status(self) -> Status
         ensures { result ≡ status_of self }
     {
         match self {
-            End::NotAPort | End::PortTooHigh { .. } | End::Refused { .. } | End::Event { .. } => 1,
-            End::Unread(_)
+            End::Refused { .. } | End::Event { .. } => Status::Refused,
+            End::NotAPort
+            | End::PortTooHigh { .. }
+            | End::Unread(_)
             | End::NoDevice(_)
             | End::Fault { .. }
             | End::Trace(_)
-            | End::Output(_) => 2,
-            End::OutOfMemory => 3,
-            End::NoPermission(_) => 4,
+            | End::Output(_) => Status::Failed,
+            End::OutOfMemory => Status::OutOfMemory,
+            End::NoPermission(_) => Status::NoPermission,
         }
     }
 

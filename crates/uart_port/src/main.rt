@@ -2,8 +2,10 @@
 #![tactic(auto)]
 
 ghost use Rattle.std.specs.Prelude.{IfOk};
+ghost use Rattle.std.specs.Int.NonZero.{non_zero_u64_get};
 ghost use Rattle.uart_16550.specs.Pio.{IsPortBase};
 ghost use Rattle.uart_language.specs.Script.{plan_of, IsScript};
+ghost use Rattle.uart_port.specs.Playing.{IsTerminalAt};
 
 mod arguments;
 mod base;
@@ -16,24 +18,23 @@ mod ports;
 mod tests;
 mod trace;
 
-use arguments::{Arguments, REFUSED, matched};
+use arguments::{Arguments, matched};
 use clap::ArgMatches;
 use device::DeviceFile;
 use end::End;
 use lines::{call_lines, event_line};
 use playing::{Journal, play};
-use ports::{Fault, GuardedPorts};
+use ports::{Fault, GuardedPorts, PortFile};
 use std::alloc::Global;
 use std::fs::File;
 use std::num::NonZeroU64;
 use std::process::ExitCode;
-use std::{env, io};
 use trace::Trace;
 use uart_16550::backend::PioBackend;
 use uart_16550::{Uart16550, Uart16550Tty};
 use uart_language::limits::MOST_BYTES;
 use uart_language::{Script, parse};
-use uart_program::{bytes_of, failed, unmatched};
+use uart_program::{bytes_of, failed, unmatched, words};
 
 // The most bytes of a script that are read: one more than the longest has.
 const MOST_READ: u64 = MOST_BYTES as u64 + 1;
@@ -69,17 +70,16 @@ fn trace_at(rt: &HostRuntime, path: Option<&str>) -> Result<Option<File>, End> {
     }
 }
 
-// Returns the driver at a port of the device, with the script's limit.
-fn terminal_at<'a>(
+// Returns a new driver at the ports of a file, from this one on, with the script's limit.
+fn terminal_at<F: PortFile + Drop>(
     port: u16,
     limit: NonZeroU64,
-    device: File,
-    trace: Option<Trace<'a>>,
-) -> Uart16550Tty<PioBackend<GuardedPorts<DeviceFile<'a>>>>
+    file: F,
+) -> Uart16550Tty<PioBackend<GuardedPorts<F>>>
     requires { IsPortBase port }
+    ensures { IsTerminalAt port (non_zero_u64_get limit) file result }
 {
-    let ports = GuardedPorts::new(DeviceFile::new(device, port, trace));
-    let Ok(mut uart) = Uart16550::new_port(port, ports) else {
+    let Ok(mut uart) = Uart16550::new_port(port, GuardedPorts::new(file)) else {
         unreachable!()
     };
     uart.set_spin_limit(limit);
@@ -95,10 +95,11 @@ fn played(rt: &HostRuntime, matches: &ArgMatches<'_>) -> Result<(), End> {
     let device = device_at(rt, arguments.device)?;
     let file = trace_at(rt, arguments.trace)?;
     let trace = file.as_ref().map(|file| Trace::new(file));
-    if let Some(trace) = trace {
+    if let Some(mut trace) = trace {
         trace.begin(script.limit()).map_err(End::Trace)?;
     }
-    let mut uart = terminal_at(arguments.port, script.limit(), device, trace);
+    let ports = DeviceFile::new(device, arguments.port, trace);
+    let mut uart = terminal_at(arguments.port, script.limit(), ports);
     let mut journal = Journal::new(rt.alloc(), rt.stdout(), trace);
     play(&mut uart, script.calls(), &lines, &mut journal)?;
     match uart.inner().backend().access().fault() {
@@ -107,13 +108,16 @@ fn played(rt: &HostRuntime, matches: &ArgMatches<'_>) -> Result<(), End> {
     }
 }
 
-fn main(rt: HostRuntime) -> io::Result<ExitCode> {
-    let words: Vec<String> = env::args(&rt)?.collect(rt.alloc())?;
+fn main(rt: HostRuntime) -> ExitCode {
+    let words = match words(&rt) {
+        Ok(words) => words,
+        Err(failure) => return failed(&rt, &failure, failure.end()),
+    };
     match matched(rt.alloc(), &words) {
         Ok(matches) => match played(&rt, &matches) {
-            Ok(()) => Ok(ExitCode::SUCCESS),
+            Ok(()) => ExitCode::SUCCESS,
             Err(end) => failed(&rt, &end, end.status()),
         },
-        Err(error) => unmatched(&rt, &error, REFUSED),
+        Err(error) => unmatched(&rt, &error),
     }
 }

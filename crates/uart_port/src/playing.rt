@@ -4,7 +4,8 @@ ghost use Rattle.std.specs.Prelude.{◌≡◌, All, OnOk};
 ghost use Rattle.std.specs.Io.KnownBytes.{Appends};
 ghost use Rattle.uart_calls.specs.Calls.{IsRunnable};
 ghost use Rattle.uart_language.specs.Output.{answer_text, line};
-ghost use Rattle.uart_port.specs.Playing.{IsPlayed, writer_of};
+ghost use Rattle.uart_port.specs.Playing.{IsPlayed, writer_of, traced_by};
+ghost use Rattle.uart_port.specs.Trace.{answer_line, if_driven, is_driven, traced};
 
 use crate::end::End;
 use crate::ports::{GuardedPorts, PortFile};
@@ -18,18 +19,27 @@ use uart_language::push_answer;
 
 /// Where answers are printed and, if there is one, the trace of the run.
 #[derive(Drop)]
-pub struct Journal<'a, W> {
+pub struct Journal<W, T> {
     alloc: Global,
     writer: W,
-    trace: Option<Trace<'a>>,
+    trace: Option<Trace<T>>,
 }
 
-impl<'a, W: Write> Journal<'a, W> {
+// Returns whether a call is one of the driver.
+fn is_driven(call: &Call) -> bool
+    ensures { result ≡ is_driven call.now }
+{
+    !matches!(call, Call::Next)
+}
+
+impl<W: Write, T: Write> Journal<W, T> {
     /// Returns a journal that prints to this writer, and writes this trace.
-    pub fn new(alloc: Global, writer: W, trace: Option<Trace<'a>>) -> Self
+    pub fn new(alloc: Global, writer: W, trace: Option<Trace<T>>) -> Self
     where
         W: Drop,
-        ensures { writer_of result ≡ writer }
+        T: Drop,
+        ensures writer { writer_of result ≡ writer }
+        ensures trace { traced_by T.contents result ≡ traced T.contents trace }
     {
         Journal {
             alloc,
@@ -38,33 +48,30 @@ impl<'a, W: Write> Journal<'a, W> {
         }
     }
 
-    // Returns the trace for a call. `Next` is not a call of the driver.
-    fn trace_of(&self, call: &Call) -> Option<Trace<'a>> {
-        match call {
-            Call::Next => None,
-            _ => self.trace,
-        }
-    }
-
     // Writes that this call is made, as its line of the script.
-    fn call(&mut self, call: &Call, line: &[u8]) -> Result<(), End>
-        ensures { writer_of self.new ≡ writer_of self.old }
+    fn call(&mut self, call: &Call, text: &[u8]) -> Result<(), End>
+        ensures writer { writer_of self.new ≡ writer_of self.old }
+        ensures trace { OnOk result (Appends (traced_by T.contents self.old) (traced_by T.contents self.new)
+            (if_driven call.now (line text.now))) }
     {
-        match self.trace_of(call) {
-            Some(trace) => trace.call(line).map_err(End::Trace),
-            None => Ok(()),
+        match &mut self.trace {
+            Some(trace) if is_driven(call) => trace.call(text).map_err(End::Trace),
+            _ => Ok(()),
         }
     }
 
     // Prints the answer of this call, which has returned.
     fn answer(&mut self, call: &Call, answer: &Answer) -> Result<(), End>
-        ensures { OnOk result
+        ensures printed { OnOk result
             (Appends (W.contents (writer_of self.old)) (W.contents (writer_of self.new)) (line (answer_text answer.now))) }
+        ensures trace { OnOk result (Appends (traced_by T.contents self.old) (traced_by T.contents self.new)
+            (if_driven call.now (answer_line (answer_text answer.now)))) }
     {
         let mut text = Vec::new(self.alloc);
         push_answer(self.alloc, &mut text, answer)?;
-        if let Some(trace) = self.trace_of(call) {
-            trace.answer(&text).map_err(End::Trace)?;
+        match &mut self.trace {
+            Some(trace) if is_driven(call) => trace.answer(&text).map_err(End::Trace)?,
+            _ => {}
         }
         text.extend_from_slice(b"\n")?;
         self.writer.write_all(&text).map_err(End::Output)
@@ -79,11 +86,11 @@ impl<'a, W: Write> Journal<'a, W> {
 /// # Errors
 ///
 /// If an answer cannot be printed, or the trace cannot be written. No call is made after that.
-pub fn play<F: PortFile, W: Write>(
+pub fn play<F: PortFile, W: Write, T: Write>(
     uart: &mut Uart16550Tty<PioBackend<GuardedPorts<F>>>,
     calls: &[Call],
     lines: &[&[u8]],
-    journal: &mut Journal<'_, W>,
+    journal: &mut Journal<W, T>,
 ) -> Result<(), End>
     requires { All IsRunnable calls.now }
     ensures { OnOk result

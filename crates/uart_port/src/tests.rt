@@ -109,12 +109,12 @@ fn each_end_has_its_line_and_status(rt: HostRuntime) -> Result<(), Fail> {
         (
             End::NotAPort,
             "PORT must be a hexadecimal number up to fff8, such as 3f8",
-            1,
+            2,
         ),
         (
             End::PortTooHigh { port: 0xfff9 },
             "port fff9 is too high: a chip has eight ports, so its first one is at most fff8",
-            1,
+            2,
         ),
         (
             End::unread(missing),
@@ -142,7 +142,7 @@ fn each_end_has_its_line_and_status(rt: HostRuntime) -> Result<(), Fail> {
     ];
     for (end, line, status) in rows {
         assert_eq!(rt; end.to_string(rt.alloc())?.as_str(), line);
-        assert_eq!(rt; end.status(), status, "at {line}");
+        assert_eq!(rt; end.status().number(), status, "at {line}");
     }
     Ok(())
 }

@@ -1,10 +1,12 @@
 //! A run as text: each call, its accesses, and its answer.
 
-ghost use Rattle.std.specs.Prelude.{◌≡◌, ◌<◌};
+ghost use Rattle.std.specs.Prelude.{◌≡◌, ◌<◌, ◌++◌, OnOk, codes};
+ghost use Rattle.std.specs.Int.NonZero.{non_zero_u64_get};
+ghost use Rattle.std.specs.Io.KnownBytes.{Appends};
 ghost use Rattle.uart_spec.specs.Access.{Read, Write as WriteAccess};
-ghost use Rattle.uart_port.specs.Trace.{lettered, access_line};
+ghost use Rattle.uart_language.specs.Output.{line};
+ghost use Rattle.uart_port.specs.Trace.{lettered, access_line, answer_line, output_of};
 
-use std::fs::File;
 use std::io;
 use std::io::Write;
 use std::num::NonZeroU64;
@@ -13,73 +15,64 @@ use uart_language::hex_digit;
 /// The length of the line of an access, with its end.
 const ACCESS_LINE: usize = 7;
 
-/// A file for a trace, which is written line by line during the run.
+/// A trace, which is written line by line during the run.
 ///
-/// Nothing is buffered, so everything up to a fault or a crash is in the file.
-#[derive(Clone, Copy)]
-pub struct Trace<'a> {
-    file: &'a File,
+/// Nothing is buffered, so everything up to a fault or a crash is written.
+#[derive(Clone, Copy, Drop)]
+pub struct Trace<W> {
+    output: W,
 }
 
-impl<'a> Trace<'a> {
-    /// Returns a trace in this file.
-    pub fn new(file: &'a File) -> Self {
-        Trace { file }
+impl<W: Write> Trace<W> {
+    /// Returns a trace that is written to this output.
+    pub fn new(output: W) -> Self
+    where
+        W: Drop,
+        ensures { output_of result ≡ output }
+    {
+        Trace { output }
     }
 
     /// Writes that the driver is new, with its spin limit in a remark.
-    pub fn begin(self, limit: NonZeroU64) -> io::Result<()> {
-        let mut file = self.file;
-        writeln!(file, "fresh")?;
-        writeln!(file, "# limit {}", limit.get())
+    pub fn begin(&mut self, limit: NonZeroU64) -> io::Result<()> {
+        writeln!(self.output, "fresh")?;
+        writeln!(self.output, "# limit {}", limit.get())
     }
 
     /// Writes that a call is made, as its line of the script.
-    pub fn call(self, line: &[u8]) -> io::Result<()> {
-        let mut file = self.file;
-        file.write_all(line)?;
-        file.write_all(b"\n")
+    pub fn call(&mut self, text: &[u8]) -> io::Result<()>
+        ensures { OnOk result (Appends (W.contents (output_of self.old)) (W.contents (output_of self.new)) (line text.now)) }
+    {
+        self.output.write_all(text)?;
+        self.output.write_all(b"\n")
     }
 
     /// Writes that the register at this offset was read, and what the read returned.
-    pub fn read(self, offset: u8, answer: u8) -> io::Result<()>
+    pub fn read(&mut self, offset: u8, answer: u8) -> io::Result<()>
         requires { offset < 8 }
+        ensures { OnOk result
+            (Appends (W.contents (output_of self.old)) (W.contents (output_of self.new)) (access_line (Read offset answer))) }
     {
-        let mut file = self.file;
-        file.write_all(&read_line(offset, answer))
+        self.output.write_all(&lettered(b'r', offset, answer))
     }
 
     /// Writes that this value was written to the register at this offset.
-    pub fn write(self, offset: u8, value: u8) -> io::Result<()>
+    pub fn write(&mut self, offset: u8, value: u8) -> io::Result<()>
         requires { offset < 8 }
+        ensures { OnOk result
+            (Appends (W.contents (output_of self.old)) (W.contents (output_of self.new)) (access_line (WriteAccess offset value))) }
     {
-        let mut file = self.file;
-        file.write_all(&write_line(offset, value))
+        self.output.write_all(&lettered(b'w', offset, value))
     }
 
     /// Writes that the call returned, with its answer as it is printed.
-    pub fn answer(self, text: &[u8]) -> io::Result<()> {
-        let mut file = self.file;
-        file.write_all(b"= ")?;
-        file.write_all(text)?;
-        file.write_all(b"\n")
+    pub fn answer(&mut self, text: &[u8]) -> io::Result<()>
+        ensures { OnOk result (Appends (W.contents (output_of self.old)) (W.contents (output_of self.new)) (answer_line text.now)) }
+    {
+        self.output.write_all(b"= ")?;
+        self.output.write_all(text)?;
+        self.output.write_all(b"\n")
     }
-}
-
-/// Returns the line of a read.
-fn read_line(offset: u8, answer: u8) -> [u8; ACCESS_LINE]
-    requires { offset < 8 }
-    ensures { result ≡ access_line (Read offset answer) }
-{
-    lettered(b'r', offset, answer)
-}
-
-/// Returns the line of a write.
-fn write_line(offset: u8, value: u8) -> [u8; ACCESS_LINE]
-    requires { offset < 8 }
-    ensures { result ≡ access_line (WriteAccess offset value) }
-{
-    lettered(b'w', offset, value)
 }
 
 // A letter, an offset and a byte, as the line of an access.

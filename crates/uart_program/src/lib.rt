@@ -1,64 +1,127 @@
-//! What the programs with a command line share: how they read their text, and how they end.
+//! What the programs with a command line share: how they read, how they report, and how they end.
 #![tactic(auto)]
 
-ghost use Rattle.std.specs.Prelude.{◌≡◌, ◌≢◌, IfOk};
+ghost use Rattle.std.specs.Prelude.{◌≡◌, IfOk, IfErr, IfSome, take};
+ghost use Rattle.std.specs.IoError.{error_kind};
+ghost use Rattle.std.specs.declared.io.Error.{Error as IoError};
 ghost use Rattle.std.specs.Process.{exit_status};
 ghost use Rattle.clap.specs.Values.{kind_of};
+ghost use Rattle.uart_program.specs.Status.{number_of, unmatched_end, fault_end, EndsUnmatched};
+
+mod failure;
+mod status;
 
 use clap::Error;
 use clap::error::ErrorKind;
+pub use failure::Failure;
+pub use status::{STATUSES, Status};
+use std::alloc::Global;
 use std::fmt::Display;
 use std::fs::File;
-use std::io;
 use std::io::Read;
 use std::process::ExitCode;
-use std::rt::Files;
+use std::rt::{Env, Files};
+use std::{env, io};
 
-/// The exit status of a program that is out of memory.
-pub const OUT_OF_MEMORY: u8 = 3;
+/// The name of a file that stands for standard input.
+pub const STANDARD_INPUT: &str = "-";
 
-/// Returns the exit status if the words do not match: 0 if they request the help, and this one if they are refused.
-pub fn unmatched_status(error: &Error, refused: u8) -> u8
-    ensures help { kind_of error.now ≡ ErrorKind.DisplayHelp → result ≡ 0 }
-    ensures memory { kind_of error.now ≡ ErrorKind.OutOfMemory → result ≡ OUT_OF_MEMORY }
-    ensures other { kind_of error.now ≢ ErrorKind.DisplayHelp → kind_of error.now ≢ ErrorKind.OutOfMemory → result ≡ refused }
+/// Returns the words of the command line, of which the first is the program's name.
+///
+/// # Errors
+///
+/// - `Words` if one of them is not UTF-8.
+/// - `OutOfMemory` if out of memory.
+pub fn words<R: Env + AllocGlobal>(rt: &R) -> Result<Vec<String>, Failure> {
+    let words = env::args(rt).map_err(Failure::unread_words)?;
+    Ok(words.collect(rt.alloc())?)
+}
+
+/// Returns what a reader has left, or the first `most` bytes of it if it has more.
+///
+/// # Errors
+///
+/// The error of the reader, or `ErrorKind::OutOfMemory`.
+pub fn first_bytes<R: Read + Drop>(alloc: Global, reader: R, most: u64) -> io::Result<Vec<u8>>
+    ensures { IfOk result (λ bytes. IfSome (R.remaining reader) (λ left. bytes.items ≡ take most left)) }
 {
-    match error.kind() {
-        ErrorKind::DisplayHelp => 0,
-        ErrorKind::OutOfMemory => OUT_OF_MEMORY,
-        _ => refused,
+    let mut bytes = Vec::new(alloc);
+    reader.take(most).read_to_end(&mut bytes)?;
+    Ok(bytes)
+}
+
+/// Returns the first `most` bytes of a file, or all of it. It is standard input if no file is named, or the name is
+/// [`STANDARD_INPUT`].
+///
+/// # Errors
+///
+/// The error of the file, or `ErrorKind::OutOfMemory`.
+pub fn bytes_of<R: Files + Input + AllocGlobal>(
+    rt: &R,
+    file: Option<&str>,
+    most: u64,
+) -> io::Result<Vec<u8>> {
+    match file {
+        Some(name) if name != STANDARD_INPUT => first_bytes(
+            rt.alloc(),
+            File::open(rt, name)?,
+            most,
+        ),
+        _ => first_bytes(rt.alloc(), rt.reader(), most),
     }
 }
 
-/// Prints why the words do not match, or the help that they request, and returns the exit status.
-pub fn unmatched<R: Print + Eprint>(rt: &R, error: &Error, refused: u8) -> io::Result<ExitCode>
-    ensures help { kind_of error.now ≡ ErrorKind.DisplayHelp → IfOk result (λ code. exit_status code ≡ 0) }
-    ensures memory { kind_of error.now ≡ ErrorKind.OutOfMemory → IfOk result (λ code. exit_status code ≡ OUT_OF_MEMORY) }
-    ensures other { kind_of error.now ≢ ErrorKind.DisplayHelp → kind_of error.now ≢ ErrorKind.OutOfMemory
-        → IfOk result (λ code. exit_status code ≡ refused) }
+/// Prints bytes to standard output.
+///
+/// # Errors
+///
+/// `Output` with the cause if they could not all be printed.
+pub fn print<R: Print>(rt: &R, bytes: &[u8]) -> Result<(), Failure>
+    ensures { IfErr result (λ failure. (cause : IoError) × (failure ≡ Failure.Output cause)) }
 {
-    error.print(rt)?;
-    Ok(ExitCode::from(unmatched_status(error, refused)))
+    rt.write_all(bytes).map_err(Failure::Output)
 }
 
-/// Prints why the program did not do what was requested, and returns this exit status.
-pub fn failed<R: Eprint>(rt: &R, why: &impl Display, status: u8) -> io::Result<ExitCode>
-    ensures { IfOk result (λ code. exit_status code ≡ status) }
+/// Returns how a program ends if reading or writing failed for this cause.
+pub fn fault_end(cause: &io::Error) -> Status
+    ensures { result ≡ fault_end (error_kind cause.now) }
 {
-    eprintln!(rt; "{why}")?;
-    Ok(ExitCode::from(status))
+    match cause.kind() {
+        io::ErrorKind::OutOfMemory => Status::OutOfMemory,
+        _ => Status::Failed,
+    }
 }
 
-/// Returns the bytes of a file, or of standard input if no file is named: at most this number.
-pub fn bytes_of<R: Files + Input + AllocGlobal>(
-    rt: &R,
-    path: Option<&str>,
-    most: u64,
-) -> io::Result<Vec<u8>> {
-    let mut bytes = Vec::new(rt.alloc());
-    match path {
-        Some(path) => File::open(rt, path)?.take(most).read_to_end(&mut bytes)?,
-        None => rt.reader().take(most).read_to_end(&mut bytes)?,
-    };
-    Ok(bytes)
+/// Prints why the program did not do what was requested, as a line on standard error, and returns the exit code of its end.
+///
+/// If standard error cannot be written, nothing is printed, and the exit code is the same.
+pub fn failed<R: Eprint>(rt: &R, why: &impl Display, end: Status) -> ExitCode
+    ensures { exit_status result ≡ number_of end }
+{
+    let _ = eprintln!(rt; "{why}");
+    ExitCode::from(end)
+}
+
+/// Returns how a program ends whose words do not match: as done if they request the help or the version.
+pub fn unmatched_end(error: &Error) -> Status
+    ensures { result ≡ unmatched_end (kind_of error.now) }
+{
+    match error.kind() {
+        ErrorKind::DisplayHelp | ErrorKind::DisplayVersion => Status::Done,
+        ErrorKind::OutOfMemory => Status::OutOfMemory,
+        _ => Status::Failed,
+    }
+}
+
+/// Prints why the words do not match, or the help or the version that they request, and returns the exit code.
+///
+/// If the help or the version cannot be printed, that is reported as any failed write.
+pub fn unmatched<R: Print + Eprint>(rt: &R, error: &Error) -> ExitCode
+    ensures { EndsUnmatched (unmatched_end (kind_of error.now)) (exit_status result) }
+{
+    let end = unmatched_end(error);
+    match error.print(rt) {
+        Err(cause) if end == Status::Done => failed(rt, &Failure::Output(cause), Status::Failed),
+        _ => ExitCode::from(end),
+    }
 }

@@ -1,23 +1,23 @@
 //! The program's arguments.
+ghost use Rattle.std.specs.Prelude.{◌≡◌, MatchResult};
+ghost use Rattle.std.specs.Int.NonZero.{non_zero_u64_get};
+ghost use Rattle.uart_trace.specs.Arguments.{number_in, limit_in};
 
 use crate::end::End;
 use clap::{Arg, ArgMatches, Command, Error};
 use std::alloc::Global;
 use std::num::NonZeroU64;
+use uart_program::STATUSES;
 
-const ABOUT: &str =
-    "Checks a recorded trace: whether each list of register accesses is one that its call makes.";
+const ABOUT: &str = "\
+Checks a recorded trace: whether each list of register accesses is one that its call makes.
 
-const NOTES: &str =
-    "A trace has a line for each call, each access and each answer; docs/TRACES.md describes it.
-
-Exit status: 0 each list is its call's, with its answer; 1 one is not, and a line says what the driver does instead; \
-2 the arguments are refused, the file cannot be read, or it is not a trace; 3 out of memory.";
+A trace has a line for each call, each access and each answer; docs/TRACES.md describes it.";
 
 // Returns the command line that the program accepts.
 fn command<'a>(alloc: Global) -> Result<Command<'a>, Error> {
     let file = Arg::new(alloc, "FILE").help(
-        "the trace; standard input is read if no file is named",
+        "the trace; standard input is read if it is - or left out",
     );
     let limit = Arg::new(alloc, "limit")
         .long("limit")
@@ -27,7 +27,7 @@ fn command<'a>(alloc: Global) -> Result<Command<'a>, Error> {
     Ok(
         Command::new(alloc, "uart_trace")
             .about(ABOUT)
-            .after_help(NOTES)
+            .after_help(STATUSES)
             .arg(file)?
             .arg(limit)?,
     )
@@ -38,15 +38,26 @@ pub fn matched<'a>(alloc: Global, words: &'a [String]) -> Result<ArgMatches<'a>,
     command(alloc)?.try_get_matches_from(words)
 }
 
-/// Returns the spin limit of the driver.
+// Returns the number that a word writes in decimal digits, if there is one.
+fn number_in(word: &str) -> Option<u64>
+    ensures { result ≡ number_in word.now }
+{
+    if word.starts_with('+') {
+        return None;
+    }
+    u64::from_str_radix(word, 10).ok()
+}
+
+/// Returns the spin limit that a word sets.
 ///
 /// # Errors
 ///
-/// `NoLimit` if it is not a number, or is 0.
-pub fn limit_in(matches: &ArgMatches<'_>) -> Result<NonZeroU64, End> {
-    let word = matches.get_str("limit").unwrap_or("");
-    match u64::from_str_radix(word, 10) {
-        Ok(limit) => NonZeroU64::new(limit).ok_or(End::NoLimit),
-        Err(_) => Err(End::NoLimit),
+/// `NoLimit` if it is not a number in decimal digits, or is 0, or is too large.
+pub fn limit_in(word: &str) -> Result<NonZeroU64, End>
+    ensures { MatchResult result (λ limit. limit_in word.now ≡ Ok (non_zero_u64_get limit)) (λ end. limit_in word.now ≡ Err end) }
+{
+    match number_in(word) {
+        Some(limit) => NonZeroU64::new(limit).ok_or(End::NoLimit),
+        None => Err(End::NoLimit),
     }
 }

@@ -6,11 +6,8 @@ ghost use Rattle.uart_trace.specs.Status.{status_of};
 use std::io;
 use std::io::ErrorKind;
 use thiserror::Error;
-use uart_program::OUT_OF_MEMORY;
+use uart_program::Status;
 use uart_traces::TraceError;
-
-/// The exit status if the arguments are refused, or if what is read is no trace.
-pub const REFUSED: u8 = 2;
 
 /// Why a trace was not checked.
 #[derive(Clone, Copy, Debug, Drop, Error)]
@@ -27,13 +24,13 @@ pub enum End {
 }
 
 impl End {
-    /// Returns the program's exit status.
-    pub fn status(self) -> u8
+    /// Returns how the program ends.
+    pub fn status(self) -> Status
         ensures { result ≡ status_of self }
     {
         match self {
-            End::NoTrace(TraceError::OutOfMemory) => OUT_OF_MEMORY,
-            End::NoLimit | End::Unread(_) | End::NoTrace(_) => REFUSED,
+            End::NoTrace(TraceError::OutOfMemory) => Status::OutOfMemory,
+            End::NoLimit | End::Unread(_) | End::NoTrace(_) => Status::Failed,
         }
     }
 

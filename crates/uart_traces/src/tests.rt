@@ -131,7 +131,13 @@ fn no_call_runs_on_beyond_its_list(rt: HostRuntime) -> Result<(), Fail> {
             spin_limit: NonZeroU64::MAX,
             ..DriverState::new()
         };
-        for status in [[0x00, 0x00], [0x60, 0x60], [0x61, 0x61], [0x60, 0x71], [0xff, 0xff]] {
+        for status in [
+            [0x00, 0x00],
+            [0x60, 0x60],
+            [0x61, 0x61],
+            [0x60, 0x71],
+            [0xff, 0xff],
+        ] {
             for call in &calls {
                 strays_at_each_place(&rt, rt.alloc(), call, &state, status)?;
             }

@@ -11,13 +11,13 @@ loop-i-preserved g c =
     let fault = rw (c.access.ensures, c.backend.ensures, c.inner.ensures) at c.fault.ensures in
     let clear : fault_in c.perform-answer.new.uart ≡ None = rw (← fault) (none_from c.fault.result (search rules)) in
     begun_more g.F.PortFile.step _ _ _ c.args.calls.now c.loop-i.i _ c.perform-answer.result _ _ _ (omega arith) c.index-calls-i.is
-    (rw (← c.call.ensures) at c.loop-i.invariant) c.perform-answer.ensures clear c.in_ok-answer.ensures
+    (rw (← c.call.ensures.writer) at c.loop-i.invariant) c.perform-answer.ensures clear c.in_ok-answer.ensures.printed
 
 pub returns-then-is_some : goal.returns-then-is_some
 returns-then-is_some g c =
     let fault = rw (c.access.ensures, c.backend.ensures, c.inner.ensures) at c.fault.ensures in
     stopped g.F.PortFile.step _ _ _ c.args.calls.now c.loop-i.i _ c.perform-answer.result _ _ (omega arith) c.index-calls-i.is
-    (rw (← c.call.ensures) at c.loop-i.invariant) c.perform-answer.ensures (rw (← fault) (search rules))
+    (rw (← c.call.ensures.writer) at c.loop-i.invariant) c.perform-answer.ensures (rw (← fault) (search rules))
 
 pub returns : goal.returns
 returns g c = whole g.F.PortFile.step _ _ c.args.calls.now c.loop-i.i _ _ (omega arith) c.loop-i.invariant
