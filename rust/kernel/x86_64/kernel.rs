@@ -10,7 +10,7 @@ use machine::{End, Shared, end};
 use uart_16550::native::backend::X86Ports;
 use uart_16550::native::embedded_io::Write as _;
 use uart_16550::native::spec::registers::{IER, LSR};
-use uart_16550::native::{BaudRate, Config, DriverState, Uart16550, Uart16550Tty};
+use uart_16550::native::{BaudRate, Config, Uart16550, Uart16550Tty};
 use uart_16550::ring::{MAX_INTERRUPTS, Memory, Uart16550Ring};
 
 type Driver = Uart16550<X86Ports>;
@@ -37,15 +37,6 @@ fn panic(_info: &core::panic::PanicInfo<'_>) -> ! {
     end(End::Panic)
 }
 
-// The driver of COM1 in this state.
-fn driver(state: &DriverState) -> Driver {
-    // SAFETY: the kernel may access the ports, and there is one driver of them at a time.
-    let Ok(ports) = (unsafe { X86Ports::new(COM1) }) else {
-        end(End::NoConsole)
-    };
-    Uart16550::from_state(ports, state)
-}
-
 // Says something on the console, and waits until it is sent.
 fn say(console: &mut Uart16550Tty<X86Ports>, line: core::fmt::Arguments<'_>) {
     if writeln!(console, "{line}").is_err() || console.inner_mut().flush().is_err() {
@@ -54,7 +45,11 @@ fn say(console: &mut Uart16550Tty<X86Ports>, line: core::fmt::Arguments<'_>) {
 }
 
 fn start() -> Uart16550Tty<X86Ports> {
-    let mut driver = driver(&DriverState::new());
+    // SAFETY: the kernel may access the ports, and nothing else does.
+    let Ok(ports) = (unsafe { X86Ports::new(COM1) }) else {
+        end(End::NoConsole)
+    };
+    let mut driver = Uart16550::new_with_backend(ports);
     let config = Config {
         baud_rate: BaudRate::Baud115200,
         ..Config::DEFAULT
@@ -135,9 +130,7 @@ extern "C" fn kernel_main() -> ! {
     say(&mut console, format_args!("console on COM1: loopback ok"));
     echo_by_polling(console.inner_mut());
     say(&mut console, format_args!("\n{TYPED} bytes by polling"));
-    let state = console.inner().state();
-    drop(console);
-    let (line, driver) = echo_by_interrupts(driver(&state));
+    let (line, driver) = echo_by_interrupts(console.into_inner());
     let mut console = Uart16550Tty::from_inner(driver);
     if CONSOLE.alone().interrupts == 0 {
         end(End::NoInterrupts)

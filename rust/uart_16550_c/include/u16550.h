@@ -345,6 +345,12 @@ int u16550_ring_queue(struct u16550 *uart, const uint8_t *buffer, size_t len, si
 int u16550_ring_take(struct u16550 *uart, uint8_t *buffer, size_t len, size_t *count);
 
 /*
+ * Starts sending again if bytes wait with no interrupt to come: after u16550_init, or when CTS came back and the configuration
+ * checks it.
+ */
+int u16550_ring_resume_transmit(struct u16550 *uart);
+
+/*
  * Serves the interrupts that are pending, at most U16550_MAX_INTERRUPTS. *count is how many. If it is the most, more may be
  * pending: call it again if the interrupt controller detects edges.
  */

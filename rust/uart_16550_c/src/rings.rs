@@ -125,6 +125,16 @@ pub unsafe extern "C" fn u16550_ring_take(
 }
 
 #[unsafe(no_mangle)]
+pub unsafe extern "C" fn u16550_ring_resume_transmit(uart: *mut Memory) -> c_int {
+    let resume = |held: &mut Held| {
+        held.ring()?.resume_transmit();
+        Ok(())
+    };
+    // SAFETY: the caller promises that the pointer is null or valid.
+    status(unsafe { with(uart, resume) })
+}
+
+#[unsafe(no_mangle)]
 pub unsafe extern "C" fn u16550_ring_service(uart: *mut Memory, count: *mut usize) -> c_int {
     // SAFETY: the caller promises that pointers are null or valid.
     unsafe { report(uart, count, |ring| Ok(ring.service())) }

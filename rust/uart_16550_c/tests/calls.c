@@ -573,10 +573,17 @@ static void rings(void)
     OK(u16550_write_text(&uart, "t\n", 2, NULL));
     IS(d.sent_len, 43);
     IS(u16550_ring_new(&uart, memory, sizeof memory, 40, 24), U16550_HAS_RINGS);
+    OK(u16550_ring_resume_transmit(&uart));
+    d.is_stuck = 1;
+    OK(u16550_ring_queue(&uart, (const uint8_t *)"vw", 2, &count));
+    d.is_stuck = 0;
+    IS(d.sent_len, 43);
+    OK(u16550_ring_resume_transmit(&uart));
+    BYTES(d.sent + 43, "vw");
     OK(u16550_ring_end(&uart));
     IS(u16550_ring_end(&uart), U16550_NO_RINGS);
     OK(u16550_try_send_byte(&uart, 'u'));
-    BYTES(d.sent + 40, "t\r\nu");
+    BYTES(d.sent + 40, "t\r\nvwu");
 }
 
 static void ring_errors(void)
@@ -599,6 +606,7 @@ static void ring_errors(void)
     MISUSE(u16550_ring_queue(&uart, &value, 1, &count), U16550_NO_RINGS);
     MISUSE(u16550_ring_take(&uart, &value, 1, &count), U16550_NO_RINGS);
     MISUSE(u16550_ring_service(&uart, &count), U16550_NO_RINGS);
+    MISUSE(u16550_ring_resume_transmit(&uart), U16550_NO_RINGS);
     MISUSE(u16550_ring_take_line(&uart, &value), U16550_NO_RINGS);
     MISUSE(u16550_ring_take_modem(&uart, &value), U16550_NO_RINGS);
 }
@@ -657,6 +665,7 @@ static void refused(struct u16550 *u, int wanted)
     MISUSE(u16550_ring_queue(u, &byte, 1, &count), wanted);
     MISUSE(u16550_ring_take(u, &byte, 1, &count), wanted);
     MISUSE(u16550_ring_service(u, &count), wanted);
+    MISUSE(u16550_ring_resume_transmit(u), wanted);
     MISUSE(u16550_ring_take_line(u, &byte), wanted);
     MISUSE(u16550_ring_take_modem(u, &byte), wanted);
 }
