@@ -244,8 +244,8 @@ impl<B: Backend> Uart16550Tty<B> {
         uart
     }
 
-    // Sends the expansion of a byte, and returns its length. Most bytes are printable, and are sent without a look at the
-    // others.
+    // Sends the expansion of a byte, and returns its length. Printable bytes have a branch of their own, since most bytes of a
+    // text are printable, and that branch is short.
     #[inline(always)]
     fn send_expansion(&mut self, byte: u8) -> Result<usize, StalledError>
         ensures made { TerminalMade B.step (SendsSingly (expansion_of byte) result) self.old self.new }
