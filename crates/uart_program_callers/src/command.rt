@@ -2,7 +2,7 @@
 ghost use Rattle.std.specs.Prelude.{◌≡◌, ℕ, true, false, IfOk};
 ghost use Rattle.uart_language.specs.Script.{Plan, IsScript, IsFaulty};
 ghost use Rattle.uart_language.specs.declared.cause.Cause.{Cause};
-ghost use Rattle.uart_report.specs.Comments.{without_comments};
+ghost use Rattle.uart_report.specs.Comments.{plain};
 
 use clap::Error;
 use std::alloc::Global;
@@ -15,9 +15,9 @@ use uart_report::report_on;
 ///
 /// The error of clap: the help, the version, or what is wrong with the words.
 pub fn is_accepted(alloc: Global, words: &[&str], script: &[u8]) -> Result<bool, Error>
-    ensures accepted { IfOk result (λ is. is ≡ true → (plan : Plan) × IsScript (without_comments script.now) plan) }
+    ensures accepted { IfOk result (λ is. is ≡ true → (plan : Plan) × IsScript (plain script.now) plan) }
     ensures refused { IfOk result (λ is. is ≡ false →
-        (line : ℕ) × (cause : Cause) × IsFaulty (without_comments script.now) line cause) }
+        (line : ℕ) × (cause : Cause) × IsFaulty (plain script.now) line cause) }
 {
     let request = request_in(alloc, words)?;
     let report = report_on(alloc, &request, script)?;

@@ -2,7 +2,7 @@
 ghost use Rattle.std.specs.Prelude.{◌≡◌, ℕ, None, IfOk, IfSome};
 ghost use Rattle.uart_language.specs.Script.{IsFaulty};
 ghost use Rattle.uart_language.specs.declared.cause.Cause.{Cause};
-ghost use Rattle.uart_report.specs.Comments.{without_comments};
+ghost use Rattle.uart_report.specs.Comments.{plain};
 ghost use Rattle.uart_report.specs.Report.{IsPlayedAs};
 
 use std::alloc::{AllocError, Global};
@@ -14,9 +14,9 @@ use uart_report::{Request, Task, report_on};
 ///
 /// `AllocError` if out of memory.
 pub fn output_of(alloc: Global, script: &[u8]) -> Result<Option<Vec<u8>>, AllocError>
-    ensures played { IfOk result (λ output. IfSome output (λ bytes. IsPlayedAs (without_comments script.now) bytes.items)) }
+    ensures played { IfOk result (λ output. IfSome output (λ bytes. IsPlayedAs (plain script.now) bytes.items)) }
     ensures refused { IfOk result (λ output. output ≡ None →
-        (line : ℕ) × (cause : Cause) × IsFaulty (without_comments script.now) line cause) }
+        (line : ℕ) × (cause : Cause) × IsFaulty (plain script.now) line cause) }
 {
     let request = Request {
         task: Task::Play,

@@ -134,6 +134,23 @@ fn bytes_before_a_failure(rt: HostRuntime) {
     }
 }
 
+// A script of which only the comment is too long.
+#[test]
+fn comments_count_as_bytes(rt: HostRuntime) -> Result<(), Fail> {
+    for (length, is_accepted) in [(65_536, true), (65_537, false)] {
+        let mut script = SCRIPT.to_vec(rt.alloc())?;
+        script.push(b'#')?;
+        for _ in script.len()..length {
+            script.push(b' ')?;
+        }
+        assert_eq!(rt;
+            report::output_of(rt.alloc(), &script)?.is_some(),
+            is_accepted
+        );
+    }
+    Ok(())
+}
+
 #[test]
 fn names_of_scripts(rt: HostRuntime) -> Result<(), Fail> {
     let process = process::id(rt.process());

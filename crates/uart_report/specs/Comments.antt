@@ -1,6 +1,7 @@
 -- Comment lines of a script.
-use Rattle.std.specs.Prelude.{ℕ, List, [], ◌∷◌, ◌++◌, ◌==◌, if◌then◌else◌, map}
+use Rattle.std.specs.Prelude.{ℕ, List, [], ◌∷◌, ◌++◌, ◌==◌, if◌then◌else◌, map, nat_lt, length}
 use Rattle.std.specs.List.{slice_split, join_with_byte}
+use Rattle.uart_language.specs.declared.limits.TheConstants.{MOST_BYTES}
 
 -- a line, or an empty one if its first byte is #
 abbrev pub uncommented : List ℕ → List ℕ
@@ -14,3 +15,7 @@ ended line = uncommented line ++ 10 ∷ []
 -- the lines of a script between its line feeds, each without its comment
 abbrev pub without_comments : List ℕ → List ℕ
 without_comments script = join_with_byte 10 (map uncommented (slice_split (λ b. b == 10) script))
+
+-- a script without its comments; one with too many bytes, comments included, is refused as it is
+abbrev pub plain : List ℕ → List ℕ
+plain script = if nat_lt MOST_BYTES (length script) then script else without_comments script

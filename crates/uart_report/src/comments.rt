@@ -1,8 +1,12 @@
 //! Comment lines, which only this program accepts.
 ghost use Rattle.std.specs.Prelude.{◌≡◌, ◌++◌, IfOk, OnOk};
-ghost use Rattle.uart_report.specs.Comments.{uncommented, ended, without_comments};
+ghost use Rattle.uart_report.specs.Comments.{uncommented, ended, without_comments, plain};
 
 use std::alloc::{AllocError, Global};
+use uart_language::limits::MOST_BYTES;
+
+/// The most bytes of a script that are looked at: one more than the longest has.
+pub const MOST_READ: u64 = MOST_BYTES as u64 + 1;
 
 // Returns the line, or an empty one if it is a comment.
 fn uncommented(line: &[u8]) -> &[u8]
@@ -34,4 +38,15 @@ pub fn without_comments(alloc: Global, script: &[u8]) -> Result<Vec<u8>, AllocEr
     // The text after the script's last line feed had none.
     text.pop();
     Ok(text)
+}
+
+/// Returns a script without its comments. One with more than [`MOST_BYTES`] bytes, comments included, is refused whatever it has,
+/// and returned as it is.
+pub fn plain(alloc: Global, script: &[u8]) -> Result<Vec<u8>, AllocError>
+    ensures { IfOk result (λ text. text.items ≡ plain script.now) }
+{
+    if script.len() > MOST_BYTES {
+        return script.to_vec(alloc);
+    }
+    without_comments(alloc, script)
 }

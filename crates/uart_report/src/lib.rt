@@ -21,7 +21,7 @@ mod text;
 mod trace;
 mod written;
 
-pub use comments::without_comments;
+pub use comments::{MOST_READ, plain, without_comments};
 pub use recording::Recorder;
 pub use reporting::{Report, report_on};
 pub use request::{Form, Request, Task};

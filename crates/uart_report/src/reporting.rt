@@ -3,11 +3,11 @@ ghost use Rattle.std.specs.Prelude.{◌≡◌, ◌≢◌, ℕ, [], IfOk};
 ghost use Rattle.uart_language.specs.Script.{plan_of, IsPlayable};
 ghost use Rattle.uart_language.specs.declared.cause.Cause.{Cause};
 ghost use Rattle.uart_language.specs.declared.cause.ScriptError.TheVariants as errors;
-ghost use Rattle.uart_report.specs.Comments.{without_comments};
+ghost use Rattle.uart_report.specs.Comments.{plain};
 ghost use Rattle.uart_report.specs.Report.{IsPlayedAs, IsAccepted, IsRefused};
 ghost use Rattle.uart_report.specs.declared.request.Task.TheVariants as task;
 
-use crate::comments::without_comments;
+use crate::comments::plain;
 use crate::fault::explained;
 use crate::history::{History, told};
 use crate::picture::picture;
@@ -107,17 +107,17 @@ fn refusal(
     })
 }
 
-/// Returns what is printed for a request about this script.
+/// Returns what is printed for a request about this script, of which no more than [`MOST_READ`](crate::MOST_READ) bytes matter.
 ///
 /// # Errors
 ///
 /// `AllocError` if out of memory. Only that should be printed then.
 pub fn report_on(alloc: Global, request: &Request<'_>, script: &[u8]) -> Result<Report, AllocError>
-    ensures accepted { IfOk result (λ report. report.status ≡ 0 → IsAccepted request.now.task (without_comments script.now) report) }
+    ensures accepted { IfOk result (λ report. report.status ≡ 0 → IsAccepted request.now.task (plain script.now) report) }
     ensures refused { IfOk result (λ report. report.status ≢ 0 → (report.status ≡ 1)
-        × IsRefused request.now.task (without_comments script.now) report) }
+        × IsRefused request.now.task (plain script.now) report) }
 {
-    let text = without_comments(alloc, script)?;
+    let text = plain(alloc, script)?;
     match parse(alloc, &text) {
         Ok(plan) => Ok(Report {
             output: output_of(alloc, request, &plan, &text)?,
