@@ -29,6 +29,8 @@ use Rattle.uart_language.specs.declared.words.Word.{Word}
 use Rattle.uart_language.specs.declared.words.Word.TheVariants as word
 use Rattle.uart_language.specs.Sayings.{Saying, Nothing, Limit, Happens, Calls, Marks, bare_call, Means, events_said, calls_said, plain}
 use Rattle.uart_language.specs.Sayings as row
+use Rattle.uart_language.specs.Items.{item_at}
+use Rattle.uart_language.proofs.Meanings.{says_what_is_read}
 use Rattle.uart_language.specs.Script.{Plan, Says, blank, printable, SayInOrder, limit_from, IsScript, IsPlayable}
 
 -- ---- fields
@@ -190,6 +192,10 @@ playable bytes plan s = record {
 pub runnable_plain : (c : Call) → IsRunnable (plain c) → IsRunnable c
 runnable_plain (call.Text text) h = tt
 runnable_plain c h = h
+
+-- the call of a line can be run
+pub line_runnable : (number : ℕ) (line : List ℕ) (c : Call) → 2 ≤ number → item_at number line ≡ Ok (Calls (plain c)) → IsRunnable c
+line_runnable number line c le is = runnable_plain c (says_good (says_what_is_read number line (Calls (plain c)) le is))
 
 pub all_runnable : (calls plans : List Call) → map plain calls ≡ plans → All IsRunnable plans → All IsRunnable calls
 all_runnable calls plans same all k d within =

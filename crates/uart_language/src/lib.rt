@@ -19,4 +19,4 @@ pub use fields::byte_in;
 pub use items::{Item, item_at};
 pub use parsing::{Script, parse};
 pub use rendering::{hex_digit, push_answer, render};
-pub use text::{has_bad_byte, word_at, word_count};
+pub use text::{first_line, has_bad_byte, word_at, word_count};

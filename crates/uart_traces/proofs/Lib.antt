@@ -1,3 +1,5 @@
 pub mod Played
 pub mod Checked
 pub mod Judged
+pub mod Ends
+pub mod Read

@@ -2,4 +2,6 @@ pub mod Runnable
 pub mod Tape
 pub mod Lists
 pub mod Traces
+pub mod Lines
+pub mod Reading
 pub mod Telling

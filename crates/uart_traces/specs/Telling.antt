@@ -11,7 +11,7 @@ use Rattle.uart_traces.specs.declared.tape.Request.TheVariants as request
 use Rattle.uart_traces.specs.declared.checking.Turn.{Turn}
 use Rattle.uart_traces.specs.declared.checking.Turn.TheVariants.{Asks, Returns}
 use Rattle.uart_traces.specs.declared.judging.Stray.{Stray}
-use Rattle.uart_traces.specs.declared.parsing.Exchange.{Exchange}
+use Rattle.uart_traces.specs.declared.exchange.Exchange.{Exchange}
 
 -- a letter, and the register's offset in one digit
 abbrev pub place_text : (letter offset : ℕ) → List ℕ

@@ -7,7 +7,7 @@ use Rattle.uart_calls.specs.declared.call.Answer.{Answer}
 use Rattle.uart_language.specs.Output.{answer_text}
 use Rattle.uart_traces.specs.Lists.{IsFollowed, IsListOf}
 use Rattle.uart_traces.specs.declared.judging.Stray.{Stray}
-use Rattle.uart_traces.specs.declared.parsing.Exchange.{Exchange}
+use Rattle.uart_traces.specs.declared.exchange.Exchange.{Exchange}
 
 -- from these fields the call makes the recorded list, returns an answer that is printed as recorded, and those fields
 -- are after it

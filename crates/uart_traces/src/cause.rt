@@ -1,5 +1,6 @@
 //! Why bytes are not a trace.
 ghost use Rattle.std.specs.Prelude.{◌≡◌};
+ghost use Rattle.uart_traces.specs.declared.cause.Fault.TheVariants.{Line};
 ghost use Rattle.uart_traces.specs.declared.cause.TraceError.TheVariants.{OutOfMemory};
 
 use std::alloc::{AllocError, AllocFailed};
@@ -21,9 +22,14 @@ pub enum Fault {
     /// The call has no answer before another call, a new driver, or the end of the trace.
     #[error("the call has no answer")]
     NoAnswer,
-    /// The trace has no call.
-    #[error("no call")]
-    Empty,
+}
+
+impl From<Cause> for Fault {
+    ghost from_gives = { λ cause fault. fault ≡ Line cause };
+
+    fn from(cause: Cause) -> Fault {
+        Fault::Line(cause)
+    }
 }
 
 /// Why bytes were not read as a trace.

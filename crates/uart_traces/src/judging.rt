@@ -9,7 +9,7 @@ ghost use Rattle.uart_traces.specs.Lists.{IsFollowed};
 ghost use Rattle.uart_traces.specs.Traces.{AreCalls, IsExchange, IsStray, fields_before};
 
 use crate::checking::{Turn, check, follow};
-use crate::parsing::Exchange;
+use crate::exchange::Exchange;
 use std::alloc::{AllocError, Global};
 use std::num::NonZeroU64;
 use uart_16550::DriverState;

@@ -10,6 +10,7 @@
 
 mod cause;
 mod checking;
+mod exchange;
 mod judging;
 mod lines;
 mod parsing;
@@ -20,7 +21,8 @@ mod tests;
 
 pub use cause::{Fault, TraceError};
 pub use checking::{Followed, NextStep, Returned, Turn, check, follow, next};
+pub use exchange::Exchange;
 pub use judging::{Stray, judge};
-pub use parsing::{Exchange, parse};
+pub use parsing::parse;
 pub use tape::{Recorded, Request, Tape};
 pub use telling::{push_entry, push_stray};

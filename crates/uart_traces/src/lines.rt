@@ -1,4 +1,11 @@
 //! The meaning of a line of a trace.
+ghost use Rattle.std.specs.Prelude.{◌≡◌, IfOk};
+ghost use Rattle.std.specs.List.{position_or_len};
+ghost use Rattle.uart_language.specs.Fields.{seen};
+ghost use Rattle.uart_language.specs.Items.{item_at};
+ghost use Rattle.uart_language.specs.Text.{words_of};
+ghost use Rattle.uart_traces.specs.Lines.{CanRun, access_in, answer_in, before_remark, called_as, fresh_in, is_remark};
+ghost use Rattle.uart_traces.specs.Lines.{offset_in, said_by, said_in, saying_of, says, without_end};
 
 use crate::cause::Fault;
 use uart_16550::replay::Entry;
@@ -23,70 +30,133 @@ pub enum Line<'a> {
     Answer(&'a [u8]),
 }
 
-// Returns a line without its remark, and without spaces at its end.
-fn before_remark(line: &[u8]) -> &[u8] {
-    let end = line
-        .iter()
-        .position(|byte| *byte == b'#')
-        .unwrap_or(line.len());
-    let mut rest = &line[..end];
-    while let [before @ .., b' '] = rest {
+// Returns these bytes without the spaces at their end.
+fn without_end(bytes: &[u8]) -> &[u8]
+    ensures { result.now ≡ without_end bytes.now }
+{
+    let mut rest = bytes;
+    while let Some((last, before)) = rest.split_last() {
+        if *last != b' ' {
+            return rest;
+        }
         rest = before;
     }
     rest
 }
 
+// Returns where the remark of a line begins, or its length.
+fn remark_start(line: &[u8]) -> usize
+    ensures { result ≡ position_or_len is_remark line.now }
+{
+    line.iter()
+        .position(|byte| *byte == b'#')
+        .unwrap_or(line.len())
+}
+
+// Returns a line without its remark, and without spaces at its end.
+fn before_remark(line: &[u8]) -> &[u8]
+    ensures { result.now ≡ before_remark line.now }
+{
+    without_end(&line[..remark_start(line)])
+}
+
 // Reads the offset of a register, which is one digit.
-fn offset_in(word: &[u8]) -> Result<usize, Fault> {
+#[tactic(auto, unfolding(crate::specs::Lines::offset_in))]
+fn offset_in(word: &[u8]) -> Result<usize, Cause>
+    ensures { result ≡ offset_in word.now }
+{
     match word {
-        [digit @ b'0'..=b'7'] => Ok(usize::from(*digit - b'0')),
-        _ => Err(Fault::Line(Cause::BadNumber)),
+        [digit] if b'0' <= *digit && *digit <= b'7' => Ok(usize::from(*digit - b'0')),
+        _ => Err(Cause::BadNumber),
     }
 }
 
 // Reads the offset and the byte of an access.
-fn access_in(line: &[u8]) -> Result<(usize, u8), Fault> {
+#[tactic(auto, unfolding(crate::specs::Lines::access_in))]
+fn access_in(line: &[u8]) -> Result<(usize, u8), Cause>
+    ensures { result ≡ access_in (words_of line.now) }
+{
     if word_count(line) != 3 {
-        return Err(Fault::Line(Cause::WrongCount));
+        return Err(Cause::WrongCount);
     }
     let offset = offset_in(word_at(line, 1))?;
-    match byte_in(word_at(line, 2)) {
-        Ok(byte) => Ok((offset, byte)),
-        Err(cause) => Err(Fault::Line(cause)),
-    }
+    let byte = byte_in(word_at(line, 2))?;
+    Ok((offset, byte))
 }
 
 // Returns the driver's call of a line, as in a script.
-fn call_in(line: &[u8]) -> Result<Call, Fault> {
-    match item_at(AFTER_THE_HEAD, line) {
-        Ok(Item::Call(call)) => Ok(call),
-        Ok(_) => Err(Fault::NoDriverCall),
-        Err(cause) => Err(Fault::Line(cause)),
+fn call_in(line: &[u8]) -> Result<Line<'_>, Fault>
+    ensures read { seen saying_of result ≡ called_as (item_at AFTER_THE_HEAD line.now) }
+    ensures runs { IfOk result CanRun }
+{
+    match item_at(AFTER_THE_HEAD, line)? {
+        Item::Call(call) => Ok(Line::Call(call)),
+        Item::Blank | Item::Limit(_) | Item::Event(_) | Item::Next => Err(Fault::NoDriverCall),
+    }
+}
+
+// Returns the meaning of `fresh`, which is a line of its own.
+fn fresh_in(line: &[u8]) -> Result<Line<'_>, Fault>
+    ensures read { seen saying_of result ≡ fresh_in line.now }
+    ensures runs { IfOk result CanRun }
+{
+    if word_count(line) == 1 {
+        Ok(Line::Fresh)
+    } else {
+        Err(Fault::Line(Cause::WrongCount))
+    }
+}
+
+// Returns the answer of a line, which follows `= `.
+fn answer_in(line: &[u8]) -> Result<Line<'_>, Fault>
+    ensures read { seen saying_of result ≡ answer_in line.now }
+    ensures runs { IfOk result CanRun }
+{
+    match line {
+        [_, _, answer @ ..] => Ok(Line::Answer(answer)),
+        _ => Err(Fault::Line(Cause::WrongCount)),
+    }
+}
+
+// Returns the meaning of a line that begins with this word.
+fn line_by<'a>(word: &[u8], line: &'a [u8]) -> Result<Line<'a>, Fault>
+    ensures read { seen saying_of result ≡ said_by word.now line.now }
+    ensures runs { IfOk result CanRun }
+{
+    match word {
+        b"fresh" => fresh_in(line),
+        b"=" => answer_in(line),
+        b"r" => {
+            let (offset, answer) = access_in(line)?;
+            Ok(Line::Access(Entry::Read(offset, answer)))
+        }
+        b"w" => {
+            let (offset, value) = access_in(line)?;
+            Ok(Line::Access(Entry::Write(offset, value)))
+        }
+        _ => call_in(line),
     }
 }
 
 // Returns the meaning of a line without its remark.
-fn plain_line(line: &[u8]) -> Result<Line<'_>, Fault> {
+#[tactic(auto, unfolding(crate::specs::Lines::said_in))]
+fn plain_line(line: &[u8]) -> Result<Line<'_>, Fault>
+    ensures read { seen saying_of result ≡ said_in line.now }
+    ensures runs { IfOk result CanRun }
+{
     if has_bad_byte(line) {
         return Err(Fault::Line(Cause::BadByte));
     }
-    match line {
-        [] => Ok(Line::Blank),
-        b"fresh" => Ok(Line::Fresh),
-        [b'=', b' ', answer @ ..] => Ok(Line::Answer(answer)),
-        [b'r', b' ', ..] => {
-            let (offset, answer) = access_in(line)?;
-            Ok(Line::Access(Entry::Read(offset, answer)))
-        }
-        [b'w', b' ', ..] => {
-            let (offset, value) = access_in(line)?;
-            Ok(Line::Access(Entry::Write(offset, value)))
-        }
-        _ => Ok(Line::Call(call_in(line)?)),
+    if line.is_empty() {
+        return Ok(Line::Blank);
     }
+    line_by(word_at(line, 0), line)
 }
 
-/// Returns the meaning of a line. A remark, from `#` on, means nothing.
-pub fn line_in(line: &[u8]) -> Result<Line<'_>, Fault> {
+/// Returns the meaning of a line. A remark, from `#` on, means nothing. A call that is returned can be run.
+pub fn line_in(line: &[u8]) -> Result<Line<'_>, Fault>
+    ensures read { seen saying_of result ≡ says line.now }
+    ensures runs { IfOk result CanRun }
+{
     plain_line(before_remark(line))
 }

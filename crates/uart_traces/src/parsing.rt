@@ -1,124 +1,131 @@
 //! The meaning of a whole trace.
+ghost use Rattle.std.specs.Prelude.{◌≡◌, ◌+◌, ◌<◌, ◌≤◌, List, length, IfOk, MatchResult, Some, None};
 ghost use Rattle.uart_calls.specs.Calls.{IsRunnable};
-ghost use Rattle.uart_traces.specs.Runnable.{runnable_is_one};
+ghost use Rattle.uart_language.specs.Text.{lines_of};
+ghost use Rattle.uart_traces.specs.Lines.{CanRun, saying_of};
+ghost use Rattle.uart_traces.specs.Reading.{IsTrace, ReadsExchange, ReadsLine, Refuses, RefusesLine};
+ghost use Rattle.uart_traces.specs.Reading.{fault_of, first_fault};
+ghost use Rattle.uart_traces.specs.declared.exchange.Exchange.{Exchange};
 
 use crate::cause::{Fault, TraceError};
+use crate::exchange::Exchange;
 use crate::lines::{Line, line_in};
 use std::alloc::Global;
-use uart_16550::replay::Entry;
 use uart_calls::Call;
+use uart_language::first_line;
 
-/// One call of a trace: the call, its accesses, and what it returned.
-#[derive(Debug, Drop)]
-pub struct Exchange {
-    /// Whether the call is the first of a new driver.
-    pub is_first: bool,
-    /// The call.
-    pub call: Call,
-    /// Its accesses.
-    pub accesses: Vec<Entry>,
-    /// The line of each access, counted from 1.
-    pub access_lines: Vec<usize>,
-    /// What it returned, as it is printed.
-    pub answer: Vec<u8>,
-    /// The line of the answer, or that of the call until there is one.
-    pub answer_line: usize,
-    ghost runnable: { IsRunnable call } by { runnable_is_one call },
-}
-
-// What was read of a trace.
-#[derive(Drop)]
-struct Reading {
-    exchanges: Vec<Exchange>,
-    // The call that has no answer yet.
-    open: Option<Exchange>,
-    is_first: bool,
-}
-
-fn fault(line: usize, fault: Fault) -> TraceError {
+fn fault(line: usize, fault: Fault) -> TraceError
+    ensures { result ≡ TraceError.NoTrace line fault }
+{
     TraceError::NoTrace { line, fault }
 }
 
-impl Reading {
-    // Refuses to go on if the current call has no answer.
-    fn require_answer(&self) -> Result<(), TraceError> {
-        match &self.open {
-            Some(exchange) => Err(fault(exchange.answer_line, Fault::NoAnswer)),
-            None => Ok(()),
-        }
+// Returns the meaning of the first of some lines, which has this number, and the bytes after it.
+fn next_line(number: usize, bytes: &[u8]) -> Result<(Line<'_>, &[u8]), TraceError>
+    requires { 0 < length bytes.now }
+    ensures read { MatchResult result
+        (λ x. ReadsLine (lines_of bytes.now) (saying_of x.0) (lines_of x.1.now))
+        (RefusesLine number (lines_of bytes.now)) }
+    ensures runs { IfOk result (λ x. CanRun x.0) }
+    ensures shorter { IfOk result (λ x. length x.1.now < length bytes.now) }
+{
+    let (line, rest) = first_line(bytes);
+    match line_in(line) {
+        Ok(line) => Ok((line, rest)),
+        Err(cause) => Err(fault(number, cause)),
     }
+}
 
-    fn begin(&mut self, alloc: Global, line: usize, call: Call) -> Result<(), TraceError> {
-        self.require_answer()?;
-        if !call.is_runnable() {
-            return Err(fault(line, Fault::NoDriverCall));
-        }
-        self.open = Some(Exchange {
-            is_first: self.is_first,
-            call,
-            accesses: Vec::new(alloc),
-            access_lines: Vec::new(alloc),
-            answer: Vec::new(alloc),
-            answer_line: line,
-        });
-        self.is_first = false;
-        Ok(())
-    }
-
-    fn make(&mut self, line: usize, entry: Entry) -> Result<(), TraceError> {
-        let Some(exchange) = &mut self.open else {
-            return Err(fault(line, Fault::NoCallBefore));
-        };
-        exchange.accesses.push(entry)?;
-        exchange.access_lines.push(line)?;
-        Ok(())
-    }
-
-    fn end(&mut self, line: usize, answer: &[u8]) -> Result<(), TraceError> {
-        let Some(mut exchange) = self.open.take() else {
-            return Err(fault(line, Fault::NoCallBefore));
-        };
-        exchange.answer.extend_from_slice(answer)?;
-        exchange.answer_line = line;
-        self.exchanges.push(exchange)?;
-        Ok(())
-    }
-
-    fn add(&mut self, alloc: Global, number: usize, line: &[u8]) -> Result<(), TraceError> {
-        match line_in(line) {
-            Ok(Line::Blank) => Ok(()),
-            Ok(Line::Fresh) => {
-                self.is_first = true;
-                self.require_answer()
+// Reads what follows a call, whose line has this number. Returns it with the call, and the bytes after its answer.
+fn read_exchange(
+    alloc: Global,
+    is_first: bool,
+    call: Call,
+    call_line: usize,
+    bytes: &[u8],
+) -> Result<(Exchange, &[u8]), TraceError>
+    requires runs { IsRunnable call }
+    requires fits { call_line + length bytes.now ≤ usize.MAX }
+    ensures read { MatchResult result
+        (λ x. ReadsExchange is_first call call_line (lines_of bytes.now) x.0 (lines_of x.1.now))
+        (Refuses (first_fault call_line (Some call_line) (lines_of bytes.now))) }
+    ensures shorter { IfOk result (λ x. x.0.answer_line + length x.1.now ≤ call_line + length bytes.now) }
+    ensures later { IfOk result (λ x. call_line < x.0.answer_line) }
+{
+    let unanswered = fault(call_line, Fault::NoAnswer);
+    let mut accesses = Vec::new(alloc);
+    let mut access_lines = Vec::new(alloc);
+    let mut number = call_line;
+    let mut rest = bytes;
+    while !rest.is_empty() {
+        number += 1;
+        let (line, left) = next_line(number, rest)?;
+        rest = left;
+        match line {
+            Line::Blank => {}
+            Line::Access(entry) => {
+                accesses.push(entry)?;
+                access_lines.push(number)?;
             }
-            Ok(Line::Call(call)) => self.begin(alloc, number, call),
-            Ok(Line::Access(entry)) => self.make(number, entry),
-            Ok(Line::Answer(answer)) => self.end(number, answer),
-            Err(cause) => Err(fault(number, cause)),
+            Line::Answer(text) => {
+                let exchange = Exchange {
+                    is_first,
+                    call,
+                    accesses,
+                    access_lines,
+                    answer: text.to_vec(alloc)?,
+                    answer_line: number,
+                };
+                return Ok((exchange, left));
+            }
+            Line::Fresh => return Err(unanswered),
+            Line::Call(_) => return Err(unanswered),
         }
     }
+    Err(unanswered)
+}
+
+// Returns the calls of some bytes.
+fn read_trace(alloc: Global, bytes: &[u8]) -> Result<Vec<Exchange>, TraceError>
+    ensures { MatchResult result (λ xs. IsTrace bytes.now xs.items) (Refuses (fault_of bytes.now)) }
+{
+    let mut exchanges = Vec::new(alloc);
+    let mut is_first = true;
+    let mut number = 0;
+    let mut rest = bytes;
+    while !rest.is_empty() {
+        number += 1;
+        let misplaced = fault(number, Fault::NoCallBefore);
+        let (line, left) = next_line(number, rest)?;
+        rest = left;
+        match line {
+            Line::Blank => {}
+            Line::Fresh => is_first = true,
+            Line::Call(call) => {
+                let (exchange, after) = read_exchange(alloc, is_first, call, number, rest)?;
+                number = exchange.answer_line;
+                rest = after;
+                is_first = false;
+                exchanges.push(exchange)?;
+            }
+            Line::Access(_) => return Err(misplaced),
+            Line::Answer(_) => return Err(misplaced),
+        }
+    }
+    Ok(exchanges)
 }
 
 /// Returns the calls of a trace.
 ///
 /// # Errors
 ///
-/// - `NoTrace`, with the first line that is not a line of a trace or is at a wrong place, and what is wrong with it.
+/// - `NoTrace`, with the first fault: the number of the line, and what is wrong with it. A call without an answer is a fault
+///   of its own line.
 /// - `OutOfMemory` if memory could not be allocated.
-pub fn parse(alloc: Global, bytes: &[u8]) -> Result<Vec<Exchange>, TraceError> {
-    let mut reading = Reading {
-        exchanges: Vec::new(alloc),
-        open: None,
-        is_first: true,
-    };
-    let mut number = 0_usize;
-    for line in bytes.split(|byte| *byte == b'\n') {
-        number = number.saturating_add(1);
-        reading.add(alloc, number, line)?;
-    }
-    reading.require_answer()?;
-    if reading.exchanges.is_empty() {
-        return Err(fault(1, Fault::Empty));
-    }
-    Ok(reading.exchanges)
+pub fn parse(alloc: Global, bytes: &[u8]) -> Result<Vec<Exchange>, TraceError>
+    ensures read { MatchResult result (λ xs. IsTrace bytes.now xs.items) (Refuses (fault_of bytes.now)) }
+    // no trace is refused
+    ensures faultless { (xs : List Exchange) → IsTrace bytes.now xs → fault_of bytes.now ≡ None }
+{
+    read_trace(alloc, bytes)
 }

@@ -6,8 +6,8 @@ ghost use Rattle.uart_traces.specs.Telling.{access_text, answer_line_text, found
 ghost use Rattle.uart_traces.specs.Telling.{stray_text, turn_text};
 
 use crate::checking::Turn;
+use crate::exchange::Exchange;
 use crate::judging::Stray;
-use crate::parsing::Exchange;
 use crate::tape::Request;
 use std::alloc::{AllocError, Global};
 use uart_16550::replay::Entry;
