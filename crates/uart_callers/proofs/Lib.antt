@@ -1,2 +1,3 @@
 pub mod RingSessions
 pub mod SessionCalls
+pub mod RingStarts

@@ -10,6 +10,7 @@ pub mod machine;
 pub mod performing;
 pub mod ring;
 pub mod ring_running;
+pub mod ring_starting;
 pub mod running;
 pub mod spec;
 #[cfg(test)]

@@ -1,7 +1,7 @@
 //! Each caller is run once, with what its contract says about the run.
 use crate::{
-    chip, device, driver, language, live, machine, performing, ring, ring_running, running, spec,
-    tracing,
+    chip, device, driver, language, live, machine, performing, ring, ring_running, ring_starting,
+    running, spec, tracing,
 };
 use bitflags::Flags;
 use std::test::Fail;
@@ -14,6 +14,7 @@ use uart_live::LiveChip;
 use uart_machine::Chip;
 use uart_machine::script::Std;
 use uart_ring::Uart16550Ring;
+use uart_ring_run::{RingAnswer, RingCall};
 use uart_spec::registers::{LSR, offsets};
 use uart_spec::{BaudRate, Config, NUM_REGISTERS};
 
@@ -47,6 +48,28 @@ fn a_message_in_a_ring(rt: HostRuntime) -> Result<(), Fail> {
     assert_eq!(rt; ring::queue_message(&mut rings, b"hello"), b"o".as_slice());
     let received = ring_running::receive_at_mark(&mut rings);
     assert_eq!(rt; received.as_slice(), [].as_slice());
+    Ok(())
+}
+
+#[test]
+fn rings_from_an_init(rt: HostRuntime) -> Result<(), Fail> {
+    let uart = Uart16550::new_with_backend(device::chip_that_receives(rt.alloc(), 0x41)?);
+    let calls = [RingCall::Next, RingCall::ResumeTransmit];
+    let mut answers = [RingAnswer::Count(1), RingAnswer::Count(1)];
+    let ran = ring_starting::run_from_init(rt.alloc(), uart, Config::DEFAULT, &calls, &mut answers);
+    assert!(rt; ran.is_ok());
+    assert_eq!(rt; answers, [RingAnswer::Done, RingAnswer::Done]);
+    Ok(())
+}
+
+#[test]
+fn rings_after_a_terminal(rt: HostRuntime) -> Result<(), Fail> {
+    let terminal = Uart16550Tty::from_inner(ready_driver(&rt)?);
+    let Ok(rings) = ring_starting::into_rings(rt.alloc(), terminal) else {
+        assert!(rt; false, "out of memory");
+        return Ok(());
+    };
+    assert!(rt; rings.inner().fifo_enabled());
     Ok(())
 }
 
