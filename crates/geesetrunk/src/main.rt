@@ -1,66 +1,51 @@
 //! Plays scripts of a serial chip and its driver, and shows what happened, for people: see `geesetrunk --help`.
 //!
-//! What is printed is made by `uart_report`, from bytes to text. Here are the command line, the file and the two
-//! outputs.
+//! What is printed is made by `uart_report`, from bytes to text. How the program reads, reports and ends is that of
+//! `uart_program`.
 #![tactic(auto)]
 
-use std::io::{self, Read, Write};
 use std::process::ExitCode;
-use std::{env, fs};
 use uart_command::request_in;
-use uart_report::{Report, Request, report_on};
+use uart_program::{Failure, Status, bytes_of, failed, fault_end, print, unmatched, words};
+use uart_report::{MOST_READ, Report, Request, report_on};
 
-// The status if a file cannot be read, or an output cannot be written.
-const FILE_FAULT: u8 = 2;
-
-const OUT_OF_MEMORY: u8 = 3;
-
-// Returns the bytes of a file, or of standard input for `-`.
-fn bytes_of(rt: &HostRuntime, file: &str) -> io::Result<Vec<u8>> {
-    if file == "-" {
-        let mut bytes = Vec::new(rt.alloc());
-        rt.stdin().read_to_end(&mut bytes)?;
-        return Ok(bytes);
-    }
-    fs::read(rt, file)
-}
-
-// Prints a report, and returns its status, or that of a fault in printing it.
-fn printed(rt: &HostRuntime, report: &Report) -> u8 {
-    let is_written = rt.stdout().write_all(&report.output).is_ok();
+// Prints a report, and returns the exit code of its end.
+fn printed(rt: &HostRuntime, report: &Report) -> Result<ExitCode, Failure> {
+    print(rt, &report.output)?;
+    let end = match report.status {
+        0 => Status::Done,
+        _ => Status::Refused,
+    };
     let errors = &report.errors;
-    if is_written && eprint!(rt; "{errors}").is_ok() {
-        report.status
-    } else {
-        FILE_FAULT
-    }
+    // If standard error cannot be written, the exit status still says that there are errors.
+    let _ = eprint!(rt; "{errors}");
+    Ok(ExitCode::from(end))
 }
 
-// Handles a request, and returns the status.
-fn handled(rt: &HostRuntime, request: &Request<'_>) -> u8 {
+// Does what is requested, and returns the exit code.
+fn done(rt: &HostRuntime, request: &Request<'_>) -> Result<ExitCode, Failure> {
     let file = request.file;
-    match bytes_of(rt, file) {
-        Ok(script) => match report_on(rt.alloc(), request, &script) {
-            Ok(report) => printed(rt, &report),
-            Err(_) => {
-                let _ = eprintln!(rt; "geesetrunk: out of memory");
-                OUT_OF_MEMORY
-            }
-        },
-        Err(error) => {
-            let _ = eprintln!(rt; "geesetrunk: {file}: {error}");
-            FILE_FAULT
+    match bytes_of(rt, Some(file), MOST_READ) {
+        Ok(script) => printed(rt, &report_on(rt.alloc(), request, &script)?),
+        Err(cause) => {
+            let why = format!(in rt.alloc(); "{file} cannot be read: {cause}")?;
+            Ok(failed(rt, &why, fault_end(&cause)))
         }
     }
 }
 
-fn main(rt: HostRuntime) -> io::Result<ExitCode> {
-    let words: Vec<String> = env::args(&rt)?.collect(rt.alloc())?;
+// Does what the command line requests, and returns the exit code.
+fn run(rt: &HostRuntime) -> Result<ExitCode, Failure> {
+    let words = words(rt)?;
     match request_in(rt.alloc(), &words) {
-        Ok(request) => Ok(ExitCode::from(handled(&rt, &request))),
-        Err(error) => {
-            error.print(&rt)?;
-            Ok(ExitCode::from(error.exit_code() as u8))
-        }
+        Ok(request) => done(rt, &request),
+        Err(error) => Ok(unmatched(rt, &error)),
+    }
+}
+
+fn main(rt: HostRuntime) -> ExitCode {
+    match run(&rt) {
+        Ok(code) => code,
+        Err(failure) => failed(&rt, &failure, failure.end()),
     }
 }

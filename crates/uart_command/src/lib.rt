@@ -3,13 +3,21 @@
 //! It is a crate of its own so that only this page of code is checked together with `clap`.
 #![tactic(auto)]
 
+ghost use Rattle.std.specs.Prelude.{◌≡◌};
+ghost use Rattle.uart_command.specs.Request.{task_of};
+
 use clap::error::ErrorKind;
 use clap::{Arg, ArgAction, ArgMatches, Command, Error};
 use std::alloc::{AllocError, Global};
 use std::convert::AsStr;
+use uart_program::{STANDARD_INPUT, STATUSES};
 use uart_report::{Form, Request, Task};
 
-const ABOUT: &str = "Plays scripts for a serial chip and its driver, and shows what happened";
+const ABOUT: &str = "\
+Plays scripts for a serial chip and its driver, and shows what happened
+
+A line of a script that begins with # is a comment, and counts as a blank line. With
+its comments a script has at most 65536 bytes, and no more of a file is read.";
 
 const PLAY: &str = "Plays a script and prints its output, as uart_script does";
 
@@ -18,15 +26,6 @@ const CHECK: &str = "Finds the first fault of a script, and says what is expecte
 const TRACE: &str = "Prints each register access with the value read or written, call by call";
 
 const TIMELINE: &str = "Prints the timeline of a run as an SVG picture";
-
-const AFTER: &str = "\
-A line of a script that begins with # is a comment, and counts as a blank line.
-
-Exit status:
-  0  done
-  1  the script is refused: standard error has the line, the fault and what is expected there
-  2  the command line is wrong, or a file cannot be read or written
-  3  out of memory";
 
 fn file_argument<'a>(alloc: Global) -> Arg<'a> {
     Arg::new(alloc, "FILE")
@@ -51,7 +50,7 @@ fn command<'a>(alloc: Global) -> Result<Command<'a>, AllocError> {
         .bin_name("geesetrunk")?
         .version("0.9.0")
         .about(ABOUT)
-        .after_help(AFTER)
+        .after_help(STATUSES)
         .subcommand_required(true)
         .arg_required_else_help(true)
         .subcommand(subcommand(alloc, "play", PLAY)?)?
@@ -60,13 +59,27 @@ fn command<'a>(alloc: Global) -> Result<Command<'a>, AllocError> {
         .subcommand(subcommand(alloc, "timeline", TIMELINE)?.arg(text)?)
 }
 
-fn task_of(name: &str, matches: &ArgMatches<'_>) -> Task {
+// Returns what the subcommand of this name is to do, with or without the option `text`.
+fn task_of(name: &str, as_text: bool) -> Task
+    ensures { result ≡ task_of name.now as_text }
+{
     match name {
         "check" => Task::Check,
         "trace" => Task::Trace,
-        "timeline" if matches.get_flag("text") => Task::Timeline(Form::Table),
+        "timeline" if as_text => Task::Timeline(Form::Table),
         "timeline" => Task::Timeline(Form::Picture),
         _ => Task::Play,
+    }
+}
+
+// Returns the request of words that match, or `None` if they have no subcommand.
+fn request_of<'a>(matches: &ArgMatches<'a>) -> Option<Request<'a>> {
+    match matches.subcommand() {
+        Some((name, given)) => Some(Request {
+            task: task_of(name, given.get_flag("text")),
+            file: given.get_str("FILE").unwrap_or(STANDARD_INPUT),
+        }),
+        None => None,
     }
 }
 
@@ -78,11 +91,8 @@ fn task_of(name: &str, matches: &ArgMatches<'_>) -> Task {
 pub fn request_in<'a, S: AsStr>(alloc: Global, words: &'a [S]) -> Result<Request<'a>, Error> {
     let mut command = command(alloc)?;
     let matches = command.try_get_matches_from_mut(words)?;
-    match matches.subcommand() {
-        Some((name, given)) => Ok(Request {
-            task: task_of(name, given),
-            file: given.get_str("FILE").unwrap_or("-"),
-        }),
+    match request_of(&matches) {
+        Some(request) => Ok(request),
         None => Err(command.error(ErrorKind::MissingSubcommand, "there is no subcommand")?),
     }
 }

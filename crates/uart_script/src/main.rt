@@ -5,11 +5,15 @@ mod finish;
 
 use finish::finish;
 use std::process::ExitCode;
-use uart_machine::script::{Std, play};
+use uart_machine::script::{PlayError, Std, play};
 
 fn main(rt: HostRuntime) -> ExitCode {
     let mut reader = Std::new(rt.stdin());
     let mut writer = Std::new(rt.stdout());
     let result = play(rt.alloc(), &mut reader, &mut writer);
+    if result == Err(PlayError::WriteFault) {
+        // Nothing more goes to standard output. If standard error cannot be written either, the exit status says it.
+        let _ = eprintln!(rt; "write fault");
+    }
     ExitCode::from(finish(result, &mut writer))
 }
