@@ -187,6 +187,8 @@ impl<B: Backend> Uart16550<B> {
     ///
     /// Choose it by the time of one poll: at 9,600 baud a full FIFO and shift register hold 17 characters of 10 bits, which
     /// take about 17.7 ms to send.
+    /// A limit near 2^64 is a wait without end in practice: at a microsecond a poll it
+    /// takes more than half a million years.
     ///
     /// # Examples
     ///
