@@ -9,7 +9,7 @@ use std::test::Fail;
 use uart_16550::Uart16550;
 use uart_ring::Uart16550Ring;
 use uart_spec::Config;
-use uart_spec::registers::{FifoTriggerLevel, IER, LSR};
+use uart_spec::registers::{FifoTriggerLevel, IER, LSR, MSR};
 
 // Rings of these capacities over an initialised driver of a machine with this schedule.
 fn rings(
@@ -75,6 +75,93 @@ fn bytes_that_wait_are_sent_at_the_interrupt(rt: HostRuntime) -> Result<(), Fail
     for (place, byte) in [(0, 18), (1, 19), (2, 20)] {
         assert_eq!(rt; machine.held_at(place), Some(byte));
     }
+    Ok(())
+}
+
+#[test]
+fn a_full_ring_goes_on_after_an_init(rt: HostRuntime) -> Result<(), Fail> {
+    let schedule = [Event::Mark, Event::Ticks(100), Event::Mark];
+    let set = (Some(FifoTriggerLevel::Fourteen), IER::from_bits_retain(0));
+    let mut ring = rings(&rt, (Chip::Uart16550A, &schedule), set, (4, 4))?;
+    // Four bytes in the chip, and a full ring behind them.
+    let full = [
+        (RingCall::Queue(bytes(b"abcd")), RingAnswer::Count(4), false),
+        (RingCall::Queue(bytes(b"efgh")), RingAnswer::Count(4), false),
+    ];
+    made(&rt, &mut ring, &full);
+    assert_eq!(rt; ring.transmit_len(), 4);
+    ring.inner_mut().init(Config::DEFAULT)?;
+    let steps = [
+        // It is asleep: no byte is accepted, and no interrupt is shown.
+        (RingCall::Queue(bytes(b"i")), RingAnswer::Count(0), false),
+        (RingCall::Service, RingAnswer::Count(0), false),
+        // It is awake: the bytes are sent, and one more at the interrupt.
+        (RingCall::ResumeTransmit, RingAnswer::Done, false),
+        (RingCall::Queue(bytes(b"i")), RingAnswer::Count(1), false),
+        (RingCall::Next, RingAnswer::Done, false),
+        (RingCall::Next, RingAnswer::Done, false),
+        (RingCall::Service, RingAnswer::Count(1), false),
+    ];
+    made(&rt, &mut ring, &steps);
+    assert_eq!(rt; ring.transmit_len(), 0);
+    let machine = ring.inner().backend();
+    assert_eq!(rt; machine.wire(), b"abcdefgh".as_slice());
+    assert_eq!(rt; machine.held_at(0), Some(b'i'));
+    Ok(())
+}
+
+#[test]
+fn a_full_ring_goes_on_when_cts_comes_back(rt: HostRuntime) -> Result<(), Fail> {
+    // CTS falls while four bytes are on their way, and comes back after they have gone out.
+    let schedule = [
+        Event::Lines(MSR::CTS.bits()),
+        Event::Mark,
+        Event::Lines(0),
+        Event::Mark,
+        Event::Ticks(100),
+        Event::Mark,
+        Event::Mark,
+        Event::Lines(MSR::CTS.bits()),
+        Event::Mark,
+        Event::Mark,
+        Event::Ticks(100),
+        Event::Mark,
+    ];
+    let set = (Some(FifoTriggerLevel::Fourteen), IER::MODEM_STATUS);
+    let mut ring = rings(&rt, (Chip::Uart16550A, &schedule), set, (4, 4))?;
+    let config = Config {
+        check_cts_before_sending: true,
+        ..*ring.inner().config()
+    };
+    ring.inner_mut().init(config)?;
+    let fell = MSR::DELTA_CTS;
+    let came_back = MSR::DELTA_CTS.union(MSR::CTS);
+    let steps = [
+        (RingCall::Queue(bytes(b"abcd")), RingAnswer::Count(4), false),
+        (RingCall::Next, RingAnswer::Done, false),
+        (RingCall::Queue(bytes(b"efgh")), RingAnswer::Count(4), false),
+        (RingCall::Next, RingAnswer::Done, false),
+        (RingCall::Next, RingAnswer::Done, false),
+        // The chip is empty, CTS is clear, and nothing else is to come.
+        (RingCall::Service, RingAnswer::Count(1), false),
+        (RingCall::TakeModem, RingAnswer::Modem(fell), false),
+        (RingCall::Queue(bytes(b"i")), RingAnswer::Count(0), false),
+        (RingCall::Service, RingAnswer::Count(0), false),
+        // CTS comes back.
+        (RingCall::Next, RingAnswer::Done, false),
+        (RingCall::Next, RingAnswer::Done, false),
+        (RingCall::Service, RingAnswer::Count(1), false),
+        (RingCall::TakeModem, RingAnswer::Modem(came_back), false),
+        (RingCall::Queue(bytes(b"i")), RingAnswer::Count(0), false),
+        (RingCall::ResumeTransmit, RingAnswer::Done, false),
+        (RingCall::Queue(bytes(b"i")), RingAnswer::Count(1), false),
+        (RingCall::Next, RingAnswer::Done, false),
+        (RingCall::Next, RingAnswer::Done, false),
+        (RingCall::Service, RingAnswer::Count(1), false),
+    ];
+    made(&rt, &mut ring, &steps);
+    assert_eq!(rt; ring.transmit_len(), 0);
+    assert_eq!(rt; ring.inner().backend().wire(), b"abcdefgh".as_slice());
     Ok(())
 }
 
