@@ -1,6 +1,7 @@
 """Small programs with each form of the language that the sources use: `rt try` and rustc print the same.
 
-The modules below corpus/ are erased as the sources are; of `main` the handle is taken out.
+The modules below corpus/ are erased as the sources are; of `main` the handle is taken out. They do not end in .rt, since `rt ci`
+takes each such file for one of a crate.
 """
 import pathlib
 import re
@@ -50,7 +51,7 @@ def rust(texts):
 
 
 def run():
-    texts = {path.name: path.read_text(encoding="ascii") for path in sorted(FOLDER.glob("*.rt"))}
+    texts = {path.stem + ".rt": path.read_text(encoding="ascii") for path in sorted(FOLDER.glob("*.rattle"))}
     with tempfile.TemporaryDirectory() as folder:
         folder = pathlib.Path(folder)
         for name, text in rust(texts).items():
@@ -62,7 +63,10 @@ def run():
         subprocess.run(["rustc", *options, "-o", folder / "program", folder / "main.rs"], check=True)
         in_rust = subprocess.run([folder / "program"], check=True, capture_output=True, text=True).stdout.splitlines()
         (folder / "crates.txt").write_text("corpus:\n", encoding="ascii")
-        shutil.copytree(FOLDER, folder / "crates/corpus/src")
+        source = folder / "crates/corpus/src"
+        source.mkdir(parents=True)
+        for name, text in texts.items():
+            (source / name).write_text(text, encoding="ascii")
         tried = subprocess.run(["rt", "try"], cwd=folder / "crates/corpus", capture_output=True, text=True, check=False)
         in_rattle = [line for line in tried.stdout.splitlines() if not RUNNER.match(line)]
     if tried.returncode != 0:
