@@ -1,2 +1,3 @@
 mod EndedLines
+mod Recordings
 mod Refusals

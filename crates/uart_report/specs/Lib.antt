@@ -1,3 +1,4 @@
 pub mod Comments
 pub mod Recorder
 pub mod Report
+pub mod Run

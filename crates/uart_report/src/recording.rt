@@ -7,6 +7,7 @@ use std::alloc::{AllocError, Global};
 use std::marker::Model;
 use uart_16550::backend::Backend;
 use uart_16550::replay::Entry;
+use uart_machine::Device16550;
 
 /// A backend over another one, with a list of the accesses that it made.
 #[derive(Drop)]
@@ -36,11 +37,6 @@ impl<B> Recorder<B> {
         }
     }
 
-    /// Returns the device, for what only it can do. Accesses that are made through it are not recorded.
-    pub fn device_mut(&mut self) -> &mut B {
-        &mut self.device
-    }
-
     /// Returns the accesses that were made, in order.
     ///
     /// # Errors
@@ -66,6 +62,17 @@ impl<B> Recorder<B> {
         if self.is_complete && self.entries.push(entry).is_err() {
             self.is_complete = false;
         }
+    }
+}
+
+impl Recorder<Device16550> {
+    ghost use Rattle.uart_chip.specs.Machine.{at_mark};
+
+    /// Goes on to the next mark of the device's schedule. This is no access, and is not recorded.
+    pub fn next(&mut self)
+        ensures { self.new ≡ record self.old { device = at_mark self.old.device } }
+    {
+        self.device.next();
     }
 }
 

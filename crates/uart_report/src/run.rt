@@ -3,6 +3,8 @@ ghost use Rattle.std.specs.Prelude.{◌≡◌, All, IfOk};
 ghost use Rattle.uart_chip.specs.Machine.{fresh, cutting};
 ghost use Rattle.uart_language.specs.Script.{plan_of, IsPlayable};
 ghost use Rattle.uart_calls.specs.Calls.{IsRunnable};
+ghost use Rattle.uart_run.specs.Chains.{RunOf};
+ghost use Rattle.uart_report.specs.Run.{BeginsRun, IsMade, CallStep, IsRecorded};
 
 use crate::by_call::ByCall;
 use crate::recording::Recorder;
@@ -10,7 +12,7 @@ use std::alloc::{AllocError, Global};
 use uart_16550::replay::Entry;
 use uart_16550::{Uart16550, Uart16550Tty};
 use uart_machine::script::Script;
-use uart_machine::{Answer, Call, Device16550, Event, perform};
+use uart_machine::{Call, Device16550, Event, perform};
 
 /// Returns the machine of the script, under this schedule.
 pub fn machine_for(
@@ -33,16 +35,30 @@ pub fn machine_for(
     }
 }
 
+// Returns a new driver over the machine of the script and a recorder, with the limit of the script.
+fn terminal_for(
+    alloc: Global,
+    script: &Script,
+) -> Result<Uart16550Tty<Recorder<Device16550>>, AllocError>
+    ensures { IfOk result (BeginsRun (plan_of script.now)) }
+{
+    let schedule = script.events().to_vec(alloc)?;
+    let machine = machine_for(alloc, script, schedule)?;
+    let mut uart = Uart16550::new_with_backend(Recorder::new(alloc, machine));
+    uart.set_spin_limit(script.limit());
+    Ok(Uart16550Tty::from_inner(uart))
+}
+
 // Makes one call, and `next` as a call of the machine.
-fn make(uart: &mut Uart16550Tty<Recorder<Device16550>>, call: &Call) -> Answer
+fn make(uart: &mut Uart16550Tty<Recorder<Device16550>>, call: &Call)
     requires { IsRunnable call.now }
+    ensures { IsMade uart.old call.now uart.new }
 {
     match call {
-        Call::Next => {
-            uart.inner_mut().backend_mut().device_mut().next();
-            Answer::Done
+        Call::Next => uart.inner_mut().backend_mut().next(),
+        _ => {
+            perform(uart, call);
         }
-        _ => perform(uart, call),
     }
 }
 
@@ -53,11 +69,13 @@ fn make_all(
     calls: &[Call],
 ) -> Result<Vec<usize>, AllocError>
     requires { All IsRunnable calls.now }
+    ensures { IfOk result (λ ends. RunOf CallStep uart.old calls.now ends.items uart.new) }
 {
     let mut ends = Vec::new(alloc);
-    for call in calls {
-        make(uart, call);
-        ends.push(uart.inner().backend().entries()?.len())?;
+    for i in 0..calls.len() {
+        make(uart, &calls[i]);
+        let made = uart.inner().backend().entries()?;
+        ends.push(made.len())?;
     }
     Ok(ends)
 }
@@ -65,13 +83,11 @@ fn make_all(
 /// Runs a script, and returns its accesses.
 pub fn recorded(alloc: Global, script: &Script) -> Result<ByCall<Entry>, AllocError>
     requires { IsPlayable (plan_of script.now) }
+    ensures { IfOk result (λ run. IsRecorded (plan_of script.now) run.all.items run.ends.items) }
 {
-    let schedule = script.events().to_vec(alloc)?;
-    let machine = Recorder::new(alloc, machine_for(alloc, script, schedule)?);
-    let mut uart = Uart16550::new_with_backend(machine);
-    uart.set_spin_limit(script.limit());
-    let mut terminal = Uart16550Tty::from_inner(uart);
+    let mut terminal = terminal_for(alloc, script)?;
     let ends = make_all(alloc, &mut terminal, script.calls())?;
-    let all = terminal.inner().backend().entries()?.to_vec(alloc)?;
+    let made = terminal.inner().backend().entries()?;
+    let all = made.to_vec(alloc)?;
     Ok(ByCall { all, ends })
 }
