@@ -3,8 +3,9 @@
 //! It is a crate of its own so that only this page of code is checked together with `clap`.
 #![tactic(auto)]
 
-ghost use Rattle.std.specs.Prelude.{◌≡◌};
-ghost use Rattle.uart_command.specs.Request.{task_of};
+ghost use Rattle.std.specs.Prelude.{◌≡◌, false, map, option_map, IfOk};
+ghost use Rattle.clap.specs.Words.{FailsBy, app_of, fault_of, found_of, rows_of, rule_of, subcommand_rows_of};
+ghost use Rattle.uart_command.specs.Request.{IsRequest, command_line, file_rule, subcommand_named, requested, task_of, value_or};
 
 use clap::error::ErrorKind;
 use clap::{Arg, ArgAction, ArgMatches, Command, Error};
@@ -27,21 +28,28 @@ const TRACE: &str = "Prints each register access with the value read or written,
 
 const TIMELINE: &str = "Prints the timeline of a run as an SVG picture";
 
-fn file_argument<'a>(alloc: Global) -> Arg<'a> {
+fn file_argument<'a>(alloc: Global) -> Arg<'a>
+    ensures rule { rule_of result ≡ file_rule }
+    ensures local { result.global ≡ false }
+{
     Arg::new(alloc, "FILE")
         .help("The script, or - for standard input")
         .required(true)
         .action(ArgAction::Set)
 }
 
-fn subcommand<'a>(alloc: Global, name: &'a str, about: &'a str) -> Result<Command<'a>, AllocError> {
+fn subcommand<'a>(alloc: Global, name: &'a str, about: &'a str) -> Result<Command<'a>, AllocError>
+    ensures { IfOk result (λ c. app_of c ≡ subcommand_named name.entry.now) }
+{
     Command::new(alloc, name)
         .about(about)
         .arg(file_argument(alloc))
 }
 
 // Returns the command line that the program accepts.
-fn command<'a>(alloc: Global) -> Result<Command<'a>, AllocError> {
+fn command<'a>(alloc: Global) -> Result<Command<'a>, AllocError>
+    ensures { IfOk result (λ c. app_of c ≡ command_line) }
+{
     let text = Arg::new(alloc, "text")
         .long("text")
         .help("Prints a table for a terminal instead of a picture")
@@ -72,12 +80,21 @@ fn task_of(name: &str, as_text: bool) -> Task
     }
 }
 
+// Returns the value of an argument, or another word if it has none.
+fn value_or<'a>(given: &ArgMatches<'a>, name: &str, otherwise: &'a str) -> &'a str
+    ensures { result.now ≡ value_or (rows_of (found_of given.now)) name.now otherwise.entry.now }
+{
+    given.get_str(name).unwrap_or(otherwise)
+}
+
 // Returns the request of words that match, or `None` if they have no subcommand.
-fn request_of<'a>(matches: &ArgMatches<'a>) -> Option<Request<'a>> {
+fn request_of<'a>(matches: &ArgMatches<'a>) -> Option<Request<'a>>
+    ensures { option_map (λ request. (request.task, request.file.now)) result ≡ option_map requested (subcommand_rows_of matches.now) }
+{
     match matches.subcommand() {
         Some((name, given)) => Some(Request {
-            task: task_of(name, given.get_flag("text")),
-            file: given.get_str("FILE").unwrap_or(STANDARD_INPUT),
+            task: task_of(name, value_or(given, "text", "false") == "true"),
+            file: value_or(given, "FILE", STANDARD_INPUT),
         }),
         None => None,
     }
@@ -88,7 +105,10 @@ fn request_of<'a>(matches: &ArgMatches<'a>) -> Option<Request<'a>> {
 /// # Errors
 ///
 /// The error of clap: the help, the version, or what is wrong with the words.
-pub fn request_in<'a, S: AsStr>(alloc: Global, words: &'a [S]) -> Result<Request<'a>, Error> {
+pub fn request_in<'a, S: AsStr>(alloc: Global, words: &'a [S]) -> Result<Request<'a>, Error>
+    ensures ok { IfOk result (IsRequest (map S.text words.entry.now)) }
+    ensures refused { FailsBy (fault_of command_line (map S.text words.entry.now)) result }
+{
     let mut command = command(alloc)?;
     let matches = command.try_get_matches_from_mut(words)?;
     match request_of(&matches) {

@@ -53,7 +53,7 @@ pub record Faulty : Type 0 where
 
 -- the line of the call that has no answer yet, after this line
 abbrev pub open_after : ℕ → Saying → Option ℕ → Option ℕ
-open_after number (Calls next) waiting = Some number
+open_after number (Calls _) waiting = Some number
 open_after number (Returns text) waiting = None
 open_after number said waiting = waiting
 
@@ -62,7 +62,7 @@ open_after number said waiting = waiting
 abbrev pub misplaced : ℕ → Saying → Option ℕ → Option Faulty
 misplaced number (Makes entry) None = Some (record { line = number; fault = NoCallBefore })
 misplaced number (Returns text) None = Some (record { line = number; fault = NoCallBefore })
-misplaced number (Calls next) (Some before) = Some (record { line = before; fault = NoAnswer })
+misplaced number (Calls _) (Some before) = Some (record { line = before; fault = NoAnswer })
 misplaced number Fresh (Some before) = Some (record { line = before; fault = NoAnswer })
 misplaced number said waiting = None
 
