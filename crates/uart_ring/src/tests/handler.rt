@@ -1,4 +1,6 @@
 //! The interrupt handler of the documentation, over a replay.
+ghost use Rattle.uart_spec.specs.Config.{IsComputable};
+
 use super::lists::Step::{self, Burst, Changed, Read, Received, Sent, Write};
 use super::lists::{DATA_READY, EMPTY, LINE_STATUS, MODEM_STATUS, NONE, answers_in, made};
 use crate::{MAX_INTERRUPTS, RingError, Uart16550Ring};
@@ -31,7 +33,9 @@ pub struct Port<B> {
 }
 
 // THR_EMPTY is not among the interrupts: the rings enable it as long as bytes wait to be sent.
-fn config() -> Config {
+fn config() -> Config
+    ensures { IsComputable result }
+{
     let interrupts = IER::DATA_READY
         .union(IER::RECEIVER_LINE_STATUS)
         .union(IER::MODEM_STATUS);
@@ -92,7 +96,9 @@ impl<B: Backend + Drop> Port<B> {
     }
 
     /// Changes the configuration while bytes may wait. The interrupt is to be masked meanwhile.
-    pub fn configure(&mut self, config: Config) -> Result<(), InitError> {
+    pub fn configure(&mut self, config: Config) -> Result<(), InitError>
+        requires { IsComputable config }
+    {
         self.ring.inner_mut().init(config)?;
         // `init` has disabled THR_EMPTY.
         self.ring.resume_transmit();

@@ -1,6 +1,7 @@
 #[allow(unused_imports)]
 use crate::runtime::{AllocGlobal, HostRuntime, assert, assert_eq, assert_ne, format};
 // The interrupt handler of the documentation, over a replay.
+
 use super::lists::Step::{self, Burst, Changed, Read, Received, Sent, Write};
 use super::lists::{DATA_READY, EMPTY, LINE_STATUS, MODEM_STATUS, NONE, answers_in, made};
 use crate::libraries::uart_ring::{MAX_INTERRUPTS, RingError, Uart16550Ring};
@@ -29,7 +30,9 @@ pub struct Port<B> {
 }
 
 // THR_EMPTY is not among the interrupts: the rings enable it as long as bytes wait to be sent.
-fn config() -> Config {
+fn config() -> Config
+
+{
     let interrupts = IER::DATA_READY
         .union(IER::RECEIVER_LINE_STATUS)
         .union(IER::MODEM_STATUS);
@@ -90,7 +93,9 @@ impl<B: Backend> Port<B> {
     }
 
     // Changes the configuration while bytes may wait. The interrupt is to be masked meanwhile.
-    pub fn configure(&mut self, config: Config) -> Result<(), InitError> {
+    pub fn configure(&mut self, config: Config) -> Result<(), InitError>
+
+    {
         self.ring.inner_mut().init(config)?;
         // `init` has disabled THR_EMPTY.
         self.ring.resume_transmit();
