@@ -130,8 +130,9 @@ fn a_full_ring_goes_on_when_cts_comes_back(rt: HostRuntime) -> Result<(), Fail> 
     let set = (Some(FifoTriggerLevel::Fourteen), IER::MODEM_STATUS);
     let mut ring = rings(&rt, (Chip::Uart16550A, &schedule), set, (4, 4))?;
     let config = Config {
+        interrupts: IER::MODEM_STATUS,
         check_cts_before_sending: true,
-        ..*ring.inner().config()
+        ..Config::DEFAULT
     };
     ring.inner_mut().init(config)?;
     let fell = MSR::DELTA_CTS;
