@@ -11,7 +11,7 @@
 
 #include "uart_16550.h"
 
-enum { DATA = 0, IER = 1, ISR = 2, FCR = 2, LSR = 5, SPR = 7, FIFO_ON = 0x01, RX_RESET = 0x02, ALL_INTERRUPTS = 0x0f, EACH = 16 };
+enum { ALL_INTERRUPTS = 0x0f, EACH = 16 };
 
 static struct uart_chip chip, saved;
 
@@ -21,14 +21,14 @@ static unsigned digest;
 static void lsr(void)
 {
     for (int i = 0; i < EACH; i++)
-        digest += uart_chip_read(&chip, LSR);
+        digest += uart_chip_read(&chip, UART_OFFSET_LSR);
 }
 
 static void lsr_one(void)
 {
     uart_chip_arrive(&chip, (uint8_t)digest, 0);
     lsr();
-    uart_chip_write(&chip, FCR, FIFO_ON | RX_RESET);
+    uart_chip_write(&chip, UART_OFFSET_FCR, UART_FCR_FIFO_ENABLE | UART_FCR_RX_FIFO_RESET);
 }
 
 /* With as many characters waiting as the FIFO holds. */
@@ -44,7 +44,7 @@ static void data_write(void)
     uint8_t wire[UART_WIRE_ROOM];
 
     for (int i = 0; i < EACH; i++)
-        uart_chip_write(&chip, DATA, (uint8_t)digest++);
+        uart_chip_write(&chip, UART_OFFSET_DATA, (uint8_t)digest++);
     uart_chip_ticks(&chip, EACH + 1);
     digest += (unsigned)uart_chip_take_wire(&chip, wire, sizeof wire);
 }
@@ -53,13 +53,13 @@ static void data_write(void)
 static void data_write_full(void)
 {
     for (int i = 0; i < EACH; i++)
-        uart_chip_write(&chip, DATA, (uint8_t)digest++);
+        uart_chip_write(&chip, UART_OFFSET_DATA, (uint8_t)digest++);
 }
 
 static void scratch_write(void)
 {
     for (int i = 0; i < EACH; i++)
-        uart_chip_write(&chip, SPR, (uint8_t)digest++);
+        uart_chip_write(&chip, UART_OFFSET_SPR, (uint8_t)digest++);
 }
 
 /* A tick with nothing to send. */
@@ -75,7 +75,7 @@ static void byte_out(void)
     uint8_t byte = 0;
 
     for (int i = 0; i < EACH; i++) {
-        uart_chip_write(&chip, DATA, (uint8_t)digest++);
+        uart_chip_write(&chip, UART_OFFSET_DATA, (uint8_t)digest++);
         uart_chip_ticks(&chip, 2);
         digest += (unsigned)uart_chip_take_wire(&chip, &byte, 1) + byte;
     }
@@ -85,7 +85,7 @@ static void byte_in_and_read(void)
 {
     for (int i = 0; i < EACH; i++) {
         uart_chip_arrive(&chip, (uint8_t)digest, 0);
-        digest += uart_chip_read(&chip, DATA);
+        digest += uart_chip_read(&chip, UART_OFFSET_DATA);
     }
 }
 
@@ -98,8 +98,8 @@ static void interrupt(void)
 /* With all of them enabled and none pending: the read withdraws that THR is empty. */
 static void interrupt_enabled(void)
 {
-    uart_chip_write(&chip, IER, ALL_INTERRUPTS);
-    digest += uart_chip_read(&chip, ISR);
+    uart_chip_write(&chip, UART_OFFSET_IER, ALL_INTERRUPTS);
+    digest += uart_chip_read(&chip, UART_OFFSET_ISR);
     interrupt();
 }
 
@@ -141,9 +141,9 @@ static const struct {
 
 int main(int count, char **arguments)
 {
-    if (count != 3 || uart_chip_new(&chip, UART_16550A, 1, UART_WIRE_ROOM) != UART_OK)
+    if (count != 3 || uart_chip_new(&chip, UART_16550A, 1, UART_WIRE_ROOM, UART_WHOLE_BYTES) != UART_OK)
         return 1;
-    uart_chip_write(&chip, FCR, FIFO_ON);
+    uart_chip_write(&chip, UART_OFFSET_FCR, UART_FCR_FIFO_ENABLE);
     for (size_t i = 0; i < sizeof BODIES / sizeof BODIES[0]; i++) {
         if (strcmp(BODIES[i].name, arguments[1]))
             continue;

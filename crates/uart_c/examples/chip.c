@@ -4,7 +4,6 @@
 #include <inttypes.h>
 #include <stdio.h>
 
-enum { DATA = 0, IER = 1, FCR = 2, ISR = 2, LSR = 5 };
 enum { CHAR_TICKS = 4, WIRE_CAPACITY = 32 };
 
 static void show_wire(struct uart_chip *chip)
@@ -17,17 +16,17 @@ static void show_wire(struct uart_chip *chip)
 
 static void show_status(struct uart_chip *chip, const char *when)
 {
-    printf("%s: ISR %02x, interrupt line %d\n", when, uart_chip_read(chip, ISR), uart_chip_is_interrupting(chip));
+    printf("%s: ISR %02x, interrupt line %d\n", when, uart_chip_read(chip, UART_OFFSET_ISR), uart_chip_is_interrupting(chip));
 }
 
 /* The guest sends a text, and time passes. */
 static void send(struct uart_chip *chip, const char *text)
 {
     for (; *text; text++)
-        uart_chip_write(chip, DATA, (uint8_t)*text);
-    printf("LSR %02x after the writes, %zu bytes to go out\n", uart_chip_read(chip, LSR), uart_chip_held_len(chip));
+        uart_chip_write(chip, UART_OFFSET_DATA, (uint8_t)*text);
+    printf("LSR %02x after the writes, %zu bytes to go out\n", uart_chip_read(chip, UART_OFFSET_LSR), uart_chip_held_len(chip));
     uart_chip_ticks(chip, 100);
-    printf("LSR %02x after 100 ticks\n", uart_chip_read(chip, LSR));
+    printf("LSR %02x after 100 ticks\n", uart_chip_read(chip, UART_OFFSET_LSR));
     show_wire(chip);
 }
 
@@ -35,9 +34,23 @@ static void send(struct uart_chip *chip, const char *text)
 static void receive(struct uart_chip *chip)
 {
     printf("in \"");
-    while (uart_chip_read(chip, LSR) & 1)
-        putchar(uart_chip_read(chip, DATA));
+    while (uart_chip_read(chip, UART_OFFSET_LSR) & UART_LSR_DATA_READY)
+        putchar(uart_chip_read(chip, UART_OFFSET_DATA));
     printf("\"\n");
+}
+
+/* A byte goes out and one arrives, with LCR as after power on: five bits. */
+static void use_five_bits(uint8_t cuts)
+{
+    struct uart_chip chip;
+    uint8_t sent = 0;
+
+    uart_chip_new(&chip, UART_16450, CHAR_TICKS, WIRE_CAPACITY, cuts);
+    uart_chip_write(&chip, UART_OFFSET_DATA, 0xff);
+    uart_chip_arrive(&chip, 0xff, 0);
+    uart_chip_ticks(&chip, CHAR_TICKS + 1);
+    uart_chip_take_wire(&chip, &sent, 1);
+    printf("%s: out %02x, in %02x\n", cuts ? "cut" : "whole bytes", sent, uart_chip_read(&chip, UART_OFFSET_DATA));
 }
 
 /* Any bytes at all are legal. */
@@ -53,7 +66,7 @@ static void survive(struct uart_chip *chip)
         uart_chip_write(chip, (uint8_t)i, (uint8_t)(i * 7));
         uart_chip_read(chip, (uint8_t)(i * 3));
         uart_chip_ticks(chip, (uint16_t)(i * 11));
-        uart_chip_arrive(chip, (uint8_t)i, 0x04);
+        uart_chip_arrive(chip, (uint8_t)i, UART_LSR_PARITY_ERROR);
         taken += uart_chip_take_wire(chip, wire, sizeof wire);
     }
     printf("any bytes: %s\n", taken > 0 ? "went on" : "went on, and sent nothing");
@@ -63,24 +76,27 @@ int main(void)
 {
     struct uart_chip chip, saved;
 
-    printf("no ticks: %" PRIu32 "\n", uart_chip_new(&chip, UART_16550A, 0, WIRE_CAPACITY));
-    printf("new: %" PRIu32 "\n", uart_chip_new(&chip, UART_16550A, CHAR_TICKS, WIRE_CAPACITY));
-    uart_chip_write(&chip, FCR, 0x41); /* the FIFO is on, with a trigger level of four */
+    printf("no ticks: %" PRIu32 "\n", uart_chip_new(&chip, UART_16550A, 0, WIRE_CAPACITY, UART_WHOLE_BYTES));
+    printf("new: %" PRIu32 "\n", uart_chip_new(&chip, UART_16550A, CHAR_TICKS, WIRE_CAPACITY, UART_WHOLE_BYTES));
+    /* The FIFO is on, with a trigger level of four. */
+    uart_chip_write(&chip, UART_OFFSET_FCR, UART_FCR_FIFO_ENABLE | UART_FCR_RX_FIFO_TRIGGER_LEVEL0);
     send(&chip, "Hello from C");
 
-    uart_chip_write(&chip, IER, 0x01); /* received data */
+    uart_chip_write(&chip, UART_OFFSET_IER, UART_IER_DATA_READY);
     show_status(&chip, "no character");
     for (const char *text = "abc"; *text; text++)
         uart_chip_arrive(&chip, (uint8_t)*text, 0);
     show_status(&chip, "three characters");
     uart_chip_arrive(&chip, 'd', 0);
     show_status(&chip, "four characters");
-    printf("bad error bits: %" PRIu32 "\n", uart_chip_arrive(&chip, 'e', 0x01));
+    printf("bad error bits: %" PRIu32 "\n", uart_chip_arrive(&chip, 'e', UART_LSR_DATA_READY));
 
     saved = chip; /* a snapshot is a copy */
     receive(&chip);
     chip = saved;
     receive(&chip);
+    use_five_bits(UART_WHOLE_BYTES);
+    use_five_bits(UART_CUT);
     survive(&chip);
     return 0;
 }

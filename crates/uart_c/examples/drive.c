@@ -45,7 +45,8 @@ static struct uart_answer make(const char *name, struct uart_driver *driver, str
 int main(void)
 {
     const struct uart_config config = {
-        .frequency = 1843200, .baud_rate = 9600, .fifo_trigger_level = 14, .interrupts = 0x01, .data_bits = 8};
+        .frequency = 1843200, .baud_rate = 9600, .fifo_trigger_level = 14, .interrupts = UART_IER_DATA_READY,
+        .data_bits = 8};
     const char *text = "The driver and the chip, both from C.";
     struct uart_call init = {.kind = UART_INIT, .config = config};
     struct uart_call test = {.kind = UART_TEST_LOOPBACK};
@@ -58,7 +59,7 @@ int main(void)
     uint8_t wire[UART_WIRE_ROOM];
 
     memcpy(send.bytes, text, strlen(text));
-    uart_chip_new(&chip, UART_16550A, CHAR_TICKS, UART_WIRE_ROOM);
+    uart_chip_new(&chip, UART_16550A, CHAR_TICKS, UART_WIRE_ROOM, UART_WHOLE_BYTES);
     uart_driver_new(&driver, SPIN_LIMIT);
 
     make("check_present", &driver, &chip, &present);

@@ -5,8 +5,6 @@
 #include <stdlib.h>
 #include <unistd.h>
 
-enum { REGISTERS = 8, LSR = 5, MSR = 6 };
-
 /* More accesses than a loopback test makes, and more seconds than all steps take. */
 enum { MOST_PLACES = 100, MOST_SECONDS = 60 };
 
@@ -14,17 +12,17 @@ enum { MOST_PLACES = 100, MOST_SECONDS = 60 };
 struct device {
     uint8_t status[2];
     size_t reads;
-    uint8_t cells[REGISTERS];
+    uint8_t cells[UART_NUM_REGISTERS];
 };
 
 /* Makes an access. */
 static void make(struct device *device, struct uart_access *access)
 {
-    size_t offset = access->offset % REGISTERS;
+    size_t offset = access->offset % UART_NUM_REGISTERS;
 
     if (access->is_write)
         device->cells[offset] = access->value;
-    else if (offset == LSR || offset == MSR)
+    else if (offset == UART_OFFSET_LSR || offset == UART_OFFSET_MSR)
         access->value = device->status[device->reads++ % 2];
     else
         access->value = device->cells[offset];
@@ -43,7 +41,7 @@ static void expect(const char *what, int kind, size_t place, uint32_t status, ui
 static void stray_at_each_place(struct uart_driver driver, const struct uart_call *call, struct device device)
 {
     /* No call makes this access. */
-    const struct uart_access strange = {.offset = REGISTERS, .is_write = 1};
+    const struct uart_access strange = {.offset = UART_NUM_REGISTERS, .is_write = 1};
     struct uart_access tape[MOST_PLACES];
     struct uart_access access;
     struct uart_answer answer;

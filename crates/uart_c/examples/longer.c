@@ -32,7 +32,7 @@ int main(void)
     size_t made = 0;
     uint32_t status;
 
-    uart_chip_new(&chip, UART_16450, CHAR_TICKS, UART_WIRE_ROOM);
+    uart_chip_new(&chip, UART_16450, CHAR_TICKS, UART_WIRE_ROOM, UART_WHOLE_BYTES);
     uart_driver_new(&driver, SPIN_LIMIT);
 
     /* A 16450 has room for one character: the first is lost, and the first look clears the overrun flag in the chip. */

@@ -30,6 +30,105 @@ enum uart_status {
     UART_BAD_LINES = 4   /* the modem lines are CTS, DSR, RI and CD */
 };
 
+/* --------------------------------------------------------------- the registers
+ *
+ * Their offsets, and their bits. A register that is read and one that is written may share an offset, and while UART_LCR_DLAB
+ * is set, DLL and DLM are in the place of DATA and IER. The chip in software has no prescaler and no DMA: it keeps no bit of
+ * these.
+ */
+
+#define UART_OFFSET_DATA 0
+#define UART_OFFSET_IER 1
+#define UART_OFFSET_ISR 2 /* on reads */
+#define UART_OFFSET_FCR 2 /* on writes */
+#define UART_OFFSET_LCR 3
+#define UART_OFFSET_MCR 4
+#define UART_OFFSET_LSR 5
+#define UART_OFFSET_MSR 6
+#define UART_OFFSET_SPR 7
+#define UART_OFFSET_DLL 0
+#define UART_OFFSET_DLM 1
+#define UART_OFFSET_PSD 6
+#define UART_NUM_REGISTERS 8
+
+/* Interrupt enable. */
+#define UART_IER_DATA_READY 0x01
+#define UART_IER_THR_EMPTY 0x02
+#define UART_IER_RECEIVER_LINE_STATUS 0x04
+#define UART_IER_MODEM_STATUS 0x08
+#define UART_IER_DMA_RX_END 0x40
+#define UART_IER_DMA_TX_END 0x80
+
+/* Interrupt status. */
+#define UART_ISR_INTERRUPT_STATUS 0x01 /* clear while an interrupt is pending */
+#define UART_ISR_IIC_0 0x02            /* bits of the interrupt identification code */
+#define UART_ISR_IIC_1 0x04
+#define UART_ISR_IIC_2 0x08
+#define UART_ISR_DMA_RX_END 0x10
+#define UART_ISR_DMA_TX_END 0x20
+#define UART_ISR_FIFOS_ENABLED0 0x40
+#define UART_ISR_FIFOS_ENABLED1 0x80
+#define UART_ISR_FIFOS_ENABLED 0xc0    /* both are set while the FIFOs are on */
+
+/* FIFO control. */
+#define UART_FCR_FIFO_ENABLE 0x01
+#define UART_FCR_RX_FIFO_RESET 0x02
+#define UART_FCR_TX_FIFO_RESET 0x04
+#define UART_FCR_DMA_MODE 0x08
+#define UART_FCR_ENABLE_DMA_END 0x10
+#define UART_FCR_RX_FIFO_TRIGGER_LEVEL0 0x40
+#define UART_FCR_RX_FIFO_TRIGGER_LEVEL1 0x80
+#define UART_FCR_RX_FIFO_TRIGGER_LEVEL 0xc0 /* 1, 4, 8 or 14 characters */
+
+/* Line control. */
+#define UART_LCR_WORD_LENGTH0 0x01
+#define UART_LCR_WORD_LENGTH1 0x02
+#define UART_LCR_WORD_LENGTH 0x03      /* 5, 6, 7 or 8 bits */
+#define UART_LCR_MORE_STOP_BITS 0x04
+#define UART_LCR_PARITY0 0x08          /* there is parity */
+#define UART_LCR_PARITY1 0x10          /* even */
+#define UART_LCR_PARITY2 0x20          /* forced to a constant */
+#define UART_LCR_SET_BREAK 0x40
+#define UART_LCR_DLAB 0x80
+
+/* Modem control. */
+#define UART_MCR_DTR 0x01
+#define UART_MCR_RTS 0x02
+#define UART_MCR_OUT_1 0x04
+#define UART_MCR_OUT_2_INT_ENABLE 0x08
+#define UART_MCR_LOOP_BACK 0x10
+
+/* Line status. */
+#define UART_LSR_DATA_READY 0x01
+#define UART_LSR_OVERRUN_ERROR 0x02
+#define UART_LSR_PARITY_ERROR 0x04
+#define UART_LSR_FRAMING_ERROR 0x08
+#define UART_LSR_BREAK_INTERRUPT 0x10
+#define UART_LSR_THR_EMPTY 0x20
+#define UART_LSR_TRANSMITTER_EMPTY 0x40
+#define UART_LSR_FIFO_DATA_ERROR 0x80
+#define UART_LSR_CHARACTER_ERRORS 0x1c /* parity, framing and break */
+#define UART_LSR_LINE_ERRORS 0x1e      /* those and overrun: what a read clears */
+#define UART_LSR_ERRORS 0x9e
+
+/* Modem status. */
+#define UART_MSR_DELTA_CTS 0x01
+#define UART_MSR_DELTA_DSR 0x02
+#define UART_MSR_TRAILING_EDGE_RI 0x04
+#define UART_MSR_DELTA_CD 0x08
+#define UART_MSR_CTS 0x10
+#define UART_MSR_DSR 0x20
+#define UART_MSR_RI 0x40
+#define UART_MSR_CD 0x80
+#define UART_MSR_CHANGES 0x0f          /* what a read clears */
+#define UART_MSR_LINES 0xf0
+
+/* Prescaler division, on chips that have a prescaler. */
+#define UART_PSD_PDF0 0x01
+#define UART_PSD_PDF1 0x02
+#define UART_PSD_PDF2 0x04
+#define UART_PSD_PDF3 0x08
+
 /* ------------------------------------------------------------------ the chip
  *
  * The chip is plain data of its owner: a copy of the struct is a snapshot, and to copy it back restores the chip.
@@ -43,6 +142,9 @@ enum uart_status {
 #define UART_WIRE_ROOM 64
 
 enum uart_model { UART_16450 = 0, UART_16550A = 1 };
+
+/* Whether whole bytes are sent and received, or as many bits of each as LCR says. */
+enum uart_cuts { UART_WHOLE_BYTES = 0, UART_CUT = 1 };
 
 /* The registers that keep what is written. */
 struct uart_latches {
@@ -108,16 +210,18 @@ struct uart_chip {
     struct uart_modem modem;
     uint8_t model;           /* UART_16550A or UART_16450 */
     uint8_t fifo;            /* the FIFO is on */
-    uint8_t cuts;            /* characters are cut to the word length of LCR; set it if wanted */
+    uint8_t cuts;            /* characters are cut to the word length of LCR */
 };
 
 /*
  * A chip after power on. A character takes char_ticks ticks, 1 to 1000, and the wire has room for wire_capacity bytes, at
- * most UART_WIRE_ROOM, until they are taken. If the wire is full, the transmitter keeps what it holds.
+ * most UART_WIRE_ROOM, until they are taken. If the wire is full, the transmitter keeps what it holds. model is an enum
+ * uart_model, and cuts an enum uart_cuts; any number but 0 counts as the second of each. A real chip cuts characters. After
+ * power on LCR is 0, which says 5 bits.
  *
  * Returns UART_OK, UART_BAD_TICKS or UART_BAD_WIRE.
  */
-uint32_t uart_chip_new(struct uart_chip *chip, uint8_t model, uint16_t char_ticks, uint8_t wire_capacity);
+uint32_t uart_chip_new(struct uart_chip *chip, uint8_t model, uint16_t char_ticks, uint8_t wire_capacity, uint8_t cuts);
 
 /* The guest reads the register. Of the offset the lowest three bits count. */
 uint8_t uart_chip_read(struct uart_chip *chip, uint8_t offset);
@@ -129,15 +233,15 @@ void uart_chip_write(struct uart_chip *chip, uint8_t offset, uint8_t value);
 void uart_chip_ticks(struct uart_chip *chip, uint16_t count);
 
 /*
- * A character comes in, with these errors: parity 04, framing 08 and break 10, as in LSR. In loopback it is lost. If there
- * is no room, one is lost, which shows in the overrun flag.
+ * A character arrives, with these errors: bits of UART_LSR_CHARACTER_ERRORS. In loopback it is lost. If there is no room, one
+ * is lost, which shows in the overrun flag.
  *
  * Returns UART_OK or UART_BAD_ERRORS.
  */
 uint32_t uart_chip_arrive(struct uart_chip *chip, uint8_t byte, uint8_t errors);
 
 /*
- * The modem's inputs become these: CTS 10, DSR 20, RI 40 and CD 80, as in MSR.
+ * The modem's inputs become these: bits of UART_MSR_LINES.
  *
  * Returns UART_OK or UART_BAD_LINES.
  */

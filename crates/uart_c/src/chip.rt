@@ -68,11 +68,13 @@ impl UartLatches {
 
 impl UartChip {
     /// A chip after power on.
-    pub fn new(model: u8, char_ticks: u16, capacity: u8) -> Self
+    pub fn new(model: u8, char_ticks: u16, capacity: u8, cuts: u8) -> Self
         requires char_ticks { char_ticks ≤ MAX_CHAR_TICKS }
         requires capacity { capacity ≤ WIRE_ROOM }
-        ensures chip { chip_of result ≡ spec.fresh (model_of model) char_ticks capacity 0 }
+        ensures chip { chip_of result ≡
+            record (spec.fresh (model_of model) char_ticks capacity 0) { cuts = queue_spec.is_on cuts } }
         ensures model { result.model ≡ bits_spec.flag (queue_spec.is_on model) 1 }
+        ensures cuts { result.cuts ≡ bits_spec.flag (queue_spec.is_on cuts) 1 }
     {
         UartChip {
             transmitter: UartTransmitter::new(char_ticks, capacity),
@@ -92,7 +94,7 @@ impl UartChip {
             },
             model: is_on(model) as u8,
             fifo: 0,
-            cuts: 0,
+            cuts: is_on(cuts) as u8,
         }
     }
 

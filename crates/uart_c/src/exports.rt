@@ -28,10 +28,13 @@ pub extern "C" fn uart_chip_new(
     model: u8,
     char_ticks: u16,
     wire_capacity: u8,
+    cuts: u8,
 ) -> u32
     ensures status { result ≡ new_status char_ticks wire_capacity }
-    ensures built { result ≡ UART_OK → chip_of chip.new ≡ spec.fresh (model_of model) char_ticks wire_capacity 0 }
+    ensures built { result ≡ UART_OK → chip_of chip.new ≡
+        record (spec.fresh (model_of model) char_ticks wire_capacity 0) { cuts = queue_spec.is_on cuts } }
     ensures model { result ≡ UART_OK → chip.new.model ≡ bits_spec.flag (queue_spec.is_on model) 1 }
+    ensures cuts { result ≡ UART_OK → chip.new.cuts ≡ bits_spec.flag (queue_spec.is_on cuts) 1 }
     ensures kept { result ≢ UART_OK → chip.new ≡ chip.old }
 {
     if char_ticks == 0 || char_ticks > MAX_CHAR_TICKS {
@@ -40,7 +43,7 @@ pub extern "C" fn uart_chip_new(
     if wire_capacity as usize > WIRE_ROOM {
         return UART_BAD_WIRE;
     }
-    *chip = UartChip::new(model, char_ticks, wire_capacity);
+    *chip = UartChip::new(model, char_ticks, wire_capacity, cuts);
     UART_OK
 }
 

@@ -23,7 +23,7 @@ enum { ANSWERED = 0, NOT_ANSWERED = 1, NOT_RUN = 2 };
 /* Where things are for the guest. The device tree says the same. */
 static const uint64_t MEMORY = 0x80000000, MEMORY_SIZE = 0x8000000, DEVICE_TREE = 0x87000000;
 static const uint64_t TIMER = 0x2000000, TIMER_SIZE = 0x10000, TIMER_NOW = 0xbff8;
-static const uint64_t SERIAL = 0x10000000, SERIAL_REGISTERS = 8, PAGE = 0x1000;
+static const uint64_t SERIAL = 0x10000000, PAGE = 0x1000;
 
 /* Time is the number of instructions. */
 static const uint64_t INSTRUCTIONS_PER_TICK = 16;
@@ -100,7 +100,7 @@ static uint64_t read_serial(uc_engine *processor, uint64_t offset, unsigned size
     struct machine *machine = context;
 
     (void)processor, (void)size;
-    if (offset >= SERIAL_REGISTERS)
+    if (offset >= UART_NUM_REGISTERS)
         return 0;
     pass_time(machine);
     return uart_chip_read(&machine->chip, (uint8_t)offset);
@@ -112,7 +112,7 @@ static void write_serial(uc_engine *processor, uint64_t offset, unsigned size, u
     struct machine *machine = context;
 
     (void)processor, (void)size;
-    if (offset >= SERIAL_REGISTERS)
+    if (offset >= UART_NUM_REGISTERS)
         return;
     pass_time(machine);
     uart_chip_write(&machine->chip, (uint8_t)offset, (uint8_t)value);
@@ -201,7 +201,7 @@ int main(int count, char **arguments)
     }
     unsigned long ticks = strtoul(arguments[3], NULL, 10);
     uint8_t model = count > 4 && !strcmp(arguments[4], "16450") ? UART_16450 : UART_16550A;
-    if (ticks > UINT16_MAX || uart_chip_new(&machine.chip, model, (uint16_t)ticks, UART_WIRE_ROOM) != UART_OK) {
+    if (ticks > UINT16_MAX || uart_chip_new(&machine.chip, model, (uint16_t)ticks, UART_WIRE_ROOM, UART_CUT) != UART_OK) {
         fprintf(stderr, "monitor: a character takes 1 to 1000 ticks\n");
         return NOT_RUN;
     }

@@ -3,6 +3,9 @@
 const FIFO_SIZE: usize = 16;
 pub const WIRE_ROOM: usize = 64;
 
+/// Whole bytes are sent and received, as by vm-superio's device.
+const WHOLE_BYTES: u8 = 0;
+
 /// What a function returns if it refused nothing.
 const OK: u32 = 0;
 
@@ -112,7 +115,13 @@ pub struct UartChip {
 }
 
 extern "C" {
-    fn uart_chip_new(chip: *mut UartChip, model: u8, char_ticks: u16, wire_capacity: u8) -> u32;
+    fn uart_chip_new(
+        chip: *mut UartChip,
+        model: u8,
+        char_ticks: u16,
+        wire_capacity: u8,
+        cuts: u8,
+    ) -> u32;
     fn uart_chip_read(chip: *mut UartChip, offset: u8) -> u8;
     fn uart_chip_write(chip: *mut UartChip, offset: u8, value: u8);
     fn uart_chip_ticks(chip: *mut UartChip, count: u16);
@@ -134,7 +143,8 @@ impl UartChip {
     /// Panics if a character does not take 1 to 1000 ticks.
     pub fn new(model: Model, char_ticks: u16) -> Self {
         let mut chip = UartChip::default();
-        let status = unsafe { uart_chip_new(&mut chip, model as u8, char_ticks, WIRE_ROOM as u8) };
+        let (model, room) = (model as u8, WIRE_ROOM as u8);
+        let status = unsafe { uart_chip_new(&mut chip, model, char_ticks, room, WHOLE_BYTES) };
         assert_eq!(status, OK, "a character takes 1 to 1000 ticks");
         chip
     }
