@@ -1,6 +1,8 @@
 pub mod Masks
 pub mod Transmitter
 pub mod Receiver
+pub mod Errors
+pub mod Ring
 pub mod Modem
 pub mod Chip
 pub mod Jumps

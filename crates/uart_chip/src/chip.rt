@@ -9,9 +9,10 @@ ghost use Rattle.uart_spec.specs.declared.baud.TheConstants.{FIFO_SIZE, NUM_REGI
 ghost use Rattle.uart_spec.specs.declared.registers.offsets.TheConstants as offsets;
 
 use crate::event::{Chip, Event};
+use crate::fifo::{Fifo, HeapFifo};
 use crate::masks::{flag, kept_interrupts, kept_modem_control};
 use crate::modem::{Modem, ModemData};
-use crate::receiver::{Receiver, ReceiverData};
+use crate::receiver::{Character, Receiver, ReceiverData};
 use crate::transmitter::{Transmitter, TransmitterData};
 use bitflags::Flags;
 use std::alloc::{AllocError, Global};
@@ -59,17 +60,20 @@ pub struct ChipData {
 
 /// A chip of either model, without a schedule. `Device16550` of `uart_device` puts it under one.
 #[derive(Drop)]
-pub struct Uart {
+pub struct Uart<
+    B: Fifo<u8> + Drop = HeapFifo<u8>,
+    C: Fifo<Character> + Drop = HeapFifo<Character>,
+> {
     model: Chip,
     latches: Latches,
     fifo: bool,
-    transmitter: Transmitter,
-    receiver: Receiver,
+    transmitter: Transmitter<B>,
+    receiver: Receiver<C>,
     modem: Modem,
     cuts: bool,
 }
 
-impl Model for Uart {
+impl<B: Fifo<u8> + Drop, C: Fifo<Character> + Drop> Model for Uart<B, C> {
     ghost use Rattle.uart_chip.specs.Chip.{ChipState};
 
     ghost Value = { ChipState };
@@ -135,28 +139,30 @@ pub fn cut(cuts: bool, lcr: LCR, byte: u8) -> u8
     }
 }
 
-impl Uart {
-    /// Returns a chip after power-on, for a schedule with this number of arrivals. Allocates all of its memory.
-    ///
-    /// A character takes `char_ticks` ticks to be sent, the wire has room for `capacity` bytes, and characters are cut to
-    /// the word length if `cuts` is set.
+impl<B: Fifo<u8> + Drop, C: Fifo<Character> + Drop> Uart<B, C> {
+    /// Returns a chip after power-on, over empty queues, for a schedule with this number of arrivals. Allocates its wire and
+    /// its marks.
     ///
     /// # Errors
     ///
     /// `AllocError` if memory could not be allocated.
-    pub fn new(
+    pub fn with_queues(
         alloc: Global,
+        bytes: B,
+        characters: C,
         model: Chip,
         char_ticks: u16,
         capacity: usize,
         arrivals: usize,
         cuts: bool,
     ) -> Result<Self, AllocError>
-        requires { char_ticks ≤ MAX_CHAR_TICKS }
+        requires char_ticks { char_ticks ≤ MAX_CHAR_TICKS }
+        requires no_bytes { B.items bytes ≡ [] }
+        requires no_characters { C.items characters ≡ [] }
         ensures { IfOk result (λ c. c ≡ record (spec.fresh model char_ticks capacity arrivals) { cuts = cuts }) }
     {
-        let transmitter = Transmitter::new(alloc, char_ticks, capacity)?;
-        let receiver = Receiver::new(alloc, char_ticks, arrivals)?;
+        let transmitter = Transmitter::new(alloc, bytes, char_ticks, capacity)?;
+        let receiver = Receiver::new(alloc, characters, char_ticks, arrivals)?;
         Ok(Self {
             model,
             latches: Latches {
@@ -175,18 +181,31 @@ impl Uart {
         })
     }
 
-    /// Returns the chip with these data, and with these bytes on its wire. Allocates all of its memory.
+    /// Returns the chip with these data and with these bytes on its wire, over empty queues. Allocates its wire.
     ///
     /// # Errors
     ///
     /// `AllocError` if memory could not be allocated.
-    pub fn from_data(alloc: Global, saved: &ChipData, wire: &[u8]) -> Result<Self, AllocError>
+    pub fn from_data_with(
+        alloc: Global,
+        bytes: B,
+        characters: C,
+        saved: &ChipData,
+        wire: &[u8],
+    ) -> Result<Self, AllocError>
+        requires no_bytes { B.items bytes ≡ [] }
+        requires no_characters { C.items characters ≡ [] }
         requires char_ticks { saved.now.transmitter.char_ticks ≤ MAX_CHAR_TICKS }
         requires room { length wire.now ≤ saved.now.transmitter.wire_capacity }
         ensures { IfOk result (λ c. c ≡ chip_of saved.now wire.now) }
     {
-        let transmitter = Transmitter::from_data(alloc, &saved.transmitter, wire)?;
-        let receiver = Receiver::from_data(alloc, saved.transmitter.char_ticks, &saved.receiver)?;
+        let transmitter = Transmitter::from_data(alloc, bytes, &saved.transmitter, wire)?;
+        let receiver = Receiver::from_data(
+            alloc,
+            characters,
+            saved.transmitter.char_ticks,
+            &saved.receiver,
+        )?;
         Ok(Self {
             model: saved.model,
             latches: saved.latches,
@@ -216,14 +235,14 @@ impl Uart {
     }
 
     /// Returns the transmitter.
-    pub fn transmitter(&self) -> &Transmitter
+    pub fn transmitter(&self) -> &Transmitter<B>
         ensures { result.now ≡ self.now.transmitter }
     {
         &self.transmitter
     }
 
     /// Returns the receiver.
-    pub fn receiver(&self) -> &Receiver
+    pub fn receiver(&self) -> &Receiver<C>
         ensures { result.now ≡ self.now.receiver }
     {
         &self.receiver
@@ -532,5 +551,48 @@ impl Uart {
         self.fifo = on;
         self.receiver.clear();
         self.transmitter.clear();
+    }
+}
+
+impl Uart<HeapFifo<u8>, HeapFifo<Character>> {
+    /// Returns a chip after power-on, for a schedule with this number of arrivals. Allocates all of its memory.
+    ///
+    /// A character takes `char_ticks` ticks to be sent, the wire has room for `capacity` bytes, and characters are cut to
+    /// the word length if `cuts` is set.
+    ///
+    /// # Errors
+    ///
+    /// `AllocError` if memory could not be allocated.
+    pub fn new(
+        alloc: Global,
+        model: Chip,
+        char_ticks: u16,
+        capacity: usize,
+        arrivals: usize,
+        cuts: bool,
+    ) -> Result<Self, AllocError>
+        requires { char_ticks ≤ MAX_CHAR_TICKS }
+        ensures { IfOk result (λ c. c ≡ record (spec.fresh model char_ticks capacity arrivals) { cuts = cuts }) }
+    {
+        let bytes = HeapFifo::new(alloc)?;
+        let characters = HeapFifo::new(alloc)?;
+        Uart::with_queues(
+            alloc, bytes, characters, model, char_ticks, capacity, arrivals, cuts,
+        )
+    }
+
+    /// Returns the chip with these data, and with these bytes on its wire. Allocates all of its memory.
+    ///
+    /// # Errors
+    ///
+    /// `AllocError` if memory could not be allocated.
+    pub fn from_data(alloc: Global, saved: &ChipData, wire: &[u8]) -> Result<Self, AllocError>
+        requires char_ticks { saved.now.transmitter.char_ticks ≤ MAX_CHAR_TICKS }
+        requires room { length wire.now ≤ saved.now.transmitter.wire_capacity }
+        ensures { IfOk result (λ c. c ≡ chip_of saved.now wire.now) }
+    {
+        let bytes = HeapFifo::new(alloc)?;
+        let characters = HeapFifo::new(alloc)?;
+        Uart::from_data_with(alloc, bytes, characters, saved, wire)
     }
 }

@@ -4,20 +4,22 @@
 //! `uart_device` puts it under one, and `uart_live` gives it to its owner.
 #![tactic(auto)]
 
+mod characters;
 mod chip;
 mod event;
+mod fifo;
 mod masks;
 mod modem;
-mod queue;
 mod receiver;
 mod transmitter;
 
+pub use characters::Characters;
 pub use chip::{ChipData, Latches, Uart, cut, identification, is_thr_empty, trigger_level};
 pub use event::{
     ArrivalMark, BuildError, Chip, Event, MAX_CHAR_TICKS, MAX_WIRE_CAPACITY, arrivals, refusal,
 };
+pub use fifo::{Fifo, FixedFifo, HeapFifo, room_of};
 pub use masks::{flag, kept_interrupts, kept_modem_control};
 pub use modem::{Modem, ModemData};
-pub use queue::room_of;
 pub use receiver::{Character, Origin, Receiver, ReceiverData};
 pub use transmitter::{Shifting, Transmitter, TransmitterData};

@@ -1,19 +1,20 @@
 //! The receiver: a queue of characters, and what became of each arrival.
-ghost use Rattle.std.specs.Prelude.{◌≡◌, ◌==◌, ◌<◌, ◌≤◌, ◌-◌, ℕ, length, slice_get, IfOk};
+ghost use Rattle.std.specs.Prelude.{◌≡◌, ◌==◌, ◌<◌, ◌≤◌, ◌-◌, ℕ, [], length, slice_get, IfOk};
 ghost use Rattle.std.specs.List.{list_any};
 ghost use Rattle.uart_chip.specs.Receiver as spec;
 ghost use Rattle.uart_chip.specs.Receiver.{unreported, has_errors, front_errors, waiting};
+ghost use Rattle.uart_chip.specs.Errors.{error_weight};
 ghost use Rattle.uart_chip.specs.Transmitter.{room};
 ghost use Rattle.uart_spec.specs.declared.baud.TheConstants.{FIFO_SIZE};
 ghost use Rattle.uart_chip.specs.Data.{receiver_of, without_schedule};
 ghost use Rattle.uart_chip.specs.Jumps.{count_up};
 ghost use Rattle.uart_chip.specs.declared.event.TheConstants.{MAX_CHAR_TICKS};
 
+use crate::characters::Characters;
 use crate::event::ArrivalMark;
-use crate::queue::{filled, items_of, put, room_of};
+use crate::fifo::{Fifo, items_of, room_of};
 use arrayvec::ArrayVec;
 use bitflags::Flags;
-use circular_buffer::HeapCircularBuffer;
 use std::alloc::{AllocError, Global};
 use std::marker::Model;
 use uart_spec::FIFO_SIZE;
@@ -44,8 +45,8 @@ pub struct Character {
 
 /// The receiver: received characters are in its queue until DATA is read.
 #[derive(Drop)]
-pub struct Receiver {
-    queue: HeapCircularBuffer<Character>,
+pub struct Receiver<Q: Fifo<Character> + Drop> {
+    queue: Characters<Q>,
     is_overrun: bool,
     is_front_reported: bool,
     last_byte: u8,
@@ -57,15 +58,13 @@ pub struct Receiver {
     is_stray_lost: bool,
 }
 
-impl Model for Receiver {
-    ghost use Rattle.std.specs.Prelude.{◌≡◌, true};
+impl<Q: Fifo<Character> + Drop> Model for Receiver<Q> {
     ghost use Rattle.uart_chip.specs.Receiver.{ReceiverState};
-    ghost use Rattle.uart_chip.specs.Transmitter.{room};
 
     ghost Value = { ReceiverState };
 
     ghost view = { λ r. record {
-      queue = r.queue.items;
+      queue = r.queue;
       is_overrun = r.is_overrun;
       is_front_reported = r.is_front_reported;
       last_byte = r.last_byte;
@@ -76,16 +75,21 @@ impl Model for Receiver {
       marks = r.marks.items;
       is_stray_lost = r.is_stray_lost;
     } };
-
-    ghost invariant = { λ r. r.queue.capacity ≡ room true };
 }
 
 impl Character {
-    // Returns whether the character has a parity error or a framing error, or is a break.
-    fn has_errors(&self) -> bool
+    /// Returns whether the character has a parity error or a framing error, or is a break.
+    pub fn has_errors(&self) -> bool
         ensures { result ≡ has_errors self.now }
     {
         LSR::from_bits_retain(self.errors).intersects(LSR::CHARACTER_ERRORS)
+    }
+
+    /// Returns 1 if the character has errors, else 0.
+    pub fn error_weight(&self) -> usize
+        ensures { result ≡ error_weight self.now }
+    {
+        if self.has_errors() { 1 } else { 0 }
     }
 }
 
@@ -124,13 +128,19 @@ fn set_mark(marks: &mut Vec<ArrivalMark>, origin: Origin, mark: ArrivalMark)
     }
 }
 
-// Marks the characters that a reset discards.
-fn discard(characters: &HeapCircularBuffer<Character>, marks: &mut Vec<ArrivalMark>)
-    ensures { marks.new.items ≡ spec.discard characters.now.items marks.old.items }
+// Empties a queue, and marks its characters as discarded.
+fn discard<Q: Fifo<Character>>(characters: &mut Q, marks: &mut Vec<ArrivalMark>)
+    ensures marks { marks.new.items ≡ spec.discard (Q.items characters.old) marks.old.items }
+    ensures none { Q.items characters.new ≡ [] }
 {
-    for character in characters {
-        set_mark(marks, character.origin, ArrivalMark::Discarded);
+    for i in 0..characters.len() {
+        set_mark(
+            marks,
+            characters.get(i).unwrap().origin,
+            ArrivalMark::Discarded,
+        );
     }
+    characters.clear();
 }
 
 /// A receiver without a schedule, as plain data.
@@ -150,18 +160,24 @@ pub struct ReceiverData {
     pub trigger: FifoTriggerLevel,
 }
 
-impl Receiver {
-    /// Returns a receiver that has received nothing, for a schedule with this number of arrivals. Allocates its queue and
-    /// the marks.
+impl<Q: Fifo<Character> + Drop> Receiver<Q> {
+    /// Returns a receiver that has received nothing, over an empty queue, for a schedule with this number of arrivals.
+    /// Allocates the marks.
     ///
     /// # Errors
     ///
     /// `AllocError` if memory could not be allocated.
-    pub fn new(alloc: Global, char_ticks: u16, arrivals: usize) -> Result<Self, AllocError>
-        requires { char_ticks ≤ MAX_CHAR_TICKS }
+    pub fn new(
+        alloc: Global,
+        queue: Q,
+        char_ticks: u16,
+        arrivals: usize,
+    ) -> Result<Self, AllocError>
+        requires char_ticks { char_ticks ≤ MAX_CHAR_TICKS }
+        requires empty { Q.items queue ≡ [] }
         ensures { IfOk result (λ r. r ≡ spec.fresh char_ticks arrivals) }
     {
-        let queue = HeapCircularBuffer::with_capacity(alloc, FIFO_SIZE)?;
+        let queue = Characters::new(queue);
         let mut marks = Vec::with_capacity(alloc, arrivals)?;
         for _ in 0..arrivals {
             marks.push(ArrivalMark::Pending)?;
@@ -180,20 +196,22 @@ impl Receiver {
         })
     }
 
-    /// Returns the receiver with these data, without a schedule. Allocates its queue.
+    /// Returns the receiver with these data, over an empty queue, without a schedule.
     ///
     /// # Errors
     ///
     /// `AllocError` if memory could not be allocated.
     pub fn from_data(
         alloc: Global,
+        queue: Q,
         char_ticks: u16,
         saved: &ReceiverData,
     ) -> Result<Self, AllocError>
-        requires { char_ticks ≤ MAX_CHAR_TICKS }
+        requires char_ticks { char_ticks ≤ MAX_CHAR_TICKS }
+        requires empty { Q.items queue ≡ [] }
         ensures { IfOk result (λ r. r ≡ receiver_of char_ticks saved.now) }
     {
-        let queue = filled(alloc, &saved.queue)?;
+        let queue = Characters::filled(queue, &saved.queue);
         Ok(Self {
             queue,
             is_overrun: saved.is_overrun,
@@ -232,7 +250,7 @@ impl Receiver {
             if self.queue.is_empty() {
                 self.is_front_reported = false;
             }
-            put(&mut self.queue, new);
+            self.queue.push(new);
             set_mark(&mut self.marks, new.origin, ArrivalMark::Waiting);
         } else if fifo {
             self.is_overrun = true;
@@ -251,11 +269,11 @@ impl Receiver {
     fn replace(&mut self, new: Character)
         ensures { self.new ≡ spec.replace self.old.queue new self.old }
     {
-        let Some(old) = self.queue.pop_front() else {
+        let Some(old) = self.queue.pop() else {
             return;
         };
         self.queue.clear();
-        put(&mut self.queue, new);
+        self.queue.push(new);
         self.is_overrun = true;
         self.is_front_reported = false;
         self.timeout_ticks = 0;
@@ -339,7 +357,7 @@ impl Receiver {
         ensures after { self.new ≡ spec.take_front self.old.queue self.old }
         ensures byte { result ≡ self.new.last_byte }
     {
-        if let Some(front) = self.queue.pop_front() {
+        if let Some(front) = self.queue.pop() {
             self.is_front_reported = false;
             self.timeout_ticks = 0;
             self.last_byte = front.byte;
@@ -362,8 +380,7 @@ impl Receiver {
     pub fn clear(&mut self)
         ensures { self.new ≡ spec.clear self.old }
     {
-        discard(&self.queue, &mut self.marks);
-        self.queue.clear();
+        discard(&mut self.queue, &mut self.marks);
     }
 
     /// Sets the trigger level.
@@ -391,7 +408,7 @@ impl Receiver {
     pub fn front_errors(&self) -> LSR
         ensures { result.0 ≡ front_errors self.now.queue self.now.is_front_reported }
     {
-        match self.queue.front() {
+        match self.queue.get(0) {
             Some(front) if !self.is_front_reported => {
                 LSR::from_bits_retain(front.errors).intersection(LSR::CHARACTER_ERRORS)
             }
@@ -403,11 +420,7 @@ impl Receiver {
     pub fn has_unreported_errors(&self) -> bool
         ensures { result ≡ list_any has_errors (unreported self.now.queue self.now.is_front_reported) }
     {
-        let mut characters = self.queue.iter();
-        if self.is_front_reported {
-            characters.next();
-        }
-        characters.any(|character| character.has_errors())
+        self.queue.has_unreported_errors(self.is_front_reported)
     }
 
     /// Returns whether there are as many characters as the trigger level, or without FIFO any.

@@ -7,9 +7,8 @@ ghost use Rattle.uart_chip.specs.Data.{transmitter_of};
 ghost use Rattle.uart_chip.specs.Chip.{is_transmitter_empty};
 ghost use Rattle.uart_chip.specs.Jumps.{next_move, count_down};
 
-use crate::queue::{filled, items_of, put, room_of};
+use crate::fifo::{Fifo, fill, items_of, room_of};
 use arrayvec::ArrayVec;
-use circular_buffer::HeapCircularBuffer;
 use std::alloc::{AllocError, Global};
 use std::marker::Model;
 use uart_spec::FIFO_SIZE;
@@ -43,8 +42,8 @@ pub struct TransmitterData {
 /// The transmitter: bytes that are written to DATA are first in the queue, then in the shift register, and then on the
 /// wire.
 #[derive(Drop)]
-pub struct Transmitter {
-    queue: HeapCircularBuffer<u8>,
+pub struct Transmitter<Q: Fifo<u8> + Drop> {
+    queue: Q,
     shift_place: Option<Shifting>,
     wire: Vec<u8>,
     capacity: usize,
@@ -53,14 +52,14 @@ pub struct Transmitter {
     is_thr_pending: bool,
 }
 
-impl Model for Transmitter {
-    ghost use Rattle.std.specs.Prelude.{◌≡◌, ◌≤◌, true, vec_capacity};
-    ghost use Rattle.uart_chip.specs.Transmitter.{TransmitterState, room};
+impl<Q: Fifo<u8> + Drop> Model for Transmitter<Q> {
+    ghost use Rattle.std.specs.Prelude.{◌≤◌, vec_capacity};
+    ghost use Rattle.uart_chip.specs.Transmitter.{TransmitterState};
 
     ghost Value = { TransmitterState };
 
     ghost view = { λ t. record {
-      queue = t.queue.items;
+      queue = Q.items t.queue;
       shift_place = t.shift_place;
       wire = t.wire.items;
       capacity = t.capacity;
@@ -69,19 +68,24 @@ impl Model for Transmitter {
       is_thr_pending = t.is_thr_pending;
     } };
 
-    ghost invariant = { λ t. (t.queue.capacity ≡ room true) × (t.capacity ≤ vec_capacity t.wire) };
+    ghost invariant = { λ t. t.capacity ≤ vec_capacity t.wire };
 }
 
-impl Transmitter {
-    /// Returns a transmitter that has sent nothing. Allocates its queue and its wire.
+impl<Q: Fifo<u8> + Drop> Transmitter<Q> {
+    /// Returns a transmitter that has sent nothing, over an empty queue. Allocates its wire.
     ///
     /// # Errors
     ///
     /// `AllocError` if memory could not be allocated.
-    pub fn new(alloc: Global, char_ticks: u16, capacity: usize) -> Result<Self, AllocError>
+    pub fn new(
+        alloc: Global,
+        queue: Q,
+        char_ticks: u16,
+        capacity: usize,
+    ) -> Result<Self, AllocError>
+        requires { Q.items queue ≡ [] }
         ensures { IfOk result (λ t. t ≡ spec.fresh char_ticks capacity) }
     {
-        let queue = HeapCircularBuffer::with_capacity(alloc, FIFO_SIZE)?;
         let wire = Vec::with_capacity(alloc, capacity)?;
         Ok(Self {
             queue,
@@ -94,20 +98,22 @@ impl Transmitter {
         })
     }
 
-    /// Returns the transmitter with these data, and with these bytes on its wire. Allocates its queue and its wire.
+    /// Returns the transmitter with these data and with these bytes on its wire, over an empty queue. Allocates its wire.
     ///
     /// # Errors
     ///
     /// `AllocError` if memory could not be allocated.
     pub fn from_data(
         alloc: Global,
+        mut queue: Q,
         saved: &TransmitterData,
         wire: &[u8],
     ) -> Result<Self, AllocError>
-        requires { length wire.now ≤ saved.now.wire_capacity }
+        requires empty { Q.items queue ≡ [] }
+        requires room { length wire.now ≤ saved.now.wire_capacity }
         ensures { IfOk result (λ t. t ≡ transmitter_of saved.now wire.now) }
     {
-        let queue = filled(alloc, &saved.queue)?;
+        fill(&mut queue, &saved.queue);
         let mut bytes = Vec::with_capacity(alloc, saved.wire_capacity)?;
         bytes.extend_from_slice(wire)?;
         Ok(Self {
@@ -169,7 +175,7 @@ impl Transmitter {
         if self.shift_place.is_some() {
             return;
         }
-        if let Some(byte) = self.queue.pop_front() {
+        if let Some(byte) = self.queue.pop() {
             self.shift_place = Some(Shifting {
                 byte,
                 ticks_left: self.char_ticks,
@@ -226,11 +232,11 @@ impl Transmitter {
         ensures { self.new ≡ spec.load fifo byte self.old }
     {
         if self.queue.len() < room_of(fifo) {
-            put(&mut self.queue, byte);
+            self.queue.push(byte);
         } else {
             if !fifo {
                 self.queue.clear();
-                put(&mut self.queue, byte);
+                self.queue.push(byte);
             }
             self.overflows = self.overflows.saturating_add(1);
         }
@@ -318,9 +324,9 @@ impl Transmitter {
         ensures { result ≡ slice_get (held self.now) i }
     {
         match self.shift_place {
-            None => self.queue.get(i).copied(),
+            None => self.queue.get(i),
             Some(shifting) if i == 0 => Some(shifting.byte),
-            Some(_) => self.queue.get(i - 1).copied(),
+            Some(_) => self.queue.get(i - 1),
         }
     }
 }

@@ -7,7 +7,7 @@ use Rattle.uart_chip.proofs.Snapshots.{same_parts}
 use Rattle.uart_chip.proofs.chip.Uart.data.Goals as goal
 
 pub returns : goal.returns
-returns c =
+returns g c =
     let ticks : c.data.result.char_ticks ≡ c.self.inside.transmitter.char_ticks =
     ap (λ (t : TransmitterState). t.char_ticks) c.data.ensures in
     let here : ChipState =

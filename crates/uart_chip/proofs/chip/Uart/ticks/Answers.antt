@@ -6,7 +6,7 @@ use Rattle.uart_chip.proofs.chip.Uart.ticks.Goals as goal
 use Rattle.uart_chip.proofs.chip.Uart.ticks.Goals.{in-Some, in_default, in_default-via-in-Some+else-ticks-left, in_default-via-in_default}
 
 pub loop-left-preserved : goal.loop-left-preserved
-loop-left-preserved c =
+loop-left-preserved g c =
     let t = ap (λ (d : ChipState). d.transmitter) c.self.view_is in
     elim c.match-next_move.branch [
       | in-Some w ↦

@@ -6,7 +6,7 @@ use Rattle.uart_chip.proofs.Jumps.{turns_left}
 use Rattle.uart_chip.proofs.chip.Uart.ticks.Given as goal
 
 abbrev pub invariant-loop-left : goal.invariant-loop-left
-invariant-loop-left l = record {
+invariant-loop-left g l = record {
   same : ticks l.left l.self ≡ ticks l.n l.fn.self;
   turns : l.turns + turns_left l.left l.self.transmitter ≤ moves l.fn.self.transmitter + 1;
   counted : l.turns + jumps.turns l.left l.self ≡ jumps.turns l.n l.fn.self;
@@ -14,4 +14,4 @@ invariant-loop-left l = record {
 }
 
 abbrev pub decreases-loop-left : goal.decreases-loop-left
-decreases-loop-left l = l.left
+decreases-loop-left g l = l.left

@@ -1,0 +1,202 @@
+//! The queues of the chip. A clause sees a queue as the list of its items, from the front.
+ghost use Rattle.std.specs.Prelude.{◌≡◌, ◌==◌, ◌<◌, ◌≤◌, List, [], ◌∷◌, ◌++◌, length, drop, slice_get, IfOk};
+ghost use Rattle.uart_spec.specs.declared.baud.TheConstants.{FIFO_SIZE};
+ghost use Rattle.uart_chip.specs.Transmitter.{room};
+
+use arrayvec::ArrayVec;
+use circular_buffer::HeapCircularBuffer;
+use std::alloc::{AllocError, Global};
+use std::marker::Model;
+use uart_spec::FIFO_SIZE;
+
+/// Returns the number of characters that a queue has room for. Without FIFO that is one, although it could hold more.
+pub fn room_of(fifo: bool) -> usize
+    ensures { result ≡ room fifo }
+{
+    if fifo { FIFO_SIZE } else { 1 }
+}
+
+/// A queue that has room for each character of a FIFO, wherever its items are.
+pub trait Fifo<T> {
+    // The items, from the front.
+    ghost items: { Self → List T };
+
+    /// Returns the number of items.
+    fn len(&self) -> usize
+        ensures len { result ≡ length (items self.now) }
+        ensures within { result ≤ FIFO_SIZE };
+
+    /// Returns whether there is no item.
+    fn is_empty(&self) -> bool
+        ensures { result ≡ (length (items self.now) == 0) };
+
+    /// Returns the item with this index, from the front.
+    fn get(&self, i: usize) -> Option<T>
+        ensures { result ≡ slice_get (items self.now) i };
+
+    /// Appends an item. The caller must show that there is room.
+    fn push(&mut self, item: T)
+        requires { length (items self.old) < FIFO_SIZE }
+        ensures { items self.new ≡ items self.old ++ item ∷ [] };
+
+    /// Removes the front, and returns it.
+    fn pop(&mut self) -> Option<T>
+        ensures front { result ≡ slice_get (items self.old) 0 }
+        ensures rest { items self.new ≡ drop 1 (items self.old) };
+
+    /// Removes all items.
+    fn clear(&mut self)
+        ensures { items self.new ≡ [] };
+}
+
+/// Appends items to an empty queue.
+pub fn fill<T: Copy + Drop, Q: Fifo<T>>(queue: &mut Q, items: &ArrayVec<T, FIFO_SIZE>)
+    requires { Q.items queue.old ≡ [] }
+    ensures { Q.items queue.new ≡ items.now.items }
+{
+    for item in items.as_slice() {
+        queue.push(*item);
+    }
+}
+
+/// Returns the items of a queue, from the front.
+pub fn items_of<T: Copy + Default + Drop, Q: Fifo<T>>(queue: &Q) -> ArrayVec<T, FIFO_SIZE>
+    ensures { result.items ≡ Q.items queue.now }
+{
+    let mut items = ArrayVec::new();
+    for i in 0..queue.len() {
+        items.push(queue.get(i).unwrap());
+    }
+    items
+}
+
+/// A queue in memory that is allocated once.
+#[derive(Drop)]
+pub struct HeapFifo<T> {
+    ring: HeapCircularBuffer<T>,
+}
+
+impl<T> Model for HeapFifo<T> {
+    ghost use Rattle.std.specs.Prelude.{◌≡◌, List};
+    ghost use Rattle.uart_spec.specs.declared.baud.TheConstants.{FIFO_SIZE};
+
+    ghost Value = { List T };
+
+    ghost view = { λ q. q.ring.items };
+
+    ghost invariant = { λ q. q.ring.capacity ≡ FIFO_SIZE };
+}
+
+impl<T> HeapFifo<T> {
+    /// Returns an empty queue. Allocates its memory.
+    ///
+    /// # Errors
+    ///
+    /// `AllocError` if memory could not be allocated.
+    pub fn new(alloc: Global) -> Result<Self, AllocError>
+        ensures { IfOk result (λ q. q ≡ []) }
+    {
+        let ring = HeapCircularBuffer::with_capacity(alloc, FIFO_SIZE)?;
+        Ok(HeapFifo { ring })
+    }
+}
+
+impl<T: Copy + Drop> Fifo<T> for HeapFifo<T> {
+    ghost items = { λ q. q };
+
+    fn len(&self) -> usize {
+        self.ring.len()
+    }
+
+    fn is_empty(&self) -> bool {
+        self.ring.is_empty()
+    }
+
+    fn get(&self, i: usize) -> Option<T> {
+        self.ring.get(i).copied()
+    }
+
+    fn push(&mut self, item: T) {
+        self.ring.push_back(item);
+    }
+
+    fn pop(&mut self) -> Option<T> {
+        self.ring.pop_front()
+    }
+
+    fn clear(&mut self) {
+        self.ring.clear();
+    }
+}
+
+/// A queue in an array, without other memory.
+#[derive(Drop)]
+pub struct FixedFifo<T> {
+    slots: [T; FIFO_SIZE],
+    start: usize,
+    len: usize,
+}
+
+impl<T> Model for FixedFifo<T> {
+    ghost use Rattle.std.specs.Prelude.{◌≡◌, ◌<◌, ◌≤◌, List, length};
+    ghost use Rattle.uart_spec.specs.declared.baud.TheConstants.{FIFO_SIZE};
+    ghost use Rattle.uart_chip.specs.Ring.{window};
+
+    ghost Value = { List T };
+
+    ghost view = { λ q. window q.start q.len q.slots };
+
+    ghost invariant = { λ q. (q.start < FIFO_SIZE) × (q.len ≤ FIFO_SIZE) × (length q.slots ≡ FIFO_SIZE) };
+}
+
+impl<T: Copy> FixedFifo<T> {
+    /// Returns an empty queue, whose unused places hold `item`.
+    pub fn new(item: T) -> Self
+        ensures { result ≡ [] }
+    {
+        FixedFifo {
+            slots: [item; FIFO_SIZE],
+            start: 0,
+            len: 0,
+        }
+    }
+}
+
+impl<T: Copy + Drop> Fifo<T> for FixedFifo<T> {
+    ghost items = { λ q. q };
+
+    fn len(&self) -> usize {
+        self.len
+    }
+
+    fn is_empty(&self) -> bool {
+        self.len == 0
+    }
+
+    fn get(&self, i: usize) -> Option<T> {
+        if i < self.len {
+            Some(self.slots[(self.start + i) % FIFO_SIZE])
+        } else {
+            None
+        }
+    }
+
+    fn push(&mut self, item: T) {
+        self.slots[(self.start + self.len) % FIFO_SIZE] = item;
+        self.len += 1;
+    }
+
+    fn pop(&mut self) -> Option<T> {
+        if self.len == 0 {
+            return None;
+        }
+        let front = self.slots[self.start];
+        self.start = (self.start + 1) % FIFO_SIZE;
+        self.len -= 1;
+        Some(front)
+    }
+
+    fn clear(&mut self) {
+        self.len = 0;
+    }
+}
