@@ -1,5 +1,6 @@
 #!/bin/sh
-# Counts the instructions of the library for C with callgrind. Run it at the top of a checkout, after 'rt lib' in crates/uart_c.
+# Counts the instructions of the library for C with callgrind. Run it at the top of a checkout, after 'rt lib --cpu x86-64' in
+# crates/uart_c.
 # Prints what is called, the functions that are counted, and how many instructions a call takes inside them.
 program=$(mktemp)
 trap 'rm -f "$program"' EXIT

@@ -9,7 +9,7 @@
  * through must not overlap with its others.
  *
  * The code is for x86-64 Linux in user space: it uses xmm registers and the red zone. It is not for a kernel or for an
- * interrupt handler of one.
+ * interrupt handler of one. Built by 'rt lib --cpu x86-64' it runs on every x86-64 processor: SSE2 is all that it needs.
  */
 #ifndef UART_16550_H
 #define UART_16550_H
