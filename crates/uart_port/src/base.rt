@@ -5,6 +5,7 @@ ghost use Rattle.uart_16550.specs.Pio.{IsPortBase};
 ghost use Rattle.uart_port.specs.Base.{without_prefix, port_numbered, base_in};
 
 use crate::end::End;
+use uart_program::{HEXADECIMAL, number_in};
 use uart_spec::registers::offsets;
 
 // The last port at which a chip can begin.
@@ -21,10 +22,7 @@ fn without_prefix(word: &str) -> &str
 fn port_numbered(digits: &str) -> Option<u16>
     ensures { result ≡ port_numbered digits.now }
 {
-    if digits.starts_with('+') {
-        return None;
-    }
-    u16::from_str_radix(digits, 16).ok()
+    u16::try_from(number_in(HEXADECIMAL, digits)?).ok()
 }
 
 /// Returns the first port of a chip, which a word names in hexadecimal digits with or without 0x.

@@ -9,11 +9,13 @@ ghost use Rattle.clap.specs.Values.{kind_of};
 ghost use Rattle.uart_program.specs.Status.{number_of, unmatched_end, fault_end, EndsUnmatched};
 
 mod failure;
+mod numbers;
 mod status;
 
 use clap::Error;
 use clap::error::ErrorKind;
 pub use failure::Failure;
+pub use numbers::{DECIMAL, HEXADECIMAL, number_in};
 pub use status::{STATUSES, Status};
 use std::alloc::Global;
 use std::fmt::Display;

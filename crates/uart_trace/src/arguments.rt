@@ -1,13 +1,13 @@
 //! The program's arguments.
 ghost use Rattle.std.specs.Prelude.{◌≡◌, MatchResult};
 ghost use Rattle.std.specs.Int.NonZero.{non_zero_u64_get};
-ghost use Rattle.uart_trace.specs.Arguments.{number_in, limit_in};
+ghost use Rattle.uart_trace.specs.Arguments.{limit_in};
 
 use crate::end::End;
 use clap::{Arg, ArgMatches, Command, Error};
 use std::alloc::Global;
 use std::num::NonZeroU64;
-use uart_program::STATUSES;
+use uart_program::{DECIMAL, STATUSES, number_in};
 
 const ABOUT: &str = "\
 Checks a recorded trace: whether each list of register accesses is one that its call makes.
@@ -38,16 +38,6 @@ pub fn matched<'a>(alloc: Global, words: &'a [String]) -> Result<ArgMatches<'a>,
     command(alloc)?.try_get_matches_from(words)
 }
 
-// Returns the number that a word writes in decimal digits, if there is one.
-fn number_in(word: &str) -> Option<u64>
-    ensures { result ≡ number_in word.now }
-{
-    if word.starts_with('+') {
-        return None;
-    }
-    u64::from_str_radix(word, 10).ok()
-}
-
 /// Returns the spin limit that a word sets.
 ///
 /// # Errors
@@ -56,7 +46,7 @@ fn number_in(word: &str) -> Option<u64>
 pub fn limit_in(word: &str) -> Result<NonZeroU64, End>
     ensures { MatchResult result (λ limit. limit_in word.now ≡ Ok (non_zero_u64_get limit)) (λ end. limit_in word.now ≡ Err end) }
 {
-    match number_in(word) {
+    match number_in(DECIMAL, word) {
         Some(limit) => NonZeroU64::new(limit).ok_or(End::NoLimit),
         None => Err(End::NoLimit),
     }

@@ -3,6 +3,7 @@ ghost use Rattle.std.specs.Prelude.{◌≡◌, ◌≢◌};
 ghost use Rattle.std.specs.IoError.{error_kind};
 ghost use Rattle.uart_trace.specs.Status.{status_of};
 
+use crate::checking::MOST_BYTES;
 use std::io;
 use std::io::ErrorKind;
 use thiserror::Error;
@@ -15,6 +16,9 @@ pub enum End {
     /// The limit is not a number, or is 0.
     #[error("the limit must be a number from 1 to 18446744073709551615")]
     NoLimit,
+    /// The trace has more than [`MOST_BYTES`].
+    #[error("the trace has more than {most} bytes", most = MOST_BYTES)]
+    TooLong,
     /// The trace could not be read.
     #[error("the trace cannot be read: {0}")]
     Unread(io::Error),
@@ -30,7 +34,7 @@ impl End {
     {
         match self {
             End::NoTrace(TraceError::OutOfMemory) => Status::OutOfMemory,
-            End::NoLimit | End::Unread(_) | End::NoTrace(_) => Status::Failed,
+            End::NoLimit | End::TooLong | End::Unread(_) | End::NoTrace(_) => Status::Failed,
         }
     }
 

@@ -2,39 +2,30 @@
 #![tactic(auto)]
 
 mod arguments;
+mod checking;
 mod end;
 
 use arguments::{limit_in, matched};
+use checking::{MOST_BYTES, checked};
 use clap::ArgMatches;
 use end::End;
-use std::alloc::Global;
 use std::io::Write;
-use std::num::NonZeroU64;
 use std::process::ExitCode;
 use uart_program::{Status, bytes_of, failed, unmatched, words};
-use uart_traces::{TraceError, judge, parse, push_stray};
 
-// Returns the line that reports where a trace strays, or nothing.
-fn stray_line(alloc: Global, text: &[u8], limit: NonZeroU64) -> Result<Vec<u8>, TraceError> {
-    let trace = parse(alloc, text)?;
-    let mut line = Vec::new(alloc);
-    if let Some(stray) = judge(alloc, &trace, limit)? {
-        push_stray(alloc, &mut line, &stray)?;
-        line.push(b'\n')?;
-    }
-    Ok(line)
-}
+// The most bytes of a trace that are read: one more than the longest has.
+const MOST_READ: u64 = MOST_BYTES as u64 + 1;
 
-// Returns the line that reports where the trace of the command line strays, or nothing.
-fn checked(rt: &HostRuntime, matches: &ArgMatches<'_>) -> Result<Vec<u8>, End> {
+// Returns what is printed for the trace of the command line.
+fn requested(rt: &HostRuntime, matches: &ArgMatches<'_>) -> Result<Vec<u8>, End> {
     let limit = limit_in(matches.get_str("limit").unwrap_or(""))?;
-    let text = bytes_of(rt, matches.get_str("FILE"), u64::MAX).map_err(End::unread)?;
-    Ok(stray_line(rt.alloc(), &text, limit)?)
+    let text = bytes_of(rt, matches.get_str("FILE"), MOST_READ).map_err(End::unread)?;
+    checked(rt.alloc(), &text, limit)
 }
 
 // Prints where the trace strays, or why it was not checked, and returns the exit code.
 fn reported(rt: &HostRuntime, matches: &ArgMatches<'_>) -> ExitCode {
-    match checked(rt, matches) {
+    match requested(rt, matches) {
         Ok(line) if line.is_empty() => ExitCode::SUCCESS,
         Ok(line) => {
             // If standard error cannot be written, the exit status still says that the trace strays.
