@@ -1,10 +1,11 @@
 //! Plays the calls of a script on a real chip at an I/O port, through Linux's file of ports.
 #![tactic(auto)]
 
-ghost use Rattle.std.specs.Prelude.{IfOk};
+ghost use Rattle.std.specs.Prelude.{◌≡◌, IfOk, None};
 ghost use Rattle.std.specs.Int.NonZero.{non_zero_u64_get};
 ghost use Rattle.uart_16550.specs.Pio.{IsPortBase};
 ghost use Rattle.uart_language.specs.Script.{plan_of, IsScript};
+ghost use Rattle.uart_port.specs.Lines.{event_line};
 ghost use Rattle.uart_port.specs.Playing.{IsTerminalAt};
 
 mod arguments;
@@ -41,7 +42,8 @@ const MOST_READ: u64 = MOST_BYTES as u64 + 1;
 
 // Returns the script that a text is, if it has no event.
 fn script_in(alloc: Global, text: &[u8]) -> Result<Script, End>
-    ensures { IfOk result (λ script. IsScript text.now (plan_of script)) }
+    ensures script { IfOk result (λ script. IsScript text.now (plan_of script)) }
+    ensures plain { IfOk result (λ _. event_line text.now ≡ None) }
 {
     let script = match parse(alloc, text) {
         Ok(script) => script,

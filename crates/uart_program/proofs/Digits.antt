@@ -17,7 +17,8 @@ values_are_low base (c ∷ cs) h =
 are_digits : (base : ℕ) (ds : List ℕ) → AllDigits base ds → list_all (λ digit. nat_lt (digit_value digit) base) ds ≡ true
 are_digits base [] h = refl
 are_digits base (c ∷ cs) h =
-    and_from (nat_lt (digit_value c) base) (list_all (λ digit. nat_lt (digit_value digit) base) cs) (grind (arith, h.0)) (are_digits base cs h.1)
+    and_from (nat_lt (digit_value c) base) (list_all (λ digit. nat_lt (digit_value digit) base) cs) (grind (arith, h.0))
+    (are_digits base cs h.1)
 
 -- a text without a plus is read as the number that it writes
 pub number_read : {E : Type 0} (base : ℕ) (word : List ℕ) (r : Result ℕ E) → (slice_index word 0 == 43) ≡ false →

@@ -18,12 +18,15 @@ fn stray_line(alloc: Global, bytes: &[u8], limit: NonZeroU64) -> Result<Vec<u8>,
         (Refuses (fault_of bytes.now)) }
 {
     let trace = parse(alloc, bytes)?;
-    let mut line = Vec::new(alloc);
-    if let Some(stray) = judge(alloc, &trace, limit)? {
-        push_stray(alloc, &mut line, &stray)?;
-        line.push(b'\n')?;
+    match judge(alloc, &trace, limit)? {
+        None => Ok(Vec::new(alloc)),
+        Some(stray) => {
+            let mut line = Vec::new(alloc);
+            push_stray(alloc, &mut line, &stray)?;
+            line.push(b'\n')?;
+            Ok(line)
+        }
     }
-    Ok(line)
 }
 
 /// Returns what is printed for the bytes of a trace: nothing if each list is one that its call makes, or else the line that
