@@ -1,0 +1,4 @@
+pub mod Holding
+pub mod LatchesHold
+pub mod Effects
+pub mod Explaining

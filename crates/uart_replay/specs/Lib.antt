@@ -1,0 +1,4 @@
+pub mod Latches
+pub mod Known
+pub mod Rules
+pub mod Replays

@@ -1,0 +1,18 @@
+//! Whether a recorded chip answered as the chip that is defined could have.
+//!
+//! A recording has the accesses to a chip and what each read returned, and mostly neither the time that passed nor what
+//! came from outside. A [`Replayer`] reports a read whose value the chip could not have returned, whatever the time that
+//! passed, and whatever characters arrived and lines changed.
+#![tactic(auto)]
+
+mod difference;
+mod known;
+mod latches;
+mod replayer;
+mod rule;
+
+pub use difference::Difference;
+pub use known::{Known, Start};
+pub use latches::KnownLatches;
+pub use replayer::Replayer;
+pub use rule::{Rule, broken};

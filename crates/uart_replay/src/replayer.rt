@@ -1,0 +1,63 @@
+//! Whether a chip answers as the chip that is defined could, read for read.
+ghost use Rattle.std.specs.Prelude.{◌≡◌, List, IsSome, is_some};
+ghost use Rattle.uart_chip.specs.declared.event.Chip.{Chip};
+ghost use Rattle.uart_replay.specs.declared.known.Start.{Start};
+ghost use Rattle.uart_replay.specs.Known as spec;
+ghost use Rattle.uart_replay.specs.Replays.{NoneReturns, Seen, difference, known_after, known_from, seen_read};
+ghost use Rattle.uart_spec.specs.Access.{Write};
+ghost use Rattle.uart_replay.specs.Replays.{Did};
+
+use crate::difference::Difference;
+use crate::known::{Known, Start};
+use crate::rule::broken;
+use uart_chip::Chip;
+
+/// Follows the accesses to a chip, and finds the reads whose value the chip could not have returned.
+///
+/// Its size is constant. It knows nothing of time, of what arrives and of the modem lines: it reports a difference only
+/// if there is one under every schedule.
+#[derive(Clone, Copy, Debug, PartialEq, Eq)]
+pub struct Replayer {
+    known: Known,
+}
+
+impl Replayer {
+    /// Returns a replayer at the start of a recording of a chip of this model.
+    pub fn new(model: Chip, start: Start) -> Self
+        ensures { result.known ≡ spec.first_known model start }
+    {
+        Self {
+            known: Known::new(model, start),
+        }
+    }
+
+    /// Follows a read of the register at this offset, which returned this value. Returns a difference if the chip could
+    /// not have returned it.
+    ///
+    /// The value of a read that was reported is then left out: what follows is compared as if it were not known.
+    pub fn read(&mut self, offset: usize, value: u8) -> Option<Difference>
+        ensures exact { result ≡ difference offset value self.old.known }
+        ensures after { self.new.known ≡ known_after self.old.known (seen_read (is_some result) offset value) }
+        ensures sound { IsSome result → (model : Chip) → (start : Start) → (seen : List Seen) →
+            self.old.known ≡ known_from (spec.first_known model start) seen → NoneReturns model start seen offset value }
+    {
+        match broken(&self.known, offset, value) {
+            None => {
+                self.known = self.known.after_read(offset, value);
+                None
+            }
+            Some(rule) => Some(Difference {
+                offset,
+                recorded: value,
+                rule,
+            }),
+        }
+    }
+
+    /// Follows a write of this value to the register at this offset.
+    pub fn write(&mut self, offset: usize, value: u8)
+        ensures { self.new.known ≡ known_after self.old.known (Did (Write offset value)) }
+    {
+        self.known = self.known.after_write(offset, value);
+    }
+}
