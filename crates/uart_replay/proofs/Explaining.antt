@@ -130,7 +130,8 @@ holds_used model m u =
       fifo = off model same (w.chip.implemented);
     }
   where
-    off : (model : Chip) → m.chip.model ≡ model → (m.chip.fifo ≡ true → m.chip.model ≡ Uart16550A) → Agrees (first_fifo model InUse) m.chip.fifo
+    off : (model : Chip) → m.chip.model ≡ model → (m.chip.fifo ≡ true → m.chip.model ≡ Uart16550A) →
+        Agrees (first_fifo model InUse) m.chip.fifo
     off Uart16550A e h = tt
     off Uart16450 e h = never m.chip.fifo refl
       where
