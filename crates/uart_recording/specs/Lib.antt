@@ -1,1 +1,5 @@
 pub mod Events
+pub mod Fields
+pub mod Lines
+pub mod Places
+pub mod Windows

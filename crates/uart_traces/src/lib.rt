@@ -23,6 +23,7 @@ pub use cause::{Fault, TraceError};
 pub use checking::{Followed, NextStep, Returned, Turn, check, follow, next};
 pub use exchange::Exchange;
 pub use judging::{Stray, judge};
+pub use lines::{before_remark, offset_in};
 pub use parsing::parse;
 pub use tape::{Recorded, Request, Tape};
 pub use telling::{push_entry, push_stray};

@@ -1,9 +1,10 @@
 //! The meaning of a line of a trace.
-ghost use Rattle.std.specs.Prelude.{◌≡◌, IfOk};
+ghost use Rattle.std.specs.Prelude.{◌≡◌, ◌<◌, IfOk};
 ghost use Rattle.std.specs.List.{position_or_len};
 ghost use Rattle.uart_language.specs.Fields.{seen};
 ghost use Rattle.uart_language.specs.Items.{item_at};
 ghost use Rattle.uart_language.specs.Text.{words_of};
+ghost use Rattle.uart_spec.specs.declared.baud.TheConstants.{NUM_REGISTERS};
 ghost use Rattle.uart_traces.specs.Lines.{CanRun, access_in, answer_in, before_remark, called_as, fresh_in, is_remark};
 ghost use Rattle.uart_traces.specs.Lines.{offset_in, said_by, said_in, saying_of, says, without_end};
 
@@ -53,17 +54,18 @@ fn remark_start(line: &[u8]) -> usize
         .unwrap_or(line.len())
 }
 
-// Returns a line without its remark, and without spaces at its end.
-fn before_remark(line: &[u8]) -> &[u8]
+/// Returns a line without its remark, and without spaces at its end.
+pub fn before_remark(line: &[u8]) -> &[u8]
     ensures { result.now ≡ before_remark line.now }
 {
     without_end(&line[..remark_start(line)])
 }
 
-// Reads the offset of a register, which is one digit.
+/// Reads the offset of a register, which is one digit.
 #[tactic(auto, unfolding(crate::specs::Lines::offset_in))]
-fn offset_in(word: &[u8]) -> Result<usize, Cause>
-    ensures { result ≡ offset_in word.now }
+pub fn offset_in(word: &[u8]) -> Result<usize, Cause>
+    ensures read { result ≡ offset_in word.now }
+    ensures range { IfOk result (λ offset. offset < NUM_REGISTERS) }
 {
     match word {
         [digit] if b'0' <= *digit && *digit <= b'7' => Ok(usize::from(*digit - b'0')),

@@ -1,0 +1,88 @@
+//! How far a recording is read, and what its next line says there.
+ghost use Rattle.std.specs.Prelude.{◌≡◌, ◌<◌, ◌+◌};
+ghost use Rattle.uart_recording.specs.Places.{IsLineRead, IsRepeat, repeated};
+
+use crate::cause::Fault;
+use crate::event::{Event, Happening};
+use crate::lines::{Line, line_in};
+use uart_16550::replay::Entry;
+
+/// How far a recording is read.
+#[derive(Clone, Copy, Debug, PartialEq, Eq)]
+pub struct Place {
+    /// The number of lines that were read.
+    pub number: u64,
+    /// What happened last.
+    pub last: Option<Event>,
+    /// How many times more it is to be repeated.
+    pub repeats: u64,
+}
+
+// Returns a read once more, at the line with this number, or `None` if what happened is no read. A repeat says nothing
+// about time and level.
+fn repeated(event: Event, line: u64) -> Option<Event>
+    ensures { result ≡ repeated event line }
+{
+    match event.happening {
+        Happening::Access(Entry::Read(_, _)) => Some(Event {
+            line,
+            time: None,
+            interrupt: None,
+            ..event
+        }),
+        _ => None,
+    }
+}
+
+impl Place {
+    /// Returns the place before the first line.
+    pub fn new() -> Self
+        ensures { result ≡ record { number = 0; last = None; repeats = 0 } }
+    {
+        Place {
+            number: 0,
+            last: None,
+            repeats: 0,
+        }
+    }
+
+    /// Returns the event to be repeated, if there is one, and counts it.
+    pub fn repeat(&mut self) -> Option<Event>
+        ensures read { IsRepeat self.old result self.new }
+        ensures counted { self.new.number ≡ self.old.number }
+    {
+        if self.repeats == 0 {
+            return None;
+        }
+        self.repeats -= 1;
+        self.last
+    }
+
+    /// Reads the next line. Returns the event that it is, if it is one; a line that repeats a read is none.
+    ///
+    /// # Errors
+    ///
+    /// What is wrong with the line. It is counted.
+    pub fn read(&mut self, line: &[u8]) -> Result<Option<Event>, Fault>
+        requires { self.old.number < u64.MAX }
+        ensures read { IsLineRead self.old line.now result self.new }
+        ensures counted { self.new.number ≡ self.old.number + 1 }
+    {
+        self.number += 1;
+        match line_in(self.number, line)? {
+            Line::Blank => Ok(None),
+            Line::Event(event) => {
+                self.last = Some(event);
+                self.repeats = 0;
+                Ok(Some(event))
+            }
+            Line::Again(count) => {
+                let number = self.number;
+                let again = self.last.and_then(|event| repeated(event, number));
+                self.last = Some(again.ok_or(Fault::NoReadBefore)?);
+                self.repeats = count;
+                Ok(None)
+            }
+        }
+    }
+}
