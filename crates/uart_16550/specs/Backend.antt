@@ -2,7 +2,7 @@
 use Rattle.std.specs.Prelude.{ℕ}
 use Rattle.uart_spec.specs.Access.{Access, Read, Write}
 
--- the access at the place of its register
+-- an access as it is made at the place of its register: a port or an address takes the place of the offset
 abbrev pub access_at : (ℕ → ℕ) → Access → Access
 access_at place (Read offset answer) = Read (place offset) answer
 access_at place (Write offset value) = Write (place offset) value

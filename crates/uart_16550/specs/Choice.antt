@@ -33,7 +33,7 @@ answers [] = []
 answers (Read offset answer ∷ accesses) = answer ∷ answers accesses
 answers (Write offset value ∷ accesses) = answers accesses
 
--- the reads of the list returned the front of the stream
+-- the reads of the list returned the answers at the front of this stream
 abbrev pub IsAnsweredFrom : (stream : List ℕ) → List Access → Type 0
 IsAnsweredFrom stream accesses = (rest : List ℕ) × (stream ≡ answers accesses ++ rest)
 
@@ -46,7 +46,9 @@ Agree {R} {B} {C} G step other_step =
     IsAnsweredFrom stream p.list → IsAnsweredFrom stream q.list →
     (a ≡ b) × (p.list ≡ q.list) × (fields new ≡ fields other_new)
 
--- the same for calls that save what their reads clear, and change nothing else
+-- two calls of drivers with equal fields, each over its own backend, that save what their reads clear and change
+-- nothing else, and whose reads returned the front of one stream, have the same outcome, the same list, and the same
+-- fields after it
 abbrev pub AgreeSaving : {R B C : Type 0} → (R → Language) → (B → Access → B → Type 0) → (C → Access → C → Type 0) →
     Type 0
 AgreeSaving {R} {B} {C} L step other_step =
@@ -73,7 +75,8 @@ HasOneOutcome {R} {B} G step =
     Did step (G a) old new → Did step (G b) other_old other_new → IsSame old other_old →
     (a ≡ b) × IsSame new other_new
 
--- the same for calls that save what their reads clear, and change nothing else
+-- a call of the same driver that saves what its reads clear and changes nothing else has one outcome, and leaves the
+-- same driver
 abbrev pub HasOneOutcomeSaving : {R B : Type 0} → (R → Language) → (B → Access → B → Type 0) → Type 0
 HasOneOutcomeSaving {R} {B} L step =
     (a b : R) (old new other_old other_new : Uart16550 B) →

@@ -13,7 +13,7 @@ abbrev pub backend_of : {B : Type 0} → Uart16550 B → B
 backend_of d = d.backend
 
 -- a driver without its backend: its configuration, whether it takes the FIFO to be on, the saved bits of LSR and MSR,
--- the spin limit
+-- the spin limit; these fields of a driver
 pub record Fields : Type 0 where
   pub config : Config
   pub fifo : Bool
@@ -30,7 +30,7 @@ fields d = record {
   limit = non_zero_u64_get d.spin_limit;
 }
 
--- what the lists of a call depend on
+-- what the lists of the next call depend on, as a function of the fields and of the driver
 abbrev pub settings_of : Fields → Settings
 settings_of f = record { checks = f.config.check_cts_before_sending; fifo = f.fifo; limit = f.limit }
 
@@ -38,12 +38,13 @@ abbrev pub settings : {B : Type 0} → Uart16550 B → Settings
 settings d =
     record { checks = d.config.check_cts_before_sending; fifo = d.fifo_enabled; limit = non_zero_u64_get d.spin_limit }
 
--- a driver that has made no access
+-- a driver over this backend that has made no access: FIFO treated as on, nothing saved, limit 1,000,000
 pub record IsFresh {B : Type 0} (d : Uart16550 B) (given : B) (config : Config) : Type 0 where
   pub backend : d.backend ≡ given
   pub begins : fields d ≡ record { config = config; fifo = true; lsr = 0; msr = 0; limit = DEFAULT_SPIN_LIMIT }
 
--- the call made a list of the language, saved what its reads cleared, and changed nothing else
+-- the call made a list of the language along a path of the backend's steps, saved what its reads showed, and changed
+-- nothing else
 pub record Made {B : Type 0} (step : B → Access → B → Type 0) (L : Language) (old new : Uart16550 B) : Type 0 where
   pub list : List Access
   pub path : Path step old.backend list new.backend

@@ -38,7 +38,8 @@ pub data SavingCall : Type 0 where
   flush read_ready write_ready : SavingCall
   write_text write_str : (text : List ℕ) → SavingCall
 
--- its outcome: what it returns, and for a call that fills slots also the slots after it
+-- the outcomes that a call which saves what it saw may have: what it returns and, for a call that fills slots, what is
+-- in them after it
 abbrev pub SavingOutcome : SavingCall → Type 0
 SavingOutcome (read_register register) = ℕ
 SavingOutcome check_connected = Result (Unit {0}) RemoteReadyToReceiveError
@@ -90,7 +91,7 @@ pub data ChangingCall : Type 0 where
   init start : (config : Config) → IsComputable config → ChangingCall
   test_loopback : ChangingCall
 
--- its outcome
+-- the outcomes that a call which changes fields may have
 abbrev pub ChangingOutcome : ChangingCall → Type 0
 ChangingOutcome lsr = ℕ
 ChangingOutcome msr = ℕ

@@ -21,7 +21,8 @@ space = 32
 abbrev pub delete : ℕ
 delete = 127
 
--- backspace and delete erase the last character, and a line feed is preceded by a carriage return
+-- backspace and delete become backspace, space, backspace; a line feed becomes carriage return and line feed; any other
+-- byte is itself
 abbrev pub expansion_of : ℕ → List ℕ
 expansion_of byte =
     if byte == backspace || byte == delete then backspace ∷ space ∷ backspace ∷ []
@@ -51,7 +52,7 @@ abbrev pub SendsText : {T : Type 0} → List ℕ → Result T StalledError → L
 SendsText text (Ok x) s l = SendsEach (expansion text) s l
 SendsText text (Err e) s l = (sent : ℕ) × (e.done ≡ min sent (2 ^ 64 - 1)) × SendsBeginning (expansion text) sent s l
 
--- `write_str`: the same without the count
+-- `write_str`: the list of `write_text`, and no count
 abbrev pub SendsStr : {T E : Type 0} → List ℕ → Result T E → Language
 SendsStr text (Ok x) s l = SendsEach (expansion text) s l
 SendsStr text (Err e) s l = (sent : ℕ) × SendsBeginning (expansion text) sent s l

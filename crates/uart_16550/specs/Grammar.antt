@@ -10,7 +10,7 @@ pub record Settings : Type 0 where
   pub fifo : Bool
   pub limit : ℕ
 
--- the lists that a call may make under some settings
+-- the lists of accesses that a call may make under some settings
 abbrev pub Language : Type 1
 Language = Settings → List Access → Type 0
 
@@ -44,7 +44,7 @@ FewMisses P s l = (n : ℕ) × (n < s.limit) × Times n P s l
 abbrev pub AllMisses : Language → Language
 AllMisses P s l = Times s.limit P s l
 
--- one read of the register, whose answer has all of these bits, or does not
+-- one read of a register, whose answer has all of these bits, or does not
 pub record Asks (register bits : ℕ) (outcome : Bool) (s : Settings) (l : List Access) : Type 0 where
   pub answer : ℕ
   pub shows : has answer bits ≡ outcome
@@ -54,7 +54,7 @@ pub record Asks (register bits : ℕ) (outcome : Bool) (s : Settings) (l : List 
 abbrev pub ReadsRegister : ℕ → Language
 ReadsRegister register s l = (answer : ℕ) × (l ≡ Read register answer ∷ [])
 
--- the first if the setting is on, else the second
+-- the first language if CTS is checked, otherwise the second; likewise if the FIFO is on
 abbrev pub IfChecks : Language → Language → Language
 IfChecks P Q s l = MatchBool s.checks (P s l) (Q s l)
 

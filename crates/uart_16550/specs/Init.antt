@@ -34,7 +34,7 @@ abbrev pub Keeps : ℕ → Bool → Language
 Keeps pattern outcome s l =
     (back : ℕ) × ((back == pattern) ≡ outcome) × (l ≡ Write offsets.SPR pattern ∷ Read offsets.SPR back ∷ [])
 
--- both patterns are kept; or the first is not; or only the second is not
+-- it keeps both patterns; or it does not keep the first; or it keeps the first and not the second
 abbrev pub KeepsPatterns : Bool → Language
 KeepsPatterns true s l = Then (Keeps first_pattern true) (Keeps second_pattern true) s l
 KeepsPatterns false s l =
@@ -108,7 +108,7 @@ Ends config =
 abbrev pub DivisorOf : Config → Result ℕ InvalidDivisorError → Type 0
 DivisorOf config = IsDivisorAnswer config.frequency (to_integer config.baud_rate) config.prescaler_division_factor
 
--- `init`: the whole list, or the list up to the error
+-- `init`: the whole list, or the list up to the refusal, with the fields that each leaves
 abbrev pub Inits : {T : Type 0} → Config → Result T InitError → Doing
 Inits config (Ok x) f l after = (divisor : ℕ) × (fifo : Bool) × DivisorOf config (Ok divisor) ×
     Next (Begins config divisor fifo) (Next (Saving (WaitsFor LSR.TRANSMITTER_EMPTY.0 true)) (Ends config)) f l after

@@ -23,7 +23,7 @@ use Rattle.uart_16550.specs.Transmit.{SendMiss, Round, SendsAll, SendsExact, Try
 use Rattle.uart_16550.specs.Init.{SetsFifo}
 use Rattle.uart_16550.specs.Driver.{Fields, Doing, Saving, Plain, Sets, Next, with_fifo, with_saved}
 
--- the first test byte, and the test message
+-- 42 in hexadecimal, and `hello world!1337`
 abbrev pub test_byte : ℕ
 test_byte = 66
 
@@ -43,7 +43,8 @@ DrainsLoopback false = AllMisses TakesOne
 abbrev pub SendsTestByte : Language
 SendsTestByte = TrySends {T = Unit {0}} test_byte (Ok tt)
 
--- the test byte: sent and received; or not sent; or not received within the limit; or another byte received
+-- the test byte: it is sent and comes back; or it is not sent; or the wait for it is unsuccessful; or another byte
+-- comes back
 abbrev pub ExchangesByte : {T : Type 0} → Result T LoopbackError → Language
 ExchangesByte (Ok x) s l = Then SendsTestByte (Awaited test_byte) s l
 ExchangesByte (Err (SendError e)) s l = TrySends {T = Unit {0}} test_byte (Err e) s l
@@ -52,7 +53,7 @@ ExchangesByte (Err (UnexpectedLoopbackByte expected actual)) s l =
     (expected ≡ test_byte) × (actual ≢ test_byte) × Then SendsTestByte (Awaited actual) s l
 ExchangesByte (Err (UnexpectedLoopbackMsg expected actual)) s l = ⊥
 
--- a byte, and the byte that was received for it
+-- a byte is sent after a wait, and this byte comes back
 abbrev pub Echo : (ℕ × ℕ) → Language
 Echo pair = Then (Round (pair.0 ∷ [])) (Awaited pair.1)
 
@@ -60,11 +61,12 @@ Echo pair = Then (Round (pair.0 ∷ [])) (Awaited pair.1)
 abbrev pub EchoFails : ℕ → Language
 EchoFails byte s l = AllMisses SendMiss s l ⊎ Then (Round (byte ∷ [])) (AllMisses Miss) s l
 
+-- what came back for a byte, or nothing if a wait was unsuccessful
 abbrev pub HasEchoed : ℕ → Option ℕ → Language
 HasEchoed byte (Some back) = Echo (byte, back)
 HasEchoed byte None = EchoFails byte
 
--- with a FIFO all bytes are sent, and then as many are received
+-- with a FIFO: the bytes are sent as a whole, and as many are received; or one of the two stalls
 abbrev pub WholeEchoes : (sent got : List ℕ) → Language
 WholeEchoes sent got s l = (length got ≡ length sent) × Then (SendsAll sent) (InOrder Awaited got) s l
 
@@ -73,7 +75,7 @@ WholeFails sent s l = ((e : StalledError) × SendsExact {T = Unit {0}} sent (Err
     ⊎ ((e : StalledError) × (got : List ℕ)
     × Then (SendsAll sent) (ReceivesExact {T = Unit {0}} (length sent) got (Err e)) s l)
 
--- without a FIFO each byte is sent and received by itself
+-- without a FIFO: each byte is sent and received by itself; or a wait for one of them is unsuccessful
 abbrev pub EachEchoes : (sent got : List ℕ) → Language
 EachEchoes sent got s l =
     (pairs : List (ℕ × ℕ)) × (map (λ pair. pair.0) pairs ≡ sent) × (map (λ pair. pair.1) pairs ≡ got)
@@ -84,7 +86,8 @@ EachFails sent s l =
     (pairs : List (ℕ × ℕ)) × (byte : ℕ) × (rest : List ℕ) × (map (λ pair. pair.0) pairs ++ (byte ∷ rest) ≡ sent)
     × Then (InOrder Echo pairs) (EchoFails byte) s l
 
--- what was received for these bytes, or nothing if a wait reached the limit
+-- what came back for these bytes, or nothing if a wait was unsuccessful, with a FIFO and without; the one of the two
+-- that fits
 abbrev pub HasEchoedWhole : List ℕ → Option (List ℕ) → Language
 HasEchoedWhole sent (Some got) = WholeEchoes sent got
 HasEchoedWhole sent None = WholeFails sent
@@ -126,7 +129,7 @@ line_changes before now =
     (bit_or (flag (has before MSR.RI.0 && not (has now MSR.RI.0)) MSR.TRAILING_EDGE_RI.0)
     (flag (differs before now MSR.CD.0) MSR.DELTA_CD.0))
 
--- from the read of the lines to the FIFO step, in loopback
+-- MSR is read, interrupts are switched off, loopback is switched on, and the FIFO step is made
 abbrev pub Enters : (before : ℕ) → (fifo : Bool) → Doing
 Enters before fifo f l after =
     Next (Saving (Then (Only (Read offsets.MSR before ∷ Write offsets.IER 0 ∷ Write offsets.MCR MCR.LOOP_BACK.0 ∷ []))
@@ -151,7 +154,7 @@ abbrev pub BeginsTest : (mcr ier : ℕ) → Bool → Language
 BeginsTest mcr ier empty =
     Then (Only (Read offsets.MCR mcr ∷ Read offsets.IER ier ∷ [])) (WaitsFor LSR.TRANSMITTER_EMPTY.0 empty)
 
--- after the first wait; the errors saved at this point are those noted
+-- what follows the first wait; the end of that wait decides which errors are noted
 abbrev pub Tests : {T : Type 0} → (mcr ier : ℕ) → Result T LoopbackError → Doing
 Tests mcr ier result f l after = (before : ℕ) × (fifo : Bool) ×
     Next (Enters before fifo) (Next (Saving (Exchanges result)) (Leaves mcr ier before f.lsr)) f l after

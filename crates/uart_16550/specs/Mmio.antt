@@ -17,11 +17,11 @@ pub record Mapped (M : Type 0) : Type 0 where
   pub stride : NonZeroU8
   pub access : M
 
--- the address of a register
+-- the address of a register: base + offset * stride
 abbrev pub address_of : (base stride offset : ℕ) → ℕ
 address_of base stride offset = base + offset * stride
 
--- the stride is a power of two, and the last register has an address
+-- the stride is a power of two, and the address of the last register is below 2^64
 pub record IsMapping (base stride : ℕ) : Type 0 where
   pub power : IsTrue (is_power_of_two stride)
   pub in_range : address_of base stride offsets.SPR < 2 ^ 64

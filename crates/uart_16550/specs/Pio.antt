@@ -6,7 +6,7 @@ use Rattle.uart_spec.specs.declared.registers.offsets.TheConstants as offsets
 use Rattle.uart_spec.specs.Access.{Access}
 use Rattle.uart_16550.specs.Backend.{access_at}
 
--- the port of the first register, and the object that accesses the ports
+-- what contracts see of a `PioBackend`: the port of the first register, and the object that reaches the ports
 pub record Ports (P : Type 0) : Type 0 where
   pub base : ℕ
   pub access : P
@@ -15,7 +15,7 @@ pub record Ports (P : Type 0) : Type 0 where
 abbrev pub last_port : ℕ
 last_port = 65535
 
--- the last register has a port
+-- the port of the last register is one of them
 abbrev pub IsPortBase : ℕ → Type 0
 IsPortBase base = base + offsets.SPR ≤ last_port
 

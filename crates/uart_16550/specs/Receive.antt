@@ -15,12 +15,12 @@ Hit byte = Then (Asks offsets.LSR LSR.DATA_READY.0 true) (Only (Read offsets.DAT
 abbrev pub Miss : Language
 Miss = Asks offsets.LSR LSR.DATA_READY.0 false
 
--- `ready_to_receive`
+-- `ready_to_receive`: one look, with the result
 abbrev pub ReadyToReceive : {T E : Type 0} → Result T E → Language
 ReadyToReceive (Ok x) = Asks offsets.LSR LSR.DATA_READY.0 true
 ReadyToReceive (Err e) = Miss
 
--- `try_receive_byte`
+-- `try_receive_byte`: a hit with the byte, or a miss
 abbrev pub TryReceive : {E : Type 0} → Result ℕ E → Language
 TryReceive (Ok byte) = Hit byte
 TryReceive (Err e) = Miss
@@ -44,7 +44,7 @@ abbrev pub ReceivesSome : ℕ → List ℕ → Bool → Language
 ReceivesSome n bytes true s l = (0 < length bytes) × Then (FewMisses Miss) (Receives n bytes) s l
 ReceivesSome n bytes false s l = (length bytes ≡ 0) × AllMisses Miss s l
 
--- the bytes that `receive_bytes_exact` put into its slots
+-- the bytes that an exact call put into its slots: all of them, or as many as the stall reports
 abbrev pub filled : {T : Type 0} → Result T StalledError → List ℕ → List ℕ
 filled (Ok x) slots = slots
 filled (Err e) slots = take e.done slots

@@ -9,7 +9,7 @@ use Rattle.uart_16550.specs.declared.replay.TheConstants.{REPLAY_ROOM}
 use Rattle.uart_16550.specs.declared.replay.Entry.{Entry}
 use Rattle.uart_16550.specs.declared.replay.Entry.TheVariants.{Read as ReadEntry, Write as WriteEntry}
 
--- the access of an entry
+-- the access that an entry of a replay names
 abbrev pub access_of : Entry → Access
 access_of (ReadEntry offset answer) = Read offset answer
 access_of (WriteEntry offset value) = Write offset value
@@ -32,7 +32,7 @@ pub record Plays (old : Tape) (access : Access) (new : Tape) : Type 0 where
   pub whole : new.whole ≡ (old.whole && nat_lt (length old.made) REPLAY_ROOM)
   pub made : new.whole ≡ true → new.made ≡ old.made ++ access ∷ []
 
--- the reads of a list return these answers in turn, and those are left
+-- the reads of a list return the first of these answers in turn, and the other answers are left
 abbrev pub FedBy : (answers : List ℕ) → List Access → (left : List ℕ) → Type 0
 FedBy answers [] left = left ≡ answers
 FedBy answers (access ∷ accesses) left =
@@ -70,7 +70,7 @@ Repeats {R} {B} G step =
     (a b : R) (old new : Uart16550 B) (before after : Uart16550 Tape) → (p : Did step (G a) old new) →
     Did Plays (G b) before after → IsRepeated a b p.list old new before after
 
--- the same for calls that save what their reads clear, and change nothing else
+-- a replay that is fed by a call which saves what its reads clear, and changes nothing else, repeats it
 abbrev pub RepeatsSaving : {R B : Type 0} → (R → Language) → (B → Access → B → Type 0) → Type 0
 RepeatsSaving {R} {B} L step =
     (a b : R) (old new : Uart16550 B) (before after : Uart16550 Tape) → (p : Made step (L a) old new) →

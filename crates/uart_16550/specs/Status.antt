@@ -22,12 +22,12 @@ use Rattle.uart_16550.specs.Grammar.{Language}
 use Rattle.uart_16550.specs.Driver.{Fields, Doing, saving, with_saved, with_interrupts}
 use Rattle.uart_16550.specs.declared.dump.ConfigRegisterDump.{ConfigRegisterDump}
 
--- `lsr`: one read, returned joined with the saved bits, which are then cleared
+-- `lsr`: one read. The result is joined with the saved bits, of which none are left
 abbrev pub TakesLsr : ℕ → Doing
 TakesLsr result f l after =
     (status : ℕ) × (l ≡ Read offsets.LSR status ∷ []) × (result ≡ bit_or status f.lsr) × (after ≡ with_saved 0 f.msr f)
 
--- `msr` likewise
+-- `msr`: one read. The result is joined with the saved bits, of which none are left
 abbrev pub TakesMsr : ℕ → Doing
 TakesMsr result f l after =
     (status : ℕ) × (l ≡ Read offsets.MSR status ∷ []) × (result ≡ bit_or status f.msr) × (after ≡ with_saved f.lsr 0 f)
@@ -39,25 +39,26 @@ ShowsConnection (Err NoRemoteConnectedNoDSR) status = has status MSR.DSR.0 ≡ f
 ShowsConnection (Err NoRemoteConnectedNoCD) status = ⊥
 ShowsConnection (Err RemoteNotClearToSend) status = (has status MSR.DSR.0 ≡ true) × (has status MSR.CTS.0 ≡ false)
 
--- `check_connected`: one read of MSR
+-- `check_connected`: one read of MSR, which shows the result
 abbrev pub Connects : {T : Type 0} → Result T RemoteReadyToReceiveError → Language
 Connects result s l = (status : ℕ) × ShowsConnection result status × (l ≡ Read offsets.MSR status ∷ [])
 
--- the divisor latch is read while DLAB is set, and LCR restored
+-- the divisor latch is read under DLAB, low byte first, and LCR written back
 abbrev pub divisor_accesses : (lcr low high : ℕ) → List Access
 divisor_accesses lcr low high =
     Read offsets.LCR lcr ∷ Write offsets.LCR (bit_or lcr LCR.DLAB.0) ∷ Read offsets.DLL low ∷ Read offsets.DLM high ∷
     Write offsets.LCR lcr ∷ []
 
--- `dll_dlm`
+-- `dll_dlm`: the accesses to the divisor latch, whatever LCR showed
 abbrev pub ReadsDivisor : (low high : ℕ) → Language
 ReadsDivisor low high s l = (lcr : ℕ) × (l ≡ divisor_accesses lcr low high)
 
--- the interrupts are stored in the configuration, and written
+-- the interrupts are stored in the configuration and written to IER
 abbrev pub StoresInterrupts : ℕ → Doing
 StoresInterrupts bits f l after = (l ≡ Write offsets.IER bits ∷ []) × (after ≡ with_interrupts bits f)
 
--- `enable_interrupts`, `disable_interrupts`: IER is read, and its new value is stored and written
+-- `enable_interrupts`, `disable_interrupts`: IER is read; its new value, with these bits added or removed, is stored
+-- and written
 abbrev pub Enables : ℕ → Doing
 Enables bits f l after = (ier : ℕ) × (l ≡ Read offsets.IER ier ∷ Write offsets.IER (bit_or ier bits) ∷ [])
     × (after ≡ with_interrupts (bit_or ier bits) f)
@@ -66,7 +67,7 @@ abbrev pub Disables : ℕ → Doing
 Disables bits f l after = (ier : ℕ) × (l ≡ Read offsets.IER ier ∷ Write offsets.IER (without 8 ier bits) ∷ [])
     × (after ≡ with_interrupts (without 8 ier bits) f)
 
--- the seven registers after the divisor latch, in this order
+-- the seven registers after the divisor latch: IER, ISR, LCR, MCR, LSR, MSR, SPR
 abbrev pub dump_reads : (lsr msr : ℕ) → ConfigRegisterDump → List Access
 dump_reads lsr msr dump =
     Read offsets.IER dump.ier.0 ∷ Read offsets.ISR dump.isr.0 ∷ Read offsets.LCR dump.lcr.0 ∷

@@ -13,7 +13,7 @@ use Rattle.uart_spec.specs.Access.{Access, Write}
 use Rattle.uart_16550.specs.Grammar.{Language, Settings, Only, Then, InOrder, FewMisses, AllMisses, Asks, IfChecks}
 use Rattle.uart_16550.specs.Grammar.{Never}
 
--- the modem lines allow sending, or do not: in loopback they do not matter
+-- whether the modem lines allow sending: they do if MCR shows loopback, in which they mean nothing, or if MSR shows CTS
 abbrev pub LinesAllow : Bool → Language
 LinesAllow allowed s l =
     ((allowed ≡ true) × Asks offsets.MCR MCR.LOOP_BACK.0 true s l)
@@ -33,7 +33,7 @@ SendRefused RemoteNotClearToSend = IfChecks (Then (Asks offsets.LSR LSR.THR_EMPT
 abbrev pub SendMiss : Language
 SendMiss s l = (e : ByteSendError) × SendRefused e s l
 
--- `ready_to_send`
+-- `ready_to_send`: a send check, with the result
 abbrev pub ReadyToSend : {T : Type 0} → Result T ByteSendError → Language
 ReadyToSend (Ok x) = SendHit
 ReadyToSend (Err e) = SendRefused e

@@ -13,6 +13,7 @@ use Rattle.uart_16550.specs.Loopback.{TestsLoopback}
 use Rattle.uart_16550.specs.declared.driver.Uart16550.{Uart16550}
 use Rattle.uart_16550.specs.declared.tty.Uart16550Tty.{Uart16550Tty}
 
+-- the driver under a terminal
 abbrev pub inner_of : {B : Type 0} → Uart16550Tty B → Uart16550 B
 inner_of terminal = terminal.inner
 

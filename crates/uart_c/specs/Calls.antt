@@ -71,14 +71,14 @@ IsCall c (call.Write bytes) = (c.kind ≡ code.UART_WRITE) × IsGiven c bytes.it
 IsCall c call.Next = ⊥
 IsCall c (call.Text text) = ⊥
 
--- the data of C that ask for an access
+-- the one struct of C that asks for an access: a flag of 0 or 1, and the value 0 for a read
 abbrev pub asked : Request → UartAccess
 asked (request.Read offset) = record { offset = offset; is_write = 0; value = 0 }
 asked (request.Write offset value) = record { offset = offset; is_write = 1; value = value }
 
 -- ---- answers: one value for each, with 0 in each place that does not count
 
--- nothing but a kind
+-- an answer with nothing but its kind; with two values; with a count
 abbrev pub of_kind : (kind : ℕ) → UartAnswer
 of_kind kind = record { count = 0; kind = kind; value = 0; second = 0; bytes = replicate CALL_BYTES 0 }
 
@@ -98,7 +98,7 @@ abbrev pub registers_of : ConfigRegisterDump → List ℕ
 registers_of d =
     d.ier.0 ∷ d.isr.0 ∷ d.lcr.0 ∷ d.mcr.0 ∷ d.lsr.0 ∷ d.msr.0 ∷ d.spr ∷ d.dll ∷ d.dlm ∷ []
 
--- the number of each error
+-- the number of each reason for a refusal in the header
 abbrev pub init_code : InitError → ℕ
 init_code init_error.DeviceNotPresent = code.UART_INIT_DEVICE_NOT_PRESENT
 init_code (init_error.InvalidBaudRate error) = code.UART_INIT_INVALID_BAUD_RATE
@@ -123,7 +123,7 @@ loopback_refused (loopback_error.UnexpectedLoopbackMsg expected actual) =
     record (of_bytes code.UART_ANSWER_LOOPBACK_REFUSED actual) { value = code.UART_LOOPBACK_UNEXPECTED_MSG }
 loopback_refused loopback_error.Stalled = of_value code.UART_ANSWER_LOOPBACK_REFUSED code.UART_LOOPBACK_STALLED 0
 
--- the data of C of an answer
+-- the one struct of C that is written for an answer, with 0 in each place that does not count
 abbrev pub shown : Answer → UartAnswer
 shown answer.Done = of_kind code.UART_ANSWER_DONE
 shown (answer.Flag on) = of_value code.UART_ANSWER_FLAG (flag on 1) 0

@@ -51,7 +51,7 @@ config_of c =
       check_cts_before_sending = is_on c.check_cts_before_sending;
     }
 
--- whatever bytes they are
+-- the driver's fields that a struct of C is, whatever bytes it holds; a spin limit of 0 counts as 1
 abbrev pub fields_of : UartDriver → Fields
 fields_of d =
     record {
@@ -62,12 +62,13 @@ fields_of d =
       limit = max d.spin_limit 1;
     }
 
--- the same fields, with the baud rate as its number
+-- the driver's fields, with the baud rate as its number
 abbrev pub numbered : Fields → Fields
 numbered f = record f { config = record f.config { baud_rate = Custom (to_integer f.config.baud_rate) } }
 
 -- ---- the data of C that a driver is: one value for each
 
+-- the number that is written for a trigger level, 0 for none; for a word length; for a parity
 abbrev pub number_of_level : Option FifoTriggerLevel → ℕ
 number_of_level None = 0
 number_of_level (Some level) = characters_of level
@@ -85,7 +86,8 @@ number_of_parity Even = UART_PARITY_EVEN
 number_of_parity Forced1 = UART_PARITY_FORCED_1
 number_of_parity Forced0 = UART_PARITY_FORCED_0
 
--- a flag is 0 or 1, and a factor that does not count is 0
+-- the one struct of C that is written for a configuration, and for a driver: a flag is 0 or 1, and a factor that does
+-- not count is 0
 abbrev pub data_of_config : Config → UartConfig
 data_of_config c =
     record {

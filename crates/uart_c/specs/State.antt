@@ -22,6 +22,7 @@ abbrev pub place_of : UartTransmitter → Option Shifting
 place_of t =
     if is_on t.is_shifting then Some (record { byte = t.shift_byte; ticks_left = t.ticks_left }) else None
 
+-- the transmitter that these data are
 abbrev pub transmitter_of : UartTransmitter → TransmitterState
 transmitter_of t =
     record {
@@ -39,7 +40,7 @@ abbrev pub trigger_of : (characters : ℕ) → FifoTriggerLevel
 trigger_of characters =
     if characters == 1 then One else if characters == 4 then Four else if characters == 8 then Eight else Fourteen
 
--- without a schedule: no arrivals and no marks, as after power-on
+-- the receiver, without a schedule: no arrivals and no marks, as after power-on; the modem lines; the latches
 abbrev pub receiver_of : UartReceiver → ReceiverState
 receiver_of r =
     record (fresh 0 0) {
@@ -62,7 +63,7 @@ latches_of l = record { ier = l.ier; lcr = l.lcr; mcr = l.mcr; scr = l.scr; dll 
 abbrev pub model_of : ℕ → Chip
 model_of model = if is_on model then Uart16550A else Uart16450
 
--- whatever bytes they are
+-- the chip that a struct of C is, whatever bytes it holds
 abbrev pub chip_of : UartChip → ChipState
 chip_of c =
     record {

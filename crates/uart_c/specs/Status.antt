@@ -4,7 +4,7 @@ use Rattle.uart_c.specs.declared.queue.TheConstants.{WIRE_ROOM}
 use Rattle.uart_c.specs.declared.codes.TheConstants.{UART_OK, UART_BAD_TICKS, UART_BAD_WIRE}
 use Rattle.uart_chip.specs.declared.event.TheConstants.{MAX_CHAR_TICKS}
 
--- whether a chip is made: the first reason against it
+-- whether a chip is made: the first reason against it, or `UART_OK`
 abbrev pub new_status : (char_ticks wire_capacity : ℕ) → ℕ
 new_status char_ticks wire_capacity =
     if not (nat_le 1 char_ticks && nat_le char_ticks MAX_CHAR_TICKS) then UART_BAD_TICKS

@@ -12,7 +12,8 @@ use Rattle.uart_calls.specs.declared.call.Call.{Call}
 use Rattle.uart_traces.specs.Lists.{Begins, BeginsAndAsks, Makes}
 use Rattle.uart_traces.specs.declared.checking.Returned.{Returned}
 
--- the accesses are a list of the call, with this answer and this driver after it
+-- the accesses that were made are a list of the call, the answer's struct is the one for its answer, and the driver's
+-- the one for the fields after it
 pub record IsDone (c : UartCall) (before : UartDriver) (made : List UartAccess) (answer : UartAnswer)
     (after : UartDriver) : Type 0 where
   pub call : Call
@@ -24,7 +25,8 @@ pub record IsDone (c : UartCall) (before : UartDriver) (made : List UartAccess) 
   pub keeps : fields_of after ≡ numbered (driver_state.fields_of returned.state)
   pub written : after ≡ data_of (driver_state.fields_of returned.state)
 
--- some list of the call begins with the accesses and goes on with the one that is asked for
+-- some list of the call begins with the accesses that were made, and goes on with one that comes of the request, whose
+-- struct is the one for it
 pub record IsAsked (c : UartCall) (before : UartDriver) (made : List UartAccess) (access : UartAccess) : Type 0 where
   pub call : Call
   pub is : IsCall c call
@@ -32,7 +34,7 @@ pub record IsAsked (c : UartCall) (before : UartDriver) (made : List UartAccess)
   pub asks : BeginsAndAsks call (fields_of before) (map access_of made) (request_of access)
   pub written : access ≡ asked (request_of access)
 
--- no list of the call begins with the accesses
+-- no list of the call begins with the accesses that were made
 pub record IsStrayed (c : UartCall) (before : UartDriver) (made : List UartAccess) : Type 0 where
   pub call : Call
   pub is : IsCall c call

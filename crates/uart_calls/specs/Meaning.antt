@@ -30,6 +30,7 @@ use Rattle.uart_calls.specs.declared.call.TheConstants.{CALL_BYTES}
 
 -- ---- the answer for an outcome
 
+-- the answer that an outcome is returned as, one function for each kind of outcome
 abbrev pub bytes_answer : List ℕ → Answer
 bytes_answer bytes = Bytes (record { items = bytes })
 
@@ -86,7 +87,7 @@ latch_answer (low, high) = Latch low high
 abbrev pub MakesNoAccess : Doing
 MakesNoAccess f l after = (l ≡ []) × (after ≡ f)
 
--- the same, and the result is whether the driver takes the FIFO to be on
+-- the call makes no access and changes nothing, and the result is whether the driver takes the FIFO to be on
 abbrev pub ShowsFifo : Bool → Doing
 ShowsFifo on f l after = (on ≡ f.fifo) × MakesNoAccess f l after
 
@@ -104,6 +105,7 @@ SendsShortText text result s l = (length text ≤ CALL_BYTES) × SendsText text 
 pub data Meaning : Type 1 where
   means : {Outcome : Type 0} → (Outcome → Doing) → (Outcome → Answer) → Meaning
 
+-- the type of a row's outcomes, and what the driver did
 abbrev pub outcome_of : Meaning → Type 0
 outcome_of (means {Outcome = Outcome} doing answer) = Outcome
 
@@ -161,7 +163,7 @@ pub record CalledAs {B R : Type 0} (step : B → Access → B → Type 0) (doing
   pub answered : answer ≡ answer_of outcome
   pub did : Did step (doing outcome) d e
 
--- this for a call with this meaning
+-- the call had some outcome, the driver did what belongs to that outcome, and the answer is the one for it
 abbrev pub Called : {B : Type 0} → (B → Access → B → Type 0) → Meaning → Answer → Uart16550 B → Uart16550 B → Type 0
 Called step (means doing answer_of) answer d e = CalledAs step doing answer_of answer d e
 

@@ -25,18 +25,18 @@ abbrev pub has_bad_lines : Event → Bool
 has_bad_lines (Lines inputs) = is_outside inputs MSR.LINES.0
 has_bad_lines _ = false
 
--- the event has no such bit
+-- an arrival has only errors of a character, and a change of the lines only lines
 abbrev pub IsLegal : Event → Type 0
 IsLegal (Arrive byte errors) = IsWithin errors LSR.CHARACTER_ERRORS.0
 IsLegal (Lines inputs) = IsWithin inputs MSR.LINES.0
 IsLegal _ = Unit {0}
 
--- an arrival
+-- the event is an arrival
 abbrev pub is_arrival : Event → Bool
 is_arrival (Arrive byte errors) = true
 is_arrival _ = false
 
--- why no machine is built, however much memory there is: the first reason in this order
+-- why no machine is built, however much memory there is: the first reason in the order ticks, wire, errors, lines
 abbrev pub refusal : ℕ → ℕ → List Event → Option BuildError
 refusal char_ticks capacity events =
     let errors = option_map BadErrors (position has_bad_errors events) in

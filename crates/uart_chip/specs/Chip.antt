@@ -42,8 +42,8 @@ pub record LatchesState : Type 0 where
   pub dll : ℕ
   pub dlm : ℕ
 
--- `model` determines whether there are FIFOs; `fifo` is whether they are on, and `cuts` whether characters are cut to
--- the word length
+-- the model, which says whether there is a FIFO at all, the latches, whether the FIFO is on, transmitter, receiver,
+-- modem lines, and whether characters are cut to the word length
 pub record ChipState : Type 0 where
   pub model : Chip
   pub latches : LatchesState
@@ -70,24 +70,24 @@ fresh model char_ticks capacity arrivals =
 abbrev pub is_dlab_set : LatchesState → Bool
 is_dlab_set l = has_any l.lcr LCR.DLAB.0
 
--- what the transmitter sends returns to the receiver
+-- whether what leaves the transmitter comes back to the receiver
 abbrev pub is_loopback : LatchesState → Bool
 is_loopback l = has_any l.mcr MCR.LOOP_BACK.0
 
--- the divisor latch
+-- what the divisor latch holds
 abbrev pub divisor : LatchesState → ℕ
 divisor l = 256 * l.dlm + l.dll
 
--- the word length: 5 to 8 data bits
+-- the data bits of a character, 5 to 8, by the two lowest bits of LCR
 abbrev pub word_length : (lcr : ℕ) → ℕ
 word_length lcr = 5 + bit_and lcr LCR.WORD_LENGTH.0
 
--- a byte as a character of this word length, if characters are cut
+-- a byte cut to this many data bits: with w bits it is the byte modulo 2^w; without the option it is the byte itself
 abbrev pub cut_to : (cuts : Bool) → (length byte : ℕ) → ℕ
 cut_to false length byte = byte
 cut_to true length byte = byte % 2 ^ length
 
--- a byte as the chip sends and receives it now
+-- a byte as the chip sends and receives it now: cut to its word length, if the chip has the option
 abbrev pub cut_of : ChipState → ℕ → ℕ
 cut_of c byte = cut_to c.cuts (word_length c.latches.lcr) byte
 
@@ -106,22 +106,22 @@ abbrev pub ticks : ℕ → ChipState → ChipState
 ticks zero c = c
 ticks (suc n) c = tick (ticks n c)
 
--- a character arrives
+-- a character arrives, cut to the word length
 abbrev pub arrive : ℕ → ℕ → ChipState → ChipState
 arrive byte errors c =
     record c { receiver = receiver.arrive (is_loopback c.latches) c.fifo (cut_of c byte) errors c.receiver }
 
--- a character is received without a schedule
+-- a character arrives without a schedule, cut to the word length
 abbrev pub bring : ℕ → ℕ → ChipState → ChipState
 bring byte errors c =
     record c { receiver = receiver.bring (is_loopback c.latches) c.fifo (cut_of c byte) errors c.receiver }
 
--- how many characters can be received before one is lost: none in loopback
+-- how many characters can arrive before one is lost; in loopback each one is lost
 abbrev pub receive_room : ChipState → ℕ
 receive_room c =
     if is_loopback c.latches then 0 else transmitter.room c.fifo - length c.receiver.queue
 
--- bytes are removed from the front of the wire
+-- a number of bytes are taken from the front of the wire
 abbrev pub take_wire : ℕ → ChipState → ChipState
 take_wire count c = record c { transmitter = transmitter.take_wire count c.transmitter }
 
@@ -246,7 +246,7 @@ set_fifo value c =
     let d = if is_same c.fifo on then c else switch on c in
     if on then set_trigger (trigger_level value) (reset_transmitter value (reset_receiver value d)) else d
 
--- a write of the FIFO control register
+-- a write of FCR; on a 16450 it does nothing
 abbrev pub control : Chip → ℕ → ChipState → ChipState
 control Uart16450 value c = c
 control Uart16550A value c = set_fifo value c
@@ -271,14 +271,14 @@ enable value c =
 abbrev pub control_modem : ℕ → ChipState → ChipState
 control_modem mcr c = record c { latches = record c.latches { mcr = mcr }; modem = renew mcr c.modem }
 
--- a write of the data register
+-- a write of DATA: a byte for the transmitter, or the low byte of the divisor
 abbrev pub write_data : ℕ → ChipState → ChipState
 write_data value c =
     if is_dlab_set c.latches
     then with_latches (record c.latches { dll = value }) c
     else record c { transmitter = load c.fifo (cut_of c value) c.transmitter }
 
--- the chip after a write of the register
+-- the chip after a write of a register; a byte for the transmitter is cut to the word length before it is queued
 abbrev pub after_write : ℕ → ℕ → ChipState → ChipState
 after_write offset value c =
     if offset == offsets.DATA then write_data value c

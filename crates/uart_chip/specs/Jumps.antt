@@ -1,4 +1,6 @@
--- Ticks in turns: when a character moves next, what happens until then, and how many turns there are at most.
+-- Ticks in turns: when a character moves next, what happens until then, and how many turns there are at most. No
+-- theorem rests on these definitions but that of `idle`, whose contract gives the effect of the ticks by those of
+-- `Chip`.
 use Rattle.std.specs.Prelude.{ℕ, ◌+◌, ◌-◌, ◌==◌, min, max, zero, suc, Bool, false, List, [], ◌∷◌, length}
 use Rattle.std.specs.Prelude.{Option, Some, None, nat_lt}
 use Rattle.std.specs.Prelude.{if◌then◌else◌}
@@ -20,7 +22,7 @@ next_move loopback t =
 
 -- ---- n ticks in which no character moves
 
--- the ticks left for a character that stays: it stops at its last tick
+-- the ticks left for a character that stays in the shift register, after n ticks; the shift register with it
 abbrev pub left_after : (n left : ℕ) → ℕ
 left_after n left = if nat_lt n left then left - n else min left 1
 
@@ -28,24 +30,26 @@ abbrev pub place_after : ℕ → Option Shifting → Option Shifting
 place_after n None = None
 place_after n (Some s) = Some (record { byte = s.byte; ticks_left = left_after n s.ticks_left })
 
--- the transmitter after them
+-- the transmitter after n ticks in which no character moves
 abbrev pub count_down : ℕ → TransmitterState → TransmitterState
 count_down n t = record t { shift_place = place_after n t.shift_place }
 
+-- the ticks towards a reception timeout after n ticks without a character
 abbrev pub timeout_after : (n ticks limit : ℕ) → ℕ
 timeout_after zero ticks limit = ticks
 timeout_after (suc n) ticks limit = min (ticks + suc n) limit
 
--- the receiver after them
+-- the receiver after n ticks in which no character arrives or is taken
 abbrev pub count_up : ℕ → ReceiverState → ReceiverState
 count_up n r = record r { timeout_ticks = timeout_after n r.timeout_ticks r.timeout_limit }
 
--- the chip after them
+-- the chip after n ticks in which no character moves
 abbrev pub skip : ℕ → ChipState → ChipState
 skip n c = record c { transmitter = count_down n c.transmitter; receiver = count_up n c.receiver }
 
 -- ---- turns
 
+-- whether a number of ticks is one
 abbrev pub is_one : Option ℕ → Bool
 is_one None = false
 is_one (Some k) = k == 1

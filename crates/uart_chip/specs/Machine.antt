@@ -18,7 +18,7 @@ arrivals [] = 0
 arrivals (Arrive byte errors ∷ events) = 1 + arrivals events
 arrivals (_ ∷ events) = arrivals events
 
--- a machine after power-on, with its whole schedule ahead
+-- a machine after power-on, with its whole schedule ahead, that does not cut characters
 abbrev pub fresh : Chip → ℕ → ℕ → List Event → MachineState
 fresh model char_ticks capacity events =
     record { chip = chip.fresh model char_ticks capacity (arrivals events); ahead = events }
@@ -49,7 +49,7 @@ after_access (Gate ∷ events) = events
 after_access (Mark ∷ events) = Mark ∷ events
 after_access (_ ∷ events) = after_access events
 
--- the machine at an access
+-- the machine as an access finds it
 abbrev pub at_access : MachineState → MachineState
 at_access m = record { chip = before_access m.ahead m.chip; ahead = after_access m.ahead }
 

@@ -1,4 +1,5 @@
--- Masks of registers: that a value is within one, and what the chip keeps of a write.
+-- Masks of registers: that a value is within one, and what the chip keeps of a write. Offsets and bits are the
+-- constants of `uart_spec`.
 use Rattle.std.specs.Prelude.{◌≡◌, ℕ, ◌+◌, bit_and}
 use Rattle.uart_spec.specs.declared.registers.interrupt_enable.TheConstants.IER
 use Rattle.uart_spec.specs.declared.registers.modem_control.TheConstants.MCR
@@ -7,10 +8,10 @@ use Rattle.uart_spec.specs.declared.registers.modem_control.TheConstants.MCR
 abbrev pub IsWithin : ℕ → ℕ → Type 0
 IsWithin value mask = bit_and value mask ≡ value
 
--- what IER keeps
+-- what IER keeps: the four interrupts that the chip has
 abbrev pub ier_bits : ℕ
 ier_bits = IER.DATA_READY.0 + IER.THR_EMPTY.0 + IER.RECEIVER_LINE_STATUS.0 + IER.MODEM_STATUS.0
 
--- what MCR keeps
+-- what MCR keeps: the four outputs and loopback
 abbrev pub mcr_bits : ℕ
 mcr_bits = MCR.DTR.0 + MCR.RTS.0 + MCR.OUT_1.0 + MCR.OUT_2_INT_ENABLE.0 + MCR.LOOP_BACK.0

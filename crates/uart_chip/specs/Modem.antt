@@ -4,7 +4,7 @@ use Rattle.uart_spec.specs.Bits.{has_any, flag}
 use Rattle.uart_spec.specs.declared.registers.modem_control.TheConstants.MCR
 use Rattle.uart_spec.specs.declared.registers.modem_status.TheConstants.MSR
 
--- the modem's inputs, the lines that MSR shows, and their changes since its last read
+-- the inputs of the modem, the lines that MSR shows, and their changes since MSR was last read
 pub record ModemState : Type 0 where
   pub inputs : ℕ
   pub lines : ℕ
@@ -14,7 +14,7 @@ pub record ModemState : Type 0 where
 abbrev pub fresh : ModemState
 fresh = record { inputs = 0; lines = 0; deltas = 0 }
 
--- in loopback the outputs replace the inputs
+-- in loopback the outputs replace the inputs: CTS from RTS, DSR from DTR, RI from OUT1, CD from OUT2
 abbrev pub looped_lines : ℕ → ℕ
 looped_lines mcr =
     let cts = flag (has_any mcr MCR.RTS.0) MSR.CTS.0 in
@@ -40,7 +40,7 @@ changes old new =
     let cd = flag (is_changed old new MSR.CD.0) MSR.DELTA_CD.0 in
     bit_or (bit_or cts dsr) (bit_or ri cd)
 
--- the lines are computed anew under this value of MCR
+-- the lines are computed anew under this modem control register, and their changes are noted
 abbrev pub renew : ℕ → ModemState → ModemState
 renew mcr m =
     record m { lines = lines_under mcr m.inputs; deltas = bit_or m.deltas (changes m.lines (lines_under mcr m.inputs)) }

@@ -14,7 +14,9 @@ use Rattle.uart_spec.specs.declared.registers.fifo_trigger_level.FifoTriggerLeve
 use Rattle.uart_spec.specs.declared.registers.fifo_trigger_level.FifoTriggerLevel.TheVariants.{Fourteen}
 use Rattle.uart_spec.specs.declared.registers.line_status.TheConstants.LSR
 
--- `marks` has one mark for each arrival of the schedule, and `arrived` is the number of those that have arrived
+-- the queue of characters, overrun, whether the errors of the front were reported, the last byte taken, the ticks
+-- towards a reception timeout and their limit, the trigger, how many of the schedule have arrived, the mark of each of
+-- these, and whether an unscheduled character was lost since the last one came
 pub record ReceiverState : Type 0 where
   pub queue : List Character
   pub is_overrun : Bool
@@ -53,7 +55,7 @@ set_mark (Arrived number) mark marks = slice_set marks number mark
 set_mark Looped mark marks = marks
 set_mark Live mark marks = marks
 
--- the character is stray: not an arrival of the schedule
+-- the character is unscheduled: it came back in loopback, or arrived without a schedule
 abbrev pub is_stray : Origin → Bool
 is_stray (Arrived number) = false
 is_stray Looped = true
@@ -92,12 +94,12 @@ come_in fifo new r =
     }
     else replace r.queue new r
 
--- the byte that loopback returned in this tick, if any, is received
+-- the byte that came back in this tick, if there is one, arrives
 abbrev pub come_back : Bool → Option ℕ → ReceiverState → ReceiverState
 come_back fifo None r = r
 come_back fifo (Some byte) r = come_in fifo (record { byte = byte; errors = 0; origin = Looped }) r
 
--- one more tick without a character
+-- one more tick without a character, up to the limit
 abbrev pub grow_timeout : ReceiverState → ReceiverState
 grow_timeout r = record r { timeout_ticks = min (r.timeout_ticks + 1) r.timeout_limit }
 
@@ -105,7 +107,7 @@ grow_timeout r = record r { timeout_ticks = min (r.timeout_ticks + 1) r.timeout_
 abbrev pub tick : Bool → Option ℕ → ReceiverState → ReceiverState
 tick fifo looped r = grow_timeout (come_back fifo looped r)
 
--- the next arrival of the schedule: in loopback it is discarded, else received
+-- the next arrival of the schedule: in loopback it is discarded, otherwise it arrives
 abbrev pub arrive : Bool → Bool → ℕ → ℕ → ReceiverState → ReceiverState
 arrive loopback fifo byte errors r =
     let new : Character = record { byte = byte; errors = errors; origin = Arrived r.arrived } in
@@ -143,7 +145,7 @@ unreported queue reported = if reported then drop 1 queue else queue
 abbrev pub has_errors : Character → Bool
 has_errors character = has_any character.errors LSR.CHARACTER_ERRORS.0
 
--- LSR was read
+-- the line status was read: overrun is cleared, and the front counts as reported
 abbrev pub report : ReceiverState → ReceiverState
 report r = record r {
   is_overrun = false;

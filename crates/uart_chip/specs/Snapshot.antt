@@ -9,7 +9,7 @@ use Rattle.uart_chip.specs.Data.{transmitter_of, receiver_of, without_schedule, 
 abbrev pub latches_of : Latches → LatchesState
 latches_of l = record { ier = l.ier.0; lcr = l.lcr.0; mcr = l.mcr.0; scr = l.scr; dll = l.dll; dlm = l.dlm }
 
--- the chip with these data, and with these bytes on its wire
+-- the chip that these data describe, with these bytes on its wire and without a schedule
 abbrev pub chip_of : ChipData → List ℕ → ChipState
 chip_of c wire =
     record {

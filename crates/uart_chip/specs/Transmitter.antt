@@ -3,7 +3,8 @@ use Rattle.std.specs.Prelude.{ℕ, ◌+◌, ◌-◌, ◌^◌, min, Bool, true, f
 use Rattle.std.specs.Prelude.{drop, nat_lt, if◌then◌else◌}
 use Rattle.uart_chip.specs.declared.transmitter.Shifting.{Shifting}
 
--- a write of DATA fills the queue; a character takes `char_ticks` in the shift register
+-- the queue that data writes fill, the shift register, from which a character is shifted out, the wire and its
+-- capacity, the ticks of a character, how many bytes met a full queue, and whether a THR-empty interrupt is pending
 pub record TransmitterState : Type 0 where
   pub queue : List ℕ
   pub shift_place : Option Shifting
@@ -26,7 +27,8 @@ fresh char_ticks capacity =
       is_thr_pending = false;
     }
 
--- the tick of the shift register: a character that is done returns in loopback, else goes to the wire if it has room
+-- one tick of the shift register: a character that is done comes back if in loopback, otherwise goes onto the wire if
+-- there is room, and otherwise stays
 abbrev pub shift : Bool → Option Shifting → TransmitterState → TransmitterState
 shift loopback None t = t
 shift loopback (Some s) t =
@@ -51,15 +53,16 @@ refill None (x ∷ []) t =
 refill None (x ∷ y ∷ xs) t =
     record t { queue = y ∷ xs; shift_place = Some (record { byte = x; ticks_left = t.char_ticks }) }
 
--- one tick
+-- one tick: shift, then refill
 abbrev pub tick : Bool → TransmitterState → TransmitterState
 tick loopback t = let u = shift loopback t.shift_place t in refill u.shift_place u.queue u
 
--- the number of characters that a queue has room for
+-- how many characters a queue has room for: 16 with the FIFO, one without it
 abbrev pub room : Bool → ℕ
 room fifo = if fifo then 16 else 1
 
--- a byte is written to DATA: a full FIFO loses it, and without FIFO it replaces the one in THR
+-- a byte is written to DATA: if there is room, it is put last; otherwise a full FIFO loses it, and without the FIFO it
+-- replaces the one that waits
 abbrev pub load : Bool → ℕ → TransmitterState → TransmitterState
 load fifo byte t =
     if nat_lt (length t.queue) (room fifo)
@@ -74,7 +77,7 @@ load fifo byte t =
 abbrev pub take_wire : ℕ → TransmitterState → TransmitterState
 take_wire count t = record t { wire = drop count t.wire }
 
--- the byte in the shift register
+-- the byte in the shift register, if there is one
 abbrev pub shift_bytes : Option Shifting → List ℕ
 shift_bytes None = []
 shift_bytes (Some s) = s.byte ∷ []

@@ -32,7 +32,7 @@ origin_stands marks stray (Arrived number) = not (is_dropped (mark_at marks numb
 origin_stands marks stray Looped = not stray
 origin_stands marks stray Live = not stray
 
--- the character was not dropped, according to the receiver
+-- whether the receiver's marks say that the character was not dropped
 abbrev pub stands : ReceiverState → Character → Bool
 stands r character = origin_stands r.marks r.is_stray_lost character.origin
 

@@ -23,7 +23,8 @@ use Rattle.uart_chip.specs.Build.{IsLegal}
 
 -- ---- the receiver
 
--- a character of this origin may be in the queue: an arrival has this mark, and of stray ones none was lost since
+-- a character of this origin may be in the queue: an arrival if it has come and is marked Waiting, a stray one if none
+-- was lost since the last one came
 abbrev pub IsInQueue : ℕ → List ArrivalMark → Bool → Origin → Type 0
 IsInQueue arrived marks stray (Arrived number) = (number < arrived) × (mark_at marks number ≡ Waiting)
 IsInQueue arrived marks stray Looped = stray ≡ false
@@ -55,7 +56,7 @@ abbrev pub Distinct : List Character → Type 0
 Distinct [] = Unit {0}
 Distinct (character ∷ characters) = NoneHas character.origin characters × Distinct characters
 
--- each has only errors of a character
+-- each has no error bits but those of a character
 abbrev pub AllErrorsLegal : List Character → Type 0
 AllErrorsLegal characters =
     AllByRecursion (λ (character : Character). IsWithin character.errors LSR.CHARACTER_ERRORS.0) characters
@@ -84,7 +85,7 @@ abbrev pub IsTicking : ℕ → Option Shifting → Type 0
 IsTicking char_ticks None = Unit {0}
 IsTicking char_ticks (Some s) = (1 ≤ s.ticks_left) × (s.ticks_left ≤ char_ticks)
 
--- the queue and the wire have no more than they have room for
+-- queue and wire hold no more than they have room for; a character takes 1 to 1000 ticks
 pub record IsSoundTransmitter (fifo : Bool) (t : TransmitterState) : Type 0 where
   pub in_room : length t.queue ≤ room fifo
   pub ticking : IsTicking t.char_ticks t.shift_place
@@ -98,7 +99,7 @@ pub record IsSoundModem (m : ModemState) : Type 0 where
   pub lines : IsWithin m.lines MSR.LINES.0
   pub deltas : IsWithin m.deltas MSR.CHANGES.0
 
--- two latches that keep only some bits
+-- IER and MCR hold only bits that they keep
 pub record IsSoundLatches (l : LatchesState) : Type 0 where
   pub ier : IsWithin l.ier ier_bits
   pub mcr : IsWithin l.mcr mcr_bits

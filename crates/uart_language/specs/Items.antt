@@ -68,7 +68,8 @@ item_of word.Access ws = Ok (Happens event.Access)
 item_of word.Next ws = Ok Marks
 item_of word ws = read_as (call_of word ws) Calls
 
--- the first word, if it is at a place where it may be, and the line has a number of words that it may have
+-- the first word, if it is in its place and as many words follow as it takes; the same for a line, whose bytes are
+-- checked first
 abbrev pub placed_word : ℕ → List (List ℕ) → Option Word → Result Word Cause
 placed_word number ws None = if is_placed number None then Err UnknownWord else Err Misplaced
 placed_word number ws (Some word) =

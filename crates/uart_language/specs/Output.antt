@@ -22,7 +22,7 @@ use Rattle.uart_language.specs.declared.cause.Cause.{Cause}
 use Rattle.uart_language.specs.declared.cause.Cause.TheVariants.{BadByte, Misplaced, UnknownWord, WrongCount, BadWord}
 use Rattle.uart_language.specs.declared.cause.Cause.TheVariants.{BadNumber, BadHex, TooManyBytes, BadText, TooLong}
 
--- what is wrong with a line
+-- what is wrong with a line, as it is printed
 abbrev pub cause_text : Cause → List ℕ
 cause_text BadByte = codes "bad byte"
 cause_text Misplaced = codes "misplaced"
@@ -45,6 +45,7 @@ hex bytes = if length bytes == 0 then codes "-" else flat_map hex_byte bytes
 
 -- ---- answers
 
+-- refusals as they are printed
 abbrev pub send_error_name : ByteSendError → List ℕ
 send_error_name send.NoCapacity = codes "NoCapacity"
 send_error_name send.RemoteNotClearToSend = codes "RemoteNotClearToSend"
@@ -67,7 +68,7 @@ loopback_error_text (loopback.UnexpectedLoopbackByte expected actual) =
 loopback_error_text (loopback.UnexpectedLoopbackMsg expected actual) = codes "UnexpectedLoopbackMsg " ++ hex actual
 loopback_error_text loopback.Stalled = codes "Stalled"
 
--- registers by their names, and the divisor of the two latches
+-- the two halves of a dump's line: registers by their names, and the divisor of the two latches
 abbrev pub setup_text : ConfigRegisterDump → List ℕ
 setup_text d =
     codes " ier " ++ hex_byte d.ier.0 ++ codes " isr " ++ hex_byte d.isr.0 ++ codes " lcr " ++ hex_byte d.lcr.0
@@ -78,6 +79,7 @@ status_text d =
     codes " lsr " ++ hex_byte d.lsr.0 ++ codes " msr " ++ hex_byte d.msr.0 ++ codes " spr " ++ hex_byte d.spr
     ++ codes " divisor " ++ decimal (256 * d.dlm + d.dll)
 
+-- an answer as it is printed
 abbrev pub answer_text : Answer → List ℕ
 answer_text answer.Done = codes "ok"
 answer_text (answer.Flag true) = codes "ok true"
@@ -106,6 +108,7 @@ answer_lines answers = flat_map (λ a. line (answer_text a)) answers
 
 -- ---- what is left
 
+-- a mark as a letter
 abbrev pub mark_letter : ArrivalMark → ℕ
 mark_letter mark.Pending = 112
 mark_letter mark.Waiting = 119
@@ -123,6 +126,6 @@ final_lines wire held waiting marks =
     line (codes "wire " ++ hex wire) ++ line (codes "held " ++ hex held) ++ line (codes "waiting " ++ hex waiting)
     ++ line (codes "marks " ++ marks_text marks)
 
--- everything that is printed for a script that was played
+-- everything that is printed for the answers and for what is left
 abbrev pub printed : List Answer → (wire held waiting : List ℕ) → List ArrivalMark → List ℕ
 printed answers wire held waiting marks = answer_lines answers ++ final_lines wire held waiting marks

@@ -1,4 +1,5 @@
--- How a script is read line by line, as the parser reads it.
+-- How a script is read line by line, as the parser reads it. `parse` is proved against `Script`; these definitions, and
+-- those of `Items`, are steps on the way.
 use Rattle.std.specs.Prelude.{◌≡◌, ℕ, ◌+◌, List, [], ◌∷◌, ◌++◌, Result, Ok, Err, nat_lt, if◌then◌else◌, flat_map, IsOk}
 use Rattle.std.specs.Prelude.{length}
 use Rattle.uart_language.specs.declared.cause.Cause.{Cause}
@@ -19,7 +20,7 @@ pub record Fault : Type 0 where
   pub line : ℕ
   pub cause : Cause
 
--- a fault, with the number of its line
+-- a cause reported with its line; a line returned with its number
 abbrev pub on_line : {A : Type 0} → ℕ → Result A Cause → Result A Fault
 on_line number (Ok x) = Ok x
 on_line number (Err c) = Err (record { line = number; cause = c })
@@ -27,6 +28,7 @@ on_line number (Err c) = Err (record { line = number; cause = c })
 abbrev pub numbered : ℕ → List ℕ → Result Saying Fault
 numbered number line = on_line number (if nat_lt MOST_LINES number then Err TooLong else item_at number line)
 
+-- what a line says, before what the lines after it say, or the first fault
 abbrev pub with_saying : Saying → Result (List Saying) Fault → Result (List Saying) Fault
 with_saying said (Ok sayings) = Ok (said ∷ sayings)
 with_saying said (Err e) = Err e
@@ -40,6 +42,7 @@ unfoldable pub sayings_from : ℕ → List (List ℕ) → Result (List Saying) F
 sayings_from number [] = Ok []
 sayings_from number (line ∷ lines) = before (numbered number line) (sayings_from (number + 1) lines)
 
+-- the script of a header and what the other lines say, or the first faulty line and its cause
 abbrev pub plan_by : Header → List Saying → Plan
 plan_by header sayings = record {
   chip = header.chip;
@@ -85,7 +88,7 @@ BuildsPlan (Ok s) read = read ≡ Ok (plan_of s)
 BuildsPlan (Err (errors.Refused line cause)) read = read ≡ Err (record { line = line; cause = cause })
 BuildsPlan (Err errors.OutOfMemory) read = Unit {0}
 
--- the same, and out of memory only for a script
+-- the result is the script, or the first fault; and out of memory only for a script
 abbrev pub Parses : Result Script ScriptError → Result Plan Fault → Type 0
 Parses (Ok s) read = read ≡ Ok (plan_of s)
 Parses (Err (errors.Refused line cause)) read = read ≡ Err (record { line = line; cause = cause })

@@ -18,7 +18,8 @@ use Rattle.uart_language.specs.Words.{name_of}
 use Rattle.uart_language.specs.Fields.{count_in, limit_in, ticks_in, byte_in, lines_in, bytes_in, text_in, errors_in}
 use Rattle.uart_language.specs.Fields.{level_in, rate_in, cts_in, interrupts_in, word_length_in}
 
--- what one line adds to a script; a mark is an event and the call `Next`
+-- what one line adds to a script: nothing, the limit, an event, a call, or a mark, which is an event and the call
+-- `Next`
 pub data Saying : Type 0 where
   Nothing : Saying
   Limit : ℕ → Saying
@@ -26,6 +27,7 @@ pub data Saying : Type 0 where
   Calls : Call → Saying
   Marks : Saying
 
+-- the events, and the calls, in what a line says
 abbrev pub events_said : Saying → List Event
 events_said (Happens e) = e ∷ []
 events_said Marks = event.Mark ∷ []
@@ -36,7 +38,7 @@ calls_said (Calls c) = c ∷ []
 calls_said Marks = call.Next ∷ []
 calls_said other = []
 
--- the configuration of an `init` line: these fields, and the rest as by default
+-- a configuration with the fields of an `init` line, and the rest as in the default one
 abbrev pub configured : Option FifoTriggerLevel → BaudRate → Bool → IER → WordLength → Config
 configured level rate cts interrupts word_length = record DEFAULT {
   interrupts = interrupts;
@@ -46,6 +48,7 @@ configured level rate cts interrupts word_length = record DEFAULT {
   check_cts_before_sending = cts;
 }
 
+-- bytes as a call holds them
 abbrev pub array_of : List ℕ → ArrayVec ℕ
 array_of bytes = record { items = bytes }
 
@@ -81,7 +84,7 @@ bare_call word.Fifo = Some call.FifoEnabled
 bare_call word.Dump = Some call.Dump
 bare_call other = None
 
--- The lines after the first, word by word, with the number of the line.
+-- what the words of a line after the first mean, one case for each kind of line
 pub data Means (number : ℕ) : List (List ℕ) → Saying → Type 0 where
   limit : {N : List ℕ} {n : ℕ} → number ≡ 2 → limit_in N ≡ Ok n → Means number (codes "limit" ∷ N ∷ []) (Limit n)
   tick : {N : List ℕ} {n : ℕ} → ticks_in N ≡ Ok n → Means number (codes "tick" ∷ N ∷ []) (Happens (event.Ticks n))

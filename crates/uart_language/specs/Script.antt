@@ -36,7 +36,7 @@ SayInOrder number [] (said ∷ sayings) = ⊥
 SayInOrder number (line ∷ lines) [] = ⊥
 SayInOrder number (line ∷ lines) (said ∷ sayings) = Says number line said × SayInOrder (number + 1) lines sayings
 
--- a script, whatever its place in memory
+-- a script as a value: chip, ticks, wire capacity, whether characters are cut, limit, events, calls
 pub record Plan : Type 0 where
   pub chip : Chip
   pub ticks : ℕ
@@ -63,7 +63,7 @@ abbrev pub option_words : Bool → List (List ℕ)
 option_words false = []
 option_words true = codes "cut" ∷ []
 
--- chip NAME T W, or chip NAME T W cut
+-- the line is `chip NAME T W`, or `chip NAME T W cut`, with these values
 pub record IsHeader (line : List ℕ) (chip : Chip) (ticks wire_capacity : ℕ) (cuts : Bool) : Type 0 where
   pub NAME : List ℕ
   pub T : List ℕ

@@ -48,6 +48,7 @@ name_of word.SendExact = codes "send-exact"
 name_of word.Write = codes "write"
 name_of word.Text = codes "text"
 
+-- all words of the language
 abbrev pub words : List Word
 words =
     word.Chip ∷ word.Limit ∷ word.Tick ∷ word.Arrive ∷ word.Lines ∷ word.Access ∷ word.Next ∷ word.Init ∷ word.Loopback
@@ -90,7 +91,8 @@ fields_of word.Write = faulty bytes_in ∷ []
 fields_of word.Text = faulty text_in ∷ []
 fields_of other = []
 
--- whether a line with this word may have this number of words, including itself
+-- whether a line with this word may have this many words; the errors of an arrival and the option of a chip may be left
+-- out
 abbrev pub has_count : Word → ℕ → Bool
 has_count word.Chip count = count == 4 || count == 5
 has_count word.Arrive count = count == 2 || count == 3

@@ -10,7 +10,7 @@ use Rattle.uart_spec.specs.Bits.{has_any}
 use Rattle.uart_spec.specs.declared.registers.line_status.TheConstants.LSR
 use Rattle.uart_spec.specs.declared.registers.offsets.TheConstants as offsets
 
--- what is done with a live chip: the guest's accesses, and the calls of its owner that change it
+-- what can be done with a live chip: an access of the guest, ticks, a character, modem lines, bytes taken from the wire
 pub data Act : Type 0 where
   Read : (offset : ℕ) → Act
   Write : (offset value : ℕ) → Act

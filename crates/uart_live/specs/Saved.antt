@@ -41,7 +41,7 @@ is_ticking char_ticks (Some s) = nat_le 1 s.ticks_left && nat_le s.ticks_left ch
 abbrev pub is_char_time : ℕ → Bool
 is_char_time char_ticks = nat_le 1 char_ticks && nat_le char_ticks MAX_CHAR_TICKS
 
--- the queue fits, and so do these bytes on a wire, which may have this size
+-- whether the transmitter, the modem lines and the latches are sound, as a test of their data
 abbrev pub is_sound_transmitter : Bool → TransmitterData → List ℕ → Bool
 is_sound_transmitter fifo t wire =
     is_char_time t.char_ticks && (is_ticking t.char_ticks t.shift_place &&
@@ -60,6 +60,7 @@ abbrev pub is_implemented : Chip → Bool → Bool
 is_implemented Uart16550A fifo = true
 is_implemented Uart16450 fifo = not fifo
 
+-- whether all of these tests succeed; exactly the data of a chip that is `IsLive` pass them
 abbrev pub is_live : ChipData → List ℕ → Bool
 is_live c wire =
     is_sound_latches c.latches && (is_implemented c.model c.fifo && (is_sound_modem c.modem &&

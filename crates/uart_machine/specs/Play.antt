@@ -19,11 +19,12 @@ std_inner s = s.inner
 abbrev pub std_has_failed : {T : Type 0} → Std T → Bool
 std_has_failed s = s.failed
 
--- whether a write failed: an error, or no byte accepted of some
+-- whether a write failed: it returned an error, or accepted no byte of some
 abbrev pub takes_none : {E : Type 0} → Result ℕ E → List ℕ → Bool
 takes_none (Ok n) bytes = n == 0 && nat_lt 0 (length bytes)
 takes_none (Err e) bytes = true
 
+-- the result is this fault
 abbrev pub is_read_fault : {A : Type 0} → Result A PlayError → Bool
 is_read_fault (Ok x) = false
 is_read_fault (Err errors.ReadFault) = true
@@ -34,13 +35,13 @@ is_write_fault (Ok x) = false
 is_write_fault (Err errors.WriteFault) = true
 is_write_fault (Err e) = false
 
--- an error before anything is parsed
+-- an error that comes before anything is parsed
 abbrev pub IsReading : PlayError → Type 0
 IsReading errors.ReadFault = ⊤
 IsReading errors.OutOfMemory = ⊤
 IsReading e = ⊥
 
--- at most n bytes are read
+-- at most this number of bytes is taken from the reader
 abbrev pub ConsumesAtMost : ℕ → Option (List ℕ) → Option (List ℕ) → Type 0
 ConsumesAtMost most old new = (bytes : List ℕ) × Consumes old new bytes × (length bytes ≤ most)
 

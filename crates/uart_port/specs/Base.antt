@@ -17,7 +17,7 @@ without_prefix word = if bytes_eq (take 2 word) (codes "0x") then drop 2 word el
 abbrev pub port_of : ℕ → Option ℕ
 port_of number = if nat_le number last_port then Some number else None
 
--- the port with this number in hexadecimal digits
+-- the port with this number in hexadecimal digits, if there is one
 abbrev pub port_numbered : List ℕ → Option ℕ
 port_numbered digits = option_and_then port_of (number_in HEXADECIMAL digits)
 

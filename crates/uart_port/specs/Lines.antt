@@ -8,10 +8,11 @@ use Rattle.uart_language.specs.Text.{words_of, word_at}
 abbrev pub lines_of : List ℕ → List (List ℕ)
 lines_of text = slice_split (λ byte. byte == 10) text
 
+-- a line has this first word
 abbrev pub begins_with : List ℕ → List ℕ → Bool
 begins_with word line = bytes_eq (word_at 0 (words_of line)) word
 
--- an event of a schedule
+-- a line is an event of a schedule
 abbrev pub is_event : List ℕ → Bool
 is_event line =
     begins_with (codes "tick") line || begins_with (codes "arrive") line || begins_with (codes "lines") line
@@ -25,5 +26,6 @@ is_call line = not (length line == 0) && not (begins_with (codes "limit") line)
 abbrev pub event_line : List ℕ → Option ℕ
 event_line text = option_map (λ before. before + 1) (position is_event (lines_of text))
 
+-- the lines that are calls
 abbrev pub call_lines : List ℕ → List (List ℕ)
 call_lines text = filter is_call (drop 1 (lines_of text))

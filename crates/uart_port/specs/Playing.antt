@@ -37,7 +37,7 @@ Answered step s (call ∷ calls) [] t = ⊥
 Answered {F} step s (call ∷ calls) (answer ∷ answers) t =
     (mid : Terminal F) × Makes step s call answer mid × (fault_in mid ≡ None) × Answered step mid calls answers t
 
--- the calls before one of them had these answers, that one had a fault, and no other was made
+-- these are the answers of the calls before one of them, that one met a fault, and no other call was made
 pub record IsStopped {F : Type 0} (step : F → Attempt → F → Type 0) (s : Terminal F) (calls : List Call)
     (answers : List Answer) (t : Terminal F) : Type 0 where
   pub before : List Call

@@ -27,6 +27,7 @@ file_of ports = ports.file
 abbrev pub fault_of : {F : Type 0} → GuardedPorts F → Option Fault
 fault_of ports = ports.fault
 
+-- which port an access goes to
 abbrev pub port_of : Access → ℕ
 port_of (Read port answer) = port
 port_of (Write port value) = port

@@ -7,7 +7,7 @@ use Rattle.uart_port.specs.declared.end.End.{End}
 use Rattle.uart_port.specs.declared.end.End.TheVariants.{NotAPort, PortTooHigh, Unread, Refused, Event, NoDevice}
 use Rattle.uart_port.specs.declared.end.End.TheVariants.{NoPermission, Fault, Trace, Output, OutOfMemory}
 
--- refused for a script, failed for a port, a file or an output
+-- refused for a script, failed for an argument, a port or a file, and out of memory and no permission for themselves
 abbrev pub status_of : End → Status
 status_of (Refused line cause) = status.Refused
 status_of (Event line) = status.Refused
@@ -21,7 +21,7 @@ status_of (Output cause) = status.Failed
 status_of OutOfMemory = status.OutOfMemory
 status_of (NoPermission cause) = status.NoPermission
 
--- how it ends on a text that is no script
+-- how the program ends on a text that is no script: with the line that is refused, or out of memory
 abbrev pub end_of : ScriptError → End
 end_of (script.Refused line cause) = Refused line cause
 end_of script.OutOfMemory = OutOfMemory

@@ -9,7 +9,7 @@ use Rattle.uart_program.specs.declared.status.Status.TheVariants.{Done, Refused,
 use Rattle.uart_program.specs.declared.failure.Failure.{Failure}
 use Rattle.uart_program.specs.declared.failure.Failure.TheVariants as failure
 
--- the exit status of each end, the same for all programs
+-- the exit status of each end: 0 done, 1 refused, 2 failed, 3 out of memory, 4 no permission
 abbrev pub number_of : Status → ℕ
 number_of Done = 0
 number_of Refused = 1
@@ -28,7 +28,7 @@ failure_end failure.Words = Failed
 failure_end (failure.Output cause) = Failed
 failure_end failure.OutOfMemory = OutOfMemory
 
--- the end if the words do not match
+-- the end if the words do not match: done if they request the help or the version
 abbrev pub unmatched_end : ErrorKind → Status
 unmatched_end kind.DisplayHelp = Done
 unmatched_end kind.DisplayVersion = Done

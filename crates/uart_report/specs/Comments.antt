@@ -12,7 +12,7 @@ uncommented (b ∷ line) = if b == 35 then [] else b ∷ line
 abbrev pub ended : List ℕ → List ℕ
 ended line = uncommented line ++ 10 ∷ []
 
--- the lines of a script between its line feeds, each without its comment
+-- a script with an empty line in place of each comment; its other bytes, and the numbers of its lines, stay
 abbrev pub without_comments : List ℕ → List ℕ
 without_comments script = join_with_byte 10 (map uncommented (slice_split (λ b. b == 10) script))
 

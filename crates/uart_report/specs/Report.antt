@@ -8,11 +8,13 @@ use Rattle.uart_report.specs.declared.reporting.Report.{Report}
 use Rattle.uart_report.specs.declared.request.Task.{Task}
 use Rattle.uart_report.specs.declared.request.Task.TheVariants as task
 
--- this is what a run of the script prints
+-- the bytes are what `uart_script` prints for the script: its calls ran, and their answers and the last state of the
+-- machine were printed
 abbrev pub IsPlayedAs : List ℕ → List ℕ → Type 0
 IsPlayedAs text output = IsPlayed text (λ printed. output ≡ printed)
 
--- the text is a script, and this is reported for it: no error, and its output if it is to be played
+-- the text is a script, no error is reported, and the output is what its run prints if it is to be played, and empty if
+-- it is to be checked
 pub record IsAccepted (wanted : Task) (text : List ℕ) (report : Report) : Type 0 where
   pub script : (plan : Plan) × IsScript text plan
   pub silent : string_bytes report.errors ≡ []

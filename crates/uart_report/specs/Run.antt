@@ -19,20 +19,22 @@ use Rattle.uart_report.specs.Recorder.{Recorded, RecordsStep}
 abbrev pub State : Type 0
 State = Uart16550Tty (Recorded MachineState)
 
+-- the machine of a state, and what was recorded
 abbrev pub recorder_of : State → Recorded MachineState
 recorder_of s = backend_of (inner_of s)
 
--- `Next`: the machine goes on to its mark, and nothing is recorded
+-- the call `Next`: the machine goes on to its mark, nothing is recorded, and the driver stays as it is
 pub record GoesOn (s t : State) : Type 0 where
   pub recorder : recorder_of t ≡ record (recorder_of s) { device = at_mark (recorder_of s).device }
   pub driver : fields (inner_of t) ≡ fields (inner_of s)
 
--- the state after a call: the driver makes any call but `Next`, and each access that it makes is recorded
+-- what a call does: `Next` goes on to its mark; any other is a call of the driver, and each access that it makes is
+-- recorded
 abbrev pub IsMade : State → Call → State → Type 0
 IsMade s call.Next t = GoesOn s t
 IsMade s other t = (answer : Answer) × Performed (RecordsStep MachineStep) s other answer t
 
--- a call, and the number of accesses after it
+-- what a call does, and the number of accesses recorded after it
 abbrev pub CallStep : State → Call → ℕ → State → Type 0
 CallStep s call end t = IsMade s call t × (end ≡ length (recorder_of t).entries)
 

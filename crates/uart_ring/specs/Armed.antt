@@ -28,8 +28,8 @@ due_after_read offset answer due =
     else if offset == offsets.ISR then not (shows_thr_empty answer) && due
     else due
 
--- what is known after an access: a byte that was written to DATA is held, IER keeps what is written to it, and after
--- a write of another register nothing is known
+-- what is known after an access: a byte that was written to DATA is held, IER keeps what is written to it, and after a
+-- write of another register nothing is known; after a list of accesses
 abbrev pub known_after : ThrEmpty → Access → ThrEmpty
 known_after known (Read offset answer) =
     record { enabled = known.enabled; due = due_after_read offset answer known.due }
@@ -67,13 +67,13 @@ abbrev pub Arms : RingDoing
 Arms f l after =
     f.driver.config.check_cts_before_sending ≡ false → (known : ThrEmpty) → IsArmed (known_after_all known l) after
 
--- a read of MSR shows that CTS is clear
+-- a read of MSR in this list shows that CTS is clear
 abbrev pub ShowsCtsClear : List Access → Type 0
 ShowsCtsClear [] = ⊥
 ShowsCtsClear (Read offset answer ∷ accesses) =
     ((offset ≡ offsets.MSR) × (has answer MSR.CTS.0 ≡ false)) ⊎ ShowsCtsClear accesses
 ShowsCtsClear (Write offset value ∷ accesses) = ShowsCtsClear accesses
 
--- after a call this is so in any case, unless the call saw that CTS is clear
+-- a call, whether it checks CTS or not, leaves it armed however it finds it, unless it read that CTS is clear
 abbrev pub ArmsUnlessHeld : RingDoing
 ArmsUnlessHeld f l after = (known : ThrEmpty) → IsArmed (known_after_all known l) after ⊎ ShowsCtsClear l

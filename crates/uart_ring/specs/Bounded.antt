@@ -4,7 +4,7 @@ use Rattle.uart_spec.specs.declared.baud.TheConstants.{FIFO_SIZE}
 use Rattle.uart_ring.specs.Ring.{RingDoing}
 use Rattle.uart_ring.specs.declared.ring.service.TheConstants.{MAX_INTERRUPTS}
 
--- at most n accesses
+-- this number of accesses, or fewer
 abbrev pub MakesAtMost : ℕ → RingDoing
 MakesAtMost most f l after = length l ≤ most
 

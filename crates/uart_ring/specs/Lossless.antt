@@ -30,7 +30,9 @@ untold_line f = bit_and (bit_or f.line f.driver.lsr) LSR.LINE_ERRORS.0
 abbrev pub untold_modem : RingFields → ℕ
 untold_modem f = bit_and (bit_or f.modem f.driver.msr) MSR.CHANGES.0
 
--- a call that accepted some bytes, returned some bytes, and returned these bits of LSR and MSR
+-- what was written and what is still to be sent are what was there before and what was accepted; what was given and
+-- what is still to be taken are what was there before and what was read; what was reported and what is still to be
+-- reported are what was there before and what was seen
 pub record LosesNothing (accepted given : List ℕ) (line modem : ℕ)
     (f : RingFields) (l : List Access) (after : RingFields) : Type 0 where
   -- what was written, and what is still to be sent, is what was there and what was accepted

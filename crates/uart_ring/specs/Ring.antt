@@ -7,7 +7,7 @@ use Rattle.uart_16550.specs.declared.driver.Uart16550.{Uart16550}
 use Rattle.uart_ring.specs.declared.ring.TheConstants.{MAX_CAPACITY}
 use Rattle.uart_ring.specs.declared.ring.Uart16550Ring.{Uart16550Ring}
 
--- the capacities that a ring can have
+-- how many bytes a ring can be made for: 1 to 4096
 abbrev pub IsCapacity : ℕ → Type 0
 IsCapacity capacity = (1 ≤ capacity) × (capacity ≤ MAX_CAPACITY)
 
@@ -80,6 +80,7 @@ pub record RingDid {B : Type 0} (step : B → Access → B → Type 0) (G : Ring
 
 -- ---- changes of the fields
 
+-- the fields as they are; with another driver
 abbrev pub unchanged : RingFields → RingFields
 unchanged f = f
 
@@ -100,6 +101,7 @@ with_received bytes f = record f { receive = with_last bytes f.receive }
 abbrev pub without_taken : ℕ → RingFields → RingFields
 without_taken count f = record f { receive = without_first count f.receive }
 
+-- the fields with these bits of LSR noted; of MSR; with receiving paused or not
 abbrev pub with_line : ℕ → RingFields → RingFields
 with_line bits f = record f { line = bits }
 

@@ -19,12 +19,12 @@ use Rattle.uart_ring.specs.Transmit.{Pumps}
 use Rattle.uart_ring.specs.Receive.{FillsReceiveRing}
 use Rattle.uart_ring.specs.Status.{NotesLine, NotesModem}
 
--- one read of ISR, which identifies this interrupt, or no known one
+-- one read of ISR, which shows this interrupt, or no interrupt that has a name
 abbrev pub ShowsInterrupt : Option InterruptType → Doing
 ShowsInterrupt interrupt f l after =
     (isr : ℕ) × IsOnlyIfAny (Identifies isr) interrupt × Saving (Only (Read offsets.ISR isr ∷ [])) f l after
 
--- how an interrupt is served
+-- how an interrupt is served: bytes are received, a pump is made, a status is noted, or nothing is done
 abbrev pub ServesInterrupt : InterruptType → RingDoing
 ServesInterrupt ReceiverLineStatus = NotesLine
 ServesInterrupt ReceivedDataReady = FillsReceiveRing

@@ -20,7 +20,7 @@ abbrev pub TakesLine : ℕ → RingDoing
 TakesLine result f l after =
     (status : ℕ) × (result ≡ bit_or status f.line) × OnDriver (TakesLsr status) (with_line 0) f l after
 
--- `take_modem`: `msr` likewise
+-- `take_modem`: `msr`, joined with what was noted, after which nothing is noted
 abbrev pub TakesModem : ℕ → RingDoing
 TakesModem result f l after =
     (status : ℕ) × (result ≡ bit_or status f.modem) × OnDriver (TakesMsr status) (with_modem 0) f l after

@@ -12,16 +12,16 @@ abbrev pub ArmsIfLeft : List ℕ → Doing
 ArmsIfLeft [] = Disables IER.THR_EMPTY.0
 ArmsIfLeft (byte ∷ bytes) = Enables IER.THR_EMPTY.0
 
--- a pump: `send_bytes` of the first 16 bytes of the transmit ring, from which those that were sent are removed; then
--- THR_EMPTY
+-- a pump: `send_bytes` of the first 16 bytes of the transmit ring, and those that were sent leave the ring; then
+-- THR_EMPTY is enabled or disabled
 abbrev pub Pumps : RingDoing
 Pumps f l after =
     (sent : ℕ)
     × OnDriver (Next (Saving (Sends (take FIFO_SIZE f.transmit.items) sent)) (ArmsIfLeft (drop sent f.transmit.items)))
     (without_sent sent) f l after
 
--- `queue`: bytes from the front are appended to the transmit ring, as many as it has room for; if there are any, a
--- pump
+-- `queue`: bytes from the front of the input are added at the end of the transmit ring, as many as it has room for; if
+-- there are any, a pump follows
 abbrev pub Queues : List ℕ → ℕ → RingDoing
 Queues bytes count f l after =
     (count ≡ min (length bytes) (free f.transmit)) × IfAny count Pumps (with_queued (take count bytes) f) l after

@@ -17,7 +17,7 @@ use Rattle.uart_ring_run.specs.RingBytes.{queued_by}
 abbrev pub is_due : TransmitterState → Bool
 is_due t = not (length t.queue == 0) || t.is_thr_pending
 
--- the chip's THR-empty interrupt
+-- the chip's THR-empty interrupt: whether IER enables it, and whether it is due
 abbrev pub thr_empty_of : MachineState → ThrEmpty
 thr_empty_of m = record { enabled = has m.chip.latches.ier IER.THR_EMPTY.0; due = is_due m.chip.transmitter }
 
@@ -30,7 +30,7 @@ abbrev pub RearmsRing : RingCall → RingAnswer → Type 0
 RearmsRing call.ResumeTransmit answer = ⊤
 RearmsRing other answer = 0 < length (queued_by other answer)
 
--- this is so after the call if it was so before it, or if the call arms it
+-- a call that finds it armed, or that arms it in any case, leaves it armed
 abbrev pub LeavesRingArmed : RingLink → Type 0
 LeavesRingArmed link = IsRingArmed link.before ⊎ RearmsRing link.call link.answer → IsRingArmed link.after
 

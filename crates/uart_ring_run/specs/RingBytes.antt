@@ -24,7 +24,7 @@ abbrev pub taken_by : RingCall → RingAnswer → List ℕ
 taken_by (call.Take slots) (answer.Bytes bytes) = bytes.items
 taken_by other a = []
 
--- over calls in turn
+-- the bytes that ring calls in turn queued, and those that they took
 abbrev pub queued : List RingLink → List ℕ
 queued links = flat_map (λ link. queued_by link.call link.answer) links
 

@@ -41,6 +41,7 @@ pub record RingCalled {R : Type 0} (G : R → RingDoing) (answer_of : R → Ring
   pub answered : answer ≡ answer_of outcome
   pub did : RingDid MachineStep (G outcome) s t
 
+-- bytes, bits of LSR and bits of MSR as answers
 abbrev pub taken_answer : List ℕ → RingAnswer
 taken_answer bytes = Bytes (record { items = bytes })
 
@@ -50,7 +51,7 @@ line_answer bits = Line (record { 0 = bits })
 abbrev pub modem_answer : ℕ → RingAnswer
 modem_answer bits = Modem (record { 0 = bits })
 
--- `take` into n slots
+-- `take` into a number of slots
 abbrev pub TakesInto : ℕ → RingAnswer → RingState → RingState → Type 0
 TakesInto slots = RingCalled (TakesBytes slots) taken_answer
 
@@ -60,7 +61,7 @@ pub record RingGoesOn (answer : RingAnswer) (s t : RingState) : Type 0 where
   pub machine : ring_machine t ≡ at_mark (ring_machine s)
   pub rings : ring_fields t ≡ ring_fields s
 
--- the state after a call, and its answer
+-- the state that a call leaves and the answer that it returns
 abbrev pub RingCallStep : RingState → RingCall → RingAnswer → RingState → Type 0
 RingCallStep s (call.Queue bytes) answer t = RingCalled (Queues bytes.items) Count answer s t
 RingCallStep s call.ResumeTransmit answer t = RingCalled (λ (_ : ⊤). ResumesTransmit) (λ _. Done) answer s t
@@ -72,10 +73,10 @@ RingCallStep s call.Next answer t = RingGoesOn answer s t
 
 -- ---- lists of calls
 
--- a call of a run, between the states before and after it
+-- a call of a run, with its answer, between the states before and after it
 abbrev pub RingLink : Type 0
 RingLink = LinkOf RingState RingCall RingAnswer
 
--- the calls lead from s to t, one after the other
+-- the calls lead from the first state to the second, one after another
 abbrev pub RingChain : RingState → List RingLink → RingState → Type 0
 RingChain = ChainOf RingCallStep

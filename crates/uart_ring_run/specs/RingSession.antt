@@ -21,9 +21,9 @@ pub record ConservesBytesUncut (s : RingState) (links : List RingLink) (t : Ring
   pub kept : taken links ++ (to_take t ++ waiting (ring_machine t)) ≡
       to_take s ++ kept_uncut (ring_machine s) (ring_machine t)
 
--- a session of ring calls: the same with characters cut, no data write met a full transmitter, a `take_line` or
--- `take_modem` at the end reports drops, line errors and changes, and there are never bytes to send with no interrupt
--- to come
+-- a session of ring calls: the bytes that were queued, with characters cut, are conserved, and those that arrived; no
+-- data write met a full transmitter; a `take_line` or `take_modem` at the end reports drops, line errors and changes;
+-- and there are never bytes to send with no interrupt to come
 pub record RingConserves (s : RingState) (links : List RingLink) (t : RingState) : Type 0 where
   pub ready : Ready (under t)
   pub sent : let cut = map (cut_of (ring_machine s).chip) in

@@ -19,8 +19,9 @@ TellsSinceFirst c answer_of links Told =
     (first : RingLink) (some : List RingLink) (last : RingLink) (value : ℕ) → links ≡ first ∷ (some ++ last ∷ []) →
     NoneIs c some → first.call ≡ c → last.call ≡ c → last.answer ≡ answer_of value → Told first.after value
 
--- if the session ends with a `take_line` or `take_modem`, it reports what happened since the start; and if the
--- session also begins with one, what happened since that and nothing else
+-- in a session that ends with a `take_line` or a `take_modem`: what that call reports, since the start of the session,
+-- as `TellsLine` and `TellsChanges` say it of an `lsr` and an `msr`; and if the session also begins with one, since
+-- that one, and nothing else
 pub record RingTells (s : RingState) (links : List RingLink) (t : RingState) : Type 0 where
   pub line : TellsAtEnd call.TakeLine line_answer links (TellsLine (under s) (under t))
   pub only_drops : TellsSinceFirst call.TakeLine line_answer links (λ first. TellsNoOtherDrop (under first) (under t))

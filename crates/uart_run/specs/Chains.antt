@@ -2,26 +2,27 @@
 use Rattle.std.specs.Prelude.{◌≡◌, ◌≢◌, List, [], ◌∷◌, map}
 use Rattle.std.specs.List.{AllByRecursion}
 
--- a call of a run, between the states before and after it
+-- a call of a run, with its answer, between the states before and after it
 pub record LinkOf (State Call Answer : Type 0) : Type 0 where
   pub before : State
   pub call : Call
   pub answer : Answer
   pub after : State
 
--- the calls lead from s to t, one after the other
+-- the calls lead from the first state to the second, one after another, each as a given step says
 abbrev pub ChainOf : {S C A : Type 0} → (S → C → A → S → Type 0) → S → List (LinkOf S C A) → S → Type 0
 ChainOf Step s [] t = t ≡ s
 ChainOf Step s (link ∷ links) t =
     (link.before ≡ s) × Step link.before link.call link.answer link.after × ChainOf Step link.after links t
 
+-- the calls of some links, and their answers
 abbrev pub calls_of : {S C A : Type 0} → List (LinkOf S C A) → List C
 calls_of links = map (λ link. link.call) links
 
 abbrev pub answers_of : {S C A : Type 0} → List (LinkOf S C A) → List A
 answers_of links = map (λ link. link.answer) links
 
--- these calls, with these answers, lead from s to t
+-- these calls, with these answers, lead from the first state to the second
 pub record RunOf {S C A : Type 0} (Step : S → C → A → S → Type 0) (s : S) (calls : List C) (answers : List A) (t : S) :
     Type 0 where
   pub links : List (LinkOf S C A)
@@ -29,6 +30,6 @@ pub record RunOf {S C A : Type 0} (Step : S → C → A → S → Type 0) (s : S
   pub calls_same : calls_of links ≡ calls
   pub answers_same : answers_of links ≡ answers
 
--- none of these calls is c
+-- none of the calls of some links is this one
 abbrev pub NoneIs : {S C A : Type 0} → C → List (LinkOf S C A) → Type 0
 NoneIs c links = AllByRecursion (λ link. link.call ≢ c) links

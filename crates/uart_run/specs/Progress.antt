@@ -29,7 +29,7 @@ TickedAfter passed (Gate ∷ events) = (0 < passed) × TickedAfter 0 events
 TickedAfter passed (Mark ∷ events) = TickedAfter 0 events
 TickedAfter passed (_ ∷ events) = TickedAfter passed events
 
--- this for the schedule that is still to come
+-- each Access of the schedule that is still to come has at least one tick before it
 abbrev pub IsTicked : MachineState → Type 0
 IsTicked m = TickedAfter 0 m.ahead
 
@@ -48,7 +48,7 @@ left t = left_of t.char_ticks t.shift_place t.queue
 abbrev pub HasRoom : ℕ → MachineState → Type 0
 HasRoom n m = length (out m) + n ≤ m.chip.transmitter.capacity
 
--- ticks pass before each access, and the spin limit is more than the ticks that the transmitter may take
+-- ticks come before each access, and the spin limit is at least 17 (t + 1), t being the ticks of a character
 pub record IsTimely (s : State) : Type 0 where
   pub ticked : IsTicked (machine_of s)
   pub limit : 17 * ((transmitter_of s).char_ticks + 1) ≤ (fields (inner_of s)).limit
@@ -57,13 +57,15 @@ pub record IsTimely (s : State) : Type 0 where
 abbrev pub IsUnchecked : State → Type 0
 IsUnchecked s = (fields (inner_of s)).config.check_cts_before_sending ≡ false
 
--- the configuration is computable, and has a divisor
+-- the arithmetic accepts the configuration, and it has a divisor
 pub record HasDivisor (config : Config) : Type 0 where
   pub computable : IsComputable config
   pub divisor : ℕ
   pub is_divisor : DivisorOf config (Ok divisor)
 
--- with room on the wire for what it sends the call does not stall: an `init` in any state, the others in a ready one
+-- with room on the wire for what it sends, a call does not stall: an `init` from any state; a loopback test (with the
+-- answer of `test_answer`), a flush, an exact send, a `write` and a text from a ready one, the last three if CTS is not
+-- checked
 abbrev pub Succeeds : State → Call → Answer → Type 0
 Succeeds s (call.Init config) a = HasRoom 0 (machine_of s) → HasDivisor config → a ≡ Done
 Succeeds s call.TestLoopback a = Ready s → HasRoom 0 (machine_of s) → a ≡ test_answer (is_narrow (machine_of s).chip)

@@ -31,7 +31,7 @@ pub record Ready (s : State) : Type 0 where
   pub loopback : is_loopback (latches_of s) ≡ false
   pub fifo : (machine_of s).chip.fifo ≡ (fields (inner_of s)).fifo
 
--- with this driver, the second machine is ready if the first is
+-- with the driver as it is, the second machine is ready if the first is
 abbrev pub KeepsReady : MachineState → MachineState → Type 0
 KeepsReady m n =
     (s t : State) → machine_of s ≡ m → machine_of t ≡ n → fields (inner_of t) ≡ fields (inner_of s) → Ready s → Ready t
@@ -48,7 +48,9 @@ abbrev pub is_level : Option FifoTriggerLevel → Bool
 is_level (Some level) = true
 is_level None = false
 
--- the state after an `init` that succeeds, whatever the machine was before it
+-- the state after an `init` that is done, whatever the machine was before it: the state is ready, with the divisor, the
+-- frame and the interrupts as configured, MCR 0B, an empty transmitter, and the FIFO on exactly if a level is
+-- configured and the chip has one
 pub record IsInitialised (config : Config) (t : State) : Type 0 where
   pub ready : Ready t
   pub divisor_latch : DivisorOf config (Ok (divisor (latches_of t)))
@@ -65,11 +67,12 @@ pub record Initialises (config : Config) (a : Answer) (t : State) : Type 0 where
 
 -- ---- after a loopback test
 
--- characters are cut to fewer than the 7 bits of a test's bytes
+-- whether characters are cut to 5 or 6 bits, so that the bytes of a loopback test do not come back as they were sent
 abbrev pub is_narrow : ChipState → Bool
 is_narrow c = c.cuts && nat_lt (word_length c.latches.lcr) 7
 
--- the answer of a test that does not stall: it succeeds, or its first byte returns without the bit of 64
+-- what a loopback test answers if it does not stall: it is done or, on a narrow chip, it reports that 42 came back as
+-- 02
 abbrev pub test_answer : (is_narrow : Bool) → Answer
 test_answer false = Done
 test_answer true = LoopbackRefused (UnexpectedLoopbackByte test_byte 2)
@@ -82,7 +85,7 @@ pub record IsTested (s : State) (a : Answer) (t : State) : Type 0 where
 
 -- ---- each call
 
--- the outcome of a call
+-- the outcome of a call: an `init` initialises, and a loopback test in a ready state tests
 abbrev pub ComesTo : State → Call → Answer → State → Type 0
 ComesTo s (call.Init config) a t = Initialises config a t
 ComesTo s call.TestLoopback a t = Ready s → IsTested s a t

@@ -27,21 +27,22 @@ pub record GoesOn (answer : Answer) (s t : State) : Type 0 where
   pub machine : machine_of t ≡ at_mark (machine_of s)
   pub driver : fields (inner_of t) ≡ fields (inner_of s)
 
--- the state after a call, and its answer: `Next` goes on to the mark, and the driver makes each other call
+-- the state that a call leaves and the answer that it returns: `Next` goes on to the mark, and the driver makes every
+-- other call
 abbrev pub CallStep : State → Call → Answer → State → Type 0
 CallStep s call.Next answer t = GoesOn answer s t
 CallStep s other answer t = Performed MachineStep s other answer t
 
 -- ---- lists of calls
 
--- a call of a run, between the states before and after it
+-- a call of a run, with its answer, between the states before and after it
 abbrev pub Link : Type 0
 Link = LinkOf State Call Answer
 
--- the calls lead from s to t, one after the other
+-- the calls lead from the first state to the second, one after another
 abbrev pub Chain : State → List Link → State → Type 0
 Chain = ChainOf CallStep
 
--- these calls, with these answers, lead from s to t
+-- these calls, with these answers, lead from the first state to the second
 abbrev pub IsRun : State → List Call → List Answer → State → Type 0
 IsRun = RunOf CallStep

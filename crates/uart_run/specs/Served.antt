@@ -11,7 +11,7 @@ use Rattle.uart_device.specs.Conserved.{out, waiting}
 use Rattle.uart_calls.specs.Meaning.{bytes_answer}
 use Rattle.uart_run.specs.Run.{State, machine_of, Link}
 
--- the answer has at least n bytes
+-- the answer holds at least this number of bytes
 abbrev pub HoldsAtLeast : ℕ → Answer → Type 0
 HoldsAtLeast n a = (bytes : List ℕ) × (a ≡ bytes_answer bytes) × (n ≤ length bytes)
 

@@ -14,7 +14,7 @@ use Rattle.uart_run.specs.Served.{AllServe}
 use Rattle.uart_run.specs.Ready.{Ready, ComesTo}
 use Rattle.uart_run.specs.Progress.{IsTimely, Succeeds}
 
--- an `init` or a loopback test ends a session
+-- the call is no `init` and no loopback test, which end a session; this for each call
 abbrev pub IsWithinSession : Call → Type 0
 IsWithinSession (call.Init config) = ⊥
 IsWithinSession call.TestLoopback = ⊥
@@ -35,7 +35,7 @@ abbrev pub count_of : Answer → ℕ
 count_of (answer.Count count) = count
 count_of other = 0
 
--- all of these bytes, or as many as the stall reports
+-- those of these bytes that were sent according to the answer
 abbrev pub sent_of : List ℕ → Answer → List ℕ
 sent_of bytes answer.Done = bytes
 sent_of bytes (answer.Stalled done) = take done bytes
@@ -45,6 +45,7 @@ abbrev pub sent_byte_of : ℕ → Answer → List ℕ
 sent_byte_of byte answer.Done = byte ∷ []
 sent_byte_of byte other = []
 
+-- the bytes that a call reported as sent
 abbrev pub reported_by : Call → Answer → List ℕ
 reported_by (call.TrySend byte) a = sent_byte_of byte a
 reported_by (call.Send bytes) a = take (count_of a) bytes.items
@@ -53,6 +54,7 @@ reported_by (call.SendExact bytes) a = sent_of bytes.items a
 reported_by (call.Text text) a = sent_of (expansion text.bytes) a
 reported_by other a = []
 
+-- the byte, and the bytes, of an answer
 abbrev pub byte_of : Answer → List ℕ
 byte_of (answer.Register byte) = byte ∷ []
 byte_of other = []
@@ -62,6 +64,7 @@ bytes_of (answer.Bytes bytes) = bytes.items
 bytes_of (answer.ReceiveStalled bytes) = bytes.items
 bytes_of other = []
 
+-- the bytes that a call received
 abbrev pub received_by : Call → Answer → List ℕ
 received_by call.TryReceive a = byte_of a
 received_by (call.Receive slots) a = bytes_of a
@@ -69,7 +72,7 @@ received_by (call.ReceiveExact slots) a = bytes_of a
 received_by (call.Read slots) a = bytes_of a
 received_by other a = []
 
--- over calls in turn
+-- the bytes that calls in turn reported as sent, and those that they received
 abbrev pub reported : List Link → List ℕ
 reported [] = []
 reported (link ∷ links) = reported_by link.call link.answer ++ reported links
@@ -80,6 +83,7 @@ received (link ∷ links) = received_by link.call link.answer ++ received links
 
 -- ---- what a session conserves
 
+-- how many data writes met a full transmitter
 abbrev pub overflows : State → ℕ
 overflows s = (machine_of s).chip.transmitter.overflows
 

@@ -31,7 +31,8 @@ changes_between s t = changes_in (machine_of s).chip.modem.lines (between (machi
 
 -- ---- from an earlier moment s to t, the state after an `lsr` or `msr` with this answer
 
--- a drop is reported by the overrun flag, and so are the errors of each character that was taken, and of the front
+-- what an `lsr` with this answer reports: a drop since the earlier moment shows as the overrun flag, and the errors of
+-- each character that was taken since, and of the one in front, are reported
 pub record TellsLine (s t : State) (line : ℕ) : Type 0 where
   pub drop : IsDrop (machine_of s) (machine_of t) → has_any line LSR.OVERRUN_ERROR.0 ≡ true
   pub taken : List Character
@@ -40,11 +41,11 @@ pub record TellsLine (s t : State) (line : ℕ) : Type 0 where
   pub errors : AllTold (machine_of t).chip.fifo (reported_front (receiver_of s)) line
       (taken ++ take 1 (receiver_of t).queue)
 
--- the overrun flag reports a drop
+-- the overrun flag means that there was a drop since the earlier moment
 abbrev pub TellsNoOtherDrop : State → State → ℕ → Type 0
 TellsNoOtherDrop s t line = has_any line LSR.OVERRUN_ERROR.0 ≡ true → IsDrop (machine_of s) (machine_of t)
 
--- each change is reported
+-- what an `msr` with this answer reports: each change since the earlier moment shows
 abbrev pub TellsChanges : State → State → ℕ → Type 0
 TellsChanges s t status = IsWithin (changes_between s t) status
 

@@ -1,4 +1,5 @@
--- What holds of a run over a machine without the option: no byte is cut.
+-- What holds of a run over a machine without the option: no byte is cut. A machine from `Device16550::new` cuts none.
+-- For it these definitions say the whole theorem without a word about cutting.
 use Rattle.std.specs.Prelude.{◌≡◌, ◌⊎◌, false, ℕ, List, [], ◌∷◌, ◌++◌, map, filter}
 use Rattle.uart_spec.specs.declared.errors.LoopbackError.TheVariants.{Stalled}
 use Rattle.uart_chip.specs.declared.receiver.Character.{Character}
@@ -48,6 +49,7 @@ pub record TestsUncut (s : State) (a : Answer) (t : State) : Type 0 where
   pub leaves : Ready s → a ≡ Done → IsFlushed s t
   pub succeeds : IsTimely s → Ready s → HasRoom 0 (machine_of s) → a ≡ Done
 
+-- what a loopback test that is one of the calls promises; this for each call of some links
 abbrev pub FollowsUncut : State → Call → Answer → State → Type 0
 FollowsUncut s call.TestLoopback a t = TestsUncut s a t
 FollowsUncut s other a t = Unit {0}

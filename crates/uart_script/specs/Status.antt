@@ -11,7 +11,7 @@ error_status ReadFault = 2
 error_status WriteFault = 2
 error_status OutOfMemory = 3
 
--- and 0 if the script was played
+-- the status of each end, and 0 if the script was played
 abbrev pub status_of : {T : Type 0} → Result T PlayError → ℕ
 status_of (Ok x) = 0
 status_of (Err e) = error_status e

@@ -10,7 +10,7 @@ pub data Access : Type 0 where
   Read : (offset answer : ℕ) → Access
   Write : (offset value : ℕ) → Access
 
--- the accesses lead from a to b, one step after the other
+-- these accesses lead from one state of the backend to another, one step after another
 abbrev pub Path : {S : Type 0} → (S → Access → S → Type 0) → S → List Access → S → Type 0
 Path step a [] b = b ≡ a
 Path {S} step a (access ∷ accesses) b = (mid : S) × step a access mid × Path step mid accesses b
@@ -25,7 +25,7 @@ abbrev pub saved : ℕ → ℕ → List Access → ℕ
 saved register mask [] = 0
 saved register mask (access ∷ accesses) = bit_or (saved_of register mask access) (saved register mask accesses)
 
--- the line errors that the reads of LSR returned
+-- the line errors that a list saw: LSR bits 1 to 4
 abbrev pub saved_lsr : List Access → ℕ
 saved_lsr = saved offsets.LSR LSR.LINE_ERRORS.0
 

@@ -8,7 +8,7 @@ use Rattle.uart_spec.specs.declared.errors.NonIntegerBaudRateError.{NonIntegerBa
 abbrev pub prescaler : Option ℕ → ℕ
 prescaler factor = unwrap_or factor 0
 
--- the clock frequency at which a divisor gives a baud rate
+-- the clock frequency at which a divisor gives a baud rate: 16 times the prescaler plus 1, times rate, times divisor
 abbrev pub frequency_of : (baud_rate divisor : ℕ) → Option ℕ → ℕ
 frequency_of baud_rate divisor factor = 16 * (prescaler factor + 1) * baud_rate * divisor
 

@@ -31,6 +31,6 @@ rank _ = 0
 abbrev pub IsNamed : BaudRate → Type 0
 IsNamed rate = rank rate ≡ 0
 
--- by the number, and at one number the case with a name first
+-- the order: by the number; of two cases with one number, the case with a name comes first
 abbrev pub baud_rate_cmp : BaudRate → BaudRate → Ordering
 baud_rate_cmp = then_cmp (on to_integer nat_cmp) (on rank nat_cmp)

@@ -4,7 +4,7 @@ use Rattle.std.specs.Prelude.{if◌then◌else◌}
 use Rattle.std.specs.Int.RustNames.{bit_and}
 use Rattle.bitflags.specs.Sets.{known_bits}
 
--- the value has all of these bits
+-- whether all of these bits are set in the value
 abbrev pub has : ℕ → ℕ → Bool
 has value bits = bit_and value bits == bits
 
@@ -16,7 +16,7 @@ has_any value bits = not (bit_and value bits == 0)
 abbrev pub flag : Bool → ℕ → ℕ
 flag on bits = if on then bits else 0
 
--- the number in a field of this width, from its lowest bit on
+-- the number in a field, which is given by its lowest bit and its width
 abbrev pub field : (lowest width value : ℕ) → ℕ
 field lowest width value = value / 2 ^ lowest % 2 ^ width
 

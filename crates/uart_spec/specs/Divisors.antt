@@ -30,7 +30,7 @@ use Rattle.uart_spec.specs.declared.registers.divisors.Divisor.TheVariants.{Divi
 use Rattle.uart_spec.specs.declared.registers.divisors.Divisor.TheVariants.{Divisor23040, Divisor28800, Divisor38400}
 use Rattle.uart_spec.specs.declared.registers.divisors.Divisor.TheVariants.{Divisor57600}
 
--- the divisor as a number
+-- a case of `Divisor` as a number
 abbrev pub number : Divisor → ℕ
 number Divisor1 = 1
 number Divisor2 = 2
@@ -126,7 +126,7 @@ number Divisor57600 = 57600
 abbrev pub IsDivisor : ℕ → Type 0
 IsDivisor n = (n ≤ 65535) × ((rate : ℕ) × (n * rate ≡ 115200))
 
--- all of them, in ascending order
+-- all cases of `Divisor`, from the smallest up
 abbrev pub divisors : List Divisor
 divisors =
     Divisor1 ∷ Divisor2 ∷ Divisor3 ∷ Divisor4 ∷ Divisor5 ∷ Divisor6 ∷ Divisor8 ∷ Divisor9 ∷ Divisor10 ∷ Divisor12 ∷

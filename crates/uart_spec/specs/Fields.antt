@@ -77,7 +77,7 @@ interrupt_code DmaTransmissionEndOfTransfer = 5
 abbrev pub Identifies : ℕ → InterruptType → Type 0
 Identifies isr interrupt = (field 0 1 isr ≡ 0) × (field 1 3 isr ≡ interrupt_code interrupt)
 
--- the priority: 1 is the highest
+-- the priority of an interrupt; 1 is the highest
 abbrev pub priority : InterruptType → ℕ
 priority ReceiverLineStatus = 1
 priority ReceivedDataReady = 2

@@ -4,7 +4,7 @@ use Rattle.std.specs.Ordering.{ordering_then, partial_ordering_then}
 use Rattle.std.specs.declared.cmp.Ordering.{Ordering}
 use Rattle.std.specs.declared.cmp.Ordering.TheVariants.{Less, Equal}
 
--- each item is less than the next one
+-- each item of the list comes before the next one
 abbrev pub IsAscending : {A : Type 0} → (A → A → Ordering) → List A → Type 0
 IsAscending cmp [] = ⊤
 IsAscending cmp (x ∷ []) = ⊤

@@ -20,7 +20,7 @@ pub record File : Type 0 where
   pub latch : List ℕ
   pub sent : List ℕ
 
--- the first two registers are the divisor latch while LCR shows DLAB
+-- whether the first two registers are the divisor latch: they are while LCR shows DLAB
 abbrev pub is_latch : List ℕ → ℕ → Bool
 is_latch registers offset = nat_lt offset 2 && has (slice_index registers offsets.LCR) LCR.DLAB.0
 

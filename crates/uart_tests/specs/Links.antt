@@ -8,7 +8,7 @@ pub record WriteLink (S E : Type 0) : Type 0 where
   pub answer : Result ℕ E
   pub after : S
 
--- the calls lead from s to t, each as the writer's relation allows
+-- the calls lead from the first state to the second, each as the writer's own relation allows
 abbrev pub WriteChain : {S E : Type 0} → (S → List ℕ → Result ℕ E → S → Type 0) → S → List (WriteLink S E) → S → Type 0
 WriteChain writes s [] t = t ≡ s
 WriteChain writes s (link ∷ links) t =
@@ -23,13 +23,13 @@ abbrev pub taken : {S E : Type 0} → List (WriteLink S E) → List ℕ
 taken [] = []
 taken (link ∷ links) = taken_by link.given link.answer ++ taken links
 
--- the calls accepted all bytes; or a beginning, and the last call returned the error
+-- if Ok, the calls took all of the bytes; if an error, they took a beginning, and the last call returned that error
 abbrev pub Takes : {S E T : Type 0} → List (WriteLink S E) → List ℕ → Result T E → Type 0
 Takes links bytes (Ok x) = taken links ≡ bytes
 Takes {S} {E} links bytes (Err e) = (front : List (WriteLink S E)) × (last : WriteLink S E) × (rest : List ℕ) ×
     (links ≡ front ++ last ∷ []) × (last.answer ≡ Err e) × (taken links ++ rest ≡ bytes)
 
--- bytes sent by repeated calls
+-- bytes sent by repeated calls of a writer
 pub record SendsThrough {S E T : Type 0} (writes : S → List ℕ → Result ℕ E → S → Type 0) (s : S) (bytes : List ℕ)
     (result : Result T E) (t : S) : Type 0 where
   pub links : List (WriteLink S E)

@@ -5,6 +5,8 @@ use Rattle.uart_traces.specs.declared.cause.TraceError.TheVariants as trace
 use Rattle.uart_trace.specs.declared.end.End.{End}
 use Rattle.uart_trace.specs.declared.end.End.TheVariants.{NoLimit, TooLong, Unread, NoTrace}
 
+-- the status if a trace was not checked: failed for a bad limit, a file that cannot be read or input that is no trace,
+-- or out of memory
 abbrev pub status_of : End → Status
 status_of NoLimit = Failed
 status_of TooLong = Failed

@@ -19,7 +19,7 @@ use Rattle.uart_traces.specs.declared.lines.Line.{Line}
 use Rattle.uart_traces.specs.declared.lines.Line.TheVariants as line
 use Rattle.uart_traces.specs.declared.lines.TheConstants.{AFTER_THE_HEAD}
 
--- what a line adds to a trace
+-- what a line adds to a trace: nothing, a new driver, a call, an access, an answer
 pub data Saying : Type 0 where
   Nothing : Saying
   Fresh : Saying
@@ -40,6 +40,7 @@ abbrev pub CanRun : Line → Type 0
 CanRun (line.Call c) = IsRunnable c
 CanRun other = ⊤
 
+-- a space
 abbrev pub is_space : ℕ → Bool
 is_space b = b == 32
 
@@ -56,13 +57,13 @@ is_remark b = b == 35
 abbrev pub before_remark : List ℕ → List ℕ
 before_remark line = without_end (before_first is_remark line)
 
--- OFFSET: one digit from 0 to 7
+-- one digit from 0 to 7 as a register's offset
 unfoldable pub offset_in : List ℕ → Result ℕ Cause
 offset_in word =
     if length word == 1 && list_all (λ digit. nat_le 48 digit && nat_le digit 55) word then Ok (digits_value 10 word)
     else Err BadNumber
 
--- OFFSET VALUE, after the first word
+-- the offset and the byte of a line of three words
 unfoldable pub access_in : List (List ℕ) → Result (ℕ × ℕ) Cause
 access_in ws =
     if length ws == 3
@@ -74,13 +75,13 @@ abbrev pub made_as : (ℕ → ℕ → Entry) → Result (ℕ × ℕ) Cause → R
 made_as kind (Ok (offset, byte)) = Ok (Makes (kind offset byte))
 made_as kind (Err cause) = Err (fault.Line cause)
 
--- a call of a script; a trace has no other line of one
+-- a call of a script; any other line of a script is no call of the driver
 abbrev pub called_as : Result script.Saying Cause → Result Saying Fault
 called_as (Ok (script.Calls c)) = Ok (Calls c)
 called_as (Ok other) = Err fault.NoDriverCall
 called_as (Err cause) = Err (fault.Line cause)
 
--- fresh
+-- `fresh`, which is a line of its own
 abbrev pub fresh_in : List ℕ → Result Saying Fault
 fresh_in text = if length (words_of text) == 1 then Ok Fresh else Err (fault.Line WrongCount)
 
@@ -97,7 +98,7 @@ said_by word text =
     else if bytes_eq word (codes "w") then made_as entry.Write (access_in (words_of text))
     else called_as (item_at AFTER_THE_HEAD text)
 
--- what a line without its remark means, or what is wrong with it
+-- what a line without its remark means, or what is wrong with it: a bad byte first
 unfoldable pub said_in : List ℕ → Result Saying Fault
 said_in text =
     if has_bad_byte text then Err (fault.Line BadByte)

@@ -113,7 +113,7 @@ pub record RefusesLine (number : ℕ) (lines : List (List ℕ)) (error : TraceEr
   pub means : says line ≡ Err fault
   pub told : error ≡ NoTrace number fault
 
--- the fault is reported, or memory ran out
+-- the error is this fault, or that memory ran out
 abbrev pub Refuses : Option Faulty → TraceError → Type 0
 Refuses found (NoTrace line fault) = found ≡ Some (record { line = line; fault = fault })
 Refuses found OutOfMemory = ⊤

@@ -13,7 +13,7 @@ use Rattle.uart_traces.specs.declared.checking.Turn.TheVariants.{Asks, Returns}
 use Rattle.uart_traces.specs.declared.judging.Stray.{Stray}
 use Rattle.uart_traces.specs.declared.exchange.Exchange.{Exchange}
 
--- a letter, and the register's offset in one digit
+-- a letter, a space and a register's offset in one digit
 abbrev pub place_text : (letter offset : ℕ) → List ℕ
 place_text letter offset = letter ∷ 32 ∷ digit_char (offset % 8) ∷ []
 
@@ -22,7 +22,7 @@ abbrev pub access_text : Access → List ℕ
 access_text (Read offset answer) = place_text 114 offset ++ 32 ∷ hex_byte answer
 access_text (Write offset value) = place_text 119 offset ++ 32 ∷ hex_byte value
 
--- the same, but a read has no answer yet
+-- a request as it is printed: a read has no answer yet
 abbrev pub request_text : Request → List ℕ
 request_text (request.Read offset) = place_text 114 offset
 request_text (request.Write offset value) = access_text (Write offset value)
@@ -41,7 +41,7 @@ found_text (Some entry) (Some number) x = line_text number ++ access_text (acces
 found_text (Some entry) None x = answer_line_text x
 found_text None number x = answer_line_text x
 
--- what the driver does
+-- what the driver does: `makes '` and a request, or `returns '= ` and an answer
 abbrev pub turn_text : Turn → List ℕ
 turn_text (Asks request) = codes "makes '" ++ request_text request
 turn_text (Returns returned) = codes "returns '= " ++ answer_text returned.answer
