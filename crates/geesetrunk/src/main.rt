@@ -1,12 +1,16 @@
-//! Plays scripts of a serial chip and its driver, and shows what happened, for people: see `geesetrunk --help`.
+//! Plays scripts of a serial chip and its driver, shows what happened, and judges recordings, for people: see
+//! `geesetrunk --help`.
 //!
-//! What is printed is made by `uart_report`, from bytes to text. How the program reads, reports and ends is that of
-//! `uart_program`.
+//! What is printed of a script is made by `uart_report`, from bytes to text, and of a recording by `uart_findings`, line by
+//! line. How the program reads, reports and ends is that of `uart_program`.
 #![tactic(auto)]
 
+mod recordings;
+
+use recordings::{judged, unread};
 use std::process::ExitCode;
 use uart_command::request_in;
-use uart_program::{Failure, Status, bytes_of, failed, fault_end, print, unmatched, words};
+use uart_program::{Failure, STANDARD_INPUT, Status, bytes_of, failed, print, unmatched, words};
 use uart_report::{MOST_READ, Report, Request, report_on};
 
 // Prints a report, and returns the exit code of its end.
@@ -27,16 +31,20 @@ fn done(rt: &HostRuntime, request: &Request<'_>) -> Result<ExitCode, Failure> {
     let file = request.file;
     match bytes_of(rt, Some(file), MOST_READ) {
         Ok(script) => printed(rt, &report_on(rt.alloc(), request, &script)?),
-        Err(cause) => {
-            let why = format!(in rt.alloc(); "{file} cannot be read: {cause}")?;
-            Ok(failed(rt, &why, fault_end(&cause)))
-        }
+        Err(cause) => unread(rt, file, &cause),
     }
 }
 
-// Does what the command line requests, and returns the exit code.
+// Does what the command line requests, and returns the exit code. A recording is the only thing that `replay` is for.
 fn run(rt: &HostRuntime) -> Result<ExitCode, Failure> {
     let words = words(rt)?;
+    match words.as_slice() {
+        [_, command] if command.as_str() == "replay" => return judged(rt, STANDARD_INPUT),
+        [_, command, file] if command.as_str() == "replay" && !file.starts_with("--") => {
+            return judged(rt, file.as_str());
+        }
+        _ => {}
+    }
     match request_in(rt.alloc(), &words) {
         Ok(request) => done(rt, &request),
         Err(error) => Ok(unmatched(rt, &error)),
