@@ -24,7 +24,7 @@ any_more true more n e = sym (above n)
 any_more false more n e = e ∙ ap (λ k. nat_lt 0 k) (none n)
 
 -- some character has errors where their number is above 0
-any_of_all : (xs : List Character) → list_any has_errors xs ≡ nat_lt 0 (error_count xs)
+pub any_of_all : (xs : List Character) → list_any has_errors xs ≡ nat_lt 0 (error_count xs)
 any_of_all [] = refl
 any_of_all (x ∷ xs) = any_more (has_errors x) (list_any has_errors xs) (error_count xs) (any_of_all xs)
 

@@ -60,6 +60,13 @@ impl<Q: Fifo<Character> + Drop> Characters<Q> {
         characters
     }
 
+    /// Returns whether a character has errors.
+    pub fn has_errors(&self) -> bool
+        ensures { result ≡ list_any has_errors self.now }
+    {
+        self.errors > 0
+    }
+
     /// Returns whether a character has errors. Those of the front do not count if they were reported.
     pub fn has_unreported_errors(&self, is_front_reported: bool) -> bool
         ensures { result ≡ list_any has_errors (unreported self.now is_front_reported) }

@@ -1,19 +1,23 @@
 //! The chip: its registers, and what an access does.
-ghost use Rattle.std.specs.Prelude.{◌≡◌, ◌<◌, ◌≤◌, ◌+◌, [], ◌∷◌, length, is_some, IfOk};
+ghost use Rattle.std.specs.Prelude.{◌≡◌, ◌<◌, ◌≤◌, ◌+◌, ℕ, [], ◌∷◌, length, replicate, is_some, IfOk};
 ghost use Rattle.uart_chip.specs.Chip as spec;
 ghost use Rattle.uart_chip.specs.Snapshot.{chip_of, unscheduled};
 ghost use Rattle.uart_chip.specs.Machine.{arrivals, perform};
 ghost use Rattle.uart_chip.specs.Jumps.{skip, moves, turns};
+ghost use Rattle.uart_chip.specs.Status.{fifo_status};
+ghost use Rattle.uart_chip.specs.declared.event.ArrivalMark.TheVariants.{Pending};
 ghost use Rattle.uart_chip.specs.declared.event.TheConstants.{MAX_CHAR_TICKS};
 ghost use Rattle.uart_spec.specs.declared.baud.TheConstants.{FIFO_SIZE, NUM_REGISTERS};
 ghost use Rattle.uart_spec.specs.declared.registers.offsets.TheConstants as offsets;
 
 use crate::event::{Chip, Event};
 use crate::fifo::{Fifo, HeapFifo};
+use crate::journal::{Journal, Marks};
 use crate::masks::{flag, kept_interrupts, kept_modem_control};
 use crate::modem::{Modem, ModemData};
 use crate::receiver::{Character, Receiver, ReceiverData};
 use crate::transmitter::{Transmitter, TransmitterData};
+use crate::wire::{HeapWire, Wire, send};
 use bitflags::Flags;
 use std::alloc::{AllocError, Global};
 use std::marker::Model;
@@ -62,18 +66,21 @@ pub struct ChipData {
 #[derive(Drop)]
 pub struct Uart<
     B: Fifo<u8> + Drop = HeapFifo<u8>,
+    W: Wire + Drop = HeapWire,
     C: Fifo<Character> + Drop = HeapFifo<Character>,
+    J: Journal + Drop = Marks,
 > {
     model: Chip,
     latches: Latches,
     fifo: bool,
-    transmitter: Transmitter<B>,
-    receiver: Receiver<C>,
+    transmitter: Transmitter<B, W>,
+    receiver: Receiver<C, J>,
     modem: Modem,
     cuts: bool,
 }
 
-impl<B: Fifo<u8> + Drop, C: Fifo<Character> + Drop> Model for Uart<B, C> {
+impl<B: Fifo<u8> + Drop, W: Wire + Drop, C: Fifo<Character> + Drop, J: Journal + Drop> Model
+    for Uart<B, W, C, J> {
     ghost use Rattle.uart_chip.specs.Chip.{ChipState};
 
     ghost Value = { ChipState };
@@ -139,31 +146,32 @@ pub fn cut(cuts: bool, lcr: LCR, byte: u8) -> u8
     }
 }
 
-impl<B: Fifo<u8> + Drop, C: Fifo<Character> + Drop> Uart<B, C> {
-    /// Returns a chip after power-on, over empty queues, for a schedule with this number of arrivals. Allocates its wire and
-    /// its marks.
+impl<B: Fifo<u8> + Drop, W: Wire + Drop, C: Fifo<Character> + Drop, J: Journal + Drop> Uart<
+    B,
+    W,
+    C,
+    J,
+> {
+    /// Returns a chip after power-on, over empty queues and an empty wire, with this journal.
     ///
-    /// # Errors
-    ///
-    /// `AllocError` if memory could not be allocated.
-    pub fn with_queues(
-        alloc: Global,
+    /// A character takes `char_ticks` ticks to be sent, and characters are cut to the word length if `cuts` is set.
+    pub fn with_parts(
         bytes: B,
+        wire: W,
         characters: C,
+        journal: J,
         model: Chip,
         char_ticks: u16,
-        capacity: usize,
-        arrivals: usize,
         cuts: bool,
-    ) -> Result<Self, AllocError>
+    ) -> Self
         requires char_ticks { char_ticks ≤ MAX_CHAR_TICKS }
-        requires no_bytes { B.items bytes ≡ [] }
-        requires no_characters { C.items characters ≡ [] }
-        ensures { IfOk result (λ c. c ≡ record (spec.fresh model char_ticks capacity arrivals) { cuts = cuts }) }
+        requires bytes { B.items bytes ≡ [] }
+        requires wire { W.sent wire ≡ [] }
+        requires characters { C.items characters ≡ [] }
+        ensures { (arrivals : ℕ) → J.recorded journal ≡ replicate arrivals Pending →
+            result ≡ record (spec.fresh model char_ticks (W.most wire) arrivals) { cuts = cuts } }
     {
-        let transmitter = Transmitter::new(alloc, bytes, char_ticks, capacity)?;
-        let receiver = Receiver::new(alloc, characters, char_ticks, arrivals)?;
-        Ok(Self {
+        Self {
             model,
             latches: Latches {
                 ier: IER::empty(),
@@ -174,47 +182,37 @@ impl<B: Fifo<u8> + Drop, C: Fifo<Character> + Drop> Uart<B, C> {
                 dlm: 0,
             },
             fifo: false,
-            transmitter,
-            receiver,
+            transmitter: Transmitter::new(bytes, wire, char_ticks),
+            receiver: Receiver::new(characters, journal, char_ticks),
             modem: Modem::new(),
             cuts,
-        })
+        }
     }
 
-    /// Returns the chip with these data and with these bytes on its wire, over empty queues. Allocates its wire.
-    ///
-    /// # Errors
-    ///
-    /// `AllocError` if memory could not be allocated.
-    pub fn from_data_with(
-        alloc: Global,
-        bytes: B,
-        characters: C,
-        saved: &ChipData,
-        wire: &[u8],
-    ) -> Result<Self, AllocError>
-        requires no_bytes { B.items bytes ≡ [] }
-        requires no_characters { C.items characters ≡ [] }
+    /// Returns the chip with these data, over empty queues and a wire that holds its bytes, without a schedule.
+    pub fn from_parts(bytes: B, wire: W, characters: C, journal: J, saved: &ChipData) -> Self
         requires char_ticks { saved.now.transmitter.char_ticks ≤ MAX_CHAR_TICKS }
-        requires room { length wire.now ≤ saved.now.transmitter.wire_capacity }
-        ensures { IfOk result (λ c. c ≡ chip_of saved.now wire.now) }
+        requires bytes { B.items bytes ≡ [] }
+        requires wire { W.most wire ≡ saved.now.transmitter.wire_capacity }
+        requires characters { C.items characters ≡ [] }
+        requires journal { J.recorded journal ≡ [] }
+        ensures { result ≡ chip_of saved.now (W.sent wire) }
     {
-        let transmitter = Transmitter::from_data(alloc, bytes, &saved.transmitter, wire)?;
         let receiver = Receiver::from_data(
-            alloc,
             characters,
+            journal,
             saved.transmitter.char_ticks,
             &saved.receiver,
-        )?;
-        Ok(Self {
+        );
+        Self {
             model: saved.model,
             latches: saved.latches,
             fifo: saved.fifo,
-            transmitter,
+            transmitter: Transmitter::from_data(bytes, wire, &saved.transmitter),
             receiver,
             modem: Modem::from_data(saved.modem),
             cuts: saved.cuts,
-        })
+        }
     }
 
     /// Returns the chip as plain data, without the bytes on its wire and without its schedule.
@@ -235,14 +233,14 @@ impl<B: Fifo<u8> + Drop, C: Fifo<Character> + Drop> Uart<B, C> {
     }
 
     /// Returns the transmitter.
-    pub fn transmitter(&self) -> &Transmitter<B>
+    pub fn transmitter(&self) -> &Transmitter<B, W>
         ensures { result.now ≡ self.now.transmitter }
     {
         &self.transmitter
     }
 
     /// Returns the receiver.
-    pub fn receiver(&self) -> &Receiver<C>
+    pub fn receiver(&self) -> &Receiver<C, J>
         ensures { result.now ≡ self.now.receiver }
     {
         &self.receiver
@@ -385,22 +383,24 @@ impl<B: Fifo<u8> + Drop, C: Fifo<Character> + Drop> Uart<B, C> {
         }
     }
 
+    // Returns whether a character in the FIFO has errors that were not reported, as LSR shows it.
+    fn fifo_error(&self) -> LSR
+        ensures { result.0 ≡ fifo_status self.now.fifo self.now.receiver.queue self.now.receiver.is_front_reported }
+    {
+        if self.receiver.has_unreported_errors() && self.fifo {
+            LSR::FIFO_DATA_ERROR
+        } else {
+            LSR::empty()
+        }
+    }
+
     fn line_status(&self) -> LSR
         ensures { result.0 ≡ spec.line_status self.now }
     {
-        let data_ready = flag(!self.receiver.is_empty(), LSR::DATA_READY);
-        let overrun = flag(self.receiver.is_overrun(), LSR::OVERRUN_ERROR);
-        let errors = self.receiver.front_errors();
-        let thr_empty = flag(self.transmitter.is_thr_empty(), LSR::THR_EMPTY);
-        let transmitter_empty = flag(self.transmitter.is_empty(), LSR::TRANSMITTER_EMPTY);
-        let fifo_error = flag(
-            self.fifo && self.receiver.has_unreported_errors(),
-            LSR::FIFO_DATA_ERROR,
-        );
-        data_ready
-            .union(overrun)
-            .union(errors.union(thr_empty))
-            .union(transmitter_empty.union(fifo_error))
+        self.receiver
+            .status()
+            .union(self.transmitter.status())
+            .union(self.fifo_error())
     }
 
     // Returns the interrupt of the highest priority among those that are enabled and pending.
@@ -429,11 +429,25 @@ impl<B: Fifo<u8> + Drop, C: Fifo<Character> + Drop> Uart<B, C> {
     pub fn is_interrupting(&self) -> bool
         ensures { result ≡ is_some (spec.interrupt self.now) }
     {
-        self.interrupt().is_some()
+        !self.latches.ier.is_empty() && self.interrupt().is_some()
     }
 
     /// Reads the register at this offset: returns its value, and has the effect of the read on the chip.
     pub fn read(&mut self, offset: u8) -> u8
+        requires { offset < NUM_REGISTERS }
+        ensures answers { result ≡ spec.answer offset self.old }
+        ensures after { self.new ≡ spec.after_read offset self.old }
+    {
+        // A guest that waits reads LSR and nothing else, so it is looked for first.
+        if offset == offsets::LSR as u8 {
+            self.read_line_status()
+        } else {
+            self.read_register(offset)
+        }
+    }
+
+    #[inline(never)]
+    fn read_register(&mut self, offset: u8) -> u8
         requires { offset < NUM_REGISTERS }
         ensures answers { result ≡ spec.answer offset self.old }
         ensures after { self.new ≡ spec.after_read offset self.old }
@@ -445,14 +459,34 @@ impl<B: Fifo<u8> + Drop, C: Fifo<Character> + Drop> Uart<B, C> {
             offsets::ISR => self.read_interrupt(),
             offsets::LCR => self.latches.lcr.bits(),
             offsets::MCR => self.latches.mcr.bits(),
-            offsets::LSR => {
-                let status = self.line_status();
-                self.receiver.report();
-                status.bits()
-            }
+            offsets::LSR => self.read_line_status(),
             offsets::MSR => self.modem.read().bits(),
             _ => self.latches.scr,
         }
+    }
+
+    // Reads LSR, which reports the overrun and the errors of the front.
+    fn read_line_status(&mut self) -> u8
+        ensures answers { result ≡ spec.answer offsets.LSR self.old }
+        ensures after { self.new ≡ spec.after_read offsets.LSR self.old }
+    {
+        if self.receiver.has_errors() {
+            return self.read_errors();
+        }
+        let status = self.receiver.status().union(self.transmitter.status());
+        self.receiver.report();
+        status.bits()
+    }
+
+    // Reads LSR while some character has errors.
+    #[inline(never)]
+    fn read_errors(&mut self) -> u8
+        ensures answers { result ≡ spec.answer offsets.LSR self.old }
+        ensures after { self.new ≡ spec.after_read offsets.LSR self.old }
+    {
+        let status = self.line_status();
+        self.receiver.report();
+        status.bits()
     }
 
     fn read_data(&mut self) -> u8
@@ -483,12 +517,33 @@ impl<B: Fifo<u8> + Drop, C: Fifo<Character> + Drop> Uart<B, C> {
         requires { offset < NUM_REGISTERS }
         ensures { self.new ≡ spec.after_write offset value self.old }
     {
+        // A guest that prints writes DATA most often, so it is looked for first.
+        if offset == offsets::DATA as u8 {
+            self.write_data(value);
+        } else {
+            self.write_register(offset, value);
+        }
+    }
+
+    // Writes DATA.
+    fn write_data(&mut self, value: u8)
+        ensures { self.new ≡ spec.write_data value self.old }
+    {
+        if self.is_dlab_set() {
+            self.latches.dll = value;
+        } else {
+            let byte = self.cut(value);
+            self.transmitter.load(self.fifo, byte);
+        }
+    }
+
+    #[inline(never)]
+    fn write_register(&mut self, offset: u8, value: u8)
+        requires { offset < NUM_REGISTERS }
+        ensures { self.new ≡ spec.after_write offset value self.old }
+    {
         match offset as usize {
-            offsets::DATA if self.is_dlab_set() => self.latches.dll = value,
-            offsets::DATA => {
-                let byte = self.cut(value);
-                self.transmitter.load(self.fifo, byte);
-            }
+            offsets::DATA => self.write_data(value),
             offsets::IER if self.is_dlab_set() => self.latches.dlm = value,
             offsets::IER => self.enable(IER::from_bits_retain(value)),
             offsets::FCR => self.control(FCR::from_bits_retain(value)),
@@ -554,7 +609,7 @@ impl<B: Fifo<u8> + Drop, C: Fifo<Character> + Drop> Uart<B, C> {
     }
 }
 
-impl Uart<HeapFifo<u8>, HeapFifo<Character>> {
+impl Uart<HeapFifo<u8>, HeapWire, HeapFifo<Character>, Marks> {
     /// Returns a chip after power-on, for a schedule with this number of arrivals. Allocates all of its memory.
     ///
     /// A character takes `char_ticks` ticks to be sent, the wire has room for `capacity` bytes, and characters are cut to
@@ -575,10 +630,10 @@ impl Uart<HeapFifo<u8>, HeapFifo<Character>> {
         ensures { IfOk result (λ c. c ≡ record (spec.fresh model char_ticks capacity arrivals) { cuts = cuts }) }
     {
         let bytes = HeapFifo::new(alloc)?;
+        let wire = HeapWire::new(alloc, capacity)?;
         let characters = HeapFifo::new(alloc)?;
-        Uart::with_queues(
-            alloc, bytes, characters, model, char_ticks, capacity, arrivals, cuts,
-        )
+        let journal = Marks::new(alloc, arrivals)?;
+        Ok(Uart::with_parts(bytes, wire, characters, journal, model, char_ticks, cuts))
     }
 
     /// Returns the chip with these data, and with these bytes on its wire. Allocates all of its memory.
@@ -592,7 +647,10 @@ impl Uart<HeapFifo<u8>, HeapFifo<Character>> {
         ensures { IfOk result (λ c. c ≡ chip_of saved.now wire.now) }
     {
         let bytes = HeapFifo::new(alloc)?;
+        let mut sent = HeapWire::new(alloc, saved.transmitter.wire_capacity)?;
+        send(&mut sent, wire);
         let characters = HeapFifo::new(alloc)?;
-        Uart::from_data_with(alloc, bytes, characters, saved, wire)
+        let journal = Marks::new(alloc, 0)?;
+        Ok(Uart::from_parts(bytes, sent, characters, journal, saved))
     }
 }

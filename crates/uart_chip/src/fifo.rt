@@ -190,7 +190,7 @@ impl<T: Copy + Drop> Fifo<T> for FixedFifo<T> {
         if self.len == 0 {
             return None;
         }
-        let front = self.slots[self.start];
+        let front = self.slots[self.start % FIFO_SIZE];
         self.start = (self.start + 1) % FIFO_SIZE;
         self.len -= 1;
         Some(front)

@@ -8,10 +8,12 @@ mod characters;
 mod chip;
 mod event;
 mod fifo;
+mod journal;
 mod masks;
 mod modem;
 mod receiver;
 mod transmitter;
+mod wire;
 
 pub use characters::Characters;
 pub use chip::{ChipData, Latches, Uart, cut, identification, is_thr_empty, trigger_level};
@@ -19,7 +21,9 @@ pub use event::{
     ArrivalMark, BuildError, Chip, Event, MAX_CHAR_TICKS, MAX_WIRE_CAPACITY, arrivals, refusal,
 };
 pub use fifo::{Fifo, FixedFifo, HeapFifo, room_of};
+pub use journal::{Journal, Marks, NoMarks};
 pub use masks::{flag, kept_interrupts, kept_modem_control};
 pub use modem::{Modem, ModemData};
 pub use receiver::{Character, Origin, Receiver, ReceiverData};
 pub use transmitter::{Shifting, Transmitter, TransmitterData};
+pub use wire::{FixedWire, HeapWire, WIRE_ROOM, Wire, send};

@@ -1,8 +1,9 @@
 //! The receiver: a queue of characters, and what became of each arrival.
-ghost use Rattle.std.specs.Prelude.{◌≡◌, ◌==◌, ◌<◌, ◌≤◌, ◌-◌, ℕ, [], length, slice_get, IfOk};
+ghost use Rattle.std.specs.Prelude.{◌≡◌, ◌==◌, ◌<◌, ◌≤◌, ◌-◌, ℕ, [], length, slice_get};
 ghost use Rattle.std.specs.List.{list_any};
 ghost use Rattle.uart_chip.specs.Receiver as spec;
-ghost use Rattle.uart_chip.specs.Receiver.{unreported, has_errors, front_errors, waiting};
+ghost use Rattle.uart_chip.specs.Receiver.{unreported, has_errors, waiting};
+ghost use Rattle.uart_chip.specs.Status.{receiver_status};
 ghost use Rattle.uart_chip.specs.Errors.{error_weight};
 ghost use Rattle.uart_chip.specs.Transmitter.{room};
 ghost use Rattle.uart_spec.specs.declared.baud.TheConstants.{FIFO_SIZE};
@@ -13,9 +14,10 @@ ghost use Rattle.uart_chip.specs.declared.event.TheConstants.{MAX_CHAR_TICKS};
 use crate::characters::Characters;
 use crate::event::ArrivalMark;
 use crate::fifo::{Fifo, items_of, room_of};
+use crate::journal::{Journal, Marks};
+use crate::masks::flag;
 use arrayvec::ArrayVec;
 use bitflags::Flags;
-use std::alloc::{AllocError, Global};
 use std::marker::Model;
 use uart_spec::FIFO_SIZE;
 use uart_spec::registers::{FifoTriggerLevel, LSR};
@@ -45,8 +47,9 @@ pub struct Character {
 
 /// The receiver: received characters are in its queue until DATA is read.
 #[derive(Drop)]
-pub struct Receiver<Q: Fifo<Character> + Drop> {
+pub struct Receiver<Q: Fifo<Character> + Drop, J: Journal + Drop> {
     queue: Characters<Q>,
+    status: LSR,
     is_overrun: bool,
     is_front_reported: bool,
     last_byte: u8,
@@ -54,12 +57,14 @@ pub struct Receiver<Q: Fifo<Character> + Drop> {
     timeout_limit: u16,
     trigger: FifoTriggerLevel,
     arrived: usize,
-    marks: Vec<ArrivalMark>,
+    journal: J,
     is_stray_lost: bool,
 }
 
-impl<Q: Fifo<Character> + Drop> Model for Receiver<Q> {
+impl<Q: Fifo<Character> + Drop, J: Journal + Drop> Model for Receiver<Q, J> {
+    ghost use Rattle.std.specs.Prelude.{◌≡◌};
     ghost use Rattle.uart_chip.specs.Receiver.{ReceiverState};
+    ghost use Rattle.uart_chip.specs.Status.{receiver_status};
 
     ghost Value = { ReceiverState };
 
@@ -72,9 +77,12 @@ impl<Q: Fifo<Character> + Drop> Model for Receiver<Q> {
       timeout_limit = r.timeout_limit;
       trigger = r.trigger;
       arrived = r.arrived;
-      marks = r.marks.items;
+      marks = J.recorded r.journal;
       is_stray_lost = r.is_stray_lost;
     } };
+
+    // What LSR shows of the receiver is kept, but for the errors behind the front, which the queue counts.
+    ghost invariant = { λ r. r.status.0 ≡ receiver_status r.queue r.is_overrun r.is_front_reported };
 }
 
 impl Character {
@@ -117,30 +125,19 @@ fn characters_of(level: FifoTriggerLevel) -> usize
     }
 }
 
-// Sets the mark of an arrival. A stray character has none.
-fn set_mark(marks: &mut Vec<ArrivalMark>, origin: Origin, mark: ArrivalMark)
-    ensures { marks.new.items ≡ spec.set_mark origin mark marks.old.items }
+// Returns what LSR shows of a receiver, but for the errors behind the front.
+fn status_of<Q: Fifo<Character>>(queue: &Q, is_overrun: bool, is_front_reported: bool) -> LSR
+    ensures { result.0 ≡ receiver_status (Q.items queue.now) is_overrun is_front_reported }
 {
-    if let Origin::Arrived(number) = origin {
-        if number < marks.len() {
-            marks[number] = mark;
+    let data_ready = flag(!queue.is_empty(), LSR::DATA_READY);
+    let overrun = flag(is_overrun, LSR::OVERRUN_ERROR);
+    let errors = match queue.get(0) {
+        Some(front) if !is_front_reported => {
+            LSR::from_bits_retain(front.errors).intersection(LSR::CHARACTER_ERRORS)
         }
-    }
-}
-
-// Empties a queue, and marks its characters as discarded.
-fn discard<Q: Fifo<Character>>(characters: &mut Q, marks: &mut Vec<ArrivalMark>)
-    ensures marks { marks.new.items ≡ spec.discard (Q.items characters.old) marks.old.items }
-    ensures none { Q.items characters.new ≡ [] }
-{
-    for i in 0..characters.len() {
-        set_mark(
-            marks,
-            characters.get(i).unwrap().origin,
-            ArrivalMark::Discarded,
-        );
-    }
-    characters.clear();
+        _ => LSR::empty(),
+    };
+    data_ready.union(overrun).union(errors)
 }
 
 /// A receiver without a schedule, as plain data.
@@ -160,30 +157,15 @@ pub struct ReceiverData {
     pub trigger: FifoTriggerLevel,
 }
 
-impl<Q: Fifo<Character> + Drop> Receiver<Q> {
-    /// Returns a receiver that has received nothing, over an empty queue, for a schedule with this number of arrivals.
-    /// Allocates the marks.
-    ///
-    /// # Errors
-    ///
-    /// `AllocError` if memory could not be allocated.
-    pub fn new(
-        alloc: Global,
-        queue: Q,
-        char_ticks: u16,
-        arrivals: usize,
-    ) -> Result<Self, AllocError>
+impl<Q: Fifo<Character> + Drop, J: Journal + Drop> Receiver<Q, J> {
+    /// Returns a receiver that has received nothing, over an empty queue, with this journal.
+    pub fn new(queue: Q, journal: J, char_ticks: u16) -> Self
         requires char_ticks { char_ticks ≤ MAX_CHAR_TICKS }
         requires empty { Q.items queue ≡ [] }
-        ensures { IfOk result (λ r. r ≡ spec.fresh char_ticks arrivals) }
+        ensures { result ≡ record (spec.fresh char_ticks 0) { marks = J.recorded journal } }
     {
-        let queue = Characters::new(queue);
-        let mut marks = Vec::with_capacity(alloc, arrivals)?;
-        for _ in 0..arrivals {
-            marks.push(ArrivalMark::Pending)?;
-        }
-        Ok(Self {
-            queue,
+        Self {
+            queue: Characters::new(queue),
             is_overrun: false,
             is_front_reported: false,
             last_byte: 0,
@@ -191,28 +173,21 @@ impl<Q: Fifo<Character> + Drop> Receiver<Q> {
             timeout_limit: 4 * char_ticks,
             trigger: FifoTriggerLevel::One,
             arrived: 0,
-            marks,
+            journal,
             is_stray_lost: false,
-        })
+            status: LSR::empty(),
+        }
     }
 
-    /// Returns the receiver with these data, over an empty queue, without a schedule.
-    ///
-    /// # Errors
-    ///
-    /// `AllocError` if memory could not be allocated.
-    pub fn from_data(
-        alloc: Global,
-        queue: Q,
-        char_ticks: u16,
-        saved: &ReceiverData,
-    ) -> Result<Self, AllocError>
+    /// Returns the receiver with these data, over an empty queue, with this journal. None of its arrivals has arrived.
+    pub fn from_data(queue: Q, journal: J, char_ticks: u16, saved: &ReceiverData) -> Self
         requires char_ticks { char_ticks ≤ MAX_CHAR_TICKS }
         requires empty { Q.items queue ≡ [] }
-        ensures { IfOk result (λ r. r ≡ receiver_of char_ticks saved.now) }
+        ensures { result ≡ record (receiver_of char_ticks saved.now) { marks = J.recorded journal } }
     {
         let queue = Characters::filled(queue, &saved.queue);
-        Ok(Self {
+        let status = status_of(&queue, saved.is_overrun, saved.is_front_reported);
+        Self {
             queue,
             is_overrun: saved.is_overrun,
             is_front_reported: saved.is_front_reported,
@@ -221,9 +196,10 @@ impl<Q: Fifo<Character> + Drop> Receiver<Q> {
             timeout_limit: 4 * char_ticks,
             trigger: saved.trigger,
             arrived: 0,
-            marks: Vec::new(alloc),
+            journal,
             is_stray_lost: false,
-        })
+            status,
+        }
     }
 
     /// Returns the receiver as plain data, without its marks.
@@ -243,18 +219,23 @@ impl<Q: Fifo<Character> + Drop> Receiver<Q> {
 
     // Puts a character into the queue. If there is no room, the FIFO loses it, and the single register loses the one that
     // it held.
+    #[tactic(auto, using(crate::proofs::Status::same_front, crate::proofs::Status::lost))]
+    #[inline(always)]
     fn come_in(&mut self, fifo: bool, new: Character)
         ensures { self.new ≡ spec.come_in fifo new self.old }
     {
         if self.queue.len() < room_of(fifo) {
-            if self.queue.is_empty() {
-                self.is_front_reported = false;
-            }
+            let is_first = self.queue.is_empty();
             self.queue.push(new);
-            set_mark(&mut self.marks, new.origin, ArrivalMark::Waiting);
+            if is_first {
+                self.is_front_reported = false;
+                self.status = status_of(&self.queue, self.is_overrun, false);
+            }
+            self.journal.set_mark(new.origin, ArrivalMark::Waiting);
         } else if fifo {
             self.is_overrun = true;
-            set_mark(&mut self.marks, new.origin, ArrivalMark::Dropped);
+            self.status = self.status.union(LSR::OVERRUN_ERROR);
+            self.journal.set_mark(new.origin, ArrivalMark::Dropped);
         } else {
             self.replace(new);
             return;
@@ -266,6 +247,7 @@ impl<Q: Fifo<Character> + Drop> Receiver<Q> {
     }
 
     // Replaces the character in the receiver, which is dropped.
+    #[inline(never)]
     fn replace(&mut self, new: Character)
         ensures { self.new ≡ spec.replace self.old.queue new self.old }
     {
@@ -276,9 +258,10 @@ impl<Q: Fifo<Character> + Drop> Receiver<Q> {
         self.queue.push(new);
         self.is_overrun = true;
         self.is_front_reported = false;
+        self.status = status_of(&self.queue, true, false);
         self.timeout_ticks = 0;
-        set_mark(&mut self.marks, old.origin, ArrivalMark::Dropped);
-        set_mark(&mut self.marks, new.origin, ArrivalMark::Waiting);
+        self.journal.set_mark(old.origin, ArrivalMark::Dropped);
+        self.journal.set_mark(new.origin, ArrivalMark::Waiting);
         if new.origin.is_stray() {
             self.is_stray_lost = false;
         } else if old.origin.is_stray() {
@@ -321,9 +304,11 @@ impl<Q: Fifo<Character> + Drop> Receiver<Q> {
         ensures { self.new ≡ spec.arrive loopback fifo byte errors self.old }
     {
         let origin = Origin::Arrived(self.arrived);
-        self.arrived += 1;
+        if self.arrived < self.journal.len() {
+            self.arrived += 1;
+        }
         if loopback {
-            set_mark(&mut self.marks, origin, ArrivalMark::Discarded);
+            self.journal.set_mark(origin, ArrivalMark::Discarded);
         } else {
             self.come_in(
                 fifo,
@@ -361,26 +346,35 @@ impl<Q: Fifo<Character> + Drop> Receiver<Q> {
             self.is_front_reported = false;
             self.timeout_ticks = 0;
             self.last_byte = front.byte;
-            set_mark(&mut self.marks, front.origin, ArrivalMark::Read);
+            self.status = status_of(&self.queue, self.is_overrun, false);
+            self.journal.set_mark(front.origin, ArrivalMark::Read);
         }
         self.last_byte
     }
 
     /// Does what a read of LSR does: clears the overrun and the errors of the front.
+    #[tactic(auto, using(crate::proofs::Status::reported_some, crate::proofs::Status::reported_none))]
     pub fn report(&mut self)
         ensures { self.new ≡ spec.report self.old }
     {
-        self.is_overrun = false;
-        if !self.queue.is_empty() {
+        if self.queue.is_empty() {
+            self.status = LSR::empty();
+            self.is_overrun = false;
+        } else {
+            self.status = LSR::DATA_READY;
+            self.is_overrun = false;
             self.is_front_reported = true;
         }
     }
 
     /// Empties the queue. Its characters are discarded.
+    #[tactic(auto, using(crate::proofs::Status::cleared))]
     pub fn clear(&mut self)
         ensures { self.new ≡ spec.clear self.old }
     {
-        discard(&mut self.queue, &mut self.marks);
+        self.journal.discard(&self.queue);
+        self.queue.clear();
+        self.status = flag(self.is_overrun, LSR::OVERRUN_ERROR);
     }
 
     /// Sets the trigger level.
@@ -397,23 +391,18 @@ impl<Q: Fifo<Character> + Drop> Receiver<Q> {
         self.queue.is_empty()
     }
 
-    /// Returns whether a character was lost since the last read of LSR.
-    pub fn is_overrun(&self) -> bool
-        ensures { result ≡ self.now.is_overrun }
+    /// Returns what LSR shows of the receiver, but for the errors behind the front.
+    pub fn status(&self) -> LSR
+        ensures { result.0 ≡ receiver_status self.now.queue self.now.is_overrun self.now.is_front_reported }
     {
-        self.is_overrun
+        self.status
     }
 
-    /// Returns the errors of the front, unless they were reported.
-    pub fn front_errors(&self) -> LSR
-        ensures { result.0 ≡ front_errors self.now.queue self.now.is_front_reported }
+    /// Returns whether a character has errors.
+    pub fn has_errors(&self) -> bool
+        ensures { result ≡ list_any has_errors self.now.queue }
     {
-        match self.queue.get(0) {
-            Some(front) if !self.is_front_reported => {
-                LSR::from_bits_retain(front.errors).intersection(LSR::CHARACTER_ERRORS)
-            }
-            _ => LSR::empty(),
-        }
+        self.queue.has_errors()
     }
 
     /// Returns whether a character has errors that were not reported.
@@ -466,13 +455,15 @@ impl<Q: Fifo<Character> + Drop> Receiver<Q> {
     pub fn arrivals(&self) -> usize
         ensures { result ≡ length self.now.marks }
     {
-        self.marks.len()
+        self.journal.len()
     }
+}
 
+impl<Q: Fifo<Character> + Drop> Receiver<Q, Marks> {
     /// Returns what became of the arrival with this number.
     pub fn mark(&self, i: usize) -> Option<ArrivalMark>
         ensures { result ≡ slice_get self.now.marks i }
     {
-        self.marks.get(i).copied()
+        self.journal.get(i)
     }
 }

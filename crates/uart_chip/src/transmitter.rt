@@ -1,17 +1,19 @@
 //! The transmitter: a queue, the shift register, and the wire.
-ghost use Rattle.std.specs.Prelude.{◌≡◌, ◌==◌, ◌<◌, ◌≤◌, ◌-◌, [], ◌∷◌, ◌++◌, length, slice_get, IfOk};
+ghost use Rattle.std.specs.Prelude.{◌≡◌, ◌==◌, ◌<◌, ◌≤◌, ◌-◌, [], length, slice_get};
 ghost use Rattle.uart_chip.specs.Transmitter as spec;
 ghost use Rattle.uart_chip.specs.Transmitter.{room, looped_byte, held};
 ghost use Rattle.uart_spec.specs.declared.baud.TheConstants.{FIFO_SIZE};
 ghost use Rattle.uart_chip.specs.Data.{transmitter_of};
-ghost use Rattle.uart_chip.specs.Chip.{is_transmitter_empty};
+ghost use Rattle.uart_chip.specs.Status.{transmitter_status};
 ghost use Rattle.uart_chip.specs.Jumps.{next_move, count_down};
 
 use crate::fifo::{Fifo, fill, items_of, room_of};
+use crate::wire::Wire;
 use arrayvec::ArrayVec;
-use std::alloc::{AllocError, Global};
+use bitflags::Flags;
 use std::marker::Model;
 use uart_spec::FIFO_SIZE;
+use uart_spec::registers::LSR;
 
 /// The character in the shift register.
 #[derive(Clone, Copy)]
@@ -42,18 +44,19 @@ pub struct TransmitterData {
 /// The transmitter: bytes that are written to DATA are first in the queue, then in the shift register, and then on the
 /// wire.
 #[derive(Drop)]
-pub struct Transmitter<Q: Fifo<u8> + Drop> {
+pub struct Transmitter<Q: Fifo<u8> + Drop, W: Wire + Drop> {
     queue: Q,
     shift_place: Option<Shifting>,
-    wire: Vec<u8>,
-    capacity: usize,
+    wire: W,
     char_ticks: u16,
     overflows: u64,
     is_thr_pending: bool,
+    status: LSR,
 }
 
-impl<Q: Fifo<u8> + Drop> Model for Transmitter<Q> {
-    ghost use Rattle.std.specs.Prelude.{◌≤◌, vec_capacity};
+impl<Q: Fifo<u8> + Drop, W: Wire + Drop> Model for Transmitter<Q, W> {
+    ghost use Rattle.std.specs.Prelude.{◌≡◌};
+    ghost use Rattle.uart_chip.specs.Status.{transmitter_status};
     ghost use Rattle.uart_chip.specs.Transmitter.{TransmitterState};
 
     ghost Value = { TransmitterState };
@@ -61,70 +64,65 @@ impl<Q: Fifo<u8> + Drop> Model for Transmitter<Q> {
     ghost view = { λ t. record {
       queue = Q.items t.queue;
       shift_place = t.shift_place;
-      wire = t.wire.items;
-      capacity = t.capacity;
+      wire = W.sent t.wire;
+      capacity = W.most t.wire;
       char_ticks = t.char_ticks;
       overflows = t.overflows;
       is_thr_pending = t.is_thr_pending;
     } };
 
-    ghost invariant = { λ t. t.capacity ≤ vec_capacity t.wire };
+    // What LSR shows of the transmitter is kept.
+    ghost invariant = { λ t. t.status.0 ≡ transmitter_status (Q.items t.queue) t.shift_place };
 }
 
-impl<Q: Fifo<u8> + Drop> Transmitter<Q> {
-    /// Returns a transmitter that has sent nothing, over an empty queue. Allocates its wire.
-    ///
-    /// # Errors
-    ///
-    /// `AllocError` if memory could not be allocated.
-    pub fn new(
-        alloc: Global,
-        queue: Q,
-        char_ticks: u16,
-        capacity: usize,
-    ) -> Result<Self, AllocError>
-        requires { Q.items queue ≡ [] }
-        ensures { IfOk result (λ t. t ≡ spec.fresh char_ticks capacity) }
+// Returns what LSR shows of a transmitter with this queue and this shift register.
+fn status_of<Q: Fifo<u8>>(queue: &Q, shift_place: Option<Shifting>) -> LSR
+    ensures { result.0 ≡ transmitter_status (Q.items queue.now) shift_place }
+{
+    if !queue.is_empty() {
+        LSR::empty()
+    } else if shift_place.is_some() {
+        LSR::THR_EMPTY
+    } else {
+        LSR::THR_EMPTY.union(LSR::TRANSMITTER_EMPTY)
+    }
+}
+
+impl<Q: Fifo<u8> + Drop, W: Wire + Drop> Transmitter<Q, W> {
+    /// Returns a transmitter that has sent nothing, over an empty queue and an empty wire.
+    pub fn new(queue: Q, wire: W, char_ticks: u16) -> Self
+        requires queue { Q.items queue ≡ [] }
+        requires wire { W.sent wire ≡ [] }
+        ensures { result ≡ spec.fresh char_ticks (W.most wire) }
     {
-        let wire = Vec::with_capacity(alloc, capacity)?;
-        Ok(Self {
+        Self {
             queue,
             shift_place: None,
             wire,
-            capacity,
             char_ticks,
             overflows: 0,
             is_thr_pending: false,
-        })
+            status: LSR::THR_EMPTY.union(LSR::TRANSMITTER_EMPTY),
+        }
     }
 
-    /// Returns the transmitter with these data and with these bytes on its wire, over an empty queue. Allocates its wire.
-    ///
-    /// # Errors
-    ///
-    /// `AllocError` if memory could not be allocated.
-    pub fn from_data(
-        alloc: Global,
-        mut queue: Q,
-        saved: &TransmitterData,
-        wire: &[u8],
-    ) -> Result<Self, AllocError>
-        requires empty { Q.items queue ≡ [] }
-        requires room { length wire.now ≤ saved.now.wire_capacity }
-        ensures { IfOk result (λ t. t ≡ transmitter_of saved.now wire.now) }
+    /// Returns the transmitter with these data, over an empty queue and a wire that holds its bytes.
+    pub fn from_data(mut queue: Q, wire: W, saved: &TransmitterData) -> Self
+        requires queue { Q.items queue ≡ [] }
+        requires wire { W.most wire ≡ saved.now.wire_capacity }
+        ensures { result ≡ transmitter_of saved.now (W.sent wire) }
     {
         fill(&mut queue, &saved.queue);
-        let mut bytes = Vec::with_capacity(alloc, saved.wire_capacity)?;
-        bytes.extend_from_slice(wire)?;
-        Ok(Self {
+        let status = status_of(&queue, saved.shift_place);
+        Self {
             queue,
             shift_place: saved.shift_place,
-            wire: bytes,
-            capacity: saved.wire_capacity,
+            wire,
             char_ticks: saved.char_ticks,
             overflows: saved.overflows,
             is_thr_pending: saved.is_thr_pending,
-        })
+            status,
+        }
     }
 
     /// Returns the transmitter as plain data, without the bytes on its wire.
@@ -135,7 +133,7 @@ impl<Q: Fifo<u8> + Drop> Transmitter<Q> {
         TransmitterData {
             queue: items_of(&self.queue),
             shift_place: self.shift_place,
-            wire_capacity: self.capacity,
+            wire_capacity: self.wire.capacity(),
             char_ticks: self.char_ticks,
             overflows: self.overflows,
             is_thr_pending: self.is_thr_pending,
@@ -143,6 +141,7 @@ impl<Q: Fifo<u8> + Drop> Transmitter<Q> {
     }
 
     // Lets one tick pass in the shift register, and returns the byte that loopback returns in it.
+    #[tactic(auto, using(crate::proofs::Status::same_place))]
     fn shift(&mut self, loopback: bool) -> Option<u8>
         ensures after { self.new ≡ spec.shift loopback self.old.shift_place self.old }
         ensures looped { result ≡ looped_byte loopback self.old.shift_place }
@@ -159,11 +158,13 @@ impl<Q: Fifo<u8> + Drop> Transmitter<Q> {
         }
         if loopback {
             self.shift_place = None;
+            self.status = status_of(&self.queue, None);
             return Some(shifting.byte);
         }
-        if self.wire.len() < self.capacity {
-            self.wire.push(shifting.byte).unwrap();
+        if self.wire.room() > 0 {
+            self.wire.push(shifting.byte);
             self.shift_place = None;
+            self.status = status_of(&self.queue, None);
         }
         None
     }
@@ -183,6 +184,7 @@ impl<Q: Fifo<u8> + Drop> Transmitter<Q> {
             if self.queue.is_empty() {
                 self.is_thr_pending = true;
             }
+            self.status = status_of(&self.queue, self.shift_place);
         }
     }
 
@@ -203,7 +205,7 @@ impl<Q: Fifo<u8> + Drop> Transmitter<Q> {
         match self.shift_place {
             None if self.queue.is_empty() => None,
             None => Some(1),
-            Some(shifting) if loopback || self.wire.len() < self.capacity => {
+            Some(shifting) if loopback || self.wire.room() > 0 => {
                 Some(shifting.ticks_left.max(1))
             }
             Some(_) => None,
@@ -211,6 +213,7 @@ impl<Q: Fifo<u8> + Drop> Transmitter<Q> {
     }
 
     /// Lets ticks pass in which no character enters or leaves the shift register.
+    #[tactic(auto, using(crate::proofs::Status::same_after))]
     pub fn count_down(&mut self, ticks: u16)
         ensures { self.new ≡ count_down ticks self.old }
     {
@@ -228,6 +231,7 @@ impl<Q: Fifo<u8> + Drop> Transmitter<Q> {
     }
 
     /// Takes a byte that is written to DATA. If there is no room, the FIFO loses it, and THR loses the byte that it held.
+    #[tactic(auto, using(crate::proofs::Status::busy))]
     pub fn load(&mut self, fifo: bool, byte: u8)
         ensures { self.new ≡ spec.load fifo byte self.old }
     {
@@ -241,6 +245,7 @@ impl<Q: Fifo<u8> + Drop> Transmitter<Q> {
             self.overflows = self.overflows.saturating_add(1);
         }
         self.is_thr_pending = false;
+        self.status = LSR::empty();
     }
 
     /// Returns whether the FIFO, or THR, is empty.
@@ -250,11 +255,11 @@ impl<Q: Fifo<u8> + Drop> Transmitter<Q> {
         self.queue.is_empty()
     }
 
-    /// Returns whether there is nothing left to send.
-    pub fn is_empty(&self) -> bool
-        ensures { result ≡ is_transmitter_empty self.now.queue self.now.shift_place }
+    /// Returns what LSR shows of the transmitter.
+    pub fn status(&self) -> LSR
+        ensures { result.0 ≡ transmitter_status self.now.queue self.now.shift_place }
     {
-        self.queue.is_empty() && self.shift_place.is_none()
+        self.status
     }
 
     /// Returns whether a `THR_EMPTY` interrupt is pending.
@@ -276,6 +281,7 @@ impl<Q: Fifo<u8> + Drop> Transmitter<Q> {
         ensures { self.new ≡ record self.old { queue = [] } }
     {
         self.queue.clear();
+        self.status = status_of(&self.queue, self.shift_place);
     }
 
     /// Returns the bytes on the wire, from the first that was sent.
@@ -289,17 +295,14 @@ impl<Q: Fifo<u8> + Drop> Transmitter<Q> {
     pub fn take_wire(&mut self, count: usize)
         ensures { self.new ≡ spec.take_wire count self.old }
     {
-        let len = self.wire.len();
-        let count = count.min(len);
-        self.wire.copy_within(count..len, 0);
-        self.wire.truncate(len - count);
+        self.wire.take(count);
     }
 
     /// Returns how many more bytes the wire has room for.
     pub fn wire_room(&self) -> usize
         ensures { result ≡ self.now.capacity - length self.now.wire }
     {
-        self.capacity.saturating_sub(self.wire.len())
+        self.wire.room()
     }
 
     /// Returns how many bytes were written while there was no room. The count saturates.

@@ -1,0 +1,38 @@
+use Rattle.std.proofs.Common.{◌≡◌, ◌<◌, ◌≤◌, ◌+◌, ◌%◌, [], ◌∷◌, ◌++◌, take, length, ap, ◌∙◌, arith, rules}
+use Rattle.std.proofs.lemmas.List.{length-take-le, length-set}
+use Rattle.uart_chip.specs.Ring.{window}
+use Rattle.uart_chip.specs.Wire.{WireState}
+use Rattle.uart_chip.proofs.Rings.{length-window, window_after_push, both_set}
+use Rattle.uart_chip.proofs.wire.FixedWireWire.push.Goals as goal
+
+pub invariant_of-self : goal.invariant_of-self
+invariant_of-self c =
+    let q = c.self.inside in
+    let half = length-take-le 64 q.slots (omega (arith, c.self.invariant.3)) in
+    let fits : q.count ≤ 64 = omega (arith, c.self.invariant.1, c.self.invariant.2) in
+    let waiting = length-window 64 q.start q.count (take 64 q.slots) c.self.invariant.0 fits half in
+    let same = ap (λ (w : WireState). length w.bytes) c.self.view_is in
+    let most = ap (λ (w : WireState). w.capacity) c.self.view_is in
+    let place = (q.start + q.count) % 64 in
+    let below : place < 64 = omega arith in (
+      c.self.invariant.0,
+      omega (arith, c.requires, waiting, same, most),
+      c.self.invariant.2,
+      length-set _ _ _ ∙ (length-set q.slots place c.args.byte ∙ c.self.invariant.3),
+      (both_set 64 place q.slots c.args.byte below c.self.invariant.4).1,
+    )
+
+pub returns-clause-bytes : goal.returns-clause-bytes
+returns-clause-bytes c =
+    let q = c.self.inside in
+    let half = length-take-le 64 q.slots (omega (arith, c.self.invariant.3)) in
+    let fits : q.count ≤ 64 = omega (arith, c.self.invariant.1, c.self.invariant.2) in
+    let waiting = length-window 64 q.start q.count (take 64 q.slots) c.self.invariant.0 fits half in
+    let same = ap (λ (w : WireState). length w.bytes) c.self.view_is in
+    let most = ap (λ (w : WireState). w.capacity) c.self.view_is in
+    let place = (q.start + q.count) % 64 in
+    let below : place < 64 = omega arith in
+    let has_room : q.count < 64 = omega (arith, c.requires, waiting, same, most, c.self.invariant.2) in
+    ap (λ xs. window q.start (q.count + 1) xs) (both_set 64 place q.slots c.args.byte below c.self.invariant.4).0 ∙
+    (window_after_push 64 q.start q.count (take 64 q.slots) c.self.invariant.0 fits half c.args.byte has_room ∙
+    ap (λ (w : WireState). w.bytes ++ c.args.byte ∷ []) c.self.view_is)
