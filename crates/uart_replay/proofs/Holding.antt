@@ -4,8 +4,10 @@ use Rattle.uart_chip.specs.declared.event.Event.{Event}
 use Rattle.uart_chip.specs.declared.event.Event.TheVariants.{Ticks, Access as Gate, Mark}
 use Rattle.uart_chip.specs.Chip.{ChipState, LatchesState, tick, ticks}
 use Rattle.uart_chip.specs.Machine.{perform, before_access}
+use Rattle.uart_device.proofs.lasting.Lasting.{lasts-before}
 use Rattle.uart_replay.specs.declared.known.Known.{Known}
 use Rattle.uart_replay.specs.declared.latches.KnownLatches.{KnownLatches}
+use Rattle.uart_replay.proofs.Between.{SenderHolds, HasCharacter, sender_lasts, has-before}
 
 -- the value is this one, if it is known
 abbrev pub Agrees : {A : Type 0} → Option A → A → Type 0
@@ -26,6 +28,15 @@ pub record Holds (k : Known) (c : ChipState) : Type 0 where
   pub model : c.model ≡ k.model
   pub latches : LatchesHold k.latches c.latches
   pub fifo : Agrees k.fifo c.fifo
+  pub sender : SenderHolds k.sender c.transmitter
+  pub waits : k.waits ≡ true → HasCharacter c.receiver
+
+-- what holds of a value holds of one that equals it
+pub latches_moved : (k : KnownLatches) (l m : LatchesState) → m ≡ l → LatchesHold k l → LatchesHold k m
+latches_moved k l m e h = rw e h
+
+pub fifo_moved : (o : Option Bool) (a b : Bool) → b ≡ a → Agrees o a → Agrees o b
+fifo_moved o a b e h = rw e h
 
 -- ---- two chips of one model, with the same latches and the FIFO on or off in both
 
@@ -44,13 +55,6 @@ pub same_if : (c d e : ChipState) (b : Bool) → Same c d → Same c e → Same 
 same_if c d e true p q = p
 same_if c d e false p q = q
 
-pub holds_same : (k : Known) (c d : ChipState) → Same c d → Holds k c → Holds k d
-holds_same k c d p h = record {
-  model = p.model ∙ h.model;
-  latches = rw p.latches h.latches;
-  fifo = rw p.fifo h.fifo;
-}
-
 -- ---- between the accesses
 
 same_tick : (c : ChipState) → Same c (tick c)
@@ -64,10 +68,21 @@ same_perform : (event : Event) (c : ChipState) → Same c (perform event c)
 same_perform (Ticks n) c = same_ticks n c
 same_perform _ c = record { model = refl; latches = refl; fifo = refl }
 
-pub same_before : (events : List Event) (c : ChipState) → Same c (before_access events c)
+same_before : (events : List Event) (c : ChipState) → Same c (before_access events c)
 same_before [] c = same_tick c
 same_before (Gate ∷ events) c = same_refl c
 same_before (Mark ∷ events) c = same_tick c
 same_before (event ∷ events) c =
     same_trans c (perform event c) (before_access events (perform event c)) (same_perform event c)
     (same_before events (perform event c))
+
+pub holds_before : (events : List Event) (k : Known) (c : ChipState) → Holds k c → Holds k (before_access events c)
+holds_before events k c h =
+    let p : Same c (before_access events c) = same_before events c in
+    record {
+      model = p.model ∙ h.model;
+      latches = latches_moved k.latches c.latches _ p.latches h.latches;
+      fifo = fifo_moved k.fifo c.fifo _ p.fifo h.fifo;
+      sender = lasts-before (SenderHolds k.sender) (sender_lasts k.sender).in_tick events c h.sender;
+      waits = λ e. has-before events c (h.waits e);
+    }

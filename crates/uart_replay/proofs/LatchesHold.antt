@@ -59,7 +59,7 @@ agrees_dlab : (lcr : Option ℕ) (value : ℕ) → Agrees lcr value → Agrees (
 agrees_dlab None value a = tt
 agrees_dlab (Some lcr) value a = ap (λ n. has_any n LCR.DLAB.0) a
 
-knows_dlab : (k : KnownLatches) (l : LatchesState) → LatchesHold k l → Agrees (dlab k) (is_dlab_set l)
+pub knows_dlab : (k : KnownLatches) (l : LatchesState) → LatchesHold k l → Agrees (dlab k) (is_dlab_set l)
 knows_dlab k l h = agrees_dlab k.lcr l.lcr h.lcr
 
 -- ---- one latch changes

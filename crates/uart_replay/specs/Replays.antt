@@ -10,7 +10,7 @@ use Rattle.uart_replay.specs.declared.known.Known.{Known}
 use Rattle.uart_replay.specs.declared.known.Start.{Start}
 use Rattle.uart_replay.specs.declared.known.Start.TheVariants.{Reset, InUse}
 use Rattle.uart_replay.specs.declared.rule.Rule.{Rule}
-use Rattle.uart_replay.specs.Known.{after_read, after_write}
+use Rattle.uart_replay.specs.Known.{after_read, after_asking, after_write}
 use Rattle.uart_replay.specs.Rules.{broken}
 
 -- ---- machines that explain accesses
@@ -68,7 +68,7 @@ NoneReturns model start seen offset value =
 abbrev pub known_after : Known → Seen → Known
 known_after k (Did (Read offset value)) = after_read offset value k
 known_after k (Did (Write offset value)) = after_write offset value k
-known_after k (Asked offset) = k
+known_after k (Asked offset) = after_asking offset k
 
 -- what is known after accesses
 abbrev pub known_from : Known → List Seen → Known

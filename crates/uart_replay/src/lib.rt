@@ -10,9 +10,11 @@ mod known;
 mod latches;
 mod replayer;
 mod rule;
+#[cfg(test)]
+mod tests;
 
 pub use difference::Difference;
-pub use known::{Known, Start};
+pub use known::{Known, Sender, Start};
 pub use latches::KnownLatches;
 pub use replayer::Replayer;
 pub use rule::{Rule, broken};

@@ -46,11 +46,14 @@ impl Replayer {
                 self.known = self.known.after_read(offset, value);
                 None
             }
-            Some(rule) => Some(Difference {
-                offset,
-                recorded: value,
-                rule,
-            }),
+            Some(rule) => {
+                self.known = self.known.after_asking(offset);
+                Some(Difference {
+                    offset,
+                    recorded: value,
+                    rule,
+                })
+            }
         }
     }
 
