@@ -39,6 +39,45 @@ static void receive(struct uart_chip *chip)
     printf("\"\n");
 }
 
+/* Says whether the saved data are a chip. */
+static void load(const char *what, const struct uart_chip *saved)
+{
+    struct uart_chip chip;
+    uint32_t status;
+
+    uart_chip_new(&chip, UART_16450, CHAR_TICKS, WIRE_CAPACITY, UART_WHOLE_BYTES);
+    uart_chip_write(&chip, UART_OFFSET_SPR, 0x5a);
+    status = uart_chip_load(&chip, saved);
+    printf("%s: load %" PRIu32 ", then SPR %02x\n", what, status, uart_chip_read(&chip, UART_OFFSET_SPR));
+}
+
+/* What is no chip is refused, and changes nothing. */
+static void refuse(struct uart_chip sound)
+{
+    struct uart_chip saved;
+
+    uart_chip_write(&sound, UART_OFFSET_SPR, 0x33);
+    uart_chip_save(&sound, &saved);
+    load("saved", &saved);
+    saved.latches.ier = UART_IER_DMA_TX_END;
+    load("IER with a bit that is not kept", &saved);
+    saved = sound;
+    saved.model = UART_16450;
+    load("a 16450 with its FIFO on", &saved);
+    saved = sound;
+    saved.receiver.queue.items[0].errors = UART_LSR_OVERRUN_ERROR;
+    load("a character with an overrun", &saved);
+    saved = sound;
+    saved.transmitter.char_ticks = 0;
+    load("no ticks", &saved);
+    saved = sound;
+    saved.transmitter.wire.capacity = 1, saved.transmitter.wire.len = 2;
+    load("a full wire with one byte more", &saved);
+    saved = sound;
+    saved.receiver.timeout_limit++;
+    load("another limit", &saved);
+}
+
 /* A byte goes out and one arrives, with LCR as after power on: five bits. */
 static void use_five_bits(uint8_t cuts)
 {
@@ -91,6 +130,7 @@ int main(void)
     show_status(&chip, "four characters");
     printf("bad error bits: %" PRIu32 "\n", uart_chip_arrive(&chip, 'e', UART_LSR_DATA_READY));
 
+    refuse(chip);
     saved = chip; /* a snapshot is a copy */
     receive(&chip);
     chip = saved;

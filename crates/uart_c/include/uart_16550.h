@@ -27,7 +27,8 @@ enum uart_status {
     UART_BAD_TICKS = 1,  /* a character takes 1 to 1000 ticks */
     UART_BAD_WIRE = 2,   /* the wire has room for at most UART_WIRE_ROOM bytes */
     UART_BAD_ERRORS = 3, /* a character has parity, framing and break errors alone */
-    UART_BAD_LINES = 4   /* the modem lines are CTS, DSR, RI and CD */
+    UART_BAD_LINES = 4,  /* the modem lines are CTS, DSR, RI and CD */
+    UART_BAD_CHIP = 5    /* the saved data are those of no sound chip */
 };
 
 /* --------------------------------------------------------------- the registers
@@ -131,7 +132,8 @@ enum uart_status {
 
 /* ------------------------------------------------------------------ the chip
  *
- * The chip is plain data of its owner: a copy of the struct is a snapshot, and to copy it back restores the chip.
+ * The chip is plain data of its owner: a copy of the struct is a snapshot, and to copy it back restores the chip. A snapshot
+ * that comes from elsewhere, as from a file, is restored by uart_chip_load, which refuses what is no chip.
  *
  * Its owner makes the guest's accesses with uart_chip_read and uart_chip_write, lets time pass with uart_chip_ticks, brings
  * characters with uart_chip_arrive, takes what goes out with uart_chip_take_wire, and asks for the level of the interrupt
@@ -222,6 +224,23 @@ struct uart_chip {
  * Returns UART_OK, UART_BAD_TICKS or UART_BAD_WIRE.
  */
 uint32_t uart_chip_new(struct uart_chip *chip, uint8_t model, uint16_t char_ticks, uint8_t wire_capacity, uint8_t cuts);
+
+/*
+ * Makes a chip like one that was saved, which may come from anywhere. It is refused exactly if it is no sound chip, that is,
+ * if one of these holds. No chip that was made by uart_chip_new and used by the functions below is refused.
+ *
+ * - a queue has more than there is room for, which is one item without FIFO, or the wire more than its capacity;
+ * - a character takes no 1 to 1000 ticks, or the one in the shift place has no 1 to char_ticks left;
+ * - timeout_limit is not four character times, or timeout_ticks is more;
+ * - a character has other errors than parity, framing and break;
+ * - IER, MCR or the modem's fields have bits that the chip does not keep, or the FIFO is on in a 16450.
+ *
+ * Returns UART_OK or UART_BAD_CHIP.
+ */
+uint32_t uart_chip_load(struct uart_chip *chip, const struct uart_chip *saved);
+
+/* Saves a chip: saved becomes a chip that goes on as this one, with each flag 0 or 1. */
+void uart_chip_save(const struct uart_chip *chip, struct uart_chip *saved);
 
 /* The guest reads the register. Of the offset the lowest three bits count. */
 uint8_t uart_chip_read(struct uart_chip *chip, uint8_t offset);

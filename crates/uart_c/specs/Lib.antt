@@ -1,6 +1,7 @@
 pub mod Queue
 pub mod State
 pub mod Status
+pub mod Saved
 pub mod Driver
 pub mod Calls
 pub mod Steps

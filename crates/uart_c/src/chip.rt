@@ -98,6 +98,19 @@ impl UartChip {
         }
     }
 
+    /// Becomes a chip like this one, with its flags as 0 and 1.
+    pub fn restore(&mut self, saved: &Self)
+        ensures { chip_of self.new ≡ chip_of saved.now }
+    {
+        self.transmitter.restore(&saved.transmitter);
+        self.receiver.restore(&saved.receiver);
+        self.latches = saved.latches;
+        self.modem = saved.modem;
+        self.model = is_on(saved.model) as u8;
+        self.fifo = is_on(saved.fifo) as u8;
+        self.cuts = is_on(saved.cuts) as u8;
+    }
+
     // A byte as it is sent and received.
     fn cut(&self, byte: u8) -> u8
         ensures { result ≡ spec.cut_of (chip_of self.now) byte }

@@ -16,6 +16,9 @@ pub const UART_BAD_ERRORS: u32 = 3;
 /// The modem lines have other bits than CTS, DSR, RI and CD.
 pub const UART_BAD_LINES: u32 = 4;
 
+/// The saved data are those of no sound chip.
+pub const UART_BAD_CHIP: u32 = 5;
+
 // The calls of the driver: `enum uart_call_kind`.
 
 pub const UART_INIT: u8 = 0;

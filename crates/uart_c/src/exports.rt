@@ -3,10 +3,11 @@ ghost use Rattle.std.specs.Prelude.{◌≡◌, ◌≢◌, ◌++◌, ◌-◌, ◌
 ghost use Rattle.uart_c.specs.Queue as queue_spec;
 ghost use Rattle.uart_c.specs.State.{chip_of, model_of};
 ghost use Rattle.uart_c.specs.Status.{new_status};
-ghost use Rattle.uart_c.specs.declared.codes.TheConstants.{UART_OK, UART_BAD_ERRORS, UART_BAD_LINES};
+ghost use Rattle.uart_c.specs.declared.codes.TheConstants.{UART_OK, UART_BAD_CHIP, UART_BAD_ERRORS, UART_BAD_LINES};
 ghost use Rattle.uart_chip.specs.Chip as spec;
 ghost use Rattle.uart_chip.specs.Masks.{IsWithin};
 ghost use Rattle.uart_chip.specs.Transmitter.{held};
+ghost use Rattle.uart_live.specs.Live.{IsLive};
 ghost use Rattle.uart_spec.specs.Bits as bits_spec;
 ghost use Rattle.uart_spec.specs.Bits.{flag};
 ghost use Rattle.uart_spec.specs.declared.baud.TheConstants.{NUM_REGISTERS};
@@ -14,8 +15,11 @@ ghost use Rattle.uart_spec.specs.declared.registers.line_status.TheConstants.LSR
 ghost use Rattle.uart_spec.specs.declared.registers.modem_status.TheConstants.MSR;
 
 use crate::chip::UartChip;
-use crate::codes::{UART_BAD_ERRORS, UART_BAD_LINES, UART_BAD_TICKS, UART_BAD_WIRE, UART_OK};
+use crate::codes::{
+    UART_BAD_CHIP, UART_BAD_ERRORS, UART_BAD_LINES, UART_BAD_TICKS, UART_BAD_WIRE, UART_OK,
+};
 use crate::queue::WIRE_ROOM;
+use crate::sound::is_sound;
 use bitflags::Flags;
 use uart_chip::MAX_CHAR_TICKS;
 use uart_spec::NUM_REGISTERS;
@@ -45,6 +49,27 @@ pub extern "C" fn uart_chip_new(
     }
     *chip = UartChip::new(model, char_ticks, wire_capacity, cuts);
     UART_OK
+}
+
+/// Makes a chip like one that was saved, unless the data are those of no sound chip.
+#[unsafe(no_mangle)]
+pub extern "C" fn uart_chip_load(chip: &mut UartChip, saved: &UartChip) -> u32
+    ensures accepted { IsLive (chip_of saved.now) → (result ≡ UART_OK) × (chip_of chip.new ≡ chip_of saved.now) }
+    ensures refused { (IsLive (chip_of saved.now) → ⊥) → (result ≡ UART_BAD_CHIP) × (chip.new ≡ chip.old) }
+{
+    if !is_sound(saved) {
+        return UART_BAD_CHIP;
+    }
+    chip.restore(saved);
+    UART_OK
+}
+
+/// Saves a chip.
+#[unsafe(no_mangle)]
+pub extern "C" fn uart_chip_save(chip: &UartChip, saved: &mut UartChip)
+    ensures { chip_of saved.new ≡ chip_of chip.now }
+{
+    saved.restore(chip);
 }
 
 /// The guest reads a register.

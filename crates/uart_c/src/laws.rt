@@ -1,7 +1,8 @@
-//! Laws about the numbers that the header has too.
+//! Laws about the numbers that the header has too, and about sound chips.
 //!
 //! The contract of each function is a law that callers can cite. The functions do nothing.
 ghost use Rattle.std.specs.Prelude.{◌≡◌, [], ◌∷◌};
+ghost use Rattle.uart_c.specs.Saved.{MadeChipsAreSound, SoundChipsStaySound};
 ghost use Rattle.uart_c.specs.declared.codes.TheConstants as code;
 ghost use Rattle.uart_c.specs.declared.queue.TheConstants.{WIRE_ROOM};
 ghost use Rattle.uart_calls.specs.declared.call.TheConstants.{CALL_BYTES};
@@ -11,8 +12,8 @@ ghost use Rattle.uart_spec.specs.declared.baud.TheConstants.{FIFO_SIZE};
 /// The numbers of each enum of the header, in its order.
 pub fn codes_are_these()
     ensures status { (code.UART_OK ∷ code.UART_BAD_TICKS ∷ code.UART_BAD_WIRE ∷ code.UART_BAD_ERRORS
-        ∷ code.UART_BAD_LINES ∷ [])
-        ≡ (0 ∷ 1 ∷ 2 ∷ 3 ∷ 4 ∷ []) }
+        ∷ code.UART_BAD_LINES ∷ code.UART_BAD_CHIP ∷ [])
+        ≡ (0 ∷ 1 ∷ 2 ∷ 3 ∷ 4 ∷ 5 ∷ []) }
     ensures parity { (code.UART_PARITY_NONE ∷ code.UART_PARITY_ODD ∷ code.UART_PARITY_EVEN ∷ code.UART_PARITY_FORCED_1
         ∷ code.UART_PARITY_FORCED_0 ∷ [])
         ≡ (0 ∷ 1 ∷ 2 ∷ 3 ∷ 4 ∷ []) }
@@ -49,4 +50,10 @@ pub fn limits_are_these()
     ensures fifo { FIFO_SIZE ≡ 16 }
     ensures bytes { CALL_BYTES ≡ 64 }
     ensures ticks { MAX_CHAR_TICKS ≡ 1000 }
+{}
+
+/// A chip that is made is sound, and stays so whatever is done with it. So `uart_chip_load` refuses no chip that was saved.
+pub fn sound_chips_stay_sound()
+    ensures made { MadeChipsAreSound }
+    ensures stay { SoundChipsStaySound }
 {}

@@ -14,5 +14,6 @@ mod laws;
 mod modem;
 mod queue;
 mod receiver;
+mod sound;
 mod stepping;
 mod transmitter;

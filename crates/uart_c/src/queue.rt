@@ -69,6 +69,19 @@ pub fn push<T: Copy>(len: &mut u8, items: &mut [T], item: T)
     *len = last as u8 + 1;
 }
 
+/// Puts these items in the place of those that are there.
+pub fn put_all<T: Copy>(len: &mut u8, items: &mut [T], all: &[T])
+    requires room { length all.now ≤ length items.old }
+    requires fits { length items.old ≤ WIRE_ROOM }
+    ensures size { length items.new ≡ length items.old }
+    ensures items { take len.new items.new ≡ all.now }
+{
+    *len = 0;
+    for item in all {
+        push(len, items, *item);
+    }
+}
+
 /// Takes the front.
 #[tactic(auto, using(crate::proofs::Queues::alone))]
 pub fn pop_front<T: Copy>(len: &mut u8, items: &mut [T]) -> Option<T>
@@ -116,6 +129,15 @@ impl UartWire {
         ensures { result ≡ spec.capacity_of self.now }
     {
         (self.capacity as usize).min(WIRE_ROOM)
+    }
+
+    /// Becomes a wire like this one.
+    pub fn restore(&mut self, saved: &Self)
+        ensures items { spec.wire_of self.new ≡ spec.wire_of saved.now }
+        ensures capacity { spec.capacity_of self.new ≡ spec.capacity_of saved.now }
+    {
+        self.capacity = saved.capacity() as u8;
+        put_all(&mut self.len, &mut self.items, &saved.items[..saved.len()]);
     }
 
     /// A byte goes out.

@@ -10,11 +10,14 @@ ghost use Rattle.uart_chip.specs.Transmitter.{room};
 ghost use Rattle.uart_chip.specs.declared.event.TheConstants.{MAX_CHAR_TICKS};
 ghost use Rattle.uart_spec.specs.declared.baud.TheConstants.{FIFO_SIZE};
 
-use crate::queue::{UartCharacter, UartCharacters, count, is_on, pop_front, push};
+use crate::queue::{UartCharacter, UartCharacters, count, is_on, pop_front, push, put_all};
 use bitflags::Flags;
 use uart_chip::room_of;
 use uart_spec::FIFO_SIZE;
 use uart_spec::registers::{FifoTriggerLevel, LSR};
+
+/// The number of character times after which a reception timeout is due.
+pub const TIMEOUT_CHARACTERS: u16 = 4;
 
 /// What receives: characters wait in the queue for a read of the data register.
 #[repr(C)]
@@ -76,7 +79,7 @@ impl UartReceiver {
     {
         UartReceiver {
             timeout_ticks: 0,
-            timeout_limit: 4 * char_ticks,
+            timeout_limit: TIMEOUT_CHARACTERS * char_ticks,
             is_overrun: 0,
             is_front_reported: 0,
             last_byte: 0,
@@ -90,6 +93,20 @@ impl UartReceiver {
                 }; FIFO_SIZE],
             },
         }
+    }
+
+    /// Becomes a receiver like this one.
+    pub fn restore(&mut self, saved: &Self)
+        ensures { receiver_of self.new ≡ receiver_of saved.now }
+    {
+        self.timeout_ticks = saved.timeout_ticks;
+        self.timeout_limit = saved.timeout_limit;
+        self.is_overrun = is_on(saved.is_overrun) as u8;
+        self.is_front_reported = is_on(saved.is_front_reported) as u8;
+        self.last_byte = saved.last_byte;
+        self.trigger = characters_of(trigger_of(saved.trigger));
+        let waiting = &saved.queue.items[..saved.len()];
+        put_all(&mut self.queue.len, &mut self.queue.items, waiting);
     }
 
     // A character comes in.

@@ -7,7 +7,7 @@ ghost use Rattle.uart_chip.specs.Jumps as jumps;
 ghost use Rattle.uart_chip.specs.Transmitter as spec;
 ghost use Rattle.uart_chip.specs.Transmitter.{held, looped_byte};
 
-use crate::queue::{UartBytes, UartWire, WIRE_ROOM, count, is_on, pop_front, push};
+use crate::queue::{UartBytes, UartWire, WIRE_ROOM, count, is_on, pop_front, push, put_all};
 use uart_spec::FIFO_SIZE;
 
 /// What sends: bytes wait in the queue, one is shifted out, and then it is on the wire.
@@ -49,8 +49,23 @@ impl UartTransmitter {
         }
     }
 
-    // How many bytes are in the queue.
-    fn len(&self) -> usize
+    /// Becomes a transmitter like this one.
+    pub fn restore(&mut self, saved: &Self)
+        ensures { transmitter_of self.new ≡ transmitter_of saved.now }
+    {
+        self.overflows = saved.overflows;
+        self.char_ticks = saved.char_ticks;
+        self.ticks_left = saved.ticks_left;
+        self.is_shifting = is_on(saved.is_shifting) as u8;
+        self.shift_byte = saved.shift_byte;
+        self.is_thr_pending = is_on(saved.is_thr_pending) as u8;
+        self.wire.restore(&saved.wire);
+        let queue = &saved.queue.items[..saved.len()];
+        put_all(&mut self.queue.len, &mut self.queue.items, queue);
+    }
+
+    /// How many bytes are in the queue.
+    pub fn len(&self) -> usize
         ensures { result ≡ length (transmitter_of self.now).queue }
     {
         count(self.queue.len, &self.queue.items)
