@@ -1,3 +1,4 @@
 mod EndedLines
 mod Recordings
 mod Refusals
+mod Traces

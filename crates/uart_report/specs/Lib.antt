@@ -2,3 +2,4 @@ pub mod Comments
 pub mod Recorder
 pub mod Report
 pub mod Run
+pub mod Trace

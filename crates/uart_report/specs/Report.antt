@@ -1,9 +1,11 @@
 -- What is reported for a script.
 use Rattle.std.specs.Prelude.{◌≡◌, ◌≢◌, ℕ, List, []}
+use Rattle.std.specs.List.{flat_map}
 use Rattle.std.specs.String.{string_bytes}
 use Rattle.uart_language.specs.Script.{Plan, IsScript, IsFaulty}
 use Rattle.uart_language.specs.declared.cause.Cause.{Cause}
 use Rattle.uart_machine.specs.Play.{IsPlayed}
+use Rattle.uart_report.specs.Trace.{CallTold, AreTold, call_said, text_said}
 use Rattle.uart_report.specs.declared.reporting.Report.{Report}
 use Rattle.uart_report.specs.declared.request.Task.{Task}
 use Rattle.uart_report.specs.declared.request.Task.TheVariants as task
@@ -13,13 +15,24 @@ use Rattle.uart_report.specs.declared.request.Task.TheVariants as task
 abbrev pub IsPlayedAs : List ℕ → List ℕ → Type 0
 IsPlayedAs text output = IsPlayed text (λ printed. output ≡ printed)
 
--- the text is a script, no error is reported, and the output is what its run prints if it is to be played, and empty if
--- it is to be checked
+-- this is a trace of the script: without its remarks, it says what the calls of a run of the script say, each with all
+-- the accesses that it made, and with the answer that is printed for it
+pub record IsTracedAs (plan : Plan) (text output : List ℕ) : Type 0 where
+  pub printed : List ℕ
+  pub calls : List CallTold
+  pub played : IsPlayedAs text printed
+  pub told : AreTold plan text printed calls
+  pub traced : text_said output ≡ flat_map call_said calls
+
+-- the text is a script, no error is reported, and the output is what its run prints if it is to be played, empty if it
+-- is to be checked, and a trace of it if that is wanted
 pub record IsAccepted (wanted : Task) (text : List ℕ) (report : Report) : Type 0 where
-  pub script : (plan : Plan) × IsScript text plan
+  pub plan : Plan
+  pub script : IsScript text plan
   pub silent : string_bytes report.errors ≡ []
   pub played : wanted ≡ task.Play → IsPlayedAs text report.output.items
   pub checked : wanted ≡ task.Check → report.output.items ≡ []
+  pub traced : wanted ≡ task.Trace → IsTracedAs plan text report.output.items
 
 -- the text is no script, and only a request to play it has an output
 pub record IsRefused (wanted : Task) (text : List ℕ) (report : Report) : Type 0 where

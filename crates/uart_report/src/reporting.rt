@@ -4,7 +4,7 @@ ghost use Rattle.uart_language.specs.Script.{plan_of, IsPlayable};
 ghost use Rattle.uart_language.specs.declared.cause.Cause.{Cause};
 ghost use Rattle.uart_language.specs.declared.cause.ScriptError.TheVariants as errors;
 ghost use Rattle.uart_report.specs.Comments.{plain};
-ghost use Rattle.uart_report.specs.Report.{IsPlayedAs, IsAccepted, IsRefused};
+ghost use Rattle.uart_report.specs.Report.{IsPlayedAs, IsTracedAs, IsAccepted, IsRefused};
 ghost use Rattle.uart_report.specs.declared.request.Task.TheVariants as task;
 
 use crate::comments::plain;
@@ -57,6 +57,35 @@ fn title(alloc: Global, file: &str, script: &Script) -> Result<String, AllocErro
     format!(in alloc; "{file}: {chip}, {ticks} ticks a character")
 }
 
+// Returns the trace of a script with this text and this output.
+fn traced(alloc: Global, script: &Script, text: &[u8], output: &[u8]) -> Result<Vec<u8>, AllocError>
+    requires playable { IsPlayable (plan_of script.now) }
+    requires played { IsPlayedAs text.now output.now }
+    ensures { IfOk result (λ trace. IsTracedAs (plan_of script.now) text.now trace.items) }
+{
+    let history = told(alloc, script, text, output)?;
+    trace(alloc, &history)
+}
+
+// Returns the timeline of a script with this text and this output.
+fn timeline(
+    alloc: Global,
+    request: &Request<'_>,
+    form: Form,
+    script: &Script,
+    text: &[u8],
+    output: &[u8],
+) -> Result<Vec<u8>, AllocError>
+    requires { IsPlayable (plan_of script.now) }
+{
+    let history = told(alloc, script, text, output)?;
+    let timeline = match form {
+        Form::Table => table(alloc, &history)?,
+        Form::Picture => picture(alloc, &history, &title(alloc, request.file, script)?)?,
+    };
+    Ok(timeline.into_bytes())
+}
+
 // Returns what is printed for a script that is accepted.
 fn output_of(
     alloc: Global,
@@ -67,19 +96,15 @@ fn output_of(
     requires { IsPlayable (plan_of script.now) }
     ensures played { request.now.task ≡ task.Play → IfOk result (λ output. IsPlayedAs text.now output.items) }
     ensures checked { request.now.task ≡ task.Check → IfOk result (λ output. output.items ≡ []) }
+    ensures traced { request.now.task ≡ task.Trace → IfOk result (λ output. IsTracedAs (plan_of script.now) text.now output.items) }
 {
     let output = played(alloc, text)?;
-    let told = match request.task {
-        Task::Check => return Ok(Vec::new(alloc)),
-        Task::Play => return Ok(output),
-        Task::Trace => trace(alloc, &told(alloc, script, text, &output)?)?,
-        Task::Timeline(Form::Table) => table(alloc, &told(alloc, script, text, &output)?)?,
-        Task::Timeline(Form::Picture) => {
-            let title = title(alloc, request.file, script)?;
-            picture(alloc, &told(alloc, script, text, &output)?, &title)?
-        }
-    };
-    Ok(told.into_bytes())
+    match request.task {
+        Task::Check => Ok(Vec::new(alloc)),
+        Task::Play => Ok(output),
+        Task::Trace => traced(alloc, script, text, &output),
+        Task::Timeline(form) => timeline(alloc, request, form, script, text, &output),
+    }
 }
 
 // Returns what is printed for a script that is refused.
