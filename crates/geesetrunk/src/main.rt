@@ -7,7 +7,7 @@
 
 mod recordings;
 
-use recordings::{judged, unread};
+use recordings::{Judge, judged, unread};
 use std::process::ExitCode;
 use uart_command::request_in;
 use uart_program::{Failure, STANDARD_INPUT, Status, bytes_of, failed, print, unmatched, words};
@@ -35,13 +35,26 @@ fn done(rt: &HostRuntime, request: &Request<'_>) -> Result<ExitCode, Failure> {
     }
 }
 
-// Does what the command line requests, and returns the exit code. A recording is the only thing that `replay` is for.
+// Returns what a word requests of a recording.
+fn judge_in(word: &str) -> Option<Judge> {
+    match word {
+        "audit" => Some(Judge::Audit),
+        "replay" => Some(Judge::Replay),
+        _ => None,
+    }
+}
+
+// Does what the command line requests, and returns the exit code.
 fn run(rt: &HostRuntime) -> Result<ExitCode, Failure> {
     let words = words(rt)?;
-    match words.as_slice() {
-        [_, command] if command.as_str() == "replay" => return judged(rt, STANDARD_INPUT),
-        [_, command, file] if command.as_str() == "replay" && !file.starts_with("--") => {
-            return judged(rt, file.as_str());
+    let judge = match words.get(1) {
+        Some(word) => judge_in(word.as_str()),
+        None => None,
+    };
+    match (judge, words.as_slice()) {
+        (Some(judge), [_, _]) => return judged(rt, judge, STANDARD_INPUT),
+        (Some(judge), [_, _, file]) if !file.starts_with("--") => {
+            return judged(rt, judge, file.as_str());
         }
         _ => {}
     }

@@ -4,9 +4,18 @@ use std::fs::File;
 use std::io;
 use std::io::{BufWriter, Read, Write};
 use std::process::ExitCode;
-use uart_findings::{Stop, replay};
+use uart_findings::{Stop, audit, replay};
 use uart_program::{Failure, STANDARD_INPUT, Status, failed, fault_end};
 use uart_recording::RecordingError;
+
+/// Who judges a recording.
+#[derive(Clone, Copy, Debug, PartialEq, Eq)]
+pub enum Judge {
+    /// The judge of the driver.
+    Audit,
+    /// The judge of the chip.
+    Replay,
+}
 
 /// Reports that a file cannot be read, and returns the exit code.
 pub fn unread(rt: &HostRuntime, file: &str, cause: &io::Error) -> Result<ExitCode, Failure> {
@@ -28,20 +37,28 @@ fn stopped(rt: &HostRuntime, file: &str, stop: Stop) -> Result<ExitCode, Failure
 }
 
 // Prints what is found in a recording, and returns how much that is.
-fn found<R: Read + Drop>(rt: &HostRuntime, file: &str, reader: R) -> Result<u64, Stop> {
+fn found<R: Read + Drop>(
+    rt: &HostRuntime,
+    judge: Judge,
+    file: &str,
+    reader: R,
+) -> Result<u64, Stop> {
     let mut out = BufWriter::new(rt.alloc(), io::writer(rt)).map_err(Stop::Output)?;
-    let count = replay(rt.alloc(), file, reader, &mut out);
+    let count = match judge {
+        Judge::Audit => audit(rt.alloc(), file, reader, &mut out),
+        Judge::Replay => replay(rt.alloc(), file, reader, &mut out),
+    };
     out.flush().map_err(Stop::Output)?;
     count
 }
 
 /// Judges the recording of this name, and returns the exit code.
-pub fn judged(rt: &HostRuntime, file: &str) -> Result<ExitCode, Failure> {
+pub fn judged(rt: &HostRuntime, judge: Judge, file: &str) -> Result<ExitCode, Failure> {
     let count = if file == STANDARD_INPUT {
-        found(rt, file, rt.reader())
+        found(rt, judge, file, rt.reader())
     } else {
         match File::open(rt, file) {
-            Ok(opened) => found(rt, file, opened),
+            Ok(opened) => found(rt, judge, file, opened),
             Err(cause) => return unread(rt, file, &cause),
         }
     };

@@ -4,8 +4,10 @@
 //! A recording is read as a stream, in constant memory.
 #![tactic(auto)]
 
+mod auditing;
 mod replaying;
 mod stop;
 
+pub use auditing::audit;
 pub use replaying::replay;
 pub use stop::Stop;
