@@ -205,6 +205,7 @@ struct uart_receiver {
     struct uart_characters queue;
 };
 
+/* The chip. Bytes behind the end of a queue mean nothing, nor do shift_byte and ticks_left while is_shifting is 0. */
 struct uart_chip {
     struct uart_transmitter transmitter;
     struct uart_receiver receiver;
@@ -239,7 +240,10 @@ uint32_t uart_chip_new(struct uart_chip *chip, uint8_t model, uint16_t char_tick
  */
 uint32_t uart_chip_load(struct uart_chip *chip, const struct uart_chip *saved);
 
-/* Saves a chip: saved becomes a chip that goes on as this one, with each flag 0 or 1. */
+/*
+ * Saves a chip: saved becomes a chip that goes on as this one. Its flags are 0 or 1, its trigger is 1, 4, 8 or 14, and each
+ * length is within its array. So it is with a chip that was made or loaded, and the functions below keep it so.
+ */
 void uart_chip_save(const struct uart_chip *chip, struct uart_chip *saved);
 
 /* The guest reads the register. Of the offset the lowest three bits count. */

@@ -1,5 +1,6 @@
 //! The chip as plain data: what an access does, and what happens between accesses.
 ghost use Rattle.std.specs.Prelude.{◌≡◌, ◌<◌, ◌≤◌, is_some, bit_and};
+ghost use Rattle.uart_c.specs.Canonical.{IsCanonical};
 ghost use Rattle.uart_c.specs.Queue as queue_spec;
 ghost use Rattle.uart_c.specs.State.{chip_of, latches_of, model_of};
 ghost use Rattle.uart_c.specs.declared.queue.TheConstants.{WIRE_ROOM};
@@ -7,7 +8,6 @@ ghost use Rattle.uart_chip.specs.Chip as spec;
 ghost use Rattle.uart_chip.specs.Jumps.{skip};
 ghost use Rattle.uart_chip.specs.Masks.{mcr_bits};
 ghost use Rattle.uart_chip.specs.declared.event.TheConstants.{MAX_CHAR_TICKS};
-ghost use Rattle.uart_spec.specs.Bits as bits_spec;
 ghost use Rattle.uart_spec.specs.declared.baud.TheConstants.{NUM_REGISTERS};
 ghost use Rattle.uart_spec.specs.declared.registers.offsets.TheConstants as offsets;
 
@@ -73,8 +73,7 @@ impl UartChip {
         requires capacity { capacity ≤ WIRE_ROOM }
         ensures chip { chip_of result ≡
             record (spec.fresh (model_of model) char_ticks capacity 0) { cuts = queue_spec.is_on cuts } }
-        ensures model { result.model ≡ bits_spec.flag (queue_spec.is_on model) 1 }
-        ensures cuts { result.cuts ≡ bits_spec.flag (queue_spec.is_on cuts) 1 }
+        ensures canonical { IsCanonical result }
     {
         UartChip {
             transmitter: UartTransmitter::new(char_ticks, capacity),
@@ -98,9 +97,10 @@ impl UartChip {
         }
     }
 
-    /// Becomes a chip like this one, with its flags as 0 and 1.
+    /// Becomes a chip like this one.
     pub fn restore(&mut self, saved: &Self)
-        ensures { chip_of self.new ≡ chip_of saved.now }
+        ensures after { chip_of self.new ≡ chip_of saved.now }
+        ensures canonical { IsCanonical self.new }
     {
         self.transmitter.restore(&saved.transmitter);
         self.receiver.restore(&saved.receiver);
@@ -123,7 +123,8 @@ impl UartChip {
     }
 
     fn tick(&mut self)
-        ensures { chip_of self.new ≡ spec.tick (chip_of self.old) }
+        ensures after { chip_of self.new ≡ spec.tick (chip_of self.old) }
+        ensures canonical { IsCanonical self.old → IsCanonical self.new }
     {
         let looped = self.transmitter.tick(self.latches.is_loopback());
         self.receiver.tick(is_on(self.fifo), looped);
@@ -131,7 +132,8 @@ impl UartChip {
 
     // Ticks in which no character leaves the shift place and none enters it.
     fn skip(&mut self, ticks: u16)
-        ensures { chip_of self.new ≡ skip ticks (chip_of self.old) }
+        ensures after { chip_of self.new ≡ skip ticks (chip_of self.old) }
+        ensures canonical { IsCanonical self.old → IsCanonical self.new }
     {
         self.transmitter.count_down(ticks);
         self.receiver.count_up(ticks);
@@ -139,7 +141,8 @@ impl UartChip {
 
     /// So many ticks pass. A turn goes on to the tick in which a character leaves the shift place or enters it.
     pub fn ticks(&mut self, n: u16)
-        ensures { chip_of self.new ≡ spec.ticks n (chip_of self.old) }
+        ensures after { chip_of self.new ≡ spec.ticks n (chip_of self.old) }
+        ensures canonical { IsCanonical self.old → IsCanonical self.new }
     {
         let mut left = n;
         while left > 0 {
@@ -159,7 +162,8 @@ impl UartChip {
 
     /// A character comes in; in loopback it is lost.
     pub fn bring(&mut self, byte: u8, errors: u8)
-        ensures { chip_of self.new ≡ spec.bring byte errors (chip_of self.old) }
+        ensures after { chip_of self.new ≡ spec.bring byte errors (chip_of self.old) }
+        ensures canonical { IsCanonical self.old → IsCanonical self.new }
     {
         let loopback = self.latches.is_loopback();
         let cut = self.cut(byte);
@@ -185,7 +189,8 @@ impl UartChip {
 
     /// The modem's inputs become these.
     pub fn change_lines(&mut self, inputs: u8)
-        ensures { chip_of self.new ≡ spec.change_lines inputs (chip_of self.old) }
+        ensures after { chip_of self.new ≡ spec.change_lines inputs (chip_of self.old) }
+        ensures canonical { IsCanonical self.old → IsCanonical self.new }
     {
         let mcr = MCR::from_bits_retain(self.latches.mcr);
         self.modem.change_inputs(mcr, inputs);
@@ -248,6 +253,7 @@ impl UartChip {
         requires { offset < NUM_REGISTERS }
         ensures answers { result ≡ spec.answer offset (chip_of self.old) }
         ensures after { chip_of self.new ≡ spec.after_read offset (chip_of self.old) }
+        ensures canonical { IsCanonical self.old → IsCanonical self.new }
     {
         match offset as usize {
             offsets::DATA => self.read_data(),
@@ -269,6 +275,7 @@ impl UartChip {
     fn read_data(&mut self) -> u8
         ensures answers { result ≡ spec.answer offsets.DATA (chip_of self.old) }
         ensures after { chip_of self.new ≡ spec.after_read offsets.DATA (chip_of self.old) }
+        ensures canonical { IsCanonical self.old → IsCanonical self.new }
     {
         if self.latches.is_dlab_set() {
             return self.latches.dll;
@@ -280,6 +287,7 @@ impl UartChip {
     fn read_interrupt(&mut self) -> u8
         ensures answers { result ≡ spec.answer offsets.ISR (chip_of self.old) }
         ensures after { chip_of self.new ≡ spec.after_read offsets.ISR (chip_of self.old) }
+        ensures canonical { IsCanonical self.old → IsCanonical self.new }
     {
         let interrupt = self.interrupt();
         if is_thr_empty(interrupt) {
@@ -292,7 +300,8 @@ impl UartChip {
     /// The effect of a write of the register.
     pub fn write(&mut self, offset: u8, value: u8)
         requires { offset < NUM_REGISTERS }
-        ensures { chip_of self.new ≡ spec.after_write offset value (chip_of self.old) }
+        ensures after { chip_of self.new ≡ spec.after_write offset value (chip_of self.old) }
+        ensures canonical { IsCanonical self.old → IsCanonical self.new }
     {
         match offset as usize {
             offsets::DATA if self.latches.is_dlab_set() => self.latches.dll = value,
@@ -312,7 +321,8 @@ impl UartChip {
 
     // A write of the interrupt enable register.
     fn enable(&mut self, interrupts: IER)
-        ensures { chip_of self.new ≡ spec.enable interrupts.0 (chip_of self.old) }
+        ensures after { chip_of self.new ≡ spec.enable interrupts.0 (chip_of self.old) }
+        ensures canonical { IsCanonical self.old → IsCanonical self.new }
     {
         if !IER::from_bits_retain(self.latches.ier).intersects(IER::THR_EMPTY)
             && interrupts.intersects(IER::THR_EMPTY)
@@ -325,7 +335,8 @@ impl UartChip {
 
     // A write of the modem control register.
     fn control_modem(&mut self, value: MCR)
-        ensures { chip_of self.new ≡ spec.control_modem (bit_and value.0 mcr_bits) (chip_of self.old) }
+        ensures after { chip_of self.new ≡ spec.control_modem (bit_and value.0 mcr_bits) (chip_of self.old) }
+        ensures canonical { IsCanonical self.old → IsCanonical self.new }
     {
         let kept = kept_modem_control(value);
         self.latches.mcr = kept.bits();
@@ -334,7 +345,8 @@ impl UartChip {
 
     // A write of the FIFO control register.
     fn control(&mut self, value: FCR)
-        ensures { chip_of self.new ≡ spec.control (chip_of self.old).model value.0 (chip_of self.old) }
+        ensures after { chip_of self.new ≡ spec.control (chip_of self.old).model value.0 (chip_of self.old) }
+        ensures canonical { IsCanonical self.old → IsCanonical self.new }
     {
         if is_on(self.model) {
             self.set_fifo(value);
@@ -342,27 +354,43 @@ impl UartChip {
     }
 
     fn set_fifo(&mut self, value: FCR)
-        ensures { chip_of self.new ≡ spec.set_fifo value.0 (chip_of self.old) }
+        ensures after { chip_of self.new ≡ spec.set_fifo value.0 (chip_of self.old) }
+        ensures canonical { IsCanonical self.old → IsCanonical self.new }
     {
         let on = value.intersects(FCR::FIFO_ENABLE);
         if is_on(self.fifo) != on {
             self.switch(on);
         }
         if on {
-            if value.intersects(FCR::RX_FIFO_RESET) {
-                self.receiver.clear();
-            }
-            if value.intersects(FCR::TX_FIFO_RESET) {
-                self.transmitter.clear();
-                self.transmitter.set_thr_pending(true);
-            }
+            self.reset_receiver(value);
+            self.reset_transmitter(value);
             self.receiver.set_trigger(trigger_level(value));
+        }
+    }
+
+    fn reset_receiver(&mut self, value: FCR)
+        ensures after { chip_of self.new ≡ spec.reset_receiver value.0 (chip_of self.old) }
+        ensures canonical { IsCanonical self.old → IsCanonical self.new }
+    {
+        if value.intersects(FCR::RX_FIFO_RESET) {
+            self.receiver.clear();
+        }
+    }
+
+    fn reset_transmitter(&mut self, value: FCR)
+        ensures after { chip_of self.new ≡ spec.reset_transmitter value.0 (chip_of self.old) }
+        ensures canonical { IsCanonical self.old → IsCanonical self.new }
+    {
+        if value.intersects(FCR::TX_FIFO_RESET) {
+            self.transmitter.clear();
+            self.transmitter.set_thr_pending(true);
         }
     }
 
     // The FIFO is switched on or off, which empties both queues.
     fn switch(&mut self, on: bool)
-        ensures { chip_of self.new ≡ spec.switch on (chip_of self.old) }
+        ensures after { chip_of self.new ≡ spec.switch on (chip_of self.old) }
+        ensures canonical { IsCanonical self.old → IsCanonical self.new }
     {
         self.fifo = on as u8;
         self.receiver.clear();

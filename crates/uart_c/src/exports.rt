@@ -1,5 +1,6 @@
 //! The functions of the chip that C calls. The header says what each does.
 ghost use Rattle.std.specs.Prelude.{◌≡◌, ◌≢◌, ◌++◌, ◌-◌, ◌%◌, take, drop, min, length, is_some, bit_and};
+ghost use Rattle.uart_c.specs.Canonical.{IsCanonical};
 ghost use Rattle.uart_c.specs.Queue as queue_spec;
 ghost use Rattle.uart_c.specs.State.{chip_of, model_of};
 ghost use Rattle.uart_c.specs.Status.{new_status};
@@ -8,7 +9,6 @@ ghost use Rattle.uart_chip.specs.Chip as spec;
 ghost use Rattle.uart_chip.specs.Masks.{IsWithin};
 ghost use Rattle.uart_chip.specs.Transmitter.{held};
 ghost use Rattle.uart_live.specs.Live.{IsLive};
-ghost use Rattle.uart_spec.specs.Bits as bits_spec;
 ghost use Rattle.uart_spec.specs.Bits.{flag};
 ghost use Rattle.uart_spec.specs.declared.baud.TheConstants.{NUM_REGISTERS};
 ghost use Rattle.uart_spec.specs.declared.registers.line_status.TheConstants.LSR;
@@ -37,8 +37,7 @@ pub extern "C" fn uart_chip_new(
     ensures status { result ≡ new_status char_ticks wire_capacity }
     ensures built { result ≡ UART_OK → chip_of chip.new ≡
         record (spec.fresh (model_of model) char_ticks wire_capacity 0) { cuts = queue_spec.is_on cuts } }
-    ensures model { result ≡ UART_OK → chip.new.model ≡ bits_spec.flag (queue_spec.is_on model) 1 }
-    ensures cuts { result ≡ UART_OK → chip.new.cuts ≡ bits_spec.flag (queue_spec.is_on cuts) 1 }
+    ensures canonical { result ≡ UART_OK → IsCanonical chip.new }
     ensures kept { result ≢ UART_OK → chip.new ≡ chip.old }
 {
     if char_ticks == 0 || char_ticks > MAX_CHAR_TICKS {
@@ -56,6 +55,7 @@ pub extern "C" fn uart_chip_new(
 pub extern "C" fn uart_chip_load(chip: &mut UartChip, saved: &UartChip) -> u32
     ensures accepted { IsLive (chip_of saved.now) → (result ≡ UART_OK) × (chip_of chip.new ≡ chip_of saved.now) }
     ensures refused { (IsLive (chip_of saved.now) → ⊥) → (result ≡ UART_BAD_CHIP) × (chip.new ≡ chip.old) }
+    ensures canonical { result ≡ UART_OK → IsCanonical chip.new }
 {
     if !is_sound(saved) {
         return UART_BAD_CHIP;
@@ -67,7 +67,8 @@ pub extern "C" fn uart_chip_load(chip: &mut UartChip, saved: &UartChip) -> u32
 /// Saves a chip.
 #[unsafe(no_mangle)]
 pub extern "C" fn uart_chip_save(chip: &UartChip, saved: &mut UartChip)
-    ensures { chip_of saved.new ≡ chip_of chip.now }
+    ensures saved { chip_of saved.new ≡ chip_of chip.now }
+    ensures canonical { IsCanonical saved.new }
 {
     saved.restore(chip);
 }
@@ -77,6 +78,7 @@ pub extern "C" fn uart_chip_save(chip: &UartChip, saved: &mut UartChip)
 pub extern "C" fn uart_chip_read(chip: &mut UartChip, offset: u8) -> u8
     ensures answers { result ≡ spec.answer (offset % NUM_REGISTERS) (chip_of chip.old) }
     ensures after { chip_of chip.new ≡ spec.after_read (offset % NUM_REGISTERS) (chip_of chip.old) }
+    ensures canonical { IsCanonical chip.old → IsCanonical chip.new }
 {
     chip.read(offset % NUM_REGISTERS as u8)
 }
@@ -84,7 +86,8 @@ pub extern "C" fn uart_chip_read(chip: &mut UartChip, offset: u8) -> u8
 /// The guest writes a register.
 #[unsafe(no_mangle)]
 pub extern "C" fn uart_chip_write(chip: &mut UartChip, offset: u8, value: u8)
-    ensures { chip_of chip.new ≡ spec.after_write (offset % NUM_REGISTERS) value (chip_of chip.old) }
+    ensures after { chip_of chip.new ≡ spec.after_write (offset % NUM_REGISTERS) value (chip_of chip.old) }
+    ensures canonical { IsCanonical chip.old → IsCanonical chip.new }
 {
     chip.write(offset % NUM_REGISTERS as u8, value);
 }
@@ -92,7 +95,8 @@ pub extern "C" fn uart_chip_write(chip: &mut UartChip, offset: u8, value: u8)
 /// So many ticks pass.
 #[unsafe(no_mangle)]
 pub extern "C" fn uart_chip_ticks(chip: &mut UartChip, count: u16)
-    ensures { chip_of chip.new ≡ spec.ticks count (chip_of chip.old) }
+    ensures after { chip_of chip.new ≡ spec.ticks count (chip_of chip.old) }
+    ensures canonical { IsCanonical chip.old → IsCanonical chip.new }
 {
     chip.ticks(count);
 }
@@ -103,6 +107,7 @@ pub extern "C" fn uart_chip_arrive(chip: &mut UartChip, byte: u8, errors: u8) ->
     ensures accepted { IsWithin errors LSR.CHARACTER_ERRORS.0 →
         (result ≡ UART_OK) × (chip_of chip.new ≡ spec.bring byte errors (chip_of chip.old)) }
     ensures refused { bit_and errors LSR.CHARACTER_ERRORS.0 ≢ errors → (result ≡ UART_BAD_ERRORS) × (chip.new ≡ chip.old) }
+    ensures canonical { IsCanonical chip.old → IsCanonical chip.new }
 {
     if LSR::from_bits_retain(errors).intersection(LSR::CHARACTER_ERRORS)
         != LSR::from_bits_retain(errors)
@@ -118,6 +123,7 @@ pub extern "C" fn uart_chip_arrive(chip: &mut UartChip, byte: u8, errors: u8) ->
 pub extern "C" fn uart_chip_set_lines(chip: &mut UartChip, inputs: u8) -> u32
     ensures accepted { IsWithin inputs MSR.LINES.0 → (result ≡ UART_OK) × (chip_of chip.new ≡ spec.change_lines inputs (chip_of chip.old)) }
     ensures refused { bit_and inputs MSR.LINES.0 ≢ inputs → (result ≡ UART_BAD_LINES) × (chip.new ≡ chip.old) }
+    ensures canonical { IsCanonical chip.old → IsCanonical chip.new }
 {
     if MSR::from_bits_retain(inputs).intersection(MSR::LINES) != MSR::from_bits_retain(inputs) {
         return UART_BAD_LINES;
@@ -140,6 +146,7 @@ pub extern "C" fn uart_chip_take_wire(chip: &mut UartChip, bytes: &mut [u8]) -> 
     ensures count { result ≡ min (length bytes.old) (length (chip_of chip.old).transmitter.wire) }
     ensures taken { bytes.new ≡ take result (chip_of chip.old).transmitter.wire ++ drop result bytes.old }
     ensures after { chip_of chip.new ≡ spec.take_wire (length bytes.old) (chip_of chip.old) }
+    ensures canonical { IsCanonical chip.old → IsCanonical chip.new }
 {
     chip.transmitter.take_wire(bytes)
 }

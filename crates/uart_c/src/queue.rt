@@ -1,5 +1,6 @@
 //! Queues: the first items of an array are in the queue. The functions are over its length and its array, whatever the items are.
 ghost use Rattle.std.specs.Prelude.{◌≡◌, ◌==◌, ◌+◌, ◌-◌, ◌<◌, ◌≤◌, [], ◌∷◌, ◌++◌, take, drop, min, length, slice_get, Some};
+ghost use Rattle.uart_c.specs.Canonical.{IsCanonicalQueue, IsCanonicalWire, IsFlag};
 ghost use Rattle.uart_c.specs.Queue as spec;
 ghost use Rattle.uart_spec.specs.declared.baud.TheConstants.{FIFO_SIZE};
 ghost use Rattle.uart_c.specs.declared.queue.TheConstants.{WIRE_ROOM};
@@ -42,6 +43,19 @@ pub struct UartCharacter {
     pub is_looped: u8,
 }
 
+impl UartCharacter {
+    // Returns the character with its flag as 0 or 1.
+    fn restored(self) -> Self
+        ensures character { spec.character_of result ≡ spec.character_of self }
+        ensures flag { IsFlag result.is_looped }
+    {
+        UartCharacter {
+            is_looped: is_on(self.is_looped) as u8,
+            ..self
+        }
+    }
+}
+
 /// A queue of characters.
 #[repr(C)]
 #[derive(Clone, Copy)]
@@ -62,6 +76,7 @@ pub fn push<T: Copy>(len: &mut u8, items: &mut [T], item: T)
     requires room { length (take len.old items.old) < length items.old }
     requires fits { length items.old ≤ WIRE_ROOM }
     ensures size { length items.new ≡ length items.old }
+    ensures len { len.new ≤ length items.old }
     ensures items { take len.new items.new ≡ take len.old items.old ++ item ∷ [] }
 {
     let last = count(*len, items);
@@ -74,6 +89,7 @@ pub fn put_all<T: Copy>(len: &mut u8, items: &mut [T], all: &[T])
     requires room { length all.now ≤ length items.old }
     requires fits { length items.old ≤ WIRE_ROOM }
     ensures size { length items.new ≡ length items.old }
+    ensures len { len.new ≤ length items.old }
     ensures items { take len.new items.new ≡ all.now }
 {
     *len = 0;
@@ -88,6 +104,7 @@ pub fn pop_front<T: Copy>(len: &mut u8, items: &mut [T]) -> Option<T>
     requires some { 0 < length items.old }
     requires fits { length items.old ≤ WIRE_ROOM }
     ensures size { length items.new ≡ length items.old }
+    ensures len { len.new ≤ length items.old }
     ensures front { result ≡ slice_get (take len.old items.old) 0 }
     ensures after { take len.new items.new ≡ drop 1 (take len.old items.old) }
 {
@@ -108,12 +125,27 @@ fn drop_front<T: Copy>(len: &mut u8, items: &mut [T])
     requires some { 0 < length (take len.old items.old) }
     requires fits { length items.old ≤ WIRE_ROOM }
     ensures size { length items.new ≡ length items.old }
+    ensures len { len.new ≤ length items.old }
     ensures items { take len.new items.new ≡ drop 1 (take len.old items.old) }
 {
     let count = count(*len, items);
     let room = items.len();
     items.copy_within(1..room, 0);
     *len = count as u8 - 1;
+}
+
+impl UartCharacters {
+    /// Becomes a queue like this one.
+    pub fn restore(&mut self, saved: &Self)
+        ensures characters { spec.characters_of self.new ≡ spec.characters_of saved.now }
+        ensures canonical { IsCanonicalQueue self.new }
+    {
+        let waiting = &saved.items[..count(saved.len, &saved.items)];
+        self.len = 0;
+        for character in waiting {
+            push(&mut self.len, &mut self.items, character.restored());
+        }
+    }
 }
 
 impl UartWire {
@@ -135,6 +167,7 @@ impl UartWire {
     pub fn restore(&mut self, saved: &Self)
         ensures items { spec.wire_of self.new ≡ spec.wire_of saved.now }
         ensures capacity { spec.capacity_of self.new ≡ spec.capacity_of saved.now }
+        ensures canonical { IsCanonicalWire self.new }
     {
         self.capacity = saved.capacity() as u8;
         put_all(&mut self.len, &mut self.items, &saved.items[..saved.len()]);
@@ -145,6 +178,7 @@ impl UartWire {
         requires { length (spec.wire_of self.old) < WIRE_ROOM }
         ensures items { spec.wire_of self.new ≡ spec.wire_of self.old ++ byte ∷ [] }
         ensures capacity { self.new.capacity ≡ self.old.capacity }
+        ensures len { self.new.len ≤ WIRE_ROOM }
     {
         push(&mut self.len, &mut self.items, byte);
     }
@@ -155,6 +189,7 @@ impl UartWire {
         ensures front { Some result ≡ slice_get (spec.wire_of self.old) 0 }
         ensures after { spec.wire_of self.new ≡ drop 1 (spec.wire_of self.old) }
         ensures capacity { self.new.capacity ≡ self.old.capacity }
+        ensures len { self.new.len ≤ WIRE_ROOM }
     {
         let front = self.items[0];
         drop_front(&mut self.len, &mut self.items);
@@ -167,6 +202,7 @@ impl UartWire {
         ensures taken { bytes.new ≡ take result (spec.wire_of self.old) ++ drop result bytes.old }
         ensures items { spec.wire_of self.new ≡ drop (length bytes.old) (spec.wire_of self.old) }
         ensures capacity { self.new.capacity ≡ self.old.capacity }
+        ensures len { self.old.len ≤ WIRE_ROOM → self.new.len ≤ WIRE_ROOM }
     {
         let count = bytes.len().min(self.len());
         // One by one: a copy of so many bytes would call memmove.

@@ -1,6 +1,7 @@
 //! The receiver as plain data.
 ghost use Rattle.std.specs.Prelude.{◌≡◌, ◌==◌, ◌-◌, ◌<◌, ◌≤◌, [], ◌∷◌, ◌++◌, length};
 ghost use Rattle.std.specs.List.{list_any};
+ghost use Rattle.uart_c.specs.Canonical.{IsCanonicalReceiver, IsFlag};
 ghost use Rattle.uart_c.specs.Queue.{character_of};
 ghost use Rattle.uart_c.specs.State.{receiver_of, trigger_of};
 ghost use Rattle.uart_chip.specs.Jumps as jumps;
@@ -10,7 +11,7 @@ ghost use Rattle.uart_chip.specs.Transmitter.{room};
 ghost use Rattle.uart_chip.specs.declared.event.TheConstants.{MAX_CHAR_TICKS};
 ghost use Rattle.uart_spec.specs.declared.baud.TheConstants.{FIFO_SIZE};
 
-use crate::queue::{UartCharacter, UartCharacters, count, is_on, pop_front, push, put_all};
+use crate::queue::{UartCharacter, UartCharacters, count, is_on, pop_front, push};
 use bitflags::Flags;
 use uart_chip::room_of;
 use uart_spec::FIFO_SIZE;
@@ -75,7 +76,8 @@ impl UartReceiver {
     /// A receiver to which nothing has come yet.
     pub fn new(char_ticks: u16) -> Self
         requires { char_ticks ≤ MAX_CHAR_TICKS }
-        ensures { receiver_of result ≡ spec.fresh char_ticks 0 }
+        ensures fresh { receiver_of result ≡ spec.fresh char_ticks 0 }
+        ensures canonical { IsCanonicalReceiver result }
     {
         UartReceiver {
             timeout_ticks: 0,
@@ -97,7 +99,8 @@ impl UartReceiver {
 
     /// Becomes a receiver like this one.
     pub fn restore(&mut self, saved: &Self)
-        ensures { receiver_of self.new ≡ receiver_of saved.now }
+        ensures after { receiver_of self.new ≡ receiver_of saved.now }
+        ensures canonical { IsCanonicalReceiver self.new }
     {
         self.timeout_ticks = saved.timeout_ticks;
         self.timeout_limit = saved.timeout_limit;
@@ -105,13 +108,13 @@ impl UartReceiver {
         self.is_front_reported = is_on(saved.is_front_reported) as u8;
         self.last_byte = saved.last_byte;
         self.trigger = characters_of(trigger_of(saved.trigger));
-        let waiting = &saved.queue.items[..saved.len()];
-        put_all(&mut self.queue.len, &mut self.queue.items, waiting);
+        self.queue.restore(&saved.queue);
     }
 
     // A character comes in.
     fn come_in(&mut self, fifo: bool, new: UartCharacter)
-        ensures { receiver_of self.new ≡ spec.come_in fifo (character_of new) (receiver_of self.old) }
+        ensures after { receiver_of self.new ≡ spec.come_in fifo (character_of new) (receiver_of self.old) }
+        ensures canonical { IsFlag new.is_looped → IsCanonicalReceiver self.old → IsCanonicalReceiver self.new }
     {
         if fifo {
             if self.is_empty() {
@@ -136,15 +139,17 @@ impl UartReceiver {
     // Puts a character last in the queue.
     fn put(&mut self, new: UartCharacter)
         requires { length (receiver_of self.old).queue < FIFO_SIZE }
-        ensures { receiver_of self.new ≡
+        ensures after { receiver_of self.new ≡
             record (receiver_of self.old) { queue = (receiver_of self.old).queue ++ character_of new ∷ [] } }
+        ensures canonical { IsFlag new.is_looped → IsCanonicalReceiver self.old → IsCanonicalReceiver self.new }
     {
         push(&mut self.queue.len, &mut self.queue.items, new);
     }
 
     /// The end of a tick, with the byte that came back in it.
     pub fn tick(&mut self, fifo: bool, looped: Option<u8>)
-        ensures { receiver_of self.new ≡ spec.tick fifo looped (receiver_of self.old) }
+        ensures after { receiver_of self.new ≡ spec.tick fifo looped (receiver_of self.old) }
+        ensures canonical { IsCanonicalReceiver self.old → IsCanonicalReceiver self.new }
     {
         if let Some(byte) = looped {
             self.come_in(
@@ -161,7 +166,8 @@ impl UartReceiver {
 
     /// Ticks in which no character comes in and none is taken.
     pub fn count_up(&mut self, ticks: u16)
-        ensures { receiver_of self.new ≡ jumps.count_up ticks (receiver_of self.old) }
+        ensures after { receiver_of self.new ≡ jumps.count_up ticks (receiver_of self.old) }
+        ensures canonical { IsCanonicalReceiver self.old → IsCanonicalReceiver self.new }
     {
         if ticks > 0 {
             let counted = self.timeout_ticks.saturating_add(ticks);
@@ -171,7 +177,8 @@ impl UartReceiver {
 
     /// A character comes in from the remote.
     pub fn bring(&mut self, loopback: bool, fifo: bool, byte: u8, errors: u8)
-        ensures { receiver_of self.new ≡ spec.bring loopback fifo byte errors (receiver_of self.old) }
+        ensures after { receiver_of self.new ≡ spec.bring loopback fifo byte errors (receiver_of self.old) }
+        ensures canonical { IsCanonicalReceiver self.old → IsCanonicalReceiver self.new }
     {
         if !loopback {
             self.come_in(
@@ -189,6 +196,7 @@ impl UartReceiver {
     pub fn take_front(&mut self) -> u8
         ensures after { receiver_of self.new ≡ spec.take_front (receiver_of self.old).queue (receiver_of self.old) }
         ensures byte { result ≡ (receiver_of self.new).last_byte }
+        ensures canonical { IsCanonicalReceiver self.old → IsCanonicalReceiver self.new }
     {
         if let Some(front) = pop_front(&mut self.queue.len, &mut self.queue.items) {
             self.is_front_reported = 0;
@@ -200,7 +208,8 @@ impl UartReceiver {
 
     /// The line status was read.
     pub fn report(&mut self)
-        ensures { receiver_of self.new ≡ spec.report (receiver_of self.old) }
+        ensures after { receiver_of self.new ≡ spec.report (receiver_of self.old) }
+        ensures canonical { IsCanonicalReceiver self.old → IsCanonicalReceiver self.new }
     {
         self.is_overrun = 0;
         if !self.is_empty() {
@@ -211,13 +220,15 @@ impl UartReceiver {
     /// Empties the queue.
     #[tactic(auto, using(crate::proofs::Marks::none_marked))]
     pub fn clear(&mut self)
-        ensures { receiver_of self.new ≡ spec.clear (receiver_of self.old) }
+        ensures after { receiver_of self.new ≡ spec.clear (receiver_of self.old) }
+        ensures canonical { IsCanonicalReceiver self.old → IsCanonicalReceiver self.new }
     {
         self.queue.len = 0;
     }
 
     pub fn set_trigger(&mut self, trigger: FifoTriggerLevel)
-        ensures { receiver_of self.new ≡ record (receiver_of self.old) { trigger = trigger } }
+        ensures after { receiver_of self.new ≡ record (receiver_of self.old) { trigger = trigger } }
+        ensures canonical { IsCanonicalReceiver self.old → IsCanonicalReceiver self.new }
     {
         self.trigger = characters_of(trigger);
     }

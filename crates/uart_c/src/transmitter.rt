@@ -1,6 +1,7 @@
 //! The transmitter as plain data.
 ghost use Rattle.std.specs.Prelude.{◌≡◌, ◌==◌, ◌≤◌, [], ◌++◌, take, drop, min, nat_lt, length};
 ghost use Rattle.uart_c.specs.declared.queue.TheConstants.{WIRE_ROOM};
+ghost use Rattle.uart_c.specs.Canonical.{IsCanonicalTransmitter};
 ghost use Rattle.uart_c.specs.State.{transmitter_of};
 ghost use Rattle.uart_chip.specs.Chip.{is_transmitter_empty};
 ghost use Rattle.uart_chip.specs.Jumps as jumps;
@@ -28,7 +29,8 @@ impl UartTransmitter {
     /// A transmitter that has sent nothing yet.
     pub fn new(char_ticks: u16, capacity: u8) -> Self
         requires { capacity ≤ WIRE_ROOM }
-        ensures { transmitter_of result ≡ spec.fresh char_ticks capacity }
+        ensures fresh { transmitter_of result ≡ spec.fresh char_ticks capacity }
+        ensures canonical { IsCanonicalTransmitter result }
     {
         UartTransmitter {
             overflows: 0,
@@ -51,7 +53,8 @@ impl UartTransmitter {
 
     /// Becomes a transmitter like this one.
     pub fn restore(&mut self, saved: &Self)
-        ensures { transmitter_of self.new ≡ transmitter_of saved.now }
+        ensures after { transmitter_of self.new ≡ transmitter_of saved.now }
+        ensures canonical { IsCanonicalTransmitter self.new }
     {
         self.overflows = saved.overflows;
         self.char_ticks = saved.char_ticks;
@@ -82,6 +85,7 @@ impl UartTransmitter {
     fn shift(&mut self, loopback: bool) -> Option<u8>
         ensures after { transmitter_of self.new ≡ spec.shift loopback (transmitter_of self.old).shift_place (transmitter_of self.old) }
         ensures looped { result ≡ looped_byte loopback (transmitter_of self.old).shift_place }
+        ensures canonical { IsCanonicalTransmitter self.old → IsCanonicalTransmitter self.new }
     {
         if !is_on(self.is_shifting) {
             return None;
@@ -103,8 +107,9 @@ impl UartTransmitter {
 
     // A free shift place takes the front of the queue.
     fn refill(&mut self)
-        ensures { transmitter_of self.new ≡
+        ensures after { transmitter_of self.new ≡
             spec.refill (transmitter_of self.old).shift_place (transmitter_of self.old).queue (transmitter_of self.old) }
+        ensures canonical { IsCanonicalTransmitter self.old → IsCanonicalTransmitter self.new }
     {
         if is_on(self.is_shifting) {
             return;
@@ -123,6 +128,7 @@ impl UartTransmitter {
     pub fn tick(&mut self, loopback: bool) -> Option<u8>
         ensures after { transmitter_of self.new ≡ spec.tick loopback (transmitter_of self.old) }
         ensures looped { result ≡ looped_byte loopback (transmitter_of self.old).shift_place }
+        ensures canonical { IsCanonicalTransmitter self.old → IsCanonicalTransmitter self.new }
     {
         let looped = self.shift(loopback);
         self.refill();
@@ -148,7 +154,8 @@ impl UartTransmitter {
 
     /// Ticks in which no character leaves the shift place and none enters it.
     pub fn count_down(&mut self, ticks: u16)
-        ensures { transmitter_of self.new ≡ jumps.count_down ticks (transmitter_of self.old) }
+        ensures after { transmitter_of self.new ≡ jumps.count_down ticks (transmitter_of self.old) }
+        ensures canonical { IsCanonicalTransmitter self.old → IsCanonicalTransmitter self.new }
     {
         self.ticks_left = if ticks < self.ticks_left {
             self.ticks_left - ticks
@@ -159,7 +166,8 @@ impl UartTransmitter {
 
     /// Takes a byte from the data register.
     pub fn load(&mut self, fifo: bool, byte: u8)
-        ensures { transmitter_of self.new ≡ spec.load fifo byte (transmitter_of self.old) }
+        ensures after { transmitter_of self.new ≡ spec.load fifo byte (transmitter_of self.old) }
+        ensures canonical { IsCanonicalTransmitter self.old → IsCanonicalTransmitter self.new }
     {
         if fifo {
             if self.len() < FIFO_SIZE {
@@ -198,14 +206,16 @@ impl UartTransmitter {
     }
 
     pub fn set_thr_pending(&mut self, on: bool)
-        ensures { transmitter_of self.new ≡ record (transmitter_of self.old) { is_thr_pending = on } }
+        ensures after { transmitter_of self.new ≡ record (transmitter_of self.old) { is_thr_pending = on } }
+        ensures canonical { IsCanonicalTransmitter self.old → IsCanonicalTransmitter self.new }
     {
         self.is_thr_pending = on as u8;
     }
 
     /// Empties the queue; the shift place stays.
     pub fn clear(&mut self)
-        ensures { transmitter_of self.new ≡ record (transmitter_of self.old) { queue = [] } }
+        ensures after { transmitter_of self.new ≡ record (transmitter_of self.old) { queue = [] } }
+        ensures canonical { IsCanonicalTransmitter self.old → IsCanonicalTransmitter self.new }
     {
         self.queue.len = 0;
     }
@@ -215,6 +225,7 @@ impl UartTransmitter {
         ensures after { transmitter_of self.new ≡ spec.take_wire (length bytes.old) (transmitter_of self.old) }
         ensures count { result ≡ min (length bytes.old) (length (transmitter_of self.old).wire) }
         ensures taken { bytes.new ≡ take result (transmitter_of self.old).wire ++ drop result bytes.old }
+        ensures canonical { IsCanonicalTransmitter self.old → IsCanonicalTransmitter self.new }
     {
         self.wire.take(bytes)
     }

@@ -7,4 +7,5 @@ invariant-loop-item g l = record {
   put : take l.len l.items ++ drop l.item-index l.fn.all ≡ l.fn.all;
   size : length l.items ≡ length l.fn.items;
   fits : length l.fn.all ≤ length l.fn.items;
+  len : l.len ≤ length l.fn.items;
 }

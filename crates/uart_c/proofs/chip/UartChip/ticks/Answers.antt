@@ -14,8 +14,11 @@ loop-left-preserved-then-ticks-left c =
     let least = at_least_one (is_loopback d.latches) d.transmitter c.in-Some.ticks move in
     let turn =
     goes_on c.loop-left.left c.in-Some.ticks d (chip_of c.skip.new.self) (chip_of c.tick.new.self) move least
-    c.if-ticks-left.true c.skip.ensures c.tick.ensures in
-    turn.same ∙ c.loop-left.invariant
+    c.if-ticks-left.true c.skip.ensures.after c.tick.ensures.after in
+    record {
+      after = turn.same ∙ c.loop-left.invariant.after;
+      canonical = λ w. c.tick.ensures.canonical (c.skip.ensures.canonical (c.loop-left.invariant.canonical w));
+    }
 
 pub loop-left-preserved : goal.loop-left-preserved
 loop-left-preserved c =
@@ -27,5 +30,8 @@ loop-left-preserved c =
       | in_default-via-in_default v ↦ still_none c.loop-left.left _
           (seen _ _ d.transmitter _ None c.is_loopback.ensures refl v.in_default.ensures)
     ] in
-    let turn = stays c.loop-left.left d (chip_of c.skip-in_default.new.self) (omega arith) still c.skip-in_default.ensures in
-    turn.same ∙ c.loop-left.invariant
+    let turn = stays c.loop-left.left d (chip_of c.skip-in_default.new.self) (omega arith) still c.skip-in_default.ensures.after in
+    record {
+      after = turn.same ∙ c.loop-left.invariant.after;
+      canonical = λ w. c.skip-in_default.ensures.canonical (c.loop-left.invariant.canonical w);
+    }

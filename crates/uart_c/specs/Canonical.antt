@@ -1,0 +1,38 @@
+-- Data of C with one value for each meaning.
+use Rattle.std.specs.Prelude.{◌≡◌, ℕ, ◌≤◌, All, take}
+use Rattle.uart_c.specs.State.{trigger_of}
+use Rattle.uart_c.specs.declared.chip.UartChip.{UartChip}
+use Rattle.uart_c.specs.declared.queue.UartCharacters.{UartCharacters}
+use Rattle.uart_c.specs.declared.queue.UartWire.{UartWire}
+use Rattle.uart_c.specs.declared.queue.TheConstants.{WIRE_ROOM}
+use Rattle.uart_c.specs.declared.receiver.UartReceiver.{UartReceiver}
+use Rattle.uart_c.specs.declared.transmitter.UartTransmitter.{UartTransmitter}
+use Rattle.uart_chip.specs.Receiver.{characters_of}
+use Rattle.uart_spec.specs.declared.baud.TheConstants.{FIFO_SIZE}
+
+-- a flag is 0 or 1
+abbrev pub IsFlag : ℕ → Type 0
+IsFlag flag = flag ≤ 1
+
+-- a length or a room is within the array
+abbrev pub IsCanonicalWire : UartWire → Type 0
+IsCanonicalWire w = (w.len ≤ WIRE_ROOM) × (w.capacity ≤ WIRE_ROOM)
+
+abbrev pub IsCanonicalTransmitter : UartTransmitter → Type 0
+IsCanonicalTransmitter t =
+    IsFlag t.is_shifting × IsFlag t.is_thr_pending × (t.queue.len ≤ FIFO_SIZE) × IsCanonicalWire t.wire
+
+-- a flag of a character that waits too
+abbrev pub IsCanonicalQueue : UartCharacters → Type 0
+IsCanonicalQueue q = (q.len ≤ FIFO_SIZE) × All (λ character. IsFlag character.is_looped) (take q.len q.items)
+
+-- the trigger is the number of characters of its level
+abbrev pub IsCanonicalReceiver : UartReceiver → Type 0
+IsCanonicalReceiver r =
+    IsFlag r.is_overrun × IsFlag r.is_front_reported × (r.trigger ≡ characters_of (trigger_of r.trigger)) ×
+    IsCanonicalQueue r.queue
+
+-- the whole chip, but for bytes behind the end of a queue and those of an empty shift register
+abbrev pub IsCanonical : UartChip → Type 0
+IsCanonical c =
+    IsFlag c.model × IsFlag c.fifo × IsFlag c.cuts × IsCanonicalTransmitter c.transmitter × IsCanonicalReceiver c.receiver
