@@ -1,6 +1,6 @@
 //! Each caller is run once, with what its contract says about the run.
 use crate::{
-    chip, device, driver, language, live, machine, performing, ring, ring_running, ring_starting,
+    chip, device, driver, language, live, performing, playing, ring, ring_running, ring_starting,
     running, spec, tracing,
 };
 use bitflags::Flags;
@@ -8,11 +8,10 @@ use std::test::Fail;
 use uart_16550::replay::Entry;
 use uart_16550::{Uart16550, Uart16550Tty};
 use uart_calls::{Answer, Call};
-use uart_chip::Uart;
+use uart_chip::{Chip, Uart};
 use uart_device::Device16550;
 use uart_live::LiveChip;
-use uart_machine::Chip;
-use uart_machine::script::Std;
+use uart_play::Std;
 use uart_ring::Uart16550Ring;
 use uart_ring_run::{RingAnswer, RingCall};
 use uart_spec::registers::{LSR, offsets};
@@ -146,7 +145,7 @@ fn a_script(rt: HostRuntime) -> Result<(), Fail> {
     assert_eq!(rt; language::count_calls(rt.alloc(), script)?, 2);
     let mut output = Vec::new(rt.alloc());
     let mut writer = Std::new(&mut output);
-    assert!(rt; machine::is_refused(rt.alloc(), &mut Std::new(b"lsr".as_slice()), &mut writer));
+    assert!(rt; playing::is_refused(rt.alloc(), &mut Std::new(b"lsr".as_slice()), &mut writer));
     assert_eq!(rt; output.len(), 0);
     Ok(())
 }

@@ -1,20 +1,8 @@
-//! Laws about runs and scripts. They follow from the contracts.
-//!
-//! The contract of each function is a law that callers can cite. The functions do nothing.
-ghost use Rattle.uart_machine.specs.OneOutcome.{RunsHaveOneOutcome, ScriptsHaveOneOutput};
+//! Laws about calls, runs, scripts and the live chip. They follow from the contracts.
 
 pub use uart_calls::laws::meanings_leave_no_choice;
 pub use uart_live::laws::{
     bytes_leave_in_order, characters_are_read_in_order, plain_reads_change_nothing,
 };
+pub use uart_play::laws::{runs_have_one_outcome, scripts_have_one_output};
 pub use uart_run::laws::idle_keeps_ready;
-
-/// The answers of `run`, and the state after it, are a function of the calls and the state before it.
-pub fn runs_have_one_outcome()
-    ensures { RunsHaveOneOutcome }
-{}
-
-/// What `play` writes for a script is a function of the script.
-pub fn scripts_have_one_output()
-    ensures { ScriptsHaveOneOutput }
-{}

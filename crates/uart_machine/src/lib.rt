@@ -12,8 +12,9 @@
 //! - [`laws`] has what follows from these contracts.
 //!
 //! The chip is in the crate `uart_chip`, the device in `uart_device`, the live chip in `uart_live`, calls and
-//! answers in `uart_calls`, runs in `uart_run`, runs of the rings in `uart_ring_run`, and the script language in
-//! `uart_language`. This crate re-exports them, and has the tests that cross them.
+//! answers in `uart_calls`, runs in `uart_run`, runs of the rings in `uart_ring_run`, the script language in
+//! `uart_language`, and the player of scripts in `uart_play`. This crate re-exports them, and has the tests that cross
+//! them.
 #![tactic(auto)]
 
 pub mod laws;

@@ -8,6 +8,7 @@ mod live;
 mod paths;
 mod rings;
 mod schedules;
+mod script;
 
 use crate::{ArrivalMark, BuildError, Chip, Device16550, Event};
 use std::test::Fail;

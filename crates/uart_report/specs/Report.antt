@@ -4,7 +4,7 @@ use Rattle.std.specs.List.{flat_map}
 use Rattle.std.specs.String.{string_bytes}
 use Rattle.uart_language.specs.Script.{Plan, IsScript, IsFaulty}
 use Rattle.uart_language.specs.declared.cause.Cause.{Cause}
-use Rattle.uart_machine.specs.Play.{IsPlayed}
+use Rattle.uart_play.specs.Play.{IsPlayed}
 use Rattle.uart_report.specs.Trace.{CallTold, AreTold, call_said, text_said}
 use Rattle.uart_report.specs.declared.reporting.Report.{Report}
 use Rattle.uart_report.specs.declared.request.Task.{Task}

@@ -11,7 +11,7 @@ use Rattle.uart_calls.specs.declared.call.Call.{Call}
 use Rattle.uart_calls.specs.declared.call.Call.TheVariants as call
 use Rattle.uart_chip.specs.Machine.{MachineState, MachineStep, at_mark}
 use Rattle.uart_language.specs.Script.{Plan}
-use Rattle.uart_machine.specs.ScriptOutput.{first_machine}
+use Rattle.uart_play.specs.ScriptOutput.{first_machine}
 use Rattle.uart_run.specs.Chains.{RunOf}
 use Rattle.uart_report.specs.Recorder.{Recorded, RecordsStep}
 

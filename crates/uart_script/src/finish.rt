@@ -4,7 +4,7 @@ ghost use Rattle.uart_script.specs.Status.{status_of, error_status};
 
 use std::fmt;
 use std::fmt::Write;
-use uart_machine::script::{Output, PlayError};
+use uart_play::{Output, PlayError};
 
 // Text for an output, written piece by piece.
 #[derive(Drop)]
@@ -58,7 +58,8 @@ pub fn finish<W: Output>(outcome: Result<(), PlayError>, writer: &mut W) -> u8
 mod tests {
     use super::*;
     use std::test::Fail;
-    use uart_machine::script::{Cause, Std, play};
+    use uart_language::Cause;
+    use uart_play::{Std, play};
 
     #[test]
     fn each_end_has_its_line_and_status(rt: HostRuntime) -> Result<(), Fail> {

@@ -5,7 +5,7 @@ mod finish;
 
 use finish::finish;
 use std::process::ExitCode;
-use uart_machine::script::{PlayError, Std, play};
+use uart_play::{PlayError, Std, play};
 
 fn main(rt: HostRuntime) -> ExitCode {
     let mut reader = Std::new(rt.stdin());

@@ -1,0 +1,36 @@
+use crate::script::{Std, play};
+use std::process::Abort;
+use std::test::Fail;
+
+mod faults;
+mod language;
+mod limits;
+mod output;
+mod streams;
+
+// A first line, of 16 bytes.
+const HEADER: &str = "chip 16450 4 64\n";
+
+// What is reported for a text that is played, or `a script`.
+fn told(rt: &impl AllocGlobal, text: &[u8]) -> Result<String, Fail> {
+    let mut output = Vec::new(rt.alloc());
+    let result = play(rt.alloc(), &mut Std::new(text), &mut Std::new(&mut output));
+    Ok(match result {
+        Ok(()) => "a script".to_string(rt.alloc())?,
+        Err(_) if !output.is_empty() => "written at a refusal".to_string(rt.alloc())?,
+        Err(error) => error.to_string(rt.alloc())?,
+    })
+}
+
+// Each of these lines is reported so, after a beginning.
+fn assert_told(
+    rt: &(impl AllocGlobal + Abort),
+    front: &str,
+    rows: &[(&str, &str)],
+) -> Result<(), Fail> {
+    for &(lines, want) in rows {
+        let text = format!(in rt.alloc(); "{front}{lines}")?;
+        assert_eq!(rt; told(rt, text.as_bytes())?.as_str(), want, "at {lines}");
+    }
+    Ok(())
+}

@@ -1,0 +1,3 @@
+pub mod ScriptOutput
+pub mod Play
+pub mod OneOutcome

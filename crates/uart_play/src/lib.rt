@@ -1,0 +1,12 @@
+//! Plays scripts: [`play`] reads one, runs its calls over a new device, and writes the answers and the last state of
+//! the device.
+//!
+//! The meaning of a script, and what is printed for it, are defined in `uart_language`.
+#![tactic(auto)]
+
+pub mod laws;
+mod playing;
+mod streams;
+
+pub use playing::{PlayError, play};
+pub use streams::{Fault, Input, Output, Std};

@@ -1,0 +1,268 @@
+//! Plays a script from a reader to a writer.
+
+ghost use Rattle.std.specs.Prelude.{◌≡◌, ◌≤◌, ◌||◌, length, IfOk, IfErr, IfSome, OnOk, is_err};
+ghost use Rattle.std.specs.Io.KnownBytes.{Appends, IsAtEnd};
+ghost use Rattle.uart_play.specs.declared.playing.PlayError.TheVariants.{OutOfMemory};
+ghost use Rattle.uart_language.specs.Script.{plan_of, IsPlayable};
+ghost use Rattle.uart_chip.specs.Transmitter.{held};
+ghost use Rattle.uart_device.specs.Conserved.{waiting};
+ghost use Rattle.uart_play.specs.ScriptOutput.{first_machine, output_of, IsFirst, IsOutput};
+ghost use Rattle.uart_play.specs.Play.{ConsumesAtMost, is_read_fault, is_write_fault, IsReadText, IsReading, WritesFront, Outcome};
+ghost use Rattle.uart_play.specs.Play.{WritesNothing, play_error};
+
+use crate::streams::{Fault, Input, Output};
+use std::alloc::{AllocError, Global};
+use thiserror::Error;
+use uart_16550::{Uart16550, Uart16550Tty};
+use uart_calls::Answer;
+use uart_chip::ArrivalMark;
+use uart_device::Device16550;
+use uart_language::limits::MOST_BYTES;
+use uart_language::{Cause, Script, ScriptError, parse, render};
+use uart_run::run;
+
+/// Why a script was not played to its end.
+///
+/// Something was written only at a `WriteFault`: a beginning of the output.
+#[derive(Clone, Copy, Debug, PartialEq, Eq, Error)]
+pub enum PlayError {
+    /// The input is not a script: the first faulty line, counted from 1, and what is wrong with it; line 0 if there are too
+    /// many bytes.
+    #[error("line {line}: {}", .cause.text())]
+    Refused {
+        /// The number of the line.
+        line: u32,
+        /// What is wrong with it.
+        cause: Cause,
+    },
+    /// The reader failed.
+    #[error("read fault")]
+    ReadFault,
+    /// The writer failed, or accepted no byte.
+    #[error("write fault")]
+    WriteFault,
+    /// Memory for the script, its machine or its output could not be allocated.
+    #[error("out of memory")]
+    OutOfMemory,
+}
+
+impl From<ScriptError> for PlayError {
+    ghost from_gives = { λ e p. p ≡ play_error e };
+
+    fn from(error: ScriptError) -> PlayError {
+        match error {
+            ScriptError::Refused { line, cause } => PlayError::Refused { line, cause },
+            ScriptError::OutOfMemory => PlayError::OutOfMemory,
+        }
+    }
+}
+
+impl From<AllocError> for PlayError {
+    ghost from_gives = { λ _ p. p ≡ OutOfMemory };
+
+    fn from(_error: AllocError) -> PlayError {
+        PlayError::OutOfMemory
+    }
+}
+
+/// The most bytes that are read: one more than the longest script has.
+const MOST_READ: usize = MOST_BYTES + 1;
+
+/// The size of the buffer of a read.
+const CHUNK: usize = 512;
+
+/// Reads to the end of the input, or `MOST_READ` bytes.
+fn read_all<R: Input>(alloc: Global, reader: &mut R) -> Result<Vec<u8>, PlayError>
+    ensures whole { IfOk result (λ text. IsReadText (R.remaining reader.old) (R.remaining reader.new) text.items) }
+    ensures most { ConsumesAtMost MOST_READ (R.remaining reader.old) (R.remaining reader.new) }
+    ensures fault { R.has_failed reader.new ≡ (R.has_failed reader.old || is_read_fault result) }
+    ensures kind { IfErr result IsReading }
+{
+    let mut text = Vec::new(alloc);
+    let mut chunk = [0u8; CHUNK];
+    while text.len() < MOST_READ {
+        let room = (MOST_READ - text.len()).min(CHUNK);
+        match reader.read(&mut chunk[..room]) {
+            Err(_) => return Err(PlayError::ReadFault),
+            Ok(0) => return Ok(text),
+            Ok(count) => {
+                if text.extend_from_slice(&chunk[..count]).is_err() {
+                    return Err(PlayError::OutOfMemory);
+                }
+            }
+        }
+    }
+    Ok(text)
+}
+
+/// Writes all of the bytes.
+fn write_all<W: Output>(writer: &mut W, bytes: &[u8]) -> Result<(), Fault>
+    ensures all { OnOk result (Appends (W.contents writer.old) (W.contents writer.new) bytes.now) }
+    ensures front { WritesFront (W.contents writer.old) (W.contents writer.new) bytes.now }
+    ensures fault { W.has_failed writer.new ≡ (W.has_failed writer.old || is_err result) }
+{
+    let mut done = 0;
+    while done < bytes.len() {
+        match writer.write(&bytes[done..]) {
+            Err(_) => return Err(Fault),
+            Ok(0) => return Err(Fault),
+            Ok(count) => done += count,
+        }
+    }
+    Ok(())
+}
+
+// Returns the machine of the script.
+fn machine_for(alloc: Global, script: &Script) -> Result<Device16550, AllocError>
+    requires { IsPlayable (plan_of script.now) }
+    ensures { IfOk result (λ machine. machine ≡ first_machine (plan_of script.now)) }
+{
+    let schedule = script.events().to_vec(alloc)?;
+    let wire_capacity = script.wire_capacity();
+    let machine = if script.cut() {
+        Device16550::new_cut(
+            alloc,
+            script.chip(),
+            script.ticks(),
+            wire_capacity,
+            schedule,
+        )
+    } else {
+        Device16550::new(
+            alloc,
+            script.chip(),
+            script.ticks(),
+            wire_capacity,
+            schedule,
+        )
+    };
+    match machine {
+        Ok(machine) => Ok(machine),
+        Err(_) => Err(AllocError),
+    }
+}
+
+// Returns the machine of the script under a new driver with the limit of the script.
+fn terminal_for(alloc: Global, script: &Script) -> Result<Uart16550Tty<Device16550>, AllocError>
+    requires { IsPlayable (plan_of script.now) }
+    ensures { IfOk result (λ terminal. IsFirst (plan_of script.now) terminal) }
+{
+    let mut uart = Uart16550::new_with_backend(machine_for(alloc, script)?);
+    uart.set_spin_limit(script.limit());
+    Ok(Uart16550Tty::from_inner(uart))
+}
+
+// Returns as many answers as there are calls, for `run` to overwrite.
+fn empty_answers(alloc: Global, count: usize) -> Result<Vec<Answer>, AllocError>
+    ensures { IfOk result (λ answers. length answers.items ≡ count) }
+{
+    let mut answers = Vec::new(alloc);
+    for _i in 0..count {
+        answers.push(Answer::Done)?;
+    }
+    Ok(answers)
+}
+
+// Returns the bytes that are still to be sent, first the one in the shift register.
+fn held_of(alloc: Global, machine: &Device16550) -> Result<Vec<u8>, AllocError>
+    ensures { IfOk result (λ bytes. bytes.items ≡ held machine.now.chip.transmitter) }
+{
+    let mut bytes = Vec::new(alloc);
+    for i in 0..machine.held_len() {
+        match machine.held_at(i) {
+            Some(byte) => bytes.push(byte)?,
+            None => unreachable!(),
+        }
+    }
+    Ok(bytes)
+}
+
+// Returns the received bytes that have not been read.
+fn waiting_of(alloc: Global, machine: &Device16550) -> Result<Vec<u8>, AllocError>
+    ensures { IfOk result (λ bytes. bytes.items ≡ waiting machine.now) }
+{
+    let mut bytes = Vec::new(alloc);
+    for i in 0..machine.waiting_len() {
+        match machine.waiting_at(i) {
+            Some(byte) => bytes.push(byte)?,
+            None => unreachable!(),
+        }
+    }
+    Ok(bytes)
+}
+
+// Returns what became of each arrival.
+fn marks_of(alloc: Global, machine: &Device16550) -> Result<Vec<ArrivalMark>, AllocError>
+    ensures { IfOk result (λ marks. marks.items ≡ machine.now.chip.receiver.marks) }
+{
+    let mut marks = Vec::new(alloc);
+    for i in 0..machine.arrivals() {
+        match machine.mark(i) {
+            Some(mark) => marks.push(mark)?,
+            None => unreachable!(),
+        }
+    }
+    Ok(marks)
+}
+
+// Returns what is printed for answers and the last state of the machine.
+fn printed_for(
+    alloc: Global,
+    answers: &[Answer],
+    machine: &Device16550,
+) -> Result<Vec<u8>, AllocError>
+    ensures { IfOk result (λ output. output.items ≡ output_of answers.now machine.now) }
+{
+    let held = held_of(alloc, machine)?;
+    let waiting = waiting_of(alloc, machine)?;
+    let marks = marks_of(alloc, machine)?;
+    render(alloc, answers, machine.wire(), &held, &waiting, &marks)
+}
+
+// Runs a script, and returns what is printed for it.
+fn output_for(alloc: Global, script: &Script) -> Result<Vec<u8>, AllocError>
+    requires { IsPlayable (plan_of script.now) }
+    ensures { IfOk result (λ output. IsOutput (plan_of script.now) output.items) }
+{
+    let mut terminal = terminal_for(alloc, script)?;
+    let calls = script.calls();
+    let mut answers = empty_answers(alloc, calls.len())?;
+    run(&mut terminal, calls, &mut answers);
+    let output = printed_for(alloc, &answers, terminal.inner().backend())?;
+    Ok(output)
+}
+
+/// Reads a script, plays it, and writes its output.
+///
+/// The whole output is built before any of it is written. What is written for a script is a function of the script
+/// ([`scripts_have_one_output`](crate::laws::scripts_have_one_output)).
+///
+/// # Errors
+///
+/// - `Refused`, with the first faulty line and what is wrong with it, if the input is not a script.
+/// - `ReadFault` if the reader failed, `WriteFault` if the writer failed or accepted no byte.
+/// - `OutOfMemory` if memory could not be allocated.
+pub fn play<R: Input, W: Output>(
+    alloc: Global,
+    reader: &mut R,
+    writer: &mut W,
+) -> Result<(), PlayError>
+    // The outcome of an input, if its bytes are known.
+    ensures outcome { IfSome (R.remaining reader.old) (λ input. Outcome input result (W.contents writer.old) (W.contents writer.new)) }
+    ensures whole { OnOk result (IsAtEnd (R.remaining reader.new)) }
+    ensures most { ConsumesAtMost MOST_READ (R.remaining reader.old) (R.remaining reader.new) }
+
+    ensures nothing { WritesNothing result (W.contents writer.old) (W.contents writer.new) }
+
+    // A read fault is reported exactly if the reader failed, a write fault exactly if the writer did.
+    ensures reader_fault { R.has_failed reader.new ≡ (R.has_failed reader.old || is_read_fault result) }
+    ensures writer_fault { W.has_failed writer.new ≡ (W.has_failed writer.old || is_write_fault result) }
+{
+    let text = read_all(alloc, reader)?;
+    let script = parse(alloc, &text)?;
+    let output = output_for(alloc, &script)?;
+    match write_all(writer, &output) {
+        Ok(()) => Ok(()),
+        Err(_) => Err(PlayError::WriteFault),
+    }
+}
