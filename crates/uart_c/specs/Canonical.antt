@@ -35,4 +35,5 @@ IsCanonicalReceiver r =
 -- the whole chip, but for bytes behind the end of a queue and those of an empty shift register
 abbrev pub IsCanonical : UartChip → Type 0
 IsCanonical c =
-    IsFlag c.model × IsFlag c.fifo × IsFlag c.cuts × IsCanonicalTransmitter c.transmitter × IsCanonicalReceiver c.receiver
+    IsFlag c.model × IsFlag c.fifo × IsFlag c.cuts ×
+    IsCanonicalTransmitter c.transmitter × IsCanonicalReceiver c.receiver
