@@ -1,2 +1,4 @@
 pub mod Shown
 pub mod Known
+pub mod Settled
+pub mod Repeated

@@ -4,3 +4,4 @@ pub mod History
 pub mod Findings
 pub mod Judging
 pub mod Severities
+pub mod Reads

@@ -100,7 +100,7 @@ impl Auditor {
     }
 
     // Returns the findings at an action.
-    fn findings(&self, action: Action) -> [Option<Finding>; 5]
+    pub(crate) fn findings(&self, action: Action) -> [Option<Finding>; 5]
         ensures { result ≡ findings self.now action }
     {
         [

@@ -11,6 +11,7 @@ mod auditor;
 mod finding;
 mod findings;
 mod judging;
+mod reads;
 mod setup;
 mod shows;
 #[cfg(test)]
@@ -19,4 +20,5 @@ mod tests;
 pub use action::Action;
 pub use auditor::{Auditor, Due};
 pub use finding::{Finding, Severity};
+pub use reads::Stretch;
 pub use setup::Setup;

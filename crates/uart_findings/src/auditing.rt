@@ -1,10 +1,12 @@
 //! Prints what the driver of a recording does to its chip.
 
 use crate::stop::Stop;
+use crate::times::Times;
 use std::alloc::Global;
 use std::io::{Read, Write};
-use uart_audit::{Auditor, Finding, Severity};
-use uart_recording::{Happening, Recording};
+use uart_16550::replay::Entry;
+use uart_audit::{Auditor, Finding, Severity, Stretch};
+use uart_recording::{Event, Happening, Recording};
 
 // Returns the word for a finding that compilers print.
 fn severity_text(severity: Severity) -> &'static str {
@@ -14,29 +16,75 @@ fn severity_text(severity: Severity) -> &'static str {
     }
 }
 
-// Prints the findings of a line. Returns how many of them are warnings.
+// Prints the findings of a line, each of which was made so many times in turn. Returns how many warnings these are.
 fn print<W: Write>(
     out: &mut W,
     file: &str,
     line: u64,
     findings: &[Option<Finding>],
+    times: Times,
 ) -> Result<u64, Stop> {
     let mut warnings = 0u64;
     for finding in findings {
         if let Some(finding) = finding {
             let severity = finding.severity();
             if severity == Severity::Warning {
-                warnings = warnings.saturating_add(1);
+                warnings = warnings.saturating_add(times.0);
             }
             let word = severity_text(severity);
-            writeln!(out, "{file}:{line}: {word}: {finding}").map_err(Stop::Output)?;
+            writeln!(out, "{file}:{line}: {word}: {finding}{times}").map_err(Stop::Output)?;
         }
     }
     Ok(warnings)
 }
 
+// Prints what is found at reads in turn that are one event. Returns how many warnings these are.
+fn print_reads<W: Write>(
+    out: &mut W,
+    file: &str,
+    line: u64,
+    stretches: [Stretch; 3],
+) -> Result<u64, Stop> {
+    let mut warnings = 0u64;
+    let mut held = Stretch {
+        findings: [None; 5],
+        times: 0,
+    };
+    for stretch in stretches {
+        if stretch.findings == held.findings {
+            held.times = held.times.saturating_add(stretch.times);
+        } else if stretch.times > 0 {
+            let found = print(out, file, line, &held.findings, Times(held.times))?;
+            warnings = warnings.saturating_add(found);
+            held = stretch;
+        }
+    }
+    let found = print(out, file, line, &held.findings, Times(held.times))?;
+    Ok(warnings.saturating_add(found))
+}
+
+// Goes on by what happened, and prints what is found there. Returns how many warnings these are.
+fn print_event<W: Write>(
+    out: &mut W,
+    file: &str,
+    auditor: &mut Auditor,
+    event: &Event,
+) -> Result<u64, Stop> {
+    match event.happening {
+        Happening::Access(Entry::Read(offset, answer)) if event.times != 1 => {
+            let stretches = auditor.reads(offset, answer, event.times);
+            print_reads(out, file, event.line, stretches)
+        }
+        Happening::Access(access) => {
+            print(out, file, event.line, &auditor.step(access), Times(1))
+        }
+        _ => Ok(0),
+    }
+}
+
 /// Reads a recording, and prints each finding behind the name of the file and the number of its line, and then how many
-/// warnings there are. Returns how many there are.
+/// warnings there are. Returns how many there are. If reads that a line repeats have the same finding in turn, it is
+/// printed once, with how many times.
 ///
 /// # Errors
 ///
@@ -54,13 +102,12 @@ pub fn audit<R: Read + Drop, W: Write>(
         let Some(event) = recording.next_event()? else {
             break;
         };
-        if let Happening::Access(access) = event.happening {
-            let found = print(out, file, event.line, &auditor.step(access))?;
-            warnings = warnings.saturating_add(found);
-        }
+        let found = print_event(out, file, &mut auditor, &event)?;
+        warnings = warnings.saturating_add(found);
     }
     let lines = recording.lines();
-    warnings = warnings.saturating_add(print(out, file, lines, &auditor.end())?);
+    let found = print(out, file, lines, &auditor.end(), Times(1))?;
+    warnings = warnings.saturating_add(found);
     writeln!(out, "{file}: {lines} lines, {warnings} warnings").map_err(Stop::Output)?;
     Ok(warnings)
 }

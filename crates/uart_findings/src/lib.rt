@@ -7,6 +7,9 @@
 mod auditing;
 mod replaying;
 mod stop;
+#[cfg(test)]
+mod tests;
+mod times;
 
 pub use auditing::audit;
 pub use replaying::replay;

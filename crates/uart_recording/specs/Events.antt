@@ -1,13 +1,11 @@
 -- What was seen at the port of a chip.
-use Rattle.std.specs.Prelude.{◌<◌, List, [], ◌∷◌, ◌++◌, ⊤}
-use Rattle.uart_16550.specs.Replay.{access_of}
+use Rattle.std.specs.Prelude.{◌<◌, ⊤}
 use Rattle.uart_16550.specs.declared.replay.Entry.{Entry}
 use Rattle.uart_16550.specs.declared.replay.Entry.TheVariants as entry
 use Rattle.uart_chip.specs.Masks.{IsWithin}
 use Rattle.uart_recording.specs.declared.event.Event.{Event}
 use Rattle.uart_recording.specs.declared.event.Happening.{Happening}
 use Rattle.uart_recording.specs.declared.event.Happening.TheVariants.{Access, Arrive, Interrupt, Lines}
-use Rattle.uart_spec.specs.Access as access
 use Rattle.uart_spec.specs.declared.baud.TheConstants.{NUM_REGISTERS}
 use Rattle.uart_spec.specs.declared.registers.line_status.TheConstants.LSR
 use Rattle.uart_spec.specs.declared.registers.modem_status.TheConstants.MSR
@@ -27,13 +25,3 @@ IsHappening (Lines inputs) = IsWithin inputs.0 MSR.LINES.0
 -- so is what happens at this event
 abbrev pub IsEvent : Event → Type 0
 IsEvent event = IsHappening event.happening
-
--- the accesses among what happened
-abbrev pub accesses_of : Happening → List access.Access
-accesses_of (Access entry) = access_of entry ∷ []
-accesses_of other = []
-
--- the accesses of a recording, in order
-unfoldable pub accesses : List Event → List access.Access
-accesses [] = []
-accesses (event ∷ events) = accesses_of event.happening ++ accesses events

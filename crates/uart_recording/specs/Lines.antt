@@ -73,10 +73,10 @@ stamp_in count ws =
     time_in (word_at (count + 1) ws) >>= (λ time. Ok (stamp level (Some time))))
     else Err WrongCount
 
--- what happened, at the line with this number
+-- what happened once, at the line with this number
 abbrev pub happened_at : ℕ → Happening → Stamp → Line
 happened_at number what stamp =
-    line.Event (record { happening = what; line = number; time = stamp.time; interrupt = stamp.interrupt })
+    line.Event (record { happening = what; times = 1; line = number; time = stamp.time; interrupt = stamp.interrupt })
 
 -- OFFSET VALUE: an access of this kind
 unfoldable pub access_in : (ℕ → ℕ → Entry) → ℕ → List (List ℕ) → Result Line Cause

@@ -1,5 +1,5 @@
 -- What the next line of a recording says at its place.
-use Rattle.std.specs.Prelude.{◌≡◌, ℕ, ◌+◌, ◌-◌, ◌==◌, if◌then◌else◌, List, Option, Some, None, Result, Ok, Err, ⊤}
+use Rattle.std.specs.Prelude.{◌≡◌, ℕ, ◌+◌, List, Option, Some, None, Result, Ok, Err, ⊤}
 use Rattle.uart_16550.specs.declared.replay.Entry.TheVariants as entry
 use Rattle.uart_recording.specs.Lines.{says}
 use Rattle.uart_recording.specs.declared.cause.Fault.{Fault}
@@ -13,49 +13,40 @@ use Rattle.uart_recording.specs.declared.reading.RecordingError.{RecordingError}
 use Rattle.uart_recording.specs.declared.reading.RecordingError.TheVariants as error
 use Rattle.uart_recording.specs.declared.place.Place.{Place}
 
--- the event once more, at this line and without time and level, if what happened is a read
-abbrev pub repeated_as : Happening → Event → ℕ → Option Event
-repeated_as (Access (entry.Read offset answer)) event number =
-    Some (record { happening = event.happening; line = number; time = None; interrupt = None })
-repeated_as other event number = None
+-- the event so many times more, at this line and without time and level, if what happened is a read
+abbrev pub repeated_as : Happening → Event → ℕ → ℕ → Option Event
+repeated_as (Access (entry.Read offset answer)) event number times =
+    Some (record { happening = event.happening; times = times; line = number; time = None; interrupt = None })
+repeated_as other event number times = None
 
--- the event once more, at the line with this number, if it is a read
-abbrev pub repeated : Event → ℕ → Option Event
-repeated event number = repeated_as event.happening event number
+-- the event so many times more, at the line with this number, if it is a read
+abbrev pub repeated : Event → ℕ → ℕ → Option Event
+repeated event number times = repeated_as event.happening event number times
 
--- what happened last, once more
-abbrev pub last_again : Option Event → ℕ → Option Event
-last_again None number = None
-last_again (Some event) number = repeated event number
+-- what happened last, so many times more
+abbrev pub last_again : Option Event → ℕ → ℕ → Option Event
+last_again None number times = None
+last_again (Some event) number times = repeated event number times
 
--- the place after so many lines, with what happened last and how often it is to be repeated
-abbrev pub place : ℕ → Option Event → ℕ → Place
-place number last repeats = record { number = number; last = last; repeats = repeats }
+-- the place after so many lines, with what happened last
+abbrev pub place : ℕ → Option Event → Place
+place number last = record { number = number; last = last }
 
--- a line that repeats what happened last: it is to be a read
-abbrev pub again_from : Place → ℕ → Option Event → Result (Option Event) Fault × Place
-again_from old count None = (Err NoReadBefore, place (old.number + 1) old.last old.repeats)
-again_from old count (Some event) = (Ok None, place (old.number + 1) (Some event) count)
+-- a line that repeats what happened last, which is to be a read
+abbrev pub again_from : Place → Option Event → Result (Option Event) Fault × Place
+again_from old None = (Err NoReadBefore, place (old.number + 1) old.last)
+again_from old (Some event) = (Ok (Some event), place (old.number + 1) (Some event))
 
 -- the event of a line that means this, or what is wrong with it, and the place after it
 abbrev pub read_as : Place → Result Line Fault → Result (Option Event) Fault × Place
-read_as old (Err fault) = (Err fault, place (old.number + 1) old.last old.repeats)
-read_as old (Ok line.Blank) = (Ok None, place (old.number + 1) old.last old.repeats)
-read_as old (Ok (line.Event event)) = (Ok (Some event), place (old.number + 1) (Some event) 0)
-read_as old (Ok (line.Again count)) = again_from old count (last_again old.last (old.number + 1))
+read_as old (Err fault) = (Err fault, place (old.number + 1) old.last)
+read_as old (Ok line.Blank) = (Ok None, place (old.number + 1) old.last)
+read_as old (Ok (line.Event event)) = (Ok (Some event), place (old.number + 1) (Some event))
+read_as old (Ok (line.Again times)) = again_from old (last_again old.last (old.number + 1) times)
 
 -- the line after this place was read: its event or fault is returned, and this is the place after it
 abbrev pub IsLineRead : Place → List ℕ → Result (Option Event) Fault → Place → Type 0
 IsLineRead old bytes result new = read_as old (says (old.number + 1) bytes) ≡ (result, new)
-
--- what happened last, if it is to be repeated, and the place after it: it is to be repeated once less
-abbrev pub repeat_of : Place → Option Event × Place
-repeat_of old =
-    if old.repeats == 0 then (None, old) else (old.last, place old.number old.last (old.repeats - 1))
-
--- what is to be repeated was returned, and this is the place after it
-abbrev pub IsRepeat : Place → Option Event → Place → Type 0
-IsRepeat old result new = repeat_of old ≡ (result, new)
 
 -- if the error is that of a line, this is its number
 abbrev pub IsAtLine : ℕ → RecordingError → Type 0

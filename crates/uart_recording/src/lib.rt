@@ -10,6 +10,8 @@ pub mod limits;
 mod lines;
 mod place;
 mod reading;
+#[cfg(test)]
+mod tests;
 mod window;
 
 pub use cause::Fault;

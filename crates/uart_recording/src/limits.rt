@@ -10,4 +10,4 @@ pub const MOST_REPEATS: u64 = 100_000_000;
 pub const MOST_DIGITS: usize = 19;
 
 /// The most seconds that the time of a line of QEMU's log may have.
-pub const MOST_SECONDS: u64 = 10_000_000_000;
+pub const MOST_SECONDS: u64 = 9_999_999_999;

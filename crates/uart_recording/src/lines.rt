@@ -120,12 +120,13 @@ fn stamp_in(count: usize, line: &[u8]) -> Result<Stamp, Cause>
     }
 }
 
-// Returns what happened, at the line with this number.
+// Returns what happened once, at the line with this number.
 fn happened_at(number: u64, happening: Happening, stamp: Stamp) -> Line
     ensures { result ≡ happened_at number happening stamp }
 {
     Line::Event(Event {
         happening,
+        times: 1,
         line: number,
         time: stamp.time,
         interrupt: stamp.interrupt,

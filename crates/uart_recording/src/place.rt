@@ -1,6 +1,6 @@
 //! How far a recording is read, and what its next line says there.
 ghost use Rattle.std.specs.Prelude.{◌≡◌, ◌<◌, ◌+◌};
-ghost use Rattle.uart_recording.specs.Places.{IsLineRead, IsRepeat, repeated};
+ghost use Rattle.uart_recording.specs.Places.{IsLineRead, repeated};
 
 use crate::cause::Fault;
 use crate::event::{Event, Happening};
@@ -14,17 +14,16 @@ pub struct Place {
     pub number: u64,
     /// What happened last.
     pub last: Option<Event>,
-    /// How many times more it is to be repeated.
-    pub repeats: u64,
 }
 
-// Returns a read once more, at the line with this number, or `None` if what happened is no read. A repeat says nothing
-// about time and level.
-fn repeated(event: Event, line: u64) -> Option<Event>
-    ensures { result ≡ repeated event line }
+// Returns a read so many times more, at the line with this number, or `None` if what happened is no read. A repeat says
+// nothing about time and level.
+fn repeated(event: Event, line: u64, times: u64) -> Option<Event>
+    ensures { result ≡ repeated event line times }
 {
     match event.happening {
         Happening::Access(Entry::Read(_, _)) => Some(Event {
+            times,
             line,
             time: None,
             interrupt: None,
@@ -37,28 +36,16 @@ fn repeated(event: Event, line: u64) -> Option<Event>
 impl Place {
     /// Returns the place before the first line.
     pub fn new() -> Self
-        ensures { result ≡ record { number = 0; last = None; repeats = 0 } }
+        ensures { result ≡ record { number = 0; last = None } }
     {
         Place {
             number: 0,
             last: None,
-            repeats: 0,
         }
     }
 
-    /// Returns the event to be repeated, if there is one, and counts it.
-    pub fn repeat(&mut self) -> Option<Event>
-        ensures read { IsRepeat self.old result self.new }
-        ensures counted { self.new.number ≡ self.old.number }
-    {
-        if self.repeats == 0 {
-            return None;
-        }
-        self.repeats -= 1;
-        self.last
-    }
-
-    /// Reads the next line. Returns the event that it is, if it is one; a line that repeats a read is none.
+    /// Reads the next line. Returns what happened there, if something did: a line that repeats a read is that read, so
+    /// many times.
     ///
     /// # Errors
     ///
@@ -73,15 +60,14 @@ impl Place {
             Line::Blank => Ok(None),
             Line::Event(event) => {
                 self.last = Some(event);
-                self.repeats = 0;
                 Ok(Some(event))
             }
-            Line::Again(count) => {
+            Line::Again(times) => {
                 let number = self.number;
-                let again = self.last.and_then(|event| repeated(event, number));
-                self.last = Some(again.ok_or(Fault::NoReadBefore)?);
-                self.repeats = count;
-                Ok(None)
+                let again = self.last.and_then(|event| repeated(event, number, times));
+                let event = again.ok_or(Fault::NoReadBefore)?;
+                self.last = Some(event);
+                Ok(Some(event))
             }
         }
     }

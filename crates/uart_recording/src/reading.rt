@@ -101,7 +101,7 @@ impl<R: Read + Drop> Recording<R> {
         }
     }
 
-    /// Returns the next event, or `None` at the end.
+    /// Returns the next event, or `None` at the end. A line that repeats a read is one event.
     ///
     /// # Errors
     ///
@@ -112,9 +112,6 @@ impl<R: Read + Drop> Recording<R> {
         ensures onward { self.old.place.number ≤ self.new.place.number }
     {
         'lines: while self.place.number < u64::MAX {
-            if let Some(event) = self.place.repeat() {
-                return Ok(Some(event));
-            }
             let Some(length) = self.fill_line().map_err(RecordingError::Unread)? else {
                 return Ok(None);
             };

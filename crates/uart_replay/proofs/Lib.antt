@@ -5,3 +5,4 @@ pub mod Effects
 pub mod Looped
 pub mod Fitting
 pub mod Explaining
+pub mod Again

@@ -1,11 +1,13 @@
 -- What the accesses of a recording say of a machine, and that no machine explains a difference.
-use Rattle.std.specs.Prelude.{◌≡◌, ℕ, Bool, true, false, List, [], ◌∷◌, Option, Some, None}
+use Rattle.std.specs.Prelude.{◌≡◌, ℕ, zero, suc, Bool, true, false, List, [], ◌∷◌, ◌++◌, replicate, Option, Some, None}
+use Rattle.std.specs.Prelude.{IsSome, is_some, ⊤}
 use Rattle.uart_spec.specs.Access.{Access, Read, Write, Path}
 use Rattle.uart_chip.specs.declared.event.Chip.{Chip}
 use Rattle.uart_chip.specs.declared.event.Event.{Event}
 use Rattle.uart_chip.specs.Build.{refusal}
 use Rattle.uart_chip.specs.Machine.{MachineState, MachineStep, fresh, cutting}
 use Rattle.uart_replay.specs.declared.difference.Difference.{Difference}
+use Rattle.uart_replay.specs.declared.difference.Reported.{Reported}
 use Rattle.uart_replay.specs.declared.known.Known.{Known}
 use Rattle.uart_replay.specs.declared.known.Start.{Start}
 use Rattle.uart_replay.specs.declared.known.Start.TheVariants.{Reset, InUse}
@@ -83,3 +85,31 @@ difference_by offset value (Some rule) = Some (record { offset = offset; recorde
 -- what is reported for a read that returned this value
 abbrev pub difference : ℕ → ℕ → Known → Option Difference
 difference offset value k = difference_by offset value (broken offset value k)
+
+-- ---- a read that is made again and again
+
+-- what is known after a read that returned this value
+abbrev pub known_read : ℕ → ℕ → Known → Known
+known_read offset value k = known_after k (seen_read (is_some (difference offset value k)) offset value)
+
+-- what is known after so many equal reads in turn
+unfoldable pub known_reads : ℕ → ℕ → ℕ → Known → Known
+known_reads zero offset value k = k
+known_reads (suc n) offset value k = known_reads n offset value (known_read offset value k)
+
+-- what is reported for each of so many equal reads in turn
+unfoldable pub differences : ℕ → ℕ → ℕ → Known → List (Option Difference)
+differences zero offset value k = []
+differences (suc n) offset value k = difference offset value k ∷ differences n offset value (known_read offset value k)
+
+-- the first, and then each of the others, of so many
+abbrev pub each_of : ℕ → Reported → List (Option Difference)
+each_of zero reported = []
+each_of (suc n) reported = reported.first ∷ replicate n reported.others
+
+-- for each of these reads in turn: if it is reported, no machine explains the accesses before it and then returns this
+abbrev pub AreSound : Chip → Start → List Seen → ℕ → ℕ → List (Option Difference) → Type 0
+AreSound model start seen offset value [] = ⊤
+AreSound model start seen offset value (reported ∷ rest) =
+    (IsSome reported → NoneReturns model start seen offset value)
+    × AreSound model start (seen ++ seen_read (is_some reported) offset value ∷ []) offset value rest

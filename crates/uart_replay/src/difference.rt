@@ -14,6 +14,15 @@ pub struct Difference {
     pub rule: Rule,
 }
 
+/// What is reported for equal reads in turn.
+#[derive(Clone, Copy, Debug, PartialEq, Eq)]
+pub struct Reported {
+    /// For the first of them.
+    pub first: Option<Difference>,
+    /// For each of the others.
+    pub others: Option<Difference>,
+}
+
 // Returns the name of the register that is read at this offset.
 fn register(offset: usize) -> &'static str {
     match offset {

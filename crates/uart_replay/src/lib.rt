@@ -13,7 +13,7 @@ mod rule;
 #[cfg(test)]
 mod tests;
 
-pub use difference::Difference;
+pub use difference::{Difference, Reported};
 pub use known::{Known, Sender, Start};
 pub use latches::KnownLatches;
 pub use replayer::Replayer;

@@ -3,11 +3,12 @@ ghost use Rattle.std.specs.Prelude.{◌≡◌, List, IsSome, is_some};
 ghost use Rattle.uart_chip.specs.declared.event.Chip.{Chip};
 ghost use Rattle.uart_replay.specs.declared.known.Start.{Start};
 ghost use Rattle.uart_replay.specs.Known as spec;
-ghost use Rattle.uart_replay.specs.Replays.{NoneReturns, Seen, difference, known_after, known_from, seen_read};
+ghost use Rattle.uart_replay.specs.Replays.{AreSound, NoneReturns, Seen, difference, differences, each_of, known_after};
+ghost use Rattle.uart_replay.specs.Replays.{known_from, known_reads, seen_read};
 ghost use Rattle.uart_spec.specs.Access.{Write};
 ghost use Rattle.uart_replay.specs.Replays.{Did};
 
-use crate::difference::Difference;
+use crate::difference::{Difference, Reported};
 use crate::known::{Known, Start};
 use crate::rule::broken;
 use uart_chip::Chip;
@@ -55,6 +56,34 @@ impl Replayer {
                 })
             }
         }
+    }
+
+    /// Follows so many reads in turn of the register at this offset, which all returned this value. Returns what [`read`]
+    /// returns at each of them, in the time of two.
+    ///
+    /// [`read`]: Replayer::read
+    pub fn reads(&mut self, offset: usize, value: u8, times: u64) -> Reported
+        ensures exact { each_of times result ≡ differences times offset value self.old.known }
+        ensures after { self.new.known ≡ known_reads times offset value self.old.known }
+        ensures sound { (model : Chip) → (start : Start) → (seen : List Seen) →
+            self.old.known ≡ known_from (spec.first_known model start) seen →
+            AreSound model start seen offset value (each_of times result) }
+    {
+        if times == 0 {
+            return Reported {
+                first: None,
+                others: None,
+            };
+        }
+        let first = self.read(offset, value);
+        if times == 1 {
+            return Reported {
+                first,
+                others: None,
+            };
+        }
+        let others = self.read(offset, value);
+        Reported { first, others }
     }
 
     /// Follows a write of this value to the register at this offset.
