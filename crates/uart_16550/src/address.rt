@@ -11,15 +11,16 @@ use std::num::NonZeroUsize;
 use uart_spec::{Config, InvalidAddressError};
 
 impl<P: PortAccess + Drop> Uart16550<PioBackend<P>> {
-    /// Returns a driver for the device whose registers are at eight consecutive I/O ports, from `base_port` on.
+    /// Returns a driver for the device whose registers are at eight consecutive I/O ports, from
+    /// `base_port` on.
     ///
-    /// Makes no access: call `init` before any other call. The configuration is `Config::DEFAULT` until then. Port 0 is
-    /// accepted.
+    /// Makes no access: call `init` before any other call. The configuration is `Config::DEFAULT`
+    /// until then. Port 0 is accepted.
     ///
     /// # Errors
     ///
-    /// `InvalidBaseAddress`, with the base port, if the last register would be beyond port 65535. The access object is
-    /// dropped then.
+    /// `InvalidBaseAddress`, with the base port, if the last register would be beyond port 65535.
+    /// The access object is dropped then.
     ///
     /// # Examples
     ///
@@ -38,15 +39,17 @@ impl<P: PortAccess + Drop> Uart16550<PioBackend<P>> {
 }
 
 impl<M: ByteAccess + Drop> Uart16550<MmioBackend<M>> {
-    /// Returns a driver for the device whose registers are in memory, from `base_address` on. The registers are `stride`
-    /// bytes apart, and each is one byte wide.
+    /// Returns a driver for the device whose registers are in memory, from `base_address` on. The
+    /// registers are `stride` bytes apart, and each is one byte wide.
     ///
-    /// Makes no access: call `init` before any other call. The configuration is `Config::DEFAULT` until then.
+    /// Makes no access: call `init` before any other call. The configuration is `Config::DEFAULT`
+    /// until then.
     ///
     /// # Errors
     ///
     /// - `InvalidStride`, with the stride, if it is zero or not a power of two.
-    /// - Otherwise `InvalidBaseAddress`, with the base address, if the last register would be beyond the last address.
+    /// - Otherwise `InvalidBaseAddress`, with the base address, if the last register would be
+    ///   beyond the last address.
     ///
     /// The access object is dropped then.
     ///
@@ -62,7 +65,8 @@ impl<M: ByteAccess + Drop> Uart16550<MmioBackend<M>> {
         access: M,
     ) -> Result<Self, InvalidAddressError>
         ensures fresh { IfOk result (λ driver. IsFresh driver (backend_of driver) Config.DEFAULT) }
-        ensures place { IfOk result (λ driver. IsInMemory (backend_of driver) base_address stride access) }
+        ensures place { IfOk result (λ driver.
+            IsInMemory (backend_of driver) base_address stride access) }
         ensures refused { IfErr result (IsMappingRefusal (non_zero_usize_get base_address) stride) }
     {
         Ok(Uart16550::new_with_backend(MmioBackend::new(base_address, stride, access)?))
@@ -86,7 +90,8 @@ impl<M: ByteAccess + Drop> Uart16550<MmioBackend<M>> {
         access: M,
     ) -> Result<Self, InvalidAddressError>
         ensures fresh { IfOk result (λ driver. IsFresh driver (backend_of driver) Config.DEFAULT) }
-        ensures place { IfOk result (λ driver. IsInMemory (backend_of driver) base_address stride access) }
+        ensures place { IfOk result (λ driver.
+            IsInMemory (backend_of driver) base_address stride access) }
         ensures refused { IfErr result (IsMappingRefusal (non_zero_usize_get base_address) stride) }
     {
         Self::new_mmio(base_address, stride, access)

@@ -7,10 +7,12 @@ pub use uart_spec::backend::Backend;
 
 /// Access to I/O ports, for example by the instructions `in` and `out` of x86.
 ///
-/// Pass it to `Uart16550::new_port`, which makes a `PioBackend` of it. In Rattle an implementation also defines a step
-/// relation, as a `Backend` does, with the port instead of the offset of the register.
+/// Pass it to `Uart16550::new_port`, which makes a `PioBackend` of it. In Rattle an implementation
+/// also defines a step relation, as a `Backend` does, with the port instead of the offset of the
+/// register.
 pub trait PortAccess {
-    // This access of a port, with the byte that it reads or writes, may lead from the first state to the second.
+    // This access of a port, with the byte that it reads or writes, may lead from the first state
+    // to the second.
     ghost step: { Self → Access → Self → Type 0 };
 
     /// Reads one byte from a port, and returns it.
@@ -24,10 +26,12 @@ pub trait PortAccess {
 
 /// Access to single bytes of memory, for example by a volatile load and a volatile store.
 ///
-/// Pass it to `Uart16550::new_mmio`, which makes an `MmioBackend` of it. In Rattle an implementation also defines a step
-/// relation, as a `Backend` does, with the address instead of the offset of the register.
+/// Pass it to `Uart16550::new_mmio`, which makes an `MmioBackend` of it. In Rattle an
+/// implementation also defines a step relation, as a `Backend` does, with the address instead of
+/// the offset of the register.
 pub trait ByteAccess {
-    // This access of an address, with the byte that it loads or stores, may lead from the first state to the second.
+    // This access of an address, with the byte that it loads or stores, may lead from the first
+    // state to the second.
     ghost step: { Self → Access → Self → Type 0 };
 
     /// Loads the byte at an address, and returns it.

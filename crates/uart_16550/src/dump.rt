@@ -6,7 +6,8 @@ ghost use Rattle.uart_16550.specs.Status.{divisor_of, IsDumpRate};
 use uart_spec::registers::{DLL, DLM, IER, ISR, LCR, LSR, MCR, MSR, SPR};
 use uart_spec::{BaudRate, Config, NonIntegerBaudRateError, calc_baud_rate};
 
-/// The values of the registers of a device, read one after another by `Uart16550::config_register_dump`.
+/// The values of the registers of a device, read one after another by
+/// `Uart16550::config_register_dump`.
 ///
 /// In the default value all bits are clear.
 #[derive(Clone, Debug, Default, PartialEq, Eq, PartialOrd, Ord, Hash, Drop)]
@@ -45,11 +46,11 @@ impl ConfigRegisterDump {
         256 * self.dlm as u16 + self.dll as u16
     }
 
-    /// Returns the baud rate that the divisor gives at the configuration's frequency and prescaler division factor: the
-    /// case with a name if there is one, else `Custom`.
+    /// Returns the baud rate that the divisor gives at the configuration's frequency and prescaler
+    /// division factor: the case with a name if there is one, else `Custom`.
     ///
-    /// The configuration's own baud rate does not matter. Its frequency must not be 0, and its prescaler division factor
-    /// must be `None` or at most 15.
+    /// The configuration's own baud rate does not matter. Its frequency must not be 0, and its
+    /// prescaler division factor must be `None` or at most 15.
     ///
     /// # Errors
     ///

@@ -1,7 +1,8 @@
 //! Traits for byte readers and writers, and their implementations for the driver.
 //!
-//! In Rattle generic code relies on the contracts of these traits. A reader or a writer defines a relation between its
-//! state before a call, the bytes of the call, its result, and its state after; each call is in this relation.
+//! In Rattle generic code relies on the contracts of these traits. A reader or a writer defines a
+//! relation between its state before a call, the bytes of the call, its result, and its state
+//! after; each call is in this relation.
 ghost use Rattle.std.specs.Prelude.{◌≡◌, ◌≤◌, ℕ, Bool, List, Result, length, drop, IfOk, OnErr};
 ghost use Rattle.uart_spec.specs.declared.errors.StalledError.{StalledError};
 ghost use Rattle.uart_16550.specs.Driver.{Made};
@@ -20,11 +21,12 @@ pub trait ErrorType {
 
 /// A reader of bytes.
 pub trait Read: ErrorType {
-    // From the first state a call with this number of slots may read these bytes, return this, and end in the second state.
+    // From the first state a call with this number of slots may read these bytes, return this, and
+    // end in the second state.
     ghost reads: { Self → ℕ → List ℕ → Result ℕ Self.Error → Self → Type 0 };
 
-    /// Reads at least one byte into the slots, waits for it if necessary, and returns how many were read: 0 only if there
-    /// are no slots.
+    /// Reads at least one byte into the slots, waits for it if necessary, and returns how many were
+    /// read: 0 only if there are no slots.
     ///
     /// Slots beyond this number are unchanged. If the call fails, all slots are unchanged.
     fn read(&mut self, buf: &mut [u8]) -> Result<usize, Self::Error>
@@ -43,8 +45,8 @@ pub trait Write: ErrorType {
     // From the first state a flush may return this and end in the second state.
     ghost flushes: { Self → Result (Unit {0}) Self.Error → Self → Type 0 };
 
-    /// Writes at least one byte from the front, waits for room if necessary, and returns how many were written: 0 only if
-    /// there are no bytes.
+    /// Writes at least one byte from the front, waits for room if necessary, and returns how many
+    /// were written: 0 only if there are no bytes.
     fn write(&mut self, buf: &[u8]) -> Result<usize, Self::Error>
         ensures writes { writes self.old buf.now result self.new }
         ensures count { IfOk result (λ count. count ≤ length buf.now) }
@@ -82,7 +84,8 @@ impl<B: Backend> ErrorType for Uart16550<B> {
 impl<B: Backend> Read for Uart16550<B> {
     ghost reads = { λ old slots bytes answer new. Made B.step (Reads slots bytes answer) old new };
 
-    /// Waits for a byte, at most `spin_limit` polls of LSR, and then receives as `receive_bytes` does.
+    /// Waits for a byte, at most `spin_limit` polls of LSR, and then receives as `receive_bytes`
+    /// does.
     ///
     /// # Errors
     ///
@@ -109,8 +112,8 @@ impl<B: Backend> Write for Uart16550<B> {
 
     ghost flushes = { λ old answer new. Made B.step (Flushes answer) old new };
 
-    /// Waits for room, at most `spin_limit` checks as `ready_to_send`, and then sends one burst: up to 16 bytes if the FIFO
-    /// is on, else one.
+    /// Waits for room, at most `spin_limit` checks as `ready_to_send`, and then sends one burst: up
+    /// to 16 bytes if the FIFO is on, else one.
     ///
     /// # Errors
     ///
@@ -134,8 +137,8 @@ impl<B: Backend> Write for Uart16550<B> {
         }
     }
 
-    /// Waits until LSR shows `TRANSMITTER_EMPTY`, at most `spin_limit` polls: THR, or the transmitter FIFO, and the shift
-    /// register are empty then.
+    /// Waits until LSR shows `TRANSMITTER_EMPTY`, at most `spin_limit` polls: THR, or the
+    /// transmitter FIFO, and the shift register are empty then.
     ///
     /// # Errors
     ///

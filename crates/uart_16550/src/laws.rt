@@ -4,9 +4,11 @@
 ghost use Rattle.std.specs.Prelude.{◌≡◌, [], ◌∷◌};
 ghost use Rattle.std.specs.Ordering.{nat_cmp};
 ghost use Rattle.uart_spec.specs.Orders.{in_turn, partial_in_turn};
-ghost use Rattle.uart_16550.specs.Choice.{Agree, AgreeSaving, HasOneOutcome, HasOneOutcomeSaving, IsFunction, LeavesNoChoice};
+ghost use Rattle.uart_16550.specs.Choice.{Agree, AgreeSaving, HasOneOutcome};
+ghost use Rattle.uart_16550.specs.Choice.{HasOneOutcomeSaving, IsFunction, LeavesNoChoice};
 ghost use Rattle.uart_16550.specs.Driver.{Saving};
-ghost use Rattle.uart_16550.specs.DriverCalls.{ChangingCall, ChangingDoing, SavingCall, SavingLists};
+ghost use Rattle.uart_16550.specs.DriverCalls.{ChangingCall, ChangingDoing};
+ghost use Rattle.uart_16550.specs.DriverCalls.{SavingCall, SavingLists};
 ghost use Rattle.uart_16550.specs.Mmio.{Mapped};
 ghost use Rattle.uart_16550.specs.Pio.{Ports};
 ghost use Rattle.uart_16550.specs.Replay.{Repeats, RepeatsSaving};
@@ -18,29 +20,35 @@ use crate::dump::ConfigRegisterDump;
 use std::num::{NonZeroU8, NonZeroUsize};
 use uart_spec::registers::{IER, ISR, LCR, LSR, MCR, MSR};
 
-/// The contract of each call determines what the call does: what its reads have returned so far determines the next access,
-/// and in the end the result, the contents of the slots, and the driver's fields.
+/// The contract of each call determines what the call does: what its reads have returned so far
+/// determines the next access, and in the end the result, the contents of the slots, and the
+/// driver's fields.
 pub fn calls_leave_no_choice()
-    ensures saving { (call : SavingCall) → LeavesNoChoice (λ outcome. Saving (SavingLists call outcome)) }
+    ensures saving { (call : SavingCall) →
+        LeavesNoChoice (λ outcome. Saving (SavingLists call outcome)) }
     ensures changing { (call : ChangingCall) → LeavesNoChoice (ChangingDoing call) }
 {}
 
-/// Two drivers with equal fields, each over its own backend, do the same in a call whose reads return the same.
+/// Two drivers with equal fields, each over its own backend, do the same in a call whose reads
+/// return the same.
 pub fn calls_agree<B: Backend, C: Backend>()
     ensures saving { (call : SavingCall) → AgreeSaving (SavingLists call) B.step C.step }
     ensures changing { (call : ChangingCall) → Agree (ChangingDoing call) B.step C.step }
 {}
 
-/// Over a backend whose step relation is a function, a call has one outcome, and leaves the driver and the backend in one
-/// state.
+/// Over a backend whose step relation is a function, a call has one outcome, and leaves the driver
+/// and the backend in one state.
 pub fn calls_have_one_outcome<B: Backend>()
-    ensures saving { IsFunction B.step → (call : SavingCall) → HasOneOutcomeSaving (SavingLists call) B.step }
-    ensures changing { IsFunction B.step → (call : ChangingCall) → HasOneOutcome (ChangingDoing call) B.step }
+    ensures saving { IsFunction B.step → (call : SavingCall) →
+        HasOneOutcomeSaving (SavingLists call) B.step }
+    ensures changing { IsFunction B.step → (call : ChangingCall) →
+        HasOneOutcome (ChangingDoing call) B.step }
 {}
 
-/// A call repeats another one if it starts from equal fields, over a [`Replay`](crate::replay::Replay) of what the reads of
-/// the other call returned: it has the same outcome, leaves equal fields, and makes the same accesses. So a replay is a
-/// function from fields and read bytes to the one list of accesses that the call may make.
+/// A call repeats another one if it starts from equal fields, over a
+/// [`Replay`](crate::replay::Replay) of what the reads of the other call returned: it has the same
+/// outcome, leaves equal fields, and makes the same accesses. So a replay is a function from fields
+/// and read bytes to the one list of accesses that the call may make.
 pub fn replays_repeat_calls<B: Backend>()
     ensures saving { (call : SavingCall) → RepeatsSaving (SavingLists call) B.step }
     ensures changing { (call : ChangingCall) → Repeats (ChangingDoing call) B.step }
@@ -64,26 +72,30 @@ pub fn dump_fields_are_in_order()
         ∷ nat_cmp a.dll b.dll
         ∷ nat_cmp a.dlm b.dlm
         ∷ []) }
-    ensures default { (dump : ConfigRegisterDump) → ⟦<ConfigRegisterDump as Default>⟧.is_default dump → dump ≡ record {
-      ier = record { 0 = 0 };
-      isr = record { 0 = 0 };
-      lcr = record { 0 = 0 };
-      mcr = record { 0 = 0 };
-      lsr = record { 0 = 0 };
-      msr = record { 0 = 0 };
-      spr = 0;
-      dll = 0;
-      dlm = 0;
-    } }
+    ensures default { (dump : ConfigRegisterDump) →
+        ⟦<ConfigRegisterDump as Default>⟧.is_default dump → dump ≡ record {
+          ier = record { 0 = 0 };
+          isr = record { 0 = 0 };
+          lcr = record { 0 = 0 };
+          mcr = record { 0 = 0 };
+          lsr = record { 0 = 0 };
+          msr = record { 0 = 0 };
+          spr = 0;
+          dll = 0;
+          dlm = 0;
+        } }
 {}
 
-/// Backends are compared by where the first register is, then those in memory by their stride, and last by the access object.
+/// Backends are compared by where the first register is, then those in memory by their stride, and
+/// last by the access object.
 pub fn backends_are_in_order<P: PartialOrd, M: PartialOrd>()
-    ensures ports { (a b : Ports P) → ⟦<PioBackend<P> as PartialOrd>⟧.partial_cmp a b ≡ partial_in_turn (
+    ensures ports { (a b : Ports P) →
+        ⟦<PioBackend<P> as PartialOrd>⟧.partial_cmp a b ≡ partial_in_turn (
         ⟦<u16 as PartialOrd>⟧.partial_cmp a.base b.base
         ∷ ⟦<P as PartialOrd>⟧.partial_cmp a.access b.access
         ∷ []) }
-    ensures memory { (a b : Mapped M) → ⟦<MmioBackend<M> as PartialOrd>⟧.partial_cmp a b ≡ partial_in_turn (
+    ensures memory { (a b : Mapped M) →
+        ⟦<MmioBackend<M> as PartialOrd>⟧.partial_cmp a b ≡ partial_in_turn (
         ⟦<NonZeroUsize as PartialOrd>⟧.partial_cmp a.base b.base
         ∷ ⟦<NonZeroU8 as PartialOrd>⟧.partial_cmp a.stride b.stride
         ∷ ⟦<M as PartialOrd>⟧.partial_cmp a.access b.access

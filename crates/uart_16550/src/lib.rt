@@ -1,12 +1,15 @@
 //! A driver for the serial chips of the 16550 family, proved over any backend.
 //!
-//! - [`Uart16550`] is the driver: initialisation, loopback test, sending and receiving by polling, status, interrupts.
+//! - [`Uart16550`] is the driver: initialisation, loopback test, sending and receiving by polling,
+//!   status, interrupts.
 //! - [`Uart16550Tty`] sends text through it as terminals expect it.
-//! - [`backend`] has the access to registers at I/O ports and in memory, and the trait for a backend of your own.
+//! - [`backend`] has the access to registers at I/O ports and in memory, and the trait for a
+//!   backend of your own.
 //! - [`embedded_io`] has traits for byte readers and writers, which the driver implements.
 //!
-//! No call blocks forever: each wait ends with an error after [`Uart16550::spin_limit`] unsuccessful polls in a row.
-//! The contract of each call says which accesses it makes, in which order, and how it changes the driver's fields.
+//! No call blocks forever: each wait ends with an error after [`Uart16550::spin_limit`]
+//! unsuccessful polls in a row. The contract of each call says which accesses it makes, in which
+//! order, and how it changes the driver's fields.
 //!
 //! # Examples
 //!

@@ -5,7 +5,8 @@ ghost use Rattle.std.specs.Int.{is_power_of_two};
 ghost use Rattle.std.specs.Int.NonZero.{non_zero_usize_get, non_zero_u8_get};
 ghost use Rattle.uart_spec.specs.declared.baud.TheConstants.{NUM_REGISTERS};
 ghost use Rattle.uart_16550.specs.contracts.mmio.MmioBackend.{the_row};
-ghost use Rattle.uart_16550.specs.Mmio.{address_of, IsMapping, IsInMemory, IsMappingRefusal, MemoryStep};
+ghost use Rattle.uart_16550.specs.Mmio.{address_of, IsMapping, IsInMemory};
+ghost use Rattle.uart_16550.specs.Mmio.{IsMappingRefusal, MemoryStep};
 
 use crate::backend::{Backend, ByteAccess};
 use std::marker::Model;
@@ -15,7 +16,8 @@ use uart_spec::registers::offsets;
 
 /// A device whose eight registers are in memory, at equal distances: the stride.
 ///
-/// An access to a register is one access to the byte at `base + offset * stride`, and to no other byte.
+/// An access to a register is one access to the byte at `base + offset * stride`, and to no other
+/// byte.
 #[derive(Clone, Debug, PartialEq, Eq, PartialOrd, Hash, Drop)]
 pub struct MmioBackend<M> {
     base: NonZeroUsize,
@@ -37,8 +39,8 @@ impl<M> Model for MmioBackend<M> {
 }
 
 impl<M: ByteAccess> MmioBackend<M> {
-    // Returns the backend from this address on with this stride, unless the stride is not a power of two or the last
-    // register would be beyond the last address.
+    // Returns the backend from this address on with this stride, unless the stride is not a power
+    // of two or the last register would be beyond the last address.
     pub(crate) fn new(
         base: NonZeroUsize,
         stride: u8,
@@ -86,22 +88,24 @@ impl<M: ByteAccess> MmioBackend<M> {
         &self.access
     }
 
-    /// Returns the access object, for what it can do besides the accesses, such as reporting a fault. Makes no access
-    /// itself.
+    /// Returns the access object, for what it can do besides the accesses, such as reporting a
+    /// fault. Makes no access itself.
     ///
-    /// Accesses by the caller bypass the driver: status bits that they clear are not saved, and the driver does not notice
-    /// what they change.
+    /// Accesses by the caller bypass the driver: status bits that they clear are not saved, and the
+    /// driver does not notice what they change.
     pub fn access_mut(&mut self) -> &mut M
-        ensures* writes_back { sem 𝓛 (Lends (the_row M.row) M.row self.entry result (λ m. record self.old { access = m })) }
+        ensures* writes_back { sem 𝓛 (Lends (the_row M.row) M.row self.entry result
+            (λ m. record self.old { access = m })) }
         ensures value { result.now ≡ self.old.access }
     {
         &mut self.access
     }
 
-    // The address of a register.
+    // Returns the address of a register.
     fn address(&self, register_offset: u8) -> usize
         requires { register_offset < NUM_REGISTERS }
-        ensures { result ≡ address_of (non_zero_usize_get self.now.base) (non_zero_u8_get self.now.stride) register_offset }
+        ensures { result ≡ address_of (non_zero_usize_get self.now.base)
+            (non_zero_u8_get self.now.stride) register_offset }
     {
         self.base.get() + register_offset as usize * self.stride.get() as usize
     }

@@ -32,7 +32,8 @@ impl<P> Model for PioBackend<P> {
 }
 
 impl<P: PortAccess> PioBackend<P> {
-    // Returns the backend from this port on, unless the last register would be beyond the last port.
+    // Returns the backend from this port on, unless the last register would be beyond the last
+    // port.
     pub(crate) fn new(base: u16, access: P) -> Result<Self, InvalidAddressError>
     where
         P: Drop,
@@ -60,19 +61,20 @@ impl<P: PortAccess> PioBackend<P> {
         &self.access
     }
 
-    /// Returns the access object, for what it can do besides the accesses, such as reporting a fault. Makes no access
-    /// itself.
+    /// Returns the access object, for what it can do besides the accesses, such as reporting a
+    /// fault. Makes no access itself.
     ///
-    /// Accesses by the caller bypass the driver: status bits that they clear are not saved, and the driver does not notice
-    /// what they change.
+    /// Accesses by the caller bypass the driver: status bits that they clear are not saved, and the
+    /// driver does not notice what they change.
     pub fn access_mut(&mut self) -> &mut P
-        ensures* writes_back { sem 𝓛 (Lends (the_row P.row) P.row self.entry result (λ p. record self.old { access = p })) }
+        ensures* writes_back { sem 𝓛 (Lends (the_row P.row) P.row self.entry result
+            (λ p. record self.old { access = p })) }
         ensures value { result.now ≡ self.old.access }
     {
         &mut self.access
     }
 
-    // The port of a register.
+    // Returns the port of a register.
     fn port(&self, register_offset: u8) -> u16
         requires { register_offset < NUM_REGISTERS }
         ensures { result ≡ self.now.base + register_offset }

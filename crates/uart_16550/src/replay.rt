@@ -1,10 +1,11 @@
 //! A backend that plays back what reads returned, and keeps the accesses that are made.
 //!
-//! The accesses of a call are determined by the driver's fields and by what its reads return. So a driver over a
-//! `Replay` is a function from these to the one list of accesses that the call may make: over any other backend, a call
-//! with the same fields whose reads return the same bytes makes the same accesses
-//! ([`replays_repeat_calls`](crate::laws::replays_repeat_calls)).
-ghost use Rattle.std.specs.Prelude.{◌≡◌, true, false, ◌&&◌, [], ◌∷◌, ◌++◌, nat_lt, length, map, IfSome, IsNone};
+//! The accesses of a call are determined by the driver's fields and by what its reads return. So a
+//! driver over a `Replay` is a function from these to the one list of accesses that the call may
+//! make: over any other backend, a call with the same fields whose reads return the same bytes
+//! makes the same accesses ([`replays_repeat_calls`](crate::laws::replays_repeat_calls)).
+ghost use Rattle.std.specs.Prelude.{◌≡◌, true, false, ◌&&◌, [], ◌∷◌, ◌++◌};
+ghost use Rattle.std.specs.Prelude.{nat_lt, length, map, IfSome, IsNone};
 ghost use Rattle.uart_spec.specs.Access.{Read};
 ghost use Rattle.uart_16550.specs.Replay.{Plays, TapesShow, access_of};
 
@@ -32,8 +33,8 @@ impl Default for Entry {
     }
 }
 
-/// A backend whose reads return the bytes of a list in turn, and then 0, whatever the register. It keeps the accesses until
-/// there is no more room.
+/// A backend whose reads return the bytes of a list in turn, and then 0, whatever the register. It
+/// keeps the accesses until there is no more room.
 #[derive(Drop)]
 pub struct Replay<'a> {
     answers: &'a [u8],
@@ -47,7 +48,11 @@ impl<'a> Model for Replay<'a> {
 
     ghost Value = { Tape };
 
-    ghost view = { λ r. record { answers = r.answers.now; made = map access_of r.accesses.items; whole = r.is_whole } };
+    ghost view = { λ r. record {
+      answers = r.answers.now;
+      made = map access_of r.accesses.items;
+      whole = r.is_whole;
+    } };
 }
 
 impl<'a> Replay<'a> {
@@ -70,7 +75,8 @@ impl<'a> Replay<'a> {
 
     /// Returns the accesses that were made, or `None` if there were more than `REPLAY_ROOM`.
     pub fn accesses(&self) -> Option<&[Entry]>
-        ensures some { IfSome result (λ accesses. (self.now.whole ≡ true) × (self.now.made ≡ map access_of accesses.now)) }
+        ensures some { IfSome result (λ accesses. (self.now.whole ≡ true)
+            × (self.now.made ≡ map access_of accesses.now)) }
         ensures none { IsNone result → self.now.whole ≡ false }
     {
         if self.is_whole {
@@ -83,8 +89,10 @@ impl<'a> Replay<'a> {
     // Keeps an access.
     fn keep(&mut self, entry: Entry)
         ensures answers { self.new.answers ≡ self.old.answers }
-        ensures whole { self.new.whole ≡ (self.old.whole && nat_lt (length self.old.made) REPLAY_ROOM) }
-        ensures made { self.new.whole ≡ true → self.new.made ≡ self.old.made ++ access_of entry ∷ [] }
+        ensures whole { self.new.whole ≡
+            (self.old.whole && nat_lt (length self.old.made) REPLAY_ROOM) }
+        ensures made { self.new.whole ≡ true →
+            self.new.made ≡ self.old.made ++ access_of entry ∷ [] }
     {
         if self.accesses.try_push(entry).is_err() {
             self.is_whole = false;
@@ -112,7 +120,8 @@ impl Backend for Replay<'_> {
     }
 }
 
-/// If a replay kept all of its accesses, it shows those that led to it, and its reads returned its bytes in turn.
+/// If a replay kept all of its accesses, it shows those that led to it, and its reads returned its
+/// bytes in turn.
 ///
 /// This is a law that callers can cite. The function does nothing.
 #[tactic(auto, using(crate::proofs::Replays::tapes_show))]

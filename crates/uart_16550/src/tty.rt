@@ -4,8 +4,10 @@ ghost use Rattle.std.specs.Borrow.{Lends, sem};
 ghost use Rattle.std.specs.Int.NonZero.{non_zero_usize_get};
 ghost use Rattle.uart_spec.specs.Config.{IsComputable};
 ghost use Rattle.uart_16550.specs.Driver.{Made};
-ghost use Rattle.uart_16550.specs.Expansion.{expansion, expansion_of, SendsEach, SendsSingly, SendsText, SendsStr};
-ghost use Rattle.uart_16550.specs.Tty.{inner_of, TerminalMade, IsStarted, BuildsTerminal, BuildsTerminalAt};
+ghost use Rattle.uart_16550.specs.Expansion.{expansion, expansion_of, SendsEach};
+ghost use Rattle.uart_16550.specs.Expansion.{SendsSingly, SendsText, SendsStr};
+ghost use Rattle.uart_16550.specs.Tty.{inner_of, TerminalMade, IsStarted};
+ghost use Rattle.uart_16550.specs.Tty.{BuildsTerminal, BuildsTerminalAt};
 ghost use Rattle.uart_16550.specs.Pio.{IsAtPorts, IsPortRefusal, PortStep};
 ghost use Rattle.uart_16550.specs.Mmio.{IsInMemory, IsMappingRefusal, MemoryStep};
 ghost use Rattle.uart_16550.specs.contracts.driver.Uart16550.{the_row as driver_row};
@@ -19,8 +21,9 @@ use uart_spec::{Config, StalledError, Uart16550TtyError};
 
 /// A driver that sends text as terminals expect it.
 ///
-/// Backspace and delete are sent as backspace, space, backspace, and a line feed as carriage return, line feed. All other
-/// bytes are sent unchanged, also a carriage return. Bytes are expanded, not characters.
+/// Backspace and delete are sent as backspace, space, backspace, and a line feed as carriage
+/// return, line feed. All other bytes are sent unchanged, also a carriage return. Bytes are
+/// expanded, not characters.
 ///
 /// # Examples
 ///
@@ -63,10 +66,12 @@ fn expansion_of(byte: u8) -> Expansion
 }
 
 impl<B: Backend + Drop> Uart16550Tty<B> {
-    /// Returns a terminal over this backend: constructs a driver, and calls its `init` with this configuration, which must
-    /// be computable (`Config::is_computable`), and then its `test_loopback`.
+    /// Returns a terminal over this backend: constructs a driver, and calls its `init` with this
+    /// configuration, which must be computable (`Config::is_computable`), and then its
+    /// `test_loopback`.
     ///
-    /// Waits as these two calls do, with the default spin limit. Use `from_inner` for a device without loopback.
+    /// Waits as these two calls do, with the default spin limit. Use `from_inner` for a device
+    /// without loopback.
     ///
     /// # Errors
     ///
@@ -103,13 +108,13 @@ impl<B: Backend + Drop> Uart16550Tty<B> {
 }
 
 impl<P: PortAccess + Drop> Uart16550Tty<PioBackend<P>> {
-    /// Returns a terminal for the device whose registers are at eight consecutive I/O ports, from `base_port` on. Sets it
-    /// up as `new_with_backend` does.
+    /// Returns a terminal for the device whose registers are at eight consecutive I/O ports, from
+    /// `base_port` on. Sets it up as `new_with_backend` does.
     ///
     /// # Errors
     ///
-    /// `AddressError` if `Uart16550::new_port` failed. No access was made then. Otherwise those of `new_with_backend`. The
-    /// access object is dropped.
+    /// `AddressError` if `Uart16550::new_port` failed. No access was made then. Otherwise those of
+    /// `new_with_backend`. The access object is dropped.
     ///
     /// # Examples
     ///
@@ -118,7 +123,8 @@ impl<P: PortAccess + Drop> Uart16550Tty<PioBackend<P>> {
     /// ```
     pub fn new_port(base_port: u16, access: P, config: Config) -> Result<Self, Uart16550TtyError>
         requires { IsComputable config }
-        ensures { BuildsTerminalAt (PortStep P.step) (λ ports. IsAtPorts ports base_port access) (IsPortRefusal base_port) config result }
+        ensures { BuildsTerminalAt (PortStep P.step) (λ ports. IsAtPorts ports base_port access)
+            (IsPortRefusal base_port) config result }
     {
         match Uart16550::new_port(base_port, access) {
             Ok(driver) => Self::start(driver, config),
@@ -128,13 +134,13 @@ impl<P: PortAccess + Drop> Uart16550Tty<PioBackend<P>> {
 }
 
 impl<M: ByteAccess + Drop> Uart16550Tty<MmioBackend<M>> {
-    /// Returns a terminal for the device whose registers are in memory, from `base_address` on and `stride` bytes apart.
-    /// Sets it up as `new_with_backend` does.
+    /// Returns a terminal for the device whose registers are in memory, from `base_address` on and
+    /// `stride` bytes apart. Sets it up as `new_with_backend` does.
     ///
     /// # Errors
     ///
-    /// `AddressError` if `Uart16550::new_mmio` failed. No access was made then. Otherwise those of `new_with_backend`. The
-    /// access object is dropped.
+    /// `AddressError` if `Uart16550::new_mmio` failed. No access was made then. Otherwise those of
+    /// `new_with_backend`. The access object is dropped.
     ///
     /// # Examples
     ///
@@ -149,7 +155,8 @@ impl<M: ByteAccess + Drop> Uart16550Tty<MmioBackend<M>> {
         config: Config,
     ) -> Result<Self, Uart16550TtyError>
         requires { IsComputable config }
-        ensures { BuildsTerminalAt (MemoryStep M.step) (λ mapped. IsInMemory mapped base_address stride access)
+        ensures { BuildsTerminalAt (MemoryStep M.step)
+            (λ mapped. IsInMemory mapped base_address stride access)
             (IsMappingRefusal (non_zero_usize_get base_address) stride) config result }
     {
         match Uart16550::new_mmio(base_address, stride, access) {
@@ -177,7 +184,8 @@ impl<M: ByteAccess + Drop> Uart16550Tty<MmioBackend<M>> {
         config: Config,
     ) -> Result<Self, Uart16550TtyError>
         requires { IsComputable config }
-        ensures { BuildsTerminalAt (MemoryStep M.step) (λ mapped. IsInMemory mapped base_address stride access)
+        ensures { BuildsTerminalAt (MemoryStep M.step)
+            (λ mapped. IsInMemory mapped base_address stride access)
             (IsMappingRefusal (non_zero_usize_get base_address) stride) config result }
     {
         Self::new_mmio(base_address, stride, access, config)
@@ -187,8 +195,8 @@ impl<M: ByteAccess + Drop> Uart16550Tty<MmioBackend<M>> {
 impl<B: Backend> Uart16550Tty<B> {
     /// Returns a terminal over a driver that is already initialised. Makes no access.
     ///
-    /// This is the way for a device without loopback, for a driver with its own spin limit, and after an `init` without a
-    /// test.
+    /// This is the way for a device without loopback, for a driver with its own spin limit, and
+    /// after an `init` without a test.
     ///
     /// # Examples
     ///
@@ -215,7 +223,8 @@ impl<B: Backend> Uart16550Tty<B> {
         &self.inner
     }
 
-    /// Returns the driver, for its own calls: to receive, or to read a status. Makes no access itself.
+    /// Returns the driver, for its own calls: to receive, or to read a status. Makes no access
+    /// itself.
     ///
     /// # Examples
     ///
@@ -224,7 +233,8 @@ impl<B: Backend> Uart16550Tty<B> {
     /// assert_eq!(rt; uart.receive_bytes(&mut slots), 2);
     /// ```
     pub fn inner_mut(&mut self) -> &mut Uart16550<B>
-        ensures* writes_back { sem 𝓛 (Lends (the_row B.row) (driver_row B.row) self.entry result (λ d. record { inner = d })) }
+        ensures* writes_back { sem 𝓛 (Lends (the_row B.row) (driver_row B.row) self.entry result
+            (λ d. record { inner = d })) }
         ensures value { result.now ≡ inner_of self.old }
     {
         &mut self.inner
@@ -244,11 +254,12 @@ impl<B: Backend> Uart16550Tty<B> {
         uart
     }
 
-    // Sends the expansion of a byte, and returns its length. Printable bytes have a branch of their own, since most bytes of a
-    // text are printable, and that branch is short.
+    // Sends the expansion of a byte, and returns its length. Printable bytes have a branch of their
+    // own, since most bytes of a text are printable, and that branch is short.
     #[inline(always)]
     fn send_expansion(&mut self, byte: u8) -> Result<usize, StalledError>
-        ensures made { TerminalMade B.step (SendsSingly (expansion_of byte) result) self.old self.new }
+        ensures made { TerminalMade B.step (SendsSingly (expansion_of byte) result)
+            self.old self.new }
         ensures count { IfOk result (λ n. n ≡ length (expansion_of byte)) }
         ensures done { IfErr result (λ e. e.done < length (expansion_of byte)) }
     {
@@ -271,8 +282,8 @@ impl<B: Backend> Uart16550Tty<B> {
     ///
     /// # Errors
     ///
-    /// `StalledError` after `spin_limit` unsuccessful polls in a row. `done` is the number of bytes of the expansion that
-    /// were sent before that, or `usize::MAX` if there were more.
+    /// `StalledError` after `spin_limit` unsuccessful polls in a row. `done` is the number of bytes
+    /// of the expansion that were sent before that, or `usize::MAX` if there were more.
     ///
     /// # Examples
     ///
@@ -297,7 +308,8 @@ impl<B: Backend> Uart16550Tty<B> {
 }
 
 impl<B: Backend> fmt::Write for Uart16550Tty<B> {
-    ghost write_str_gives = { λ old text new. TerminalMade B.step (SendsEach (expansion text)) old new };
+    ghost write_str_gives = { λ old text new.
+        TerminalMade B.step (SendsEach (expansion text)) old new };
 
     /// Sends the expansion of the text as `write_text` does.
     ///
@@ -305,7 +317,8 @@ impl<B: Backend> fmt::Write for Uart16550Tty<B> {
     ///
     /// `fmt::Error` if `write_text` failed. It does not report how many bytes were sent.
     fn write_str(&mut self, text: &str) -> fmt::Result
-        ensures ok { IsOk result → TerminalMade B.step (SendsEach (expansion text.now)) self.old self.new }
+        ensures ok { IsOk result → TerminalMade B.step (SendsEach (expansion text.now))
+            self.old self.new }
         ensures made { TerminalMade B.step (SendsStr text.now result) self.old self.new }
     {
         match self.write_text(text) {

@@ -8,8 +8,8 @@ ghost use Rattle.uart_calls.specs.Meaning.{doing_of, meaning};
 ghost use Rattle.uart_calls.specs.declared.call.Call.{Call};
 ghost use Rattle.uart_calls.specs.declared.call.TheConstants.{CALL_BYTES};
 
-/// The meaning of a call determines what the driver does: what its reads have returned so far determines the next access,
-/// and in the end the answer and the driver's fields.
+/// The meaning of a call determines what the driver does: what its reads have returned so far
+/// determines the next access, and in the end the answer and the driver's fields.
 pub fn meanings_leave_no_choice()
     ensures { (call : Call) → IsRunnable call → LeavesNoChoice (doing_of (meaning call)) }
 {}

@@ -3,7 +3,8 @@ ghost use Rattle.std.specs.Prelude.{◌≡◌, ◌≤◌, length};
 ghost use Rattle.uart_spec.specs.Config.{IsComputable};
 ghost use Rattle.uart_calls.specs.Calls.{IsRunnable};
 ghost use Rattle.uart_calls.specs.Meaning.{Called, Performed, meaning};
-ghost use Rattle.uart_calls.specs.Meaning.{loopback_answer, connected_answer, receive_ready_answer, received_answer, sent_answer};
+ghost use Rattle.uart_calls.specs.Meaning.{loopback_answer, connected_answer};
+ghost use Rattle.uart_calls.specs.Meaning.{receive_ready_answer, received_answer, sent_answer};
 ghost use Rattle.uart_calls.specs.Meaning.{exact_answer, count_answer, ready_answer};
 
 use crate::call::{Answer, CALL_BYTES, Call};
@@ -19,11 +20,11 @@ use uart_spec::{
 
 /// Makes one call of the driver, over any backend, and returns its answer. Allocates no memory.
 ///
-/// Returns [`Answer::Done`] if the call succeeded and returned nothing, and else what it returned or received, or why it
-/// failed. Waits as the driver's call does.
+/// Returns [`Answer::Done`] if the call succeeded and returned nothing, and else what it returned
+/// or received, or why it failed. Waits as the driver's call does.
 ///
-/// For [`Call::Next`] this makes no access and returns `Done`, since a real chip has no schedule. If the device has one,
-/// the caller must make that call itself.
+/// For [`Call::Next`] this makes no access and returns `Done`, since a real chip has no schedule.
+/// If the device has one, the caller must make that call itself.
 ///
 /// # Examples
 ///
@@ -81,8 +82,8 @@ pub fn perform<B: Backend>(uart: &mut Uart16550Tty<B>, call: &Call) -> Answer
     }
 }
 
-// Returns a copy of these bytes, for an answer. Copies one by one, because a copy of the whole would call `memcpy`, and the
-// library for C calls nothing.
+// Returns a copy of these bytes, for an answer. Copies one by one, because a copy of the whole
+// would call `memcpy`, and the library for C calls nothing.
 fn copied(bytes: &[u8]) -> ArrayVec<u8, CALL_BYTES>
     requires { length bytes.now ≤ CALL_BYTES }
     ensures { result.items ≡ bytes.now }
@@ -115,7 +116,8 @@ fn receive<B: Backend>(uart: &mut Uart16550<B>, slots: &mut [u8]) -> Answer
 
 fn receive_exact<B: Backend>(uart: &mut Uart16550<B>, slots: &mut [u8]) -> Answer
     requires { length slots.old ≤ CALL_BYTES }
-    ensures { Called B.step (meaning (Call.ReceiveExact (length slots.old))) result uart.old uart.new }
+    ensures { Called B.step (meaning (Call.ReceiveExact (length slots.old))) result
+        uart.old uart.new }
 {
     match uart.receive_bytes_exact(slots) {
         Ok(()) => Answer::Bytes(copied(slots)),

@@ -23,8 +23,8 @@ use Rattle.uart_chip.specs.Build.{IsLegal}
 
 -- ---- the receiver
 
--- a character of this origin may be in the queue: an arrival if it has come and is marked Waiting, a stray one if none
--- was lost since the last one came
+-- a character of this origin may be in the queue: an arrival if it has arrived and is marked Waiting, an unscheduled
+-- one if none was lost since the last one arrived
 abbrev pub IsInQueue : ℕ → List ArrivalMark → Bool → Origin → Type 0
 IsInQueue arrived marks stray (Arrived number) = (number < arrived) × (mark_at marks number ≡ Waiting)
 IsInQueue arrived marks stray Looped = stray ≡ false
@@ -69,7 +69,7 @@ pub record IsMarked (fifo : Bool) (r : ReceiverState) : Type 0 where
   pub in_room : length r.queue ≤ room fifo
   pub counted : r.arrived ≤ length r.marks
 
--- the marks say what became of each arrival: an arrival that came is not Pending, and only those in the queue are
+-- the marks say what became of each arrival: one that has arrived is not Pending, and only those in the queue are
 -- Waiting
 pub record IsSoundReceiver (fifo : Bool) (r : ReceiverState) : Type 0 where
   pub marked : IsMarked fifo r

@@ -14,11 +14,13 @@ use std::marker::Model;
 use uart_chip::{ArrivalMark, BuildError, Chip, Event, Uart, arrivals, refusal};
 use uart_spec::backend::Backend;
 
-/// A serial chip in software under a schedule: a [`Uart`], and the events that happen to it. It is a backend of the driver.
+/// A serial chip in software under a schedule: a [`Uart`], and the events that happen to it. It is
+/// a backend of the driver.
 ///
-/// Time passes in ticks. A register access first performs the events up to the next [`Event::Access`], and removes that. If
-/// an [`Event::Mark`] or the end of the schedule is before it, the access stops there instead, and one tick passes. Then
-/// the access has its effect on the register. The other calls that read the state change nothing, and no tick passes.
+/// Time passes in ticks. A register access first performs the events up to the next
+/// [`Event::Access`], and removes that. If an [`Event::Mark`] or the end of the schedule is before
+/// it, the access stops there instead, and one tick passes. Then the access has its effect on the
+/// register. The other calls that read the state change nothing, and no tick passes.
 ///
 /// # Examples
 ///
@@ -42,15 +44,17 @@ impl Model for Device16550 {
 
     ghost view = { λ m. record { chip = m.uart; ahead = drop m.cursor m.schedule.items } };
 
-    ghost invariant = { λ m. (m.cursor ≤ vec_len m.schedule) × IsWhole (record { chip = m.uart; ahead = drop m.cursor m.schedule.items }) };
+    ghost invariant = { λ m. (m.cursor ≤ vec_len m.schedule)
+        × IsWhole (record { chip = m.uart; ahead = drop m.cursor m.schedule.items }) };
 }
 
 impl Device16550 {
     /// Returns a machine after power-on, with the whole schedule ahead.
     ///
-    /// A character takes `char_ticks` ticks in the shift register. The wire has room for `wire_capacity` bytes; if it is
-    /// full, the transmitter keeps what it holds. Bytes are sent and received whole, whatever the word length is. All
-    /// memory is allocated here; no later call allocates.
+    /// A character takes `char_ticks` ticks in the shift register. The wire has room for
+    /// `wire_capacity` bytes; if it is full, the transmitter keeps what it holds. Bytes are sent
+    /// and received whole, whatever the word length is. All memory is allocated here; no later call
+    /// allocates.
     ///
     /// # Errors
     ///
@@ -58,8 +62,10 @@ impl Device16550 {
     ///
     /// - `BadTicks` if `char_ticks` is 0 or more than 1000.
     /// - `BadWire` if `wire_capacity` is more than 65,536.
-    /// - `BadErrors`, with the index of the event, for the first arrival with error bits outside of 0x1c.
-    /// - `BadLines`, with the index of the event, for the first change of lines with bits outside of 0xf0.
+    /// - `BadErrors`, with the index of the event, for the first arrival with error bits outside of
+    ///   0x1c.
+    /// - `BadLines`, with the index of the event, for the first change of lines with bits outside
+    ///   of 0xf0.
     /// - `OutOfMemory` if memory could not be allocated.
     ///
     /// # Examples
@@ -78,17 +84,22 @@ impl Device16550 {
         wire_capacity: usize,
         schedule: Vec<Event>,
     ) -> Result<Self, BuildError>
-        ensures built { IfOk result (λ machine. machine ≡ spec.fresh chip char_ticks wire_capacity schedule.items) }
-        ensures refused { (reason : BuildError) → refusal char_ticks wire_capacity schedule.items ≡ Some reason → result ≡ Err reason }
-        ensures accepted { refusal char_ticks wire_capacity schedule.items ≡ None → IsOkUnless result BuildError.OutOfMemory }
+        ensures built { IfOk result (λ machine.
+            machine ≡ spec.fresh chip char_ticks wire_capacity schedule.items) }
+        ensures refused { (reason : BuildError) →
+            refusal char_ticks wire_capacity schedule.items ≡ Some reason → result ≡ Err reason }
+        ensures accepted { refusal char_ticks wire_capacity schedule.items ≡ None →
+            IsOkUnless result BuildError.OutOfMemory }
     {
         Self::build(alloc, chip, char_ticks, wire_capacity, schedule, false)
     }
 
-    /// Returns a machine as [`Device16550::new`] does, whose chip cuts each character to the word length of LCR.
+    /// Returns a machine as [`Device16550::new`] does, whose chip cuts each character to the word
+    /// length of LCR.
     ///
-    /// With 5, 6 or 7 data bits the higher bits of a byte are lost when it is written to the transmitter, and when it
-    /// arrives. A byte that returns in loopback is not cut again. The divisor latch is never cut.
+    /// With 5, 6 or 7 data bits the higher bits of a byte are lost when it is written to the
+    /// transmitter, and when it arrives. A byte that returns in loopback is not cut again. The
+    /// divisor latch is never cut.
     ///
     /// # Errors
     ///
@@ -106,9 +117,12 @@ impl Device16550 {
         wire_capacity: usize,
         schedule: Vec<Event>,
     ) -> Result<Self, BuildError>
-        ensures built { IfOk result (λ machine. machine ≡ spec.cutting true (spec.fresh chip char_ticks wire_capacity schedule.items)) }
-        ensures refused { (reason : BuildError) → refusal char_ticks wire_capacity schedule.items ≡ Some reason → result ≡ Err reason }
-        ensures accepted { refusal char_ticks wire_capacity schedule.items ≡ None → IsOkUnless result BuildError.OutOfMemory }
+        ensures built { IfOk result (λ machine.
+            machine ≡ spec.cutting true (spec.fresh chip char_ticks wire_capacity schedule.items)) }
+        ensures refused { (reason : BuildError) →
+            refusal char_ticks wire_capacity schedule.items ≡ Some reason → result ≡ Err reason }
+        ensures accepted { refusal char_ticks wire_capacity schedule.items ≡ None →
+            IsOkUnless result BuildError.OutOfMemory }
     {
         Self::build(alloc, chip, char_ticks, wire_capacity, schedule, true)
     }
@@ -122,9 +136,12 @@ impl Device16550 {
         schedule: Vec<Event>,
         cuts: bool,
     ) -> Result<Self, BuildError>
-        ensures built { IfOk result (λ machine. machine ≡ spec.cutting cuts (spec.fresh chip char_ticks wire_capacity schedule.items)) }
-        ensures refused { (reason : BuildError) → refusal char_ticks wire_capacity schedule.items ≡ Some reason → result ≡ Err reason }
-        ensures accepted { refusal char_ticks wire_capacity schedule.items ≡ None → IsOkUnless result BuildError.OutOfMemory }
+        ensures built { IfOk result (λ machine.
+            machine ≡ spec.cutting cuts (spec.fresh chip char_ticks wire_capacity schedule.items)) }
+        ensures refused { (reason : BuildError) →
+            refusal char_ticks wire_capacity schedule.items ≡ Some reason → result ≡ Err reason }
+        ensures accepted { refusal char_ticks wire_capacity schedule.items ≡ None →
+            IsOkUnless result BuildError.OutOfMemory }
     {
         if let Some(reason) = refusal(char_ticks, wire_capacity, &schedule) {
             return Err(reason);
@@ -167,8 +184,8 @@ impl Device16550 {
         self.uart.transmitter().held_len()
     }
 
-    /// Returns the byte with this index among those that are still to be sent: first the one in the shift register, then
-    /// those in the FIFO or THR. `None` if there are fewer.
+    /// Returns the byte with this index among those that are still to be sent: first the one in the
+    /// shift register, then those in the FIFO or THR. `None` if there are fewer.
     ///
     /// # Examples
     ///
@@ -225,7 +242,8 @@ impl Device16550 {
         self.uart.receiver().arrivals()
     }
 
-    /// Returns what became of an arrival. The arrivals of the whole schedule are counted from 0. `None` if there are fewer.
+    /// Returns what became of an arrival. The arrivals of the whole schedule are counted from 0.
+    /// `None` if there are fewer.
     ///
     /// # Examples
     ///
@@ -265,7 +283,8 @@ impl Device16550 {
         self.uart.divisor()
     }
 
-    /// Returns how many writes to THR found no room, up to `u64::MAX`. The calls of an initialised driver do not add to it.
+    /// Returns how many writes to THR found no room, up to `u64::MAX`. The calls of an initialised
+    /// driver do not add to it.
     ///
     /// # Examples
     ///
@@ -278,11 +297,12 @@ impl Device16550 {
         self.uart.transmitter().overflows()
     }
 
-    /// Lets `n` ticks pass outside of the schedule, whose position does not change. Returns the number of turns that this
-    /// took.
+    /// Lets `n` ticks pass outside of the schedule, whose position does not change. Returns the
+    /// number of turns that this took.
     ///
-    /// A turn ends at the tick in which a character enters or leaves the shift register, or takes all ticks that are left.
-    /// There are at most 18, whatever `n` is: none if `n` is 0, and one if `n` is 1.
+    /// A turn ends at the tick in which a character enters or leaves the shift register, or takes
+    /// all ticks that are left. There are at most 18, whatever `n` is: none if `n` is 0, and one if
+    /// `n` is 1.
     ///
     /// # Examples
     ///
@@ -318,8 +338,8 @@ impl Device16550 {
         self.uart.tick();
     }
 
-    /// Performs the events up to the next [`Event::Mark`], and removes that. If there is none, performs all events that are
-    /// left. An [`Event::Access`] on the way is skipped.
+    /// Performs the events up to the next [`Event::Mark`], and removes that. If there is none,
+    /// performs all events that are left. An [`Event::Access`] on the way is skipped.
     ///
     /// # Examples
     ///

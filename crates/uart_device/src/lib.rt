@@ -1,6 +1,8 @@
-//! The software chip under a schedule of ticks, arrivals and modem lines, as a backend of the driver.
+//! The software chip under a schedule of ticks, arrivals and modem lines, as a backend of the
+//! driver.
 //!
-//! What holds of every machine, and what every access conserves, is proved here, whatever makes the accesses.
+//! What holds of every machine, and what every access conserves, is proved here, whatever makes the
+//! accesses.
 #![tactic(auto)]
 
 mod device;

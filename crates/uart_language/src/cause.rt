@@ -15,8 +15,8 @@ use thiserror::Error;
 pub enum Cause {
     /// The line has a byte outside of 20 to 7E.
     BadByte,
-    /// The first line is not a `chip` line, or another line starts with `chip`, or a line other than the second with
-    /// `limit`.
+    /// The first line is not a `chip` line, or another line starts with `chip`, or a line other
+    /// than the second with `limit`.
     Misplaced,
     /// The first word of the line is not in the language.
     UnknownWord,
@@ -60,8 +60,8 @@ impl Cause {
 /// Why there is no [`Script`](super::Script).
 #[derive(Clone, Copy, Debug, PartialEq, Eq, Error)]
 pub enum ScriptError {
-    /// The bytes are not a script: the first faulty line, counted from 1, and what is wrong with it; line 0 if there are
-    /// too many bytes.
+    /// The bytes are not a script: the first faulty line, counted from 1, and what is wrong with
+    /// it; line 0 if there are too many bytes.
     #[error("line {line}: {}", .cause.text())]
     Refused {
         /// The number of the line.

@@ -1,13 +1,17 @@
 //! Reads the fields of a line.
 
-ghost use Rattle.std.specs.Prelude.{◌≡◌, ◌<◌, ◌+◌, ◌*◌, ◌≤◌, List, Option, Some, None, IsTrue, IfOk, length, if◌then◌else◌};
+ghost use Rattle.std.specs.Prelude.{◌≡◌, ◌<◌, ◌+◌, ◌*◌, ◌≤◌, List, Option, Some};
+ghost use Rattle.std.specs.Prelude.{None, IsTrue, IfOk, length, if◌then◌else◌};
 ghost use Rattle.std.specs.List.{list_all};
 ghost use Rattle.std.specs.Char.{is_ascii_digit, is_ascii_hexdigit, digit_value};
 ghost use Rattle.std.specs.Int.NonZero.{non_zero_u64_get};
 ghost use Rattle.std.specs.Str.Parse.{digits_value};
-ghost use Rattle.uart_language.specs.Fields.{is_number, number_in, count_in, limit_in, ticks_in, char_ticks_in, wire_capacity_in, byte_in};
-ghost use Rattle.uart_language.specs.Fields.{lines_in, bytes_in, text_in, errors_in, chip_in, cut_in, level_in, rate_in, cts_in};
-ghost use Rattle.uart_language.specs.Fields.{interrupts_in, word_length_in, pairs_of, is_pairs, seen};
+ghost use Rattle.uart_language.specs.Fields.{is_number, number_in, count_in, limit_in, ticks_in};
+ghost use Rattle.uart_language.specs.Fields.{char_ticks_in, wire_capacity_in, byte_in};
+ghost use Rattle.uart_language.specs.Fields.{lines_in, bytes_in, text_in, errors_in};
+ghost use Rattle.uart_language.specs.Fields.{chip_in, cut_in, level_in, rate_in, cts_in};
+ghost use Rattle.uart_language.specs.Fields.{interrupts_in, word_length_in};
+ghost use Rattle.uart_language.specs.Fields.{pairs_of, is_pairs, seen};
 
 use super::cause::Cause;
 use super::limits::{MOST_LIMIT, MOST_RATE, MOST_TICKS};

@@ -3,7 +3,8 @@
 ghost use Rattle.std.specs.Prelude.{◌≡◌};
 ghost use Rattle.uart_language.specs.Text.{words_of};
 ghost use Rattle.uart_language.specs.Fields.{seen};
-ghost use Rattle.uart_language.specs.Items.{config_in, arrival_in, call_of, item_of, starts_with, item_at, header_in, header_at, saying_of};
+ghost use Rattle.uart_language.specs.Items.{config_in, arrival_in, call_of, item_of, starts_with};
+ghost use Rattle.uart_language.specs.Items.{item_at, header_in, header_at, saying_of};
 ghost use Rattle.uart_language.specs.Sayings.{plain};
 
 use super::cause::Cause;
@@ -129,8 +130,8 @@ fn item_of(word: Word, line: &[u8]) -> Result<Item, Cause>
     }
 }
 
-/// Returns the first word of a line, if it is at a place where it may be, and the line has a number of words that it may
-/// have.
+/// Returns the first word of a line, if it is at a place where it may be, and the line has a number
+/// of words that it may have.
 #[tactic(auto, unfolding(crate::specs::Items::starts_with))]
 fn first_word(number: u32, line: &[u8]) -> Result<Word, Cause>
     ensures { result ≡ starts_with number line.now }

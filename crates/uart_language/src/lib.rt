@@ -1,8 +1,10 @@
-//! The script language: the meaning of the bytes of a script, and what is printed for a script that was run.
+//! The script language: the meaning of the bytes of a script, and what is printed for a script that
+//! was run.
 //!
-//! [`parse`] reads a [`Script`]: a chip, the events of its schedule, and the calls to be made on it. Bytes that are not
-//! a script are refused with the first faulty line and its [`Cause`]. The language is defined in `specs/Script`.
-//! Nothing is run here; to play a script, use `uart_machine::script::play`.
+//! [`parse`] reads a [`Script`]: a chip, the events of its schedule, and the calls to be made on
+//! it. Bytes that are not a script are refused with the first faulty line and its [`Cause`]. The
+//! language is defined in `specs/Script`. Nothing is run here; to play a script, use
+//! `uart_machine::script::play`.
 #![tactic(auto)]
 
 mod cause;

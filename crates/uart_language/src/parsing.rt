@@ -6,7 +6,8 @@ ghost use Rattle.uart_language.specs.Text.{lines_of};
 ghost use Rattle.uart_language.specs.Items.{saying_of};
 ghost use Rattle.uart_language.specs.Sayings.{plain};
 ghost use Rattle.uart_language.specs.Script.{plan_of, IsParsed};
-ghost use Rattle.uart_language.specs.Reading.{sayings_from, with_saying, added, planned, script_of, Refuses, Checks, BuildsPlan};
+ghost use Rattle.uart_language.specs.Reading.{sayings_from, with_saying, added, planned};
+ghost use Rattle.uart_language.specs.Reading.{script_of, Refuses, Checks, BuildsPlan};
 
 use super::cause::{Cause, ScriptError};
 use super::items::{Header, Item, header_at, item_at};
@@ -97,9 +98,11 @@ impl Script {
 fn next_item(number: u32, bytes: &[u8]) -> Result<(Item, &[u8]), ScriptError>
     requires { 0 < length bytes.now }
     ensures read { MatchResult result
-        (λ x. sayings_from number (lines_of bytes.now) ≡ with_saying (saying_of x.0) (sayings_from (number + 1) (lines_of x.1.now)))
+        (λ x. sayings_from number (lines_of bytes.now) ≡
+        with_saying (saying_of x.0) (sayings_from (number + 1) (lines_of x.1.now)))
         (λ e. Refuses e (sayings_from number (lines_of bytes.now))) }
-    ensures shorter { IfOk result (λ x. (length x.1.now < length bytes.now) × (number ≤ MOST_LINES)) }
+    ensures shorter { IfOk result (λ x. (length x.1.now < length bytes.now)
+        × (number ≤ MOST_LINES)) }
 {
     if number > MOST_LINES {
         return Err(ScriptError::Refused {
@@ -179,12 +182,13 @@ fn first_item(bytes: &[u8]) -> Result<(Header, &[u8]), ScriptError>
 
 /// Reads a script.
 ///
-/// Every line is checked before any memory is allocated. So bytes that are not a script are refused as such, however little
-/// memory there is.
+/// Every line is checked before any memory is allocated. So bytes that are not a script are refused
+/// as such, however little memory there is.
 ///
 /// # Errors
 ///
-/// - `Refused`, with the first faulty line and what is wrong with it, if the bytes are not a script.
+/// - `Refused`, with the first faulty line and what is wrong with it, if the bytes are not a
+///   script.
 /// - `OutOfMemory` if memory for the script could not be allocated.
 ///
 /// # Examples

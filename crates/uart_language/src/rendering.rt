@@ -4,8 +4,10 @@ ghost use Rattle.std.specs.Prelude.{◌≡◌, ◌<◌, ◌++◌, OnOk, IfOk, ma
 ghost use Rattle.std.specs.List.{flat_map};
 ghost use Rattle.std.specs.Char.{digit_char};
 ghost use Rattle.std.specs.Fmt.{decimal};
-ghost use Rattle.uart_language.specs.Output.{hex_byte, hex, send_error_name, remote_error_name, init_error_text, loopback_error_text};
-ghost use Rattle.uart_language.specs.Output.{setup_text, status_text, answer_text, line, answer_lines, mark_letter, marks_text};
+ghost use Rattle.uart_language.specs.Output.{hex_byte, hex, send_error_name, remote_error_name};
+ghost use Rattle.uart_language.specs.Output.{init_error_text, loopback_error_text};
+ghost use Rattle.uart_language.specs.Output.{setup_text, status_text, answer_text, line};
+ghost use Rattle.uart_language.specs.Output.{answer_lines, mark_letter, marks_text};
 ghost use Rattle.uart_language.specs.Output.{final_lines, printed};
 
 use bitflags::Flags;
@@ -107,7 +109,8 @@ fn push_mismatch(
     actual: u8,
 ) -> Result<(), AllocError>
     ensures { OnOk result (out.new.items ≡
-        out.old.items ++ codes "UnexpectedLoopbackByte expected " ++ decimal expected ++ codes " actual " ++ decimal actual) }
+        out.old.items ++ codes "UnexpectedLoopbackByte expected " ++ decimal expected
+        ++ codes " actual " ++ decimal actual) }
 {
     out.extend_from_slice(b"UnexpectedLoopbackByte expected ")?;
     push_number(alloc, out, usize::from(expected))?;
@@ -155,7 +158,8 @@ fn push_setup(out: &mut Vec<u8>, dump: &ConfigRegisterDump) -> Result<(), AllocE
 }
 
 fn push_dump(alloc: Global, out: &mut Vec<u8>, dump: &ConfigRegisterDump) -> Result<(), AllocError>
-    ensures { OnOk result (out.new.items ≡ out.old.items ++ (setup_text dump.now ++ status_text dump.now)) }
+    ensures { OnOk result (out.new.items ≡
+        out.old.items ++ (setup_text dump.now ++ status_text dump.now)) }
 {
     push_setup(out, dump)?;
     push_register(out, b" lsr ", dump.lsr.bits())?;
@@ -267,7 +271,8 @@ fn push_marks(out: &mut Vec<u8>, marks: &[ArrivalMark]) -> Result<(), AllocError
 }
 
 fn push_marks_line(out: &mut Vec<u8>, marks: &[ArrivalMark]) -> Result<(), AllocError>
-    ensures { OnOk result (out.new.items ≡ out.old.items ++ line (codes "marks " ++ marks_text marks.now)) }
+    ensures { OnOk result (out.new.items ≡
+        out.old.items ++ line (codes "marks " ++ marks_text marks.now)) }
 {
     out.extend_from_slice(b"marks ")?;
     push_marks(out, marks)?;
@@ -275,8 +280,9 @@ fn push_marks_line(out: &mut Vec<u8>, marks: &[ArrivalMark]) -> Result<(), Alloc
     Ok(())
 }
 
-/// Returns what is printed: one line for each answer, and four for the last state of the machine, which are the wire, what
-/// the transmitter holds, what is in the receiver, and the mark of each arrival.
+/// Returns what is printed: one line for each answer, and four for the last state of the machine,
+/// which are the wire, what the transmitter holds, what is in the receiver, and the mark of each
+/// arrival.
 ///
 /// Only the crate that plays scripts needs this.
 pub fn render(
@@ -287,7 +293,8 @@ pub fn render(
     waiting: &[u8],
     marks: &[ArrivalMark],
 ) -> Result<Vec<u8>, AllocError>
-    ensures { IfOk result (λ text. text.items ≡ printed answers.now wire.now held.now waiting.now marks.now) }
+    ensures { IfOk result (λ text. text.items ≡
+        printed answers.now wire.now held.now waiting.now marks.now) }
 {
     let mut out = Vec::new(alloc);
     push_answers(alloc, &mut out, answers)?;

@@ -9,27 +9,30 @@ use uart_16550::Uart16550Tty;
 use uart_calls::{Answer, Call, perform};
 use uart_device::Device16550;
 
-/// Makes the calls in turn, and stores the answer of each in its slot. Never fails, and allocates no memory.
+/// Makes the calls in turn, and stores the answer of each in its slot. Never fails, and allocates
+/// no memory.
 ///
-/// A *session* begins in a ready state: DLAB and loopback are off, and the driver knows whether the FIFO is on. It goes on
-/// up to the next `Init` or `TestLoopback`. In each session
+/// A *session* begins in a ready state: DLAB and loopback are off, and the driver knows whether the
+/// FIFO is on. It goes on up to the next `Init` or `TestLoopback`. In each session
 ///
 /// - the wire and the transmitter grow by exactly the bytes that sends reported;
 /// - no data write meets a full transmitter;
-/// - the bytes received, and then those in the receiver, are those that were in the receiver at the start and those that
-///   arrived, in order, without those that were dropped.
+/// - the bytes received, and then those in the receiver, are those that were in the receiver at the
+///   start and those that arrived, in order, without those that were dropped.
 ///
-/// On a machine that cuts characters to the word length ([`Device16550::new_cut`]) this holds with the bytes that sends
-/// reported and those that arrived cut in this way. The clause `uncut` states it without cutting, for every other machine.
+/// On a machine that cuts characters to the word length ([`Device16550::new_cut`]) this holds with
+/// the bytes that sends reported and those that arrived cut in this way. The clause `uncut` states
+/// it without cutting, for every other machine.
 ///
-/// An `Init` finds the device. If it succeeds, the state after it is ready, whatever the machine was before. A
-/// `TestLoopback` in a ready state succeeds or stalls, and if it succeeds, nothing of it went to the wire. With characters
-/// of 5 or 6 bits it reports an unexpected byte instead of success. Every call preserves a ready state, whatever its answer
-/// is.
+/// An `Init` finds the device. If it succeeds, the state after it is ready, whatever the machine
+/// was before. A `TestLoopback` in a ready state succeeds or stalls, and if it succeeds, nothing of
+/// it went to the wire. With characters of 5 or 6 bits it reports an unexpected byte instead of
+/// success. Every call preserves a ready state, whatever its answer is.
 ///
-/// If each access of the schedule has a tick before it, the spin limit is at least 17 (t + 1) for a character of t ticks,
-/// and the wire has room for all that is to be sent, then an `Init` with a divisor succeeds, and in a ready state so do
-/// `TestLoopback`, `Flush` and, without CTS checking, `SendExact`, `Write` and `Text`.
+/// If each access of the schedule has a tick before it, the spin limit is at least 17 (t + 1) for a
+/// character of t ticks, and the wire has room for all that is to be sent, then an `Init` with a
+/// divisor succeeds, and in a ready state so do `TestLoopback`, `Flush` and, without CTS checking,
+/// `SendExact`, `Write` and `Text`.
 ///
 /// # Examples
 ///

@@ -5,21 +5,24 @@ ghost use Rattle.uart_spec.specs.Access.{Access, Read, Write};
 
 /// Access to the eight registers of one device.
 ///
-/// `PioBackend` and `MmioBackend` of `uart_16550` implement this trait over I/O ports and over memory. Implement it
-/// yourself for an emulated device or for any other kind of access.
+/// `PioBackend` and `MmioBackend` of `uart_16550` implement this trait over I/O ports and over
+/// memory. Implement it yourself for an emulated device or for any other kind of access.
 ///
-/// The driver passes offsets of 0 to 7, and in Rattle every caller must. In Rust, whoever is given the backend may pass any
-/// offset; `PioBackend` and `MmioBackend` panic for one above 7.
+/// The driver passes offsets of 0 to 7, and in Rattle every caller must. In Rust, whoever is given
+/// the backend may pass any offset; `PioBackend` and `MmioBackend` panic for one above 7.
 ///
-/// In Rattle an implementation also defines a step relation: which accesses lead from which state to which state. The
-/// driver's contracts are about paths of these steps, so they hold over every backend, whatever its reads return.
+/// In Rattle an implementation also defines a step relation: which accesses lead from which state
+/// to which state. The driver's contracts are about paths of these steps, so they hold over every
+/// backend, whatever its reads return.
 pub trait Backend {
-    // This access, with the byte that it reads or writes, may lead from the first state to the second.
+    // This access, with the byte that it reads or writes, may lead from the first state to the
+    // second.
     ghost step: { Self → Access → Self → Type 0 };
 
     /// Reads the register at an offset of 0 to 7, and returns its value.
     ///
-    /// Called once for each read that the driver makes. A read may change the device: one of LSR clears its error bits.
+    /// Called once for each read that the driver makes. A read may change the device: one of LSR
+    /// clears its error bits.
     fn read(&mut self, register_offset: u8) -> u8
         requires { register_offset < NUM_REGISTERS }
         ensures { step self.old (Read register_offset result) self.new };

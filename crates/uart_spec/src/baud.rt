@@ -5,7 +5,8 @@ ghost use Rattle.uart_spec.specs.Baud.{IsBaudRateAnswer, IsDivisorAnswer, freque
 
 use crate::errors::{InvalidDivisorError, NonIntegerBaudRateError, NonIntegerDivisorError};
 
-/// The usual frequency of the clock that drives the baud rate generator, in hertz: 16 clock ticks per bit at 115,200 baud.
+/// The usual frequency of the clock that drives the baud rate generator, in hertz: 16 clock ticks
+/// per bit at 115,200 baud.
 pub const CLK_FREQUENCY_HZ: u32 = 1_843_200;
 
 /// The number of characters that a FIFO of a 16550 holds.
@@ -16,8 +17,8 @@ pub const NUM_REGISTERS: usize = 8;
 
 /// Returns the clock frequency in hertz at which a divisor gives a baud rate.
 ///
-/// The generator divides the clock by 16, by the divisor, and by the prescaler division factor plus 1. The factor is
-/// between 0 and 15; `None` counts as 0.
+/// The generator divides the clock by 16, by the divisor, and by the prescaler division factor plus
+/// 1. The factor is between 0 and 15; `None` counts as 0.
 ///
 /// # Examples
 ///
@@ -69,9 +70,10 @@ pub fn calc_baud_rate(
 ///
 /// # Errors
 ///
-/// - `NonInteger`, with the arguments, if no whole divisor gives exactly this baud rate. At the usual clock that is the
-///   case for 110 baud.
-/// - `OutOfRange`, with the divisor, if one does, but it does not fit into the divisor latch of 16 bits.
+/// - `NonInteger`, with the arguments, if no whole divisor gives exactly this baud rate. At the
+///   usual clock that is the case for 110 baud.
+/// - `OutOfRange`, with the divisor, if one does, but it does not fit into the divisor latch of 16
+///   bits.
 ///
 /// # Examples
 ///
@@ -99,13 +101,17 @@ pub fn calc_divisor(
     }
 }
 
-// Returns the divisor for a baud rate, or the baud rate for a divisor: the two are factors of one product.
+// Returns the divisor for a baud rate, or the baud rate for a divisor: the two are factors of one
+// product.
 fn other_factor(frequency: u32, factor: u32, prescaler_division_factor: Option<u32>) -> Option<u32>
     requires factor { 0 < factor }
     requires prescaler { prescaler prescaler_division_factor ≤ 15 }
-    ensures only { IsOnlyIfAny (λ other. frequency_of factor other prescaler_division_factor ≡ frequency) result }
-    ensures some { IfSome result (λ other. frequency_of factor other prescaler_division_factor ≡ frequency) }
-    ensures none { IfNone result ((other : ℕ) → frequency_of factor other prescaler_division_factor ≢ frequency) }
+    ensures only { IsOnlyIfAny (λ other.
+        frequency_of factor other prescaler_division_factor ≡ frequency) result }
+    ensures some { IfSome result (λ other.
+        frequency_of factor other prescaler_division_factor ≡ frequency) }
+    ensures none { IfNone result ((other : ℕ) →
+        frequency_of factor other prescaler_division_factor ≢ frequency) }
 {
     let ticks = 16 * (prescaler_division_factor.unwrap_or(0) as u64 + 1) * factor as u64;
     whole_quotient(frequency, ticks)

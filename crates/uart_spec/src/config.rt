@@ -15,8 +15,9 @@ use std::cmp::Ordering;
 
 /// A baud rate, in bits per second.
 ///
-/// Baud rates are ordered by their number. If two have the same number, the one with a name comes before `Custom`. So
-/// `Baud9600` and `Custom(9600)` are different values; `from_integer` returns the one with a name.
+/// Baud rates are ordered by their number. If two have the same number, the one with a name comes
+/// before `Custom`. So `Baud9600` and `Custom(9600)` are different values; `from_integer` returns
+/// the one with a name.
 ///
 /// # Examples
 ///
@@ -47,7 +48,8 @@ pub enum BaudRate {
     Baud300,
     /// 150 baud.
     Baud150,
-    /// 110 baud. `Uart16550::init` refuses it at the usual clock, since 110 does not divide 115,200.
+    /// 110 baud. `Uart16550::init` refuses it at the usual clock, since 110 does not divide
+    /// 115,200.
     Baud110,
     /// Any other baud rate, by its number. Zero is not computable.
     Custom(u32),
@@ -80,7 +82,8 @@ impl BaudRate {
         }
     }
 
-    /// Returns the baud rate with this number of bits per second: the case with a name if there is one, else `Custom`.
+    /// Returns the baud rate with this number of bits per second: the case with a name if there is
+    /// one, else `Custom`.
     ///
     /// # Examples
     ///
@@ -108,7 +111,8 @@ impl BaudRate {
         }
     }
 
-    // 0 for a case with a name, 1 for `Custom`: the order of two rates with the same number.
+    // Returns 0 for a case with a name, 1 for `Custom`: the order of two rates with the same
+    // number.
     fn rank(self) -> u8
         ensures { result ≡ rank self }
     {
@@ -138,17 +142,19 @@ impl Ord for BaudRate {
 impl PartialOrd for BaudRate {
     ghost partial_cmp = { as_partial_cmp baud_rate_cmp };
 
-    ghost laws = { partial_order_from_own_ties (Prim.search (comparing, rules)) (Prim.search (comparing, rules)) };
+    ghost laws = { partial_order_from_own_ties (Prim.search (comparing, rules))
+        (Prim.search (comparing, rules)) };
 
     fn partial_cmp(&self, other: &BaudRate) -> Option<Ordering> {
         Some(self.cmp(other))
     }
 }
 
-/// The configuration of a device: clock and baud rate, the format of a character, FIFOs and interrupts.
+/// The configuration of a device: clock and baud rate, the format of a character, FIFOs and
+/// interrupts.
 ///
-/// Pass it to `Uart16550::init`, which requires that it is computable (`Config::is_computable`). Start from
-/// `Config::DEFAULT`, and set what differs.
+/// Pass it to `Uart16550::init`, which requires that it is computable (`Config::is_computable`).
+/// Start from `Config::DEFAULT`, and set what differs.
 ///
 /// # Examples
 ///
@@ -160,34 +166,37 @@ impl PartialOrd for BaudRate {
 /// ```
 #[derive(Clone, Debug, PartialEq, Eq, PartialOrd, Ord, Hash, Drop)]
 pub struct Config {
-    /// The interrupts that are enabled at the end of the initialisation. One may be pending before `init` returns, so call
-    /// it with the processor's interrupts masked.
+    /// The interrupts that are enabled at the end of the initialisation. One may be pending before
+    /// `init` returns, so call it with the processor's interrupts masked.
     pub interrupts: IER,
     /// The frequency of the clock that drives the baud rate generator, in hertz. Not zero.
     pub frequency: u32,
-    /// The prescaler division factor, between 0 and 15, if the chip has a prescaler. `None` counts as 0.
+    /// The prescaler division factor, between 0 and 15, if the chip has a prescaler. `None` counts
+    /// as 0.
     ///
     /// It takes part in the computation of the divisor. `init` does not write it to the chip.
     pub prescaler_division_factor: Option<u32>,
-    /// The trigger level of the receiver FIFO. `None` leaves the FIFOs off, and bytes are then sent one at a time; some
-    /// versions of QEMU were reported to stall in this mode. A chip without FIFOs ignores the level.
+    /// The trigger level of the receiver FIFO. `None` leaves the FIFOs off, and bytes are then sent
+    /// one at a time; some versions of QEMU were reported to stall in this mode. A chip without
+    /// FIFOs ignores the level.
     pub fifo_trigger_level: Option<FifoTriggerLevel>,
     /// The baud rate. The clock must give exactly this rate, or `init` refuses it.
     pub baud_rate: BaudRate,
     /// The number of data bits of a character.
     pub data_bits: WordLength,
-    /// Whether a character ends with more than one stop bit: two, or one and a half after five data bits.
+    /// Whether a character ends with more than one stop bit: two, or one and a half after five data
+    /// bits.
     pub extra_stop_bits: bool,
     /// The parity of a character.
     pub parity: Parity,
-    /// Whether bytes are sent only while the remote asserts clear to send (CTS). Enable it only for a remote that drives
-    /// this line: many cables do not, and nothing is sent then.
+    /// Whether bytes are sent only while the remote asserts clear to send (CTS). Enable it only for
+    /// a remote that drives this line: many cables do not, and nothing is sent then.
     pub check_cts_before_sending: bool,
 }
 
 impl Config {
-    /// 9,600 baud at the usual clock, eight data bits, no parity, one stop bit, FIFOs with a trigger level of fourteen, no
-    /// interrupts, and no CTS check before sending.
+    /// 9,600 baud at the usual clock, eight data bits, no parity, one stop bit, FIFOs with a
+    /// trigger level of fourteen, no interrupts, and no CTS check before sending.
     pub const DEFAULT: Config = Config {
         interrupts: IER::NONE,
         frequency: CLK_FREQUENCY_HZ,
@@ -200,10 +209,12 @@ impl Config {
         check_cts_before_sending: false,
     };
 
-    /// Returns whether the arithmetic of the baud rate accepts this configuration, as `Uart16550::init` requires: the
-    /// frequency and the baud rate are not zero, and the prescaler division factor is `None` or at most 15.
+    /// Returns whether the arithmetic of the baud rate accepts this configuration, as
+    /// `Uart16550::init` requires: the frequency and the baud rate are not zero, and the prescaler
+    /// division factor is `None` or at most 15.
     ///
-    /// `init` may still refuse the baud rate, if its divisor is not a whole number or does not fit into the divisor latch.
+    /// `init` may still refuse the baud rate, if its divisor is not a whole number or does not fit
+    /// into the divisor latch.
     ///
     /// # Examples
     ///

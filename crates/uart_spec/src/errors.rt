@@ -4,7 +4,8 @@ use thiserror::Error;
 
 /// A clock frequency and a divisor that give no whole baud rate.
 #[derive(Clone, Debug, Default, PartialEq, Eq, PartialOrd, Hash, Drop, Error)]
-#[error("Input values do not result in even (integer representable) baud rate! frequency={frequency}, divisor={divisor}, \
+#[error("Input values do not result in even (integer representable) baud rate! \
+    frequency={frequency}, divisor={divisor}, \
     prescaler_division_factor={prescaler_division_factor:?}")]
 pub struct NonIntegerBaudRateError {
     /// The clock frequency, in hertz.
@@ -18,7 +19,8 @@ pub struct NonIntegerBaudRateError {
 /// A clock frequency and a baud rate for which there is no whole divisor.
 #[derive(Clone, Debug, Default, PartialEq, Eq, PartialOrd, Hash, Drop, Error)]
 #[error("input values do not result in even (integer representable) baud rate! \
-    frequency={frequency}, baud_rate={baud_rate}, prescaler_division_factor={prescaler_division_factor:?}")]
+    frequency={frequency}, baud_rate={baud_rate}, \
+    prescaler_division_factor={prescaler_division_factor:?}")]
 pub struct NonIntegerDivisorError {
     /// The clock frequency, in hertz.
     pub frequency: u32,
@@ -45,8 +47,8 @@ pub enum InvalidDivisorError {
 /// Why a device cannot be at an address. The stride is checked first.
 #[derive(Clone, Debug, PartialEq, Eq, Hash, Drop, Error)]
 pub enum InvalidAddressError {
-    /// The last of the eight registers would be beyond the last address, or beyond port 65535. Holds the base address, or
-    /// the base port.
+    /// The last of the eight registers would be beyond the last address, or beyond port 65535.
+    /// Holds the base address, or the base port.
     #[error("invalid register address: {0:#x}")]
     InvalidBaseAddress(usize),
     /// The distance between two registers is zero, or not a power of two. Holds the stride.
@@ -57,15 +59,15 @@ pub enum InvalidAddressError {
 /// Why an initialisation failed.
 #[derive(Clone, Debug, PartialEq, Eq, Hash, Drop, Error)]
 pub enum InitError {
-    /// The scratch register did not keep what was written to it, so no device is at the address. The scratch register was
-    /// written back, and the driver has the new configuration.
+    /// The scratch register did not keep what was written to it, so no device is at the address.
+    /// The scratch register was written back, and the driver has the new configuration.
     #[error("the device could not be detected")]
     DeviceNotPresent,
     /// There is no divisor for the baud rate. No access was made, and nothing changed.
     #[error("invalid baud rate: {0}")]
     InvalidBaudRate(InvalidDivisorError),
-    /// The transmitter did not become empty within the spin limit. The device is set up, except that all of its interrupts
-    /// are disabled.
+    /// The transmitter did not become empty within the spin limit. The device is set up, except
+    /// that all of its interrupts are disabled.
     #[error("the device stalled")]
     Stalled,
 }
@@ -81,14 +83,16 @@ pub enum ByteSendError {
     /// The transmitter holding register, or the transmitter FIFO, is not empty.
     #[error("device has no capacity to send another byte (the FIFO might be full)")]
     NoCapacity,
-    /// The remote does not assert clear to send (CTS), and the configuration checks CTS before sending.
+    /// The remote does not assert clear to send (CTS), and the configuration checks CTS before
+    /// sending.
     #[error("the remote didn't raised its clear to send signal")]
     RemoteNotClearToSend,
 }
 
 /// Why the remote seems not to be connected, or not to be ready.
 ///
-/// Many cables never assert DSR, CD or CTS, so sending may still work. Check again after a modem status interrupt.
+/// Many cables never assert DSR, CD or CTS, so sending may still work. Check again after a modem
+/// status interrupt.
 #[derive(Clone, Debug, PartialEq, Eq, Hash, Drop, Error)]
 pub enum RemoteReadyToReceiveError {
     /// Data set ready (DSR) is clear.
@@ -105,8 +109,8 @@ pub enum RemoteReadyToReceiveError {
 /// Why a loopback test failed.
 #[derive(Clone, Debug, PartialEq, Eq, Hash, Drop, Error)]
 pub enum LoopbackError {
-    /// The device did not accept the single test byte, although its transmitter had been empty. The cause is always
-    /// `NoCapacity`.
+    /// The device did not accept the single test byte, although its transmitter had been empty. The
+    /// cause is always `NoCapacity`.
     #[error("loopback test failed: couldn't send data: {0}")]
     SendError(ByteSendError),
     /// The device returned a byte other than the test byte.
@@ -126,16 +130,16 @@ pub enum LoopbackError {
         /// The bytes that were received.
         actual: [u8; 16],
     },
-    /// The device made no progress within the spin limit. A test byte may still be in its transmitter, and is then sent
-    /// after the test.
+    /// The device made no progress within the spin limit. A test byte may still be in its
+    /// transmitter, and is then sent after the test.
     #[error("loopback test failed: the device stalled")]
     Stalled,
 }
 
 /// A wait ended at the spin limit: that many polls in a row were unsuccessful.
 ///
-/// This is not always a fault. The remote may be slow, or may have nothing to send. At 9,600 baud a full FIFO and shift
-/// register take about 17.7 ms to send.
+/// This is not always a fault. The remote may be slow, or may have nothing to send. At 9,600 baud a
+/// full FIFO and shift register take about 17.7 ms to send.
 #[derive(Clone, Debug, PartialEq, Eq, Hash, Drop, Error)]
 #[error("the device stalled after {done} bytes")]
 pub struct StalledError {
@@ -152,8 +156,8 @@ pub enum Uart16550TtyError {
     /// `Uart16550::init` failed.
     #[error("error initializing the device: {0}")]
     InitError(InitError),
-    /// `Uart16550::test_loopback` failed. The device stays initialised, with the interrupts of its configuration enabled.
-    /// For a device without loopback use `Uart16550Tty::from_inner`.
+    /// `Uart16550::test_loopback` failed. The device stays initialised, with the interrupts of its
+    /// configuration enabled. For a device without loopback use `Uart16550Tty::from_inner`.
     #[error("error testing the device: {0}")]
     TestError(LoopbackError),
 }

@@ -6,31 +6,52 @@ ghost use Rattle.std.specs.Ordering.{nat_cmp, bool_cmp};
 ghost use Rattle.std.specs.declared.cmp.Ordering.TheVariants.{Less};
 ghost use Rattle.uart_spec.specs.Divisors.{divisors};
 ghost use Rattle.uart_spec.specs.Orders.{IsAscending, in_turn, partial_in_turn};
-ghost use Rattle.uart_spec.specs.declared.baud.TheConstants.{CLK_FREQUENCY_HZ, FIFO_SIZE, NUM_REGISTERS};
+ghost use Rattle.uart_spec.specs.declared.baud.TheConstants.{CLK_FREQUENCY_HZ};
+ghost use Rattle.uart_spec.specs.declared.baud.TheConstants.{FIFO_SIZE, NUM_REGISTERS};
 ghost use Rattle.uart_spec.specs.declared.config.BaudRate.{BaudRate};
 ghost use Rattle.uart_spec.specs.declared.config.BaudRate.TheVariants.{Baud9600};
 ghost use Rattle.uart_spec.specs.declared.config.Config.{Config};
 ghost use Rattle.uart_spec.specs.declared.config.TheConstants.Config.{DEFAULT};
 ghost use Rattle.uart_spec.specs.declared.errors.InvalidDivisorError.{InvalidDivisorError};
-ghost use Rattle.uart_spec.specs.declared.errors.InvalidDivisorError.TheVariants.{NonInteger, OutOfRange};
+ghost use Rattle.uart_spec.specs.declared.errors.InvalidDivisorError.TheVariants.{
+  NonInteger,
+  OutOfRange,
+};
 ghost use Rattle.uart_spec.specs.declared.errors.NonIntegerBaudRateError.{NonIntegerBaudRateError};
 ghost use Rattle.uart_spec.specs.declared.errors.NonIntegerDivisorError.{NonIntegerDivisorError};
 ghost use Rattle.uart_spec.specs.declared.registers.divisors.Divisor.{Divisor};
 ghost use Rattle.uart_spec.specs.declared.registers.divisors.Divisor.TheVariants.{Divisor1};
 ghost use Rattle.uart_spec.specs.declared.registers.fifo_control.FCR.{FCR};
-ghost use Rattle.uart_spec.specs.declared.registers.fifo_trigger_level.FifoTriggerLevel.{FifoTriggerLevel};
-ghost use Rattle.uart_spec.specs.declared.registers.fifo_trigger_level.FifoTriggerLevel.TheVariants.{One, Four, Eight, Fourteen};
+ghost use Rattle.uart_spec.specs.declared.registers.fifo_trigger_level.FifoTriggerLevel.{
+  FifoTriggerLevel,
+};
+ghost use Rattle.uart_spec.specs.declared.registers.fifo_trigger_level.FifoTriggerLevel.TheVariants.{
+  One,
+  Four,
+  Eight,
+  Fourteen,
+};
 ghost use Rattle.uart_spec.specs.declared.registers.frame.Parity.{Parity};
-ghost use Rattle.uart_spec.specs.declared.registers.frame.Parity.TheVariants.{Disabled, Odd, Even, Forced1, Forced0};
+ghost use Rattle.uart_spec.specs.declared.registers.frame.Parity.TheVariants.{Disabled, Odd, Even};
+ghost use Rattle.uart_spec.specs.declared.registers.frame.Parity.TheVariants.{Forced1, Forced0};
 ghost use Rattle.uart_spec.specs.declared.registers.frame.WordLength.{WordLength};
-ghost use Rattle.uart_spec.specs.declared.registers.frame.WordLength.TheVariants.{FiveBits, SixBits, SevenBits, EightBits};
+ghost use Rattle.uart_spec.specs.declared.registers.frame.WordLength.TheVariants.{
+  FiveBits,
+  SixBits,
+  SevenBits,
+  EightBits,
+};
 ghost use Rattle.uart_spec.specs.declared.registers.interrupt_enable.IER.{IER};
 ghost use Rattle.uart_spec.specs.declared.registers.interrupt_status.ISR.{ISR};
-ghost use Rattle.uart_spec.specs.declared.registers.interrupt_type.InterruptType.TheVariants.{ReceiverLineStatus, ReceivedDataReady};
-ghost use Rattle.uart_spec.specs.declared.registers.interrupt_type.InterruptType.TheVariants.{ReceptionTimeout};
-ghost use Rattle.uart_spec.specs.declared.registers.interrupt_type.InterruptType.TheVariants.{TransmitterHoldingRegisterEmpty, ModemStatus};
-ghost use Rattle.uart_spec.specs.declared.registers.interrupt_type.InterruptType.TheVariants.{DmaReceptionEndOfTransfer};
-ghost use Rattle.uart_spec.specs.declared.registers.interrupt_type.InterruptType.TheVariants.{DmaTransmissionEndOfTransfer};
+ghost use Rattle.uart_spec.specs.declared.registers.interrupt_type.InterruptType.TheVariants.{
+  ReceiverLineStatus,
+  ReceivedDataReady,
+  ReceptionTimeout,
+  TransmitterHoldingRegisterEmpty,
+  ModemStatus,
+  DmaReceptionEndOfTransfer,
+  DmaTransmissionEndOfTransfer,
+};
 ghost use Rattle.uart_spec.specs.declared.registers.line_control.LCR.{LCR};
 ghost use Rattle.uart_spec.specs.declared.registers.line_status.LSR.{LSR};
 ghost use Rattle.uart_spec.specs.declared.registers.modem_control.MCR.{MCR};
@@ -55,15 +76,23 @@ pub fn defaults_are_these()
     ensures lsr { (value : LSR) → ⟦<LSR as Default>⟧.is_default value → value.0 ≡ 0 }
     ensures msr { (value : MSR) → ⟦<MSR as Default>⟧.is_default value → value.0 ≡ 0 }
     ensures psd { (value : PSD) → ⟦<PSD as Default>⟧.is_default value → value.0 ≡ 0 }
-    ensures trigger_level { (level : FifoTriggerLevel) → ⟦<FifoTriggerLevel as Default>⟧.is_default level → level ≡ Fourteen }
-    ensures word_length { (length : WordLength) → ⟦<WordLength as Default>⟧.is_default length → length ≡ EightBits }
-    ensures parity { (parity : Parity) → ⟦<Parity as Default>⟧.is_default parity → parity ≡ Disabled }
-    ensures divisor { (divisor : Divisor) → ⟦<Divisor as Default>⟧.is_default divisor → divisor ≡ Divisor1 }
-    ensures baud_rate { (rate : BaudRate) → ⟦<BaudRate as Default>⟧.is_default rate → rate ≡ Baud9600 }
-    ensures config { (config : Config) → ⟦<Config as Default>⟧.is_default config → config ≡ DEFAULT }
-    ensures baud_rate_error { (error : NonIntegerBaudRateError) → ⟦<NonIntegerBaudRateError as Default>⟧.is_default error →
+    ensures trigger_level { (level : FifoTriggerLevel) →
+        ⟦<FifoTriggerLevel as Default>⟧.is_default level → level ≡ Fourteen }
+    ensures word_length { (length : WordLength) → ⟦<WordLength as Default>⟧.is_default length →
+        length ≡ EightBits }
+    ensures parity { (parity : Parity) → ⟦<Parity as Default>⟧.is_default parity →
+        parity ≡ Disabled }
+    ensures divisor { (divisor : Divisor) → ⟦<Divisor as Default>⟧.is_default divisor →
+        divisor ≡ Divisor1 }
+    ensures baud_rate { (rate : BaudRate) →
+        ⟦<BaudRate as Default>⟧.is_default rate → rate ≡ Baud9600 }
+    ensures config { (config : Config) →
+        ⟦<Config as Default>⟧.is_default config → config ≡ DEFAULT }
+    ensures baud_rate_error { (error : NonIntegerBaudRateError) →
+        ⟦<NonIntegerBaudRateError as Default>⟧.is_default error →
         error ≡ record { frequency = 0; divisor = 0; prescaler_division_factor = None } }
-    ensures divisor_error { (error : NonIntegerDivisorError) → ⟦<NonIntegerDivisorError as Default>⟧.is_default error →
+    ensures divisor_error { (error : NonIntegerDivisorError) →
+        ⟦<NonIntegerDivisorError as Default>⟧.is_default error →
         error ≡ record { frequency = 0; baud_rate = 0; prescaler_division_factor = None } }
 {}
 
@@ -80,16 +109,21 @@ pub fn default_config_is_this()
     ensures checks_cts { DEFAULT.check_cts_before_sending ≡ false }
 {}
 
-/// The cases of each enum, from the least on. Interrupts are in the order in which a chip reports them.
+/// The cases of each enum, from the least on. Interrupts are in the order in which a chip reports
+/// them.
 pub fn cases_are_in_order()
     ensures interrupts { IsAscending ⟦<InterruptType as Ord>⟧.cmp
         (ReceiverLineStatus ∷ ReceivedDataReady ∷ ReceptionTimeout ∷ TransmitterHoldingRegisterEmpty
         ∷ ModemStatus ∷ DmaReceptionEndOfTransfer ∷ DmaTransmissionEndOfTransfer ∷ []) }
-    ensures trigger_levels { IsAscending ⟦<FifoTriggerLevel as Ord>⟧.cmp (One ∷ Four ∷ Eight ∷ Fourteen ∷ []) }
-    ensures word_lengths { IsAscending ⟦<WordLength as Ord>⟧.cmp (FiveBits ∷ SixBits ∷ SevenBits ∷ EightBits ∷ []) }
-    ensures parities { IsAscending ⟦<Parity as Ord>⟧.cmp (Disabled ∷ Odd ∷ Even ∷ Forced1 ∷ Forced0 ∷ []) }
+    ensures trigger_levels { IsAscending ⟦<FifoTriggerLevel as Ord>⟧.cmp
+        (One ∷ Four ∷ Eight ∷ Fourteen ∷ []) }
+    ensures word_lengths { IsAscending ⟦<WordLength as Ord>⟧.cmp
+        (FiveBits ∷ SixBits ∷ SevenBits ∷ EightBits ∷ []) }
+    ensures parities { IsAscending ⟦<Parity as Ord>⟧.cmp
+        (Disabled ∷ Odd ∷ Even ∷ Forced1 ∷ Forced0 ∷ []) }
     ensures divisor_errors { (error : NonIntegerDivisorError) (divisor : ℕ) →
-        ⟦<InvalidDivisorError as PartialOrd>⟧.partial_cmp (NonInteger error) (OutOfRange divisor) ≡ Some Less }
+        ⟦<InvalidDivisorError as PartialOrd>⟧.partial_cmp (NonInteger error) (OutOfRange divisor) ≡
+        Some Less }
     ensures divisors { IsAscending ⟦<Divisor as Ord>⟧.cmp divisors }
 {}
 
@@ -110,12 +144,15 @@ pub fn fields_are_in_order()
         ⟦<NonIntegerBaudRateError as PartialOrd>⟧.partial_cmp a b ≡ partial_in_turn (
         ⟦<u32 as PartialOrd>⟧.partial_cmp a.frequency b.frequency
         ∷ ⟦<u32 as PartialOrd>⟧.partial_cmp a.divisor b.divisor
-        ∷ ⟦<Option<u32> as PartialOrd>⟧.partial_cmp a.prescaler_division_factor b.prescaler_division_factor
+        ∷ ⟦<Option<u32> as PartialOrd>⟧.partial_cmp
+        a.prescaler_division_factor b.prescaler_division_factor
         ∷ []) }
-    ensures divisor_error { (a b : NonIntegerDivisorError) → ⟦<NonIntegerDivisorError as PartialOrd>⟧.partial_cmp a b ≡ partial_in_turn (
+    ensures divisor_error { (a b : NonIntegerDivisorError) →
+        ⟦<NonIntegerDivisorError as PartialOrd>⟧.partial_cmp a b ≡ partial_in_turn (
         ⟦<u32 as PartialOrd>⟧.partial_cmp a.frequency b.frequency
         ∷ ⟦<u32 as PartialOrd>⟧.partial_cmp a.baud_rate b.baud_rate
-        ∷ ⟦<Option<u32> as PartialOrd>⟧.partial_cmp a.prescaler_division_factor b.prescaler_division_factor
+        ∷ ⟦<Option<u32> as PartialOrd>⟧.partial_cmp
+        a.prescaler_division_factor b.prescaler_division_factor
         ∷ []) }
 {}
 
@@ -136,7 +173,9 @@ pub fn constants_are_these()
     ensures clock { CLK_FREQUENCY_HZ ≡ 1843200 }
     ensures fifo { FIFO_SIZE ≡ 16 }
     ensures registers { NUM_REGISTERS ≡ 8 }
-    ensures offsets { (offsets.DATA ∷ offsets.IER ∷ offsets.ISR ∷ offsets.LCR ∷ offsets.MCR ∷ offsets.LSR ∷ offsets.MSR ∷ offsets.SPR ∷ [])
+    ensures offsets { (offsets.DATA ∷ offsets.IER ∷ offsets.ISR ∷ offsets.LCR ∷ offsets.MCR
+        ∷ offsets.LSR ∷ offsets.MSR ∷ offsets.SPR ∷ [])
         ≡ (0 ∷ 1 ∷ 2 ∷ 3 ∷ 4 ∷ 5 ∷ 6 ∷ 7 ∷ []) }
-    ensures shared_offsets { (offsets.FCR ∷ offsets.DLL ∷ offsets.DLM ∷ offsets.PSD ∷ []) ≡ (2 ∷ 0 ∷ 1 ∷ 6 ∷ []) }
+    ensures shared_offsets { (offsets.FCR ∷ offsets.DLL ∷ offsets.DLM ∷ offsets.PSD ∷ []) ≡
+        (2 ∷ 0 ∷ 1 ∷ 6 ∷ []) }
 {}

@@ -33,8 +33,8 @@ pub use modem_control::MCR;
 pub use modem_status::MSR;
 pub use prescaler_division::PSD;
 
-/// Data register, offset 0 while DLAB is clear: a read takes a byte from the receiver (RBR), a write gives one to the
-/// transmitter (THR).
+/// Data register, offset 0 while DLAB is clear: a read takes a byte from the receiver (RBR), a
+/// write gives one to the transmitter (THR).
 pub type DATA = u8;
 
 /// Scratch register (SPR), offset 7, which the chip keeps and does not use.
@@ -46,7 +46,8 @@ pub type DLL = u8;
 /// High byte of the divisor latch (DLM), offset 1 while DLAB is set.
 pub type DLM = u8;
 
-/// Each byte is a value of each register, since each of the eight bits has a name: `from_bits` never returns `None`.
+/// Each byte is a value of each register, since each of the eight bits has a name: `from_bits`
+/// never returns `None`.
 ///
 /// This is a law that callers can cite. The function does nothing.
 #[tactic(auto, using(crate::proofs::NameLemmas::eight_names))]
@@ -64,7 +65,8 @@ pub fn every_byte_is_a_value()
 /// The bits of each mask. This is a law that callers can cite. The function does nothing.
 pub fn masks_are_these()
     ensures fifos_enabled { ISR.FIFOS_ENABLED.0 ≡ ISR.FIFOS_ENABLED0.0 + ISR.FIFOS_ENABLED1.0 }
-    ensures trigger_level { FCR.RX_FIFO_TRIGGER_LEVEL.0 ≡ FCR.RX_FIFO_TRIGGER_LEVEL0.0 + FCR.RX_FIFO_TRIGGER_LEVEL1.0 }
+    ensures trigger_level { FCR.RX_FIFO_TRIGGER_LEVEL.0 ≡
+        FCR.RX_FIFO_TRIGGER_LEVEL0.0 + FCR.RX_FIFO_TRIGGER_LEVEL1.0 }
     ensures word_length { LCR.WORD_LENGTH.0 ≡ LCR.WORD_LENGTH0.0 + LCR.WORD_LENGTH1.0 }
     ensures character_errors { LSR.CHARACTER_ERRORS.0 ≡
         LSR.PARITY_ERROR.0 + LSR.FRAMING_ERROR.0 + LSR.BREAK_INTERRUPT.0 }

@@ -2,7 +2,8 @@
 ghost use Rattle.std.specs.Prelude.{◌≡◌, ◌≢◌, ◌<◌, [], ◌∷◌};
 ghost use Rattle.uart_spec.specs.Config.{IsComputable};
 ghost use Rattle.uart_16550.specs.Grammar.{Only, Then, ReadsRegister};
-ghost use Rattle.uart_16550.specs.Init.{Keeps, KeepsPatterns, ChecksPresence, frame_bits, line_writes, fifo_bits, SetsFifo, DrainsReceiver};
+ghost use Rattle.uart_16550.specs.Init.{Keeps, KeepsPatterns, ChecksPresence, frame_bits};
+ghost use Rattle.uart_16550.specs.Init.{line_writes, fifo_bits, SetsFifo, DrainsReceiver};
 ghost use Rattle.uart_16550.specs.Init.{Ends, Inits};
 ghost use Rattle.uart_16550.specs.Driver.{Made, Did, Plain, fields};
 
@@ -63,10 +64,12 @@ impl<B: Backend> Uart16550<B> {
         self.keeps(SECOND_PATTERN)
     }
 
-    /// Returns whether a device is present: whether its scratch register (SPR) keeps what is written to it.
+    /// Returns whether a device is present: whether its scratch register (SPR) keeps what is
+    /// written to it.
     ///
-    /// Reads SPR, writes a pattern and reads it back, tries a second pattern if the first was kept, and restores SPR.
-    /// Nothing else changes in the chip. Does not wait: makes 4 or 6 accesses. `init` makes the same check.
+    /// Reads SPR, writes a pattern and reads it back, tries a second pattern if the first was kept,
+    /// and restores SPR. Nothing else changes in the chip. Does not wait: makes 4 or 6 accesses.
+    /// `init` makes the same check.
     ///
     /// # Examples
     ///
@@ -132,36 +135,41 @@ impl<B: Backend> Uart16550<B> {
         self.write_register(offsets::IER, interrupts.bits());
     }
 
-    /// Initialises the device with this configuration, which must be computable (`Config::is_computable`).
+    /// Initialises the device with this configuration, which must be computable
+    /// (`Config::is_computable`).
     ///
-    /// Call it before any other call, again after raw accesses that changed the setup of the chip, and to change the
-    /// configuration. Call it with the processor's interrupts masked: an interrupt may be pending before it returns.
+    /// Call it before any other call, again after raw accesses that changed the setup of the chip,
+    /// and to change the configuration. Call it with the processor's interrupts masked: an
+    /// interrupt may be pending before it returns.
     ///
     /// In this order it
     ///
     /// - computes the divisor, and checks that a device is present as `check_present` does;
     /// - disables all interrupts, writes the divisor to DLL and DLM, and the frame to LCR;
-    /// - resets both FIFOs by FCR and, if a trigger level is configured, turns them on and reads from ISR whether they are.
-    ///   ISR with bit 7 alone, as one known broken chip returns it, counts as no FIFO;
+    /// - resets both FIFOs by FCR and, if a trigger level is configured, turns them on and reads
+    ///   from ISR whether they are. ISR with bit 7 alone, as one known broken chip returns it,
+    ///   counts as no FIFO;
     /// - discards received bytes, at most 17;
     /// - sets DTR, RTS and OUT2 in MCR, and clears loopback;
     /// - waits until LSR shows `TRANSMITTER_EMPTY`, at most `spin_limit` polls;
     /// - reads LSR, ISR and MSR to clear them, and writes the configured interrupts to IER.
     ///
-    /// Afterwards no status bits are saved, `config` returns the new configuration, and `fifo_enabled` whether the FIFOs
-    /// are on. SPR is unchanged. Bytes that were in the transmitter FIFO may be lost by the reset.
+    /// Afterwards no status bits are saved, `config` returns the new configuration, and
+    /// `fifo_enabled` whether the FIFOs are on. SPR is unchanged. Bytes that were in the
+    /// transmitter FIFO may be lost by the reset.
     ///
-    /// Without a trigger level the FIFOs are off, and bytes are sent one at a time. Some versions of QEMU were reported to
-    /// stall in this mode.
+    /// Without a trigger level the FIFOs are off, and bytes are sent one at a time. Some versions
+    /// of QEMU were reported to stall in this mode.
     ///
     /// # Errors
     ///
-    /// - `InvalidBaudRate` if the divisor is not a whole number, or does not fit into the divisor latch. No access was
-    ///   made, and nothing changed.
-    /// - `DeviceNotPresent` if SPR does not keep a pattern. SPR was written back, and the driver has the new configuration.
-    ///   Saved bits and `fifo_enabled` are unchanged.
-    /// - `Stalled` if the transmitter was not empty after `spin_limit` polls. The interrupts of the device are disabled,
-    ///   the driver has the new configuration, and the status bits that the polls cleared are saved.
+    /// - `InvalidBaudRate` if the divisor is not a whole number, or does not fit into the divisor
+    ///   latch. No access was made, and nothing changed.
+    /// - `DeviceNotPresent` if SPR does not keep a pattern. SPR was written back, and the driver
+    ///   has the new configuration. Saved bits and `fifo_enabled` are unchanged.
+    /// - `Stalled` if the transmitter was not empty after `spin_limit` polls. The interrupts of the
+    ///   device are disabled, the driver has the new configuration, and the status bits that the
+    ///   polls cleared are saved.
     ///
     /// # Examples
     ///
@@ -175,7 +183,8 @@ impl<B: Backend> Uart16550<B> {
         requires { IsComputable config }
         ensures { Did B.step (Inits config result) self.old self.new }
     {
-        // The configuration is stored first and then read in place. So it is copied once, and as a whole.
+        // The configuration is stored first and then read in place. So it is copied once, and as a
+        // whole.
         let before = mem::replace(&mut self.config, config);
         let baud_rate = self.config.baud_rate.to_integer();
         let prescaler = self.config.prescaler_division_factor;

@@ -1,8 +1,10 @@
 //! The loopback test.
 ghost use Rattle.std.specs.Prelude.{◌≡◌, length, IfSome};
 ghost use Rattle.uart_spec.specs.Bits.{flag};
-ghost use Rattle.uart_16550.specs.Loopback.{test_message, DrainsLoopback, HasEchoed, HasEchoedWhole, HasEchoedEach, HasEchoedAll};
-ghost use Rattle.uart_16550.specs.Loopback.{ExchangesByte, ExchangesMessage, Exchanges, Enters, Leaves, TestsLoopback, differs};
+ghost use Rattle.uart_16550.specs.Loopback.{test_message, DrainsLoopback, HasEchoed};
+ghost use Rattle.uart_16550.specs.Loopback.{HasEchoedWhole, HasEchoedEach, HasEchoedAll};
+ghost use Rattle.uart_16550.specs.Loopback.{ExchangesByte, ExchangesMessage, Exchanges};
+ghost use Rattle.uart_16550.specs.Loopback.{Enters, Leaves, TestsLoopback, differs};
 ghost use Rattle.uart_16550.specs.Loopback.{line_changes};
 ghost use Rattle.uart_16550.specs.Driver.{Made, Did, fields};
 
@@ -45,7 +47,8 @@ fn line_changes(before: MSR, now: MSR) -> MSR
 }
 
 impl<B: Backend> Uart16550<B> {
-    // Discards received bytes until none is available. Returns false after as many bytes as the spin limit.
+    // Discards received bytes until none is available. Returns false after as many bytes as the
+    // spin limit.
     fn drain_received(&mut self) -> bool
         ensures { Made B.step (DrainsLoopback result) self.old self.new }
     {
@@ -138,7 +141,7 @@ impl<B: Backend> Uart16550<B> {
         Ok(())
     }
 
-    // The test itself, while the device is in loopback.
+    // Makes the test itself, while the device is in loopback.
     fn exchange(&mut self) -> Result<(), LoopbackError>
         ensures { Made B.step (Exchanges result) self.old self.new }
     {
@@ -160,7 +163,8 @@ impl<B: Backend> Uart16550<B> {
         before
     }
 
-    // Leaves loopback, restores MCR and IER, and saves the changes of the lines that are not due to the test.
+    // Leaves loopback, restores MCR and IER, and saves the changes of the lines that are not due to
+    // the test.
     fn leave_loopback(&mut self, mcr: MCR, ier: IER, before: MSR, noted: LSR)
         ensures { Did B.step (Leaves mcr.0 ier.0 before.0 noted.0) self.old self.new }
     {
@@ -172,26 +176,31 @@ impl<B: Backend> Uart16550<B> {
         self.saved_lsr = noted;
     }
 
-    /// Tests whether bytes that are sent return while the device is in loopback: first one byte, and then a message of 16.
+    /// Tests whether bytes that are sent return while the device is in loopback: first one byte,
+    /// and then a message of 16.
     ///
-    /// Call it after `init`, to find out whether the chip works. Send nothing else while it runs. In loopback the chip
-    /// connects its transmitter to its receiver, and nothing goes out on the line. For a device without loopback do not
-    /// call it; wrap the driver with `Uart16550Tty::from_inner` instead of constructing a terminal.
+    /// Call it after `init`, to find out whether the chip works. Send nothing else while it runs.
+    /// In loopback the chip connects its transmitter to its receiver, and nothing goes out on the
+    /// line. For a device without loopback do not call it; wrap the driver with
+    /// `Uart16550Tty::from_inner` instead of constructing a terminal.
     ///
-    /// Waits until the transmitter is empty, and then for each byte, at most `spin_limit` polls each time. Received bytes
-    /// and error bits that are found in loopback are discarded; error bits that were saved before it stay saved. The FIFOs
-    /// are reset and set up again, and `fifo_enabled` is read again. Afterwards MCR and IER are as before, also on a chip
-    /// that was in loopback already.
+    /// Waits until the transmitter is empty, and then for each byte, at most `spin_limit` polls
+    /// each time. Received bytes and error bits that are found in loopback are discarded; error
+    /// bits that were saved before it stay saved. The FIFOs are reset and set up again, and
+    /// `fifo_enabled` is read again. Afterwards MCR and IER are as before, also on a chip that was
+    /// in loopback already.
     ///
-    /// The modem lines before and after the test are compared, and their changes saved for the next `msr`; of RI only its
-    /// trailing edge. A line that changed and changed back in between is not reported.
+    /// The modem lines before and after the test are compared, and their changes saved for the next
+    /// `msr`; of RI only its trailing edge. A line that changed and changed back in between is not
+    /// reported.
     ///
     /// Whole bytes are compared. With 5 or 6 data bits a chip that cuts characters fails the test.
     ///
     /// # Errors
     ///
-    /// - `Stalled` after `spin_limit` unsuccessful polls in a row. If the first wait failed, nothing was written, and what
-    ///   the polls cleared is saved. Later a test byte may still be in the transmitter, and is then sent after the test.
+    /// - `Stalled` after `spin_limit` unsuccessful polls in a row. If the first wait failed,
+    ///   nothing was written, and what the polls cleared is saved. Later a test byte may still be
+    ///   in the transmitter, and is then sent after the test.
     /// - `SendError` if the device does not accept the test byte. Its cause is always `NoCapacity`.
     /// - `UnexpectedLoopbackByte`, `UnexpectedLoopbackMsg` if other bytes return.
     ///

@@ -1,6 +1,8 @@
 //! Receiving.
-ghost use Rattle.std.specs.Prelude.{◌≡◌, ◌<◌, ◌≤◌, length, take, drop, IfErr, IfSome, unwrap_or, is_some};
-ghost use Rattle.uart_16550.specs.Receive.{ReadyToReceive, TryReceive, Receives, ReceivesSome, Awaits, ReceivesExact, filled};
+ghost use Rattle.std.specs.Prelude.{◌≡◌, ◌<◌, ◌≤◌, length, take, drop};
+ghost use Rattle.std.specs.Prelude.{IfErr, IfSome, unwrap_or, is_some};
+ghost use Rattle.uart_16550.specs.Receive.{ReadyToReceive, TryReceive, Receives};
+ghost use Rattle.uart_16550.specs.Receive.{ReceivesSome, Awaits, ReceivesExact, filled};
 ghost use Rattle.uart_16550.specs.Driver.{Made};
 
 use super::{PIECE_SIZE, Uart16550};
@@ -34,8 +36,8 @@ impl<B: Backend> Uart16550<B> {
 
     /// Receives one byte if one is available: reads LSR, and if it shows `DATA_READY`, RBR.
     ///
-    /// Does not wait. The error bits that the read of LSR clears are saved for the next `lsr`; they belong to the byte that
-    /// is then received, except for an overrun.
+    /// Does not wait. The error bits that the read of LSR clears are saved for the next `lsr`; they
+    /// belong to the byte that is then received, except for an overrun.
     ///
     /// # Errors
     ///
@@ -53,11 +55,12 @@ impl<B: Backend> Uart16550<B> {
         Ok(self.read_register(offsets::DATA))
     }
 
-    /// Receives bytes while some are available and there are free slots. Returns how many, and leaves the slots beyond them
-    /// unchanged.
+    /// Receives bytes while some are available and there are free slots. Returns how many, and
+    /// leaves the slots beyond them unchanged.
     ///
-    /// Does not wait: reads LSR before each byte, and ends when it shows none. Call it again with the rest of the slice to
-    /// receive more. An empty slice makes no access. Error bits are saved for the next `lsr`, and do not end the call.
+    /// Does not wait: reads LSR before each byte, and ends when it shows none. Call it again with
+    /// the rest of the slice to receive more. An empty slice makes no access. Error bits are saved
+    /// for the next `lsr`, and do not end the call.
     ///
     /// # Examples
     ///
@@ -67,7 +70,8 @@ impl<B: Backend> Uart16550<B> {
     /// assert_eq!(rt; slots, [0x41, 0x42, 0xee, 0xee]);
     /// ```
     pub fn receive_bytes(&mut self, buffer: &mut [u8]) -> usize
-        ensures made { Made B.step (Receives (length buffer.old) (take result buffer.new)) self.old self.new }
+        ensures made { Made B.step (Receives (length buffer.old) (take result buffer.new))
+            self.old self.new }
         ensures count { result ≤ length buffer.old }
         ensures rest { drop result buffer.new ≡ drop result buffer.old }
     {
@@ -83,7 +87,8 @@ impl<B: Backend> Uart16550<B> {
     // Waits until some bytes were received, and returns how many.
     pub(crate) fn receive_some(&mut self, buffer: &mut [u8]) -> Option<usize>
         requires { 0 < length buffer.old }
-        ensures made { Made B.step (ReceivesSome (length buffer.old) (take (unwrap_or result 0) buffer.new) (is_some result))
+        ensures made { Made B.step (ReceivesSome (length buffer.old)
+            (take (unwrap_or result 0) buffer.new) (is_some result))
             self.old self.new }
         ensures count { IfSome result (λ k. (0 < k) × (k ≤ length buffer.old)) }
         ensures rest { drop (unwrap_or result 0) buffer.new ≡ drop (unwrap_or result 0) buffer.old }
@@ -116,7 +121,8 @@ impl<B: Backend> Uart16550<B> {
 
     // Receives a byte into each slot, and waits for each.
     fn receive_each(&mut self, slots: &mut [u8]) -> Result<(), StalledError>
-        ensures made { Made B.step (ReceivesExact (length slots.old) (filled result slots.new) result) self.old self.new }
+        ensures made { Made B.step (ReceivesExact (length slots.old) (filled result slots.new)
+            result) self.old self.new }
         ensures rest { IfErr result (λ e. drop e.done slots.new ≡ drop e.done slots.old) }
     {
         for (done, slot) in slots.iter_mut().enumerate() {
@@ -128,10 +134,11 @@ impl<B: Backend> Uart16550<B> {
         Ok(())
     }
 
-    // The same. A whole piece is received into a copy.
+    // Receives into the slots of one piece: a whole piece is received into a copy.
     #[inline(always)]
     fn receive_piece(&mut self, slots: &mut [u8]) -> Result<(), StalledError>
-        ensures made { Made B.step (ReceivesExact (length slots.old) (filled result slots.new) result) self.old self.new }
+        ensures made { Made B.step (ReceivesExact (length slots.old) (filled result slots.new)
+            result) self.old self.new }
         ensures rest { IfErr result (λ e. drop e.done slots.new ≡ drop e.done slots.old) }
     {
         if slots.len() != PIECE_SIZE {
@@ -146,13 +153,14 @@ impl<B: Backend> Uart16550<B> {
 
     /// Receives a byte into each slot, and waits for each.
     ///
-    /// Each wait makes at most `spin_limit` polls of LSR. Error bits are saved for the next `lsr`, and do not end the call.
-    /// An empty slice makes no access.
+    /// Each wait makes at most `spin_limit` polls of LSR. Error bits are saved for the next `lsr`,
+    /// and do not end the call. An empty slice makes no access.
     ///
     /// # Errors
     ///
-    /// `StalledError` after `spin_limit` unsuccessful polls in a row: the remote sent nothing for so long. The first `done`
-    /// slots have the bytes that were received, and the other slots are unchanged.
+    /// `StalledError` after `spin_limit` unsuccessful polls in a row: the remote sent nothing for
+    /// so long. The first `done` slots have the bytes that were received, and the other slots are
+    /// unchanged.
     ///
     /// # Examples
     ///
@@ -164,7 +172,8 @@ impl<B: Backend> Uart16550<B> {
     /// }
     /// ```
     pub fn receive_bytes_exact(&mut self, buffer: &mut [u8]) -> Result<(), StalledError>
-        ensures made { Made B.step (ReceivesExact (length buffer.old) (filled result buffer.new) result) self.old self.new }
+        ensures made { Made B.step (ReceivesExact (length buffer.old) (filled result buffer.new)
+            result) self.old self.new }
         ensures rest { IfErr result (λ e. drop e.done buffer.new ≡ drop e.done buffer.old) }
     {
         let mut done = 0;

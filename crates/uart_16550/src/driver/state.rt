@@ -10,16 +10,19 @@ use std::num::NonZeroU64;
 use uart_spec::Config;
 use uart_spec::registers::{LSR, MSR};
 
-/// The state of a driver without its backend: everything that a driver over another backend needs to continue.
+/// The state of a driver without its backend: everything that a driver over another backend needs
+/// to continue.
 #[derive(Clone, Debug, PartialEq, Drop)]
 pub struct DriverState {
     /// The configuration, as `Uart16550::config` returns it.
     pub config: Config,
     /// Whether the chip is taken to have a FIFO that is on.
     pub fifo_enabled: bool,
-    /// The line errors that reads of LSR cleared in the chip, and that no call of `lsr` has returned.
+    /// The line errors that reads of LSR cleared in the chip, and that no call of `lsr` has
+    /// returned.
     pub saved_lsr: LSR,
-    /// The changes of modem lines that reads of MSR cleared in the chip, and that no call of `msr` has returned.
+    /// The changes of modem lines that reads of MSR cleared in the chip, and that no call of `msr`
+    /// has returned.
     pub saved_msr: MSR,
     /// How many unsuccessful polls in a row a wait makes before it returns an error.
     pub spin_limit: NonZeroU64,

@@ -3,7 +3,8 @@ ghost use Rattle.std.specs.Prelude.{◌≡◌, [], ◌∷◌};
 ghost use Rattle.uart_spec.specs.declared.registers.offsets.TheConstants as offsets;
 ghost use Rattle.uart_spec.specs.Access.{Read};
 ghost use Rattle.uart_16550.specs.Grammar.{Only};
-ghost use Rattle.uart_16550.specs.Status.{TakesLsr, TakesMsr, Connects, ReadsDivisor, StoresInterrupts, Enables, Disables, Dumps};
+ghost use Rattle.uart_16550.specs.Status.{TakesLsr, TakesMsr, Connects, ReadsDivisor};
+ghost use Rattle.uart_16550.specs.Status.{StoresInterrupts, Enables, Disables, Dumps};
 ghost use Rattle.uart_16550.specs.Driver.{Made, Did};
 
 use super::Uart16550;
@@ -68,11 +69,13 @@ impl<B: Backend> Uart16550<B> {
         MCR::from_bits_retain(self.read_register(offsets::MCR))
     }
 
-    /// Reads the line status register (LSR). Returns it joined with the error bits that earlier reads by this driver
-    /// cleared in the chip, and that are saved. Afterwards no error bits of LSR are saved.
+    /// Reads the line status register (LSR). Returns it joined with the error bits that earlier
+    /// reads by this driver cleared in the chip, and that are saved. Afterwards no error bits of
+    /// LSR are saved.
     ///
-    /// Call it to find out whether received bytes had errors or were lost. Does not wait. `has_error` of the result also
-    /// counts bit 7, an error somewhere in the FIFO, which is not saved.
+    /// Call it to find out whether received bytes had errors or were lost. Does not wait.
+    /// `has_error` of the result also counts bit 7, an error somewhere in the FIFO, which is not
+    /// saved.
     ///
     /// # Examples
     ///
@@ -87,8 +90,8 @@ impl<B: Backend> Uart16550<B> {
         lsr
     }
 
-    /// Reads the modem status register (MSR). Returns it joined with the changes that earlier reads by this driver cleared
-    /// in the chip, and that are saved. Afterwards no changes are saved.
+    /// Reads the modem status register (MSR). Returns it joined with the changes that earlier reads
+    /// by this driver cleared in the chip, and that are saved. Afterwards no changes are saved.
     ///
     /// Call it to find out which modem lines changed. Does not wait.
     ///
@@ -120,8 +123,9 @@ impl<B: Backend> Uart16550<B> {
 
     /// Checks whether a remote is present and ready to receive: whether MSR shows DSR and CTS.
     ///
-    /// Does not wait: reads MSR once. The changes that this clears are saved for the next `msr`. Many cables never assert
-    /// DSR or CTS, so sending may work even if this call fails. Call it again after a modem status interrupt.
+    /// Does not wait: reads MSR once. The changes that this clears are saved for the next `msr`.
+    /// Many cables never assert DSR or CTS, so sending may work even if this call fails. Call it
+    /// again after a modem status interrupt.
     ///
     /// # Errors
     ///
@@ -148,12 +152,12 @@ impl<B: Backend> Uart16550<B> {
         Ok(())
     }
 
-    /// Enables these interrupts in addition to those that are enabled: reads IER, adds them, stores the result in the
-    /// configuration, and writes it.
+    /// Enables these interrupts in addition to those that are enabled: reads IER, adds them, stores
+    /// the result in the configuration, and writes it.
     ///
-    /// Bits that the chip does not keep read as clear, so they vanish from `config().interrupts` at the next such call. Not
-    /// every device raises an interrupt if `THR_EMPTY` is enabled while the transmitter is already empty: send the first
-    /// bytes directly, and the rest on interrupts.
+    /// Bits that the chip does not keep read as clear, so they vanish from `config().interrupts` at
+    /// the next such call. Not every device raises an interrupt if `THR_EMPTY` is enabled while the
+    /// transmitter is already empty: send the first bytes directly, and the rest on interrupts.
     ///
     /// # Examples
     ///
@@ -167,8 +171,8 @@ impl<B: Backend> Uart16550<B> {
         self.store_interrupts(enabled);
     }
 
-    /// Disables these interrupts and leaves the others: reads IER, removes them, stores the result in the configuration,
-    /// and writes it.
+    /// Disables these interrupts and leaves the others: reads IER, removes them, stores the result
+    /// in the configuration, and writes it.
     ///
     /// # Examples
     ///
@@ -193,8 +197,8 @@ impl<B: Backend> Uart16550<B> {
 
     /// Reads and returns the divisor latch, low byte first.
     ///
-    /// Sets DLAB in LCR for the two reads, and then writes LCR back. In between offsets 0 and 1 are the latch, so nothing
-    /// else may access the chip: neither data nor IER can be reached.
+    /// Sets DLAB in LCR for the two reads, and then writes LCR back. In between offsets 0 and 1 are
+    /// the latch, so nothing else may access the chip: neither data nor IER can be reached.
     ///
     /// # Examples
     ///
@@ -212,10 +216,12 @@ impl<B: Backend> Uart16550<B> {
         (dll, dlm)
     }
 
-    /// Reads the divisor latch and then IER, ISR, LCR, MCR, LSR, MSR and SPR, and returns them. It is meant for debugging.
+    /// Reads the divisor latch and then IER, ISR, LCR, MCR, LSR, MSR and SPR, and returns them. It
+    /// is meant for debugging.
     ///
-    /// LSR and MSR are returned joined with the saved bits, which stay saved. The read of ISR acknowledges a `THR_EMPTY`
-    /// interrupt, and DLAB is set for a moment, as by `dll_dlm`. Does not wait: makes 12 accesses.
+    /// LSR and MSR are returned joined with the saved bits, which stay saved. The read of ISR
+    /// acknowledges a `THR_EMPTY` interrupt, and DLAB is set for a moment, as by `dll_dlm`. Does
+    /// not wait: makes 12 accesses.
     ///
     /// # Examples
     ///
@@ -225,7 +231,8 @@ impl<B: Backend> Uart16550<B> {
     pub fn config_register_dump(&mut self) -> ConfigRegisterDump
         ensures { Did B.step (Dumps result) self.old self.new }
     {
-        // The result is written field by field, so that no value waits in a register for the others.
+        // The result is written field by field, so that no value waits in a register for the
+        // others.
         let mut dump = ConfigRegisterDump::default();
         let (dll, dlm) = self.dll_dlm();
         dump.dll = dll;

@@ -1,7 +1,8 @@
 //! Sending.
 ghost use Rattle.std.specs.Prelude.{◌≡◌, ◌<◌, ◌≤◌, [], ◌∷◌, length, take, IfErr, IfSome};
 ghost use Rattle.uart_16550.specs.Grammar.{Only, Asks};
-ghost use Rattle.uart_16550.specs.Transmit.{LinesAllow, ReadyToSend, data_writes, burst_size, Sends, WaitsToSend, SendsSome, SendsExact};
+ghost use Rattle.uart_16550.specs.Transmit.{LinesAllow, ReadyToSend, data_writes, burst_size};
+ghost use Rattle.uart_16550.specs.Transmit.{Sends, WaitsToSend, SendsSome, SendsExact};
 ghost use Rattle.uart_16550.specs.Transmit.{WaitsFor, TrySends};
 ghost use Rattle.uart_16550.specs.Expansion.{SendsSingly};
 ghost use Rattle.uart_16550.specs.Driver.{Made, settings};
@@ -25,11 +26,12 @@ impl<B: Backend> Uart16550<B> {
         self.read_msr().contains(MSR::CTS)
     }
 
-    /// Checks whether a byte can be sent now: whether LSR shows `THR_EMPTY` and, if the configuration checks CTS, the
-    /// remote is clear to send.
+    /// Checks whether a byte can be sent now: whether LSR shows `THR_EMPTY` and, if the
+    /// configuration checks CTS, the remote is clear to send.
     ///
-    /// Does not wait: reads LSR once. If the configuration checks CTS and THR is empty, it also reads MCR and, unless that
-    /// shows loopback, MSR. The errors and changes that these reads clear are saved for the next `lsr` and `msr`.
+    /// Does not wait: reads LSR once. If the configuration checks CTS and THR is empty, it also
+    /// reads MCR and, unless that shows loopback, MSR. The errors and changes that these reads
+    /// clear are saved for the next `lsr` and `msr`.
     ///
     /// # Errors
     ///
@@ -72,7 +74,8 @@ impl<B: Backend> Uart16550<B> {
         }
     }
 
-    // Writes one burst from the front to DATA, and returns its length. A whole burst is written from a copy.
+    // Writes one burst from the front to DATA, and returns its length. A whole burst is written
+    // from a copy.
     fn write_burst(&mut self, bytes: &[u8]) -> usize
         requires { 0 < length bytes.now }
         ensures made { Made B.step (Only (data_writes (take result bytes.now))) self.old self.new }
@@ -95,12 +98,13 @@ impl<B: Backend> Uart16550<B> {
         }
     }
 
-    /// Sends bytes from the front of the slice if there is room, and returns how many: up to 16 if the FIFO is on, else
-    /// one; 0 if `ready_to_send` fails.
+    /// Sends bytes from the front of the slice if there is room, and returns how many: up to 16 if
+    /// the FIFO is on, else one; 0 if `ready_to_send` fails.
     ///
-    /// Does not wait: makes one check as `ready_to_send`, and one burst of writes to THR. The chip reports only an empty
-    /// FIFO, not how full it is, so nothing is sent until the last burst has left the FIFO. Call it again with the rest of
-    /// the slice to send more. An empty slice makes no access.
+    /// Does not wait: makes one check as `ready_to_send`, and one burst of writes to THR. The chip
+    /// reports only an empty FIFO, not how full it is, so nothing is sent until the last burst has
+    /// left the FIFO. Call it again with the rest of the slice to send more. An empty slice makes
+    /// no access.
     ///
     /// # Examples
     ///
@@ -127,7 +131,8 @@ impl<B: Backend> Uart16550<B> {
     ///
     /// # Errors
     ///
-    /// `NoCapacity` if the byte was not sent, whatever the cause: also if the remote is not clear to send.
+    /// `NoCapacity` if the byte was not sent, whatever the cause: also if the remote is not clear
+    /// to send.
     ///
     /// # Examples
     ///
@@ -188,7 +193,7 @@ impl<B: Backend> Uart16550<B> {
         Ok(())
     }
 
-    // The same. A whole piece is sent from a copy.
+    // Sends the bytes of one piece: a whole piece is sent from a copy.
     #[inline(always)]
     fn send_piece(&mut self, bytes: &[u8]) -> Result<(), StalledError>
         ensures made { Made B.step (SendsSingly bytes.now result) self.old self.new }
@@ -202,7 +207,7 @@ impl<B: Backend> Uart16550<B> {
         self.send_singly(&copy)
     }
 
-    // The same, piece by piece.
+    // Sends the bytes piece by piece.
     fn send_pieces(&mut self, bytes: &[u8]) -> Result<(), StalledError>
         ensures made { Made B.step (SendsSingly bytes.now result) self.old self.new }
         ensures done { IfErr result (λ e. e.done < length bytes.now) }
@@ -235,16 +240,18 @@ impl<B: Backend> Uart16550<B> {
         Ok(())
     }
 
-    /// Sends all of the bytes, and waits for room before each burst: of up to 16 bytes if the FIFO is on, else of one.
+    /// Sends all of the bytes, and waits for room before each burst: of up to 16 bytes if the FIFO
+    /// is on, else of one.
     ///
-    /// Each wait makes at most `spin_limit` checks as `ready_to_send`. It returns when the last burst is in THR or the
-    /// FIFO; `flush` of [`embedded_io`](crate::embedded_io) waits until all of it has left the chip. An empty slice makes
-    /// no access.
+    /// Each wait makes at most `spin_limit` checks as `ready_to_send`. It returns when the last
+    /// burst is in THR or the FIFO; `flush` of [`embedded_io`](crate::embedded_io) waits until all
+    /// of it has left the chip. An empty slice makes no access.
     ///
     /// # Errors
     ///
-    /// `StalledError` after `spin_limit` unsuccessful checks in a row: the chip is slower than the limit allows, or CTS is
-    /// checked and the remote is not clear to send. The first `done` bytes were written to the chip.
+    /// `StalledError` after `spin_limit` unsuccessful checks in a row: the chip is slower than the
+    /// limit allows, or CTS is checked and the remote is not clear to send. The first `done` bytes
+    /// were written to the chip.
     ///
     /// # Examples
     ///

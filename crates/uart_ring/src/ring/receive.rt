@@ -30,11 +30,12 @@ impl<B: Backend> Uart16550Ring<B> {
         self.pause_if_full();
     }
 
-    /// Takes received bytes from the front of the receive ring, as many as there are slots, and returns how many. Leaves
-    /// the other slots unchanged.
+    /// Takes received bytes from the front of the receive ring, as many as there are slots, and
+    /// returns how many. Leaves the other slots unchanged.
     ///
-    /// Does not wait. If it takes at least one byte and receiving is paused, it enables `DATA_READY` again and ends the
-    /// pause: one read and one write of IER. Otherwise it makes no access.
+    /// Does not wait. If it takes at least one byte and receiving is paused, it enables
+    /// `DATA_READY` again and ends the pause: one read and one write of IER. Otherwise it makes no
+    /// access.
     ///
     /// # Examples
     ///
@@ -42,8 +43,10 @@ impl<B: Backend> Uart16550Ring<B> {
     /// assert_eq!(rt; ring.take(&mut slots), 2);
     /// ```
     pub fn take(&mut self, slots: &mut [u8]) -> usize
-        ensures did { RingDid B.step (TakesBytes (length slots.old) (take result slots.new)) self.old self.new }
-        ensures count { result ≡ min (length slots.old) (length (ring_fields self.old).receive.items) }
+        ensures did { RingDid B.step (TakesBytes (length slots.old) (take result slots.new))
+            self.old self.new }
+        ensures count { result ≡ min (length slots.old)
+            (length (ring_fields self.old).receive.items) }
         ensures rest { drop result slots.new ≡ drop result slots.old }
     {
         let count = self.receive.read_into(slots);

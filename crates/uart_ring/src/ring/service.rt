@@ -34,23 +34,26 @@ impl<B: Backend> Uart16550Ring<B> {
         }
     }
 
-    /// Serves the interrupts that ISR identifies, until it identifies none or [`MAX_INTERRUPTS`] were served. Returns how
-    /// many.
+    /// Serves the interrupts that ISR identifies, until it identifies none or [`MAX_INTERRUPTS`]
+    /// were served. Returns how many.
     ///
-    /// Call it when the chip raises its interrupt. Does not wait. What it does depends on the interrupt:
+    /// Call it when the chip raises its interrupt. Does not wait. What it does depends on the
+    /// interrupt:
     ///
-    /// - Received data, or a reception timeout: bytes are moved to the receive ring. If that is full then, receiving is
-    ///   paused: `DATA_READY` is disabled, and bytes stay in the chip until a `take` makes room.
-    /// - `THR_EMPTY`: bytes of the transmit ring are sent, up to 16 if the FIFO is on, else one. If bytes are left in the
-    ///   ring, `THR_EMPTY` stays enabled, else it is disabled.
+    /// - Received data, or a reception timeout: bytes are moved to the receive ring. If that is
+    ///   full then, receiving is paused: `DATA_READY` is disabled, and bytes stay in the chip until
+    ///   a `take` makes room.
+    /// - `THR_EMPTY`: bytes of the transmit ring are sent, up to 16 if the FIFO is on, else one. If
+    ///   bytes are left in the ring, `THR_EMPTY` stays enabled, else it is disabled.
     /// - Line status: the errors are noted for `take_line`.
     /// - Modem status: the changes are noted for `take_modem`.
     /// - End of DMA: nothing.
     ///
-    /// If it returns `MAX_INTERRUPTS`, more may be pending. Call it again then if the interrupt controller detects edges.
+    /// If it returns `MAX_INTERRUPTS`, more may be pending. Call it again then if the interrupt
+    /// controller detects edges.
     ///
-    /// With CTS checking no byte is sent while CTS is clear, and no `THR_EMPTY` interrupt is raised when CTS returns. After
-    /// such a change, which `take_modem` reports, call `resume_transmit`.
+    /// With CTS checking no byte is sent while CTS is clear, and no `THR_EMPTY` interrupt is raised
+    /// when CTS returns. After such a change, which `take_modem` reports, call `resume_transmit`.
     ///
     /// # Examples
     ///

@@ -1,4 +1,5 @@
-//! Line errors and changes of the modem lines: noted when their interrupts are served, and taken by the caller.
+//! Line errors and changes of the modem lines: noted when their interrupts are served, and taken by
+//! the caller.
 ghost use Rattle.uart_ring.specs.Ring.{RingDid};
 ghost use Rattle.uart_ring.specs.Status.{NotesLine, NotesModem, TakesLine, TakesModem};
 
@@ -24,8 +25,8 @@ impl<B: Backend> Uart16550Ring<B> {
         self.modem.insert(status.intersection(MSR::CHANGES));
     }
 
-    /// Reads LSR once. Returns it joined with the errors that `service` noted and those that the driver has saved, which
-    /// are then forgotten.
+    /// Reads LSR once. Returns it joined with the errors that `service` noted and those that the
+    /// driver has saved, which are then forgotten.
     ///
     /// # Examples
     ///
@@ -43,8 +44,8 @@ impl<B: Backend> Uart16550Ring<B> {
         line
     }
 
-    /// Reads MSR once. Returns it joined with the changes that `service` noted and those that the driver has saved, which
-    /// are then forgotten.
+    /// Reads MSR once. Returns it joined with the changes that `service` noted and those that the
+    /// driver has saved, which are then forgotten.
     ///
     /// # Examples
     ///

@@ -24,7 +24,8 @@ fn copy_front(ring: &HeapCircularBuffer<u8>, copy: &mut [u8; FIFO_SIZE]) -> usiz
 }
 
 impl<B: Backend> Uart16550Ring<B> {
-    // Sends bytes of the transmit ring if the chip has room. Then enables THR_EMPTY if bytes are left, else disables it.
+    // Sends bytes of the transmit ring if the chip has room. Then enables THR_EMPTY if bytes are
+    // left, else disables it.
     pub(super) fn pump(&mut self)
         ensures { RingDid B.step Pumps self.old self.new }
     {
@@ -39,12 +40,15 @@ impl<B: Backend> Uart16550Ring<B> {
         }
     }
 
-    /// Queues bytes from the front of the slice, as many as the transmit ring has room for, and returns how many.
+    /// Queues bytes from the front of the slice, as many as the transmit ring has room for, and
+    /// returns how many.
     ///
-    /// If it queues any, it sends bytes of the ring if the chip has room: up to 16 if its FIFO is on, else one. Then it
-    /// enables `THR_EMPTY` if bytes are left in the ring, else it disables it. The rest is sent by `service`.
+    /// If it queues any, it sends bytes of the ring if the chip has room: up to 16 if its FIFO is
+    /// on, else one. Then it enables `THR_EMPTY` if bytes are left in the ring, else it disables
+    /// it. The rest is sent by `service`.
     ///
-    /// Does not wait. If it did not queue all bytes, call it again with the rest of the slice after interrupts were served.
+    /// Does not wait. If it did not queue all bytes, call it again with the rest of the slice after
+    /// interrupts were served.
     ///
     /// # Examples
     ///
@@ -65,14 +69,16 @@ impl<B: Backend> Uart16550Ring<B> {
 
     /// Starts sending again if bytes wait in the transmit ring with no interrupt to come.
     ///
-    /// If bytes wait, it sends some of them if the chip has room: up to 16 if its FIFO is on, else one. Then it enables
-    /// `THR_EMPTY` if bytes are left in the ring, else it disables it. The rest is sent by `service`. If none wait, it makes
-    /// no access.
+    /// If bytes wait, it sends some of them if the chip has room: up to 16 if its FIFO is on, else
+    /// one. Then it enables `THR_EMPTY` if bytes are left in the ring, else it disables it. The
+    /// rest is sent by `service`. If none wait, it makes no access.
     ///
     /// Does not wait. Call it
     ///
-    /// - after an `init` through `inner_mut`, which disables `THR_EMPTY` and may acknowledge its interrupt;
-    /// - with CTS checking, when `take_modem` reports that CTS came back. While CTS is clear, it sends nothing.
+    /// - after an `init` through `inner_mut`, which disables `THR_EMPTY` and may acknowledge its
+    ///   interrupt;
+    /// - with CTS checking, when `take_modem` reports that CTS came back. While CTS is clear, it
+    ///   sends nothing.
     ///
     /// # Examples
     ///

@@ -5,11 +5,13 @@ use crate::registers::{FCR, IER, ISR, LCR, LSR, MCR, MSR, PSD};
 use bitflags::{Flag, Flags};
 
 impl IER {
-    /// Received data is available. With FIFOs: as many characters as the trigger level, or a reception timeout.
+    /// Received data is available. With FIFOs: as many characters as the trigger level, or a
+    /// reception timeout.
     pub const DATA_READY: IER = IER(1 << 0);
 
-    /// The transmitter holding register (THR) is empty. Not every device raises an interrupt if this bit is set while the
-    /// transmitter is already empty, so send the first bytes directly, and the rest on interrupts.
+    /// The transmitter holding register (THR) is empty. Not every device raises an interrupt if
+    /// this bit is set while the transmitter is already empty, so send the first bytes directly,
+    /// and the rest on interrupts.
     pub const THR_EMPTY: IER = IER(1 << 1);
 
     /// An overrun, a parity error, a framing error or a break was detected.
@@ -121,8 +123,8 @@ impl ISR {
     /// The first of two bits that are both set while the FIFOs are on.
     pub const FIFOS_ENABLED0: ISR = ISR(1 << 6);
 
-    /// The second of two bits that are both set while the FIFOs are on. A chip that sets this one alone has FIFOs that do
-    /// not work.
+    /// The second of two bits that are both set while the FIFOs are on. A chip that sets this one
+    /// alone has FIFOs that do not work.
     pub const FIFOS_ENABLED1: ISR = ISR(1 << 7);
 
     /// The two bits that are both set while the FIFOs are on.
@@ -397,8 +399,8 @@ impl MCR {
     /// Auxiliary output 2. On a PC it gates the interrupt line, so interrupts need it set.
     pub const OUT_2_INT_ENABLE: MCR = MCR(1 << 3);
 
-    /// Loopback: what is sent returns to the receiver, and the four outputs return as modem inputs. Nothing goes out on the
-    /// line.
+    /// Loopback: what is sent returns to the receiver, and the four outputs return as modem inputs.
+    /// Nothing goes out on the line.
     pub const LOOP_BACK: MCR = MCR(1 << 4);
 
     /// No function on a 16550.
@@ -477,7 +479,8 @@ impl Flags for MCR {
 }
 
 impl LSR {
-    /// A received character is available in the receiver buffer register (RBR) or the receiver FIFO.
+    /// A received character is available in the receiver buffer register (RBR) or the receiver
+    /// FIFO.
     pub const DATA_READY: LSR = LSR(1 << 0);
 
     /// A received character was lost because the receiver was full.
@@ -498,7 +501,8 @@ impl LSR {
     /// The transmitter is idle: THR or the transmitter FIFO, and the shift register, are empty.
     pub const TRANSMITTER_EMPTY: LSR = LSR(1 << 6);
 
-    /// Some character in the receiver FIFO has a parity error, a framing error or a break. Clear without FIFOs.
+    /// Some character in the receiver FIFO has a parity error, a framing error or a break. Clear
+    /// without FIFOs.
     pub const FIFO_DATA_ERROR: LSR = LSR(1 << 7);
 
     /// The errors of the character at the front: parity, framing and break.

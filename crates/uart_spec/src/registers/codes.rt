@@ -1,12 +1,14 @@
 //! The codes of the fields of FCR and LCR.
 ghost use Rattle.std.specs.Prelude.{◌≡◌};
 ghost use Rattle.uart_spec.specs.Bits.{IsOnly};
-ghost use Rattle.uart_spec.specs.Fields.{HasParity, HasTrigger, HasWordLength, parity_code, trigger_code, word_length_code};
+ghost use Rattle.uart_spec.specs.Fields.{HasParity, HasTrigger, HasWordLength};
+ghost use Rattle.uart_spec.specs.Fields.{parity_code, trigger_code, word_length_code};
 
 use crate::registers::{FifoTriggerLevel, Parity, WordLength};
 
 impl FifoTriggerLevel {
-    /// Returns the trigger level with this code, which is in the low two bits. Higher bits are ignored.
+    /// Returns the trigger level with this code, which is in the low two bits. Higher bits are
+    /// ignored.
     pub fn from_raw_bits(bits: u8) -> Self
         ensures { IsOnly (HasTrigger 0 bits) result }
     {
@@ -33,7 +35,8 @@ impl FifoTriggerLevel {
 }
 
 impl WordLength {
-    /// Returns the word length with this code, which is in the low two bits. Higher bits are ignored.
+    /// Returns the word length with this code, which is in the low two bits. Higher bits are
+    /// ignored.
     pub fn from_raw_bits(bits: u8) -> Self
         ensures { IsOnly (HasWordLength 0 bits) result }
     {
@@ -60,8 +63,8 @@ impl WordLength {
 }
 
 impl Parity {
-    /// Returns the parity with this code, which is in the low three bits. Higher bits are ignored, and each code whose
-    /// lowest bit is clear is `Disabled`.
+    /// Returns the parity with this code, which is in the low three bits. Higher bits are ignored,
+    /// and each code whose lowest bit is clear is `Disabled`.
     pub fn from_raw_bits(bits: u8) -> Self
         ensures { IsOnly (HasParity 0 bits) result }
     {

@@ -19,7 +19,8 @@ pub enum WordLength {
 }
 
 impl WordLength {
-    /// Returns the word length with this number of data bits. A number outside of 5 to 8 gives `EightBits`.
+    /// Returns the word length with this number of data bits. A number outside of 5 to 8 gives
+    /// `EightBits`.
     pub fn from_integer(bits: u8) -> Self
         ensures known { (length : WordLength) → word_length_bits length ≡ bits → result ≡ length }
         ensures unknown { (bits < 5) ⊎ (8 < bits) → result ≡ EightBits }

@@ -6,7 +6,8 @@ ghost use Rattle.uart_spec.specs.Fields.{Identifies};
 use crate::registers::InterruptType;
 use bitflags::Flags;
 
-/// Interrupt status register (ISR), offset 2, read only. Also called interrupt identification register (IIR).
+/// Interrupt status register (ISR), offset 2, read only. Also called interrupt identification
+/// register (IIR).
 ///
 /// A read that identifies a `THR_EMPTY` interrupt acknowledges it.
 #[derive(Clone, Copy, Debug, PartialEq, Eq, PartialOrd, Ord, Hash, Default)]

@@ -6,7 +6,8 @@ ghost use Rattle.uart_spec.specs.Fields.{HasParity, HasWordLength, parity_code, 
 
 use crate::registers::{Parity, WordLength};
 
-/// Line control register (LCR), offset 3: the format of a character on the line, and the divisor latch access bit.
+/// Line control register (LCR), offset 3: the format of a character on the line, and the divisor
+/// latch access bit.
 #[derive(Clone, Copy, Debug, PartialEq, Eq, PartialOrd, Ord, Hash, Default)]
 pub struct LCR(pub(super) u8);
 

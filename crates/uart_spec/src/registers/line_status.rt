@@ -2,13 +2,14 @@
 ghost use Rattle.std.specs.Prelude.{◌≡◌};
 ghost use Rattle.uart_spec.specs.Bits.{has_any};
 
-/// Line status register (LSR), offset 5: what the receiver and the transmitter can do. A read clears the error bits.
+/// Line status register (LSR), offset 5: what the receiver and the transmitter can do. A read
+/// clears the error bits.
 #[derive(Clone, Copy, Debug, PartialEq, Eq, PartialOrd, Ord, Hash, Default)]
 pub struct LSR(pub(super) u8);
 
 impl LSR {
-    /// Returns whether an error is reported: an overrun, an error of the character at the front, or one of any character in
-    /// the receiver FIFO.
+    /// Returns whether an error is reported: an overrun, an error of the character at the front, or
+    /// one of any character in the receiver FIFO.
     pub fn has_error(self) -> bool
         ensures { result ≡ has_any self.0 LSR.ERRORS.0 }
     {

@@ -1,4 +1,5 @@
-//! The offset of each register from the base of the device, in registers. Some registers share an offset.
+//! The offset of each register from the base of the device, in registers. Some registers share an
+//! offset.
 
 /// Data (RBR and THR), while DLAB is clear: the receiver on reads, the transmitter on writes.
 pub const DATA: usize = 0;

@@ -2,10 +2,10 @@
 use crate::runtime::{AllocGlobal, HostRuntime, assert, assert_eq, assert_ne, format};
 // A backend that plays back what reads returned, and keeps the accesses that are made.
 //
-// The accesses of a call are determined by the driver's fields and by what its reads return. So a driver over a
-// `Replay` is a function from these to the one list of accesses that the call may make: over any other backend, a call
-// with the same fields whose reads return the same bytes makes the same accesses
-// ([`replays_repeat_calls`](crate::libraries::uart_16550::laws::replays_repeat_calls)).
+// The accesses of a call are determined by the driver's fields and by what its reads return. So a
+// driver over a `Replay` is a function from these to the one list of accesses that the call may
+// make: over any other backend, a call with the same fields whose reads return the same bytes
+// makes the same accesses ([`replays_repeat_calls`](crate::libraries::uart_16550::laws::replays_repeat_calls)).
 
 use crate::libraries::uart_16550::backend::Backend;
 use crate::libraries::arrayvec::ArrayVec;
@@ -29,8 +29,8 @@ impl Default for Entry {
     }
 }
 
-// A backend whose reads return the bytes of a list in turn, and then 0, whatever the register. It keeps the accesses until
-// there is no more room.
+// A backend whose reads return the bytes of a list in turn, and then 0, whatever the register. It
+// keeps the accesses until there is no more room.
 pub struct Replay<'a> {
     answers: &'a [u8],
     accesses: ArrayVec<Entry, REPLAY_ROOM>,
@@ -95,6 +95,7 @@ impl Backend for Replay<'_> {
     }
 }
 
-// If a replay kept all of its accesses, it shows those that led to it, and its reads returned its bytes in turn.
+// If a replay kept all of its accesses, it shows those that led to it, and its reads returned its
+// bytes in turn.
 //
 // This is a law that callers can cite. The function does nothing.

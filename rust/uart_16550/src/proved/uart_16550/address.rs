@@ -6,15 +6,16 @@ use ::core::num::NonZeroUsize;
 use crate::proved::uart_spec::{Config, InvalidAddressError};
 
 impl<P: PortAccess> Uart16550<PioBackend<P>> {
-    /// Returns a driver for the device whose registers are at eight consecutive I/O ports, from `base_port` on.
+    /// Returns a driver for the device whose registers are at eight consecutive I/O ports, from
+    /// `base_port` on.
     ///
-    /// Makes no access: call `init` before any other call. The configuration is `Config::DEFAULT` until then. Port 0 is
-    /// accepted.
+    /// Makes no access: call `init` before any other call. The configuration is `Config::DEFAULT`
+    /// until then. Port 0 is accepted.
     ///
     /// # Errors
     ///
-    /// `InvalidBaseAddress`, with the base port, if the last register would be beyond port 65535. The access object is
-    /// dropped then.
+    /// `InvalidBaseAddress`, with the base port, if the last register would be beyond port 65535.
+    /// The access object is dropped then.
     ///
     /// # Examples
     ///
@@ -33,15 +34,17 @@ impl<P: PortAccess> Uart16550<PioBackend<P>> {
 }
 
 impl<M: ByteAccess> Uart16550<MmioBackend<M>> {
-    /// Returns a driver for the device whose registers are in memory, from `base_address` on. The registers are `stride`
-    /// bytes apart, and each is one byte wide.
+    /// Returns a driver for the device whose registers are in memory, from `base_address` on. The
+    /// registers are `stride` bytes apart, and each is one byte wide.
     ///
-    /// Makes no access: call `init` before any other call. The configuration is `Config::DEFAULT` until then.
+    /// Makes no access: call `init` before any other call. The configuration is `Config::DEFAULT`
+    /// until then.
     ///
     /// # Errors
     ///
     /// - `InvalidStride`, with the stride, if it is zero or not a power of two.
-    /// - Otherwise `InvalidBaseAddress`, with the base address, if the last register would be beyond the last address.
+    /// - Otherwise `InvalidBaseAddress`, with the base address, if the last register would be
+    ///   beyond the last address.
     ///
     /// The access object is dropped then.
     ///

@@ -14,25 +14,29 @@ use ::core::num::NonZeroU64;
 use crate::proved::uart_spec::Config;
 use crate::proved::uart_spec::registers::{LSR, MSR, offsets};
 
-/// The spin limit of a new driver: how many unsuccessful polls in a row a wait makes before it returns an error.
+/// The spin limit of a new driver: how many unsuccessful polls in a row a wait makes before it
+/// returns an error.
 pub const DEFAULT_SPIN_LIMIT: u64 = 1_000_000;
 
-// Slices are sent and received in pieces of this size, each in a copy. No access can change the copy, so the compiler may
-// keep a backend's fields in registers during the loop. It cannot assume that of the slice itself.
+// Slices are sent and received in pieces of this size, each in a copy. No access can change the
+// copy, so the compiler may keep a backend's fields in registers during the loop. It cannot assume
+// that of the slice itself.
 const PIECE_SIZE: usize = 128;
 
 /// A driver for one serial chip of the 16550 family, over any backend.
 ///
-/// Construct it with `new_port`, `new_mmio` or `new_with_backend`, and call `init` before any other call. `test_loopback`
-/// then tests whether the chip works, and `check_connected` whether a remote is ready.
+/// Construct it with `new_port`, `new_mmio` or `new_with_backend`, and call `init` before any other
+/// call. `test_loopback` then tests whether the chip works, and `check_connected` whether a remote
+/// is ready.
 ///
-/// No call blocks forever. `init`, `test_loopback`, `send_bytes_exact`, `receive_bytes_exact`, and the calls `read`,
-/// `write` and `flush` of the traits in [`embedded_io`](crate::embedded_io) poll LSR, and return an error after
-/// `spin_limit` unsuccessful polls in a row. The other calls do not wait.
+/// No call blocks forever. `init`, `test_loopback`, `send_bytes_exact`, `receive_bytes_exact`, and
+/// the calls `read`, `write` and `flush` of the traits in [`embedded_io`](crate::embedded_io) poll
+/// LSR, and return an error after `spin_limit` unsuccessful polls in a row. The other calls do not
+/// wait.
 ///
-/// A read of LSR clears its error bits in the chip, and a read of MSR its change bits. The driver saves those that its own
-/// reads clear, and the next `lsr` or `msr` returns them. So a poll loses no error and no change. `init` and the loopback
-/// test discard some.
+/// A read of LSR clears its error bits in the chip, and a read of MSR its change bits. The driver
+/// saves those that its own reads clear, and the next `lsr` or `msr` returns them. So a poll loses
+/// no error and no change. `init` and the loopback test discard some.
 ///
 /// # Examples
 ///
@@ -58,9 +62,9 @@ pub struct Uart16550<B> {
 impl<B: Backend> Uart16550<B> {
     /// Returns a driver over this backend.
     ///
-    /// Makes no access: call `init` before any other call. Until then the configuration is `Config::DEFAULT`, no status
-    /// bits are saved, and the FIFO is taken to be on. So a send before `init` may write 16 bytes into a chip without a
-    /// FIFO, which keeps one of them.
+    /// Makes no access: call `init` before any other call. Until then the configuration is
+    /// `Config::DEFAULT`, no status bits are saved, and the FIFO is taken to be on. So a send
+    /// before `init` may write 16 bytes into a chip without a FIFO, which keeps one of them.
     ///
     /// # Examples
     ///
@@ -108,8 +112,9 @@ impl<B: Backend> Uart16550<B> {
 
     /// Returns the backend, for raw accesses by the caller. Makes no access itself.
     ///
-    /// Raw accesses bypass the driver: status bits that they clear are not saved, and the driver does not notice what they
-    /// change. After raw accesses that changed the setup of the chip, call `init` again with a configuration that matches.
+    /// Raw accesses bypass the driver: status bits that they clear are not saved, and the driver
+    /// does not notice what they change. After raw accesses that changed the setup of the chip,
+    /// call `init` again with a configuration that matches.
     ///
     /// # Examples
     ///
@@ -124,11 +129,11 @@ impl<B: Backend> Uart16550<B> {
         &mut self.backend
     }
 
-    /// Returns the configuration of the last `init`, with the interrupts as they were enabled and disabled since. Makes no
-    /// access.
+    /// Returns the configuration of the last `init`, with the interrupts as they were enabled and
+    /// disabled since. Makes no access.
     ///
-    /// If that `init` failed with `InvalidBaudRate`, it is the configuration before it. If it failed with
-    /// `DeviceNotPresent` or `Stalled`, it is the new one.
+    /// If that `init` failed with `InvalidBaudRate`, it is the configuration before it. If it
+    /// failed with `DeviceNotPresent` or `Stalled`, it is the new one.
     ///
     /// # Examples
     ///
@@ -147,11 +152,11 @@ impl<B: Backend> Uart16550<B> {
         &self.config
     }
 
-    /// Returns whether the chip has a FIFO that is on, as the last `init` or `test_loopback` read it from ISR. Makes no
-    /// access.
+    /// Returns whether the chip has a FIFO that is on, as the last `init` or `test_loopback` read
+    /// it from ISR. Makes no access.
     ///
-    /// A driver that was never initialised takes the FIFO to be on. If it is on, a send check is followed by up to 16
-    /// bytes, else by one.
+    /// A driver that was never initialised takes the FIFO to be on. If it is on, a send check is
+    /// followed by up to 16 bytes, else by one.
     ///
     /// # Examples
     ///
@@ -166,7 +171,8 @@ impl<B: Backend> Uart16550<B> {
         self.fifo_enabled
     }
 
-    /// Returns how many unsuccessful polls in a row a wait makes before it returns an error. Makes no access.
+    /// Returns how many unsuccessful polls in a row a wait makes before it returns an error. Makes
+    /// no access.
     ///
     /// # Examples
     ///
@@ -182,13 +188,12 @@ impl<B: Backend> Uart16550<B> {
         self.spin_limit
     }
 
-    /// Sets how many unsuccessful polls in a row a wait makes before it returns an error. Makes no access, and changes
-    /// nothing else.
+    /// Sets how many unsuccessful polls in a row a wait makes before it returns an error. Makes no
+    /// access, and changes nothing else.
     ///
-    /// Choose it by the time of one poll: at 9,600 baud a full FIFO and shift register hold 17 characters of 10 bits, which
-    /// take about 17.7 ms to send.
-    /// A limit near 2^64 is a wait without end in practice: at a microsecond a poll it
-    /// takes more than half a million years.
+    /// Choose it by the time of one poll: at 9,600 baud a full FIFO and shift register hold 17
+    /// characters of 10 bits, which take about 17.7 ms to send. A limit near 2^64 is a wait without
+    /// end in practice: at a microsecond a poll it takes more than half a million years.
     ///
     /// # Examples
     ///

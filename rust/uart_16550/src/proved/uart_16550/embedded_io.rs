@@ -1,7 +1,8 @@
 //! Traits for byte readers and writers, and their implementations for the driver.
 //!
-//! In Rattle generic code relies on the contracts of these traits. A reader or a writer defines a relation between its
-//! state before a call, the bytes of the call, its result, and its state after; each call is in this relation.
+//! In Rattle generic code relies on the contracts of these traits. A reader or a writer defines a
+//! relation between its state before a call, the bytes of the call, its result, and its state
+//! after; each call is in this relation.
 
 use crate::proved::uart_16550::backend::Backend;
 use crate::proved::uart_16550::driver::Uart16550;
@@ -16,8 +17,8 @@ pub trait ErrorType {
 
 /// A reader of bytes.
 pub trait Read: ErrorType {
-    /// Reads at least one byte into the slots, waits for it if necessary, and returns how many were read: 0 only if there
-    /// are no slots.
+    /// Reads at least one byte into the slots, waits for it if necessary, and returns how many were
+    /// read: 0 only if there are no slots.
     ///
     /// Slots beyond this number are unchanged. If the call fails, all slots are unchanged.
     fn read(&mut self, buf: &mut [u8]) -> Result<usize, Self::Error>;
@@ -25,8 +26,8 @@ pub trait Read: ErrorType {
 
 /// A writer of bytes.
 pub trait Write: ErrorType {
-    /// Writes at least one byte from the front, waits for room if necessary, and returns how many were written: 0 only if
-    /// there are no bytes.
+    /// Writes at least one byte from the front, waits for room if necessary, and returns how many
+    /// were written: 0 only if there are no bytes.
     fn write(&mut self, buf: &[u8]) -> Result<usize, Self::Error>;
 
     /// Waits until everything that was written has been sent.
@@ -50,7 +51,8 @@ impl<B: Backend> ErrorType for Uart16550<B> {
 }
 
 impl<B: Backend> Read for Uart16550<B> {
-    /// Waits for a byte, at most `spin_limit` polls of LSR, and then receives as `receive_bytes` does.
+    /// Waits for a byte, at most `spin_limit` polls of LSR, and then receives as `receive_bytes`
+    /// does.
     ///
     /// # Errors
     ///
@@ -77,8 +79,8 @@ impl<B: Backend> Read for Uart16550<B> {
 }
 
 impl<B: Backend> Write for Uart16550<B> {
-    /// Waits for room, at most `spin_limit` checks as `ready_to_send`, and then sends one burst: up to 16 bytes if the FIFO
-    /// is on, else one.
+    /// Waits for room, at most `spin_limit` checks as `ready_to_send`, and then sends one burst: up
+    /// to 16 bytes if the FIFO is on, else one.
     ///
     /// # Errors
     ///
@@ -106,8 +108,8 @@ impl<B: Backend> Write for Uart16550<B> {
         }
     }
 
-    /// Waits until LSR shows `TRANSMITTER_EMPTY`, at most `spin_limit` polls: THR, or the transmitter FIFO, and the shift
-    /// register are empty then.
+    /// Waits until LSR shows `TRANSMITTER_EMPTY`, at most `spin_limit` polls: THR, or the
+    /// transmitter FIFO, and the shift register are empty then.
     ///
     /// # Errors
     ///

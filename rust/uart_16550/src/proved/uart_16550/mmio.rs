@@ -7,7 +7,8 @@ use crate::proved::uart_spec::registers::offsets;
 
 /// A device whose eight registers are in memory, at equal distances: the stride.
 ///
-/// An access to a register is one access to the byte at `base + offset * stride`, and to no other byte.
+/// An access to a register is one access to the byte at `base + offset * stride`, and to no other
+/// byte.
 #[derive(Clone, Debug, PartialEq, Eq, PartialOrd, Hash)]
 pub struct MmioBackend<M> {
     base: NonZeroUsize,
@@ -16,8 +17,8 @@ pub struct MmioBackend<M> {
 }
 
 impl<M: ByteAccess> MmioBackend<M> {
-    // Returns the backend from this address on with this stride, unless the stride is not a power of two or the last
-    // register would be beyond the last address.
+    // Returns the backend from this address on with this stride, unless the stride is not a power
+    // of two or the last register would be beyond the last address.
     pub(crate) fn new(
         base: NonZeroUsize,
         stride: u8,
@@ -52,16 +53,16 @@ impl<M: ByteAccess> MmioBackend<M> {
         &self.access
     }
 
-    /// Returns the access object, for what it can do besides the accesses, such as reporting a fault. Makes no access
-    /// itself.
+    /// Returns the access object, for what it can do besides the accesses, such as reporting a
+    /// fault. Makes no access itself.
     ///
-    /// Accesses by the caller bypass the driver: status bits that they clear are not saved, and the driver does not notice
-    /// what they change.
+    /// Accesses by the caller bypass the driver: status bits that they clear are not saved, and the
+    /// driver does not notice what they change.
     pub fn access_mut(&mut self) -> &mut M {
         &mut self.access
     }
 
-    // The address of a register.
+    // Returns the address of a register.
     fn address(&self, register_offset: u8) -> usize {
         assert!(register_offset < 8, "no register has this offset");
         self.base.get() + register_offset as usize * self.stride.get() as usize

@@ -14,7 +14,8 @@ pub struct PioBackend<P> {
 }
 
 impl<P: PortAccess> PioBackend<P> {
-    // Returns the backend from this port on, unless the last register would be beyond the last port.
+    // Returns the backend from this port on, unless the last register would be beyond the last
+    // port.
     pub(crate) fn new(base: u16, access: P) -> Result<Self, InvalidAddressError> {
         if base.checked_add(offsets::SPR as u16).is_none() {
             return Err(InvalidAddressError::InvalidBaseAddress(base as usize));
@@ -32,16 +33,16 @@ impl<P: PortAccess> PioBackend<P> {
         &self.access
     }
 
-    /// Returns the access object, for what it can do besides the accesses, such as reporting a fault. Makes no access
-    /// itself.
+    /// Returns the access object, for what it can do besides the accesses, such as reporting a
+    /// fault. Makes no access itself.
     ///
-    /// Accesses by the caller bypass the driver: status bits that they clear are not saved, and the driver does not notice
-    /// what they change.
+    /// Accesses by the caller bypass the driver: status bits that they clear are not saved, and the
+    /// driver does not notice what they change.
     pub fn access_mut(&mut self) -> &mut P {
         &mut self.access
     }
 
-    // The port of a register.
+    // Returns the port of a register.
     fn port(&self, register_offset: u8) -> u16 {
         assert!(register_offset < 8, "no register has this offset");
         self.base + register_offset as u16

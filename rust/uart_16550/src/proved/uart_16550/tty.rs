@@ -8,8 +8,9 @@ use crate::proved::uart_spec::{Config, StalledError, Uart16550TtyError};
 
 /// A driver that sends text as terminals expect it.
 ///
-/// Backspace and delete are sent as backspace, space, backspace, and a line feed as carriage return, line feed. All other
-/// bytes are sent unchanged, also a carriage return. Bytes are expanded, not characters.
+/// Backspace and delete are sent as backspace, space, backspace, and a line feed as carriage
+/// return, line feed. All other bytes are sent unchanged, also a carriage return. Bytes are
+/// expanded, not characters.
 ///
 /// # Examples
 ///
@@ -53,10 +54,12 @@ fn expansion_of(byte: u8) -> Expansion {
 }
 
 impl<B: Backend> Uart16550Tty<B> {
-    /// Returns a terminal over this backend: constructs a driver, and calls its `init` with this configuration, which must
-    /// be computable (`Config::is_computable`), and then its `test_loopback`.
+    /// Returns a terminal over this backend: constructs a driver, and calls its `init` with this
+    /// configuration, which must be computable (`Config::is_computable`), and then its
+    /// `test_loopback`.
     ///
-    /// Waits as these two calls do, with the default spin limit. Use `from_inner` for a device without loopback.
+    /// Waits as these two calls do, with the default spin limit. Use `from_inner` for a device
+    /// without loopback.
     ///
     /// # Errors
     ///
@@ -95,13 +98,13 @@ impl<B: Backend> Uart16550Tty<B> {
 }
 
 impl<P: PortAccess> Uart16550Tty<PioBackend<P>> {
-    /// Returns a terminal for the device whose registers are at eight consecutive I/O ports, from `base_port` on. Sets it
-    /// up as `new_with_backend` does.
+    /// Returns a terminal for the device whose registers are at eight consecutive I/O ports, from
+    /// `base_port` on. Sets it up as `new_with_backend` does.
     ///
     /// # Errors
     ///
-    /// `AddressError` if `Uart16550::new_port` failed. No access was made then. Otherwise those of `new_with_backend`. The
-    /// access object is dropped.
+    /// `AddressError` if `Uart16550::new_port` failed. No access was made then. Otherwise those of
+    /// `new_with_backend`. The access object is dropped.
     ///
     /// # Panics
     ///
@@ -125,13 +128,13 @@ impl<P: PortAccess> Uart16550Tty<PioBackend<P>> {
 }
 
 impl<M: ByteAccess> Uart16550Tty<MmioBackend<M>> {
-    /// Returns a terminal for the device whose registers are in memory, from `base_address` on and `stride` bytes apart.
-    /// Sets it up as `new_with_backend` does.
+    /// Returns a terminal for the device whose registers are in memory, from `base_address` on and
+    /// `stride` bytes apart. Sets it up as `new_with_backend` does.
     ///
     /// # Errors
     ///
-    /// `AddressError` if `Uart16550::new_mmio` failed. No access was made then. Otherwise those of `new_with_backend`. The
-    /// access object is dropped.
+    /// `AddressError` if `Uart16550::new_mmio` failed. No access was made then. Otherwise those of
+    /// `new_with_backend`. The access object is dropped.
     ///
     /// # Panics
     ///
@@ -192,8 +195,8 @@ impl<M: ByteAccess> Uart16550Tty<MmioBackend<M>> {
 impl<B: Backend> Uart16550Tty<B> {
     /// Returns a terminal over a driver that is already initialised. Makes no access.
     ///
-    /// This is the way for a device without loopback, for a driver with its own spin limit, and after an `init` without a
-    /// test.
+    /// This is the way for a device without loopback, for a driver with its own spin limit, and
+    /// after an `init` without a test.
     ///
     /// # Examples
     ///
@@ -224,7 +227,8 @@ impl<B: Backend> Uart16550Tty<B> {
         &self.inner
     }
 
-    /// Returns the driver, for its own calls: to receive, or to read a status. Makes no access itself.
+    /// Returns the driver, for its own calls: to receive, or to read a status. Makes no access
+    /// itself.
     ///
     /// # Examples
     ///
@@ -256,8 +260,8 @@ impl<B: Backend> Uart16550Tty<B> {
         uart
     }
 
-    // Sends the expansion of a byte, and returns its length. Printable bytes have a branch of their own, since most bytes of a
-    // text are printable, and that branch is short.
+    // Sends the expansion of a byte, and returns its length. Printable bytes have a branch of their
+    // own, since most bytes of a text are printable, and that branch is short.
     #[inline(always)]
     fn send_expansion(&mut self, byte: u8) -> Result<usize, StalledError> {
         match byte {
@@ -279,8 +283,8 @@ impl<B: Backend> Uart16550Tty<B> {
     ///
     /// # Errors
     ///
-    /// `StalledError` after `spin_limit` unsuccessful polls in a row. `done` is the number of bytes of the expansion that
-    /// were sent before that, or `usize::MAX` if there were more.
+    /// `StalledError` after `spin_limit` unsuccessful polls in a row. `done` is the number of bytes
+    /// of the expansion that were sent before that, or `usize::MAX` if there were more.
     ///
     /// # Examples
     ///

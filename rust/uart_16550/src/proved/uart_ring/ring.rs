@@ -42,9 +42,10 @@ impl ::core::error::Error for RingError {}
 
 /// A driver with a ring for bytes that are to be sent, and a ring for received bytes.
 ///
-/// Initialise the driver through `inner_mut`, with `DATA_READY`, `RECEIVER_LINE_STATUS` and `MODEM_STATUS` enabled and
-/// without `THR_EMPTY`, which the rings enable as long as there are bytes to send. Call `service` in the interrupt handler.
-/// Mask the interrupt during all other calls, since a call of the handler must not run in between.
+/// Initialise the driver through `inner_mut`, with `DATA_READY`, `RECEIVER_LINE_STATUS` and
+/// `MODEM_STATUS` enabled and without `THR_EMPTY`, which the rings enable as long as there are
+/// bytes to send. Call `service` in the interrupt handler. Mask the interrupt during all other
+/// calls, since a call of the handler must not run in between.
 ///
 /// No call waits, so none returns a stall.
 ///
@@ -78,7 +79,8 @@ fn is_capacity(capacity: usize) -> bool {
 }
 
 impl<B: Backend> Uart16550Ring<B> {
-    /// Returns empty rings over this driver, for `tx_capacity` bytes that are to be sent and `rx_capacity` received bytes.
+    /// Returns empty rings over this driver, for `tx_capacity` bytes that are to be sent and
+    /// `rx_capacity` received bytes.
     ///
     /// Makes no access. Allocates all memory of the rings; no later call allocates.
     ///
@@ -128,8 +130,8 @@ impl<B: Backend> Uart16550Ring<B> {
         })
     }
 
-    /// Returns the number of bytes in the transmit ring: those that are queued and not yet written to the chip. Makes no
-    /// access.
+    /// Returns the number of bytes in the transmit ring: those that are queued and not yet written
+    /// to the chip. Makes no access.
     ///
     /// # Examples
     ///
@@ -145,7 +147,8 @@ impl<B: Backend> Uart16550Ring<B> {
         self.transmit.len()
     }
 
-    /// Returns the number of bytes in the receive ring: those that were received and not yet taken. Makes no access.
+    /// Returns the number of bytes in the receive ring: those that were received and not yet taken.
+    /// Makes no access.
     ///
     /// # Examples
     ///
@@ -163,8 +166,9 @@ impl<B: Backend> Uart16550Ring<B> {
 
     /// Returns whether receiving is paused because the receive ring was full. Makes no access.
     ///
-    /// During a pause `DATA_READY` is disabled and received bytes stay in the chip, which loses some if there are more than
-    /// it has room for. The next `take` of at least one byte ends the pause.
+    /// During a pause `DATA_READY` is disabled and received bytes stay in the chip, which loses
+    /// some if there are more than it has room for. The next `take` of at least one byte ends the
+    /// pause.
     ///
     /// # Examples
     ///
@@ -198,12 +202,12 @@ impl<B: Backend> Uart16550Ring<B> {
         &self.uart
     }
 
-    /// Returns the driver, for calls that the rings do not have, such as `init` and `enable_interrupts`. Makes no access
-    /// itself.
+    /// Returns the driver, for calls that the rings do not have, such as `init` and
+    /// `enable_interrupts`. Makes no access itself.
     ///
-    /// Bytes that such a call sends or receives bypass the rings. The rings change two bits of IER: `THR_EMPTY`, and
-    /// `DATA_READY` while receiving is paused. Do not change these two. After an `init` while bytes wait in the transmit
-    /// ring, call `resume_transmit`.
+    /// Bytes that such a call sends or receives bypass the rings. The rings change two bits of IER:
+    /// `THR_EMPTY`, and `DATA_READY` while receiving is paused. Do not change these two. After an
+    /// `init` while bytes wait in the transmit ring, call `resume_transmit`.
     ///
     /// # Examples
     ///
@@ -228,7 +232,8 @@ impl<B: Backend> Uart16550Ring<B> {
         &mut self.uart
     }
 
-    /// Returns the driver. Drops the rings with their bytes, and what was noted of LSR and MSR. Makes no access.
+    /// Returns the driver. Drops the rings with their bytes, and what was noted of LSR and MSR.
+    /// Makes no access.
     ///
     /// # Examples
     ///

@@ -89,8 +89,8 @@ impl ::core::fmt::Display for InvalidDivisorError {
 /// Why a device cannot be at an address. The stride is checked first.
 #[derive(Clone, Debug, PartialEq, Eq, Hash)]
 pub enum InvalidAddressError {
-    /// The last of the eight registers would be beyond the last address, or beyond port 65535. Holds the base address, or
-    /// the base port.
+    /// The last of the eight registers would be beyond the last address, or beyond port 65535.
+    /// Holds the base address, or the base port.
     InvalidBaseAddress(usize),
     /// The distance between two registers is zero, or not a power of two. Holds the stride.
     InvalidStride(u8),
@@ -118,13 +118,13 @@ impl ::core::fmt::Display for InvalidAddressError {
 /// Why an initialisation failed.
 #[derive(Clone, Debug, PartialEq, Eq, Hash)]
 pub enum InitError {
-    /// The scratch register did not keep what was written to it, so no device is at the address. The scratch register was
-    /// written back, and the driver has the new configuration.
+    /// The scratch register did not keep what was written to it, so no device is at the address.
+    /// The scratch register was written back, and the driver has the new configuration.
     DeviceNotPresent,
     /// There is no divisor for the baud rate. No access was made, and nothing changed.
     InvalidBaudRate(InvalidDivisorError),
-    /// The transmitter did not become empty within the spin limit. The device is set up, except that all of its interrupts
-    /// are disabled.
+    /// The transmitter did not become empty within the spin limit. The device is set up, except
+    /// that all of its interrupts are disabled.
     Stalled,
 }
 
@@ -161,7 +161,8 @@ impl ::core::fmt::Display for ByteReceiveError {
 pub enum ByteSendError {
     /// The transmitter holding register, or the transmitter FIFO, is not empty.
     NoCapacity,
-    /// The remote does not assert clear to send (CTS), and the configuration checks CTS before sending.
+    /// The remote does not assert clear to send (CTS), and the configuration checks CTS before
+    /// sending.
     RemoteNotClearToSend,
 }
 
@@ -187,7 +188,8 @@ impl ::core::fmt::Display for ByteSendError {
 
 /// Why the remote seems not to be connected, or not to be ready.
 ///
-/// Many cables never assert DSR, CD or CTS, so sending may still work. Check again after a modem status interrupt.
+/// Many cables never assert DSR, CD or CTS, so sending may still work. Check again after a modem
+/// status interrupt.
 #[derive(Clone, Debug, PartialEq, Eq, Hash)]
 pub enum RemoteReadyToReceiveError {
     /// Data set ready (DSR) is clear.
@@ -226,8 +228,8 @@ impl ::core::fmt::Display for RemoteReadyToReceiveError {
 /// Why a loopback test failed.
 #[derive(Clone, Debug, PartialEq, Eq, Hash)]
 pub enum LoopbackError {
-    /// The device did not accept the single test byte, although its transmitter had been empty. The cause is always
-    /// `NoCapacity`.
+    /// The device did not accept the single test byte, although its transmitter had been empty. The
+    /// cause is always `NoCapacity`.
     SendError(ByteSendError),
     /// The device returned a byte other than the test byte.
     UnexpectedLoopbackByte {
@@ -243,8 +245,8 @@ pub enum LoopbackError {
         /// The bytes that were received.
         actual: [u8; 16],
     },
-    /// The device made no progress within the spin limit. A test byte may still be in its transmitter, and is then sent
-    /// after the test.
+    /// The device made no progress within the spin limit. A test byte may still be in its
+    /// transmitter, and is then sent after the test.
     Stalled,
 }
 
@@ -285,8 +287,8 @@ impl ::core::fmt::Display for LoopbackError {
 
 /// A wait ended at the spin limit: that many polls in a row were unsuccessful.
 ///
-/// This is not always a fault. The remote may be slow, or may have nothing to send. At 9,600 baud a full FIFO and shift
-/// register take about 17.7 ms to send.
+/// This is not always a fault. The remote may be slow, or may have nothing to send. At 9,600 baud a
+/// full FIFO and shift register take about 17.7 ms to send.
 #[derive(Clone, Debug, PartialEq, Eq, Hash)]
 pub struct StalledError {
     /// The number of bytes that the call had sent or received before the wait.
@@ -311,8 +313,8 @@ pub enum Uart16550TtyError {
     AddressError(InvalidAddressError),
     /// `Uart16550::init` failed.
     InitError(InitError),
-    /// `Uart16550::test_loopback` failed. The device stays initialised, with the interrupts of its configuration enabled.
-    /// For a device without loopback use `Uart16550Tty::from_inner`.
+    /// `Uart16550::test_loopback` failed. The device stays initialised, with the interrupts of its
+    /// configuration enabled. For a device without loopback use `Uart16550Tty::from_inner`.
     TestError(LoopbackError),
 }
 

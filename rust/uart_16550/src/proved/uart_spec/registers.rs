@@ -31,8 +31,8 @@ pub use modem_control::MCR;
 pub use modem_status::MSR;
 pub use prescaler_division::PSD;
 
-/// Data register, offset 0 while DLAB is clear: a read takes a byte from the receiver (RBR), a write gives one to the
-/// transmitter (THR).
+/// Data register, offset 0 while DLAB is clear: a read takes a byte from the receiver (RBR), a
+/// write gives one to the transmitter (THR).
 pub type DATA = u8;
 
 /// Scratch register (SPR), offset 7, which the chip keeps and does not use.

@@ -12,8 +12,8 @@ pub const CALL_BYTES: usize = 64;
 
 // A call of the driver as data, in a script or in a program.
 //
-// Each case is the driver's call of that name, except for `Next`, which is a call of the device. A count is a number of
-// slots, at most [`CALL_BYTES`].
+// Each case is the driver's call of that name, except for `Next`, which is a call of the device. A
+// count is a number of slots, at most [`CALL_BYTES`].
 #[derive(Debug, PartialEq)]
 pub enum Call {
     // `Device16550::next`: goes on to the next mark of the schedule.
@@ -81,7 +81,8 @@ pub enum Call {
 }
 
 impl Call {
-    // Returns whether the call can be made: a count is at most [`CALL_BYTES`], and a configuration is computable.
+    // Returns whether the call can be made: a count is at most [`CALL_BYTES`], and a configuration
+    // is computable.
     pub fn is_runnable(&self) -> bool
 
     {

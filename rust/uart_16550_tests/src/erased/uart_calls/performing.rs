@@ -15,11 +15,11 @@ use crate::libraries::uart_spec::{
 
 // Makes one call of the driver, over any backend, and returns its answer. Allocates no memory.
 //
-// Returns [`Answer::Done`] if the call succeeded and returned nothing, and else what it returned or received, or why it
-// failed. Waits as the driver's call does.
+// Returns [`Answer::Done`] if the call succeeded and returned nothing, and else what it returned
+// or received, or why it failed. Waits as the driver's call does.
 //
-// For [`Call::Next`] this makes no access and returns `Done`, since a real chip has no schedule. If the device has one,
-// the caller must make that call itself.
+// For [`Call::Next`] this makes no access and returns `Done`, since a real chip has no schedule.
+// If the device has one, the caller must make that call itself.
 //
 // # Examples
 //
@@ -76,8 +76,8 @@ pub fn perform<B: Backend>(uart: &mut Uart16550Tty<B>, call: &Call) -> Answer
     }
 }
 
-// Returns a copy of these bytes, for an answer. Copies one by one, because a copy of the whole would call `memcpy`, and the
-// library for C calls nothing.
+// Returns a copy of these bytes, for an answer. Copies one by one, because a copy of the whole
+// would call `memcpy`, and the library for C calls nothing.
 fn copied(bytes: &[u8]) -> ArrayVec<u8, CALL_BYTES>
 
 {

@@ -33,8 +33,8 @@ impl<B: Backend> Uart16550<B> {
 
     /// Receives one byte if one is available: reads LSR, and if it shows `DATA_READY`, RBR.
     ///
-    /// Does not wait. The error bits that the read of LSR clears are saved for the next `lsr`; they belong to the byte that
-    /// is then received, except for an overrun.
+    /// Does not wait. The error bits that the read of LSR clears are saved for the next `lsr`; they
+    /// belong to the byte that is then received, except for an overrun.
     ///
     /// # Errors
     ///
@@ -55,11 +55,12 @@ impl<B: Backend> Uart16550<B> {
         Ok(self.read_register(offsets::DATA))
     }
 
-    /// Receives bytes while some are available and there are free slots. Returns how many, and leaves the slots beyond them
-    /// unchanged.
+    /// Receives bytes while some are available and there are free slots. Returns how many, and
+    /// leaves the slots beyond them unchanged.
     ///
-    /// Does not wait: reads LSR before each byte, and ends when it shows none. Call it again with the rest of the slice to
-    /// receive more. An empty slice makes no access. Error bits are saved for the next `lsr`, and do not end the call.
+    /// Does not wait: reads LSR before each byte, and ends when it shows none. Call it again with
+    /// the rest of the slice to receive more. An empty slice makes no access. Error bits are saved
+    /// for the next `lsr`, and do not end the call.
     ///
     /// # Examples
     ///
@@ -119,7 +120,7 @@ impl<B: Backend> Uart16550<B> {
         Ok(())
     }
 
-    // The same. A whole piece is received into a copy.
+    // Receives into the slots of one piece: a whole piece is received into a copy.
     #[inline(always)]
     fn receive_piece(&mut self, slots: &mut [u8]) -> Result<(), StalledError> {
         if slots.len() != PIECE_SIZE {
@@ -134,13 +135,14 @@ impl<B: Backend> Uart16550<B> {
 
     /// Receives a byte into each slot, and waits for each.
     ///
-    /// Each wait makes at most `spin_limit` polls of LSR. Error bits are saved for the next `lsr`, and do not end the call.
-    /// An empty slice makes no access.
+    /// Each wait makes at most `spin_limit` polls of LSR. Error bits are saved for the next `lsr`,
+    /// and do not end the call. An empty slice makes no access.
     ///
     /// # Errors
     ///
-    /// `StalledError` after `spin_limit` unsuccessful polls in a row: the remote sent nothing for so long. The first `done`
-    /// slots have the bytes that were received, and the other slots are unchanged.
+    /// `StalledError` after `spin_limit` unsuccessful polls in a row: the remote sent nothing for
+    /// so long. The first `done` slots have the bytes that were received, and the other slots are
+    /// unchanged.
     ///
     /// # Examples
     ///

@@ -72,11 +72,13 @@ impl<B: Backend> Uart16550<B> {
         MCR::from_bits_retain(self.read_register(offsets::MCR))
     }
 
-    /// Reads the line status register (LSR). Returns it joined with the error bits that earlier reads by this driver
-    /// cleared in the chip, and that are saved. Afterwards no error bits of LSR are saved.
+    /// Reads the line status register (LSR). Returns it joined with the error bits that earlier
+    /// reads by this driver cleared in the chip, and that are saved. Afterwards no error bits of
+    /// LSR are saved.
     ///
-    /// Call it to find out whether received bytes had errors or were lost. Does not wait. `has_error` of the result also
-    /// counts bit 7, an error somewhere in the FIFO, which is not saved.
+    /// Call it to find out whether received bytes had errors or were lost. Does not wait.
+    /// `has_error` of the result also counts bit 7, an error somewhere in the FIFO, which is not
+    /// saved.
     ///
     /// # Examples
     ///
@@ -93,8 +95,8 @@ impl<B: Backend> Uart16550<B> {
         lsr
     }
 
-    /// Reads the modem status register (MSR). Returns it joined with the changes that earlier reads by this driver cleared
-    /// in the chip, and that are saved. Afterwards no changes are saved.
+    /// Reads the modem status register (MSR). Returns it joined with the changes that earlier reads
+    /// by this driver cleared in the chip, and that are saved. Afterwards no changes are saved.
     ///
     /// Call it to find out which modem lines changed. Does not wait.
     ///
@@ -130,8 +132,9 @@ impl<B: Backend> Uart16550<B> {
 
     /// Checks whether a remote is present and ready to receive: whether MSR shows DSR and CTS.
     ///
-    /// Does not wait: reads MSR once. The changes that this clears are saved for the next `msr`. Many cables never assert
-    /// DSR or CTS, so sending may work even if this call fails. Call it again after a modem status interrupt.
+    /// Does not wait: reads MSR once. The changes that this clears are saved for the next `msr`.
+    /// Many cables never assert DSR or CTS, so sending may work even if this call fails. Call it
+    /// again after a modem status interrupt.
     ///
     /// # Errors
     ///
@@ -160,12 +163,12 @@ impl<B: Backend> Uart16550<B> {
         Ok(())
     }
 
-    /// Enables these interrupts in addition to those that are enabled: reads IER, adds them, stores the result in the
-    /// configuration, and writes it.
+    /// Enables these interrupts in addition to those that are enabled: reads IER, adds them, stores
+    /// the result in the configuration, and writes it.
     ///
-    /// Bits that the chip does not keep read as clear, so they vanish from `config().interrupts` at the next such call. Not
-    /// every device raises an interrupt if `THR_EMPTY` is enabled while the transmitter is already empty: send the first
-    /// bytes directly, and the rest on interrupts.
+    /// Bits that the chip does not keep read as clear, so they vanish from `config().interrupts` at
+    /// the next such call. Not every device raises an interrupt if `THR_EMPTY` is enabled while the
+    /// transmitter is already empty: send the first bytes directly, and the rest on interrupts.
     ///
     /// # Examples
     ///
@@ -181,8 +184,8 @@ impl<B: Backend> Uart16550<B> {
         self.store_interrupts(enabled);
     }
 
-    /// Disables these interrupts and leaves the others: reads IER, removes them, stores the result in the configuration,
-    /// and writes it.
+    /// Disables these interrupts and leaves the others: reads IER, removes them, stores the result
+    /// in the configuration, and writes it.
     ///
     /// # Examples
     ///
@@ -207,8 +210,8 @@ impl<B: Backend> Uart16550<B> {
 
     /// Reads and returns the divisor latch, low byte first.
     ///
-    /// Sets DLAB in LCR for the two reads, and then writes LCR back. In between offsets 0 and 1 are the latch, so nothing
-    /// else may access the chip: neither data nor IER can be reached.
+    /// Sets DLAB in LCR for the two reads, and then writes LCR back. In between offsets 0 and 1 are
+    /// the latch, so nothing else may access the chip: neither data nor IER can be reached.
     ///
     /// # Examples
     ///
@@ -228,10 +231,12 @@ impl<B: Backend> Uart16550<B> {
         (dll, dlm)
     }
 
-    /// Reads the divisor latch and then IER, ISR, LCR, MCR, LSR, MSR and SPR, and returns them. It is meant for debugging.
+    /// Reads the divisor latch and then IER, ISR, LCR, MCR, LSR, MSR and SPR, and returns them. It
+    /// is meant for debugging.
     ///
-    /// LSR and MSR are returned joined with the saved bits, which stay saved. The read of ISR acknowledges a `THR_EMPTY`
-    /// interrupt, and DLAB is set for a moment, as by `dll_dlm`. Does not wait: makes 12 accesses.
+    /// LSR and MSR are returned joined with the saved bits, which stay saved. The read of ISR
+    /// acknowledges a `THR_EMPTY` interrupt, and DLAB is set for a moment, as by `dll_dlm`. Does
+    /// not wait: makes 12 accesses.
     ///
     /// # Examples
     ///
@@ -243,7 +248,8 @@ impl<B: Backend> Uart16550<B> {
     /// # Ok(()) }
     /// ```
     pub fn config_register_dump(&mut self) -> ConfigRegisterDump {
-        // The result is written field by field, so that no value waits in a register for the others.
+        // The result is written field by field, so that no value waits in a register for the
+        // others.
         let mut dump = ConfigRegisterDump::default();
         let (dll, dlm) = self.dll_dlm();
         dump.dll = dll;

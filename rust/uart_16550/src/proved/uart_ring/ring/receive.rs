@@ -23,11 +23,12 @@ impl<B: Backend> Uart16550Ring<B> {
         self.pause_if_full();
     }
 
-    /// Takes received bytes from the front of the receive ring, as many as there are slots, and returns how many. Leaves
-    /// the other slots unchanged.
+    /// Takes received bytes from the front of the receive ring, as many as there are slots, and
+    /// returns how many. Leaves the other slots unchanged.
     ///
-    /// Does not wait. If it takes at least one byte and receiving is paused, it enables `DATA_READY` again and ends the
-    /// pause: one read and one write of IER. Otherwise it makes no access.
+    /// Does not wait. If it takes at least one byte and receiving is paused, it enables
+    /// `DATA_READY` again and ends the pause: one read and one write of IER. Otherwise it makes no
+    /// access.
     ///
     /// # Examples
     ///

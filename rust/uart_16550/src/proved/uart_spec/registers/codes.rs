@@ -3,7 +3,8 @@
 use crate::proved::uart_spec::registers::{FifoTriggerLevel, Parity, WordLength};
 
 impl FifoTriggerLevel {
-    /// Returns the trigger level with this code, which is in the low two bits. Higher bits are ignored.
+    /// Returns the trigger level with this code, which is in the low two bits. Higher bits are
+    /// ignored.
     pub const fn from_raw_bits(bits: u8) -> Self {
         match bits & 0b11 {
             0b00 => FifoTriggerLevel::One,
@@ -25,7 +26,8 @@ impl FifoTriggerLevel {
 }
 
 impl WordLength {
-    /// Returns the word length with this code, which is in the low two bits. Higher bits are ignored.
+    /// Returns the word length with this code, which is in the low two bits. Higher bits are
+    /// ignored.
     pub const fn from_raw_bits(bits: u8) -> Self {
         match bits & 0b11 {
             0b00 => WordLength::FiveBits,
@@ -47,8 +49,8 @@ impl WordLength {
 }
 
 impl Parity {
-    /// Returns the parity with this code, which is in the low three bits. Higher bits are ignored, and each code whose
-    /// lowest bit is clear is `Disabled`.
+    /// Returns the parity with this code, which is in the low three bits. Higher bits are ignored,
+    /// and each code whose lowest bit is clear is `Disabled`.
     pub const fn from_raw_bits(bits: u8) -> Self {
         match bits & 0b111 {
             0b001 => Parity::Odd,

@@ -190,7 +190,7 @@ impl Divisor {
         self.discriminant()
     }
 
-    // The cast alone, since its proof has one case for each divisor.
+    // Casts, and does nothing else, since its proof has one case for each divisor.
     fn discriminant(self) -> u16 {
         self as u16
     }

@@ -15,7 +15,8 @@ pub enum WordLength {
 }
 
 impl WordLength {
-    /// Returns the word length with this number of data bits. A number outside of 5 to 8 gives `EightBits`.
+    /// Returns the word length with this number of data bits. A number outside of 5 to 8 gives
+    /// `EightBits`.
     pub const fn from_integer(bits: u8) -> Self {
         match bits {
             5 => WordLength::FiveBits,

@@ -3,7 +3,8 @@
 use crate::proved::uart_spec::registers::InterruptType;
 use crate::flags::Flags;
 
-/// Interrupt status register (ISR), offset 2, read only. Also called interrupt identification register (IIR).
+/// Interrupt status register (ISR), offset 2, read only. Also called interrupt identification
+/// register (IIR).
 ///
 /// A read that identifies a `THR_EMPTY` interrupt acknowledges it.
 #[derive(Clone, Copy, PartialEq, Eq, PartialOrd, Ord, Hash, Default)]

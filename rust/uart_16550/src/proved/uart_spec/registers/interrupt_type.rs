@@ -5,13 +5,14 @@
 pub enum InterruptType {
     /// An overrun, a parity error, a framing error or a break. A read of LSR acknowledges it.
     ReceiverLineStatus,
-    /// Received characters are available, with FIFOs as many as the trigger level. Reads of DATA acknowledge it.
+    /// Received characters are available, with FIFOs as many as the trigger level. Reads of DATA
+    /// acknowledge it.
     ReceivedDataReady,
-    /// The receiver FIFO holds fewer characters than the trigger level, and for a while none was received or read. Reads of
-    /// DATA acknowledge it.
+    /// The receiver FIFO holds fewer characters than the trigger level, and for a while none was
+    /// received or read. Reads of DATA acknowledge it.
     ReceptionTimeout,
-    /// The transmitter holding register (THR), or the transmitter FIFO, is empty. A read of ISR or a write of DATA
-    /// acknowledges it.
+    /// The transmitter holding register (THR), or the transmitter FIFO, is empty. A read of ISR or
+    /// a write of DATA acknowledges it.
     TransmitterHoldingRegisterEmpty,
     /// A modem line changed. A read of MSR acknowledges it.
     ModemStatus,
@@ -36,8 +37,8 @@ impl InterruptType {
 
     /// Returns the interrupt that the low nibble of an ISR value identifies.
     ///
-    /// Returns `None` if bit 0 is set, since no interrupt is pending then, and also for the code 100 in bits 3 to 1,
-    /// although an interrupt is pending then.
+    /// Returns `None` if bit 0 is set, since no interrupt is pending then, and also for the code
+    /// 100 in bits 3 to 1, although an interrupt is pending then.
     pub const fn from_bits(isr_bits: u8) -> Option<Self> {
         match isr_bits & 0b1111 {
             0b0110 => Some(InterruptType::ReceiverLineStatus),

@@ -2,7 +2,8 @@
 
 use crate::proved::uart_spec::registers::{Parity, WordLength};
 
-/// Line control register (LCR), offset 3: the format of a character on the line, and the divisor latch access bit.
+/// Line control register (LCR), offset 3: the format of a character on the line, and the divisor
+/// latch access bit.
 #[derive(Clone, Copy, PartialEq, Eq, PartialOrd, Ord, Hash, Default)]
 pub struct LCR(pub(crate) u8);
 
