@@ -1,4 +1,5 @@
-//! Calls of the driver and their answers as data, and the function that makes such a call, over any backend.
+//! Calls of the driver and their answers as data, and the function that makes such a call, over any
+//! backend.
 #![tactic(auto)]
 
 mod call;

@@ -3,7 +3,8 @@
 //! The contract of each function is a law that callers can cite. The functions do nothing.
 ghost use Rattle.uart_play.specs.OneOutcome.{RunsHaveOneOutcome, ScriptsHaveOneOutput};
 
-/// The answers of `run`, and the state after it, are a function of the calls and the state before it.
+/// The answers of `run`, and the state after it, are a function of the calls and the state before
+/// it.
 pub fn runs_have_one_outcome()
     ensures { RunsHaveOneOutcome }
 {}

@@ -1,5 +1,5 @@
-//! Plays scripts: [`play`] reads one, runs its calls over a new device, and writes the answers and the last state of
-//! the device.
+//! Plays scripts: [`play`] reads one, runs its calls over a new device, and writes the answers and
+//! the last state of the device.
 //!
 //! The meaning of a script, and what is printed for it, are defined in `uart_language`.
 #![tactic(auto)]

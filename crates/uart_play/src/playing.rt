@@ -7,7 +7,8 @@ ghost use Rattle.uart_language.specs.Script.{plan_of, IsPlayable};
 ghost use Rattle.uart_chip.specs.Transmitter.{held};
 ghost use Rattle.uart_device.specs.Conserved.{waiting};
 ghost use Rattle.uart_play.specs.ScriptOutput.{first_machine, output_of, IsFirst, IsOutput};
-ghost use Rattle.uart_play.specs.Play.{ConsumesAtMost, is_read_fault, is_write_fault, IsReadText, IsReading, WritesFront, Outcome};
+ghost use Rattle.uart_play.specs.Play.{ConsumesAtMost, is_read_fault, is_write_fault};
+ghost use Rattle.uart_play.specs.Play.{IsReadText, IsReading, WritesFront, Outcome};
 ghost use Rattle.uart_play.specs.Play.{WritesNothing, play_error};
 
 use crate::streams::{Fault, Input, Output};
@@ -26,8 +27,8 @@ use uart_run::run;
 /// Something was written only at a `WriteFault`: a beginning of the output.
 #[derive(Clone, Copy, Debug, PartialEq, Eq, Error)]
 pub enum PlayError {
-    /// The input is not a script: the first faulty line, counted from 1, and what is wrong with it; line 0 if there are too
-    /// many bytes.
+    /// The input is not a script: the first faulty line, counted from 1, and what is wrong with it;
+    /// line 0 if there are too many bytes.
     #[error("line {line}: {}", .cause.text())]
     Refused {
         /// The number of the line.
@@ -73,7 +74,8 @@ const CHUNK: usize = 512;
 
 /// Reads to the end of the input, or `MOST_READ` bytes.
 fn read_all<R: Input>(alloc: Global, reader: &mut R) -> Result<Vec<u8>, PlayError>
-    ensures whole { IfOk result (λ text. IsReadText (R.remaining reader.old) (R.remaining reader.new) text.items) }
+    ensures whole { IfOk result (λ text.
+        IsReadText (R.remaining reader.old) (R.remaining reader.new) text.items) }
     ensures most { ConsumesAtMost MOST_READ (R.remaining reader.old) (R.remaining reader.new) }
     ensures fault { R.has_failed reader.new ≡ (R.has_failed reader.old || is_read_fault result) }
     ensures kind { IfErr result IsReading }
@@ -234,8 +236,8 @@ fn output_for(alloc: Global, script: &Script) -> Result<Vec<u8>, AllocError>
 
 /// Reads a script, plays it, and writes its output.
 ///
-/// The whole output is built before any of it is written. What is written for a script is a function of the script
-/// ([`scripts_have_one_output`](crate::laws::scripts_have_one_output)).
+/// The whole output is built before any of it is written. What is written for a script is a
+/// function of the script ([`scripts_have_one_output`](crate::laws::scripts_have_one_output)).
 ///
 /// # Errors
 ///
@@ -248,15 +250,19 @@ pub fn play<R: Input, W: Output>(
     writer: &mut W,
 ) -> Result<(), PlayError>
     // The outcome of an input, if its bytes are known.
-    ensures outcome { IfSome (R.remaining reader.old) (λ input. Outcome input result (W.contents writer.old) (W.contents writer.new)) }
+    ensures outcome { IfSome (R.remaining reader.old)
+        (λ input. Outcome input result (W.contents writer.old) (W.contents writer.new)) }
     ensures whole { OnOk result (IsAtEnd (R.remaining reader.new)) }
     ensures most { ConsumesAtMost MOST_READ (R.remaining reader.old) (R.remaining reader.new) }
 
     ensures nothing { WritesNothing result (W.contents writer.old) (W.contents writer.new) }
 
-    // A read fault is reported exactly if the reader failed, a write fault exactly if the writer did.
-    ensures reader_fault { R.has_failed reader.new ≡ (R.has_failed reader.old || is_read_fault result) }
-    ensures writer_fault { W.has_failed writer.new ≡ (W.has_failed writer.old || is_write_fault result) }
+    // A read fault is reported exactly if the reader failed, a write fault exactly if the writer
+    // did.
+    ensures reader_fault { R.has_failed reader.new ≡
+        (R.has_failed reader.old || is_read_fault result) }
+    ensures writer_fault { W.has_failed writer.new ≡
+        (W.has_failed writer.old || is_write_fault result) }
 {
     let text = read_all(alloc, reader)?;
     let script = parse(alloc, &text)?;

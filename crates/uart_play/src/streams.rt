@@ -1,6 +1,7 @@
 //! Where a script is read from, and where its output is written to.
 
-ghost use Rattle.std.specs.Prelude.{◌≡◌, ◌≤◌, ◌||◌, Option, List, ℕ, Bool, false, length, IfOk, is_err};
+ghost use Rattle.std.specs.Prelude.{◌≡◌, ◌≤◌, ◌||◌, Option, List, ℕ};
+ghost use Rattle.std.specs.Prelude.{Bool, false, length, IfOk, is_err};
 ghost use Rattle.std.specs.Io.KnownBytes.{ReadConsumes, WriteAppends};
 ghost use Rattle.uart_play.specs.Play.{takes_none};
 
@@ -41,7 +42,8 @@ pub trait Output {
     fn write(&mut self, bytes: &[u8]) -> Result<usize, Fault>
         ensures bound { IfOk result (λ n. n ≤ length bytes.now) }
         ensures bytes { WriteAppends (contents self.old) (contents self.new) result bytes.now }
-        ensures fault { has_failed self.new ≡ (has_failed self.old || takes_none result bytes.now) };
+        ensures fault { has_failed self.new ≡
+            (has_failed self.old || takes_none result bytes.now) };
 }
 
 /// A reader or a writer of std.

@@ -14,8 +14,9 @@ ghost use Rattle.uart_spec.specs.declared.config.Config.{Config};
 use uart_16550::Uart16550;
 use uart_device::Device16550;
 
-/// If an `init` of this driver returns `Ok`, a session of ring calls may begin with the driver that it leaves, whatever the
-/// chip did before. The driver may be put into rings then, or be in rings already, which may hold anything.
+/// If an `init` of this driver returns `Ok`, a session of ring calls may begin with the driver that
+/// it leaves, whatever the chip did before. The driver may be put into rings then, or be in rings
+/// already, which may hold anything.
 ///
 /// # Examples
 ///
@@ -27,7 +28,8 @@ use uart_device::Device16550;
 /// ```
 pub fn init_leaves_ready(uart: &Uart16550<Device16550>)
     ensures { (config : Config) (after : Uart16550 MachineState) (ring : RingState) →
-        Did MachineStep (Inits {T = Unit {0}} config (Ok tt)) uart.now after → driver_of ring ≡ after → Ready (under ring) }
+        Did MachineStep (Inits {T = Unit {0}} config (Ok tt)) uart.now after →
+        driver_of ring ≡ after → Ready (under ring) }
 {
     // The contract of this call states what holds of every machine.
     let _fifo = uart.backend().fifo_enabled();

@@ -1,4 +1,5 @@
-//! Runs of ring calls over the software chip, and what is proved of rings, driver and chip together.
+//! Runs of ring calls over the software chip, and what is proved of rings, driver and chip
+//! together.
 #![tactic(auto)]
 
 mod call;

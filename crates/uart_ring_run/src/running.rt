@@ -9,23 +9,25 @@ use uart_calls::CALL_BYTES;
 use uart_device::Device16550;
 use uart_ring::Uart16550Ring;
 
-/// Makes the calls in turn, and stores the answer of each in its slot. Never fails, and allocates no memory.
+/// Makes the calls in turn, and stores the answer of each in its slot. Never fails, and allocates
+/// no memory.
 ///
-/// A *session* begins in a ready state: DLAB and loopback are off, and the driver knows whether the FIFO is on. The rings
-/// may hold anything then. In each session
+/// A *session* begins in a ready state: DLAB and loopback are off, and the driver knows whether the
+/// FIFO is on. The rings may hold anything then. In each session
 ///
-/// - what has been sent, what is in the transmitter, and then the transmit ring have grown by exactly the bytes that were
-///   queued, and no data write meets a full transmitter;
-/// - the bytes taken, then the receive ring, then those in the chip's receiver are those of the receive ring at the start,
-///   those that were in the receiver, and those that arrived, in order, without those that were dropped;
-/// - `TakeLine` reports drops and line errors, and `TakeModem` changes of the modem lines, also those that `Service` has
-///   read;
-/// - if CTS is not checked, there are never bytes in the transmit ring with no interrupt to come, unless there were at the
-///   start and no byte was queued and sending not resumed since;
+/// - what has been sent, what is in the transmitter, and then the transmit ring have grown by
+///   exactly the bytes that were queued, and no data write meets a full transmitter;
+/// - the bytes taken, then the receive ring, then those in the chip's receiver are those of the
+///   receive ring at the start, those that were in the receiver, and those that arrived, in order,
+///   without those that were dropped;
+/// - `TakeLine` reports drops and line errors, and `TakeModem` changes of the modem lines, also
+///   those that `Service` has read;
+/// - if CTS is not checked, there are never bytes in the transmit ring with no interrupt to come,
+///   unless there were at the start and no byte was queued and sending not resumed since;
 /// - each call preserves a ready state.
 ///
-/// On a machine that cuts characters to the word length ([`Device16550::new_cut`]) the first holds of bytes that are cut,
-/// and the second of arrivals that are cut.
+/// On a machine that cuts characters to the word length ([`Device16550::new_cut`]) the first holds
+/// of bytes that are cut, and the second of arrivals that are cut.
 pub fn run_ring(
     ring: &mut Uart16550Ring<Device16550>,
     calls: &[RingCall],

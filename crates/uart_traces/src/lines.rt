@@ -5,8 +5,10 @@ ghost use Rattle.uart_language.specs.Fields.{seen};
 ghost use Rattle.uart_language.specs.Items.{item_at};
 ghost use Rattle.uart_language.specs.Text.{words_of};
 ghost use Rattle.uart_spec.specs.declared.baud.TheConstants.{NUM_REGISTERS};
-ghost use Rattle.uart_traces.specs.Lines.{CanRun, access_in, answer_in, before_remark, called_as, fresh_in, is_remark};
-ghost use Rattle.uart_traces.specs.Lines.{offset_in, said_by, said_in, saying_of, says, without_end};
+ghost use Rattle.uart_traces.specs.Lines.{CanRun, access_in, answer_in, before_remark};
+ghost use Rattle.uart_traces.specs.Lines.{called_as, fresh_in, is_remark};
+ghost use Rattle.uart_traces.specs.Lines.{offset_in, said_by, said_in};
+ghost use Rattle.uart_traces.specs.Lines.{saying_of, says, without_end};
 
 use crate::cause::Fault;
 use uart_16550::replay::Entry;
@@ -155,7 +157,8 @@ fn plain_line(line: &[u8]) -> Result<Line<'_>, Fault>
     line_by(word_at(line, 0), line)
 }
 
-/// Returns the meaning of a line. A remark, from `#` on, means nothing. A call that is returned can be run.
+/// Returns the meaning of a line. A remark, from `#` on, means nothing. A call that is returned can
+/// be run.
 pub fn line_in(line: &[u8]) -> Result<Line<'_>, Fault>
     ensures read { seen saying_of result ≡ says line.now }
     ensures runs { IfOk result CanRun }

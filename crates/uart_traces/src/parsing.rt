@@ -1,9 +1,11 @@
 //! The meaning of a whole trace.
-ghost use Rattle.std.specs.Prelude.{◌≡◌, ◌+◌, ◌<◌, ◌≤◌, List, length, IfOk, MatchResult, Some, None};
+ghost use Rattle.std.specs.Prelude.{◌≡◌, ◌+◌, ◌<◌, ◌≤◌, List, length};
+ghost use Rattle.std.specs.Prelude.{IfOk, MatchResult, Some, None};
 ghost use Rattle.uart_calls.specs.Calls.{IsRunnable};
 ghost use Rattle.uart_language.specs.Text.{lines_of};
 ghost use Rattle.uart_traces.specs.Lines.{CanRun, saying_of};
-ghost use Rattle.uart_traces.specs.Reading.{IsTrace, ReadsExchange, ReadsLine, Refuses, RefusesLine};
+ghost use Rattle.uart_traces.specs.Reading.{IsTrace, ReadsExchange};
+ghost use Rattle.uart_traces.specs.Reading.{ReadsLine, Refuses, RefusesLine};
 ghost use Rattle.uart_traces.specs.Reading.{fault_of, first_fault};
 ghost use Rattle.uart_traces.specs.declared.exchange.Exchange.{Exchange};
 
@@ -36,7 +38,8 @@ fn next_line(number: usize, bytes: &[u8]) -> Result<(Line<'_>, &[u8]), TraceErro
     }
 }
 
-// Reads what follows a call, whose line has this number. Returns it with the call, and the bytes after its answer.
+// Reads what follows a call, whose line has this number. Returns it with the call, and the bytes
+// after its answer.
 fn read_exchange(
     alloc: Global,
     is_first: bool,
@@ -49,7 +52,8 @@ fn read_exchange(
     ensures read { MatchResult result
         (λ x. ReadsExchange is_first call call_line (lines_of bytes.now) x.0 (lines_of x.1.now))
         (Refuses (first_fault call_line (Some call_line) (lines_of bytes.now))) }
-    ensures shorter { IfOk result (λ x. x.0.answer_line + length x.1.now ≤ call_line + length bytes.now) }
+    ensures shorter { IfOk result (λ x. x.0.answer_line + length x.1.now ≤
+        call_line + length bytes.now) }
     ensures later { IfOk result (λ x. call_line < x.0.answer_line) }
 {
     let unanswered = fault(call_line, Fault::NoAnswer);
@@ -119,11 +123,12 @@ fn read_trace(alloc: Global, bytes: &[u8]) -> Result<Vec<Exchange>, TraceError>
 ///
 /// # Errors
 ///
-/// - `NoTrace`, with the first fault: the number of the line, and what is wrong with it. A call without an answer is a fault
-///   of its own line.
+/// - `NoTrace`, with the first fault: the number of the line, and what is wrong with it. A call
+///   without an answer is a fault of its own line.
 /// - `OutOfMemory` if memory could not be allocated.
 pub fn parse(alloc: Global, bytes: &[u8]) -> Result<Vec<Exchange>, TraceError>
-    ensures read { MatchResult result (λ xs. IsTrace bytes.now xs.items) (Refuses (fault_of bytes.now)) }
+    ensures read { MatchResult result (λ xs. IsTrace bytes.now xs.items)
+        (Refuses (fault_of bytes.now)) }
     // no trace is refused
     ensures faultless { (xs : List Exchange) → IsTrace bytes.now xs → fault_of bytes.now ≡ None }
 {
