@@ -74,7 +74,7 @@ fn rings_after_a_terminal(rt: HostRuntime) -> Result<(), Fail> {
 
 #[test]
 fn a_turn_of_a_monitor(rt: HostRuntime) -> Result<(), Fail> {
-    let mut chip = LiveChip::new(rt.alloc(), Chip::Uart16550A, 4, 64)?;
+    let mut chip = LiveChip::new(Chip::Uart16550A, 4, 64)?;
     let mut sink = [0; 8];
     for (offset, value, elapsed, sent, is_interrupting) in [
         // Nothing has gone out after four ticks, and after one more the byte has.

@@ -35,7 +35,10 @@ use Rattle.uart_spec.specs.declared.registers.fifo_control.TheConstants.FCR
 use Rattle.uart_spec.specs.declared.registers.line_status.TheConstants.LSR
 use Rattle.uart_spec.specs.declared.registers.modem_status.TheConstants.MSR
 use Rattle.uart_spec.specs.declared.registers.offsets.TheConstants as offsets
+use Rattle.uart_chip.specs.declared.wire.TheConstants.{WIRE_ROOM}
+use Rattle.uart_live.specs.declared.errors.ChipError.TheVariants as ChipError
 use Rattle.uart_live.specs.Live.{IsLive}
+use Rattle.uart_live.specs.Refused as live
 
 pub both_if : {A : Type 0} (P : A → Type 0) (x y : A) (b : Bool) → P x → P y → P (if b then x else y)
 both_if P x y true p q = p
@@ -209,6 +212,20 @@ within_room char_ticks capacity e =
     go true wide w e = absurd (cc)
     go false true w e = absurd (cc)
     go false false w e = grind (arith, common_steps)
+
+-- what a live chip is made of, a machine could be made of
+pub passes : (char_ticks capacity : ℕ) → live.refusal char_ticks capacity ≡ None → refusal char_ticks capacity [] ≡ None
+passes char_ticks capacity e =
+    go (not (nat_le 1 char_ticks && nat_le char_ticks MAX_CHAR_TICKS)) (nat_lt MAX_WIRE_CAPACITY capacity)
+    (nat_lt WIRE_ROOM capacity) refl refl e
+  where
+    go : (bad wide full : Bool) → nat_lt MAX_WIRE_CAPACITY capacity ≡ wide → nat_lt WIRE_ROOM capacity ≡ full →
+        (if bad then Some ChipError.BadTicks else if full then Some ChipError.BadWire else None) ≡ None →
+        (if bad then Some BadTicks else if wide then Some BadWire else None) ≡ None
+    go true wide full w f e = absurd (cc)
+    go false wide true w f e = absurd (cc)
+    go false true false w f e = absurd (grind (arith, common_steps))
+    go false false false w f e = refl
 
 pub live-fresh : (chip : Chip) (char_ticks capacity : ℕ) → refusal char_ticks capacity [] ≡ None → IsLive (fresh chip char_ticks capacity 0)
 live-fresh chip char_ticks capacity e =

@@ -1,3 +1,4 @@
 pub mod Live
 pub mod Laws
 pub mod Saved
+pub mod Refused

@@ -1,5 +1,6 @@
 //! Why a live chip refuses what its owner passes to it.
 use thiserror::Error;
+use uart_chip::{MAX_CHAR_TICKS, WIRE_ROOM};
 
 /// Why a character or a change of the modem lines was refused.
 #[derive(Clone, Copy, Debug, PartialEq, Eq, Error)]
@@ -12,13 +13,24 @@ pub enum InputError {
     BadLines,
 }
 
+/// Why no chip was made: the first reason in this order.
+#[derive(Clone, Copy, Debug, PartialEq, Eq, Error)]
+pub enum ChipError {
+    /// A character takes no ticks, or more than `MAX_CHAR_TICKS`.
+    #[error("a character takes 1 to {max} ticks", max = MAX_CHAR_TICKS)]
+    BadTicks,
+    /// The wire has room for more than `WIRE_ROOM` bytes.
+    #[error("the wire has room for at most {max} bytes", max = WIRE_ROOM)]
+    BadWire,
+}
+
 /// Why no chip was restored.
 #[derive(Clone, Copy, Debug, PartialEq, Eq, Error)]
 pub enum RestoreError {
     /// The data are not those of a sound chip.
     #[error("the data are not those of a sound chip")]
     BadData,
-    /// Memory for the chip could not be allocated.
-    #[error("out of memory")]
-    OutOfMemory,
+    /// The wire has room for more than `WIRE_ROOM` bytes.
+    #[error("the wire has room for at most {max} bytes", max = WIRE_ROOM)]
+    BadWire,
 }

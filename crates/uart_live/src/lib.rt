@@ -10,9 +10,9 @@ pub mod laws;
 mod live;
 mod sound;
 
-pub use errors::{InputError, RestoreError};
+pub use errors::{ChipError, InputError, RestoreError};
 pub use live::LiveChip;
 pub use uart_chip::{
-    BuildError, Character, Chip, ChipData, Latches, ModemData, Origin, ReceiverData, Shifting,
-    TransmitterData,
+    Character, Chip, ChipData, Latches, ModemData, Origin, ReceiverData, Shifting, TransmitterData,
+    WIRE_ROOM,
 };

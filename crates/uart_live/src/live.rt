@@ -1,14 +1,14 @@
 //! The live chip.
-ghost use Rattle.std.specs.Prelude.{◌≡◌, ◌≢◌, ◌<◌, ◌≤◌, ◌-◌, [], length, Some, None, not, bit_and, is_some, Err, IfOk, IsOk, IsOkUnless};
-ghost use Rattle.uart_chip.specs.Build.{refusal};
+ghost use Rattle.std.specs.Prelude.{◌≡◌, ◌≢◌, ◌<◌, ◌≤◌, ◌-◌, length, Some, None, not, bit_and, is_some, Err, IfOk, IsOk};
 ghost use Rattle.uart_chip.specs.Chip as spec;
 ghost use Rattle.uart_chip.specs.Jumps.{most_turns, turns};
 ghost use Rattle.uart_chip.specs.Masks.{IsWithin};
 ghost use Rattle.uart_chip.specs.Receiver.{waiting};
 ghost use Rattle.uart_chip.specs.Transmitter.{held};
-ghost use Rattle.uart_chip.specs.declared.event.BuildError.{BuildError};
+ghost use Rattle.uart_live.specs.declared.errors.ChipError.{ChipError};
 ghost use Rattle.uart_live.specs.declared.errors.InputError.{InputError};
 ghost use Rattle.uart_live.specs.Live.{IsLive};
+ghost use Rattle.uart_live.specs.Refused.{refusal};
 ghost use Rattle.uart_spec.specs.Bits.{has_any};
 ghost use Rattle.uart_spec.specs.declared.baud.TheConstants.{NUM_REGISTERS};
 ghost use Rattle.uart_spec.specs.declared.registers.interrupt_status.TheConstants.ISR;
@@ -18,12 +18,14 @@ ghost use Rattle.uart_spec.specs.declared.registers.offsets.TheConstants as offs
 
 mod snapshot;
 
-use crate::errors::InputError;
+use crate::errors::{ChipError, InputError};
 use bitflags::Flags;
-use std::alloc::Global;
 use std::marker::Model;
-use uart_chip::{BuildError, Chip, Uart, refusal};
+use uart_chip::{Character, Chip, FixedFifo, FixedWire, MAX_CHAR_TICKS, NoMarks, Uart, WIRE_ROOM};
 use uart_spec::registers::{LSR, MSR};
+
+// A chip all of whose memory is in arrays, without a schedule.
+type LiveUart = Uart<FixedFifo<u8>, FixedWire, FixedFifo<Character>, NoMarks>;
 
 /// A serial chip in software whose owner lets time pass, passes characters to it, and takes the bytes that it sends.
 ///
@@ -31,8 +33,8 @@ use uart_spec::registers::{LSR, MSR};
 /// `wire` and `take_wire`. When a character or a change of the modem lines arrives, call `arrive` or `set_lines`. After
 /// each of these calls set the guest's interrupt line to `is_interrupting`.
 ///
-/// Only [`LiveChip::new`] and [`LiveChip::from_data`] allocate memory. The chip keeps no record of what was sent and
-/// received, so it can run without end. No call blocks.
+/// No call allocates memory, and none blocks. The chip keeps no record of what was sent and received, so it can run without
+/// end.
 ///
 /// # Examples
 ///
@@ -45,7 +47,7 @@ use uart_spec::registers::{LSR, MSR};
 /// ```
 #[derive(Drop)]
 pub struct LiveChip {
-    uart: Uart,
+    uart: LiveUart,
 }
 
 impl Model for LiveChip {
@@ -59,8 +61,21 @@ impl Model for LiveChip {
     ghost invariant = { λ live. IsLive live.uart };
 }
 
+// Returns why no chip is made.
+fn refusal(char_ticks: u16, wire_capacity: usize) -> Option<ChipError>
+    ensures { result ≡ refusal char_ticks wire_capacity }
+{
+    if char_ticks == 0 || char_ticks > MAX_CHAR_TICKS {
+        Some(ChipError::BadTicks)
+    } else if wire_capacity > WIRE_ROOM {
+        Some(ChipError::BadWire)
+    } else {
+        None
+    }
+}
+
 impl LiveChip {
-    /// Returns a chip after power-on. Allocates all of its memory.
+    /// Returns a chip after power-on.
     ///
     /// A character takes `char_ticks` ticks in the shift register, and the wire has room for `wire_capacity` bytes until
     /// they are taken. If it is full, the transmitter keeps what it holds.
@@ -70,30 +85,30 @@ impl LiveChip {
     /// The first of these:
     ///
     /// - `BadTicks` if `char_ticks` is 0 or more than 1000.
-    /// - `BadWire` if `wire_capacity` is more than 65,536.
-    /// - `OutOfMemory` if memory could not be allocated.
+    /// - `BadWire` if `wire_capacity` is more than 64.
     ///
     /// # Examples
     ///
     /// ```
-    /// LiveChip::new(alloc, Chip::Uart16550A, 4, 64)
+    /// LiveChip::new(Chip::Uart16550A, 4, 64)
     /// ```
-    pub fn new(
-        alloc: Global,
-        chip: Chip,
-        char_ticks: u16,
-        wire_capacity: usize,
-    ) -> Result<Self, BuildError>
+    pub fn new(chip: Chip, char_ticks: u16, wire_capacity: usize) -> Result<Self, ChipError>
         ensures built { IfOk result (λ live. live ≡ spec.fresh chip char_ticks wire_capacity 0) }
-        ensures refused { (reason : BuildError) → refusal char_ticks wire_capacity [] ≡ Some reason → result ≡ Err reason }
-        ensures accepted { refusal char_ticks wire_capacity [] ≡ None → IsOkUnless result BuildError.OutOfMemory }
+        ensures refused { (reason : ChipError) → refusal char_ticks wire_capacity ≡ Some reason → result ≡ Err reason }
+        ensures accepted { refusal char_ticks wire_capacity ≡ None → IsOk result }
     {
-        if let Some(reason) = refusal(char_ticks, wire_capacity, &[]) {
+        if let Some(reason) = refusal(char_ticks, wire_capacity) {
             return Err(reason);
         }
-        let Ok(uart) = Uart::new(alloc, chip, char_ticks, wire_capacity, 0, false) else {
-            return Err(BuildError::OutOfMemory);
-        };
+        let uart = Uart::with_parts(
+            FixedFifo::new(0),
+            FixedWire::new(wire_capacity),
+            FixedFifo::new(Character::default()),
+            NoMarks,
+            chip,
+            char_ticks,
+            false,
+        );
         Ok(Self { uart })
     }
 

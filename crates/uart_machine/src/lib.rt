@@ -26,8 +26,8 @@ pub use uart_calls::{Answer, CALL_BYTES, Call, perform};
 pub use uart_chip::{ArrivalMark, BuildError, Chip, Event};
 pub use uart_device::Device16550;
 pub use uart_live::{
-    Character, ChipData, InputError, Latches, LiveChip, ModemData, Origin, ReceiverData,
-    RestoreError, Shifting, TransmitterData,
+    Character, ChipData, ChipError, InputError, Latches, LiveChip, ModemData, Origin, ReceiverData,
+    RestoreError, Shifting, TransmitterData, WIRE_ROOM,
 };
 pub use uart_ring_run::{RingAnswer, RingCall, run_ring};
 pub use uart_run::run;

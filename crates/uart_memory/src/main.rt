@@ -12,10 +12,10 @@ use std::process::ExitCode;
 use std::{fmt, io};
 use uart_16550::backend::Backend;
 use uart_16550::replay::{Entry, Replay};
-use uart_16550::spec::registers::{LSR, offsets};
+use uart_16550::spec::registers::offsets;
 use uart_16550::{Config, Uart16550};
 use uart_machine::script::{PlayError, ScriptError, Std, parse, play};
-use uart_machine::{BuildError, Call, Chip, Device16550, Event, LiveChip, RestoreError};
+use uart_machine::{BuildError, Call, Chip, Device16550, Event};
 use uart_ring::{RingError, Uart16550Ring};
 
 // A script with so many calls and events that their lists grow, and its output too.
@@ -154,40 +154,6 @@ fn make_cutting_device(alloc: Global, schedule: Vec<Event>) -> Outcome {
     check(built, 0x1f)
 }
 
-// A live chip with a byte on its wire, another that is still to go out, and a character that waits.
-fn used_chip(alloc: Global) -> Result<LiveChip, BuildError> {
-    let mut chip = LiveChip::new(alloc, Chip::Uart16550A, 1, 64)?;
-    chip.write(offsets::DATA as u8, b'A');
-    chip.ticks(2);
-    chip.write(offsets::DATA as u8, b'B');
-    let _ = chip.arrive(b'C', LSR::empty());
-    Ok(chip)
-}
-
-// It is that chip: what it shows, and what it does next.
-fn is_used_chip(mut chip: LiveChip) -> bool {
-    let is_same = chip.wire() == b"A".as_slice() && chip.held_len() == 1 && chip.wire_room() == 63;
-    chip.ticks(2);
-    is_same && chip.wire() == b"AB".as_slice() && chip.read(offsets::DATA as u8) == b'C'
-}
-
-fn make_live_chip(alloc: Global) -> Outcome {
-    match used_chip(alloc) {
-        Ok(chip) => Outcome::of(is_used_chip(chip)),
-        Err(BuildError::OutOfMemory) => Outcome::OutOfMemory,
-        Err(_) => Outcome::Other,
-    }
-}
-
-// Restores a saved chip.
-fn restore_live_chip(alloc: Global, saved: &LiveChip) -> Outcome {
-    match LiveChip::from_data(alloc, &saved.data(), saved.wire()) {
-        Ok(chip) => Outcome::of(is_used_chip(chip)),
-        Err(RestoreError::OutOfMemory) => Outcome::OutOfMemory,
-        Err(RestoreError::BadData) => Outcome::Other,
-    }
-}
-
 // A driver whose spin limit was set, and that has saved errors.
 fn used_driver() -> Uart16550<Replay<'static>> {
     let mut uart = Uart16550::new_with_backend(Replay::new(&[0x1e, 0x60, 0x0f]));
@@ -247,7 +213,6 @@ fn main(rt: HostRuntime) -> io::Result<ExitCode> {
     let before = number(&mut rt.stdin())?;
     let schedule = events(alloc)?;
     let schedule_to_cut = events(alloc)?;
-    let saved = used_chip(alloc).map_err(|_| AllocError)?;
     if allocate(alloc, before).is_err() {
         println!(rt; "refused before the calls")?;
         return Ok(ExitCode::FAILURE);
@@ -258,8 +223,6 @@ fn main(rt: HostRuntime) -> io::Result<ExitCode> {
         ("new", make_device(alloc, schedule)),
         ("new_cut", make_cutting_device(alloc, schedule_to_cut)),
         ("rings", make_rings(alloc)),
-        ("live", make_live_chip(alloc)),
-        ("restored", restore_live_chip(alloc, &saved)),
     ];
     for (name, outcome) in outcomes {
         println!(rt; "{name} {outcome}")?;

@@ -7,7 +7,7 @@ use bitflags::Flags;
 use std::alloc::{AllocError, Global};
 use uart_16550::replay::Entry;
 use uart_language::byte_in;
-use uart_live::{Chip, LiveChip};
+use uart_live::{Chip, LiveChip, WIRE_ROOM};
 use uart_spec::FIFO_SIZE;
 use uart_spec::registers::{LSR, MSR, offsets};
 use uart_traces::{TraceError, parse, push_entry};
@@ -17,9 +17,6 @@ const CHAR_TICKS: u16 = 1;
 
 // The most characters that a transmitter holds: a full queue, and one that is shifted out.
 const MOST_HELD: u16 = FIFO_SIZE as u16 + 1;
-
-// More than a recording sends.
-const WIRE_CAPACITY: usize = 4096;
 
 // A character that came in, and the line that says so.
 #[derive(Drop)]
@@ -53,14 +50,12 @@ struct Machine<'a> {
 
 impl<'a> Machine<'a> {
     // Returns a chip whose lines are up, and whose owner has seen that they are.
-    fn new(alloc: Global, coming: &'a [Arrival]) -> Result<Self, AllocError> {
-        let Ok(mut chip) = LiveChip::new(alloc, Chip::Uart16550A, CHAR_TICKS, WIRE_CAPACITY) else {
-            return Err(AllocError);
-        };
+    fn new(coming: &'a [Arrival]) -> Self {
+        let mut chip = LiveChip::new(Chip::Uart16550A, CHAR_TICKS, WIRE_ROOM).unwrap();
         // Other bits than these would be refused.
         let _ = chip.set_lines(MSR::CTS.union(MSR::DSR).union(MSR::CD));
         chip.read(offsets::MSR as u8);
-        Ok(Machine { chip, coming })
+        Machine { chip, coming }
     }
 
     // Brings what came before this line, as far as there is room.
@@ -80,6 +75,7 @@ impl<'a> Machine<'a> {
     // Makes an access, and returns it with what a read returned.
     fn make(&mut self, line: usize, entry: Entry) -> Entry {
         self.chip.ticks(MOST_HELD * CHAR_TICKS);
+        self.chip.take_wire(WIRE_ROOM);
         self.bring(line);
         match entry {
             Entry::Read(offset, _) => Entry::Read(offset, self.chip.read((offset % 8) as u8)),
@@ -117,7 +113,7 @@ fn push_difference(
 pub fn differences(alloc: Global, bytes: &[u8]) -> Result<Vec<u8>, TraceError> {
     let trace = parse(alloc, bytes)?;
     let arrivals = arrivals_in(alloc, bytes)?;
-    let mut machine = Machine::new(alloc, &arrivals)?;
+    let mut machine = Machine::new(&arrivals);
     let mut lines = Vec::new(alloc);
     for exchange in &trace {
         for (entry, line) in exchange.accesses.iter().zip(exchange.access_lines.iter()) {

@@ -1,14 +1,14 @@
 //! A live chip as plain data, and back.
-ghost use Rattle.std.specs.Prelude.{◌≡◌, Err, IfOk, IsOkUnless};
+ghost use Rattle.std.specs.Prelude.{◌≡◌, ◌<◌, ◌≤◌, Err, IfOk, IsOk};
 ghost use Rattle.uart_chip.specs.Snapshot.{chip_of};
+ghost use Rattle.uart_chip.specs.declared.wire.TheConstants.{WIRE_ROOM};
 ghost use Rattle.uart_live.specs.declared.errors.RestoreError.{RestoreError};
 ghost use Rattle.uart_live.specs.Live.{IsLive};
 
 use super::LiveChip;
 use crate::errors::RestoreError;
 use crate::sound::is_live;
-use std::alloc::Global;
-use uart_chip::{ChipData, Uart};
+use uart_chip::{Character, ChipData, FixedFifo, FixedWire, NoMarks, Uart, WIRE_ROOM, send};
 
 impl LiveChip {
     /// Returns the chip as plain data. The bytes on its wire are [`LiveChip::wire`].
@@ -17,7 +17,7 @@ impl LiveChip {
     ///
     /// ```
     /// let saved = chip.data();
-    /// let restored = LiveChip::from_data(alloc, &saved, chip.wire())?;
+    /// let restored = LiveChip::from_data(&saved, chip.wire())?;
     /// ```
     pub fn data(&self) -> ChipData
         ensures { chip_of result self.now.transmitter.wire ≡ self.now }
@@ -26,29 +26,41 @@ impl LiveChip {
     }
 
     /// Returns the chip with these data, and with these bytes on its wire. It continues as the chip that was saved.
-    /// Allocates all of its memory.
     ///
     /// # Errors
     ///
+    /// The first of these:
+    ///
     /// - `BadData` if the data are not those of a live chip.
-    /// - `OutOfMemory` if memory could not be allocated.
+    /// - `BadWire` if its wire has room for more than 64 bytes.
     ///
     /// # Examples
     ///
     /// ```
-    /// let restored = LiveChip::from_data(alloc, &saved, chip.wire())?;
+    /// let restored = LiveChip::from_data(&saved, chip.wire())?;
     /// ```
-    pub fn from_data(alloc: Global, saved: &ChipData, wire: &[u8]) -> Result<Self, RestoreError>
+    pub fn from_data(saved: &ChipData, wire: &[u8]) -> Result<Self, RestoreError>
         ensures restored { IfOk result (λ live. live ≡ chip_of saved.now wire.now) }
         ensures refused { (IsLive (chip_of saved.now wire.now) → ⊥) → result ≡ Err RestoreError.BadData }
-        ensures accepted { IsLive (chip_of saved.now wire.now) → IsOkUnless result RestoreError.OutOfMemory }
+        ensures large { IsLive (chip_of saved.now wire.now) → WIRE_ROOM < saved.now.transmitter.wire_capacity →
+            result ≡ Err RestoreError.BadWire }
+        ensures accepted { IsLive (chip_of saved.now wire.now) → saved.now.transmitter.wire_capacity ≤ WIRE_ROOM → IsOk result }
     {
         if !is_live(saved, wire) {
             return Err(RestoreError::BadData);
         }
-        let Ok(uart) = Uart::from_data(alloc, saved, wire) else {
-            return Err(RestoreError::OutOfMemory);
-        };
+        if saved.transmitter.wire_capacity > WIRE_ROOM {
+            return Err(RestoreError::BadWire);
+        }
+        let mut sent = FixedWire::new(saved.transmitter.wire_capacity);
+        send(&mut sent, wire);
+        let uart = Uart::from_parts(
+            FixedFifo::new(0),
+            sent,
+            FixedFifo::new(Character::default()),
+            NoMarks,
+            saved,
+        );
         Ok(Self { uart })
     }
 }

@@ -1,7 +1,7 @@
 //! Worked examples on a live chip.
 use super::{DATA, FCR, IER, ISR, LCR, LSR, MCR, MSR, SPR};
 use crate::{
-    BuildError, Character, Chip, ChipData, InputError, LiveChip, Origin, RestoreError, Shifting,
+    Character, Chip, ChipData, ChipError, InputError, LiveChip, Origin, RestoreError, Shifting,
 };
 use bitflags::Flags;
 use std::error::Error;
@@ -10,8 +10,8 @@ use std::process::Abort;
 use std::test::Fail;
 use uart_spec::registers;
 
-fn live(rt: &HostRuntime, chip: Chip) -> Result<LiveChip, Fail> {
-    Ok(LiveChip::new(rt.alloc(), chip, 4, 64)?)
+fn live(chip: Chip) -> Result<LiveChip, Fail> {
+    Ok(LiveChip::new(chip, 4, 64)?)
 }
 
 // An owner's view of the chip: what is on the wire, to go out, and waiting, and the room for both.
@@ -27,7 +27,7 @@ fn lengths(chip: &LiveChip) -> [usize; 5] {
 
 #[test]
 fn a_byte_goes_out_and_a_character_comes_in(rt: HostRuntime) -> Result<(), Fail> {
-    let mut chip = live(&rt, Chip::Uart16550A)?;
+    let mut chip = live(Chip::Uart16550A)?;
     chip.write(DATA, 0x41);
     assert_eq!(rt; lengths(&chip), [0, 1, 0, 64, 1]);
     assert_eq!(rt; chip.ticks(4), 2);
@@ -46,12 +46,12 @@ fn a_byte_goes_out_and_a_character_comes_in(rt: HostRuntime) -> Result<(), Fail>
 fn live_chips_are_built_up_to_the_limits(rt: HostRuntime) -> Result<(), Fail> {
     for (char_ticks, wire_capacity, want) in [
         (1, 0, None),
-        (1000, 65_536, None),
-        (0, 65_537, Some(BuildError::BadTicks)),
-        (1001, 0, Some(BuildError::BadTicks)),
-        (1, 65_537, Some(BuildError::BadWire)),
+        (1000, 64, None),
+        (0, 65, Some(ChipError::BadTicks)),
+        (1001, 0, Some(ChipError::BadTicks)),
+        (1, 65, Some(ChipError::BadWire)),
     ] {
-        let built = LiveChip::new(rt.alloc(), Chip::Uart16450, char_ticks, wire_capacity);
+        let built = LiveChip::new(Chip::Uart16450, char_ticks, wire_capacity);
         assert_eq!(rt; built.err(), want, "with {char_ticks} ticks");
     }
     Ok(())
@@ -59,7 +59,7 @@ fn live_chips_are_built_up_to_the_limits(rt: HostRuntime) -> Result<(), Fail> {
 
 #[test]
 fn the_divisor_and_overflows(rt: HostRuntime) -> Result<(), Fail> {
-    let mut chip = live(&rt, Chip::Uart16450)?;
+    let mut chip = live(Chip::Uart16450)?;
     for (register, value) in [
         (LCR, 0x83),
         (DATA, 0x0c),
@@ -77,7 +77,7 @@ fn the_divisor_and_overflows(rt: HostRuntime) -> Result<(), Fail> {
 // The line is up as long as ISR shows an interrupt, and what serves the interrupt takes it down.
 #[test]
 fn the_interrupt_line(rt: HostRuntime) -> Result<(), Fail> {
-    let mut chip = live(&rt, Chip::Uart16450)?;
+    let mut chip = live(Chip::Uart16450)?;
     assert!(rt; !chip.is_interrupting());
     chip.write(IER, 0x0f);
     assert!(rt; chip.is_interrupting());
@@ -96,7 +96,7 @@ fn the_interrupt_line(rt: HostRuntime) -> Result<(), Fail> {
 
 #[test]
 fn other_bits_do_not_come_in(rt: HostRuntime) -> Result<(), Fail> {
-    let mut chip = live(&rt, Chip::Uart16450)?;
+    let mut chip = live(Chip::Uart16450)?;
     let refused = chip.arrive(0x41, registers::LSR::OVERRUN_ERROR);
     assert_eq!(rt; refused, Err(InputError::BadErrors));
     let refused = chip.set_lines(registers::MSR::DELTA_CTS);
@@ -107,7 +107,7 @@ fn other_bits_do_not_come_in(rt: HostRuntime) -> Result<(), Fail> {
 
 #[test]
 fn bytes_leave_a_full_wire_in_order(rt: HostRuntime) -> Result<(), Fail> {
-    let mut chip = LiveChip::new(rt.alloc(), Chip::Uart16550A, 1, 2)?;
+    let mut chip = LiveChip::new(Chip::Uart16550A, 1, 2)?;
     chip.write(FCR, 0x01);
     for byte in [1, 2, 3, 4, 5] {
         chip.write(DATA, byte);
@@ -126,7 +126,7 @@ fn characters_are_read_in_order_or_an_overrun_shows(rt: HostRuntime) -> Result<(
         (Chip::Uart16550A, 0x61, [1, 2, 3]),
         (Chip::Uart16450, 0x63, [3, 3, 3]),
     ] {
-        let mut chip = live(&rt, chip)?;
+        let mut chip = live(chip)?;
         chip.write(FCR, 0x01);
         for byte in [1, 2, 3] {
             chip.arrive(byte, registers::LSR::empty())?;
@@ -139,8 +139,8 @@ fn characters_are_read_in_order_or_an_overrun_shows(rt: HostRuntime) -> Result<(
 
 // A chip that is busy in each part: bytes on the wire, in the shift place and behind it, characters of which one has an error, an
 // overrun, changed lines, and interrupts.
-fn busy(rt: &HostRuntime) -> Result<LiveChip, Fail> {
-    let mut chip = live(rt, Chip::Uart16550A)?;
+fn busy() -> Result<LiveChip, Fail> {
+    let mut chip = live(Chip::Uart16550A)?;
     chip.write(FCR, 0x41);
     chip.write(IER, 0x0f);
     chip.write(LCR, 0x1b);
@@ -184,8 +184,8 @@ fn go_on_alike(rt: &impl Abort, one: &mut LiveChip, other: &mut LiveChip) {
 
 #[test]
 fn a_restored_chip_behaves_as_the_saved_one(rt: HostRuntime) -> Result<(), Fail> {
-    let mut saved = busy(&rt)?;
-    let mut restored = LiveChip::from_data(rt.alloc(), &saved.data(), saved.wire())?;
+    let mut saved = busy()?;
+    let mut restored = LiveChip::from_data(&saved.data(), saved.wire())?;
     assert_eq!(rt; lengths(&restored), [1, 2, 16, 63, 0]);
     go_on_alike(&rt, &mut saved, &mut restored);
     assert_eq!(rt; restored.wire(), [1, 2, 3].as_slice());
@@ -194,7 +194,7 @@ fn a_restored_chip_behaves_as_the_saved_one(rt: HostRuntime) -> Result<(), Fail>
 
 #[test]
 fn a_read_of_a_plain_register_changes_nothing(rt: HostRuntime) -> Result<(), Fail> {
-    let (mut read, mut unread) = (busy(&rt)?, busy(&rt)?);
+    let (mut read, mut unread) = (busy()?, busy()?);
     for (offset, want) in [(IER, 0x0f), (LCR, 0x1b), (MCR, 0x0b), (SPR, 0xa5)] {
         assert!(rt; offset < 8);
         assert_eq!(rt; read.read(offset), want);
@@ -291,7 +291,7 @@ fn only_data_of_a_live_chip_are_restored(rt: HostRuntime) -> Result<(), Fail> {
         (Change::CharTicks(1001), false),
         (Change::WireCapacity(0), false),
         (Change::WireCapacity(1), true),
-        (Change::WireCapacity(65_536), true),
+        (Change::WireCapacity(64), true),
         (Change::WireCapacity(65_537), false),
         (Change::Waiting(0x1c), true),
         (Change::Waiting(0x02), false),
@@ -300,15 +300,26 @@ fn only_data_of_a_live_chip_are_restored(rt: HostRuntime) -> Result<(), Fail> {
         (Change::TimeoutTicks(16), true),
         (Change::TimeoutTicks(17), false),
     ] {
-        let mut data = live(&rt, Chip::Uart16450)?.data();
+        let mut data = live(Chip::Uart16450)?.data();
         make(change, &mut data);
-        let refused = LiveChip::from_data(rt.alloc(), &data, &[0x41]).err();
+        let refused = LiveChip::from_data(&data, &[0x41]).err();
         let want = if is_restored {
             None
         } else {
             Some(RestoreError::BadData)
         };
         assert_eq!(rt; refused, want, "{change:?}");
+    }
+    Ok(())
+}
+
+#[test]
+fn a_longer_wire_is_not_restored(rt: HostRuntime) -> Result<(), Fail> {
+    for wire_capacity in [65, 65_536] {
+        let mut data = live(Chip::Uart16450)?.data();
+        make(Change::WireCapacity(wire_capacity), &mut data);
+        let refused = LiveChip::from_data(&data, &[0x41]).err();
+        assert_eq!(rt; refused, Some(RestoreError::BadWire), "{wire_capacity}");
     }
     Ok(())
 }
@@ -321,6 +332,14 @@ fn text<E: Error>(error: E) -> InlineText<128> {
 fn texts_of_the_refusals(rt: HostRuntime) {
     let texts = [
         (
+            text(ChipError::BadTicks),
+            "a character takes 1 to 1000 ticks",
+        ),
+        (
+            text(ChipError::BadWire),
+            "the wire has room for at most 64 bytes",
+        ),
+        (
             text(InputError::BadErrors),
             "a character has other error bits than parity, framing and break",
         ),
@@ -332,7 +351,10 @@ fn texts_of_the_refusals(rt: HostRuntime) {
             text(RestoreError::BadData),
             "the data are not those of a sound chip",
         ),
-        (text(RestoreError::OutOfMemory), "out of memory"),
+        (
+            text(RestoreError::BadWire),
+            "the wire has room for at most 64 bytes",
+        ),
     ];
     for (shown, expected) in &texts {
         assert_eq!(rt; shown.as_str(), *expected);

@@ -128,11 +128,7 @@ fn live_data() -> ChipData {
 
 #[test]
 fn data_are_a_live_chip(rt: HostRuntime) -> Result<(), Fail> {
-    let restored: Result<LiveChip, RestoreError> = LiveChip::from_data(
-        rt.alloc(),
-        &live_data(),
-        &[],
-    );
+    let restored: Result<LiveChip, RestoreError> = LiveChip::from_data(&live_data(), &[]);
     let mut chip = restored?;
     chip.ticks(1);
     assert_eq!(rt; chip.wire(), [0x41].as_slice());
