@@ -29,7 +29,7 @@ def of(package):
     return files
 
 
-def causes(files):
+def causes(files, allow=table):
     """What is wrong with the files by hand."""
     found = [f"{name}: not a plain file" for name, text in files.items() if text is None]
     files = {name: text for name, text in files.items() if text is not None}
@@ -53,13 +53,16 @@ def causes(files):
         if odd and name.endswith(".rs"):
             found.append(f"{name}: `{odd[1] or odd[2] or odd[3]}`")
         code = re.sub(r"(?m)//.*$", "", text)
-        for path, guard in table.GUARDS.items():
+        for hidden in allow.HIDDEN + allow.HIDDEN_IN:
+            if name.endswith(".rs") and re.search(rf"\b{hidden}\b", code):
+                found.append(f"{name}: `{hidden}`, which is not exported")
+        for path, guard in allow.GUARDS.items():
             function = path.split("::")[-1]
             if guard.reason == table.INSIDE and re.search(rf"\b{function}\b", code):
                 found.append(f"{name}: `{function}`, which requires something and tests nothing")
-    reserved = table.NAMES_OF_STD.union(table.FLAGS, table.FLAGS_TOO)
+    reserved = allow.NAMES_OF_STD.union(allow.FLAGS, allow.FLAGS_TOO)
     for function in re.findall(r"\bfn (\w+)", files.get("src/flags.rs", "")):
-        if function not in reserved and function not in table.SAME_NAME:
+        if function not in reserved and function not in allow.SAME_NAME:
             found.append(f"src/flags.rs: `{function}`, a name that is not reserved")
     return found + cargo(files["Cargo.toml"])
 

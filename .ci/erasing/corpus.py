@@ -10,18 +10,21 @@ import subprocess
 import tempfile
 import types
 
+import chip
 import crate
-import table
 import words
 
 RUNNER = re.compile(r"(interpreter|checked|native): |run=")
 FOLDER = pathlib.Path(__file__).resolve().parent / "corpus"
 TABLE = types.SimpleNamespace(
     **{
-        **vars(table),
+        **vars(chip.TABLE),
+        "MODULES": {},
         "CRATES": ["corpus"],
         "ERRORS": [],
         "LEFT_OUT": {},
+        "LEFT_OUT_ITEMS": {},
+        "HIDDEN_IN": [],
         "LEMMA_FILES": [],
         "LEMMAS": [],
         "CONSTANT": [],
@@ -29,7 +32,7 @@ TABLE = types.SimpleNamespace(
         "IMPLEMENTED": {},
         "LARGE": {"corpus/src/values.rt": ["115_200"]},
         "CASTS": {f"corpus::traits::Cells::{name}": ["offset"] for name in ("read_one", "write_one")},
-        "SAME_NAME": {**table.SAME_NAME, "new": ("impl Cells", "")},
+        "SAME_NAME": {**chip.SAME_NAME, "new": ("impl Cells", "")},
     }
 )
 

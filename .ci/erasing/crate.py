@@ -18,9 +18,6 @@ ROOT_TEXT = """//! The proved crates, erased: made by `.ci/erase emit` from `cra
 #![forbid(unsafe_code)]
 #![allow(unused_imports, unused_parens, unused_braces, dead_code, clippy::all, clippy::pedantic)]
 
-pub mod uart_16550;
-pub mod uart_ring;
-pub mod uart_spec;
 """
 LIST_TEXT = """# What the eraser dropped: rule, item, what. Made by `.ci/erase emit`.
 # Read each change of it in a review.
@@ -185,11 +182,11 @@ def erase(file):
     return text
 
 
-def emitted(root, expand=expanded, kit_of=kit):
-    """All files of the emitted folder by name, with their bytes."""
-    found = sources(root, table.CRATES)
-    wanted = [name for name in found if name not in table.LEFT_OUT]
-    for name in list(table.LEFT_OUT) + table.LEMMA_FILES:
+def emitted(root, allow=table, expand=expanded, kit_of=kit):
+    """All files of the emitted folder of a table by name, with their bytes."""
+    found = sources(root, allow.CRATES)
+    wanted = [name for name in found if name not in allow.LEFT_OUT]
+    for name in list(allow.LEFT_OUT) + allow.LEMMA_FILES:
         if name not in found:
             raise Failed(f"crates/{name}: listed, and not there")
     to_expand = [name for name in wanted if b"use thiserror::Error" in found[name]]
@@ -199,19 +196,19 @@ def emitted(root, expand=expanded, kit_of=kit):
         texts = {name: text_of(name, texts.get(name, found[name])) for name in wanted}
         for name in wanted:
             text_of(name, found[name])
-        files, dropped = files_of(texts)
-        listed = manifest(version.result(), found, files)
+        files, dropped = files_of(texts, allow)
+        listed = manifest(version.result(), found, files, allow)
     files["DROPPED"] = dropped
-    files["MANIFEST"] = listed + f"{hashlib.sha256(dropped.encode()).hexdigest()}  {table.OUTPUT}/DROPPED\n"
+    files["MANIFEST"] = listed + f"{hashlib.sha256(dropped.encode()).hexdigest()}  {allow.OUTPUT}/DROPPED\n"
     return {name: text.encode("ascii") for name, text in files.items()}
 
 
-def files_of(texts):
+def files_of(texts, allow=table):
     """The Rust files and the list of what was dropped, of sources by name."""
     causes, read_files = [], []
     for name, text in texts.items():
         try:
-            read_files.append(read(name, text))
+            read_files.append(read(name, text, allow))
         except Failed as cause:
             causes.append(str(cause))
     known = known_functions(read_files)
@@ -222,16 +219,17 @@ def files_of(texts):
             causes.append(refusal(file.name, file.text, cause))
     if causes:
         raise Failed("\n".join(causes))
-    check_whole(read_files, texts)
-    files = {"mod.rs": ROOT_TEXT, examples.SHARED_NAME: examples.SHARED}
+    check_whole(read_files, texts, allow)
+    modules = "".join(f"pub mod {name};\n" for name in sorted(allow.CRATES))
+    files = {"mod.rs": ROOT_TEXT + modules, examples.SHARED_NAME: allow.SHARED}
     dropped = collections.Counter()
     for file in read_files:
         dropped.update(one for one in file.dropped)
         if not file.is_lemmas:
             files[target_of(file.name)] = erase(file)
-    for name, reason in table.LEFT_OUT.items():
+    for name, reason in allow.LEFT_OUT.items():
         dropped[("file", name, reason)] += 1
-    for name in table.LEMMA_FILES:
+    for name in allow.LEMMA_FILES:
         dropped[("file", name, "lemmas")] += 1
     lines = []
     for one, count in dropped.items():
@@ -240,20 +238,20 @@ def files_of(texts):
     return files, LIST_TEXT + "".join(sorted(lines))
 
 
-def check_whole(files, texts):
+def check_whole(files, texts, allow=table):
     """What is to be looked at over all files."""
     functions = [function for file in files for function in file.functions]
     paths = collections.Counter(function.path for function in functions)
-    special = list(table.GUARDS) + table.CONSTANT + table.LEMMAS + list(table.IMPLEMENTED) + list(table.CASTS)
+    special = list(allow.GUARDS) + allow.CONSTANT + allow.LEMMAS + list(allow.IMPLEMENTED) + list(allow.CASTS)
     for path in special:
         if paths[path] != 1:
             raise Failed(f"{path}: listed, and there are {paths[path]} of it")
-    testing = {path.split("::")[-1] for path, guard in table.GUARDS.items() if guard.test or guard.tested_by}
-    tested = {path: guard.tested_by for path, guard in table.GUARDS.items()}
-    for path, name in [*tested.items(), *table.IMPLEMENTED.items()]:
+    testing = {path.split("::")[-1] for path, guard in allow.GUARDS.items() if guard.test or guard.tested_by}
+    tested = {path: guard.tested_by for path, guard in allow.GUARDS.items()}
+    for path, name in [*tested.items(), *allow.IMPLEMENTED.items()]:
         if name is not None and name not in testing:
             raise Failed(f"{path}: {name} tests nothing")
-    reachable = {file for one in files for file in one.modules} | {f"{crate}/src/lib.rt" for crate in table.CRATES}
+    reachable = {file for one in files for file in one.modules} | {f"{crate}/src/lib.rt" for crate in allow.CRATES}
     for file in files:
         if file.name not in reachable and not file.is_lemmas:
             raise Failed(f"crates/{file.name}: no module declares it")
@@ -262,10 +260,10 @@ def check_whole(files, texts):
             raise Failed(f"crates/{file.name}: {count} lines begin a function, and {len(file.functions)} were read")
     for name in reachable - {file.name for file in files}:
         raise Failed(f"crates/{name}: declared, and not there")
-    check_traits(files, functions)
+    check_traits(files, functions, allow)
 
 
-def check_traits(files, functions):
+def check_traits(files, functions, allow):
     """Own traits are for own types alone, and what a method of a trait requires is tested in each."""
     for file in files:
         for name in set(file.models) & set(file.open_types):
@@ -280,22 +278,22 @@ def check_traits(files, functions):
             if name not in types:
                 raise Failed(f"crates/{file.name}: an `impl` for {name}, which is not ours")
     for function in functions:
-        implemented = re.match(r"impl (.* :: )?(\w+) for ", function.owner or "")
+        implemented = re.match(r"impl (.* :: )?(\w+)( <.*>)? for ", function.owner or "")
         if not implemented or implemented[2] not in traits:
             continue
         trait = implemented[2]
         declared = [one for one in functions if (one.owner, one.name) == (f"trait {trait}", function.name)]
-        if any(one.requires for one in declared) and function.path not in table.IMPLEMENTED:
+        if any(one.requires for one in declared) and function.path not in allow.IMPLEMENTED:
             cause = f"{trait} requires something of its callers, and nothing says what tests it"
             raise Failed(f"{function.path}: {cause}")
 
 
-def manifest(version, found, files):
+def manifest(version, found, files, allow):
     lines = [f"kit {version}\n"]
     for name, data in sorted(found.items()):
         lines.append(f"{hashlib.sha256(data).hexdigest()}  crates/{name}\n")
     for name, text in sorted(files.items()):
-        lines.append(f"{hashlib.sha256(text.encode()).hexdigest()}  {table.OUTPUT}/{name}\n")
+        lines.append(f"{hashlib.sha256(text.encode()).hexdigest()}  {allow.OUTPUT}/{name}\n")
     return MANIFEST_TEXT + "".join(lines)
 
 

@@ -1,7 +1,6 @@
 """The documentation of an emitted file: examples that compile in Rust, and what a guard panics for."""
 import re
 
-from examples import EXAMPLES
 from items import Edit
 from tokens import Refused
 
@@ -27,8 +26,10 @@ def continues(file, last, comment):
 def blocks(file):
     """Each run of lines of documentation, with the path of the item that it is about."""
     places = sorted(file.places)
+    gone = [edit for edit in file.edits if edit.rule == "item"]
+    kept = [one for one in file.comments if not any(edit.start <= one.start < edit.end for edit in gone)]
     block = []
-    for comment in [one for one in file.comments if re.match(r"//[/!]( |$)", one.text)] + [None]:
+    for comment in [one for one in kept if re.match(r"//[/!]( |$)", one.text)] + [None]:
         if block and (comment is None or not continues(file, block[-1], comment)):
             item = next((path for start, path in places if start > block[0].start), None)
             between = next((start for start, _ in places if start > block[0].start), None)
@@ -46,9 +47,9 @@ def example(file, comments, path):
     for comment in comments:
         fence = FENCE.match(comment.text)
         if fence:
-            if fence[2] or path not in EXAMPLES:
+            if fence[2] or path not in file.table.EXAMPLES:
                 raise Refused(f"an example that is not listed: {path}", comment.start)
-            before, behind = EXAMPLES[path]
+            before, behind = file.table.EXAMPLES[path]
             line = file.text.rfind("\n", 0, comment.start) + 1
             indent = file.text[line : comment.start]
             lines = [f"{indent}{fence[1]} {one}\n" for one in (behind if inside else before)]

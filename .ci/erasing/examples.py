@@ -233,3 +233,36 @@ for path, like in {
     EXAMPLES[path] = EXAMPLES[like]
 for register in ("lcr", "mcr", "lsr", "msr", "spr"):
     EXAMPLES[f"uart_16550::driver::status::Uart16550::{register}"] = compiles(UART + ", shown: &ConfigRegisterDump")
+
+
+# The examples of the chip.
+SHARED_OF_CHIP = """// What the examples of the documentation share. Each includes this file; the crate itself does not.
+#[allow(unused_imports)]
+use uart_16550_chip::registers::{LSR, MSR};
+#[allow(unused_imports)]
+use uart_16550_chip::{Chip, ChipData, ChipError, LiveChip};
+
+#[allow(dead_code)]
+type Outcome<T = ()> = Result<T, Box<dyn std::error::Error>>;
+"""
+CHIP = "chip: &mut LiveChip"
+OF_CHIP = {
+    "uart_live::live::LiveChip": compiles(f"{CHIP}, offset: u8, value: u8, elapsed: u16, sink: &mut [u8]"),
+    "uart_live::live::LiveChip::new": (INCLUDE + ["# fn example() -> Result<LiveChip, ChipError> {"], ["# }"]),
+    "uart_live::live::LiveChip::read": compiles(f"{CHIP}, offset: u8"),
+    "uart_live::live::LiveChip::write": compiles(f"{CHIP}, offset: u8, value: u8, elapsed: u16"),
+    "uart_live::live::LiveChip::ticks": compiles(f"{CHIP}, elapsed: u16"),
+    "uart_live::live::LiveChip::arrive": compiles(f"{CHIP}, byte: u8"),
+    "uart_live::live::LiveChip::set_lines": compiles(CHIP),
+    "uart_live::live::LiveChip::is_interrupting": (
+        INCLUDE
+        + ["# mod monitor {", "# pub struct Outcome { pub sent: usize, pub is_interrupting: bool }", "# }"]
+        + [f"# fn example({CHIP}, sent: usize) -> monitor::Outcome {{", "# use monitor::Outcome;"],
+        ["# }"],
+    ),
+    "uart_live::live::LiveChip::wire": compiles(f"{CHIP}, sink: &mut [u8]"),
+    "uart_live::live::LiveChip::take_wire": compiles(f"{CHIP}, sent: usize"),
+    "uart_live::live::LiveChip::receive_room": compiles(f"{CHIP}, byte: u8"),
+    "uart_live::live::snapshot::LiveChip::data": compiles(CHIP),
+    "uart_live::live::snapshot::LiveChip::from_data": compiles(f"{CHIP}, saved: &ChipData"),
+}

@@ -27,7 +27,6 @@ FORMATTER = re.compile(
 
 OPENING = {"(": ")", "[": "]", "{": "}"}
 ITEMS = ("fn", "impl", "mod", "trait", "struct", "enum", "use", "pub", "const", "type")
-INLINES = ("inline", "inline ( always )")
 VISIBILITIES = ("pub", "pub ( crate )", "pub ( super )")
 
 
@@ -180,10 +179,68 @@ class File:
             self.at += 1
         elif word == "final":
             self.refuse("a `final` function")
+        elif self.is_left_out(word, owner):
+            self.leave_out(first, path)
         elif word in reads:
             reads[word](first, attributes, visibility, path, owner, end)
         else:
             self.refuse(f"an item that begins with `{word}`")
+
+    # Items that are left out.
+
+    def head_end(self):
+        """The index of the brace or the semicolon behind the head of the item that begins here."""
+        at = self.at
+        while self.word(at) not in ("{", ";") or self.kind(at) != "sign":
+            if at >= len(self.code):
+                self.refuse("an item with no end")
+            at = self.closing(at) + 1 if self.word(at) in OPENING else at + 1
+        return at
+
+    def is_left_out(self, word, owner):
+        """Whether an item is one of those that the table leaves out, or an `impl` whose head names one."""
+        if owner or word not in ("struct", "enum", "fn", "impl"):
+            return False
+        if word != "impl":
+            return self.word(self.at + 1) in self.table.LEFT_OUT_ITEMS
+        return any(token.text in self.table.LEFT_OUT_ITEMS for token in self.code[self.at : self.head_end()])
+
+    def leave_out(self, first, path):
+        at = self.head_end()
+        close = self.closing(at) if self.word(at) == "{" else at
+        head = [token.text for token in self.code[self.at : at] if token.kind == "word"]
+        name = next(word for word in head if word in self.table.LEFT_OUT_ITEMS)
+        for inside in range(self.at, close):
+            if self.word(inside) == "fn" and self.kind(inside) == "word":
+                function = self.word(inside + 1)
+                self.functions.append(Function(f"{path}::{name}::{function}", function, False, None, [], False))
+        self.drop("item", first, close, f"{path}::{name}", self.word(self.at))
+        self.at = close + 1
+
+    def left_out_of_use(self, path, visibility, first, close):
+        """Whether a whole `use` is dropped, as it names only what is left out. Takes the other names out of its list."""
+        opened = next((at for at in range(self.at, close) if self.word(at) == "{"), None)
+        head = [token.text for token in self.code[self.at + 1 : opened or close] if token.kind == "word"]
+        names = self.words(opened + 1, close - 1).strip(" ,").split(" , ") if opened else head[-1:]
+        kept = [name for name in names if name not in self.table.LEFT_OUT_ITEMS]
+        if self.is_of_left_out(head):
+            kept = []
+        if visibility == "pub" and path.split("::")[0] not in self.table.HIDDEN_IN:
+            for name in set(kept) & set(self.table.HIDDEN):
+                self.refuse(f"{name} is exported, and the table says that it is not")
+        if not kept:
+            self.drop("item", first, close, path, f"use {', '.join(names)}", comments=False)
+        elif kept != names:
+            self.change("item", opened, close - 1, f"{{{', '.join(kept)}}}")
+            left_out = [name for name in names if name not in kept]
+            self.dropped.append(Dropped("item", path, f"use {', '.join(left_out)}"))
+        return not kept
+
+    def is_of_left_out(self, head):
+        """Whether the path of a `use` goes through a file that is left out."""
+        crate = self.name.split("/")[0]
+        inside = head[1:] if head[0] == "crate" else head if self.name.endswith("/lib.rt") else []
+        return bool(inside) and f"{crate}/src/{inside[0]}.rt" in self.table.LEFT_OUT
 
     def attribute(self, attributes, names):
         """Keeps, changes or refuses the attributes of an item that is kept."""
@@ -192,7 +249,7 @@ class File:
                 self.drop("tactic", first, close, self.module, comments=False)
             elif name not in names:
                 self.refuse(f"the attribute `{name}` here", first)
-            elif name == "inline" and self.words(first + 2, close) not in INLINES:
+            elif name == "inline" and self.words(first + 2, close) not in self.table.INLINES:
                 self.refuse("an `inline` of another form", first)
             elif name in ("default", "automatically_derived") and close != first + 3:
                 self.refuse(f"a `{name}` of another form", first)
@@ -218,6 +275,8 @@ class File:
             pass
         elif "*" in text.split():
             self.refuse("a `use` of everything")
+        elif self.left_out_of_use(path, visibility, first, close):
+            pass
         elif text == "use std :: fmt ;" and re.search(r"\.write_char\(", self.text):
             self.change("writer", self.at, close, "use ::core::fmt;\nuse ::core::fmt::Write as _;")
         for at in range(self.at, close):
@@ -346,13 +405,17 @@ class File:
 
     def bounds(self, first, end):
         """Drops `Drop` from the bounds between two indices, and refuses parameters that could be taken for a type."""
+        depth = 0
         for at in range(first, end):
-            if self.word(at - 1) in ("<", ",") and self.kind(at) == "word" and self.word(at + 1) in (":", ",", ">"):
-                if len(self.word(at)) > 1 and at > first:
+            depth += {"<": 1, ">": -1}.get(self.word(at), 0)
+            if depth == 1 and self.word(at - 1) in ("<", ",") and self.word(at + 1) in (":", ",", ">"):
+                if self.kind(at) == "word" and len(self.word(at)) > 1:
                     self.refuse(f"a parameter `{self.word(at)}` that is no single letter", at)
+            if depth == 1 and self.word(at) == "=":
+                self.default_type(at, end)
             if self.word(at) != "Drop":
                 continue
-            if self.word(at - 1) == "+" and self.word(at + 1) in (",", ">", "+"):
+            if self.word(at - 1) == "+" and self.word(at + 1) in (",", ">", "+", "="):
                 start = self.code[at - 2].end
                 self.edits.append(Edit("drop", start, self.code[at].end, ""))
             elif self.word(at - 1) == ":" and self.word(at + 1) in (",", ">"):
@@ -360,6 +423,18 @@ class File:
             else:
                 self.refuse("a bound `Drop` of another form", at)
             self.dropped.append(Dropped("drop", self.module, f"bound of {self.word(at - 2)}"))
+
+    def default_type(self, first, end):
+        """Drops the default of a type parameter that names an item that is left out."""
+        depth, at = 0, first + 1
+        while at < end and (depth > 0 or self.word(at) not in (",", ">")):
+            depth += {"<": 1, ">": -1}.get(self.word(at), 0)
+            at += 1
+        named = [token.text for token in self.code[first:at] if token.text in self.table.LEFT_OUT_ITEMS]
+        if not named:
+            self.refuse("a default of a type parameter", first)
+        self.edits.append(Edit("item", self.code[first - 1].end, self.code[at - 1].end, ""))
+        self.dropped.append(Dropped("item", self.module, f"default {self.words(first + 1, at)}"))
 
     def where(self, at):
         """The index behind a `where` and its conditions, which are all `NAME: Drop`. It is dropped by the caller."""
@@ -378,7 +453,8 @@ class File:
         name = self.word(self.at + 1)
         self.own_name(self.at + 1, None)
         self.traits.append(name)
-        at = self.at + 2
+        at = self.behind_generics(self.at + 2)
+        self.bounds(self.at + 2, at)
         while self.word(at) != "{":
             if self.word(at) in ("where", ";", "<"):
                 self.refuse("a trait of another form", at)
@@ -579,6 +655,8 @@ class File:
             return
         owner = form.owner or ""
         is_reached = form.visibility == "pub" or owner.startswith("trait ") or " for " in owner
+        if guard.reason == self.table.HIDDEN_INSIDE and not set(form.path.split("::")[-2:]) & set(self.table.HIDDEN):
+            self.refuse(f"{form.path} can be reached, and its guard says that it is not exported", form.start)
         if guard.reason == self.table.INSIDE and (is_reached or guard.test):
             self.refuse(f"{form.path} can be reached, and its guard says that it is private", form.start)
         if guard.reason == self.table.NO_BODY and form.has_body:
@@ -595,7 +673,7 @@ class File:
         """A cast to `usize` is one of those that are listed for this function."""
         for what in self.table.CASTS.get(whole, []):
             count = len(what.split())
-            if self.words(at - count, at) == what and self.word(at - count - 1) in ("(", "[", ",", "*", "+", "="):
+            if self.words(at - count, at) == what and self.word(at - count - 1) in ("(", "[", ",", "*", "+", "=", "match"):
                 return
         self.refuse("a cast to `usize` that is not listed", at)
 

@@ -14,7 +14,7 @@ GONE = [
     r"\bghost use [^;]*;",
     rf"\bghost \w+(?::| =) {BRACES}[;,]",
     r"#!?\[tactic\((?:[^()]|\([^()]*\))*\)\]",
-    r"\bimpl<\w> Model for \w+<\w>\s*\{\s*\}",
+    r"\bimpl(?:<[^{]*?>)? Model\s+for [^{]*\{\s*\}",
     r"\buse (?:thiserror::Error|std::marker::Model);",
     r"#\[cfg\(test\)\]\s*mod tests;",
     r"\bpub mod (?:laws|replay);",
@@ -34,6 +34,33 @@ CHANGED = [
 ]
 
 
+def left_out(text, crate, allow):
+    """The text without the items that are left out by name, and without what names them."""
+    names = "|".join(allow.LEFT_OUT_ITEMS)
+    files = "|".join(name[len(f"{crate}/src/") : -len(".rt")] for name in allow.LEFT_OUT if re.match(rf"{crate}/src/(?!tests)", name))
+    if not names:
+        return text
+    if files:
+        text = re.sub(rf"(?:pub )?mod (?:{files});", "", text)
+        text = re.sub(rf"(?:pub )?use (?:crate::)?(?:{files})::[^;]*;", "", text)
+    attributes = r"(?m)(?:^#\[[^\n]*\]\n)*^"
+    text = re.sub(rf"{attributes}impl\b[^{{]*\b(?:{names})\b[^{{]*\{{(?:\n.*?^)?\}}", "", text, flags=re.DOTALL)
+    text = re.sub(rf"{attributes}(?:pub )?(?:struct|enum|fn) (?:{names})\b.*?^\}}", "", text, flags=re.DOTALL)
+    text = re.sub(rf" = (?:{names})\b(?:<\w+>)?(?=[,>])", "", text)
+    text = re.sub(rf"\buse [\w:]+::(?:{names});", "", text)
+    # of the list of a `use` the names that are left, or nothing
+    lists = re.compile(r"((?:pub )?use [\w:]+::\{)([^}]*)(\};)")
+
+    def shorter(found):
+        listed = [name for name in re.split(r"[\s,]+", found[2]) if name]
+        kept = [name for name in listed if name not in allow.LEFT_OUT_ITEMS]
+        if kept == listed:
+            return found[0]
+        return f"{found[1]}{', '.join(kept)}{found[3]}" if kept else ""
+
+    return lists.sub(shorter, text)
+
+
 def without_comments(text):
     return CODE_OR_COMMENT.sub(lambda found: found[1] or "", text)
 
@@ -42,7 +69,7 @@ def words(text):
     return re.findall(r"\w+|[^\w\s]", without_comments(text))
 
 
-def marked(text, module):
+def marked(text, module, allow):
     """`const` and guards put in, line by line: a function is known by the `impl` or `trait` above it."""
     lines, owner, guard = [], "", None
     for line in text.split("\n"):
@@ -52,45 +79,45 @@ def marked(text, module):
         function = re.match(r"( *)((?:pub(?:\(\w+\))? )?)fn (\w+)", line)
         if function:
             path = f"{module}::{owner}{function[3]}"
-            if path in table.CONSTANT:
+            if path in allow.CONSTANT:
                 line = line.replace("fn ", "const fn ", 1)
-            guard = table.GUARDS[path].test if path in table.GUARDS else None
+            guard = allow.GUARDS[path].test if path in allow.GUARDS else None
         if guard and line.rstrip().endswith("{"):
             line, guard = f"{line} {guard}", None
         lines.append(line)
     return "\n".join(lines)
 
 
-def erased(name, text):
+def erased(name, text, allow):
     """What a source becomes, as text without comments."""
     crate = name.split("/")[0]
     module = re.sub("::lib$", "", name.replace("/src/", "/")[: -len(".rt")].replace("/", "::"))
-    text = without_comments(text)
+    text = left_out(without_comments(text), crate, allow)
     for pattern in GONE:
         text = re.sub(pattern, "", text)
     for pattern, to in CHANGED:
         text = re.sub(pattern, to, text)
-    if name in table.ERRORS:
+    if name in allow.ERRORS:
         text = re.sub(r"#\[automatically_derived\]\s*impl<?>? std::error::Error for \w+\s*\{\s*\}", "", text)
-    text = marked(text.replace("impl<>", "impl"), module)
+    text = marked(text.replace("impl<>", "impl"), module, allow)
     if ".write_char(" in text:
         text = text.replace("use std::fmt;", "use std::fmt; use std::fmt::Write as _;")
     text = re.sub(r"(?<![\w:])crate(?=::)", f"crate::proved::{crate}", text)
-    text = re.sub(rf"(?<![\w:])({'|'.join(table.CRATES)})(?=::| as )", r"crate::proved::\1", text)
-    for head, to in table.MODULES.items():
+    text = re.sub(rf"(?<![\w:])({'|'.join(allow.CRATES)})(?=::| as )", r"crate::proved::\1", text)
+    for head, to in allow.MODULES.items():
         text = re.sub(rf"(?<![\w:]){head}(?=::)", to, text)
     return re.sub(r"(?<![\w:])std(?=::)", "::core", text)
 
 
-def differences(texts, files):
+def differences(texts, files, allow=table):
     """`texts` has the sources by name, expanded; `files` the emitted texts by name."""
     found = []
     for name, text in texts.items():
-        if name in table.LEFT_OUT or name in table.LEMMA_FILES:
+        if name in allow.LEFT_OUT or name in allow.LEMMA_FILES:
             continue
         crate, file = name.split("/src/")
         target = f"{crate}/{'mod' if file == 'lib.rt' else file[: -len('.rt')]}.rs"
-        mine, theirs = words(erased(name, text)), words(files.get(target, ""))
+        mine, theirs = words(erased(name, text, allow)), words(files.get(target, ""))
         if mine != theirs:
             at = next((i for i, pair in enumerate(zip(mine, theirs)) if pair[0] != pair[1]), -1)
             ours, other = (" ".join(one[max(at - 4, 0) : at + 6]) for one in (mine, theirs))

@@ -1,6 +1,8 @@
-"""What the eraser knows. docs/ERASER.md shows these tables."""
+"""What the eraser knows of the driver. docs/ERASER.md shows these tables, and those of the chip, in chip.py."""
 import collections
 import pathlib
+
+from examples import EXAMPLES, SHARED  # noqa: F401
 
 # Rule, what it finds, what it becomes.
 RULES = [
@@ -10,6 +12,7 @@ RULES = [
     ("tactic", "`#[tactic(..)]`, `#![tactic(..)]`", "nothing"),
     ("model", "`impl Model for ..` of ghost items alone, `use std::marker::Model;`", "nothing"),
     ("lemma", "a function listed in `LEMMAS`, or of a file listed there: no parameter, no result, no body", "nothing"),
+    ("item", "a type or a function in `LEFT_OUT_ITEMS`, each `impl` whose head names it, its name in a `use` or a default", "nothing"),
     ("file", "a file listed in `LEFT_OUT` or of lemmas, and its `mod NAME;`", "nothing"),
     ("thiserror", "`use thiserror::Error;` (`rt expand` has written out its implementations)", "nothing"),
     ("error", "an empty `impl std::error::Error` in a file of `ERRORS`", "nothing: `errors.rs` has it, with the source of the error"),
@@ -49,6 +52,13 @@ LEFT_OUT = {
     "uart_ring/src/tests/handler.rt": "tests, in rust/uart_16550_tests",
     "uart_ring/src/tests/lists.rt": "tests, in rust/uart_16550_tests",
 }
+
+# Types and functions that are left out by name, with the reason: the item, each `impl` whose head names it, its name in a `use`, and a
+# default of a type parameter that names it.
+LEFT_OUT_ITEMS = {}
+
+# Types and functions that are `pub` in a crate, and that the emitted crate does not export; and the crates that it does not export.
+HIDDEN, HIDDEN_IN = [], []
 
 # Files with lemmas and `use` alone, and single lemmas.
 LEMMA_FILES = ["uart_spec/src/laws.rt", "uart_16550/src/laws.rt", "uart_ring/src/laws.rt"]
@@ -109,6 +119,7 @@ COMPUTABLE = ["requires { IsComputable config }"]
 NOT_COMPUTABLE = "If the configuration is not computable (`Config::is_computable`)."
 NO_BODY = "no body: each implementation has its own entry"
 INSIDE = "private: each caller is proved to meet it"
+HIDDEN_INSIDE = "not exported: each caller is proved to meet it"
 EIGHT = 'assert!(register_offset < 8, "no register has this offset");'
 
 GUARDS = {
@@ -232,6 +243,7 @@ RENAMED = ["uart_spec as spec"]
 # What is let through. Anything else of its kind is refused.
 MACROS = ["matches", "format_args", "format_fields"]
 ATTRIBUTES = ["inline", "default", "automatically_derived"]
+INLINES = ["inline", "inline ( always )"]
 DERIVES = ["Clone", "Copy", "Debug", "PartialEq", "Eq", "PartialOrd", "Ord", "Hash", "Default"]
 PATHS = """
 std::alloc::Global std::cmp::Ordering std::error::Error std::fmt std::fmt::Display std::fmt::Display::fmt std::fmt::Formatter

@@ -7,6 +7,7 @@ import pathlib
 import tempfile
 
 import around
+import chip
 import crate
 import second
 import table
@@ -438,21 +439,64 @@ AROUND = [
 ]
 
 
-class Tests:
-    """The sources as they are, what is emitted of them, and the counts."""
+# The same for the chip: an edit of a source that is refused, a wrong erasure, an edit of a file by hand.
+CHIP_SOURCES = [
+    ("uart_live/src/lib.rt", "    Character, Chip,", "    Character, Uart, Chip,", "Uart is exported, and the table says that it is not"),
+    ("uart_live/src/live.rt", "use bitflags::Flags;", "pub use uart_chip::Uart;", "Uart is exported"),
+    ("uart_chip/src/chip.rt", "= HeapWire,", "= Vec<u8>,", "a default of a type parameter"),
+    ("uart_chip/src/chip.rt", "= HeapWire,", "= FixedWire,", "a default of a type parameter"),
+    ("uart_chip/src/fifo.rt", "pub trait Fifo<T>", "pub trait Fifo<Type>", "a parameter `Type` that is no single letter"),
+    ("uart_chip/src/fifo.rt", "pub struct FixedFifo<T>", "pub struct FixedFifo<T: Drop + Copy>", "a bound `Drop` of another form"),
+    ("uart_chip/src/fifo.rt", "pub struct HeapFifo<T>", "pub struct Heap<T>", "`HeapCircularBuffer`, which is left out"),
+    ("uart_chip/src/fifo.rt", "HeapCircularBuffer::with_capacity", "unsafe {}; HeapCircularBuffer::with_capacity", ""),
+    ("uart_chip/src/fifo.rt", "< FIFO_SIZE }\n        ensures", "≤ FIFO_SIZE }\n        ensures", "Fifo::push requires other things"),
+    ("uart_chip/src/wire.rt", "requires { capacity ≤ WIRE_ROOM }", "", "FixedWire::new requires other things"),
+    ("uart_chip/src/journal.rt", "use std::alloc::{AllocError, Global};", "use std::alloc::{AllocError, Layout};", "the path std::alloc::AllocError"),
+    ("uart_chip/src/lib.rt", "mod wire;", "mod wire;\nmod extra;", "extra.rt: declared, and not there"),
+    ("uart_live/src/live.rt", "requires { offset < NUM_REGISTERS }\n        ensures answers", "ensures answers", "requires other things"),
+    ("uart_spec/src/lib.rt", "pub use baud::{", "pub use config::*;\npub use baud::{", "a `use` of everything"),
+]
+CHIP_ERASURES = [
+    ("uart_chip/fifo.rs", "(self.start + self.len) % FIFO_SIZE", "(self.start + self.len + 1) % FIFO_SIZE"),
+    ("uart_chip/fifo.rs", "pub trait Fifo<T> {", "pub trait Fifo<T> {\n    fn more(&self);\n"),
+    ("uart_chip/wire.rs", "        self.slots[WIRE_ROOM + place] = byte;\n", ""),
+    ("uart_chip/wire.rs", "count.min(self.count)", "count"),
+    ("uart_chip/receiver.rs", "4 * char_ticks", "5 * char_ticks"),
+    ("uart_chip/receiver.rs", "self.is_overrun = true;", "self.is_overrun = false;"),
+    ("uart_chip/transmitter.rs", "self.is_thr_pending = false;", "self.is_thr_pending = true;"),
+    ("uart_chip/chip.rs", "W: Wire,", "W: Wire = FixedWire,"),
+    ("uart_chip/chip.rs", "LSR::LINE_ERRORS", "LSR::ERRORS"),
+    ("uart_chip/mod.rs", "NoMarks};", "NoMarks, Marks};"),
+    ("uart_chip/chip.rs", "offset < 8", "offset < 9"),
+    ("uart_live/live.rs", "LSR::CHARACTER_ERRORS) != errors", "LSR::CHARACTER_ERRORS) == errors"),
+    ("uart_live/sound.rs", "wire.len() <= saved", "wire.len() < saved"),
+    ("uart_spec/mod.rs", "mod baud;", "mod baud; pub mod config;"),
+]
+CHIP_AROUND = [
+    ("src/lib.rs", "mod proved;", "pub mod proved;", "not one plain line"),
+    ("src/lib.rs", "pub use list::ArrayVec;", "pub use proved::uart_chip::{self};", "`uart_chip`, which is not exported"),
+    ("src/serial.rs", "use crate::{Chip,", "use crate::proved::{uart_live::Uart, Chip,", "`Uart`, which is not exported"),
+    ("src/flags.rs", "fn toggle", "fn room_of", "`room_of`, a name that is not reserved"),
+    ("Cargo.toml", "[features]\n", '[dependencies]\nbitflags = "2"\n[features]\n', "the dependency bitflags"),
+]
 
-    def __init__(self):
+
+class Tests:
+    """The sources of a table as they are, what is emitted of them, and the counts."""
+
+    def __init__(self, allow=table):
         self.passed, self.failed = 0, 0
-        found = crate.sources(ROOT, table.CRATES)
+        self.table = allow
+        found = crate.sources(ROOT, allow.CRATES)
         self.texts = {
             name: crate.text_of(name, crate.expanded(ROOT, name) if b"use thiserror::Error" in data else data)
             for name, data in found.items()
-            if name not in table.LEFT_OUT
+            if name not in allow.LEFT_OUT
         }
-        self.read = {name: crate.read(name, text) for name, text in self.texts.items()}
-        emitted, _ = crate.files_of(self.texts)
+        self.read = {name: crate.read(name, text, allow) for name, text in self.texts.items()}
+        emitted, _ = crate.files_of(self.texts, allow)
         self.emitted = emitted
-        self.there, _ = crate.there(ROOT / table.OUTPUT)
+        self.there, _ = crate.there(ROOT / allow.OUTPUT)
 
     def count(self, holds, what):
         self.passed += bool(holds)
@@ -463,11 +507,11 @@ class Tests:
     def refused(self, name, text):
         """The cause for which this text of a source is refused, or nothing."""
         try:
-            file = crate.read(name, text)
+            file = crate.read(name, text, self.table)
             files = [file if one == name else other for one, other in self.read.items()]
             words.check(file, crate.known_functions(files))
-            crate.check_whole(files, {**self.texts, name: text})
-            crate.erase(crate.read(name, text))
+            crate.check_whole(files, {**self.texts, name: text}, self.table)
+            crate.erase(crate.read(name, text, self.table))
         except crate.Failed as causes:
             return str(causes)
         except crate.Refused as cause:
@@ -483,24 +527,26 @@ class Tests:
             found = self.refused(name, f"{self.texts[name]}\n{form}\n")
             self.count(cause in found, f"{form!r}: {found or 'accepted'}, and not: {cause}")
 
-    def sources(self):
-        for name, old, new, cause in SOURCES:
+    def sources(self, edits):
+        for name, old, new, cause in edits:
             text = self.texts[name]
             found = self.refused(name, text.replace(old, new, 1)) if old in text else "no such text"
-            self.count(cause in found, f"{name}: {old!r} to {new!r}: {found or 'accepted'}, and not: {cause}")
+            self.count(cause in found if cause else not found, f"{name}: {old!r} to {new!r}: {found or 'accepted'}, and not: {cause}")
 
-    def erasures(self):
+    def erasures(self, edits):
         """Each wrong erasure is found by the comparison and by the second reader, in its file."""
-        self.count(second.differences(self.texts, self.emitted) == [], "the second reader does not agree")
-        for name, old, new in ERASURES:
+        self.count(second.differences(self.texts, self.emitted, self.table) == [], "the second reader does not agree")
+        for name, old, new in edits:
             text = self.emitted[name]
             changed = text.replace(old, new, 1)
             files = {**self.emitted, name: changed}
             sources = {one: text for one, text in self.texts.items() if crate.target_of(one) == name}
-            found = second.differences(sources, files)
+            found = second.differences(sources, files, self.table)
             causes = self.compared(name, changed.encode())
             self.count(old in text and len(found) == 1 and found[0].startswith(f"{name}: "), f"second: {name}: {old!r} to {new!r}: {found}")
             self.count(causes == [f"{name}: not what the sources give: run .ci/erase emit"], f"{name}: {old!r}: {causes}")
+
+    def bytes(self):
         for name, old, new in BYTES:
             text = self.there[name].decode()
             causes = self.compared(name, text.replace(old, new, 1).encode())
@@ -534,12 +580,12 @@ class Tests:
         self.count(failure(lambda: crate.text_of("a.rt", b"a\r\n")) == "crates/a.rt: a carriage return", "a carriage return")
         self.count("invalid" in failure(lambda: crate.text_of("a.rt", b"\xff")), "no UTF-8")
 
-    def around(self):
-        by_hand = around.of((ROOT / table.OUTPUT).parent.parent)
-        self.count(around.causes(by_hand) == [], f"around: {around.causes(by_hand)}")
-        for name, old, new, cause in AROUND:
+    def around(self, edits):
+        by_hand = around.of((ROOT / self.table.OUTPUT).parent.parent)
+        self.count(around.causes(by_hand, self.table) == [], f"around: {around.causes(by_hand, self.table)}")
+        for name, old, new, cause in edits:
             text = by_hand.get(name, "")
-            found = around.causes({**by_hand, name: text.replace(old, new, 1) if old else new})
+            found = around.causes({**by_hand, name: text.replace(old, new, 1) if old else new}, self.table)
             self.count(old in text and any(cause in one for one in found), f"{name}: {old!r} to {new!r}: {found}")
 
     def tables(self):
@@ -592,10 +638,16 @@ def failure(call):
 def run():
     tests = Tests()
     tests.forms()
-    tests.sources()
-    tests.erasures()
+    tests.sources(SOURCES)
+    tests.erasures(ERASURES)
+    tests.bytes()
     tests.files()
-    tests.around()
+    tests.around(AROUND)
     tests.tables()
-    print(f"{tests.passed} passed, {tests.failed} failed")
-    return tests.failed == 0
+    of_chip = Tests(chip.TABLE)
+    of_chip.sources(CHIP_SOURCES)
+    of_chip.erasures(CHIP_ERASURES)
+    of_chip.around(CHIP_AROUND)
+    passed, failed = tests.passed + of_chip.passed, tests.failed + of_chip.failed
+    print(f"{passed} passed, {failed} failed")
+    return failed == 0

@@ -34,6 +34,8 @@ def check(file, known):
             continue
         if word in table.WORDS and not (word == "fields" or is_path_of_alloc(file, at)):
             file.refuse(f"the word `{word}`", at)
+        if word in table.LEFT_OUT_ITEMS:
+            file.refuse(f"`{word}`, which is left out", at)
         if before == "usize" or file.words(at - 2, at) == "usize ::" and word in ("MAX", "BITS"):
             file.refuse("a limit of `usize`", at)
         if after == "!" and file.word(at + 2) in ("(", "[", "{") and word not in table.MACROS:
@@ -107,7 +109,18 @@ def check_call(file, at, known):
         if word not in known["free"] and word not in table.WORDS_BEFORE:
             file.refuse(f"the call `{word}`", at)
     elif word in known["free"] and not is_call and before not in (".", "::", "fn") and not in_use(file, at):
-        file.refuse(f"a function as a value: {word}", at)
+        if not is_local(file, at):
+            file.refuse(f"a function as a value: {word}", at)
+
+
+def is_local(file, at):
+    """Whether a `let` of the same function, here or before, gives a value this name."""
+    word = file.word(at)
+    while at > 0 and file.word(at) != "fn":
+        if file.word(at) == word and file.word(at - 1) == "let":
+            return True
+        at -= 1
+    return False
 
 
 def in_use(file, at):

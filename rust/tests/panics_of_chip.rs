@@ -1,0 +1,123 @@
+//! Every public call of the crate `uart_16550_chip` once, as a function with a name, over a device
+//! whose trigger and output are somewhere else. `panics` compiles it, and follows the calls from here.
+#![no_std]
+#![allow(missing_docs, clippy::missing_errors_doc)]
+
+use core::fmt::{self, Write as _};
+use uart_16550_chip::registers::{LSR, MSR};
+use uart_16550_chip::serial::{Error, FromStateError};
+use uart_16550_chip::{
+    ArrayVec, Character, Chip, ChipData, ChipError, InputError, LiveChip, NoEvents, Output,
+    RestoreError, Serial, SerialState, Trigger,
+};
+
+unsafe extern "Rust" {
+    safe fn device_read(offset: usize) -> u8;
+    safe fn device_write(offset: usize, value: u8);
+}
+
+/// A line and an output somewhere else.
+pub struct Device;
+
+/// Why they fail.
+#[derive(Debug)]
+pub struct Fault;
+
+impl Trigger for Device {
+    type E = Fault;
+
+    fn trigger(&self) -> Result<(), Fault> {
+        if device_read(0) == 0 {
+            Ok(())
+        } else {
+            Err(Fault)
+        }
+    }
+}
+
+impl Output for Device {
+    type Error = Fault;
+
+    fn write_bytes(&mut self, bytes: &[u8]) -> Result<(), Fault> {
+        bytes.iter().for_each(|byte| device_write(0, *byte));
+        if device_read(1) == 0 {
+            Ok(())
+        } else {
+            Err(Fault)
+        }
+    }
+}
+
+type Console = Serial<Device, NoEvents, Device>;
+type Failed = Error<Fault, Fault>;
+
+macro_rules! calls {
+    ($($name:ident($($arg:ident: $Arg:ty),*) $(-> $Result:ty)? { $call:expr })*) => { $(
+        #[unsafe(no_mangle)]
+        pub fn $name($($arg: $Arg),*) $(-> $Result)? { $call }
+    )* };
+}
+
+calls! {
+    chip_new(chip: Chip, char_ticks: u16, capacity: usize) -> Result<LiveChip, ChipError> { LiveChip::new(chip, char_ticks, capacity) }
+    chip_read(chip: &mut LiveChip, offset: u8) -> u8 { chip.read(offset) }
+    chip_write(chip: &mut LiveChip, offset: u8, value: u8) { chip.write(offset, value) }
+    chip_ticks(chip: &mut LiveChip, count: u16) -> usize { chip.ticks(count) }
+    chip_arrive(chip: &mut LiveChip, byte: u8, errors: LSR) -> Result<(), InputError> { chip.arrive(byte, errors) }
+    chip_set_lines(chip: &mut LiveChip, inputs: MSR) -> Result<(), InputError> { chip.set_lines(inputs) }
+    chip_is_interrupting(chip: &LiveChip) -> bool { chip.is_interrupting() }
+    chip_wire(chip: &LiveChip) -> &[u8] { chip.wire() }
+    chip_take_wire(chip: &mut LiveChip, count: usize) { chip.take_wire(count) }
+    chip_wire_room(chip: &LiveChip) -> usize { chip.wire_room() }
+    chip_receive_room(chip: &LiveChip) -> usize { chip.receive_room() }
+    chip_waiting_len(chip: &LiveChip) -> usize { chip.waiting_len() }
+    chip_held_len(chip: &LiveChip) -> usize { chip.held_len() }
+    chip_divisor(chip: &LiveChip) -> u16 { chip.divisor() }
+    chip_overflows(chip: &LiveChip) -> u64 { chip.overflows() }
+    chip_data(chip: &LiveChip) -> ChipData { chip.data() }
+    chip_from_data(data: &ChipData, wire: &[u8]) -> Result<LiveChip, RestoreError> { LiveChip::from_data(data, wire) }
+    character_has_errors(character: &Character) -> bool { character.has_errors() }
+    character_error_weight(character: &Character) -> usize { character.error_weight() }
+    list_push(list: &mut ArrayVec<u8, 16>, item: u8) { list.push(item) }
+    list_as_slice(list: &ArrayVec<u8, 16>) -> &[u8] { list.as_slice() }
+
+    serial_new() -> Console { Serial::new(Device, Device) }
+    serial_with_events() -> Console { Serial::with_events(Device, NoEvents, Device) }
+    serial_from_state(state: &SerialState) -> Result<Console, FromStateError<Fault>> { Serial::from_state(state, Device, NoEvents, Device) }
+    serial_state(serial: &Console) -> SerialState { serial.state() }
+    serial_chip(serial: &Console) -> &LiveChip { serial.chip() }
+    serial_interrupt_evt(serial: &Console) -> &Device { serial.interrupt_evt() }
+    serial_events(serial: &Console) -> &NoEvents { serial.events() }
+    serial_writer(serial: &Console) -> &Device { serial.writer() }
+    serial_writer_mut(serial: &mut Console) -> &mut Device { serial.writer_mut() }
+    serial_read(serial: &mut Console, offset: u8) -> u8 { serial.read(offset) }
+    serial_write(serial: &mut Console, offset: u8, value: u8) -> Result<(), Failed> { serial.write(offset, value) }
+    serial_fifo_capacity(serial: &Console) -> usize { serial.fifo_capacity() }
+    serial_enqueue(serial: &mut Console, input: &[u8]) -> Result<usize, Failed> { serial.enqueue_raw_bytes(input) }
+    serial_set_lines(serial: &mut Console, inputs: MSR) -> Result<(), Failed> { serial.set_lines(inputs) }
+}
+
+/// Texts are written to something else.
+pub struct Text;
+
+impl fmt::Write for Text {
+    fn write_str(&mut self, text: &str) -> fmt::Result {
+        text.bytes().for_each(|byte| device_write(0, byte));
+        Ok(())
+    }
+}
+
+macro_rules! texts {
+    ($($name:ident: $Type:ty;)*) => { $(
+        #[unsafe(no_mangle)]
+        pub fn $name(value: &$Type) -> fmt::Result { write!(Text, "{value} {value:?}") }
+    )* };
+}
+
+texts! {
+    text_of_chip: ChipError;
+    text_of_input: InputError;
+    text_of_restore: RestoreError;
+    text_of_serial: Error<InputError, InputError>;
+    text_of_from_state: FromStateError<InputError>;
+}

@@ -1,0 +1,543 @@
+//! Registers as sets of named bits: the trait [`Flags`], and what the eight registers have of their
+//! own, under the names of the crate `bitflags`.
+//!
+//! The trait is generic; the registers' own methods can be used in constants. Where both have a
+//! method of the same name, both do the same.
+
+use crate::proved::uart_spec::registers::{FCR, IER, ISR, LCR, LSR, MCR, MSR, PSD};
+use core::fmt;
+use core::ops::{
+    BitAnd, BitAndAssign, BitOr, BitOrAssign, BitXor, BitXorAssign, Not, Sub, SubAssign,
+};
+
+/// A bit of a register, or a group of bits, with its name.
+#[derive(Clone, Copy, Debug, PartialEq, Eq, Hash)]
+pub struct Flag<F> {
+    /// The name, as the constant of the register has it.
+    pub name: &'static str,
+    /// The register in which exactly these bits are set.
+    pub value: F,
+}
+
+impl<F> Flag<F> {
+    /// Returns a flag of this name and value.
+    #[must_use]
+    pub const fn new(name: &'static str, value: F) -> Self {
+        Flag { name, value }
+    }
+
+    /// Returns the name.
+    #[must_use]
+    pub const fn name(&self) -> &'static str {
+        self.name
+    }
+
+    /// Returns the value.
+    #[must_use]
+    pub const fn value(&self) -> &F {
+        &self.value
+    }
+}
+
+/// The number under a set of flags. Implemented for `u8`.
+pub trait Bits:
+    Copy
+    + PartialEq
+    + BitAnd<Output = Self>
+    + BitOr<Output = Self>
+    + BitXor<Output = Self>
+    + Not<Output = Self>
+{
+    /// The number without a bit.
+    const EMPTY: Self;
+    /// The number with all bits.
+    const ALL: Self;
+}
+
+impl Bits for u8 {
+    const EMPTY: u8 = 0;
+    const ALL: u8 = u8::MAX;
+}
+
+/// A set of named bits.
+///
+/// # Examples
+///
+/// ```
+/// use uart_16550_chip::Flags;
+/// use uart_16550_chip::registers::LSR;
+///
+/// fn names<F: Flags>(set: F) -> usize {
+///     set.iter_names().count()
+/// }
+/// assert_eq!(names(LSR::DATA_READY | LSR::THR_EMPTY), 2);
+/// ```
+pub trait Flags: Sized + 'static {
+    /// The number under the set.
+    type Bits: Bits;
+
+    /// Returns the bits that have a name, in order.
+    fn flags<'a>() -> &'a [Flag<Self>];
+
+    /// Returns the number under the set.
+    fn bits(&self) -> Self::Bits;
+
+    /// Returns the set with exactly these bits, also those without a name.
+    fn from_bits_retain(bits: Self::Bits) -> Self;
+
+    /// Returns the empty set.
+    fn empty() -> Self {
+        Self::from_bits_retain(Self::Bits::EMPTY)
+    }
+
+    /// Returns the set of all bits that have a name.
+    fn all() -> Self {
+        let named = Self::flags().iter();
+        Self::from_bits_retain(named.fold(Self::Bits::EMPTY, |bits, flag| bits | flag.value.bits()))
+    }
+
+    /// Returns the set with these bits, or `None` if one of them has no name.
+    fn from_bits(bits: Self::Bits) -> Option<Self> {
+        let known = Self::from_bits_truncate(bits);
+        (known.bits() == bits).then_some(known)
+    }
+
+    /// Returns the set with those of these bits that have a name.
+    fn from_bits_truncate(bits: Self::Bits) -> Self {
+        Self::from_bits_retain(bits & Self::all().bits())
+    }
+
+    /// Returns the bit of this name, or `None` if none has it.
+    fn from_name(name: &str) -> Option<Self> {
+        let flag = Self::flags().iter().find(|flag| flag.name == name)?;
+        Some(Self::from_bits_retain(flag.value.bits()))
+    }
+
+    /// Returns whether a bit without a name is set.
+    fn contains_unknown_bits(&self) -> bool {
+        self.bits() & !Self::all().bits() != Self::Bits::EMPTY
+    }
+
+    /// Returns whether no bit is set.
+    fn is_empty(&self) -> bool {
+        self.bits() == Self::Bits::EMPTY
+    }
+
+    /// Returns whether each bit that has a name is set.
+    fn is_all(&self) -> bool {
+        self.contains(Self::all())
+    }
+
+    /// Returns whether some bit is set in both.
+    fn intersects(&self, other: Self) -> bool {
+        self.bits() & other.bits() != Self::Bits::EMPTY
+    }
+
+    /// Returns whether each bit of `other` is set.
+    fn contains(&self, other: Self) -> bool {
+        self.bits() & other.bits() == other.bits()
+    }
+
+    /// Sets the bits of `other`.
+    fn insert(&mut self, other: Self) {
+        *self = Self::from_bits_retain(self.bits() | other.bits());
+    }
+
+    /// Clears the bits of `other`.
+    fn remove(&mut self, other: Self) {
+        *self = Self::from_bits_retain(self.bits() & !other.bits());
+    }
+
+    /// Inverts the bits of `other`.
+    fn toggle(&mut self, other: Self) {
+        *self = Self::from_bits_retain(self.bits() ^ other.bits());
+    }
+
+    /// Sets the bits of `other` if `value` is true, and clears them if not.
+    fn set(&mut self, other: Self, value: bool) {
+        if value {
+            self.insert(other);
+        } else {
+            self.remove(other);
+        }
+    }
+
+    /// Clears all bits.
+    fn clear(&mut self) {
+        *self = Self::empty();
+    }
+
+    /// Clears the bits that have no name.
+    fn truncate(&mut self) {
+        *self = Self::from_bits_truncate(self.bits());
+    }
+
+    /// Returns the bits that are set in both.
+    fn intersection(self, other: Self) -> Self {
+        Self::from_bits_retain(self.bits() & other.bits())
+    }
+
+    /// Returns the bits that are set in one of the two or in both.
+    fn union(self, other: Self) -> Self {
+        Self::from_bits_retain(self.bits() | other.bits())
+    }
+
+    /// Returns the bits that are set here and not in `other`.
+    fn difference(self, other: Self) -> Self {
+        Self::from_bits_retain(self.bits() & !other.bits())
+    }
+
+    /// Returns the bits that are set in one of the two and not in both.
+    fn symmetric_difference(self, other: Self) -> Self {
+        Self::from_bits_retain(self.bits() ^ other.bits())
+    }
+
+    /// Returns the bits that have a name and are not set.
+    fn complement(self) -> Self {
+        Self::from_bits_truncate(!self.bits())
+    }
+
+    /// Returns the bits that are set and have a name, one after another.
+    fn iter(&self) -> Iter<Self> {
+        Iter(self.iter_names())
+    }
+
+    /// Returns the bits that are set and have a name, one after another, with their names.
+    fn iter_names(&self) -> IterNames<Self> {
+        IterNames {
+            flags: Self::flags().iter(),
+            set: Self::from_bits_retain(self.bits()),
+        }
+    }
+}
+
+/// The bits of a set, with their names. Made by [`Flags::iter_names`].
+pub struct IterNames<F: Flags> {
+    flags: core::slice::Iter<'static, Flag<F>>,
+    set: F,
+}
+
+impl<F: Flags> Iterator for IterNames<F> {
+    type Item = (&'static str, F);
+
+    fn next(&mut self) -> Option<Self::Item> {
+        loop {
+            let flag = self.flags.next()?;
+            let bits = flag.value.bits();
+            if self.set.bits() & bits == bits {
+                return Some((flag.name, F::from_bits_retain(bits)));
+            }
+        }
+    }
+}
+
+/// The bits of a set. Made by [`Flags::iter`].
+pub struct Iter<F: Flags>(IterNames<F>);
+
+impl<F: Flags> Iterator for Iter<F> {
+    type Item = F;
+
+    fn next(&mut self) -> Option<F> {
+        Some(self.0.next()?.1)
+    }
+}
+
+// The text inside of the parentheses of `IER(DATA_READY | THR_EMPTY)`.
+struct Names<'a, F>(&'a F);
+
+impl<F: Flags> fmt::Debug for Names<'_, F> {
+    fn fmt(&self, f: &mut fmt::Formatter<'_>) -> fmt::Result {
+        if self.0.is_empty() {
+            return f.write_str("0x0");
+        }
+        for (i, (name, _)) in self.0.iter_names().enumerate() {
+            if i > 0 {
+                f.write_str(" | ")?;
+            }
+            f.write_str(name)?;
+        }
+        Ok(())
+    }
+}
+
+macro_rules! register {
+    ($Register:ident) => {
+        // All eight bits of each register have a name.
+        impl $Register {
+            /// Returns the register without a bit.
+            #[must_use]
+            pub const fn empty() -> Self {
+                Self(0)
+            }
+
+            /// Returns the register with all bits.
+            #[must_use]
+            pub const fn all() -> Self {
+                Self(u8::MAX)
+            }
+
+            /// Returns the byte.
+            #[must_use]
+            pub const fn bits(&self) -> u8 {
+                self.0
+            }
+
+            /// Returns the register with this byte. It is never `None`, since each bit has a name.
+            #[must_use]
+            pub const fn from_bits(bits: u8) -> Option<Self> {
+                Some(Self(bits))
+            }
+
+            /// Returns the register with this byte: each of its bits has a name.
+            #[must_use]
+            pub const fn from_bits_truncate(bits: u8) -> Self {
+                Self(bits)
+            }
+
+            /// Returns the register with this byte.
+            #[must_use]
+            pub const fn from_bits_retain(bits: u8) -> Self {
+                Self(bits)
+            }
+
+            /// Returns the bit of this name, or `None` if none has it.
+            #[must_use]
+            pub fn from_name(name: &str) -> Option<Self> {
+                <Self as Flags>::from_name(name)
+            }
+
+            /// Returns whether no bit is set.
+            #[must_use]
+            pub const fn is_empty(&self) -> bool {
+                self.0 == 0
+            }
+
+            /// Returns whether all bits are set.
+            #[must_use]
+            pub const fn is_all(&self) -> bool {
+                self.0 == u8::MAX
+            }
+
+            /// Returns whether some bit is set in both.
+            #[must_use]
+            pub const fn intersects(&self, other: Self) -> bool {
+                self.0 & other.0 != 0
+            }
+
+            /// Returns whether each bit of `other` is set.
+            #[must_use]
+            pub const fn contains(&self, other: Self) -> bool {
+                self.0 & other.0 == other.0
+            }
+
+            /// Sets the bits of `other`.
+            pub const fn insert(&mut self, other: Self) {
+                self.0 |= other.0;
+            }
+
+            /// Clears the bits of `other`.
+            pub const fn remove(&mut self, other: Self) {
+                self.0 &= !other.0;
+            }
+
+            /// Inverts the bits of `other`.
+            pub const fn toggle(&mut self, other: Self) {
+                self.0 ^= other.0;
+            }
+
+            /// Sets the bits of `other` if `value` is true, and clears them if not.
+            pub const fn set(&mut self, other: Self, value: bool) {
+                if value {
+                    self.insert(other);
+                } else {
+                    self.remove(other);
+                }
+            }
+
+            /// Clears all bits.
+            pub const fn clear(&mut self) {
+                self.0 = 0;
+            }
+
+            /// Returns the bits that are set in both.
+            #[must_use]
+            pub const fn intersection(self, other: Self) -> Self {
+                Self(self.0 & other.0)
+            }
+
+            /// Returns the bits that are set in one of the two or in both.
+            #[must_use]
+            pub const fn union(self, other: Self) -> Self {
+                Self(self.0 | other.0)
+            }
+
+            /// Returns the bits that are set here and not in `other`.
+            #[must_use]
+            pub const fn difference(self, other: Self) -> Self {
+                Self(self.0 & !other.0)
+            }
+
+            /// Returns the bits that are set in one of the two and not in both.
+            #[must_use]
+            pub const fn symmetric_difference(self, other: Self) -> Self {
+                Self(self.0 ^ other.0)
+            }
+
+            /// Returns the bits that are not set.
+            #[must_use]
+            pub const fn complement(self) -> Self {
+                Self(!self.0)
+            }
+
+            /// Returns the bits that are set, one after another.
+            #[must_use]
+            pub fn iter(&self) -> Iter<Self> {
+                Flags::iter(self)
+            }
+
+            /// Returns the bits that are set, one after another, with their names.
+            #[must_use]
+            pub fn iter_names(&self) -> IterNames<Self> {
+                Flags::iter_names(self)
+            }
+        }
+
+        /// Shows the names of the bits that are set, or `0x0`.
+        impl fmt::Debug for $Register {
+            fn fmt(&self, f: &mut fmt::Formatter<'_>) -> fmt::Result {
+                f.debug_tuple(stringify!($Register))
+                    .field(&Names(self))
+                    .finish()
+            }
+        }
+
+        impl BitOr for $Register {
+            type Output = Self;
+
+            /// Returns the bits that are set in one of the two or in both.
+            fn bitor(self, other: Self) -> Self {
+                self.union(other)
+            }
+        }
+
+        impl BitOrAssign for $Register {
+            /// Sets the bits of `other`.
+            fn bitor_assign(&mut self, other: Self) {
+                self.insert(other);
+            }
+        }
+
+        impl BitAnd for $Register {
+            type Output = Self;
+
+            /// Returns the bits that are set in both.
+            fn bitand(self, other: Self) -> Self {
+                self.intersection(other)
+            }
+        }
+
+        impl BitAndAssign for $Register {
+            /// Clears the bits that are not set in `other`.
+            fn bitand_assign(&mut self, other: Self) {
+                *self = self.intersection(other);
+            }
+        }
+
+        impl BitXor for $Register {
+            type Output = Self;
+
+            /// Returns the bits that are set in one of the two and not in both.
+            fn bitxor(self, other: Self) -> Self {
+                self.symmetric_difference(other)
+            }
+        }
+
+        impl BitXorAssign for $Register {
+            /// Inverts the bits of `other`.
+            fn bitxor_assign(&mut self, other: Self) {
+                self.toggle(other);
+            }
+        }
+
+        impl Sub for $Register {
+            type Output = Self;
+
+            /// Returns the bits that are set here and not in `other`.
+            fn sub(self, other: Self) -> Self {
+                self.difference(other)
+            }
+        }
+
+        impl SubAssign for $Register {
+            /// Clears the bits of `other`.
+            fn sub_assign(&mut self, other: Self) {
+                self.remove(other);
+            }
+        }
+
+        impl Not for $Register {
+            type Output = Self;
+
+            /// Returns the bits that are not set.
+            fn not(self) -> Self {
+                self.complement()
+            }
+        }
+
+        impl Extend<$Register> for $Register {
+            fn extend<T: IntoIterator<Item = Self>>(&mut self, values: T) {
+                for value in values {
+                    self.insert(value);
+                }
+            }
+        }
+
+        impl FromIterator<$Register> for $Register {
+            fn from_iter<T: IntoIterator<Item = Self>>(values: T) -> Self {
+                values.into_iter().fold(Self::empty(), Self::union)
+            }
+        }
+
+        impl IntoIterator for $Register {
+            type Item = Self;
+            type IntoIter = Iter<Self>;
+
+            fn into_iter(self) -> Iter<Self> {
+                self.iter()
+            }
+        }
+
+        impl fmt::Binary for $Register {
+            fn fmt(&self, f: &mut fmt::Formatter<'_>) -> fmt::Result {
+                fmt::Binary::fmt(&self.0, f)
+            }
+        }
+
+        impl fmt::Octal for $Register {
+            fn fmt(&self, f: &mut fmt::Formatter<'_>) -> fmt::Result {
+                fmt::Octal::fmt(&self.0, f)
+            }
+        }
+
+        impl fmt::LowerHex for $Register {
+            fn fmt(&self, f: &mut fmt::Formatter<'_>) -> fmt::Result {
+                fmt::LowerHex::fmt(&self.0, f)
+            }
+        }
+
+        impl fmt::UpperHex for $Register {
+            fn fmt(&self, f: &mut fmt::Formatter<'_>) -> fmt::Result {
+                fmt::UpperHex::fmt(&self.0, f)
+            }
+        }
+    };
+}
+
+register!(IER);
+register!(ISR);
+register!(FCR);
+register!(LCR);
+register!(MCR);
+register!(LSR);
+register!(MSR);
+register!(PSD);

@@ -1,0 +1,25 @@
+#![cfg_attr(feature = "std", doc = include_str!("../README.md"))]
+#![cfg_attr(
+    not(feature = "std"),
+    doc = "A 16550 serial chip in software whose source is proved, without the feature `std`."
+)]
+#![no_std]
+#![forbid(unsafe_code)]
+#![deny(missing_docs)]
+
+mod data;
+mod flags;
+mod list;
+mod proved;
+pub mod serial;
+
+pub use flags::{Bits, Flag, Flags};
+pub use list::ArrayVec;
+#[doc(inline)]
+pub use proved::uart_live::{
+    Character, Chip, ChipData, ChipError, InputError, Latches, LiveChip, ModemData, Origin,
+    ReceiverData, RestoreError, Shifting, TransmitterData, WIRE_ROOM,
+};
+pub use proved::uart_spec::registers;
+#[doc(inline)]
+pub use serial::{NoEvents, Output, Serial, SerialEvents, SerialState, Trigger};

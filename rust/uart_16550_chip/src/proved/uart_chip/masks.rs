@@ -1,0 +1,25 @@
+//! Masks of registers: bits under a condition, and what the chip keeps of a write.
+
+use crate::flags::Flags;
+use crate::proved::uart_spec::registers::{IER, MCR};
+
+/// Returns these bits if the condition holds, else none.
+pub fn flag<F: Flags>(on: bool, bits: F) -> F {
+    if on { bits } else { F::empty() }
+}
+
+/// Returns what IER keeps of a write: the interrupts that the chip has.
+pub fn kept_interrupts(written: IER) -> IER {
+    let receiver = IER::DATA_READY.union(IER::RECEIVER_LINE_STATUS);
+    let others = IER::THR_EMPTY.union(IER::MODEM_STATUS);
+    written.intersection(receiver.union(others))
+}
+
+/// Returns what MCR keeps of a write: the outputs and loopback.
+pub fn kept_modem_control(written: MCR) -> MCR {
+    let outputs = MCR::DTR
+        .union(MCR::RTS)
+        .union(MCR::OUT_1)
+        .union(MCR::OUT_2_INT_ENABLE);
+    written.intersection(outputs.union(MCR::LOOP_BACK))
+}

@@ -1,0 +1,28 @@
+//! A 16550A or 16450 serial chip in software: its registers, its transmitter and receiver, and its modem lines.
+//!
+//! The contract of each function says exactly which state follows. [`Uart`] is the chip without a schedule;
+//! `uart_device` puts it under one, and `uart_live` gives it to its owner.
+
+mod characters;
+mod chip;
+mod event;
+mod fifo;
+mod journal;
+mod masks;
+mod modem;
+mod receiver;
+mod transmitter;
+mod wire;
+
+pub use characters::Characters;
+pub use chip::{ChipData, Latches, Uart, cut, identification, is_thr_empty, trigger_level};
+pub use event::{
+    ArrivalMark, BuildError, Chip, Event, MAX_CHAR_TICKS, MAX_WIRE_CAPACITY, arrivals, refusal,
+};
+pub use fifo::{Fifo, FixedFifo, room_of};
+pub use journal::{Journal, NoMarks};
+pub use masks::{flag, kept_interrupts, kept_modem_control};
+pub use modem::{Modem, ModemData};
+pub use receiver::{Character, Origin, Receiver, ReceiverData};
+pub use transmitter::{Shifting, Transmitter, TransmitterData};
+pub use wire::{FixedWire, WIRE_ROOM, Wire, send};

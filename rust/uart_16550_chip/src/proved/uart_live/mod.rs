@@ -1,0 +1,16 @@
+//! A live chip: the chip of [`uart_chip`] in the hands of its owner, without a schedule.
+//!
+//! The owner, for example a virtual machine monitor, makes the guest's accesses, takes the bytes that are sent, passes
+//! characters and modem lines when they arrive, lets time pass, and reads the level of the interrupt line. Each call
+//! does what the definitions of the chip say.
+
+mod errors;
+mod live;
+mod sound;
+
+pub use errors::{ChipError, InputError, RestoreError};
+pub use live::LiveChip;
+pub use crate::proved::uart_chip::{
+    Character, Chip, ChipData, Latches, ModemData, Origin, ReceiverData, Shifting, TransmitterData,
+    WIRE_ROOM,
+};
