@@ -1,6 +1,7 @@
 #!/bin/sh
-# Counts the instructions of vm-superio's serial device with callgrind, as measure-library.sh does those of the library for C. Run it at
-# the top of a checkout. Prints what is called, the functions that are counted, and how many instructions a call takes inside them.
+# Counts the instructions of the chip of rust/uart_16550_chip and of vm-superio's serial device with callgrind, as measure-library.sh does
+# those of the library for C. Run it at the top of a checkout. Prints whose code it is, what is called, how many instructions a call takes
+# inside the functions that are counted, and these functions. Without Debian's package librust-vm-superio-dev only the chip is counted.
 fail() {
     echo "$0: $*" >&2
     exit 1
@@ -10,21 +11,16 @@ fail() {
 for program in cargo valgrind; do
     command -v $program > /dev/null || fail "there is no $program: install Debian's package $program"
 done
-[ -d /usr/share/cargo/registry/vm-superio-0.7.0 ] ||
-    fail "there is no vm-superio 0.7.0: install Debian's package librust-vm-superio-dev"
 
 work=$(mktemp -d)
 trap 'rm -rf "$work"' EXIT
-# A copy, so that cargo leaves nothing in the checkout. It reads .cargo/config.toml in the folder where it is called.
-cp -r bench/vm-superio "$work/project"
-(cd "$work/project" && cargo build --quiet --release --offline --target-dir "$work/target") || fail "the programs cannot be built"
 
 # Instructions inside some functions, for so many rounds of a body.
 count() {
-    program=$work/target/release/$1
-    body=$2
-    rounds=$3
-    shift 3
+    program=$work/$1/release/$2
+    body=$3
+    rounds=$4
+    shift 4
     toggles=
     for function in "$@"; do toggles="$toggles --toggle-collect=$function"; done
     valgrind --tool=callgrind --callgrind-out-file=/dev/null $toggles "$program" "$body" "$rounds" 2>&1 > /dev/null |
@@ -33,23 +29,44 @@ count() {
 
 # The difference between 257 rounds and one, for each of the 4,096 calls between.
 each() {
-    program=$1
-    body=$2
-    shift 2
-    first=$(count "$program" "$body" 1 "$@")
-    last=$(count "$program" "$body" 257 "$@")
-    echo "$body $first $last" | awk -v functions="$*" '{ printf "%-17s %7.2f  %s\n", $1, ($3 - $2) / 4096, functions }'
+    project=$1
+    program=$2
+    body=$3
+    shift 3
+    first=$(count "$project" "$program" "$body" 1 "$@")
+    last=$(count "$project" "$program" "$body" 257 "$@")
+    echo "$body $first $last" |
+        awk -v project="$project" -v functions="$*" '{ printf "%-10s %-23s %7.2f  %s\n", project, $1, ($3 - $2) / 4096, functions }'
 }
 
-each called lsr called_read
-each called lsr-full called_read
-each called data-write called_write
-each called byte-in-and-read called_arrive called_read
-each called save called_save
-each called restore called_restore
-each inlined lsr inlined_lsr
-each inlined lsr-full inlined_lsr
-each inlined data-write inlined_data_write
-each inlined byte-in-and-read inlined_byte_in_and_read
-each inlined save inlined_save
-each inlined restore inlined_restore
+# What both have.
+count_all() {
+    each "$1" called "$2lsr" "called_$3read"
+    each "$1" called "$2lsr-full" "called_$3read"
+    each "$1" called "$2data-write" "called_$3write"
+    each "$1" called "$2byte-in-and-read" "called_$3arrive" "called_$3read"
+    each "$1" inlined "$2lsr" "inlined_$3lsr"
+    each "$1" inlined "$2lsr-full" "inlined_$3lsr"
+    each "$1" inlined "$2data-write" "inlined_$3data_write"
+    each "$1" inlined "$2byte-in-and-read" "inlined_$3byte_in_and_read"
+}
+
+cargo build --quiet --release --offline --manifest-path bench/chip/Cargo.toml --target-dir "$work/chip" ||
+    fail "the programs of the chip cannot be built"
+count_all chip "" ""
+each chip called interrupt called_is_interrupting
+each chip called interrupt-enabled called_is_interrupting
+each chip inlined interrupt inlined_interrupt
+count_all chip device- device_
+
+[ -d /usr/share/cargo/registry/vm-superio-0.7.0 ] ||
+    fail "there is no vm-superio 0.7.0: install Debian's package librust-vm-superio-dev"
+# A copy, so that cargo leaves nothing in the checkout. It reads .cargo/config.toml in the folder where it is called.
+cp -r bench/vm-superio "$work/project"
+(cd "$work/project" && cargo build --quiet --release --offline --target-dir "$work/vm-superio") ||
+    fail "the programs of vm-superio cannot be built"
+count_all vm-superio "" ""
+each vm-superio called save called_save
+each vm-superio called restore called_restore
+each vm-superio inlined save inlined_save
+each vm-superio inlined restore inlined_restore
