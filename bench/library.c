@@ -69,7 +69,7 @@ static void tick(void)
         uart_chip_ticks(&chip, 1);
 }
 
-/* One tick brings the byte to the shift place, and one sends it. */
+/* One tick brings the byte to the shift register, and one sends it. */
 static void byte_out(void)
 {
     uint8_t byte = 0;

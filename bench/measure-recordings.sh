@@ -5,17 +5,18 @@ program=$(realpath "$1")
 folder=$(mktemp -d)
 trap 'rm -rf "$folder"' EXIT
 
-# Writes a recording of 100 MB that repeats these lines.
+# Writes a recording of 100 MB that repeats these lines, behind a first line. The end of the pipe stops `yes`.
 recording() {
-    yes "$2" | head -c 100000000 | sed '$d' > "$folder/$1"
+    { echo 'r 5 60'; yes "$2" || true; } | head -c 100000000 | sed '$d' > "$folder/$1"
 }
 
+recording repeats-only 'x 9'
 recording repeats-few $'r 5 60\nx 3'
 recording repeats-many $'r 5 63\nr 0 41\nx 100000000\nr 2 c4\nx 99999999'
 recording single-lines $'r 5 60\nw 0 41'
 recording log-of-qemu $'serial_read read addr 0x05 val 0x60\nserial_write write addr 0x00 val 0x41'
 for judge in audit replay; do
-    for name in repeats-few repeats-many single-lines log-of-qemu; do
+    for name in repeats-only repeats-few repeats-many single-lines log-of-qemu; do
         # What is found is thrown away, and so is the exit status, which says whether there is anything.
         /usr/bin/time -f "$judge of $name: %e s, %M kB" "$program" "$judge" "$folder/$name" > /dev/null || true
     done

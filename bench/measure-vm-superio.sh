@@ -54,6 +54,8 @@ count_all() {
 cargo build --quiet --release --offline --manifest-path bench/chip/Cargo.toml --target-dir "$work/chip" ||
     fail "the programs of the chip cannot be built"
 count_all chip "" ""
+each chip called take-wire called_take_wire
+each chip called take-wire-full called_take_wire
 each chip called interrupt called_is_interrupting
 each chip called interrupt-enabled called_is_interrupting
 each chip inlined interrupt inlined_interrupt

@@ -50,7 +50,7 @@ LEMMA_FILES = ["uart_spec/src/laws.rt", "uart_live/src/laws.rt"]
 
 # The parts of the chip, which only `LiveChip` reaches.
 HIDDEN_IN = ["uart_chip"]
-HIDDEN = "Uart Transmitter Receiver Characters Modem Fifo FixedFifo Wire FixedWire Journal NoMarks fill send".split()
+HIDDEN = "Uart Transmitter Receiver Characters Modem Fifo FixedFifo Wire FixedWire Journal NoMarks fill send enter".split()
 
 INSIDE = table.HIDDEN_INSIDE
 OFFSET = ["requires { offset < NUM_REGISTERS }"]
@@ -90,6 +90,7 @@ CLAUSES = {
         "requires wire { W.most wire ≡ saved.now.wire_capacity }",
     ],
     "transmitter::Transmitter::data": ["requires { length self.now.queue ≤ FIFO_SIZE }"],
+    "receiving::enter": ["requires { (is_unscheduled new.origin || R.is_scheduled) ≡ true }"],
     "wire::send": [
         "requires empty { W.sent wire.old ≡ [] }",
         "requires room { length bytes.now ≤ W.most wire.old }",
@@ -102,43 +103,66 @@ GUARDS = {
     **{f"uart_chip::{path}": Guard(clauses, reason=INSIDE) for path, clauses in CLAUSES.items()},
     "uart_chip::fifo::Fifo::push": Guard(["requires { length (items self.old) < FIFO_SIZE }"], reason=table.NO_BODY),
     "uart_chip::wire::Wire::push": Guard(["requires { length (sent self.old) < most self.old }"], reason=table.NO_BODY),
+    "uart_chip::transmitting::TransmitterParts::put": Guard(
+        ["requires { length (state self.old).queue < FIFO_SIZE }"], reason=table.NO_BODY
+    ),
+    "uart_chip::receiving::replace": Guard(
+        ["requires { (is_unscheduled new.origin || R.is_scheduled) ≡ true }"], reason=table.INSIDE
+    ),
+    "uart_chip::receiving::ReceiverParts::put": Guard(
+        [
+            "requires room { length (state self.old).queue < FIFO_SIZE }",
+            "requires origin { (is_unscheduled new.origin || is_scheduled) ≡ true }",
+        ],
+        reason=table.NO_BODY,
+    ),
+    "uart_chip::receiving::ReceiverParts::set_unscheduled_lost": Guard(
+        ["requires { (not on || is_scheduled) ≡ true }"], reason=table.NO_BODY
+    ),
+    "uart_chip::transmitting::TransmitterParts::send": Guard(
+        ["requires { length (state self.old).wire < (state self.old).capacity }"], reason=table.NO_BODY
+    ),
 }
 # The access that a guest makes most often is looked for first, and needs no test.
 for access, first in (("read", "LSR"), ("write", "DATA")):
-    GUARDS[f"uart_chip::chip::Uart::{access}_register"] = Guard(
+    GUARDS[f"uart_chip::controlling::{access}_register"] = Guard(
         OFFSET,
         test='assert!(offset < 8, "no register has this offset");',
         reason=f"private, but reached by `LiveChip::{access}`",
     )
-    GUARDS[f"uart_chip::chip::Uart::{access}"] = Guard(
+    GUARDS[f"uart_chip::controlling::{access}"] = Guard(
         OFFSET, tested_by=f"{access}_register", reason=f"of each offset but that of {first}"
     )
+    GUARDS[f"uart_chip::chip::Uart::{access}"] = Guard(OFFSET, tested_by=access, reason="it does nothing else")
     GUARDS[f"uart_live::live::LiveChip::{access}"] = Guard(
         OFFSET, tested_by=access, panics="If the offset is 8 or more.", reason="it does nothing else"
     )
 # Of types that are not exported, so nothing tests what the trait requires.
 IMPLEMENTED = {
-    f"uart_chip::{path}::push": None for path in ("characters::Characters", "fifo::FixedFifo", "wire::FixedWire")
+    **{f"uart_chip::{path}::push": None for path in ("characters::Characters", "fifo::FixedFifo", "wire::FixedWire")},
+    **{f"uart_chip::transmitter::Transmitter::{name}": None for name in ("put", "send")},
+    **{f"uart_chip::receiver::Receiver::{name}": None for name in ("put", "set_unscheduled_lost")},
 }
 
 OF_QUEUES = ("trait Fifo", "impl Fifo < ")
 OF_WIRES = ("trait Wire", "impl Wire for ")
 OWN = "is called on types of our own alone, which have no trait of std with this name"
+OWN_OR_NAMED = f"is called by its name alone, or {OWN}"
 SAME_NAME = {
     **table.SAME_NAME,
     "as_slice": (OF_WIRES, OWN),
     "capacity": (OF_WIRES, OWN),
     "take": (OF_WIRES, OWN),
-    "clear": ((*OF_QUEUES, "impl Transmitter", "impl Receiver"), OWN),
+    "clear": ("", OWN),
     "get": (OF_QUEUES, OWN),
     "is_empty": ((*OF_QUEUES, "impl Receiver"), OWN),
     "len": ((*OF_QUEUES, "trait Journal", "impl Journal for "), OWN),
-    "read": (("impl Modem", "impl Uart", "impl LiveChip"), OWN),
-    "write": (("impl Uart", "impl LiveChip"), OWN),
+    "read": ("", OWN_OR_NAMED),
+    "write": ("", OWN_OR_NAMED),
     "push": ((*OF_QUEUES, *OF_WIRES), OWN),
-    "replace": ("impl Receiver", OWN),
-    "report": ("impl Receiver", OWN),
-    "skip": ("impl Uart", OWN),
+    "replace": ("", "is called by its name alone"),
+    "report": ("", "is called by its name alone"),
+    "skip": ("", "is called by its name alone"),
     "fill": ("", "is called by its name alone"),
     "new": ("impl ", "is called by its path alone"),
 }
@@ -167,7 +191,10 @@ TABLE = types.SimpleNamespace(
         "SHARED": examples.SHARED_OF_CHIP,
         "METHODS": [*table.METHODS, *METHODS],
         "FUNCTIONS": [*table.FUNCTIONS, "ArrayVec::new", "Character::default"],
-        "CASTS": {f"uart_chip::chip::Uart::{name}": ["offset"] for name in ("read_register", "write_register")},
+        "CASTS": {
+            **{f"uart_chip::controlling::{name}": ["offset"] for name in ("read_register", "write_register")},
+            "uart_chip::receiving::is_data_pending": ["characters_of ( parts . trigger ( ) )"],
+        },
         "LARGE": {"uart_chip/src/event.rt": ["65_536"]},
     }
 )

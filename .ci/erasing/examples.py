@@ -253,6 +253,7 @@ OF_CHIP = {
     "uart_live::live::LiveChip::write": compiles(f"{CHIP}, offset: u8, value: u8, elapsed: u16"),
     "uart_live::live::LiveChip::ticks": compiles(f"{CHIP}, elapsed: u16"),
     "uart_live::live::LiveChip::arrive": compiles(f"{CHIP}, byte: u8"),
+    "uart_live::live::LiveChip::arrive_holding_timeout": compiles(f"{CHIP}, byte: u8"),
     "uart_live::live::LiveChip::set_lines": compiles(CHIP),
     "uart_live::live::LiveChip::is_interrupting": (
         INCLUDE

@@ -22,13 +22,13 @@ PARTS = [
     ("uart_ring/src/tests/handler.rt", "uart_ring/handler", "crate::libraries::uart_ring"),
     ("uart_ring/src/tests/lists.rt", "uart_ring/lists", "crate::libraries::uart_ring"),
 ]
-DRIVER = "uart_tests"
+# The tests of the driver.
+DRIVER = "uart_calls/src/tests"
 
 # Heads of paths.
 HEADS = {
     "uart_16550": "crate::libraries::uart_16550",
     "uart_spec": "crate::libraries::uart_spec",
-    "uart_calls": "crate::erased::uart_calls",
     "arrayvec": "crate::libraries::arrayvec",
     "bitflags": "crate::libraries::bitflags",
     "std::test": "crate::runtime",
@@ -40,6 +40,8 @@ REPLACED = [
     (r"(?m)^ *#!?\[tactic\(.*\)\]\n", ""),
     (r"(?m)^(?:use std::marker::Model;|use thiserror::Error;)\n", ""),
     (r"(?m)^pub mod laws;\n", ""),
+    # no test needs these
+    (r"(?m)^mod (?:checking|tape);\n|^pub use (?:checking|tape)::[^;]*;\n", ""),
     (r"\bimpl<('?\w+)> Model for [^{]*\{\s*\}\n", ""),
     (r"(?m)^(?:pub )?fn \w+(?:<[^>]*>)?\(\)\s*\{\}\n", ""),
     (r"(?<=[(])Drop, |, Drop(?=[,)])", ""),
@@ -100,13 +102,13 @@ def erased(text, module):
 
 def emitted(root):
     """The files of the erased tests by name, with their bytes."""
-    found = crate.sources(root, ["uart_spec", "uart_16550", "uart_calls", "uart_tests", "uart_ring"])
+    found = crate.sources(root, ["uart_spec", "uart_16550", "uart_calls", "uart_ring"])
     files = {}
     parts = [(name, target, module) for name, target, module in PARTS]
     for name in found:
-        if name.startswith(f"{DRIVER}/src/"):
-            target = name[len(f"{DRIVER}/src/") : -len(".rt")]
-            parts.append((name, DRIVER if target == "lib" else f"{DRIVER}/{target}", f"crate::erased::{DRIVER}"))
+        if name.startswith(DRIVER):
+            target = name.replace("/src/", "/")[: -len(".rt")]
+            parts.append((name, target, "crate::erased::uart_calls"))
     folders = {target.split("/")[0] for _, target, _ in parts if "/" in target}
     for name, target, module in parts:
         text = erased(crate.text_of(name, found[name]), module)

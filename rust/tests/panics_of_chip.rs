@@ -64,6 +64,7 @@ calls! {
     chip_write(chip: &mut LiveChip, offset: u8, value: u8) { chip.write(offset, value) }
     chip_ticks(chip: &mut LiveChip, count: u16) -> usize { chip.ticks(count) }
     chip_arrive(chip: &mut LiveChip, byte: u8, errors: LSR) -> Result<(), InputError> { chip.arrive(byte, errors) }
+    chip_arrive_holding_timeout(chip: &mut LiveChip, byte: u8, errors: LSR) -> Result<(), InputError> { chip.arrive_holding_timeout(byte, errors) }
     chip_set_lines(chip: &mut LiveChip, inputs: MSR) -> Result<(), InputError> { chip.set_lines(inputs) }
     chip_is_interrupting(chip: &LiveChip) -> bool { chip.is_interrupting() }
     chip_wire(chip: &LiveChip) -> &[u8] { chip.wire() }

@@ -18,7 +18,8 @@ pub const EACH: usize = 16;
 const IER_OFFSET: u8 = 1;
 const FCR_OFFSET: u8 = 2;
 const FIFO_ON: u8 = 0x01;
-const WIRE_ROOM: usize = 64;
+/// How many bytes the wire has room for.
+pub const WIRE_ROOM: usize = 64;
 /// The ticks in which 16 bytes leave, if each takes one.
 const TICKS_OF_A_ROUND: u16 = 17;
 
@@ -48,6 +49,12 @@ impl Bench {
     #[inline(always)]
     pub fn add(&mut self, value: u8) {
         self.digest = self.digest.wrapping_add(value);
+    }
+
+    /// Puts a byte on the wire. This is not counted.
+    pub fn send(&mut self, byte: u8) {
+        self.chip.write(DATA_OFFSET, byte);
+        self.chip.ticks(TICKS_OF_A_ROUND);
     }
 
     /// Empties the transmitter and the wire. This is not counted.

@@ -1,17 +1,23 @@
-//! Plays scripts of a serial chip and its driver, shows what happened, and judges recordings, for people: see
-//! `geesetrunk --help`.
+//! Plays scripts of a serial chip and its driver, shows what happened, and judges recordings and
+//! traces, for people: see `geesetrunk --help`.
 //!
-//! What is printed of a script is made by `uart_report`, from bytes to text, and of a recording by `uart_findings`, line by
-//! line. How the program reads, reports and ends is that of `uart_program`.
+//! What is printed of a script is made by `uart_report`, from bytes to text, and of a recording or
+//! a trace by `uart_judges`. How the program reads, reports and ends is that of `uart_command`.
 #![tactic(auto)]
 
+mod end;
 mod recordings;
+#[cfg(test)]
+mod tests;
+mod traces;
 
-use recordings::{Judge, judged, unread};
+use recordings::{drawn, judged, unread};
 use std::process::ExitCode;
-use uart_command::request_in;
-use uart_program::{Failure, STANDARD_INPUT, Status, bytes_of, failed, print, unmatched, words};
-use uart_report::{MOST_READ, Report, Request, report_on};
+use traces::verified;
+use uart_command::{
+    Failure, Job, Request, Status, Task, bytes_of, failed, print, request_in, unmatched, words,
+};
+use uart_report::{MOST_READ, Report, report_on};
 
 // Prints a report, and returns the exit code of its end.
 fn printed(rt: &HostRuntime, report: &Report) -> Result<ExitCode, Failure> {
@@ -26,38 +32,28 @@ fn printed(rt: &HostRuntime, report: &Report) -> Result<ExitCode, Failure> {
     Ok(ExitCode::from(end))
 }
 
-// Does what is requested, and returns the exit code.
-fn done(rt: &HostRuntime, request: &Request<'_>) -> Result<ExitCode, Failure> {
-    let file = request.file;
+// Reports on the script of this name, and returns the exit code.
+fn reported(rt: &HostRuntime, task: Task, file: &str) -> Result<ExitCode, Failure> {
+    let request = uart_report::Request { task, file };
     match bytes_of(rt, Some(file), MOST_READ) {
-        Ok(script) => printed(rt, &report_on(rt.alloc(), request, &script)?),
+        Ok(script) => printed(rt, &report_on(rt.alloc(), &request, &script)?),
         Err(cause) => unread(rt, file, &cause),
     }
 }
 
-// Returns what a word requests of a recording.
-fn judge_in(word: &str) -> Option<Judge> {
-    match word {
-        "audit" => Some(Judge::Audit),
-        "replay" => Some(Judge::Replay),
-        _ => None,
+// Does what is requested, and returns the exit code.
+fn done(rt: &HostRuntime, request: &Request<'_>) -> Result<ExitCode, Failure> {
+    match request.job {
+        Job::Report(task) => reported(rt, task, request.file),
+        Job::Judge(judge) => judged(rt, judge, request.file),
+        Job::Draw(form) => drawn(rt, form, request),
+        Job::Verify => verified(rt, request),
     }
 }
 
 // Does what the command line requests, and returns the exit code.
 fn run(rt: &HostRuntime) -> Result<ExitCode, Failure> {
     let words = words(rt)?;
-    let judge = match words.get(1) {
-        Some(word) => judge_in(word.as_str()),
-        None => None,
-    };
-    match (judge, words.as_slice()) {
-        (Some(judge), [_, _]) => return judged(rt, judge, STANDARD_INPUT),
-        (Some(judge), [_, _, file]) if !file.starts_with("--") => {
-            return judged(rt, judge, file.as_str());
-        }
-        _ => {}
-    }
     match request_in(rt.alloc(), &words) {
         Ok(request) => done(rt, &request),
         Err(error) => Ok(unmatched(rt, &error)),

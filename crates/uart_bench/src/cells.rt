@@ -23,7 +23,8 @@ pub trait Observed: Backend {
 
 /// A cell for each register, and a digest of all bytes that were read and written.
 ///
-/// A write to LSR does not change its cell. The digest is printed, so that the compiler cannot remove the accesses.
+/// A write to LSR does not change its cell. The digest is printed, so that the compiler cannot
+/// remove the accesses.
 #[derive(Drop)]
 pub struct Cells {
     cells: [u8; 8],

@@ -41,7 +41,8 @@ fn thousands(alloc: Global, count: u64) -> Result<Vec<Event>, AllocError> {
     Ok(schedule)
 }
 
-/// Does this `count` times on a machine that was given a character to send before, and returns LSR after that.
+/// Does this `count` times on a machine that was given a character to send before, and returns LSR
+/// after that.
 pub fn perform(alloc: Global, work: Work, count: u64) -> Result<u8, BuildError> {
     let schedule = match work {
         Work::Access | Work::Idle => Ok(Vec::new(alloc)),

@@ -1,17 +1,23 @@
 //! Runs one body of the driver over memory cells, so that its instructions can be counted.
+//!
+//! `answers` makes the operations of standard input on a live chip instead, and prints its answers.
 #![tactic(auto)]
 
 mod bodies;
 mod cells;
 mod machine;
+mod operations;
 mod rings;
+mod shown;
 
 use anyhow::{Result, bail};
 use bodies::{Body, run};
 use cells::{Called, Cells, Counted, Totals};
 use machine::{Work, perform};
+use operations::{ANSWER_BYTES, OPERATION_BYTES, answers};
 use rings::{RingWork, perform as perform_ring};
 use std::env;
+use std::io::Read;
 use std::rt::Runtime;
 
 // The number of bytes that one call of a measured body sends, receives or prints.
@@ -20,7 +26,17 @@ const MEASURED_BYTES: usize = 1 << 20;
 // The same in the short run: whole pieces and a remainder.
 const SHORT_BYTES: usize = 300;
 
-// What is measured: a body of the driver over cells of which LSR holds this byte, the chip, or the rings.
+// The most bytes of operations that are read.
+const MOST_OPERATION_BYTES: u64 = 1 << 26;
+
+// The operations of the short run: a new chip and FIFOs on, a byte that leaves, and a character
+// that arrives and is read.
+const SHORT_OPERATIONS: [u8; 7 * OPERATION_BYTES] = [
+    0, 0x80, 1, 2, 2, 0x01, 2, 0, 0x41, 3, 0, 2, 4, 0x42, 0, 1, 5, 0, 1, 0, 0,
+];
+
+// What is measured: a body of the driver over cells of which LSR holds this byte, the chip, or the
+// rings.
 #[derive(Clone, Copy)]
 enum Subject {
     Driver(Body, u8),
@@ -56,6 +72,15 @@ fn counted(body: Body, count: u64, lsr: u8) -> Totals {
     run(body, count, cells, &mut buffer, line)
 }
 
+// Prints the answers to the short operations, a line for each.
+fn short_answers<R: Runtime + AllocGlobal>(rt: &R) -> Result<()> {
+    let printed = answers(rt.alloc(), &SHORT_OPERATIONS)?;
+    for answer in printed.chunks(ANSWER_BYTES) {
+        println!(rt; "answers {answer:?}")?;
+    }
+    Ok(())
+}
+
 // Runs each once, and prints the totals of its accesses.
 fn short_run<R: Runtime + AllocGlobal>(rt: &R) -> Result<()> {
     for (subject, name) in SUBJECTS {
@@ -80,7 +105,7 @@ fn short_run<R: Runtime + AllocGlobal>(rt: &R) -> Result<()> {
             }
         }
     }
-    Ok(())
+    short_answers(rt)
 }
 
 // Runs the body `count` times, and returns the digest of its accesses.
@@ -122,12 +147,26 @@ fn measure<R: Runtime + AllocGlobal>(rt: &R, name: &str, count: u64, called: boo
     Ok(())
 }
 
+// Makes the operations of standard input, and prints the answers.
+fn answer(rt: &HostRuntime) -> Result<()> {
+    let mut operations = Vec::new(rt.alloc());
+    rt.stdin()
+        .take(MOST_OPERATION_BYTES)
+        .read_to_end(&mut operations)?;
+    let printed = answers(rt.alloc(), &operations)?;
+    rt.write_all(&printed)?;
+    Ok(())
+}
+
 fn main(rt: HostRuntime) -> Result<()> {
     let mut words = env::args(&rt)?;
     let _program = words.next();
     let Some(name) = words.next() else {
         return short_run(&rt);
     };
+    if name.as_str() == "answers" {
+        return answer(&rt);
+    }
     let count = match words.next() {
         Some(word) => word.parse::<u64>()?,
         None => bail!(

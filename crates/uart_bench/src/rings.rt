@@ -25,7 +25,8 @@ pub enum RingWork {
 // The number of received bytes before each call.
 const WAITING: u8 = 14;
 
-/// Cells of a chip with received bytes: LSR and ISR show that, until this number of reads of DATA was made.
+/// Cells of a chip with received bytes: LSR and ISR show that, until this number of reads of DATA
+/// was made.
 #[derive(Drop)]
 struct Chip {
     cells: Cells,
@@ -90,8 +91,8 @@ fn receive(uart: &mut Uart16550<Chip>, slots: &mut [u8]) -> usize {
     uart.receive_bytes(slots)
 }
 
-/// Does this `count` times. Returns what the last call returned, how many bytes were in the receive ring after it, and the
-/// digest of all accesses.
+/// Does this `count` times. Returns what the last call returned, how many bytes were in the receive
+/// ring after it, and the digest of all accesses.
 pub fn perform(
     alloc: Global,
     work: RingWork,

@@ -174,7 +174,7 @@ struct uart_wire {
 struct uart_transmitter {
     uint64_t overflows;      /* how many writes met a full transmitter */
     uint16_t char_ticks;     /* a character takes so many ticks */
-    uint16_t ticks_left;     /* until the character in the shift place is out */
+    uint16_t ticks_left;     /* until the character in the shift register is out */
     uint8_t is_shifting;     /* there is one */
     uint8_t shift_byte;
     uint8_t is_thr_pending;  /* the interrupt THR-empty is pending */
@@ -231,7 +231,7 @@ uint32_t uart_chip_new(struct uart_chip *chip, uint8_t model, uint16_t char_tick
  * if one of these holds. No chip that was made by uart_chip_new and used by the functions below is refused.
  *
  * - a queue has more than there is room for, which is one item without FIFO, or the wire more than its capacity;
- * - a character takes no 1 to 1000 ticks, or the one in the shift place has no 1 to char_ticks left;
+ * - a character takes no 1 to 1000 ticks, or the one in the shift register has no 1 to char_ticks left;
  * - timeout_limit is not four character times, or timeout_ticks is more;
  * - a character has other errors than parity, framing and break;
  * - IER, MCR or the modem's fields have bits that the chip does not keep, or the FIFO is on in a 16450.

@@ -11,7 +11,7 @@ use Rattle.uart_c.specs.declared.chip.UartChip.{UartChip}
 use Rattle.uart_c.specs.declared.queue.UartCharacter.{UartCharacter}
 use Rattle.uart_c.specs.declared.receiver.TheConstants.{TIMEOUT_CHARACTERS}
 use Rattle.uart_chip.specs.Chip.{ChipState}
-use Rattle.uart_chip.specs.Receiver.{is_stray}
+use Rattle.uart_chip.specs.Receiver.{is_unscheduled}
 use Rattle.uart_chip.specs.Snapshot as snapshot
 use Rattle.uart_chip.specs.declared.receiver.Character.{Character}
 use Rattle.uart_chip.specs.declared.receiver.Origin.TheVariants.{Looped, Live}
@@ -21,7 +21,7 @@ use Rattle.uart_live.specs.Live.{IsLive}
 use Rattle.uart_live.specs.Saved.{is_within, is_live, is_live_character}
 use Rattle.uart_spec.specs.declared.registers.line_status.TheConstants.LSR
 
-no_arrival : (looped within : Bool) → within ≡ (is_stray (if looped then Looped else Live) && within)
+no_arrival : (looped within : Bool) → within ≡ (is_unscheduled (if looped then Looped else Live) && within)
 no_arrival true within = refl
 no_arrival false within = refl
 

@@ -7,8 +7,8 @@ use Rattle.uart_c.specs.declared.queue.TheConstants.{WIRE_ROOM}
 use Rattle.uart_chip.specs.Chip.{ChipState, fresh}
 use Rattle.uart_chip.specs.declared.event.BuildError.TheVariants.{BadTicks, BadWire}
 use Rattle.uart_chip.specs.declared.event.TheConstants.{MAX_CHAR_TICKS, MAX_WIRE_CAPACITY}
-use Rattle.uart_live.proofs.Lives.{live-bring, live-fresh, live-lines, live-read, live-take, live-ticks, live-write}
-use Rattle.uart_live.specs.Laws.{Read, Write, Ticks, Arrive, SetLines, TakeWire}
+use Rattle.uart_live.proofs.Lives.{live-arrival, live-fresh, live-hold, live-lines, live-read, live-take, live-ticks, live-write}
+use Rattle.uart_live.specs.Laws.{Read, Write, Ticks, Arrive, ArriveHolding, SetLines, TakeWire}
 use Rattle.uart_live.specs.Live.{IsLive}
 
 -- nothing of what holds of a sound chip is about the option for characters
@@ -55,6 +55,7 @@ pub stay : SoundChipsStaySound
 stay (Read offset) c a w = live-read offset c w
 stay (Write offset value) c a w = live-write offset value c a w
 stay (Ticks count) c a w = live-ticks count c w
-stay (Arrive byte errors) c a w = live-bring byte errors c a w
+stay (Arrive byte errors) c a w = live-arrival byte errors c a w
+stay (ArriveHolding byte errors) c a w = live-hold byte errors c a w
 stay (SetLines inputs) c a w = live-lines inputs c a w
 stay (TakeWire count) c a w = live-take count c w

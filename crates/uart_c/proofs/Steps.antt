@@ -3,8 +3,8 @@ use Rattle.std.proofs.Common.{◌≡◌, List, subst}
 use Rattle.uart_spec.specs.Access.{Access}
 use Rattle.uart_16550.specs.Driver.{Fields}
 use Rattle.uart_calls.specs.declared.call.Call.{Call}
-use Rattle.uart_traces.specs.Lists.{Makes}
-use Rattle.uart_traces.specs.declared.checking.Returned.{Returned}
+use Rattle.uart_calls.specs.Lists.{Makes}
+use Rattle.uart_calls.specs.declared.checking.Returned.{Returned}
 
 pub made_so : {call : Call} {f g : Fields} {l m : List Access} (returned : Returned) → f ≡ g → l ≡ m → Makes call f l returned →
     Makes call g m returned

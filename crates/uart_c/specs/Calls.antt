@@ -22,8 +22,8 @@ use Rattle.uart_spec.specs.declared.errors.LoopbackError.{LoopbackError}
 use Rattle.uart_spec.specs.declared.errors.LoopbackError.TheVariants as loopback_error
 use Rattle.uart_spec.specs.declared.errors.RemoteReadyToReceiveError.{RemoteReadyToReceiveError}
 use Rattle.uart_spec.specs.declared.errors.RemoteReadyToReceiveError.TheVariants as remote_error
-use Rattle.uart_traces.specs.declared.tape.Request.{Request}
-use Rattle.uart_traces.specs.declared.tape.Request.TheVariants as request
+use Rattle.uart_calls.specs.declared.tape.Request.{Request}
+use Rattle.uart_calls.specs.declared.tape.Request.TheVariants as request
 
 -- an access that was made
 abbrev pub access_of : UartAccess → Access

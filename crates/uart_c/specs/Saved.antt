@@ -17,7 +17,7 @@ use Rattle.uart_chip.specs.declared.event.Chip.{Chip}
 use Rattle.uart_chip.specs.declared.modem.ModemData.{ModemData}
 use Rattle.uart_chip.specs.declared.receiver.ReceiverData.{ReceiverData}
 use Rattle.uart_chip.specs.declared.transmitter.TransmitterData.{TransmitterData}
-use Rattle.uart_live.specs.Laws.{Act, Write, Arrive, SetLines, after}
+use Rattle.uart_live.specs.Laws.{Act, Write, Arrive, ArriveHolding, SetLines, after}
 use Rattle.uart_live.specs.Live.{IsLive}
 use Rattle.uart_live.specs.Saved.{is_live}
 use Rattle.uart_live.specs.declared.sound.TheConstants.{TIMEOUT_CHARACTERS}
@@ -58,7 +58,7 @@ abbrev pub transmitter_data : UartTransmitter → TransmitterData
 transmitter_data t =
     record {
       queue = record { items = bytes_of t.queue };
-      shift_place = place_of t;
+      shift_register = place_of t;
       wire_capacity = capacity_of t.wire;
       char_ticks = t.char_ticks;
       overflows = t.overflows;
@@ -88,6 +88,7 @@ is_sound c =
 abbrev pub IsAccepted : Act → Type 0
 IsAccepted (Write offset value) = value < 256
 IsAccepted (Arrive byte errors) = IsWithin errors LSR.CHARACTER_ERRORS.0
+IsAccepted (ArriveHolding byte errors) = IsWithin errors LSR.CHARACTER_ERRORS.0
 IsAccepted (SetLines inputs) = IsWithin inputs MSR.LINES.0
 IsAccepted _ = Unit {0}
 

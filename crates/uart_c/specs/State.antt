@@ -27,7 +27,7 @@ abbrev pub transmitter_of : UartTransmitter → TransmitterState
 transmitter_of t =
     record {
       queue = bytes_of t.queue;
-      shift_place = place_of t;
+      shift_register = place_of t;
       wire = wire_of t.wire;
       capacity = capacity_of t.wire;
       char_ticks = t.char_ticks;

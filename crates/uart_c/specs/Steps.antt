@@ -9,8 +9,8 @@ use Rattle.uart_c.specs.declared.call.UartCall.{UartCall}
 use Rattle.uart_c.specs.declared.driver.UartDriver.{UartDriver}
 use Rattle.uart_calls.specs.Calls.{IsRunnable}
 use Rattle.uart_calls.specs.declared.call.Call.{Call}
-use Rattle.uart_traces.specs.Lists.{Begins, BeginsAndAsks, Makes}
-use Rattle.uart_traces.specs.declared.checking.Returned.{Returned}
+use Rattle.uart_calls.specs.Lists.{Begins, BeginsAndAsks, Makes}
+use Rattle.uart_calls.specs.declared.checking.Returned.{Returned}
 
 -- the accesses that were made are a list of the call, the answer's struct is the one for its answer, and the driver's
 -- the one for the fields after it

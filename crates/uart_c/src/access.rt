@@ -5,7 +5,7 @@ ghost use Rattle.uart_c.specs.Calls.{access_of, request_of};
 
 use crate::queue::is_on;
 use uart_16550::replay::Entry;
-use uart_traces::{Recorded, Request};
+use uart_calls::{Recorded, Request};
 
 /// An access: what was read or written.
 #[repr(C)]

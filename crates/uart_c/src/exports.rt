@@ -22,6 +22,11 @@ use crate::queue::WIRE_ROOM;
 use crate::sound::is_sound;
 use bitflags::Flags;
 use uart_chip::MAX_CHAR_TICKS;
+use uart_chip::controlling::{
+    advance, arrive_live, change_lines, divisor, is_interrupting, read, receive_room, write,
+};
+use uart_chip::receiving::ReceiverParts;
+use uart_chip::transmitting::held_len;
 use uart_spec::NUM_REGISTERS;
 use uart_spec::registers::{LSR, MSR};
 
@@ -80,7 +85,7 @@ pub extern "C" fn uart_chip_read(chip: &mut UartChip, offset: u8) -> u8
     ensures after { chip_of chip.new ≡ spec.after_read (offset % NUM_REGISTERS) (chip_of chip.old) }
     ensures canonical { IsCanonical chip.old → IsCanonical chip.new }
 {
-    chip.read(offset % NUM_REGISTERS as u8)
+    read(chip, offset % NUM_REGISTERS as u8)
 }
 
 /// The guest writes a register.
@@ -89,7 +94,7 @@ pub extern "C" fn uart_chip_write(chip: &mut UartChip, offset: u8, value: u8)
     ensures after { chip_of chip.new ≡ spec.after_write (offset % NUM_REGISTERS) value (chip_of chip.old) }
     ensures canonical { IsCanonical chip.old → IsCanonical chip.new }
 {
-    chip.write(offset % NUM_REGISTERS as u8, value);
+    write(chip, offset % NUM_REGISTERS as u8, value);
 }
 
 /// So many ticks pass.
@@ -98,14 +103,14 @@ pub extern "C" fn uart_chip_ticks(chip: &mut UartChip, count: u16)
     ensures after { chip_of chip.new ≡ spec.ticks count (chip_of chip.old) }
     ensures canonical { IsCanonical chip.old → IsCanonical chip.new }
 {
-    chip.ticks(count);
+    advance(chip, count);
 }
 
 /// A character comes in.
 #[unsafe(no_mangle)]
 pub extern "C" fn uart_chip_arrive(chip: &mut UartChip, byte: u8, errors: u8) -> u32
     ensures accepted { IsWithin errors LSR.CHARACTER_ERRORS.0 →
-        (result ≡ UART_OK) × (chip_of chip.new ≡ spec.bring byte errors (chip_of chip.old)) }
+        (result ≡ UART_OK) × (chip_of chip.new ≡ spec.arrive_live byte errors (chip_of chip.old)) }
     ensures refused { bit_and errors LSR.CHARACTER_ERRORS.0 ≢ errors → (result ≡ UART_BAD_ERRORS) × (chip.new ≡ chip.old) }
     ensures canonical { IsCanonical chip.old → IsCanonical chip.new }
 {
@@ -114,7 +119,7 @@ pub extern "C" fn uart_chip_arrive(chip: &mut UartChip, byte: u8, errors: u8) ->
     {
         return UART_BAD_ERRORS;
     }
-    chip.bring(byte, errors);
+    arrive_live(chip, byte, errors);
     UART_OK
 }
 
@@ -128,7 +133,7 @@ pub extern "C" fn uart_chip_set_lines(chip: &mut UartChip, inputs: u8) -> u32
     if MSR::from_bits_retain(inputs).intersection(MSR::LINES) != MSR::from_bits_retain(inputs) {
         return UART_BAD_LINES;
     }
-    chip.change_lines(inputs);
+    change_lines(chip, inputs);
     UART_OK
 }
 
@@ -137,7 +142,7 @@ pub extern "C" fn uart_chip_set_lines(chip: &mut UartChip, inputs: u8) -> u32
 pub extern "C" fn uart_chip_is_interrupting(chip: &UartChip) -> u8
     ensures { result ≡ flag (is_some (spec.interrupt (chip_of chip.now))) 1 }
 {
-    chip.is_interrupting() as u8
+    is_interrupting(chip) as u8
 }
 
 /// Takes bytes that have gone out. Returns how many.
@@ -173,7 +178,7 @@ pub extern "C" fn uart_chip_wire_room(chip: &UartChip) -> usize
 pub extern "C" fn uart_chip_receive_room(chip: &UartChip) -> usize
     ensures { result ≡ spec.receive_room (chip_of chip.now) }
 {
-    chip.receive_room()
+    receive_room(chip)
 }
 
 /// How many characters wait for the guest to read them.
@@ -181,7 +186,7 @@ pub extern "C" fn uart_chip_receive_room(chip: &UartChip) -> usize
 pub extern "C" fn uart_chip_waiting_len(chip: &UartChip) -> usize
     ensures { result ≡ length (chip_of chip.now).receiver.queue }
 {
-    chip.receiver.len()
+    chip.receiver.queue_len()
 }
 
 /// How many bytes are still to go out.
@@ -189,7 +194,7 @@ pub extern "C" fn uart_chip_waiting_len(chip: &UartChip) -> usize
 pub extern "C" fn uart_chip_held_len(chip: &UartChip) -> usize
     ensures { result ≡ length (held (chip_of chip.now).transmitter) }
 {
-    chip.transmitter.held_len()
+    held_len(&chip.transmitter)
 }
 
 /// The divisor latch.
@@ -197,5 +202,5 @@ pub extern "C" fn uart_chip_held_len(chip: &UartChip) -> usize
 pub extern "C" fn uart_chip_divisor(chip: &UartChip) -> u16
     ensures { result ≡ spec.divisor (chip_of chip.now).latches }
 {
-    chip.divisor()
+    divisor(chip)
 }

@@ -53,8 +53,9 @@ impl UartModem {
     pub fn change_inputs(&mut self, mcr: MCR, inputs: u8)
         ensures { modem_of self.new ≡ renew mcr.0 (record (modem_of self.old) { inputs = inputs }) }
     {
-        self.inputs = inputs;
-        self.renew(mcr);
+        let mut modem = restored(*self);
+        modem.change_inputs(mcr, MSR::from_bits_retain(inputs));
+        *self = saved(&modem);
     }
 
     /// A read of the modem status register, which clears the changes.
@@ -62,14 +63,15 @@ impl UartModem {
         ensures answers { result ≡ bit_or (modem_of self.old).lines (modem_of self.old).deltas }
         ensures after { modem_of self.new ≡ record (modem_of self.old) { deltas = 0 } }
     {
-        let status = self.lines | self.deltas;
-        self.deltas = 0;
-        status
+        let mut modem = restored(*self);
+        let status = modem.read();
+        *self = saved(&modem);
+        status.bits()
     }
 
     pub fn has_changes(&self) -> bool
         ensures { result ≡ not ((modem_of self.now).deltas == 0) }
     {
-        self.deltas != 0
+        restored(*self).has_changes()
     }
 }

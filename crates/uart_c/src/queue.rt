@@ -1,10 +1,12 @@
 //! Queues: the first items of an array are in the queue. The functions are over its length and its array, whatever the items are.
-ghost use Rattle.std.specs.Prelude.{◌≡◌, ◌==◌, ◌+◌, ◌-◌, ◌<◌, ◌≤◌, [], ◌∷◌, ◌++◌, take, drop, min, length, slice_get, Some};
+ghost use Rattle.std.specs.Prelude.{◌≡◌, ◌==◌, ◌+◌, ◌-◌, ◌<◌, ◌≤◌, [], ◌∷◌, ◌++◌, take, drop, min, length, slice_get, Some, true};
 ghost use Rattle.uart_c.specs.Canonical.{IsCanonicalQueue, IsCanonicalWire, IsFlag};
 ghost use Rattle.uart_c.specs.Queue as spec;
+ghost use Rattle.uart_chip.specs.Receiver.{is_unscheduled};
 ghost use Rattle.uart_spec.specs.declared.baud.TheConstants.{FIFO_SIZE};
 ghost use Rattle.uart_c.specs.declared.queue.TheConstants.{WIRE_ROOM};
 
+use uart_chip::{Character, Origin};
 use uart_spec::FIFO_SIZE;
 
 /// How many bytes a wire has room for, at most.
@@ -52,6 +54,34 @@ impl UartCharacter {
         UartCharacter {
             is_looped: is_on(self.is_looped) as u8,
             ..self
+        }
+    }
+
+    /// Returns a character as C has it. It is no arrival of a schedule.
+    pub fn of(character: Character) -> Self
+        requires { is_unscheduled character.origin ≡ true }
+        ensures character { spec.character_of result ≡ character }
+        ensures flag { IsFlag result.is_looped }
+    {
+        UartCharacter {
+            byte: character.byte,
+            errors: character.errors,
+            is_looped: matches!(character.origin, Origin::Looped) as u8,
+        }
+    }
+
+    /// Returns the character as a receiver has it.
+    pub fn shown(&self) -> Character
+        ensures { result ≡ spec.character_of self.now }
+    {
+        Character {
+            byte: self.byte,
+            errors: self.errors,
+            origin: if is_on(self.is_looped) {
+                Origin::Looped
+            } else {
+                Origin::Live
+            },
         }
     }
 }

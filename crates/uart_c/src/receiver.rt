@@ -1,19 +1,17 @@
 //! The receiver as plain data.
-ghost use Rattle.std.specs.Prelude.{◌≡◌, ◌==◌, ◌-◌, ◌<◌, ◌≤◌, [], ◌∷◌, ◌++◌, length};
+ghost use Rattle.std.specs.Prelude.{◌≡◌, ◌≤◌, false};
 ghost use Rattle.std.specs.List.{list_any};
-ghost use Rattle.uart_c.specs.Canonical.{IsCanonicalReceiver, IsFlag};
+ghost use Rattle.uart_c.specs.Canonical.{IsCanonicalReceiver};
 ghost use Rattle.uart_c.specs.Queue.{character_of};
 ghost use Rattle.uart_c.specs.State.{receiver_of, trigger_of};
-ghost use Rattle.uart_chip.specs.Jumps as jumps;
 ghost use Rattle.uart_chip.specs.Receiver as spec;
-ghost use Rattle.uart_chip.specs.Receiver.{front_errors, has_errors, unreported};
-ghost use Rattle.uart_chip.specs.Transmitter.{room};
+ghost use Rattle.uart_chip.specs.Receiver.{front_errors, has_errors};
 ghost use Rattle.uart_chip.specs.declared.event.TheConstants.{MAX_CHAR_TICKS};
-ghost use Rattle.uart_spec.specs.declared.baud.TheConstants.{FIFO_SIZE};
 
 use crate::queue::{UartCharacter, UartCharacters, count, is_on, pop_front, push};
 use bitflags::Flags;
-use uart_chip::room_of;
+use uart_chip::receiving::{ReceiverParts, characters_of};
+use uart_chip::{ArrivalMark, Character, Origin, flag};
 use uart_spec::FIFO_SIZE;
 use uart_spec::registers::{FifoTriggerLevel, LSR};
 
@@ -33,18 +31,13 @@ pub struct UartReceiver {
     pub queue: UartCharacters,
 }
 
-// The character has a parity or framing error or is a break.
-fn has_errors(character: &UartCharacter) -> bool
-    ensures { result ≡ has_errors (character_of character.now) }
-{
-    LSR::from_bits_retain(character.errors).intersects(LSR::CHARACTER_ERRORS)
-}
-
 // Some character has errors.
 fn some_has_errors(characters: &[UartCharacter]) -> bool
     ensures { result ≡ list_any (λ character. has_errors (character_of character)) characters.now }
 {
-    characters.iter().any(|character| has_errors(character))
+    characters
+        .iter()
+        .any(|character| character.shown().has_errors())
 }
 
 /// The trigger level for so many characters.
@@ -56,19 +49,6 @@ pub fn trigger_of(characters: u8) -> FifoTriggerLevel
         4 => FifoTriggerLevel::Four,
         8 => FifoTriggerLevel::Eight,
         _ => FifoTriggerLevel::Fourteen,
-    }
-}
-
-// How many characters a trigger level asks for.
-fn characters_of(level: FifoTriggerLevel) -> u8
-    ensures number { result ≡ spec.characters_of level }
-    ensures level { trigger_of result ≡ level }
-{
-    match level {
-        FifoTriggerLevel::One => 1,
-        FifoTriggerLevel::Four => 4,
-        FifoTriggerLevel::Eight => 8,
-        FifoTriggerLevel::Fourteen => 14,
     }
 }
 
@@ -98,6 +78,7 @@ impl UartReceiver {
     }
 
     /// Becomes a receiver like this one.
+    #[tactic(auto, using(crate::proofs::Levels::same_level))]
     pub fn restore(&mut self, saved: &Self)
         ensures after { receiver_of self.new ≡ receiver_of saved.now }
         ensures canonical { IsCanonicalReceiver self.new }
@@ -111,156 +92,77 @@ impl UartReceiver {
         self.queue.restore(&saved.queue);
     }
 
-    // A character comes in.
-    fn come_in(&mut self, fifo: bool, new: UartCharacter)
-        ensures after { receiver_of self.new ≡ spec.come_in fifo (character_of new) (receiver_of self.old) }
-        ensures canonical { IsFlag new.is_looped → IsCanonicalReceiver self.old → IsCanonicalReceiver self.new }
-    {
-        if fifo {
-            if self.is_empty() {
-                self.is_front_reported = 0;
-            }
-            if self.len() < FIFO_SIZE {
-                self.put(new);
-            } else {
-                self.is_overrun = 1;
-            }
-        } else {
-            if !self.is_empty() {
-                self.is_overrun = 1;
-            }
-            self.queue.len = 0;
-            self.put(new);
-            self.is_front_reported = 0;
-        }
-        self.timeout_ticks = 0;
-    }
-
-    // Puts a character last in the queue.
-    fn put(&mut self, new: UartCharacter)
-        requires { length (receiver_of self.old).queue < FIFO_SIZE }
-        ensures after { receiver_of self.new ≡
-            record (receiver_of self.old) { queue = (receiver_of self.old).queue ++ character_of new ∷ [] } }
-        ensures canonical { IsFlag new.is_looped → IsCanonicalReceiver self.old → IsCanonicalReceiver self.new }
-    {
-        push(&mut self.queue.len, &mut self.queue.items, new);
-    }
-
-    /// The end of a tick, with the byte that came back in it.
-    pub fn tick(&mut self, fifo: bool, looped: Option<u8>)
-        ensures after { receiver_of self.new ≡ spec.tick fifo looped (receiver_of self.old) }
-        ensures canonical { IsCanonicalReceiver self.old → IsCanonicalReceiver self.new }
-    {
-        if let Some(byte) = looped {
-            self.come_in(
-                fifo,
-                UartCharacter {
-                    byte,
-                    errors: 0,
-                    is_looped: 1,
-                },
-            );
-        }
-        self.count_up(1);
-    }
-
-    /// Ticks in which no character comes in and none is taken.
-    pub fn count_up(&mut self, ticks: u16)
-        ensures after { receiver_of self.new ≡ jumps.count_up ticks (receiver_of self.old) }
-        ensures canonical { IsCanonicalReceiver self.old → IsCanonicalReceiver self.new }
-    {
-        if ticks > 0 {
-            let counted = self.timeout_ticks.saturating_add(ticks);
-            self.timeout_ticks = counted.min(self.timeout_limit);
-        }
-    }
-
-    /// A character comes in from the remote.
-    pub fn bring(&mut self, loopback: bool, fifo: bool, byte: u8, errors: u8)
-        ensures after { receiver_of self.new ≡ spec.bring loopback fifo byte errors (receiver_of self.old) }
-        ensures canonical { IsCanonicalReceiver self.old → IsCanonicalReceiver self.new }
-    {
-        if !loopback {
-            self.come_in(
-                fifo,
-                UartCharacter {
-                    byte,
-                    errors,
-                    is_looped: 0,
-                },
-            );
-        }
-    }
-
-    /// Takes the front, and returns the byte that was taken last.
-    pub fn take_front(&mut self) -> u8
-        ensures after { receiver_of self.new ≡ spec.take_front (receiver_of self.old).queue (receiver_of self.old) }
-        ensures byte { result ≡ (receiver_of self.new).last_byte }
-        ensures canonical { IsCanonicalReceiver self.old → IsCanonicalReceiver self.new }
-    {
-        if let Some(front) = pop_front(&mut self.queue.len, &mut self.queue.items) {
-            self.is_front_reported = 0;
-            self.timeout_ticks = 0;
-            self.last_byte = front.byte;
-        }
-        self.last_byte
-    }
-
-    /// The line status was read.
-    pub fn report(&mut self)
-        ensures after { receiver_of self.new ≡ spec.report (receiver_of self.old) }
-        ensures canonical { IsCanonicalReceiver self.old → IsCanonicalReceiver self.new }
-    {
-        self.is_overrun = 0;
-        if !self.is_empty() {
-            self.is_front_reported = 1;
-        }
-    }
-
-    /// Empties the queue.
-    #[tactic(auto, using(crate::proofs::Marks::none_marked))]
-    pub fn clear(&mut self)
-        ensures after { receiver_of self.new ≡ spec.clear (receiver_of self.old) }
-        ensures canonical { IsCanonicalReceiver self.old → IsCanonicalReceiver self.new }
-    {
-        self.queue.len = 0;
-    }
-
-    pub fn set_trigger(&mut self, trigger: FifoTriggerLevel)
-        ensures after { receiver_of self.new ≡ record (receiver_of self.old) { trigger = trigger } }
-        ensures canonical { IsCanonicalReceiver self.old → IsCanonicalReceiver self.new }
-    {
-        self.trigger = characters_of(trigger);
-    }
-
-    pub fn is_empty(&self) -> bool
-        ensures { result ≡ (length (receiver_of self.now).queue == 0) }
-    {
-        self.queue.len == 0
-    }
-
-    pub fn is_overrun(&self) -> bool
-        ensures { result ≡ (receiver_of self.now).is_overrun }
-    {
-        is_on(self.is_overrun)
-    }
-
-    /// The errors of the front, unless they were reported.
-    pub fn front_errors(&self) -> LSR
+    // The errors of the front, unless they were reported.
+    fn front_errors(&self) -> LSR
         ensures { result.0 ≡ front_errors (receiver_of self.now).queue (receiver_of self.now).is_front_reported }
     {
-        if self.is_empty() || is_on(self.is_front_reported) {
+        if self.queue.len == 0 || is_on(self.is_front_reported) {
             return LSR::empty();
         }
         LSR::from_bits_retain(self.queue.items[0].errors).intersection(LSR::CHARACTER_ERRORS)
     }
+}
 
-    /// Some character has errors that were not reported yet.
+impl ReceiverParts for UartReceiver {
+    ghost state = { λ r. receiver_of r };
+
+    ghost canonical = { λ r. IsCanonicalReceiver r };
+
+    ghost is_scheduled = { false };
+
+    fn queue_len(&self) -> usize {
+        count(self.queue.len, &self.queue.items)
+    }
+
+    #[tactic(auto, using(crate::proofs::Marks::only_unscheduled))]
+    fn put(&mut self, new: Character) {
+        push(
+            &mut self.queue.len,
+            &mut self.queue.items,
+            UartCharacter::of(new),
+        );
+    }
+
+    fn pop(&mut self) -> Option<Character> {
+        let front = pop_front(&mut self.queue.len, &mut self.queue.items)?;
+        Some(front.shown())
+    }
+
+    fn clear_queue(&mut self) {
+        self.queue.len = 0;
+    }
+
+    #[tactic(auto, using(crate::proofs::Marks::none_set))]
+    fn set_mark(&mut self, _origin: Origin, _mark: ArrivalMark) {}
+
+    #[tactic(auto, using(crate::proofs::Marks::none_marked))]
+    fn discard(&mut self) {}
+
+    #[tactic(auto, using(crate::proofs::Marks::none_lost))]
+    fn set_unscheduled_lost(&mut self, _on: bool) {}
+
+    fn set_overrun(&mut self, on: bool) {
+        self.is_overrun = on as u8;
+    }
+
+    fn set_front_reported(&mut self, on: bool) {
+        self.is_front_reported = on as u8;
+    }
+
+    fn status(&self) -> LSR {
+        let data_ready = flag(self.queue_len() > 0, LSR::DATA_READY);
+        let overrun = flag(is_on(self.is_overrun), LSR::OVERRUN_ERROR);
+        data_ready.union(overrun).union(self.front_errors())
+    }
+
+    fn has_errors(&self) -> bool {
+        let len = self.queue_len();
+        some_has_errors(&self.queue.items[..len])
+    }
+
     #[tactic(auto, using(crate::proofs::Errors::none_of_none))]
-    pub fn has_unreported_errors(&self) -> bool
-        ensures { result ≡ list_any has_errors (unreported (receiver_of self.now).queue (receiver_of self.now).is_front_reported) }
-    {
-        let len = self.len();
+    fn has_unreported_errors(&self) -> bool {
+        let len = self.queue_len();
         if len == 0 {
             return false;
         }
@@ -270,35 +172,32 @@ impl UartReceiver {
         some_has_errors(&self.queue.items[1..len])
     }
 
-    /// As many characters wait as the trigger says, or any without FIFO.
-    pub fn is_data_pending(&self, fifo: bool) -> bool
-        ensures { result ≡ spec.is_data_pending fifo (receiver_of self.now) }
-    {
-        if fifo {
-            characters_of(trigger_of(self.trigger)) as usize <= self.len()
-        } else {
-            !self.is_empty()
-        }
+    fn last_byte(&self) -> u8 {
+        self.last_byte
     }
 
-    /// Characters wait in the FIFO, and none came or was taken for four character times.
-    pub fn is_timed_out(&self, fifo: bool) -> bool
-        ensures { result ≡ spec.is_timed_out fifo (receiver_of self.now) }
-    {
-        fifo && !self.is_empty() && self.timeout_ticks == self.timeout_limit
+    fn set_last_byte(&mut self, byte: u8) {
+        self.last_byte = byte;
     }
 
-    /// How many characters can come in before one is lost.
-    pub fn room(&self, fifo: bool) -> usize
-        ensures { result ≡ room fifo - length (receiver_of self.now).queue }
-    {
-        room_of(fifo).saturating_sub(self.len())
+    fn timeout_ticks(&self) -> u16 {
+        self.timeout_ticks
     }
 
-    /// How many characters wait to be read.
-    pub fn len(&self) -> usize
-        ensures { result ≡ length (receiver_of self.now).queue }
-    {
-        count(self.queue.len, &self.queue.items)
+    fn timeout_limit(&self) -> u16 {
+        self.timeout_limit
+    }
+
+    fn set_timeout_ticks(&mut self, ticks: u16) {
+        self.timeout_ticks = ticks;
+    }
+
+    fn trigger(&self) -> FifoTriggerLevel {
+        trigger_of(self.trigger)
+    }
+
+    #[tactic(auto, using(crate::proofs::Levels::same_level))]
+    fn set_trigger(&mut self, trigger: FifoTriggerLevel) {
+        self.trigger = characters_of(trigger);
     }
 }

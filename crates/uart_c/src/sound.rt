@@ -15,6 +15,8 @@ use crate::queue::{UartCharacter, is_on};
 use crate::receiver::{TIMEOUT_CHARACTERS, UartReceiver};
 use crate::transmitter::UartTransmitter;
 use bitflags::Flags;
+use uart_chip::receiving::ReceiverParts;
+use uart_chip::transmitting::TransmitterParts;
 use uart_chip::{MAX_CHAR_TICKS, MAX_WIRE_CAPACITY, kept_interrupts, kept_modem_control, room_of};
 use uart_spec::registers::{IER, LSR, MCR, MSR};
 
@@ -62,7 +64,7 @@ fn are_sound_characters(characters: &[UartCharacter]) -> bool
 fn is_sound_queue(receiver: &UartReceiver) -> bool
     ensures { result ≡ list_all spec.is_live_character (characters_of receiver.now.queue) }
 {
-    let len = receiver.len();
+    let len = receiver.queue_len();
     are_sound_characters(&receiver.queue.items[..len])
 }
 
@@ -70,12 +72,12 @@ fn is_sound_queue(receiver: &UartReceiver) -> bool
 fn is_sound_receiver(receiver: &UartReceiver, fifo: bool, char_ticks: u16) -> bool
     ensures { result ≡ spec.is_sound_receiver fifo char_ticks (saved.receiver_data receiver.now) }
 {
-    receiver.len() <= room_of(fifo)
+    receiver.queue_len() <= room_of(fifo)
         && is_sound_queue(receiver)
         && receiver.timeout_ticks as u32 <= TIMEOUT_CHARACTERS as u32 * char_ticks as u32
 }
 
-// A character in the shift place has at least one tick left, and at most its whole time.
+// A character in the shift register has at least one tick left, and at most its whole time.
 fn is_ticking(transmitter: &UartTransmitter) -> bool
     ensures { result ≡ spec.is_ticking transmitter.now.char_ticks (place_of transmitter.now) }
 {
@@ -96,7 +98,7 @@ fn is_sound_transmitter(transmitter: &UartTransmitter, fifo: bool) -> bool
 {
     is_char_time(transmitter.char_ticks)
         && is_ticking(transmitter)
-        && transmitter.len() <= room_of(fifo)
+        && transmitter.queue_len() <= room_of(fifo)
         && transmitter.wire.len() <= transmitter.wire.capacity()
         && transmitter.wire.capacity() <= MAX_WIRE_CAPACITY
 }

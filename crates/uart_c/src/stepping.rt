@@ -12,7 +12,7 @@ use crate::call::{UartCall, call_of};
 use crate::codes::{UART_STEP_ASKED, UART_STEP_DONE, UART_STEP_NOT_RUNNABLE, UART_STEP_STRAYED};
 use crate::driver::{UartDriver, kept, state_of};
 use uart_16550::DriverState;
-use uart_traces::{NextStep, next};
+use uart_calls::{NextStep, next};
 
 /// Makes a driver that has made no access.
 #[unsafe(no_mangle)]

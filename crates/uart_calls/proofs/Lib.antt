@@ -1,2 +1,5 @@
 pub mod NoChoice
 pub mod Calling
+pub mod Played
+pub mod Checked
+pub mod Chains

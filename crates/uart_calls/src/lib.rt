@@ -1,10 +1,20 @@
 //! Calls of the driver and their answers as data, and the function that makes such a call, over any
 //! backend.
+//!
+//! [`check`] returns whether a list of accesses is one that a call makes; if it returns `None`, the
+//! list is not, whatever the call might have returned. [`next`] returns what the driver does next
+//! after some accesses, and [`follow`] how much of a list it makes.
 #![tactic(auto)]
 
 mod call;
+mod checking;
 pub mod laws;
 mod performing;
+mod tape;
+#[cfg(test)]
+mod tests;
 
 pub use call::{Answer, CALL_BYTES, Call};
+pub use checking::{Followed, NextStep, Returned, Turn, check, follow, next};
 pub use performing::perform;
+pub use tape::{Recorded, Request, Tape};

@@ -1,4 +1,4 @@
--- Ticks in turns come to the same as ticks.
+-- Ticks in jumps come to the same as ticks.
 use Rattle.std.proofs.Common.{◌≡◌, ℕ, zero, suc, ◌+◌, ◌-◌, min, max, ◌≤◌, ◌<◌, Bool, true, false, ◌==◌, nat_lt, List, [], ◌∷◌, ◌++◌, length}
 use Rattle.std.proofs.Common.{Option, Some, None, refl, arith, sym, ◌∙◌, ap, subst, if◌then◌else◌}
 use Rattle.std.proofs.lemmas.Grind.{common_steps}
@@ -9,7 +9,7 @@ use Rattle.uart_chip.specs.Receiver as receiver
 use Rattle.uart_chip.specs.Receiver.{ReceiverState, grow_timeout}
 use Rattle.uart_chip.specs.Chip.{ChipState, is_loopback, tick, ticks}
 use Rattle.uart_chip.specs.Jumps.{next_move_of, next_move, left_after, place_after, count_down, count_up, skip, moves}
-use Rattle.uart_chip.specs.Jumps.{is_one, is_moving, turns}
+use Rattle.uart_chip.specs.Jumps.{is_one, is_moving, jumps_in}
 
 -- nothing moves within so many ticks
 abbrev pub StillFor : ℕ → Option ℕ → Type 0
@@ -45,7 +45,7 @@ count_up-next (suc n) r = ap (λ (i : ℕ). record r { timeout_ticks = i }) (nex
 
 -- with this place and this queue
 abbrev with_place : Option Shifting → List ℕ → TransmitterState → TransmitterState
-with_place place queue t = record t { shift_place = place; queue = queue }
+with_place place queue t = record t { shift_register = place; queue = queue }
 
 abbrev leaves : Bool → TransmitterState → Bool
 leaves loopback t = if loopback then loopback else nat_lt (length t.wire) t.capacity
@@ -53,9 +53,9 @@ leaves loopback t = if loopback then loopback else nat_lt (length t.wire) t.capa
 abbrev with_left : Shifting → ℕ → Option Shifting
 with_left s left = Some (record { byte = s.byte; ticks_left = left })
 
-tick-shifted : (loopback : Bool) (t u : TransmitterState) → shift loopback t.shift_place t ≡ u →
-    transmitter.tick loopback t ≡ refill u.shift_place u.queue u
-tick-shifted loopback t u e = ap (λ (v : TransmitterState). refill v.shift_place v.queue v) e
+tick-shifted : (loopback : Bool) (t u : TransmitterState) → shift loopback t.shift_register t ≡ u →
+    transmitter.tick loopback t ≡ refill u.shift_register u.queue u
+tick-shifted loopback t u e = ap (λ (v : TransmitterState). refill v.shift_register v.queue v) e
 
 still-tick : (loopback : Bool) (n : ℕ) (place : Option Shifting) (queue : List ℕ) (t : TransmitterState) →
     StillFor (suc n) (next_move_of (leaves loopback t) place queue) →
@@ -91,14 +91,14 @@ tick_skip : (n : ℕ) (c : ChipState) → StillFor (suc n) (next_move (is_loopba
 tick_skip n c h =
     let loopback : Bool = is_loopback c.latches in
     let t : TransmitterState = c.transmitter in
-    let a = still-tick loopback n t.shift_place t.queue t h in
-    let b : receiver.tick c.fifo (looped_byte loopback (place_after n t.shift_place)) (count_up n c.receiver) ≡
+    let a = still-tick loopback n t.shift_register t.queue t h in
+    let b : receiver.tick c.fifo (looped_byte loopback (place_after n t.shift_register)) (count_up n c.receiver) ≡
     count_up (suc n) c.receiver =
-    ap (λ looped. receiver.tick c.fifo looped (count_up n c.receiver)) (still-looped loopback n t.shift_place t.queue t h) ∙
+    ap (λ looped. receiver.tick c.fifo looped (count_up n c.receiver)) (still-looped loopback n t.shift_register t.queue t h) ∙
     count_up-next n c.receiver in
     ap (λ (u : TransmitterState). record c {
       transmitter = u;
-      receiver = receiver.tick c.fifo (looped_byte loopback (place_after n t.shift_place)) (count_up n c.receiver);
+      receiver = receiver.tick c.fifo (looped_byte loopback (place_after n t.shift_register)) (count_up n c.receiver);
     }) a ∙
     ap (λ (r : ReceiverState). record c { transmitter = count_down (suc n) t; receiver = r }) b
 
@@ -111,14 +111,14 @@ place-same (Some s) = ap (λ (k : ℕ). with_left s k) (same s.ticks_left)
 
 skip-none : (c : ChipState) → skip 0 c ≡ c
 skip-none c =
-    ap (λ (place : Option Shifting). record c { transmitter = record c.transmitter { shift_place = place } })
-    (place-same c.transmitter.shift_place)
+    ap (λ (place : Option Shifting). record c { transmitter = record c.transmitter { shift_register = place } })
+    (place-same c.transmitter.shift_register)
 
 -- ticks in which nothing moves
 pub ticks_skip : (n : ℕ) (c : ChipState) → StillFor n (next_move (is_loopback c.latches) c.transmitter) → ticks n c ≡ skip n c
 ticks_skip zero c h =
-    ap (λ (place : Option Shifting). record c { transmitter = record c.transmitter { shift_place = place } })
-    (sym (place-same c.transmitter.shift_place))
+    ap (λ (place : Option Shifting). record c { transmitter = record c.transmitter { shift_register = place } })
+    (sym (place-same c.transmitter.shift_register))
 ticks_skip (suc n) c h = ap tick (ticks_skip n c (still-less n _ h)) ∙ tick_skip n c h
 
 -- ---- when something moves
@@ -165,12 +165,12 @@ moved-tick loopback k (Some s) queue t h = go loopback refl (nat_lt (length t.wi
         ap suc (freed queue u)
     go false f false g = let none : None ≡ Some (suc k) = rw (f, g) at h in absurd (cc)
 
--- ---- turns
+-- ---- jumps
 
 -- no character moves in the tick after j still ones, if it is still too
 still-unmoving : (j : ℕ) (c : ChipState) → StillFor (suc j) (next_move (is_loopback c.latches) c.transmitter) → is_moving (skip j c) ≡ false
 still-unmoving j c h =
-    go (leaves (is_loopback c.latches) c.transmitter) c.transmitter.shift_place c.transmitter.queue h
+    go (leaves (is_loopback c.latches) c.transmitter) c.transmitter.shift_register c.transmitter.queue h
   where
     still-left : (left : ℕ) → suc j < max left 1 → (max (left_after j left) 1 == 1) ≡ false
     still-left left h = grind (arith, common_steps)
@@ -185,7 +185,7 @@ still-unmoving j c h =
 -- a character moves in the tick after k still ones
 moving : (k : ℕ) (c : ChipState) → next_move (is_loopback c.latches) c.transmitter ≡ Some (suc k) → is_moving (skip k c) ≡ true
 moving k c h =
-    go (leaves (is_loopback c.latches) c.transmitter) c.transmitter.shift_place c.transmitter.queue h
+    go (leaves (is_loopback c.latches) c.transmitter) c.transmitter.shift_register c.transmitter.queue h
   where
     some-same : (i j : ℕ) → Some i ≡ Some j → i ≡ j
     some-same i j e = cc
@@ -200,7 +200,7 @@ moving k c h =
     go true (Some s) queue e = last s.ticks_left (some-same _ _ e)
     go false (Some s) queue e = absurd (cc)
 
--- a tick in which no character moves ends no turn, and one in which a character moves does
+-- a tick in which no character moves ends no jump, and one in which a character moves does
 goes-on : (b : Bool) (later : ℕ) → b ≡ false → 1 ≤ later → (if b then suc later else max 1 later) ≡ later
 goes-on true later e least = absurd (cc)
 goes-on false later e least = omega (arith, least)
@@ -213,9 +213,9 @@ ends-last : (b : Bool) → (if b then suc 0 else max 1 0) ≡ 1
 ends-last true = refl
 ends-last false = refl
 
-at-least : (n : ℕ) (c : ChipState) → 0 < n → 1 ≤ turns n c
+at-least : (n : ℕ) (c : ChipState) → 0 < n → 1 ≤ jumps_in n c
 at-least zero c some = absurd (omega arith)
-at-least (suc n) c some = go (is_moving c) (turns n (tick c))
+at-least (suc n) c some = go (is_moving c) (jumps_in n (tick c))
   where
     go : (b : Bool) (later : ℕ) → 1 ≤ (if b then suc later else max 1 later)
     go true later = omega arith
@@ -224,22 +224,22 @@ at-least (suc n) c some = go (is_moving c) (turns n (tick c))
 none-first : (n : ℕ) → 0 + n ≡ n
 none-first n = omega arith
 
-still-tick-turns : (n : ℕ) (c d : ChipState) → 0 < n → is_moving c ≡ false → tick c ≡ d → turns (suc n) c ≡ turns n d
-still-tick-turns n c d some e f =
-    goes-on (is_moving c) (turns n (tick c)) e (at-least n (tick c) some) ∙ ap (λ (x : ChipState). turns n x) f
+still-tick-jumps : (n : ℕ) (c d : ChipState) → 0 < n → is_moving c ≡ false → tick c ≡ d → jumps_in (suc n) c ≡ jumps_in n d
+still-tick-jumps n c d some e f =
+    goes-on (is_moving c) (jumps_in n (tick c)) e (at-least n (tick c) some) ∙ ap (λ (x : ChipState). jumps_in n x) f
 
-turns-still : (k j n : ℕ) (c : ChipState) → StillFor (j + k) (next_move (is_loopback c.latches) c.transmitter) →
-    turns (k + suc n) (skip j c) ≡ turns (suc n) (skip (j + k) c)
-turns-still zero j n c h =
-    ap (λ (m : ℕ). turns m (skip j c)) (none-first (suc n)) ∙ ap (λ (i : ℕ). turns (suc n) (skip i c)) (sym (none_more j))
+jumps-still : (k j n : ℕ) (c : ChipState) → StillFor (j + k) (next_move (is_loopback c.latches) c.transmitter) →
+    jumps_in (k + suc n) (skip j c) ≡ jumps_in (suc n) (skip (j + k) c)
+jumps-still zero j n c h =
+    ap (λ (m : ℕ). jumps_in m (skip j c)) (none-first (suc n)) ∙ ap (λ (i : ℕ). jumps_in (suc n) (skip i c)) (sym (none_more j))
   where
     none_more : (j : ℕ) → j + 0 ≡ j
     none_more j = omega arith
-turns-still (suc k) j n c h =
-    ap (λ (m : ℕ). turns m (skip j c)) (one_more k (suc n)) ∙
-    (still-tick-turns (k + suc n) (skip j c) (skip (suc j) c) (omega arith) (still-unmoving j c (still h)) (tick_skip j c (still h)) ∙
-    (turns-still k (suc j) n c (subst (λ (i : ℕ). StillFor i (next_move (is_loopback c.latches) c.transmitter)) (moved j k) h) ∙
-    ap (λ (i : ℕ). turns (suc n) (skip i c)) (sym (moved j k))))
+jumps-still (suc k) j n c h =
+    ap (λ (m : ℕ). jumps_in m (skip j c)) (one_more k (suc n)) ∙
+    (still-tick-jumps (k + suc n) (skip j c) (skip (suc j) c) (omega arith) (still-unmoving j c (still h)) (tick_skip j c (still h)) ∙
+    (jumps-still k (suc j) n c (subst (λ (i : ℕ). StillFor i (next_move (is_loopback c.latches) c.transmitter)) (moved j k) h) ∙
+    ap (λ (i : ℕ). jumps_in (suc n) (skip i c)) (sym (moved j k))))
   where
     one_more : (k n : ℕ) → suc k + n ≡ suc (k + n)
     one_more k n = omega arith
@@ -255,32 +255,32 @@ turns-still (suc k) j n c h =
     moved : (j k : ℕ) → j + suc k ≡ suc j + k
     moved j k = omega arith
 
--- still ticks begin a turn, and end none
+-- still ticks begin a jump, and end none
 still-first : (k n : ℕ) (c : ChipState) → StillFor k (next_move (is_loopback c.latches) c.transmitter) →
-    turns (k + suc n) c ≡ turns (suc n) (skip k c)
+    jumps_in (k + suc n) c ≡ jumps_in (suc n) (skip k c)
 still-first k n c h =
-    ap (λ (d : ChipState). turns (k + suc n) d) (sym (skip-none c)) ∙
-    (turns-still k 0 n c (subst (λ (i : ℕ). StillFor i (next_move (is_loopback c.latches) c.transmitter)) (sym (none-first k)) h) ∙
-    ap (λ (i : ℕ). turns (suc n) (skip i c)) (none-first k))
+    ap (λ (d : ChipState). jumps_in (k + suc n) d) (sym (skip-none c)) ∙
+    (jumps-still k 0 n c (subst (λ (i : ℕ). StillFor i (next_move (is_loopback c.latches) c.transmitter)) (sym (none-first k)) h) ∙
+    ap (λ (i : ℕ). jumps_in (suc n) (skip i c)) (none-first k))
 
--- how many turns there may be for so many ticks
-abbrev pub turns_left : ℕ → TransmitterState → ℕ
-turns_left zero t = 0
-turns_left (suc n) t = suc (moves t)
+-- how many jumps there may be for so many ticks
+abbrev pub jumps_left : ℕ → TransmitterState → ℕ
+jumps_left zero t = 0
+jumps_left (suc n) t = suc (moves t)
 
--- after a turn so many ticks are left, and one turn less
+-- after a jump so many ticks are left, and one jump less
 pub record IsTurn (left : ℕ) (c : ChipState) (left_after : ℕ) (d : ChipState) : Type 0 where
   pub same : ticks left_after d ≡ ticks left c
-  pub fewer : turns_left left_after d.transmitter + 1 ≤ turns_left left c.transmitter
-  pub counted : turns left_after d + 1 ≡ turns left c
+  pub fewer : jumps_left left_after d.transmitter + 1 ≤ jumps_left left c.transmitter
+  pub counted : jumps_in left_after d + 1 ≡ jumps_in left c
 
-turns-most : (n : ℕ) (t : TransmitterState) → turns_left n t ≤ suc (moves t)
-turns-most zero t = omega arith
-turns-most (suc n) t = omega arith
+jumps-most : (n : ℕ) (t : TransmitterState) → jumps_left n t ≤ suc (moves t)
+jumps-most zero t = omega arith
+jumps-most (suc n) t = omega arith
 
-turns-some : (n : ℕ) (t : TransmitterState) → 0 < n → turns_left n t ≡ suc (moves t)
-turns-some zero t h = absurd (omega arith)
-turns-some (suc n) t h = refl
+jumps-some : (n : ℕ) (t : TransmitterState) → 0 < n → jumps_left n t ≡ suc (moves t)
+jumps-some zero t h = absurd (omega arith)
+jumps-some (suc n) t h = refl
 
 -- something moves after k more ticks and one
 goes_after : (left k : ℕ) (c : ChipState) → next_move (is_loopback c.latches) c.transmitter ≡ Some (suc k) → suc k ≤ left →
@@ -301,11 +301,11 @@ goes_after left k c h le = record { same = same; fewer = fewer; counted = counte
         ap (λ (d : ChipState). ticks (left - suc k) (tick d)) (sym (ticks_skip k c (still _ h))) ∙
         (sym (ticks-add (left - suc k) (suc k) c) ∙ ap (λ (n : ℕ). ticks n c) (whole left k le))
 
-    fewer : turns_left (left - suc k) (tick (skip k c)).transmitter + 1 ≤ turns_left left c.transmitter
+    fewer : jumps_left (left - suc k) (tick (skip k c)).transmitter + 1 ≤ jumps_left left c.transmitter
     fewer =
-        let a = moved-tick loopback k c.transmitter.shift_place c.transmitter.queue c.transmitter h in
-        let b = turns-most (left - suc k) (tick (skip k c)).transmitter in
-        let d = turns-some left c.transmitter (omega arith) in
+        let a = moved-tick loopback k c.transmitter.shift_register c.transmitter.queue c.transmitter h in
+        let b = jumps-most (left - suc k) (tick (skip k c)).transmitter in
+        let d = jumps-some left c.transmitter (omega arith) in
         omega (arith, a, b, d)
 
     split : (left k : ℕ) → suc k ≤ left → k + suc (left - suc k) ≡ left
@@ -314,11 +314,11 @@ goes_after left k c h le = record { same = same; fewer = fewer; counted = counte
     plus_one : (i : ℕ) → i + 1 ≡ suc i
     plus_one i = omega arith
 
-    counted : turns (left - suc k) (tick (skip k c)) + 1 ≡ turns left c
+    counted : jumps_in (left - suc k) (tick (skip k c)) + 1 ≡ jumps_in left c
     counted =
-        plus_one (turns (left - suc k) (tick (skip k c))) ∙
-        (sym (ends (is_moving (skip k c)) (turns (left - suc k) (tick (skip k c))) (moving k c h)) ∙
-        (sym (still-first k (left - suc k) c (still _ h)) ∙ ap (λ (n : ℕ). turns n c) (split left k le)))
+        plus_one (jumps_in (left - suc k) (tick (skip k c))) ∙
+        (sym (ends (is_moving (skip k c)) (jumps_in (left - suc k) (tick (skip k c))) (moving k c h)) ∙
+        (sym (still-first k (left - suc k) c (still _ h)) ∙ ap (λ (n : ℕ). jumps_in n c) (split left k le)))
 
 -- something moves after k ticks
 pub goes_on : (left k : ℕ) (c d e : ChipState) → next_move (is_loopback c.latches) c.transmitter ≡ Some k → 1 ≤ k → k ≤ left →
@@ -329,10 +329,10 @@ goes_on left (suc k) c d e h few le p q =
     let here : e ≡ tick (skip k c) = q ∙ ap tick (p ∙ ap (λ (n : ℕ). skip n c) one) in
     subst (λ (e : ChipState). IsTurn left c (left - suc k) e) (sym here) (goes_after left k c h le)
 
-one-turn : (left : ℕ) (c : ChipState) → 0 < left → StillFor left (next_move (is_loopback c.latches) c.transmitter) → turns left c ≡ 1
-one-turn zero c some still = absurd (omega arith)
-one-turn (suc m) c some still =
-    ap (λ (n : ℕ). turns n c) (last m) ∙ (still-first m 0 c (still-less m _ still) ∙ ends-last (is_moving (skip m c)))
+one-jump : (left : ℕ) (c : ChipState) → 0 < left → StillFor left (next_move (is_loopback c.latches) c.transmitter) → jumps_in left c ≡ 1
+one-jump zero c some still = absurd (omega arith)
+one-jump (suc m) c some still =
+    ap (λ (n : ℕ). jumps_in n c) (last m) ∙ (still-first m 0 c (still-less m _ still) ∙ ends-last (is_moving (skip m c)))
   where
     last : (m : ℕ) → suc m ≡ m + suc 0
     last m = omega arith
@@ -343,17 +343,17 @@ pub stays : (left : ℕ) (c d : ChipState) → 0 < left → StillFor left (next_
 stays left c d some still p =
     rw p (record {
       same = sym (ticks_skip left c still);
-      fewer = let e = turns-some left c.transmitter some in omega (arith, e);
-      counted = sym (one-turn left c some still);
+      fewer = let e = jumps-some left c.transmitter some in omega (arith, e);
+      counted = sym (one-jump left c some still);
     })
 
--- ---- a turn of the loop, as the code sees it
+-- ---- a jump of the loop, as the code sees it
 
 pub seen : (a b : Bool) (t u : TransmitterState) (move : Option ℕ) → a ≡ b → t ≡ u → move ≡ next_move a t → next_move b u ≡ move
 seen a b t u move e f h = sym (h ∙ (ap (λ (x : Bool). next_move x t) e ∙ ap (λ (v : TransmitterState). next_move b v) f))
 
 pub at_least_one : (loopback : Bool) (t : TransmitterState) (k : ℕ) → next_move loopback t ≡ Some k → 1 ≤ k
-at_least_one loopback t k h = go (leaves loopback t) t.shift_place t.queue h
+at_least_one loopback t k h = go (leaves loopback t) t.shift_register t.queue h
   where
     some : (n k : ℕ) → 1 ≤ n → Some n ≡ Some k → 1 ≤ k
     some n k le e = let f : n ≡ k = cc in omega arith

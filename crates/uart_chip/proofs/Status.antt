@@ -98,16 +98,16 @@ regroup a b c d e f =
 -- LSR is what the parts show
 pub joins : (c : ChipState) (result r t f : ℕ) → result ≡ bit_or (bit_or r t) f →
     r ≡ receiver_status c.receiver.queue c.receiver.is_overrun c.receiver.is_front_reported →
-    t ≡ transmitter_status c.transmitter.queue c.transmitter.shift_place →
+    t ≡ transmitter_status c.transmitter.queue c.transmitter.shift_register →
     f ≡ fifo_status c.fifo c.receiver.queue c.receiver.is_front_reported → result ≡ line_status c
 joins c result r t f is receiver transmitter fifo =
     is ∙ (ap (λ (x : ℕ). bit_or (bit_or x t) f) receiver ∙
     (ap (λ (x : ℕ). bit_or (bit_or (receiver_status c.receiver.queue c.receiver.is_overrun c.receiver.is_front_reported) x) f) transmitter ∙
     (ap (λ (x : ℕ). bit_or (bit_or (receiver_status c.receiver.queue c.receiver.is_overrun c.receiver.is_front_reported)
-    (transmitter_status c.transmitter.queue c.transmitter.shift_place)) x) fifo ∙
+    (transmitter_status c.transmitter.queue c.transmitter.shift_register)) x) fifo ∙
     regroup (flag (nat_lt 0 (length c.receiver.queue)) LSR.DATA_READY.0) (flag c.receiver.is_overrun LSR.OVERRUN_ERROR.0)
     (front_errors c.receiver.queue c.receiver.is_front_reported) (flag (length c.transmitter.queue == 0) LSR.THR_EMPTY.0)
-    (flag (is_transmitter_empty c.transmitter.queue c.transmitter.shift_place) LSR.TRANSMITTER_EMPTY.0)
+    (flag (is_transmitter_empty c.transmitter.queue c.transmitter.shift_register) LSR.TRANSMITTER_EMPTY.0)
     (fifo_status c.fifo c.receiver.queue c.receiver.is_front_reported))))
 
 -- without errors nothing more is shown than what the parts keep
@@ -123,7 +123,7 @@ quiet (x ∷ xs) true e = tail (has_errors x) (list_any has_errors xs) e
 
 pub shows : (c : ChipState) (result r t : ℕ) → result ≡ bit_or r t →
     r ≡ receiver_status c.receiver.queue c.receiver.is_overrun c.receiver.is_front_reported →
-    t ≡ transmitter_status c.transmitter.queue c.transmitter.shift_place → false ≡ list_any has_errors c.receiver.queue →
+    t ≡ transmitter_status c.transmitter.queue c.transmitter.shift_register → false ≡ list_any has_errors c.receiver.queue →
     result ≡ line_status c
 shows c result r t is receiver transmitter none =
     joins c result r t 0 (is ∙ sym (or_zero_r (bit_or r t))) receiver transmitter

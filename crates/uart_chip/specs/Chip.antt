@@ -98,7 +98,7 @@ abbrev pub tick : ChipState → ChipState
 tick c =
     record c {
       transmitter = transmitter.tick (is_loopback c.latches) c.transmitter;
-      receiver = receiver.tick c.fifo (looped_byte (is_loopback c.latches) c.transmitter.shift_place) c.receiver;
+      receiver = receiver.tick c.fifo (looped_byte (is_loopback c.latches) c.transmitter.shift_register) c.receiver;
     }
 
 -- n ticks
@@ -112,9 +112,9 @@ arrive byte errors c =
     record c { receiver = receiver.arrive (is_loopback c.latches) c.fifo (cut_of c byte) errors c.receiver }
 
 -- a character arrives without a schedule, cut to the word length
-abbrev pub bring : ℕ → ℕ → ChipState → ChipState
-bring byte errors c =
-    record c { receiver = receiver.bring (is_loopback c.latches) c.fifo (cut_of c byte) errors c.receiver }
+abbrev pub arrive_live : ℕ → ℕ → ChipState → ChipState
+arrive_live byte errors c =
+    record c { receiver = receiver.arrive_live (is_loopback c.latches) c.fifo (cut_of c byte) errors c.receiver }
 
 -- how many characters can arrive before one is lost; in loopback each one is lost
 abbrev pub receive_room : ChipState → ℕ
@@ -144,7 +144,7 @@ line_status c =
     let overrun = flag c.receiver.is_overrun LSR.OVERRUN_ERROR.0 in
     let errors = front_errors c.receiver.queue c.receiver.is_front_reported in
     let thr_empty = flag (length c.transmitter.queue == 0) LSR.THR_EMPTY.0 in
-    let is_empty = is_transmitter_empty c.transmitter.queue c.transmitter.shift_place in
+    let is_empty = is_transmitter_empty c.transmitter.queue c.transmitter.shift_register in
     let transmitter_empty = flag is_empty LSR.TRANSMITTER_EMPTY.0 in
     let has_error = list_any has_errors (unreported c.receiver.queue c.receiver.is_front_reported) in
     let fifo_error = flag (c.fifo && has_error) LSR.FIFO_DATA_ERROR.0 in

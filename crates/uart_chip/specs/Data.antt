@@ -12,7 +12,7 @@ abbrev pub transmitter_of : TransmitterData → List ℕ → TransmitterState
 transmitter_of t wire =
     record {
       queue = t.queue.items;
-      shift_place = t.shift_place;
+      shift_register = t.shift_register;
       wire = wire;
       capacity = t.wire_capacity;
       char_ticks = t.char_ticks;
@@ -33,13 +33,13 @@ receiver_of char_ticks r =
       trigger = r.trigger;
       arrived = 0;
       marks = [];
-      is_stray_lost = false;
+      is_unscheduled_lost = false;
     }
 
 -- a receiver of such a chip, without its schedule
 abbrev pub without_schedule : ℕ → ReceiverState → ReceiverState
 without_schedule char_ticks r =
-    record r { timeout_limit = 4 * char_ticks; arrived = 0; marks = []; is_stray_lost = false }
+    record r { timeout_limit = 4 * char_ticks; arrived = 0; marks = []; is_unscheduled_lost = false }
 
 -- the modem lines with these data
 abbrev pub modem_of : ModemData → ModemState

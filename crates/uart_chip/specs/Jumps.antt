@@ -1,4 +1,4 @@
--- Ticks in turns: when a character moves next, what happens until then, and how many turns there are at most. No
+-- Ticks in jumps: when a character moves next, what happens until then, and how many jumps there are at most. No
 -- theorem rests on these definitions but that of `idle`, whose contract gives the effect of the ticks by those of
 -- `Chip`.
 use Rattle.std.specs.Prelude.{ℕ, ◌+◌, ◌-◌, ◌==◌, min, max, zero, suc, Bool, false, List, [], ◌∷◌, length}
@@ -18,7 +18,7 @@ next_move_of may_leave (Some s) queue = if may_leave then Some (max s.ticks_left
 -- of a transmitter: none if it is empty, or if the wire is full and it is not in loopback
 abbrev pub next_move : Bool → TransmitterState → Option ℕ
 next_move loopback t =
-    next_move_of (if loopback then loopback else nat_lt (length t.wire) t.capacity) t.shift_place t.queue
+    next_move_of (if loopback then loopback else nat_lt (length t.wire) t.capacity) t.shift_register t.queue
 
 -- ---- n ticks in which no character moves
 
@@ -32,7 +32,7 @@ place_after n (Some s) = Some (record { byte = s.byte; ticks_left = left_after n
 
 -- the transmitter after n ticks in which no character moves
 abbrev pub count_down : ℕ → TransmitterState → TransmitterState
-count_down n t = record t { shift_place = place_after n t.shift_place }
+count_down n t = record t { shift_register = place_after n t.shift_register }
 
 -- the ticks towards a reception timeout after n ticks without a character
 abbrev pub timeout_after : (n ticks limit : ℕ) → ℕ
@@ -47,7 +47,7 @@ count_up n r = record r { timeout_ticks = timeout_after n r.timeout_ticks r.time
 abbrev pub skip : ℕ → ChipState → ChipState
 skip n c = record c { transmitter = count_down n c.transmitter; receiver = count_up n c.receiver }
 
--- ---- turns
+-- ---- jumps
 
 -- whether a number of ticks is one
 abbrev pub is_one : Option ℕ → Bool
@@ -58,11 +58,11 @@ is_one (Some k) = k == 1
 abbrev pub is_moving : ChipState → Bool
 is_moving c = is_one (next_move (is_loopback c.latches) c.transmitter)
 
--- how many turns so many ticks are: each ends with a tick in which a character moves, and the last one with the last
+-- how many jumps so many ticks are: each ends with a tick in which a character moves, and the last one with the last
 -- tick
-abbrev pub turns : ℕ → ChipState → ℕ
-turns zero c = 0
-turns (suc n) c = if is_moving c then suc (turns n (tick c)) else max 1 (turns n (tick c))
+abbrev pub jumps_in : ℕ → ChipState → ℕ
+jumps_in zero c = 0
+jumps_in (suc n) c = if is_moving c then suc (jumps_in n (tick c)) else max 1 (jumps_in n (tick c))
 
 -- how many more times a character may leave the shift register or enter an empty one
 abbrev pub moves_of : Option Shifting → List ℕ → ℕ
@@ -71,9 +71,9 @@ moves_of None (x ∷ xs) = suc (length (x ∷ xs))
 moves_of (Some s) queue = suc (length queue)
 
 abbrev pub moves : TransmitterState → ℕ
-moves t = moves_of t.shift_place t.queue
+moves t = moves_of t.shift_register t.queue
 
--- the most turns that any number of ticks takes: one for each of 16 characters in the queue, and for the one that
+-- the most jumps that any number of ticks takes: one for each of 16 characters in the queue, and for the one that
 -- enters or leaves the shift register, and one for what is left
-abbrev pub most_turns : ℕ
-most_turns = 18
+abbrev pub most_jumps : ℕ
+most_jumps = 18

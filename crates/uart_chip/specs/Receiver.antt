@@ -27,7 +27,7 @@ pub record ReceiverState : Type 0 where
   pub trigger : FifoTriggerLevel
   pub arrived : ℕ
   pub marks : List ArrivalMark
-  pub is_stray_lost : Bool
+  pub is_unscheduled_lost : Bool
 
 -- a receiver that has received nothing, for a schedule with this number of arrivals
 abbrev pub fresh : ℕ → ℕ → ReceiverState
@@ -42,24 +42,24 @@ fresh char_ticks arrivals =
       trigger = One;
       arrived = 0;
       marks = replicate arrivals Pending;
-      is_stray_lost = false;
+      is_unscheduled_lost = false;
     }
 
 -- the mark of the arrival with this number
 abbrev pub mark_at : List ArrivalMark → ℕ → ArrivalMark
 mark_at marks number = slice_index_or marks number Pending
 
--- the marks after that of this origin was set; a stray character has none
+-- the marks after that of this origin was set; a unscheduled character has none
 abbrev pub set_mark : Origin → ArrivalMark → List ArrivalMark → List ArrivalMark
 set_mark (Arrived number) mark marks = slice_set marks number mark
 set_mark Looped mark marks = marks
 set_mark Live mark marks = marks
 
 -- the character is unscheduled: it came back in loopback, or arrived without a schedule
-abbrev pub is_stray : Origin → Bool
-is_stray (Arrived number) = false
-is_stray Looped = true
-is_stray Live = true
+abbrev pub is_unscheduled : Origin → Bool
+is_unscheduled (Arrived number) = false
+is_unscheduled Looped = true
+is_unscheduled Live = true
 
 -- a character is received without FIFO while there is one: that one is dropped
 abbrev pub replace : List Character → Character → ReceiverState → ReceiverState
@@ -71,33 +71,36 @@ replace (old ∷ others) new r =
       is_front_reported = false;
       timeout_ticks = 0;
       marks = set_mark new.origin Waiting (set_mark old.origin Dropped r.marks);
-      is_stray_lost = if is_stray new.origin then false else if is_stray old.origin then true else r.is_stray_lost;
+      is_unscheduled_lost =
+          if is_unscheduled new.origin then false
+          else if is_unscheduled old.origin then true
+          else r.is_unscheduled_lost;
     }
 
 -- a character is received: it is put last; or it is dropped if the FIFO is full; or it replaces the one without FIFO
-abbrev pub come_in : Bool → Character → ReceiverState → ReceiverState
-come_in fifo new r =
+abbrev pub enter : Bool → Character → ReceiverState → ReceiverState
+enter fifo new r =
     if nat_lt (length r.queue) (room fifo)
     then record r {
       queue = r.queue ++ new ∷ [];
       is_front_reported = if length r.queue == 0 then false else r.is_front_reported;
       timeout_ticks = 0;
       marks = set_mark new.origin Waiting r.marks;
-      is_stray_lost = if is_stray new.origin then false else r.is_stray_lost;
+      is_unscheduled_lost = if is_unscheduled new.origin then false else r.is_unscheduled_lost;
     }
     else if fifo
     then record r {
       is_overrun = true;
       timeout_ticks = 0;
       marks = set_mark new.origin Dropped r.marks;
-      is_stray_lost = if is_stray new.origin then false else r.is_stray_lost;
+      is_unscheduled_lost = if is_unscheduled new.origin then false else r.is_unscheduled_lost;
     }
     else replace r.queue new r
 
 -- the byte that came back in this tick, if there is one, arrives
 abbrev pub come_back : Bool → Option ℕ → ReceiverState → ReceiverState
 come_back fifo None r = r
-come_back fifo (Some byte) r = come_in fifo (record { byte = byte; errors = 0; origin = Looped }) r
+come_back fifo (Some byte) r = enter fifo (record { byte = byte; errors = 0; origin = Looped }) r
 
 -- one more tick without a character, up to the limit
 abbrev pub grow_timeout : ReceiverState → ReceiverState
@@ -113,12 +116,12 @@ arrive loopback fifo byte errors r =
     let new : Character = record { byte = byte; errors = errors; origin = Arrived r.arrived } in
     if loopback
     then record r { arrived = r.arrived + 1; marks = slice_set r.marks r.arrived Discarded }
-    else come_in fifo new (record r { arrived = r.arrived + 1 })
+    else enter fifo new (record r { arrived = r.arrived + 1 })
 
 -- a character is received without a schedule; in loopback it is lost
-abbrev pub bring : Bool → Bool → ℕ → ℕ → ReceiverState → ReceiverState
-bring loopback fifo byte errors r =
-    if loopback then r else come_in fifo (record { byte = byte; errors = errors; origin = Live }) r
+abbrev pub arrive_live : Bool → Bool → ℕ → ℕ → ReceiverState → ReceiverState
+arrive_live loopback fifo byte errors r =
+    if loopback then r else enter fifo (record { byte = byte; errors = errors; origin = Live }) r
 
 -- the front of the queue is taken
 abbrev pub take_front : List Character → ReceiverState → ReceiverState

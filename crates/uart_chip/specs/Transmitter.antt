@@ -7,7 +7,7 @@ use Rattle.uart_chip.specs.declared.transmitter.Shifting.{Shifting}
 -- capacity, the ticks of a character, how many bytes met a full queue, and whether a THR-empty interrupt is pending
 pub record TransmitterState : Type 0 where
   pub queue : List ℕ
-  pub shift_place : Option Shifting
+  pub shift_register : Option Shifting
   pub wire : List ℕ
   pub capacity : ℕ
   pub char_ticks : ℕ
@@ -19,7 +19,7 @@ abbrev pub fresh : ℕ → ℕ → TransmitterState
 fresh char_ticks capacity =
     record {
       queue = [];
-      shift_place = None;
+      shift_register = None;
       wire = [];
       capacity = capacity;
       char_ticks = char_ticks;
@@ -33,9 +33,9 @@ abbrev pub shift : Bool → Option Shifting → TransmitterState → Transmitter
 shift loopback None t = t
 shift loopback (Some s) t =
     if nat_lt 1 s.ticks_left
-    then record t { shift_place = Some (record { byte = s.byte; ticks_left = s.ticks_left - 1 }) }
-    else if loopback then record t { shift_place = None }
-    else if nat_lt (length t.wire) t.capacity then record t { shift_place = None; wire = t.wire ++ s.byte ∷ [] }
+    then record t { shift_register = Some (record { byte = s.byte; ticks_left = s.ticks_left - 1 }) }
+    else if loopback then record t { shift_register = None }
+    else if nat_lt (length t.wire) t.capacity then record t { shift_register = None; wire = t.wire ++ s.byte ∷ [] }
     else t
 
 -- the byte that returns in this tick
@@ -49,13 +49,17 @@ abbrev pub refill : Option Shifting → List ℕ → TransmitterState → Transm
 refill (Some s) queue t = t
 refill None [] t = t
 refill None (x ∷ []) t =
-    record t { queue = []; shift_place = Some (record { byte = x; ticks_left = t.char_ticks }); is_thr_pending = true }
+    record t {
+      queue = [];
+      shift_register = Some (record { byte = x; ticks_left = t.char_ticks });
+      is_thr_pending = true;
+    }
 refill None (x ∷ y ∷ xs) t =
-    record t { queue = y ∷ xs; shift_place = Some (record { byte = x; ticks_left = t.char_ticks }) }
+    record t { queue = y ∷ xs; shift_register = Some (record { byte = x; ticks_left = t.char_ticks }) }
 
 -- one tick: shift, then refill
 abbrev pub tick : Bool → TransmitterState → TransmitterState
-tick loopback t = let u = shift loopback t.shift_place t in refill u.shift_place u.queue u
+tick loopback t = let u = shift loopback t.shift_register t in refill u.shift_register u.queue u
 
 -- how many characters a queue has room for: 16 with the FIFO, one without it
 abbrev pub room : Bool → ℕ
@@ -84,7 +88,7 @@ shift_bytes (Some s) = s.byte ∷ []
 
 -- what is still to be sent, in order
 abbrev pub held : TransmitterState → List ℕ
-held t = shift_bytes t.shift_place ++ t.queue
+held t = shift_bytes t.shift_register ++ t.queue
 
 -- what has been sent and what is still to be sent, in order
 abbrev pub out : TransmitterState → List ℕ

@@ -1,30 +1,34 @@
-//! The chip: its registers, and what an access does.
+//! The chip: its registers, its transmitter, its receiver and its modem lines.
 ghost use Rattle.std.specs.Prelude.{◌≡◌, ◌<◌, ◌≤◌, ◌+◌, ℕ, [], ◌∷◌, length, replicate, is_some, IfOk};
 ghost use Rattle.uart_chip.specs.Chip as spec;
 ghost use Rattle.uart_chip.specs.Snapshot.{chip_of, unscheduled};
 ghost use Rattle.uart_chip.specs.Machine.{arrivals, perform};
-ghost use Rattle.uart_chip.specs.Jumps.{skip, moves, turns};
-ghost use Rattle.uart_chip.specs.Status.{fifo_status};
+ghost use Rattle.uart_chip.specs.Jumps.{moves, jumps_in};
+ghost use Rattle.uart_chip.specs.Receiver.{is_timed_out};
 ghost use Rattle.uart_chip.specs.declared.event.ArrivalMark.TheVariants.{Pending};
 ghost use Rattle.uart_chip.specs.declared.event.TheConstants.{MAX_CHAR_TICKS};
 ghost use Rattle.uart_spec.specs.declared.baud.TheConstants.{FIFO_SIZE, NUM_REGISTERS};
-ghost use Rattle.uart_spec.specs.declared.registers.offsets.TheConstants as offsets;
 
+use crate::controlling::{
+    ChipParts, advance, arrive_live, change_lines, cut, divisor, is_interrupting, is_loopback,
+    read, receive_room, tick, write,
+};
 use crate::event::{Chip, Event};
 use crate::fifo::{Fifo, HeapFifo};
 use crate::journal::{Journal, Marks};
-use crate::masks::{flag, kept_interrupts, kept_modem_control};
 use crate::modem::{Modem, ModemData};
 use crate::receiver::{Character, Receiver, ReceiverData};
+use crate::receiving::{
+    ReceiverParts, clear, count_up, expire_timeout, is_timed_out, report, take_front,
+};
 use crate::transmitter::{Transmitter, TransmitterData};
+use crate::transmitting::{TransmitterParts, count_down, load};
 use crate::wire::{HeapWire, Wire, send};
+use crate::{receiving, transmitting};
 use bitflags::Flags;
 use std::alloc::{AllocError, Global};
 use std::marker::Model;
-use uart_spec::registers::{
-    DLL, DLM, FCR, FifoTriggerLevel, IER, ISR, InterruptType, LCR, LSR, MCR, MSR, SPR, WordLength,
-    offsets,
-};
+use uart_spec::registers::{DLL, DLM, FifoTriggerLevel, IER, LCR, MCR, MSR, SPR};
 
 /// The registers that keep what is written to them.
 #[derive(Clone, Copy)]
@@ -102,48 +106,6 @@ impl<B: Fifo<u8> + Drop, W: Wire + Drop, C: Fifo<Character> + Drop, J: Journal +
       modem = c.modem;
       cuts = c.cuts;
     } };
-}
-
-/// Returns whether a read of ISR that shows this interrupt acknowledges it.
-pub fn is_thr_empty(interrupt: Option<InterruptType>) -> bool
-    ensures { result ≡ spec.is_thr_empty interrupt }
-{
-    matches!(
-        interrupt,
-        Some(InterruptType::TransmitterHoldingRegisterEmpty)
-    )
-}
-
-/// Returns ISR without the bits that show the FIFO.
-pub fn identification(interrupt: Option<InterruptType>) -> ISR
-    ensures { result.0 ≡ spec.identification interrupt }
-{
-    match interrupt {
-        None => ISR::INTERRUPT_STATUS,
-        Some(interrupt) => ISR::from_bits_retain(interrupt.to_bits()),
-    }
-}
-
-/// Returns the trigger level of a value of FCR.
-pub fn trigger_level(fcr: FCR) -> FifoTriggerLevel
-    ensures { result ≡ spec.trigger_level fcr.0 }
-{
-    fcr.fifo_trigger_level()
-}
-
-/// Returns a byte as it is sent and received under a line control register: only its data bits if characters are cut.
-pub fn cut(cuts: bool, lcr: LCR, byte: u8) -> u8
-    ensures { result ≡ spec.cut_to cuts (spec.word_length lcr.0) byte }
-{
-    if !cuts {
-        return byte;
-    }
-    match lcr.word_length() {
-        WordLength::FiveBits => byte % (1 << 5),
-        WordLength::SixBits => byte % (1 << 6),
-        WordLength::SevenBits => byte % (1 << 7),
-        WordLength::EightBits => byte,
-    }
 }
 
 impl<B: Fifo<u8> + Drop, W: Wire + Drop, C: Fifo<Character> + Drop, J: Journal + Drop> Uart<
@@ -257,100 +219,65 @@ impl<B: Fifo<u8> + Drop, W: Wire + Drop, C: Fifo<Character> + Drop, J: Journal +
     pub fn divisor(&self) -> u16
         ensures { result ≡ spec.divisor self.now.latches }
     {
-        self.latches.dlm as u16 * 256 + self.latches.dll as u16
-    }
-
-    fn is_dlab_set(&self) -> bool
-        ensures { result ≡ spec.is_dlab_set self.now.latches }
-    {
-        self.latches.lcr.intersects(LCR::DLAB)
-    }
-
-    // Returns a byte as it is sent and received: only its data bits if characters are cut.
-    fn cut(&self, byte: u8) -> u8
-        ensures { result ≡ spec.cut_of self.now byte }
-    {
-        cut(self.cuts, self.latches.lcr, byte)
-    }
-
-    fn is_loopback(&self) -> bool
-        ensures { result ≡ spec.is_loopback self.now.latches }
-    {
-        self.latches.mcr.intersects(MCR::LOOP_BACK)
+        divisor(self)
     }
 
     /// Lets one tick pass.
     pub fn tick(&mut self)
         ensures { self.new ≡ spec.tick self.old }
     {
-        let loopback = self.is_loopback();
-        let looped = self.transmitter.tick(loopback);
-        self.receiver.tick(self.fifo, looped);
+        tick(self);
     }
 
-    // Lets ticks pass in which no character enters or leaves the shift register.
-    fn skip(&mut self, ticks: u16)
-        ensures { self.new ≡ skip ticks self.old }
-    {
-        self.transmitter.count_down(ticks);
-        self.receiver.count_up(ticks);
-    }
-
-    /// Lets `n` ticks pass, and returns the number of turns that this took.
+    /// Lets `n` ticks pass, and returns the number of jumps that this took.
     ///
-    /// A turn ends at the tick in which a character enters or leaves the shift register, or takes all ticks that are left.
+    /// A jump ends at the tick in which a character enters or leaves the shift register, or takes all ticks that are left.
     /// So its cost does not grow with the number of ticks.
     pub fn ticks(&mut self, n: u16) -> usize
         ensures after { self.new ≡ spec.ticks n self.old }
-        ensures turns { result ≡ turns n self.old }
+        ensures jumps { result ≡ jumps_in n self.old }
         ensures most { result ≤ moves self.old.transmitter + 1 }
     {
-        let mut left = n;
-        let mut turns = 0;
-        while left > 0 {
-            match self.transmitter.next_move(self.is_loopback()) {
-                Some(ticks) if ticks <= left => {
-                    self.skip(ticks - 1);
-                    self.tick();
-                    left -= ticks;
-                }
-                _ => {
-                    self.skip(left);
-                    left = 0;
-                }
-            }
-            turns += 1;
-        }
-        turns
+        advance(self, n)
     }
 
     fn arrive(&mut self, byte: u8, errors: u8)
         requires { self.old.receiver.arrived < length self.old.receiver.marks }
         ensures { self.new ≡ spec.arrive byte errors self.old }
     {
-        let loopback = self.is_loopback();
-        let byte = self.cut(byte);
+        let loopback = is_loopback(self);
+        let byte = cut(self, byte);
         self.receiver.arrive(loopback, self.fifo, byte, errors);
     }
 
     /// Receives a character without a schedule, with these error bits. In loopback the character is lost.
-    pub fn bring(&mut self, byte: u8, errors: u8)
-        ensures { self.new ≡ spec.bring byte errors self.old }
+    pub fn arrive_live(&mut self, byte: u8, errors: u8)
+        ensures { self.new ≡ spec.arrive_live byte errors self.old }
     {
-        let loopback = self.is_loopback();
-        let cut = self.cut(byte);
-        self.receiver.bring(loopback, self.fifo, cut, errors);
+        arrive_live(self, byte, errors);
+    }
+
+    /// Returns whether a reception timeout is due.
+    pub fn is_timed_out(&self) -> bool
+        ensures { result ≡ is_timed_out self.now.fifo self.now.receiver }
+    {
+        is_timed_out(&self.receiver, self.fifo)
+    }
+
+    /// Makes a reception timeout due if the FIFO is on and has a character.
+    pub fn expire_timeout(&mut self)
+        ensures { self.new ≡ record self.old {
+          receiver = record self.old.receiver { timeout_ticks = self.old.receiver.timeout_limit };
+        } }
+    {
+        expire_timeout(&mut self.receiver);
     }
 
     /// Returns how many characters can be received before one is lost. In loopback that is 0.
     pub fn receive_room(&self) -> usize
         ensures { result ≡ spec.receive_room self.now }
     {
-        if self.is_loopback() {
-            0
-        } else {
-            self.receiver.room(self.fifo)
-        }
+        receive_room(self)
     }
 
     /// Removes this number of bytes from the front of the wire, or all if there are fewer.
@@ -364,8 +291,7 @@ impl<B: Fifo<u8> + Drop, W: Wire + Drop, C: Fifo<Character> + Drop, J: Journal +
     pub fn change_lines(&mut self, inputs: u8)
         ensures { self.new ≡ spec.change_lines inputs self.old }
     {
-        self.modem
-            .change_inputs(self.latches.mcr, MSR::from_bits_retain(inputs));
+        change_lines(self, inputs);
     }
 
     /// Performs an event of the schedule. `Access` and `Mark` do nothing by themselves.
@@ -383,53 +309,11 @@ impl<B: Fifo<u8> + Drop, W: Wire + Drop, C: Fifo<Character> + Drop, J: Journal +
         }
     }
 
-    // Returns whether a character in the FIFO has errors that were not reported, as LSR shows it.
-    fn fifo_error(&self) -> LSR
-        ensures { result.0 ≡ fifo_status self.now.fifo self.now.receiver.queue self.now.receiver.is_front_reported }
-    {
-        if self.receiver.has_unreported_errors() && self.fifo {
-            LSR::FIFO_DATA_ERROR
-        } else {
-            LSR::empty()
-        }
-    }
-
-    fn line_status(&self) -> LSR
-        ensures { result.0 ≡ spec.line_status self.now }
-    {
-        self.receiver
-            .status()
-            .union(self.transmitter.status())
-            .union(self.fifo_error())
-    }
-
-    // Returns the interrupt of the highest priority among those that are enabled and pending.
-    fn interrupt(&self) -> Option<InterruptType>
-        ensures { result ≡ spec.interrupt self.now }
-    {
-        let enabled = self.latches.ier;
-        if enabled.intersects(IER::RECEIVER_LINE_STATUS)
-            && self.line_status().intersects(LSR::LINE_ERRORS)
-        {
-            Some(InterruptType::ReceiverLineStatus)
-        } else if enabled.intersects(IER::DATA_READY) && self.receiver.is_data_pending(self.fifo) {
-            Some(InterruptType::ReceivedDataReady)
-        } else if enabled.intersects(IER::DATA_READY) && self.receiver.is_timed_out(self.fifo) {
-            Some(InterruptType::ReceptionTimeout)
-        } else if enabled.intersects(IER::THR_EMPTY) && self.transmitter.is_thr_pending() {
-            Some(InterruptType::TransmitterHoldingRegisterEmpty)
-        } else if enabled.intersects(IER::MODEM_STATUS) && self.modem.has_changes() {
-            Some(InterruptType::ModemStatus)
-        } else {
-            None
-        }
-    }
-
     /// Returns whether an interrupt is enabled and pending: whether the interrupt output is active.
     pub fn is_interrupting(&self) -> bool
         ensures { result ≡ is_some (spec.interrupt self.now) }
     {
-        !self.latches.ier.is_empty() && self.interrupt().is_some()
+        is_interrupting(self)
     }
 
     /// Reads the register at this offset: returns its value, and has the effect of the read on the chip.
@@ -438,78 +322,7 @@ impl<B: Fifo<u8> + Drop, W: Wire + Drop, C: Fifo<Character> + Drop, J: Journal +
         ensures answers { result ≡ spec.answer offset self.old }
         ensures after { self.new ≡ spec.after_read offset self.old }
     {
-        // A guest that waits reads LSR and nothing else, so it is looked for first.
-        if offset == offsets::LSR as u8 {
-            self.read_line_status()
-        } else {
-            self.read_register(offset)
-        }
-    }
-
-    #[inline(never)]
-    fn read_register(&mut self, offset: u8) -> u8
-        requires { offset < NUM_REGISTERS }
-        ensures answers { result ≡ spec.answer offset self.old }
-        ensures after { self.new ≡ spec.after_read offset self.old }
-    {
-        match offset as usize {
-            offsets::DATA => self.read_data(),
-            offsets::IER if self.is_dlab_set() => self.latches.dlm,
-            offsets::IER => self.latches.ier.bits(),
-            offsets::ISR => self.read_interrupt(),
-            offsets::LCR => self.latches.lcr.bits(),
-            offsets::MCR => self.latches.mcr.bits(),
-            offsets::LSR => self.read_line_status(),
-            offsets::MSR => self.modem.read().bits(),
-            _ => self.latches.scr,
-        }
-    }
-
-    // Reads LSR, which reports the overrun and the errors of the front.
-    fn read_line_status(&mut self) -> u8
-        ensures answers { result ≡ spec.answer offsets.LSR self.old }
-        ensures after { self.new ≡ spec.after_read offsets.LSR self.old }
-    {
-        if self.receiver.has_errors() {
-            return self.read_errors();
-        }
-        let status = self.receiver.status().union(self.transmitter.status());
-        self.receiver.report();
-        status.bits()
-    }
-
-    // Reads LSR while some character has errors.
-    #[inline(never)]
-    fn read_errors(&mut self) -> u8
-        ensures answers { result ≡ spec.answer offsets.LSR self.old }
-        ensures after { self.new ≡ spec.after_read offsets.LSR self.old }
-    {
-        let status = self.line_status();
-        self.receiver.report();
-        status.bits()
-    }
-
-    fn read_data(&mut self) -> u8
-        ensures answers { result ≡ spec.answer offsets.DATA self.old }
-        ensures after { self.new ≡ spec.after_read offsets.DATA self.old }
-    {
-        if self.is_dlab_set() {
-            return self.latches.dll;
-        }
-        self.receiver.take_front()
-    }
-
-    // Reads ISR. A read that shows `THR_EMPTY` acknowledges it.
-    fn read_interrupt(&mut self) -> u8
-        ensures answers { result ≡ spec.answer offsets.ISR self.old }
-        ensures after { self.new ≡ spec.after_read offsets.ISR self.old }
-    {
-        let interrupt = self.interrupt();
-        if is_thr_empty(interrupt) {
-            self.transmitter.set_thr_pending(false);
-        }
-        let fifo = flag(self.fifo, ISR::FIFOS_ENABLED);
-        identification(interrupt).union(fifo).bits()
+        read(self, offset)
     }
 
     /// Writes a value to the register at this offset.
@@ -517,95 +330,126 @@ impl<B: Fifo<u8> + Drop, W: Wire + Drop, C: Fifo<Character> + Drop, J: Journal +
         requires { offset < NUM_REGISTERS }
         ensures { self.new ≡ spec.after_write offset value self.old }
     {
-        // A guest that prints writes DATA most often, so it is looked for first.
-        if offset == offsets::DATA as u8 {
-            self.write_data(value);
-        } else {
-            self.write_register(offset, value);
-        }
+        write(self, offset, value);
+    }
+}
+
+impl<B: Fifo<u8> + Drop, W: Wire + Drop, C: Fifo<Character> + Drop, J: Journal + Drop> ChipParts
+    for Uart<B, W, C, J> {
+    type Transmitter = Transmitter<B, W>;
+
+    type Receiver = Receiver<C, J>;
+
+    ghost state = { λ c. c };
+
+    ghost canonical = { λ c. Unit {0} };
+
+    fn transmitter(&self) -> &Transmitter<B, W> {
+        &self.transmitter
     }
 
-    // Writes DATA.
-    fn write_data(&mut self, value: u8)
-        ensures { self.new ≡ spec.write_data value self.old }
-    {
-        if self.is_dlab_set() {
-            self.latches.dll = value;
-        } else {
-            let byte = self.cut(value);
-            self.transmitter.load(self.fifo, byte);
-        }
+    fn receiver(&self) -> &Receiver<C, J> {
+        &self.receiver
     }
 
-    #[inline(never)]
-    fn write_register(&mut self, offset: u8, value: u8)
-        requires { offset < NUM_REGISTERS }
-        ensures { self.new ≡ spec.after_write offset value self.old }
-    {
-        match offset as usize {
-            offsets::DATA => self.write_data(value),
-            offsets::IER if self.is_dlab_set() => self.latches.dlm = value,
-            offsets::IER => self.enable(IER::from_bits_retain(value)),
-            offsets::FCR => self.control(FCR::from_bits_retain(value)),
-            offsets::LCR => self.latches.lcr = LCR::from_bits_retain(value),
-            offsets::MCR => {
-                self.latches.mcr = kept_modem_control(MCR::from_bits_retain(value));
-                self.modem.renew(self.latches.mcr);
-            }
-            offsets::SPR => self.latches.scr = value,
-            _ => {}
-        }
+    fn model(&self) -> Chip {
+        self.model
     }
 
-    // Writes IER.
-    fn enable(&mut self, interrupts: IER)
-        ensures { self.new ≡ spec.enable interrupts.0 self.old }
-    {
-        if !self.latches.ier.intersects(IER::THR_EMPTY)
-            && interrupts.intersects(IER::THR_EMPTY)
-            && self.transmitter.is_thr_empty()
-        {
-            self.transmitter.set_thr_pending(true);
-        }
-        self.latches.ier = kept_interrupts(interrupts);
+    fn ier(&self) -> IER {
+        self.latches.ier
     }
 
-    // Writes FCR.
-    fn control(&mut self, value: FCR)
-        ensures { self.new ≡ spec.control self.old.model value.0 self.old }
-    {
-        match self.model {
-            Chip::Uart16450 => {}
-            Chip::Uart16550A => self.set_fifo(value),
-        }
+    fn lcr(&self) -> LCR {
+        self.latches.lcr
     }
 
-    fn set_fifo(&mut self, value: FCR)
-        ensures { self.new ≡ spec.set_fifo value.0 self.old }
-    {
-        let on = value.intersects(FCR::FIFO_ENABLE);
-        if self.fifo != on {
-            self.switch(on);
-        }
-        if on {
-            if value.intersects(FCR::RX_FIFO_RESET) {
-                self.receiver.clear();
-            }
-            if value.intersects(FCR::TX_FIFO_RESET) {
-                self.transmitter.clear();
-                self.transmitter.set_thr_pending(true);
-            }
-            self.receiver.set_trigger(trigger_level(value));
-        }
+    fn mcr(&self) -> MCR {
+        self.latches.mcr
     }
 
-    // Switches the FIFOs on or off, which empties both.
-    fn switch(&mut self, on: bool)
-        ensures { self.new ≡ spec.switch on self.old }
-    {
+    fn latches(&self) -> Latches {
+        self.latches
+    }
+
+    fn set_latches(&mut self, latches: Latches) {
+        self.latches = latches;
+    }
+
+    fn fifo(&self) -> bool {
+        self.fifo
+    }
+
+    fn turn_fifo(&mut self, on: bool) {
         self.fifo = on;
-        self.receiver.clear();
-        self.transmitter.clear();
+    }
+
+    fn cuts(&self) -> bool {
+        self.cuts
+    }
+
+    fn tick_transmitter(&mut self, loopback: bool) -> Option<u8> {
+        transmitting::tick(&mut self.transmitter, loopback)
+    }
+
+    fn count_down(&mut self, ticks: u16) {
+        count_down(&mut self.transmitter, ticks);
+    }
+
+    fn load(&mut self, byte: u8) {
+        load(&mut self.transmitter, self.fifo, byte);
+    }
+
+    fn clear_transmitter(&mut self) {
+        self.transmitter.clear_queue();
+    }
+
+    fn set_thr_pending(&mut self, on: bool) {
+        self.transmitter.set_thr_pending(on);
+    }
+
+    fn tick_receiver(&mut self, looped: Option<u8>) {
+        receiving::tick(&mut self.receiver, self.fifo, looped);
+    }
+
+    fn count_up(&mut self, ticks: u16) {
+        count_up(&mut self.receiver, ticks);
+    }
+
+    fn receive(&mut self, loopback: bool, byte: u8, errors: u8) {
+        receiving::arrive_live(&mut self.receiver, loopback, self.fifo, byte, errors);
+    }
+
+    fn take_front(&mut self) -> u8 {
+        take_front(&mut self.receiver)
+    }
+
+    fn report(&mut self) {
+        report(&mut self.receiver);
+    }
+
+    fn clear_receiver(&mut self) {
+        clear(&mut self.receiver);
+    }
+
+    fn set_trigger(&mut self, trigger: FifoTriggerLevel) {
+        self.receiver.set_trigger(trigger);
+    }
+
+    fn renew_modem(&mut self, mcr: MCR) {
+        self.modem.renew(mcr);
+    }
+
+    fn change_inputs(&mut self, mcr: MCR, inputs: u8) {
+        self.modem.change_inputs(mcr, MSR::from_bits_retain(inputs));
+    }
+
+    fn read_modem(&mut self) -> u8 {
+        self.modem.read().bits()
+    }
+
+    fn has_modem_changes(&self) -> bool {
+        self.modem.has_changes()
     }
 }
 

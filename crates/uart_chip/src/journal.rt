@@ -19,7 +19,7 @@ pub trait Journal {
     fn len(&self) -> usize
         ensures { result ≡ length (recorded self.now) };
 
-    /// Sets the mark of an arrival. A stray character has none.
+    /// Sets the mark of an arrival. A unscheduled character has none.
     fn set_mark(&mut self, origin: Origin, mark: ArrivalMark)
         ensures { recorded self.new ≡ spec.set_mark origin mark (recorded self.old) };
 

@@ -6,17 +6,21 @@
 
 mod characters;
 mod chip;
+pub mod controlling;
 mod event;
 mod fifo;
 mod journal;
 mod masks;
 mod modem;
 mod receiver;
+pub mod receiving;
 mod transmitter;
+pub mod transmitting;
 mod wire;
 
 pub use characters::Characters;
-pub use chip::{ChipData, Latches, Uart, cut, identification, is_thr_empty, trigger_level};
+pub use chip::{ChipData, Latches, Uart};
+pub use controlling::identification;
 pub use event::{
     ArrivalMark, BuildError, Chip, Event, MAX_CHAR_TICKS, MAX_WIRE_CAPACITY, arrivals, refusal,
 };

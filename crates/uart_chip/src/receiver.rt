@@ -1,21 +1,19 @@
 //! The receiver: a queue of characters, and what became of each arrival.
-ghost use Rattle.std.specs.Prelude.{◌≡◌, ◌==◌, ◌<◌, ◌≤◌, ◌-◌, ℕ, [], length, slice_get};
-ghost use Rattle.std.specs.List.{list_any};
+ghost use Rattle.std.specs.Prelude.{◌≡◌, ◌<◌, ◌≤◌, ℕ, [], true, length, slice_get};
 ghost use Rattle.uart_chip.specs.Receiver as spec;
-ghost use Rattle.uart_chip.specs.Receiver.{unreported, has_errors, waiting};
+ghost use Rattle.uart_chip.specs.Receiver.{has_errors, waiting};
 ghost use Rattle.uart_chip.specs.Status.{receiver_status};
 ghost use Rattle.uart_chip.specs.Errors.{error_weight};
-ghost use Rattle.uart_chip.specs.Transmitter.{room};
 ghost use Rattle.uart_spec.specs.declared.baud.TheConstants.{FIFO_SIZE};
 ghost use Rattle.uart_chip.specs.Data.{receiver_of, without_schedule};
-ghost use Rattle.uart_chip.specs.Jumps.{count_up};
 ghost use Rattle.uart_chip.specs.declared.event.TheConstants.{MAX_CHAR_TICKS};
 
 use crate::characters::Characters;
 use crate::event::ArrivalMark;
-use crate::fifo::{Fifo, items_of, room_of};
+use crate::fifo::{Fifo, items_of};
 use crate::journal::{Journal, Marks};
 use crate::masks::flag;
+use crate::receiving::{ReceiverParts, enter};
 use arrayvec::ArrayVec;
 use bitflags::Flags;
 use std::marker::Model;
@@ -58,7 +56,7 @@ pub struct Receiver<Q: Fifo<Character> + Drop, J: Journal + Drop> {
     trigger: FifoTriggerLevel,
     arrived: usize,
     journal: J,
-    is_stray_lost: bool,
+    is_unscheduled_lost: bool,
 }
 
 impl<Q: Fifo<Character> + Drop, J: Journal + Drop> Model for Receiver<Q, J> {
@@ -78,7 +76,7 @@ impl<Q: Fifo<Character> + Drop, J: Journal + Drop> Model for Receiver<Q, J> {
       trigger = r.trigger;
       arrived = r.arrived;
       marks = J.recorded r.journal;
-      is_stray_lost = r.is_stray_lost;
+      is_unscheduled_lost = r.is_unscheduled_lost;
     } };
 
     // What LSR shows of the receiver is kept, but for the errors behind the front, which the queue counts.
@@ -98,30 +96,6 @@ impl Character {
         ensures { result ≡ error_weight self.now }
     {
         if self.has_errors() { 1 } else { 0 }
-    }
-}
-
-impl Origin {
-    // Returns whether the character is not an arrival of the schedule.
-    fn is_stray(&self) -> bool
-        ensures { result ≡ spec.is_stray self.now }
-    {
-        match self {
-            Origin::Looped | Origin::Live => true,
-            Origin::Arrived(_) => false,
-        }
-    }
-}
-
-// Returns the number of characters of a trigger level.
-fn characters_of(level: FifoTriggerLevel) -> usize
-    ensures { result ≡ spec.characters_of level }
-{
-    match level {
-        FifoTriggerLevel::One => 1,
-        FifoTriggerLevel::Four => 4,
-        FifoTriggerLevel::Eight => 8,
-        FifoTriggerLevel::Fourteen => 14,
     }
 }
 
@@ -174,7 +148,7 @@ impl<Q: Fifo<Character> + Drop, J: Journal + Drop> Receiver<Q, J> {
             trigger: FifoTriggerLevel::One,
             arrived: 0,
             journal,
-            is_stray_lost: false,
+            is_unscheduled_lost: false,
             status: LSR::empty(),
         }
     }
@@ -197,7 +171,7 @@ impl<Q: Fifo<Character> + Drop, J: Journal + Drop> Receiver<Q, J> {
             trigger: saved.trigger,
             arrived: 0,
             journal,
-            is_stray_lost: false,
+            is_unscheduled_lost: false,
             status,
         }
     }
@@ -217,87 +191,6 @@ impl<Q: Fifo<Character> + Drop, J: Journal + Drop> Receiver<Q, J> {
         }
     }
 
-    // Puts a character into the queue. If there is no room, the FIFO loses it, and the single register loses the one that
-    // it held.
-    #[tactic(auto, using(crate::proofs::Status::same_front, crate::proofs::Status::lost))]
-    #[inline(always)]
-    fn come_in(&mut self, fifo: bool, new: Character)
-        ensures { self.new ≡ spec.come_in fifo new self.old }
-    {
-        if self.queue.len() < room_of(fifo) {
-            let is_first = self.queue.is_empty();
-            self.queue.push(new);
-            if is_first {
-                self.is_front_reported = false;
-                self.status = status_of(&self.queue, self.is_overrun, false);
-            }
-            self.journal.set_mark(new.origin, ArrivalMark::Waiting);
-        } else if fifo {
-            self.is_overrun = true;
-            self.status = self.status.union(LSR::OVERRUN_ERROR);
-            self.journal.set_mark(new.origin, ArrivalMark::Dropped);
-        } else {
-            self.replace(new);
-            return;
-        }
-        self.timeout_ticks = 0;
-        if new.origin.is_stray() {
-            self.is_stray_lost = false;
-        }
-    }
-
-    // Replaces the character in the receiver, which is dropped.
-    #[inline(never)]
-    fn replace(&mut self, new: Character)
-        ensures { self.new ≡ spec.replace self.old.queue new self.old }
-    {
-        let Some(old) = self.queue.pop() else {
-            return;
-        };
-        self.queue.clear();
-        self.queue.push(new);
-        self.is_overrun = true;
-        self.is_front_reported = false;
-        self.status = status_of(&self.queue, true, false);
-        self.timeout_ticks = 0;
-        self.journal.set_mark(old.origin, ArrivalMark::Dropped);
-        self.journal.set_mark(new.origin, ArrivalMark::Waiting);
-        if new.origin.is_stray() {
-            self.is_stray_lost = false;
-        } else if old.origin.is_stray() {
-            self.is_stray_lost = true;
-        }
-    }
-
-    /// Ends a tick, with the byte that loopback returned in it.
-    pub fn tick(&mut self, fifo: bool, looped: Option<u8>)
-        ensures { self.new ≡ spec.tick fifo looped self.old }
-    {
-        if let Some(byte) = looped {
-            self.come_in(
-                fifo,
-                Character {
-                    byte,
-                    errors: 0,
-                    origin: Origin::Looped,
-                },
-            );
-        }
-        self.timeout_ticks = self.timeout_ticks.saturating_add(1).min(self.timeout_limit);
-    }
-
-    /// Lets ticks pass in which no character is received or read.
-    pub fn count_up(&mut self, ticks: u16)
-        ensures { self.new ≡ count_up ticks self.old }
-    {
-        if ticks > 0 {
-            self.timeout_ticks = self
-                .timeout_ticks
-                .saturating_add(ticks)
-                .min(self.timeout_limit);
-        }
-    }
-
     /// Receives the next arrival of the schedule. In loopback it is discarded.
     pub fn arrive(&mut self, loopback: bool, fifo: bool, byte: u8, errors: u8)
         requires { self.old.arrived < length self.old.marks }
@@ -310,7 +203,8 @@ impl<Q: Fifo<Character> + Drop, J: Journal + Drop> Receiver<Q, J> {
         if loopback {
             self.journal.set_mark(origin, ArrivalMark::Discarded);
         } else {
-            self.come_in(
+            enter(
+                self,
                 fifo,
                 Character {
                     byte,
@@ -319,122 +213,6 @@ impl<Q: Fifo<Character> + Drop, J: Journal + Drop> Receiver<Q, J> {
                 },
             );
         }
-    }
-
-    /// Receives a character without a schedule. In loopback it is lost.
-    pub fn bring(&mut self, loopback: bool, fifo: bool, byte: u8, errors: u8)
-        ensures { self.new ≡ spec.bring loopback fifo byte errors self.old }
-    {
-        if !loopback {
-            self.come_in(
-                fifo,
-                Character {
-                    byte,
-                    errors,
-                    origin: Origin::Live,
-                },
-            );
-        }
-    }
-
-    /// Takes the front if there is one, and returns the byte that was taken last.
-    pub fn take_front(&mut self) -> u8
-        ensures after { self.new ≡ spec.take_front self.old.queue self.old }
-        ensures byte { result ≡ self.new.last_byte }
-    {
-        if let Some(front) = self.queue.pop() {
-            self.is_front_reported = false;
-            self.timeout_ticks = 0;
-            self.last_byte = front.byte;
-            self.status = status_of(&self.queue, self.is_overrun, false);
-            self.journal.set_mark(front.origin, ArrivalMark::Read);
-        }
-        self.last_byte
-    }
-
-    /// Does what a read of LSR does: clears the overrun and the errors of the front.
-    #[tactic(auto, using(crate::proofs::Status::reported_some, crate::proofs::Status::reported_none))]
-    pub fn report(&mut self)
-        ensures { self.new ≡ spec.report self.old }
-    {
-        if self.queue.is_empty() {
-            self.status = LSR::empty();
-            self.is_overrun = false;
-        } else {
-            self.status = LSR::DATA_READY;
-            self.is_overrun = false;
-            self.is_front_reported = true;
-        }
-    }
-
-    /// Empties the queue. Its characters are discarded.
-    #[tactic(auto, using(crate::proofs::Status::cleared))]
-    pub fn clear(&mut self)
-        ensures { self.new ≡ spec.clear self.old }
-    {
-        self.journal.discard(&self.queue);
-        self.queue.clear();
-        self.status = flag(self.is_overrun, LSR::OVERRUN_ERROR);
-    }
-
-    /// Sets the trigger level.
-    pub fn set_trigger(&mut self, trigger: FifoTriggerLevel)
-        ensures { self.new ≡ record self.old { trigger = trigger } }
-    {
-        self.trigger = trigger;
-    }
-
-    /// Returns whether there is no received character.
-    pub fn is_empty(&self) -> bool
-        ensures { result ≡ (length self.now.queue == 0) }
-    {
-        self.queue.is_empty()
-    }
-
-    /// Returns what LSR shows of the receiver, but for the errors behind the front.
-    pub fn status(&self) -> LSR
-        ensures { result.0 ≡ receiver_status self.now.queue self.now.is_overrun self.now.is_front_reported }
-    {
-        self.status
-    }
-
-    /// Returns whether a character has errors.
-    pub fn has_errors(&self) -> bool
-        ensures { result ≡ list_any has_errors self.now.queue }
-    {
-        self.queue.has_errors()
-    }
-
-    /// Returns whether a character has errors that were not reported.
-    pub fn has_unreported_errors(&self) -> bool
-        ensures { result ≡ list_any has_errors (unreported self.now.queue self.now.is_front_reported) }
-    {
-        self.queue.has_unreported_errors(self.is_front_reported)
-    }
-
-    /// Returns whether there are as many characters as the trigger level, or without FIFO any.
-    pub fn is_data_pending(&self, fifo: bool) -> bool
-        ensures { result ≡ spec.is_data_pending fifo self.now }
-    {
-        if fifo {
-            characters_of(self.trigger) <= self.queue.len()
-        } else {
-            !self.queue.is_empty()
-        }
-    }
-
-    /// Returns whether there are characters in the FIFO, and none was received or read for four character times.
-    pub fn is_timed_out(&self, fifo: bool) -> bool
-        ensures { result ≡ spec.is_timed_out fifo self.now }
-    {
-        fifo && !self.queue.is_empty() && self.timeout_ticks == self.timeout_limit
-    }
-
-    /// Returns how many characters can be received before one is lost.
-    pub fn room(&self, fifo: bool) -> usize
-        ensures { result ≡ room fifo - length self.now.queue }
-    {
-        room_of(fifo).saturating_sub(self.queue.len())
     }
 
     /// Returns the number of received bytes that have not been read.
@@ -465,5 +243,100 @@ impl<Q: Fifo<Character> + Drop> Receiver<Q, Marks> {
         ensures { result ≡ slice_get self.now.marks i }
     {
         self.journal.get(i)
+    }
+}
+
+impl<Q: Fifo<Character> + Drop, J: Journal + Drop> ReceiverParts for Receiver<Q, J> {
+    ghost state = { λ r. r };
+
+    ghost canonical = { λ r. Unit {0} };
+
+    ghost is_scheduled = { true };
+
+    fn queue_len(&self) -> usize {
+        self.queue.len()
+    }
+
+    #[tactic(auto, using(crate::proofs::Status::same_front))]
+    fn put(&mut self, new: Character) {
+        let is_first = self.queue.is_empty();
+        self.queue.push(new);
+        if is_first {
+            self.status = status_of(&self.queue, self.is_overrun, self.is_front_reported);
+        }
+    }
+
+    fn pop(&mut self) -> Option<Character> {
+        let front = self.queue.pop();
+        self.status = status_of(&self.queue, self.is_overrun, self.is_front_reported);
+        front
+    }
+
+    #[tactic(auto, using(crate::proofs::Status::cleared))]
+    fn clear_queue(&mut self) {
+        self.queue.clear();
+        self.status = flag(self.is_overrun, LSR::OVERRUN_ERROR);
+    }
+
+    fn set_mark(&mut self, origin: Origin, mark: ArrivalMark) {
+        self.journal.set_mark(origin, mark);
+    }
+
+    fn discard(&mut self) {
+        self.journal.discard(&self.queue);
+    }
+
+    fn set_unscheduled_lost(&mut self, on: bool) {
+        self.is_unscheduled_lost = on;
+    }
+
+    fn set_overrun(&mut self, on: bool) {
+        self.is_overrun = on;
+        self.status = status_of(&self.queue, on, self.is_front_reported);
+    }
+
+    fn set_front_reported(&mut self, on: bool) {
+        self.is_front_reported = on;
+        self.status = status_of(&self.queue, self.is_overrun, on);
+    }
+
+    fn status(&self) -> LSR {
+        self.status
+    }
+
+    fn has_errors(&self) -> bool {
+        self.queue.has_errors()
+    }
+
+    fn has_unreported_errors(&self) -> bool {
+        self.queue.has_unreported_errors(self.is_front_reported)
+    }
+
+    fn last_byte(&self) -> u8 {
+        self.last_byte
+    }
+
+    fn set_last_byte(&mut self, byte: u8) {
+        self.last_byte = byte;
+    }
+
+    fn timeout_ticks(&self) -> u16 {
+        self.timeout_ticks
+    }
+
+    fn timeout_limit(&self) -> u16 {
+        self.timeout_limit
+    }
+
+    fn set_timeout_ticks(&mut self, ticks: u16) {
+        self.timeout_ticks = ticks;
+    }
+
+    fn trigger(&self) -> FifoTriggerLevel {
+        self.trigger
+    }
+
+    fn set_trigger(&mut self, trigger: FifoTriggerLevel) {
+        self.trigger = trigger;
     }
 }

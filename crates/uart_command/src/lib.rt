@@ -1,118 +1,139 @@
-//! The command line of the program `geesetrunk`: from its words to a request.
-//!
-//! It is a crate of its own so that only this page of code is checked together with `clap`.
+//! What the programs with a command line share: their words, how they read, how they report, and
+//! how they end.
 #![tactic(auto)]
 
-ghost use Rattle.std.specs.Prelude.{◌≡◌, false, map, option_map, IfOk};
-ghost use Rattle.clap.specs.Words.{FailsBy, app_of, fault_of, found_of, rows_of, rule_of, subcommand_rows_of};
-ghost use Rattle.uart_command.specs.Request.{IsRequest, command_line, file_rule, subcommand_named, requested, task_of, value_or};
+ghost use Rattle.std.specs.Prelude.{◌≡◌, IfOk, IfErr, IfSome, take};
+ghost use Rattle.std.specs.IoError.{error_kind};
+ghost use Rattle.std.specs.declared.io.Error.{Error as IoError};
+ghost use Rattle.std.specs.Process.{exit_status};
+ghost use Rattle.clap.specs.Values.{kind_of};
+ghost use Rattle.uart_command.specs.Status.{number_of, unmatched_end, fault_end, EndsUnmatched};
 
+mod command_line;
+mod failure;
+mod numbers;
+mod request;
+mod status;
+
+use clap::Error;
 use clap::error::ErrorKind;
-use clap::{Arg, ArgAction, ArgMatches, Command, Error};
-use std::alloc::{AllocError, Global};
-use std::convert::AsStr;
-use uart_program::{STANDARD_INPUT, STATUSES};
-use uart_report::{Form, Request, Task};
+pub use command_line::request_in;
+pub use failure::Failure;
+pub use numbers::{DECIMAL, HEXADECIMAL, number_in};
+pub use request::{Form, Job, Judge, Request, Task};
+pub use status::{STATUSES, Status};
+use std::alloc::Global;
+use std::fmt::Display;
+use std::fs::File;
+use std::io::Read;
+use std::process::ExitCode;
+use std::rt::{Env, Files};
+use std::{env, io};
 
-const ABOUT: &str = "\
-Plays scripts for a serial chip and its driver, and shows what happened
+/// The name of a file that stands for standard input.
+pub const STANDARD_INPUT: &str = "-";
 
-A line of a script that begins with # is a comment, and counts as a blank line. With
-its comments a script has at most 65536 bytes, and no more of a file is read.";
-
-const PLAY: &str = "Plays a script and prints its output, as uart_script does";
-
-const CHECK: &str = "Finds the first fault of a script, and says what is expected there";
-
-const TRACE: &str = "Prints each register access with the value read or written, call by call";
-
-const TIMELINE: &str = "Prints the timeline of a run as an SVG picture";
-
-fn file_argument<'a>(alloc: Global) -> Arg<'a>
-    ensures rule { rule_of result ≡ file_rule }
-    ensures local { result.global ≡ false }
-{
-    Arg::new(alloc, "FILE")
-        .help("The script, or - for standard input")
-        .required(true)
-        .action(ArgAction::Set)
-}
-
-fn subcommand<'a>(alloc: Global, name: &'a str, about: &'a str) -> Result<Command<'a>, AllocError>
-    ensures { IfOk result (λ c. app_of c ≡ subcommand_named name.entry.now) }
-{
-    Command::new(alloc, name)
-        .about(about)
-        .arg(file_argument(alloc))
-}
-
-// Returns the command line that the program accepts.
-fn command<'a>(alloc: Global) -> Result<Command<'a>, AllocError>
-    ensures { IfOk result (λ c. app_of c ≡ command_line) }
-{
-    let text = Arg::new(alloc, "text")
-        .long("text")
-        .help("Prints a table for a terminal instead of a picture")
-        .action(ArgAction::SetTrue);
-    Command::new(alloc, "geesetrunk")
-        .bin_name("geesetrunk")?
-        .version("0.9.0")
-        .about(ABOUT)
-        .after_help(STATUSES)
-        .subcommand_required(true)
-        .arg_required_else_help(true)
-        .subcommand(subcommand(alloc, "play", PLAY)?)?
-        .subcommand(subcommand(alloc, "check", CHECK)?)?
-        .subcommand(subcommand(alloc, "trace", TRACE)?)?
-        .subcommand(subcommand(alloc, "timeline", TIMELINE)?.arg(text)?)
-}
-
-// Returns what the subcommand of this name is to do, with or without the option `text`.
-fn task_of(name: &str, as_text: bool) -> Task
-    ensures { result ≡ task_of name.now as_text }
-{
-    match name {
-        "check" => Task::Check,
-        "trace" => Task::Trace,
-        "timeline" if as_text => Task::Timeline(Form::Table),
-        "timeline" => Task::Timeline(Form::Picture),
-        _ => Task::Play,
-    }
-}
-
-// Returns the value of an argument, or another word if it has none.
-fn value_or<'a>(given: &ArgMatches<'a>, name: &str, otherwise: &'a str) -> &'a str
-    ensures { result.now ≡ value_or (rows_of (found_of given.now)) name.now otherwise.entry.now }
-{
-    given.get_str(name).unwrap_or(otherwise)
-}
-
-// Returns the request of words that match, or `None` if they have no subcommand.
-fn request_of<'a>(matches: &ArgMatches<'a>) -> Option<Request<'a>>
-    ensures { option_map (λ request. (request.task, request.file.now)) result ≡ option_map requested (subcommand_rows_of matches.now) }
-{
-    match matches.subcommand() {
-        Some((name, given)) => Some(Request {
-            task: task_of(name, value_or(given, "text", "false") == "true"),
-            file: value_or(given, "FILE", STANDARD_INPUT),
-        }),
-        None => None,
-    }
-}
-
-/// Returns the request of a command line. Its first word is the program's name.
+/// Returns the words of the command line, of which the first is the program's name.
 ///
 /// # Errors
 ///
-/// The error of clap: the help, the version, or what is wrong with the words.
-pub fn request_in<'a, S: AsStr>(alloc: Global, words: &'a [S]) -> Result<Request<'a>, Error>
-    ensures ok { IfOk result (IsRequest (map S.text words.entry.now)) }
-    ensures refused { FailsBy (fault_of command_line (map S.text words.entry.now)) result }
+/// - `Words` if one of them is not UTF-8.
+/// - `OutOfMemory` if out of memory.
+pub fn words<R: Env + AllocGlobal>(rt: &R) -> Result<Vec<String>, Failure> {
+    let words = env::args(rt).map_err(Failure::unread_words)?;
+    Ok(words.collect(rt.alloc())?)
+}
+
+/// Returns what a reader has left, or the first `most` bytes of it if it has more.
+///
+/// # Errors
+///
+/// The error of the reader, or `ErrorKind::OutOfMemory`.
+pub fn first_bytes<R: Read + Drop>(alloc: Global, reader: R, most: u64) -> io::Result<Vec<u8>>
+    ensures { IfOk result (λ bytes.
+        IfSome (R.remaining reader) (λ left. bytes.items ≡ take most left)) }
 {
-    let mut command = command(alloc)?;
-    let matches = command.try_get_matches_from_mut(words)?;
-    match request_of(&matches) {
-        Some(request) => Ok(request),
-        None => Err(command.error(ErrorKind::MissingSubcommand, "there is no subcommand")?),
+    let mut bytes = Vec::new(alloc);
+    reader.take(most).read_to_end(&mut bytes)?;
+    Ok(bytes)
+}
+
+/// Returns the first `most` bytes of a file, or all of it.
+///
+/// It is standard input if no file is named, or the name is [`STANDARD_INPUT`].
+///
+/// # Errors
+///
+/// The error of the file, or `ErrorKind::OutOfMemory`.
+pub fn bytes_of<R: Files + Input + AllocGlobal>(
+    rt: &R,
+    file: Option<&str>,
+    most: u64,
+) -> io::Result<Vec<u8>> {
+    match file {
+        Some(name) if name != STANDARD_INPUT => first_bytes(
+            rt.alloc(),
+            File::open(rt, name)?,
+            most,
+        ),
+        _ => first_bytes(rt.alloc(), rt.reader(), most),
+    }
+}
+
+/// Prints bytes to standard output.
+///
+/// # Errors
+///
+/// `Output` with the cause if they could not all be printed.
+pub fn print<R: Print>(rt: &R, bytes: &[u8]) -> Result<(), Failure>
+    ensures { IfErr result (λ failure. (cause : IoError) × (failure ≡ Failure.Output cause)) }
+{
+    rt.write_all(bytes).map_err(Failure::Output)
+}
+
+/// Returns how a program ends if reading or writing failed for this cause.
+pub fn fault_end(cause: &io::Error) -> Status
+    ensures { result ≡ fault_end (error_kind cause.now) }
+{
+    match cause.kind() {
+        io::ErrorKind::OutOfMemory => Status::OutOfMemory,
+        _ => Status::Failed,
+    }
+}
+
+/// Prints why the program did not do what was requested, as a line on standard error, and returns
+/// the exit code of its end.
+///
+/// If standard error cannot be written, nothing is printed, and the exit code is the same.
+pub fn failed<R: Eprint>(rt: &R, why: &impl Display, end: Status) -> ExitCode
+    ensures { exit_status result ≡ number_of end }
+{
+    let _ = eprintln!(rt; "{why}");
+    ExitCode::from(end)
+}
+
+/// Returns how a program ends whose words do not match: as done if they request the help or the
+/// version.
+pub fn unmatched_end(error: &Error) -> Status
+    ensures { result ≡ unmatched_end (kind_of error.now) }
+{
+    match error.kind() {
+        ErrorKind::DisplayHelp | ErrorKind::DisplayVersion => Status::Done,
+        ErrorKind::OutOfMemory => Status::OutOfMemory,
+        _ => Status::Failed,
+    }
+}
+
+/// Prints why the words do not match, or the help or the version that they request, and returns the
+/// exit code.
+///
+/// If the help or the version cannot be printed, that is reported as any failed write.
+pub fn unmatched<R: Print + Eprint>(rt: &R, error: &Error) -> ExitCode
+    ensures { EndsUnmatched (unmatched_end (kind_of error.now)) (exit_status result) }
+{
+    let end = unmatched_end(error);
+    match error.print(rt) {
+        Err(cause) if end == Status::Done => failed(rt, &Failure::Output(cause), Status::Failed),
+        _ => ExitCode::from(end),
     }
 }

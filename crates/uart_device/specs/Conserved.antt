@@ -28,13 +28,13 @@ is_dropped _ = false
 
 -- a character of this origin was not dropped
 abbrev pub origin_stands : List ArrivalMark → Bool → Origin → Bool
-origin_stands marks stray (Arrived number) = not (is_dropped (mark_at marks number))
-origin_stands marks stray Looped = not stray
-origin_stands marks stray Live = not stray
+origin_stands marks missing (Arrived number) = not (is_dropped (mark_at marks number))
+origin_stands marks missing Looped = not missing
+origin_stands marks missing Live = not missing
 
 -- whether the receiver's marks say that the character was not dropped
 abbrev pub stands : ReceiverState → Character → Bool
-stands r character = origin_stands r.marks r.is_stray_lost character.origin
+stands r character = origin_stands r.marks r.is_unscheduled_lost character.origin
 
 -- the arrivals among these events, numbered from here
 abbrev pub arriving : ℕ → List Event → List Character
@@ -64,5 +64,5 @@ kept m n = map (λ character. character.byte) (filter (stands n.chip.receiver) (
 -- second
 pub record IsDrop (m n : MachineState) : Type 0 where
   pub origin : Origin
-  pub stood : origin_stands m.chip.receiver.marks m.chip.receiver.is_stray_lost origin ≡ true
-  pub lost : origin_stands n.chip.receiver.marks n.chip.receiver.is_stray_lost origin ≡ false
+  pub stood : origin_stands m.chip.receiver.marks m.chip.receiver.is_unscheduled_lost origin ≡ true
+  pub lost : origin_stands n.chip.receiver.marks n.chip.receiver.is_unscheduled_lost origin ≡ false

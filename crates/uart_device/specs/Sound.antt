@@ -26,14 +26,14 @@ use Rattle.uart_chip.specs.Build.{IsLegal}
 -- a character of this origin may be in the queue: an arrival if it has arrived and is marked Waiting, an unscheduled
 -- one if none was lost since the last one arrived
 abbrev pub IsInQueue : ℕ → List ArrivalMark → Bool → Origin → Type 0
-IsInQueue arrived marks stray (Arrived number) = (number < arrived) × (mark_at marks number ≡ Waiting)
-IsInQueue arrived marks stray Looped = stray ≡ false
-IsInQueue arrived marks stray Live = stray ≡ false
+IsInQueue arrived marks missing (Arrived number) = (number < arrived) × (mark_at marks number ≡ Waiting)
+IsInQueue arrived marks missing Looped = missing ≡ false
+IsInQueue arrived marks missing Live = missing ≡ false
 
 -- each of these characters may be in the queue
 abbrev pub AllInQueue : ℕ → List ArrivalMark → Bool → List Character → Type 0
-AllInQueue arrived marks stray characters =
-    AllByRecursion (λ (character : Character). IsInQueue arrived marks stray character.origin) characters
+AllInQueue arrived marks unscheduled characters =
+    AllByRecursion (λ (character : Character). IsInQueue arrived marks unscheduled character.origin) characters
 
 -- the origin is not the arrival with this number
 abbrev pub OtherOrigin : ℕ → Origin → Type 0
@@ -63,7 +63,7 @@ AllErrorsLegal characters =
 
 -- what is in the queue has this mark, each arrival at most once and within the room; those to come are marked Pending
 pub record IsMarked (fifo : Bool) (r : ReceiverState) : Type 0 where
-  pub wait : AllInQueue r.arrived r.marks r.is_stray_lost r.queue
+  pub wait : AllInQueue r.arrived r.marks r.is_unscheduled_lost r.queue
   pub distinct : Distinct r.queue
   pub to_come : (number : ℕ) → r.arrived ≤ number → mark_at r.marks number ≡ Pending
   pub in_room : length r.queue ≤ room fifo
@@ -88,7 +88,7 @@ IsTicking char_ticks (Some s) = (1 ≤ s.ticks_left) × (s.ticks_left ≤ char_t
 -- queue and wire hold no more than they have room for; a character takes 1 to 1000 ticks
 pub record IsSoundTransmitter (fifo : Bool) (t : TransmitterState) : Type 0 where
   pub in_room : length t.queue ≤ room fifo
-  pub ticking : IsTicking t.char_ticks t.shift_place
+  pub ticking : IsTicking t.char_ticks t.shift_register
   pub at_least_one : 1 ≤ t.char_ticks
   pub at_most : t.char_ticks ≤ MAX_CHAR_TICKS
   pub on_wire : length t.wire ≤ t.capacity

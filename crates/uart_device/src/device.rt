@@ -6,7 +6,7 @@ ghost use Rattle.uart_device.specs.Sound.{IsWhole};
 ghost use Rattle.uart_chip.specs.Transmitter.{held};
 ghost use Rattle.uart_device.specs.Conserved.{waiting};
 ghost use Rattle.uart_chip.specs.Chip.{divisor, ticks};
-ghost use Rattle.uart_chip.specs.Jumps.{most_turns, turns};
+ghost use Rattle.uart_chip.specs.Jumps.{most_jumps, jumps_in};
 ghost use Rattle.uart_chip.specs.declared.event.BuildError.{BuildError};
 
 use std::alloc::Global;
@@ -298,9 +298,9 @@ impl Device16550 {
     }
 
     /// Lets `n` ticks pass outside of the schedule, whose position does not change. Returns the
-    /// number of turns that this took.
+    /// number of jumps that this took.
     ///
-    /// A turn ends at the tick in which a character enters or leaves the shift register, or takes
+    /// A jump ends at the tick in which a character enters or leaves the shift register, or takes
     /// all ticks that are left. There are at most 18, whatever `n` is: none if `n` is 0, and one if
     /// `n` is 1.
     ///
@@ -312,8 +312,8 @@ impl Device16550 {
     /// ```
     pub fn idle(&mut self, n: u16) -> usize
         ensures after { self.new ≡ record self.old { chip = ticks n self.old.chip } }
-        ensures turns { result ≡ turns n self.old.chip }
-        ensures most { result ≤ most_turns }
+        ensures jumps { result ≡ jumps_in n self.old.chip }
+        ensures most { result ≤ most_jumps }
     {
         self.uart.ticks(n)
     }

@@ -16,7 +16,7 @@ const CHAR_TICKS: u16 = 4;
 
 const WIRE_CAPACITY: usize = 64;
 
-// A chip whose modem shows these lines. From the mark on, the modem sends these bytes.
+// Returns a chip whose modem shows these lines. From the mark on, the modem sends these bytes.
 fn chip(alloc: Global, lines: MSR, bytes: &[u8]) -> Result<Device16550, BuildError> {
     let Ok(mut events) = [Event::Lines(lines.bits()), Event::Mark].to_vec(alloc) else {
         return Err(BuildError::OutOfMemory);

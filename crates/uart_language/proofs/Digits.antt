@@ -13,6 +13,7 @@ use Rattle.std.proofs.Common.{Err, inl, inr}
 use Rattle.std.proofs.lemmas.Bool.{and_parts, cases_Bool}
 use Rattle.uart_calls.specs.declared.call.TheConstants.{CALL_BYTES}
 use Rattle.uart_language.specs.declared.cause.Cause.TheVariants.{BadText}
+use Rattle.uart_language.specs.declared.limits.TheConstants.{MOST_DIGITS}
 use Rattle.uart_language.specs.Fields.{pairs_of, bytes_in, text_in}
 use Rattle.uart_language.proofs.Results.{read}
 
@@ -32,8 +33,8 @@ is_digit_at word value i d lt e r =
     rw e ((head_is is_ascii_digit (get_or word i 0) (drop (suc i) word)
     (subst (λ (w : List ℕ). list_all is_ascii_digit w ≡ true) split r.digits)).0)
 
-pub small_before : (word : List ℕ) (value i : ℕ) → i < length word → length word ≤ 10 → DigitsRead word value i → value < 10 ^ 9
-small_before word value i lt short r = omega (arith, r.below, pow-le-pow_right {n = 10} (omega arith) {i = i} {j = 9} (omega arith))
+pub small_before : (word : List ℕ) (value i : ℕ) → i < length word → length word ≤ MOST_DIGITS → DigitsRead word value i → value < 10 ^ 18
+small_before word value i lt short r = omega (arith, r.below, pow-le-pow_right {n = 10} (omega arith) {i = i} {j = 18} (omega arith))
 
 pub reads_on : (word : List ℕ) (value i d v : ℕ) → i < length word → d ≡ get_or word i 0 → v ≡ digit_value d → v < 10
     → DigitsRead word value i → DigitsRead word (value * 10 + v) (i + 1)

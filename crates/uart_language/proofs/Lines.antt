@@ -1,5 +1,5 @@
 -- The first line, and the lines after it.
-use Rattle.std.proofs.Common.{◌≡◌, ℕ, zero, suc, ◌-◌, ◌<◌, ◌≤◌, Bool, true, false, cond, eqb, ltb, List, [], ◌∷◌, length, take, drop}
+use Rattle.std.proofs.Common.{◌≡◌, ℕ, zero, suc, ◌-◌, ◌<◌, ◌≤◌, Bool, true, false, cond, eqb, ltb, List, [], ◌∷◌, ◌++◌, length, take, drop}
 use Rattle.std.proofs.Common.{Option, Some, None, refl, sym, ap, ◌∙◌, arith, inl, inr, Bor}
 use Rattle.std.specs.Prelude.{unwrap_or, option_map, slice_get, slice_index_or}
 use Rattle.std.specs.List.{position_or_len, onto_first}
@@ -29,6 +29,22 @@ end_of-le (b ∷ bytes) =
 
 pub position-le : (bytes : List ℕ) → position_or_len is_end bytes ≤ length bytes
 position-le bytes = rw (← end_of-is bytes) (end_of-le bytes)
+
+no_end : (items more : List ℕ) → end_of items ≡ length items → length items ≤ end_of (items ++ more)
+unfolding end_of
+no_end [] more e = omega arith
+no_end (b ∷ items) more e = go (is_end b) (λ f. no_end items more f) e
+  where
+    go : (t : Bool) → (end_of items ≡ length items → length items ≤ end_of (items ++ more)) →
+        cond t 0 (suc (end_of items)) ≡ suc (length items) →
+        suc (length items) ≤ cond t 0 (suc (end_of (items ++ more)))
+    go true rest f = absurd (omega arith)
+    go false rest f = let h : length items ≤ end_of (items ++ more) = rest (omega arith) in omega arith
+
+-- if a line has no end among these items, it has all of them
+pub none_before : (items more : List ℕ) → position_or_len is_end items ≡ length items →
+    length items ≤ position_or_len is_end (items ++ more)
+none_before items more e = rw (← end_of-is (items ++ more)) (no_end items more (end_of-is items ∙ e))
 
 pub end_is : (bytes : List ℕ) (r : Option ℕ) → r ≡ cond (ltb (position_or_len is_end bytes) (length bytes))
     (Some (position_or_len is_end bytes)) None → unwrap_or r (length bytes) ≡ position_or_len is_end bytes

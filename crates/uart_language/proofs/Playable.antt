@@ -14,8 +14,8 @@ use Rattle.uart_spec.specs.declared.config.BaudRate.TheVariants as rate
 use Rattle.uart_spec.specs.BaudRate.{to_integer}
 use Rattle.uart_language.specs.declared.cause.Cause.{Cause}
 use Rattle.uart_language.specs.declared.cause.Cause.TheVariants.{BadWord}
-use Rattle.uart_language.specs.declared.limits.TheConstants.{MOST_LIMIT, MOST_RATE}
-use Rattle.uart_language.specs.Fields.{◌>>=◌, is_number, number_in, lines_in, errors_in, rate_of, rate_in}
+use Rattle.uart_language.specs.declared.limits.TheConstants.{MOST_LIMIT, MOST_RATE, SCRIPT_DIGITS}
+use Rattle.uart_language.specs.Fields.{◌>>=◌, is_number, number_in, number_of, lines_in, errors_in, rate_of, rate_in}
 use Rattle.uart_calls.specs.declared.call.Call.{Call}
 use Rattle.uart_calls.specs.declared.call.Call.TheVariants as call
 use Rattle.uart_calls.specs.declared.call.TheConstants.{CALL_BYTES}
@@ -40,11 +40,11 @@ value_by true v n fault e = (refl, cc)
 value_by false v n fault e = absurd cc
 
 number_range : (least most : ℕ) (word : List ℕ) (n : ℕ) → number_in least most word ≡ Ok n → (least ≤ n) × (n ≤ most)
-unfolding number_in
+unfolding number_of
 number_range least most word n e =
     let r = value_by _ _ _ _ e in
-    let parts = and_parts (is_number word && leb least (digits_value 10 word)) (leb (digits_value 10 word) most) r.0 in
-    let first = and_parts (is_number word) (leb least (digits_value 10 word)) parts.0 in
+    let parts = and_parts (is_number SCRIPT_DIGITS word && leb least (digits_value 10 word)) (leb (digits_value 10 word) most) r.0 in
+    let first = and_parts (is_number SCRIPT_DIGITS word) (leb least (digits_value 10 word)) parts.0 in
     let low : least ≤ digits_value 10 word = leb-true _ _ first.1 in
     let high : digits_value 10 word ≤ most = leb-true _ _ parts.1 in
     (omega (arith, r.1), omega (arith, r.1))

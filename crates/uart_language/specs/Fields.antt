@@ -20,7 +20,7 @@ use Rattle.uart_chip.specs.declared.event.Chip.{Chip}
 use Rattle.uart_chip.specs.declared.event.Chip.TheVariants.{Uart16550A, Uart16450}
 use Rattle.uart_language.specs.declared.cause.Cause.{Cause}
 use Rattle.uart_language.specs.declared.cause.Cause.TheVariants.{BadWord, BadNumber, BadHex, TooManyBytes, BadText}
-use Rattle.uart_language.specs.declared.limits.TheConstants.{MOST_LIMIT, MOST_TICKS, MOST_RATE}
+use Rattle.uart_language.specs.declared.limits.TheConstants.{MOST_LIMIT, MOST_TICKS, MOST_RATE, SCRIPT_DIGITS}
 
 -- what follows a value, or the fault before it
 infixl 10 ◌>>=◌
@@ -28,15 +28,19 @@ abbrev pub ◌>>=◌ : {A B E : Type 0} → Result A E → (A → Result B E) �
 (Ok x) >>= f = f x
 (Err e) >>= f = Err e
 
--- 1 to 10 decimal digits
-abbrev pub is_number : List ℕ → Bool
-is_number word = nat_le 1 (length word) && nat_le (length word) 10 && list_all is_ascii_digit word
+-- 1 to so many decimal digits
+abbrev pub is_number : ℕ → List ℕ → Bool
+is_number digits word = nat_le 1 (length word) && nat_le (length word) digits && list_all is_ascii_digit word
 
--- a number from least to most
-unfoldable pub number_in : ℕ → ℕ → List ℕ → Result ℕ Cause
-number_in least most word =
-    if is_number word && nat_le least (digits_value 10 word) && nat_le (digits_value 10 word) most
+-- a number from least to most, of at most so many digits
+unfoldable pub number_of : (digits least most : ℕ) → List ℕ → Result ℕ Cause
+number_of digits least most word =
+    if is_number digits word && nat_le least (digits_value 10 word) && nat_le (digits_value 10 word) most
     then Ok (digits_value 10 word) else Err BadNumber
+
+-- a number of a script, from least to most
+abbrev pub number_in : ℕ → ℕ → List ℕ → Result ℕ Cause
+number_in least most word = number_of SCRIPT_DIGITS least most word
 
 -- N of a call: the number of slots
 abbrev pub count_in : List ℕ → Result ℕ Cause

@@ -3,10 +3,9 @@
 ghost use Rattle.std.specs.Prelude.{◌≡◌, ◌<◌, ◌+◌, ◌*◌, ◌≤◌, List, Option, Some};
 ghost use Rattle.std.specs.Prelude.{None, IsTrue, IfOk, length, if◌then◌else◌};
 ghost use Rattle.std.specs.List.{list_all};
-ghost use Rattle.std.specs.Char.{is_ascii_digit, is_ascii_hexdigit, digit_value};
+ghost use Rattle.std.specs.Char.{is_ascii_hexdigit, digit_value};
 ghost use Rattle.std.specs.Int.NonZero.{non_zero_u64_get};
-ghost use Rattle.std.specs.Str.Parse.{digits_value};
-ghost use Rattle.uart_language.specs.Fields.{is_number, number_in, count_in, limit_in, ticks_in};
+ghost use Rattle.uart_language.specs.Fields.{number_in, count_in, limit_in, ticks_in};
 ghost use Rattle.uart_language.specs.Fields.{char_ticks_in, wire_capacity_in, byte_in};
 ghost use Rattle.uart_language.specs.Fields.{lines_in, bytes_in, text_in, errors_in};
 ghost use Rattle.uart_language.specs.Fields.{chip_in, cut_in, level_in, rate_in, cts_in};
@@ -14,7 +13,8 @@ ghost use Rattle.uart_language.specs.Fields.{interrupts_in, word_length_in};
 ghost use Rattle.uart_language.specs.Fields.{pairs_of, is_pairs, seen};
 
 use super::cause::Cause;
-use super::limits::{MOST_LIMIT, MOST_RATE, MOST_TICKS};
+use super::limits::{MOST_LIMIT, MOST_RATE, MOST_TICKS, SCRIPT_DIGITS};
+use super::numbers::number_of;
 use arrayvec::{ArrayString, ArrayVec};
 use bitflags::Flags;
 use std::num::NonZeroU64;
@@ -23,56 +23,12 @@ use uart_chip::{Chip, MAX_CHAR_TICKS, MAX_WIRE_CAPACITY};
 use uart_spec::BaudRate;
 use uart_spec::registers::{FifoTriggerLevel, IER, LSR, WordLength};
 
-/// Returns whether a word has 1 to 10 decimal digits and nothing else.
-fn is_number(word: &[u8]) -> bool
-    ensures { result ≡ is_number word.now }
-{
-    !word.is_empty() && word.len() <= 10 && all_decimal(word)
-}
-
-fn all_decimal(word: &[u8]) -> bool
-    ensures { result ≡ list_all is_ascii_digit word.now }
-{
-    word.iter().all(|digit| digit.is_ascii_digit())
-}
-
-/// Returns the value of a decimal digit.
-fn decimal_digit(digit: u8) -> u8
-    requires { IsTrue (is_ascii_digit digit) }
-    ensures value { result ≡ digit_value digit }
-    ensures small { result < 10 }
-{
-    digit - b'0'
-}
-
-/// Returns the number that is written in decimal digits.
-fn decimal(word: &[u8]) -> u64
-    requires digits { IsTrue (list_all is_ascii_digit word.now) }
-    requires short { length word.now ≤ 10 }
-    ensures { result ≡ digits_value 10 word.now }
-{
-    let mut value = 0u64;
-    for digit in word {
-        value = value * 10 + u64::from(decimal_digit(*digit));
-    }
-    value
-}
-
-/// Reads a number from `least` to `most`.
-#[tactic(auto, unfolding(crate::specs::Fields::number_in))]
+/// Reads a number of a script, from `least` to `most`.
 pub fn number_in(least: u64, most: u64, word: &[u8]) -> Result<u64, Cause>
     ensures value { result ≡ number_in least most word.now }
     ensures range { IfOk result (λ n. (least ≤ n) × (n ≤ most)) }
 {
-    if !is_number(word) {
-        return Err(Cause::BadNumber);
-    }
-    let value = decimal(word);
-    if least <= value && value <= most {
-        Ok(value)
-    } else {
-        Err(Cause::BadNumber)
-    }
+    number_of(SCRIPT_DIGITS, least, most, word)
 }
 
 /// Returns the value of a hexadecimal digit.

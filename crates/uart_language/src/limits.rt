@@ -19,6 +19,12 @@ pub const MOST_TICKS: u64 = u16::MAX as u64;
 /// The highest baud rate, in bits per second.
 pub const MOST_RATE: u64 = u32::MAX as u64;
 
+/// The most digits of a number of a script.
+pub const SCRIPT_DIGITS: usize = 10;
+
+/// The most digits of a number, so that any that has them fits into 64 bits.
+pub const MOST_DIGITS: usize = 19;
+
 /// The values of the limits in the definition of the language.
 pub fn limits_are_these()
     ensures bytes { MOST_BYTES ≡ 65536 }
@@ -27,4 +33,6 @@ pub fn limits_are_these()
     ensures default_limit { DEFAULT_LIMIT ≡ 1000000 }
     ensures ticks { MOST_TICKS ≡ 65535 }
     ensures rate { MOST_RATE ≡ 4294967295 }
+    ensures script_digits { SCRIPT_DIGITS ≡ 10 }
+    ensures digits { MOST_DIGITS ≡ 19 }
 {}

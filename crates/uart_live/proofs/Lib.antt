@@ -1,3 +1,4 @@
 pub mod Lives
 pub mod Orders
+pub mod Holds
 pub mod Saves

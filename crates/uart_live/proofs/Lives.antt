@@ -16,8 +16,8 @@ use Rattle.uart_chip.specs.Masks.{IsWithin}
 use Rattle.uart_chip.specs.Transmitter as transmitter
 use Rattle.uart_chip.specs.Transmitter.{TransmitterState, room, looped_byte}
 use Rattle.uart_chip.specs.Receiver as receiver
-use Rattle.uart_chip.specs.Receiver.{ReceiverState, is_stray, come_in, replace, come_back, take_front, clear}
-use Rattle.uart_chip.specs.Chip.{ChipState, fresh, cut_of, is_dlab_set, is_loopback, ticks, bring, take_wire, change_lines}
+use Rattle.uart_chip.specs.Receiver.{ReceiverState, is_unscheduled, enter, replace, come_back, take_front, clear}
+use Rattle.uart_chip.specs.Chip.{ChipState, fresh, cut_of, is_dlab_set, is_loopback, ticks, arrive_live, take_wire, change_lines}
 use Rattle.uart_chip.specs.Chip.{identification, interrupt, is_thr_empty, after_read, after_write}
 use Rattle.uart_chip.specs.Chip.{set_fifo, control, switch, is_same, reset_receiver}
 use Rattle.uart_chip.specs.Chip.{reset_transmitter, set_trigger, trigger_level}
@@ -37,6 +37,7 @@ use Rattle.uart_spec.specs.declared.registers.modem_status.TheConstants.MSR
 use Rattle.uart_spec.specs.declared.registers.offsets.TheConstants as offsets
 use Rattle.uart_chip.specs.declared.wire.TheConstants.{WIRE_ROOM}
 use Rattle.uart_live.specs.declared.errors.ChipError.TheVariants as ChipError
+use Rattle.uart_live.specs.Held.{is_due, expire, arrive_holding}
 use Rattle.uart_live.specs.Live.{IsLive}
 use Rattle.uart_live.specs.Refused as live
 
@@ -46,30 +47,30 @@ both_if P x y false p q = q
 
 -- ---- none is lost unseen
 
--- no stray character was lost since the last one came
+-- no unscheduled character was lost since the last one came
 abbrev pub NoneLost : ReceiverState → Type 0
-NoneLost r = r.is_stray_lost ≡ false
+NoneLost r = r.is_unscheduled_lost ≡ false
 
-none_lost-replace : (queue : List Character) (new : Character) (r : ReceiverState) → is_stray new.origin ≡ true → NoneLost r →
+none_lost-replace : (queue : List Character) (new : Character) (r : ReceiverState) → is_unscheduled new.origin ≡ true → NoneLost r →
     NoneLost (replace queue new r)
 none_lost-replace [] new r s h = h
 none_lost-replace (old ∷ others) new r s h = rw s refl
 
-pub none_lost-come_in : (fifo : Bool) (new : Character) (r : ReceiverState) → is_stray new.origin ≡ true → NoneLost r →
-    NoneLost (come_in fifo new r)
-none_lost-come_in fifo new r s h =
+pub none_lost-enter : (fifo : Bool) (new : Character) (r : ReceiverState) → is_unscheduled new.origin ≡ true → NoneLost r →
+    NoneLost (enter fifo new r)
+none_lost-enter fifo new r s h =
     both_if NoneLost _ _ (nat_lt (length r.queue) (room fifo)) (rw s refl)
     (both_if NoneLost _ _ fifo (rw s refl) (none_lost-replace r.queue new r s h))
 
 none_lost-come_back : (fifo : Bool) (byte : Option ℕ) (r : ReceiverState) → NoneLost r → NoneLost (come_back fifo byte r)
 none_lost-come_back fifo None r h = h
-none_lost-come_back fifo (Some byte) r h = none_lost-come_in fifo (record { byte = byte; errors = 0; origin = Looped }) r refl h
+none_lost-come_back fifo (Some byte) r h = none_lost-enter fifo (record { byte = byte; errors = 0; origin = Looped }) r refl h
 
-none_lost-bring : (loopback fifo : Bool) (byte errors : ℕ) (r : ReceiverState) → NoneLost r →
-    NoneLost (receiver.bring loopback fifo byte errors r)
-none_lost-bring true fifo byte errors r h = h
-none_lost-bring false fifo byte errors r h =
-    none_lost-come_in fifo (record { byte = byte; errors = errors; origin = Live }) r refl h
+none_lost-arrival : (loopback fifo : Bool) (byte errors : ℕ) (r : ReceiverState) → NoneLost r →
+    NoneLost (receiver.arrive_live loopback fifo byte errors r)
+none_lost-arrival true fifo byte errors r h = h
+none_lost-arrival false fifo byte errors r h =
+    none_lost-enter fifo (record { byte = byte; errors = errors; origin = Live }) r refl h
 
 none_lost-take : (queue : List Character) (r : ReceiverState) → NoneLost r → NoneLost (take_front queue r)
 none_lost-take [] r h = h
@@ -94,8 +95,8 @@ room-refill None (x ∷ y ∷ xs) t h = h
 
 room-tick : (loopback : Bool) (t : TransmitterState) → HasRoom t → HasRoom (transmitter.tick loopback t)
 room-tick loopback t h =
-    let u : TransmitterState = transmitter.shift loopback t.shift_place t in
-    room-refill u.shift_place u.queue u (room-shift loopback t.shift_place t h)
+    let u : TransmitterState = transmitter.shift loopback t.shift_register t in
+    room-refill u.shift_register u.queue u (room-shift loopback t.shift_register t h)
 
 -- ---- both, of the chip
 
@@ -107,7 +108,7 @@ keeps-ticks zero c k = k
 keeps-ticks (suc n) c k =
     let d : ChipState = ticks n c in
     let w = keeps-ticks n c k in (
-      none_lost-come_back d.fifo (looped_byte (is_loopback d.latches) d.transmitter.shift_place) d.receiver w.0,
+      none_lost-come_back d.fifo (looped_byte (is_loopback d.latches) d.transmitter.shift_register) d.receiver w.0,
       room-tick (is_loopback d.latches) d.transmitter w.1,
     )
 
@@ -183,13 +184,45 @@ live-part c d w s l k =
     })
     k
 
-pub live-bring : (byte errors : ℕ) (c : ChipState) → IsWithin errors LSR.CHARACTER_ERRORS.0 → IsLive c → IsLive (bring byte errors c)
-live-bring byte errors c l w =
+pub live-arrival : (byte errors : ℕ) (c : ChipState) → IsWithin errors LSR.CHARACTER_ERRORS.0 → IsLive c →
+    IsLive (arrive_live byte errors c)
+live-arrival byte errors c l w =
     let loopback : Bool = is_loopback c.latches in
-    live-part c (bring byte errors c) w
-    (steady_receiver c.receiver.arrived c (receiver.bring loopback c.fifo (cut_of c byte) errors c.receiver) w.whole.sound.chip
+    live-part c (arrive_live byte errors c) w
+    (steady_receiver c.receiver.arrived c (receiver.arrive_live loopback c.fifo (cut_of c byte) errors c.receiver) w.whole.sound.chip
     (safe_bring loopback c.fifo c.receiver (cut_of c byte) errors w.whole.sound.chip.receiver l)) refl
-    (none_lost-bring loopback c.fifo (cut_of c byte) errors c.receiver w.none_lost, w.room)
+    (none_lost-arrival loopback c.fifo (cut_of c byte) errors c.receiver w.none_lost, w.room)
+
+live-expire : (c : ChipState) → IsLive c → IsLive (expire c)
+live-expire c w =
+    let r = w.whole.sound.chip.receiver in
+    live-part c (expire c) w
+    (steady_receiver c.receiver.arrived c (expire c).receiver w.whole.sound.chip (record {
+      sound = record {
+        marked = record {
+          wait = r.marked.wait;
+          distinct = r.marked.distinct;
+          to_come = r.marked.to_come;
+          in_room = r.marked.in_room;
+          counted = r.marked.counted;
+        };
+        settled = r.settled;
+        no_other = r.no_other;
+        legal = r.legal;
+        idle = omega arith;
+      };
+      number = refl;
+      known = refl;
+      limit = refl;
+    })) refl
+    (w.none_lost, w.room)
+
+pub live-hold : (byte errors : ℕ) (c : ChipState) → IsWithin errors LSR.CHARACTER_ERRORS.0 → IsLive c →
+    IsLive (arrive_holding byte errors c)
+live-hold byte errors c l w =
+    let after = live-arrival byte errors c l w in
+    both_if IsLive (expire (arrive_live byte errors c)) (arrive_live byte errors c) (is_due c)
+    (live-expire (arrive_live byte errors c) after) after
 
 pub live-take : (count : ℕ) (c : ChipState) → IsLive c → IsLive (take_wire count c)
 live-take count c w =

@@ -7,8 +7,8 @@ use Rattle.uart_chip.specs.declared.receiver.Character.{Character}
 use Rattle.uart_chip.specs.declared.receiver.Origin.TheVariants.{Live}
 use Rattle.uart_chip.specs.Transmitter as transmitter
 use Rattle.uart_chip.specs.Transmitter.{TransmitterState, room, held, out, load}
-use Rattle.uart_chip.specs.Receiver.{ReceiverState, come_in, replace, take_front}
-use Rattle.uart_chip.specs.Chip.{ChipState, cut_of, is_dlab_set, is_loopback, line_status, interrupt, is_thr_empty, ticks, bring}
+use Rattle.uart_chip.specs.Receiver.{ReceiverState, enter, replace, take_front}
+use Rattle.uart_chip.specs.Chip.{ChipState, cut_of, is_dlab_set, is_loopback, line_status, interrupt, is_thr_empty, ticks, arrive_live}
 use Rattle.uart_chip.specs.Chip.{after_read, after_write}
 use Rattle.uart_device.proofs.conservation.Sends.{sends-tick, sends-load}
 use Rattle.uart_device.proofs.soundness.Sounds.{latches-ticks}
@@ -16,12 +16,13 @@ use Rattle.uart_device.proofs.status.Status.{status_overrun}
 use Rattle.uart_spec.specs.Bits.{has_any}
 use Rattle.uart_spec.specs.declared.registers.line_status.TheConstants.LSR
 use Rattle.uart_spec.specs.declared.registers.offsets.TheConstants as offsets
-use Rattle.uart_live.specs.Laws.{Act, Read, Write, Ticks, Arrive, TakeWire, after, after_all, in_turn, AllInTurn, is_data}
+use Rattle.uart_live.specs.Held.{is_due, expire, arrive_holding}
+use Rattle.uart_live.specs.Laws.{Act, Read, Write, Ticks, Arrive, ArriveHolding, TakeWire, after, after_all, in_turn, AllInTurn, is_data}
 use Rattle.uart_live.specs.Laws.{sent, taken, IsCareful, BytesLeaveInOrder, came, read, IsUnreset, shows_overrun, some_overrun}
 use Rattle.uart_live.specs.Laws.{CharactersAreReadInOrder, PlainReadsChangeNothing}
 use Rattle.uart_live.proofs.Lives.{both_if}
 
-if_given : {A : Type 0} (P : A → Type 0) (x y : A) (b : Bool) → (b ≡ true → P x) → (b ≡ false → P y) → P (if b then x else y)
+pub if_given : {A : Type 0} (P : A → Type 0) (x y : A) (b : Bool) → (b ≡ true → P x) → (b ≡ false → P y) → P (if b then x else y)
 if_given P x y true p q = p refl
 if_given P x y false p q = q refl
 
@@ -83,6 +84,10 @@ goes-after (TakeWire count) c h =
     let t : TransmitterState = c.transmitter in
     sym (append_assoc (take count t.wire) (drop count t.wire) (held t)) ∙
     (ap (λ xs. xs ++ held t) (take-append-drop count t.wire) ∙ sym (append-nil (out t)))
+goes-after (ArriveHolding byte errors) c h =
+    let same : out c.transmitter ≡ out c.transmitter ++ [] = sym (append-nil (out c.transmitter)) in
+    let d : ChipState = arrive_live byte errors c in
+    both_if (Goes (out c.transmitter ++ [])) (expire d) d (is_due c) same same
 goes-after _ c h = sym (append-nil (out c.transmitter))
 
 pub bytes_leave : BytesLeaveInOrder
@@ -107,31 +112,43 @@ pub record Passes (r s : ReceiverState) (entering leaving : List Character) : Ty
 passes-same : (r s : ReceiverState) → s.queue ≡ r.queue → s.is_overrun ≡ r.is_overrun → s.is_overrun ≡ false → Passes r s [] []
 passes-same r s q o calm = record { kept = append-nil r.queue ∙ sym q; calm = sym o ∙ calm }
 
-passes-come_in : (fifo : Bool) (new : Character) (r : ReceiverState) → (come_in fifo new r).is_overrun ≡ false →
-    Passes r (come_in fifo new r) (new ∷ []) []
-passes-come_in fifo new r calm = go (nat_lt (length r.queue) (room fifo)) refl fifo refl calm
+passes-enter : (fifo : Bool) (new : Character) (r : ReceiverState) → (enter fifo new r).is_overrun ≡ false →
+    Passes r (enter fifo new r) (new ∷ []) []
+passes-enter fifo new r calm = go (nat_lt (length r.queue) (room fifo)) refl fifo refl calm
   where
     swap : (queue : List Character) → r.queue ≡ queue → nat_lt (length queue) 1 ≡ false → (replace queue new r).is_overrun ≡ false →
         Passes r (replace queue new r) (new ∷ []) []
     swap [] q full calm = absurd (cc)
     swap (old ∷ others) q full calm = absurd (cc)
 
-    go : (b : Bool) → nat_lt (length r.queue) (room fifo) ≡ b → (on : Bool) → fifo ≡ on → (come_in fifo new r).is_overrun ≡ false →
-        Passes r (come_in fifo new r) (new ∷ []) []
+    go : (b : Bool) → nat_lt (length r.queue) (room fifo) ≡ b → (on : Bool) → fifo ≡ on → (enter fifo new r).is_overrun ≡ false →
+        Passes r (enter fifo new r) (new ∷ []) []
     go true free on f calm = rw free (record { kept = refl; calm = rw free at calm })
     go false full true f calm = let no : true ≡ false = rw (full, f) at calm in absurd (cc)
     go false full false f calm =
         rw (full, f) (swap r.queue refl (rw f at full) (rw (full, f) at calm))
 
-passes-bring : (byte errors : ℕ) (c : ChipState) → (bring byte errors c).receiver.is_overrun ≡ false →
-    Passes c.receiver (bring byte errors c).receiver (came (Arrive byte errors) c) []
-passes-bring byte errors c calm = go (is_loopback c.latches) refl calm
+passes-arrival : (byte errors : ℕ) (c : ChipState) → (arrive_live byte errors c).receiver.is_overrun ≡ false →
+    Passes c.receiver (arrive_live byte errors c).receiver (came (Arrive byte errors) c) []
+passes-arrival byte errors c calm = go (is_loopback c.latches) refl calm
   where
-    go : (b : Bool) → is_loopback c.latches ≡ b → (bring byte errors c).receiver.is_overrun ≡ false →
-        Passes c.receiver (bring byte errors c).receiver (came (Arrive byte errors) c) []
+    go : (b : Bool) → is_loopback c.latches ≡ b → (arrive_live byte errors c).receiver.is_overrun ≡ false →
+        Passes c.receiver (arrive_live byte errors c).receiver (came (Arrive byte errors) c) []
     go true l calm = rw l (passes-same c.receiver c.receiver refl refl (rw l at calm))
     go false l calm =
-        rw l (passes-come_in c.fifo (record { byte = cut_of c byte; errors = errors; origin = Live }) c.receiver (rw l at calm))
+        rw l (passes-enter c.fifo (record { byte = cut_of c byte; errors = errors; origin = Live }) c.receiver (rw l at calm))
+
+passes-hold : (byte errors : ℕ) (c : ChipState) → (arrive_holding byte errors c).receiver.is_overrun ≡ false →
+    Passes c.receiver (arrive_holding byte errors c).receiver (came (ArriveHolding byte errors) c) []
+passes-hold byte errors c calm =
+    let d : ChipState = arrive_live byte errors c in
+    let e : ChipState = arrive_holding byte errors c in
+    let queue : e.receiver.queue ≡ d.receiver.queue =
+    both_if (λ (x : ChipState). x.receiver.queue ≡ d.receiver.queue) (expire d) d (is_due c) refl refl in
+    let overrun : e.receiver.is_overrun ≡ d.receiver.is_overrun =
+    both_if (λ (x : ChipState). x.receiver.is_overrun ≡ d.receiver.is_overrun) (expire d) d (is_due c) refl refl in
+    let w = passes-arrival byte errors c (sym overrun ∙ calm) in
+    record { kept = w.kept ∙ sym queue; calm = w.calm }
 
 passes-ticks : (n : ℕ) (c : ChipState) → is_loopback c.latches ≡ false →
     ((ticks n c).receiver.queue ≡ c.receiver.queue) × ((ticks n c).receiver.is_overrun ≡ c.receiver.is_overrun)
@@ -191,7 +208,8 @@ passes-after (Write offset value) c h unseen calm =
     passes-same c.receiver _ (ap (λ (r : ReceiverState). r.queue) e) (ap (λ (r : ReceiverState). r.is_overrun) e) calm
 passes-after (Ticks count) c h unseen calm =
     let same = passes-ticks count c h in passes-same c.receiver (ticks count c).receiver same.0 same.1 calm
-passes-after (Arrive byte errors) c h unseen calm = passes-bring byte errors c calm
+passes-after (Arrive byte errors) c h unseen calm = passes-arrival byte errors c calm
+passes-after (ArriveHolding byte errors) c h unseen calm = passes-hold byte errors c calm
 passes-after _ c h unseen calm = passes-same c.receiver c.receiver refl refl calm
 
 none-of : (a b : Bool) → (a || b) ≡ false → (a ≡ false) × (b ≡ false)

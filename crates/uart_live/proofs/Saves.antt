@@ -15,7 +15,7 @@ use Rattle.uart_chip.specs.declared.receiver.ReceiverData.{ReceiverData}
 use Rattle.uart_chip.specs.declared.transmitter.Shifting.{Shifting}
 use Rattle.uart_chip.specs.declared.transmitter.TransmitterData.{TransmitterData}
 use Rattle.uart_chip.specs.Masks.{IsWithin}
-use Rattle.uart_chip.specs.Receiver.{is_stray}
+use Rattle.uart_chip.specs.Receiver.{is_unscheduled}
 use Rattle.uart_chip.specs.Transmitter.{room}
 use Rattle.uart_chip.specs.Chip.{ChipState}
 use Rattle.uart_chip.specs.Data.{transmitter_of, receiver_of}
@@ -47,15 +47,15 @@ is-within value mask e = grind (arith, common_steps)
 
 -- ---- the receiver
 
-in_queue : (o : Origin) → is_stray o ≡ true → IsInQueue 0 [] false o
+in_queue : (o : Origin) → is_unscheduled o ≡ true → IsInQueue 0 [] false o
 in_queue (Arrived k) s = absurd (cc)
 in_queue _ s = refl
 
-stray : (o : Origin) → IsInQueue 0 [] false o → is_stray o ≡ true
-stray (Arrived k) h = absurd (omega (arith, h.0))
-stray _ h = refl
+unscheduled_here : (o : Origin) → IsInQueue 0 [] false o → is_unscheduled o ≡ true
+unscheduled_here (Arrived k) h = absurd (omega (arith, h.0))
+unscheduled_here _ h = refl
 
-none_has : (o : Origin) (characters : List Character) → is_stray o ≡ true → NoneHas o characters
+none_has : (o : Origin) (characters : List Character) → is_unscheduled o ≡ true → NoneHas o characters
 none_has (Arrived k) characters s = absurd (cc)
 none_has _ characters s = tt
 
@@ -63,21 +63,21 @@ all_in_queue : (characters : List Character) → list_all is_live_character char
 all_in_queue [] e = tt
 all_in_queue (x ∷ xs) e =
     let both = both-true (is_live_character x) (list_all is_live_character xs) e in
-    let one = both-true (is_stray x.origin) (is_within x.errors 28) both.0 in
+    let one = both-true (is_unscheduled x.origin) (is_within x.errors 28) both.0 in
     (in_queue x.origin one.0, all_in_queue xs both.1)
 
 distinct : (characters : List Character) → list_all is_live_character characters ≡ true → Distinct characters
 distinct [] e = tt
 distinct (x ∷ xs) e =
     let both = both-true (is_live_character x) (list_all is_live_character xs) e in
-    let one = both-true (is_stray x.origin) (is_within x.errors 28) both.0 in
+    let one = both-true (is_unscheduled x.origin) (is_within x.errors 28) both.0 in
     (none_has x.origin xs one.0, distinct xs both.1)
 
 all_legal : (characters : List Character) → list_all is_live_character characters ≡ true → AllErrorsLegal characters
 all_legal [] e = tt
 all_legal (x ∷ xs) e =
     let both = both-true (is_live_character x) (list_all is_live_character xs) e in
-    let one = both-true (is_stray x.origin) (is_within x.errors 28) both.0 in
+    let one = both-true (is_unscheduled x.origin) (is_within x.errors 28) both.0 in
     (within x.errors 28 one.1, all_legal xs both.1)
 
 all_live : (characters : List Character) → AllInQueue 0 [] false characters → AllErrorsLegal characters →
@@ -85,7 +85,7 @@ all_live : (characters : List Character) → AllInQueue 0 [] false characters �
 all_live [] h l = refl
 all_live (x ∷ xs) h l =
     true-both (is_live_character x) (list_all is_live_character xs)
-    (true-both (is_stray x.origin) (is_within x.errors 28) (stray x.origin h.0) (is-within x.errors 28 l.0))
+    (true-both (is_unscheduled x.origin) (is_within x.errors 28) (unscheduled_here x.origin h.0) (is-within x.errors 28 l.0))
     (all_live xs h.1 l.1)
 
 sound_receiver : (fifo : Bool) (char_ticks : ℕ) (r : ReceiverData) → is_sound_receiver fifo char_ticks r ≡ true →
@@ -133,13 +133,13 @@ sound_transmitter : (fifo : Bool) (t : TransmitterData) (wire : List ℕ) → is
 sound_transmitter fifo t wire e =
     let a = both-true (is_char_time t.char_ticks) _ e in
     let time = both-true (nat_le 1 t.char_ticks) _ a.0 in
-    let b = both-true (is_ticking t.char_ticks t.shift_place) _ a.1 in
+    let b = both-true (is_ticking t.char_ticks t.shift_register) _ a.1 in
     let c = both-true (nat_le (length t.queue.items) (room fifo)) _ b.1 in
     let d = both-true (nat_le (length wire) t.wire_capacity) _ c.1 in
     record {
       sound = record {
         in_room = at-most _ _ c.0;
-        ticking = ticking t.char_ticks t.shift_place b.0;
+        ticking = ticking t.char_ticks t.shift_register b.0;
         at_least_one = at-most _ _ time.0;
         at_most = at-most _ _ time.1;
         on_wire = at-most _ _ d.0;
@@ -150,7 +150,7 @@ sound_transmitter fifo t wire e =
 transmitter_sound : (fifo : Bool) (t : TransmitterData) (wire : List ℕ) → Fits fifo t wire → is_sound_transmitter fifo t wire ≡ true
 transmitter_sound fifo t wire w =
     true-both _ _ (true-both _ _ (most-at _ _ w.sound.at_least_one) (most-at _ _ w.sound.at_most))
-    (true-both _ _ (is-ticking t.char_ticks t.shift_place w.sound.ticking)
+    (true-both _ _ (is-ticking t.char_ticks t.shift_register w.sound.ticking)
     (true-both _ _ (most-at _ _ w.sound.in_room) (true-both _ _ (most-at _ _ w.sound.on_wire) (most-at _ _ w.room))))
 
 -- ---- the chip
@@ -203,8 +203,8 @@ of_live c wire w =
 -- ---- a live chip has no schedule to lose
 
 same_receiver : (c : ChipState) (limit arrived : ℕ) (marks : List ArrivalMark) (lost : Bool) → limit ≡ c.receiver.timeout_limit →
-    arrived ≡ c.receiver.arrived → marks ≡ c.receiver.marks → lost ≡ c.receiver.is_stray_lost →
-    record c { receiver = record c.receiver { timeout_limit = limit; arrived = arrived; marks = marks; is_stray_lost = lost } } ≡ c
+    arrived ≡ c.receiver.arrived → marks ≡ c.receiver.marks → lost ≡ c.receiver.is_unscheduled_lost →
+    record c { receiver = record c.receiver { timeout_limit = limit; arrived = arrived; marks = marks; is_unscheduled_lost = lost } } ≡ c
 same_receiver c limit arrived marks lost e f g h = rw (e, f, g, h) refl
 
 no_marks : (marks : List ArrivalMark) → length marks ≡ 0 → [] ≡ marks

@@ -1,21 +1,26 @@
 -- What an owner expects of a live chip: nothing is lost unnoticed, and the order is kept.
 use Rattle.std.specs.Prelude.{◌≡◌, ◌≢◌, ℕ, ◌<◌, Bool, true, false, not, ◌&&◌, ◌||◌, ◌==◌, List, [], ◌∷◌, ◌++◌, length}
-use Rattle.std.specs.Prelude.{take, if◌then◌else◌}
+use Rattle.std.specs.Prelude.{take, map, is_some, if◌then◌else◌}
 use Rattle.uart_chip.specs.declared.receiver.Character.{Character}
 use Rattle.uart_chip.specs.declared.receiver.Origin.TheVariants.{Live}
 use Rattle.uart_chip.specs.Transmitter.{room, out}
-use Rattle.uart_chip.specs.Chip.{ChipState, cut_of, is_dlab_set, is_loopback, line_status, ticks, bring, take_wire}
-use Rattle.uart_chip.specs.Chip.{change_lines, after_read, after_write}
+use Rattle.uart_chip.specs.Chip.{ChipState, cut_of, is_dlab_set, is_loopback, line_status, ticks, arrive_live}
+use Rattle.uart_chip.specs.Chip.{take_wire}
+use Rattle.uart_chip.specs.Chip.{change_lines, answer, interrupt, after_read, after_write}
+use Rattle.uart_live.specs.Held.{is_due, arrive_holding}
 use Rattle.uart_spec.specs.Bits.{has_any}
+use Rattle.uart_spec.specs.declared.registers.interrupt_enable.TheConstants.IER
 use Rattle.uart_spec.specs.declared.registers.line_status.TheConstants.LSR
 use Rattle.uart_spec.specs.declared.registers.offsets.TheConstants as offsets
 
--- what can be done with a live chip: an access of the guest, ticks, a character, modem lines, bytes taken from the wire
+-- what can be done with a live chip: an access of the guest, ticks, a character, which may hold a timeout that is due,
+-- modem lines, bytes taken from the wire
 pub data Act : Type 0 where
   Read : (offset : ℕ) → Act
   Write : (offset value : ℕ) → Act
   Ticks : (count : ℕ) → Act
   Arrive : (byte errors : ℕ) → Act
+  ArriveHolding : (byte errors : ℕ) → Act
   SetLines : (inputs : ℕ) → Act
   TakeWire : (count : ℕ) → Act
 
@@ -24,7 +29,8 @@ abbrev pub after : Act → ChipState → ChipState
 after (Read offset) c = after_read offset c
 after (Write offset value) c = after_write offset value c
 after (Ticks count) c = ticks count c
-after (Arrive byte errors) c = bring byte errors c
+after (Arrive byte errors) c = arrive_live byte errors c
+after (ArriveHolding byte errors) c = arrive_holding byte errors c
 after (SetLines inputs) c = change_lines inputs c
 after (TakeWire count) c = take_wire count c
 
@@ -77,9 +83,14 @@ BytesLeaveInOrder =
 -- ---- what comes in
 
 -- the character that is received, unless it is lost in loopback
-abbrev pub came : Act → ChipState → List Character
-came (Arrive byte errors) c =
+abbrev pub entering : (byte errors : ℕ) → ChipState → List Character
+entering byte errors c =
     if is_loopback c.latches then [] else record { byte = cut_of c byte; errors = errors; origin = Live } ∷ []
+
+-- the same of an act
+abbrev pub came : Act → ChipState → List Character
+came (Arrive byte errors) c = entering byte errors c
+came (ArriveHolding byte errors) c = entering byte errors c
 came _ c = []
 
 -- the character that the guest reads
@@ -123,3 +134,39 @@ is_plain offset c =
 -- a read of such a register changes nothing
 abbrev pub PlainReadsChangeNothing : Type 0
 PlainReadsChangeNothing = (offset : ℕ) (c : ChipState) → is_plain offset c ≡ true → after_read offset c ≡ c
+
+-- ---- a timeout that is held
+
+-- the act, but a character withdraws a timeout that is due
+abbrev pub withdrawing : Act → Act
+withdrawing (ArriveHolding byte errors) = Arrive byte errors
+withdrawing act = act
+
+-- what a register other than ISR returns to the guest, and what the owner takes
+abbrev pub seen : Act → ChipState → List ℕ
+seen (Read offset) c = if offset == offsets.ISR then [] else answer offset c ∷ []
+seen (TakeWire count) c = take count c.transmitter.wire
+seen _ c = []
+
+-- only ISR and the interrupt line show whether timeouts are held
+abbrev pub OnlyInterruptsShowHolding : Type 0
+OnlyInterruptsShowHolding =
+    (acts : List Act) (c : ChipState) → in_turn seen (map withdrawing acts) c ≡ in_turn seen acts c
+
+-- DATA is not read, FCR is not written, time passes outside of loopback, and each character holds a timeout
+abbrev pub IsHolding : Act → ChipState → Type 0
+IsHolding (Read offset) c = is_data offset c ≡ false
+IsHolding (Write offset value) c = offset ≢ offsets.FCR
+IsHolding (Ticks count) c = is_loopback c.latches ≡ false
+IsHolding (Arrive byte errors) c = ⊥
+IsHolding _ c = Unit {0}
+
+-- a timeout that is due stays due
+abbrev pub HeldTimeoutsStay : Type 0
+HeldTimeoutsStay =
+    (acts : List Act) (c : ChipState) → AllInTurn IsHolding acts c → is_due c ≡ true → is_due (after_all acts c) ≡ true
+
+-- an interrupt is pending if a timeout is due and the guest enabled it
+abbrev pub DueTimeoutsInterrupt : Type 0
+DueTimeoutsInterrupt =
+    (c : ChipState) → is_due c ≡ true → has_any c.latches.ier IER.DATA_READY.0 ≡ true → is_some (interrupt c) ≡ true

@@ -1,4 +1,5 @@
 pub mod Live
+pub mod Held
 pub mod Laws
 pub mod Saved
 pub mod Refused

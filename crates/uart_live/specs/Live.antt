@@ -9,5 +9,5 @@ use Rattle.uart_device.specs.Sound.{IsWhole}
 pub record IsLive (c : ChipState) : Type 0 where
   pub whole : IsWhole (record { chip = c; ahead = [] })
   pub no_marks : length c.receiver.marks ≡ 0
-  pub none_lost : c.receiver.is_stray_lost ≡ false
+  pub none_lost : c.receiver.is_unscheduled_lost ≡ false
   pub room : c.transmitter.capacity ≤ MAX_WIRE_CAPACITY

@@ -12,7 +12,7 @@ use Rattle.uart_chip.specs.declared.receiver.ReceiverData.{ReceiverData}
 use Rattle.uart_chip.specs.declared.transmitter.Shifting.{Shifting}
 use Rattle.uart_chip.specs.declared.transmitter.TransmitterData.{TransmitterData}
 use Rattle.uart_chip.specs.Masks.{ier_bits, mcr_bits}
-use Rattle.uart_chip.specs.Receiver.{is_stray}
+use Rattle.uart_chip.specs.Receiver.{is_unscheduled}
 use Rattle.uart_chip.specs.Transmitter.{room}
 use Rattle.uart_live.specs.declared.sound.TheConstants.{TIMEOUT_CHARACTERS}
 use Rattle.uart_spec.specs.declared.registers.line_status.TheConstants.LSR
@@ -24,7 +24,7 @@ is_within value mask = bit_and value mask == value
 
 -- a character without a schedule, with only errors of a character
 abbrev pub is_live_character : Character → Bool
-is_live_character character = is_stray character.origin && is_within character.errors LSR.CHARACTER_ERRORS.0
+is_live_character character = is_unscheduled character.origin && is_within character.errors LSR.CHARACTER_ERRORS.0
 
 -- the queue fits, its characters may be there, and the idle ticks end when a reception timeout is due
 abbrev pub is_sound_receiver : Bool → ℕ → ReceiverData → Bool
@@ -44,7 +44,7 @@ is_char_time char_ticks = nat_le 1 char_ticks && nat_le char_ticks MAX_CHAR_TICK
 -- whether the transmitter, the modem lines and the latches are sound, as a test of their data
 abbrev pub is_sound_transmitter : Bool → TransmitterData → List ℕ → Bool
 is_sound_transmitter fifo t wire =
-    is_char_time t.char_ticks && (is_ticking t.char_ticks t.shift_place &&
+    is_char_time t.char_ticks && (is_ticking t.char_ticks t.shift_register &&
     (nat_le (length t.queue.items) (room fifo) &&
     (nat_le (length wire) t.wire_capacity && nat_le t.wire_capacity MAX_WIRE_CAPACITY)))
 

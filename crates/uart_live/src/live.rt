@@ -1,13 +1,14 @@
 //! The live chip.
 ghost use Rattle.std.specs.Prelude.{◌≡◌, ◌≢◌, ◌<◌, ◌≤◌, ◌-◌, length, Some, None, not, bit_and, is_some, Err, IfOk, IsOk};
 ghost use Rattle.uart_chip.specs.Chip as spec;
-ghost use Rattle.uart_chip.specs.Jumps.{most_turns, turns};
+ghost use Rattle.uart_chip.specs.Jumps.{most_jumps, jumps_in};
 ghost use Rattle.uart_chip.specs.Masks.{IsWithin};
 ghost use Rattle.uart_chip.specs.Receiver.{waiting};
 ghost use Rattle.uart_chip.specs.Transmitter.{held};
 ghost use Rattle.uart_live.specs.declared.errors.ChipError.{ChipError};
 ghost use Rattle.uart_live.specs.declared.errors.InputError.{InputError};
 ghost use Rattle.uart_live.specs.Live.{IsLive};
+ghost use Rattle.uart_live.specs.Held.{arrive_holding};
 ghost use Rattle.uart_live.specs.Refused.{refusal};
 ghost use Rattle.uart_spec.specs.Bits.{has_any};
 ghost use Rattle.uart_spec.specs.declared.baud.TheConstants.{NUM_REGISTERS};
@@ -149,9 +150,9 @@ impl LiveChip {
         self.uart.write(offset, value);
     }
 
-    /// Lets `count` ticks pass. Returns the number of turns that this took, which is at most 18, whatever `count` is.
+    /// Lets `count` ticks pass. Returns the number of jumps that this took, which is at most 18, whatever `count` is.
     ///
-    /// A turn ends at the tick in which a character enters or leaves the shift register, or takes all ticks that are left.
+    /// A jump ends at the tick in which a character enters or leaves the shift register, or takes all ticks that are left.
     ///
     /// What was sent in this time is on the `wire`. Check `is_interrupting` after it.
     ///
@@ -162,8 +163,8 @@ impl LiveChip {
     /// ```
     pub fn ticks(&mut self, count: u16) -> usize
         ensures after { self.new ≡ spec.ticks count self.old }
-        ensures turns { result ≡ turns count self.old }
-        ensures most { result ≤ most_turns }
+        ensures jumps { result ≡ jumps_in count self.old }
+        ensures most { result ≤ most_jumps }
     {
         self.uart.ticks(count)
     }
@@ -186,13 +187,41 @@ impl LiveChip {
     /// }
     /// ```
     pub fn arrive(&mut self, byte: u8, errors: LSR) -> Result<(), InputError>
-        ensures accepted { IsWithin errors.0 LSR.CHARACTER_ERRORS.0 → IsOk result × (self.new ≡ spec.bring byte errors.0 self.old) }
+        ensures accepted { IsWithin errors.0 LSR.CHARACTER_ERRORS.0 → IsOk result × (self.new ≡ spec.arrive_live byte errors.0 self.old) }
         ensures refused { bit_and errors.0 LSR.CHARACTER_ERRORS.0 ≢ errors.0 → (result ≡ Err InputError.BadErrors) × (self.new ≡ self.old) }
     {
         if errors.intersection(LSR::CHARACTER_ERRORS) != errors {
             return Err(InputError::BadErrors);
         }
-        self.uart.bring(byte, errors.bits());
+        self.uart.arrive_live(byte, errors.bits());
+        Ok(())
+    }
+
+    /// Receives a character as [`LiveChip::arrive`] does, but a reception timeout that is due stays due.
+    ///
+    /// It then stays due until the guest reads DATA, or writes FCR so that the FIFO is emptied, or a character comes back
+    /// in loopback. Only ISR and `is_interrupting` show the difference.
+    ///
+    /// # Errors
+    ///
+    /// `BadErrors` if `errors` has a bit other than parity, framing and break. Nothing changes then.
+    ///
+    /// # Examples
+    ///
+    /// ```
+    /// if chip.receive_room() > 0 {
+    ///     chip.arrive_holding_timeout(byte, LSR::empty())?;
+    /// }
+    /// ```
+    pub fn arrive_holding_timeout(&mut self, byte: u8, errors: LSR) -> Result<(), InputError>
+        ensures accepted { IsWithin errors.0 LSR.CHARACTER_ERRORS.0 → IsOk result × (self.new ≡ arrive_holding byte errors.0 self.old) }
+        ensures refused { bit_and errors.0 LSR.CHARACTER_ERRORS.0 ≢ errors.0 → (result ≡ Err InputError.BadErrors) × (self.new ≡ self.old) }
+    {
+        let is_due = self.uart.is_timed_out();
+        self.arrive(byte, errors)?;
+        if is_due {
+            self.uart.expire_timeout();
+        }
         Ok(())
     }
 

@@ -1,20 +1,23 @@
 //! A 16550 in software, runs of the driver over it, and scripts of such runs.
 //!
-//! - [`Device16550`] is a 16550A or 16450 under a schedule of ticks, arrivals and modem lines, as a backend of the
-//!   driver. Each register access first performs the scheduled events before it, and then has the effect that the
-//!   datasheet specifies.
+//! - [`Device16550`] is a 16550A or 16450 under a schedule of ticks, arrivals and modem lines, as a
+//!   backend of the driver. Each register access first performs the scheduled events before it, and
+//!   then has the effect that the datasheet specifies.
 //! - [`perform`] makes one [`Call`] of the driver over any backend, and returns its [`Answer`].
-//! - [`run`] makes a list of calls over such a device. Its contract has the theorems about driver and chip together.
-//! - [`run_ring`] makes a list of calls of the rings over such a device, and returns a [`RingAnswer`] for each
-//!   [`RingCall`]. Its contract has the theorem about rings, driver and chip together.
-//! - [`LiveChip`] is the same chip in the hands of its owner, without a schedule, and can be saved and restored.
+//! - [`run`] makes a list of calls over such a device. Its contract has the theorems about driver
+//!   and chip together.
+//! - [`run_ring`] makes a list of calls of the rings over such a device, and returns a
+//!   [`RingAnswer`] for each [`RingCall`]. Its contract has the theorem about rings, driver and
+//!   chip together.
+//! - [`LiveChip`] is the same chip without a schedule, driven by its owner, and can be saved
+//!   and restored.
 //! - [`script`] plays a script from a reader to a writer.
 //! - [`laws`] has what follows from these contracts.
 //!
-//! The chip is in the crate `uart_chip`, the device in `uart_device`, the live chip in `uart_live`, calls and
-//! answers in `uart_calls`, runs in `uart_run`, runs of the rings in `uart_ring_run`, the script language in
-//! `uart_language`, and the player of scripts in `uart_play`. This crate re-exports them, and has the tests that cross
-//! them.
+//! The chip is in the crate `uart_chip`, the device in `uart_device`, the live chip in `uart_live`,
+//! calls and answers in `uart_calls`, runs in `uart_run`, runs of the rings in `uart_ring_run`, the
+//! script language in `uart_language`, and the player of scripts in `uart_play`. This crate
+//! re-exports them, and has the tests that cross them.
 #![tactic(auto)]
 
 pub mod laws;

@@ -9,13 +9,37 @@ mod paths;
 mod rings;
 mod schedules;
 mod script;
+mod steps;
 
-use crate::{ArrivalMark, BuildError, Chip, Device16550, Event};
+use crate::{ArrivalMark, BuildError, Call, Chip, Device16550, Event};
 use std::test::Fail;
 use uart_16550::Uart16550;
 use uart_16550::backend::Backend;
 use uart_spec::Config;
 use uart_spec::registers::{FifoTriggerLevel, offsets};
+
+// The calls that take nothing, from the loopback test to the dump.
+const BARE_CALLS: [Call; 19] = [
+    Call::TestLoopback,
+    Call::CheckPresent,
+    Call::CheckConnected,
+    Call::ReadyToReceive,
+    Call::ReadyToSend,
+    Call::TryReceive,
+    Call::Flush,
+    Call::ReadReady,
+    Call::WriteReady,
+    Call::Ier,
+    Call::Isr,
+    Call::Lcr,
+    Call::Mcr,
+    Call::Lsr,
+    Call::Msr,
+    Call::Spr,
+    Call::DllDlm,
+    Call::FifoEnabled,
+    Call::Dump,
+];
 
 const DATA: u8 = offsets::DATA as u8;
 
@@ -50,7 +74,7 @@ fn fresh(rt: &HostRuntime) -> Result<Device16550, Fail> {
     machine(rt, Chip::Uart16550A, 4, 64, &[])
 }
 
-// A new driver over a machine to which nothing happens.
+// Returns a new driver over a machine to which nothing happens.
 fn new_driver(
     rt: &HostRuntime,
     chip: Chip,
@@ -60,7 +84,8 @@ fn new_driver(
     Ok(Uart16550::new_with_backend(machine))
 }
 
-// A driver that has initialised a machine to which nothing happens, with this level and the rest as by default.
+// Returns a driver that has initialised a machine to which nothing happens, with this level and the
+// rest as by default.
 fn initialised(
     rt: &HostRuntime,
     chip: Chip,

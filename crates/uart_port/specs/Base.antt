@@ -4,8 +4,8 @@ use Rattle.std.specs.Prelude.{nat_le, if◌then◌else◌, bytes_eq}
 use Rattle.std.specs.Option.{option_and_then}
 use Rattle.uart_spec.specs.declared.registers.offsets.TheConstants as offsets
 use Rattle.uart_16550.specs.Pio.{last_port}
-use Rattle.uart_program.specs.Numbers.{number_in}
-use Rattle.uart_program.specs.declared.numbers.TheConstants.{HEXADECIMAL}
+use Rattle.uart_command.specs.Numbers.{number_in}
+use Rattle.uart_command.specs.declared.numbers.TheConstants.{HEXADECIMAL}
 use Rattle.uart_port.specs.declared.end.End.{End}
 use Rattle.uart_port.specs.declared.end.End.TheVariants.{NotAPort, PortTooHigh}
 

@@ -1,8 +1,8 @@
 -- How the program ends.
 use Rattle.uart_language.specs.declared.cause.ScriptError.{ScriptError}
 use Rattle.uart_language.specs.declared.cause.ScriptError.TheVariants as script
-use Rattle.uart_program.specs.declared.status.Status.{Status}
-use Rattle.uart_program.specs.declared.status.Status.TheVariants as status
+use Rattle.uart_command.specs.declared.status.Status.{Status}
+use Rattle.uart_command.specs.declared.status.Status.TheVariants as status
 use Rattle.uart_port.specs.declared.end.End.{End}
 use Rattle.uart_port.specs.declared.end.End.TheVariants.{NotAPort, PortTooHigh, Unread, Refused, Event, NoDevice}
 use Rattle.uart_port.specs.declared.end.End.TheVariants.{NoPermission, Fault, Trace, Output, OutOfMemory}

@@ -42,6 +42,10 @@ if_driven call text = if is_driven call then text else []
 abbrev pub output_of : {W : Type 0} → Trace W → W
 output_of trace = trace.output
 
+-- the bytes of the output of a trace grow by exactly this text, if they are known
+abbrev pub Grows : {W : Type 0} → (W → Option (List ℕ)) → Trace W → Trace W → List ℕ → Type 0
+Grows contents old new text = Appends (contents (output_of old)) (contents (output_of new)) text
+
 -- the bytes of the output of a trace, if there is one and they are known
 abbrev pub traced : {W : Type 0} → (W → Option (List ℕ)) → Option (Trace W) → Option (List ℕ)
 traced contents trace = option_and_then (λ t. contents (output_of t)) trace

@@ -7,7 +7,7 @@ use crate::base::base_in;
 use crate::end::End;
 use clap::{Arg, ArgMatches, Command, Error};
 use std::alloc::Global;
-use uart_program::STATUSES;
+use uart_command::STATUSES;
 
 const ABOUT: &str = "\
 Plays a script's calls on the 16550 at an I/O port, and prints each answer.
@@ -74,7 +74,8 @@ impl<'a> Arguments<'a> {
     ///
     /// # Errors
     ///
-    /// `NotAPort` or `PortTooHigh` if the word for the port is not a port at which a chip can begin.
+    /// `NotAPort` or `PortTooHigh` if the word for the port is not a port at which a chip can
+    /// begin.
     pub fn new(matches: &ArgMatches<'a>) -> Result<Self, End>
         ensures ok { IfOk result (AreArguments matches.now) }
         ensures refused { IfErr result (λ end. base_for matches.now ≡ Err end) }

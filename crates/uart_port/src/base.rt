@@ -5,7 +5,7 @@ ghost use Rattle.uart_16550.specs.Pio.{IsPortBase};
 ghost use Rattle.uart_port.specs.Base.{without_prefix, port_numbered, base_in};
 
 use crate::end::End;
-use uart_program::{HEXADECIMAL, number_in};
+use uart_command::{HEXADECIMAL, number_in};
 use uart_spec::registers::offsets;
 
 // The last port at which a chip can begin.
@@ -29,7 +29,8 @@ fn port_numbered(digits: &str) -> Option<u16>
 ///
 /// # Errors
 ///
-/// `NotAPort` if the word names no port, and `PortTooHigh` if the last register would be beyond the last port.
+/// `NotAPort` if the word names no port, and `PortTooHigh` if the last register would be beyond the
+/// last port.
 pub fn base_in(word: &str) -> Result<u16, End>
     ensures value { result ≡ base_in word.now }
     ensures in_range { IfOk result IsPortBase }

@@ -9,8 +9,8 @@ use std::alloc::AllocError;
 use std::io;
 use std::io::ErrorKind;
 use thiserror::Error;
+use uart_command::Status;
 use uart_language::{Cause, ScriptError};
-use uart_program::Status;
 
 /// Why a script was not played to its end.
 #[derive(Clone, Copy, Debug, Drop, Error)]
@@ -24,7 +24,8 @@ pub enum End {
     /// The script could not be read.
     #[error("the script cannot be read: {0}")]
     Unread(io::Error),
-    /// The script is refused: its first faulty line, and what is wrong with it; line 0 if there are too many bytes.
+    /// The script is refused: its first faulty line, and what is wrong with it; line 0 if there are
+    /// too many bytes.
     #[error("line {line}: {}", .cause.text())]
     Refused { line: u32, cause: Cause },
     /// The script has an event, and this is the first line with one.
@@ -34,7 +35,8 @@ pub enum End {
     #[error("the device cannot be opened: {0}")]
     NoDevice(io::Error),
     /// There is no permission to open the file of ports.
-    #[error("no permission to open the device: {0}; you need root, and a kernel that is not locked down")]
+    #[error("no permission to open the device: {0}; \
+        you need root, and a kernel that is not locked down")]
     NoPermission(io::Error),
     /// An access to this port failed.
     #[error("port {port:x}: {cause}")]
@@ -92,8 +94,10 @@ impl End {
 
     /// Returns why the device could not be opened.
     pub fn unopened(cause: io::Error) -> Self
-        ensures permission { error_kind cause ≡ ErrorKind.PermissionDenied → result ≡ End.NoPermission cause }
-        ensures other { error_kind cause ≢ ErrorKind.PermissionDenied → result ≡ End.NoDevice cause }
+        ensures permission { error_kind cause ≡ ErrorKind.PermissionDenied →
+            result ≡ End.NoPermission cause }
+        ensures other { error_kind cause ≢ ErrorKind.PermissionDenied →
+            result ≡ End.NoDevice cause }
     {
         match cause.kind() {
             ErrorKind::PermissionDenied => End::NoPermission(cause),

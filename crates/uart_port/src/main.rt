@@ -33,9 +33,9 @@ use std::process::ExitCode;
 use trace::Trace;
 use uart_16550::backend::PioBackend;
 use uart_16550::{Uart16550, Uart16550Tty};
+use uart_command::{bytes_of, failed, unmatched, words};
 use uart_language::limits::MOST_BYTES;
 use uart_language::{Script, parse};
-use uart_program::{bytes_of, failed, unmatched, words};
 
 // The most bytes of a script that are read: one more than the longest has.
 const MOST_READ: u64 = MOST_BYTES as u64 + 1;
@@ -55,7 +55,7 @@ fn script_in(alloc: Global, text: &[u8]) -> Result<Script, End>
     }
 }
 
-// The file of ports.
+// Opens the file of ports.
 fn device_at(rt: &HostRuntime, path: &str) -> Result<File, End> {
     File::options()
         .read(true)

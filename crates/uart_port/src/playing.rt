@@ -51,7 +51,8 @@ impl<W: Write, T: Write> Journal<W, T> {
     // Writes that this call is made, as its line of the script.
     fn call(&mut self, call: &Call, text: &[u8]) -> Result<(), End>
         ensures writer { writer_of self.new ≡ writer_of self.old }
-        ensures trace { OnOk result (Appends (traced_by T.contents self.old) (traced_by T.contents self.new)
+        ensures trace { OnOk result
+            (Appends (traced_by T.contents self.old) (traced_by T.contents self.new)
             (if_driven call.now (line text.now))) }
     {
         match &mut self.trace {
@@ -63,8 +64,10 @@ impl<W: Write, T: Write> Journal<W, T> {
     // Prints the answer of this call, which has returned.
     fn answer(&mut self, call: &Call, answer: &Answer) -> Result<(), End>
         ensures printed { OnOk result
-            (Appends (W.contents (writer_of self.old)) (W.contents (writer_of self.new)) (line (answer_text answer.now))) }
-        ensures trace { OnOk result (Appends (traced_by T.contents self.old) (traced_by T.contents self.new)
+            (Appends (W.contents (writer_of self.old)) (W.contents (writer_of self.new))
+            (line (answer_text answer.now))) }
+        ensures trace { OnOk result
+            (Appends (traced_by T.contents self.old) (traced_by T.contents self.new)
             (if_driven call.now (answer_line (answer_text answer.now)))) }
     {
         let mut text = Vec::new(self.alloc);
@@ -78,10 +81,11 @@ impl<W: Write, T: Write> Journal<W, T> {
     }
 }
 
-/// Makes the calls in turn and prints each answer when the call has returned, up to the first fault.
+/// Makes the calls in turn and prints each answer when the call has returned, up to the first
+/// fault.
 ///
-/// The call with the fault has no answer, and no call after it is made; the access object has the fault. The line of each
-/// call is for the trace.
+/// The call with the fault has no answer, and no call after it is made; the access object has the
+/// fault. The line of each call is for the trace.
 ///
 /// # Errors
 ///
@@ -94,7 +98,8 @@ pub fn play<F: PortFile, W: Write, T: Write>(
 ) -> Result<(), End>
     requires { All IsRunnable calls.now }
     ensures { OnOk result
-        (IsPlayed F.step uart.old calls.now (W.contents (writer_of journal.old)) (W.contents (writer_of journal.new)) uart.new) }
+        (IsPlayed F.step uart.old calls.now (W.contents (writer_of journal.old))
+        (W.contents (writer_of journal.new)) uart.new) }
 {
     for i in 0..calls.len() {
         let call = &calls[i];

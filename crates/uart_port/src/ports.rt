@@ -11,7 +11,8 @@ pub const FLOATING: u8 = 0xff;
 
 /// A file that has a byte for each I/O port, as Linux shows them in `/dev/port`.
 ///
-/// An implementation defines a step relation: which attempts at a port lead from which state to which state.
+/// An implementation defines a step relation: which attempts at a port lead from which state to
+/// which state.
 pub trait PortFile {
     // This attempt may lead from the first state to the second.
     ghost step: { Self → Attempt → Self → Type 0 };
@@ -36,7 +37,8 @@ pub struct Fault {
 
 /// Access to the ports of a file, until an access fails.
 ///
-/// A backend returns no error, so the first fault is kept. After it no access is made, and each read returns [`FLOATING`].
+/// A backend returns no error, so the first fault is kept. After it no access is made, and each
+/// read returns [`FLOATING`].
 #[derive(Drop)]
 pub struct GuardedPorts<F> {
     file: F,

@@ -12,7 +12,7 @@ use std::{fs, io, process};
 use uart_16550::backend::PortAccess;
 use uart_language::Cause;
 
-// A file of this test run.
+// Returns the name of a file of this test run.
 fn path(rt: &HostRuntime, name: &str) -> io::Result<String> {
     let process = process::id(rt.process());
     Ok(format!(in rt.alloc(); "/tmp/uart_port-{process}-{name}")?)
@@ -136,7 +136,8 @@ fn each_end_has_its_line_and_status(rt: HostRuntime) -> Result<(), Fail> {
         ),
         (
             End::unopened(denied),
-            "no permission to open the device: Permission denied (os error 13); you need root, and a kernel that is not locked down",
+            "no permission to open the device: Permission denied (os error 13); \
+            you need root, and a kernel that is not locked down",
             4,
         ),
     ];

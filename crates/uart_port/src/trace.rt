@@ -2,10 +2,9 @@
 
 ghost use Rattle.std.specs.Prelude.{◌≡◌, ◌<◌, ◌++◌, OnOk, codes};
 ghost use Rattle.std.specs.Int.NonZero.{non_zero_u64_get};
-ghost use Rattle.std.specs.Io.KnownBytes.{Appends};
 ghost use Rattle.uart_spec.specs.Access.{Read, Write as WriteAccess};
 ghost use Rattle.uart_language.specs.Output.{line};
-ghost use Rattle.uart_port.specs.Trace.{lettered, access_line, answer_line, output_of};
+ghost use Rattle.uart_port.specs.Trace.{Grows, lettered, access_line, answer_line, output_of};
 
 use std::io;
 use std::io::Write;
@@ -41,7 +40,7 @@ impl<W: Write> Trace<W> {
 
     /// Writes that a call is made, as its line of the script.
     pub fn call(&mut self, text: &[u8]) -> io::Result<()>
-        ensures { OnOk result (Appends (W.contents (output_of self.old)) (W.contents (output_of self.new)) (line text.now)) }
+        ensures { OnOk result (Grows W.contents self.old self.new (line text.now)) }
     {
         self.output.write_all(text)?;
         self.output.write_all(b"\n")
@@ -51,7 +50,7 @@ impl<W: Write> Trace<W> {
     pub fn read(&mut self, offset: u8, answer: u8) -> io::Result<()>
         requires { offset < 8 }
         ensures { OnOk result
-            (Appends (W.contents (output_of self.old)) (W.contents (output_of self.new)) (access_line (Read offset answer))) }
+            (Grows W.contents self.old self.new (access_line (Read offset answer))) }
     {
         self.output.write_all(&lettered(b'r', offset, answer))
     }
@@ -60,14 +59,14 @@ impl<W: Write> Trace<W> {
     pub fn write(&mut self, offset: u8, value: u8) -> io::Result<()>
         requires { offset < 8 }
         ensures { OnOk result
-            (Appends (W.contents (output_of self.old)) (W.contents (output_of self.new)) (access_line (WriteAccess offset value))) }
+            (Grows W.contents self.old self.new (access_line (WriteAccess offset value))) }
     {
         self.output.write_all(&lettered(b'w', offset, value))
     }
 
     /// Writes that the call returned, with its answer as it is printed.
     pub fn answer(&mut self, text: &[u8]) -> io::Result<()>
-        ensures { OnOk result (Appends (W.contents (output_of self.old)) (W.contents (output_of self.new)) (answer_line text.now)) }
+        ensures { OnOk result (Grows W.contents self.old self.new (answer_line text.now)) }
     {
         self.output.write_all(b"= ")?;
         self.output.write_all(text)?;
@@ -75,7 +74,7 @@ impl<W: Write> Trace<W> {
     }
 }
 
-// A letter, an offset and a byte, as the line of an access.
+// Returns a letter, an offset and a byte as the line of an access.
 fn lettered(letter: u8, offset: u8, byte: u8) -> [u8; ACCESS_LINE]
     requires { offset < 8 }
     ensures { result ≡ lettered letter offset byte }

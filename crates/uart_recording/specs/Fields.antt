@@ -1,24 +1,18 @@
 -- What a field of a line of a recording means, or what is wrong with it.
-use Rattle.std.specs.Prelude.{ℕ, ◌+◌, ◌*◌, ◌-◌, ◌^◌, Bool, true, false, List, [], ◌∷◌, length, drop, Option, Some, None}
-use Rattle.std.specs.Prelude.{Result, Ok, Err, ◌==◌, ◌&&◌, nat_le, nat_lt, if◌then◌else◌, bit_and, bytes_eq, codes}
-use Rattle.std.specs.Char.{is_ascii_digit}
-use Rattle.std.specs.List.{list_all, before_first, position_or_len}
-use Rattle.std.specs.Str.Parse.{digits_value}
-use Rattle.uart_language.specs.Fields.{◌>>=◌, byte_in}
+use Rattle.std.specs.Prelude.{ℕ, ◌+◌, ◌*◌, ◌-◌, ◌^◌, Bool, true, false, List, [], ◌∷◌, drop, Option, Some, None}
+use Rattle.std.specs.Prelude.{Result, Ok, Err, ◌==◌, ◌&&◌, nat_lt, if◌then◌else◌, bit_and, bytes_eq, codes}
+use Rattle.std.specs.List.{before_first, position_or_len}
+use Rattle.uart_language.specs.Fields.{◌>>=◌, byte_in, number_of}
 use Rattle.uart_language.specs.declared.cause.Cause.{Cause}
 use Rattle.uart_language.specs.declared.cause.Cause.TheVariants.{BadNumber, BadHex}
 use Rattle.uart_recording.specs.declared.fields.TheConstants.{SECOND, MICROSECOND, MOST_MICROSECONDS}
-use Rattle.uart_recording.specs.declared.limits.TheConstants.{MOST_DIGITS, MOST_REPEATS, MOST_SECONDS}
+use Rattle.uart_language.specs.declared.limits.TheConstants.{MOST_DIGITS}
+use Rattle.uart_recording.specs.declared.limits.TheConstants.{MOST_REPEATS, MOST_SECONDS}
 use Rattle.uart_spec.specs.declared.baud.TheConstants.{NUM_REGISTERS}
 
--- 1 to 19 decimal digits
-abbrev pub is_number : List ℕ → Bool
-is_number word = nat_le 1 (length word) && nat_le (length word) MOST_DIGITS && list_all is_ascii_digit word
-
--- a number up to most
-unfoldable pub number_in : ℕ → List ℕ → Result ℕ Cause
-number_in most word =
-    if is_number word && nat_le (digits_value 10 word) most then Ok (digits_value 10 word) else Err BadNumber
+-- a number up to most, of at most 19 digits
+abbrev pub number_in : ℕ → List ℕ → Result ℕ Cause
+number_in most word = number_of MOST_DIGITS 0 most word
 
 -- N of `x`: how often a read is repeated
 abbrev pub repeats_in : List ℕ → Result ℕ Cause

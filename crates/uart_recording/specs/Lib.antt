@@ -3,3 +3,4 @@ pub mod Fields
 pub mod Lines
 pub mod Places
 pub mod Windows
+pub mod Streams

@@ -13,7 +13,6 @@ use Rattle.uart_recording.specs.Fields.{after, before, bits_in, level_in, log_by
 use Rattle.uart_recording.specs.Fields.{repeats_in, time_in}
 use Rattle.uart_recording.specs.declared.cause.Fault.{Fault}
 use Rattle.uart_recording.specs.declared.cause.Fault.TheVariants as fault
-use Rattle.uart_recording.specs.declared.event.Event.{Event}
 use Rattle.uart_recording.specs.declared.event.Happening.{Happening}
 use Rattle.uart_recording.specs.declared.event.Happening.TheVariants as happening
 use Rattle.uart_recording.specs.declared.limits.TheConstants.{MOST_LINE_BYTES}

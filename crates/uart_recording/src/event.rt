@@ -53,8 +53,8 @@ impl fmt::Display for Happening {
     }
 }
 
-/// Writes the line of a recording that means this event, in the project's own format. A read that is not made once is
-/// written as a repeat, which means the same behind the event that it repeats.
+/// Writes the line of a recording that means this event, in the project's own format. A read that
+/// is not made once is written as a repeat, which means the same behind the event that it repeats.
 impl fmt::Display for Event {
     fn fmt<W: fmt::Write>(&self, f: &mut fmt::Formatter<W>) -> fmt::Result {
         if self.times != 1 {

@@ -1,14 +1,13 @@
 //! Reads the fields of a line.
-ghost use Rattle.std.specs.Prelude.{◌≡◌, ◌==◌, ◌<◌, ◌≤◌, IfOk, IsTrue, length};
-ghost use Rattle.std.specs.Char.{digit_value, is_ascii_digit};
-ghost use Rattle.std.specs.List.{list_all, position_or_len};
-ghost use Rattle.std.specs.Str.Parse.{digits_value};
+ghost use Rattle.std.specs.Prelude.{◌≡◌, ◌==◌, ◌<◌, ◌≤◌, IfOk, length};
+ghost use Rattle.std.specs.List.{position_or_len};
 ghost use Rattle.uart_chip.specs.Masks.{IsWithin};
-ghost use Rattle.uart_recording.specs.Fields.{bits_in, is_number, level_in, log_byte_in, log_offset_in, log_time_in, number_in};
+ghost use Rattle.uart_recording.specs.Fields.{bits_in, level_in, log_byte_in, log_offset_in, log_time_in, number_in};
 ghost use Rattle.uart_recording.specs.Fields.{after, before, repeats_in, time_in, time_of};
 
-use crate::limits::{MOST_DIGITS, MOST_REPEATS, MOST_SECONDS};
-use uart_language::{Cause, byte_in};
+use crate::limits::{MOST_REPEATS, MOST_SECONDS};
+use uart_language::limits::MOST_DIGITS;
+use uart_language::{Cause, byte_in, number_of};
 use uart_spec::NUM_REGISTERS;
 
 /// The nanoseconds of a second.
@@ -20,56 +19,12 @@ pub const MICROSECOND: u64 = 1_000;
 /// The most microseconds that QEMU's log writes behind the seconds.
 pub const MOST_MICROSECONDS: u64 = 999_999;
 
-// Returns whether a word has 1 to `MOST_DIGITS` decimal digits and nothing else.
-fn is_number(word: &[u8]) -> bool
-    ensures { result ≡ is_number word.now }
-{
-    !word.is_empty() && word.len() <= MOST_DIGITS && all_decimal(word)
-}
-
-fn all_decimal(word: &[u8]) -> bool
-    ensures { result ≡ list_all is_ascii_digit word.now }
-{
-    word.iter().all(|digit| digit.is_ascii_digit())
-}
-
-// Returns the value of a decimal digit.
-fn decimal_digit(digit: u8) -> u8
-    requires { IsTrue (is_ascii_digit digit) }
-    ensures value { result ≡ digit_value digit }
-    ensures small { result < 10 }
-{
-    digit - b'0'
-}
-
-// Returns the number that is written in decimal digits.
-fn decimal(word: &[u8]) -> u64
-    requires digits { IsTrue (list_all is_ascii_digit word.now) }
-    requires short { length word.now ≤ MOST_DIGITS }
-    ensures { result ≡ digits_value 10 word.now }
-{
-    let mut value = 0u64;
-    for digit in word {
-        value = value * 10 + u64::from(decimal_digit(*digit));
-    }
-    value
-}
-
 // Reads a number up to `most`.
-#[tactic(auto, unfolding(crate::specs::Fields::number_in))]
 fn number_in(most: u64, word: &[u8]) -> Result<u64, Cause>
     ensures value { result ≡ number_in most word.now }
     ensures range { IfOk result (λ n. n ≤ most) }
 {
-    if !is_number(word) {
-        return Err(Cause::BadNumber);
-    }
-    let value = decimal(word);
-    if value <= most {
-        Ok(value)
-    } else {
-        Err(Cause::BadNumber)
-    }
+    number_of(MOST_DIGITS, 0, most, word)
 }
 
 /// Reads how often a read is repeated.
@@ -169,7 +124,8 @@ pub fn after(byte: u8, word: &[u8]) -> &[u8]
     }
 }
 
-/// Reads the time in front of a line of QEMU's log, as in `1234@1699999999.123456`. Returns nanoseconds.
+/// Reads the time in front of a line of QEMU's log, as in `1234@1699999999.123456`. Returns
+/// nanoseconds.
 #[tactic(auto, unfolding(crate::specs::Fields::log_time_in))]
 pub fn log_time_in(word: &[u8]) -> Result<u64, Cause>
     ensures { result ≡ log_time_in word.now }

@@ -16,8 +16,8 @@ pub struct Place {
     pub last: Option<Event>,
 }
 
-// Returns a read so many times more, at the line with this number, or `None` if what happened is no read. A repeat says
-// nothing about time and level.
+// Returns a read so many times more, at the line with this number, or `None` if what happened is no
+// read. A repeat says nothing about time and level.
 fn repeated(event: Event, line: u64, times: u64) -> Option<Event>
     ensures { result ≡ repeated event line times }
 {
@@ -44,8 +44,8 @@ impl Place {
         }
     }
 
-    /// Reads the next line. Returns what happened there, if something did: a line that repeats a read is that read, so
-    /// many times.
+    /// Reads the next line. Returns what happened there, if something did: a line that repeats a
+    /// read is that read, so many times.
     ///
     /// # Errors
     ///

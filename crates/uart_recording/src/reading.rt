@@ -1,12 +1,15 @@
 //! A recording that is read as a stream.
-ghost use Rattle.std.specs.Prelude.{◌≡◌, ◌≤◌, IfErr, IfOk, IfSome, length};
+ghost use Rattle.std.specs.Prelude.{◌≡◌, ◌==◌, ◌≤◌, [], IfErr, IfOk};
+ghost use Rattle.std.specs.Io.KnownBytes.{Keeps};
+ghost use Rattle.std.specs.List.{position};
 ghost use Rattle.uart_recording.specs.Places.{IsAtLine};
+ghost use Rattle.uart_recording.specs.Streams.{IsFilled, IsNext, ahead};
 ghost use Rattle.uart_recording.specs.Windows.{items};
 
 use crate::cause::Fault;
 use crate::event::Event;
 use crate::place::Place;
-use crate::window::Window;
+use crate::window::{WINDOW_BYTES, Window};
 use std::alloc::{AllocError, Global};
 use std::io;
 use std::io::{ErrorKind, Read};
@@ -47,7 +50,7 @@ pub struct Recording<R> {
 
 // Returns how long the first line is, if its end is among these bytes.
 fn line_length(bytes: &[u8]) -> Option<usize>
-    ensures { IfSome result (λ count. count ≤ length bytes.now) }
+    ensures { result ≡ position (λ b. b == 10) bytes.now }
 {
     bytes.iter().position(|byte| *byte == b'\n')
 }
@@ -59,7 +62,10 @@ impl<R: Read + Drop> Recording<R> {
     ///
     /// `AllocError` if out of memory.
     pub fn new(alloc: Global, reader: R) -> Result<Self, AllocError>
-        ensures { IfOk result (λ recording. recording.place.number ≡ 0) }
+        ensures first { IfOk result (λ recording.
+            (recording.place.number ≡ 0) × (recording.place.last ≡ None)) }
+        ensures bytes { IfOk result (λ recording. recording.reader ≡ reader) }
+        ensures window { IfOk result (λ recording. items recording.window ≡ []) }
     {
         Ok(Recording {
             reader,
@@ -75,10 +81,14 @@ impl<R: Read + Drop> Recording<R> {
         self.place.number
     }
 
-    // Reads until a whole line is in the window, and returns how long it is. `None` if no byte is left.
+    // Reads until a whole line is in the window, or as much of it as there is room for, and returns
+    // how long that is. `None` if no byte is left.
     fn fill_line(&mut self) -> io::Result<Option<usize>>
-        ensures within { IfOk result (λ found. IfSome found (λ count. count ≤ length (items self.new.window))) }
         ensures place { self.new.place ≡ self.old.place }
+        ensures kept { Keeps (ahead self.old.window (R.remaining self.old.reader))
+            (ahead self.new.window (R.remaining self.new.reader)) }
+        ensures filled { IfOk result (λ found.
+            IsFilled found (items self.new.window) (R.remaining self.new.reader)) }
     {
         'fills: for _ in 0..u64::MAX {
             if let Some(length) = line_length(self.window.as_slice()) {
@@ -86,28 +96,33 @@ impl<R: Read + Drop> Recording<R> {
             }
             self.window.move_to_front();
             if self.window.is_full() {
-                break;
+                return Ok(Some(WINDOW_BYTES));
             }
             match self.window.read_from(&mut self.reader) {
-                Ok(0) => break,
+                Ok(0) => {
+                    return match self.window.as_slice().len() {
+                        0 => Ok(None),
+                        length => Ok(Some(length)),
+                    };
+                }
                 Ok(_) => {}
                 Err(error) if error.kind() == ErrorKind::Interrupted => {}
                 Err(error) => return Err(error),
             }
         }
-        match self.window.as_slice().len() {
-            0 => Ok(None),
-            length => Ok(Some(length)),
-        }
+        Err(io::Error::from(ErrorKind::Interrupted))
     }
 
     /// Returns the next event, or `None` at the end. A line that repeats a read is one event.
     ///
     /// # Errors
     ///
-    /// - `Faulty` with the number of the first line that is no line of a recording, and what is wrong with it.
+    /// - `Faulty` with the number of the first line that is no line of a recording, and what is
+    /// wrong with it.
     /// - `Unread` if the reader failed.
     pub fn next_event(&mut self) -> Result<Option<Event>, RecordingError>
+        ensures next { IsNext self.old.place (ahead self.old.window (R.remaining self.old.reader))
+            result self.new.place (ahead self.new.window (R.remaining self.new.reader)) }
         ensures line { IfErr result (IsAtLine self.new.place.number) }
         ensures onward { self.old.place.number ≤ self.new.place.number }
     {

@@ -1,5 +1,5 @@
 //! The bytes that were read from a reader and are not used yet.
-ghost use Rattle.std.specs.Prelude.{◌≡◌, ◌≤◌, ◌+◌, [], length, drop, IfOk, OnErr};
+ghost use Rattle.std.specs.Prelude.{◌≡◌, ◌==◌, ◌<◌, ◌≤◌, ◌+◌, [], length, drop, IfOk, OnErr};
 ghost use Rattle.uart_recording.specs.declared.window.TheConstants.{WINDOW_BYTES};
 
 use crate::limits::MOST_LINE_BYTES;
@@ -8,7 +8,7 @@ use std::io;
 use std::io::Read;
 
 /// The most bytes that are read ahead: a line of the most bytes, and its end.
-const WINDOW_BYTES: usize = MOST_LINE_BYTES + 1;
+pub(crate) const WINDOW_BYTES: usize = MOST_LINE_BYTES + 1;
 
 /// The bytes that were read and are not used yet, which are those from `start` to `end`.
 #[derive(Drop)]
@@ -22,6 +22,8 @@ pub(crate) struct Window {
 }
 
 impl Window {
+    ghost use Rattle.std.specs.Io.KnownBytes.{IsAtEnd, Keeps};
+    ghost use Rattle.uart_recording.specs.Streams.{ahead};
     ghost use Rattle.uart_recording.specs.Windows.{items, room};
 
     /// Returns a window without bytes. Allocates all of its memory.
@@ -44,7 +46,9 @@ impl Window {
     }
 
     /// Returns whether there is no room for more bytes, once those that are left are at the front.
-    pub(crate) fn is_full(&self) -> bool {
+    pub(crate) fn is_full(&self) -> bool
+        ensures { result ≡ (length (items self.now) == WINDOW_BYTES) }
+    {
         self.end - self.start == WINDOW_BYTES
     }
 
@@ -66,15 +70,18 @@ impl Window {
         self.end = end - start;
     }
 
-    /// Reads more bytes behind those that are there. Returns how many.
+    /// Reads more bytes behind those that are there. Returns how many: none only if the reader has
+    /// none left, or if there is no room.
     ///
     /// # Errors
     ///
-    /// The error of the reader. Nothing changes then.
+    /// The error of the reader. The bytes stay as they are.
     pub(crate) fn read_from<R: Read>(&mut self, reader: &mut R) -> io::Result<usize>
-        ensures start { self.new.start ≡ self.old.start }
-        ensures more { IfOk result (λ count. self.new.end ≡ self.old.end + count) }
-        ensures rest { OnErr result (self.new.end ≡ self.old.end) }
+        ensures kept { Keeps (ahead self.old (R.remaining reader.old))
+            (ahead self.new (R.remaining reader.new)) }
+        ensures items { OnErr result (items self.new ≡ items self.old) }
+        ensures end { IfOk result (λ count. count ≡ 0 → 0 < room self.old →
+            (items self.new ≡ items self.old) × IsAtEnd (R.remaining reader.new)) }
     {
         let end = self.end;
         let count = reader.read(&mut self.bytes[end..])?;

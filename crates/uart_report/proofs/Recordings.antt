@@ -1,13 +1,14 @@
 -- Runs over the recorder, call by call.
 use Rattle.std.proofs.Common.{◌≡◌, ◌≢◌, ℕ, ◌+◌, ◌≤◌, ◌<◌, Bool, true, false, not, refl, sym, ◌∙◌, ap}
 use Rattle.std.proofs.Common.{List, [], ◌∷◌, ◌++◌, length, take, get_or, map}
-use Rattle.std.proofs.lemmas.List.{take_more, take_all, map-append}
+use Rattle.std.proofs.lemmas.List.{take_more, take_all}
 use Rattle.uart_calls.specs.declared.call.Answer.{Answer}
 use Rattle.uart_calls.specs.declared.call.Call.{Call}
 use Rattle.uart_calls.specs.declared.call.Call.TheVariants as call
 use Rattle.uart_calls.specs.Meaning.{Performed}
 use Rattle.uart_chip.specs.Machine.{MachineStep}
 use Rattle.uart_language.specs.Sayings.{plain}
+use Rattle.uart_run.proofs.Chains.{run_more, run_nothing}
 use Rattle.uart_run.specs.Chains.{LinkOf, ChainOf, RunOf, calls_of, answers_of}
 use Rattle.uart_report.specs.Recorder.{RecordsStep}
 use Rattle.uart_report.specs.Run.{State, recorder_of, IsMade, CallStep}
@@ -18,31 +19,15 @@ pub driver_made : (s t : State) (c : Call) (answer : Answer) → c ≢ call.Next
 driver_made s t call.Next answer other h = absurd (other refl)
 driver_made s t c answer other h = (answer, h)
 
-chain_more : (s t u : State) (links : List (LinkOf State Call ℕ)) (c : Call) (end : ℕ) → ChainOf CallStep s links t →
-    CallStep t c end u → ChainOf CallStep s (links ++ record { before = t; call = c; answer = end; after = u } ∷ []) u
-chain_more s t u [] c end h k = (h, k, refl)
-chain_more s t u (l ∷ ls) c end h k = (h.0, h.1, chain_more l.after t u ls c end h.2 k)
-
-run_more : (s t u : State) (calls : List Call) (ends : List ℕ) (c : Call) (end : ℕ) → RunOf CallStep s calls ends t →
-    CallStep t c end u → RunOf CallStep s (calls ++ c ∷ []) (ends ++ end ∷ []) u
-run_more s t u calls ends c end r h =
-    let last : LinkOf State Call ℕ = record { before = t; call = c; answer = end; after = u } in
-    record {
-      links = r.links ++ last ∷ [];
-      chain = chain_more s t u r.links c end r.chain h;
-      calls_same = map-append (λ (l : LinkOf State Call ℕ). l.call) r.links (last ∷ []) ∙ ap (λ xs. xs ++ c ∷ []) r.calls_same;
-      answers_same = map-append (λ (l : LinkOf State Call ℕ). l.answer) r.links (last ∷ []) ∙ ap (λ xs. xs ++ end ∷ []) r.answers_same;
-    }
-
 pub none_made : (s : State) (ends : List ℕ) → ends ≡ [] → RunOf CallStep s [] ends s
-none_made s ends is = record { links = []; chain = refl; calls_same = refl; answers_same = sym is }
+none_made s ends is = rw is (run_nothing CallStep s)
 
 -- the next call, and how many accesses there are after it
 pub made_more : (s t u : State) (calls : List Call) (ends after : List ℕ) (i : ℕ) (c : Call) → i < length calls → c ≡ get_or calls i c →
     RunOf CallStep s (take i calls) ends t → IsMade t c u → after ≡ ends ++ length (recorder_of u).entries ∷ [] →
     RunOf CallStep s (take (i + 1) calls) after u
 made_more s t u calls ends after i c h e r made is =
-    rw (is, take_more calls i c h, ← e) (run_more s t u (take i calls) ends c (length (recorder_of u).entries) r (made, refl))
+    rw (is, take_more calls i c h, ← e) (run_more CallStep s t u (take i calls) ends c (length (recorder_of u).entries) r (made, refl))
 
 -- no call is left
 pub all_made : (s t : State) (calls : List Call) (ends : List ℕ) (i : ℕ) → length calls ≤ i → RunOf CallStep s (take i calls) ends t →

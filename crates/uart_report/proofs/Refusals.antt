@@ -6,8 +6,8 @@ use Rattle.uart_language.specs.declared.cause.ScriptError.{ScriptError}
 use Rattle.uart_language.specs.declared.cause.ScriptError.TheVariants as errors
 use Rattle.uart_report.specs.Report.{IsRefused}
 use Rattle.uart_report.specs.declared.reporting.Report.{Report}
-use Rattle.uart_report.specs.declared.request.Task.{Task}
-use Rattle.uart_report.specs.declared.request.Task.TheVariants as task
+use Rattle.uart_command.specs.declared.request.Task.{Task}
+use Rattle.uart_command.specs.declared.request.Task.TheVariants as task
 
 pub refused_report : {E : Type 0} (wanted : Task) (text : List ℕ) (error : ScriptError) (result : Result Report E)
     → ((line : ℕ) (cause : Cause) → error ≡ errors.Refused line cause → IsFaulty text line cause)

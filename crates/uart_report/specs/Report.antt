@@ -7,8 +7,8 @@ use Rattle.uart_language.specs.declared.cause.Cause.{Cause}
 use Rattle.uart_play.specs.Play.{IsPlayed}
 use Rattle.uart_report.specs.Trace.{CallTold, AreTold, call_said, text_said}
 use Rattle.uart_report.specs.declared.reporting.Report.{Report}
-use Rattle.uart_report.specs.declared.request.Task.{Task}
-use Rattle.uart_report.specs.declared.request.Task.TheVariants as task
+use Rattle.uart_command.specs.declared.request.Task.{Task}
+use Rattle.uart_command.specs.declared.request.Task.TheVariants as task
 
 -- the bytes are what `uart_script` prints for the script: its calls ran, and their answers and the last state of the
 -- machine were printed

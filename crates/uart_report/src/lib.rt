@@ -4,8 +4,10 @@
 //! Everything here goes from bytes to text. The program reads the file and prints.
 #![tactic(auto)]
 
+mod boxes;
 mod by_call;
 mod comments;
+mod excerpt;
 mod fault;
 mod grammar;
 mod history;
@@ -22,6 +24,7 @@ mod trace;
 mod written;
 
 pub use comments::{MOST_READ, plain, without_comments};
+pub use excerpt::{Excerpt, ExcerptError, MOST_EVENTS, USUAL_EVENTS, timeline_of};
 pub use recording::Recorder;
 pub use reporting::{Report, report_on};
-pub use request::{Form, Request, Task};
+pub use request::Request;

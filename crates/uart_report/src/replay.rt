@@ -60,22 +60,33 @@ pub struct Happened {
     pub lines: Option<u8>,
     /// The access.
     pub access: Option<Seen>,
+    /// The new level of the interrupt line. Only a recording says so.
+    pub interrupt: Option<bool>,
+    /// Whether the audit of a recording warns of it.
+    pub is_wrong: bool,
 }
 
 impl Happened {
-    /// Returns whether nothing but the access happened.
-    pub fn is_access_alone(&self) -> bool {
-        self.access.is_some()
-            && self.sent.is_none()
+    /// Returns whether nothing but a read happened.
+    pub fn is_read_alone(&self) -> bool {
+        matches!(
+            self.access,
+            Some(Seen {
+                access: Entry::Read(_, _),
+                ..
+            })
+        ) && self.sent.is_none()
             && self.arrival.is_none()
             && self.lines.is_none()
+            && self.interrupt.is_none()
+            && !self.is_wrong
     }
 }
 
-/// A tick at which something happened.
+/// A tick of a run at which something happened, or a line of a recording.
 #[derive(Clone, Copy, Default)]
 pub struct Moment {
-    /// The tick, counted from power-on.
+    /// The tick, counted from power-on, or the number of the line.
     pub tick: u64,
     /// The call that was running, counted from 0.
     pub call: usize,
@@ -101,8 +112,8 @@ fn spread(alloc: Global, events: &[Event]) -> Result<Vec<Event>, AllocError> {
     Ok(schedule)
 }
 
-// Returns the name of the register of an access.
-fn register_of(access: Entry, is_dlab_set: bool) -> &'static str {
+/// Returns the name of the register of an access.
+pub fn register_of(access: Entry, is_dlab_set: bool) -> &'static str {
     let (offset, is_read) = match access {
         Entry::Read(offset, _) => (offset, true),
         Entry::Write(offset, _) => (offset, false),

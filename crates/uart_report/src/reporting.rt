@@ -5,18 +5,20 @@ ghost use Rattle.uart_language.specs.declared.cause.Cause.{Cause};
 ghost use Rattle.uart_language.specs.declared.cause.ScriptError.TheVariants as errors;
 ghost use Rattle.uart_report.specs.Comments.{plain};
 ghost use Rattle.uart_report.specs.Report.{IsPlayedAs, IsTracedAs, IsAccepted, IsRefused};
-ghost use Rattle.uart_report.specs.declared.request.Task.TheVariants as task;
+ghost use Rattle.uart_command.specs.declared.request.Task.TheVariants as task;
 
 use crate::comments::plain;
 use crate::fault::explained;
 use crate::history::{History, told};
 use crate::picture::picture;
-use crate::request::{Form, Request, Task};
+use crate::request::Request;
 use crate::table::table;
+use crate::text::file_name;
 use crate::trace::trace;
 use crate::written::Written;
 use std::alloc::{AllocError, Global};
 use std::fmt::Write;
+use uart_command::{Form, Task};
 use uart_machine::Chip;
 use uart_machine::script::{Script, ScriptError, Std, parse, play};
 
@@ -48,13 +50,15 @@ fn played(alloc: Global, text: &[u8]) -> Result<Vec<u8>, AllocError>
     }
 }
 
+// Returns the title of a timeline: the file by its name, without the folders that it lies in.
 fn title(alloc: Global, file: &str, script: &Script) -> Result<String, AllocError> {
+    let name = file_name(file);
     let chip = match script.chip() {
         Chip::Uart16550A => "16550A",
         Chip::Uart16450 => "16450",
     };
     let ticks = script.ticks();
-    format!(in alloc; "{file}: {chip}, {ticks} ticks a character")
+    format!(in alloc; "{name}: {chip}, {ticks} ticks a character")
 }
 
 // Returns the trace of a script with this text and this output.
@@ -81,7 +85,12 @@ fn timeline(
     let history = told(alloc, script, text, output)?;
     let timeline = match form {
         Form::Table => table(alloc, &history)?,
-        Form::Picture => picture(alloc, &history, &title(alloc, request.file, script)?)?,
+        Form::Picture => picture(
+            alloc,
+            &history,
+            script.chip(),
+            &title(alloc, request.file, script)?,
+        )?,
     };
     Ok(timeline.into_bytes())
 }

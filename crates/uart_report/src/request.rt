@@ -1,26 +1,6 @@
 //! The request of a report.
 
-/// The form of a timeline.
-#[derive(Clone, Copy, Debug, PartialEq, Eq)]
-pub enum Form {
-    /// An SVG picture.
-    Picture,
-    /// A table for a terminal.
-    Table,
-}
-
-/// What to do with a script.
-#[derive(Clone, Copy, Debug, PartialEq, Eq)]
-pub enum Task {
-    /// Print its output.
-    Play,
-    /// Find its first fault.
-    Check,
-    /// Print its register accesses.
-    Trace,
-    /// Print its timeline.
-    Timeline(Form),
-}
+use uart_command::Task;
 
 /// The task of a command line, and the file of the script.
 #[derive(Clone, Copy, Debug, PartialEq, Eq)]

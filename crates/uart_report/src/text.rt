@@ -5,6 +5,10 @@ ghost use Rattle.std.specs.String.{string_bytes};
 ghost use Rattle.uart_report.specs.Trace.{is_line_feed, printable, printable_byte};
 
 use std::alloc::{AllocError, Global};
+use std::path::Path;
+
+// The name of the file that stands for standard input.
+const STANDARD_INPUT: &str = "-";
 
 // Returns the byte, or `?` if it is not printable ASCII.
 fn printable_byte(byte: u8) -> u8
@@ -34,6 +38,14 @@ pub fn line_at(bytes: &[u8], index: usize) -> &[u8]
     ensures { result.now ≡ slice_index_or (slice_split is_line_feed bytes.now) index [] }
 {
     bytes.split(|b| *b == b'\n').nth(index).unwrap_or(&[])
+}
+
+/// Returns the name of a file without the folders that it lies in, in words if it is standard input.
+pub fn file_name(file: &str) -> &str {
+    match file {
+        STANDARD_INPUT => "standard input",
+        _ => Path::new(file).file_name().unwrap_or(file),
+    }
 }
 
 /// Returns the word of the line with this index.

@@ -359,16 +359,7 @@ any_ends_pause_carries zero f l after t = stays_carries f l after t
 any_ends_pause_carries (suc n) f l after t = ends_pause_carries f l after t
 
 pub resumes_lose_nothing : Implies ResumesTransmit (LosesNothing [] [] 0 0)
-resumes_lose_nothing f l after t =
-    let c = any_pumps_carry (length f.transmit.items) f l after t in
-    record {
-      sent = sym c.sent ∙ sym (append-nil f.transmit.items);
-      received = c.received;
-      line_told = c.line;
-      modem_told = c.modem;
-      rooms = c.rooms;
-      settings = c.settings;
-    }
+resumes_lose_nothing f l after t = carried f l after (any_pumps_carry (length f.transmit.items) f l after t)
 
 -- the first of a list, and what is left without as many
 taken_first : (slots : ℕ) (items bytes : List ℕ) → bytes ≡ take slots items → bytes ++ drop (length bytes) items ≡ items

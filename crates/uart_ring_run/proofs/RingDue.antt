@@ -60,9 +60,9 @@ either_due t u false h k = k
 due-shift : (loopback : Bool) (place : Option Shifting) (t : TransmitterState) → IsDue t → IsDue (shift loopback place t)
 due-shift loopback None t h = h
 due-shift loopback (Some s) t h =
-    either_due (record t { shift_place = Some (record { byte = s.byte; ticks_left = s.ticks_left - 1 }) }) _ (nat_lt 1 s.ticks_left) h
-    (either_due (record t { shift_place = None }) _ loopback h
-    (either_due (record t { shift_place = None; wire = t.wire ++ s.byte ∷ [] }) t (nat_lt (length t.wire) t.capacity) h h))
+    either_due (record t { shift_register = Some (record { byte = s.byte; ticks_left = s.ticks_left - 1 }) }) _ (nat_lt 1 s.ticks_left) h
+    (either_due (record t { shift_register = None }) _ loopback h
+    (either_due (record t { shift_register = None; wire = t.wire ++ s.byte ∷ [] }) t (nat_lt (length t.wire) t.capacity) h h))
 
 -- the refill that empties the queue makes it pending
 due-refill : (place : Option Shifting) (queue : List ℕ) (t : TransmitterState) → IsDue t → IsDue (refill place queue t)
@@ -73,8 +73,8 @@ due-refill None (x ∷ y ∷ xs) t h = inl (omega arith)
 
 due-tick : (loopback : Bool) (t : TransmitterState) → IsDue t → IsDue (transmitter.tick loopback t)
 due-tick loopback t h =
-    let u : TransmitterState = shift loopback t.shift_place t in
-    due-refill u.shift_place u.queue u (due-shift loopback t.shift_place t h)
+    let u : TransmitterState = shift loopback t.shift_register t in
+    due-refill u.shift_register u.queue u (due-shift loopback t.shift_register t h)
 
 -- a byte that is written is held
 due-load : (fifo : Bool) (byte : ℕ) (t : TransmitterState) → IsDue (load fifo byte t)

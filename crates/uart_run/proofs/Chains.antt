@@ -28,7 +28,7 @@ module _ {S C A : Type 0} (Step : S → C → A → S → Type 0) where
   pub run_nothing : (s : S) → RunOf Step s [] [] s
   run_nothing s = record { links = []; chain = refl; calls_same = refl; answers_same = refl }
 
-  run_more : (s t u : S) (calls : List C) (answers : List A) (call : C) (answer : A) → RunOf Step s calls answers t →
+  pub run_more : (s t u : S) (calls : List C) (answers : List A) (call : C) (answer : A) → RunOf Step s calls answers t →
       Step t call answer u → RunOf Step s (calls ++ call ∷ []) (answers ++ answer ∷ []) u
   run_more s t u calls answers call answer r h =
       let last : LinkOf S C A = record { before = t; call = call; answer = answer; after = u } in

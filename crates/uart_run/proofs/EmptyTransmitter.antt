@@ -17,12 +17,12 @@ use Rattle.uart_device.proofs.conservation.BlockLaws.{path_as, path_split}
 
 -- nothing is left to send
 abbrev pub IsEmpty : TransmitterState → Type 0
-IsEmpty t = is_transmitter_empty t.queue t.shift_place ≡ true
+IsEmpty t = is_transmitter_empty t.queue t.shift_register ≡ true
 
 -- all that was to be sent has gone: the transmitter is empty, and the wire is this
 pub record IsSent (gone : List ℕ) (t : TransmitterState) : Type 0 where
   pub queue : t.queue ≡ []
-  pub place : t.shift_place ≡ None
+  pub place : t.shift_register ≡ None
   pub wire : t.wire ≡ gone
 
 -- ---- as the line status shows it
@@ -34,7 +34,7 @@ empty_parts (x ∷ xs) place e = absurd (cc)
 
 pub sent_shown : (t : TransmitterState) → IsEmpty t → IsSent (out t) t
 sent_shown t e =
-    let p = empty_parts t.queue t.shift_place e in record { queue = p.0; place = p.1; wire = rw (p.0, p.1) (sym (append-nil t.wire)) }
+    let p = empty_parts t.queue t.shift_register e in record { queue = p.0; place = p.1; wire = rw (p.0, p.1) (sym (append-nil t.wire)) }
 
 pub shown_sent : (gone : List ℕ) (t : TransmitterState) → IsSent gone t → IsEmpty t
 shown_sent gone t s = rw (s.queue, s.place) refl
@@ -54,9 +54,9 @@ sent_refill gone None (x ∷ xs) t e s = absurd (cc)
 
 sent_tick : (gone : List ℕ) (loopback : Bool) (t : TransmitterState) → IsSent gone t → IsSent gone (tick loopback t)
 sent_tick gone loopback t s =
-    let u : TransmitterState = shift loopback t.shift_place t in
-    let v : IsSent gone u = sent_shift loopback gone t.shift_place t s.place s in
-    sent_refill gone u.shift_place u.queue u v.queue v
+    let u : TransmitterState = shift loopback t.shift_register t in
+    let v : IsSent gone u = sent_shift loopback gone t.shift_register t s.place s in
+    sent_refill gone u.shift_register u.queue u v.queue v
 
 sent_lasts : (gone : List ℕ) → Lasts (IsSent gone)
 sent_lasts gone = record {
@@ -81,14 +81,14 @@ empty_path accesses m n silent path e =
 -- ---- looks that show it
 
 pub look_empty : (m n : MachineState) (line : ℕ) → MachineStep m (Read offsets.LSR line) n →
-    has_any line LSR.TRANSMITTER_EMPTY.0 ≡ is_transmitter_empty n.chip.transmitter.queue n.chip.transmitter.shift_place
+    has_any line LSR.TRANSMITTER_EMPTY.0 ≡ is_transmitter_empty n.chip.transmitter.queue n.chip.transmitter.shift_register
 look_empty m n line s =
     let e : has_any line LSR.TRANSMITTER_EMPTY.0 ≡ has_any (line_status (at_access m).chip) LSR.TRANSMITTER_EMPTY.0 =
     ap (λ l. has_any l LSR.TRANSMITTER_EMPTY.0) s.1 in
     e
     ∙
     (status_empty (at_access m).chip
-    ∙ sym (ap (λ (o : MachineState). is_transmitter_empty o.chip.transmitter.queue o.chip.transmitter.shift_place) s.0))
+    ∙ sym (ap (λ (o : MachineState). is_transmitter_empty o.chip.transmitter.queue o.chip.transmitter.shift_register) s.0))
 
 -- a look that shows an empty transmitter leaves one
 pub empty_shown : (s : Settings) (l : List Access) (m n : MachineState) → Asks offsets.LSR LSR.TRANSMITTER_EMPTY.0 true s l →

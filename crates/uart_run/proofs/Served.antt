@@ -192,7 +192,7 @@ flush_serves x s t a l (Ok done) w e h path f =
     record {
       is_empty = empty;
       wire =
-          sym (ap (λ zs. u.wire ++ zs) (nothing_held u.queue u.shift_place empty) ∙ append-nil u.wire)
+          sym (ap (λ zs. u.wire ++ zs) (nothing_held u.queue u.shift_register empty) ∙ append-nil u.wire)
           ∙ (p.passed.went.sends.grows ∙ append-nil (out (machine_of s)));
     }
 flush_serves x s t a l (Err stall) w e h path f = absurd (cc)

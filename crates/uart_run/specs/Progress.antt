@@ -42,7 +42,7 @@ left_of char_ticks (Some s) queue = s.ticks_left + char_ticks * length queue
 
 -- the ticks until the transmitter is empty: at most 17 character times
 abbrev pub left : TransmitterState → ℕ
-left t = left_of t.char_ticks t.shift_place t.queue
+left t = left_of t.char_ticks t.shift_register t.queue
 
 -- the wire has room for all that is to be sent, and for n bytes more
 abbrev pub HasRoom : ℕ → MachineState → Type 0

@@ -57,7 +57,7 @@ pub record IsInitialised (config : Config) (t : State) : Type 0 where
   pub lcr : (latches_of t).lcr ≡ frame_bits config
   pub mcr : (latches_of t).mcr ≡ 11
   pub ier : (latches_of t).ier ≡ bit_and config.interrupts.0 ier_bits
-  pub is_empty : is_transmitter_empty (transmitter_of t).queue (transmitter_of t).shift_place ≡ true
+  pub is_empty : is_transmitter_empty (transmitter_of t).queue (transmitter_of t).shift_register ≡ true
   pub fifo : (machine_of t).chip.fifo ≡ (is_level config.fifo_trigger_level && has_fifo (machine_of t).chip.model)
 
 -- it finds the device, and this is the state after it if it succeeds

@@ -25,7 +25,7 @@ transmitter_of s = (machine_of s).chip.transmitter
 
 -- the transmitter is empty, and all that was in it has been sent
 pub record IsFlushed (s t : State) : Type 0 where
-  pub is_empty : is_transmitter_empty (transmitter_of t).queue (transmitter_of t).shift_place ≡ true
+  pub is_empty : is_transmitter_empty (transmitter_of t).queue (transmitter_of t).shift_register ≡ true
   pub wire : (transmitter_of t).wire ≡ out (machine_of s)
 
 -- if there is a received byte, a `try_receive_byte` returns one; calls into slots take as many of the received bytes

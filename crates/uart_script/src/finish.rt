@@ -38,8 +38,9 @@ fn status(error: PlayError) -> u8
     }
 }
 
-/// Writes what went wrong as one line, if anything did and the writer still works. Returns the program's status: 0 if the
-/// script was played, 1 if it was refused, 2 if the reader or the writer failed, 3 if out of memory.
+/// Writes what went wrong as one line, if anything did and the writer still works. Returns the
+/// program's status: 0 if the script was played, 1 if it was refused, 2 if the reader or the writer
+/// failed, 3 if out of memory.
 ///
 /// If this line cannot be written, that is ignored. Allocates no memory.
 pub fn finish<W: Output>(outcome: Result<(), PlayError>, writer: &mut W) -> u8

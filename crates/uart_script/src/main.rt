@@ -12,7 +12,8 @@ fn main(rt: HostRuntime) -> ExitCode {
     let mut writer = Std::new(rt.stdout());
     let result = play(rt.alloc(), &mut reader, &mut writer);
     if result == Err(PlayError::WriteFault) {
-        // Nothing more goes to standard output. If standard error cannot be written either, the exit status says it.
+        // Nothing more goes to standard output. If standard error cannot be written either, the
+        // exit status says it.
         let _ = eprintln!(rt; "write fault");
     }
     ExitCode::from(finish(result, &mut writer))

@@ -233,13 +233,13 @@ fn texts_of_the_arithmetic(rt: HostRuntime) {
     let texts = [
         (
             text(NO_RATE),
-            "Input values do not result in even (integer representable) baud rate! frequency=1843200, divisor=73, \
-            prescaler_division_factor=None",
+            "Input values do not result in even (integer representable) baud rate! \
+            frequency=1843200, divisor=73, prescaler_division_factor=None",
         ),
         (
             text(InvalidDivisorError::NonInteger(no_divisor)),
-            "input values do not result in even (integer representable) baud rate! frequency=1843200, baud_rate=7211, \
-            prescaler_division_factor=Some(3)",
+            "input values do not result in even (integer representable) baud rate! \
+            frequency=1843200, baud_rate=7211, prescaler_division_factor=Some(3)",
         ),
         (
             text(InitError::InvalidBaudRate(too_large)),
@@ -314,7 +314,8 @@ fn texts_of_the_loopback_test(rt: HostRuntime) {
     let texts = [
         (
             text(LoopbackError::SendError(ByteSendError::NoCapacity)),
-            "loopback test failed: couldn't send data: device has no capacity to send another byte (the FIFO might be full)",
+            "loopback test failed: couldn't send data: \
+            device has no capacity to send another byte (the FIFO might be full)",
         ),
         (
             text(LoopbackError::UnexpectedLoopbackByte {
@@ -325,15 +326,17 @@ fn texts_of_the_loopback_test(rt: HostRuntime) {
         ),
         (
             text(unlike),
-            "loopback test failed: read unexpected string! expected (str)=Ok(\"hello world!1337\"), \
+            "loopback test failed: read unexpected string! \
+            expected (str)=Ok(\"hello world!1337\"), \
             actual (str)=Ok(\"say \\\"\\\\\\\" 123 ~~~ \"), \
             actual (bytes)=[115, 97, 121, 32, 34, 92, 34, 32, 49, 50, 51, 32, 126, 126, 126, 32]",
         ),
         (
             text(unprintable),
-            "loopback test failed: read unexpected string! expected (str)=Ok(\"hello world!1337\"), \
-            actual (str)=Err(not printable ASCII), \
-            actual (bytes)=[104, 101, 108, 108, 111, 32, 119, 111, 114, 108, 100, 33, 49, 51, 51, 10]",
+            "loopback test failed: read unexpected string! \
+            expected (str)=Ok(\"hello world!1337\"), actual (str)=Err(not printable ASCII), \
+            actual (bytes)=[104, 101, 108, 108, 111, 32, 119, 111, \
+            114, 108, 100, 33, 49, 51, 51, 10]",
         ),
         (
             text(Uart16550TtyError::TestError(LoopbackError::Stalled)),

@@ -12,11 +12,11 @@ use Rattle.uart_calls.specs.declared.call.Answer.{Answer}
 use Rattle.uart_calls.specs.Calls.{IsRunnable}
 use Rattle.uart_calls.specs.Meaning.{meaning, outcome_of}
 use Rattle.uart_calls.proofs.NoChoice.{meaning_leaves_no_choice}
-use Rattle.uart_traces.specs.Lists.{IsFollowed, IsListOf, answer_of}
+use Rattle.uart_calls.specs.Lists.{IsFollowed, IsListOf, answer_of}
 use Rattle.uart_traces.specs.Traces.{AreCalls, IsExchange, IsStray, StraysHere, fields_before}
 use Rattle.uart_traces.specs.declared.judging.Stray.{Stray}
 use Rattle.uart_traces.specs.declared.exchange.Exchange.{Exchange}
-use Rattle.uart_traces.proofs.Played.{same_head, same_answer}
+use Rattle.uart_calls.proofs.Played.{same_head, same_answer}
 
 -- each of the two gives the other
 pub record AreAlike (P Q : Type 0) : Type 0 where

@@ -6,10 +6,10 @@ use Rattle.uart_spec.specs.Access.{Access, Read, Write}
 use Rattle.uart_16550.specs.Replay.{access_of}
 use Rattle.uart_16550.specs.declared.replay.Entry.{Entry}
 use Rattle.uart_language.specs.Output.{answer_text, hex_byte}
-use Rattle.uart_traces.specs.declared.tape.Request.{Request}
-use Rattle.uart_traces.specs.declared.tape.Request.TheVariants as request
-use Rattle.uart_traces.specs.declared.checking.Turn.{Turn}
-use Rattle.uart_traces.specs.declared.checking.Turn.TheVariants.{Asks, Returns}
+use Rattle.uart_calls.specs.declared.tape.Request.{Request}
+use Rattle.uart_calls.specs.declared.tape.Request.TheVariants as request
+use Rattle.uart_calls.specs.declared.checking.Turn.{Turn}
+use Rattle.uart_calls.specs.declared.checking.Turn.TheVariants.{Asks, Returns}
 use Rattle.uart_traces.specs.declared.judging.Stray.{Stray}
 use Rattle.uart_traces.specs.declared.exchange.Exchange.{Exchange}
 

@@ -5,7 +5,7 @@ use Rattle.uart_16550.specs.Replay.{access_of}
 use Rattle.uart_16550.specs.State.{fresh_fields}
 use Rattle.uart_calls.specs.declared.call.Answer.{Answer}
 use Rattle.uart_language.specs.Output.{answer_text}
-use Rattle.uart_traces.specs.Lists.{IsFollowed, IsListOf}
+use Rattle.uart_calls.specs.Lists.{IsFollowed, IsListOf}
 use Rattle.uart_traces.specs.declared.judging.Stray.{Stray}
 use Rattle.uart_traces.specs.declared.exchange.Exchange.{Exchange}
 

@@ -5,15 +5,14 @@ ghost use Rattle.uart_16550.specs.Driver.{Fields};
 ghost use Rattle.uart_16550.specs.Replay.{access_of};
 ghost use Rattle.uart_16550.specs.State.{fields_of, fresh_fields};
 ghost use Rattle.uart_language.specs.Output.{answer_text};
-ghost use Rattle.uart_traces.specs.Lists.{IsFollowed};
+ghost use Rattle.uart_calls.specs.Lists.{IsFollowed};
 ghost use Rattle.uart_traces.specs.Traces.{AreCalls, IsExchange, IsStray, fields_before};
 
-use crate::checking::{Turn, check, follow};
 use crate::exchange::Exchange;
 use std::alloc::{AllocError, Global};
 use std::num::NonZeroU64;
 use uart_16550::DriverState;
-use uart_calls::Answer;
+use uart_calls::{Answer, Turn, check, follow};
 use uart_language::push_answer;
 
 /// The place at which a trace differs from what the driver does.
@@ -36,9 +35,11 @@ fn is_printed(alloc: Global, answer: &Answer, text: &[u8]) -> Result<bool, Alloc
     Ok(printed.as_slice() == text)
 }
 
-// Returns the state of the driver before a call: the one after the call before it, or that of a new driver with this limit.
+// Returns the state of the driver before a call: the one after the call before it, or that of a new
+// driver with this limit.
 fn state_before(exchange: &Exchange, state: DriverState, limit: NonZeroU64) -> DriverState
-    ensures { fields_of result ≡ fields_before (non_zero_u64_get limit) exchange.now (fields_of state) }
+    ensures { fields_of result ≡ fields_before (non_zero_u64_get limit) exchange.now
+        (fields_of state) }
 {
     if exchange.is_first {
         DriverState {
@@ -56,8 +57,10 @@ fn after(
     exchange: &Exchange,
     state: &DriverState,
 ) -> Result<Option<DriverState>, AllocError>
-    ensures sound { IfOk result (λ after. IfSome after (λ state'. IsExchange exchange.now (fields_of state.now) (fields_of state'))) }
-    ensures complete { IfOk result (λ after. IsNone after → (fields : Fields) → IsExchange exchange.now (fields_of state.now) fields → ⊥) }
+    ensures sound { IfOk result (λ after.
+        IfSome after (λ state'. IsExchange exchange.now (fields_of state.now) (fields_of state'))) }
+    ensures complete { IfOk result (λ after. IsNone after → (fields : Fields) →
+        IsExchange exchange.now (fields_of state.now) fields → ⊥) }
 {
     let Some(returned) = check(&exchange.accesses, state, &exchange.call) else {
         return Ok(None);
@@ -72,7 +75,8 @@ fn after(
 // Returns what the driver does instead of what a trace has.
 fn stray_at<'a>(exchange: &'a Exchange, state: &DriverState) -> Stray<'a>
     ensures call { result.exchange.now ≡ exchange.now }
-    ensures first { IsFollowed exchange.now.call (fields_of state.now) (map access_of exchange.now.accesses.items)
+    ensures first { IsFollowed exchange.now.call (fields_of state.now)
+        (map access_of exchange.now.accesses.items)
         (record { kept = result.kept; turn = result.turn }) }
 {
     let followed = follow(&exchange.accesses, state, &exchange.call);
@@ -83,8 +87,9 @@ fn stray_at<'a>(exchange: &'a Exchange, state: &DriverState) -> Stray<'a>
     }
 }
 
-/// Checks whether each list of a trace is one of its call, with the recorded answer. Returns `None` if so. Else returns the
-/// first call for which it is not, with its first access that no list of the call has, and what the driver does there.
+/// Checks whether each list of a trace is one of its call, with the recorded answer. Returns `None`
+/// if so. Else returns the first call for which it is not, with its first access that no list of
+/// the call has, and what the driver does there.
 ///
 /// The first call is of a new driver with this limit, and so is each call after a `fresh`.
 ///
@@ -96,8 +101,10 @@ pub fn judge<'a>(
     trace: &'a [Exchange],
     limit: NonZeroU64,
 ) -> Result<Option<Stray<'a>>, AllocError>
-    ensures calls { IfOk result (λ stray. IsNone stray ↔ AreCalls (non_zero_u64_get limit) fresh_fields trace.now) }
-    ensures first { IfOk result (λ stray. IfSome stray (IsStray (non_zero_u64_get limit) fresh_fields trace.now)) }
+    ensures calls { IfOk result (λ stray. IsNone stray ↔
+        AreCalls (non_zero_u64_get limit) fresh_fields trace.now) }
+    ensures first { IfOk result (λ stray.
+        IfSome stray (IsStray (non_zero_u64_get limit) fresh_fields trace.now)) }
 {
     let mut state = DriverState::new();
     let mut left = trace;

@@ -2,18 +2,18 @@
 ghost use Rattle.std.specs.Prelude.{◌≡◌, ◌∷◌, ◌++◌, OnOk, slice_get};
 ghost use Rattle.uart_16550.specs.Replay.{access_of};
 ghost use Rattle.uart_language.specs.Output.{hex_byte};
-ghost use Rattle.uart_traces.specs.Telling.{access_text, answer_line_text, found_text, line_text, place_text, request_text};
+ghost use Rattle.uart_traces.specs.Telling.{access_text, answer_line_text, found_text};
+ghost use Rattle.uart_traces.specs.Telling.{line_text, place_text, request_text};
 ghost use Rattle.uart_traces.specs.Telling.{stray_text, turn_text};
 
-use crate::checking::Turn;
 use crate::exchange::Exchange;
 use crate::judging::Stray;
-use crate::tape::Request;
 use std::alloc::{AllocError, Global};
 use uart_16550::replay::Entry;
+use uart_calls::{Request, Turn};
 use uart_language::{hex_digit, push_answer};
 
-// A letter and the offset of a register.
+// Appends a letter and the offset of a register.
 fn push_place(out: &mut Vec<u8>, letter: u8, offset: usize) -> Result<(), AllocError>
     ensures { OnOk result (out.new.items ≡ out.old.items ++ place_text letter offset) }
 {
@@ -126,7 +126,8 @@ fn push_turn(alloc: Global, out: &mut Vec<u8>, turn: &Turn) -> Result<(), AllocE
     }
 }
 
-/// Appends which line of a trace strays, and what the driver does instead, without the end of a line.
+/// Appends which line of a trace strays, and what the driver does instead, without the end of a
+/// line.
 pub fn push_stray(alloc: Global, out: &mut Vec<u8>, stray: &Stray<'_>) -> Result<(), AllocError>
     ensures { OnOk result (out.new.items ≡ out.old.items ++ stray_text stray.now) }
 {

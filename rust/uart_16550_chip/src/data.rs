@@ -34,7 +34,7 @@ plain! {
     Shifting { byte, ticks_left }
     Latches { ier, lcr, mcr, scr, dll, dlm }
     ModemData { inputs, lines, deltas }
-    TransmitterData { queue, shift_place, wire_capacity, char_ticks, overflows, is_thr_pending }
+    TransmitterData { queue, shift_register, wire_capacity, char_ticks, overflows, is_thr_pending }
     ReceiverData { queue, is_overrun, is_front_reported, last_byte, timeout_ticks, trigger }
     ChipData { model, latches, fifo, transmitter, receiver, modem, cuts }
 }

@@ -2,7 +2,9 @@
 //!
 //! Makes COUNT rounds of a body that reaches the chip through functions that are not inlined: sixteen calls of one kind.
 
-use measure_chip::{Bench, DATA_OFFSET, Device, EACH, IDLE, LSR_OFFSET, Setting, obscure, run};
+use measure_chip::{
+    Bench, DATA_OFFSET, Device, EACH, IDLE, LSR_OFFSET, Setting, WIRE_ROOM, obscure, run,
+};
 use uart_16550_chip::LiveChip;
 use uart_16550_chip::registers::LSR;
 
@@ -28,6 +30,12 @@ fn called_arrive(chip: &mut LiveChip, byte: u8) -> bool {
 #[inline(never)]
 fn called_is_interrupting(chip: &LiveChip) -> bool {
     chip.is_interrupting()
+}
+
+#[unsafe(no_mangle)]
+#[inline(never)]
+fn called_take_wire(chip: &mut LiveChip) {
+    chip.take_wire(1);
 }
 
 #[unsafe(no_mangle)]
@@ -87,6 +95,25 @@ fn interrupt(bench: &mut Bench) {
     }
 }
 
+/// Each byte is taken while it is the only one.
+fn take(bench: &mut Bench) {
+    bench.chip.take_wire(WIRE_ROOM);
+    for _ in 0..EACH {
+        bench.send(1);
+        called_take_wire(&mut bench.chip);
+    }
+}
+
+/// Sixteen bytes are taken from a full wire.
+fn take_full(bench: &mut Bench) {
+    while bench.chip.wire_room() > 0 {
+        bench.send(1);
+    }
+    for _ in 0..EACH {
+        called_take_wire(&mut bench.chip);
+    }
+}
+
 fn device_lsr(bench: &mut Bench) {
     let offset = obscured(LSR_OFFSET);
     for _ in 0..EACH {
@@ -127,6 +154,8 @@ fn main() {
         ("lsr-full", full, lsr),
         ("data-write", IDLE, data_write),
         ("byte-in-and-read", IDLE, byte_in_and_read),
+        ("take-wire", IDLE, take),
+        ("take-wire-full", IDLE, take_full),
         ("interrupt", IDLE, interrupt),
         ("interrupt-enabled", enabled, interrupt),
         ("device-lsr", IDLE, device_lsr),

@@ -5,7 +5,7 @@ use Rattle.uart_chip.specs.declared.event.ArrivalMark.TheVariants.{Pending, Wait
 use Rattle.uart_chip.specs.declared.receiver.Character.{Character}
 use Rattle.uart_chip.specs.declared.receiver.Origin.{Origin}
 use Rattle.uart_chip.specs.declared.receiver.Origin.TheVariants.{Arrived, Looped}
-use Rattle.uart_chip.specs.Receiver.{ReceiverState, mark_at, set_mark, is_stray, replace, arrive, take_front}
+use Rattle.uart_chip.specs.Receiver.{ReceiverState, mark_at, set_mark, is_unscheduled, replace, arrive, take_front}
 use Rattle.uart_device.specs.Sound.{IsMarked}
 use Rattle.uart_chip.proofs.Bits.{has_none}
 use Rattle.uart_device.proofs.conservation.Moves.{moved_room, moved_full, moved_taken, moved_replaced}
@@ -20,30 +20,30 @@ only_pending r s f (inr h) = f h
 
 receives-room : (fifo : Bool) (r s : ReceiverState) (new : Character) → IsMarked fifo r → new.origin ≡ Arrived r.arrived →
     r.arrived < length r.marks →
-    s.queue ≡ r.queue ++ new ∷ [] → s.marks ≡ slice_set r.marks r.arrived Waiting → s.is_stray_lost ≡ r.is_stray_lost →
+    s.queue ≡ r.queue ++ new ∷ [] → s.marks ≡ slice_set r.marks r.arrived Waiting → s.is_unscheduled_lost ≡ r.is_unscheduled_lost →
     s.arrived ≡ r.arrived + 1 → s.is_overrun ≡ r.is_overrun → Receives fifo r s (new ∷ []) [] 0
-receives-room fifo r s new w o k queue marks stray arrived overrun = record {
+receives-room fifo r s new w o k queue marks missing arrived overrun = record {
   number = arrived;
   fuller = rw queue (simp length-append (omega arith));
-  moved = moved_room fifo r s new w o k queue marks stray arrived;
+  moved = moved_room fifo r s new w o k queue marks missing arrived;
   is_shown = λ h. to h;
   was_owed = only_pending r s (λ h. inl (sym overrun ∙ h));
 }
   where
     to : Owed r s → Shows 0 s
     to (inl h) = inr (overrun ∙ h)
-    to (inr h) = absurd (no_drop-set r s (Arrived r.arrived) Waiting (λ e. cc) marks stray h)
+    to (inr h) = absurd (no_drop-set r s (Arrived r.arrived) Waiting (λ e. cc) marks missing h)
 
 receives-full : (r s : ReceiverState) (new : Character) → IsMarked true r → new.origin ≡ Arrived r.arrived → r.arrived < length r.marks →
-    s.queue ≡ r.queue → s.marks ≡ slice_set r.marks r.arrived Dropped → s.is_stray_lost ≡ r.is_stray_lost →
+    s.queue ≡ r.queue → s.marks ≡ slice_set r.marks r.arrived Dropped → s.is_unscheduled_lost ≡ r.is_unscheduled_lost →
     s.arrived ≡ r.arrived + 1 → s.is_overrun ≡ true → Receives true r s (new ∷ []) [] 0
-receives-full r s new w o k queue marks stray arrived overrun =
+receives-full r s new w o k queue marks missing arrived overrun =
     let pending : mark_at r.marks r.arrived ≡ Pending = w.to_come r.arrived (omega arith) in
     let gone : mark_at s.marks r.arrived ≡ Dropped = rw marks (get_or-set_same r.marks r.arrived Dropped Pending k) in
     record {
       number = arrived;
       fuller = rw queue (omega arith);
-      moved = moved_full r s new w o k queue marks stray;
+      moved = moved_full r s new w o k queue marks missing;
       is_shown = λ h. inr overrun;
       was_owed = λ h. inr (record { origin = Arrived r.arrived; stood = rw pending refl; lost = rw gone refl });
     }
@@ -51,19 +51,19 @@ receives-full r s new w o k queue marks stray arrived overrun =
 receives-replaced : (r s : ReceiverState) (old new : Character) (o : Origin) → IsMarked false r → new.origin ≡ Arrived r.arrived →
     r.arrived < length r.marks →
     old.origin ≡ o → r.queue ≡ old ∷ [] → s.queue ≡ new ∷ [] → s.marks ≡ slice_set (set_mark o Dropped r.marks) r.arrived Waiting →
-    s.is_stray_lost ≡ (if is_stray o then true else r.is_stray_lost) → s.arrived ≡ r.arrived + 1 → s.is_overrun ≡ true →
+    s.is_unscheduled_lost ≡ (if is_unscheduled o then true else r.is_unscheduled_lost) → s.arrived ≡ r.arrived + 1 → s.is_overrun ≡ true →
     Receives false r s (new ∷ []) [] 0
-receives-replaced r s old new o w n k p i queue marks stray arrived overrun = record {
+receives-replaced r s old new o w n k p i queue marks missing arrived overrun = record {
   number = arrived;
   fuller = rw (i, queue) (omega arith);
-  moved = moved_replaced r s old new o w n k p i queue marks stray;
+  moved = moved_replaced r s old new o w n k p i queue marks missing;
   is_shown = λ h. inr overrun;
-  was_owed = λ h. inr (fell o p marks stray);
+  was_owed = λ h. inr (fell o p marks missing);
 }
   where
     fell : (o : Origin) → old.origin ≡ o → s.marks ≡ slice_set (set_mark o Dropped r.marks) r.arrived Waiting →
-        s.is_stray_lost ≡ (if is_stray o then true else r.is_stray_lost) → Drop r s
-    fell (Arrived j) p marks stray =
+        s.is_unscheduled_lost ≡ (if is_unscheduled o then true else r.is_unscheduled_lost) → Drop r s
+    fell (Arrived j) p marks missing =
         let wait = rw (i, p) at w.wait in
         let below : j < r.arrived = wait.0.0 in
         let waiting : mark_at r.marks j ≡ Waiting = wait.0.1 in
@@ -74,10 +74,10 @@ receives-replaced r s old new o w n k p i queue marks stray arrived overrun = re
         (get_or-set_other (slice_set r.marks j Dropped) r.arrived j Waiting Pending sooner ∙
         get_or-set_same r.marks j Dropped Pending in_marks) in
         record { origin = Arrived j; stood = rw waiting refl; lost = rw dropped refl }
-    fell _ p marks stray =
+    fell _ p marks missing =
         let wait = rw (i, p) at w.wait in
-        let kept : r.is_stray_lost ≡ false = wait.0 in
-        record { origin = Looped; stood = rw kept refl; lost = rw stray refl }
+        let kept : r.is_unscheduled_lost ≡ false = wait.0 in
+        record { origin = Looped; stood = rw kept refl; lost = rw missing refl }
 
 -- the next arrival of the schedule
 pub receives-arrive : (fifo : Bool) (r : ReceiverState) (byte errors : ℕ) → IsMarked fifo r → r.arrived < length r.marks →

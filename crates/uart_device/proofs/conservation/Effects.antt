@@ -56,7 +56,7 @@ went-look x c line s w e = record {
   sends = sends-refl c.transmitter;
   receives =
       receives-same x.fifo c.receiver (report c.receiver) _ (marked-in x c s w)
-      (record { queue = refl; marks = refl; stray = refl; arrived = refl })
+      (record { queue = refl; marks = refl; missing = refl; arrived = refl })
       (λ h. inl (shown ∙ h)) (λ h. back h);
   reports = reports-look x.fifo c line s.receiver.legal e;
   turns = turns-refl c.modem;

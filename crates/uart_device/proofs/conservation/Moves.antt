@@ -11,7 +11,7 @@ use Rattle.uart_chip.specs.declared.receiver.Character.{Character}
 use Rattle.uart_chip.specs.declared.receiver.Origin.{Origin}
 use Rattle.uart_chip.specs.declared.receiver.Origin.TheVariants.{Arrived}
 use Rattle.uart_chip.specs.Transmitter.{room}
-use Rattle.uart_chip.specs.Receiver.{ReceiverState, mark_at, set_mark, is_stray}
+use Rattle.uart_chip.specs.Receiver.{ReceiverState, mark_at, set_mark, is_unscheduled}
 use Rattle.uart_device.specs.Sound.{IsInQueue, AllInQueue, IsMarked}
 use Rattle.uart_device.proofs.Lists.{each-append, each-weaker}
 use Rattle.uart_device.specs.Conserved.{is_dropped, origin_stands, stands}
@@ -19,33 +19,34 @@ use Rattle.uart_device.proofs.soundness.Marks.{none_to_come, all_in_queue-set, a
 
 -- ---- what waits was not dropped
 
-pub waits_stands : (arrived : ℕ) (marks : List ArrivalMark) (stray : Bool) (o : Origin) → IsInQueue arrived marks stray o →
-    origin_stands marks stray o ≡ true
-waits_stands arrived marks stray (Arrived k) h = rw h.1 refl
-waits_stands arrived marks stray _ h = rw h refl
+pub waits_stands : (arrived : ℕ) (marks : List ArrivalMark) (missing : Bool) (o : Origin) → IsInQueue arrived marks missing o →
+    origin_stands marks missing o ≡ true
+waits_stands arrived marks missing (Arrived k) h = rw h.1 refl
+waits_stands arrived marks missing _ h = rw h refl
 
-pub filter-waits : (r : ReceiverState) (arrived : ℕ) (characters : List Character) → AllInQueue arrived r.marks r.is_stray_lost characters →
+pub filter-waits : (r : ReceiverState) (arrived : ℕ) (characters : List Character) →
+    AllInQueue arrived r.marks r.is_unscheduled_lost characters →
     filter (stands r) characters ≡ characters
 filter-waits r arrived [] h = refl
 filter-waits r arrived (character ∷ characters) h =
-    let e : stands r character ≡ true = waits_stands arrived r.marks r.is_stray_lost character.origin h.0 in
+    let e : stands r character ≡ true = waits_stands arrived r.marks r.is_unscheduled_lost character.origin h.0 in
     rw e (ap (λ xs. character ∷ xs) (filter-waits r arrived characters h.1))
 
 -- ---- what is not dropped later
 
 -- none of these came back in loopback
 abbrev pub NoneLooped : List Character → Type 0
-NoneLooped characters = AllByRecursion (λ (character : Character). is_stray character.origin ≡ false) characters
+NoneLooped characters = AllByRecursion (λ (character : Character). is_unscheduled character.origin ≡ false) characters
 
 -- no looped character can be lost from now on
-abbrev pub CannotStray : Bool → ReceiverState → Type 0
-CannotStray true r = r.is_stray_lost ≡ false
-CannotStray false r = (r.is_stray_lost ≡ false) × NoneLooped r.queue
+abbrev pub NoneMissing : Bool → ReceiverState → Type 0
+NoneMissing true r = r.is_unscheduled_lost ≡ false
+NoneMissing false r = (r.is_unscheduled_lost ≡ false) × NoneLooped r.queue
 
 -- a character of this origin isn't dropped later
 abbrev pub IsFinal : Bool → ReceiverState → Origin → Type 0
 IsFinal fifo r (Arrived k) = mark_at r.marks k ≡ Read
-IsFinal fifo r _ = CannotStray fifo r
+IsFinal fifo r _ = NoneMissing fifo r
 
 abbrev pub AllFinal : Bool → ReceiverState → List Character → Type 0
 AllFinal fifo r characters = AllByRecursion (λ (character : Character). IsFinal fifo r character.origin) characters
@@ -53,17 +54,17 @@ AllFinal fifo r characters = AllByRecursion (λ (character : Character). IsFinal
 -- from r to s these came in, and those were taken
 pub record Moved (fifo : Bool) (r s : ReceiverState) (entering takes : List Character) : Type 0 where
   pub stay : filter (stands s) (r.queue ++ entering) ≡ takes ++ s.queue
-  pub falls : (o : Origin) → origin_stands s.marks s.is_stray_lost o ≡ true → origin_stands r.marks r.is_stray_lost o ≡ true
+  pub falls : (o : Origin) → origin_stands s.marks s.is_unscheduled_lost o ≡ true → origin_stands r.marks r.is_unscheduled_lost o ≡ true
   pub final : (o : Origin) → IsFinal fifo r o → IsFinal fifo s o
   pub taken_final : AllFinal fifo s takes
 
-pub stray_false : (fifo : Bool) (r : ReceiverState) → CannotStray fifo r → r.is_stray_lost ≡ false
-stray_false true r h = h
-stray_false false r h = h.0
+pub missing_false : (fifo : Bool) (r : ReceiverState) → NoneMissing fifo r → r.is_unscheduled_lost ≡ false
+missing_false true r h = h
+missing_false false r h = h.0
 
-pub final_stands : (fifo : Bool) (r : ReceiverState) (o : Origin) → IsFinal fifo r o → origin_stands r.marks r.is_stray_lost o ≡ true
+pub final_stands : (fifo : Bool) (r : ReceiverState) (o : Origin) → IsFinal fifo r o → origin_stands r.marks r.is_unscheduled_lost o ≡ true
 final_stands fifo r (Arrived k) h = rw h refl
-final_stands fifo r _ h = rw (stray_false fifo r h) refl
+final_stands fifo r _ h = rw (missing_false fifo r h) refl
 
 pub filter-final : (fifo : Bool) (r : ReceiverState) (characters : List Character) → AllFinal fifo r characters →
     filter (stands r) characters ≡ characters
@@ -134,79 +135,80 @@ read-set marks k m j h g =
 
 pub falls-mark : (r s : ReceiverState) (k : ℕ) (m : ArrivalMark) → is_dropped (mark_at r.marks k) ≡ false →
     s.marks ≡ slice_set r.marks k m →
-    s.is_stray_lost ≡ r.is_stray_lost → (o : Origin) → origin_stands s.marks s.is_stray_lost o ≡ true →
-    origin_stands r.marks r.is_stray_lost o ≡ true
+    s.is_unscheduled_lost ≡ r.is_unscheduled_lost → (o : Origin) → origin_stands s.marks s.is_unscheduled_lost o ≡ true →
+    origin_stands r.marks r.is_unscheduled_lost o ≡ true
 falls-mark r s k m h e f (Arrived j) g = falls-set r.marks k m j h (rw e at g)
 falls-mark r s k m h e f _ g = rw f at g
 
 pub final-set : (fifo : Bool) (r s : ReceiverState) (k : ℕ) (m : ArrivalMark) → mark_at r.marks k ≢ Read → s.marks ≡ slice_set r.marks k m →
-    (o : Origin) → (CannotStray fifo r → CannotStray fifo s) → IsFinal fifo r o → IsFinal fifo s o
+    (o : Origin) → (NoneMissing fifo r → NoneMissing fifo s) → IsFinal fifo r o → IsFinal fifo s o
 final-set fifo r s k m h e (Arrived j) c g = rw e (read-set r.marks k m j h g)
 final-set fifo r s k m h e _ c g = c g
 
 pub none_looped-append : (xs ys : List Character) → NoneLooped xs → NoneLooped ys → NoneLooped (xs ++ ys)
-none_looped-append xs ys h k = each-append (λ (x : Character). is_stray x.origin ≡ false) xs ys h k
+none_looped-append xs ys h k = each-append (λ (x : Character). is_unscheduled x.origin ≡ false) xs ys h k
 
-pub cannot_stray-more : (fifo : Bool) (r s : ReceiverState) (new : Character) → new.origin ≡ Arrived r.arrived →
+pub none_missing-more : (fifo : Bool) (r s : ReceiverState) (new : Character) → new.origin ≡ Arrived r.arrived →
     s.queue ≡ r.queue ++ new ∷ [] →
-    s.is_stray_lost ≡ r.is_stray_lost → CannotStray fifo r → CannotStray fifo s
-cannot_stray-more true r s new o i e c = e ∙ c
-cannot_stray-more false r s new o i e c = (e ∙ c.0, rw i (none_looped-append r.queue (new ∷ []) c.1 (rw o refl, tt)))
+    s.is_unscheduled_lost ≡ r.is_unscheduled_lost → NoneMissing fifo r → NoneMissing fifo s
+none_missing-more true r s new o i e c = e ∙ c
+none_missing-more false r s new o i e c = (e ∙ c.0, rw i (none_looped-append r.queue (new ∷ []) c.1 (rw o refl, tt)))
 
 -- the step of a character that comes in with room
 pub moved_room : (fifo : Bool) (r s : ReceiverState) (new : Character) → IsMarked fifo r → new.origin ≡ Arrived r.arrived →
     r.arrived < length r.marks →
-    s.queue ≡ r.queue ++ new ∷ [] → s.marks ≡ slice_set r.marks r.arrived Waiting → s.is_stray_lost ≡ r.is_stray_lost →
+    s.queue ≡ r.queue ++ new ∷ [] → s.marks ≡ slice_set r.marks r.arrived Waiting → s.is_unscheduled_lost ≡ r.is_unscheduled_lost →
     s.arrived ≡ r.arrived + 1 →
     Moved fifo r s (new ∷ []) []
-moved_room fifo r s new w o k queue marks stray arrived =
-    let old : AllInQueue (r.arrived + 1) (slice_set r.marks r.arrived Waiting) r.is_stray_lost r.queue =
-    all_in_queue-set (r.arrived + 1) r.marks r.is_stray_lost r.arrived Waiting r.queue
-    (none_to_come r.arrived r.marks r.is_stray_lost r.queue w.wait)
-    (all_in_queue-next r.arrived r.marks r.is_stray_lost r.queue w.wait) in
-    let here : IsInQueue (r.arrived + 1) (slice_set r.marks r.arrived Waiting) r.is_stray_lost new.origin =
+moved_room fifo r s new w o k queue marks missing arrived =
+    let old : AllInQueue (r.arrived + 1) (slice_set r.marks r.arrived Waiting) r.is_unscheduled_lost r.queue =
+    all_in_queue-set (r.arrived + 1) r.marks r.is_unscheduled_lost r.arrived Waiting r.queue
+    (none_to_come r.arrived r.marks r.is_unscheduled_lost r.queue w.wait)
+    (all_in_queue-next r.arrived r.marks r.is_unscheduled_lost r.queue w.wait) in
+    let here : IsInQueue (r.arrived + 1) (slice_set r.marks r.arrived Waiting) r.is_unscheduled_lost new.origin =
     rw o (omega arith, get_or-set_same r.marks r.arrived Waiting Pending k) in
-    let all : AllInQueue s.arrived s.marks s.is_stray_lost (r.queue ++ new ∷ []) =
-    rw (arrived, marks, stray) (all_in_queue-append _ _ _ r.queue (new ∷ []) old (here, tt)) in
+    let all : AllInQueue s.arrived s.marks s.is_unscheduled_lost (r.queue ++ new ∷ []) =
+    rw (arrived, marks, missing) (all_in_queue-append _ _ _ r.queue (new ∷ []) old (here, tt)) in
     let pending : mark_at r.marks r.arrived ≡ Pending = w.to_come r.arrived (omega arith) in
     record {
       stay = filter-waits s s.arrived (r.queue ++ new ∷ []) all ∙ sym queue;
-      falls = falls-mark r s r.arrived Waiting (ap is_dropped pending) marks stray;
+      falls = falls-mark r s r.arrived Waiting (ap is_dropped pending) marks missing;
       final =
           λ where_from g. final-set fifo r s r.arrived Waiting (λ e. absurd (cc)) marks where_from
-          (λ c. cannot_stray-more fifo r s new o queue stray c) g;
+          (λ c. none_missing-more fifo r s new o queue missing c) g;
       taken_final = tt;
     }
 
 -- the step of a character that comes in while the queue is full
 pub moved_full : (r s : ReceiverState) (new : Character) → IsMarked true r → new.origin ≡ Arrived r.arrived → r.arrived < length r.marks →
-    s.queue ≡ r.queue → s.marks ≡ slice_set r.marks r.arrived Dropped → s.is_stray_lost ≡ r.is_stray_lost → Moved true r s (new ∷ []) []
-moved_full r s new w o k queue marks stray =
+    s.queue ≡ r.queue → s.marks ≡ slice_set r.marks r.arrived Dropped → s.is_unscheduled_lost ≡ r.is_unscheduled_lost →
+    Moved true r s (new ∷ []) []
+moved_full r s new w o k queue marks missing =
     let pending : mark_at r.marks r.arrived ≡ Pending = w.to_come r.arrived (omega arith) in
-    let old : AllInQueue r.arrived (slice_set r.marks r.arrived Dropped) r.is_stray_lost r.queue =
-    all_in_queue-set r.arrived r.marks r.is_stray_lost r.arrived Dropped r.queue
-    (none_to_come r.arrived r.marks r.is_stray_lost r.queue w.wait) w.wait in
-    let stay_old : filter (stands s) r.queue ≡ r.queue = filter-waits s r.arrived r.queue (rw (marks, stray) old) in
+    let old : AllInQueue r.arrived (slice_set r.marks r.arrived Dropped) r.is_unscheduled_lost r.queue =
+    all_in_queue-set r.arrived r.marks r.is_unscheduled_lost r.arrived Dropped r.queue
+    (none_to_come r.arrived r.marks r.is_unscheduled_lost r.queue w.wait) w.wait in
+    let stay_old : filter (stands s) r.queue ≡ r.queue = filter-waits s r.arrived r.queue (rw (marks, missing) old) in
     let out : stands s new ≡ false = rw (o, marks, get_or-set_same r.marks r.arrived Dropped Pending k) refl in
     let none : filter (stands s) (new ∷ []) ≡ [] = rw out refl in
     record {
       stay = filter-append (stands s) r.queue (new ∷ []) ∙ (rw (none, stay_old) (rw queue (grind (arith, common_steps))));
-      falls = falls-mark r s r.arrived Dropped (ap is_dropped pending) marks stray;
-      final = λ from g. final-set true r s r.arrived Dropped (λ e. absurd (cc)) marks from (λ c. stray ∙ c) g;
+      falls = falls-mark r s r.arrived Dropped (ap is_dropped pending) marks missing;
+      final = λ from g. final-set true r s r.arrived Dropped (λ e. absurd (cc)) marks from (λ c. missing ∙ c) g;
       taken_final = tt;
     }
 
-pub cannot_stray-less : (fifo : Bool) (r s : ReceiverState) (front : Character) → r.queue ≡ front ∷ s.queue →
-    s.is_stray_lost ≡ r.is_stray_lost →
-    CannotStray fifo r → CannotStray fifo s
-cannot_stray-less true r s front i e c = e ∙ c
-cannot_stray-less false r s front i e c = let all = rw i at c.1 in (e ∙ c.0, all.1)
+pub none_missing-less : (fifo : Bool) (r s : ReceiverState) (front : Character) → r.queue ≡ front ∷ s.queue →
+    s.is_unscheduled_lost ≡ r.is_unscheduled_lost →
+    NoneMissing fifo r → NoneMissing fifo s
+none_missing-less true r s front i e c = e ∙ c
+none_missing-less false r s front i e c = let all = rw i at c.1 in (e ∙ c.0, all.1)
 
 -- a looped character that was taken was the only one, if there is no queue
-pub cannot_stray-taken : (fifo : Bool) (r s : ReceiverState) (front : Character) → r.queue ≡ front ∷ s.queue → length r.queue ≤ room fifo →
-    s.is_stray_lost ≡ false → CannotStray fifo s
-cannot_stray-taken true r s front i h e = e
-cannot_stray-taken false r s front i h e = (e, only s.queue (let n = rw i at h in omega (arith, n)))
+pub none_missing-taken : (fifo : Bool) (r s : ReceiverState) (front : Character) → r.queue ≡ front ∷ s.queue → length r.queue ≤ room fifo →
+    s.is_unscheduled_lost ≡ false → NoneMissing fifo s
+none_missing-taken true r s front i h e = e
+none_missing-taken false r s front i h e = (e, only s.queue (let n = rw i at h in omega (arith, n)))
   where
     only : (characters : List Character) → length characters ≤ 0 → NoneLooped characters
     only [] h = tt
@@ -215,21 +217,21 @@ cannot_stray-taken false r s front i h e = (e, only s.queue (let n = rw i at h i
 -- the front is taken
 pub moved_taken : (fifo : Bool) (r s : ReceiverState) (front : Character) (o : Origin) → IsMarked fifo r → front.origin ≡ o →
     r.queue ≡ front ∷ s.queue →
-    s.marks ≡ set_mark o Read r.marks → s.is_stray_lost ≡ r.is_stray_lost → Moved fifo r s [] (front ∷ [])
-moved_taken fifo r s front (Arrived k) w o i marks stray =
+    s.marks ≡ set_mark o Read r.marks → s.is_unscheduled_lost ≡ r.is_unscheduled_lost → Moved fifo r s [] (front ∷ [])
+moved_taken fifo r s front (Arrived k) w o i marks missing =
     let wait = rw i at w.wait in
     let here = rw o at wait.0 in
     let distinct = rw i at w.distinct in
     let others = rw o at distinct.0 in
     let within : k < length r.marks = omega (arith, here.0, w.counted) in
-    let rest : AllInQueue r.arrived (slice_set r.marks k Read) r.is_stray_lost s.queue =
-    all_in_queue-set r.arrived r.marks r.is_stray_lost k Read s.queue others wait.1 in
-    let stay_rest : filter (stands s) s.queue ≡ s.queue = filter-waits s r.arrived s.queue (rw (marks, stray) rest) in
+    let rest : AllInQueue r.arrived (slice_set r.marks k Read) r.is_unscheduled_lost s.queue =
+    all_in_queue-set r.arrived r.marks r.is_unscheduled_lost k Read s.queue others wait.1 in
+    let stay_rest : filter (stands s) s.queue ≡ s.queue = filter-waits s r.arrived s.queue (rw (marks, missing) rest) in
     let in_front : stands s front ≡ true = rw (o, marks, get_or-set_same r.marks k Read Pending within) refl in
     let whole : filter (stands s) (front ∷ s.queue) ≡ front ∷ s.queue = rw in_front (ap (λ xs. front ∷ xs) stay_rest) in
     record {
       stay = rw (i, append-nil s.queue) whole;
-      falls = falls-mark r s k Read (ap is_dropped here.1) marks stray;
+      falls = falls-mark r s k Read (ap is_dropped here.1) marks missing;
       final = λ from g. final_taken from g (rw marks (get_or-set_same r.marks k Read Pending within));
       taken_final = (rw (o, marks) (get_or-set_same r.marks k Read Pending within), tt);
     }
@@ -240,35 +242,36 @@ moved_taken fifo r s front (Arrived k) w o i marks stray =
         go : (b : Bool) → nat_eq j k ≡ b → mark_at s.marks j ≡ Read
         go true e = let same : j ≡ k = grind arith in rw same h
         go false e = let other : j ≢ k = grind arith in rw (marks, get_or-set_other r.marks k j Read Pending other) g
-    final_taken _ g h = cannot_stray-less fifo r s front i stray g
-moved_taken fifo r s front _ w o i marks stray =
+    final_taken _ g h = none_missing-less fifo r s front i missing g
+moved_taken fifo r s front _ w o i marks missing =
     let wait = rw i at w.wait in
     let here = rw o at wait.0 in
-    let rest : filter (stands s) s.queue ≡ s.queue = filter-waits s r.arrived s.queue (rw (marks, stray) wait.1) in
-    let lost : s.is_stray_lost ≡ false = stray ∙ here in
+    let rest : filter (stands s) s.queue ≡ s.queue = filter-waits s r.arrived s.queue (rw (marks, missing) wait.1) in
+    let lost : s.is_unscheduled_lost ≡ false = missing ∙ here in
     let in_front : stands s front ≡ true = rw (o, lost) refl in
     let whole : filter (stands s) (front ∷ s.queue) ≡ front ∷ s.queue = rw in_front (ap (λ xs. front ∷ xs) rest) in
     record {
       stay = rw (i, append-nil s.queue) whole;
       falls = λ from g. same_stands from g;
       final = λ from g. same_final from g;
-      taken_final = (rw o (cannot_stray-taken fifo r s front i w.in_room lost), tt);
+      taken_final = (rw o (none_missing-taken fifo r s front i w.in_room lost), tt);
     }
   where
-    same_stands : (from : Origin) → origin_stands s.marks s.is_stray_lost from ≡ true → origin_stands r.marks r.is_stray_lost from ≡ true
+    same_stands : (from : Origin) → origin_stands s.marks s.is_unscheduled_lost from ≡ true →
+        origin_stands r.marks r.is_unscheduled_lost from ≡ true
     same_stands (Arrived j) g = rw marks at g
-    same_stands _ g = rw stray at g
+    same_stands _ g = rw missing at g
 
     same_final : (from : Origin) → IsFinal fifo r from → IsFinal fifo s from
     same_final (Arrived j) g = rw marks g
-    same_final _ g = cannot_stray-less fifo r s front i stray g
+    same_final _ g = none_missing-less fifo r s front i missing g
 
 -- the step of a character that takes the place of the one that waits
 pub moved_replaced : (r s : ReceiverState) (old new : Character) (o : Origin) → IsMarked false r → new.origin ≡ Arrived r.arrived →
     r.arrived < length r.marks →
     old.origin ≡ o → r.queue ≡ old ∷ [] → s.queue ≡ new ∷ [] → s.marks ≡ slice_set (set_mark o Dropped r.marks) r.arrived Waiting →
-    s.is_stray_lost ≡ (if is_stray o then true else r.is_stray_lost) → Moved false r s (new ∷ []) []
-moved_replaced r s old new (Arrived k) w n within o i j marks stray =
+    s.is_unscheduled_lost ≡ (if is_unscheduled o then true else r.is_unscheduled_lost) → Moved false r s (new ∷ []) []
+moved_replaced r s old new (Arrived k) w n within o i j marks missing =
     let wait = rw (i, o) at w.wait in
     let below : k < r.arrived = wait.0.0 in
     let waiting : mark_at r.marks k ≡ Waiting = wait.0.1 in
@@ -291,13 +294,13 @@ moved_replaced r s old new (Arrived k) w n within o i j marks stray =
       taken_final = tt;
     }
   where
-    falls_both : (from : Origin) → origin_stands s.marks s.is_stray_lost from ≡ true →
+    falls_both : (from : Origin) → origin_stands s.marks s.is_unscheduled_lost from ≡ true →
         mark_at (slice_set r.marks k Dropped) r.arrived ≡ Pending →
-        mark_at r.marks k ≡ Waiting → origin_stands r.marks r.is_stray_lost from ≡ true
+        mark_at r.marks k ≡ Waiting → origin_stands r.marks r.is_unscheduled_lost from ≡ true
     falls_both (Arrived q) g p h =
         falls-set r.marks k Dropped q (ap is_dropped h)
         (falls-set (slice_set r.marks k Dropped) r.arrived Waiting q (ap is_dropped p) (rw marks at g))
-    falls_both _ g p h = rw stray at g
+    falls_both _ g p h = rw missing at g
 
     final_both : (from : Origin) → IsFinal false r from → mark_at (slice_set r.marks k Dropped) r.arrived ≡ Pending →
         mark_at r.marks k ≡ Waiting → IsFinal false s from
@@ -305,11 +308,11 @@ moved_replaced r s old new (Arrived k) w n within o i j marks stray =
         rw marks
         (read-set (slice_set r.marks k Dropped) r.arrived Waiting q (λ e. absurd (cc))
         (read-set r.marks k Dropped q (λ e. absurd (cc)) g))
-    final_both _ g p h = (stray ∙ g.0, rw j (rw n refl, tt))
-moved_replaced r s old new _ w n within o i j marks stray =
+    final_both _ g p h = (missing ∙ g.0, rw j (rw n refl, tt))
+moved_replaced r s old new _ w n within o i j marks missing =
     let pending : mark_at r.marks r.arrived ≡ Pending = w.to_come r.arrived (omega arith) in
     let comes : mark_at s.marks r.arrived ≡ Waiting = rw marks (get_or-set_same r.marks r.arrived Waiting Pending within) in
-    let out : stands s old ≡ false = rw (o, stray) refl in
+    let out : stands s old ≡ false = rw (o, missing) refl in
     let stays : stands s new ≡ true = rw (n, comes) refl in
     record {
       stay = rw (i, j, out, stays) refl;
@@ -318,10 +321,10 @@ moved_replaced r s old new _ w n within o i j marks stray =
       taken_final = tt;
     }
   where
-    falls_one : (from : Origin) → origin_stands s.marks s.is_stray_lost from ≡ true → mark_at r.marks r.arrived ≡ Pending →
-        origin_stands r.marks r.is_stray_lost from ≡ true
+    falls_one : (from : Origin) → origin_stands s.marks s.is_unscheduled_lost from ≡ true → mark_at r.marks r.arrived ≡ Pending →
+        origin_stands r.marks r.is_unscheduled_lost from ≡ true
     falls_one (Arrived q) g p = falls-set r.marks r.arrived Waiting q (ap is_dropped p) (rw marks at g)
-    falls_one _ g p = let h : not true ≡ true = rw stray at g in absurd (cc)
+    falls_one _ g p = let h : not true ≡ true = rw missing at g in absurd (cc)
 
     final_one : (from : Origin) → IsFinal false r from → mark_at r.marks r.arrived ≡ Pending → IsFinal false s from
     final_one (Arrived q) g p = rw marks (read-set r.marks r.arrived Waiting q (λ e. absurd (cc)) g)

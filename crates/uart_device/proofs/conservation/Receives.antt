@@ -21,29 +21,29 @@ use Rattle.uart_device.proofs.conservation.Moves.{IsFinal, Moved, moved_trans, f
 -- a character of this origin was lost
 pub record Drop (r s : ReceiverState) : Type 0 where
   pub origin : Origin
-  pub stood : origin_stands r.marks r.is_stray_lost origin ≡ true
-  pub lost : origin_stands s.marks s.is_stray_lost origin ≡ false
+  pub stood : origin_stands r.marks r.is_unscheduled_lost origin ≡ true
+  pub lost : origin_stands s.marks s.is_unscheduled_lost origin ≡ false
 
 pub drop_split : (r s t : ReceiverState) → Drop r t → Drop r s ⊎ Drop s t
-drop_split r s t d = go (origin_stands s.marks s.is_stray_lost d.origin) refl
+drop_split r s t d = go (origin_stands s.marks s.is_unscheduled_lost d.origin) refl
   where
-    go : (b : Bool) → origin_stands s.marks s.is_stray_lost d.origin ≡ b → Drop r s ⊎ Drop s t
+    go : (b : Bool) → origin_stands s.marks s.is_unscheduled_lost d.origin ≡ b → Drop r s ⊎ Drop s t
     go true e = inr (record { origin = d.origin; stood = e; lost = d.lost })
     go false e = inl (record { origin = d.origin; stood = d.stood; lost = e })
 
 drop_first : (fifo : Bool) (r s t : ReceiverState) (e xs : List Character) → Moved fifo s t e xs → Drop r s → Drop r t
-drop_first fifo r s t e xs m d = go (origin_stands t.marks t.is_stray_lost d.origin) refl
+drop_first fifo r s t e xs m d = go (origin_stands t.marks t.is_unscheduled_lost d.origin) refl
   where
-    go : (b : Bool) → origin_stands t.marks t.is_stray_lost d.origin ≡ b → Drop r t
-    go true f = let g : origin_stands s.marks s.is_stray_lost d.origin ≡ true = m.falls d.origin f in absurd (cc (d.lost))
+    go : (b : Bool) → origin_stands t.marks t.is_unscheduled_lost d.origin ≡ b → Drop r t
+    go true f = let g : origin_stands s.marks s.is_unscheduled_lost d.origin ≡ true = m.falls d.origin f in absurd (cc (d.lost))
     go false f = record { origin = d.origin; stood = d.stood; lost = f }
 
 drop_second : (fifo : Bool) (r s t : ReceiverState) (e xs : List Character) → Moved fifo r s e xs → Drop s t → Drop r t
 drop_second fifo r s t e xs m d = record { origin = d.origin; stood = m.falls d.origin d.stood; lost = d.lost }
 
--- the marks and the stray flag stay
-no_drop-same : (r s : ReceiverState) → s.marks ≡ r.marks → s.is_stray_lost ≡ r.is_stray_lost → Drop r s → ⊥
-no_drop-same r s m l d = let h : origin_stands r.marks r.is_stray_lost d.origin ≡ false = rw (m, l) at d.lost in cc (d.stood)
+-- the marks and the missing flag stay
+no_drop-same : (r s : ReceiverState) → s.marks ≡ r.marks → s.is_unscheduled_lost ≡ r.is_unscheduled_lost → Drop r s → ⊥
+no_drop-same r s m l d = let h : origin_stands r.marks r.is_unscheduled_lost d.origin ≡ false = rw (m, l) at d.lost in cc (d.stood)
 
 dropped_is : (m : ArrivalMark) → not (is_dropped m) ≡ false → m ≡ Dropped
 dropped_is Pending e = absurd (cc)
@@ -54,14 +54,15 @@ dropped_is Dropped e = refl
 
 -- a mark is set that is none of a drop
 pub no_drop-set : (r s : ReceiverState) (o : Origin) (m : ArrivalMark) → m ≢ Dropped → s.marks ≡ set_mark o m r.marks →
-    s.is_stray_lost ≡ r.is_stray_lost → Drop r s → ⊥
-no_drop-set r s o m new marks stray d = go d.origin d.stood d.lost
+    s.is_unscheduled_lost ≡ r.is_unscheduled_lost → Drop r s → ⊥
+no_drop-set r s o m new marks missing d = go d.origin d.stood d.lost
   where
-    go : (from : Origin) → origin_stands r.marks r.is_stray_lost from ≡ true → origin_stands s.marks s.is_stray_lost from ≡ false → ⊥
+    go : (from : Origin) → origin_stands r.marks r.is_unscheduled_lost from ≡ true →
+        origin_stands s.marks s.is_unscheduled_lost from ≡ false → ⊥
     go (Arrived j) f g =
         let old : mark_at r.marks j ≢ Dropped = λ e. let h : not true ≡ true = rw e at f in cc in
         mark_at-set_mark_not o m Dropped r.marks j new old (dropped_is (mark_at (set_mark o m r.marks) j) (rw marks at g))
-    go _ f g = let q = rw stray at g in cc
+    go _ f g = let q = rw missing at g in cc
 
 -- ---- the overrun flag
 
@@ -146,25 +147,25 @@ receives-trans fifo r s t f g xs ys a b p q = record {
 pub record SameCharacters (r s : ReceiverState) : Type 0 where
   pub queue : s.queue ≡ r.queue
   pub marks : s.marks ≡ r.marks
-  pub stray : s.is_stray_lost ≡ r.is_stray_lost
+  pub missing : s.is_unscheduled_lost ≡ r.is_unscheduled_lost
   pub arrived : s.arrived ≡ r.arrived
 
 moved_same : (fifo : Bool) (r s : ReceiverState) → IsMarked fifo r → SameCharacters r s → Moved fifo r s [] []
 moved_same fifo r s w k = record {
   stay = let all : filter (stands s) r.queue ≡ r.queue =
-      filter-waits s r.arrived r.queue (rw (k.marks, k.stray) w.wait) in rw (k.queue, append-nil r.queue) all;
-  falls = λ o h. rw (k.marks, k.stray) at h;
+      filter-waits s r.arrived r.queue (rw (k.marks, k.missing) w.wait) in rw (k.queue, append-nil r.queue) all;
+  falls = λ o h. rw (k.marks, k.missing) at h;
   final = λ o h. same_final o h;
   taken_final = tt;
 }
   where
-    same_stray : (b : Bool) → IsFinal b r Looped → IsFinal b s Looped
-    same_stray true h = k.stray ∙ h
-    same_stray false h = (k.stray ∙ h.0, rw k.queue h.1)
+    same_missing : (b : Bool) → IsFinal b r Looped → IsFinal b s Looped
+    same_missing true h = k.missing ∙ h
+    same_missing false h = (k.missing ∙ h.0, rw k.queue h.1)
 
     same_final : (o : Origin) → IsFinal fifo r o → IsFinal fifo s o
     same_final (Arrived j) h = rw k.marks h
-    same_final _ h = same_stray fifo h
+    same_final _ h = same_missing fifo h
 
 -- the overrun flag may be shown
 pub receives-same : (fifo : Bool) (r s : ReceiverState) (seen : ℕ) → IsMarked fifo r → SameCharacters r s →
@@ -179,7 +180,7 @@ receives-same fifo r s seen w k f g = record {
   where
     to : Owed r s → Shows seen s
     to (inl h) = f h
-    to (inr h) = absurd (no_drop-same r s k.marks k.stray h)
+    to (inr h) = absurd (no_drop-same r s k.marks k.missing h)
 
 -- the overrun flag stays too, and the line status is not read
 pub receives-still : (fifo : Bool) (r s : ReceiverState) → IsMarked fifo r → SameCharacters r s → s.is_overrun ≡ r.is_overrun →
@@ -191,4 +192,4 @@ receives-still fifo r s w k e = receives-same fifo r s 0 w k (λ h. inr (e ∙ h
     back (inr h) = sym e ∙ h
 
 pub receives-refl : (fifo : Bool) (r : ReceiverState) → IsMarked fifo r → Receives fifo r r [] [] 0
-receives-refl fifo r w = receives-still fifo r r w (record { queue = refl; marks = refl; stray = refl; arrived = refl }) refl
+receives-refl fifo r w = receives-still fifo r r w (record { queue = refl; marks = refl; missing = refl; arrived = refl }) refl

@@ -27,7 +27,7 @@ sends-pending t pending = record { grows = sym (append-nil (out t)); same_overfl
 
 -- ---- a tick outside of loopback
 
-sends-shift : (place : Option Shifting) (t : TransmitterState) → t.shift_place ≡ place → Sends t (shift false place t) []
+sends-shift : (place : Option Shifting) (t : TransmitterState) → t.shift_register ≡ place → Sends t (shift false place t) []
 sends-shift None t e = sends-refl t
 sends-shift (Some s) t e = record {
   grows = grind (arith, common_steps);
@@ -35,7 +35,7 @@ sends-shift (Some s) t e = record {
   place = grind (arith, common_steps);
 }
 
-sends-refill : (place : Option Shifting) (queue : List ℕ) (t : TransmitterState) → t.shift_place ≡ place → t.queue ≡ queue →
+sends-refill : (place : Option Shifting) (queue : List ℕ) (t : TransmitterState) → t.shift_register ≡ place → t.queue ≡ queue →
     Sends t (refill place queue t) []
 sends-refill (Some s) queue t e f = sends-refl t
 sends-refill None [] t e f = sends-refl t
@@ -52,8 +52,8 @@ sends-refill None (x ∷ y ∷ xs) t e f = record {
 
 pub sends-tick : (t : TransmitterState) → Sends t (tick false t) []
 sends-tick t =
-    let u : TransmitterState = shift false t.shift_place t in
-    sends-trans t u (tick false t) [] [] (sends-shift t.shift_place t refl) (sends-refill u.shift_place u.queue u refl refl)
+    let u : TransmitterState = shift false t.shift_register t in
+    sends-trans t u (tick false t) [] [] (sends-shift t.shift_register t refl) (sends-refill u.shift_register u.queue u refl refl)
 
 -- ---- a write with room
 

@@ -153,7 +153,7 @@ tick-still : (c : ChipState) → is_loopback c.latches ≡ false →
 tick-still c e =
     ap (λ (b : Bool). record c {
       transmitter = transmitter.tick b c.transmitter;
-      receiver = receiver.tick c.fifo (looped_byte b c.transmitter.shift_place) c.receiver;
+      receiver = receiver.tick c.fifo (looped_byte b c.transmitter.shift_register) c.receiver;
     }) e
 
 pub went-tick : (x : Modes) (c : ChipState) → loopback x ≡ false → IsSoundChip c → IsIn x c → Went x c (tick c) [] [] [] []
@@ -162,7 +162,7 @@ went-tick x c l s w = rw (tick-still c (loopback-in x c w ∙ l)) (record {
   sends = sends-tick c.transmitter;
   receives =
       receives-still x.fifo c.receiver (grow_timeout c.receiver) (marked-in x c s w)
-      (record { queue = refl; marks = refl; stray = refl; arrived = refl }) refl;
+      (record { queue = refl; marks = refl; missing = refl; arrived = refl }) refl;
   reports = reports-same x.fifo c.receiver (grow_timeout c.receiver) refl refl refl;
   turns = turns-refl c.modem;
 })

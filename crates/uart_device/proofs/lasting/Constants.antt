@@ -21,7 +21,7 @@ module _ (t : TransmitterState) where
   shift-pace : (loopback : Bool) (place : Option Shifting) (u : TransmitterState) → SamePace t u → SamePace t (shift loopback place u)
   shift-pace loopback None u p = p
   shift-pace loopback (Some s) u p =
-      let placed : (place : Option Shifting) → SamePace t (record u { shift_place = place }) =
+      let placed : (place : Option Shifting) → SamePace t (record u { shift_register = place }) =
       λ place. record { capacity = p.capacity; char_ticks = p.char_ticks } in
       one_of _ _ (nat_lt 1 s.ticks_left) (placed _)
       (one_of _ _ loopback (placed None)
@@ -40,8 +40,8 @@ module _ (t : TransmitterState) where
       cleared = λ u pending p. record { capacity = p.capacity; char_ticks = p.char_ticks };
     };
     in_tick =
-        λ loopback u p. let v : TransmitterState = shift loopback u.shift_place u in
-        refill-pace v.shift_place v.queue v (shift-pace loopback u.shift_place u p);
+        λ loopback u p. let v : TransmitterState = shift loopback u.shift_register u in
+        refill-pace v.shift_register v.queue v (shift-pace loopback u.shift_register u p);
   }
 
   load-pace : (fifo : Bool) (byte : ℕ) (u : TransmitterState) → SamePace t u → SamePace t (load fifo byte u)

@@ -41,7 +41,7 @@ loops_if x c d e true p q = p
 loops_if x c d e false p q = q
 
 -- the queues are the same
-same_queues : (t u : TransmitterState) (r s : ReceiverState) → u.queue ≡ t.queue → u.shift_place ≡ t.shift_place → u.wire ≡ t.wire →
+same_queues : (t u : TransmitterState) (r s : ReceiverState) → u.queue ≡ t.queue → u.shift_register ≡ t.shift_register → u.wire ≡ t.wire →
     s.queue ≡ r.queue → Carries t u r s
 same_queues t u r s queue place wire waits =
     record { line = rw (queue, place, waits) refl; wire = wire; place = rw queue (omega arith); fuller = rw waits (omega arith) }

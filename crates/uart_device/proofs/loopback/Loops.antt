@@ -44,7 +44,7 @@ carries-trans t u v r s q a b =
 
 -- ---- a tick in loopback
 
-carries_shift : (fifo : Bool) (place : Option Shifting) (t : TransmitterState) (r : ReceiverState) → t.shift_place ≡ place →
+carries_shift : (fifo : Bool) (place : Option Shifting) (t : TransmitterState) (r : ReceiverState) → t.shift_register ≡ place →
     length (line_of t r) ≤ room fifo →
     Carries t (shift true place t) r (come_back fifo (looped_byte true place) r)
 carries_shift fifo None t r e h = carries-refl t r
@@ -65,7 +65,7 @@ carries_shift fifo (Some s) t r e h = go (nat_lt 1 s.ticks_left) refl
           fuller = simp length-append (omega arith);
         })
 
-carries_refill : (place : Option Shifting) (queue : List ℕ) (t : TransmitterState) (r : ReceiverState) → t.shift_place ≡ place →
+carries_refill : (place : Option Shifting) (queue : List ℕ) (t : TransmitterState) (r : ReceiverState) → t.shift_register ≡ place →
     t.queue ≡ queue → Carries t (refill place queue t) r r
 carries_refill (Some s) queue t r e f = carries-refl t r
 carries_refill None [] t r e f = carries-refl t r
@@ -73,13 +73,13 @@ carries_refill None (x ∷ []) t r e f = record { line = rw (e, f) refl; wire = 
 carries_refill None (x ∷ y ∷ xs) t r e f = record { line = rw (e, f) refl; wire = refl; place = rw f (omega arith); fuller = omega arith }
 
 carries_tick : (fifo : Bool) (t : TransmitterState) (r : ReceiverState) → length (line_of t r) ≤ room fifo →
-    Carries t (transmitter.tick true t) r (receiver.tick fifo (looped_byte true t.shift_place) r)
+    Carries t (transmitter.tick true t) r (receiver.tick fifo (looped_byte true t.shift_register) r)
 carries_tick fifo t r h =
-    let u : TransmitterState = shift true t.shift_place t in
-    let s : ReceiverState = come_back fifo (looped_byte true t.shift_place) r in
-    let a : Carries t u r s = carries_shift fifo t.shift_place t r refl h in
+    let u : TransmitterState = shift true t.shift_register t in
+    let s : ReceiverState = come_back fifo (looped_byte true t.shift_register) r in
+    let a : Carries t u r s = carries_shift fifo t.shift_register t r refl h in
     let b : Carries t (transmitter.tick true t) r s =
-    carries-trans t u (transmitter.tick true t) r s s a (carries_refill u.shift_place u.queue u s refl refl) in
+    carries-trans t u (transmitter.tick true t) r s s a (carries_refill u.shift_register u.queue u s refl refl) in
     record { line = b.line; wire = b.wire; place = b.place; fuller = b.fuller }
 
 -- ---- a stretch in loopback
@@ -146,12 +146,12 @@ loops_tick x c l f =
         tick c ≡
         record c {
           transmitter = transmitter.tick true c.transmitter;
-          receiver = receiver.tick c.fifo (looped_byte true c.transmitter.shift_place) c.receiver;
+          receiver = receiver.tick c.fifo (looped_byte true c.transmitter.shift_register) c.receiver;
         }
     in_loopback e =
         ap (λ (b : Bool). record c {
           transmitter = transmitter.tick b c.transmitter;
-          receiver = receiver.tick c.fifo (looped_byte b c.transmitter.shift_place) c.receiver;
+          receiver = receiver.tick c.fifo (looped_byte b c.transmitter.shift_register) c.receiver;
         }) e
 
 loops_ticks : (x : Modes) (n : ℕ) (c : ChipState) → loopback x ≡ true → Fits x c → Loops x c (ticks n c) [] []

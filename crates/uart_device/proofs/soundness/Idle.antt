@@ -1,4 +1,4 @@
--- Ticks outside of the schedule leave a machine whole, and take few turns.
+-- Ticks outside of the schedule leave a machine whole, and take few jumps.
 use Rattle.std.proofs.Common.{◌≡◌, ℕ, ◌≤◌, Bool, List, [], ◌∷◌, length, Option, Some, None, arith}
 use Rattle.std.proofs.lemmas.Grind.{common_steps}
 use Rattle.uart_chip.specs.declared.event.Event.{Event}
@@ -16,9 +16,9 @@ whole_ticks n c d events e w =
     rw e (whole_perform (Ticks n) events c
     (record { sound = record { chip = w.sound.chip; foreseen = w.sound.foreseen; legal = (tt, w.sound.legal) }; bytes = w.bytes }))
 
--- one in the shift place and 16 in the queue, or a free place and 16 in the queue
+-- one in the shift register and 16 in the queue, or a free place and 16 in the queue
 pub moves-most : (fifo : Bool) (t : TransmitterState) → IsSoundTransmitter fifo t → moves t ≤ 17
-moves-most fifo t w = go t.shift_place t.queue few
+moves-most fifo t w = go t.shift_register t.queue few
   where
     few : length t.queue ≤ 16
     few = let h = w.in_room in let r : room fifo ≤ 16 = grind (arith, common_steps) in omega (arith, h, r)

@@ -8,7 +8,7 @@ use Rattle.uart_chip.specs.declared.event.ArrivalMark.TheVariants.{Pending, Wait
 use Rattle.uart_chip.specs.declared.receiver.Character.{Character}
 use Rattle.uart_chip.specs.declared.receiver.Origin.{Origin}
 use Rattle.uart_chip.specs.declared.receiver.Origin.TheVariants.{Arrived}
-use Rattle.uart_chip.specs.Receiver.{mark_at, set_mark, is_stray}
+use Rattle.uart_chip.specs.Receiver.{mark_at, set_mark, is_unscheduled}
 use Rattle.uart_device.specs.Sound.{IsInQueue, AllInQueue, OtherOrigin, NoneIs, NoneHas, Distinct}
 use Rattle.uart_device.proofs.Lists.{each-append, each-front, each-back, each-weaker}
 
@@ -42,58 +42,59 @@ mark_at-set_mark_not _ m other marks j new old = old
 -- ---- what waits
 
 -- the numbers of those that wait are below those to come
-pub none_to_come : (arrived : ℕ) (marks : List ArrivalMark) (stray : Bool) (queue : List Character) → AllInQueue arrived marks stray queue →
+pub none_to_come : (arrived : ℕ) (marks : List ArrivalMark) (missing : Bool) (queue : List Character) →
+    AllInQueue arrived marks missing queue →
     NoneIs arrived queue
-none_to_come arrived marks stray [] h = tt
-none_to_come arrived marks stray (x ∷ xs) h = (other x.origin h.0, none_to_come arrived marks stray xs h.1)
+none_to_come arrived marks missing [] h = tt
+none_to_come arrived marks missing (x ∷ xs) h = (other x.origin h.0, none_to_come arrived marks missing xs h.1)
   where
-    other : (o : Origin) → IsInQueue arrived marks stray o → OtherOrigin arrived o
+    other : (o : Origin) → IsInQueue arrived marks missing o → OtherOrigin arrived o
     other (Arrived k) h = omega (arith, h.0)
     other _ h = tt
 
 -- another's mark is set
-pub all_in_queue-set : (arrived : ℕ) (marks : List ArrivalMark) (stray : Bool) (k : ℕ) (m : ArrivalMark) (queue : List Character) →
-    NoneIs k queue → AllInQueue arrived marks stray queue → AllInQueue arrived (slice_set marks k m) stray queue
-all_in_queue-set arrived marks stray k m [] d h = tt
-all_in_queue-set arrived marks stray k m (x ∷ xs) d h = (one x.origin d.0 h.0, all_in_queue-set arrived marks stray k m xs d.1 h.1)
+pub all_in_queue-set : (arrived : ℕ) (marks : List ArrivalMark) (missing : Bool) (k : ℕ) (m : ArrivalMark) (queue : List Character) →
+    NoneIs k queue → AllInQueue arrived marks missing queue → AllInQueue arrived (slice_set marks k m) missing queue
+all_in_queue-set arrived marks missing k m [] d h = tt
+all_in_queue-set arrived marks missing k m (x ∷ xs) d h = (one x.origin d.0 h.0, all_in_queue-set arrived marks missing k m xs d.1 h.1)
   where
-    one : (o : Origin) → OtherOrigin k o → IsInQueue arrived marks stray o → IsInQueue arrived (slice_set marks k m) stray o
+    one : (o : Origin) → OtherOrigin k o → IsInQueue arrived marks missing o → IsInQueue arrived (slice_set marks k m) missing o
     one (Arrived j) d h = (h.0, get_or-set_other marks k j m Pending d ∙ h.1)
     one _ d h = h
 
-pub all_in_queue-set_mark : (arrived : ℕ) (marks : List ArrivalMark) (stray : Bool) (o : Origin) (m : ArrivalMark)
+pub all_in_queue-set_mark : (arrived : ℕ) (marks : List ArrivalMark) (missing : Bool) (o : Origin) (m : ArrivalMark)
     (queue : List Character) →
-    NoneHas o queue → AllInQueue arrived marks stray queue → AllInQueue arrived (set_mark o m marks) stray queue
-all_in_queue-set_mark arrived marks stray (Arrived k) m queue d h = all_in_queue-set arrived marks stray k m queue d h
-all_in_queue-set_mark arrived marks stray _ m queue d h = h
+    NoneHas o queue → AllInQueue arrived marks missing queue → AllInQueue arrived (set_mark o m marks) missing queue
+all_in_queue-set_mark arrived marks missing (Arrived k) m queue d h = all_in_queue-set arrived marks missing k m queue d h
+all_in_queue-set_mark arrived marks missing _ m queue d h = h
 
 -- one more has arrived
-pub all_in_queue-next : (arrived : ℕ) (marks : List ArrivalMark) (stray : Bool) (queue : List Character) →
-    AllInQueue arrived marks stray queue → AllInQueue (arrived + 1) marks stray queue
-all_in_queue-next arrived marks stray queue h =
-    each-weaker (λ (x : Character). IsInQueue arrived marks stray x.origin)
-    (λ (x : Character). IsInQueue (arrived + 1) marks stray x.origin)
+pub all_in_queue-next : (arrived : ℕ) (marks : List ArrivalMark) (missing : Bool) (queue : List Character) →
+    AllInQueue arrived marks missing queue → AllInQueue (arrived + 1) marks missing queue
+all_in_queue-next arrived marks missing queue h =
+    each-weaker (λ (x : Character). IsInQueue arrived marks missing x.origin)
+    (λ (x : Character). IsInQueue (arrived + 1) marks missing x.origin)
     (λ x h. one x.origin h) queue h
   where
-    one : (o : Origin) → IsInQueue arrived marks stray o → IsInQueue (arrived + 1) marks stray o
+    one : (o : Origin) → IsInQueue arrived marks missing o → IsInQueue (arrived + 1) marks missing o
     one (Arrived j) h = (omega (arith, h.0), h.1)
     one _ h = h
 
--- a stray character came, so none is lost since
-pub all_in_queue-found : (arrived : ℕ) (marks : List ArrivalMark) (stray : Bool) (queue : List Character) →
-    AllInQueue arrived marks stray queue → AllInQueue arrived marks false queue
-all_in_queue-found arrived marks stray queue h =
-    each-weaker (λ (x : Character). IsInQueue arrived marks stray x.origin) (λ (x : Character). IsInQueue arrived marks false x.origin)
+-- a unscheduled character came, so none is lost since
+pub all_in_queue-found : (arrived : ℕ) (marks : List ArrivalMark) (missing : Bool) (queue : List Character) →
+    AllInQueue arrived marks missing queue → AllInQueue arrived marks false queue
+all_in_queue-found arrived marks missing queue h =
+    each-weaker (λ (x : Character). IsInQueue arrived marks missing x.origin) (λ (x : Character). IsInQueue arrived marks false x.origin)
     (λ x h. one x.origin h) queue h
   where
-    one : (o : Origin) → IsInQueue arrived marks stray o → IsInQueue arrived marks false o
+    one : (o : Origin) → IsInQueue arrived marks missing o → IsInQueue arrived marks false o
     one (Arrived j) h = h
     one _ h = refl
 
-pub all_in_queue-append : (arrived : ℕ) (marks : List ArrivalMark) (stray : Bool) (xs ys : List Character) →
-    AllInQueue arrived marks stray xs → AllInQueue arrived marks stray ys → AllInQueue arrived marks stray (xs ++ ys)
-all_in_queue-append arrived marks stray xs ys h k =
-    each-append (λ (x : Character). IsInQueue arrived marks stray x.origin) xs ys h k
+pub all_in_queue-append : (arrived : ℕ) (marks : List ArrivalMark) (missing : Bool) (xs ys : List Character) →
+    AllInQueue arrived marks missing xs → AllInQueue arrived marks missing ys → AllInQueue arrived marks missing (xs ++ ys)
+all_in_queue-append arrived marks missing xs ys h k =
+    each-append (λ (x : Character). IsInQueue arrived marks missing x.origin) xs ys h k
 
 -- ---- each once
 
@@ -116,23 +117,23 @@ distinct-next (x ∷ xs) new k o n d = (more x.origin n.0 d.0, distinct-next xs 
     more (Arrived j) h d = none_is-append j xs (new ∷ []) d (rw o (λ e. h (sym e)), tt)
     more _ h d = tt
 
--- a stray character has no number
-stray-other : (k : ℕ) (o : Origin) → is_stray o ≡ true → OtherOrigin k o
-stray-other k (Arrived j) s = absurd (cc)
-stray-other k _ s = tt
+-- a unscheduled character has no number
+unscheduled-other : (k : ℕ) (o : Origin) → is_unscheduled o ≡ true → OtherOrigin k o
+unscheduled-other k (Arrived j) s = absurd (cc)
+unscheduled-other k _ s = tt
 
-stray-has : (o : Origin) (characters : List Character) → is_stray o ≡ true → NoneHas o characters
-stray-has (Arrived j) characters s = absurd (cc)
-stray-has _ characters s = tt
+unscheduled-has : (o : Origin) (characters : List Character) → is_unscheduled o ≡ true → NoneHas o characters
+unscheduled-has (Arrived j) characters s = absurd (cc)
+unscheduled-has _ characters s = tt
 
--- a stray character is put last
-pub distinct-stray : (queue : List Character) (new : Character) → is_stray new.origin ≡ true → Distinct queue →
+-- a unscheduled character is put last
+pub distinct-unscheduled : (queue : List Character) (new : Character) → is_unscheduled new.origin ≡ true → Distinct queue →
     Distinct (queue ++ new ∷ [])
-distinct-stray [] new o d = (stray-has new.origin [] o, tt)
-distinct-stray (x ∷ xs) new o d = (more x.origin d.0, distinct-stray xs new o d.1)
+distinct-unscheduled [] new o d = (unscheduled-has new.origin [] o, tt)
+distinct-unscheduled (x ∷ xs) new o d = (more x.origin d.0, distinct-unscheduled xs new o d.1)
   where
     more : (from : Origin) → NoneHas from xs → NoneHas from (xs ++ new ∷ [])
-    more (Arrived k) h = none_is-append k xs (new ∷ []) h (stray-other k new.origin o, tt)
+    more (Arrived k) h = none_is-append k xs (new ∷ []) h (unscheduled-other k new.origin o, tt)
     more _ h = tt
 
 -- ---- what the marks say of all numbers
@@ -155,11 +156,11 @@ to_come-next arrived marks m h k l =
     let apart : k ≢ arrived = omega arith in get_or-set_other marks arrived k m Pending apart ∙ h k (omega arith)
 
 -- the mark of one that waits is set
-pub to_come-set : (arrived : ℕ) (marks old : List ArrivalMark) (stray : Bool) (o : Origin) (m : ArrivalMark) →
-    IsInQueue arrived old stray o → ToCome arrived marks → ToCome arrived (set_mark o m marks)
-to_come-set arrived marks old stray (Arrived j) m w h k l =
+pub to_come-set : (arrived : ℕ) (marks old : List ArrivalMark) (missing : Bool) (o : Origin) (m : ArrivalMark) →
+    IsInQueue arrived old missing o → ToCome arrived marks → ToCome arrived (set_mark o m marks)
+to_come-set arrived marks old missing (Arrived j) m w h k l =
     let apart : k ≢ j = omega (arith, w.0) in get_or-set_other marks j k m Pending apart ∙ h k l
-to_come-set arrived marks old stray _ m w h k l = h k l
+to_come-set arrived marks old missing _ m w h k l = h k l
 
 pub settled-next : (arrived : ℕ) (marks : List ArrivalMark) (m : ArrivalMark) → arrived < length marks → m ≢ Pending →
     Settled arrived marks → Settled (arrived + 1) (slice_set marks arrived m)

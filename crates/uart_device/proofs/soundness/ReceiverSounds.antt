@@ -13,11 +13,12 @@ use Rattle.uart_spec.specs.declared.registers.line_status.TheConstants.LSR
 use Rattle.uart_chip.specs.Masks.{IsWithin}
 use Rattle.uart_chip.specs.Transmitter.{room}
 use Rattle.uart_chip.specs.Receiver.{ReceiverState, set_mark, replace, come_back, grow_timeout, tick, arrive, take_front, report, discard}
-use Rattle.uart_chip.specs.Receiver.{clear, come_in, bring, is_stray}
+use Rattle.uart_chip.specs.Receiver.{clear, enter, arrive_live, is_unscheduled}
 use Rattle.uart_device.specs.Sound.{IsInQueue, AllInQueue, NoneIs, Distinct, AllErrorsLegal, IsSoundReceiver}
 use Rattle.uart_device.proofs.Lists.{each-append}
 use Rattle.uart_device.proofs.soundness.Marks.{length-set_mark, none_to_come, all_in_queue-set, all_in_queue-set_mark, all_in_queue-next}
-use Rattle.uart_device.proofs.soundness.Marks.{all_in_queue-found, all_in_queue-append, distinct-next, distinct-stray, ToCome, Settled}
+use Rattle.uart_device.proofs.soundness.Marks.{all_in_queue-found, all_in_queue-append, distinct-next, distinct-unscheduled, ToCome}
+use Rattle.uart_device.proofs.soundness.Marks.{Settled}
 use Rattle.uart_device.proofs.soundness.Marks.{NoOther}
 use Rattle.uart_device.proofs.soundness.Marks.{to_come-next, to_come-set, settled-next, settled-set, no_other-set, no_other-rest}
 use Rattle.uart_device.proofs.soundness.Marks.{no_other-next}
@@ -51,10 +52,10 @@ sound_beside fifo r overrun reported ticks level w i =
     }
 
 -- a looped character came, so none is lost since
-sound_found : (fifo : Bool) (r : ReceiverState) → IsSoundReceiver fifo r → IsSoundReceiver fifo (record r { is_stray_lost = false })
+sound_found : (fifo : Bool) (r : ReceiverState) → IsSoundReceiver fifo r → IsSoundReceiver fifo (record r { is_unscheduled_lost = false })
 sound_found fifo r w =
     let m = w.marked in
-    let found : AllInQueue r.arrived r.marks false r.queue = all_in_queue-found r.arrived r.marks r.is_stray_lost r.queue m.wait in
+    let found : AllInQueue r.arrived r.marks false r.queue = all_in_queue-found r.arrived r.marks r.is_unscheduled_lost r.queue m.wait in
     record {
       marked = record { wait = found; distinct = m.distinct; to_come = m.to_come; in_room = m.in_room; counted = m.counted };
       settled = w.settled;
@@ -65,13 +66,13 @@ sound_found fifo r w =
 
 -- one that waits alone, as it does without FIFO
 record WaitsAlone (fifo : Bool) (r : ReceiverState) (old : Character) : Type 0 where
-  pub waits : IsInQueue r.arrived r.marks r.is_stray_lost old.origin
+  pub waits : IsInQueue r.arrived r.marks r.is_unscheduled_lost old.origin
   pub others : NoOther (old ∷ []) r.marks
   pub one : 1 ≤ room fifo
 
 waits_alone : (fifo : Bool) (r : ReceiverState) (old : Character) → IsSoundReceiver fifo r → r.queue ≡ old ∷ [] → WaitsAlone fifo r old
 waits_alone fifo r old w e =
-    let waits : AllInQueue r.arrived r.marks r.is_stray_lost (old ∷ []) = rw e at w.marked.wait in
+    let waits : AllInQueue r.arrived r.marks r.is_unscheduled_lost (old ∷ []) = rw e at w.marked.wait in
     let one : length (old ∷ []) ≤ room fifo = rw e at w.marked.in_room in
     record { waits = waits.0; others = rw e at w.no_other; one = one }
 
@@ -103,17 +104,18 @@ safe_arrival_room : (fifo : Bool) (r : ReceiverState) (byte errors : ℕ) (repor
     })
 safe_arrival_room fifo r byte errors reported w k l e =
     let new : Character = record { byte = byte; errors = errors; origin = Arrived r.arrived } in
-    let none : NoneIs r.arrived r.queue = none_to_come r.arrived r.marks r.is_stray_lost r.queue w.marked.wait in
-    let old : AllInQueue (r.arrived + 1) (slice_set r.marks r.arrived Waiting) r.is_stray_lost r.queue =
-    all_in_queue-set (r.arrived + 1) r.marks r.is_stray_lost r.arrived Waiting r.queue none
-    (all_in_queue-next r.arrived r.marks r.is_stray_lost r.queue w.marked.wait) in
-    let here : IsInQueue (r.arrived + 1) (slice_set r.marks r.arrived Waiting) r.is_stray_lost (Arrived r.arrived) =
+    let none : NoneIs r.arrived r.queue = none_to_come r.arrived r.marks r.is_unscheduled_lost r.queue w.marked.wait in
+    let old : AllInQueue (r.arrived + 1) (slice_set r.marks r.arrived Waiting) r.is_unscheduled_lost r.queue =
+    all_in_queue-set (r.arrived + 1) r.marks r.is_unscheduled_lost r.arrived Waiting r.queue none
+    (all_in_queue-next r.arrived r.marks r.is_unscheduled_lost r.queue w.marked.wait) in
+    let here : IsInQueue (r.arrived + 1) (slice_set r.marks r.arrived Waiting) r.is_unscheduled_lost (Arrived r.arrived) =
     (omega arith, get_or-set_same r.marks r.arrived Waiting Pending k) in
     record {
       sound = record {
         marked = record {
           wait =
-              all_in_queue-append (r.arrived + 1) (slice_set r.marks r.arrived Waiting) r.is_stray_lost r.queue (new ∷ []) old (here, tt);
+              all_in_queue-append (r.arrived + 1) (slice_set r.marks r.arrived Waiting) r.is_unscheduled_lost r.queue
+              (new ∷ []) old (here, tt);
           distinct = distinct-next r.queue new r.arrived refl none w.marked.distinct;
           to_come = to_come-next r.arrived r.marks Waiting w.marked.to_come;
           in_room = length-next r.queue new (room fifo) e;
@@ -135,13 +137,13 @@ safe_arrival_lost : (fifo : Bool) (r : ReceiverState) (m : ArrivalMark) (overrun
     Safe fifo (r.arrived + 1) r
     (record r { is_overrun = overrun; timeout_ticks = idle; arrived = r.arrived + 1; marks = slice_set r.marks r.arrived m })
 safe_arrival_lost fifo r m overrun idle w k p q i =
-    let none : NoneIs r.arrived r.queue = none_to_come r.arrived r.marks r.is_stray_lost r.queue w.marked.wait in
+    let none : NoneIs r.arrived r.queue = none_to_come r.arrived r.marks r.is_unscheduled_lost r.queue w.marked.wait in
     record {
       sound = record {
         marked = record {
           wait =
-              all_in_queue-set (r.arrived + 1) r.marks r.is_stray_lost r.arrived m r.queue none
-              (all_in_queue-next r.arrived r.marks r.is_stray_lost r.queue w.marked.wait);
+              all_in_queue-set (r.arrived + 1) r.marks r.is_unscheduled_lost r.arrived m r.queue none
+              (all_in_queue-next r.arrived r.marks r.is_unscheduled_lost r.queue w.marked.wait);
           distinct = w.marked.distinct;
           to_come = to_come-next r.arrived r.marks m w.marked.to_come;
           in_room = w.marked.in_room;
@@ -158,7 +160,7 @@ safe_arrival_lost fifo r m overrun idle w k p q i =
     }
 
 -- the one that waits is replaced
-safe_arrival_replaced : (fifo : Bool) (r : ReceiverState) (byte errors : ℕ) (old : Character) (stray : Bool) → IsSoundReceiver fifo r →
+safe_arrival_replaced : (fifo : Bool) (r : ReceiverState) (byte errors : ℕ) (old : Character) (missing : Bool) → IsSoundReceiver fifo r →
     r.arrived < length r.marks → IsWithin errors LSR.CHARACTER_ERRORS.0 →
     r.queue ≡ old ∷ [] →
     Safe fifo (r.arrived + 1) r (record r {
@@ -168,9 +170,9 @@ safe_arrival_replaced : (fifo : Bool) (r : ReceiverState) (byte errors : ℕ) (o
       timeout_ticks = 0;
       arrived = r.arrived + 1;
       marks = slice_set (set_mark old.origin Dropped r.marks) r.arrived Waiting;
-      is_stray_lost = stray;
+      is_unscheduled_lost = missing;
     })
-safe_arrival_replaced fifo r byte errors old stray w k l e =
+safe_arrival_replaced fifo r byte errors old missing w k l e =
     let new : Character = record { byte = byte; errors = errors; origin = Arrived r.arrived } in
     let marks : List ArrivalMark = set_mark old.origin Dropped r.marks in
     let same : length marks ≡ length r.marks = length-set_mark old.origin Dropped r.marks in
@@ -183,7 +185,7 @@ safe_arrival_replaced fifo r byte errors old stray w k l e =
           distinct = (tt, tt);
           to_come =
               to_come-next r.arrived marks Waiting
-              (to_come-set r.arrived r.marks r.marks r.is_stray_lost old.origin Dropped alone.waits w.marked.to_come);
+              (to_come-set r.arrived r.marks r.marks r.is_unscheduled_lost old.origin Dropped alone.waits w.marked.to_come);
           in_room = alone.one;
           counted = counted-next r.arrived r.arrived Waiting marks within;
         };
@@ -227,25 +229,26 @@ safe_arrive false fifo r byte errors w k l =
         rw f (safe_arrival_replaced fifo r byte errors old _ w k l e)
     swap (old ∷ other ∷ others) e full one = let h : length (old ∷ other ∷ others) ≤ 1 = rw e at one in absurd (omega arith)
 
--- ---- a stray character: one that came back in loopback, or came in without a schedule
+-- ---- a unscheduled character: one that came back in loopback, or came in without a schedule
 
-safe_stray_room : (fifo : Bool) (r : ReceiverState) (byte errors : ℕ) (o : Origin) (reported : Bool) → is_stray o ≡ true →
+safe_unscheduled_room : (fifo : Bool) (r : ReceiverState) (byte errors : ℕ) (o : Origin) (reported : Bool) → is_unscheduled o ≡ true →
     IsSoundReceiver fifo r → IsWithin errors LSR.CHARACTER_ERRORS.0 → nat_lt (length r.queue) (room fifo) ≡ true →
     Safe fifo r.arrived r (record r {
       queue = r.queue ++ record { byte = byte; errors = errors; origin = o } ∷ [];
       is_front_reported = reported;
       timeout_ticks = 0;
-      is_stray_lost = false;
+      is_unscheduled_lost = false;
     })
-safe_stray_room fifo r byte errors (Arrived k) reported s w l e = absurd (cc)
-safe_stray_room fifo r byte errors o reported s w l e =
+safe_unscheduled_room fifo r byte errors (Arrived k) reported s w l e = absurd (cc)
+safe_unscheduled_room fifo r byte errors o reported s w l e =
     let new : Character = record { byte = byte; errors = errors; origin = o } in
-    let found : AllInQueue r.arrived r.marks false r.queue = all_in_queue-found r.arrived r.marks r.is_stray_lost r.queue w.marked.wait in
+    let found : AllInQueue r.arrived r.marks false r.queue =
+    all_in_queue-found r.arrived r.marks r.is_unscheduled_lost r.queue w.marked.wait in
     record {
       sound = record {
         marked = record {
           wait = all_in_queue-append r.arrived r.marks false r.queue (new ∷ []) found (refl, tt);
-          distinct = distinct-stray r.queue new refl w.marked.distinct;
+          distinct = distinct-unscheduled r.queue new refl w.marked.distinct;
           to_come = w.marked.to_come;
           in_room = length-next r.queue new (room fifo) e;
           counted = w.marked.counted;
@@ -260,12 +263,12 @@ safe_stray_room fifo r byte errors o reported s w l e =
       limit = refl;
     }
 
-safe_stray_lost : (fifo : Bool) (r : ReceiverState) → IsSoundReceiver fifo r →
-    Safe fifo r.arrived r (record r { is_overrun = true; timeout_ticks = 0; is_stray_lost = false })
-safe_stray_lost fifo r w =
+safe_unscheduled_lost : (fifo : Bool) (r : ReceiverState) → IsSoundReceiver fifo r →
+    Safe fifo r.arrived r (record r { is_overrun = true; timeout_ticks = 0; is_unscheduled_lost = false })
+safe_unscheduled_lost fifo r w =
     record { sound = sound_beside fifo _ _ _ _ _ (sound_found fifo r w) zero-le; number = refl; known = refl; limit = refl }
 
-safe_stray_replaced : (fifo : Bool) (r : ReceiverState) (byte errors : ℕ) (o : Origin) (old : Character) → is_stray o ≡ true →
+safe_unscheduled_replaced : (fifo : Bool) (r : ReceiverState) (byte errors : ℕ) (o : Origin) (old : Character) → is_unscheduled o ≡ true →
     IsSoundReceiver fifo r → IsWithin errors LSR.CHARACTER_ERRORS.0 → r.queue ≡ old ∷ [] →
     Safe fifo r.arrived r (record r {
       queue = record { byte = byte; errors = errors; origin = o } ∷ [];
@@ -273,10 +276,10 @@ safe_stray_replaced : (fifo : Bool) (r : ReceiverState) (byte errors : ℕ) (o :
       is_front_reported = false;
       timeout_ticks = 0;
       marks = set_mark old.origin Dropped r.marks;
-      is_stray_lost = false;
+      is_unscheduled_lost = false;
     })
-safe_stray_replaced fifo r byte errors (Arrived k) old s w l e = absurd (cc)
-safe_stray_replaced fifo r byte errors o old s w l e =
+safe_unscheduled_replaced fifo r byte errors (Arrived k) old s w l e = absurd (cc)
+safe_unscheduled_replaced fifo r byte errors o old s w l e =
     let new : Character = record { byte = byte; errors = errors; origin = o } in
     let marks : List ArrivalMark = set_mark old.origin Dropped r.marks in
     let same : length marks ≡ length r.marks = length-set_mark old.origin Dropped r.marks in
@@ -286,7 +289,7 @@ safe_stray_replaced fifo r byte errors o old s w l e =
         marked = record {
           wait = (refl, tt);
           distinct = (tt, tt);
-          to_come = to_come-set r.arrived r.marks r.marks r.is_stray_lost old.origin Dropped alone.waits w.marked.to_come;
+          to_come = to_come-set r.arrived r.marks r.marks r.is_unscheduled_lost old.origin Dropped alone.waits w.marked.to_come;
           in_room = alone.one;
           counted = omega (arith, same, w.marked.counted);
         };
@@ -300,13 +303,13 @@ safe_stray_replaced fifo r byte errors o old s w l e =
       limit = refl;
     }
 
-pub safe_stray : (fifo : Bool) (r : ReceiverState) (byte errors : ℕ) (o : Origin) → is_stray o ≡ true → IsSoundReceiver fifo r →
+pub safe_unscheduled : (fifo : Bool) (r : ReceiverState) (byte errors : ℕ) (o : Origin) → is_unscheduled o ≡ true → IsSoundReceiver fifo r →
     IsWithin errors LSR.CHARACTER_ERRORS.0 →
-    Safe fifo r.arrived r (come_in fifo (record { byte = byte; errors = errors; origin = o }) r)
-safe_stray fifo r byte errors (Arrived k) s w l = absurd (cc)
-safe_stray fifo r byte errors o s w l =
-    safe_if fifo r.arrived r _ _ (nat_lt (length r.queue) (room fifo)) (safe_stray_room fifo r byte errors o _ refl w l)
-    (λ full. safe_if fifo r.arrived r _ _ fifo (λ e. safe_stray_lost fifo r w)
+    Safe fifo r.arrived r (enter fifo (record { byte = byte; errors = errors; origin = o }) r)
+safe_unscheduled fifo r byte errors (Arrived k) s w l = absurd (cc)
+safe_unscheduled fifo r byte errors o s w l =
+    safe_if fifo r.arrived r _ _ (nat_lt (length r.queue) (room fifo)) (safe_unscheduled_room fifo r byte errors o _ refl w l)
+    (λ full. safe_if fifo r.arrived r _ _ fifo (λ e. safe_unscheduled_lost fifo r w)
     (λ off. swap r.queue refl full (one_waits fifo r.queue off w.marked.in_room)))
   where
     swap : (queue : List Character) → r.queue ≡ queue → nat_lt (length r.queue) (room fifo) ≡ false → length r.queue ≤ 1 →
@@ -315,18 +318,18 @@ safe_stray fifo r byte errors o s w l =
     swap (old ∷ []) e full one =
         let new : Character = record { byte = byte; errors = errors; origin = o } in
         let f : replace r.queue new r ≡ replace (old ∷ []) new r = ap (λ (xs : List Character). replace xs new r) e in
-        rw f (safe_stray_replaced fifo r byte errors o old refl w l e)
+        rw f (safe_unscheduled_replaced fifo r byte errors o old refl w l e)
     swap (old ∷ other ∷ others) e full one = let h : length (old ∷ other ∷ others) ≤ 1 = rw e at one in absurd (omega arith)
 
 pub safe_come_back : (fifo : Bool) (place : Option ℕ) (r : ReceiverState) → IsSoundReceiver fifo r →
     Safe fifo r.arrived r (come_back fifo place r)
 safe_come_back fifo None r w = record { sound = w; number = refl; known = refl; limit = refl }
-safe_come_back fifo (Some byte) r w = safe_stray fifo r byte 0 Looped refl w refl
+safe_come_back fifo (Some byte) r w = safe_unscheduled fifo r byte 0 Looped refl w refl
 
 pub safe_bring : (loopback fifo : Bool) (r : ReceiverState) (byte errors : ℕ) → IsSoundReceiver fifo r →
-    IsWithin errors LSR.CHARACTER_ERRORS.0 → Safe fifo r.arrived r (bring loopback fifo byte errors r)
+    IsWithin errors LSR.CHARACTER_ERRORS.0 → Safe fifo r.arrived r (arrive_live loopback fifo byte errors r)
 safe_bring true fifo r byte errors w l = record { sound = w; number = refl; known = refl; limit = refl }
-safe_bring false fifo r byte errors w l = safe_stray fifo r byte errors Live refl w l
+safe_bring false fifo r byte errors w l = safe_unscheduled fifo r byte errors Live refl w l
 
 -- ---- a tick
 
@@ -352,7 +355,7 @@ safe_take_front fifo r w = go r.queue refl
         rw f (record { sound = w; number = refl; known = refl; limit = refl })
     go (front ∷ others) e =
         let f : take_front r.queue r ≡ take_front (front ∷ others) r = ap (λ (xs : List Character). take_front xs r) e in
-        let waits : AllInQueue r.arrived r.marks r.is_stray_lost (front ∷ others) = rw e at w.marked.wait in
+        let waits : AllInQueue r.arrived r.marks r.is_unscheduled_lost (front ∷ others) = rw e at w.marked.wait in
         let distinct : Distinct (front ∷ others) = rw e at w.marked.distinct in
         let rest : NoOther (front ∷ others) r.marks = rw e at w.no_other in
         let legal : AllErrorsLegal (front ∷ others) = rw e at w.legal in
@@ -361,9 +364,9 @@ safe_take_front fifo r w = go r.queue refl
         rw f (record {
           sound = record {
             marked = record {
-              wait = all_in_queue-set_mark r.arrived r.marks r.is_stray_lost front.origin Read others distinct.0 waits.1;
+              wait = all_in_queue-set_mark r.arrived r.marks r.is_unscheduled_lost front.origin Read others distinct.0 waits.1;
               distinct = distinct.1;
-              to_come = to_come-set r.arrived r.marks r.marks r.is_stray_lost front.origin Read waits.0 w.marked.to_come;
+              to_come = to_come-set r.arrived r.marks r.marks r.is_unscheduled_lost front.origin Read waits.0 w.marked.to_come;
               in_room = omega (arith, few);
               counted = omega (arith, same, w.marked.counted);
             };
@@ -383,12 +386,12 @@ length-discard : (queue : List Character) (marks : List ArrivalMark) → length 
 length-discard [] marks = refl
 length-discard (x ∷ xs) marks = length-discard xs (set_mark x.origin Discarded marks) ∙ length-set_mark x.origin Discarded marks
 
-to_come-discard : (queue : List Character) (arrived : ℕ) (marks old : List ArrivalMark) (stray : Bool) →
-    AllInQueue arrived old stray queue → ToCome arrived marks → ToCome arrived (discard queue marks)
-to_come-discard [] arrived marks old stray w h = h
-to_come-discard (x ∷ xs) arrived marks old stray w h =
-    to_come-discard xs arrived (set_mark x.origin Discarded marks) old stray w.1
-    (to_come-set arrived marks old stray x.origin Discarded w.0 h)
+to_come-discard : (queue : List Character) (arrived : ℕ) (marks old : List ArrivalMark) (missing : Bool) →
+    AllInQueue arrived old missing queue → ToCome arrived marks → ToCome arrived (discard queue marks)
+to_come-discard [] arrived marks old missing w h = h
+to_come-discard (x ∷ xs) arrived marks old missing w h =
+    to_come-discard xs arrived (set_mark x.origin Discarded marks) old missing w.1
+    (to_come-set arrived marks old missing x.origin Discarded w.0 h)
 
 settled-discard : (queue : List Character) (arrived : ℕ) (marks : List ArrivalMark) → Settled arrived marks →
     Settled arrived (discard queue marks)
@@ -409,7 +412,7 @@ safe_clear fifo on r w =
         marked = record {
           wait = tt;
           distinct = tt;
-          to_come = to_come-discard r.queue r.arrived r.marks r.marks r.is_stray_lost w.marked.wait w.marked.to_come;
+          to_come = to_come-discard r.queue r.arrived r.marks r.marks r.is_unscheduled_lost w.marked.wait w.marked.to_come;
           in_room = zero-le;
           counted = omega (arith, same, w.marked.counted);
         };

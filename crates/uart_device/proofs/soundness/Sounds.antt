@@ -119,13 +119,13 @@ char_ticks-refill None (x ∷ y ∷ xs) t = refl
 
 char_ticks-tick : (loopback : Bool) (t : TransmitterState) → (transmitter.tick loopback t).char_ticks ≡ t.char_ticks
 char_ticks-tick loopback t =
-    let u : TransmitterState = transmitter.shift loopback t.shift_place t in
-    char_ticks-refill u.shift_place u.queue u ∙ char_ticks-shift loopback t.shift_place t
+    let u : TransmitterState = transmitter.shift loopback t.shift_register t in
+    char_ticks-refill u.shift_register u.queue u ∙ char_ticks-shift loopback t.shift_register t
 
 pub steady_tick : (c : ChipState) → IsSoundChip c → Steady c.receiver.arrived c (tick c)
 steady_tick c w =
     let loopback : Bool = is_loopback c.latches in
-    let looped : Option ℕ = looped_byte loopback c.transmitter.shift_place in
+    let looped : Option ℕ = looped_byte loopback c.transmitter.shift_register in
     let a : Steady c.receiver.arrived c (record c { receiver = receiver.tick c.fifo looped c.receiver }) =
     steady_receiver c.receiver.arrived c (receiver.tick c.fifo looped c.receiver) w (safe_tick c.fifo looped c.receiver w.receiver) in
     let b =

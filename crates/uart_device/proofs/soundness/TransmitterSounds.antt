@@ -17,12 +17,12 @@ sound_if : (fifo : Bool) (x y : TransmitterState) (b : Bool) → (b ≡ true →
 sound_if fifo x y true p q = p refl
 sound_if fifo x y false p q = q refl
 
--- a free shift place needs no ticks
-sound_free : (fifo : Bool) (t : TransmitterState) → IsSoundTransmitter fifo t → IsSoundTransmitter fifo (record t { shift_place = None })
+-- a free shift register needs no ticks
+sound_free : (fifo : Bool) (t : TransmitterState) → IsSoundTransmitter fifo t → IsSoundTransmitter fifo (record t { shift_register = None })
 sound_free fifo t w = record { in_room = w.in_room; ticking = tt; at_least_one = w.at_least_one; at_most = w.at_most; on_wire = w.on_wire }
 
 sound_sent : (fifo : Bool) (t : TransmitterState) (byte : ℕ) → IsSoundTransmitter fifo t → nat_lt (length t.wire) t.capacity ≡ true →
-    IsSoundTransmitter fifo (record t { shift_place = None; wire = t.wire ++ byte ∷ [] })
+    IsSoundTransmitter fifo (record t { shift_register = None; wire = t.wire ++ byte ∷ [] })
 sound_sent fifo t byte w e = record {
   in_room = w.in_room;
   ticking = tt;
@@ -34,7 +34,7 @@ sound_sent fifo t byte w e = record {
     next : (wire : List ℕ) (n : ℕ) → nat_lt (length wire) n ≡ true → length (wire ++ byte ∷ []) ≤ n
     next wire n e = let free : length wire < n = grind (arith, common_steps) in simp length-append (omega arith)
 
-pub sound_shift : (fifo loopback : Bool) (place : Option Shifting) (t : TransmitterState) → t.shift_place ≡ place →
+pub sound_shift : (fifo loopback : Bool) (place : Option Shifting) (t : TransmitterState) → t.shift_register ≡ place →
     IsSoundTransmitter fifo t → IsSoundTransmitter fifo (shift loopback place t)
 sound_shift fifo loopback None t e w = w
 sound_shift fifo loopback (Some s) t e w =
@@ -75,8 +75,8 @@ sound_refill fifo None (x ∷ y ∷ xs) t e w =
 
 pub sound_tick : (fifo loopback : Bool) (t : TransmitterState) → IsSoundTransmitter fifo t → IsSoundTransmitter fifo (tick loopback t)
 sound_tick fifo loopback t w =
-    let u : TransmitterState = shift loopback t.shift_place t in
-    sound_refill fifo u.shift_place u.queue u refl (sound_shift fifo loopback t.shift_place t refl w)
+    let u : TransmitterState = shift loopback t.shift_register t in
+    sound_refill fifo u.shift_register u.queue u refl (sound_shift fifo loopback t.shift_register t refl w)
 
 pub sound_load : (fifo : Bool) (byte : ℕ) (t : TransmitterState) → IsSoundTransmitter fifo t → IsSoundTransmitter fifo (load fifo byte t)
 sound_load fifo byte t w =

@@ -44,7 +44,7 @@ module _ (c : ChipState) where
   thr_empty = length c.transmitter.queue == 0
 
   all_empty : Bool
-  all_empty = is_transmitter_empty c.transmitter.queue c.transmitter.shift_place
+  all_empty = is_transmitter_empty c.transmitter.queue c.transmitter.shift_register
 
   fifo_error : Bool
   fifo_error = c.fifo && list_any has_errors (unreported c.receiver.queue c.receiver.is_front_reported)
@@ -71,7 +71,7 @@ module _ (c : ChipState) where
       (front_errors-bit 5 refl c.receiver.queue c.receiver.is_front_reported)
 
   -- nothing is left to send
-  pub status_empty : has_any (line_status c) LSR.TRANSMITTER_EMPTY.0 ≡ is_transmitter_empty c.transmitter.queue c.transmitter.shift_place
+  pub status_empty : has_any (line_status c) LSR.TRANSMITTER_EMPTY.0 ≡ is_transmitter_empty c.transmitter.queue c.transmitter.shift_register
   unfolding data_ready thr_empty all_empty fifo_error
   status_empty =
       line_empty data_ready c.receiver.is_overrun thr_empty all_empty fifo_error _

@@ -18,7 +18,7 @@ struct Counter {
 }
 
 impl Counter {
-    // The machine, for one more access.
+    // Counts one more access, and returns the machine for it.
     fn counted(&mut self) -> &mut Device16550 {
         self.accesses = self.accesses.wrapping_add(1);
         &mut self.machine
@@ -38,7 +38,7 @@ impl Backend for Counter {
     }
 }
 
-// A driver for an idle chip, which it has initialised.
+// Returns a driver for an idle chip, which it has initialised.
 fn idle(
     rt: &HostRuntime,
     chip: Chip,
@@ -133,7 +133,7 @@ const LOOPBACK_TESTS: [(Chip, Option<FifoTriggerLevel>, [usize; 8]); 4] = [
     ),
 ];
 
-// What a loopback test under a spin limit returns, and its accesses.
+// Returns what a loopback test under a spin limit returns, and its accesses.
 fn tested(
     rt: &HostRuntime,
     chip: Chip,

@@ -1,11 +1,12 @@
-//! Time that passes outside of the schedule, and in how many turns.
+//! Time that passes outside of the schedule, and in how many jumps.
 use super::{DATA, FCR, IER, ISR, MCR, arrive, machine};
 use crate::{ArrivalMark, Chip, Event};
 use std::test::Fail;
 use uart_16550::backend::Backend;
 
-// A machine to whose transmitter this many characters were written, each access behind this event of the schedule: `Access` lets
-// no tick pass, so that all characters stay in the queue. Returns in how many turns the ticks pass, and what is sent and held then.
+// Returns a machine to whose transmitter this many characters were written, each access behind this
+// event of the schedule: `Access` lets no tick pass, so that all characters stay in the queue.
+// Returns in how many jumps the ticks pass, and what is sent and held then.
 fn idled(
     rt: &HostRuntime,
     (gate, char_ticks): (Event, u16),
@@ -18,8 +19,8 @@ fn idled(
     for _character in 0..characters {
         chip.write(DATA, 0x55);
     }
-    let turns = chip.idle(ticks);
-    Ok((turns, chip.wire().len(), chip.held_len()))
+    let jumps = chip.idle(ticks);
+    Ok((jumps, chip.wire().len(), chip.held_len()))
 }
 
 const UNGATED: (Event, u16) = (Event::Access, 5);
@@ -27,10 +28,10 @@ const UNGATED: (Event, u16) = (Event::Access, 5);
 const TICKING: (Event, u16) = (Event::Lines(0), 1000);
 
 #[test]
-fn turns_pass_the_ticks(rt: HostRuntime) -> Result<(), Fail> {
+fn jumps_pass_the_ticks(rt: HostRuntime) -> Result<(), Fail> {
     for (gate, given, mcr, want) in [
-        // Each move is a turn, and so is what is left. A character of 5 ticks enters the free shift place in the first and leaves it
-        // in the sixth.
+        // Each move is a turn, and so is what is left. A character of 5 ticks enters the free shift
+        // place in the first and leaves it in the sixth.
         (UNGATED, (0, 64, 0), 0x00, (0, 0, 0)),
         (UNGATED, (0, 64, 1), 0x00, (1, 0, 0)),
         (UNGATED, (0, 64, 65_535), 0x00, (1, 0, 0)),
@@ -43,14 +44,16 @@ fn turns_pass_the_ticks(rt: HostRuntime) -> Result<(), Fail> {
         (UNGATED, (16, 64, 80), 0x00, (17, 15, 1)),
         (UNGATED, (16, 64, 81), 0x00, (17, 16, 0)),
         (UNGATED, (16, 64, 82), 0x00, (18, 16, 0)),
-        // Seventeen characters take at most 18 turns. The first has 985 of its 1,000 ticks left when the last is written.
+        // Seventeen characters take at most 18 jumps. The first has 985 of its 1,000 ticks left
+        // when the last is written.
         (TICKING, (17, 64, 0), 0x00, (0, 0, 17)),
         (TICKING, (17, 64, 984), 0x00, (1, 0, 17)),
         (TICKING, (17, 64, 985), 0x00, (1, 1, 16)),
         (TICKING, (17, 64, 16_984), 0x00, (17, 16, 1)),
         (TICKING, (17, 64, 16_985), 0x00, (17, 17, 0)),
         (TICKING, (17, 64, 65_535), 0x00, (18, 17, 0)),
-        // A full wire takes no turns: the character in the shift place waits there, and those behind it. In loopback no wire is needed.
+        // A full wire takes no jumps: the character in the shift register waits there, and those
+        // behind it. In loopback no wire is needed.
         (TICKING, (17, 0, 65_535), 0x00, (1, 0, 17)),
         (TICKING, (17, 1, 65_535), 0x00, (2, 1, 16)),
         (TICKING, (17, 16, 65_535), 0x00, (17, 16, 1)),
@@ -62,16 +65,17 @@ fn turns_pass_the_ticks(rt: HostRuntime) -> Result<(), Fail> {
     Ok(())
 }
 
-// A reception timeout is due after four character times, of which the read itself takes the last tick.
+// A reception timeout is due after four character times, of which the read itself takes the last
+// tick.
 #[test]
 fn idle_ticks_count_towards_a_timeout(rt: HostRuntime) -> Result<(), Fail> {
-    for (idle, turns, shown) in [(18, 1, 0xc1), (19, 1, 0xcc), (u16::MAX, 1, 0xcc)] {
+    for (idle, jumps, shown) in [(18, 1, 0xc1), (19, 1, 0xcc), (u16::MAX, 1, 0xcc)] {
         let mut chip = machine(&rt, Chip::Uart16550A, 5, 64, &[Event::Mark, arrive(0x41)])?;
         chip.write(FCR, 0xc1);
         chip.write(IER, 0x01);
         chip.next();
         chip.next();
-        assert_eq!(rt; chip.idle(idle), turns);
+        assert_eq!(rt; chip.idle(idle), jumps);
         assert_eq!(rt; chip.read(ISR), shown, "{idle} ticks");
     }
     Ok(())

@@ -14,7 +14,8 @@ fn live(chip: Chip) -> Result<LiveChip, Fail> {
     Ok(LiveChip::new(chip, 4, 64)?)
 }
 
-// An owner's view of the chip: what is on the wire, to go out, and waiting, and the room for both.
+// Returns an owner's view of the chip: what is on the wire, to go out, and waiting, and the room
+// for both.
 fn lengths(chip: &LiveChip) -> [usize; 5] {
     [
         chip.wire().len(),
@@ -137,8 +138,122 @@ fn characters_are_read_in_order_or_an_overrun_shows(rt: HostRuntime) -> Result<(
     Ok(())
 }
 
-// A chip that is busy in each part: bytes on the wire, in the shift place and behind it, characters of which one has an error, an
-// overrun, changed lines, and interrupts.
+// How the owner of a chip passes characters to it.
+#[derive(Clone, Copy, Debug)]
+enum Arriving {
+    Withdraws,
+    Holds,
+}
+
+impl Arriving {
+    fn arrive(self, chip: &mut LiveChip, byte: u8) -> Result<(), InputError> {
+        match self {
+            Arriving::Withdraws => chip.arrive(byte, registers::LSR::empty()),
+            Arriving::Holds => chip.arrive_holding_timeout(byte, registers::LSR::empty()),
+        }
+    }
+}
+
+// What came of sixteen characters: the runs of the guest's handler, those in which it found no
+// interrupt, and the sum of what it read.
+#[derive(Clone, Copy, Debug, Default, PartialEq, Eq)]
+struct Runs {
+    made: usize,
+    for_nothing: usize,
+    sum: usize,
+}
+
+impl Runs {
+    // The handler reads ISR and, if there is an interrupt, all that waits.
+    fn run(&mut self, chip: &mut LiveChip) {
+        self.made = self.made.saturating_add(1);
+        if chip.read(ISR) == 0xc1 {
+            self.for_nothing = self.for_nothing.saturating_add(1);
+            return;
+        }
+        for _ in 0..16 {
+            if chip.read(LSR) == 0x60 {
+                return;
+            }
+            self.sum = self.sum.saturating_add(chip.read(DATA) as usize);
+        }
+    }
+}
+
+// A character arrives every four character times, as the timeout is due. The handler runs if the
+// interrupt line was up before.
+#[test]
+fn runs_of_a_handler(rt: HostRuntime) -> Result<(), Fail> {
+    for (arriving, want) in [
+        // The trigger level, 8, is reached by the 8th character and by the 16th; the handler runs
+        // between them too.
+        (
+            Arriving::Withdraws,
+            Runs {
+                made: 14,
+                for_nothing: 12,
+                sum: 136,
+            },
+        ),
+        // It runs after each second character, and reads two.
+        (
+            Arriving::Holds,
+            Runs {
+                made: 8,
+                for_nothing: 0,
+                sum: 136,
+            },
+        ),
+    ] {
+        let mut chip = live(Chip::Uart16550A)?;
+        chip.write(FCR, 0x81);
+        chip.write(IER, 0x05);
+        let mut runs = Runs::default();
+        for byte in 1..=16 {
+            let was_interrupting = chip.is_interrupting();
+            arriving.arrive(&mut chip, byte)?;
+            if was_interrupting {
+                runs.run(&mut chip);
+            }
+            chip.ticks(16);
+        }
+        assert_eq!(rt; runs, want, "{arriving:?}");
+    }
+    Ok(())
+}
+
+// What ISR shows after each step, with the FIFO on and a trigger level of 14.
+#[test]
+fn a_timeout_is_held_until_data_is_read(rt: HostRuntime) -> Result<(), Fail> {
+    for (arriving, shown) in [
+        (Arriving::Withdraws, [0xc1, 0xcc, 0xc1, 0xc1, 0xc1]),
+        (Arriving::Holds, [0xc1, 0xcc, 0xcc, 0xc1, 0xc1]),
+    ] {
+        let mut chip = live(Chip::Uart16550A)?;
+        chip.write(FCR, 0xc1);
+        chip.write(IER, 0x01);
+        arriving.arrive(&mut chip, 0x41)?;
+        chip.ticks(15);
+        let early = chip.read(ISR);
+        chip.ticks(1);
+        let due = chip.read(ISR);
+        arriving.arrive(&mut chip, 0x42)?;
+        let after_another = chip.read(ISR);
+        assert_eq!(rt; chip.read(DATA), 0x41);
+        let after_a_read = chip.read(ISR);
+        chip.ticks(16);
+        chip.write(FCR, 0xc3);
+        arriving.arrive(&mut chip, 0x43)?;
+        assert_eq!(rt;
+            [early, due, after_another, after_a_read, chip.read(ISR)],
+            shown
+        );
+    }
+    Ok(())
+}
+
+// Returns a chip that is busy in each part: bytes on the wire, in the shift register and behind it,
+// characters of which one has an error, an overrun, changed lines, and interrupts.
 fn busy() -> Result<LiveChip, Fail> {
     let mut chip = live(Chip::Uart16550A)?;
     chip.write(FCR, 0x41);
@@ -157,7 +272,7 @@ fn busy() -> Result<LiveChip, Fail> {
     Ok(chip)
 }
 
-// What the guest reads of each register, one after the other.
+// Returns what the guest reads of each register, one after the other.
 fn read_all(chip: &mut LiveChip) -> [u8; 8] {
     [
         chip.read(DATA),
@@ -171,7 +286,7 @@ fn read_all(chip: &mut LiveChip) -> [u8; 8] {
     ]
 }
 
-// Both do the same from now on.
+// Asserts that both do the same from now on.
 fn go_on_alike(rt: &impl Abort, one: &mut LiveChip, other: &mut LiveChip) {
     for count in [0, 1, 3, 100] {
         assert_eq!(rt; one.ticks(count), other.ticks(count));
@@ -248,7 +363,7 @@ fn make(change: Change, data: &mut ChipData) {
         }
         Change::TicksLeft(ticks_left) => {
             let byte = 0x41;
-            data.transmitter.shift_place = Some(Shifting { byte, ticks_left });
+            data.transmitter.shift_register = Some(Shifting { byte, ticks_left });
         }
         Change::CharTicks(ticks) => data.transmitter.char_ticks = ticks,
         Change::WireCapacity(capacity) => data.transmitter.wire_capacity = capacity,

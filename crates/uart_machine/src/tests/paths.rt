@@ -79,7 +79,7 @@ fn laws_are_called() {
     scripts_have_one_output();
 }
 
-// The data of a 16450 that shifts a byte out while a character waits.
+// Returns the data of a 16450 that shifts a byte out while a character waits.
 fn live_data() -> ChipData {
     let mut queue = ArrayVec::new();
     let _ = queue.try_push(Character {
@@ -100,7 +100,7 @@ fn live_data() -> ChipData {
         fifo: false,
         transmitter: TransmitterData {
             queue: ArrayVec::new(),
-            shift_place: Some(Shifting {
+            shift_register: Some(Shifting {
                 byte: 0x41,
                 ticks_left: 1,
             }),

@@ -11,7 +11,7 @@ use uart_ring::Uart16550Ring;
 use uart_spec::Config;
 use uart_spec::registers::{FifoTriggerLevel, IER, LSR, MSR};
 
-// Rings of these capacities over an initialised driver of a machine with this schedule.
+// Returns rings of these capacities over an initialised driver of a machine with this schedule.
 fn rings(
     rt: &HostRuntime,
     (chip, schedule): (Chip, &[Event]),
@@ -37,7 +37,8 @@ fn bytes(some: &[u8]) -> ArrayVec<u8, 64> {
     copy
 }
 
-// One call after the other, each in a run of its own, and whether receiving is paused after it.
+// Makes one call after the other, each in a run of its own, and returns whether receiving is
+// paused after it.
 fn made(
     rt: &(impl AllocGlobal + Abort),
     ring: &mut Uart16550Ring<Device16550>,
@@ -50,6 +51,20 @@ fn made(
         assert_eq!(rt; &answers[0], want, "{call:?}");
         assert_eq!(rt; ring.is_paused(), *is_paused, "after {call:?}");
     }
+}
+
+// Resumes full rings over an empty chip. All bytes move to the chip, and one more is accepted,
+// which moves at the interrupt.
+fn resumed(rt: &(impl AllocGlobal + Abort), ring: &mut Uart16550Ring<Device16550>) {
+    let steps = [
+        (RingCall::ResumeTransmit, RingAnswer::Done, false),
+        (RingCall::Queue(bytes(b"i")), RingAnswer::Count(1), false),
+        (RingCall::Next, RingAnswer::Done, false),
+        (RingCall::Next, RingAnswer::Done, false),
+        (RingCall::Service, RingAnswer::Count(1), false),
+    ];
+    made(rt, ring, &steps);
+    assert_eq!(rt; ring.transmit_len(), 0);
 }
 
 #[test]
@@ -95,15 +110,9 @@ fn a_full_ring_goes_on_after_an_init(rt: HostRuntime) -> Result<(), Fail> {
         // It is asleep: no byte is accepted, and no interrupt is shown.
         (RingCall::Queue(bytes(b"i")), RingAnswer::Count(0), false),
         (RingCall::Service, RingAnswer::Count(0), false),
-        // It is awake: the bytes are sent, and one more at the interrupt.
-        (RingCall::ResumeTransmit, RingAnswer::Done, false),
-        (RingCall::Queue(bytes(b"i")), RingAnswer::Count(1), false),
-        (RingCall::Next, RingAnswer::Done, false),
-        (RingCall::Next, RingAnswer::Done, false),
-        (RingCall::Service, RingAnswer::Count(1), false),
     ];
     made(&rt, &mut ring, &steps);
-    assert_eq!(rt; ring.transmit_len(), 0);
+    resumed(&rt, &mut ring);
     let machine = ring.inner().backend();
     assert_eq!(rt; machine.wire(), b"abcdefgh".as_slice());
     assert_eq!(rt; machine.held_at(0), Some(b'i'));
@@ -154,14 +163,9 @@ fn a_full_ring_goes_on_when_cts_comes_back(rt: HostRuntime) -> Result<(), Fail> 
         (RingCall::Service, RingAnswer::Count(1), false),
         (RingCall::TakeModem, RingAnswer::Modem(came_back), false),
         (RingCall::Queue(bytes(b"i")), RingAnswer::Count(0), false),
-        (RingCall::ResumeTransmit, RingAnswer::Done, false),
-        (RingCall::Queue(bytes(b"i")), RingAnswer::Count(1), false),
-        (RingCall::Next, RingAnswer::Done, false),
-        (RingCall::Next, RingAnswer::Done, false),
-        (RingCall::Service, RingAnswer::Count(1), false),
     ];
     made(&rt, &mut ring, &steps);
-    assert_eq!(rt; ring.transmit_len(), 0);
+    resumed(&rt, &mut ring);
     assert_eq!(rt; ring.inner().backend().wire(), b"abcdefgh".as_slice());
     Ok(())
 }

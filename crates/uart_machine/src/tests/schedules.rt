@@ -8,7 +8,7 @@ use uart_16550::backend::Backend;
 use uart_spec::Config;
 use uart_spec::registers::FifoTriggerLevel;
 
-// What a dump shows of IER, ISR, LCR, MCR, LSR, MSR and SPR.
+// Returns what a dump shows of IER, ISR, LCR, MCR, LSR, MSR and SPR.
 fn registers(uart: &mut Uart16550<Device16550>) -> [u8; 7] {
     let dump = uart.config_register_dump();
     [
@@ -22,7 +22,7 @@ fn registers(uart: &mut Uart16550<Device16550>) -> [u8; 7] {
     ]
 }
 
-// Whether the FIFO is on, for the driver and in the chip.
+// Returns whether the FIFO is on, for the driver and in the chip.
 fn fifos(uart: &Uart16550<Device16550>) -> (bool, bool) {
     (uart.fifo_enabled(), uart.backend().fifo_enabled())
 }
@@ -72,7 +72,8 @@ fn an_init_clears_what_was_left(rt: HostRuntime) -> Result<(), Fail> {
     Ok(())
 }
 
-// A byte in the shift place goes out; an `init` discards what a FIFO still holds by then, and a 16450 keeps its one byte.
+// A byte in the shift register goes out; an `init` discards what a FIFO still holds by then, and a
+// 16450 keeps its one byte.
 #[test]
 fn an_init_lets_a_byte_go_out(rt: HostRuntime) -> Result<(), Fail> {
     let cases: [(Chip, u16, &[u8], u64); 4] = [
@@ -100,7 +101,8 @@ fn an_init_lets_a_byte_go_out(rt: HostRuntime) -> Result<(), Fail> {
     Ok(())
 }
 
-// The driver takes the FIFO to be on and writes five bytes at once. The chip has room for one, so three are lost.
+// The driver takes the FIFO to be on and writes five bytes at once. The chip has room for one, so
+// three are lost.
 #[test]
 fn a_fifo_is_switched_off_behind_the_driver(rt: HostRuntime) -> Result<(), Fail> {
     let mut uart = initialised(&rt, Chip::Uart16550A, Some(FifoTriggerLevel::Fourteen))?;
@@ -140,7 +142,8 @@ fn a_fifo_is_switched_on_behind_the_driver(rt: HostRuntime) -> Result<(), Fail> 
     Ok(())
 }
 
-// The test puts back what it found, so what is sent after it still comes back, until the next `init`.
+// The test puts back what it found, so what is sent after it still comes back, until the next
+// `init`.
 #[test]
 fn a_loopback_test_leaves_loopback_on(rt: HostRuntime) -> Result<(), Fail> {
     let mut uart = initialised(&rt, Chip::Uart16550A, Some(FifoTriggerLevel::Fourteen))?;
@@ -161,7 +164,8 @@ fn a_loopback_test_leaves_loopback_on(rt: HostRuntime) -> Result<(), Fail> {
     Ok(())
 }
 
-// A byte that is written withdraws the interrupt. It is due again once the byte moves on, for which a tick has to pass.
+// A byte that is written withdraws the interrupt. It is due again once the byte moves on, for which
+// a tick has to pass.
 #[test]
 fn thr_empty_is_due_again_after_a_byte(rt: HostRuntime) -> Result<(), Fail> {
     for chip in [Chip::Uart16550A, Chip::Uart16450] {

@@ -11,7 +11,7 @@ mod streams;
 // A first line, of 16 bytes.
 const HEADER: &str = "chip 16450 4 64\n";
 
-// What is reported for a text that is played, or `a script`.
+// Returns what is reported for a text that is played, or `a script`.
 fn told(rt: &impl AllocGlobal, text: &[u8]) -> Result<String, Fail> {
     let mut output = Vec::new(rt.alloc());
     let result = play(rt.alloc(), &mut Std::new(text), &mut Std::new(&mut output));
@@ -22,7 +22,7 @@ fn told(rt: &impl AllocGlobal, text: &[u8]) -> Result<String, Fail> {
     })
 }
 
-// Each of these lines is reported so, after a beginning.
+// Asserts that each of these lines is reported so, after a beginning.
 fn assert_told(
     rt: &(impl AllocGlobal + Abort),
     front: &str,

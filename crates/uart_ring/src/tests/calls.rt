@@ -16,7 +16,8 @@ use uart_spec::registers::{self, MSR as ModemStatus};
 
 #[test]
 fn bytes_are_queued_and_sent(rt: HostRuntime) -> Result<(), Fail> {
-    // The FIFO takes 16 bytes, and the interrupt is enabled for the rest. The second burst lies around the end of the ring.
+    // The FIFO takes 16 bytes, and the interrupt is enabled for the rest. The second burst lies
+    // around the end of the ring.
     let calls = [
         Queue(b"hello, world! 123456", 20),
         Left(4),
@@ -125,7 +126,8 @@ fn receiving_is_paused_by_a_full_ring(rt: HostRuntime) -> Result<(), Fail> {
 
 #[test]
 fn line_errors_are_noted(rt: HostRuntime) -> Result<(), Fail> {
-    // Serving sees an overrun. While bytes are received, a look sees a parity error, which the driver saves.
+    // Serving sees an overrun. While bytes are received, a look sees a parity error, which the
+    // driver saves.
     let answers = [
         LINE_STATUS,
         0x63,

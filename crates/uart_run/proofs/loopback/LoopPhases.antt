@@ -46,7 +46,7 @@ no_line (x ∷ xs) place queue e = absurd (cc)
 pub idle_sent : (x : Modes) (gone : List ℕ) (c : ChipState) → IsIdle x gone c → IsSent gone c.transmitter
 idle_sent x gone c i =
     let t = c.transmitter in
-    let p = no_line (map (λ (k : Character). k.byte) c.receiver.queue) t.shift_place t.queue i.line in
+    let p = no_line (map (λ (k : Character). k.byte) c.receiver.queue) t.shift_register t.queue i.line in
     record { queue = p.0; place = p.1; wire = i.wire }
 
 sent_idle : (x : Modes) (gone : List ℕ) (c : ChipState) → IsIn x c → IsSent gone c.transmitter → length c.receiver.queue ≡ 0 →

@@ -54,7 +54,7 @@ few_left limit m v = let most = left-most m.chip.fifo m.chip.transmitter v.sound
 
 -- where the transmitter is empty, it waits to be read
 all_waits : (gone : List ℕ) (c : ChipState) → IsSent gone c.transmitter → length (line_in c) ≡ length c.receiver.queue
-all_waits gone c s = go c.transmitter.shift_place c.transmitter.queue s.place s.queue
+all_waits gone c s = go c.transmitter.shift_register c.transmitter.queue s.place s.queue
   where
     byte : Character → ℕ
     byte character = character.byte
@@ -85,7 +85,7 @@ data_awaited x i = record { kept = λ m n line r w step. kept m n line w step; s
     shows m n line r w step e =
         let t = n.chip.transmitter in
         let sound = r.sound.chip.transmitter in
-        let sent = sent_shown t (all_empty t.char_ticks sound.at_least_one t.shift_place t.queue sound.ticking e) in
+        let sent = sent_shown t (all_empty t.char_ticks sound.at_least_one t.shift_register t.queue sound.ticking e) in
         let waits : 0 < length n.chip.receiver.queue = omega (arith, all_waits (out t) n.chip sent, w.some) in
         has_one 0 line ∙ (look_data m n line step ∙ positive (length n.chip.receiver.queue) waits)
 

@@ -32,7 +32,7 @@ nearer-less j k t u h a =
 -- ---- one tick
 
 -- a free place is filled
-nearer-refill : (queue : List ℕ) (t : TransmitterState) → t.shift_place ≡ None → t.queue ≡ queue → Nearer 1 t (refill None queue t)
+nearer-refill : (queue : List ℕ) (t : TransmitterState) → t.shift_register ≡ None → t.queue ≡ queue → Nearer 1 t (refill None queue t)
 nearer-refill [] t e f = record { fewer = rw (e, f) (omega arith); no_longer = omega arith; capacity = refl; char_ticks = refl }
 nearer-refill (x ∷ []) t e f =
     record { fewer = rw (e, f) (omega arith); no_longer = rw (e, f) (grind (arith, common_steps)); capacity = refl; char_ticks = refl }
@@ -45,13 +45,13 @@ nearer-refill (x ∷ y ∷ xs) t e f =
     }
 
 -- after a shift that left the transmitter so
-nearer-shifted : (loopback : Bool) (t u : TransmitterState) → shift loopback t.shift_place t ≡ u →
-    Nearer 1 t (refill u.shift_place u.queue u) → Nearer 1 t (tick loopback t)
-nearer-shifted loopback t u e n = subst (λ (v : TransmitterState). Nearer 1 t (refill v.shift_place v.queue v)) (sym e) n
+nearer-shifted : (loopback : Bool) (t u : TransmitterState) → shift loopback t.shift_register t ≡ u →
+    Nearer 1 t (refill u.shift_register u.queue u) → Nearer 1 t (tick loopback t)
+nearer-shifted loopback t u e n = subst (λ (v : TransmitterState). Nearer 1 t (refill v.shift_register v.queue v)) (sym e) n
 
 -- a character has left its place, which is filled
-nearer-freed : (s : Shifting) (t u : TransmitterState) → t.shift_place ≡ Some s → nat_lt 1 s.ticks_left ≡ false → 1 ≤ s.ticks_left →
-    u.shift_place ≡ None → u.queue ≡ t.queue → u.char_ticks ≡ t.char_ticks → u.capacity ≡ t.capacity → length (out u) ≤ length (out t) →
+nearer-freed : (s : Shifting) (t u : TransmitterState) → t.shift_register ≡ Some s → nat_lt 1 s.ticks_left ≡ false → 1 ≤ s.ticks_left →
+    u.shift_register ≡ None → u.queue ≡ t.queue → u.char_ticks ≡ t.char_ticks → u.capacity ≡ t.capacity → length (out u) ≤ length (out t) →
     Nearer 1 t (refill None u.queue u)
 nearer-freed s t u e last some f g c k h = go u.queue refl
   where
@@ -78,11 +78,11 @@ nearer-freed s t u e last some f g c k h = go u.queue refl
         }
 
 -- a character is shifted on, or leaves for the wire, where there is room, or comes back
-nearer-some : (loopback : Bool) (s : Shifting) (t : TransmitterState) → t.shift_place ≡ Some s → 1 ≤ s.ticks_left →
+nearer-some : (loopback : Bool) (s : Shifting) (t : TransmitterState) → t.shift_register ≡ Some s → 1 ≤ s.ticks_left →
     (loopback ≡ false → length (out t) ≤ t.capacity) → Nearer 1 t (tick loopback t)
 nearer-some loopback s t e some free = go (nat_lt 1 s.ticks_left) refl loopback refl
   where
-    shifts : (u : TransmitterState) → shift loopback (Some s) t ≡ u → shift loopback t.shift_place t ≡ u
+    shifts : (u : TransmitterState) → shift loopback (Some s) t ≡ u → shift loopback t.shift_register t ≡ u
     shifts u h = ap (λ place. shift loopback place t) e ∙ h
 
     long : length (out t) ≡ length t.wire + suc (length t.queue)
@@ -90,7 +90,7 @@ nearer-some loopback s t e some free = go (nat_lt 1 s.ticks_left) refl loopback 
 
     go : (more : Bool) → nat_lt 1 s.ticks_left ≡ more → (b : Bool) → loopback ≡ b → Nearer 1 t (tick loopback t)
     go true f b g =
-        let u : TransmitterState = record t { shift_place = Some (record { byte = s.byte; ticks_left = s.ticks_left - 1 }) } in
+        let u : TransmitterState = record t { shift_register = Some (record { byte = s.byte; ticks_left = s.ticks_left - 1 }) } in
         nearer-shifted loopback t u (shifts u (rw f refl)) (record {
           fewer = let h : left t ≡ s.ticks_left + t.char_ticks * length t.queue = rw e refl in rw h (omega (arith, some));
           no_longer = rw long (simp length-append (omega arith));
@@ -98,33 +98,33 @@ nearer-some loopback s t e some free = go (nat_lt 1 s.ticks_left) refl loopback 
           char_ticks = refl;
         })
     go false f true g =
-        let u : TransmitterState = record t { shift_place = None } in
+        let u : TransmitterState = record t { shift_register = None } in
         nearer-shifted loopback t u (shifts u (rw (f, g) refl))
         (nearer-freed s t u e f some refl refl refl refl (rw long (simp length-append (omega arith))))
     go false f false g =
-        let u : TransmitterState = record t { shift_place = None; wire = t.wire ++ s.byte ∷ [] } in
+        let u : TransmitterState = record t { shift_register = None; wire = t.wire ++ s.byte ∷ [] } in
         let few : length t.wire < t.capacity = omega (arith, long, free g) in
         let k : nat_lt (length t.wire) t.capacity ≡ true = grind (arith, common_steps) in
         nearer-shifted loopback t u (shifts u (rw (f, g, k) refl))
         (nearer-freed s t u e f some refl refl refl refl (rw long (simp length-append (omega arith))))
 
-nearer-none : (loopback : Bool) (t : TransmitterState) → t.shift_place ≡ None → Nearer 1 t (tick loopback t)
+nearer-none : (loopback : Bool) (t : TransmitterState) → t.shift_register ≡ None → Nearer 1 t (tick loopback t)
 nearer-none loopback t e =
     nearer-shifted loopback t t (ap (λ place. shift loopback place t) e)
     (subst (λ (place : Option Shifting). Nearer 1 t (refill place t.queue t)) (sym e) (nearer-refill t.queue t e refl))
 
 pub nearer-tick : (fifo loopback : Bool) (t : TransmitterState) → IsSoundTransmitter fifo t →
     (loopback ≡ false → length (out t) ≤ t.capacity) → Nearer 1 t (tick loopback t)
-nearer-tick fifo loopback t w free = go t.shift_place refl
+nearer-tick fifo loopback t w free = go t.shift_register refl
   where
-    go : (place : Option Shifting) → t.shift_place ≡ place → Nearer 1 t (tick loopback t)
+    go : (place : Option Shifting) → t.shift_register ≡ place → Nearer 1 t (tick loopback t)
     go None e = nearer-none loopback t e
     go (Some s) e = let ticking : IsTicking t.char_ticks (Some s) = rw e at w.ticking in nearer-some loopback s t e ticking.0 free
 
 -- ---- how far the end is at most
 
 pub left-most : (fifo : Bool) (t : TransmitterState) → IsSoundTransmitter fifo t → left t ≤ 17 * t.char_ticks
-left-most fifo t w = go t.shift_place t.queue w.ticking w.in_room
+left-most fifo t w = go t.shift_register t.queue w.ticking w.in_room
   where
     few : room fifo ≤ 16
     few = grind (arith, common_steps)

@@ -80,8 +80,8 @@ near_lasts : (t : TransmitterState) → LastsInAccesses (Nearer 0 t)
 near_lasts t = record {
   pending = λ u pending a. record { fewer = a.fewer; no_longer = a.no_longer; capacity = a.capacity; char_ticks = a.char_ticks };
   cleared = λ u pending a. record {
-    fewer = let h = fewer_left u.char_ticks u.shift_place u.queue in omega (arith, a.fewer, h);
-    no_longer = let h = shorter u.wire u.shift_place u.queue in omega (arith, a.no_longer, h);
+    fewer = let h = fewer_left u.char_ticks u.shift_register u.queue in omega (arith, a.fewer, h);
+    no_longer = let h = shorter u.wire u.shift_register u.queue in omega (arith, a.no_longer, h);
     capacity = a.capacity;
     char_ticks = a.char_ticks;
   };

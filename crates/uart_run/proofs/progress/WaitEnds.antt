@@ -77,12 +77,12 @@ awaited bits shows = record { kept = λ m n line r i step. tt; shows = λ m n li
 -- the holding register is empty
 room_awaited : Awaited (λ m. Unit {0}) LSR.THR_EMPTY.0
 room_awaited = awaited LSR.THR_EMPTY.0 (λ m n line r step e. let t = n.chip.transmitter in let w = r.sound.chip.transmitter in
-    has_one 5 line ∙ (look_room m n line step ∙ ap (λ k. k == 0) (none_queued t.char_ticks w.at_least_one t.shift_place t.queue e)))
+    has_one 5 line ∙ (look_room m n line step ∙ ap (λ k. k == 0) (none_queued t.char_ticks w.at_least_one t.shift_register t.queue e)))
 
 -- the whole transmitter is
 empty_awaited : Awaited (λ m. Unit {0}) LSR.TRANSMITTER_EMPTY.0
 empty_awaited = awaited LSR.TRANSMITTER_EMPTY.0 (λ m n line r step e. let t = n.chip.transmitter in let w = r.sound.chip.transmitter in
-    has_one 6 line ∙ (look_empty m n line step ∙ all_empty t.char_ticks w.at_least_one t.shift_place t.queue w.ticking e))
+    has_one 6 line ∙ (look_empty m n line step ∙ all_empty t.char_ticks w.at_least_one t.shift_register t.queue w.ticking e))
 
 -- ---- waits in vain for the transmitter
 

@@ -51,7 +51,8 @@ impl Write for Writer {
     }
 }
 
-// The outcome of a text by a reader that fails after this number of reads, and what is written.
+// Returns the outcome of a text by a reader that fails after this number of reads, and what is
+// written.
 fn read_by(
     rt: &HostRuntime,
     text: &[u8],
@@ -92,7 +93,8 @@ fn a_reader_fails_at_each_read(rt: HostRuntime) -> Result<(), Fail> {
     Ok(())
 }
 
-// 65,536 bytes are 128 reads, and the next one finds a byte too many. No further read is made, so none fails.
+// 65,536 bytes are 128 reads, and the next one finds a byte too many. No further read is made, so
+// none fails.
 #[test]
 fn a_long_script_is_not_read_to_its_end(rt: HostRuntime) -> Result<(), Fail> {
     let mut text = SCRIPT.to_vec(rt.alloc())?;
@@ -168,7 +170,8 @@ receive 4
 lsr
 ";
 
-// The number of the last line: of what follows the last line feed, if there is anything, else of the line before it.
+// Returns the number of the last line: of what follows the last line feed, if there is anything,
+// else of the line before it.
 fn last_line(text: &[u8]) -> usize {
     let mut number = 1usize;
     for (i, &byte) in text.iter().enumerate() {

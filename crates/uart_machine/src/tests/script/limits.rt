@@ -7,7 +7,8 @@ use uart_language::limits::{MOST_BYTES, MOST_LINES};
 // As many lines as may follow the first.
 const LINES_AFTER_HEADER: usize = MOST_LINES as usize - 1;
 
-// In each of these pairs the first is a script after a beginning, and the second is reported so.
+// Asserts that in each of these pairs the first is a script after a beginning, and the second is
+// reported so.
 fn assert_limits(
     rt: &(impl AllocGlobal + Abort),
     front: &str,
@@ -20,7 +21,7 @@ fn assert_limits(
     Ok(())
 }
 
-// This number of copies of some bytes, after a beginning.
+// Returns this number of copies of some bytes, after a beginning.
 fn repeated(rt: &HostRuntime, front: &str, bytes: &[u8], count: usize) -> Result<Vec<u8>, Fail> {
     let mut text = front.as_bytes().to_vec(rt.alloc())?;
     for _ in 0..count {

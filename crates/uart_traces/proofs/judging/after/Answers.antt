@@ -2,7 +2,7 @@ use Rattle.std.proofs.Common.{List, map, sym, subst}
 use Rattle.uart_16550.specs.Replay.{access_of}
 use Rattle.uart_16550.specs.State.{fields_of}
 use Rattle.uart_16550.specs.declared.replay.Entry.{Entry}
-use Rattle.uart_traces.specs.Lists.{IsListOf}
+use Rattle.uart_calls.specs.Lists.{IsListOf}
 use Rattle.uart_traces.proofs.Judged.{not_printed, not_true}
 use Rattle.uart_traces.proofs.judging.after.Goals as goal
 

@@ -2,9 +2,10 @@
 
 use crate::proved::uart_chip::characters::Characters;
 use crate::proved::uart_chip::event::ArrivalMark;
-use crate::proved::uart_chip::fifo::{Fifo, items_of, room_of};
+use crate::proved::uart_chip::fifo::{Fifo, items_of};
 use crate::proved::uart_chip::journal::{Journal};
 use crate::proved::uart_chip::masks::flag;
+use crate::proved::uart_chip::receiving::{ReceiverParts, enter};
 use crate::list::ArrayVec;
 use crate::flags::Flags;
 use crate::proved::uart_spec::FIFO_SIZE;
@@ -45,7 +46,7 @@ pub struct Receiver<Q: Fifo<Character>, J: Journal> {
     trigger: FifoTriggerLevel,
     arrived: usize,
     journal: J,
-    is_stray_lost: bool,
+    is_unscheduled_lost: bool,
 }
 
 impl Character {
@@ -57,26 +58,6 @@ impl Character {
     /// Returns 1 if the character has errors, else 0.
     pub fn error_weight(&self) -> usize {
         if self.has_errors() { 1 } else { 0 }
-    }
-}
-
-impl Origin {
-    // Returns whether the character is not an arrival of the schedule.
-    fn is_stray(&self) -> bool {
-        match self {
-            Origin::Looped | Origin::Live => true,
-            Origin::Arrived(_) => false,
-        }
-    }
-}
-
-// Returns the number of characters of a trigger level.
-fn characters_of(level: FifoTriggerLevel) -> usize {
-    match level {
-        FifoTriggerLevel::One => 1,
-        FifoTriggerLevel::Four => 4,
-        FifoTriggerLevel::Eight => 8,
-        FifoTriggerLevel::Fourteen => 14,
     }
 }
 
@@ -122,7 +103,7 @@ impl<Q: Fifo<Character>, J: Journal> Receiver<Q, J> {
             trigger: FifoTriggerLevel::One,
             arrived: 0,
             journal,
-            is_stray_lost: false,
+            is_unscheduled_lost: false,
             status: LSR::empty(),
         }
     }
@@ -141,7 +122,7 @@ impl<Q: Fifo<Character>, J: Journal> Receiver<Q, J> {
             trigger: saved.trigger,
             arrived: 0,
             journal,
-            is_stray_lost: false,
+            is_unscheduled_lost: false,
             status,
         }
     }
@@ -158,78 +139,6 @@ impl<Q: Fifo<Character>, J: Journal> Receiver<Q, J> {
         }
     }
 
-    // Puts a character into the queue. If there is no room, the FIFO loses it, and the single register loses the one that
-    // it held.
-    #[inline(always)]
-    fn come_in(&mut self, fifo: bool, new: Character) {
-        if self.queue.len() < room_of(fifo) {
-            let is_first = self.queue.is_empty();
-            self.queue.push(new);
-            if is_first {
-                self.is_front_reported = false;
-                self.status = status_of(&self.queue, self.is_overrun, false);
-            }
-            self.journal.set_mark(new.origin, ArrivalMark::Waiting);
-        } else if fifo {
-            self.is_overrun = true;
-            self.status = self.status.union(LSR::OVERRUN_ERROR);
-            self.journal.set_mark(new.origin, ArrivalMark::Dropped);
-        } else {
-            self.replace(new);
-            return;
-        }
-        self.timeout_ticks = 0;
-        if new.origin.is_stray() {
-            self.is_stray_lost = false;
-        }
-    }
-
-    // Replaces the character in the receiver, which is dropped.
-    #[inline(never)]
-    fn replace(&mut self, new: Character) {
-        let Some(old) = self.queue.pop() else {
-            return;
-        };
-        self.queue.clear();
-        self.queue.push(new);
-        self.is_overrun = true;
-        self.is_front_reported = false;
-        self.status = status_of(&self.queue, true, false);
-        self.timeout_ticks = 0;
-        self.journal.set_mark(old.origin, ArrivalMark::Dropped);
-        self.journal.set_mark(new.origin, ArrivalMark::Waiting);
-        if new.origin.is_stray() {
-            self.is_stray_lost = false;
-        } else if old.origin.is_stray() {
-            self.is_stray_lost = true;
-        }
-    }
-
-    /// Ends a tick, with the byte that loopback returned in it.
-    pub fn tick(&mut self, fifo: bool, looped: Option<u8>) {
-        if let Some(byte) = looped {
-            self.come_in(
-                fifo,
-                Character {
-                    byte,
-                    errors: 0,
-                    origin: Origin::Looped,
-                },
-            );
-        }
-        self.timeout_ticks = self.timeout_ticks.saturating_add(1).min(self.timeout_limit);
-    }
-
-    /// Lets ticks pass in which no character is received or read.
-    pub fn count_up(&mut self, ticks: u16) {
-        if ticks > 0 {
-            self.timeout_ticks = self
-                .timeout_ticks
-                .saturating_add(ticks)
-                .min(self.timeout_limit);
-        }
-    }
-
     /// Receives the next arrival of the schedule. In loopback it is discarded.
     pub fn arrive(&mut self, loopback: bool, fifo: bool, byte: u8, errors: u8) {
         let origin = Origin::Arrived(self.arrived);
@@ -239,7 +148,8 @@ impl<Q: Fifo<Character>, J: Journal> Receiver<Q, J> {
         if loopback {
             self.journal.set_mark(origin, ArrivalMark::Discarded);
         } else {
-            self.come_in(
+            enter(
+                self,
                 fifo,
                 Character {
                     byte,
@@ -248,95 +158,6 @@ impl<Q: Fifo<Character>, J: Journal> Receiver<Q, J> {
                 },
             );
         }
-    }
-
-    /// Receives a character without a schedule. In loopback it is lost.
-    pub fn bring(&mut self, loopback: bool, fifo: bool, byte: u8, errors: u8) {
-        if !loopback {
-            self.come_in(
-                fifo,
-                Character {
-                    byte,
-                    errors,
-                    origin: Origin::Live,
-                },
-            );
-        }
-    }
-
-    /// Takes the front if there is one, and returns the byte that was taken last.
-    pub fn take_front(&mut self) -> u8 {
-        if let Some(front) = self.queue.pop() {
-            self.is_front_reported = false;
-            self.timeout_ticks = 0;
-            self.last_byte = front.byte;
-            self.status = status_of(&self.queue, self.is_overrun, false);
-            self.journal.set_mark(front.origin, ArrivalMark::Read);
-        }
-        self.last_byte
-    }
-
-    /// Does what a read of LSR does: clears the overrun and the errors of the front.
-    pub fn report(&mut self) {
-        if self.queue.is_empty() {
-            self.status = LSR::empty();
-            self.is_overrun = false;
-        } else {
-            self.status = LSR::DATA_READY;
-            self.is_overrun = false;
-            self.is_front_reported = true;
-        }
-    }
-
-    /// Empties the queue. Its characters are discarded.
-    pub fn clear(&mut self) {
-        self.journal.discard(&self.queue);
-        self.queue.clear();
-        self.status = flag(self.is_overrun, LSR::OVERRUN_ERROR);
-    }
-
-    /// Sets the trigger level.
-    pub fn set_trigger(&mut self, trigger: FifoTriggerLevel) {
-        self.trigger = trigger;
-    }
-
-    /// Returns whether there is no received character.
-    pub fn is_empty(&self) -> bool {
-        self.queue.is_empty()
-    }
-
-    /// Returns what LSR shows of the receiver, but for the errors behind the front.
-    pub fn status(&self) -> LSR {
-        self.status
-    }
-
-    /// Returns whether a character has errors.
-    pub fn has_errors(&self) -> bool {
-        self.queue.has_errors()
-    }
-
-    /// Returns whether a character has errors that were not reported.
-    pub fn has_unreported_errors(&self) -> bool {
-        self.queue.has_unreported_errors(self.is_front_reported)
-    }
-
-    /// Returns whether there are as many characters as the trigger level, or without FIFO any.
-    pub fn is_data_pending(&self, fifo: bool) -> bool {
-        if fifo {
-            characters_of(self.trigger) <= self.queue.len()
-        } else {
-            !self.queue.is_empty()
-        }
-    }
-
-    /// Returns whether there are characters in the FIFO, and none was received or read for four character times.
-    pub fn is_timed_out(&self, fifo: bool) -> bool {
-        fifo && !self.queue.is_empty() && self.timeout_ticks == self.timeout_limit
-    }
-
-    /// Returns how many characters can be received before one is lost.
-    pub fn room(&self, fifo: bool) -> usize {
-        room_of(fifo).saturating_sub(self.queue.len())
     }
 
     /// Returns the number of received bytes that have not been read.
@@ -352,5 +173,92 @@ impl<Q: Fifo<Character>, J: Journal> Receiver<Q, J> {
     /// Returns the number of arrivals of the schedule, past and future.
     pub fn arrivals(&self) -> usize {
         self.journal.len()
+    }
+}
+
+impl<Q: Fifo<Character>, J: Journal> ReceiverParts for Receiver<Q, J> {
+    fn queue_len(&self) -> usize {
+        self.queue.len()
+    }
+
+    fn put(&mut self, new: Character) {
+        let is_first = self.queue.is_empty();
+        self.queue.push(new);
+        if is_first {
+            self.status = status_of(&self.queue, self.is_overrun, self.is_front_reported);
+        }
+    }
+
+    fn pop(&mut self) -> Option<Character> {
+        let front = self.queue.pop();
+        self.status = status_of(&self.queue, self.is_overrun, self.is_front_reported);
+        front
+    }
+
+    fn clear_queue(&mut self) {
+        self.queue.clear();
+        self.status = flag(self.is_overrun, LSR::OVERRUN_ERROR);
+    }
+
+    fn set_mark(&mut self, origin: Origin, mark: ArrivalMark) {
+        self.journal.set_mark(origin, mark);
+    }
+
+    fn discard(&mut self) {
+        self.journal.discard(&self.queue);
+    }
+
+    fn set_unscheduled_lost(&mut self, on: bool) {
+        self.is_unscheduled_lost = on;
+    }
+
+    fn set_overrun(&mut self, on: bool) {
+        self.is_overrun = on;
+        self.status = status_of(&self.queue, on, self.is_front_reported);
+    }
+
+    fn set_front_reported(&mut self, on: bool) {
+        self.is_front_reported = on;
+        self.status = status_of(&self.queue, self.is_overrun, on);
+    }
+
+    fn status(&self) -> LSR {
+        self.status
+    }
+
+    fn has_errors(&self) -> bool {
+        self.queue.has_errors()
+    }
+
+    fn has_unreported_errors(&self) -> bool {
+        self.queue.has_unreported_errors(self.is_front_reported)
+    }
+
+    fn last_byte(&self) -> u8 {
+        self.last_byte
+    }
+
+    fn set_last_byte(&mut self, byte: u8) {
+        self.last_byte = byte;
+    }
+
+    fn timeout_ticks(&self) -> u16 {
+        self.timeout_ticks
+    }
+
+    fn timeout_limit(&self) -> u16 {
+        self.timeout_limit
+    }
+
+    fn set_timeout_ticks(&mut self, ticks: u16) {
+        self.timeout_ticks = ticks;
+    }
+
+    fn trigger(&self) -> FifoTriggerLevel {
+        self.trigger
+    }
+
+    fn set_trigger(&mut self, trigger: FifoTriggerLevel) {
+        self.trigger = trigger;
     }
 }

@@ -131,9 +131,9 @@ impl LiveChip {
         self.uart.write(offset, value);
     }
 
-    /// Lets `count` ticks pass. Returns the number of turns that this took, which is at most 18, whatever `count` is.
+    /// Lets `count` ticks pass. Returns the number of jumps that this took, which is at most 18, whatever `count` is.
     ///
-    /// A turn ends at the tick in which a character enters or leaves the shift register, or takes all ticks that are left.
+    /// A jump ends at the tick in which a character enters or leaves the shift register, or takes all ticks that are left.
     ///
     /// What was sent in this time is on the `wire`. Check `is_interrupting` after it.
     ///
@@ -175,7 +175,36 @@ impl LiveChip {
         if errors.intersection(LSR::CHARACTER_ERRORS) != errors {
             return Err(InputError::BadErrors);
         }
-        self.uart.bring(byte, errors.bits());
+        self.uart.arrive_live(byte, errors.bits());
+        Ok(())
+    }
+
+    /// Receives a character as [`LiveChip::arrive`] does, but a reception timeout that is due stays due.
+    ///
+    /// It then stays due until the guest reads DATA, or writes FCR so that the FIFO is emptied, or a character comes back
+    /// in loopback. Only ISR and `is_interrupting` show the difference.
+    ///
+    /// # Errors
+    ///
+    /// `BadErrors` if `errors` has a bit other than parity, framing and break. Nothing changes then.
+    ///
+    /// # Examples
+    ///
+    /// ```
+    /// # include!(concat!(env!("CARGO_MANIFEST_DIR"), "/src/proved/examples.rs"));
+    /// # fn main() {}
+    /// # fn example(chip: &mut LiveChip, byte: u8) -> Outcome<()> {
+    /// if chip.receive_room() > 0 {
+    ///     chip.arrive_holding_timeout(byte, LSR::empty())?;
+    /// }
+    /// # Ok(()) }
+    /// ```
+    pub fn arrive_holding_timeout(&mut self, byte: u8, errors: LSR) -> Result<(), InputError> {
+        let is_due = self.uart.is_timed_out();
+        self.arrive(byte, errors)?;
+        if is_due {
+            self.uart.expire_timeout();
+        }
         Ok(())
     }
 

@@ -19,11 +19,11 @@ fn room_of(fifo: bool) -> usize {
 // It is not an arrival of a schedule, and has only errors of a character.
 fn is_live_character(character: &Character) -> bool {
     let errors = LSR::from_bits_retain(character.errors);
-    let is_stray = match character.origin {
+    let is_unscheduled = match character.origin {
         Origin::Looped | Origin::Live => true,
         Origin::Arrived(_) => false,
     };
-    is_stray && errors.intersection(LSR::CHARACTER_ERRORS) == errors
+    is_unscheduled && errors.intersection(LSR::CHARACTER_ERRORS) == errors
 }
 
 fn are_live(characters: &[Character]) -> bool {
@@ -52,7 +52,7 @@ fn is_char_time(char_ticks: u16) -> bool {
 
 fn is_sound_transmitter(saved: &TransmitterData, fifo: bool, wire: &[u8]) -> bool {
     is_char_time(saved.char_ticks)
-        && is_ticking(saved.char_ticks, saved.shift_place)
+        && is_ticking(saved.char_ticks, saved.shift_register)
         && saved.queue.as_slice().len() <= room_of(fifo)
         && wire.len() <= saved.wire_capacity
         && saved.wire_capacity <= MAX_WIRE_CAPACITY

@@ -19,7 +19,8 @@ use crate::libraries::uart_spec::registers::{self, MSR as ModemStatus};
 #[test]
 fn bytes_are_queued_and_sent() -> Result<(), Fail> {
     let rt = HostRuntime;
-    // The FIFO takes 16 bytes, and the interrupt is enabled for the rest. The second burst lies around the end of the ring.
+    // The FIFO takes 16 bytes, and the interrupt is enabled for the rest. The second burst lies
+    // around the end of the ring.
     let calls = [
         Queue(b"hello, world! 123456", 20),
         Left(4),
@@ -132,7 +133,8 @@ fn receiving_is_paused_by_a_full_ring() -> Result<(), Fail> {
 #[test]
 fn line_errors_are_noted() -> Result<(), Fail> {
     let rt = HostRuntime;
-    // Serving sees an overrun. While bytes are received, a look sees a parity error, which the driver saves.
+    // Serving sees an overrun. While bytes are received, a look sees a parity error, which the
+    // driver saves.
     let answers = [
         LINE_STATUS,
         0x63,

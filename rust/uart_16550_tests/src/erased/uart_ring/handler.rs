@@ -29,7 +29,7 @@ pub struct Port<B> {
     bad_characters: u32,
 }
 
-// THR_EMPTY is not among the interrupts: the rings enable it as long as bytes wait to be sent.
+// Returns a configuration without THR_EMPTY: the rings enable it as long as bytes wait to be sent.
 fn config() -> Config
 
 {
@@ -44,7 +44,8 @@ fn config() -> Config
 }
 
 impl<B: Backend> Port<B> {
-    // Starts the port. The interrupt is to be masked at the interrupt controller until this has returned.
+    // Starts the port. The interrupt is to be masked at the interrupt controller until this has
+    // returned.
     pub fn start(alloc: Global, backend: B) -> Result<Self, StartError> {
         let uart = Uart16550::new_with_backend(backend);
         let mut ring = match Uart16550Ring::new(alloc, uart, 1024, 256) {
@@ -61,9 +62,10 @@ impl<B: Backend> Port<B> {
         }
     }
 
-    // The interrupt handler. Does not wait.
+    // Handles an interrupt. Does not wait.
     pub fn on_interrupt(&mut self) {
-        // After `MAX_INTERRUPTS` more may be pending. A controller that detects edges does not report them again.
+        // After `MAX_INTERRUPTS` more may be pending. A controller that detects edges does not
+        // report them again.
         for _round in 0..4 {
             if self.ring.service() < MAX_INTERRUPTS {
                 break;
@@ -73,7 +75,7 @@ impl<B: Backend> Port<B> {
         self.look_at_modem();
     }
 
-    // Counts what was lost or came broken.
+    // Counts what was lost or arrived broken.
     fn look_at_line(&mut self) {
         let line = self.ring.take_line();
         if line.contains(LSR::OVERRUN_ERROR) {
@@ -102,12 +104,13 @@ impl<B: Backend> Port<B> {
         Ok(())
     }
 
-    // Sends bytes from the front, and returns how many were accepted. The interrupt is to be masked meanwhile.
+    // Sends bytes from the front, and returns how many were accepted. The interrupt is to be
+    // masked meanwhile.
     pub fn write(&mut self, bytes: &[u8]) -> usize {
         self.ring.queue(bytes)
     }
 
-    // Gives received bytes, and returns how many. The interrupt is to be masked meanwhile.
+    // Takes received bytes, and returns how many. The interrupt is to be masked meanwhile.
     pub fn read(&mut self, slots: &mut [u8]) -> usize {
         self.ring.take(slots)
     }

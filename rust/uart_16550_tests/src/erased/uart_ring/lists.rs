@@ -71,7 +71,7 @@ pub enum Call {
     Service(usize),
 }
 
-// Rings over a new driver, whose reads return these bytes in turn.
+// Returns rings over a new driver, whose reads return these bytes in turn.
 pub fn rings<'a>(
     rt: &impl AllocGlobal,
     answers: &'a [u8],
@@ -85,7 +85,7 @@ pub fn rings<'a>(
     }
 }
 
-// What the reads among these accesses return.
+// Returns what the reads among these accesses return.
 pub fn answers_in(rt: &impl AllocGlobal, steps: &[Step]) -> Result<Vec<u8>, Fail> {
     let mut answers = Vec::new();
     for step in steps {
@@ -104,7 +104,7 @@ pub fn answers_in(rt: &impl AllocGlobal, steps: &[Step]) -> Result<Vec<u8>, Fail
     Ok(answers)
 }
 
-// New rings return this from these calls, which make these accesses and no others.
+// Asserts that new rings return this from these calls, which make these accesses and no others.
 pub fn play(
     rt: &(HostRuntime),
     tx_capacity: usize,
@@ -125,7 +125,7 @@ pub fn play(
     Ok(())
 }
 
-// These accesses were made, and no others.
+// Asserts that these accesses were made, and no others.
 pub fn made<R: Abort>(rt: &R, replay: &Replay<'_>, steps: &[Step]) {
     let Some(accesses) = replay.accesses() else {
         assert!(rt; false, "more accesses than are kept");

@@ -1,6 +1,7 @@
 #[allow(unused_imports)]
 use crate::runtime::{AllocGlobal, HostRuntime, assert, assert_eq, assert_ne, format};
-// Tests of what no contract says: worked examples from outside, the refusals' texts, and the interrupt handler of the documentation.
+// Tests of what no contract says: worked examples from outside, the refusals' texts, and the
+// interrupt handler of the documentation.
 
 mod calls;
 mod handler;

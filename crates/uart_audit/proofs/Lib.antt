@@ -1,4 +1,0 @@
-pub mod Shown
-pub mod Known
-pub mod Settled
-pub mod Repeated

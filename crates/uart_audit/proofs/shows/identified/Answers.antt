@@ -1,5 +1,0 @@
-use Rattle.uart_audit.proofs.Shown.{identified_is}
-use Rattle.uart_audit.proofs.shows.identified.Goals as goal
-
-pub returns : goal.returns
-returns c = identified_is c.args.isr _ c.interrupt_type.ensures

@@ -1,6 +1,0 @@
-use Rattle.std.proofs.Common.{refl}
-use Rattle.uart_audit.proofs.Shown.{level_is}
-use Rattle.uart_audit.proofs.shows.level_of.Goals as goal
-
-pub returns : goal.returns
-returns c = level_is _ _ ((c.fifo_trigger_level.ensures c.fifo_trigger_level.result).0 refl)

@@ -1,0 +1,131 @@
+//! The calls that look once, and those that read and write single registers: each with its whole
+//! list of accesses.
+use crate::Answer::{self, Done, Flag, Latch, NoData, NotConnected, NotSent, Register};
+use crate::Call::{
+    self, CheckConnected, CheckPresent, DllDlm, Dump, ReadReady, ReadyToReceive, ReadyToSend,
+    WriteReady,
+};
+use crate::tests::driving::Start::{Checking, New};
+use crate::tests::driving::{dump, row, then};
+use crate::tests::lists::list;
+use bitflags::Flags;
+use uart_spec::ByteSendError::{NoCapacity, RemoteNotClearToSend};
+use uart_spec::RemoteReadyToReceiveError::{
+    NoRemoteConnectedNoDSR as NoDsr, RemoteNotClearToSend as NoCts,
+};
+use uart_spec::registers::{IER, offsets};
+
+#[test]
+fn presence(rt: HostRuntime) {
+    let begun = || list().read(offsets::SPR, 0xa5).write(offsets::SPR, 0x42);
+    let second = begun().read(offsets::SPR, 0x42).write(offsets::SPR, 0x73);
+    let second_lost = second.read(offsets::SPR, 0x72).write(offsets::SPR, 0xa5);
+    let first_lost = begun().read(offsets::SPR, 0x73).write(offsets::SPR, 0xa5);
+    row(&rt, New, CheckPresent, Flag(true), &list().present(0xa5));
+    row(&rt, New, CheckPresent, Flag(false), &second_lost);
+    row(&rt, New, CheckPresent, Flag(false), &first_lost);
+}
+
+#[test]
+fn connection(rt: HostRuntime) {
+    for (lines, answer) in [
+        (0x30, Done),
+        (0x20, NotConnected(NoCts)),
+        (0xdf, NotConnected(NoDsr)),
+        (0x00, NotConnected(NoDsr)),
+    ] {
+        let looked = list().read(offsets::MSR, lines);
+        row(&rt, New, CheckConnected, answer, &looked);
+    }
+}
+
+#[test]
+fn looks_for_data_and_for_room(rt: HostRuntime) {
+    for (call, lsr, answer) in [
+        (ReadyToReceive, 0x01, Done),
+        (ReadyToReceive, 0xfe, NoData),
+        (ReadReady, 0x01, Flag(true)),
+        (ReadReady, 0xfe, Flag(false)),
+        (ReadyToSend, 0x20, Done),
+        (ReadyToSend, 0xdf, NotSent(NoCapacity)),
+        (WriteReady, 0x20, Flag(true)),
+        (WriteReady, 0xdf, Flag(false)),
+    ] {
+        row(&rt, New, call, answer, &list().look(lsr));
+    }
+}
+
+#[test]
+fn looks_for_room_that_check_cts(rt: HostRuntime) {
+    for (accesses, sent, ready) in [
+        (list().check(0xef, 0x10), Done, true),
+        (
+            list().check(0xef, 0xef),
+            NotSent(RemoteNotClearToSend),
+            false,
+        ),
+        // In loopback the lines mean nothing.
+        (list().look(0x20).read(offsets::MCR, 0x10), Done, true),
+        // Without room they are not looked at.
+        (list().look(0xdf), NotSent(NoCapacity), false),
+    ] {
+        row(&rt, Checking, ReadyToSend, sent, &accesses);
+        row(&rt, Checking, WriteReady, Flag(ready), &accesses);
+    }
+}
+
+#[test]
+fn interrupts(rt: HostRuntime) {
+    for (call, ier, left) in [
+        (Call::Enable(IER::THR_EMPTY), 0xf1, 0xf3),
+        (Call::Disable(IER::DATA_READY), 0xf3, 0xf2),
+    ] {
+        let changed = list().read(offsets::IER, ier).write(offsets::IER, left);
+        let terminal = row(&rt, New, call, Done, &changed);
+        assert_eq!(rt; terminal.inner().config().interrupts.bits(), left);
+    }
+}
+
+#[test]
+fn registers(rt: HostRuntime) {
+    for (call, offset) in [
+        (Call::Ier, 1),
+        (Call::Isr, 2),
+        (Call::Lcr, 3),
+        (Call::Mcr, 4),
+        (Call::Lsr, 5),
+        (Call::Msr, 6),
+        (Call::Spr, 7),
+    ] {
+        row(&rt, New, call, Register(0xa6), &list().read(offset, 0xa6));
+    }
+    let latch = list().latch(0x1b, 0x9b, 0x80, 0x01);
+    row(&rt, New, DllDlm, Latch(0x80, 0x01), &latch);
+}
+
+#[test]
+fn statuses_are_joined_with_what_was_saved(rt: HostRuntime) {
+    let (looked, shown) = (list().look(0xfe), list().look(0x60));
+    let mut terminal = row(&rt, New, ReadyToReceive, NoData, &looked);
+    then(&rt, &mut terminal, Call::Lsr, Register(0x7e), &shown);
+    then(&rt, &mut terminal, Call::Lsr, Register(0x60), &shown);
+    let looked = list().read(offsets::MSR, 0xff);
+    let shown = list().read(offsets::MSR, 0x30);
+    let mut terminal = row(&rt, New, CheckConnected, Done, &looked);
+    then(&rt, &mut terminal, Call::Msr, Register(0x3f), &shown);
+    then(&rt, &mut terminal, Call::Msr, Register(0x30), &shown);
+}
+
+#[test]
+fn a_dump_shows_what_was_saved_and_keeps_it(rt: HostRuntime) {
+    let looked = list().look(0xfe);
+    let mut terminal = row(&rt, New, ReadyToReceive, NoData, &looked);
+    let dumped = list()
+        .latch(0x03, 0x83, 0x0c, 0x01)
+        .registers([0x05, 0xc1, 0x03, 0x0b, 0x60, 0x31, 0xa5]);
+    let shown = dump([0x05, 0xc1, 0x03, 0x0b, 0x7e, 0x31, 0xa5], 0x0c, 0x01);
+    then(&rt, &mut terminal, Dump, Answer::Dump(shown), &dumped);
+    let (line, modem) = (list().look(0x60), list().read(offsets::MSR, 0x30));
+    then(&rt, &mut terminal, Call::Lsr, Register(0x7e), &line);
+    then(&rt, &mut terminal, Call::Msr, Register(0x31), &modem);
+}

@@ -1,0 +1,46 @@
+//! The terminal, the traits at one concrete type, and generic code over them.
+use crate::tests::devices::{RegisterFile, driver};
+use std::fmt::Write as _;
+use std::num::NonZeroU64;
+use uart_16550::{ConfigRegisterDump, Uart16550Tty};
+use uart_spec::{BaudRate, Config};
+
+#[test]
+fn a_line_ends_as_terminals_expect(rt: HostRuntime) {
+    let mut uart = driver(RegisterFile::new(true));
+    assert_eq!(rt; uart.init(Config::DEFAULT), Ok(()));
+    let mut terminal = Uart16550Tty::from_inner(uart);
+    assert!(rt; writeln!(terminal, "hello").is_ok());
+    assert_eq!(rt; terminal.write_text("\x7f"), Ok(()));
+    assert_eq!(rt;
+        terminal.inner().backend().device.sent.as_slice(),
+        b"hello\r\n\x08 \x08".as_slice()
+    );
+}
+
+#[test]
+fn a_terminal_gives_its_driver_back(rt: HostRuntime) {
+    let mut uart = driver(RegisterFile::new(true));
+    uart.set_spin_limit(NonZeroU64::new(7).unwrap());
+    assert_eq!(rt; uart.init(Config::DEFAULT), Ok(()));
+    let mut terminal = Uart16550Tty::from_inner(uart);
+    assert_eq!(rt; terminal.write_text("hi"), Ok(()));
+    let uart = terminal.into_inner();
+    assert_eq!(rt; (uart.spin_limit().get(), uart.fifo_enabled()), (7, true));
+    assert_eq!(rt; *uart.config(), Config::DEFAULT);
+    assert_eq!(rt; uart.backend().device.sent.as_slice(), b"hi".as_slice());
+}
+
+#[test]
+fn a_dump_tells_its_baud_rate(rt: HostRuntime) {
+    let dump = ConfigRegisterDump {
+        dll: 12,
+        ..ConfigRegisterDump::default()
+    };
+    assert_eq!(rt; dump.baud_rate(&Config::DEFAULT), Ok(BaudRate::Baud9600));
+    assert!(rt;
+        ConfigRegisterDump::default()
+            .baud_rate(&Config::DEFAULT)
+            .is_err()
+    );
+}

@@ -1,0 +1,613 @@
+//! What happens in a chip, over its parts: what an access does, and what happens between accesses.
+ghost use Rattle.std.specs.Prelude.{◌≡◌, ◌<◌, ◌≤◌, ◌==◌, ◌+◌, [], not, bit_and, bit_or, is_some};
+ghost use Rattle.uart_chip.specs.Chip as spec;
+ghost use Rattle.uart_chip.specs.Chip.{ChipState};
+ghost use Rattle.uart_chip.specs.Jumps as jumps;
+ghost use Rattle.uart_chip.specs.Jumps.{moves, jumps_in};
+ghost use Rattle.uart_chip.specs.Masks.{mcr_bits};
+ghost use Rattle.uart_chip.specs.Modem.{renew};
+ghost use Rattle.uart_chip.specs.Receiver as receiver;
+ghost use Rattle.uart_chip.specs.Snapshot.{latches_of};
+ghost use Rattle.uart_chip.specs.Status.{fifo_status};
+ghost use Rattle.uart_chip.specs.Transmitter as transmitter;
+ghost use Rattle.uart_chip.specs.Transmitter.{looped_byte};
+ghost use Rattle.uart_spec.specs.declared.baud.TheConstants.{NUM_REGISTERS};
+ghost use Rattle.uart_spec.specs.declared.registers.offsets.TheConstants as offsets;
+
+use crate::chip::Latches;
+use crate::event::Chip;
+use crate::masks::{flag, kept_interrupts, kept_modem_control};
+use crate::receiving;
+use crate::receiving::{ReceiverParts, is_data_pending, is_timed_out};
+use crate::transmitting::{TransmitterParts, next_move};
+use bitflags::Flags;
+use uart_spec::registers::{
+    FCR, FifoTriggerLevel, IER, ISR, InterruptType, LCR, LSR, MCR, MSR, WordLength, offsets,
+};
+
+/// What a chip is made of: its model, the registers that keep what is written to them, a transmitter, a receiver and the
+/// modem lines, and how each is read and changed.
+pub trait ChipParts {
+    /// The transmitter.
+    type Transmitter: TransmitterParts;
+
+    /// The receiver.
+    type Receiver: ReceiverParts;
+
+    // The chip that the parts are.
+    ghost state: { Self → ChipState };
+
+    // Whether the parts have the one value for this chip. It stays so.
+    ghost canonical: { Self → Type 0 };
+
+    /// Returns the transmitter.
+    fn transmitter(&self) -> &Self::Transmitter
+        ensures { Self.Transmitter.state result.now ≡ (state self.now).transmitter };
+
+    /// Returns the receiver.
+    fn receiver(&self) -> &Self::Receiver
+        ensures { Self.Receiver.state result.now ≡ (state self.now).receiver };
+
+    /// Returns the model.
+    fn model(&self) -> Chip
+        ensures { result ≡ (state self.now).model };
+
+    /// Returns the interrupt enable register.
+    fn ier(&self) -> IER
+        ensures { result.0 ≡ (state self.now).latches.ier };
+
+    /// Returns the line control register.
+    fn lcr(&self) -> LCR
+        ensures { result.0 ≡ (state self.now).latches.lcr };
+
+    /// Returns the modem control register.
+    fn mcr(&self) -> MCR
+        ensures { result.0 ≡ (state self.now).latches.mcr };
+
+    /// Returns the registers that keep what is written to them.
+    fn latches(&self) -> Latches
+        ensures { latches_of result ≡ (state self.now).latches };
+
+    /// Sets the registers that keep what is written to them.
+    fn set_latches(&mut self, latches: Latches)
+        ensures after { state self.new ≡ record (state self.old) { latches = latches_of latches } }
+        ensures canonical { canonical self.old → canonical self.new };
+
+    /// Returns whether the FIFOs are on.
+    fn fifo(&self) -> bool
+        ensures { result ≡ (state self.now).fifo };
+
+    /// Sets whether the FIFOs are on.
+    fn turn_fifo(&mut self, on: bool)
+        ensures after { state self.new ≡ record (state self.old) { fifo = on } }
+        ensures canonical { canonical self.old → canonical self.new };
+
+    /// Returns whether characters are cut to the word length.
+    fn cuts(&self) -> bool
+        ensures { result ≡ (state self.now).cuts };
+
+    /// Lets one tick pass in the transmitter, and returns the byte that loopback returns in it.
+    fn tick_transmitter(&mut self, loopback: bool) -> Option<u8>
+        ensures after { state self.new ≡
+            record (state self.old) { transmitter = transmitter.tick loopback (state self.old).transmitter } }
+        ensures looped { result ≡ looped_byte loopback (state self.old).transmitter.shift_register }
+        ensures canonical { canonical self.old → canonical self.new };
+
+    /// Lets ticks pass in the transmitter in which no character enters or leaves the shift register.
+    fn count_down(&mut self, ticks: u16)
+        ensures after { state self.new ≡
+            record (state self.old) { transmitter = jumps.count_down ticks (state self.old).transmitter } }
+        ensures canonical { canonical self.old → canonical self.new };
+
+    /// Passes a byte that is written to DATA to the transmitter.
+    fn load(&mut self, byte: u8)
+        ensures after { let c = state self.old in
+            state self.new ≡ record c { transmitter = transmitter.load c.fifo byte c.transmitter } }
+        ensures canonical { canonical self.old → canonical self.new };
+
+    /// Empties the queue of the transmitter.
+    fn clear_transmitter(&mut self)
+        ensures after { state self.new ≡
+            record (state self.old) { transmitter = record (state self.old).transmitter { queue = [] } } }
+        ensures canonical { canonical self.old → canonical self.new };
+
+    /// Sets whether a `THR_EMPTY` interrupt is pending.
+    fn set_thr_pending(&mut self, on: bool)
+        ensures after { state self.new ≡ spec.with_thr_pending on (state self.old) }
+        ensures canonical { canonical self.old → canonical self.new };
+
+    /// Lets one tick pass in the receiver, with the byte that loopback returned in it.
+    fn tick_receiver(&mut self, looped: Option<u8>)
+        ensures after { let c = state self.old in
+            state self.new ≡ record c { receiver = receiver.tick c.fifo looped c.receiver } }
+        ensures canonical { canonical self.old → canonical self.new };
+
+    /// Lets ticks pass in the receiver in which no character is received or read.
+    fn count_up(&mut self, ticks: u16)
+        ensures after { state self.new ≡
+            record (state self.old) { receiver = jumps.count_up ticks (state self.old).receiver } }
+        ensures canonical { canonical self.old → canonical self.new };
+
+    /// Passes a character without a schedule to the receiver. In loopback it is lost.
+    fn receive(&mut self, loopback: bool, byte: u8, errors: u8)
+        ensures after { let c = state self.old in
+            state self.new ≡ record c { receiver = receiver.arrive_live loopback c.fifo byte errors c.receiver } }
+        ensures canonical { canonical self.old → canonical self.new };
+
+    /// Takes the front of the receiver if there is one, and returns the byte that was taken last.
+    fn take_front(&mut self) -> u8
+        ensures after { let c = state self.old in
+            state self.new ≡ record c { receiver = receiver.take_front c.receiver.queue c.receiver } }
+        ensures byte { result ≡ (state self.new).receiver.last_byte }
+        ensures canonical { canonical self.old → canonical self.new };
+
+    /// Does to the receiver what a read of LSR does: clears the overrun and the errors of the front.
+    fn report(&mut self)
+        ensures after { state self.new ≡ record (state self.old) { receiver = receiver.report (state self.old).receiver } }
+        ensures canonical { canonical self.old → canonical self.new };
+
+    /// Empties the queue of the receiver. Its characters are discarded.
+    fn clear_receiver(&mut self)
+        ensures after { state self.new ≡ record (state self.old) { receiver = receiver.clear (state self.old).receiver } }
+        ensures canonical { canonical self.old → canonical self.new };
+
+    /// Sets the trigger level of the receiver.
+    fn set_trigger(&mut self, trigger: FifoTriggerLevel)
+        ensures after { state self.new ≡ spec.set_trigger trigger (state self.old) }
+        ensures canonical { canonical self.old → canonical self.new };
+
+    /// Computes the modem lines anew under this value of MCR, and adds their changes.
+    fn renew_modem(&mut self, mcr: MCR)
+        ensures after { state self.new ≡ record (state self.old) { modem = renew mcr.0 (state self.old).modem } }
+        ensures canonical { canonical self.old → canonical self.new };
+
+    /// Sets the inputs of the modem, and computes its lines anew under this value of MCR.
+    fn change_inputs(&mut self, mcr: MCR, inputs: u8)
+        ensures after { state self.new ≡
+            record (state self.old) { modem = renew mcr.0 (record (state self.old).modem { inputs = inputs }) } }
+        ensures canonical { canonical self.old → canonical self.new };
+
+    /// Returns what a read of MSR returns, and clears the changes of the modem lines, as the read does.
+    fn read_modem(&mut self) -> u8
+        ensures answers { result ≡ bit_or (state self.old).modem.lines (state self.old).modem.deltas }
+        ensures after { state self.new ≡ record (state self.old) { modem = record (state self.old).modem { deltas = 0 } } }
+        ensures canonical { canonical self.old → canonical self.new };
+
+    /// Returns whether a modem line has changed since the last read of MSR.
+    fn has_modem_changes(&self) -> bool
+        ensures { result ≡ not ((state self.now).modem.deltas == 0) };
+}
+
+/// Returns whether a read of ISR that shows this interrupt acknowledges it.
+fn is_thr_empty(interrupt: Option<InterruptType>) -> bool
+    ensures { result ≡ spec.is_thr_empty interrupt }
+{
+    matches!(
+        interrupt,
+        Some(InterruptType::TransmitterHoldingRegisterEmpty)
+    )
+}
+
+/// Returns ISR without the bits that show the FIFO.
+pub fn identification(interrupt: Option<InterruptType>) -> ISR
+    ensures { result.0 ≡ spec.identification interrupt }
+{
+    match interrupt {
+        None => ISR::INTERRUPT_STATUS,
+        Some(interrupt) => ISR::from_bits_retain(interrupt.to_bits()),
+    }
+}
+
+// Returns the trigger level of a value of FCR.
+fn trigger_level(fcr: FCR) -> FifoTriggerLevel
+    ensures { result ≡ spec.trigger_level fcr.0 }
+{
+    fcr.fifo_trigger_level()
+}
+
+// Returns a byte as it is sent and received under a line control register: only its data bits if characters are cut.
+fn cut_to(cuts: bool, lcr: LCR, byte: u8) -> u8
+    ensures { result ≡ spec.cut_to cuts (spec.word_length lcr.0) byte }
+{
+    if !cuts {
+        return byte;
+    }
+    match lcr.word_length() {
+        WordLength::FiveBits => byte % (1 << 5),
+        WordLength::SixBits => byte % (1 << 6),
+        WordLength::SevenBits => byte % (1 << 7),
+        WordLength::EightBits => byte,
+    }
+}
+
+/// Returns a byte as it is sent and received: only its data bits if characters are cut.
+pub fn cut<P: ChipParts>(parts: &P, byte: u8) -> u8
+    ensures { result ≡ spec.cut_of (P.state parts.now) byte }
+{
+    cut_to(parts.cuts(), parts.lcr(), byte)
+}
+
+/// Returns the divisor in the divisor latch.
+pub fn divisor<P: ChipParts>(parts: &P) -> u16
+    ensures { result ≡ spec.divisor (P.state parts.now).latches }
+{
+    let latches = parts.latches();
+    latches.dlm as u16 * 256 + latches.dll as u16
+}
+
+fn is_dlab_set<P: ChipParts>(parts: &P) -> bool
+    ensures { result ≡ spec.is_dlab_set (P.state parts.now).latches }
+{
+    parts.lcr().intersects(LCR::DLAB)
+}
+
+/// Returns whether what leaves the transmitter comes back to the receiver.
+pub fn is_loopback<P: ChipParts>(parts: &P) -> bool
+    ensures { result ≡ spec.is_loopback (P.state parts.now).latches }
+{
+    parts.mcr().intersects(MCR::LOOP_BACK)
+}
+
+/// Lets one tick pass.
+pub fn tick<P: ChipParts>(parts: &mut P)
+    ensures after { P.state parts.new ≡ spec.tick (P.state parts.old) }
+    ensures canonical { P.canonical parts.old → P.canonical parts.new }
+{
+    let loopback = is_loopback(parts);
+    let looped = parts.tick_transmitter(loopback);
+    parts.tick_receiver(looped);
+}
+
+// Lets ticks pass in which no character enters or leaves the shift register.
+fn skip<P: ChipParts>(parts: &mut P, ticks: u16)
+    ensures after { P.state parts.new ≡ jumps.skip ticks (P.state parts.old) }
+    ensures canonical { P.canonical parts.old → P.canonical parts.new }
+{
+    parts.count_down(ticks);
+    parts.count_up(ticks);
+}
+
+/// Lets `n` ticks pass, and returns the number of jumps that this took.
+///
+/// A jump ends at the tick in which a character enters or leaves the shift register, or takes all ticks that are left.
+/// So its cost does not grow with the number of ticks.
+pub fn advance<P: ChipParts>(parts: &mut P, n: u16) -> usize
+    ensures after { P.state parts.new ≡ spec.ticks n (P.state parts.old) }
+    ensures jumps { result ≡ jumps_in n (P.state parts.old) }
+    ensures most { result ≤ moves (P.state parts.old).transmitter + 1 }
+    ensures canonical { P.canonical parts.old → P.canonical parts.new }
+{
+    let mut left = n;
+    let mut jumps = 0;
+    while left > 0 {
+        let loopback = is_loopback(parts);
+        match next_move(parts.transmitter(), loopback) {
+            Some(ticks) if ticks <= left => {
+                skip(parts, ticks - 1);
+                tick(parts);
+                left -= ticks;
+            }
+            _ => {
+                skip(parts, left);
+                left = 0;
+            }
+        }
+        jumps += 1;
+    }
+    jumps
+}
+
+/// Receives a character without a schedule, with these error bits. In loopback the character is lost.
+pub fn arrive_live<P: ChipParts>(parts: &mut P, byte: u8, errors: u8)
+    ensures after { P.state parts.new ≡ spec.arrive_live byte errors (P.state parts.old) }
+    ensures canonical { P.canonical parts.old → P.canonical parts.new }
+{
+    let loopback = is_loopback(parts);
+    let byte = cut(parts, byte);
+    parts.receive(loopback, byte, errors);
+}
+
+/// Returns how many characters can be received before one is lost. In loopback that is 0.
+pub fn receive_room<P: ChipParts>(parts: &P) -> usize
+    ensures { result ≡ spec.receive_room (P.state parts.now) }
+{
+    if is_loopback(parts) {
+        0
+    } else {
+        receiving::receive_room(parts.receiver(), parts.fifo())
+    }
+}
+
+/// Sets the inputs of the modem, as bits of MSR.
+pub fn change_lines<P: ChipParts>(parts: &mut P, inputs: u8)
+    ensures after { P.state parts.new ≡ spec.change_lines inputs (P.state parts.old) }
+    ensures canonical { P.canonical parts.old → P.canonical parts.new }
+{
+    let mcr = parts.mcr();
+    parts.change_inputs(mcr, inputs);
+}
+
+// Returns whether a character in the FIFO has errors that were not reported, as LSR shows it.
+fn fifo_error<P: ChipParts>(parts: &P) -> LSR
+    ensures { result.0 ≡ fifo_status (P.state parts.now).fifo (P.state parts.now).receiver.queue
+        (P.state parts.now).receiver.is_front_reported }
+{
+    if parts.receiver().has_unreported_errors() && parts.fifo() {
+        LSR::FIFO_DATA_ERROR
+    } else {
+        LSR::empty()
+    }
+}
+
+fn lsr<P: ChipParts>(parts: &P) -> LSR
+    ensures { result.0 ≡ spec.line_status (P.state parts.now) }
+{
+    parts
+        .receiver()
+        .status()
+        .union(parts.transmitter().status())
+        .union(fifo_error(parts))
+}
+
+// Returns the interrupt of the highest priority among those that are enabled and pending.
+fn pending_interrupt<P: ChipParts>(parts: &P) -> Option<InterruptType>
+    ensures { result ≡ spec.interrupt (P.state parts.now) }
+{
+    let enabled = parts.ier();
+    if enabled.intersects(IER::RECEIVER_LINE_STATUS) && lsr(parts).intersects(LSR::LINE_ERRORS) {
+        Some(InterruptType::ReceiverLineStatus)
+    } else if enabled.intersects(IER::DATA_READY)
+        && is_data_pending(parts.receiver(), parts.fifo())
+    {
+        Some(InterruptType::ReceivedDataReady)
+    } else if enabled.intersects(IER::DATA_READY) && is_timed_out(parts.receiver(), parts.fifo()) {
+        Some(InterruptType::ReceptionTimeout)
+    } else if enabled.intersects(IER::THR_EMPTY) && parts.transmitter().is_thr_pending() {
+        Some(InterruptType::TransmitterHoldingRegisterEmpty)
+    } else if enabled.intersects(IER::MODEM_STATUS) && parts.has_modem_changes() {
+        Some(InterruptType::ModemStatus)
+    } else {
+        None
+    }
+}
+
+/// Returns whether an interrupt is enabled and pending: whether the interrupt output is active.
+pub fn is_interrupting<P: ChipParts>(parts: &P) -> bool
+    ensures { result ≡ is_some (spec.interrupt (P.state parts.now)) }
+{
+    !parts.ier().is_empty() && pending_interrupt(parts).is_some()
+}
+
+/// Reads the register at this offset: returns its value, and has the effect of the read on the chip.
+#[inline]
+pub fn read<P: ChipParts>(parts: &mut P, offset: u8) -> u8
+    requires { offset < NUM_REGISTERS }
+    ensures answers { result ≡ spec.answer offset (P.state parts.old) }
+    ensures after { P.state parts.new ≡ spec.after_read offset (P.state parts.old) }
+    ensures canonical { P.canonical parts.old → P.canonical parts.new }
+{
+    // A guest that waits reads LSR and nothing else, so it is looked for first.
+    if offset == offsets::LSR as u8 {
+        read_line_status(parts)
+    } else {
+        read_register(parts, offset)
+    }
+}
+
+#[inline(never)]
+fn read_register<P: ChipParts>(parts: &mut P, offset: u8) -> u8
+    requires { offset < NUM_REGISTERS }
+    ensures answers { result ≡ spec.answer offset (P.state parts.old) }
+    ensures after { P.state parts.new ≡ spec.after_read offset (P.state parts.old) }
+    ensures canonical { P.canonical parts.old → P.canonical parts.new }
+{
+    match offset as usize {
+        offsets::DATA => read_data(parts),
+        offsets::IER if is_dlab_set(parts) => parts.latches().dlm,
+        offsets::IER => parts.ier().bits(),
+        offsets::ISR => read_interrupt(parts),
+        offsets::LCR => parts.lcr().bits(),
+        offsets::MCR => parts.mcr().bits(),
+        offsets::LSR => read_line_status(parts),
+        offsets::MSR => parts.read_modem(),
+        _ => parts.latches().scr,
+    }
+}
+
+// Reads LSR, which reports the overrun and the errors of the front.
+fn read_line_status<P: ChipParts>(parts: &mut P) -> u8
+    ensures answers { result ≡ spec.answer offsets.LSR (P.state parts.old) }
+    ensures after { P.state parts.new ≡ spec.after_read offsets.LSR (P.state parts.old) }
+    ensures canonical { P.canonical parts.old → P.canonical parts.new }
+{
+    if parts.receiver().has_errors() {
+        return read_errors(parts);
+    }
+    let status = parts
+        .receiver()
+        .status()
+        .union(parts.transmitter().status());
+    parts.report();
+    status.bits()
+}
+
+// Reads LSR while some character has errors.
+#[inline(never)]
+fn read_errors<P: ChipParts>(parts: &mut P) -> u8
+    ensures answers { result ≡ spec.answer offsets.LSR (P.state parts.old) }
+    ensures after { P.state parts.new ≡ spec.after_read offsets.LSR (P.state parts.old) }
+    ensures canonical { P.canonical parts.old → P.canonical parts.new }
+{
+    let status = lsr(parts);
+    parts.report();
+    status.bits()
+}
+
+fn read_data<P: ChipParts>(parts: &mut P) -> u8
+    ensures answers { result ≡ spec.answer offsets.DATA (P.state parts.old) }
+    ensures after { P.state parts.new ≡ spec.after_read offsets.DATA (P.state parts.old) }
+    ensures canonical { P.canonical parts.old → P.canonical parts.new }
+{
+    if is_dlab_set(parts) {
+        return parts.latches().dll;
+    }
+    parts.take_front()
+}
+
+// Reads ISR. A read that shows `THR_EMPTY` acknowledges it.
+fn read_interrupt<P: ChipParts>(parts: &mut P) -> u8
+    ensures answers { result ≡ spec.answer offsets.ISR (P.state parts.old) }
+    ensures after { P.state parts.new ≡ spec.after_read offsets.ISR (P.state parts.old) }
+    ensures canonical { P.canonical parts.old → P.canonical parts.new }
+{
+    let interrupt = pending_interrupt(parts);
+    let fifo = flag(parts.fifo(), ISR::FIFOS_ENABLED);
+    if is_thr_empty(interrupt) {
+        parts.set_thr_pending(false);
+    }
+    identification(interrupt).union(fifo).bits()
+}
+
+/// Writes a value to the register at this offset.
+#[inline]
+pub fn write<P: ChipParts>(parts: &mut P, offset: u8, value: u8)
+    requires { offset < NUM_REGISTERS }
+    ensures after { P.state parts.new ≡ spec.after_write offset value (P.state parts.old) }
+    ensures canonical { P.canonical parts.old → P.canonical parts.new }
+{
+    // A guest that prints writes DATA most often, so it is looked for first.
+    if offset == offsets::DATA as u8 {
+        write_data(parts, value);
+    } else {
+        write_register(parts, offset, value);
+    }
+}
+
+// Writes DATA.
+fn write_data<P: ChipParts>(parts: &mut P, value: u8)
+    ensures after { P.state parts.new ≡ spec.write_data value (P.state parts.old) }
+    ensures canonical { P.canonical parts.old → P.canonical parts.new }
+{
+    if is_dlab_set(parts) {
+        let latches = parts.latches();
+        parts.set_latches(Latches {
+            dll: value,
+            ..latches
+        });
+    } else {
+        let byte = cut(parts, value);
+        parts.load(byte);
+    }
+}
+
+#[inline(never)]
+fn write_register<P: ChipParts>(parts: &mut P, offset: u8, value: u8)
+    requires { offset < NUM_REGISTERS }
+    ensures after { P.state parts.new ≡ spec.after_write offset value (P.state parts.old) }
+    ensures canonical { P.canonical parts.old → P.canonical parts.new }
+{
+    let latches = parts.latches();
+    match offset as usize {
+        offsets::DATA => write_data(parts, value),
+        offsets::IER if is_dlab_set(parts) => parts.set_latches(Latches {
+            dlm: value,
+            ..latches
+        }),
+        offsets::IER => enable(parts, IER::from_bits_retain(value)),
+        offsets::FCR => control(parts, FCR::from_bits_retain(value)),
+        offsets::LCR => parts.set_latches(Latches {
+            lcr: LCR::from_bits_retain(value),
+            ..latches
+        }),
+        offsets::MCR => control_modem(parts, MCR::from_bits_retain(value)),
+        offsets::SPR => parts.set_latches(Latches {
+            scr: value,
+            ..latches
+        }),
+        _ => {}
+    }
+}
+
+// Writes IER.
+fn enable<P: ChipParts>(parts: &mut P, interrupts: IER)
+    ensures after { P.state parts.new ≡ spec.enable interrupts.0 (P.state parts.old) }
+    ensures canonical { P.canonical parts.old → P.canonical parts.new }
+{
+    let latches = parts.latches();
+    if !latches.ier.intersects(IER::THR_EMPTY)
+        && interrupts.intersects(IER::THR_EMPTY)
+        && parts.transmitter().queue_len() == 0
+    {
+        parts.set_thr_pending(true);
+    }
+    parts.set_latches(Latches {
+        ier: kept_interrupts(interrupts),
+        ..latches
+    });
+}
+
+// Writes MCR.
+fn control_modem<P: ChipParts>(parts: &mut P, value: MCR)
+    ensures after { P.state parts.new ≡ spec.control_modem (bit_and value.0 mcr_bits) (P.state parts.old) }
+    ensures canonical { P.canonical parts.old → P.canonical parts.new }
+{
+    let mcr = kept_modem_control(value);
+    let latches = parts.latches();
+    parts.set_latches(Latches { mcr, ..latches });
+    parts.renew_modem(mcr);
+}
+
+// Writes FCR.
+fn control<P: ChipParts>(parts: &mut P, value: FCR)
+    ensures after { P.state parts.new ≡ spec.control (P.state parts.old).model value.0 (P.state parts.old) }
+    ensures canonical { P.canonical parts.old → P.canonical parts.new }
+{
+    match parts.model() {
+        Chip::Uart16450 => {}
+        Chip::Uart16550A => set_fifo(parts, value),
+    }
+}
+
+fn set_fifo<P: ChipParts>(parts: &mut P, value: FCR)
+    ensures after { P.state parts.new ≡ spec.set_fifo value.0 (P.state parts.old) }
+    ensures canonical { P.canonical parts.old → P.canonical parts.new }
+{
+    let on = value.intersects(FCR::FIFO_ENABLE);
+    if parts.fifo() != on {
+        switch(parts, on);
+    }
+    if on {
+        reset_receiver(parts, value);
+        reset_transmitter(parts, value);
+        parts.set_trigger(trigger_level(value));
+    }
+}
+
+fn reset_receiver<P: ChipParts>(parts: &mut P, value: FCR)
+    ensures after { P.state parts.new ≡ spec.reset_receiver value.0 (P.state parts.old) }
+    ensures canonical { P.canonical parts.old → P.canonical parts.new }
+{
+    if value.intersects(FCR::RX_FIFO_RESET) {
+        parts.clear_receiver();
+    }
+}
+
+fn reset_transmitter<P: ChipParts>(parts: &mut P, value: FCR)
+    ensures after { P.state parts.new ≡ spec.reset_transmitter value.0 (P.state parts.old) }
+    ensures canonical { P.canonical parts.old → P.canonical parts.new }
+{
+    if value.intersects(FCR::TX_FIFO_RESET) {
+        parts.clear_transmitter();
+        parts.set_thr_pending(true);
+    }
+}
+
+// Switches the FIFOs on or off, which empties both.
+fn switch<P: ChipParts>(parts: &mut P, on: bool)
+    ensures after { P.state parts.new ≡ spec.switch on (P.state parts.old) }
+    ensures canonical { P.canonical parts.old → P.canonical parts.new }
+{
+    parts.turn_fifo(on);
+    parts.clear_receiver();
+    parts.clear_transmitter();
+}

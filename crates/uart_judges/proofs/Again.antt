@@ -1,0 +1,268 @@
+-- After a read nothing more is learnt from the same read with the same value.
+use Rattle.std.proofs.Common.{◌≡◌, ◌∙◌, ◌+◌, ℕ, Bool, true, false, ◌==◌, refl, ap, sym, arith, suc, zero, List, [], ◌∷◌, ◌++◌}
+use Rattle.std.proofs.Common.{Option, Some, None, is_some, subst, ◌≤◌}
+use Rattle.std.specs.Prelude.{IsSome}
+use Rattle.std.specs.Prelude.{if◌then◌else◌, replicate}
+use Rattle.uart_spec.specs.Bits.{has_any}
+use Rattle.uart_spec.specs.declared.registers.interrupt_status.TheConstants.ISR
+use Rattle.uart_spec.specs.declared.registers.line_status.TheConstants.LSR
+use Rattle.uart_spec.specs.declared.registers.offsets.TheConstants as offsets
+use Rattle.uart_chip.specs.declared.event.Chip.{Chip}
+use Rattle.uart_judges.specs.declared.replay.difference.Difference.{Difference}
+use Rattle.uart_judges.specs.declared.replay.difference.Reported.{Reported}
+use Rattle.uart_judges.specs.declared.replay.known.Known.{Known}
+use Rattle.uart_judges.specs.declared.replay.known.Sender.{Sender}
+use Rattle.uart_judges.specs.declared.replay.known.Sender.TheVariants.{Idle, ThrEmpty}
+use Rattle.uart_judges.specs.declared.replay.known.Start.{Start}
+use Rattle.uart_judges.specs.declared.replay.latches.KnownLatches.{KnownLatches}
+use Rattle.uart_judges.specs.declared.replay.rule.Rule.{Rule}
+use Rattle.uart_judges.specs.Known.{after_asking, after_read, first_known, sender_shown, waits_after}
+use Rattle.uart_judges.specs.Latches as latches
+use Rattle.uart_judges.specs.Latches.{after_read_data, after_read_ier, data_read, dlab, ier_read}
+use Rattle.uart_judges.specs.Replays.{AreSound, NoneReturns, Seen, difference, difference_by, differences, each_of, known_after}
+use Rattle.uart_judges.specs.Replays.{known_from, known_read, known_reads, seen_read}
+use Rattle.uart_judges.specs.Rules.{broken}
+use Rattle.uart_judges.proofs.Explaining.{none_returns}
+use Rattle.uart_judges.proofs.LatchesHold.{by_number}
+
+-- ---- latches
+
+data_twice : (d : Option Bool) (value : ℕ) (l : KnownLatches) → data_read d value (data_read d value l) ≡ data_read d value l
+data_twice None value l = refl
+data_twice (Some true) value l = refl
+data_twice (Some false) value l = refl
+
+data_dlab : (d : Option Bool) (value : ℕ) (l : KnownLatches) → dlab (data_read d value l) ≡ dlab l
+data_dlab None value l = refl
+data_dlab (Some true) value l = refl
+data_dlab (Some false) value l = refl
+
+ier_twice : (d : Option Bool) (value : ℕ) (l : KnownLatches) → ier_read d value (ier_read d value l) ≡ ier_read d value l
+ier_twice None value l = refl
+ier_twice (Some true) value l = refl
+ier_twice (Some false) value l = refl
+
+ier_dlab : (d : Option Bool) (value : ℕ) (l : KnownLatches) → dlab (ier_read d value l) ≡ dlab l
+ier_dlab None value l = refl
+ier_dlab (Some true) value l = refl
+ier_dlab (Some false) value l = refl
+
+if_twice : (b : Bool) (f g : KnownLatches → KnownLatches) → ((l : KnownLatches) → f (f l) ≡ f l) →
+    ((l : KnownLatches) → g (g l) ≡ g l) → (l : KnownLatches) →
+    (if b then f (if b then f l else g l) else g (if b then f l else g l)) ≡ (if b then f l else g l)
+if_twice true f g p q l = p l
+if_twice false f g p q l = q l
+
+-- a read of another register than offset 0
+abbrev other_read : ℕ → ℕ → KnownLatches → KnownLatches
+other_read offset value l =
+    if offset == offsets.IER then after_read_ier l value
+    else if offset == offsets.LCR then record l { lcr = Some value }
+    else if offset == offsets.MCR then record l { mcr = Some value }
+    else if offset == offsets.SPR then record l { scr = Some value }
+    else l
+
+latches_twice : (offset value : ℕ) (l : KnownLatches) →
+    latches.after_read offset value (latches.after_read offset value l) ≡ latches.after_read offset value l
+latches_twice offset value =
+    let lcr : KnownLatches → KnownLatches = λ l. record l { lcr = Some value } in
+    let mcr : KnownLatches → KnownLatches = λ l. record l { mcr = Some value } in
+    let scr : KnownLatches → KnownLatches = λ l. record l { scr = Some value } in
+    let last : KnownLatches → KnownLatches = λ l. if offset == offsets.SPR then scr l else l in
+    let third : KnownLatches → KnownLatches = λ l. if offset == offsets.MCR then mcr l else last l in
+    let second : KnownLatches → KnownLatches = λ l. if offset == offsets.LCR then lcr l else third l in
+    let first : KnownLatches → KnownLatches = λ l. if offset == offsets.IER then after_read_ier l value else second l in
+    if_twice (offset == offsets.DATA) (λ l. after_read_data l value) first
+    (λ l. ap (λ d. data_read d value (after_read_data l value)) (data_dlab (dlab l) value l) ∙ data_twice (dlab l) value l)
+    (if_twice (offset == offsets.IER) (λ l. after_read_ier l value) second
+    (λ l. ap (λ d. ier_read d value (after_read_ier l value)) (ier_dlab (dlab l) value l) ∙ ier_twice (dlab l) value l)
+    (if_twice (offset == offsets.LCR) lcr third (λ l. refl)
+    (if_twice (offset == offsets.MCR) mcr last (λ l. refl)
+    (if_twice (offset == offsets.SPR) scr (λ l. l) (λ l. refl) (λ l. refl)))))
+
+-- ---- the other fields
+
+fifo_twice : (b : Bool) (shown known : Option Bool) → (if b then shown else (if b then shown else known)) ≡ (if b then shown else known)
+fifo_twice true shown known = refl
+fifo_twice false shown known = refl
+
+sender_twice : (lsr : ℕ) (s : Sender) → sender_shown lsr (sender_shown lsr s) ≡ sender_shown lsr s
+sender_twice lsr s = go (has_any lsr LSR.TRANSMITTER_EMPTY.0) (has_any lsr LSR.THR_EMPTY.0)
+  where
+    shown : Bool → Bool → Sender → Sender
+    shown idle empty s = if idle then Idle else if empty then ThrEmpty else s
+
+    go : (idle empty : Bool) → shown idle empty (shown idle empty s) ≡ shown idle empty s
+    go true empty = refl
+    go false true = refl
+    go false false = refl
+
+if_sender : (b : Bool) (f : Sender → Sender) (s : Sender) → f (f s) ≡ f s →
+    (if b then f (if b then f s else s) else (if b then f s else s)) ≡ (if b then f s else s)
+if_sender true f s e = e
+if_sender false f s e = refl
+
+waits_twice : (d : Option Bool) (waits : Bool) → waits_after d (waits_after d waits) ≡ waits_after d waits
+waits_twice None waits = refl
+waits_twice (Some true) waits = refl
+waits_twice (Some false) waits = refl
+
+waits_then : (value : ℕ) (l : KnownLatches) (waits : Bool) →
+    waits_after (dlab (after_read_data l value)) (waits_after (dlab l) waits) ≡ waits_after (dlab l) waits
+waits_then value l waits =
+    ap (λ d. waits_after d (waits_after (dlab l) waits)) (data_dlab (dlab l) value l) ∙ waits_twice (dlab l) waits
+
+-- whether a character waits, after a read and the same read
+waits_read : (b c : Bool) (value : ℕ) (l other : KnownLatches) (shown waits : Bool) →
+    let once = if b then waits_after (dlab l) waits else if c then shown else waits in
+    (if b then waits_after (dlab (if b then after_read_data l value else other)) once else if c then shown else once) ≡ once
+waits_read true c value l other shown waits = waits_then value l waits
+waits_read false true value l other shown waits = refl
+waits_read false false value l other shown waits = refl
+
+-- and after a read and one whose value is left out
+waits_asked : (b c : Bool) (value : ℕ) (l other : KnownLatches) (shown waits : Bool) →
+    let once = if b then waits_after (dlab l) waits else if c then shown else waits in
+    (if b then waits_after (dlab (if b then after_read_data l value else other)) once else once) ≡ once
+waits_asked true c value l other shown waits = waits_then value l waits
+waits_asked false c value l other shown waits = refl
+
+waits_asked_twice : (b : Bool) (d : Option Bool) (waits : Bool) →
+    let once = if b then waits_after d waits else waits in
+    (if b then waits_after d once else once) ≡ once
+waits_asked_twice true d waits = waits_twice d waits
+waits_asked_twice false d waits = refl
+
+-- ---- all that is known
+
+read_twice : (offset value : ℕ) (k : Known) → after_read offset value (after_read offset value k) ≡ after_read offset value k
+read_twice offset value k = λ i. record (after_read offset value k) {
+  latches = latches_twice offset value k.latches i;
+  fifo = fifo_twice (offset == offsets.ISR) (Some (has_any value ISR.FIFOS_ENABLED.0)) k.fifo i;
+  sender = if_sender (offset == offsets.LSR) (sender_shown value) k.sender (sender_twice value k.sender) i;
+  waits =
+      waits_read (offset == offsets.DATA) (offset == offsets.LSR) value k.latches (other_read offset value k.latches)
+      (has_any value LSR.DATA_READY.0) k.waits i;
+}
+
+read_asked : (offset value : ℕ) (k : Known) → after_asking offset (after_read offset value k) ≡ after_read offset value k
+read_asked offset value k = λ i. record (after_read offset value k) {
+  waits =
+      waits_asked (offset == offsets.DATA) (offset == offsets.LSR) value k.latches (other_read offset value k.latches)
+      (has_any value LSR.DATA_READY.0) k.waits i;
+}
+
+asked_twice : (offset : ℕ) (k : Known) → after_asking offset (after_asking offset k) ≡ after_asking offset k
+asked_twice offset k = λ i. record k { waits = waits_asked_twice (offset == offsets.DATA) (dlab k.latches) k.waits i }
+
+-- a read whose value is left out changes nothing that a rule for it is about
+broken_asked : (offset value : ℕ) (k : Known) → broken offset value (after_asking offset k) ≡ broken offset value k
+broken_asked offset value k = go (offset == offsets.DATA) refl
+  where
+    asked : Bool → Known
+    asked b = record k { waits = if b then waits_after (dlab k.latches) k.waits else k.waits }
+
+    go : (b : Bool) → (offset == offsets.DATA) ≡ b → broken offset value (asked (offset == offsets.DATA)) ≡ broken offset value k
+    go false e = ap (λ (b : Bool). broken offset value (asked b)) e
+    go true e = by_number (λ n. broken n value (asked (offset == offsets.DATA)) ≡ broken n value k) offset offsets.DATA e refl
+
+-- ---- the same read again
+
+abbrev known_by : ℕ → ℕ → Known → Option Rule → Known
+known_by offset value k found = known_after k (seen_read (is_some (difference_by offset value found)) offset value)
+
+fixed_by : (offset value : ℕ) (k : Known) (first second : Option Rule) → broken offset value k ≡ first →
+    broken offset value (known_by offset value k first) ≡ second →
+    known_by offset value (known_by offset value k first) second ≡ known_by offset value k first
+fixed_by offset value k None None e f = read_twice offset value k
+fixed_by offset value k None (Some rule) e f = read_asked offset value k
+fixed_by offset value k (Some rule) (Some other) e f = asked_twice offset k
+fixed_by offset value k (Some rule) None e f =
+    absurd (let g : Some rule ≡ None = sym e ∙ (sym (broken_asked offset value k) ∙ f) in cc)
+
+-- what is known after a read stays by the same read
+pub read_fixed : (offset value : ℕ) (k : Known) → known_read offset value (known_read offset value k) ≡ known_read offset value k
+read_fixed offset value k = fixed_by offset value k (broken offset value k) _ refl refl
+
+fixed_reads : (n offset value : ℕ) (k : Known) → known_read offset value k ≡ k →
+    (differences n offset value k ≡ replicate n (difference offset value k)) × (known_reads n offset value k ≡ k)
+unfolding known_reads differences
+fixed_reads zero offset value k e = (refl, refl)
+fixed_reads (suc n) offset value k e =
+    let rest = fixed_reads n offset value k e in (
+      ap (λ l. difference offset value k ∷ l) (ap (differences n offset value) e ∙ rest.0),
+      ap (known_reads n offset value) e ∙ rest.1,
+    )
+
+-- of reads in turn only the first and the second may be reported otherwise
+pub reads_more : (n offset value : ℕ) (k : Known) →
+    let after = known_read offset value k in
+    (differences (suc n) offset value k ≡ difference offset value k ∷ replicate n (difference offset value after))
+    × (known_reads (suc n) offset value k ≡ after)
+unfolding known_reads differences
+reads_more n offset value k =
+    let rest = fixed_reads n offset value (known_read offset value k) (read_fixed offset value k) in
+    (ap (λ l. difference offset value k ∷ l) rest.0, rest.1)
+
+-- ---- no machine explains what is reported
+
+known_from_more : (seen : List Seen) (k : Known) (one : Seen) →
+    known_from k (seen ++ one ∷ []) ≡ known_after (known_from k seen) one
+known_from_more [] k one = refl
+known_from_more (first ∷ seen) k one = known_from_more seen (known_after k first) one
+
+pub all_sound : (n : ℕ) (model : Chip) (start : Start) (seen : List Seen) (offset value : ℕ) (k : Known) →
+    k ≡ known_from (first_known model start) seen → AreSound model start seen offset value (differences n offset value k)
+unfolding differences
+all_sound zero model start seen offset value k e = tt
+all_sound (suc n) model start seen offset value k e = (
+  sound_by (broken offset value k) refl,
+  all_sound n model start _ offset value (known_read offset value k)
+      (ap (λ k. known_after k one) e ∙ sym (known_from_more seen (first_known model start) one)),
+)
+  where
+    one : Seen
+    one = seen_read (is_some (difference offset value k)) offset value
+
+    sound_by : (found : Option Rule) → broken offset value k ≡ found →
+        IsSome (difference_by offset value found) → NoneReturns model start seen offset value
+    sound_by None f some = absurd (cc)
+    sound_by (Some rule) f some = none_returns model start seen offset value k rule e (sym f)
+
+-- ---- so many reads, by two
+
+pub none_read : (times offset value : ℕ) (k : Known) (reported : Reported) → times ≡ 0 →
+    (each_of times reported ≡ differences times offset value k) × (k ≡ known_reads times offset value k)
+unfolding known_reads differences
+none_read zero offset value k reported e = (refl, refl)
+none_read (suc n) offset value k reported e = absurd (omega arith)
+
+pub one_read : (times offset value : ℕ) (k new : Known) (first others : Option Difference) → times ≡ 1 →
+    first ≡ difference offset value k → new ≡ known_after k (seen_read (is_some first) offset value) →
+    (each_of times (record { first = first; others = others }) ≡ differences times offset value k)
+    × (new ≡ known_reads times offset value k)
+unfolding known_reads differences
+one_read zero offset value k new first others e f g = absurd (omega arith)
+one_read (suc (suc n)) offset value k new first others e f g = absurd (omega arith)
+one_read (suc zero) offset value k new first others e f g =
+    ((λ i. f i ∷ []), g ∙ ap (λ d. known_after k (seen_read (is_some d) offset value)) f)
+
+pub two_reads : (times offset value : ℕ) (k mid new : Known) (first others : Option Difference) → 2 ≤ times →
+    first ≡ difference offset value k → mid ≡ known_after k (seen_read (is_some first) offset value) →
+    others ≡ difference offset value mid → new ≡ known_after mid (seen_read (is_some others) offset value) →
+    (each_of times (record { first = first; others = others }) ≡ differences times offset value k)
+    × (new ≡ known_reads times offset value k)
+two_reads zero offset value k mid new first others most f g h j = absurd (omega arith)
+two_reads (suc n) offset value k mid new first others most f g h j =
+    let after : mid ≡ known_read offset value k = g ∙ ap (λ d. known_after k (seen_read (is_some d) offset value)) f in
+    let more = reads_more n offset value k in
+    let last : others ≡ difference offset value (known_read offset value k) = h ∙ ap (difference offset value) after in
+    let done : new ≡ known_read offset value (known_read offset value k) =
+    j ∙ (λ i. known_after (after i) (seen_read (is_some (last i)) offset value)) in
+    ((λ i. f i ∷ replicate n (last i)) ∙ sym more.0, done ∙ (read_fixed offset value k ∙ sym more.1))
+
+pub reads_sound : (times : ℕ) (model : Chip) (start : Start) (seen : List Seen) (offset value : ℕ) (k : Known)
+    (reported : List (Option Difference)) → reported ≡ differences times offset value k →
+    k ≡ known_from (first_known model start) seen → AreSound model start seen offset value reported
+reads_sound times model start seen offset value k reported e f =
+    subst (AreSound model start seen offset value) (sym e) (all_sound times model start seen offset value k f)

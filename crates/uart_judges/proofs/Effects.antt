@@ -1,0 +1,303 @@
+-- What is known of a chip holds after a read or a write.
+use Rattle.std.proofs.Common.{◌≡◌, ℕ, suc, Bool, true, false, ◌==◌, List, [], ◌∷◌, length, Option, Some, None, refl}
+use Rattle.std.proofs.Common.{arith, sym, ◌∙◌, bit_or, if◌then◌else◌}
+use Rattle.std.proofs.lemmas.Grind.{common_steps}
+use Rattle.uart_spec.specs.Bits.{has_any, flag}
+use Rattle.uart_spec.specs.declared.registers.fifo_control.TheConstants.FCR
+use Rattle.uart_spec.specs.declared.registers.interrupt_status.TheConstants.ISR
+use Rattle.uart_spec.specs.declared.registers.line_status.TheConstants.LSR
+use Rattle.uart_spec.specs.declared.registers.interrupt_type.InterruptType.{InterruptType}
+use Rattle.uart_spec.specs.declared.registers.interrupt_type.InterruptType.TheVariants.{ReceiverLineStatus}
+use Rattle.uart_spec.specs.declared.registers.offsets.TheConstants as offsets
+use Rattle.uart_chip.specs.declared.event.Chip.{Chip}
+use Rattle.uart_chip.specs.declared.event.Chip.TheVariants.{Uart16550A, Uart16450}
+use Rattle.uart_chip.specs.declared.transmitter.Shifting.{Shifting}
+use Rattle.uart_chip.specs.Transmitter.{TransmitterState}
+use Rattle.uart_chip.specs.Receiver.{ReceiverState, clear}
+use Rattle.uart_chip.specs.Chip as chip
+use Rattle.uart_chip.specs.Chip.{ChipState, answer, interrupt, identification, is_dlab_set, is_thr_empty, is_transmitter_empty}
+use Rattle.uart_chip.specs.Chip.{line_status, trigger_level, switch, reset_receiver, reset_transmitter, set_trigger, is_same}
+use Rattle.uart_chip.specs.Chip.{set_fifo, control}
+use Rattle.uart_device.proofs.lasting.Lasting.{lasts-read, lasts-write, lasts-latch}
+use Rattle.uart_device.proofs.status.Status.{status_data, status_room, status_empty}
+use Rattle.uart_judges.specs.declared.replay.known.Known.{Known}
+use Rattle.uart_judges.specs.declared.replay.known.Sender.{Sender}
+use Rattle.uart_judges.specs.declared.replay.known.Sender.TheVariants.{Unknown, ThrEmpty, Idle}
+use Rattle.uart_judges.specs.Latches.{dlab}
+use Rattle.uart_judges.specs.Known.{sender_shown, waits_after, after_read, after_asking, sender_after, fifo_after, after_write}
+use Rattle.uart_judges.proofs.Between.{SenderHolds, HasCharacter, sender_lasts}
+use Rattle.uart_judges.proofs.Holding.{Agrees, LatchesHold, Holds, Same, same_refl, same_if, latches_moved, fifo_moved}
+use Rattle.uart_judges.proofs.LatchesHold.{by_number, knows_dlab, learned, written}
+
+-- ---- a read
+
+same_read : (offset : ℕ) (c : ChipState) → Same c (chip.after_read offset c)
+same_read offset c =
+    let same : Same c c = same_refl c in
+    same_if c _ _ (offset == offsets.DATA)
+    (same_if c _ _ (is_dlab_set c.latches) same (record { model = refl; latches = refl; fifo = refl }))
+    (same_if c _ _ (offset == offsets.ISR)
+    (same_if c _ _ (is_thr_empty (interrupt c)) (record { model = refl; latches = refl; fifo = refl }) same)
+    (same_if c _ _ (offset == offsets.LSR) (record { model = refl; latches = refl; fifo = refl })
+    (same_if c _ _ (offset == offsets.MSR) (record { model = refl; latches = refl; fifo = refl }) same)))
+
+-- no code of an interrupt has a bit that shows the FIFO
+pub fifo_shown : (on : Bool) (pending : Option InterruptType) →
+    has_any (bit_or (identification pending) (flag on ISR.FIFOS_ENABLED.0)) ISR.FIFOS_ENABLED.0 ≡ on
+fifo_shown true None = refl
+fifo_shown true (Some ReceiverLineStatus) = refl
+fifo_shown true (Some _) = refl
+fifo_shown false None = refl
+fifo_shown false (Some ReceiverLineStatus) = refl
+fifo_shown false (Some _) = refl
+
+-- a queue that is empty as LSR shows it
+no_queue : (queue : List ℕ) → (length queue == 0) ≡ true → queue ≡ []
+no_queue [] e = refl
+no_queue (x ∷ xs) e = let none : suc (length xs) ≡ 0 = grind (arith, common_steps) in absurd (omega (arith, none))
+
+nothing_left : (queue : List ℕ) (place : Option Shifting) → is_transmitter_empty queue place ≡ true → (queue ≡ []) × (place ≡ None)
+nothing_left [] None e = (refl, refl)
+nothing_left [] (Some s) e = absurd (cc)
+nothing_left (x ∷ xs) place e = absurd (cc)
+
+sender_if : (t : TransmitterState) (a b : Sender) (on : Bool) → (on ≡ true → SenderHolds a t) → (on ≡ false → SenderHolds b t) →
+    SenderHolds (if on then a else b) t
+sender_if t a b true p q = p refl
+sender_if t a b false p q = q refl
+
+-- what LSR shows of the transmitter
+sender_learned : (sender : Sender) (c : ChipState) → SenderHolds sender c.transmitter →
+    SenderHolds (sender_shown (line_status c) sender) c.transmitter
+sender_learned sender c h =
+    sender_if c.transmitter Idle (if has_any (line_status c) LSR.THR_EMPTY.0 then ThrEmpty else sender)
+    (has_any (line_status c) LSR.TRANSMITTER_EMPTY.0)
+    (λ e. nothing_left c.transmitter.queue c.transmitter.shift_register (sym (status_empty c) ∙ e))
+    (λ _. sender_if c.transmitter ThrEmpty sender (has_any (line_status c) LSR.THR_EMPTY.0)
+    (λ e. no_queue c.transmitter.queue (sym (status_room c) ∙ e)) (λ _. h))
+
+has_if : (c d : ChipState) (b : Bool) → HasCharacter c.receiver → HasCharacter d.receiver → HasCharacter (if b then c else d).receiver
+has_if c d true p q = p
+has_if c d false p q = q
+
+has_moved : (r s : ReceiverState) → s ≡ r → HasCharacter r → HasCharacter s
+has_moved r s e h = rw e h
+
+-- a read of another register than DATA leaves a character
+has_read : (offset : ℕ) (c : ChipState) → (offset == offsets.DATA) ≡ false → HasCharacter c.receiver →
+    HasCharacter (chip.after_read offset c).receiver
+has_read offset c e h =
+    rw e (has_if _ _ (offset == offsets.ISR) (has_if _ _ (is_thr_empty (interrupt c)) h h)
+    (has_if _ _ (offset == offsets.LSR) h (has_if _ _ (offset == offsets.MSR) h h)))
+
+-- a read of offset 0 under DLAB
+has_latch : (dlab : Option Bool) (waits : Bool) (c : ChipState) → Agrees dlab (is_dlab_set c.latches) →
+    (waits ≡ true → HasCharacter c.receiver) →
+    waits_after dlab waits ≡ true → HasCharacter (chip.after_read offsets.DATA c).receiver
+has_latch None waits c a h e = absurd (cc)
+has_latch (Some false) waits c a h e = absurd (cc)
+has_latch (Some true) waits c a h e = rw a (h e)
+
+-- which of two things is known to wait
+waits_if : (P : Type 0) (a b on : Bool) → (on ≡ true → a ≡ true → P) → (on ≡ false → b ≡ true → P) → (if on then a else b) ≡ true → P
+waits_if P a b true p q e = p refl e
+waits_if P a b false p q e = q refl e
+
+module _ (offset : ℕ) (k : Known) (c : ChipState) (h : Holds k c) where
+  sender_read : SenderHolds k.sender (chip.after_read offset c).transmitter
+  sender_read = lasts-read (SenderHolds k.sender) (sender_lasts k.sender).in_accesses offset c h.sender
+
+  waits_data : (offset == offsets.DATA) ≡ true → waits_after (dlab k.latches) k.waits ≡ true →
+      HasCharacter (chip.after_read offset c).receiver
+  waits_data e w =
+      by_number (λ n. HasCharacter (chip.after_read n c).receiver) offset offsets.DATA e
+      (has_latch (dlab k.latches) k.waits c (knows_dlab k.latches c.latches h.latches) h.waits w)
+
+  -- a read whose value is left out
+  pub holds_asked : Holds (after_asking offset k) (chip.after_read offset c)
+  holds_asked =
+      let p : Same c (chip.after_read offset c) = same_read offset c in
+      record {
+        model = p.model ∙ h.model;
+        latches = latches_moved k.latches c.latches _ p.latches h.latches;
+        fifo = fifo_moved k.fifo c.fifo _ p.fifo h.fifo;
+        sender = sender_read;
+        waits =
+            waits_if (HasCharacter (chip.after_read offset c).receiver) (waits_after (dlab k.latches) k.waits) k.waits
+            (offset == offsets.DATA) waits_data (λ e w. has_read offset c e (h.waits w));
+      }
+
+  fifo_read : Agrees (if offset == offsets.ISR then Some (has_any (answer offset c) ISR.FIFOS_ENABLED.0) else k.fifo) c.fifo
+  fifo_read = go (offset == offsets.ISR) refl
+    where
+      go : (b : Bool) → (offset == offsets.ISR) ≡ b →
+          Agrees (if offset == offsets.ISR then Some (has_any (answer offset c) ISR.FIFOS_ENABLED.0) else k.fifo) c.fifo
+      go true e =
+          by_number (λ n. Agrees (if n == offsets.ISR then Some (has_any (answer n c) ISR.FIFOS_ENABLED.0) else k.fifo) c.fifo)
+          offset offsets.ISR e (sym (fifo_shown c.fifo (interrupt c)))
+      go false e = rw e h.fifo
+
+  -- the answer of LSR
+  lsr_read : (offset == offsets.LSR) ≡ true → has_any (answer offset c) LSR.DATA_READY.0 ≡ true → HasCharacter c.receiver
+  lsr_read e w =
+      let shown : has_any (line_status c) LSR.DATA_READY.0 ≡ true =
+      by_number (λ n. has_any (answer n c) LSR.DATA_READY.0 ≡ true → has_any (line_status c) LSR.DATA_READY.0 ≡ true)
+      offset offsets.LSR e (λ w. w) w in
+      sym (status_data c) ∙ shown
+
+  sender_told : SenderHolds (if offset == offsets.LSR then sender_shown (answer offset c) k.sender else k.sender) c.transmitter
+  sender_told =
+      sender_if c.transmitter (sender_shown (answer offset c) k.sender) k.sender (offset == offsets.LSR)
+      (λ e. by_number (λ n. SenderHolds (sender_shown (answer n c) k.sender) c.transmitter) offset offsets.LSR e
+      (sender_learned k.sender c h.sender)) (λ _. h.sender)
+
+  -- a read that returned what the chip returns
+  pub holds_read : Holds (after_read offset (answer offset c) k) (chip.after_read offset c)
+  holds_read =
+      let p : Same c (chip.after_read offset c) = same_read offset c in
+      let known : Sender = if offset == offsets.LSR then sender_shown (answer offset c) k.sender else k.sender in
+      record {
+        model = p.model ∙ h.model;
+        latches = latches_moved _ c.latches _ p.latches (learned k.latches c h.latches offset);
+        fifo =
+            fifo_moved (if offset == offsets.ISR then Some (has_any (answer offset c) ISR.FIFOS_ENABLED.0) else k.fifo)
+            c.fifo _ p.fifo fifo_read;
+        sender = lasts-read (SenderHolds known) (sender_lasts known).in_accesses offset c sender_told;
+        waits =
+            waits_if (HasCharacter (chip.after_read offset c).receiver) (waits_after (dlab k.latches) k.waits)
+            (if offset == offsets.LSR then has_any (answer offset c) LSR.DATA_READY.0 else k.waits)
+            (offset == offsets.DATA) waits_data
+            (λ e. waits_if (HasCharacter (chip.after_read offset c).receiver) (has_any (answer offset c) LSR.DATA_READY.0) k.waits
+            (offset == offsets.LSR) (λ l w. has_read offset c e (lsr_read l w))
+            (λ _ w. has_read offset c e (h.waits w)));
+      }
+
+-- ---- a write of FCR
+
+-- the FIFO is on or off in d, and the rest is as in c
+record Switched (on : Bool) (c d : ChipState) : Type 0 where
+  model : d.model ≡ c.model
+  latches : d.latches ≡ c.latches
+  fifo : d.fifo ≡ on
+
+switched_if : (on : Bool) (c d e : ChipState) (b : Bool) → Switched on c d → Switched on c e → Switched on c (if b then d else e)
+switched_if on c d e true p q = p
+switched_if on c d e false p q = q
+
+same_as : (a b : Bool) → is_same a b ≡ true → a ≡ b
+same_as true true e = refl
+same_as true false e = sym e
+same_as false true e = e
+same_as false false e = refl
+
+switched : (value : ℕ) (c : ChipState) → Switched (has_any value FCR.FIFO_ENABLE.0) c (set_fifo value c)
+switched value c =
+    let on : Bool = has_any value FCR.FIFO_ENABLE.0 in
+    let d : ChipState = if is_same c.fifo on then c else switch on c in
+    let p : Switched on c d = first on (is_same c.fifo on) refl in
+    let e : ChipState = reset_receiver value d in
+    let q : Switched on c e =
+    switched_if on c (record d { receiver = clear d.receiver }) d (has_any value FCR.RX_FIFO_RESET.0)
+    (record { model = p.model; latches = p.latches; fifo = p.fifo }) p in
+    let f : ChipState = reset_transmitter value e in
+    let r : Switched on c f =
+    switched_if on c (record e { transmitter = record e.transmitter { queue = []; is_thr_pending = true } }) e
+    (has_any value FCR.TX_FIFO_RESET.0) (record { model = q.model; latches = q.latches; fifo = q.fifo }) q in
+    switched_if on c (set_trigger (trigger_level value) f) d on
+    (record { model = r.model; latches = r.latches; fifo = r.fifo }) p
+  where
+    first : (on b : Bool) → is_same c.fifo on ≡ b → Switched on c (if b then c else switch on c)
+    first on true e = record { model = refl; latches = refl; fifo = same_as c.fifo on e }
+    first on false e = record { model = refl; latches = refl; fifo = refl }
+
+-- after a write of FCR
+record Controlled (fifo : Option Bool) (c d : ChipState) : Type 0 where
+  model : d.model ≡ c.model
+  latches : d.latches ≡ c.latches
+  fifo_holds : Agrees fifo d.fifo
+
+same_control : (model other : Chip) (value : ℕ) (fifo : Option Bool) (c : ChipState) → other ≡ model → Agrees fifo c.fifo →
+    Controlled (fifo_after model value fifo) c (control other value c)
+same_control model other value fifo c e a = rw e (go model)
+  where
+    go : (model : Chip) → Controlled (fifo_after model value fifo) c (control model value c)
+    go Uart16450 = record { model = refl; latches = refl; fifo_holds = a }
+    go Uart16550A =
+        let s : Switched (has_any value FCR.FIFO_ENABLE.0) c (set_fifo value c) = switched value c in
+        record { model = s.model; latches = s.latches; fifo_holds = s.fifo }
+
+-- ---- a write of any register
+
+-- all but the latches and the transmitter
+record Alike (c d : ChipState) : Type 0 where
+  model : d.model ≡ c.model
+  fifo : d.fifo ≡ c.fifo
+  receiver : d.receiver ≡ c.receiver
+
+alike_if : (c d e : ChipState) (b : Bool) → Alike c d → Alike c e → Alike c (if b then d else e)
+alike_if c d e true p q = p
+alike_if c d e false p q = q
+
+alike_write : (offset value : ℕ) (c : ChipState) → (offset == offsets.FCR) ≡ false → Alike c (chip.after_write offset value c)
+alike_write offset value c e =
+    let same : Alike c c = record { model = refl; fifo = refl; receiver = refl } in
+    rw e (alike_if c _ _ (offset == offsets.DATA)
+    (alike_if c _ _ (is_dlab_set c.latches) (record { model = refl; fifo = refl; receiver = refl })
+    (record { model = refl; fifo = refl; receiver = refl }))
+    (alike_if c _ _ (offset == offsets.IER)
+    (alike_if c _ _ (is_dlab_set c.latches) (record { model = refl; fifo = refl; receiver = refl })
+    (record { model = refl; fifo = refl; receiver = refl }))
+    (alike_if c _ _ (offset == offsets.LCR) (record { model = refl; fifo = refl; receiver = refl })
+    (alike_if c _ _ (offset == offsets.MCR) (record { model = refl; fifo = refl; receiver = refl })
+    (alike_if c _ _ (offset == offsets.SPR) (record { model = refl; fifo = refl; receiver = refl }) same)))))
+
+-- DATA is written, or under DLAB the divisor latch
+sender_sent : (on : Option Bool) (sender : Sender) (value : ℕ) (c : ChipState) → Agrees on (is_dlab_set c.latches) →
+    SenderHolds sender c.transmitter → SenderHolds (sender_after on sender) (chip.after_write offsets.DATA value c).transmitter
+sender_sent None sender value c a h = tt
+sender_sent (Some false) sender value c a h = tt
+sender_sent (Some true) sender value c a h = lasts-latch (SenderHolds sender) (sender_lasts sender).in_accesses value c a h
+
+-- what is known but the transmitter
+record Rest (k : Known) (c : ChipState) : Type 0 where
+  model : c.model ≡ k.model
+  latches : LatchesHold k.latches c.latches
+  fifo : Agrees k.fifo c.fifo
+  waits : k.waits ≡ true → HasCharacter c.receiver
+
+module _ (offset value : ℕ) (k : Known) (c : ChipState) (h : Holds k c) where
+  sender_wrote : SenderHolds (if offset == offsets.DATA then sender_after (dlab k.latches) k.sender else k.sender)
+      (chip.after_write offset value c).transmitter
+  sender_wrote =
+      sender_if (chip.after_write offset value c).transmitter (sender_after (dlab k.latches) k.sender) k.sender (offset == offsets.DATA)
+      (λ e. by_number (λ n. SenderHolds (sender_after (dlab k.latches) k.sender) (chip.after_write n value c).transmitter)
+      offset offsets.DATA e (sender_sent (dlab k.latches) k.sender value c (knows_dlab k.latches c.latches h.latches) h.sender))
+      (λ e. lasts-write (SenderHolds k.sender) (sender_lasts k.sender).in_accesses offset value c e h.sender)
+
+  rest_wrote : (b : Bool) → (offset == offsets.FCR) ≡ b → Rest (after_write offset value k) (chip.after_write offset value c)
+  rest_wrote true e =
+      by_number (λ n. Rest (after_write n value k) (chip.after_write n value c)) offset offsets.FCR e
+      (let s : Controlled (fifo_after k.model value k.fifo) c (control c.model value c) =
+      same_control k.model c.model value k.fifo c h.model h.fifo in
+      record {
+        model = s.model ∙ h.model;
+        latches = latches_moved k.latches c.latches _ s.latches h.latches;
+        fifo = s.fifo_holds;
+        waits = λ e. absurd (cc);
+      })
+  rest_wrote false e =
+      let a : Alike c (chip.after_write offset value c) = alike_write offset value c e in
+      record {
+        model = a.model ∙ h.model;
+        latches = written k.latches c h.latches value offset e;
+        fifo =
+            fifo_moved (if offset == offsets.FCR then fifo_after k.model value k.fifo else k.fifo) c.fifo _ a.fifo (rw e h.fifo);
+        waits =
+            waits_if (HasCharacter (chip.after_write offset value c).receiver) false k.waits (offset == offsets.FCR)
+            (λ _ w. absurd (cc)) (λ _ w. has_moved c.receiver _ a.receiver (h.waits w));
+      }
+
+  pub holds_write : Holds (after_write offset value k) (chip.after_write offset value c)
+  holds_write =
+      let r : Rest (after_write offset value k) (chip.after_write offset value c) = rest_wrote (offset == offsets.FCR) refl in
+      record { model = r.model; latches = r.latches; fifo = r.fifo; sender = sender_wrote; waits = r.waits }

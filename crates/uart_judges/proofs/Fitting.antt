@@ -1,0 +1,332 @@
+-- No value that the chip returns breaks a
+use Rattle.std.proofs.Common.{◌≡◌, ℕ, ◌^◌, Bool, true, false, not, ◌&&◌, ◌||◌, ◌==◌, nat_lt, List, [], ◌∷◌, length, Option, Some, None}
+use Rattle.std.proofs.Common.{refl, arith, sym, ◌∙◌, ap, bit_and, bit_or, if◌then◌else◌}
+use Rattle.std.specs.List.{list_any}
+use Rattle.std.specs.Int.{bit_at}
+use Rattle.std.proofs.lemmas.Grind.{common_steps}
+use Rattle.std.proofs.lemmas.Nat.{and_assoc}
+use Rattle.std.specs.Int.Bits.{and_zero_r}
+use lib.Bits.{or_zero_r}
+use Rattle.std.proofs.Math.Bool.{or-true}
+use Rattle.uart_spec.specs.Bits.{has_any, flag}
+use Rattle.uart_spec.specs.declared.registers.interrupt_enable.TheConstants.IER
+use Rattle.uart_spec.specs.declared.registers.interrupt_status.TheConstants.ISR
+use Rattle.uart_spec.specs.declared.registers.interrupt_type.InterruptType.{InterruptType}
+use Rattle.uart_spec.specs.declared.registers.interrupt_type.InterruptType.TheVariants.{ReceiverLineStatus}
+use Rattle.uart_spec.specs.declared.registers.interrupt_type.InterruptType.TheVariants.{ReceivedDataReady}
+use Rattle.uart_spec.specs.declared.registers.interrupt_type.InterruptType.TheVariants.{ReceptionTimeout}
+use Rattle.uart_spec.specs.declared.registers.interrupt_type.InterruptType.TheVariants.{TransmitterHoldingRegisterEmpty}
+use Rattle.uart_spec.specs.declared.registers.interrupt_type.InterruptType.TheVariants.{ModemStatus}
+use Rattle.uart_spec.specs.declared.registers.interrupt_type.InterruptType.TheVariants.{DmaReceptionEndOfTransfer}
+use Rattle.uart_spec.specs.declared.registers.interrupt_type.InterruptType.TheVariants.{DmaTransmissionEndOfTransfer}
+use Rattle.uart_spec.specs.declared.registers.line_status.TheConstants.LSR
+use Rattle.uart_spec.specs.declared.registers.modem_control.TheConstants.MCR
+use Rattle.uart_spec.specs.declared.registers.modem_status.TheConstants.MSR
+use Rattle.uart_spec.specs.declared.registers.offsets.TheConstants as offsets
+use Rattle.uart_chip.specs.declared.receiver.Character.{Character}
+use Rattle.uart_chip.specs.declared.transmitter.Shifting.{Shifting}
+use Rattle.uart_chip.specs.Receiver.{ReceiverState, front_errors, unreported, has_errors, is_data_pending, is_timed_out}
+use Rattle.uart_chip.specs.Transmitter.{TransmitterState}
+use Rattle.uart_chip.specs.Chip.{ChipState, answer, interrupt, identification, line_status, is_transmitter_empty}
+use Rattle.uart_chip.specs.Masks.{IsWithin}
+use Rattle.uart_chip.specs.Modem.{ModemState, looped_lines, lines_under}
+use Rattle.uart_chip.proofs.Bits.{and_or, has_or, has_flag, has_none, has_not}
+use Rattle.uart_device.specs.Sound.{IsSoundModem}
+use Rattle.uart_device.proofs.status.Status.{status_data, status_room, status_empty}
+use Rattle.uart_judges.specs.declared.replay.known.Known.{Known}
+use Rattle.uart_judges.specs.declared.replay.known.Sender.{Sender}
+use Rattle.uart_judges.specs.declared.replay.known.Sender.TheVariants.{Unknown, ThrEmpty, Idle}
+use Rattle.uart_judges.specs.declared.replay.rule.Rule.{Rule}
+use Rattle.uart_judges.specs.declared.replay.rule.Rule.TheVariants.{FifoBits, Interrupt, EmptyBits, ErrorAlone}
+use Rattle.uart_judges.specs.declared.replay.rule.Rule.TheVariants.{FifoError, StillWaits, LoopedLines}
+use Rattle.uart_judges.specs.Latches.{shown}
+use Rattle.uart_judges.specs.Known.{known_or}
+use Rattle.uart_judges.specs.Rules.{broken_latch, breaks_fifo_bits, may_be_enabled, may_be_pending, may_show, is_explained, broken_isr}
+use Rattle.uart_judges.specs.Rules.{character_bits, broken_receiver, broken_sender, first_of_two, broken_lsr, broken_msr, broken}
+use Rattle.uart_judges.proofs.Between.{SenderHolds, HasCharacter, positive}
+use Rattle.uart_judges.proofs.Holding.{Agrees, Holds}
+use Rattle.uart_judges.proofs.Looped.{Looped}
+use Rattle.uart_judges.proofs.LatchesHold.{by_number, agrees_shown}
+use Rattle.uart_judges.proofs.Effects.{fifo_shown}
+
+if_none : (b : Bool) (x y : Option Rule) → (b ≡ true → x ≡ None) → y ≡ None → (if b then x else y) ≡ None
+if_none true x y p q = p refl
+if_none false x y p q = q
+
+-- ---- latches
+
+latch_kept : (o : Option ℕ) (value : ℕ) → Agrees o value → broken_latch o value ≡ None
+latch_kept None value a = refl
+latch_kept (Some kept) value a = let same : (value == kept) ≡ true = grind (arith, common_steps) in rw same refl
+
+-- ---- ISR
+
+-- the bits that show the FIFO, of any interrupt
+fifo_part : (on : Bool) (pending : Option InterruptType) →
+    bit_and (bit_or (identification pending) (flag on ISR.FIFOS_ENABLED.0)) ISR.FIFOS_ENABLED.0 ≡ flag on ISR.FIFOS_ENABLED.0
+fifo_part true None = refl
+fifo_part true (Some ReceiverLineStatus) = refl
+fifo_part true (Some _) = refl
+fifo_part false None = refl
+fifo_part false (Some ReceiverLineStatus) = refl
+fifo_part false (Some _) = refl
+
+fifo_on : (o : Option Bool) (on : Bool) (pending : Option InterruptType) → Agrees o on →
+    known_or o (has_any (bit_or (identification pending) (flag on ISR.FIFOS_ENABLED.0)) ISR.FIFOS_ENABLED.0) ≡ on
+fifo_on None on pending a = fifo_shown on pending
+fifo_on (Some b) on pending a = sym a
+
+fifo_kept : (o : Option Bool) (on : Bool) (pending : Option InterruptType) → Agrees o on →
+    breaks_fifo_bits o (bit_or (identification pending) (flag on ISR.FIFOS_ENABLED.0)) ≡ false
+fifo_kept o on pending a = rw (fifo_on o on pending a, fifo_part on pending) (itself on)
+  where
+    itself : (on : Bool) → not (flag on ISR.FIFOS_ENABLED.0 == flag on ISR.FIFOS_ENABLED.0) ≡ false
+    itself true = refl
+    itself false = refl
+
+-- an interrupt that is shown is enabled
+enabled : (o : Option ℕ) (ier interrupts : ℕ) → Agrees o ier → has_any ier interrupts ≡ true → may_be_enabled o interrupts ≡ true
+enabled None ier interrupts a e = refl
+enabled (Some known) ier interrupts a e = ap (λ n. has_any n interrupts) (sym a) ∙ e
+
+has_fifo : (o : Option Bool) (fifo : Bool) → Agrees o fifo → fifo ≡ true → known_or o true ≡ true
+has_fifo None fifo a e = refl
+has_fifo (Some b) fifo a e = sym a ∙ e
+
+first_true : (a b : Bool) → (a && b) ≡ true → a ≡ true
+first_true true b e = refl
+first_true false b e = e
+
+both_true : (a b : Bool) → a ≡ true → b ≡ true → (a && b) ≡ true
+both_true true b e f = f
+both_true false b e f = e
+
+pending_if : (P : Option InterruptType → Type 0) (a b : Bool) (first others : Option InterruptType) → (a ≡ true → b ≡ true → P first) →
+    P others → P (if a && b then first else others)
+pending_if P true true first others p q = p refl refl
+pending_if P true false first others p q = q
+pending_if P false b first others p q = q
+
+module _ (k : Known) (c : ChipState) (h : Holds k c) where
+  pends : may_be_pending (interrupt c) k ≡ true
+  pends =
+      pending_if (λ i. may_be_pending i k ≡ true) (has_any c.latches.ier IER.RECEIVER_LINE_STATUS.0)
+      (has_any (line_status c) LSR.LINE_ERRORS.0) (Some ReceiverLineStatus) _
+      (λ e _. enabled k.latches.ier c.latches.ier IER.RECEIVER_LINE_STATUS.0 h.latches.ier e)
+      (pending_if (λ i. may_be_pending i k ≡ true) (has_any c.latches.ier IER.DATA_READY.0)
+      (is_data_pending c.fifo c.receiver) (Some ReceivedDataReady) _
+      (λ e _. enabled k.latches.ier c.latches.ier IER.DATA_READY.0 h.latches.ier e)
+      (pending_if (λ i. may_be_pending i k ≡ true) (has_any c.latches.ier IER.DATA_READY.0)
+      (is_timed_out c.fifo c.receiver) (Some ReceptionTimeout) _
+      (λ e f. both_true _ _ (enabled k.latches.ier c.latches.ier IER.DATA_READY.0 h.latches.ier e)
+      (has_fifo k.fifo c.fifo h.fifo (first_true c.fifo _ f)))
+      (pending_if (λ i. may_be_pending i k ≡ true) (has_any c.latches.ier IER.THR_EMPTY.0)
+      c.transmitter.is_thr_pending (Some TransmitterHoldingRegisterEmpty) _
+      (λ e _. enabled k.latches.ier c.latches.ier IER.THR_EMPTY.0 h.latches.ier e)
+      (pending_if (λ i. may_be_pending i k ≡ true) (has_any c.latches.ier IER.MODEM_STATUS.0)
+      (not (c.modem.deltas == 0)) (Some ModemStatus) None
+      (λ e _. enabled k.latches.ier c.latches.ier IER.MODEM_STATUS.0 h.latches.ier e) refl))))
+
+  shows : (pending : Option InterruptType) → may_be_pending pending k ≡ true →
+      may_show (bit_or (identification pending) (flag c.fifo ISR.FIFOS_ENABLED.0)) pending k ≡ true
+  shows pending e =
+      let same : (bit_or (identification pending) (flag c.fifo ISR.FIFOS_ENABLED.0) ==
+      bit_or (identification pending) (flag c.fifo ISR.FIFOS_ENABLED.0)) ≡ true = grind (arith, common_steps) in
+      rw (fifo_shown c.fifo pending) (both_true _ _ same e)
+
+-- one of the interrupts explains the value
+one_explains : (value : ℕ) (k : Known) (pending : Option InterruptType) → may_show value pending k ≡ true →
+    may_be_pending pending k ≡ true → is_explained value k ≡ true
+one_explains value k None e p = rw e refl
+one_explains value k (Some ReceiverLineStatus) e p = rw (e, or-true) refl
+one_explains value k (Some ReceivedDataReady) e p = rw (e, or-true) refl
+one_explains value k (Some ReceptionTimeout) e p = rw (e, or-true) refl
+one_explains value k (Some TransmitterHoldingRegisterEmpty) e p = rw (e, or-true) refl
+one_explains value k (Some ModemStatus) e p = rw (e, or-true) refl
+one_explains value k (Some DmaReceptionEndOfTransfer) e p = absurd (cc)
+one_explains value k (Some DmaTransmissionEndOfTransfer) e p = absurd (cc)
+
+isr_kept : (k : Known) (c : ChipState) → Holds k c → broken_isr (answer offsets.ISR c) k ≡ None
+isr_kept k c h =
+    let may : may_be_pending (interrupt c) k ≡ true = pends k c h in
+    let explained : is_explained (answer offsets.ISR c) k ≡ true =
+    one_explains (answer offsets.ISR c) k (interrupt c) (shows k c h (interrupt c) may) may in
+    quiet (breaks_fifo_bits k.fifo (answer offsets.ISR c)) (is_explained (answer offsets.ISR c) k)
+    (fifo_kept k.fifo c.fifo (interrupt c) h.fifo) explained
+  where
+    quiet : (a b : Bool) → a ≡ false → b ≡ true →
+        (if a then Some FifoBits else if not b then Some Interrupt else None) ≡ None
+    quiet true b e f = absurd (cc)
+    quiet false true e f = refl
+    quiet false false e f = absurd (cc)
+
+-- ---- LSR
+
+front_errors-bit : (k : ℕ) → bit_at LSR.CHARACTER_ERRORS.0 k ≡ 0 → (queue : List Character) (reported : Bool) →
+    has_any (front_errors queue reported) (2 ^ k) ≡ false
+front_errors-bit k z [] reported = has_none k
+front_errors-bit k z (front ∷ others) true = has_none k
+front_errors-bit k z (front ∷ others) false = has_not k front.errors LSR.CHARACTER_ERRORS.0 z
+
+-- flags put together as the line status is
+module _ (a b d f g : Bool) (e : ℕ) where
+  abbrev whole : ℕ
+  whole =
+      bit_or (bit_or (bit_or (flag a LSR.DATA_READY.0) (flag b LSR.OVERRUN_ERROR.0)) (bit_or e (flag d LSR.THR_EMPTY.0)))
+      (bit_or (flag f LSR.TRANSMITTER_EMPTY.0) (flag g LSR.FIFO_DATA_ERROR.0))
+
+  line_fifo : has_any e LSR.FIFO_DATA_ERROR.0 ≡ false → has_any whole LSR.FIFO_DATA_ERROR.0 ≡ g
+  line_fifo z = simp (has_or 7, has_flag, z) (grind (arith, common_steps))
+
+-- bit 7 of LSR
+status_fifo : (c : ChipState) →
+    has_any (line_status c) LSR.FIFO_DATA_ERROR.0 ≡
+    (c.fifo && list_any has_errors (unreported c.receiver.queue c.receiver.is_front_reported))
+status_fifo c =
+    line_fifo (nat_lt 0 (length c.receiver.queue)) c.receiver.is_overrun (length c.transmitter.queue == 0)
+    (is_transmitter_empty c.transmitter.queue c.transmitter.shift_register)
+    (c.fifo && list_any has_errors (unreported c.receiver.queue c.receiver.is_front_reported))
+    (front_errors c.receiver.queue c.receiver.is_front_reported)
+    (front_errors-bit 7 refl c.receiver.queue c.receiver.is_front_reported)
+
+-- with no character there is no error of one
+no_errors : (fifo reported : Bool) → (fifo && list_any has_errors (unreported [] reported)) ≡ false
+no_errors true true = refl
+no_errors true false = refl
+no_errors false true = refl
+no_errors false false = refl
+
+no_bits : (b d f : Bool) →
+    has_any (bit_or (bit_or (bit_or 0 (flag b LSR.OVERRUN_ERROR.0)) (bit_or 0 (flag d LSR.THR_EMPTY.0)))
+    (bit_or (flag f LSR.TRANSMITTER_EMPTY.0) 0)) character_bits ≡ false
+no_bits true true true = refl
+no_bits true true false = refl
+no_bits true false true = refl
+no_bits true false false = refl
+no_bits false true true = refl
+no_bits false true false = refl
+no_bits false false true = refl
+no_bits false false false = refl
+
+second_false : (a b : Bool) → b ≡ false → (a && b) ≡ false
+second_false true b e = e
+second_false false b e = refl
+
+module _ (c : ChipState) where
+  alone : (queue : List Character) → c.receiver.queue ≡ queue →
+      (not (has_any (line_status c) LSR.DATA_READY.0) && has_any (line_status c) character_bits) ≡ false
+  alone (x ∷ xs) e =
+      let some : has_any (line_status c) LSR.DATA_READY.0 ≡ true =
+      status_data c ∙ (ap (λ (q : List Character). nat_lt 0 (length q)) e ∙ positive (length xs)) in
+      never _ _ some
+    where
+      never : (a b : Bool) → a ≡ true → (not a && b) ≡ false
+      never true b e = refl
+      never false b e = absurd (cc)
+  alone [] e =
+      let none : has_any (line_status c) character_bits ≡ false =
+      rw (e, no_errors c.fifo c.receiver.is_front_reported)
+      (no_bits c.receiver.is_overrun (length c.transmitter.queue == 0)
+      (is_transmitter_empty c.transmitter.queue c.transmitter.shift_register)) in
+      second_false _ _ none
+
+-- the transmitter is empty only with THR
+empty_both : (queue : List ℕ) (place : Option Shifting) → (is_transmitter_empty queue place && not (length queue == 0)) ≡ false
+empty_both [] None = refl
+empty_both [] (Some s) = refl
+empty_both (x ∷ xs) place = refl
+
+module _ (k : Known) (c : ChipState) (h : Holds k c) where
+  fifo_quiet : (o : Option Bool) → Agrees o c.fifo → (has_any (line_status c) LSR.FIFO_DATA_ERROR.0 && not (known_or o true)) ≡ false
+  fifo_quiet None a = off _
+    where
+      off : (b : Bool) → (b && false) ≡ false
+      off true = refl
+      off false = refl
+  fifo_quiet (Some on) a =
+      rw (status_fifo c, a) (off on (list_any has_errors (unreported c.receiver.queue c.receiver.is_front_reported)))
+    where
+      off : (on b : Bool) → ((on && b) && not on) ≡ false
+      off true true = refl
+      off true false = refl
+      off false b = refl
+
+  still_waits : (waits : Bool) → (waits ≡ true → HasCharacter c.receiver) →
+      (waits && not (has_any (line_status c) LSR.DATA_READY.0)) ≡ false
+  still_waits false w = refl
+  still_waits true w = rw (status_data c, w refl) refl
+
+  receiver_kept : broken_receiver (line_status c) k ≡ None
+  receiver_kept = quiet _ _ _ (alone c c.receiver.queue refl) (fifo_quiet k.fifo h.fifo) (still_waits k.waits h.waits)
+    where
+      quiet : (a b d : Bool) → a ≡ false → b ≡ false → d ≡ false →
+          (if a then Some ErrorAlone else if b then Some FifoError else if d then Some StillWaits else None) ≡ None
+      quiet false false false e f g = refl
+      quiet true b d e f g = absurd (cc)
+      quiet false true d e f g = absurd (cc)
+      quiet false false true e f g = absurd (cc)
+
+  sender_kept : (sender : Sender) → SenderHolds sender c.transmitter → broken_sender (line_status c) sender ≡ None
+  sender_kept Unknown s = refl
+  sender_kept ThrEmpty s = rw (status_room c, s) refl
+  sender_kept Idle s = rw (status_empty c, s.0, s.1) refl
+
+  lsr_kept : broken_lsr (line_status c) k ≡ None
+  lsr_kept =
+      let empty : (has_any (line_status c) LSR.TRANSMITTER_EMPTY.0 && not (has_any (line_status c) LSR.THR_EMPTY.0)) ≡ false =
+      rw (status_empty c, status_room c) (empty_both c.transmitter.queue c.transmitter.shift_register) in
+      quiet _ _ _ empty receiver_kept (sender_kept k.sender h.sender)
+    where
+      quiet : (a : Bool) (x y : Option Rule) → a ≡ false → x ≡ None → y ≡ None →
+          (if a then Some EmptyBits else first_of_two x y) ≡ None
+      quiet false None y e f g = g
+      quiet false (Some r) y e f g = absurd (cc)
+      quiet true x y e f g = absurd (cc)
+
+-- ---- MSR
+
+-- the high nibble of the modem status is the lines
+lines_shown : (lines deltas : ℕ) → IsWithin lines MSR.LINES.0 → IsWithin deltas MSR.CHANGES.0 →
+    bit_and (bit_or lines deltas) MSR.LINES.0 ≡ lines
+lines_shown lines deltas p q =
+    let none : bit_and deltas MSR.LINES.0 ≡ 0 =
+    ap (λ n. bit_and n MSR.LINES.0) (sym q) ∙ (and_assoc MSR.LINES.0 deltas MSR.CHANGES.0 ∙ and_zero_r deltas) in
+    and_or lines deltas MSR.LINES.0 ∙ (ap (λ n. bit_or n (bit_and deltas MSR.LINES.0)) p ∙
+    (ap (λ n. bit_or lines n) none ∙ or_zero_r lines))
+
+looped_under : (mcr inputs : ℕ) → has_any mcr MCR.LOOP_BACK.0 ≡ true → lines_under mcr inputs ≡ looped_lines mcr
+looped_under mcr inputs e = rw e refl
+
+msr_kept : (o : Option ℕ) (c : ChipState) → Agrees o c.latches.mcr → IsSoundModem c.modem → Looped c →
+    broken_msr (bit_or c.modem.lines c.modem.deltas) o ≡ None
+msr_kept None c a w l = refl
+msr_kept (Some mcr) c a w l = go (has_any mcr MCR.LOOP_BACK.0) refl
+  where
+    same : (m : ModemState) (known : ℕ) → IsSoundModem m → m.lines ≡ known → (bit_and (bit_or m.lines m.deltas) MSR.LINES.0 == known) ≡ true
+    same m known w e =
+        let h : bit_and (bit_or m.lines m.deltas) MSR.LINES.0 ≡ known = lines_shown m.lines m.deltas w.lines w.deltas ∙ e in
+        grind (arith, common_steps)
+
+    quiet : (a b : Bool) → (a ≡ true → b ≡ true) → (if a && not b then Some LoopedLines else None) ≡ None
+    quiet true true p = refl
+    quiet true false p = let e : false ≡ true = p refl in absurd (cc)
+    quiet false b p = refl
+
+    go : (b : Bool) → has_any mcr MCR.LOOP_BACK.0 ≡ b → broken_msr (bit_or c.modem.lines c.modem.deltas) (Some mcr) ≡ None
+    go b e =
+        quiet (has_any mcr MCR.LOOP_BACK.0) (bit_and (bit_or c.modem.lines c.modem.deltas) MSR.LINES.0 == looped_lines mcr)
+        (λ on. same c.modem (looped_lines mcr) w
+        (l ∙ (ap (λ n. lines_under n c.modem.inputs) a ∙ looped_under mcr c.modem.inputs on)))
+
+-- ---- any register
+
+pub none_broken : (offset : ℕ) (k : Known) (c : ChipState) → Holds k c → IsSoundModem c.modem → Looped c →
+    broken offset (answer offset c) k ≡ None
+none_broken offset k c h w l =
+    if_none (offset == offsets.ISR) (broken_isr (answer offset c) k) _
+    (λ e. by_number (λ n. broken_isr (answer n c) k ≡ None) offset offsets.ISR e (isr_kept k c h))
+    (if_none (offset == offsets.LSR) (broken_lsr (answer offset c) k) _
+    (λ e. by_number (λ n. broken_lsr (answer n c) k ≡ None) offset offsets.LSR e (lsr_kept k c h))
+    (if_none (offset == offsets.MSR) (broken_msr (answer offset c) k.latches.mcr) (broken_latch (shown offset k.latches) (answer offset c))
+    (λ e. by_number (λ n. broken_msr (answer n c) k.latches.mcr ≡ None) offset offsets.MSR e (msr_kept k.latches.mcr c h.latches.mcr w l))
+    (latch_kept (shown offset k.latches) (answer offset c) (agrees_shown k.latches c h.latches offset))))

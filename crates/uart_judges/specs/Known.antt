@@ -1,0 +1,101 @@
+-- What is known of a chip from the accesses to it: at the start, and after a read or a write.
+use Rattle.std.specs.Prelude.{ℕ, Bool, true, false, Option, Some, None, ◌==◌, if◌then◌else◌}
+use Rattle.uart_spec.specs.Bits.{has_any}
+use Rattle.uart_spec.specs.declared.registers.fifo_control.TheConstants.FCR
+use Rattle.uart_spec.specs.declared.registers.interrupt_status.TheConstants.ISR
+use Rattle.uart_spec.specs.declared.registers.line_status.TheConstants.LSR
+use Rattle.uart_spec.specs.declared.registers.offsets.TheConstants as offsets
+use Rattle.uart_chip.specs.declared.event.Chip.{Chip}
+use Rattle.uart_chip.specs.declared.event.Chip.TheVariants.{Uart16550A, Uart16450}
+use Rattle.uart_judges.specs.declared.replay.known.Known.{Known}
+use Rattle.uart_judges.specs.declared.replay.known.Sender.{Sender}
+use Rattle.uart_judges.specs.declared.replay.known.Sender.TheVariants.{Unknown, ThrEmpty, Idle}
+use Rattle.uart_judges.specs.declared.replay.known.Start.{Start}
+use Rattle.uart_judges.specs.declared.replay.known.Start.TheVariants.{Reset, InUse}
+use Rattle.uart_judges.specs.Latches as latches
+use Rattle.uart_judges.specs.Latches.{first_latches, dlab}
+
+-- ---- the start
+
+-- whether the FIFOs are on at the start: a 16450 has none
+abbrev pub first_fifo : Chip → Start → Option Bool
+first_fifo Uart16550A InUse = None
+first_fifo Uart16550A Reset = Some false
+first_fifo Uart16450 start = Some false
+
+-- at power-on there is nothing to send
+abbrev pub first_sender : Start → Sender
+first_sender Reset = Idle
+first_sender InUse = Unknown
+
+-- at power-on everything is clear; of a chip in use nothing is known but the model
+abbrev pub first_known : Chip → Start → Known
+first_known model start =
+    record {
+      model = model;
+      latches = first_latches start;
+      fifo = first_fifo model start;
+      sender = first_sender start;
+      waits = false;
+    }
+
+-- this, or if it is not known the other
+abbrev pub known_or : Option Bool → Bool → Bool
+known_or None other = other
+known_or (Some b) other = b
+
+-- ---- a read
+
+-- the transmitter, after a read of LSR
+abbrev pub sender_shown : ℕ → Sender → Sender
+sender_shown lsr sender =
+    if has_any lsr LSR.TRANSMITTER_EMPTY.0 then Idle
+    else if has_any lsr LSR.THR_EMPTY.0 then ThrEmpty
+    else sender
+
+-- whether a character waits for certain after a read of offset 0: under DLAB that stays
+abbrev pub waits_after : Option Bool → Bool → Bool
+waits_after None waits = false
+waits_after (Some true) waits = waits
+waits_after (Some false) waits = false
+
+-- after a read that returned this value: ISR shows the FIFO, and LSR what is empty and what waits
+abbrev pub after_read : ℕ → ℕ → Known → Known
+after_read offset value k =
+    record k {
+      latches = latches.after_read offset value k.latches;
+      fifo = if offset == offsets.ISR then Some (has_any value ISR.FIFOS_ENABLED.0) else k.fifo;
+      sender = if offset == offsets.LSR then sender_shown value k.sender else k.sender;
+      waits =
+          if offset == offsets.DATA then waits_after (dlab k.latches) k.waits
+          else if offset == offsets.LSR then has_any value LSR.DATA_READY.0
+          else k.waits;
+    }
+
+-- after a read, whatever it returned
+abbrev pub after_asking : ℕ → Known → Known
+after_asking offset k =
+    record k { waits = if offset == offsets.DATA then waits_after (dlab k.latches) k.waits else k.waits }
+
+-- ---- a write
+
+-- the transmitter, after a write of offset 0: under DLAB it stays
+abbrev pub sender_after : Option Bool → Sender → Sender
+sender_after None sender = Unknown
+sender_after (Some true) sender = sender
+sender_after (Some false) sender = Unknown
+
+-- whether the FIFOs are on after a write of FCR, which a 16450 ignores
+abbrev pub fifo_after : Chip → ℕ → Option Bool → Option Bool
+fifo_after Uart16550A fcr fifo = Some (has_any fcr FCR.FIFO_ENABLE.0)
+fifo_after Uart16450 fcr fifo = fifo
+
+-- after a write of this value
+abbrev pub after_write : ℕ → ℕ → Known → Known
+after_write offset value k =
+    record k {
+      latches = latches.after_write offset value k.latches;
+      fifo = if offset == offsets.FCR then fifo_after k.model value k.fifo else k.fifo;
+      sender = if offset == offsets.DATA then sender_after (dlab k.latches) k.sender else k.sender;
+      waits = if offset == offsets.FCR then false else k.waits;
+    }

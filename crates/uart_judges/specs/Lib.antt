@@ -1,0 +1,12 @@
+pub mod Actions
+pub mod Shows
+pub mod History
+pub mod Findings
+pub mod Judging
+pub mod Severities
+pub mod Reads
+pub mod Latches
+pub mod Known
+pub mod Rules
+pub mod Replays
+pub mod Verifying

@@ -1,0 +1,87 @@
+//! What an access does.
+ghost use Rattle.std.specs.Prelude.{◌≡◌};
+ghost use Rattle.uart_judges.specs.Actions as spec;
+ghost use Rattle.uart_16550.specs.Replay.{access_of};
+
+use bitflags::Flags;
+use uart_16550::replay::Entry;
+use uart_spec::registers::{FCR, IER, ISR, LCR, LSR, MCR, MSR, offsets};
+
+/// What an access does, or shows, if the chip is a 16550.
+#[derive(Clone, Copy, Debug, PartialEq, Eq)]
+pub enum Action {
+    /// A read of DATA takes a byte from the receiver.
+    Receives,
+    /// A write of DATA gives this byte to the transmitter.
+    Sends(u8),
+    /// A read of the low byte of the divisor.
+    ReadsDivisorLow,
+    /// A write of the low byte of the divisor.
+    SetsDivisorLow(u8),
+    /// A write of the high byte of the divisor.
+    SetsDivisorHigh(u8),
+    /// A write of IER.
+    EnablesInterrupts(IER),
+    /// A read of ISR.
+    IdentifiesInterrupt(ISR),
+    /// A write of FCR.
+    ControlsFifo(FCR),
+    /// A read of LCR.
+    ReadsLine(LCR),
+    /// A write of LCR.
+    SetsLine(LCR),
+    /// A read of MCR.
+    ReadsModem(MCR),
+    /// A write of MCR.
+    SetsModem(MCR),
+    /// A read of LSR.
+    LooksAtLine(LSR),
+    /// A read of MSR.
+    LooksAtModem(MSR),
+    /// An access that no finding is about.
+    Other,
+}
+
+// Returns what a read does.
+fn read_action(is_open: bool, offset: usize, answer: u8) -> Action
+    ensures { result ≡ spec.read_action is_open offset answer }
+{
+    match offset {
+        offsets::DLL if is_open => Action::ReadsDivisorLow,
+        offsets::DATA => Action::Receives,
+        offsets::ISR => Action::IdentifiesInterrupt(ISR::from_bits_retain(answer)),
+        offsets::LCR => Action::ReadsLine(LCR::from_bits_retain(answer)),
+        offsets::MCR => Action::ReadsModem(MCR::from_bits_retain(answer)),
+        offsets::LSR => Action::LooksAtLine(LSR::from_bits_retain(answer)),
+        offsets::MSR => Action::LooksAtModem(MSR::from_bits_retain(answer)),
+        _ => Action::Other,
+    }
+}
+
+// Returns what a write does.
+fn write_action(is_open: bool, offset: usize, value: u8) -> Action
+    ensures { result ≡ spec.write_action is_open offset value }
+{
+    match offset {
+        offsets::DLL if is_open => Action::SetsDivisorLow(value),
+        offsets::DATA => Action::Sends(value),
+        offsets::DLM if is_open => Action::SetsDivisorHigh(value),
+        offsets::IER => Action::EnablesInterrupts(IER::from_bits_retain(value)),
+        offsets::FCR => Action::ControlsFifo(FCR::from_bits_retain(value)),
+        offsets::LCR => Action::SetsLine(LCR::from_bits_retain(value)),
+        offsets::MCR => Action::SetsModem(MCR::from_bits_retain(value)),
+        _ => Action::Other,
+    }
+}
+
+impl Action {
+    /// Returns what an access does, while the divisor latch is open or not.
+    pub fn new(is_open: bool, access: Entry) -> Self
+        ensures { result ≡ spec.action is_open (access_of access) }
+    {
+        match access {
+            Entry::Read(offset, answer) => read_action(is_open, offset, answer),
+            Entry::Write(offset, value) => write_action(is_open, offset, value),
+        }
+    }
+}

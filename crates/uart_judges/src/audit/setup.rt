@@ -1,0 +1,202 @@
+//! The set-up of a chip, as far as it is known.
+ghost use Rattle.std.specs.Prelude.{◌≡◌};
+ghost use Rattle.std.specs.Option.{option_map};
+ghost use Rattle.uart_judges.specs.Findings.{besides_thr_empty, same, same_setup};
+ghost use Rattle.uart_judges.specs.Judging.{next_setup};
+ghost use Rattle.uart_judges.specs.Shows.{characters};
+ghost use Rattle.uart_spec.specs.Bits.{flag};
+
+use crate::audit::action::Action;
+use crate::audit::shows::level_size;
+use bitflags::Flags;
+use std::fmt;
+use uart_spec::registers::{FifoTriggerLevel, IER, LCR, Parity};
+
+/// The set-up of a chip, as far as it was written, or shown by a read.
+#[derive(Clone, Copy, Debug, PartialEq, Eq)]
+pub struct Setup {
+    /// The low byte of the divisor.
+    pub divisor_low: Option<u8>,
+    /// The high byte of the divisor.
+    pub divisor_high: Option<u8>,
+    /// The format of a character.
+    pub line: Option<LCR>,
+    /// Whether the FIFOs are on.
+    pub has_fifo: Option<bool>,
+    /// The trigger level of the receiver FIFO.
+    pub trigger: Option<FifoTriggerLevel>,
+    /// The interrupts that are enabled.
+    pub interrupts: Option<IER>,
+}
+
+// Returns whether both are unknown, or both are one number.
+fn is_same_byte(a: Option<u8>, b: Option<u8>) -> bool
+    ensures { result ≡ same a b }
+{
+    match (a, b) {
+        (None, None) => true,
+        (Some(a), Some(b)) => a == b,
+        (None, Some(_)) | (Some(_), None) => false,
+    }
+}
+
+fn line_bits(line: Option<LCR>) -> Option<u8>
+    ensures { result ≡ option_map (λ lcr. lcr.0) line }
+{
+    match line {
+        Some(lcr) => Some(lcr.bits()),
+        None => None,
+    }
+}
+
+fn fifo_number(has_fifo: Option<bool>) -> Option<u8>
+    ensures { result ≡ option_map (λ on. flag on 1) has_fifo }
+{
+    match has_fifo {
+        Some(true) => Some(1),
+        Some(false) => Some(0),
+        None => None,
+    }
+}
+
+fn trigger_number(trigger: Option<FifoTriggerLevel>) -> Option<u8>
+    ensures { result ≡ option_map characters trigger }
+{
+    match trigger {
+        Some(level) => Some(level_size(level)),
+        None => None,
+    }
+}
+
+fn interrupt_bits(interrupts: Option<IER>) -> Option<u8>
+    ensures { result ≡ option_map besides_thr_empty interrupts }
+{
+    match interrupts {
+        Some(ier) => Some(ier.bits() | IER::THR_EMPTY.bits()),
+        None => None,
+    }
+}
+
+impl Setup {
+    // Returns the set-up after an action.
+    pub(crate) fn after(self, action: Action) -> Setup
+        ensures { result ≡ next_setup self action }
+    {
+        Setup {
+            divisor_low: action.divisor_low().or(self.divisor_low),
+            divisor_high: action.divisor_high().or(self.divisor_high),
+            line: action.line().or(self.line),
+            has_fifo: action.has_fifo().or(self.has_fifo),
+            trigger: action.trigger().or(self.trigger),
+            interrupts: action.interrupts().or(self.interrupts),
+        }
+    }
+
+    // Returns whether two set-ups are the same, the THR_EMPTY interrupt apart.
+    pub(crate) fn is_same(self, other: Setup) -> bool
+        ensures { result ≡ same_setup self other }
+    {
+        if !is_same_byte(self.divisor_low, other.divisor_low) {
+            return false;
+        }
+        if !is_same_byte(self.divisor_high, other.divisor_high) {
+            return false;
+        }
+        if !is_same_byte(line_bits(self.line), line_bits(other.line)) {
+            return false;
+        }
+        if !is_same_byte(fifo_number(self.has_fifo), fifo_number(other.has_fifo)) {
+            return false;
+        }
+        if !is_same_byte(trigger_number(self.trigger), trigger_number(other.trigger)) {
+            return false;
+        }
+        is_same_byte(
+            interrupt_bits(self.interrupts),
+            interrupt_bits(other.interrupts),
+        )
+    }
+}
+
+/// The clock's rate of bits at divisor 1: 1.8432 MHz, of which 16 periods are one bit.
+const RATE_AT_ONE: u32 = 115_200;
+
+impl fmt::Display for Setup {
+    fn fmt<W: fmt::Write>(&self, f: &mut fmt::Formatter<W>) -> fmt::Result {
+        self.write_rate(f)?;
+        self.write_frame(f)?;
+        self.write_fifo(f)?;
+        self.write_interrupts(f)
+    }
+}
+
+impl Setup {
+    fn write_rate<W: fmt::Write>(&self, f: &mut fmt::Formatter<W>) -> fmt::Result {
+        let (Some(low), Some(high)) = (self.divisor_low, self.divisor_high) else {
+            return f.write_str("divisor not seen");
+        };
+        let divisor = u32::from(u16::from_le_bytes([low, high]));
+        if divisor == 0 {
+            return f.write_str("divisor 0");
+        }
+        write!(
+            f,
+            "divisor {divisor} ({} baud at 1.8432 MHz)",
+            RATE_AT_ONE / divisor
+        )
+    }
+
+    fn write_frame<W: fmt::Write>(&self, f: &mut fmt::Formatter<W>) -> fmt::Result {
+        let Some(line) = self.line else {
+            return f.write_str(", frame not seen");
+        };
+        write!(f, ", {} data bits, ", line.word_length().to_integer())?;
+        f.write_str(match line.parity() {
+            Parity::Disabled => "no parity",
+            Parity::Odd => "odd parity",
+            Parity::Even => "even parity",
+            Parity::Forced1 => "parity bit 1",
+            Parity::Forced0 => "parity bit 0",
+        })?;
+        f.write_str(if line.contains(LCR::MORE_STOP_BITS) {
+            ", more than 1 stop bit"
+        } else {
+            ", 1 stop bit"
+        })
+    }
+
+    fn write_fifo<W: fmt::Write>(&self, f: &mut fmt::Formatter<W>) -> fmt::Result {
+        match (self.has_fifo, self.trigger) {
+            (Some(true), Some(level)) => {
+                write!(f, ", FIFOs on with trigger level {}", level_size(level))
+            }
+            (Some(true), None) => f.write_str(", FIFOs on"),
+            (Some(false), _) => f.write_str(", FIFOs off"),
+            (None, _) => f.write_str(", FIFOs not seen"),
+        }
+    }
+
+    fn write_interrupts<W: fmt::Write>(&self, f: &mut fmt::Formatter<W>) -> fmt::Result {
+        let Some(enabled) = self.interrupts else {
+            return f.write_str(", interrupts not seen");
+        };
+        f.write_str(", interrupts:")?;
+        let mut has_one = false;
+        for (bit, name) in [
+            (IER::DATA_READY, " DATA_READY"),
+            (IER::THR_EMPTY, " THR_EMPTY"),
+            (IER::RECEIVER_LINE_STATUS, " RECEIVER_LINE_STATUS"),
+            (IER::MODEM_STATUS, " MODEM_STATUS"),
+        ] {
+            if enabled.contains(bit) {
+                has_one = true;
+                f.write_str(name)?;
+            }
+        }
+        if has_one {
+            Ok(())
+        } else {
+            f.write_str(" none")
+        }
+    }
+}

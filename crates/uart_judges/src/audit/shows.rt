@@ -1,0 +1,264 @@
+//! What one action does or shows, whatever was before it.
+ghost use Rattle.std.specs.Prelude.{◌≡◌, ◌+◌, ◌^◌};
+ghost use Rattle.uart_judges.specs.Shows as spec;
+ghost use Rattle.uart_spec.specs.Fields.{word_length_code};
+
+use crate::audit::action::Action;
+use bitflags::Flags;
+use uart_spec::registers::{
+    FCR, FifoTriggerLevel, IER, ISR, InterruptType, LCR, LSR, MCR, MSR, WordLength,
+};
+
+// Returns the interrupt that a value of ISR identifies.
+pub(crate) fn identified(isr: ISR) -> Option<InterruptType>
+    ensures { result ≡ spec.identified isr }
+{
+    isr.interrupt_type()
+}
+
+// Returns the trigger level in a value of FCR.
+fn level_of(fcr: FCR) -> FifoTriggerLevel
+    ensures { result ≡ spec.level_of fcr }
+{
+    fcr.fifo_trigger_level()
+}
+
+// Returns the number of characters of a trigger level.
+pub(crate) fn level_size(level: FifoTriggerLevel) -> u8
+    ensures { result ≡ spec.characters level }
+{
+    match level {
+        FifoTriggerLevel::One => 1,
+        FifoTriggerLevel::Four => 4,
+        FifoTriggerLevel::Eight => 8,
+        FifoTriggerLevel::Fourteen => 14,
+    }
+}
+
+// Returns the largest byte that a word of this length holds.
+fn largest(length: WordLength) -> u8
+    ensures { result + 1 ≡ 2 ^ (5 + word_length_code length) }
+{
+    match length {
+        WordLength::FiveBits => 0x1f,
+        WordLength::SixBits => 0x3f,
+        WordLength::SevenBits => 0x7f,
+        WordLength::EightBits => 0xff,
+    }
+}
+
+// Returns whether a byte has more bits than a character that is sent with this line control.
+pub(crate) fn is_cut(lcr: LCR, byte: u8) -> bool
+    ensures { result ≡ spec.is_cut lcr byte }
+{
+    byte > largest(lcr.word_length())
+}
+
+impl Action {
+    // Returns whether a byte is given to the transmitter.
+    pub(crate) fn sends(self) -> bool
+        ensures { result ≡ spec.sends self }
+    {
+        matches!(self, Action::Sends(_))
+    }
+
+    // Returns whether a byte is taken from the receiver.
+    pub(crate) fn receives(self) -> bool
+        ensures { result ≡ spec.receives self }
+    {
+        matches!(self, Action::Receives)
+    }
+
+    // Returns whether LSR is read.
+    pub(crate) fn looks_at_line(self) -> bool
+        ensures { result ≡ spec.looks_at_line self }
+    {
+        matches!(self, Action::LooksAtLine(_))
+    }
+
+    // Returns whether MSR is read.
+    pub(crate) fn looks_at_modem(self) -> bool
+        ensures { result ≡ spec.looks_at_modem self }
+    {
+        matches!(self, Action::LooksAtModem(_))
+    }
+
+    // Returns whether ISR is read.
+    pub(crate) fn identifies(self) -> bool
+        ensures { result ≡ spec.identifies self }
+    {
+        matches!(self, Action::IdentifiesInterrupt(_))
+    }
+
+    // Returns whether the low byte of the divisor is written.
+    pub(crate) fn sets_low(self) -> bool
+        ensures { result ≡ spec.sets_low self }
+    {
+        matches!(self, Action::SetsDivisorLow(_))
+    }
+
+    // Returns whether the divisor latch is opened.
+    pub(crate) fn opens(self) -> bool
+        ensures { result ≡ spec.opens self }
+    {
+        match self {
+            Action::SetsLine(lcr) => lcr.contains(LCR::DLAB),
+            _ => false,
+        }
+    }
+
+    // Returns whether the transmitter has room.
+    pub(crate) fn shows_room(self) -> bool
+        ensures { result ≡ spec.shows_room self }
+    {
+        match self {
+            Action::LooksAtLine(lsr) => lsr.contains(LSR::THR_EMPTY),
+            Action::IdentifiesInterrupt(isr) => {
+                matches!(
+                    identified(isr),
+                    Some(InterruptType::TransmitterHoldingRegisterEmpty)
+                )
+            }
+            _ => false,
+        }
+    }
+
+    // Returns whether nothing is going out.
+    pub(crate) fn shows_idle(self) -> bool
+        ensures { result ≡ spec.shows_idle self }
+    {
+        match self {
+            Action::LooksAtLine(lsr) => lsr.contains(LSR::TRANSMITTER_EMPTY),
+            _ => false,
+        }
+    }
+
+    // Returns whether a look at LSR shows a received byte.
+    pub(crate) fn ready(self) -> Option<bool>
+        ensures { result ≡ spec.ready_of self }
+    {
+        match self {
+            Action::LooksAtLine(lsr) => Some(lsr.contains(LSR::DATA_READY)),
+            _ => None,
+        }
+    }
+
+    // Returns the value of LCR that is written or read.
+    pub(crate) fn line(self) -> Option<LCR>
+        ensures { result ≡ spec.line_of self }
+    {
+        match self {
+            Action::SetsLine(lcr) | Action::ReadsLine(lcr) => Some(lcr),
+            _ => None,
+        }
+    }
+
+    // Returns the value of MCR that is written or read.
+    pub(crate) fn modem(self) -> Option<MCR>
+        ensures { result ≡ spec.modem_of self }
+    {
+        match self {
+            Action::SetsModem(mcr) | Action::ReadsModem(mcr) => Some(mcr),
+            _ => None,
+        }
+    }
+
+    // Returns the low byte of the divisor that is written.
+    pub(crate) fn divisor_low(self) -> Option<u8>
+        ensures { result ≡ spec.low_of self }
+    {
+        match self {
+            Action::SetsDivisorLow(value) => Some(value),
+            _ => None,
+        }
+    }
+
+    // Returns the high byte of the divisor that is written.
+    pub(crate) fn divisor_high(self) -> Option<u8>
+        ensures { result ≡ spec.high_of self }
+    {
+        match self {
+            Action::SetsDivisorHigh(value) => Some(value),
+            _ => None,
+        }
+    }
+
+    // Returns the value of IER that is written.
+    pub(crate) fn interrupts(self) -> Option<IER>
+        ensures { result ≡ spec.interrupts_of self }
+    {
+        match self {
+            Action::EnablesInterrupts(ier) => Some(ier),
+            _ => None,
+        }
+    }
+
+    // Returns whether the FIFOs are on, if the action sets or shows it.
+    pub(crate) fn has_fifo(self) -> Option<bool>
+        ensures { result ≡ spec.fifo_of self }
+    {
+        match self {
+            Action::ControlsFifo(fcr) => Some(fcr.contains(FCR::FIFO_ENABLE)),
+            Action::IdentifiesInterrupt(isr) => Some(isr.contains(ISR::FIFOS_ENABLED)),
+            _ => None,
+        }
+    }
+
+    // Returns the trigger level that is set.
+    pub(crate) fn trigger(self) -> Option<FifoTriggerLevel>
+        ensures { result ≡ spec.trigger_of self }
+    {
+        match self {
+            Action::ControlsFifo(fcr) => {
+                if fcr.contains(FCR::FIFO_ENABLE) {
+                    Some(level_of(fcr))
+                } else {
+                    None
+                }
+            }
+            _ => None,
+        }
+    }
+
+    // Returns whether this writes IER without these bits.
+    pub(crate) fn disables(self, interrupts: IER) -> bool
+        ensures { result ≡ spec.disables interrupts.0 self }
+    {
+        match self {
+            Action::EnablesInterrupts(ier) => !ier.contains(interrupts),
+            _ => false,
+        }
+    }
+
+    // Returns whether the receiver FIFO is reset.
+    pub(crate) fn resets_receiver(self) -> bool
+        ensures { result ≡ spec.resets_receiver self }
+    {
+        match self {
+            Action::ControlsFifo(fcr) => fcr.contains(FCR::RX_FIFO_RESET),
+            _ => false,
+        }
+    }
+
+    // Returns whether this does what the interrupt asks for, or disables it.
+    pub(crate) fn serves(self, interrupt: InterruptType) -> bool
+        ensures { result ≡ spec.serves interrupt self }
+    {
+        match interrupt {
+            InterruptType::ReceiverLineStatus => {
+                self.looks_at_line() || self.disables(IER::RECEIVER_LINE_STATUS)
+            }
+            InterruptType::ReceivedDataReady | InterruptType::ReceptionTimeout => {
+                self.receives() || self.resets_receiver() || self.disables(IER::DATA_READY)
+            }
+            InterruptType::TransmitterHoldingRegisterEmpty => {
+                self.sends() || self.disables(IER::THR_EMPTY)
+            }
+            InterruptType::ModemStatus => {
+                self.looks_at_modem() || self.disables(IER::MODEM_STATUS)
+            }
+            InterruptType::DmaReceptionEndOfTransfer
+            | InterruptType::DmaTransmissionEndOfTransfer => true,
+        }
+    }
+}

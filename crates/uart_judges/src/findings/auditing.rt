@@ -1,0 +1,149 @@
+//! Prints what the driver of a recording does to its chip.
+
+use crate::audit::{Auditor, Finding, Severity, Stretch};
+use crate::findings::stop::Stop;
+use crate::findings::times::Times;
+use std::alloc::Global;
+use std::io::{Read, Write};
+use uart_16550::replay::Entry;
+use uart_recording::{Event, Happening, Recording};
+
+// Returns the word for a finding that compilers print.
+fn severity_text(severity: Severity) -> &'static str {
+    match severity {
+        Severity::Note => "note",
+        Severity::Warning => "warning",
+    }
+}
+
+// Prints the findings of a line, each of which was made so many times in turn. Returns how many
+// warnings these are.
+fn print<W: Write>(
+    out: &mut W,
+    file: &str,
+    line: u64,
+    findings: &[Option<Finding>],
+    times: Times,
+) -> Result<u64, Stop> {
+    let mut warnings = 0u64;
+    for finding in findings {
+        if let Some(finding) = finding {
+            let severity = finding.severity();
+            if severity == Severity::Warning {
+                warnings = warnings.saturating_add(times.0);
+            }
+            let word = severity_text(severity);
+            writeln!(out, "{file}:{line}: {word}: {finding}{times}").map_err(Stop::Output)?;
+        }
+    }
+    Ok(warnings)
+}
+
+// Prints what is found at reads in turn that are one event. Returns how many warnings these are.
+fn print_reads<W: Write>(
+    out: &mut W,
+    file: &str,
+    line: u64,
+    stretches: [Stretch; 3],
+) -> Result<u64, Stop> {
+    let mut warnings = 0u64;
+    let mut held = Stretch {
+        findings: [None; 5],
+        times: 0,
+    };
+    for stretch in stretches {
+        if stretch.findings == held.findings {
+            held.times = held.times.saturating_add(stretch.times);
+        } else if stretch.times > 0 {
+            let found = print(out, file, line, &held.findings, Times(held.times))?;
+            warnings = warnings.saturating_add(found);
+            held = stretch;
+        }
+    }
+    let found = print(out, file, line, &held.findings, Times(held.times))?;
+    Ok(warnings.saturating_add(found))
+}
+
+// What judges a recording.
+#[derive(Drop)]
+struct Judge {
+    auditor: Auditor,
+    // An access that has no finding and changes nothing now, so that more of them have none either,
+    // if one is known.
+    quiet: Option<Entry>,
+}
+
+// Goes on by an access that was made so many times in turn, at least once, and prints what is found
+// there. Returns how many warnings these are.
+fn print_accesses<W: Write>(
+    out: &mut W,
+    file: &str,
+    judge: &mut Judge,
+    access: Entry,
+    line: u64,
+    times: u64,
+) -> Result<u64, Stop> {
+    let before = judge.auditor;
+    let findings = judge.auditor.step(access);
+    if judge.auditor == before {
+        // Nothing changes, so each access has the same findings.
+        judge.quiet = (findings == [None; 5]).then_some(access);
+        return print(out, file, line, &findings, Times(times));
+    }
+    judge.quiet = None;
+    match access {
+        Entry::Read(offset, answer) if times != 1 => {
+            judge.auditor = before;
+            print_reads(out, file, line, judge.auditor.reads(offset, answer, times))
+        }
+        _ => print(out, file, line, &findings, Times(times)),
+    }
+}
+
+// Goes on by what happened, and prints what is found there. Returns how many warnings these are.
+fn print_event<W: Write>(
+    out: &mut W,
+    file: &str,
+    judge: &mut Judge,
+    event: &Event,
+) -> Result<u64, Stop> {
+    match event.happening {
+        Happening::Access(access) if event.times > 0 && judge.quiet != Some(access) => {
+            print_accesses(out, file, judge, access, event.line, event.times)
+        }
+        _ => Ok(0),
+    }
+}
+
+/// Reads a recording, and prints each finding behind the name of the file and the number of its
+/// line, and then how many warnings there are. Returns how many there are. If reads that a line
+/// repeats have the same finding in turn, it is printed once, with how many times.
+///
+/// # Errors
+///
+/// Why the recording was not read to its end.
+pub fn audit<R: Read + Drop, W: Write>(
+    alloc: Global,
+    file: &str,
+    reader: R,
+    out: &mut W,
+) -> Result<u64, Stop> {
+    let mut recording = Recording::new(alloc, reader)?;
+    let mut judge = Judge {
+        auditor: Auditor::new(),
+        quiet: None,
+    };
+    let mut warnings = 0u64;
+    for _ in 0..u64::MAX {
+        let Some(event) = recording.next_event()? else {
+            break;
+        };
+        let found = print_event(out, file, &mut judge, &event)?;
+        warnings = warnings.saturating_add(found);
+    }
+    let lines = recording.lines();
+    let found = print(out, file, lines, &judge.auditor.end(), Times(1))?;
+    warnings = warnings.saturating_add(found);
+    writeln!(out, "{file}: {lines} lines, {warnings} warnings").map_err(Stop::Output)?;
+    Ok(warnings)
+}

@@ -1,0 +1,84 @@
+//! Prints where the chip of a recording answers as no chip of its model could.
+
+use crate::findings::stop::Stop;
+use crate::findings::times::Times;
+use crate::replay::{Difference, Replayer, Start};
+use std::alloc::Global;
+use std::io::{Read, Write};
+use uart_16550::replay::Entry;
+use uart_chip::Chip;
+use uart_recording::{Event, Happening, Recording};
+
+// Prints a difference of a line, if there is one, that was found so many times in turn. Returns how
+// many these are.
+fn print<W: Write>(
+    out: &mut W,
+    file: &str,
+    line: u64,
+    difference: Option<Difference>,
+    times: u64,
+) -> Result<u64, Stop> {
+    match difference {
+        Some(difference) if times > 0 => {
+            let many = Times(times);
+            writeln!(out, "{file}:{line}: {difference}{many}").map_err(Stop::Output)?;
+            Ok(times)
+        }
+        _ => Ok(0),
+    }
+}
+
+// Follows what happened, and prints what the chip could not have answered there. Returns how many
+// differences these are.
+fn print_event<W: Write>(
+    out: &mut W,
+    file: &str,
+    replayer: &mut Replayer,
+    event: &Event,
+) -> Result<u64, Stop> {
+    match event.happening {
+        Happening::Access(Entry::Read(offset, answer)) => {
+            let reported = replayer.reads(offset, answer, event.times);
+            let others = event.times.saturating_sub(1);
+            if reported.first == reported.others {
+                return print(out, file, event.line, reported.first, event.times);
+            }
+            let first = print(out, file, event.line, reported.first, 1)?;
+            let more = print(out, file, event.line, reported.others, others)?;
+            Ok(first.saturating_add(more))
+        }
+        Happening::Access(Entry::Write(offset, value)) => {
+            replayer.write(offset, value);
+            Ok(0)
+        }
+        _ => Ok(0),
+    }
+}
+
+/// Reads a recording, and prints each difference behind the name of the file and the number of its
+/// line, and then how many there are. Returns how many there are. If reads that a line repeats have
+/// the same difference in turn, it is printed once, with how many times.
+///
+/// # Errors
+///
+/// Why the recording was not read to its end.
+pub fn replay<R: Read + Drop, W: Write>(
+    alloc: Global,
+    file: &str,
+    reader: R,
+    out: &mut W,
+) -> Result<u64, Stop> {
+    let mut recording = Recording::new(alloc, reader)?;
+    let mut replayer = Replayer::new(Chip::Uart16550A, Start::InUse);
+    let mut differences = 0u64;
+    for _ in 0..u64::MAX {
+        let Some(event) = recording.next_event()? else {
+            break;
+        };
+        let found = print_event(out, file, &mut replayer, &event)?;
+        differences = differences.saturating_add(found);
+    }
+    let lines = recording.lines();
+    writeln!(out, "{file}: {lines} lines, {differences} differences").map_err(Stop::Output)?;
+    Ok(differences)
+}

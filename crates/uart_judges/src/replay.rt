@@ -1,0 +1,20 @@
+//! Whether a recorded chip answered as the chip that is defined could have.
+//!
+//! A recording has the accesses to a chip and what each read returned, and mostly neither the time
+//! that passed nor what came from outside. A [`Replayer`] reports a read whose value the chip could
+//! not have returned, whatever the time that passed, and whatever characters arrived and lines
+//! changed.
+
+mod difference;
+mod known;
+mod latches;
+mod replayer;
+mod rule;
+#[cfg(test)]
+mod tests;
+
+pub use difference::{Difference, Reported};
+pub use known::{Known, Sender, Start};
+pub use latches::KnownLatches;
+pub use replayer::Replayer;
+pub use rule::{Rule, broken};

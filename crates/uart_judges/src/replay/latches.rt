@@ -1,0 +1,192 @@
+//! What is known of the registers that keep what is written to them.
+ghost use Rattle.std.specs.Prelude.{◌≡◌};
+ghost use Rattle.uart_judges.specs.Latches as spec;
+
+use crate::replay::known::Start;
+use bitflags::Flags;
+use uart_chip::{kept_interrupts, kept_modem_control};
+use uart_spec::registers::{IER, LCR, MCR, offsets};
+
+/// The registers that keep what is written to them, as bytes, as far as they are known.
+#[derive(Clone, Copy, Debug, PartialEq, Eq)]
+pub struct KnownLatches {
+    /// The interrupt enable register.
+    pub ier: Option<u8>,
+    /// The line control register.
+    pub lcr: Option<u8>,
+    /// The modem control register.
+    pub mcr: Option<u8>,
+    /// The scratch register.
+    pub scr: Option<u8>,
+    /// The low byte of the divisor latch.
+    pub dll: Option<u8>,
+    /// The high byte of the divisor latch.
+    pub dlm: Option<u8>,
+}
+
+impl KnownLatches {
+    /// Returns what is known at the start of a recording: at power-on all are clear.
+    pub fn new(start: Start) -> Self
+        ensures { result ≡ spec.first_latches start }
+    {
+        let each = match start {
+            Start::Reset => Some(0),
+            Start::InUse => None,
+        };
+        Self {
+            ier: each,
+            lcr: each,
+            mcr: each,
+            scr: each,
+            dll: each,
+            dlm: each,
+        }
+    }
+
+    /// Returns whether offsets 0 and 1 are the divisor latch.
+    pub fn dlab(&self) -> Option<bool>
+        ensures { result ≡ spec.dlab self.now }
+    {
+        match self.lcr {
+            None => None,
+            Some(lcr) => Some(LCR::from_bits_retain(lcr).intersects(LCR::DLAB)),
+        }
+    }
+
+    // Returns the one or the other latch: what a read under DLAB returns, or one without.
+    fn under_dlab(&self, on: Option<u8>, off: Option<u8>) -> Option<u8>
+        ensures { result ≡ spec.under_dlab (spec.dlab self.now) on off }
+    {
+        match self.dlab() {
+            None => None,
+            Some(true) => on,
+            Some(false) => off,
+        }
+    }
+
+    /// Returns what a read of this register returns, if it keeps what is written to it and that is
+    /// known.
+    pub fn shown(&self, offset: usize) -> Option<u8>
+        ensures { result ≡ spec.shown offset self.now }
+    {
+        match offset {
+            offsets::DATA => self.under_dlab(self.dll, None),
+            offsets::IER => self.under_dlab(self.dlm, self.ier),
+            offsets::LCR => self.lcr,
+            offsets::MCR => self.mcr,
+            offsets::SPR => self.scr,
+            _ => None,
+        }
+    }
+
+    /// Returns what is known after a read of this register that returned this value.
+    pub fn after_read(self, offset: usize, value: u8) -> Self
+        ensures { result ≡ spec.after_read offset value self }
+    {
+        match offset {
+            offsets::DATA => self.after_read_data(value),
+            offsets::IER => self.after_read_ier(value),
+            offsets::LCR => Self {
+                lcr: Some(value),
+                ..self
+            },
+            offsets::MCR => Self {
+                mcr: Some(value),
+                ..self
+            },
+            offsets::SPR => Self {
+                scr: Some(value),
+                ..self
+            },
+            _ => self,
+        }
+    }
+
+    // Returns what is known after a read of offset 0.
+    fn after_read_data(self, value: u8) -> Self
+        ensures { result ≡ spec.after_read_data self value }
+    {
+        match self.dlab() {
+            Some(true) => Self {
+                dll: Some(value),
+                ..self
+            },
+            _ => self,
+        }
+    }
+
+    // Returns what is known after a read of offset 1.
+    fn after_read_ier(self, value: u8) -> Self
+        ensures { result ≡ spec.after_read_ier self value }
+    {
+        match self.dlab() {
+            None => self,
+            Some(true) => Self {
+                dlm: Some(value),
+                ..self
+            },
+            Some(false) => Self {
+                ier: Some(value),
+                ..self
+            },
+        }
+    }
+
+    /// Returns what is known after this value was written to this register.
+    pub fn after_write(self, offset: usize, value: u8) -> Self
+        ensures { result ≡ spec.after_write offset value self }
+    {
+        match offset {
+            offsets::DATA => self.after_write_data(value),
+            offsets::IER => self.after_write_ier(value),
+            offsets::LCR => Self {
+                lcr: Some(value),
+                ..self
+            },
+            offsets::MCR => Self {
+                mcr: Some(kept_modem_control(MCR::from_bits_retain(value)).bits()),
+                ..self
+            },
+            offsets::SPR => Self {
+                scr: Some(value),
+                ..self
+            },
+            _ => self,
+        }
+    }
+
+    // Returns what is known after a write of offset 0.
+    fn after_write_data(self, value: u8) -> Self
+        ensures { result ≡ spec.after_write_data self value }
+    {
+        match self.dlab() {
+            None => Self { dll: None, ..self },
+            Some(true) => Self {
+                dll: Some(value),
+                ..self
+            },
+            Some(false) => self,
+        }
+    }
+
+    // Returns what is known after a write of offset 1.
+    fn after_write_ier(self, value: u8) -> Self
+        ensures { result ≡ spec.after_write_ier self value }
+    {
+        match self.dlab() {
+            None => Self {
+                dlm: None,
+                ier: None,
+                ..self
+            },
+            Some(true) => Self {
+                dlm: Some(value),
+                ..self
+            },
+            Some(false) => Self {
+                ier: Some(kept_interrupts(IER::from_bits_retain(value)).bits()),
+                ..self
+            },
+        }
+    }
+}

@@ -1,5 +1,0 @@
-use Rattle.uart_language.proofs.Digits.{DigitsRead}
-use Rattle.uart_recording.proofs.fields.decimal.Given as goal
-
-abbrev pub invariant-loop-digit : goal.invariant-loop-digit
-invariant-loop-digit l = DigitsRead l.word l.value l.digit-index

@@ -1,4 +1,0 @@
-pub mod Latches
-pub mod Known
-pub mod Rules
-pub mod Replays

@@ -1,4 +1,0 @@
-pub mod Devices
-pub mod Examples
-pub mod Links
-pub mod Replays

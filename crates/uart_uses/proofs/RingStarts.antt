@@ -1,0 +1,25 @@
+-- Sessions of ring calls that begin with empty rings.
+use Rattle.std.proofs.Common.{◌≡◌, List, []}
+use Rattle.uart_ring_run.specs.declared.call.RingCall.{RingCall}
+use Rattle.uart_ring_run.specs.declared.call.RingAnswer.{RingAnswer}
+use Rattle.uart_ring_run.specs.RingBytes.{to_send, to_take}
+use Rattle.uart_ring_run.specs.RingRun.{RingState, RingLink, under}
+use Rattle.uart_ring_run.specs.RingSession.{RanRing, RingConserves}
+use Rattle.uart_run.specs.Chains.{calls_of, answers_of}
+use Rattle.uart_run.specs.Ready.{Ready}
+use Rattle.uart_uses.proofs.RingSessions.{ring_conserves}
+
+-- a run from empty rings
+pub runs_from_empty : (begins ends : RingState) (calls : List RingCall) (answers : List RingAnswer) →
+    (to_send begins ≡ []) × (to_take begins ≡ []) → RanRing begins calls answers ends → Ready (under begins) →
+    (s : RingState) × (links : List RingLink) × (to_send s ≡ []) × (to_take s ≡ []) × (calls_of links ≡ calls)
+    × (answers_of links ≡ answers) × RingConserves s links ends
+runs_from_empty begins ends calls answers empty ran ready = (
+  begins,
+  ran.links,
+  empty.0,
+  empty.1,
+  ran.calls_same,
+  ran.answers_same,
+  ring_conserves begins ends calls answers ran ready,
+)

@@ -1,0 +1,84 @@
+//! Callers of `uart_ring_run` that begin a session.
+ghost use Rattle.std.specs.Prelude.{◌≡◌, List, [], All, IfOk, length};
+ghost use Rattle.uart_ring_run.specs.RingBytes.{to_send, to_take};
+ghost use Rattle.uart_ring_run.specs.RingRun.{IsRingRunnable, RingLink, RingState, under};
+ghost use Rattle.uart_ring_run.specs.RingSession.{RingConserves};
+ghost use Rattle.uart_run.specs.Chains.{answers_of, calls_of};
+ghost use Rattle.uart_run.specs.Ready.{Ready};
+ghost use Rattle.uart_spec.specs.Config.{IsComputable};
+
+use std::alloc::Global;
+use uart_16550::{Config, InitError, Uart16550, Uart16550Tty};
+use uart_device::Device16550;
+use uart_ring::{RingError, Uart16550Ring};
+use uart_ring_run::laws::init_leaves_ready;
+use uart_ring_run::{RingAnswer, RingCall, run_ring};
+
+/// The capacity of each ring.
+const CAPACITY: usize = 256;
+
+/// Why no calls were made.
+#[derive(Debug, PartialEq, Drop)]
+pub enum StartError {
+    /// The device could not be initialised.
+    NoDevice(InitError),
+    /// The rings could not be made.
+    NoRings(RingError),
+}
+
+/// Initialises the driver, and puts it into rings. A session begins, with empty rings.
+pub fn start_rings(
+    alloc: Global,
+    mut uart: Uart16550<Device16550>,
+    config: Config,
+) -> Result<Uart16550Ring<Device16550>, StartError>
+    requires { IsComputable config }
+    ensures begins { IfOk result (λ ring. Ready (under ring)) }
+    ensures empty { IfOk result (λ ring. (to_send ring ≡ []) × (to_take ring ≡ [])) }
+{
+    init_leaves_ready(&uart);
+    if let Err(cause) = uart.init(config) {
+        return Err(StartError::NoDevice(cause));
+    }
+    match Uart16550Ring::new(alloc, uart, CAPACITY, CAPACITY) {
+        Ok(ring) => Ok(ring),
+        Err((_uart, cause)) => Err(StartError::NoRings(cause)),
+    }
+}
+
+/// Starts rings as `start_rings` does, and makes the calls. They are a session that begins with
+/// empty rings, so all that holds of a session holds of them.
+pub fn run_from_init(
+    alloc: Global,
+    uart: Uart16550<Device16550>,
+    config: Config,
+    calls: &[RingCall],
+    answers: &mut [RingAnswer],
+) -> Result<Uart16550Ring<Device16550>, StartError>
+    requires computable { IsComputable config }
+    requires runnable { All IsRingRunnable calls.now }
+    requires slots { length calls.now ≡ length answers.old }
+    ensures { IfOk result (λ ring. (begins : RingState) × (links : List RingLink)
+        × (to_send begins ≡ []) × (to_take begins ≡ [])
+        × (calls_of links ≡ calls.now) × (answers_of links ≡ answers.new)
+        × RingConserves begins links ring) }
+{
+    match start_rings(alloc, uart, config) {
+        Ok(mut ring) => {
+            run_ring(&mut ring, calls, answers);
+            Ok(ring)
+        }
+        Err(cause) => Err(cause),
+    }
+}
+
+/// Puts the driver of a terminal into rings. If a session of calls can go on, one of ring calls may
+/// begin.
+pub fn into_rings(
+    alloc: Global,
+    terminal: Uart16550Tty<Device16550>,
+) -> Result<Uart16550Ring<Device16550>, (Uart16550<Device16550>, RingError)>
+    ensures { Ready terminal → IfOk result (λ ring. Ready (under ring)) }
+{
+    Uart16550Ring::new(alloc, terminal.into_inner(), CAPACITY, CAPACITY)
+}

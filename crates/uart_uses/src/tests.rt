@@ -1,0 +1,169 @@
+//! Each caller is run once, with what its contract says about the run.
+use crate::{
+    chip, device, driver, judging, language, live, performing, playing, ring, ring_running,
+    ring_starting, running, spec, tracing,
+};
+use bitflags::Flags;
+use std::num::NonZeroU64;
+use std::test::Fail;
+use uart_16550::replay::Entry;
+use uart_16550::{DEFAULT_SPIN_LIMIT, Uart16550, Uart16550Tty};
+use uart_calls::{Answer, Call};
+use uart_chip::{Chip, Uart};
+use uart_device::Device16550;
+use uart_live::LiveChip;
+use uart_play::Std;
+use uart_ring::Uart16550Ring;
+use uart_ring_run::{RingAnswer, RingCall};
+use uart_spec::registers::{LSR, offsets};
+use uart_spec::{BaudRate, Config, NUM_REGISTERS};
+
+// Returns a driver that has initialised a chip at which a byte arrives.
+fn ready_driver(rt: &HostRuntime) -> Result<Uart16550<Device16550>, Fail> {
+    let mut uart = Uart16550::new_with_backend(device::chip_that_receives(rt.alloc(), 0x41)?);
+    uart.init(Config::DEFAULT)?;
+    Ok(uart)
+}
+
+#[test]
+fn a_divisor() -> Result<(), Fail> {
+    spec::divisor_for(BaudRate::Baud9600)?;
+    Ok(())
+}
+
+#[test]
+fn a_line_of_a_log(rt: HostRuntime) -> Result<(), Fail> {
+    let mut uart = ready_driver(&rt)?;
+    driver::log_line(&mut uart, b"ready\n")?;
+    assert_eq!(rt; uart.backend().held_len() + uart.backend().wire().len(), 6);
+    Ok(())
+}
+
+#[test]
+fn a_message_in_a_ring(rt: HostRuntime) -> Result<(), Fail> {
+    let Ok(mut rings) = Uart16550Ring::new(rt.alloc(), ready_driver(&rt)?, 4, 4) else {
+        assert!(rt; false, "out of memory");
+        return Ok(());
+    };
+    assert_eq!(rt; ring::queue_message(&mut rings, b"hello"), b"o".as_slice());
+    let received = ring_running::receive_at_mark(&mut rings);
+    assert_eq!(rt; received.as_slice(), [].as_slice());
+    Ok(())
+}
+
+#[test]
+fn rings_from_an_init(rt: HostRuntime) -> Result<(), Fail> {
+    let uart = Uart16550::new_with_backend(device::chip_that_receives(rt.alloc(), 0x41)?);
+    let calls = [RingCall::Next, RingCall::ResumeTransmit];
+    let mut answers = [RingAnswer::Count(1), RingAnswer::Count(1)];
+    let ran = ring_starting::run_from_init(rt.alloc(), uart, Config::DEFAULT, &calls, &mut answers);
+    assert!(rt; ran.is_ok());
+    assert_eq!(rt; answers, [RingAnswer::Done, RingAnswer::Done]);
+    Ok(())
+}
+
+#[test]
+fn rings_after_a_terminal(rt: HostRuntime) -> Result<(), Fail> {
+    let terminal = Uart16550Tty::from_inner(ready_driver(&rt)?);
+    let Ok(rings) = ring_starting::into_rings(rt.alloc(), terminal) else {
+        assert!(rt; false, "out of memory");
+        return Ok(());
+    };
+    assert!(rt; rings.inner().fifo_enabled());
+    Ok(())
+}
+
+#[test]
+fn a_turn_of_a_monitor(rt: HostRuntime) -> Result<(), Fail> {
+    let mut chip = LiveChip::new(Chip::Uart16550A, 4, 64)?;
+    let mut sink = [0; 8];
+    for (offset, value, elapsed, sent, is_interrupting) in [
+        // Nothing has gone out after four ticks, and after one more the byte has.
+        (offsets::DATA, 0x41, 4, 0, false),
+        (offsets::SPR, 0, 1, 1, false),
+        // THR_EMPTY is enabled, and the transmitter is empty.
+        (offsets::IER, 0x02, 0, 0, true),
+    ] {
+        assert!(rt; offset < NUM_REGISTERS);
+        let turn = live::turn(&mut chip, offset as u8, value, elapsed, &mut sink);
+        assert_eq!(rt;
+            turn,
+            live::Outcome {
+                sent,
+                is_interrupting
+            }
+        );
+    }
+    assert_eq!(rt; sink, [0x41, 0, 0, 0, 0, 0, 0, 0]);
+    Ok(())
+}
+
+#[test]
+fn accesses_of_a_flush(rt: HostRuntime) {
+    let (busy, empty) = (
+        Entry::Read(offsets::LSR, 0x20),
+        Entry::Read(offsets::LSR, 0x60),
+    );
+    for (accesses, is_flush) in [
+        ([busy, empty].as_slice(), true),
+        (&[busy, busy], false),
+        (&[empty, empty], false),
+    ] {
+        assert_eq!(rt; tracing::is_flush(accesses), is_flush, "{accesses:?}");
+    }
+}
+
+#[test]
+fn traces_that_a_driver_makes(rt: HostRuntime) -> Result<(), Fail> {
+    let limit = NonZeroU64::new(DEFAULT_SPIN_LIMIT).unwrap();
+    for (text, is_made) in [
+        (b"fresh\nlsr\nr 5 60\n= ok 60\n".as_slice(), true),
+        (b"fresh\nlsr\nr 6 60\n= ok 60\n", false),
+    ] {
+        let trace = uart_traces::parse(rt.alloc(), text)?;
+        assert_eq!(rt;
+            judging::is_made(rt.alloc(), &trace, limit)?,
+            is_made,
+            "{text:?}"
+        );
+    }
+    Ok(())
+}
+
+#[test]
+fn calls_on_a_chip(rt: HostRuntime) -> Result<(), Fail> {
+    let mut terminal = Uart16550Tty::from_inner(ready_driver(&rt)?);
+    assert_eq!(rt; performing::ask_presence(&mut terminal), Answer::Flag(true));
+    Ok(())
+}
+
+#[test]
+fn calls_in_a_session(rt: HostRuntime) -> Result<(), Fail> {
+    let machine = device::chip_that_receives(rt.alloc(), 0x41)?;
+    let mut terminal = Uart16550Tty::from_inner(Uart16550::new_with_backend(machine));
+    let mut answers = [Answer::Done];
+    if running::begin_session(&mut terminal, Config::DEFAULT) {
+        running::make_calls(&mut terminal, &[Call::FifoEnabled], &mut answers);
+    }
+    assert_eq!(rt; answers, [Answer::Flag(true)]);
+    Ok(())
+}
+
+#[test]
+fn the_line_status_of_a_chip(rt: HostRuntime) -> Result<(), Fail> {
+    let mut fresh = Uart::new(rt.alloc(), Chip::Uart16450, 4, 64, 0, false)?;
+    let idle = LSR::THR_EMPTY.union(LSR::TRANSMITTER_EMPTY);
+    assert_eq!(rt; chip::line_status(&mut fresh), idle);
+    Ok(())
+}
+
+#[test]
+fn a_script(rt: HostRuntime) -> Result<(), Fail> {
+    let script = b"chip 16450 4 64\nlsr\nmsr\n".as_slice();
+    assert_eq!(rt; language::count_calls(rt.alloc(), script)?, 2);
+    let mut output = Vec::new(rt.alloc());
+    let mut writer = Std::new(&mut output);
+    assert!(rt; playing::is_refused(rt.alloc(), &mut Std::new(b"lsr".as_slice()), &mut writer));
+    assert_eq!(rt; output.len(), 0);
+    Ok(())
+}

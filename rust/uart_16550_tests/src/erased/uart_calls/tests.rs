@@ -1,0 +1,23 @@
+#[allow(unused_imports)]
+use crate::runtime::{AllocGlobal, HostRuntime, assert, assert_eq, assert_ne, format};
+// Tests of the driver: what no contract states, as examples from outside.
+//
+// Rows of calls, with their answers and whole lists of accesses, are tables in the terms of
+// [`driving`].
+
+mod address;
+mod always;
+mod bytes;
+mod calls;
+mod devices;
+mod driving;
+mod examples;
+mod generic;
+mod init;
+mod lists;
+mod looks;
+mod loopback;
+mod replays;
+mod setup;
+mod states;
+mod terminal;

@@ -1,0 +1,35 @@
+#[allow(unused_imports)]
+use crate::runtime::{AllocGlobal, HostRuntime, assert, assert_eq, assert_ne, format};
+// Generic code over a writer, which relies on the contract of the trait alone.
+
+use crate::erased::uart_calls::tests::devices::{Constant, RegisterFile, driver, impatient};
+use crate::libraries::uart_16550::embedded_io::Write;
+use crate::libraries::uart_spec::{Config, StalledError};
+
+// Sends all of the bytes by repeated `write`.
+fn send_all<W: Write>(writer: &mut W, bytes: &[u8]) -> Result<(), W::Error>
+
+{
+    let mut done = 0;
+    while done < bytes.len() {
+        match writer.write(&bytes[done..]) {
+            Ok(count) => done += count,
+            Err(error) => return Err(error),
+        }
+    }
+    Ok(())
+}
+
+#[test]
+fn a_driver_is_a_writer() {
+    let rt = HostRuntime;
+    let mut uart = driver(RegisterFile::new(false));
+    assert_eq!(rt; uart.init(Config::DEFAULT), Ok(()));
+    assert_eq!(rt; send_all(&mut uart, b"hello"), Ok(()));
+    assert_eq!(rt; uart.backend().device.sent.as_slice(), b"hello".as_slice());
+    let mut stalled = impatient(Constant(0));
+    assert_eq!(rt;
+        send_all(&mut stalled, b"hello"),
+        Err(StalledError { done: 0 })
+    );
+}

@@ -1,0 +1,140 @@
+#[allow(unused_imports)]
+use crate::runtime::{AllocGlobal, HostRuntime, assert, assert_eq, assert_ne, format};
+// Calls over a replay, and what the replay then shows: a list of the call, whose reads returned
+// the bytes of the replay in turn. So over any other backend too the accesses of a call are known
+// from the driver's fields and what its reads return.
+
+use crate::erased::uart_calls::Answer::{
+    self, Bytes, Count, Done, Flag, InitRefused, Latch, LoopbackRefused, NoData, NotConnected,
+    ReceiveStalled, Register, Stalled,
+};
+use crate::erased::uart_calls::Call::{
+    self, CheckConnected, CheckPresent, Disable, DllDlm, Dump, Enable, Flush, Init, ReadReady,
+    ReadyToReceive, ReadyToSend, Receive, ReceiveExact, Send, SendExact, TestLoopback, TryReceive,
+    TrySend, Write, WriteReady,
+};
+use crate::erased::uart_calls::perform;
+use crate::erased::uart_calls::tests::driving::{Replaying, bytes, dump, text};
+use crate::libraries::bitflags::Flags;
+use std::fmt;
+use std::num::NonZeroU64;
+use crate::runtime::Abort;
+use crate::libraries::uart_16550::replay::{Entry, Replay};
+use crate::libraries::uart_16550::{Uart16550, Uart16550Tty};
+use crate::libraries::uart_spec::InitError::DeviceNotPresent;
+use crate::libraries::uart_spec::RemoteReadyToReceiveError::RemoteNotClearToSend;
+use crate::libraries::uart_spec::registers::{IER, offsets};
+use crate::libraries::uart_spec::{Config, LoopbackError};
+
+fn replayed(terminal: &mut Replaying<'_>, call: &Call) -> Answer
+
+{
+    perform(terminal, call)
+}
+
+fn write_str(terminal: &mut Replaying<'_>, text: &str) -> fmt::Result
+
+{
+    fmt::Write::write_str(terminal, text)
+}
+
+// Returns the number of accesses, if all of them were kept.
+fn kept(terminal: &Replaying<'_>) -> Option<usize> {
+    let accesses = terminal.inner().backend().accesses()?;
+    Some(accesses.len())
+}
+
+// Asserts that the call returns this answer, and that this number of accesses was made.
+fn shows(rt: &impl Abort, terminal: &mut Replaying<'_>, call: Call, answer: Answer, count: usize) {
+    assert!(rt; call.is_runnable());
+    assert_eq!(rt; replayed(terminal, &call), answer, "{call:?}");
+    assert_eq!(rt; kept(terminal), Some(count), "{call:?}");
+}
+
+// Returns a new driver over a replay of these bytes, with this spin limit.
+fn replay(answers: &[u8], limit: u64) -> Replaying<'_> {
+    let mut uart = Uart16550::new_with_backend(Replay::new(answers));
+    if let Some(limit) = NonZeroU64::new(limit) {
+        uart.set_spin_limit(limit);
+    }
+    Uart16550Tty::from_inner(uart)
+}
+
+#[test]
+fn a_replay_shows_what_a_call_does() {
+    let rt = HostRuntime;
+    let mut terminal = replay(&[0x00, 0x20], 3);
+    shows(&rt, &mut terminal, SendExact(bytes(b"hi")), Done, 4);
+    let accesses = [
+        Entry::Read(offsets::LSR, 0x00),
+        Entry::Read(offsets::LSR, 0x20),
+        Entry::Write(offsets::DATA, b'h'),
+        Entry::Write(offsets::DATA, b'i'),
+    ];
+    assert_eq!(rt;
+        terminal.inner().backend().accesses(),
+        Some(accesses.as_slice())
+    );
+}
+
+#[test]
+fn a_replay_says_that_it_is_full() {
+    let rt = HostRuntime;
+    let mut terminal = replay(&[], 512);
+    shows(&rt, &mut terminal, Flush, Stalled(0), 512);
+    assert_eq!(rt; replayed(&mut terminal, &ReadReady), Flag(false));
+    assert_eq!(rt; kept(&terminal), None);
+}
+
+#[test]
+fn looks_and_registers_over_a_replay() {
+    let rt = HostRuntime;
+    // Each read returns 60: there is room, and no data.
+    let mut terminal = replay(&[0x60; 64], 3);
+    for (call, answer, count) in [
+        (CheckPresent, Flag(false), 4),
+        (CheckConnected, NotConnected(RemoteNotClearToSend), 5),
+        (ReadyToReceive, NoData, 6),
+        (ReadyToSend, Done, 7),
+        (ReadReady, Flag(false), 8),
+        (WriteReady, Flag(true), 9),
+        (Enable(IER::empty()), Done, 11),
+        (Disable(IER::empty()), Done, 13),
+        (Call::Ier, Register(0x60), 14),
+        (Call::Isr, Register(0x60), 15),
+        (Call::Lcr, Register(0x60), 16),
+        (Call::Mcr, Register(0x60), 17),
+        (Call::Lsr, Register(0x60), 18),
+        (Call::Msr, Register(0x60), 19),
+        (Call::Spr, Register(0x60), 20),
+        (DllDlm, Latch(0x60, 0x60), 25),
+        (Dump, Answer::Dump(dump([0x60; 7], 0x60, 0x60)), 37),
+    ] {
+        shows(&rt, &mut terminal, call, answer, count);
+    }
+}
+
+#[test]
+fn bytes_over_a_replay() {
+    let rt = HostRuntime;
+    let mut terminal = replay(&[0x60; 64], 3);
+    for (call, answer, count) in [
+        (TryReceive, NoData, 1),
+        (TrySend(b'a'), Done, 3),
+        (Receive(2), Bytes(bytes(b"")), 4),
+        (Send(bytes(b"hi")), Count(2), 7),
+        (ReceiveExact(2), ReceiveStalled(bytes(b"")), 10),
+        (SendExact(bytes(b"hi")), Done, 13),
+        (Call::Read(2), Stalled(0), 16),
+        (Write(bytes(b"hi")), Count(2), 19),
+        (Flush, Done, 20),
+        (Init(Config::DEFAULT), InitRefused(DeviceNotPresent), 24),
+        // The transmitter is empty, the FIFO off, the byte sent, and none returns.
+        (TestLoopback, LoopbackRefused(LoopbackError::Stalled), 42),
+        (text("a"), Done, 44),
+    ] {
+        shows(&rt, &mut terminal, call, answer, count);
+    }
+    assert_eq!(rt; write_str(&mut terminal, "a"), Ok(()));
+    assert_eq!(rt; kept(&terminal), Some(46));
+}
