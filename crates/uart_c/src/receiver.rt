@@ -116,6 +116,9 @@ impl ReceiverParts for UartReceiver {
 
     #[tactic(auto, using(crate::proofs::Marks::only_unscheduled))]
     fn put(&mut self, new: Character) {
+        if self.queue_len() == 0 {
+            self.is_front_reported = 0;
+        }
         push(
             &mut self.queue.len,
             &mut self.queue.items,
@@ -125,6 +128,7 @@ impl ReceiverParts for UartReceiver {
 
     fn pop(&mut self) -> Option<Character> {
         let front = pop_front(&mut self.queue.len, &mut self.queue.items)?;
+        self.is_front_reported = 0;
         Some(front.shown())
     }
 

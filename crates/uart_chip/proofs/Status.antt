@@ -1,6 +1,6 @@
 -- LSR as the parts of the chip keep it.
 use Rattle.std.proofs.Common.{◌≡◌, ℕ, zero, suc, ◌+◌, ◌<◌, Bool, true, false, ◌&&◌, ◌==◌, List, [], ◌∷◌, ◌++◌, length, nat_lt, refl}
-use Rattle.std.proofs.Common.{◌||◌, Option, Some, None, ◌∙◌, ap, sym, arith, bit_or}
+use Rattle.std.proofs.Common.{◌||◌, Option, Some, None, ◌∙◌, ap, sym, arith, bit_and, bit_or}
 use Rattle.std.proofs.lemmas.Grind.{common_steps}
 use Rattle.std.proofs.lemmas.Nat.Bits.{same_from_bits, bit_at_or}
 use Rattle.std.specs.List.{list_any}
@@ -46,6 +46,12 @@ same_front [] x overrun reported some = absurd (omega (arith, some))
 same_front (y ∷ ys) x overrun reported some =
     ap (λ (b : Bool). bit_or (bit_or (flag b LSR.DATA_READY.0) (flag overrun LSR.OVERRUN_ERROR.0)) (front_errors (y ∷ ys) reported))
     (above (length ys) ∙ sym (above (length (ys ++ x ∷ []))))
+
+-- of a character that is alone its errors are shown
+pub alone : (x : Character) (status : ℕ) (overrun reported : Bool) → status ≡ receiver_status [] overrun reported →
+    bit_or (bit_or status LSR.DATA_READY.0) (bit_and x.errors LSR.CHARACTER_ERRORS.0) ≡ receiver_status (x ∷ []) overrun false
+alone x status true reported is = ap (λ (s : ℕ). bit_or (bit_or s LSR.DATA_READY.0) (bit_and x.errors LSR.CHARACTER_ERRORS.0)) is
+alone x status false reported is = ap (λ (s : ℕ). bit_or (bit_or s LSR.DATA_READY.0) (bit_and x.errors LSR.CHARACTER_ERRORS.0)) is
 
 -- one is lost
 with_lost : (ready errors lost : ℕ) (overrun : Bool) →

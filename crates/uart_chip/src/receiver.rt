@@ -1,10 +1,11 @@
 //! The receiver: a queue of characters, and what became of each arrival.
-ghost use Rattle.std.specs.Prelude.{◌≡◌, ◌<◌, ◌≤◌, ℕ, [], true, length, slice_get};
+ghost use Rattle.std.specs.Prelude.{◌≡◌, ◌<◌, ◌≤◌, ℕ, [], true, bit_and, length, slice_get};
 ghost use Rattle.uart_chip.specs.Receiver as spec;
 ghost use Rattle.uart_chip.specs.Receiver.{has_errors, waiting};
 ghost use Rattle.uart_chip.specs.Status.{receiver_status};
 ghost use Rattle.uart_chip.specs.Errors.{error_weight};
 ghost use Rattle.uart_spec.specs.declared.baud.TheConstants.{FIFO_SIZE};
+ghost use Rattle.uart_spec.specs.declared.registers.line_status.TheConstants.LSR;
 ghost use Rattle.uart_chip.specs.Data.{receiver_of, without_schedule};
 ghost use Rattle.uart_chip.specs.declared.event.TheConstants.{MAX_CHAR_TICKS};
 
@@ -84,6 +85,13 @@ impl<Q: Fifo<Character> + Drop, J: Journal + Drop> Model for Receiver<Q, J> {
 }
 
 impl Character {
+    // Returns the errors that LSR shows of the character at the front.
+    fn shown_errors(&self) -> LSR
+        ensures { result.0 ≡ bit_and self.now.errors LSR.CHARACTER_ERRORS.0 }
+    {
+        LSR::from_bits_retain(self.errors).intersection(LSR::CHARACTER_ERRORS)
+    }
+
     /// Returns whether the character has a parity error or a framing error, or is a break.
     pub fn has_errors(&self) -> bool
         ensures { result ≡ has_errors self.now }
@@ -106,9 +114,7 @@ fn status_of<Q: Fifo<Character>>(queue: &Q, is_overrun: bool, is_front_reported:
     let data_ready = flag(!queue.is_empty(), LSR::DATA_READY);
     let overrun = flag(is_overrun, LSR::OVERRUN_ERROR);
     let errors = match queue.get(0) {
-        Some(front) if !is_front_reported => {
-            LSR::from_bits_retain(front.errors).intersection(LSR::CHARACTER_ERRORS)
-        }
+        Some(front) if !is_front_reported => front.shown_errors(),
         _ => LSR::empty(),
     };
     data_ready.union(overrun).union(errors)
@@ -257,19 +263,20 @@ impl<Q: Fifo<Character> + Drop, J: Journal + Drop> ReceiverParts for Receiver<Q,
         self.queue.len()
     }
 
-    #[tactic(auto, using(crate::proofs::Status::same_front))]
+    #[tactic(auto, using(crate::proofs::Status::same_front, crate::proofs::Status::alone))]
     fn put(&mut self, new: Character) {
-        let is_first = self.queue.is_empty();
-        self.queue.push(new);
-        if is_first {
-            self.status = status_of(&self.queue, self.is_overrun, self.is_front_reported);
+        if self.queue.is_empty() {
+            self.is_front_reported = false;
+            self.status = self.status.union(LSR::DATA_READY).union(new.shown_errors());
         }
+        self.queue.push(new);
     }
 
     fn pop(&mut self) -> Option<Character> {
-        let front = self.queue.pop();
-        self.status = status_of(&self.queue, self.is_overrun, self.is_front_reported);
-        front
+        let front = self.queue.pop()?;
+        self.is_front_reported = false;
+        self.status = status_of(&self.queue, self.is_overrun, false);
+        Some(front)
     }
 
     #[tactic(auto, using(crate::proofs::Status::cleared))]

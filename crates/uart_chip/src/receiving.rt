@@ -1,5 +1,6 @@
 //! What happens in a receiver, over its parts.
-ghost use Rattle.std.specs.Prelude.{◌≡◌, ◌<◌, ◌≤◌, ◌++◌, ◌-◌, [], ◌∷◌, Bool, true, not, ◌||◌, drop, length, slice_get};
+ghost use Rattle.std.specs.Prelude.{◌≡◌, ◌<◌, ◌≤◌, ◌++◌, ◌-◌, [], ◌∷◌, Bool, true, false, not};
+ghost use Rattle.std.specs.Prelude.{◌==◌, ◌||◌, drop, if◌then◌else◌, length, slice_get};
 ghost use Rattle.std.specs.List.{list_any};
 ghost use Rattle.uart_chip.specs.Jumps as jumps;
 ghost use Rattle.uart_chip.specs.Receiver as spec;
@@ -30,17 +31,24 @@ pub trait ReceiverParts {
         ensures len { result ≡ length (state self.now).queue }
         ensures within { result ≤ FIFO_SIZE };
 
-    /// Appends a character to the queue. The caller must show that there is room, and that it has a place.
+    /// Appends a character to the queue. The errors of one that is at the front have not been reported. The caller must
+    /// show that there is room, and that the character has a place.
     fn put(&mut self, new: Character)
         requires room { length (state self.old).queue < FIFO_SIZE }
         requires origin { (is_unscheduled new.origin || is_scheduled) ≡ true }
-        ensures after { state self.new ≡ record (state self.old) { queue = (state self.old).queue ++ new ∷ [] } }
+        ensures after { let r = state self.old in state self.new ≡ record r {
+          queue = r.queue ++ new ∷ [];
+          is_front_reported = if length r.queue == 0 then false else r.is_front_reported;
+        } }
         ensures canonical { canonical self.old → canonical self.new };
 
-    /// Removes the front of the queue, and returns it.
+    /// Removes the front of the queue, and returns it. The errors of the next one have not been reported.
     fn pop(&mut self) -> Option<Character>
         ensures front { result ≡ slice_get (state self.old).queue 0 }
-        ensures after { state self.new ≡ record (state self.old) { queue = drop 1 (state self.old).queue } }
+        ensures after { let r = state self.old in state self.new ≡ record r {
+          queue = drop 1 r.queue;
+          is_front_reported = if length r.queue == 0 then r.is_front_reported else false;
+        } }
         ensures canonical { canonical self.old → canonical self.new };
 
     /// Empties the queue.
@@ -152,11 +160,7 @@ pub fn enter<R: ReceiverParts>(parts: &mut R, fifo: bool, new: Character)
     ensures after { R.state parts.new ≡ spec.enter fifo new (R.state parts.old) }
     ensures canonical { R.canonical parts.old → R.canonical parts.new }
 {
-    let len = parts.queue_len();
-    if len < room_of(fifo) {
-        if len == 0 {
-            parts.set_front_reported(false);
-        }
+    if parts.queue_len() < room_of(fifo) {
         parts.put(new);
         parts.set_mark(new.origin, ArrivalMark::Waiting);
     } else if fifo {
@@ -185,7 +189,6 @@ fn replace<R: ReceiverParts>(parts: &mut R, new: Character)
     parts.clear_queue();
     parts.put(new);
     parts.set_overrun(true);
-    parts.set_front_reported(false);
     parts.set_timeout_ticks(0);
     parts.set_mark(old.origin, ArrivalMark::Dropped);
     parts.set_mark(new.origin, ArrivalMark::Waiting);
@@ -258,7 +261,6 @@ pub fn take_front<R: ReceiverParts>(parts: &mut R) -> u8
     ensures canonical { R.canonical parts.old → R.canonical parts.new }
 {
     if let Some(front) = parts.pop() {
-        parts.set_front_reported(false);
         parts.set_timeout_ticks(0);
         parts.set_last_byte(front.byte);
         parts.set_mark(front.origin, ArrivalMark::Read);

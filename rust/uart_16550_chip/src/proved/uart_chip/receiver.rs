@@ -50,6 +50,11 @@ pub struct Receiver<Q: Fifo<Character>, J: Journal> {
 }
 
 impl Character {
+    // Returns the errors that LSR shows of the character at the front.
+    fn shown_errors(&self) -> LSR {
+        LSR::from_bits_retain(self.errors).intersection(LSR::CHARACTER_ERRORS)
+    }
+
     /// Returns whether the character has a parity error or a framing error, or is a break.
     pub fn has_errors(&self) -> bool {
         LSR::from_bits_retain(self.errors).intersects(LSR::CHARACTER_ERRORS)
@@ -66,9 +71,7 @@ fn status_of<Q: Fifo<Character>>(queue: &Q, is_overrun: bool, is_front_reported:
     let data_ready = flag(!queue.is_empty(), LSR::DATA_READY);
     let overrun = flag(is_overrun, LSR::OVERRUN_ERROR);
     let errors = match queue.get(0) {
-        Some(front) if !is_front_reported => {
-            LSR::from_bits_retain(front.errors).intersection(LSR::CHARACTER_ERRORS)
-        }
+        Some(front) if !is_front_reported => front.shown_errors(),
         _ => LSR::empty(),
     };
     data_ready.union(overrun).union(errors)
@@ -182,17 +185,18 @@ impl<Q: Fifo<Character>, J: Journal> ReceiverParts for Receiver<Q, J> {
     }
 
     fn put(&mut self, new: Character) {
-        let is_first = self.queue.is_empty();
-        self.queue.push(new);
-        if is_first {
-            self.status = status_of(&self.queue, self.is_overrun, self.is_front_reported);
+        if self.queue.is_empty() {
+            self.is_front_reported = false;
+            self.status = self.status.union(LSR::DATA_READY).union(new.shown_errors());
         }
+        self.queue.push(new);
     }
 
     fn pop(&mut self) -> Option<Character> {
-        let front = self.queue.pop();
-        self.status = status_of(&self.queue, self.is_overrun, self.is_front_reported);
-        front
+        let front = self.queue.pop()?;
+        self.is_front_reported = false;
+        self.status = status_of(&self.queue, self.is_overrun, false);
+        Some(front)
     }
 
     fn clear_queue(&mut self) {

@@ -11,10 +11,11 @@ pub trait ReceiverParts {
     /// Returns the number of characters in the queue.
     fn queue_len(&self) -> usize;
 
-    /// Appends a character to the queue. The caller must show that there is room, and that it has a place.
+    /// Appends a character to the queue. The errors of one that is at the front have not been reported. The caller must
+    /// show that there is room, and that the character has a place.
     fn put(&mut self, new: Character);
 
-    /// Removes the front of the queue, and returns it.
+    /// Removes the front of the queue, and returns it. The errors of the next one have not been reported.
     fn pop(&mut self) -> Option<Character>;
 
     /// Empties the queue.
@@ -90,11 +91,7 @@ pub fn characters_of(level: FifoTriggerLevel) -> u8 {
 /// held.
 #[inline(always)]
 pub fn enter<R: ReceiverParts>(parts: &mut R, fifo: bool, new: Character) {
-    let len = parts.queue_len();
-    if len < room_of(fifo) {
-        if len == 0 {
-            parts.set_front_reported(false);
-        }
+    if parts.queue_len() < room_of(fifo) {
         parts.put(new);
         parts.set_mark(new.origin, ArrivalMark::Waiting);
     } else if fifo {
@@ -119,7 +116,6 @@ fn replace<R: ReceiverParts>(parts: &mut R, new: Character) {
     parts.clear_queue();
     parts.put(new);
     parts.set_overrun(true);
-    parts.set_front_reported(false);
     parts.set_timeout_ticks(0);
     parts.set_mark(old.origin, ArrivalMark::Dropped);
     parts.set_mark(new.origin, ArrivalMark::Waiting);
@@ -179,7 +175,6 @@ pub fn arrive_live<R: ReceiverParts>(
 /// Takes the front if there is one, and returns the byte that was taken last.
 pub fn take_front<R: ReceiverParts>(parts: &mut R) -> u8 {
     if let Some(front) = parts.pop() {
-        parts.set_front_reported(false);
         parts.set_timeout_ticks(0);
         parts.set_last_byte(front.byte);
         parts.set_mark(front.origin, ArrivalMark::Read);
