@@ -17,10 +17,10 @@ PARTS = [
     ("uart_calls/src/call.rt", "uart_calls/call", "crate::erased::uart_calls"),
     ("uart_calls/src/performing.rt", "uart_calls/performing", "crate::erased::uart_calls"),
     ("uart_spec/src/tests.rt", "uart_spec", "crate::libraries::uart_spec"),
-    ("uart_ring/src/tests.rt", "uart_ring", "crate::libraries::uart_ring"),
-    ("uart_ring/src/tests/calls.rt", "uart_ring/calls", "crate::libraries::uart_ring"),
-    ("uart_ring/src/tests/handler.rt", "uart_ring/handler", "crate::libraries::uart_ring"),
-    ("uart_ring/src/tests/lists.rt", "uart_ring/lists", "crate::libraries::uart_ring"),
+    ("uart_uses/src/tests/rings.rt", "uart_ring", "crate::libraries::uart_ring"),
+    ("uart_uses/src/tests/rings/calls.rt", "uart_ring/calls", "crate::libraries::uart_ring"),
+    ("uart_uses/src/tests/rings/handler.rt", "uart_ring/handler", "crate::libraries::uart_ring"),
+    ("uart_uses/src/tests/rings/lists.rt", "uart_ring/lists", "crate::libraries::uart_ring"),
 ]
 # The tests of the driver.
 DRIVER = "uart_calls/src/tests"
@@ -28,6 +28,7 @@ DRIVER = "uart_calls/src/tests"
 # Heads of paths.
 HEADS = {
     "uart_16550": "crate::libraries::uart_16550",
+    "uart_ring": "crate::libraries::uart_ring",
     "uart_spec": "crate::libraries::uart_spec",
     "arrayvec": "crate::libraries::arrayvec",
     "bitflags": "crate::libraries::bitflags",
@@ -102,7 +103,7 @@ def erased(text, module):
 
 def emitted(root):
     """The files of the erased tests by name, with their bytes."""
-    found = crate.sources(root, ["uart_spec", "uart_16550", "uart_calls", "uart_ring"])
+    found = crate.sources(root, ["uart_spec", "uart_16550", "uart_calls", "uart_uses"])
     files = {}
     parts = [(name, target, module) for name, target, module in PARTS]
     for name in found:

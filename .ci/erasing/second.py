@@ -38,11 +38,11 @@ def left_out(text, crate, allow):
     """The text without the items that are left out by name, and without what names them."""
     names = "|".join(allow.LEFT_OUT_ITEMS)
     files = "|".join(name[len(f"{crate}/src/") : -len(".rt")] for name in allow.LEFT_OUT if re.match(rf"{crate}/src/(?!tests)", name))
-    if not names:
-        return text
     if files:
         text = re.sub(rf"(?:pub )?mod (?:{files});", "", text)
         text = re.sub(rf"(?:pub )?use (?:crate::)?(?:{files})::[^;]*;", "", text)
+    if not names:
+        return text
     attributes = r"(?m)(?:^#\[[^\n]*\]\n)*^"
     text = re.sub(rf"{attributes}impl\b[^{{]*\b(?:{names})\b[^{{]*\{{(?:\n.*?^)?\}}", "", text, flags=re.DOTALL)
     text = re.sub(rf"{attributes}(?:pub )?(?:struct|enum|fn) (?:{names})\b.*?^\}}", "", text, flags=re.DOTALL)

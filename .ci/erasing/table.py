@@ -47,10 +47,9 @@ MODULES = {
 LEFT_OUT = {
     "uart_spec/src/tests.rt": "tests, in rust/uart_16550_tests",
     "uart_16550/src/replay.rt": "a backend for proofs about other crates",
-    "uart_ring/src/tests.rt": "tests, in rust/uart_16550_tests",
-    "uart_ring/src/tests/calls.rt": "tests, in rust/uart_16550_tests",
-    "uart_ring/src/tests/handler.rt": "tests, in rust/uart_16550_tests",
-    "uart_ring/src/tests/lists.rt": "tests, in rust/uart_16550_tests",
+    "uart_ring/src/running.rt": "runs over the software chip",
+    "uart_ring/src/running/call.rt": "runs over the software chip",
+    "uart_ring/src/running/laws.rt": "runs over the software chip",
 }
 
 # Types and functions that are left out by name, with the reason: the item, each `impl` whose head names it, its name in a `use`, and a

@@ -2,7 +2,7 @@
 use Rattle.uart_judges.specs.declared.findings.verifying.VerifyError.TheVariants.{TooLong, NoTrace}
 use Rattle.uart_command.specs.declared.status.Status.{Status}
 use Rattle.uart_command.specs.declared.status.Status.TheVariants.{Failed, OutOfMemory}
-use Rattle.uart_traces.specs.declared.cause.TraceError.TheVariants as trace
+use Rattle.uart_judges.specs.declared.traces.cause.TraceError.TheVariants as trace
 use Rattle.geesetrunk.specs.declared.end.End.{End}
 use Rattle.geesetrunk.specs.declared.end.End.TheVariants.{NoLimit, Unread, NotVerified}
 

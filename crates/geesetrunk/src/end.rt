@@ -8,7 +8,7 @@ use std::io::ErrorKind;
 use thiserror::Error;
 use uart_command::Status;
 use uart_judges::findings::VerifyError;
-use uart_traces::TraceError;
+use uart_judges::traces::TraceError;
 
 /// Why a trace was not verified.
 #[derive(Clone, Copy, Debug, Drop, Error)]

@@ -9,7 +9,7 @@ use uart_command::{
     print,
 };
 use uart_judges::findings::{Stop, audit, replay};
-use uart_recording::RecordingError;
+use uart_judges::recording::RecordingError;
 use uart_report::{Excerpt, ExcerptError, MOST_EVENTS, USUAL_EVENTS, timeline_of};
 
 const LINE_WANTED: &str = "the line must be a number from 1 to 18446744073709551615";

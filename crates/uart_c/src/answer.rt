@@ -64,7 +64,8 @@ fn of_count(kind: u8, count: usize) -> UartAnswer
     }
 }
 
-// Copies one by one, and looks at the bound each time, because a copy of the whole would call `memcpy`.
+// Copies one by one, and looks at the bound each time, because a copy of the whole would call
+// `memcpy`.
 fn of_bytes(kind: u8, received: &[u8]) -> UartAnswer
     requires { length received.now ≤ CALL_BYTES }
     ensures { result ≡ spec.of_bytes kind received.now }

@@ -27,8 +27,8 @@ pub struct UartCall {
     pub bytes: [u8; CALL_BYTES],
 }
 
-// The bytes that are given with a call, or `None` if it has no room for so many. Copies one by one, because a copy of the
-// whole would call `memcpy`.
+// The bytes that are given with a call, or `None` if it has no room for so many. Copies one by one,
+// because a copy of the whole would call `memcpy`.
 fn given(call: &UartCall) -> Option<ArrayVec<u8, CALL_BYTES>>
     ensures some { IfSome result (λ bytes. IsGiven call.now bytes.items) }
     ensures none { IfNone result ((bytes : List ℕ) → IsGiven call.now bytes → ⊥) }

@@ -49,7 +49,8 @@ impl UartChip {
         requires char_ticks { char_ticks ≤ MAX_CHAR_TICKS }
         requires capacity { capacity ≤ WIRE_ROOM }
         ensures chip { chip_of result ≡
-            record (spec.fresh (model_of model) char_ticks capacity 0) { cuts = queue_spec.is_on cuts } }
+            record (spec.fresh (model_of model) char_ticks capacity 0)
+            { cuts = queue_spec.is_on cuts } }
         ensures canonical { IsCanonical result }
     {
         UartChip {

@@ -138,7 +138,8 @@ pub fn config_of(config: &UartConfig) -> Config
 // The data of C of a configuration.
 fn kept_config(config: &Config) -> UartConfig
     ensures written { result ≡ spec.data_of_config config.now }
-    ensures config { spec.config_of result ≡ record config.now { baud_rate = Custom (to_integer config.now.baud_rate) } }
+    ensures config { spec.config_of result ≡
+        record config.now { baud_rate = Custom (to_integer config.now.baud_rate) } }
 {
     UartConfig {
         frequency: config.frequency,

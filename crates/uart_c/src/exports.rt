@@ -1,10 +1,12 @@
 //! The functions of the chip that C calls. The header says what each does.
-ghost use Rattle.std.specs.Prelude.{◌≡◌, ◌≢◌, ◌++◌, ◌-◌, ◌%◌, take, drop, min, length, is_some, bit_and};
+ghost use Rattle.std.specs.Prelude.{◌≡◌, ◌≢◌, ◌++◌, ◌-◌, ◌%◌, take, drop};
+ghost use Rattle.std.specs.Prelude.{min, length, is_some, bit_and};
 ghost use Rattle.uart_c.specs.Canonical.{IsCanonical};
 ghost use Rattle.uart_c.specs.Queue as queue_spec;
 ghost use Rattle.uart_c.specs.State.{chip_of, model_of};
 ghost use Rattle.uart_c.specs.Status.{new_status};
-ghost use Rattle.uart_c.specs.declared.codes.TheConstants.{UART_OK, UART_BAD_CHIP, UART_BAD_ERRORS, UART_BAD_LINES};
+ghost use Rattle.uart_c.specs.declared.codes.TheConstants.{UART_OK, UART_BAD_CHIP};
+ghost use Rattle.uart_c.specs.declared.codes.TheConstants.{UART_BAD_ERRORS, UART_BAD_LINES};
 ghost use Rattle.uart_chip.specs.Chip as spec;
 ghost use Rattle.uart_chip.specs.Masks.{IsWithin};
 ghost use Rattle.uart_chip.specs.Transmitter.{held};
@@ -41,7 +43,8 @@ pub extern "C" fn uart_chip_new(
 ) -> u32
     ensures status { result ≡ new_status char_ticks wire_capacity }
     ensures built { result ≡ UART_OK → chip_of chip.new ≡
-        record (spec.fresh (model_of model) char_ticks wire_capacity 0) { cuts = queue_spec.is_on cuts } }
+        record (spec.fresh (model_of model) char_ticks wire_capacity 0)
+        { cuts = queue_spec.is_on cuts } }
     ensures canonical { result ≡ UART_OK → IsCanonical chip.new }
     ensures kept { result ≢ UART_OK → chip.new ≡ chip.old }
 {
@@ -58,8 +61,10 @@ pub extern "C" fn uart_chip_new(
 /// Makes a chip like one that was saved, unless the data are those of no sound chip.
 #[unsafe(no_mangle)]
 pub extern "C" fn uart_chip_load(chip: &mut UartChip, saved: &UartChip) -> u32
-    ensures accepted { IsLive (chip_of saved.now) → (result ≡ UART_OK) × (chip_of chip.new ≡ chip_of saved.now) }
-    ensures refused { (IsLive (chip_of saved.now) → ⊥) → (result ≡ UART_BAD_CHIP) × (chip.new ≡ chip.old) }
+    ensures accepted { IsLive (chip_of saved.now) →
+        (result ≡ UART_OK) × (chip_of chip.new ≡ chip_of saved.now) }
+    ensures refused { (IsLive (chip_of saved.now) → ⊥) →
+        (result ≡ UART_BAD_CHIP) × (chip.new ≡ chip.old) }
     ensures canonical { result ≡ UART_OK → IsCanonical chip.new }
 {
     if !is_sound(saved) {
@@ -91,7 +96,8 @@ pub extern "C" fn uart_chip_read(chip: &mut UartChip, offset: u8) -> u8
 /// The guest writes a register.
 #[unsafe(no_mangle)]
 pub extern "C" fn uart_chip_write(chip: &mut UartChip, offset: u8, value: u8)
-    ensures after { chip_of chip.new ≡ spec.after_write (offset % NUM_REGISTERS) value (chip_of chip.old) }
+    ensures after { chip_of chip.new ≡
+        spec.after_write (offset % NUM_REGISTERS) value (chip_of chip.old) }
     ensures canonical { IsCanonical chip.old → IsCanonical chip.new }
 {
     write(chip, offset % NUM_REGISTERS as u8, value);
@@ -111,7 +117,8 @@ pub extern "C" fn uart_chip_ticks(chip: &mut UartChip, count: u16)
 pub extern "C" fn uart_chip_arrive(chip: &mut UartChip, byte: u8, errors: u8) -> u32
     ensures accepted { IsWithin errors LSR.CHARACTER_ERRORS.0 →
         (result ≡ UART_OK) × (chip_of chip.new ≡ spec.arrive_live byte errors (chip_of chip.old)) }
-    ensures refused { bit_and errors LSR.CHARACTER_ERRORS.0 ≢ errors → (result ≡ UART_BAD_ERRORS) × (chip.new ≡ chip.old) }
+    ensures refused { bit_and errors LSR.CHARACTER_ERRORS.0 ≢ errors →
+        (result ≡ UART_BAD_ERRORS) × (chip.new ≡ chip.old) }
     ensures canonical { IsCanonical chip.old → IsCanonical chip.new }
 {
     if LSR::from_bits_retain(errors).intersection(LSR::CHARACTER_ERRORS)
@@ -126,8 +133,10 @@ pub extern "C" fn uart_chip_arrive(chip: &mut UartChip, byte: u8, errors: u8) ->
 /// The modem's inputs become these.
 #[unsafe(no_mangle)]
 pub extern "C" fn uart_chip_set_lines(chip: &mut UartChip, inputs: u8) -> u32
-    ensures accepted { IsWithin inputs MSR.LINES.0 → (result ≡ UART_OK) × (chip_of chip.new ≡ spec.change_lines inputs (chip_of chip.old)) }
-    ensures refused { bit_and inputs MSR.LINES.0 ≢ inputs → (result ≡ UART_BAD_LINES) × (chip.new ≡ chip.old) }
+    ensures accepted { IsWithin inputs MSR.LINES.0 →
+        (result ≡ UART_OK) × (chip_of chip.new ≡ spec.change_lines inputs (chip_of chip.old)) }
+    ensures refused { bit_and inputs MSR.LINES.0 ≢ inputs →
+        (result ≡ UART_BAD_LINES) × (chip.new ≡ chip.old) }
     ensures canonical { IsCanonical chip.old → IsCanonical chip.new }
 {
     if MSR::from_bits_retain(inputs).intersection(MSR::LINES) != MSR::from_bits_retain(inputs) {
@@ -149,7 +158,8 @@ pub extern "C" fn uart_chip_is_interrupting(chip: &UartChip) -> u8
 #[unsafe(no_mangle)]
 pub extern "C" fn uart_chip_take_wire(chip: &mut UartChip, bytes: &mut [u8]) -> usize
     ensures count { result ≡ min (length bytes.old) (length (chip_of chip.old).transmitter.wire) }
-    ensures taken { bytes.new ≡ take result (chip_of chip.old).transmitter.wire ++ drop result bytes.old }
+    ensures taken { bytes.new ≡
+        take result (chip_of chip.old).transmitter.wire ++ drop result bytes.old }
     ensures after { chip_of chip.new ≡ spec.take_wire (length bytes.old) (chip_of chip.old) }
     ensures canonical { IsCanonical chip.old → IsCanonical chip.new }
 {
@@ -167,7 +177,8 @@ pub extern "C" fn uart_chip_wire_len(chip: &UartChip) -> usize
 /// How many more bytes the wire has room for.
 #[unsafe(no_mangle)]
 pub extern "C" fn uart_chip_wire_room(chip: &UartChip) -> usize
-    ensures { result ≡ (chip_of chip.now).transmitter.capacity - length (chip_of chip.now).transmitter.wire }
+    ensures { result ≡
+        (chip_of chip.now).transmitter.capacity - length (chip_of chip.now).transmitter.wire }
 {
     let wire = &chip.transmitter.wire;
     wire.capacity().saturating_sub(wire.len())

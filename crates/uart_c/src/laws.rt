@@ -14,11 +14,12 @@ pub fn codes_are_these()
     ensures status { (code.UART_OK ∷ code.UART_BAD_TICKS ∷ code.UART_BAD_WIRE ∷ code.UART_BAD_ERRORS
         ∷ code.UART_BAD_LINES ∷ code.UART_BAD_CHIP ∷ [])
         ≡ (0 ∷ 1 ∷ 2 ∷ 3 ∷ 4 ∷ 5 ∷ []) }
-    ensures parity { (code.UART_PARITY_NONE ∷ code.UART_PARITY_ODD ∷ code.UART_PARITY_EVEN ∷ code.UART_PARITY_FORCED_1
-        ∷ code.UART_PARITY_FORCED_0 ∷ [])
+    ensures parity { (code.UART_PARITY_NONE ∷ code.UART_PARITY_ODD ∷ code.UART_PARITY_EVEN
+        ∷ code.UART_PARITY_FORCED_1 ∷ code.UART_PARITY_FORCED_0 ∷ [])
         ≡ (0 ∷ 1 ∷ 2 ∷ 3 ∷ 4 ∷ []) }
-    ensures calls { (code.UART_INIT ∷ code.UART_TEST_LOOPBACK ∷ code.UART_CHECK_PRESENT ∷ code.UART_CHECK_CONNECTED
-        ∷ code.UART_READY_TO_RECEIVE ∷ code.UART_READY_TO_SEND ∷ code.UART_TRY_RECEIVE ∷ code.UART_FLUSH
+    ensures calls { (code.UART_INIT ∷ code.UART_TEST_LOOPBACK ∷ code.UART_CHECK_PRESENT
+        ∷ code.UART_CHECK_CONNECTED ∷ code.UART_READY_TO_RECEIVE ∷ code.UART_READY_TO_SEND
+        ∷ code.UART_TRY_RECEIVE ∷ code.UART_FLUSH
         ∷ code.UART_READ_READY ∷ code.UART_WRITE_READY ∷ code.UART_IER ∷ code.UART_ISR
         ∷ code.UART_LCR ∷ code.UART_MCR ∷ code.UART_LSR ∷ code.UART_MSR
         ∷ code.UART_SPR ∷ code.UART_DLL_DLM ∷ code.UART_FIFO_ENABLED ∷ code.UART_TRY_SEND
@@ -27,20 +28,26 @@ pub fn codes_are_these()
         ∷ code.UART_DUMP ∷ [])
         ≡ (0 ∷ 1 ∷ 2 ∷ 3 ∷ 4 ∷ 5 ∷ 6 ∷ 7 ∷ 8 ∷ 9 ∷ 10 ∷ 11 ∷ 12 ∷ 13 ∷ 14
         ∷ 15 ∷ 16 ∷ 17 ∷ 18 ∷ 19 ∷ 20 ∷ 21 ∷ 22 ∷ 23 ∷ 24 ∷ 25 ∷ 26 ∷ 27 ∷ 28 ∷ []) }
-    ensures answers { (code.UART_ANSWER_DONE ∷ code.UART_ANSWER_FLAG ∷ code.UART_ANSWER_COUNT ∷ code.UART_ANSWER_BYTES
-        ∷ code.UART_ANSWER_REGISTER ∷ code.UART_ANSWER_LATCH ∷ code.UART_ANSWER_DUMP ∷ code.UART_ANSWER_STALLED
-        ∷ code.UART_ANSWER_RECEIVE_STALLED ∷ code.UART_ANSWER_INIT_REFUSED ∷ code.UART_ANSWER_LOOPBACK_REFUSED
-        ∷ code.UART_ANSWER_NOT_CONNECTED ∷ code.UART_ANSWER_NO_DATA ∷ code.UART_ANSWER_NOT_SENT ∷ [])
+    ensures answers { (code.UART_ANSWER_DONE ∷ code.UART_ANSWER_FLAG ∷ code.UART_ANSWER_COUNT
+        ∷ code.UART_ANSWER_BYTES ∷ code.UART_ANSWER_REGISTER ∷ code.UART_ANSWER_LATCH
+        ∷ code.UART_ANSWER_DUMP ∷ code.UART_ANSWER_STALLED ∷ code.UART_ANSWER_RECEIVE_STALLED
+        ∷ code.UART_ANSWER_INIT_REFUSED ∷ code.UART_ANSWER_LOOPBACK_REFUSED
+        ∷ code.UART_ANSWER_NOT_CONNECTED ∷ code.UART_ANSWER_NO_DATA ∷ code.UART_ANSWER_NOT_SENT
+        ∷ [])
         ≡ (0 ∷ 1 ∷ 2 ∷ 3 ∷ 4 ∷ 5 ∷ 6 ∷ 7 ∷ 8 ∷ 9 ∷ 10 ∷ 11 ∷ 12 ∷ 13 ∷ []) }
-    ensures init { (code.UART_INIT_DEVICE_NOT_PRESENT ∷ code.UART_INIT_INVALID_BAUD_RATE ∷ code.UART_INIT_STALLED ∷ [])
+    ensures init { (code.UART_INIT_DEVICE_NOT_PRESENT ∷ code.UART_INIT_INVALID_BAUD_RATE
+        ∷ code.UART_INIT_STALLED ∷ [])
         ≡ (0 ∷ 1 ∷ 2 ∷ []) }
-    ensures loopback { (code.UART_LOOPBACK_SEND_ERROR ∷ code.UART_LOOPBACK_UNEXPECTED_BYTE ∷ code.UART_LOOPBACK_UNEXPECTED_MSG
-        ∷ code.UART_LOOPBACK_STALLED ∷ [])
+    ensures loopback { (code.UART_LOOPBACK_SEND_ERROR ∷ code.UART_LOOPBACK_UNEXPECTED_BYTE
+        ∷ code.UART_LOOPBACK_UNEXPECTED_MSG ∷ code.UART_LOOPBACK_STALLED ∷ [])
         ≡ (0 ∷ 1 ∷ 2 ∷ 3 ∷ []) }
-    ensures remote { (code.UART_REMOTE_NO_DSR ∷ code.UART_REMOTE_NO_CD ∷ code.UART_REMOTE_NOT_CLEAR_TO_SEND ∷ [])
+    ensures remote { (code.UART_REMOTE_NO_DSR ∷ code.UART_REMOTE_NO_CD
+        ∷ code.UART_REMOTE_NOT_CLEAR_TO_SEND ∷ [])
         ≡ (0 ∷ 1 ∷ 2 ∷ []) }
-    ensures send { (code.UART_SEND_NO_CAPACITY ∷ code.UART_SEND_REMOTE_NOT_CLEAR_TO_SEND ∷ []) ≡ (0 ∷ 1 ∷ []) }
-    ensures steps { (code.UART_STEP_DONE ∷ code.UART_STEP_ASKED ∷ code.UART_STEP_STRAYED ∷ code.UART_STEP_NOT_RUNNABLE ∷ [])
+    ensures send { (code.UART_SEND_NO_CAPACITY ∷ code.UART_SEND_REMOTE_NOT_CLEAR_TO_SEND ∷ [])
+        ≡ (0 ∷ 1 ∷ []) }
+    ensures steps { (code.UART_STEP_DONE ∷ code.UART_STEP_ASKED ∷ code.UART_STEP_STRAYED
+        ∷ code.UART_STEP_NOT_RUNNABLE ∷ [])
         ≡ (0 ∷ 1 ∷ 2 ∷ 3 ∷ []) }
 {}
 
@@ -52,7 +59,8 @@ pub fn limits_are_these()
     ensures ticks { MAX_CHAR_TICKS ≡ 1000 }
 {}
 
-/// A chip that is made is sound, and stays so whatever is done with it. So `uart_chip_load` refuses no chip that was saved.
+/// A chip that is made is sound, and stays so whatever is done with it. So `uart_chip_load` refuses
+/// no chip that was saved.
 pub fn sound_chips_stay_sound()
     ensures made { MadeChipsAreSound }
     ensures stay { SoundChipsStaySound }

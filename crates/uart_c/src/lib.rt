@@ -1,6 +1,7 @@
 //! The live chip and the driver for C: a static library, with include/uart_16550.h as its header.
 //!
-//! Each struct that crosses is plain data, of which any bytes are legal. A function allocates nothing and keeps nothing.
+//! Each struct that crosses is plain data, of which any bytes are legal. A function allocates
+//! nothing and keeps nothing.
 #![tactic(auto)]
 
 mod access;

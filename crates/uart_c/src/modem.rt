@@ -7,7 +7,8 @@ use bitflags::Flags;
 use uart_chip::{Modem, ModemData};
 use uart_spec::registers::{MCR, MSR};
 
-/// The modem's inputs, the lines that the status register shows, and their changes since its last read.
+/// The modem's inputs, the lines that the status register shows, and their changes since its last
+/// read.
 #[repr(C)]
 #[derive(Clone, Copy)]
 pub struct UartModem {

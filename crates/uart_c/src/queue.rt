@@ -1,5 +1,7 @@
-//! Queues: the first items of an array are in the queue. The functions are over its length and its array, whatever the items are.
-ghost use Rattle.std.specs.Prelude.{◌≡◌, ◌==◌, ◌+◌, ◌-◌, ◌<◌, ◌≤◌, [], ◌∷◌, ◌++◌, take, drop, min, length, slice_get, Some, true};
+//! Queues: the first items of an array are in the queue. The functions are over its length and its
+//! array, whatever the items are.
+ghost use Rattle.std.specs.Prelude.{◌≡◌, ◌==◌, ◌+◌, ◌-◌, ◌<◌, ◌≤◌, [], ◌∷◌, ◌++◌};
+ghost use Rattle.std.specs.Prelude.{take, drop, min, length, slice_get, Some, true};
 ghost use Rattle.uart_c.specs.Canonical.{IsCanonicalQueue, IsCanonicalWire, IsFlag};
 ghost use Rattle.uart_c.specs.Queue as spec;
 ghost use Rattle.uart_chip.specs.Receiver.{is_unscheduled};
@@ -226,7 +228,8 @@ impl UartWire {
         front
     }
 
-    /// Takes bytes from the front: as many as there are, and as `bytes` has room for. Returns how many.
+    /// Takes bytes from the front: as many as there are, and as `bytes` has room for. Returns how
+    /// many.
     pub fn take(&mut self, bytes: &mut [u8]) -> usize
         ensures count { result ≡ min (length bytes.old) (length (spec.wire_of self.old)) }
         ensures taken { bytes.new ≡ take result (spec.wire_of self.old) ++ drop result bytes.old }

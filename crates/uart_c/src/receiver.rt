@@ -94,7 +94,8 @@ impl UartReceiver {
 
     // The errors of the front, unless they were reported.
     fn front_errors(&self) -> LSR
-        ensures { result.0 ≡ front_errors (receiver_of self.now).queue (receiver_of self.now).is_front_reported }
+        ensures { result.0 ≡
+            front_errors (receiver_of self.now).queue (receiver_of self.now).is_front_reported }
     {
         if self.queue.len == 0 || is_on(self.is_front_reported) {
             return LSR::empty();

@@ -53,7 +53,8 @@ fn is_sound_character(character: &UartCharacter) -> bool
 
 // Each of these characters is sound.
 fn are_sound_characters(characters: &[UartCharacter]) -> bool
-    ensures { result ≡ list_all (λ character. spec.is_live_character (character_of character)) characters.now }
+    ensures { result ≡
+        list_all (λ character. spec.is_live_character (character_of character)) characters.now }
 {
     characters
         .iter()
@@ -68,7 +69,8 @@ fn is_sound_queue(receiver: &UartReceiver) -> bool
     are_sound_characters(&receiver.queue.items[..len])
 }
 
-// The queue fits, its characters may be there, and the idle ticks end when a reception timeout is due.
+// The queue fits, its characters may be there, and the idle ticks end when a reception timeout is
+// due.
 fn is_sound_receiver(receiver: &UartReceiver, fifo: bool, char_ticks: u16) -> bool
     ensures { result ≡ spec.is_sound_receiver fifo char_ticks (saved.receiver_data receiver.now) }
 {
@@ -93,8 +95,8 @@ fn is_char_time(char_ticks: u16) -> bool
 
 // The ticks of a character are in their range, and the queue and the wire fit.
 fn is_sound_transmitter(transmitter: &UartTransmitter, fifo: bool) -> bool
-    ensures { result ≡
-        spec.is_sound_transmitter fifo (saved.transmitter_data transmitter.now) (wire_of transmitter.now.wire) }
+    ensures { result ≡ spec.is_sound_transmitter fifo
+        (saved.transmitter_data transmitter.now) (wire_of transmitter.now.wire) }
 {
     is_char_time(transmitter.char_ticks)
         && is_ticking(transmitter)
@@ -112,7 +114,8 @@ fn is_implemented(model: u8, fifo: bool) -> bool
 
 // The idle ticks are counted up to four character times.
 fn has_limit(chip: &UartChip) -> bool
-    ensures { result ≡ (chip.now.receiver.timeout_limit == TIMEOUT_CHARACTERS * chip.now.transmitter.char_ticks) }
+    ensures { result ≡
+        (chip.now.receiver.timeout_limit == TIMEOUT_CHARACTERS * chip.now.transmitter.char_ticks) }
 {
     chip.receiver.timeout_limit as u32
         == TIMEOUT_CHARACTERS as u32 * chip.transmitter.char_ticks as u32

@@ -4,7 +4,9 @@ ghost use Rattle.uart_16550.specs.Driver.{with_limit};
 ghost use Rattle.uart_16550.specs.State.{fresh_fields};
 ghost use Rattle.uart_c.specs.Driver.{data_of, fields_of, numbered};
 ghost use Rattle.uart_c.specs.Steps.{IsAsked, IsDone, IsNotRunnable, IsStrayed};
-ghost use Rattle.uart_c.specs.declared.codes.TheConstants.{UART_STEP_DONE, UART_STEP_ASKED, UART_STEP_STRAYED, UART_STEP_NOT_RUNNABLE};
+ghost use Rattle.uart_c.specs.declared.codes.TheConstants.{UART_STEP_DONE, UART_STEP_ASKED};
+ghost use Rattle.uart_c.specs.declared.codes.TheConstants.{UART_STEP_STRAYED};
+ghost use Rattle.uart_c.specs.declared.codes.TheConstants.{UART_STEP_NOT_RUNNABLE};
 
 use crate::access::{UartAccess, asked};
 use crate::answer::{UartAnswer, shown};
@@ -26,8 +28,8 @@ pub extern "C" fn uart_driver_new(driver: &mut UartDriver, spin_limit: u64)
     };
 }
 
-/// What the driver does next in a call in which these accesses were made. Whatever they are, the call is refused exactly if the data are
-/// no call, or one that cannot be run.
+/// What the driver does next in a call in which these accesses were made. Whatever they are, the
+/// call is refused exactly if the data are no call, or one that cannot be run.
 #[unsafe(no_mangle)]
 pub extern "C" fn uart_step(
     driver: &mut UartDriver,
@@ -36,7 +38,8 @@ pub extern "C" fn uart_step(
     access: &mut UartAccess,
     answer: &mut UartAnswer,
 ) -> u32
-    ensures done { result ≡ UART_STEP_DONE → IsDone call.now driver.old made.now answer.new driver.new }
+    ensures done { result ≡ UART_STEP_DONE →
+        IsDone call.now driver.old made.now answer.new driver.new }
     ensures asked { result ≡ UART_STEP_ASKED → IsAsked call.now driver.old made.now access.new }
     ensures strayed { result ≡ UART_STEP_STRAYED → IsStrayed call.now driver.old made.now }
     ensures refused { (result ≡ UART_STEP_NOT_RUNNABLE) ↔ IsNotRunnable call.now }

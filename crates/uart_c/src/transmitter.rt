@@ -70,11 +70,14 @@ impl UartTransmitter {
         put_all(&mut self.queue.len, &mut self.queue.items, queue);
     }
 
-    /// Takes bytes from the front of the wire: as many as there are, and as `bytes` has room for. Returns how many.
+    /// Takes bytes from the front of the wire: as many as there are, and as `bytes` has room for.
+    /// Returns how many.
     pub fn take_wire(&mut self, bytes: &mut [u8]) -> usize
-        ensures after { transmitter_of self.new ≡ spec.take_wire (length bytes.old) (transmitter_of self.old) }
+        ensures after { transmitter_of self.new ≡
+            spec.take_wire (length bytes.old) (transmitter_of self.old) }
         ensures count { result ≡ min (length bytes.old) (length (transmitter_of self.old).wire) }
-        ensures taken { bytes.new ≡ take result (transmitter_of self.old).wire ++ drop result bytes.old }
+        ensures taken { bytes.new ≡
+            take result (transmitter_of self.old).wire ++ drop result bytes.old }
         ensures canonical { IsCanonicalTransmitter self.old → IsCanonicalTransmitter self.new }
     {
         self.wire.take(bytes)

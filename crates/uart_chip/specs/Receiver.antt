@@ -49,7 +49,7 @@ fresh char_ticks arrivals =
 abbrev pub mark_at : List ArrivalMark → ℕ → ArrivalMark
 mark_at marks number = slice_index_or marks number Pending
 
--- the marks after that of this origin was set; a unscheduled character has none
+-- the marks after that of this origin was set; an unscheduled character has none
 abbrev pub set_mark : Origin → ArrivalMark → List ArrivalMark → List ArrivalMark
 set_mark (Arrived number) mark marks = slice_set marks number mark
 set_mark Looped mark marks = marks

@@ -29,7 +29,8 @@ impl<Q: Fifo<Character> + Drop> Model for Characters<Q> {
     ghost invariant = { λ c. c.errors ≡ error_count (Q.items c.queue) };
 }
 
-// Returns the number of characters whose errors were reported: 1 if the front has some and was reported, else 0.
+// Returns the number of characters whose errors were reported: 1 if the front has some and was
+// reported, else 0.
 fn known<Q: Fifo<Character>>(queue: &Q, is_front_reported: bool) -> usize
     ensures { result ≡ known_errors (Q.items queue.now) is_front_reported }
 {
@@ -67,7 +68,8 @@ impl<Q: Fifo<Character> + Drop> Characters<Q> {
         self.errors > 0
     }
 
-    /// Returns whether a character has errors. Those of the front do not count if they were reported.
+    /// Returns whether a character has errors. Those of the front do not count if they were
+    /// reported.
     pub fn has_unreported_errors(&self, is_front_reported: bool) -> bool
         ensures { result ≡ list_any has_errors (unreported self.now is_front_reported) }
     {

@@ -1,5 +1,6 @@
 //! The chip: its registers, its transmitter, its receiver and its modem lines.
-ghost use Rattle.std.specs.Prelude.{◌≡◌, ◌<◌, ◌≤◌, ◌+◌, ℕ, [], ◌∷◌, length, replicate, is_some, IfOk};
+ghost use Rattle.std.specs.Prelude.{◌≡◌, ◌<◌, ◌≤◌, ◌+◌, ℕ, [], ◌∷◌};
+ghost use Rattle.std.specs.Prelude.{length, replicate, is_some, IfOk};
 ghost use Rattle.uart_chip.specs.Chip as spec;
 ghost use Rattle.uart_chip.specs.Snapshot.{chip_of, unscheduled};
 ghost use Rattle.uart_chip.specs.Machine.{arrivals, perform};
@@ -116,7 +117,8 @@ impl<B: Fifo<u8> + Drop, W: Wire + Drop, C: Fifo<Character> + Drop, J: Journal +
 > {
     /// Returns a chip after power-on, over empty queues and an empty wire, with this journal.
     ///
-    /// A character takes `char_ticks` ticks to be sent, and characters are cut to the word length if `cuts` is set.
+    /// A character takes `char_ticks` ticks to be sent, and characters are cut to the word length
+    /// if `cuts` is set.
     pub fn with_parts(
         bytes: B,
         wire: W,
@@ -151,7 +153,8 @@ impl<B: Fifo<u8> + Drop, W: Wire + Drop, C: Fifo<Character> + Drop, J: Journal +
         }
     }
 
-    /// Returns the chip with these data, over empty queues and a wire that holds its bytes, without a schedule.
+    /// Returns the chip with these data, over empty queues and a wire that holds its bytes, without
+    /// a schedule.
     pub fn from_parts(bytes: B, wire: W, characters: C, journal: J, saved: &ChipData) -> Self
         requires char_ticks { saved.now.transmitter.char_ticks ≤ MAX_CHAR_TICKS }
         requires bytes { B.items bytes ≡ [] }
@@ -231,8 +234,8 @@ impl<B: Fifo<u8> + Drop, W: Wire + Drop, C: Fifo<Character> + Drop, J: Journal +
 
     /// Lets `n` ticks pass, and returns the number of jumps that this took.
     ///
-    /// A jump ends at the tick in which a character enters or leaves the shift register, or takes all ticks that are left.
-    /// So its cost does not grow with the number of ticks.
+    /// A jump ends at the tick in which a character enters or leaves the shift register, or takes
+    /// all ticks that are left. So its cost does not grow with the number of ticks.
     pub fn ticks(&mut self, n: u16) -> usize
         ensures after { self.new ≡ spec.ticks n self.old }
         ensures jumps { result ≡ jumps_in n self.old }
@@ -250,7 +253,8 @@ impl<B: Fifo<u8> + Drop, W: Wire + Drop, C: Fifo<Character> + Drop, J: Journal +
         self.receiver.arrive(loopback, self.fifo, byte, errors);
     }
 
-    /// Receives a character without a schedule, with these error bits. In loopback the character is lost.
+    /// Receives a character without a schedule, with these error bits. In loopback the character is
+    /// lost.
     pub fn arrive_live(&mut self, byte: u8, errors: u8)
         ensures { self.new ≡ spec.arrive_live byte errors self.old }
     {
@@ -296,7 +300,8 @@ impl<B: Fifo<u8> + Drop, W: Wire + Drop, C: Fifo<Character> + Drop, J: Journal +
 
     /// Performs an event of the schedule. `Access` and `Mark` do nothing by themselves.
     pub fn perform(&mut self, event: Event)
-        requires { self.old.receiver.arrived + arrivals (event ∷ []) ≤ length self.old.receiver.marks }
+        requires { self.old.receiver.arrived + arrivals (event ∷ []) ≤
+            length self.old.receiver.marks }
         ensures { self.new ≡ perform event self.old }
     {
         match event {
@@ -316,7 +321,8 @@ impl<B: Fifo<u8> + Drop, W: Wire + Drop, C: Fifo<Character> + Drop, J: Journal +
         is_interrupting(self)
     }
 
-    /// Reads the register at this offset: returns its value, and has the effect of the read on the chip.
+    /// Reads the register at this offset: returns its value, and has the effect of the read on the
+    /// chip.
     pub fn read(&mut self, offset: u8) -> u8
         requires { offset < NUM_REGISTERS }
         ensures answers { result ≡ spec.answer offset self.old }
@@ -454,10 +460,11 @@ impl<B: Fifo<u8> + Drop, W: Wire + Drop, C: Fifo<Character> + Drop, J: Journal +
 }
 
 impl Uart<HeapFifo<u8>, HeapWire, HeapFifo<Character>, Marks> {
-    /// Returns a chip after power-on, for a schedule with this number of arrivals. Allocates all of its memory.
+    /// Returns a chip after power-on, for a schedule with this number of arrivals. Allocates all of
+    /// its memory.
     ///
-    /// A character takes `char_ticks` ticks to be sent, the wire has room for `capacity` bytes, and characters are cut to
-    /// the word length if `cuts` is set.
+    /// A character takes `char_ticks` ticks to be sent, the wire has room for `capacity` bytes, and
+    /// characters are cut to the word length if `cuts` is set.
     ///
     /// # Errors
     ///
@@ -471,7 +478,8 @@ impl Uart<HeapFifo<u8>, HeapWire, HeapFifo<Character>, Marks> {
         cuts: bool,
     ) -> Result<Self, AllocError>
         requires { char_ticks ≤ MAX_CHAR_TICKS }
-        ensures { IfOk result (λ c. c ≡ record (spec.fresh model char_ticks capacity arrivals) { cuts = cuts }) }
+        ensures { IfOk result (λ c. c ≡
+            record (spec.fresh model char_ticks capacity arrivals) { cuts = cuts }) }
     {
         let bytes = HeapFifo::new(alloc)?;
         let wire = HeapWire::new(alloc, capacity)?;
@@ -480,7 +488,8 @@ impl Uart<HeapFifo<u8>, HeapWire, HeapFifo<Character>, Marks> {
         Ok(Uart::with_parts(bytes, wire, characters, journal, model, char_ticks, cuts))
     }
 
-    /// Returns the chip with these data, and with these bytes on its wire. Allocates all of its memory.
+    /// Returns the chip with these data, and with these bytes on its wire. Allocates all of its
+    /// memory.
     ///
     /// # Errors
     ///

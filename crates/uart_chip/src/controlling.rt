@@ -25,8 +25,8 @@ use uart_spec::registers::{
     FCR, FifoTriggerLevel, IER, ISR, InterruptType, LCR, LSR, MCR, MSR, WordLength, offsets,
 };
 
-/// What a chip is made of: its model, the registers that keep what is written to them, a transmitter, a receiver and the
-/// modem lines, and how each is read and changed.
+/// What a chip is made of: its model, the registers that keep what is written to them, a
+/// transmitter, a receiver and the modem lines, and how each is read and changed.
 pub trait ChipParts {
     /// The transmitter.
     type Transmitter: TransmitterParts;
@@ -88,15 +88,16 @@ pub trait ChipParts {
 
     /// Lets one tick pass in the transmitter, and returns the byte that loopback returns in it.
     fn tick_transmitter(&mut self, loopback: bool) -> Option<u8>
-        ensures after { state self.new ≡
-            record (state self.old) { transmitter = transmitter.tick loopback (state self.old).transmitter } }
+        ensures after { state self.new ≡ record (state self.old)
+            { transmitter = transmitter.tick loopback (state self.old).transmitter } }
         ensures looped { result ≡ looped_byte loopback (state self.old).transmitter.shift_register }
         ensures canonical { canonical self.old → canonical self.new };
 
-    /// Lets ticks pass in the transmitter in which no character enters or leaves the shift register.
+    /// Lets ticks pass in the transmitter in which no character enters or leaves the shift
+    /// register.
     fn count_down(&mut self, ticks: u16)
-        ensures after { state self.new ≡
-            record (state self.old) { transmitter = jumps.count_down ticks (state self.old).transmitter } }
+        ensures after { state self.new ≡ record (state self.old)
+            { transmitter = jumps.count_down ticks (state self.old).transmitter } }
         ensures canonical { canonical self.old → canonical self.new };
 
     /// Passes a byte that is written to DATA to the transmitter.
@@ -107,8 +108,8 @@ pub trait ChipParts {
 
     /// Empties the queue of the transmitter.
     fn clear_transmitter(&mut self)
-        ensures after { state self.new ≡
-            record (state self.old) { transmitter = record (state self.old).transmitter { queue = [] } } }
+        ensures after { state self.new ≡ record (state self.old)
+            { transmitter = record (state self.old).transmitter { queue = [] } } }
         ensures canonical { canonical self.old → canonical self.new };
 
     /// Sets whether a `THR_EMPTY` interrupt is pending.
@@ -130,25 +131,28 @@ pub trait ChipParts {
 
     /// Passes a character without a schedule to the receiver. In loopback it is lost.
     fn receive(&mut self, loopback: bool, byte: u8, errors: u8)
-        ensures after { let c = state self.old in
-            state self.new ≡ record c { receiver = receiver.arrive_live loopback c.fifo byte errors c.receiver } }
+        ensures after { let c = state self.old in state self.new ≡
+            record c { receiver = receiver.arrive_live loopback c.fifo byte errors c.receiver } }
         ensures canonical { canonical self.old → canonical self.new };
 
     /// Takes the front of the receiver if there is one, and returns the byte that was taken last.
     fn take_front(&mut self) -> u8
-        ensures after { let c = state self.old in
-            state self.new ≡ record c { receiver = receiver.take_front c.receiver.queue c.receiver } }
+        ensures after { let c = state self.old in state self.new ≡
+            record c { receiver = receiver.take_front c.receiver.queue c.receiver } }
         ensures byte { result ≡ (state self.new).receiver.last_byte }
         ensures canonical { canonical self.old → canonical self.new };
 
-    /// Does to the receiver what a read of LSR does: clears the overrun and the errors of the front.
+    /// Does to the receiver what a read of LSR does: clears the overrun and the errors of the
+    /// front.
     fn report(&mut self)
-        ensures after { state self.new ≡ record (state self.old) { receiver = receiver.report (state self.old).receiver } }
+        ensures after { state self.new ≡
+            record (state self.old) { receiver = receiver.report (state self.old).receiver } }
         ensures canonical { canonical self.old → canonical self.new };
 
     /// Empties the queue of the receiver. Its characters are discarded.
     fn clear_receiver(&mut self)
-        ensures after { state self.new ≡ record (state self.old) { receiver = receiver.clear (state self.old).receiver } }
+        ensures after { state self.new ≡
+            record (state self.old) { receiver = receiver.clear (state self.old).receiver } }
         ensures canonical { canonical self.old → canonical self.new };
 
     /// Sets the trigger level of the receiver.
@@ -158,19 +162,23 @@ pub trait ChipParts {
 
     /// Computes the modem lines anew under this value of MCR, and adds their changes.
     fn renew_modem(&mut self, mcr: MCR)
-        ensures after { state self.new ≡ record (state self.old) { modem = renew mcr.0 (state self.old).modem } }
+        ensures after { state self.new ≡
+            record (state self.old) { modem = renew mcr.0 (state self.old).modem } }
         ensures canonical { canonical self.old → canonical self.new };
 
     /// Sets the inputs of the modem, and computes its lines anew under this value of MCR.
     fn change_inputs(&mut self, mcr: MCR, inputs: u8)
-        ensures after { state self.new ≡
-            record (state self.old) { modem = renew mcr.0 (record (state self.old).modem { inputs = inputs }) } }
+        ensures after { state self.new ≡ record (state self.old)
+            { modem = renew mcr.0 (record (state self.old).modem { inputs = inputs }) } }
         ensures canonical { canonical self.old → canonical self.new };
 
-    /// Returns what a read of MSR returns, and clears the changes of the modem lines, as the read does.
+    /// Returns what a read of MSR returns, and clears the changes of the modem lines, as the read
+    /// does.
     fn read_modem(&mut self) -> u8
-        ensures answers { result ≡ bit_or (state self.old).modem.lines (state self.old).modem.deltas }
-        ensures after { state self.new ≡ record (state self.old) { modem = record (state self.old).modem { deltas = 0 } } }
+        ensures answers { result ≡
+            bit_or (state self.old).modem.lines (state self.old).modem.deltas }
+        ensures after { state self.new ≡
+            record (state self.old) { modem = record (state self.old).modem { deltas = 0 } } }
         ensures canonical { canonical self.old → canonical self.new };
 
     /// Returns whether a modem line has changed since the last read of MSR.
@@ -205,7 +213,8 @@ fn trigger_level(fcr: FCR) -> FifoTriggerLevel
     fcr.fifo_trigger_level()
 }
 
-// Returns a byte as it is sent and received under a line control register: only its data bits if characters are cut.
+// Returns a byte as it is sent and received under a line control register: only its data bits if
+// characters are cut.
 fn cut_to(cuts: bool, lcr: LCR, byte: u8) -> u8
     ensures { result ≡ spec.cut_to cuts (spec.word_length lcr.0) byte }
 {
@@ -269,8 +278,8 @@ fn skip<P: ChipParts>(parts: &mut P, ticks: u16)
 
 /// Lets `n` ticks pass, and returns the number of jumps that this took.
 ///
-/// A jump ends at the tick in which a character enters or leaves the shift register, or takes all ticks that are left.
-/// So its cost does not grow with the number of ticks.
+/// A jump ends at the tick in which a character enters or leaves the shift register, or takes all
+/// ticks that are left. So its cost does not grow with the number of ticks.
 pub fn advance<P: ChipParts>(parts: &mut P, n: u16) -> usize
     ensures after { P.state parts.new ≡ spec.ticks n (P.state parts.old) }
     ensures jumps { result ≡ jumps_in n (P.state parts.old) }
@@ -297,7 +306,8 @@ pub fn advance<P: ChipParts>(parts: &mut P, n: u16) -> usize
     jumps
 }
 
-/// Receives a character without a schedule, with these error bits. In loopback the character is lost.
+/// Receives a character without a schedule, with these error bits. In loopback the character is
+/// lost.
 pub fn arrive_live<P: ChipParts>(parts: &mut P, byte: u8, errors: u8)
     ensures after { P.state parts.new ≡ spec.arrive_live byte errors (P.state parts.old) }
     ensures canonical { P.canonical parts.old → P.canonical parts.new }
@@ -378,7 +388,8 @@ pub fn is_interrupting<P: ChipParts>(parts: &P) -> bool
     !parts.ier().is_empty() && pending_interrupt(parts).is_some()
 }
 
-/// Reads the register at this offset: returns its value, and has the effect of the read on the chip.
+/// Reads the register at this offset: returns its value, and has the effect of the read on the
+/// chip.
 #[inline]
 pub fn read<P: ChipParts>(parts: &mut P, offset: u8) -> u8
     requires { offset < NUM_REGISTERS }
@@ -548,7 +559,8 @@ fn enable<P: ChipParts>(parts: &mut P, interrupts: IER)
 
 // Writes MCR.
 fn control_modem<P: ChipParts>(parts: &mut P, value: MCR)
-    ensures after { P.state parts.new ≡ spec.control_modem (bit_and value.0 mcr_bits) (P.state parts.old) }
+    ensures after { P.state parts.new ≡
+        spec.control_modem (bit_and value.0 mcr_bits) (P.state parts.old) }
     ensures canonical { P.canonical parts.old → P.canonical parts.new }
 {
     let mcr = kept_modem_control(value);
@@ -559,7 +571,8 @@ fn control_modem<P: ChipParts>(parts: &mut P, value: MCR)
 
 // Writes FCR.
 fn control<P: ChipParts>(parts: &mut P, value: FCR)
-    ensures after { P.state parts.new ≡ spec.control (P.state parts.old).model value.0 (P.state parts.old) }
+    ensures after { P.state parts.new ≡
+        spec.control (P.state parts.old).model value.0 (P.state parts.old) }
     ensures canonical { P.canonical parts.old → P.canonical parts.new }
 {
     match parts.model() {

@@ -27,8 +27,8 @@ pub enum Chip {
 pub enum Event {
     /// This number of ticks passes.
     Ticks(u16),
-    /// A character arrives from the remote, with these errors, which are bits of LSR: parity 0x04, framing 0x08, break
-    /// 0x10.
+    /// A character arrives from the remote, with these errors, which are bits of LSR: parity 0x04,
+    /// framing 0x08, break 0x10.
     Arrive {
         /// The byte.
         byte: u8,
@@ -98,7 +98,8 @@ fn first_bad_lines(events: &[Event]) -> Option<usize>
     events.iter().position(|event| event.has_bad_lines())
 }
 
-/// Returns why no machine can be built, however much memory there is: the first reason in the order of [`BuildError`].
+/// Returns why no machine can be built, however much memory there is: the first reason in the order
+/// of [`BuildError`].
 pub fn refusal(char_ticks: u16, wire_capacity: usize, events: &[Event]) -> Option<BuildError>
     ensures { result ≡ spec.refusal char_ticks wire_capacity events.now }
 {
@@ -137,7 +138,8 @@ pub enum BuildError {
     /// The wire has room for more than `MAX_WIRE_CAPACITY` bytes.
     #[error("the wire has room for at most {max} bytes", max = MAX_WIRE_CAPACITY)]
     BadWire,
-    /// An arrival has error bits other than parity, framing and break. Holds the index of the event.
+    /// An arrival has error bits other than parity, framing and break. Holds the index of the
+    /// event.
     #[error("event {0}: an arrival has other error bits than parity, framing and break")]
     BadErrors(usize),
     /// A change of lines has bits other than CTS, DSR, RI and CD. Holds the index of the event.

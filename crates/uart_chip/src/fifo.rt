@@ -1,5 +1,6 @@
 //! The queues of the chip. A clause sees a queue as the list of its items, from the front.
-ghost use Rattle.std.specs.Prelude.{◌≡◌, ◌==◌, ◌<◌, ◌≤◌, List, [], ◌∷◌, ◌++◌, length, drop, slice_get, IfOk};
+ghost use Rattle.std.specs.Prelude.{◌≡◌, ◌==◌, ◌<◌, ◌≤◌, List, [], ◌∷◌, ◌++◌};
+ghost use Rattle.std.specs.Prelude.{length, drop, slice_get, IfOk};
 ghost use Rattle.uart_spec.specs.declared.baud.TheConstants.{FIFO_SIZE};
 ghost use Rattle.uart_chip.specs.Transmitter.{room};
 
@@ -9,7 +10,8 @@ use std::alloc::{AllocError, Global};
 use std::marker::Model;
 use uart_spec::FIFO_SIZE;
 
-/// Returns the number of characters that a queue has room for. Without FIFO that is one, although it could hold more.
+/// Returns the number of characters that a queue has room for. Without FIFO that is one, although
+/// it could hold more.
 pub fn room_of(fifo: bool) -> usize
     ensures { result ≡ room fifo }
 {
@@ -146,7 +148,8 @@ impl<T> Model for FixedFifo<T> {
 
     ghost view = { λ q. window q.start q.len q.slots };
 
-    ghost invariant = { λ q. (q.start < FIFO_SIZE) × (q.len ≤ FIFO_SIZE) × (length q.slots ≡ FIFO_SIZE) };
+    ghost invariant = { λ q.
+        (q.start < FIFO_SIZE) × (q.len ≤ FIFO_SIZE) × (length q.slots ≡ FIFO_SIZE) };
 }
 
 impl<T: Copy> FixedFifo<T> {

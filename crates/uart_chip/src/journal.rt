@@ -19,7 +19,7 @@ pub trait Journal {
     fn len(&self) -> usize
         ensures { result ≡ length (recorded self.now) };
 
-    /// Sets the mark of an arrival. A unscheduled character has none.
+    /// Sets the mark of an arrival. An unscheduled character has none.
     fn set_mark(&mut self, origin: Origin, mark: ArrivalMark)
         ensures { recorded self.new ≡ spec.set_mark origin mark (recorded self.old) };
 
@@ -44,7 +44,8 @@ impl Model for Marks {
 }
 
 impl Marks {
-    /// Returns the journal of a schedule with this number of arrivals, none of which has arrived yet. Allocates its memory.
+    /// Returns the journal of a schedule with this number of arrivals, none of which has arrived
+    /// yet. Allocates its memory.
     ///
     /// # Errors
     ///

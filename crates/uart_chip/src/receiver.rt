@@ -80,8 +80,10 @@ impl<Q: Fifo<Character> + Drop, J: Journal + Drop> Model for Receiver<Q, J> {
       is_unscheduled_lost = r.is_unscheduled_lost;
     } };
 
-    // What LSR shows of the receiver is kept, but for the errors behind the front, which the queue counts.
-    ghost invariant = { λ r. r.status.0 ≡ receiver_status r.queue r.is_overrun r.is_front_reported };
+    // What LSR shows of the receiver is kept, but for the errors behind the front, which the queue
+    // counts.
+    ghost invariant = { λ r.
+        r.status.0 ≡ receiver_status r.queue r.is_overrun r.is_front_reported };
 }
 
 impl Character {
@@ -159,11 +161,13 @@ impl<Q: Fifo<Character> + Drop, J: Journal + Drop> Receiver<Q, J> {
         }
     }
 
-    /// Returns the receiver with these data, over an empty queue, with this journal. None of its arrivals has arrived.
+    /// Returns the receiver with these data, over an empty queue, with this journal. None of its
+    /// arrivals has arrived.
     pub fn from_data(queue: Q, journal: J, char_ticks: u16, saved: &ReceiverData) -> Self
         requires char_ticks { char_ticks ≤ MAX_CHAR_TICKS }
         requires empty { Q.items queue ≡ [] }
-        ensures { result ≡ record (receiver_of char_ticks saved.now) { marks = J.recorded journal } }
+        ensures { result ≡
+            record (receiver_of char_ticks saved.now) { marks = J.recorded journal } }
     {
         let queue = Characters::filled(queue, &saved.queue);
         let status = status_of(&queue, saved.is_overrun, saved.is_front_reported);
@@ -185,7 +189,8 @@ impl<Q: Fifo<Character> + Drop, J: Journal + Drop> Receiver<Q, J> {
     /// Returns the receiver as plain data, without its marks.
     pub fn data(&self) -> ReceiverData
         requires { length self.now.queue ≤ FIFO_SIZE }
-        ensures { (char_ticks : ℕ) → receiver_of char_ticks result ≡ without_schedule char_ticks self.now }
+        ensures { (char_ticks : ℕ) →
+            receiver_of char_ticks result ≡ without_schedule char_ticks self.now }
     {
         ReceiverData {
             queue: items_of(&self.queue),

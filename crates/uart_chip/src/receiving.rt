@@ -15,7 +15,8 @@ use crate::receiver::{Character, Origin};
 use uart_spec::FIFO_SIZE;
 use uart_spec::registers::{FifoTriggerLevel, LSR};
 
-/// What a receiver is made of: a queue of characters and what is known of them, and how each is read and changed.
+/// What a receiver is made of: a queue of characters and what is known of them, and how each is
+/// read and changed.
 pub trait ReceiverParts {
     // The receiver that the parts are.
     ghost state: { Self → ReceiverState };
@@ -31,8 +32,8 @@ pub trait ReceiverParts {
         ensures len { result ≡ length (state self.now).queue }
         ensures within { result ≤ FIFO_SIZE };
 
-    /// Appends a character to the queue. The errors of one that is at the front have not been reported. The caller must
-    /// show that there is room, and that the character has a place.
+    /// Appends a character to the queue. The errors of one that is at the front have not been
+    /// reported. The caller must show that there is room, and that the character has a place.
     fn put(&mut self, new: Character)
         requires room { length (state self.old).queue < FIFO_SIZE }
         requires origin { (is_unscheduled new.origin || is_scheduled) ≡ true }
@@ -42,7 +43,8 @@ pub trait ReceiverParts {
         } }
         ensures canonical { canonical self.old → canonical self.new };
 
-    /// Removes the front of the queue, and returns it. The errors of the next one have not been reported.
+    /// Removes the front of the queue, and returns it. The errors of the next one have not been
+    /// reported.
     fn pop(&mut self) -> Option<Character>
         ensures front { result ≡ slice_get (state self.old).queue 0 }
         ensures after { let r = state self.old in state self.new ≡ record r {
@@ -56,18 +58,20 @@ pub trait ReceiverParts {
         ensures after { state self.new ≡ record (state self.old) { queue = [] } }
         ensures canonical { canonical self.old → canonical self.new };
 
-    /// Sets the mark of an arrival. A unscheduled character has none.
+    /// Sets the mark of an arrival. An unscheduled character has none.
     fn set_mark(&mut self, origin: Origin, mark: ArrivalMark)
-        ensures after { state self.new ≡ record (state self.old) { marks = spec.set_mark origin mark (state self.old).marks } }
+        ensures after { state self.new ≡
+            record (state self.old) { marks = spec.set_mark origin mark (state self.old).marks } }
         ensures canonical { canonical self.old → canonical self.new };
 
     /// Marks the characters of the queue as discarded.
     fn discard(&mut self)
-        ensures after { state self.new ≡
-            record (state self.old) { marks = spec.discard (state self.old).queue (state self.old).marks } }
+        ensures after { state self.new ≡ record (state self.old)
+            { marks = spec.discard (state self.old).queue (state self.old).marks } }
         ensures canonical { canonical self.old → canonical self.new };
 
-    /// Sets whether a unscheduled character was lost since the last one. The caller must show that the parts can say so.
+    /// Sets whether an unscheduled character was lost since the last one. The caller must show that
+    /// the parts can say so.
     fn set_unscheduled_lost(&mut self, on: bool)
         requires { (not on || is_scheduled) ≡ true }
         ensures after { state self.new ≡ record (state self.old) { is_unscheduled_lost = on } }
@@ -85,8 +89,8 @@ pub trait ReceiverParts {
 
     /// Returns what LSR shows of the receiver, but for the errors behind the front.
     fn status(&self) -> LSR
-        ensures { result.0 ≡
-            receiver_status (state self.now).queue (state self.now).is_overrun (state self.now).is_front_reported };
+        ensures { result.0 ≡ receiver_status (state self.now).queue
+            (state self.now).is_overrun (state self.now).is_front_reported };
 
     /// Returns whether a character has errors.
     fn has_errors(&self) -> bool
@@ -94,7 +98,8 @@ pub trait ReceiverParts {
 
     /// Returns whether a character has errors that were not reported.
     fn has_unreported_errors(&self) -> bool
-        ensures { result ≡ list_any has_errors (unreported (state self.now).queue (state self.now).is_front_reported) };
+        ensures { result ≡ list_any has_errors
+            (unreported (state self.now).queue (state self.now).is_front_reported) };
 
     /// Returns the byte that was read last.
     fn last_byte(&self) -> u8
@@ -152,8 +157,8 @@ pub fn characters_of(level: FifoTriggerLevel) -> u8
     }
 }
 
-/// Puts a character into the queue. If there is no room, the FIFO loses it, and the single register loses the one that it
-/// held.
+/// Puts a character into the queue. If there is no room, the FIFO loses it, and the single register
+/// loses the one that it held.
 #[inline(always)]
 pub fn enter<R: ReceiverParts>(parts: &mut R, fifo: bool, new: Character)
     requires { (is_unscheduled new.origin || R.is_scheduled) ≡ true }
@@ -180,7 +185,8 @@ pub fn enter<R: ReceiverParts>(parts: &mut R, fifo: bool, new: Character)
 #[inline(never)]
 fn replace<R: ReceiverParts>(parts: &mut R, new: Character)
     requires { (is_unscheduled new.origin || R.is_scheduled) ≡ true }
-    ensures after { R.state parts.new ≡ spec.replace (R.state parts.old).queue new (R.state parts.old) }
+    ensures after { R.state parts.new ≡
+        spec.replace (R.state parts.old).queue new (R.state parts.old) }
     ensures canonical { R.canonical parts.old → R.canonical parts.new }
 {
     let Some(old) = parts.pop() else {
@@ -238,7 +244,8 @@ pub fn arrive_live<R: ReceiverParts>(
     byte: u8,
     errors: u8,
 )
-    ensures after { R.state parts.new ≡ spec.arrive_live loopback fifo byte errors (R.state parts.old) }
+    ensures after { R.state parts.new ≡
+        spec.arrive_live loopback fifo byte errors (R.state parts.old) }
     ensures canonical { R.canonical parts.old → R.canonical parts.new }
 {
     if !loopback {
@@ -256,7 +263,8 @@ pub fn arrive_live<R: ReceiverParts>(
 
 /// Takes the front if there is one, and returns the byte that was taken last.
 pub fn take_front<R: ReceiverParts>(parts: &mut R) -> u8
-    ensures after { R.state parts.new ≡ spec.take_front (R.state parts.old).queue (R.state parts.old) }
+    ensures after { R.state parts.new ≡
+        spec.take_front (R.state parts.old).queue (R.state parts.old) }
     ensures byte { result ≡ (R.state parts.new).last_byte }
     ensures canonical { R.canonical parts.old → R.canonical parts.new }
 {
@@ -288,9 +296,11 @@ pub fn clear<R: ReceiverParts>(parts: &mut R)
     parts.clear_queue();
 }
 
-/// Makes a reception timeout due if the FIFO is on and has a character: counts the ticks towards it to their end.
+/// Makes a reception timeout due if the FIFO is on and has a character: counts the ticks towards it
+/// to their end.
 pub fn expire_timeout<R: ReceiverParts>(parts: &mut R)
-    ensures after { R.state parts.new ≡ record (R.state parts.old) { timeout_ticks = (R.state parts.old).timeout_limit } }
+    ensures after { R.state parts.new ≡
+        record (R.state parts.old) { timeout_ticks = (R.state parts.old).timeout_limit } }
     ensures canonical { R.canonical parts.old → R.canonical parts.new }
 {
     let limit = parts.timeout_limit();
@@ -309,7 +319,8 @@ pub fn is_data_pending<R: ReceiverParts>(parts: &R, fifo: bool) -> bool
     }
 }
 
-/// Returns whether there are characters in the FIFO, and none was received or read for four character times.
+/// Returns whether there are characters in the FIFO, and none was received or read for four
+/// character times.
 pub fn is_timed_out<R: ReceiverParts>(parts: &R, fifo: bool) -> bool
     ensures { result ≡ spec.is_timed_out fifo (R.state parts.now) }
 {

@@ -41,8 +41,8 @@ pub struct TransmitterData {
     pub is_thr_pending: bool,
 }
 
-/// The transmitter: bytes that are written to DATA are first in the queue, then in the shift register, and then on the
-/// wire.
+/// The transmitter: bytes that are written to DATA are first in the queue, then in the shift
+/// register, and then on the wire.
 #[derive(Drop)]
 pub struct Transmitter<Q: Fifo<u8> + Drop, W: Wire + Drop> {
     queue: Q,
@@ -106,7 +106,8 @@ impl<Q: Fifo<u8> + Drop, W: Wire + Drop> Transmitter<Q, W> {
         }
     }
 
-    /// Returns the transmitter with these data, over an empty queue and a wire that holds its bytes.
+    /// Returns the transmitter with these data, over an empty queue and a wire that holds its
+    /// bytes.
     pub fn from_data(mut queue: Q, wire: W, saved: &TransmitterData) -> Self
         requires queue { Q.items queue ≡ [] }
         requires wire { W.most wire ≡ saved.now.wire_capacity }
@@ -175,7 +176,8 @@ impl<Q: Fifo<u8> + Drop, W: Wire + Drop> Transmitter<Q, W> {
         held_len(self)
     }
 
-    /// Returns the byte with this index among those that are still to be sent: first the shift register, then the queue.
+    /// Returns the byte with this index among those that are still to be sent: first the shift
+    /// register, then the queue.
     pub fn held_at(&self, i: usize) -> Option<u8>
         ensures { result ≡ slice_get (held self.now) i }
     {

@@ -1,5 +1,6 @@
 //! What happens in a transmitter, over its parts.
-ghost use Rattle.std.specs.Prelude.{◌≡◌, ◌==◌, ◌<◌, ◌≤◌, ◌+◌, ◌-◌, ◌^◌, [], ◌∷◌, ◌++◌, drop, min, nat_lt, length, slice_get};
+ghost use Rattle.std.specs.Prelude.{◌≡◌, ◌==◌, ◌<◌, ◌≤◌, ◌+◌, ◌-◌, ◌^◌, [], ◌∷◌, ◌++◌};
+ghost use Rattle.std.specs.Prelude.{drop, min, nat_lt, length, slice_get};
 ghost use Rattle.uart_chip.specs.Jumps as jumps;
 ghost use Rattle.uart_chip.specs.Status.{transmitter_status};
 ghost use Rattle.uart_chip.specs.Transmitter as spec;
@@ -10,7 +11,8 @@ use crate::transmitter::Shifting;
 use uart_spec::FIFO_SIZE;
 use uart_spec::registers::LSR;
 
-/// What a transmitter is made of: a queue, the shift register, a wire, and how each is read and changed.
+/// What a transmitter is made of: a queue, the shift register, a wire, and how each is read and
+/// changed.
 pub trait TransmitterParts {
     // The transmitter that the parts are.
     ghost state: { Self → TransmitterState };
@@ -26,13 +28,15 @@ pub trait TransmitterParts {
     /// Appends a byte to the queue. The caller must show that there is room.
     fn put(&mut self, byte: u8)
         requires { length (state self.old).queue < FIFO_SIZE }
-        ensures after { state self.new ≡ record (state self.old) { queue = (state self.old).queue ++ byte ∷ [] } }
+        ensures after { state self.new ≡
+            record (state self.old) { queue = (state self.old).queue ++ byte ∷ [] } }
         ensures canonical { canonical self.old → canonical self.new };
 
     /// Removes the front of the queue, and returns it.
     fn pop(&mut self) -> Option<u8>
         ensures front { result ≡ slice_get (state self.old).queue 0 }
-        ensures after { state self.new ≡ record (state self.old) { queue = drop 1 (state self.old).queue } }
+        ensures after { state self.new ≡
+            record (state self.old) { queue = drop 1 (state self.old).queue } }
         ensures canonical { canonical self.old → canonical self.new };
 
     /// Empties the queue.
@@ -56,7 +60,8 @@ pub trait TransmitterParts {
     /// Appends a byte to the wire. The caller must show that there is room.
     fn send(&mut self, byte: u8)
         requires { length (state self.old).wire < (state self.old).capacity }
-        ensures after { state self.new ≡ record (state self.old) { wire = (state self.old).wire ++ byte ∷ [] } }
+        ensures after { state self.new ≡
+            record (state self.old) { wire = (state self.old).wire ++ byte ∷ [] } }
         ensures canonical { canonical self.old → canonical self.new };
 
     /// Returns the ticks that a character takes to be sent.
@@ -65,12 +70,14 @@ pub trait TransmitterParts {
 
     /// Counts a byte that was written while there was no room. The count saturates.
     fn count_overflow(&mut self)
-        ensures after { state self.new ≡ record (state self.old) { overflows = min ((state self.old).overflows + 1) (2 ^ 64 - 1) } }
+        ensures after { state self.new ≡ record (state self.old)
+            { overflows = min ((state self.old).overflows + 1) (2 ^ 64 - 1) } }
         ensures canonical { canonical self.old → canonical self.new };
 
     /// Returns what LSR shows of the transmitter.
     fn status(&self) -> LSR
-        ensures { result.0 ≡ transmitter_status (state self.now).queue (state self.now).shift_register };
+        ensures { result.0 ≡
+            transmitter_status (state self.now).queue (state self.now).shift_register };
 
     /// Returns whether a `THR_EMPTY` interrupt is pending.
     fn is_thr_pending(&self) -> bool
@@ -84,7 +91,8 @@ pub trait TransmitterParts {
 
 // Lets one tick pass in the shift register, and returns the byte that loopback returns in it.
 fn shift<T: TransmitterParts>(parts: &mut T, loopback: bool) -> Option<u8>
-    ensures after { T.state parts.new ≡ spec.shift loopback (T.state parts.old).shift_register (T.state parts.old) }
+    ensures after { T.state parts.new ≡
+        spec.shift loopback (T.state parts.old).shift_register (T.state parts.old) }
     ensures looped { result ≡ looped_byte loopback (T.state parts.old).shift_register }
     ensures canonical { T.canonical parts.old → T.canonical parts.new }
 {
@@ -111,7 +119,8 @@ fn shift<T: TransmitterParts>(parts: &mut T, loopback: bool) -> Option<u8>
 
 // Moves the front of the queue into an empty shift register.
 fn refill<T: TransmitterParts>(parts: &mut T)
-    ensures after { T.state parts.new ≡ spec.refill (T.state parts.old).shift_register (T.state parts.old).queue (T.state parts.old) }
+    ensures after { T.state parts.new ≡ spec.refill (T.state parts.old).shift_register
+        (T.state parts.old).queue (T.state parts.old) }
     ensures canonical { T.canonical parts.old → T.canonical parts.new }
 {
     if parts.shifting().is_some() {
@@ -137,7 +146,8 @@ pub fn tick<T: TransmitterParts>(parts: &mut T, loopback: bool) -> Option<u8>
     looped
 }
 
-/// Returns the ticks until a character enters or leaves the shift register: `None` if none can, as with a full wire.
+/// Returns the ticks until a character enters or leaves the shift register: `None` if none can, as
+/// with a full wire.
 pub fn next_move<T: TransmitterParts>(parts: &T, loopback: bool) -> Option<u16>
     ensures { result ≡ jumps.next_move loopback (T.state parts.now) }
 {
@@ -167,7 +177,8 @@ pub fn count_down<T: TransmitterParts>(parts: &mut T, ticks: u16)
     }
 }
 
-/// Takes a byte that is written to DATA. If there is no room, the FIFO loses it, and THR loses the byte that it held.
+/// Takes a byte that is written to DATA. If there is no room, the FIFO loses it, and THR loses the
+/// byte that it held.
 pub fn load<T: TransmitterParts>(parts: &mut T, fifo: bool, byte: u8)
     ensures after { T.state parts.new ≡ spec.load fifo byte (T.state parts.old) }
     ensures canonical { T.canonical parts.old → T.canonical parts.new }

@@ -121,8 +121,8 @@ impl Wire for HeapWire {
 
 /// A wire in an array, without other memory.
 ///
-/// Each byte is in the array twice, [`WIRE_ROOM`] places apart. So the bytes are one slice wherever the first of them is, and
-/// to send or to take a byte costs the same whatever waits.
+/// Each byte is in the array twice, [`WIRE_ROOM`] places apart. So the bytes are one slice wherever
+/// the first of them is, and to send or to take a byte costs the same whatever waits.
 #[derive(Drop)]
 pub struct FixedWire {
     slots: [u8; WIRE_PLACES],
@@ -139,11 +139,14 @@ impl Model for FixedWire {
 
     ghost Value = { WireState };
 
-    ghost view = { λ w. record { bytes = window w.start w.count (take WIRE_ROOM w.slots); capacity = w.limit } };
+    ghost view = { λ w. record {
+      bytes = window w.start w.count (take WIRE_ROOM w.slots);
+      capacity = w.limit;
+    } };
 
     ghost invariant = { λ w.
-        (w.start < WIRE_ROOM) × (w.count ≤ w.limit) × (w.limit ≤ WIRE_ROOM) × (length w.slots ≡ WIRE_PLACES) ×
-        (drop WIRE_ROOM w.slots ≡ take WIRE_ROOM w.slots) };
+        (w.start < WIRE_ROOM) × (w.count ≤ w.limit) × (w.limit ≤ WIRE_ROOM) ×
+        (length w.slots ≡ WIRE_PLACES) × (drop WIRE_ROOM w.slots ≡ take WIRE_ROOM w.slots) };
 }
 
 impl FixedWire {

@@ -1,5 +1,5 @@
 -- What the line status and the modem status report.
 pub mod Status
 pub mod Reports
-pub mod Turns
+pub mod LinesChanged
 pub mod StatusLaws

@@ -36,7 +36,8 @@ pub fn bytes_of<R: Files + AllocGlobal>(
     fs::read(rt, folder.join(rt.alloc(), file.as_str())?)
 }
 
-/// Returns the bytes of a file of the folder, and those of the file of this name with the ending `.out`, which is stored for it.
+/// Returns the bytes of a file of the folder, and those of the file of this name with the ending
+/// `.out`, which is stored for it.
 pub fn bytes_and_output<R: Files + AllocGlobal>(
     rt: &R,
     folder: Path<'_>,

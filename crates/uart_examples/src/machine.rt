@@ -1,16 +1,17 @@
 //! Makes the accesses of a recording on the chip in software, and compares what its reads return.
 //!
-//! The recorded chips send at once, so time enough passes before each access for all that is held to go out. They hold CTS, DSR and
-//! CD, and what came in is a remark of the recording: `# arrive BYTES`. A character comes in as soon as there is room for it.
+//! The recorded chips send at once, so time enough passes before each access for all that is held
+//! to go out. They hold CTS, DSR and CD, and what came in is a remark of the recording:
+//! `# arrive BYTES`. A character comes in as soon as there is room for it.
 
 use bitflags::Flags;
 use std::alloc::{AllocError, Global};
 use uart_16550::replay::Entry;
+use uart_judges::traces::{TraceError, parse, push_entry};
 use uart_language::byte_in;
 use uart_live::{Chip, LiveChip, WIRE_ROOM};
 use uart_spec::FIFO_SIZE;
 use uart_spec::registers::{LSR, MSR, offsets};
-use uart_traces::{TraceError, parse, push_entry};
 
 // A character takes one tick.
 const CHAR_TICKS: u16 = 1;
@@ -58,8 +59,8 @@ impl<'a> Machine<'a> {
         Machine { chip, coming }
     }
 
-    // Brings what came before this line, as far as there is room.
-    fn bring(&mut self, line: usize) {
+    // Lets the characters that came in before this line arrive, as far as there is room for them.
+    fn arrive(&mut self, line: usize) {
         for _ in 0..self.chip.receive_room() {
             let [next, rest @ ..] = self.coming else {
                 return;
@@ -76,7 +77,7 @@ impl<'a> Machine<'a> {
     fn make(&mut self, line: usize, entry: Entry) -> Entry {
         self.chip.ticks(MOST_HELD * CHAR_TICKS);
         self.chip.take_wire(WIRE_ROOM);
-        self.bring(line);
+        self.arrive(line);
         match entry {
             Entry::Read(offset, _) => Entry::Read(offset, self.chip.read((offset % 8) as u8)),
             Entry::Write(offset, value) => {

@@ -3,13 +3,13 @@
 //!
 //! The folder is the first argument, or else the current one. It has
 //!
-//! - for each `NAME.script` the file `NAME.out`: the bytes that the program `uart_script` prints for
-//!   it. The trace of each script that is not refused is one of the driver;
+//! - for each `NAME.script` the file `NAME.out`: the bytes that the program `uart_script` prints
+//!   for it. The trace of each script that is not refused is one of the driver;
 //! - `NAME.session`, a use of `geesetrunk`: its first line is `$` and the command, and the other
 //!   lines are what is printed for it, and the exit status if it is not 0;
 //! - in `traces` for each `NAME.trace` the file `NAME.out`: the line that `geesetrunk verify`
-//!   prints for it, or nothing. If `NAME.machine` is there too, the accesses are made on the chip in
-//!   software: it has a line for each read that returns something else there;
+//!   prints for it, or nothing. If `NAME.machine` is there too, the accesses are made on the chip
+//!   in software: it has a line for each read that returns something else there;
 //! - in `recordings` for each `NAME.recording` the files `NAME.audit` and `NAME.replay`: what
 //!   `geesetrunk audit` and `geesetrunk replay` print for it.
 #![tactic(auto)]

@@ -12,7 +12,7 @@ use std::io::Write;
 use std::path::Path;
 use uart_command::{Form, Judge};
 use uart_judges::findings::{Stop, audit, replay};
-use uart_recording::RecordingError;
+use uart_judges::recording::RecordingError;
 use uart_report::{Excerpt, ExcerptError, USUAL_EVENTS, timeline_of};
 
 // Returns the name of what a judge prints, behind which that is stored.

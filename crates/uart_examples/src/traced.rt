@@ -6,12 +6,12 @@ use std::alloc::{AllocError, Global};
 use std::io;
 use std::path::Path;
 use uart_command::Task;
+use uart_judges::traces::judge;
 use uart_machine::script;
 use uart_report::{Request, report_on};
-use uart_traces::judge;
 
-// Returns whether in the trace of a script each list is its call's, with the answer that is printed;
-// and `None` if the bytes are not a script.
+// Returns whether in the trace of a script each list is its call's, with the answer that is
+// printed; and `None` if the bytes are not a script.
 fn is_driver_trace(alloc: Global, text: &[u8]) -> Result<Option<bool>, AllocError> {
     let Ok(script) = script::parse(alloc, text) else {
         return Ok(None);
@@ -21,7 +21,7 @@ fn is_driver_trace(alloc: Global, text: &[u8]) -> Result<Option<bool>, AllocErro
         file: "",
     };
     let report = report_on(alloc, &request, text)?;
-    match uart_traces::parse(alloc, &report.output) {
+    match uart_judges::traces::parse(alloc, &report.output) {
         Ok(trace) => Ok(Some(judge(alloc, &trace, script.limit())?.is_none())),
         Err(_) => Ok(Some(false)),
     }

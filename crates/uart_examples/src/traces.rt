@@ -48,8 +48,8 @@ pub fn are_as_stored(rt: &HostRuntime, folder: Path<'_>) -> io::Result<bool> {
     Ok(all)
 }
 
-/// Prints of each recorded trace of a folder whether the chip in software differs from it just where
-/// it is stored, and returns whether all do.
+/// Prints of each recorded trace of a folder whether the chip in software differs from it just
+/// where it is stored, and returns whether all do.
 pub fn are_as_stored_on_machine(rt: &HostRuntime, folder: Path<'_>) -> io::Result<bool> {
     let mut all = true;
     for name in &names_in(rt, folder, ".machine")? {

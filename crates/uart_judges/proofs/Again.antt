@@ -1,5 +1,5 @@
 -- After a read nothing more is learnt from the same read with the same value.
-use Rattle.std.proofs.Common.{◌≡◌, ◌∙◌, ◌+◌, ℕ, Bool, true, false, ◌==◌, refl, ap, sym, arith, suc, zero, List, [], ◌∷◌, ◌++◌}
+use Rattle.std.proofs.Common.{◌≡◌, ◌∙◌, ℕ, Bool, true, false, ◌==◌, refl, ap, sym, arith, suc, zero, List, [], ◌∷◌, ◌++◌}
 use Rattle.std.proofs.Common.{Option, Some, None, is_some, subst, ◌≤◌}
 use Rattle.std.specs.Prelude.{IsSome}
 use Rattle.std.specs.Prelude.{if◌then◌else◌, replicate}

@@ -8,11 +8,10 @@ use Rattle.uart_chip.specs.declared.receiver.Character.{Character}
 use Rattle.uart_chip.specs.declared.transmitter.Shifting.{Shifting}
 use Rattle.uart_chip.specs.Transmitter as transmitter
 use Rattle.uart_chip.specs.Transmitter.{TransmitterState, shift, refill, looped_byte, room}
-use Rattle.uart_chip.specs.Receiver as receiver
 use Rattle.uart_chip.specs.Receiver.{ReceiverState, enter, come_back, replace}
-use Rattle.uart_chip.specs.Chip.{ChipState, cut_of, is_loopback, tick, ticks, arrive}
+use Rattle.uart_chip.specs.Chip.{ChipState, is_loopback, tick, ticks, arrive}
 use Rattle.uart_chip.specs.Machine.{perform, before_access}
-use Rattle.uart_device.proofs.lasting.Lasting.{LastsInAccesses, Lasts}
+use Rattle.uart_device.proofs.lasting.Lasting.{Lasts}
 use Rattle.uart_judges.specs.declared.replay.known.Sender.{Sender}
 use Rattle.uart_judges.specs.declared.replay.known.Sender.TheVariants.{Unknown, ThrEmpty, Idle}
 

@@ -22,7 +22,7 @@ use Rattle.uart_device.proofs.lasting.Lasting.{lasts-read, lasts-write, lasts-la
 use Rattle.uart_device.proofs.status.Status.{status_data, status_room, status_empty}
 use Rattle.uart_judges.specs.declared.replay.known.Known.{Known}
 use Rattle.uart_judges.specs.declared.replay.known.Sender.{Sender}
-use Rattle.uart_judges.specs.declared.replay.known.Sender.TheVariants.{Unknown, ThrEmpty, Idle}
+use Rattle.uart_judges.specs.declared.replay.known.Sender.TheVariants.{ThrEmpty, Idle}
 use Rattle.uart_judges.specs.Latches.{dlab}
 use Rattle.uart_judges.specs.Known.{sender_shown, waits_after, after_read, after_asking, sender_after, fifo_after, after_write}
 use Rattle.uart_judges.proofs.Between.{SenderHolds, HasCharacter, sender_lasts}

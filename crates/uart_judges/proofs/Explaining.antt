@@ -3,8 +3,8 @@ use Rattle.std.proofs.Common.{◌≡◌, ℕ, Bool, true, false, List, [], ◌�
 use Rattle.uart_spec.specs.Access.{Access, Read, Write, Path}
 use Rattle.uart_chip.specs.declared.event.Chip.{Chip}
 use Rattle.uart_chip.specs.declared.event.Chip.TheVariants.{Uart16550A, Uart16450}
-use Rattle.uart_chip.specs.Chip.{ChipState, answer}
-use Rattle.uart_chip.specs.Machine.{MachineState, MachineStep, fresh, cutting, at_access}
+use Rattle.uart_chip.specs.Chip.{ChipState}
+use Rattle.uart_chip.specs.Machine.{MachineState, MachineStep, at_access}
 use Rattle.uart_judges.specs.declared.replay.known.Known.{Known}
 use Rattle.uart_judges.specs.declared.replay.known.Sender.TheVariants.{Unknown}
 use Rattle.uart_judges.specs.declared.replay.known.Start.{Start}

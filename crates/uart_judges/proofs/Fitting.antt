@@ -1,8 +1,7 @@
 -- No value that the chip returns breaks a
-use Rattle.std.proofs.Common.{◌≡◌, ℕ, ◌^◌, Bool, true, false, not, ◌&&◌, ◌||◌, ◌==◌, nat_lt, List, [], ◌∷◌, length, Option, Some, None}
+use Rattle.std.proofs.Common.{◌≡◌, ℕ, Bool, true, false, not, ◌&&◌, ◌==◌, nat_lt, List, [], ◌∷◌, length, Option, Some, None}
 use Rattle.std.proofs.Common.{refl, arith, sym, ◌∙◌, ap, bit_and, bit_or, if◌then◌else◌}
 use Rattle.std.specs.List.{list_any}
-use Rattle.std.specs.Int.{bit_at}
 use Rattle.std.proofs.lemmas.Grind.{common_steps}
 use Rattle.std.proofs.lemmas.Nat.{and_assoc}
 use Rattle.std.specs.Int.Bits.{and_zero_r}
@@ -25,14 +24,13 @@ use Rattle.uart_spec.specs.declared.registers.modem_status.TheConstants.MSR
 use Rattle.uart_spec.specs.declared.registers.offsets.TheConstants as offsets
 use Rattle.uart_chip.specs.declared.receiver.Character.{Character}
 use Rattle.uart_chip.specs.declared.transmitter.Shifting.{Shifting}
-use Rattle.uart_chip.specs.Receiver.{ReceiverState, front_errors, unreported, has_errors, is_data_pending, is_timed_out}
-use Rattle.uart_chip.specs.Transmitter.{TransmitterState}
+use Rattle.uart_chip.specs.Receiver.{unreported, has_errors, is_data_pending, is_timed_out}
 use Rattle.uart_chip.specs.Chip.{ChipState, answer, interrupt, identification, line_status, is_transmitter_empty}
 use Rattle.uart_chip.specs.Masks.{IsWithin}
 use Rattle.uart_chip.specs.Modem.{ModemState, looped_lines, lines_under}
-use Rattle.uart_chip.proofs.Bits.{and_or, has_or, has_flag, has_none, has_not}
+use Rattle.uart_chip.proofs.Bits.{and_or}
 use Rattle.uart_device.specs.Sound.{IsSoundModem}
-use Rattle.uart_device.proofs.status.Status.{status_data, status_room, status_empty}
+use Rattle.uart_device.proofs.status.Status.{status_data, status_room, status_empty, status_fifo}
 use Rattle.uart_judges.specs.declared.replay.known.Known.{Known}
 use Rattle.uart_judges.specs.declared.replay.known.Sender.{Sender}
 use Rattle.uart_judges.specs.declared.replay.known.Sender.TheVariants.{Unknown, ThrEmpty, Idle}
@@ -161,33 +159,6 @@ isr_kept k c h =
     quiet false false e f = absurd (cc)
 
 -- ---- LSR
-
-front_errors-bit : (k : ℕ) → bit_at LSR.CHARACTER_ERRORS.0 k ≡ 0 → (queue : List Character) (reported : Bool) →
-    has_any (front_errors queue reported) (2 ^ k) ≡ false
-front_errors-bit k z [] reported = has_none k
-front_errors-bit k z (front ∷ others) true = has_none k
-front_errors-bit k z (front ∷ others) false = has_not k front.errors LSR.CHARACTER_ERRORS.0 z
-
--- flags put together as the line status is
-module _ (a b d f g : Bool) (e : ℕ) where
-  abbrev whole : ℕ
-  whole =
-      bit_or (bit_or (bit_or (flag a LSR.DATA_READY.0) (flag b LSR.OVERRUN_ERROR.0)) (bit_or e (flag d LSR.THR_EMPTY.0)))
-      (bit_or (flag f LSR.TRANSMITTER_EMPTY.0) (flag g LSR.FIFO_DATA_ERROR.0))
-
-  line_fifo : has_any e LSR.FIFO_DATA_ERROR.0 ≡ false → has_any whole LSR.FIFO_DATA_ERROR.0 ≡ g
-  line_fifo z = simp (has_or 7, has_flag, z) (grind (arith, common_steps))
-
--- bit 7 of LSR
-status_fifo : (c : ChipState) →
-    has_any (line_status c) LSR.FIFO_DATA_ERROR.0 ≡
-    (c.fifo && list_any has_errors (unreported c.receiver.queue c.receiver.is_front_reported))
-status_fifo c =
-    line_fifo (nat_lt 0 (length c.receiver.queue)) c.receiver.is_overrun (length c.transmitter.queue == 0)
-    (is_transmitter_empty c.transmitter.queue c.transmitter.shift_register)
-    (c.fifo && list_any has_errors (unreported c.receiver.queue c.receiver.is_front_reported))
-    (front_errors c.receiver.queue c.receiver.is_front_reported)
-    (front_errors-bit 7 refl c.receiver.queue c.receiver.is_front_reported)
 
 -- with no character there is no error of one
 no_errors : (fifo reported : Bool) → (fifo && list_any has_errors (unreported [] reported)) ≡ false

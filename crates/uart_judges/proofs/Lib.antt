@@ -1,3 +1,8 @@
+pub mod Judged
+pub mod Ends
+pub mod Read
+pub mod Filled
+pub mod Steps
 pub mod Shown
 pub mod Known
 pub mod Settled

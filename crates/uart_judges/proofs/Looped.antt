@@ -10,13 +10,13 @@ use Rattle.uart_chip.specs.declared.event.Event.{Event}
 use Rattle.uart_chip.specs.declared.event.Event.TheVariants.{Ticks, Lines, Access as Gate, Mark}
 use Rattle.uart_chip.specs.Receiver.{clear}
 use Rattle.uart_chip.specs.Modem.{lines_under}
-use Rattle.uart_chip.specs.Chip.{ChipState, tick, ticks, interrupt, is_dlab_set, is_thr_empty, after_read, after_write, trigger_level}
+use Rattle.uart_chip.specs.Chip.{ChipState, ticks, interrupt, is_dlab_set, is_thr_empty, after_read, after_write, trigger_level}
 use Rattle.uart_chip.specs.Chip.{switch, reset_receiver, reset_transmitter, set_trigger, is_same, set_fifo, control}
 use Rattle.uart_chip.specs.Machine.{MachineState, MachineStep, fresh, perform, before_access, at_access}
 use Rattle.uart_device.specs.Sound.{IsSound}
 use Rattle.uart_device.proofs.soundness.Builds.{whole_fresh, whole_cutting}
 use Rattle.uart_device.proofs.soundness.Sounds.{sound_access, sound_step}
-use Rattle.uart_judges.specs.Replays.{Seen, Did, Asked, SeenStep, SeenPath, IsBuilt}
+use Rattle.uart_judges.specs.Replays.{Seen, Did, Asked, SeenPath, IsBuilt}
 
 -- the lines that MSR shows
 abbrev pub Looped : ChipState → Type 0

@@ -2,11 +2,11 @@
 use Rattle.std.proofs.Common.{◌≡◌, ℕ, List, [], ◌∷◌, ◌++◌, Option, Some, None, inl, inr, refl, subst}
 use Rattle.std.specs.Prelude.{◌↔◌, IsNone, IfSome}
 use Rattle.uart_16550.specs.State.{fresh_fields}
-use Rattle.uart_traces.specs.Reading.{IsTrace}
-use Rattle.uart_traces.specs.Telling.{stray_text}
-use Rattle.uart_traces.specs.Traces.{AreCalls, IsStray}
-use Rattle.uart_traces.specs.declared.exchange.Exchange.{Exchange}
-use Rattle.uart_traces.specs.declared.judging.Stray.{Stray}
+use Rattle.uart_judges.specs.Reading.{IsTrace}
+use Rattle.uart_judges.specs.Telling.{stray_text}
+use Rattle.uart_judges.specs.Traces.{AreCalls, IsStray}
+use Rattle.uart_judges.specs.declared.traces.exchange.Exchange.{Exchange}
+use Rattle.uart_judges.specs.declared.traces.judging.Stray.{Stray}
 use Rattle.uart_judges.specs.Verifying.{IsVerified}
 
 -- nothing, if it does not stray

@@ -1,3 +1,14 @@
+pub mod Runnable
+pub mod Traces
+pub mod TraceLines
+pub mod Reading
+pub mod Telling
+pub mod Events
+pub mod Fields
+pub mod RecordingLines
+pub mod Places
+pub mod Windows
+pub mod Streams
 pub mod Actions
 pub mod Shows
 pub mod History

@@ -1,11 +1,11 @@
 -- What is printed for the bytes of a trace.
 use Rattle.std.specs.Prelude.{◌≡◌, ◌⊎◌, ℕ, List, [], ◌∷◌, ◌++◌}
 use Rattle.uart_16550.specs.State.{fresh_fields}
-use Rattle.uart_traces.specs.Reading.{IsTrace, Refuses, fault_of}
-use Rattle.uart_traces.specs.Telling.{stray_text}
-use Rattle.uart_traces.specs.Traces.{AreCalls, IsStray}
-use Rattle.uart_traces.specs.declared.exchange.Exchange.{Exchange}
-use Rattle.uart_traces.specs.declared.judging.Stray.{Stray}
+use Rattle.uart_judges.specs.Reading.{IsTrace, Refuses, fault_of}
+use Rattle.uart_judges.specs.Telling.{stray_text}
+use Rattle.uart_judges.specs.Traces.{AreCalls, IsStray}
+use Rattle.uart_judges.specs.declared.traces.exchange.Exchange.{Exchange}
+use Rattle.uart_judges.specs.declared.traces.judging.Stray.{Stray}
 use Rattle.uart_judges.specs.declared.findings.verifying.VerifyError.{VerifyError}
 use Rattle.uart_judges.specs.declared.findings.verifying.VerifyError.TheVariants.{NoTrace}
 

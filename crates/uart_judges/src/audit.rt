@@ -13,8 +13,6 @@ mod judging;
 mod reads;
 mod setup;
 mod shows;
-#[cfg(test)]
-mod tests;
 
 pub use action::Action;
 pub use auditor::{Auditor, Due};

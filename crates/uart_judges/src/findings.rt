@@ -6,8 +6,6 @@
 mod auditing;
 mod replaying;
 mod stop;
-#[cfg(test)]
-mod tests;
 mod times;
 mod verifying;
 

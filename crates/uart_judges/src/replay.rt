@@ -10,8 +10,6 @@ mod known;
 mod latches;
 mod replayer;
 mod rule;
-#[cfg(test)]
-mod tests;
 
 pub use difference::{Difference, Reported};
 pub use known::{Known, Sender, Start};

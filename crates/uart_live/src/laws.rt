@@ -1,15 +1,17 @@
 //! Laws of live chips. They follow from the contracts.
 //!
 //! The contract of each function is a law that callers can cite. The functions do nothing.
-ghost use Rattle.uart_live.specs.Laws.{BytesLeaveInOrder, CharactersAreReadInOrder, PlainReadsChangeNothing};
-ghost use Rattle.uart_live.specs.Laws.{OnlyInterruptsShowHolding, HeldTimeoutsStay, DueTimeoutsInterrupt};
+ghost use Rattle.uart_live.specs.Laws.{BytesLeaveInOrder, CharactersAreReadInOrder};
+ghost use Rattle.uart_live.specs.Laws.{PlainReadsChangeNothing, OnlyInterruptsShowHolding};
+ghost use Rattle.uart_live.specs.Laws.{HeldTimeoutsStay, DueTimeoutsInterrupt};
 
 /// Bytes are sent in the order in which the guest wrote them, each once. A full wire loses none.
 pub fn bytes_leave_in_order()
     ensures { BytesLeaveInOrder }
 {}
 
-/// Characters are read in the order in which they were received, each once, or the guest sees the overrun flag.
+/// Characters are read in the order in which they were received, each once, or the guest sees the
+/// overrun flag.
 pub fn characters_are_read_in_order()
     ensures { CharactersAreReadInOrder }
 {}
@@ -19,14 +21,15 @@ pub fn plain_reads_change_nothing()
     ensures { PlainReadsChangeNothing }
 {}
 
-/// Whether timeouts are held shows only in ISR and in the interrupt line: every other read and every byte on the wire is
-/// as it is without.
+/// Whether timeouts are held shows only in ISR and in the interrupt line: every other read and
+/// every byte on the wire is as it is without.
 pub fn only_interrupts_show_holding()
     ensures { OnlyInterruptsShowHolding }
 {}
 
-/// A reception timeout that is due stays due, whatever arrives by `arrive_holding_timeout`, until the guest reads DATA or
-/// writes FCR, or a character comes back in loopback. It is an interrupt as long as the guest has it enabled.
+/// A reception timeout that is due stays due, whatever arrives by `arrive_holding_timeout`, until
+/// the guest reads DATA or writes FCR, or a character comes back in loopback. It is an interrupt as
+/// long as the guest has it enabled.
 pub fn held_timeouts_stay()
     ensures due { HeldTimeoutsStay }
     ensures interrupting { DueTimeoutsInterrupt }

@@ -14,8 +14,8 @@ use Rattle.uart_calls.specs.declared.call.Call.{Call}
 use Rattle.uart_language.specs.Output.{line}
 use Rattle.uart_language.specs.Sayings.{plain}
 use Rattle.uart_language.specs.Script.{Plan}
-use Rattle.uart_traces.specs.Lines.{before_remark, is_remark, without_end}
-use Rattle.uart_traces.proofs.Ends.{end_none, end_other, end_space}
+use Rattle.uart_judges.specs.TraceLines.{before_remark, is_remark, without_end}
+use Rattle.uart_judges.proofs.Ends.{end_none, end_other, end_space}
 use Rattle.uart_report.specs.Run.{IsRecorded}
 use Rattle.uart_report.specs.Trace.{Adds, AreTold, CallTold, IsOneLine, access_line, call_lines, call_said, is_line_feed, line_said}
 use Rattle.uart_report.specs.Trace.{part_of, printable, printable_byte, remark_line, text_said, told_at, told_of}

@@ -10,8 +10,8 @@ use Rattle.uart_language.specs.Output.{line}
 use Rattle.uart_language.specs.Sayings.{Saying, Calls, Marks}
 use Rattle.uart_language.specs.Script.{Plan}
 use Rattle.uart_language.specs.declared.cause.Cause.{Cause}
-use Rattle.uart_traces.specs.Lines.{before_remark}
-use Rattle.uart_traces.specs.Telling.{access_text}
+use Rattle.uart_judges.specs.TraceLines.{before_remark}
+use Rattle.uart_judges.specs.Telling.{access_text}
 use Rattle.uart_report.specs.Run.{IsRecorded}
 use Rattle.uart_report.specs.declared.history.TheConstants.{AFTER_THE_HEAD}
 use Rattle.uart_report.specs.declared.history.ToldCall.{ToldCall}

@@ -22,9 +22,10 @@ const FULL: usize = 34;
 
 /// The colours, and the sizes of the text.
 pub const STYLE: &str =
-    "<style>text{fill:#1f2328}.m{text-anchor:middle}.z{text-anchor:end}.s{font-size:8px}.c{fill:#ddf4ff;stroke:#0969da}\
-.r{fill:#dafbe1;stroke:#1a7f37}.w{fill:#ffeff7;stroke:#bf3989}.a{fill:#fff8c5;stroke:#9a6700}.e{fill:#ffebe9;stroke:#cf222e}\
-.o{fill:#fbefff;stroke:#8250df}.b{fill:#b6e3ff;stroke:#0969da}.h{fill:#eac54f;stroke:#7d4e00}.g{fill:#57606a}\
+    "<style>text{fill:#1f2328}.m{text-anchor:middle}.z{text-anchor:end}.s{font-size:8px}\
+.c{fill:#ddf4ff;stroke:#0969da}.r{fill:#dafbe1;stroke:#1a7f37}.w{fill:#ffeff7;stroke:#bf3989}\
+.a{fill:#fff8c5;stroke:#9a6700}.e{fill:#ffebe9;stroke:#cf222e}.o{fill:#fbefff;stroke:#8250df}\
+.b{fill:#b6e3ff;stroke:#0969da}.h{fill:#eac54f;stroke:#7d4e00}.g{fill:#57606a}\
 .n{font-weight:bold}</style>\n";
 
 // Appends a letter, escaped if XML reserves it.
@@ -60,7 +61,8 @@ pub fn letters_in(width: usize) -> usize {
 pub fn push_box(text: &mut String, class: &str, words: &str) -> Result<(), AllocError> {
     writeln!(
         text,
-        "<rect class=\"{class}\" x=\"1\" y=\"0\" width=\"24\" height=\"15\"/><text class=\"m\" x=\"13\" y=\"11\">{words}</text>"
+        "<rect class=\"{class}\" x=\"1\" y=\"0\" width=\"24\" height=\"15\"/>\
+            <text class=\"m\" x=\"13\" y=\"11\">{words}</text>"
     )
 }
 
@@ -70,7 +72,8 @@ pub fn push_arrival(text: &mut String, arrival: Arrival, mark: char) -> Result<(
     let class = if letters.is_empty() { "a" } else { "e" };
     write!(
         text,
-        "<rect class=\"{class}\" x=\"1\" y=\"0\" width=\"24\" height=\"26\"/><text class=\"m\" x=\"13\" y=\"11\">{byte:02x}</text>"
+        "<rect class=\"{class}\" x=\"1\" y=\"0\" width=\"24\" height=\"26\"/>\
+            <text class=\"m\" x=\"13\" y=\"11\">{byte:02x}</text>"
     )?;
     writeln!(
         text,
@@ -92,7 +95,8 @@ pub fn push_bar(
     let top = FULL.saturating_sub(height);
     writeln!(
         text,
-        "<rect class=\"{class}\" x=\"4\" y=\"{top}\" width=\"18\" height=\"{height}\"/><text class=\"m s\" x=\"13\" y=\"43\">{count}</text>"
+        "<rect class=\"{class}\" x=\"4\" y=\"{top}\" width=\"18\" height=\"{height}\"/>\
+            <text class=\"m s\" x=\"13\" y=\"43\">{count}</text>"
     )
 }
 
@@ -106,7 +110,8 @@ fn push_seen(text: &mut String, seen: Seen, is_wrong: bool) -> Result<(), AllocE
     let register = seen.register;
     write!(
         text,
-        "<rect class=\"{class}\" x=\"1\" y=\"0\" width=\"24\" height=\"27\"/><text class=\"m s\" x=\"13\" y=\"10\">{register}</text>"
+        "<rect class=\"{class}\" x=\"1\" y=\"0\" width=\"24\" height=\"27\"/>\
+            <text class=\"m s\" x=\"13\" y=\"10\">{register}</text>"
     )?;
     writeln!(
         text,
@@ -114,7 +119,8 @@ fn push_seen(text: &mut String, seen: Seen, is_wrong: bool) -> Result<(), AllocE
     )
 }
 
-// Appends how many times an access happened by itself, in letters that are small enough for its column.
+// Appends how many times an access happened by itself, in letters that are small enough for its
+// column.
 fn push_times(alloc: Global, text: &mut String, times: usize) -> Result<(), AllocError> {
     let words = format!(in alloc; "×{times}")?;
     let letters = words.chars().count();

@@ -27,7 +27,8 @@ fn push_line(text: &mut Vec<u8>, line: &[u8]) -> Result<(), AllocError>
     Ok(())
 }
 
-/// Returns a script with an empty line in place of each that starts with `#`. So the other lines keep their numbers.
+/// Returns a script with an empty line in place of each that starts with `#`. So the other lines
+/// keep their numbers.
 pub fn without_comments(alloc: Global, script: &[u8]) -> Result<Vec<u8>, AllocError>
     ensures { IfOk result (λ text. text.items ≡ without_comments script.now) }
 {
@@ -40,8 +41,8 @@ pub fn without_comments(alloc: Global, script: &[u8]) -> Result<Vec<u8>, AllocEr
     Ok(text)
 }
 
-/// Returns a script without its comments. One with more than [`MOST_BYTES`] bytes, comments included, is refused whatever it has,
-/// and returned as it is.
+/// Returns a script without its comments. One with more than [`MOST_BYTES`] bytes, comments
+/// included, is refused whatever it has, and returned as it is.
 pub fn plain(alloc: Global, script: &[u8]) -> Result<Vec<u8>, AllocError>
     ensures { IfOk result (λ text. text.items ≡ plain script.now) }
 {

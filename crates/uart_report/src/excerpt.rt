@@ -12,7 +12,7 @@ use std::io::Read;
 use uart_16550::replay::Entry;
 use uart_command::Form;
 use uart_judges::audit::{Auditor, Finding, Severity, Stretch};
-use uart_recording::{Event, Happening, Recording, RecordingError};
+use uart_judges::recording::{Event, Happening, Recording, RecordingError};
 use uart_spec::registers::{LCR, offsets};
 
 /// How many events are drawn unless it is said.
@@ -49,7 +49,8 @@ pub struct Excerpt<'a> {
     pub form: Form,
     /// The file, or `-` for standard input.
     pub file: &'a str,
-    /// The last line to draw. Without it, it is that of the audit's first warning, or of the end if there is none.
+    /// The last line to draw. Without it, it is that of the audit's first warning, or of the end if
+    /// there is none.
     pub line: Option<u64>,
     /// How many events to draw at most: the last ones.
     pub most: usize,
@@ -230,7 +231,8 @@ fn title(alloc: Global, file: &str, moments: &[Moment]) -> Result<String, AllocE
     }
 }
 
-/// Reads a recording, and returns the timeline of its last events up to a line, with what the audit warns of in them.
+/// Reads a recording, and returns the timeline of its last events up to a line, with what the audit
+/// warns of in them.
 ///
 /// # Errors
 ///

@@ -12,7 +12,8 @@ const ONE_SPACE: &str = "exactly one space between two words, and none at the en
 // A first line for a line that is checked by itself.
 const FIRST_LINE: &[u8] = b"chip 16550a 1 1\n";
 
-// Returns the column in which a word of the line starts, counted from 1. A word after the last would start after the line.
+// Returns the column in which a word of the line starts, counted from 1. A word after the last
+// would start after the line.
 fn column_of(line: &[u8], word: usize) -> usize {
     let mut column = 1usize;
     for before in line.split(|b| *b == b' ').take(word) {
@@ -21,7 +22,8 @@ fn column_of(line: &[u8], word: usize) -> usize {
     column
 }
 
-// Returns a script of the line alone, in which each field after the first few has a word that is accepted.
+// Returns a script of the line alone, in which each field after the first few has a word that is
+// accepted.
 fn probe(alloc: Global, line: &[u8], fields: &[Field], kept: usize) -> Result<Vec<u8>, AllocError> {
     let mut script = Vec::new(alloc);
     let word = word_at(line, 0).unwrap_or(&[]);
@@ -136,8 +138,8 @@ fn place_of(alloc: Global, number: u32, line: &[u8], cause: Cause) -> Result<Pla
     }
 }
 
-/// Returns the fault of a script in three lines: `NAME:LINE:COLUMN: cause`, the line, and a caret with what is accepted
-/// there.
+/// Returns the fault of a script in three lines: `NAME:LINE:COLUMN: cause`, the line, and a caret
+/// with what is accepted there.
 ///
 /// A script of too many bytes has no faulty line, and its fault is one line.
 pub fn explained(

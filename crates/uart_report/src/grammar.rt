@@ -1,6 +1,7 @@
 //! The lines of the script language, explained for people.
 //!
-//! Only `parse` decides which lines are accepted. This is the table of explanations for lines that it refuses.
+//! Only `parse` decides which lines are accepted. This is the table of explanations for lines that
+//! it refuses.
 
 /// A field of a line.
 #[derive(Clone, Copy, Debug, PartialEq, Eq)]
@@ -83,7 +84,8 @@ impl Field {
     }
 }
 
-/// Returns how a line with this first word is written, or `None` if the word is not in the language.
+/// Returns how a line with this first word is written, or `None` if the word is not in the
+/// language.
 pub fn usage(word: &[u8]) -> Option<&'static str> {
     Some(match word {
         b"chip" => "chip 16550a|16450 T W [cut]",

@@ -2,7 +2,8 @@
 ghost use Rattle.std.specs.Prelude.{◌≡◌, [], All, IfOk, map, slice_index_or};
 ghost use Rattle.std.specs.List.{range_with_len, slice_split};
 ghost use Rattle.uart_language.specs.Script.{plan_of, IsPlayable};
-ghost use Rattle.uart_report.specs.Trace.{call_lines, is_call_line, is_line_feed, told_at, told_of, AreTold, IsTellable};
+ghost use Rattle.uart_report.specs.Trace.{call_lines, is_call_line, is_line_feed};
+ghost use Rattle.uart_report.specs.Trace.{told_at, told_of, AreTold, IsTellable};
 
 use crate::by_call::ByCall;
 use crate::replay::{Moment, replayed};
@@ -59,7 +60,8 @@ fn is_call(line: &[u8]) -> bool
 
 // Returns the lines of a script that are calls.
 fn call_lines<'a>(alloc: Global, script: &'a [u8]) -> Result<Vec<&'a [u8]>, AllocError>
-    ensures { IfOk result (λ lines. map (λ line. line.now) lines.items ≡ call_lines script.entry.now) }
+    ensures { IfOk result (λ lines.
+        map (λ line. line.now) lines.items ≡ call_lines script.entry.now) }
 {
     script
         .split(|b| *b == b'\n')
@@ -69,7 +71,8 @@ fn call_lines<'a>(alloc: Global, script: &'a [u8]) -> Result<Vec<&'a [u8]>, Allo
 
 // Returns the lines of an output.
 fn lines_of<'a>(alloc: Global, output: &'a [u8]) -> Result<Vec<&'a [u8]>, AllocError>
-    ensures { IfOk result (λ lines. map (λ line. line.now) lines.items ≡ slice_split is_line_feed output.entry.now) }
+    ensures { IfOk result (λ lines.
+        map (λ line. line.now) lines.items ≡ slice_split is_line_feed output.entry.now) }
 {
     output.split(|b| *b == b'\n').collect(alloc)
 }
@@ -89,7 +92,8 @@ fn told_call(
     accesses: &ByCall<Entry>,
     number: usize,
 ) -> Result<ToldCall, AllocError>
-    ensures told { IfOk result (λ call. told_of call ≡ told_at (map (λ line. line.now) lines.now) (map (λ line. line.now) answers.now)
+    ensures told { IfOk result (λ call. told_of call ≡ told_at
+        (map (λ line. line.now) lines.now) (map (λ line. line.now) answers.now)
         accesses.now.all.items accesses.now.ends.items number) }
     ensures tellable { IfOk result IsTellable }
 {
@@ -111,8 +115,9 @@ fn told_calls(
     accesses: &ByCall<Entry>,
     count: usize,
 ) -> Result<Vec<ToldCall>, AllocError>
-    ensures told { IfOk result (λ calls. map told_of calls.items ≡ map (told_at (map (λ line. line.now) lines.now)
-        (map (λ line. line.now) answers.now) accesses.now.all.items accesses.now.ends.items) (range_with_len 0 count)) }
+    ensures told { IfOk result (λ calls. map told_of calls.items ≡ map (told_at
+        (map (λ line. line.now) lines.now) (map (λ line. line.now) answers.now)
+        accesses.now.all.items accesses.now.ends.items) (range_with_len 0 count)) }
     ensures tellable { IfOk result (λ calls. All IsTellable calls.items) }
 {
     let mut calls = Vec::new(alloc);
@@ -139,7 +144,8 @@ pub fn told(
     output: &[u8],
 ) -> Result<History, AllocError>
     requires { IsPlayable (plan_of script.now) }
-    ensures told { IfOk result (λ history. AreTold (plan_of script.now) text.now output.now (map told_of history.calls.items)) }
+    ensures told { IfOk result (λ history.
+        AreTold (plan_of script.now) text.now output.now (map told_of history.calls.items)) }
     ensures tellable { IfOk result (λ history. All IsTellable history.calls.items) }
 {
     let accesses = recorded(alloc, script)?;

@@ -1,5 +1,5 @@
-//! What the program `geesetrunk` prints: the output of a script, its fault explained, its accesses, and its timeline as
-//! a picture or a table.
+//! What the program `geesetrunk` prints: the output of a script, its fault explained, its accesses,
+//! and its timeline as a picture or a table.
 //!
 //! Everything here goes from bytes to text. The program reads the file and prints.
 #![tactic(auto)]

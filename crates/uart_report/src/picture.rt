@@ -23,13 +23,15 @@ const LINE: usize = WIDTH - 20;
 
 const TITLE: usize = LINE * 10 / 12;
 
-// The most columns that a call gets for its line and its answer; a longer one has its moments' columns alone.
+// The most columns that a call gets for its line and its answer; a longer one has its moments'
+// columns alone.
 const MOST_FOR_TEXTS: usize = 10;
 
 // What is between a text and the ends of its call's columns.
 const MARGIN: usize = 8;
 
-// A moment of a call, or a column without one: of a call if its texts need it, else at the end of a band.
+// A moment of a call, or a column without one: of a call if its texts need it, else at the end of a
+// band.
 #[derive(Clone, Copy)]
 struct Cell {
     call: Option<usize>,
@@ -410,7 +412,8 @@ fn framed(alloc: Global, title: &str, body: &str, height: usize) -> Result<Strin
     let mut text = String::new(alloc);
     write!(
         text,
-        "<svg xmlns=\"http://www.w3.org/2000/svg\" width=\"{WIDTH}\" height=\"{height}\" viewBox=\"0 0 {WIDTH} {height}\""
+        "<svg xmlns=\"http://www.w3.org/2000/svg\" width=\"{WIDTH}\" height=\"{height}\" \
+            viewBox=\"0 0 {WIDTH} {height}\""
     )?;
     write!(text, " font-family=\"monospace\" font-size=\"10\"><title>")?;
     push_text(&mut text, title, usize::MAX)?;
@@ -431,7 +434,8 @@ fn framed(alloc: Global, title: &str, body: &str, height: usize) -> Result<Strin
     Ok(text)
 }
 
-/// Returns the timeline of a run of this chip as a picture: for each moment a column, in as many bands of columns as necessary.
+/// Returns the timeline of a run of this chip as a picture: for each moment a column, in as many
+/// bands of columns as necessary.
 pub fn picture(
     alloc: Global,
     history: &History,
@@ -479,7 +483,8 @@ fn push_wrapped(alloc: Global, lines: &mut Vec<String>, text: &str) -> Result<()
     Ok(())
 }
 
-/// Returns the timeline of a recording as a picture: for each event a column, and the warnings below.
+/// Returns the timeline of a recording as a picture: for each event a column, and the warnings
+/// below.
 pub fn picture_of_recording(
     alloc: Global,
     moments: &[Moment],

@@ -22,7 +22,11 @@ impl<B> Model for Recorder<B> {
 
     ghost Value = { Recorded B };
 
-    ghost view = { λ r. record { device = r.device; entries = r.entries.items; is_complete = r.is_complete } };
+    ghost view = { λ r. record {
+      device = r.device;
+      entries = r.entries.items;
+      is_complete = r.is_complete;
+    } };
 }
 
 impl<B> Recorder<B> {
@@ -56,8 +60,9 @@ impl<B> Recorder<B> {
     // Keeps an access, if all before it were kept.
     fn keep(&mut self, entry: Entry)
         ensures device { self.new.device ≡ self.old.device }
-        ensures kept { self.new.is_complete ≡ true → (self.old.is_complete ≡ true)
-            × (map access_of self.new.entries ≡ map access_of self.old.entries ++ access_of entry ∷ []) }
+        ensures kept { self.new.is_complete ≡ true → (self.old.is_complete ≡ true) ×
+            (map access_of self.new.entries
+            ≡ map access_of self.old.entries ++ access_of entry ∷ []) }
     {
         if self.is_complete && self.entries.push(entry).is_err() {
             self.is_complete = false;

@@ -31,7 +31,8 @@ pub struct Arrival {
 }
 
 impl Arrival {
-    /// Returns the letters of its errors, as a script has them: `p` for parity, `f` for framing, `b` for break.
+    /// Returns the letters of its errors, as a script has them: `p` for parity, `f` for framing,
+    /// `b` for break.
     pub fn letters(self) -> &'static str {
         let has_parity = self.errors.contains(LSR::PARITY_ERROR);
         let has_framing = self.errors.contains(LSR::FRAMING_ERROR);
@@ -98,8 +99,8 @@ pub struct Moment {
     pub waiting: usize,
 }
 
-// A schedule in which each event of the chip is between two marks: `next` twice performs one, and before it each access of
-// the replay has its tick.
+// A schedule in which each event of the chip is between two marks: `next` twice performs one, and
+// before it each access of the replay has its tick.
 fn spread(alloc: Global, events: &[Event]) -> Result<Vec<Event>, AllocError> {
     let mut schedule = Vec::new(alloc);
     for event in events {
@@ -251,7 +252,8 @@ impl Replay<'_> {
         event
     }
 
-    // Performs the events before an access. Returns whether the access takes place at an `access` of the schedule.
+    // Performs the events before an access. Returns whether the access takes place at an `access`
+    // of the schedule.
     fn reach_access(&mut self) -> Result<bool, AllocError> {
         for _ in 0..self.events.len() {
             match self.events.get(self.done) {

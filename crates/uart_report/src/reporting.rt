@@ -103,9 +103,11 @@ fn output_of(
     text: &[u8],
 ) -> Result<Vec<u8>, AllocError>
     requires { IsPlayable (plan_of script.now) }
-    ensures played { request.now.task ≡ task.Play → IfOk result (λ output. IsPlayedAs text.now output.items) }
+    ensures played { request.now.task ≡ task.Play →
+        IfOk result (λ output. IsPlayedAs text.now output.items) }
     ensures checked { request.now.task ≡ task.Check → IfOk result (λ output. output.items ≡ []) }
-    ensures traced { request.now.task ≡ task.Trace → IfOk result (λ output. IsTracedAs (plan_of script.now) text.now output.items) }
+    ensures traced { request.now.task ≡ task.Trace →
+        IfOk result (λ output. IsTracedAs (plan_of script.now) text.now output.items) }
 {
     let output = played(alloc, text)?;
     match request.task {
@@ -124,8 +126,10 @@ fn refusal(
     error: ScriptError,
 ) -> Result<Report, AllocError>
     ensures status { IfOk result (λ report. report.status ≡ 1) }
-    ensures cause { IfOk result (λ _. (line : ℕ) × (cause : Cause) × (error ≡ errors.Refused line cause)) }
-    ensures silent { request.now.task ≢ task.Play → IfOk result (λ report. report.output.items ≡ []) }
+    ensures cause { IfOk result (λ _.
+        (line : ℕ) × (cause : Cause) × (error ≡ errors.Refused line cause)) }
+    ensures silent { request.now.task ≢ task.Play →
+        IfOk result (λ report. report.output.items ≡ []) }
 {
     let ScriptError::Refused { line, cause } = error else {
         return Err(AllocError);
@@ -141,13 +145,15 @@ fn refusal(
     })
 }
 
-/// Returns what is printed for a request about this script, of which no more than [`MOST_READ`](crate::MOST_READ) bytes matter.
+/// Returns what is printed for a request about this script, of which no more than
+/// [`MOST_READ`](crate::MOST_READ) bytes matter.
 ///
 /// # Errors
 ///
 /// `AllocError` if out of memory. Only that should be printed then.
 pub fn report_on(alloc: Global, request: &Request<'_>, script: &[u8]) -> Result<Report, AllocError>
-    ensures accepted { IfOk result (λ report. report.status ≡ 0 → IsAccepted request.now.task (plain script.now) report) }
+    ensures accepted { IfOk result (λ report. report.status ≡ 0 →
+        IsAccepted request.now.task (plain script.now) report) }
     ensures refused { IfOk result (λ report. report.status ≢ 0 → (report.status ≡ 1)
         × IsRefused request.now.task (plain script.now) report) }
 {

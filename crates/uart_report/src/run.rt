@@ -21,7 +21,8 @@ pub fn machine_for(
     schedule: Vec<Event>,
 ) -> Result<Device16550, AllocError>
     ensures { let plan = plan_of script.now in
-        IfOk result (λ machine. machine ≡ cutting plan.cuts (fresh plan.chip plan.ticks plan.wire_capacity schedule.items)) }
+        IfOk result (λ machine. machine ≡
+        cutting plan.cuts (fresh plan.chip plan.ticks plan.wire_capacity schedule.items)) }
 {
     let (chip, ticks, capacity) = (script.chip(), script.ticks(), script.wire_capacity());
     let machine = if script.cut() {

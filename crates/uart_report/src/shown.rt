@@ -76,7 +76,8 @@ impl Group {
         self.count.saturating_mul(self.times)
     }
 
-    // Returns the group at the front of a list that has the most moments of it, and of these the shortest.
+    // Returns the group at the front of a list that has the most moments of it, and of these the
+    // shortest.
     fn longest(moments: &[Moment]) -> Self {
         let mut longest = Group { count: 1, times: 1 };
         for count in 1..=MOST_OF_A_GROUP {

@@ -40,7 +40,8 @@ pub fn line_at(bytes: &[u8], index: usize) -> &[u8]
     bytes.split(|b| *b == b'\n').nth(index).unwrap_or(&[])
 }
 
-/// Returns the name of a file without the folders that it lies in, in words if it is standard input.
+/// Returns the name of a file without the folders that it lies in, in words if it is standard
+/// input.
 pub fn file_name(file: &str) -> &str {
     match file {
         STANDARD_INPUT => "standard input",

@@ -1,8 +1,8 @@
 //! The accesses of a run, call by call.
 ghost use Rattle.std.specs.Prelude.{◌≡◌, ◌∷◌, ◌++◌, [], All, IfOk, OnOk, codes, map};
 ghost use Rattle.std.specs.List.{flat_map};
-ghost use Rattle.uart_report.specs.Trace.{Adds, IsOneLine, IsTellable, access_line, call_said, line_said, remark_line};
-ghost use Rattle.uart_report.specs.Trace.{text_said, told_of};
+ghost use Rattle.uart_report.specs.Trace.{Adds, IsOneLine, IsTellable, access_line, call_said};
+ghost use Rattle.uart_report.specs.Trace.{line_said, remark_line, text_said, told_of};
 
 use crate::history::{History, ToldCall};
 use crate::replay::Moment;
@@ -10,7 +10,7 @@ use crate::text::line_at;
 use std::alloc::{AllocError, Global};
 use std::fmt::Write;
 use uart_16550::replay::Entry;
-use uart_traces::push_entry;
+use uart_judges::traces::push_entry;
 
 // Appends a remark of one line, unless it is empty.
 fn push_remark(out: &mut Vec<u8>, remark: &[u8]) -> Result<(), AllocError>
@@ -48,7 +48,8 @@ fn push_line(out: &mut Vec<u8>, line: &[u8]) -> Result<(), AllocError>
 // Appends the line of an answer.
 fn push_answer(out: &mut Vec<u8>, answer: &[u8]) -> Result<(), AllocError>
     requires { IsOneLine answer.now }
-    ensures { OnOk result (Adds out.old.items out.new.items (line_said (codes "= " ++ answer.now))) }
+    ensures { OnOk result
+        (Adds out.old.items out.new.items (line_said (codes "= " ++ answer.now))) }
 {
     out.extend_from_slice(b"= ")?;
     out.extend_from_slice(answer)?;
@@ -94,7 +95,8 @@ fn events(alloc: Global, history: &History, moment: &Moment) -> Result<String, A
     Ok(text)
 }
 
-// Appends what happened up to the next access. Returns the remark of that access, and the moments after it.
+// Appends what happened up to the next access. Returns the remark of that access, and the moments
+// after it.
 fn push_events<'a>(
     alloc: Global,
     out: &mut Vec<u8>,
@@ -157,7 +159,8 @@ fn push_call(
 // Appends the calls.
 fn push_calls(alloc: Global, out: &mut Vec<u8>, history: &History) -> Result<(), AllocError>
     requires { All IsTellable history.now.calls.items }
-    ensures { OnOk result (Adds out.old.items out.new.items (flat_map call_said (map told_of history.now.calls.items))) }
+    ensures { OnOk result (Adds out.old.items out.new.items
+        (flat_map call_said (map told_of history.now.calls.items))) }
 {
     for (number, call) in history.calls.iter().enumerate() {
         push_call(alloc, out, history, history.moments.of(number), call)?;
@@ -165,14 +168,16 @@ fn push_calls(alloc: Global, out: &mut Vec<u8>, history: &History) -> Result<(),
     Ok(())
 }
 
-/// Returns each call of a run as its line, its accesses and its answer; and at the end the last state of the machine, as
-/// remarks.
+/// Returns each call of a run as its line, its accesses and its answer; and at the end the last
+/// state of the machine, as remarks.
 ///
-/// An access is `r OFFSET VALUE` or `w OFFSET VALUE`, and an answer is after `= `. The text after a `#` is a remark, as is
-/// `next`: a trace has calls of the driver. The accesses are those of the run; only remarks come from the second run.
+/// An access is `r OFFSET VALUE` or `w OFFSET VALUE`, and an answer is after `= `. The text after a
+/// `#` is a remark, as is `next`: a trace has calls of the driver. The accesses are those of the
+/// run; only remarks come from the second run.
 pub fn trace(alloc: Global, history: &History) -> Result<Vec<u8>, AllocError>
     requires { All IsTellable history.now.calls.items }
-    ensures { IfOk result (λ text. text_said text.items ≡ flat_map call_said (map told_of history.now.calls.items)) }
+    ensures { IfOk result (λ text. text_said text.items ≡
+        flat_map call_said (map told_of history.now.calls.items)) }
 {
     let mut out = Vec::new(alloc);
     push_calls(alloc, &mut out, history)?;

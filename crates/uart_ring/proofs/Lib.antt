@@ -6,3 +6,10 @@ pub mod Losses
 pub mod Arming
 pub mod Bounding
 pub mod Choices
+pub mod RingBlocks
+pub mod RingPasses
+pub mod RingTold
+pub mod RingDue
+pub mod RingArming
+pub mod RingSessions
+pub mod RingReady

@@ -7,3 +7,8 @@ pub mod Lossless
 pub mod Armed
 pub mod Bounded
 pub mod Choice
+pub mod RingRun
+pub mod RingBytes
+pub mod RingStatuses
+pub mod RingArmed
+pub mod RingSession

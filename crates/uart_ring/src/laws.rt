@@ -1,4 +1,5 @@
-//! Laws about the ring calls, over any backend. They follow from the contracts of the calls.
+//! Laws about the ring calls, over any backend, and one over the software chip. They follow from
+//! the contracts of the calls.
 //!
 //! The contract of each function is a law that callers can cite. The functions do nothing.
 ghost use Rattle.std.specs.Prelude.{◌≡◌, ◌<◌, ⊤, ℕ, List, [], take};
@@ -14,6 +15,8 @@ ghost use Rattle.uart_ring.specs.Bounded.{MakesAtMost, most_of_change};
 ghost use Rattle.uart_ring.specs.Bounded.{most_of_pump, most_of_service};
 ghost use Rattle.uart_ring.specs.declared.ring.TheConstants.{MAX_CAPACITY};
 ghost use Rattle.uart_ring.specs.declared.ring.service.TheConstants.{MAX_INTERRUPTS};
+
+pub use crate::running::init_leaves_ready;
 
 /// No byte is lost between the rings and DATA, and nothing that reads of LSR and MSR cleared. What
 /// was written to DATA and what is left in the transmit ring is what was there and what was queued.

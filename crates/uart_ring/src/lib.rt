@@ -7,7 +7,7 @@
 
 pub mod laws;
 mod ring;
-#[cfg(test)]
-mod tests;
+mod running;
 
 pub use ring::{MAX_CAPACITY, MAX_INTERRUPTS, RingError, Uart16550Ring};
+pub use running::{RingAnswer, RingCall, run_ring};

@@ -15,15 +15,17 @@ pub struct Outcome {
     pub is_interrupting: bool,
 }
 
-/// A turn of a monitor's loop: the guest writes a register, ticks pass, and what has gone out is handed over to `sink`, as much of
-/// it as fits.
+/// A turn of a monitor's loop: the guest writes a register, ticks pass, and what has gone out is
+/// handed over to `sink`, as much of it as fits.
 pub fn turn(chip: &mut LiveChip, offset: u8, value: u8, elapsed: u16, sink: &mut [u8]) -> Outcome
     requires { offset < NUM_REGISTERS }
-    ensures after { chip.new ≡ after_all (Write offset value ∷ Ticks elapsed ∷ TakeWire result.sent ∷ []) chip.old }
+    ensures after { chip.new ≡
+        after_all (Write offset value ∷ Ticks elapsed ∷ TakeWire result.sent ∷ []) chip.old }
     ensures handed { take result.sent sink.new ≡
         in_turn taken (Write offset value ∷ Ticks elapsed ∷ TakeWire result.sent ∷ []) chip.old }
-    ensures sent { result.sent ≡
-        min (length (after_all (Write offset value ∷ Ticks elapsed ∷ []) chip.old).transmitter.wire) (length sink.old) }
+    ensures sent { result.sent ≡ min
+        (length (after_all (Write offset value ∷ Ticks elapsed ∷ []) chip.old).transmitter.wire)
+        (length sink.old) }
     ensures line { result.is_interrupting ≡ is_some (interrupt chip.new) }
 {
     chip.write(offset, value);

@@ -1,8 +1,8 @@
-//! Callers of `uart_ring_run` that begin a session.
+//! Callers of `run_ring` that begin a session.
 ghost use Rattle.std.specs.Prelude.{◌≡◌, List, [], All, IfOk, length};
-ghost use Rattle.uart_ring_run.specs.RingBytes.{to_send, to_take};
-ghost use Rattle.uart_ring_run.specs.RingRun.{IsRingRunnable, RingLink, RingState, under};
-ghost use Rattle.uart_ring_run.specs.RingSession.{RingConserves};
+ghost use Rattle.uart_ring.specs.RingBytes.{to_send, to_take};
+ghost use Rattle.uart_ring.specs.RingRun.{IsRingRunnable, RingLink, RingState, under};
+ghost use Rattle.uart_ring.specs.RingSession.{RingConserves};
 ghost use Rattle.uart_run.specs.Chains.{answers_of, calls_of};
 ghost use Rattle.uart_run.specs.Ready.{Ready};
 ghost use Rattle.uart_spec.specs.Config.{IsComputable};
@@ -10,9 +10,8 @@ ghost use Rattle.uart_spec.specs.Config.{IsComputable};
 use std::alloc::Global;
 use uart_16550::{Config, InitError, Uart16550, Uart16550Tty};
 use uart_device::Device16550;
-use uart_ring::{RingError, Uart16550Ring};
-use uart_ring_run::laws::init_leaves_ready;
-use uart_ring_run::{RingAnswer, RingCall, run_ring};
+use uart_ring::laws::init_leaves_ready;
+use uart_ring::{RingAnswer, RingCall, RingError, Uart16550Ring, run_ring};
 
 /// The capacity of each ring.
 const CAPACITY: usize = 256;

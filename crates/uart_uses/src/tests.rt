@@ -1,4 +1,13 @@
-//! Each caller is run once, with what its contract says about the run.
+//! Each caller is run once, with what its contract says about the run. In modules are the tests of
+//! `uart_judges` and `uart_ring`: a crate with tests is proved once more for them, and those two
+//! take long.
+
+mod audit;
+mod findings;
+mod recording;
+mod replay;
+mod rings;
+
 use crate::{
     chip, device, driver, judging, language, live, performing, playing, ring, ring_running,
     ring_starting, running, spec, tracing,
@@ -13,8 +22,7 @@ use uart_chip::{Chip, Uart};
 use uart_device::Device16550;
 use uart_live::LiveChip;
 use uart_play::Std;
-use uart_ring::Uart16550Ring;
-use uart_ring_run::{RingAnswer, RingCall};
+use uart_ring::{RingAnswer, RingCall, Uart16550Ring};
 use uart_spec::registers::{LSR, offsets};
 use uart_spec::{BaudRate, Config, NUM_REGISTERS};
 
@@ -120,7 +128,7 @@ fn traces_that_a_driver_makes(rt: HostRuntime) -> Result<(), Fail> {
         (b"fresh\nlsr\nr 5 60\n= ok 60\n".as_slice(), true),
         (b"fresh\nlsr\nr 6 60\n= ok 60\n", false),
     ] {
-        let trace = uart_traces::parse(rt.alloc(), text)?;
+        let trace = uart_judges::traces::parse(rt.alloc(), text)?;
         assert_eq!(rt;
             judging::is_made(rt.alloc(), &trace, limit)?,
             is_made,

@@ -19,7 +19,7 @@ use Rattle.uart_device.proofs.conservation.Sends.{Sends, sends-refl, sends-pendi
 use Rattle.uart_device.proofs.conservation.Receives.{Shows, receives-refl, receives-same}
 use Rattle.uart_device.proofs.conservation.Arrivals.{receives-front}
 use Rattle.uart_device.proofs.status.Reports.{IsReported, reports-refl, reports-look, reports-front}
-use Rattle.uart_device.proofs.status.Turns.{turns-refl, turns-status}
+use Rattle.uart_device.proofs.status.LinesChanged.{changed-refl, changed-status}
 use Rattle.uart_device.proofs.conservation.Blocks.{is_quiet}
 use Rattle.uart_device.proofs.conservation.Went.{Modes, IsIn, fixed_in, dlab, dlab-in, marked-in, Went}
 
@@ -39,7 +39,7 @@ went-still x c d access s w l m f sends r t no_lsr no_msr = record {
   sends = sends;
   receives = rw (r, no_lsr) (receives-refl x.fifo c.receiver (marked-in x c s w));
   reports = rw (r, no_lsr) (reports-refl x.fifo c.receiver);
-  turns = rw (t, no_msr) (turns-refl c.modem);
+  modem_lines = rw (t, no_msr) (changed-refl c.modem);
 }
 
 -- ---- the line status
@@ -59,7 +59,7 @@ went-look x c line s w e = record {
       (record { queue = refl; marks = refl; missing = refl; arrived = refl })
       (λ h. inl (shown ∙ h)) (λ h. back h);
   reports = reports-look x.fifo c line s.receiver.legal e;
-  turns = turns-refl c.modem;
+  modem_lines = changed-refl c.modem;
 }
   where
     shown : has_any (bit_or (bit_and line LSR.LINE_ERRORS.0) 0) LSR.OVERRUN_ERROR.0 ≡ c.receiver.is_overrun
@@ -86,7 +86,7 @@ went-send x c byte off s w free =
           (sends-load x.fifo (x.cut byte) c.transmitter free);
       receives = receives-refl x.fifo c.receiver (marked-in x c s w);
       reports = reports-refl x.fifo c.receiver;
-      turns = turns-refl c.modem;
+      modem_lines = changed-refl c.modem;
     })
 
 -- a character is taken, which must wait and have been reported
@@ -112,7 +112,7 @@ went-take x c byte off s w told b = go c.receiver.queue refl
             sends = sends-refl c.transmitter;
             receives = receives-front x.fifo c.receiver front others (marked-in x c s w) e;
             reports = reports-front x.fifo c.receiver front others told e;
-            turns = turns-refl c.modem;
+            modem_lines = changed-refl c.modem;
           });
         }
 
@@ -137,7 +137,7 @@ went-write_lcr x c value s w same = record {
   sends = sends-refl c.transmitter;
   receives = receives-refl x.fifo c.receiver (marked-in x c s w);
   reports = reports-refl x.fifo c.receiver;
-  turns = turns-refl c.modem;
+  modem_lines = changed-refl c.modem;
 }
 
 -- a register is read that has no data; of these only the modem status and the interrupt identification change anything
@@ -164,7 +164,7 @@ went-read_6 x c value s w e = record {
   sends = sends-refl c.transmitter;
   receives = receives-refl x.fifo c.receiver (marked-in x c s w);
   reports = reports-refl x.fifo c.receiver;
-  turns = turns-status c.modem value s.modem e;
+  modem_lines = changed-status c.modem value s.modem e;
 }
 
 pub went-quiet_read : (x : Modes) (c : ChipState) (offset value : ℕ) → IsSoundChip c → IsIn x c → is_quiet (Read offset value) ≡ true →

@@ -91,7 +91,7 @@ pub changes_shown : (x : Modes) (m n : MachineState) (made : List Access) (ws : 
     saved_msr made ≡ bit_or m.chip.modem.deltas (changes_in m.chip.modem.lines (between m n))
 changes_shown x m n made ws ts p cleared =
     let all : bit_or (saved_msr made) n.chip.modem.deltas ≡ bit_or m.chip.modem.deltas (changes_in m.chip.modem.lines p.events) =
-    p.went.turns.deltas in
+    p.went.modem_lines.deltas in
     sym (or_zero_r (saved_msr made)) ∙ (ap (bit_or (saved_msr made)) (sym cleared) ∙
     (all ∙ ap (λ (es : List Event). bit_or m.chip.modem.deltas (changes_in m.chip.modem.lines es))
     (sym (between_passed x m n made ws ts p))))

@@ -27,7 +27,7 @@ use Rattle.uart_device.proofs.conservation.Sends.{Sends, sends-refl, sends-trans
 use Rattle.uart_device.proofs.conservation.Receives.{Receives, receives-trans, receives-refl, receives-still}
 use Rattle.uart_device.proofs.conservation.Arrivals.{receives-arrive}
 use Rattle.uart_device.proofs.status.Reports.{Reports, reports-refl, reports-same, reports-trans, reports-arrive}
-use Rattle.uart_device.proofs.status.Turns.{Turns, turns-refl, turns-trans, turns-lines}
+use Rattle.uart_device.proofs.status.LinesChanged.{LinesChanged, changed-refl, changed-trans, changed-lines}
 
 -- ---- the modes
 
@@ -99,7 +99,7 @@ pub record Went (x : Modes) (c d : ChipState) (events : List Event) (made : List
   pub sends : Sends c.transmitter d.transmitter (map x.cut written)
   pub receives : Receives x.fifo c.receiver d.receiver (arriving_cut x.cut c.receiver.arrived events) takes (saved_lsr made)
   pub reports : Reports x.fifo c.receiver d.receiver takes (saved_lsr made)
-  pub turns : Turns c.modem d.modem events (saved_msr made)
+  pub modem_lines : LinesChanged c.modem d.modem events (saved_msr made)
 
 -- one stretch and then another, which may begin in other modes
 pub went-trans : (x y : Modes) (c d e : ChipState) (f g : List Event) (xs ys : List Access) (ws vs : List ℕ) (ts us : List Character) →
@@ -127,8 +127,8 @@ went-trans x y c d e f g xs ys ws vs ts us same p q = record {
       reports-trans y.fifo c.receiver d.receiver e.receiver ts us (saved_lsr xs) (saved_lsr ys)
       (λ h. q.receives.is_shown (inl h)) first q.reports in
       rw (← saved-append offsets.LSR LSR.LINE_ERRORS.0 xs ys) at both;
-  turns = rw (saved-append offsets.MSR MSR.CHANGES.0 xs ys)
-      (turns-trans c.modem d.modem e.modem f g (saved_msr xs) (saved_msr ys) p.turns q.turns);
+  modem_lines = rw (saved-append offsets.MSR MSR.CHANGES.0 xs ys)
+      (changed-trans c.modem d.modem e.modem f g (saved_msr xs) (saved_msr ys) p.modem_lines q.modem_lines);
 }
   where
     fifo : y.fifo ≡ x.fifo
@@ -145,7 +145,7 @@ went-refl x c s w = record {
   sends = sends-refl c.transmitter;
   receives = receives-refl x.fifo c.receiver (marked-in x c s w);
   reports = reports-refl x.fifo c.receiver;
-  turns = turns-refl c.modem;
+  modem_lines = changed-refl c.modem;
 }
 
 tick-still : (c : ChipState) → is_loopback c.latches ≡ false →
@@ -164,7 +164,7 @@ went-tick x c l s w = rw (tick-still c (loopback-in x c w ∙ l)) (record {
       receives-still x.fifo c.receiver (grow_timeout c.receiver) (marked-in x c s w)
       (record { queue = refl; marks = refl; missing = refl; arrived = refl }) refl;
   reports = reports-same x.fifo c.receiver (grow_timeout c.receiver) refl refl refl;
-  turns = turns-refl c.modem;
+  modem_lines = changed-refl c.modem;
 })
 
 went-ticks : (x : Modes) (n : ℕ) (c : ChipState) → loopback x ≡ false → IsSoundChip c → IsIn x c → Went x c (ticks n c) [] [] [] []
@@ -186,7 +186,7 @@ went-arrive x byte errors c l s w k = record {
       (receives-arrive x.fifo c.receiver (x.cut byte) errors (marked-in x c s w) k);
   reports = subst (λ (r : ReceiverState). Reports x.fifo c.receiver r [] 0) (sym same)
       (reports-arrive x.fifo c.receiver (x.cut byte) errors);
-  turns = record { lines = refl; deltas = (turns-refl c.modem).deltas };
+  modem_lines = record { lines = refl; deltas = (changed-refl c.modem).deltas };
 }
   where
     same : receiver.arrive (is_loopback c.latches) c.fifo (cut_of c byte) errors c.receiver ≡
@@ -203,18 +203,19 @@ went-lines x inputs c l s w = record {
   sends = sends-refl c.transmitter;
   receives = receives-refl x.fifo c.receiver (marked-in x c s w);
   reports = reports-refl x.fifo c.receiver;
-  turns = turns-lines c.latches.mcr inputs c.modem (loopback-in x c w ∙ l);
+  modem_lines = changed-lines c.latches.mcr inputs c.modem (loopback-in x c w ∙ l);
 }
 
--- an event that brings no character and turns no line
+-- an event that brings no character and changes no line
 went-passed : (x : Modes) (event : Event) (c d : ChipState) → arriving c.receiver.arrived (event ∷ []) ≡ [] →
-    (Turns c.modem d.modem [] 0 → Turns c.modem d.modem (event ∷ []) 0) → Went x c d [] [] [] [] → Went x c d (event ∷ []) [] [] []
-went-passed x event c d none turns a = record {
+    (LinesChanged c.modem d.modem [] 0 → LinesChanged c.modem d.modem (event ∷ []) 0) →
+    Went x c d [] [] [] [] → Went x c d (event ∷ []) [] [] []
+went-passed x event c d none modem_lines a = record {
   modes = a.modes;
   sends = a.sends;
   receives = rw none a.receives;
   reports = a.reports;
-  turns = turns a.turns;
+  modem_lines = modem_lines a.modem_lines;
 }
 
 -- one event

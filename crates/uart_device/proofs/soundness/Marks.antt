@@ -80,7 +80,7 @@ all_in_queue-next arrived marks missing queue h =
     one (Arrived j) h = (omega (arith, h.0), h.1)
     one _ h = h
 
--- a unscheduled character came, so none is lost since
+-- an unscheduled character came, so none is lost since
 pub all_in_queue-found : (arrived : ℕ) (marks : List ArrivalMark) (missing : Bool) (queue : List Character) →
     AllInQueue arrived marks missing queue → AllInQueue arrived marks false queue
 all_in_queue-found arrived marks missing queue h =
@@ -117,7 +117,7 @@ distinct-next (x ∷ xs) new k o n d = (more x.origin n.0 d.0, distinct-next xs 
     more (Arrived j) h d = none_is-append j xs (new ∷ []) d (rw o (λ e. h (sym e)), tt)
     more _ h d = tt
 
--- a unscheduled character has no number
+-- an unscheduled character has no number
 unscheduled-other : (k : ℕ) (o : Origin) → is_unscheduled o ≡ true → OtherOrigin k o
 unscheduled-other k (Arrived j) s = absurd (cc)
 unscheduled-other k _ s = tt
@@ -126,7 +126,7 @@ unscheduled-has : (o : Origin) (characters : List Character) → is_unscheduled 
 unscheduled-has (Arrived j) characters s = absurd (cc)
 unscheduled-has _ characters s = tt
 
--- a unscheduled character is put last
+-- an unscheduled character is put last
 pub distinct-unscheduled : (queue : List Character) (new : Character) → is_unscheduled new.origin ≡ true → Distinct queue →
     Distinct (queue ++ new ∷ [])
 distinct-unscheduled [] new o d = (unscheduled-has new.origin [] o, tt)

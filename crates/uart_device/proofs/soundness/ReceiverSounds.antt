@@ -229,7 +229,7 @@ safe_arrive false fifo r byte errors w k l =
         rw f (safe_arrival_replaced fifo r byte errors old _ w k l e)
     swap (old ∷ other ∷ others) e full one = let h : length (old ∷ other ∷ others) ≤ 1 = rw e at one in absurd (omega arith)
 
--- ---- a unscheduled character: one that came back in loopback, or came in without a schedule
+-- ---- an unscheduled character: one that came back in loopback, or came in without a schedule
 
 safe_unscheduled_room : (fifo : Bool) (r : ReceiverState) (byte errors : ℕ) (o : Origin) (reported : Bool) → is_unscheduled o ≡ true →
     IsSoundReceiver fifo r → IsWithin errors LSR.CHARACTER_ERRORS.0 → nat_lt (length r.queue) (room fifo) ≡ true →

@@ -36,6 +36,9 @@ module _ (a b d f g : Bool) (e : ℕ) where
   line_empty : has_any e LSR.TRANSMITTER_EMPTY.0 ≡ false → has_any whole LSR.TRANSMITTER_EMPTY.0 ≡ f
   line_empty z = simp (has_or 6, has_flag, z) (grind (arith, common_steps))
 
+  line_fifo : has_any e LSR.FIFO_DATA_ERROR.0 ≡ false → has_any whole LSR.FIFO_DATA_ERROR.0 ≡ g
+  line_fifo z = simp (has_or 7, has_flag, z) (grind (arith, common_steps))
+
 module _ (c : ChipState) where
   data_ready : Bool
   data_ready = nat_lt 0 (length c.receiver.queue)
@@ -76,3 +79,11 @@ module _ (c : ChipState) where
   status_empty =
       line_empty data_ready c.receiver.is_overrun thr_empty all_empty fifo_error _
       (front_errors-bit 6 refl c.receiver.queue c.receiver.is_front_reported)
+
+  -- a character in the FIFO has errors that were not reported
+  pub status_fifo : has_any (line_status c) LSR.FIFO_DATA_ERROR.0 ≡
+      (c.fifo && list_any has_errors (unreported c.receiver.queue c.receiver.is_front_reported))
+  unfolding data_ready thr_empty all_empty fifo_error
+  status_fifo =
+      line_fifo data_ready c.receiver.is_overrun thr_empty all_empty fifo_error _
+      (front_errors-bit 7 refl c.receiver.queue c.receiver.is_front_reported)

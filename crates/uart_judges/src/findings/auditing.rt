@@ -3,10 +3,10 @@
 use crate::audit::{Auditor, Finding, Severity, Stretch};
 use crate::findings::stop::Stop;
 use crate::findings::times::Times;
+use crate::recording::{Event, Happening, Recording};
 use std::alloc::Global;
 use std::io::{Read, Write};
 use uart_16550::replay::Entry;
-use uart_recording::{Event, Happening, Recording};
 
 // Returns the word for a finding that compilers print.
 fn severity_text(severity: Severity) -> &'static str {

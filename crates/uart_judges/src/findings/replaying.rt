@@ -2,12 +2,12 @@
 
 use crate::findings::stop::Stop;
 use crate::findings::times::Times;
+use crate::recording::{Event, Happening, Recording};
 use crate::replay::{Difference, Replayer, Start};
 use std::alloc::Global;
 use std::io::{Read, Write};
 use uart_16550::replay::Entry;
 use uart_chip::Chip;
-use uart_recording::{Event, Happening, Recording};
 
 // Prints a difference of a line, if there is one, that was found so many times in turn. Returns how
 // many these are.

@@ -1,8 +1,8 @@
 //! Why a recording was not read to its end.
 
+use crate::recording::RecordingError;
 use std::alloc::AllocError;
 use std::io;
-use uart_recording::RecordingError;
 
 /// Why a recording was not read to its end.
 #[derive(Debug, Drop)]

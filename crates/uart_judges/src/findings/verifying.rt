@@ -1,13 +1,13 @@
 //! What is printed for the bytes of a trace.
 ghost use Rattle.std.specs.Prelude.{◌≡◌, ◌<◌, ◌≤◌, Err, MatchResult, length};
 ghost use Rattle.std.specs.Int.NonZero.{non_zero_u64_get};
-ghost use Rattle.uart_traces.specs.Reading.{Refuses, fault_of};
+ghost use Rattle.uart_judges.specs.Reading.{Refuses, fault_of};
 ghost use Rattle.uart_judges.specs.Verifying.{IsVerified, IsNoTrace};
 
+use crate::traces::{TraceError, judge, parse, push_stray};
 use std::alloc::Global;
 use std::num::NonZeroU64;
 use thiserror::Error;
-use uart_traces::{TraceError, judge, parse, push_stray};
 
 /// The most bytes of a trace. So input without end is refused, and does not fill the memory.
 pub const MOST_TRACE_BYTES: usize = 64 * 1024 * 1024;

@@ -25,7 +25,8 @@ impl LiveChip {
         self.uart.data()
     }
 
-    /// Returns the chip with these data, and with these bytes on its wire. It continues as the chip that was saved.
+    /// Returns the chip with these data, and with these bytes on its wire. It continues as the chip
+    /// that was saved.
     ///
     /// # Errors
     ///
@@ -41,10 +42,12 @@ impl LiveChip {
     /// ```
     pub fn from_data(saved: &ChipData, wire: &[u8]) -> Result<Self, RestoreError>
         ensures restored { IfOk result (λ live. live ≡ chip_of saved.now wire.now) }
-        ensures refused { (IsLive (chip_of saved.now wire.now) → ⊥) → result ≡ Err RestoreError.BadData }
-        ensures large { IsLive (chip_of saved.now wire.now) → WIRE_ROOM < saved.now.transmitter.wire_capacity →
-            result ≡ Err RestoreError.BadWire }
-        ensures accepted { IsLive (chip_of saved.now wire.now) → saved.now.transmitter.wire_capacity ≤ WIRE_ROOM → IsOk result }
+        ensures refused { (IsLive (chip_of saved.now wire.now) → ⊥) →
+            result ≡ Err RestoreError.BadData }
+        ensures large { IsLive (chip_of saved.now wire.now) →
+            WIRE_ROOM < saved.now.transmitter.wire_capacity → result ≡ Err RestoreError.BadWire }
+        ensures accepted { IsLive (chip_of saved.now wire.now) →
+            saved.now.transmitter.wire_capacity ≤ WIRE_ROOM → IsOk result }
     {
         if !is_live(saved, wire) {
             return Err(RestoreError::BadData);

@@ -11,7 +11,8 @@ pub struct Characters<Q: Fifo<Character>> {
     errors: usize,
 }
 
-// Returns the number of characters whose errors were reported: 1 if the front has some and was reported, else 0.
+// Returns the number of characters whose errors were reported: 1 if the front has some and was
+// reported, else 0.
 fn known<Q: Fifo<Character>>(queue: &Q, is_front_reported: bool) -> usize {
     match queue.get(0) {
         Some(front) if is_front_reported => front.error_weight(),
@@ -39,7 +40,8 @@ impl<Q: Fifo<Character>> Characters<Q> {
         self.errors > 0
     }
 
-    /// Returns whether a character has errors. Those of the front do not count if they were reported.
+    /// Returns whether a character has errors. Those of the front do not count if they were
+    /// reported.
     pub fn has_unreported_errors(&self, is_front_reported: bool) -> bool {
         self.errors > known(&self.queue, is_front_reported)
     }

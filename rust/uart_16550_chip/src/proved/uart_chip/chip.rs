@@ -78,7 +78,8 @@ impl<B: Fifo<u8>, W: Wire, C: Fifo<Character>, J: Journal> Uart<
 > {
     /// Returns a chip after power-on, over empty queues and an empty wire, with this journal.
     ///
-    /// A character takes `char_ticks` ticks to be sent, and characters are cut to the word length if `cuts` is set.
+    /// A character takes `char_ticks` ticks to be sent, and characters are cut to the word length
+    /// if `cuts` is set.
     pub fn with_parts(
         bytes: B,
         wire: W,
@@ -106,7 +107,8 @@ impl<B: Fifo<u8>, W: Wire, C: Fifo<Character>, J: Journal> Uart<
         }
     }
 
-    /// Returns the chip with these data, over empty queues and a wire that holds its bytes, without a schedule.
+    /// Returns the chip with these data, over empty queues and a wire that holds its bytes, without
+    /// a schedule.
     pub fn from_parts(bytes: B, wire: W, characters: C, journal: J, saved: &ChipData) -> Self {
         let receiver = Receiver::from_data(
             characters,
@@ -165,8 +167,8 @@ impl<B: Fifo<u8>, W: Wire, C: Fifo<Character>, J: Journal> Uart<
 
     /// Lets `n` ticks pass, and returns the number of jumps that this took.
     ///
-    /// A jump ends at the tick in which a character enters or leaves the shift register, or takes all ticks that are left.
-    /// So its cost does not grow with the number of ticks.
+    /// A jump ends at the tick in which a character enters or leaves the shift register, or takes
+    /// all ticks that are left. So its cost does not grow with the number of ticks.
     pub fn ticks(&mut self, n: u16) -> usize {
         advance(self, n)
     }
@@ -177,7 +179,8 @@ impl<B: Fifo<u8>, W: Wire, C: Fifo<Character>, J: Journal> Uart<
         self.receiver.arrive(loopback, self.fifo, byte, errors);
     }
 
-    /// Receives a character without a schedule, with these error bits. In loopback the character is lost.
+    /// Receives a character without a schedule, with these error bits. In loopback the character is
+    /// lost.
     pub fn arrive_live(&mut self, byte: u8, errors: u8) {
         arrive_live(self, byte, errors);
     }
@@ -224,7 +227,8 @@ impl<B: Fifo<u8>, W: Wire, C: Fifo<Character>, J: Journal> Uart<
         is_interrupting(self)
     }
 
-    /// Reads the register at this offset: returns its value, and has the effect of the read on the chip.
+    /// Reads the register at this offset: returns its value, and has the effect of the read on the
+    /// chip.
     pub fn read(&mut self, offset: u8) -> u8 {
         read(self, offset)
     }

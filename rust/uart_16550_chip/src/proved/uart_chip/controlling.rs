@@ -11,8 +11,8 @@ use crate::proved::uart_spec::registers::{
     FCR, FifoTriggerLevel, IER, ISR, InterruptType, LCR, LSR, MCR, MSR, WordLength, offsets,
 };
 
-/// What a chip is made of: its model, the registers that keep what is written to them, a transmitter, a receiver and the
-/// modem lines, and how each is read and changed.
+/// What a chip is made of: its model, the registers that keep what is written to them, a
+/// transmitter, a receiver and the modem lines, and how each is read and changed.
 pub trait ChipParts {
     /// The transmitter.
     type Transmitter: TransmitterParts;
@@ -56,7 +56,8 @@ pub trait ChipParts {
     /// Lets one tick pass in the transmitter, and returns the byte that loopback returns in it.
     fn tick_transmitter(&mut self, loopback: bool) -> Option<u8>;
 
-    /// Lets ticks pass in the transmitter in which no character enters or leaves the shift register.
+    /// Lets ticks pass in the transmitter in which no character enters or leaves the shift
+    /// register.
     fn count_down(&mut self, ticks: u16);
 
     /// Passes a byte that is written to DATA to the transmitter.
@@ -80,7 +81,8 @@ pub trait ChipParts {
     /// Takes the front of the receiver if there is one, and returns the byte that was taken last.
     fn take_front(&mut self) -> u8;
 
-    /// Does to the receiver what a read of LSR does: clears the overrun and the errors of the front.
+    /// Does to the receiver what a read of LSR does: clears the overrun and the errors of the
+    /// front.
     fn report(&mut self);
 
     /// Empties the queue of the receiver. Its characters are discarded.
@@ -95,7 +97,8 @@ pub trait ChipParts {
     /// Sets the inputs of the modem, and computes its lines anew under this value of MCR.
     fn change_inputs(&mut self, mcr: MCR, inputs: u8);
 
-    /// Returns what a read of MSR returns, and clears the changes of the modem lines, as the read does.
+    /// Returns what a read of MSR returns, and clears the changes of the modem lines, as the read
+    /// does.
     fn read_modem(&mut self) -> u8;
 
     /// Returns whether a modem line has changed since the last read of MSR.
@@ -123,7 +126,8 @@ fn trigger_level(fcr: FCR) -> FifoTriggerLevel {
     fcr.fifo_trigger_level()
 }
 
-// Returns a byte as it is sent and received under a line control register: only its data bits if characters are cut.
+// Returns a byte as it is sent and received under a line control register: only its data bits if
+// characters are cut.
 fn cut_to(cuts: bool, lcr: LCR, byte: u8) -> u8 {
     if !cuts {
         return byte;
@@ -171,8 +175,8 @@ fn skip<P: ChipParts>(parts: &mut P, ticks: u16) {
 
 /// Lets `n` ticks pass, and returns the number of jumps that this took.
 ///
-/// A jump ends at the tick in which a character enters or leaves the shift register, or takes all ticks that are left.
-/// So its cost does not grow with the number of ticks.
+/// A jump ends at the tick in which a character enters or leaves the shift register, or takes all
+/// ticks that are left. So its cost does not grow with the number of ticks.
 pub fn advance<P: ChipParts>(parts: &mut P, n: u16) -> usize {
     let mut left = n;
     let mut jumps = 0;
@@ -194,7 +198,8 @@ pub fn advance<P: ChipParts>(parts: &mut P, n: u16) -> usize {
     jumps
 }
 
-/// Receives a character without a schedule, with these error bits. In loopback the character is lost.
+/// Receives a character without a schedule, with these error bits. In loopback the character is
+/// lost.
 pub fn arrive_live<P: ChipParts>(parts: &mut P, byte: u8, errors: u8) {
     let loopback = is_loopback(parts);
     let byte = cut(parts, byte);
@@ -258,7 +263,8 @@ pub fn is_interrupting<P: ChipParts>(parts: &P) -> bool {
     !parts.ier().is_empty() && pending_interrupt(parts).is_some()
 }
 
-/// Reads the register at this offset: returns its value, and has the effect of the read on the chip.
+/// Reads the register at this offset: returns its value, and has the effect of the read on the
+/// chip.
 #[inline]
 pub fn read<P: ChipParts>(parts: &mut P, offset: u8) -> u8 {
     // A guest that waits reads LSR and nothing else, so it is looked for first.

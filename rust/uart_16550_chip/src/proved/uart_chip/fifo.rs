@@ -3,7 +3,8 @@
 use crate::list::ArrayVec;
 use crate::proved::uart_spec::FIFO_SIZE;
 
-/// Returns the number of characters that a queue has room for. Without FIFO that is one, although it could hold more.
+/// Returns the number of characters that a queue has room for. Without FIFO that is one, although
+/// it could hold more.
 pub fn room_of(fifo: bool) -> usize {
     if fifo { FIFO_SIZE } else { 1 }
 }

@@ -9,7 +9,7 @@ pub trait Journal {
     /// Returns the number of arrivals of the schedule, past and future.
     fn len(&self) -> usize;
 
-    /// Sets the mark of an arrival. A unscheduled character has none.
+    /// Sets the mark of an arrival. An unscheduled character has none.
     fn set_mark(&mut self, origin: Origin, mark: ArrivalMark);
 
     /// Marks the characters of a queue as discarded.

@@ -1,7 +1,8 @@
-//! A 16550A or 16450 serial chip in software: its registers, its transmitter and receiver, and its modem lines.
+//! A 16550A or 16450 serial chip in software: its registers, its transmitter and receiver, and its
+//! modem lines.
 //!
-//! The contract of each function says exactly which state follows. [`Uart`] is the chip without a schedule;
-//! `uart_device` puts it under one, and `uart_live` gives it to its owner.
+//! The contract of each function says exactly which state follows. [`Uart`] is the chip without a
+//! schedule; `uart_device` puts it under one, and `uart_live` gives it to its owner.
 
 mod characters;
 mod chip;

@@ -111,7 +111,8 @@ impl<Q: Fifo<Character>, J: Journal> Receiver<Q, J> {
         }
     }
 
-    /// Returns the receiver with these data, over an empty queue, with this journal. None of its arrivals has arrived.
+    /// Returns the receiver with these data, over an empty queue, with this journal. None of its
+    /// arrivals has arrived.
     pub fn from_data(queue: Q, journal: J, char_ticks: u16, saved: &ReceiverData) -> Self {
         let queue = Characters::filled(queue, &saved.queue);
         let status = status_of(&queue, saved.is_overrun, saved.is_front_reported);

@@ -6,28 +6,31 @@ use crate::proved::uart_chip::receiver::{Character, Origin};
 use crate::proved::uart_spec::FIFO_SIZE;
 use crate::proved::uart_spec::registers::{FifoTriggerLevel, LSR};
 
-/// What a receiver is made of: a queue of characters and what is known of them, and how each is read and changed.
+/// What a receiver is made of: a queue of characters and what is known of them, and how each is
+/// read and changed.
 pub trait ReceiverParts {
     /// Returns the number of characters in the queue.
     fn queue_len(&self) -> usize;
 
-    /// Appends a character to the queue. The errors of one that is at the front have not been reported. The caller must
-    /// show that there is room, and that the character has a place.
+    /// Appends a character to the queue. The errors of one that is at the front have not been
+    /// reported. The caller must show that there is room, and that the character has a place.
     fn put(&mut self, new: Character);
 
-    /// Removes the front of the queue, and returns it. The errors of the next one have not been reported.
+    /// Removes the front of the queue, and returns it. The errors of the next one have not been
+    /// reported.
     fn pop(&mut self) -> Option<Character>;
 
     /// Empties the queue.
     fn clear_queue(&mut self);
 
-    /// Sets the mark of an arrival. A unscheduled character has none.
+    /// Sets the mark of an arrival. An unscheduled character has none.
     fn set_mark(&mut self, origin: Origin, mark: ArrivalMark);
 
     /// Marks the characters of the queue as discarded.
     fn discard(&mut self);
 
-    /// Sets whether a unscheduled character was lost since the last one. The caller must show that the parts can say so.
+    /// Sets whether an unscheduled character was lost since the last one. The caller must show that
+    /// the parts can say so.
     fn set_unscheduled_lost(&mut self, on: bool);
 
     /// Sets whether a character was lost since the last read of LSR.
@@ -87,8 +90,8 @@ pub fn characters_of(level: FifoTriggerLevel) -> u8 {
     }
 }
 
-/// Puts a character into the queue. If there is no room, the FIFO loses it, and the single register loses the one that it
-/// held.
+/// Puts a character into the queue. If there is no room, the FIFO loses it, and the single register
+/// loses the one that it held.
 #[inline(always)]
 pub fn enter<R: ReceiverParts>(parts: &mut R, fifo: bool, new: Character) {
     if parts.queue_len() < room_of(fifo) {
@@ -196,7 +199,8 @@ pub fn clear<R: ReceiverParts>(parts: &mut R) {
     parts.clear_queue();
 }
 
-/// Makes a reception timeout due if the FIFO is on and has a character: counts the ticks towards it to their end.
+/// Makes a reception timeout due if the FIFO is on and has a character: counts the ticks towards it
+/// to their end.
 pub fn expire_timeout<R: ReceiverParts>(parts: &mut R) {
     let limit = parts.timeout_limit();
     parts.set_timeout_ticks(limit);
@@ -212,7 +216,8 @@ pub fn is_data_pending<R: ReceiverParts>(parts: &R, fifo: bool) -> bool {
     }
 }
 
-/// Returns whether there are characters in the FIFO, and none was received or read for four character times.
+/// Returns whether there are characters in the FIFO, and none was received or read for four
+/// character times.
 pub fn is_timed_out<R: ReceiverParts>(parts: &R, fifo: bool) -> bool {
     fifo && parts.queue_len() > 0 && parts.timeout_ticks() == parts.timeout_limit()
 }

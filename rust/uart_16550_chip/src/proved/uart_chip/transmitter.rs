@@ -33,8 +33,8 @@ pub struct TransmitterData {
     pub is_thr_pending: bool,
 }
 
-/// The transmitter: bytes that are written to DATA are first in the queue, then in the shift register, and then on the
-/// wire.
+/// The transmitter: bytes that are written to DATA are first in the queue, then in the shift
+/// register, and then on the wire.
 pub struct Transmitter<Q: Fifo<u8>, W: Wire> {
     queue: Q,
     shift_register: Option<Shifting>,
@@ -70,7 +70,8 @@ impl<Q: Fifo<u8>, W: Wire> Transmitter<Q, W> {
         }
     }
 
-    /// Returns the transmitter with these data, over an empty queue and a wire that holds its bytes.
+    /// Returns the transmitter with these data, over an empty queue and a wire that holds its
+    /// bytes.
     pub fn from_data(mut queue: Q, wire: W, saved: &TransmitterData) -> Self {
         fill(&mut queue, &saved.queue);
         let status = status_of(&queue, saved.shift_register);
@@ -122,7 +123,8 @@ impl<Q: Fifo<u8>, W: Wire> Transmitter<Q, W> {
         held_len(self)
     }
 
-    /// Returns the byte with this index among those that are still to be sent: first the shift register, then the queue.
+    /// Returns the byte with this index among those that are still to be sent: first the shift
+    /// register, then the queue.
     pub fn held_at(&self, i: usize) -> Option<u8> {
         match self.shift_register {
             None => self.queue.get(i),

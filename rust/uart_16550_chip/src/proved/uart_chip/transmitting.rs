@@ -4,7 +4,8 @@ use crate::proved::uart_chip::transmitter::Shifting;
 use crate::proved::uart_spec::FIFO_SIZE;
 use crate::proved::uart_spec::registers::LSR;
 
-/// What a transmitter is made of: a queue, the shift register, a wire, and how each is read and changed.
+/// What a transmitter is made of: a queue, the shift register, a wire, and how each is read and
+/// changed.
 pub trait TransmitterParts {
     /// Returns the number of bytes in the queue.
     fn queue_len(&self) -> usize;
@@ -90,7 +91,8 @@ pub fn tick<T: TransmitterParts>(parts: &mut T, loopback: bool) -> Option<u8> {
     looped
 }
 
-/// Returns the ticks until a character enters or leaves the shift register: `None` if none can, as with a full wire.
+/// Returns the ticks until a character enters or leaves the shift register: `None` if none can, as
+/// with a full wire.
 pub fn next_move<T: TransmitterParts>(parts: &T, loopback: bool) -> Option<u16> {
     match parts.shifting() {
         None if parts.queue_len() == 0 => None,
@@ -115,7 +117,8 @@ pub fn count_down<T: TransmitterParts>(parts: &mut T, ticks: u16) {
     }
 }
 
-/// Takes a byte that is written to DATA. If there is no room, the FIFO loses it, and THR loses the byte that it held.
+/// Takes a byte that is written to DATA. If there is no room, the FIFO loses it, and THR loses the
+/// byte that it held.
 pub fn load<T: TransmitterParts>(parts: &mut T, fifo: bool, byte: u8) {
     if fifo {
         if parts.queue_len() < FIFO_SIZE {

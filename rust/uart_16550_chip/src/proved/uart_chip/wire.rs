@@ -33,8 +33,8 @@ pub fn send<W: Wire>(wire: &mut W, bytes: &[u8]) {
 
 /// A wire in an array, without other memory.
 ///
-/// Each byte is in the array twice, [`WIRE_ROOM`] places apart. So the bytes are one slice wherever the first of them is, and
-/// to send or to take a byte costs the same whatever waits.
+/// Each byte is in the array twice, [`WIRE_ROOM`] places apart. So the bytes are one slice wherever
+/// the first of them is, and to send or to take a byte costs the same whatever waits.
 pub struct FixedWire {
     slots: [u8; WIRE_PLACES],
     start: usize,

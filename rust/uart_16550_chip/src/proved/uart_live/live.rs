@@ -10,14 +10,16 @@ use crate::proved::uart_spec::registers::{LSR, MSR};
 // A chip all of whose memory is in arrays, without a schedule.
 type LiveUart = Uart<FixedFifo<u8>, FixedWire, FixedFifo<Character>, NoMarks>;
 
-/// A serial chip in software whose owner lets time pass, passes characters to it, and takes the bytes that it sends.
+/// A serial chip in software whose owner lets time pass, passes characters to it, and takes the
+/// bytes that it sends.
 ///
-/// For each access of the guest call `read` or `write`. As the clock goes on, call `ticks`, and take what was sent with
-/// `wire` and `take_wire`. When a character or a change of the modem lines arrives, call `arrive` or `set_lines`. After
-/// each of these calls set the guest's interrupt line to `is_interrupting`.
+/// For each access of the guest call `read` or `write`. As the clock goes on, call `ticks`, and
+/// take what was sent with `wire` and `take_wire`. When a character or a change of the modem lines
+/// arrives, call `arrive` or `set_lines`. After each of these calls set the guest's interrupt line
+/// to `is_interrupting`.
 ///
-/// No call allocates memory, and none blocks. The chip keeps no record of what was sent and received, so it can run without
-/// end.
+/// No call allocates memory, and none blocks. The chip keeps no record of what was sent and
+/// received, so it can run without end.
 ///
 /// # Examples
 ///
@@ -50,8 +52,9 @@ fn refusal(char_ticks: u16, wire_capacity: usize) -> Option<ChipError> {
 impl LiveChip {
     /// Returns a chip after power-on.
     ///
-    /// A character takes `char_ticks` ticks in the shift register, and the wire has room for `wire_capacity` bytes until
-    /// they are taken. If it is full, the transmitter keeps what it holds.
+    /// A character takes `char_ticks` ticks in the shift register, and the wire has room for
+    /// `wire_capacity` bytes until they are taken. If it is full, the transmitter keeps what it
+    /// holds.
     ///
     /// # Errors
     ///
@@ -87,8 +90,9 @@ impl LiveChip {
 
     /// Reads the register at this offset for the guest, and returns its value. No time passes.
     ///
-    /// A read can change the chip: of DATA it takes a received byte, of LSR and MSR it clears the errors and changes, and
-    /// of ISR it may acknowledge an interrupt. So check `is_interrupting` after it.
+    /// A read can change the chip: of DATA it takes a received byte, of LSR and MSR it clears the
+    /// errors and changes, and of ISR it may acknowledge an interrupt. So check `is_interrupting`
+    /// after it.
     ///
     /// # Panics
     ///
@@ -110,8 +114,8 @@ impl LiveChip {
 
     /// Writes a value to the register at this offset for the guest. No time passes.
     ///
-    /// Never fails: a byte that is written to DATA is sent by later `ticks`. If the transmitter has no room, a byte is
-    /// lost, and `overflows` counts it. Check `is_interrupting` after it.
+    /// Never fails: a byte that is written to DATA is sent by later `ticks`. If the transmitter has
+    /// no room, a byte is lost, and `overflows` counts it. Check `is_interrupting` after it.
     ///
     /// # Panics
     ///
@@ -131,9 +135,11 @@ impl LiveChip {
         self.uart.write(offset, value);
     }
 
-    /// Lets `count` ticks pass. Returns the number of jumps that this took, which is at most 18, whatever `count` is.
+    /// Lets `count` ticks pass. Returns the number of jumps that this took, which is at most 18,
+    /// whatever `count` is.
     ///
-    /// A jump ends at the tick in which a character enters or leaves the shift register, or takes all ticks that are left.
+    /// A jump ends at the tick in which a character enters or leaves the shift register, or takes
+    /// all ticks that are left.
     ///
     /// What was sent in this time is on the `wire`. Check `is_interrupting` after it.
     ///
@@ -150,11 +156,13 @@ impl LiveChip {
         self.uart.ticks(count)
     }
 
-    /// Receives a character from the remote, with these errors: parity, framing and break, as bits of LSR.
+    /// Receives a character from the remote, with these errors: parity, framing and break, as bits
+    /// of LSR.
     ///
-    /// In loopback the character is lost. If the FIFO is full, the character is dropped; without FIFO it replaces the one
-    /// that was received before, which is dropped. The guest sees a drop as the overrun flag. To lose none, check
-    /// `receive_room` first. Check `is_interrupting` after it.
+    /// In loopback the character is lost. If the FIFO is full, the character is dropped; without
+    /// FIFO it replaces the one that was received before, which is dropped. The guest sees a drop
+    /// as the overrun flag. To lose none, check `receive_room` first. Check `is_interrupting` after
+    /// it.
     ///
     /// # Errors
     ///
@@ -179,14 +187,16 @@ impl LiveChip {
         Ok(())
     }
 
-    /// Receives a character as [`LiveChip::arrive`] does, but a reception timeout that is due stays due.
+    /// Receives a character as [`LiveChip::arrive`] does, but a reception timeout that is due stays
+    /// due.
     ///
-    /// It then stays due until the guest reads DATA, or writes FCR so that the FIFO is emptied, or a character comes back
-    /// in loopback. Only ISR and `is_interrupting` show the difference.
+    /// It then stays due until the guest reads DATA, or writes FCR so that the FIFO is emptied, or
+    /// a character comes back in loopback. Only ISR and `is_interrupting` show the difference.
     ///
     /// # Errors
     ///
-    /// `BadErrors` if `errors` has a bit other than parity, framing and break. Nothing changes then.
+    /// `BadErrors` if `errors` has a bit other than parity, framing and break. Nothing changes
+    /// then.
     ///
     /// # Examples
     ///
@@ -208,7 +218,8 @@ impl LiveChip {
         Ok(())
     }
 
-    /// Sets the inputs of the modem: CTS, DSR, RI and CD, as bits of MSR. Check `is_interrupting` after it.
+    /// Sets the inputs of the modem: CTS, DSR, RI and CD, as bits of MSR. Check `is_interrupting`
+    /// after it.
     ///
     /// # Errors
     ///
@@ -231,7 +242,8 @@ impl LiveChip {
         Ok(())
     }
 
-    /// Returns the level of the interrupt line: whether a read of ISR would show an interrupt. Changes nothing.
+    /// Returns the level of the interrupt line: whether a read of ISR would show an interrupt.
+    /// Changes nothing.
     ///
     /// # Examples
     ///
@@ -269,7 +281,8 @@ impl LiveChip {
         self.uart.transmitter().wire()
     }
 
-    /// Removes this number of bytes from the front of the wire, or all if there are fewer. The wire has room for more then.
+    /// Removes this number of bytes from the front of the wire, or all if there are fewer. The wire
+    /// has room for more then.
     ///
     /// # Examples
     ///

@@ -1,8 +1,8 @@
 //! A live chip: the chip of [`uart_chip`] in the hands of its owner, without a schedule.
 //!
-//! The owner, for example a virtual machine monitor, makes the guest's accesses, takes the bytes that are sent, passes
-//! characters and modem lines when they arrive, lets time pass, and reads the level of the interrupt line. Each call
-//! does what the definitions of the chip say.
+//! The owner, for example a virtual machine monitor, makes the guest's accesses, takes the bytes
+//! that are sent, passes characters and modem lines when they arrive, lets time pass, and reads the
+//! level of the interrupt line. Each call does what the definitions of the chip say.
 
 mod errors;
 mod live;

@@ -8,7 +8,8 @@ use crate::proved::uart_chip::{
 use crate::proved::uart_spec::FIFO_SIZE;
 use crate::proved::uart_spec::registers::{LSR, MSR};
 
-/// The number of character times after which a reception timeout is due, if no character comes or is read.
+/// The number of character times after which a reception timeout is due, if no character comes or
+/// is read.
 pub const TIMEOUT_CHARACTERS: u32 = 4;
 
 // Returns the number of characters that a queue has room for.

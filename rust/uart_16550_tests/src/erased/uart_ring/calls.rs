@@ -7,12 +7,12 @@ use super::lists::{
     DATA_READY, DMA_RECEPTION, DMA_TRANSMISSION, EMPTY, FULL, LINE_STATUS, MODEM_STATUS, NONE,
     THR_EMPTY, TIMEOUT, answers_in, made, play, rings,
 };
-use crate::libraries::uart_ring::{MAX_CAPACITY, MAX_INTERRUPTS, RingError, Uart16550Ring};
 use crate::libraries::bitflags::Flags;
 use std::num::NonZeroU64;
 use crate::runtime::Fail;
 use crate::libraries::uart_16550::Uart16550;
 use crate::libraries::uart_16550::replay::Replay;
+use crate::libraries::uart_ring::{MAX_CAPACITY, MAX_INTERRUPTS, RingError, Uart16550Ring};
 use crate::libraries::uart_spec::registers::offsets::{IER, ISR, LSR, MSR};
 use crate::libraries::uart_spec::registers::{self, MSR as ModemStatus};
 

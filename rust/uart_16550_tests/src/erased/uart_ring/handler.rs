@@ -4,13 +4,13 @@ use crate::runtime::{AllocGlobal, HostRuntime, assert, assert_eq, assert_ne, for
 
 use super::lists::Step::{self, Burst, Changed, Read, Received, Sent, Write};
 use super::lists::{DATA_READY, EMPTY, LINE_STATUS, MODEM_STATUS, NONE, answers_in, made};
-use crate::libraries::uart_ring::{MAX_INTERRUPTS, RingError, Uart16550Ring};
 use crate::libraries::bitflags::Flags;
 use crate::runtime::Global;
 use crate::runtime::Fail;
 use crate::libraries::uart_16550::backend::Backend;
 use crate::libraries::uart_16550::replay::Replay;
 use crate::libraries::uart_16550::{Config, InitError, Uart16550};
+use crate::libraries::uart_ring::{MAX_INTERRUPTS, RingError, Uart16550Ring};
 use crate::libraries::uart_spec::registers::{IER, LSR, MSR, offsets};
 
 // Why a port was not started.

@@ -1,11 +1,11 @@
 #[allow(unused_imports)]
 use crate::runtime::{AllocGlobal, HostRuntime, assert, assert_eq, assert_ne, format};
 // Rings over a replay, what the reads of a chip return, and lists of accesses as tests write them.
-use crate::libraries::uart_ring::{RingError, Uart16550Ring};
 use crate::runtime::Abort;
 use crate::runtime::Fail;
 use crate::libraries::uart_16550::Uart16550;
 use crate::libraries::uart_16550::replay::{Entry, Replay};
+use crate::libraries::uart_ring::{RingError, Uart16550Ring};
 use crate::libraries::uart_spec::registers::offsets;
 
 // LSR: the transmitter is empty.

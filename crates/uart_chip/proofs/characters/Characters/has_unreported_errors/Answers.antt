@@ -1,4 +1,3 @@
-use Rattle.std.proofs.Common.{rules, ◌∙◌, ap}
 use Rattle.uart_chip.proofs.Errors.{any_of_count}
 use Rattle.uart_chip.proofs.characters.Characters.has_unreported_errors.Goals as goal
 

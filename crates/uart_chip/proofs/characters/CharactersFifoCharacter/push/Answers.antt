@@ -1,5 +1,4 @@
-use Rattle.std.proofs.Common.{rules, ◌≡◌, ◌+◌, ◌<◌, ◌++◌, [], ◌∷◌, length, ap, ◌∙◌, sym, arith}
-use Rattle.uart_chip.specs.Errors.{error_count, error_weight}
+use Rattle.std.proofs.Common.{rules, ◌<◌, length, sym, arith}
 use Rattle.uart_chip.proofs.Errors.{count_put, count_fits}
 use Rattle.uart_chip.proofs.characters.CharactersFifoCharacter.push.Goals as goal
 

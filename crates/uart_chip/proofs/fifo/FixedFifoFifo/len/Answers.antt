@@ -1,4 +1,4 @@
-use Rattle.std.proofs.Common.{length, sym, ap, ◌∙◌, rules}
+use Rattle.std.proofs.Common.{length, sym, ap, ◌∙◌}
 use Rattle.uart_chip.proofs.Rings.{length-window}
 use Rattle.uart_chip.proofs.fifo.FixedFifoFifo.len.Goals as goal
 

@@ -1,4 +1,4 @@
-use Rattle.std.proofs.Common.{drop, ap, ◌∙◌, arith, rules}
+use Rattle.std.proofs.Common.{drop, ap, ◌∙◌, rules}
 use Rattle.uart_chip.proofs.Rings.{window_after_pop}
 use Rattle.uart_chip.proofs.fifo.FixedFifoFifo.pop.Goals as goal
 

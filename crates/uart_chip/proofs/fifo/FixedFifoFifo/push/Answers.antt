@@ -1,4 +1,4 @@
-use Rattle.std.proofs.Common.{[], ◌∷◌, ◌++◌, ◌<◌, length, ap, ◌∙◌, arith, rules}
+use Rattle.std.proofs.Common.{[], ◌∷◌, ◌++◌, ◌<◌, length, ap, ◌∙◌, arith}
 use Rattle.uart_chip.proofs.Rings.{length-window, window_after_push}
 use Rattle.uart_chip.proofs.fifo.FixedFifoFifo.push.Goals as goal
 

@@ -1,4 +1,4 @@
-use Rattle.std.proofs.Common.{rules, ◌≡◌, ◌+◌, suc, Some, slice_get, drop, ap, ◌∙◌, sym, arith}
+use Rattle.std.proofs.Common.{rules, ◌≡◌, ◌+◌, suc, Some, slice_get, drop, ap, ◌∙◌, arith}
 use Rattle.uart_chip.specs.Receiver.{discard, set_mark}
 use Rattle.uart_chip.specs.declared.event.ArrivalMark.TheVariants.{Discarded}
 use Rattle.uart_chip.proofs.Errors.{discard_next}

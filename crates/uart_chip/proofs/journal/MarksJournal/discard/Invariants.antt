@@ -1,4 +1,4 @@
-use Rattle.std.proofs.Common.{◌≡◌, ◌≤◌, length, drop}
+use Rattle.std.proofs.Common.{◌≡◌, length, drop}
 use Rattle.uart_chip.specs.Receiver.{discard}
 use Rattle.uart_chip.proofs.journal.MarksJournal.discard.Given as goal
 

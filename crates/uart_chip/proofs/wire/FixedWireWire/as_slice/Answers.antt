@@ -1,4 +1,4 @@
-use Rattle.std.proofs.Common.{◌≤◌, ◌-◌, take, drop, length, ap, ◌∙◌, refl, arith, rules}
+use Rattle.std.proofs.Common.{◌≤◌, ◌-◌, take, drop, ap, ◌∙◌, refl, arith}
 use Rattle.std.proofs.lemmas.List.{length-take-le, length-drop, take_all}
 use Rattle.uart_chip.specs.Wire.{WireState}
 use Rattle.uart_chip.proofs.Rings.{window_of_twice}

@@ -1,4 +1,4 @@
-use Rattle.std.proofs.Common.{◌≡◌, ◌<◌, ◌≤◌, ◌+◌, ◌%◌, [], ◌∷◌, ◌++◌, take, length, ap, ◌∙◌, arith, rules}
+use Rattle.std.proofs.Common.{◌<◌, ◌≤◌, ◌+◌, ◌%◌, [], ◌∷◌, ◌++◌, take, length, ap, ◌∙◌, arith}
 use Rattle.std.proofs.lemmas.List.{length-take-le, length-set}
 use Rattle.uart_chip.specs.Ring.{window}
 use Rattle.uart_chip.specs.Wire.{WireState}

@@ -1,4 +1,4 @@
-use Rattle.std.proofs.Common.{◌≤◌, ◌-◌, take, length, ap, sym, arith, rules}
+use Rattle.std.proofs.Common.{◌≤◌, ◌-◌, take, ap, sym, arith}
 use Rattle.std.proofs.lemmas.List.{length-take-le}
 use Rattle.uart_chip.proofs.Rings.{length-window}
 use Rattle.uart_chip.proofs.wire.FixedWireWire.room.Goals as goal

@@ -1,4 +1,4 @@
-use Rattle.std.proofs.Common.{◌≤◌, min, take, drop, length, ap, ◌∙◌, arith, rules}
+use Rattle.std.proofs.Common.{◌≤◌, min, take, drop, ap, ◌∙◌, arith}
 use Rattle.std.proofs.lemmas.List.{length-take-le}
 use Rattle.uart_chip.specs.Ring.{window}
 use Rattle.uart_chip.specs.Wire.{WireState}

@@ -22,7 +22,8 @@ impl LiveChip {
         self.uart.data()
     }
 
-    /// Returns the chip with these data, and with these bytes on its wire. It continues as the chip that was saved.
+    /// Returns the chip with these data, and with these bytes on its wire. It continues as the chip
+    /// that was saved.
     ///
     /// # Errors
     ///

@@ -1,0 +1,42 @@
+-- A trace: calls with their lists and answers, one after the other.
+use Rattle.std.specs.Prelude.{◌≡◌, ◌⊎◌, ℕ, List, [], ◌∷◌, map, if◌then◌else◌, ⊤}
+use Rattle.uart_16550.specs.Driver.{Fields, with_limit}
+use Rattle.uart_16550.specs.Replay.{access_of}
+use Rattle.uart_16550.specs.State.{fresh_fields}
+use Rattle.uart_calls.specs.declared.call.Answer.{Answer}
+use Rattle.uart_language.specs.Output.{answer_text}
+use Rattle.uart_calls.specs.Lists.{IsFollowed, IsListOf}
+use Rattle.uart_judges.specs.declared.traces.judging.Stray.{Stray}
+use Rattle.uart_judges.specs.declared.traces.exchange.Exchange.{Exchange}
+
+-- from these fields the call makes the recorded list, returns an answer that is printed as recorded, and those fields
+-- are after it
+pub record IsExchange (x : Exchange) (before after : Fields) : Type 0 where
+  pub answer : Answer
+  pub makes : IsListOf x.call before (map access_of x.accesses.items) answer after
+  pub printed : answer_text answer ≡ x.answer.items
+
+-- the fields before a call: those after the call before it, or those of a new driver with this limit
+abbrev pub fields_before : ℕ → Exchange → Fields → Fields
+fields_before limit x fields = if x.is_first then with_limit limit fresh_fields else fields
+
+-- this holds for each call in turn
+abbrev pub AreCalls : ℕ → Fields → List Exchange → Type 0
+AreCalls limit fields [] = ⊤
+AreCalls limit fields (x ∷ xs) =
+    (after : Fields) × IsExchange x (fields_before limit x fields) after × AreCalls limit after xs
+
+-- the call from these fields is not as recorded, and this is reported: it, the number of accesses before the first that
+-- no list of the call has, and what the driver does there instead
+pub record StraysHere (before : Fields) (x : Exchange) (stray : Stray) : Type 0 where
+  pub call : stray.exchange.now ≡ x
+  pub none : (after : Fields) → IsExchange x before after → ⊥
+  pub first :
+      IsFollowed x.call before (map access_of x.accesses.items) (record { kept = stray.kept; turn = stray.turn })
+
+-- so it is for the first call that is not as recorded
+abbrev pub IsStray : ℕ → Fields → List Exchange → Stray → Type 0
+IsStray limit fields [] stray = ⊥
+IsStray limit fields (x ∷ xs) stray =
+    StraysHere (fields_before limit x fields) x stray
+    ⊎ ((after : Fields) × IsExchange x (fields_before limit x fields) after × IsStray limit after xs stray)

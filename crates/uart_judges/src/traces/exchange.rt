@@ -1,0 +1,24 @@
+//! A call of a trace.
+ghost use Rattle.uart_calls.specs.Calls.{IsRunnable};
+ghost use Rattle.uart_judges.specs.Runnable.{runnable_is_one};
+
+use uart_16550::replay::Entry;
+use uart_calls::Call;
+
+/// One call of a trace: the call, its accesses, and what it returned.
+#[derive(Debug, Drop)]
+pub struct Exchange {
+    /// Whether the call is the first of a new driver.
+    pub is_first: bool,
+    /// The call.
+    pub call: Call,
+    /// Its accesses.
+    pub accesses: Vec<Entry>,
+    /// The line of each access, counted from 1.
+    pub access_lines: Vec<usize>,
+    /// What it returned, as it is printed.
+    pub answer: Vec<u8>,
+    /// The line of the answer.
+    pub answer_line: usize,
+    ghost runnable: { IsRunnable call } by { runnable_is_one call },
+}

@@ -1,5 +1,0 @@
-pub mod RingRun
-pub mod RingBytes
-pub mod RingStatuses
-pub mod RingArmed
-pub mod RingSession

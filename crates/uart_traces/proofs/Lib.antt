@@ -1,3 +1,0 @@
-pub mod Judged
-pub mod Ends
-pub mod Read

@@ -1,0 +1,221 @@
+//! The interrupt handler of the documentation, over a replay.
+ghost use Rattle.uart_spec.specs.Config.{IsComputable};
+
+use super::lists::Step::{self, Burst, Changed, Read, Received, Sent, Write};
+use super::lists::{DATA_READY, EMPTY, LINE_STATUS, MODEM_STATUS, NONE, answers_in, made};
+use bitflags::Flags;
+use std::alloc::Global;
+use std::test::Fail;
+use thiserror::Error;
+use uart_16550::backend::Backend;
+use uart_16550::replay::Replay;
+use uart_16550::{Config, InitError, Uart16550};
+use uart_ring::{MAX_INTERRUPTS, RingError, Uart16550Ring};
+use uart_spec::registers::{IER, LSR, MSR, offsets};
+
+/// Why a port was not started.
+#[derive(Debug, Drop, Error)]
+pub enum StartError {
+    /// The rings could not be made.
+    #[error(transparent)]
+    NoRings(RingError),
+    /// The device could not be initialised.
+    #[error(transparent)]
+    NoDevice(InitError),
+}
+
+/// A serial port that is served by interrupts.
+#[derive(Drop)]
+pub struct Port<B> {
+    ring: Uart16550Ring<B>,
+    overruns: u32,
+    bad_characters: u32,
+}
+
+// Returns a configuration without THR_EMPTY: the rings enable it as long as bytes wait to be sent.
+fn config() -> Config
+    ensures { IsComputable result }
+{
+    let interrupts = IER::DATA_READY
+        .union(IER::RECEIVER_LINE_STATUS)
+        .union(IER::MODEM_STATUS);
+    Config {
+        interrupts,
+        check_cts_before_sending: true,
+        ..Config::DEFAULT
+    }
+}
+
+impl<B: Backend + Drop> Port<B> {
+    /// Starts the port. The interrupt is to be masked at the interrupt controller until this has
+    /// returned.
+    pub fn start(alloc: Global, backend: B) -> Result<Self, StartError> {
+        let uart = Uart16550::new_with_backend(backend);
+        let mut ring = match Uart16550Ring::new(alloc, uart, 1024, 256) {
+            Ok(ring) => ring,
+            Err((_uart, cause)) => return Err(StartError::NoRings(cause)),
+        };
+        match ring.inner_mut().init(config()) {
+            Ok(()) => Ok(Port {
+                ring,
+                overruns: 0,
+                bad_characters: 0,
+            }),
+            Err(cause) => Err(StartError::NoDevice(cause)),
+        }
+    }
+
+    /// Handles an interrupt. Does not wait.
+    pub fn on_interrupt(&mut self) {
+        // After `MAX_INTERRUPTS` more may be pending. A controller that detects edges does not
+        // report them again.
+        for _round in 0..4 {
+            if self.ring.service() < MAX_INTERRUPTS {
+                break;
+            }
+        }
+        self.look_at_line();
+        self.look_at_modem();
+    }
+
+    // Counts what was lost or arrived broken.
+    fn look_at_line(&mut self) {
+        let line = self.ring.take_line();
+        if line.contains(LSR::OVERRUN_ERROR) {
+            self.overruns = self.overruns.saturating_add(1);
+        }
+        if line.intersects(LSR::PARITY_ERROR.union(LSR::FRAMING_ERROR)) {
+            self.bad_characters = self.bad_characters.saturating_add(1);
+        }
+    }
+
+    // Sends what waits when CTS came back: the chip has already reported that it is empty.
+    fn look_at_modem(&mut self) {
+        let modem = self.ring.take_modem();
+        if modem.contains(MSR::DELTA_CTS.union(MSR::CTS)) {
+            self.ring.resume_transmit();
+        }
+    }
+
+    /// Changes the configuration while bytes may wait. The interrupt is to be masked meanwhile.
+    pub fn configure(&mut self, config: Config) -> Result<(), InitError>
+        requires { IsComputable config }
+    {
+        self.ring.inner_mut().init(config)?;
+        // `init` has disabled THR_EMPTY.
+        self.ring.resume_transmit();
+        Ok(())
+    }
+
+    /// Sends bytes from the front, and returns how many were accepted. The interrupt is to be
+    /// masked meanwhile.
+    pub fn write(&mut self, bytes: &[u8]) -> usize {
+        self.ring.queue(bytes)
+    }
+
+    /// Takes received bytes, and returns how many. The interrupt is to be masked meanwhile.
+    pub fn read(&mut self, slots: &mut [u8]) -> usize {
+        self.ring.take(slots)
+    }
+}
+
+// An `init` of an idle chip with this configuration.
+const INIT: [Step; 22] = [
+    Read(offsets::SPR, 0xa5),
+    Write(offsets::SPR, 0x42),
+    Read(offsets::SPR, 0x42),
+    Write(offsets::SPR, 0x73),
+    Read(offsets::SPR, 0x73),
+    Write(offsets::SPR, 0xa5),
+    Write(offsets::LCR, 0x00),
+    Write(offsets::IER, 0x00),
+    Write(offsets::LCR, 0x80),
+    Write(offsets::DLL, 0x0c),
+    Write(offsets::DLM, 0x00),
+    Write(offsets::LCR, 0x00),
+    Write(offsets::LCR, 0x03),
+    Write(offsets::FCR, 0xc7),
+    Read(offsets::ISR, 0xc1),
+    Read(offsets::LSR, 0x00),
+    Write(offsets::MCR, 0x0b),
+    Read(offsets::LSR, 0x40),
+    Read(offsets::LSR, 0x00),
+    Read(offsets::ISR, 0xc1),
+    Read(offsets::MSR, 0x00),
+    Write(offsets::IER, 0x0d),
+];
+
+// A write of five bytes is held back, and THR_EMPTY enabled.
+const HELD: [Step; 4] = [
+    Read(offsets::LSR, EMPTY),
+    Read(offsets::MCR, 0x0b),
+    Read(offsets::MSR, 0x00),
+    Changed(offsets::IER, 0x0d, 0x0f),
+];
+
+fn in_turn(rt: &impl AllocGlobal, parts: &[&[Step]]) -> Result<Vec<Step>, Fail> {
+    let mut steps = Vec::new(rt.alloc());
+    for part in parts {
+        for &step in *part {
+            steps.push(step)?;
+        }
+    }
+    Ok(steps)
+}
+
+#[test]
+fn a_port_that_is_served_by_interrupts(rt: HostRuntime) -> Result<(), Fail> {
+    let served = [
+        // CTS came back: the bytes are sent, and THR_EMPTY is disabled.
+        Read(offsets::ISR, MODEM_STATUS),
+        Read(offsets::MSR, 0x11),
+        Read(offsets::ISR, NONE),
+        Read(offsets::LSR, EMPTY),
+        Read(offsets::MSR, 0x10),
+        Read(offsets::LSR, EMPTY),
+        Read(offsets::MCR, 0x0b),
+        Read(offsets::MSR, 0x10),
+        Sent(b"hello"),
+        Changed(offsets::IER, 0x0f, 0x0d),
+        // Two characters are received, and an overrun is noted.
+        Read(offsets::ISR, LINE_STATUS),
+        Read(offsets::LSR, 0x63),
+        Read(offsets::ISR, DATA_READY),
+        Received(b"ok"),
+        Read(offsets::LSR, EMPTY),
+        Read(offsets::ISR, NONE),
+        Read(offsets::LSR, EMPTY),
+        Read(offsets::MSR, 0x10),
+    ];
+    let steps = in_turn(&rt, &[&INIT, &HELD, &served])?;
+    let answers = answers_in(&rt, &steps)?;
+    let mut port = Port::start(rt.alloc(), Replay::new(&answers))?;
+    assert_eq!(rt; port.write(b"hello"), 5);
+    assert_eq!(rt; port.ring.transmit_len(), 5);
+    port.on_interrupt();
+    assert_eq!(rt; port.ring.transmit_len(), 0);
+    port.on_interrupt();
+    let mut slots = [0; 4];
+    assert_eq!(rt; port.read(&mut slots), 2);
+    assert_eq!(rt; slots, *b"ok\0\0");
+    assert_eq!(rt; (port.overruns, port.bad_characters), (1, 0));
+    made(&rt, port.ring.inner().backend(), &steps);
+    Ok(())
+}
+
+#[test]
+fn a_port_that_is_configured_again(rt: HostRuntime) -> Result<(), Fail> {
+    // Without CTS checking the bytes are sent after the `init`.
+    let sent = [Burst(b"hello"), Changed(offsets::IER, 0x0d, 0x0d)];
+    let steps = in_turn(&rt, &[&INIT, &HELD, &INIT, &sent])?;
+    let answers = answers_in(&rt, &steps)?;
+    let mut port = Port::start(rt.alloc(), Replay::new(&answers))?;
+    assert_eq!(rt; port.write(b"hello"), 5);
+    port.configure(Config {
+        check_cts_before_sending: false,
+        ..config()
+    })?;
+    assert_eq!(rt; port.ring.transmit_len(), 0);
+    made(&rt, port.ring.inner().backend(), &steps);
+    Ok(())
+}
