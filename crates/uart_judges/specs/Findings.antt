@@ -3,6 +3,7 @@ use Rattle.std.specs.Prelude.{ℕ, Bool, true, false, ◌==◌, ◌&&◌, ◌||�
 use Rattle.std.specs.Prelude.{Option, Some, None, List, [], ◌∷◌}
 use Rattle.std.specs.Int.RustNames.{bit_or}
 use Rattle.std.specs.Option.{option_map}
+use Rattle.uart_chip.specs.Receiver.{characters_of}
 use Rattle.uart_spec.specs.Bits.{flag, has, has_any}
 use Rattle.uart_spec.specs.declared.registers.fifo_control.FCR.{FCR}
 use Rattle.uart_spec.specs.declared.registers.fifo_control.TheConstants.FCR as fcr_bits
@@ -19,7 +20,7 @@ use Rattle.uart_spec.specs.declared.registers.line_status.TheConstants.LSR as ls
 use Rattle.uart_spec.specs.declared.registers.modem_control.MCR.{MCR}
 use Rattle.uart_spec.specs.declared.registers.modem_control.TheConstants.MCR as mcr_bits
 use Rattle.uart_spec.specs.declared.registers.modem_status.TheConstants.MSR as msr_bits
-use Rattle.uart_judges.specs.Shows.{characters, is_cut}
+use Rattle.uart_judges.specs.Shows.{is_cut}
 use Rattle.uart_judges.specs.History.{depth, empties, has_dlab}
 use Rattle.uart_judges.specs.declared.audit.auditor.Auditor.{Auditor}
 use Rattle.uart_judges.specs.declared.audit.action.Action.{Action}
@@ -50,7 +51,7 @@ same_setup a b =
     && (same a.divisor_high b.divisor_high
     && (same (option_map (λ lcr. lcr.0) a.line) (option_map (λ lcr. lcr.0) b.line)
     && (same (option_map (λ on. flag on 1) a.has_fifo) (option_map (λ on. flag on 1) b.has_fifo)
-    && (same (option_map characters a.trigger) (option_map characters b.trigger)
+    && (same (option_map characters_of a.trigger) (option_map characters_of b.trigger)
     && same (option_map besides_thr_empty a.interrupts) (option_map besides_thr_empty b.interrupts)))))
 
 -- the set-up is that of the latest transfer

@@ -3,6 +3,7 @@ use Rattle.std.specs.Prelude.{ℕ, ◌-◌, ◌^◌, Bool, true, false, ◌&&◌
 use Rattle.std.specs.Prelude.{Option, Some, None, List, [], ◌∷◌, length, filter}
 use Rattle.std.specs.List.{list_any}
 use Rattle.std.specs.Option.{option_or}
+use Rattle.uart_chip.specs.Receiver.{characters_of}
 use Rattle.uart_spec.specs.Access.{Access}
 use Rattle.uart_spec.specs.Bits.{has}
 use Rattle.uart_spec.specs.declared.baud.TheConstants.{FIFO_SIZE}
@@ -18,7 +19,7 @@ use Rattle.uart_spec.specs.declared.registers.line_control.LCR.{LCR}
 use Rattle.uart_spec.specs.declared.registers.line_control.TheConstants.LCR as lcr_bits
 use Rattle.uart_spec.specs.declared.registers.line_status.TheConstants.LSR as lsr_bits
 use Rattle.uart_judges.specs.Actions.{action}
-use Rattle.uart_judges.specs.Shows.{characters, disables, fifo_of, high_of, identified, identifies, interrupts_of}
+use Rattle.uart_judges.specs.Shows.{disables, fifo_of, high_of, identified, identifies, interrupts_of}
 use Rattle.uart_judges.specs.Shows.{is_reason}
 use Rattle.uart_judges.specs.Shows.{line_of, looks_at_line, low_of, modem_of, opens, ready_of, receives, sends, serves}
 use Rattle.uart_judges.specs.Shows.{sets_low, shows_idle}
@@ -83,7 +84,7 @@ is_sending past = list_any sends (since shows_idle past)
 
 -- the number of bytes at which a data interrupt comes
 abbrev pub level : Option Bool → Option FifoTriggerLevel → ℕ
-level (Some true) (Some trigger) = characters trigger
+level (Some true) (Some trigger) = characters_of trigger
 level fifo trigger = 1
 
 -- how many bytes an interrupt shows to wait, with this interrupt level

@@ -77,13 +77,18 @@ abbrev pub happened_at : ℕ → Happening → Stamp → Line
 happened_at number what stamp =
     line.Event (record { happening = what; times = 1; line = number; time = stamp.time; interrupt = stamp.interrupt })
 
--- OFFSET VALUE: an access of this kind
-unfoldable pub access_in : (ℕ → ℕ → Entry) → ℕ → List (List ℕ) → Result Line Cause
-access_in kind number ws =
+-- an access in this direction
+abbrev pub of_direction : Direction → ℕ → ℕ → Entry
+of_direction direction.Read offset byte = entry.Read offset byte
+of_direction direction.Write offset byte = entry.Write offset byte
+
+-- OFFSET VALUE: an access in this direction
+unfoldable pub access_in : Direction → ℕ → List (List ℕ) → Result Line Cause
+access_in way number ws =
     stamp_in 3 ws >>= (λ stamp.
     offset_in (word_at 1 ws) >>= (λ offset.
     byte_in (word_at 2 ws) >>= (λ byte.
-    Ok (happened_at number (happening.Access (kind offset byte)) stamp))))
+    Ok (happened_at number (happening.Access (of_direction way offset byte)) stamp))))
 
 -- ERRORS VALUE: an arrival
 unfoldable pub arrival_in : ℕ → List (List ℕ) → Result Line Cause
@@ -116,8 +121,8 @@ again_in ws =
 
 -- what a line of our own means
 abbrev pub own_in : Option Key → ℕ → List (List ℕ) → Result Line Cause
-own_in (Some key.Read) number ws = access_in entry.Read number ws
-own_in (Some key.Write) number ws = access_in entry.Write number ws
+own_in (Some key.Read) number ws = access_in direction.Read number ws
+own_in (Some key.Write) number ws = access_in direction.Write number ws
 own_in (Some key.Arrive) number ws = arrival_in number ws
 own_in (Some key.Interrupt) number ws = interrupt_in number ws
 own_in (Some key.Lines) number ws = modem_in number ws
@@ -155,11 +160,6 @@ direction_of name =
 abbrev pub word_of : Direction → List ℕ
 word_of direction.Read = codes "read"
 word_of direction.Write = codes "write"
-
--- an access in this direction
-abbrev pub of_direction : Direction → ℕ → ℕ → Entry
-of_direction direction.Read offset byte = entry.Read offset byte
-of_direction direction.Write offset byte = entry.Write offset byte
 
 -- addr 0xHH val 0xHH, from this word on
 unfoldable pub log_fields_in : Direction → ℕ → List (List ℕ) → Result Entry Cause

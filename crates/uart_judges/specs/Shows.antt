@@ -51,13 +51,6 @@ level_of fcr =
     else if field 6 2 fcr.0 == 2 then Eight
     else Fourteen
 
--- the number of characters of a trigger level
-abbrev pub characters : FifoTriggerLevel → ℕ
-characters One = 1
-characters Four = 4
-characters Eight = 8
-characters Fourteen = 14
-
 -- the byte has more bits than a character that is sent with this line control
 abbrev pub is_cut : LCR → ℕ → Bool
 is_cut lcr byte = nat_le (2 ^ (5 + field 0 2 lcr.0)) byte

@@ -4,6 +4,7 @@
 //! A recording is read as a stream, in constant memory.
 
 mod auditing;
+mod printing;
 mod replaying;
 mod stop;
 mod times;

@@ -8,7 +8,7 @@
 #![tactic(auto)]
 
 mod cause;
-mod fields;
+pub mod fields;
 mod items;
 pub mod limits;
 mod numbers;

@@ -4,13 +4,10 @@ use crate::grammar::{Field, fields_after, usage};
 use crate::text::{line_at, printable, word_at, word_count};
 use std::alloc::{AllocError, Global};
 use std::fmt::Write;
-use uart_machine::script::{Cause, ScriptError, parse};
+use uart_machine::script::Cause;
 
 // What is expected where a word is empty.
 const ONE_SPACE: &str = "exactly one space between two words, and none at the end";
-
-// A first line for a line that is checked by itself.
-const FIRST_LINE: &[u8] = b"chip 16550a 1 1\n";
 
 // Returns the column in which a word of the line starts, counted from 1. A word after the last
 // would start after the line.
@@ -22,34 +19,14 @@ fn column_of(line: &[u8], word: usize) -> usize {
     column
 }
 
-// Returns a script of the line alone, in which each field after the first few has a word that is
-// accepted.
-fn probe(alloc: Global, line: &[u8], fields: &[Field], kept: usize) -> Result<Vec<u8>, AllocError> {
-    let mut script = Vec::new(alloc);
-    let word = word_at(line, 0).unwrap_or(&[]);
-    if word != b"chip".as_slice() {
-        script.extend_from_slice(FIRST_LINE)?;
-    }
-    script.extend_from_slice(word)?;
+// Returns the index of the first field whose word is refused.
+fn refused_field(line: &[u8], fields: &[Field]) -> usize {
     for (i, field) in fields.iter().enumerate() {
-        if let Some(word) = word_at(line, i + 1) {
-            script.push(b' ')?;
-            script.extend_from_slice(if i < kept { word } else { field.sample() })?;
+        if word_at(line, i + 1).is_some_and(|word| !field.accepts(word)) {
+            return i;
         }
     }
-    Ok(script)
-}
-
-// Returns the index of the first field that is refused.
-fn refused_field(alloc: Global, line: &[u8], fields: &[Field]) -> Result<usize, AllocError> {
-    for field in 0..fields.len() {
-        match parse(alloc, &probe(alloc, line, fields, field + 1)?) {
-            Ok(_) => {}
-            Err(ScriptError::Refused { .. }) => return Ok(field),
-            Err(ScriptError::OutOfMemory) => return Err(AllocError),
-        }
-    }
-    Ok(0)
+    0
 }
 
 // The column of a fault, and what is accepted there.
@@ -118,7 +95,7 @@ fn wrong_count(alloc: Global, line: &[u8]) -> Result<Place, AllocError> {
 
 fn bad_field(alloc: Global, line: &[u8]) -> Result<Place, AllocError> {
     let fields = fields_after(word_at(line, 0).unwrap_or(&[]));
-    let index = refused_field(alloc, line, fields)?;
+    let index = refused_field(line, fields);
     let place = index.saturating_add(1);
     let wants = match word_at(line, place) {
         Some(b"") => ONE_SPACE,

@@ -3,6 +3,11 @@
 //! Only `parse` decides which lines are accepted. This is the table of explanations for lines that
 //! it refuses.
 
+use uart_language::fields::{
+    byte_in, bytes_in, char_ticks_in, chip_in, count_in, cts_in, cut_in, errors_in, interrupts_in,
+    level_in, limit_in, lines_in, rate_in, text_in, ticks_in, wire_capacity_in, word_length_in,
+};
+
 /// A field of a line.
 #[derive(Clone, Copy, Debug, PartialEq, Eq)]
 pub enum Field {
@@ -68,18 +73,26 @@ impl Field {
         }
     }
 
-    /// Returns a word that the field accepts.
-    pub fn sample(self) -> &'static [u8] {
+    /// Returns whether the field accepts this word.
+    pub fn accepts(self, word: &[u8]) -> bool {
         match self {
-            Field::Chip => b"16550a",
-            Field::Cut => b"cut",
-            Field::Errors => b"p",
-            Field::Level | Field::Limit | Field::CharTicks | Field::Rate => b"1",
-            Field::WireRoom | Field::Ticks | Field::Lines | Field::Count => b"1",
-            Field::Cts => b"cts",
-            Field::Byte | Field::Interrupts => b"00",
-            Field::DataBits => b"8",
-            Field::Bytes | Field::Text => b"-",
+            Field::Chip => chip_in(word).is_ok(),
+            Field::CharTicks => char_ticks_in(word).is_ok(),
+            Field::WireRoom => wire_capacity_in(word).is_ok(),
+            Field::Cut => cut_in(word).is_ok(),
+            Field::Limit => limit_in(word).is_ok(),
+            Field::Ticks => ticks_in(word).is_ok(),
+            Field::Byte => byte_in(word).is_ok(),
+            Field::Errors => errors_in(word).is_ok(),
+            Field::Lines => lines_in(word).is_ok(),
+            Field::Level => level_in(word).is_ok(),
+            Field::Rate => rate_in(word).is_ok(),
+            Field::Cts => cts_in(word).is_ok(),
+            Field::Interrupts => interrupts_in(word).is_ok(),
+            Field::DataBits => word_length_in(word).is_ok(),
+            Field::Count => count_in(word).is_ok(),
+            Field::Bytes => bytes_in(word).is_ok(),
+            Field::Text => text_in(word).is_ok(),
         }
     }
 }

@@ -9,8 +9,9 @@ ghost use Rattle.uart_spec.specs.declared.registers.interrupt_enable.IER.{IER};
 use crate::audit::action::Action;
 use crate::audit::auditor::{Auditor, Due};
 use crate::audit::setup::Setup;
-use crate::audit::shows::{identified, level_size};
+use crate::audit::shows::identified;
 use bitflags::Flags;
+use uart_chip::receiving::characters_of;
 use uart_spec::registers::{FCR, FifoTriggerLevel, IER, InterruptType, LCR, LSR, MSR};
 
 // Returns whether DLAB is set.
@@ -28,7 +29,7 @@ fn level(has_fifo: Option<bool>, trigger: Option<FifoTriggerLevel>) -> u8
     ensures { result ≡ spec.level has_fifo trigger }
 {
     match (has_fifo, trigger) {
-        (Some(true), Some(trigger)) => level_size(trigger),
+        (Some(true), Some(trigger)) => characters_of(trigger),
         _ => 1,
     }
 }

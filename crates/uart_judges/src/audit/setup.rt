@@ -1,15 +1,15 @@
 //! The set-up of a chip, as far as it is known.
 ghost use Rattle.std.specs.Prelude.{◌≡◌};
 ghost use Rattle.std.specs.Option.{option_map};
+ghost use Rattle.uart_chip.specs.Receiver.{characters_of};
 ghost use Rattle.uart_judges.specs.Findings.{besides_thr_empty, same, same_setup};
 ghost use Rattle.uart_judges.specs.Judging.{next_setup};
-ghost use Rattle.uart_judges.specs.Shows.{characters};
 ghost use Rattle.uart_spec.specs.Bits.{flag};
 
 use crate::audit::action::Action;
-use crate::audit::shows::level_size;
 use bitflags::Flags;
 use std::fmt;
+use uart_chip::receiving::characters_of;
 use uart_spec::registers::{FifoTriggerLevel, IER, LCR, Parity};
 
 /// The set-up of a chip, as far as it was written, or shown by a read.
@@ -60,10 +60,10 @@ fn fifo_number(has_fifo: Option<bool>) -> Option<u8>
 }
 
 fn trigger_number(trigger: Option<FifoTriggerLevel>) -> Option<u8>
-    ensures { result ≡ option_map characters trigger }
+    ensures { result ≡ option_map characters_of trigger }
 {
     match trigger {
-        Some(level) => Some(level_size(level)),
+        Some(level) => Some(characters_of(level)),
         None => None,
     }
 }
@@ -168,7 +168,7 @@ impl Setup {
     fn write_fifo<W: fmt::Write>(&self, f: &mut fmt::Formatter<W>) -> fmt::Result {
         match (self.has_fifo, self.trigger) {
             (Some(true), Some(level)) => {
-                write!(f, ", FIFOs on with trigger level {}", level_size(level))
+                write!(f, ", FIFOs on with trigger level {}", characters_of(level))
             }
             (Some(true), None) => f.write_str(", FIFOs on"),
             (Some(false), _) => f.write_str(", FIFOs off"),

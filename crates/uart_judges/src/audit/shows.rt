@@ -23,18 +23,6 @@ fn level_of(fcr: FCR) -> FifoTriggerLevel
     fcr.fifo_trigger_level()
 }
 
-// Returns the number of characters of a trigger level.
-pub(crate) fn level_size(level: FifoTriggerLevel) -> u8
-    ensures { result ≡ spec.characters level }
-{
-    match level {
-        FifoTriggerLevel::One => 1,
-        FifoTriggerLevel::Four => 4,
-        FifoTriggerLevel::Eight => 8,
-        FifoTriggerLevel::Fourteen => 14,
-    }
-}
-
 // Returns the largest byte that a word of this length holds.
 fn largest(length: WordLength) -> u8
     ensures { result + 1 ≡ 2 ^ (5 + word_length_code length) }

@@ -1,9 +1,10 @@
 //! Prints what the driver of a recording does to its chip.
 
 use crate::audit::{Auditor, Finding, Severity, Stretch};
+use crate::findings::printing::{Judge, print_findings};
 use crate::findings::stop::Stop;
 use crate::findings::times::Times;
-use crate::recording::{Event, Happening, Recording};
+use crate::recording::{Event, Happening};
 use std::alloc::Global;
 use std::io::{Read, Write};
 use uart_16550::replay::Entry;
@@ -64,54 +65,63 @@ fn print_reads<W: Write>(
     Ok(warnings.saturating_add(found))
 }
 
-// What judges a recording.
+// The judge of a driver.
 #[derive(Drop)]
-struct Judge {
+struct Auditing {
     auditor: Auditor,
     // An access that has no finding and changes nothing now, so that more of them have none either,
     // if one is known.
     quiet: Option<Entry>,
 }
 
-// Goes on by an access that was made so many times in turn, at least once, and prints what is found
-// there. Returns how many warnings these are.
-fn print_accesses<W: Write>(
-    out: &mut W,
-    file: &str,
-    judge: &mut Judge,
-    access: Entry,
-    line: u64,
-    times: u64,
-) -> Result<u64, Stop> {
-    let before = judge.auditor;
-    let findings = judge.auditor.step(access);
-    if judge.auditor == before {
-        // Nothing changes, so each access has the same findings.
-        judge.quiet = (findings == [None; 5]).then_some(access);
-        return print(out, file, line, &findings, Times(times));
-    }
-    judge.quiet = None;
-    match access {
-        Entry::Read(offset, answer) if times != 1 => {
-            judge.auditor = before;
-            print_reads(out, file, line, judge.auditor.reads(offset, answer, times))
+impl Auditing {
+    // Goes on by an access that was made so many times in turn, at least once, and prints what is
+    // found there. Returns how many warnings these are.
+    fn print_accesses<W: Write>(
+        &mut self,
+        out: &mut W,
+        file: &str,
+        access: Entry,
+        line: u64,
+        times: u64,
+    ) -> Result<u64, Stop> {
+        let before = self.auditor;
+        let findings = self.auditor.step(access);
+        if self.auditor == before {
+            // Nothing changes, so each access has the same findings.
+            self.quiet = (findings == [None; 5]).then_some(access);
+            return print(out, file, line, &findings, Times(times));
         }
-        _ => print(out, file, line, &findings, Times(times)),
+        self.quiet = None;
+        match access {
+            Entry::Read(offset, answer) if times != 1 => {
+                self.auditor = before;
+                print_reads(out, file, line, self.auditor.reads(offset, answer, times))
+            }
+            _ => print(out, file, line, &findings, Times(times)),
+        }
     }
 }
 
-// Goes on by what happened, and prints what is found there. Returns how many warnings these are.
-fn print_event<W: Write>(
-    out: &mut W,
-    file: &str,
-    judge: &mut Judge,
-    event: &Event,
-) -> Result<u64, Stop> {
-    match event.happening {
-        Happening::Access(access) if event.times > 0 && judge.quiet != Some(access) => {
-            print_accesses(out, file, judge, access, event.line, event.times)
+impl Judge for Auditing {
+    const COUNTED: &'static str = "warnings";
+
+    fn print_event<W: Write>(
+        &mut self,
+        out: &mut W,
+        file: &str,
+        event: &Event,
+    ) -> Result<u64, Stop> {
+        match event.happening {
+            Happening::Access(access) if event.times > 0 && self.quiet != Some(access) => {
+                self.print_accesses(out, file, access, event.line, event.times)
+            }
+            _ => Ok(0),
         }
-        _ => Ok(0),
+    }
+
+    fn print_end<W: Write>(&self, out: &mut W, file: &str, lines: u64) -> Result<u64, Stop> {
+        print(out, file, lines, &self.auditor.end(), Times(1))
     }
 }
 
@@ -128,22 +138,9 @@ pub fn audit<R: Read + Drop, W: Write>(
     reader: R,
     out: &mut W,
 ) -> Result<u64, Stop> {
-    let mut recording = Recording::new(alloc, reader)?;
-    let mut judge = Judge {
+    let mut judge = Auditing {
         auditor: Auditor::new(),
         quiet: None,
     };
-    let mut warnings = 0u64;
-    for _ in 0..u64::MAX {
-        let Some(event) = recording.next_event()? else {
-            break;
-        };
-        let found = print_event(out, file, &mut judge, &event)?;
-        warnings = warnings.saturating_add(found);
-    }
-    let lines = recording.lines();
-    let found = print(out, file, lines, &judge.auditor.end(), Times(1))?;
-    warnings = warnings.saturating_add(found);
-    writeln!(out, "{file}: {lines} lines, {warnings} warnings").map_err(Stop::Output)?;
-    Ok(warnings)
+    print_findings(alloc, file, reader, out, &mut judge)
 }

@@ -1,8 +1,9 @@
 //! Prints where the chip of a recording answers as no chip of its model could.
 
+use crate::findings::printing::{Judge, print_findings};
 use crate::findings::stop::Stop;
 use crate::findings::times::Times;
-use crate::recording::{Event, Happening, Recording};
+use crate::recording::{Event, Happening};
 use crate::replay::{Difference, Replayer, Start};
 use std::alloc::Global;
 use std::io::{Read, Write};
@@ -28,30 +29,36 @@ fn print<W: Write>(
     }
 }
 
-// Follows what happened, and prints what the chip could not have answered there. Returns how many
-// differences these are.
-fn print_event<W: Write>(
-    out: &mut W,
-    file: &str,
-    replayer: &mut Replayer,
-    event: &Event,
-) -> Result<u64, Stop> {
-    match event.happening {
-        Happening::Access(Entry::Read(offset, answer)) => {
-            let reported = replayer.reads(offset, answer, event.times);
-            let others = event.times.saturating_sub(1);
-            if reported.first == reported.others {
-                return print(out, file, event.line, reported.first, event.times);
+impl Judge for Replayer {
+    const COUNTED: &'static str = "differences";
+
+    fn print_event<W: Write>(
+        &mut self,
+        out: &mut W,
+        file: &str,
+        event: &Event,
+    ) -> Result<u64, Stop> {
+        match event.happening {
+            Happening::Access(Entry::Read(offset, answer)) => {
+                let reported = self.reads(offset, answer, event.times);
+                let others = event.times.saturating_sub(1);
+                if reported.first == reported.others {
+                    return print(out, file, event.line, reported.first, event.times);
+                }
+                let first = print(out, file, event.line, reported.first, 1)?;
+                let more = print(out, file, event.line, reported.others, others)?;
+                Ok(first.saturating_add(more))
             }
-            let first = print(out, file, event.line, reported.first, 1)?;
-            let more = print(out, file, event.line, reported.others, others)?;
-            Ok(first.saturating_add(more))
+            Happening::Access(Entry::Write(offset, value)) => {
+                self.write(offset, value);
+                Ok(0)
+            }
+            _ => Ok(0),
         }
-        Happening::Access(Entry::Write(offset, value)) => {
-            replayer.write(offset, value);
-            Ok(0)
-        }
-        _ => Ok(0),
+    }
+
+    fn print_end<W: Write>(&self, _out: &mut W, _file: &str, _lines: u64) -> Result<u64, Stop> {
+        Ok(0)
     }
 }
 
@@ -68,17 +75,6 @@ pub fn replay<R: Read + Drop, W: Write>(
     reader: R,
     out: &mut W,
 ) -> Result<u64, Stop> {
-    let mut recording = Recording::new(alloc, reader)?;
     let mut replayer = Replayer::new(Chip::Uart16550A, Start::InUse);
-    let mut differences = 0u64;
-    for _ in 0..u64::MAX {
-        let Some(event) = recording.next_event()? else {
-            break;
-        };
-        let found = print_event(out, file, &mut replayer, &event)?;
-        differences = differences.saturating_add(found);
-    }
-    let lines = recording.lines();
-    writeln!(out, "{file}: {lines} lines, {differences} differences").map_err(Stop::Output)?;
-    Ok(differences)
+    print_findings(alloc, file, reader, out, &mut replayer)
 }

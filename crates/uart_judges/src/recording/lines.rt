@@ -6,6 +6,7 @@ ghost use Rattle.uart_judges.specs.Events.{IsOfARegister};
 ghost use Rattle.uart_judges.specs.RecordingLines.{HasEvent, access_in, again_in, alone_in, arrival_in, direction_of, event_name};
 ghost use Rattle.uart_judges.specs.RecordingLines.{happened_at, has_time, interrupt_in, is_log, key_in, log_access_in, log_fields_in};
 ghost use Rattle.uart_judges.specs.RecordingLines.{log_stamp_in, logged_in, modem_in, of_direction, own_in, said_in, says, stamp_in, word_of};
+ghost use Rattle.uart_spec.specs.declared.baud.TheConstants.{NUM_REGISTERS};
 
 use crate::recording::cause::Fault;
 use crate::recording::event::{Event, Happening};
@@ -46,6 +47,19 @@ enum Key {
 enum Direction {
     Read,
     Write,
+}
+
+impl Direction {
+    // Returns an access in this direction.
+    fn access(self, offset: usize, byte: u8) -> Entry
+        ensures value { result ≡ of_direction self offset byte }
+        ensures register { offset < NUM_REGISTERS → IsOfARegister result }
+    {
+        match self {
+            Direction::Read => Entry::Read(offset, byte),
+            Direction::Write => Entry::Write(offset, byte),
+        }
+    }
 }
 
 // What a line says of the state after an event: the level of the interrupt line, and the time.
@@ -133,29 +147,16 @@ fn happened_at(number: u64, happening: Happening, stamp: Stamp) -> Line
     })
 }
 
-// Returns the read of a line.
+// Returns the access of a line.
 #[tactic(auto, unfolding(crate::specs::RecordingLines::access_in))]
-fn read_in(number: u64, line: &[u8]) -> Result<Line, Cause>
-    ensures read { result ≡ access_in Entry.Read number (words_of line.now) }
+fn access_in(direction: Direction, number: u64, line: &[u8]) -> Result<Line, Cause>
+    ensures read { result ≡ access_in direction number (words_of line.now) }
     ensures event { IfOk result (HasEvent number) }
 {
     let stamp = stamp_in(3, line)?;
     let offset = offset_in(word_at(line, 1))?;
-    let answer = byte_in(word_at(line, 2))?;
-    let happening = Happening::Access(Entry::Read(offset, answer));
-    Ok(happened_at(number, happening, stamp))
-}
-
-// Returns the write of a line.
-#[tactic(auto, unfolding(crate::specs::RecordingLines::access_in))]
-fn write_in(number: u64, line: &[u8]) -> Result<Line, Cause>
-    ensures read { result ≡ access_in Entry.Write number (words_of line.now) }
-    ensures event { IfOk result (HasEvent number) }
-{
-    let stamp = stamp_in(3, line)?;
-    let offset = offset_in(word_at(line, 1))?;
-    let value = byte_in(word_at(line, 2))?;
-    let happening = Happening::Access(Entry::Write(offset, value));
+    let byte = byte_in(word_at(line, 2))?;
+    let happening = Happening::Access(direction.access(offset, byte));
     Ok(happened_at(number, happening, stamp))
 }
 
@@ -215,8 +216,8 @@ fn own_in(key: Option<Key>, number: u64, line: &[u8]) -> Result<Line, Cause>
     ensures event { IfOk result (HasEvent number) }
 {
     match key {
-        Some(Key::Read) => read_in(number, line),
-        Some(Key::Write) => write_in(number, line),
+        Some(Key::Read) => access_in(Direction::Read, number, line),
+        Some(Key::Write) => access_in(Direction::Write, number, line),
         Some(Key::Arrive) => arrival_in(number, line),
         Some(Key::Interrupt) => interrupt_in(number, line),
         Some(Key::Lines) => modem_in(number, line),
@@ -301,10 +302,7 @@ fn log_fields_in(direction: Direction, at: usize, line: &[u8]) -> Result<Entry, 
     }
     let offset = log_offset_in(word_at(line, at + 1))?;
     let byte = log_byte_in(word_at(line, at + 3))?;
-    match direction {
-        Direction::Read => Ok(Entry::Read(offset, byte)),
-        Direction::Write => Ok(Entry::Write(offset, byte)),
-    }
+    Ok(direction.access(offset, byte))
 }
 
 // Returns the access of a line of the log, with or without the word behind the name.

@@ -1,0 +1,50 @@
+//! Prints what a judge finds in a recording.
+
+use crate::findings::stop::Stop;
+use crate::recording::{Event, Recording};
+use std::alloc::Global;
+use std::io::{Read, Write};
+
+// A judge of recordings, which prints what it finds behind the name of the file and the number of
+// the line.
+pub(crate) trait Judge {
+    // What is counted.
+    const COUNTED: &'static str;
+
+    // Goes on by what happened, and prints what is found there. Returns how many of what is counted
+    // these are.
+    fn print_event<W: Write>(
+        &mut self,
+        out: &mut W,
+        file: &str,
+        event: &Event,
+    ) -> Result<u64, Stop>;
+
+    // Prints what is found at the end, after this many lines. Returns how many of what is counted
+    // these are.
+    fn print_end<W: Write>(&self, out: &mut W, file: &str, lines: u64) -> Result<u64, Stop>;
+}
+
+// Reads a recording to its end, prints what the judge finds, and then how many there are. Returns
+// how many there are.
+pub(crate) fn print_findings<R: Read + Drop, W: Write, J: Judge>(
+    alloc: Global,
+    file: &str,
+    reader: R,
+    out: &mut W,
+    judge: &mut J,
+) -> Result<u64, Stop> {
+    let mut recording = Recording::new(alloc, reader)?;
+    let mut count = 0u64;
+    for _ in 0..u64::MAX {
+        let Some(event) = recording.next_event()? else {
+            break;
+        };
+        count = count.saturating_add(judge.print_event(out, file, &event)?);
+    }
+    let lines = recording.lines();
+    count = count.saturating_add(judge.print_end(out, file, lines)?);
+    let counted = J::COUNTED;
+    writeln!(out, "{file}: {lines} lines, {count} {counted}").map_err(Stop::Output)?;
+    Ok(count)
+}
