@@ -95,12 +95,12 @@ CLAUSES = {
         "requires empty { W.sent wire.old ≡ [] }",
         "requires room { length bytes.now ≤ W.most wire.old }",
     ],
-    "wire::FixedWire::new": ["requires { capacity ≤ WIRE_ROOM }"],
 }
 
 GUARDS = {
     **{path: guard for path, guard in table.GUARDS.items() if path.startswith("uart_spec::registers::")},
     **{f"uart_chip::{path}": Guard(clauses, reason=INSIDE) for path, clauses in CLAUSES.items()},
+    "uart_live::fixed::FixedWire::new": Guard(["requires { capacity ≤ WIRE_ROOM }"], reason=INSIDE),
     "uart_chip::fifo::Fifo::push": Guard(["requires { length (items self.old) < FIFO_SIZE }"], reason=table.NO_BODY),
     "uart_chip::wire::Wire::push": Guard(["requires { length (sent self.old) < most self.old }"], reason=table.NO_BODY),
     "uart_chip::transmitting::TransmitterParts::put": Guard(
@@ -139,7 +139,8 @@ for access, first in (("read", "LSR"), ("write", "DATA")):
     )
 # Of types that are not exported, so nothing tests what the trait requires.
 IMPLEMENTED = {
-    **{f"uart_chip::{path}::push": None for path in ("characters::Characters", "fifo::FixedFifo", "wire::FixedWire")},
+    "uart_chip::characters::Characters::push": None,
+    **{f"uart_live::fixed::{name}::push": None for name in ("FixedFifo", "FixedWire")},
     **{f"uart_chip::transmitter::Transmitter::{name}": None for name in ("put", "send")},
     **{f"uart_chip::receiver::Receiver::{name}": None for name in ("put", "set_unscheduled_lost")},
 }
@@ -195,6 +196,6 @@ TABLE = types.SimpleNamespace(
             **{f"uart_chip::controlling::{name}": ["offset"] for name in ("read_register", "write_register")},
             "uart_chip::receiving::is_data_pending": ["characters_of ( parts . trigger ( ) )"],
         },
-        "LARGE": {"uart_chip/src/event.rt": ["65_536"]},
+        "LARGE": {"uart_spec/src/event.rt": ["65_536"]},
     }
 )

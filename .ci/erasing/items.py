@@ -231,7 +231,7 @@ class File:
         if not kept:
             self.drop("item", first, close, path, f"use {', '.join(names)}", comments=False)
         elif kept != names:
-            self.change("item", opened, close - 1, f"{{{', '.join(kept)}}}")
+            self.change("item", opened, close - 1, f"{{{', '.join(kept)}}}" if kept[1:] else kept[0])
             left_out = [name for name in names if name not in kept]
             self.dropped.append(Dropped("item", path, f"use {', '.join(left_out)}"))
         return not kept

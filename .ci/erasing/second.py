@@ -56,6 +56,8 @@ def left_out(text, crate, allow):
         kept = [name for name in listed if name not in allow.LEFT_OUT_ITEMS]
         if kept == listed:
             return found[0]
+        if len(kept) == 1:
+            return f"{found[1][:-1]}{kept[0]};"
         return f"{found[1]}{', '.join(kept)}{found[3]}" if kept else ""
 
     return lists.sub(shorter, text)

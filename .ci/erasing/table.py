@@ -46,6 +46,7 @@ MODULES = {
 # Files that are not read further, with the reason.
 LEFT_OUT = {
     "uart_spec/src/tests.rt": "tests, in rust/uart_16550_tests",
+    "uart_spec/src/event.rt": "of the chip, which is in rust/uart_16550_chip",
     "uart_16550/src/replay.rt": "a backend for proofs about other crates",
     "uart_ring/src/running.rt": "runs over the software chip",
     "uart_ring/src/running/call.rt": "runs over the software chip",

@@ -10,10 +10,10 @@ use Rattle.uart_c.specs.declared.modem.UartModem.{UartModem}
 use Rattle.uart_c.specs.declared.receiver.UartReceiver.{UartReceiver}
 use Rattle.uart_c.specs.declared.transmitter.UartTransmitter.{UartTransmitter}
 use Rattle.uart_chip.specs.Chip.{ChipState, fresh}
-use Rattle.uart_chip.specs.Masks.{IsWithin}
+use Rattle.uart_spec.specs.Bits.{IsWithin}
 use Rattle.uart_chip.specs.declared.chip.ChipData.{ChipData}
 use Rattle.uart_chip.specs.declared.chip.Latches.{Latches}
-use Rattle.uart_chip.specs.declared.event.Chip.{Chip}
+use Rattle.uart_spec.specs.declared.event.Chip.{Chip}
 use Rattle.uart_chip.specs.declared.modem.ModemData.{ModemData}
 use Rattle.uart_chip.specs.declared.receiver.ReceiverData.{ReceiverData}
 use Rattle.uart_chip.specs.declared.transmitter.TransmitterData.{TransmitterData}

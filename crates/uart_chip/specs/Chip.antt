@@ -3,8 +3,8 @@ use Rattle.std.specs.Prelude.{ℕ, ◌+◌, ◌-◌, ◌*◌, ◌%◌, ◌^◌, 
 use Rattle.std.specs.Prelude.{length, Option, Some, None, nat_lt, if◌then◌else◌, ◌==◌, bit_and, bit_or}
 use Rattle.std.specs.List.{list_any}
 use Rattle.uart_chip.specs.declared.transmitter.Shifting.{Shifting}
-use Rattle.uart_chip.specs.declared.event.Chip.{Chip}
-use Rattle.uart_chip.specs.declared.event.Chip.TheVariants.{Uart16550A, Uart16450}
+use Rattle.uart_spec.specs.declared.event.Chip.{Chip}
+use Rattle.uart_spec.specs.declared.event.Chip.TheVariants.{Uart16550A, Uart16450}
 use Rattle.uart_spec.specs.Bits.{has_any, field, flag}
 use Rattle.uart_spec.specs.Fields.{trigger_code}
 use Rattle.uart_spec.specs.Fields.{interrupt_code}

@@ -2,13 +2,11 @@ pub mod Masks
 pub mod Transmitter
 pub mod Receiver
 pub mod Errors
-pub mod Ring
 pub mod Wire
 pub mod Modem
 pub mod Chip
 pub mod Status
 pub mod Jumps
 pub mod Machine
-pub mod Build
 pub mod Data
 pub mod Snapshot

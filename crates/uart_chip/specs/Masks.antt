@@ -1,12 +1,7 @@
--- Masks of registers: that a value is within one, and what the chip keeps of a write. Offsets and bits are the
--- constants of `uart_spec`.
-use Rattle.std.specs.Prelude.{◌≡◌, ℕ, ◌+◌, bit_and}
+-- Masks of registers: what the chip keeps of a write. Offsets and bits are the constants of `uart_spec`.
+use Rattle.std.specs.Prelude.{ℕ, ◌+◌}
 use Rattle.uart_spec.specs.declared.registers.interrupt_enable.TheConstants.IER
 use Rattle.uart_spec.specs.declared.registers.modem_control.TheConstants.MCR
-
--- no bit outside of the mask is set
-abbrev pub IsWithin : ℕ → ℕ → Type 0
-IsWithin value mask = bit_and value mask ≡ value
 
 -- what IER keeps: the four interrupts that the chip has
 abbrev pub ier_bits : ℕ

@@ -5,8 +5,8 @@ use Rattle.std.specs.Prelude.{◌==◌, bit_and}
 use Rattle.uart_chip.specs.declared.receiver.Character.{Character}
 use Rattle.uart_chip.specs.declared.receiver.Origin.{Origin}
 use Rattle.uart_chip.specs.declared.receiver.Origin.TheVariants.{Arrived, Looped, Live}
-use Rattle.uart_chip.specs.declared.event.ArrivalMark.{ArrivalMark}
-use Rattle.uart_chip.specs.declared.event.ArrivalMark.TheVariants.{Pending, Waiting, Read, Discarded, Dropped}
+use Rattle.uart_spec.specs.declared.event.ArrivalMark.{ArrivalMark}
+use Rattle.uart_spec.specs.declared.event.ArrivalMark.TheVariants.{Pending, Waiting, Read, Discarded, Dropped}
 use Rattle.uart_chip.specs.Transmitter.{room}
 use Rattle.uart_spec.specs.Bits.{has_any}
 use Rattle.uart_spec.specs.declared.registers.fifo_trigger_level.FifoTriggerLevel.{FifoTriggerLevel}

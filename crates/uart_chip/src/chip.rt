@@ -6,15 +6,14 @@ ghost use Rattle.uart_chip.specs.Snapshot.{chip_of, unscheduled};
 ghost use Rattle.uart_chip.specs.Machine.{arrivals, perform};
 ghost use Rattle.uart_chip.specs.Jumps.{moves, jumps_in};
 ghost use Rattle.uart_chip.specs.Receiver.{is_timed_out};
-ghost use Rattle.uart_chip.specs.declared.event.ArrivalMark.TheVariants.{Pending};
-ghost use Rattle.uart_chip.specs.declared.event.TheConstants.{MAX_CHAR_TICKS};
+ghost use Rattle.uart_spec.specs.declared.event.ArrivalMark.TheVariants.{Pending};
+ghost use Rattle.uart_spec.specs.declared.event.TheConstants.{MAX_CHAR_TICKS};
 ghost use Rattle.uart_spec.specs.declared.baud.TheConstants.{FIFO_SIZE, NUM_REGISTERS};
 
 use crate::controlling::{
     ChipParts, advance, arrive_live, change_lines, cut, divisor, is_interrupting, is_loopback,
     read, receive_room, tick, write,
 };
-use crate::event::{Chip, Event};
 use crate::fifo::{Fifo, HeapFifo};
 use crate::journal::{Journal, Marks};
 use crate::modem::{Modem, ModemData};
@@ -30,6 +29,7 @@ use bitflags::Flags;
 use std::alloc::{AllocError, Global};
 use std::marker::Model;
 use uart_spec::registers::{DLL, DLM, FifoTriggerLevel, IER, LCR, MCR, MSR, SPR};
+use uart_spec::{Chip, Event};
 
 /// The registers that keep what is written to them.
 #[derive(Clone, Copy)]

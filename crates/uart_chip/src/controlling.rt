@@ -15,12 +15,12 @@ ghost use Rattle.uart_spec.specs.declared.baud.TheConstants.{NUM_REGISTERS};
 ghost use Rattle.uart_spec.specs.declared.registers.offsets.TheConstants as offsets;
 
 use crate::chip::Latches;
-use crate::event::Chip;
 use crate::masks::{flag, kept_interrupts, kept_modem_control};
 use crate::receiving;
 use crate::receiving::{ReceiverParts, is_data_pending, is_timed_out};
 use crate::transmitting::{TransmitterParts, next_move};
 use bitflags::Flags;
+use uart_spec::Chip;
 use uart_spec::registers::{
     FCR, FifoTriggerLevel, IER, ISR, InterruptType, LCR, LSR, MCR, MSR, WordLength, offsets,
 };

@@ -1,14 +1,14 @@
 //! The journal of a receiver: what became of each arrival of a schedule.
 ghost use Rattle.std.specs.Prelude.{◌≡◌, List, [], length, replicate, slice_get, IfOk};
 ghost use Rattle.uart_chip.specs.Receiver as spec;
-ghost use Rattle.uart_chip.specs.declared.event.ArrivalMark.{ArrivalMark};
-ghost use Rattle.uart_chip.specs.declared.event.ArrivalMark.TheVariants.{Pending};
+ghost use Rattle.uart_spec.specs.declared.event.ArrivalMark.{ArrivalMark};
+ghost use Rattle.uart_spec.specs.declared.event.ArrivalMark.TheVariants.{Pending};
 
-use crate::event::ArrivalMark;
 use crate::fifo::Fifo;
 use crate::receiver::{Character, Origin};
 use std::alloc::{AllocError, Global};
 use std::marker::Model;
+use uart_spec::ArrivalMark;
 
 /// Where a receiver records what becomes of each arrival.
 pub trait Journal {
@@ -36,7 +36,7 @@ pub struct Marks {
 
 impl Model for Marks {
     ghost use Rattle.std.specs.Prelude.{List};
-    ghost use Rattle.uart_chip.specs.declared.event.ArrivalMark.{ArrivalMark};
+    ghost use Rattle.uart_spec.specs.declared.event.ArrivalMark.{ArrivalMark};
 
     ghost Value = { List ArrivalMark };
 
@@ -89,20 +89,4 @@ impl Journal for Marks {
             self.set_mark(origin, ArrivalMark::Discarded);
         }
     }
-}
-
-/// The journal of a receiver without a schedule: it records nothing.
-#[derive(Drop)]
-pub struct NoMarks;
-
-impl Journal for NoMarks {
-    ghost recorded = { λ _. [] };
-
-    fn len(&self) -> usize {
-        0
-    }
-
-    fn set_mark(&mut self, _origin: Origin, _mark: ArrivalMark) {}
-
-    fn discard<Q: Fifo<Character>>(&mut self, _characters: &Q) {}
 }

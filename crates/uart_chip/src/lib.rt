@@ -8,7 +8,6 @@
 mod characters;
 mod chip;
 pub mod controlling;
-mod event;
 mod fifo;
 mod journal;
 mod masks;
@@ -22,13 +21,13 @@ mod wire;
 pub use characters::Characters;
 pub use chip::{ChipData, Latches, Uart};
 pub use controlling::identification;
-pub use event::{
-    ArrivalMark, BuildError, Chip, Event, MAX_CHAR_TICKS, MAX_WIRE_CAPACITY, arrivals, refusal,
-};
-pub use fifo::{Fifo, FixedFifo, HeapFifo, room_of};
-pub use journal::{Journal, Marks, NoMarks};
+pub use fifo::{Fifo, HeapFifo, room_of};
+pub use journal::{Journal, Marks};
 pub use masks::{flag, kept_interrupts, kept_modem_control};
 pub use modem::{Modem, ModemData};
 pub use receiver::{Character, Origin, Receiver, ReceiverData};
 pub use transmitter::{Shifting, Transmitter, TransmitterData};
-pub use wire::{FixedWire, HeapWire, WIRE_ROOM, Wire, send};
+pub use uart_spec::{
+    ArrivalMark, BuildError, Chip, Event, MAX_CHAR_TICKS, MAX_WIRE_CAPACITY, arrivals, refusal,
+};
+pub use wire::{HeapWire, Wire, send};

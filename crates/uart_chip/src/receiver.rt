@@ -7,10 +7,9 @@ ghost use Rattle.uart_chip.specs.Errors.{error_weight};
 ghost use Rattle.uart_spec.specs.declared.baud.TheConstants.{FIFO_SIZE};
 ghost use Rattle.uart_spec.specs.declared.registers.line_status.TheConstants.LSR;
 ghost use Rattle.uart_chip.specs.Data.{receiver_of, without_schedule};
-ghost use Rattle.uart_chip.specs.declared.event.TheConstants.{MAX_CHAR_TICKS};
+ghost use Rattle.uart_spec.specs.declared.event.TheConstants.{MAX_CHAR_TICKS};
 
 use crate::characters::Characters;
-use crate::event::ArrivalMark;
 use crate::fifo::{Fifo, items_of};
 use crate::journal::{Journal, Marks};
 use crate::masks::flag;
@@ -18,8 +17,8 @@ use crate::receiving::{ReceiverParts, enter};
 use arrayvec::ArrayVec;
 use bitflags::Flags;
 use std::marker::Model;
-use uart_spec::FIFO_SIZE;
 use uart_spec::registers::{FifoTriggerLevel, LSR};
+use uart_spec::{ArrivalMark, FIFO_SIZE};
 
 /// Where a character is from.
 #[derive(Clone, Copy, Default)]

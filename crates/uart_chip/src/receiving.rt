@@ -9,11 +9,10 @@ ghost use Rattle.uart_chip.specs.Status.{receiver_status};
 ghost use Rattle.uart_chip.specs.Transmitter.{room};
 ghost use Rattle.uart_spec.specs.declared.baud.TheConstants.{FIFO_SIZE};
 
-use crate::event::ArrivalMark;
 use crate::fifo::room_of;
 use crate::receiver::{Character, Origin};
-use uart_spec::FIFO_SIZE;
 use uart_spec::registers::{FifoTriggerLevel, LSR};
+use uart_spec::{ArrivalMark, FIFO_SIZE};
 
 /// What a receiver is made of: a queue of characters and what is known of them, and how each is
 /// read and changed.

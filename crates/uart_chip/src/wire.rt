@@ -1,15 +1,8 @@
 //! The wire of a transmitter: the bytes that were sent and have not been taken.
 ghost use Rattle.std.specs.Prelude.{◌≡◌, ◌<◌, ◌≤◌, ◌-◌, ℕ, List, [], ◌∷◌, ◌++◌, length, drop, IfOk};
-ghost use Rattle.uart_chip.specs.declared.wire.TheConstants.{WIRE_ROOM};
 
 use std::alloc::{AllocError, Global};
 use std::marker::Model;
-
-/// The most bytes that a [`FixedWire`] has room for.
-pub const WIRE_ROOM: usize = 64;
-
-// The places of a `FixedWire`: each byte is in two of them.
-const WIRE_PLACES: usize = 2 * WIRE_ROOM;
 
 /// A wire with room for some number of bytes, wherever they are.
 pub trait Wire {
@@ -116,82 +109,5 @@ impl Wire for HeapWire {
         let count = count.min(len);
         self.list.copy_within(count..len, 0);
         self.list.truncate(len - count);
-    }
-}
-
-/// A wire in an array, without other memory.
-///
-/// Each byte is in the array twice, [`WIRE_ROOM`] places apart. So the bytes are one slice wherever
-/// the first of them is, and to send or to take a byte costs the same whatever waits.
-#[derive(Drop)]
-pub struct FixedWire {
-    slots: [u8; WIRE_PLACES],
-    start: usize,
-    count: usize,
-    limit: usize,
-}
-
-impl Model for FixedWire {
-    ghost use Rattle.std.specs.Prelude.{◌≡◌, ◌<◌, ◌≤◌, length, take, drop};
-    ghost use Rattle.uart_chip.specs.Ring.{window};
-    ghost use Rattle.uart_chip.specs.Wire.{WireState};
-    ghost use Rattle.uart_chip.specs.declared.wire.TheConstants.{WIRE_PLACES, WIRE_ROOM};
-
-    ghost Value = { WireState };
-
-    ghost view = { λ w. record {
-      bytes = window w.start w.count (take WIRE_ROOM w.slots);
-      capacity = w.limit;
-    } };
-
-    ghost invariant = { λ w.
-        (w.start < WIRE_ROOM) × (w.count ≤ w.limit) × (w.limit ≤ WIRE_ROOM) ×
-        (length w.slots ≡ WIRE_PLACES) × (drop WIRE_ROOM w.slots ≡ take WIRE_ROOM w.slots) };
-}
-
-impl FixedWire {
-    /// Returns an empty wire with room for `capacity` bytes.
-    pub fn new(capacity: usize) -> Self
-        requires { capacity ≤ WIRE_ROOM }
-        ensures bytes { result.bytes ≡ [] }
-        ensures capacity { result.capacity ≡ capacity }
-    {
-        FixedWire {
-            slots: [0; WIRE_PLACES],
-            start: 0,
-            count: 0,
-            limit: capacity,
-        }
-    }
-}
-
-impl Wire for FixedWire {
-    ghost sent = { λ w. w.bytes };
-
-    ghost most = { λ w. w.capacity };
-
-    fn capacity(&self) -> usize {
-        self.limit
-    }
-
-    fn room(&self) -> usize {
-        self.limit - self.count
-    }
-
-    fn as_slice(&self) -> &[u8] {
-        &self.slots[self.start..][..self.count]
-    }
-
-    fn push(&mut self, byte: u8) {
-        let place = (self.start + self.count) % WIRE_ROOM;
-        self.slots[place] = byte;
-        self.slots[WIRE_ROOM + place] = byte;
-        self.count += 1;
-    }
-
-    fn take(&mut self, count: usize) {
-        let count = count.min(self.count);
-        self.start = (self.start + count) % WIRE_ROOM;
-        self.count -= count;
     }
 }

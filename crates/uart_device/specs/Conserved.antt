@@ -1,9 +1,9 @@
 -- What has been sent, what was received, and what was kept of it.
 use Rattle.std.specs.Prelude.{◌≡◌, ℕ, ◌+◌, ◌-◌, Bool, true, false, not, List, [], ◌∷◌, ◌++◌, map, filter, take, length}
-use Rattle.uart_chip.specs.declared.event.ArrivalMark.{ArrivalMark}
-use Rattle.uart_chip.specs.declared.event.ArrivalMark.TheVariants.{Dropped}
-use Rattle.uart_chip.specs.declared.event.Event.{Event}
-use Rattle.uart_chip.specs.declared.event.Event.TheVariants.{Arrive}
+use Rattle.uart_spec.specs.declared.event.ArrivalMark.{ArrivalMark}
+use Rattle.uart_spec.specs.declared.event.ArrivalMark.TheVariants.{Dropped}
+use Rattle.uart_spec.specs.declared.event.Event.{Event}
+use Rattle.uart_spec.specs.declared.event.Event.TheVariants.{Arrive}
 use Rattle.uart_chip.specs.declared.receiver.Character.{Character}
 use Rattle.uart_chip.specs.declared.receiver.Origin.{Origin}
 use Rattle.uart_chip.specs.declared.receiver.Origin.TheVariants.{Arrived, Looped, Live}

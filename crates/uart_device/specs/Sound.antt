@@ -2,24 +2,25 @@
 use Rattle.std.specs.Prelude.{◌≡◌, ◌≢◌, ℕ, ◌+◌, ◌*◌, ◌<◌, ◌≤◌, Bool, true, false, List, [], ◌∷◌, length, Option, Some}
 use Rattle.std.specs.Prelude.{None}
 use Rattle.std.specs.List.{AllByRecursion}
-use Rattle.uart_chip.specs.declared.event.ArrivalMark.{ArrivalMark}
-use Rattle.uart_chip.specs.declared.event.ArrivalMark.TheVariants.{Pending, Waiting}
-use Rattle.uart_chip.specs.declared.event.Chip.TheVariants.{Uart16550A}
-use Rattle.uart_chip.specs.declared.event.Event.{Event}
-use Rattle.uart_chip.specs.declared.event.TheConstants.{MAX_CHAR_TICKS}
+use Rattle.uart_spec.specs.declared.event.ArrivalMark.{ArrivalMark}
+use Rattle.uart_spec.specs.declared.event.ArrivalMark.TheVariants.{Pending, Waiting}
+use Rattle.uart_spec.specs.declared.event.Chip.TheVariants.{Uart16550A}
+use Rattle.uart_spec.specs.declared.event.Event.{Event}
+use Rattle.uart_spec.specs.declared.event.TheConstants.{MAX_CHAR_TICKS}
 use Rattle.uart_chip.specs.declared.receiver.Character.{Character}
 use Rattle.uart_chip.specs.declared.receiver.Origin.{Origin}
 use Rattle.uart_chip.specs.declared.receiver.Origin.TheVariants.{Arrived, Looped, Live}
 use Rattle.uart_chip.specs.declared.transmitter.Shifting.{Shifting}
 use Rattle.uart_spec.specs.declared.registers.line_status.TheConstants.LSR
 use Rattle.uart_spec.specs.declared.registers.modem_status.TheConstants.MSR
-use Rattle.uart_chip.specs.Masks.{IsWithin, ier_bits, mcr_bits}
+use Rattle.uart_chip.specs.Masks.{ier_bits, mcr_bits}
+use Rattle.uart_spec.specs.Bits.{IsWithin}
 use Rattle.uart_chip.specs.Transmitter.{TransmitterState, room}
 use Rattle.uart_chip.specs.Receiver.{ReceiverState, mark_at}
 use Rattle.uart_chip.specs.Modem.{ModemState}
 use Rattle.uart_chip.specs.Chip.{LatchesState, ChipState}
 use Rattle.uart_chip.specs.Machine.{MachineState, arrivals}
-use Rattle.uart_chip.specs.Build.{IsLegal}
+use Rattle.uart_spec.specs.Build.{IsLegal}
 
 -- ---- the receiver
 

@@ -1,13 +1,13 @@
 //! The chip under a schedule.
 ghost use Rattle.std.specs.Prelude.{◌≡◌, ◌≤◌, true, length, slice_get, IfOk, IsOkUnless};
 ghost use Rattle.uart_chip.specs.Machine as spec;
-ghost use Rattle.uart_chip.specs.Build.{refusal};
+ghost use Rattle.uart_spec.specs.Build.{refusal};
 ghost use Rattle.uart_device.specs.Sound.{IsWhole};
 ghost use Rattle.uart_chip.specs.Transmitter.{held};
 ghost use Rattle.uart_device.specs.Conserved.{waiting};
 ghost use Rattle.uart_chip.specs.Chip.{divisor, ticks};
 ghost use Rattle.uart_chip.specs.Jumps.{most_jumps, jumps_in};
-ghost use Rattle.uart_chip.specs.declared.event.BuildError.{BuildError};
+ghost use Rattle.uart_spec.specs.declared.event.BuildError.{BuildError};
 
 use std::alloc::Global;
 use std::marker::Model;

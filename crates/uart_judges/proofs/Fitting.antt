@@ -7,7 +7,7 @@ use Rattle.std.proofs.lemmas.Nat.{and_assoc}
 use Rattle.std.specs.Int.Bits.{and_zero_r}
 use lib.Bits.{or_zero_r}
 use Rattle.std.proofs.Math.Bool.{or-true}
-use Rattle.uart_spec.specs.Bits.{has_any, flag}
+use Rattle.uart_spec.specs.Bits.{IsWithin, flag, has_any}
 use Rattle.uart_spec.specs.declared.registers.interrupt_enable.TheConstants.IER
 use Rattle.uart_spec.specs.declared.registers.interrupt_status.TheConstants.ISR
 use Rattle.uart_spec.specs.declared.registers.interrupt_type.InterruptType.{InterruptType}
@@ -26,7 +26,6 @@ use Rattle.uart_chip.specs.declared.receiver.Character.{Character}
 use Rattle.uart_chip.specs.declared.transmitter.Shifting.{Shifting}
 use Rattle.uart_chip.specs.Receiver.{unreported, has_errors, is_data_pending, is_timed_out}
 use Rattle.uart_chip.specs.Chip.{ChipState, answer, interrupt, identification, line_status, is_transmitter_empty}
-use Rattle.uart_chip.specs.Masks.{IsWithin}
 use Rattle.uart_chip.specs.Modem.{ModemState, looped_lines, lines_under}
 use Rattle.uart_chip.proofs.Bits.{and_or}
 use Rattle.uart_device.specs.Sound.{IsSoundModem}

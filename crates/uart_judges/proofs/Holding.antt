@@ -1,7 +1,7 @@
 -- That what is known holds of a chip, and that nothing between the accesses changes it.
 use Rattle.std.proofs.Common.{◌≡◌, ℕ, zero, suc, Bool, true, false, List, [], ◌∷◌, Option, Some, None, refl, ◌∙◌, if◌then◌else◌}
-use Rattle.uart_chip.specs.declared.event.Event.{Event}
-use Rattle.uart_chip.specs.declared.event.Event.TheVariants.{Ticks, Access as Gate, Mark}
+use Rattle.uart_spec.specs.declared.event.Event.{Event}
+use Rattle.uart_spec.specs.declared.event.Event.TheVariants.{Ticks, Access as Gate, Mark}
 use Rattle.uart_chip.specs.Chip.{ChipState, LatchesState, tick, ticks}
 use Rattle.uart_chip.specs.Machine.{perform, before_access}
 use Rattle.uart_device.proofs.lasting.Lasting.{lasts-before}

@@ -2,7 +2,7 @@
 use Rattle.std.specs.Prelude.{◌<◌, ⊤}
 use Rattle.uart_16550.specs.declared.replay.Entry.{Entry}
 use Rattle.uart_16550.specs.declared.replay.Entry.TheVariants as entry
-use Rattle.uart_chip.specs.Masks.{IsWithin}
+use Rattle.uart_spec.specs.Bits.{IsWithin}
 use Rattle.uart_judges.specs.declared.recording.event.Event.{Event}
 use Rattle.uart_judges.specs.declared.recording.event.Happening.{Happening}
 use Rattle.uart_judges.specs.declared.recording.event.Happening.TheVariants.{Access, Arrive, Interrupt, Lines}

@@ -2,9 +2,9 @@
 use Rattle.std.specs.Prelude.{◌≡◌, ℕ, zero, suc, Bool, true, false, List, [], ◌∷◌, ◌++◌, replicate, Option, Some, None}
 use Rattle.std.specs.Prelude.{IsSome, is_some, ⊤}
 use Rattle.uart_spec.specs.Access.{Access, Read, Write, Path}
-use Rattle.uart_chip.specs.declared.event.Chip.{Chip}
-use Rattle.uart_chip.specs.declared.event.Event.{Event}
-use Rattle.uart_chip.specs.Build.{refusal}
+use Rattle.uart_spec.specs.declared.event.Chip.{Chip}
+use Rattle.uart_spec.specs.declared.event.Event.{Event}
+use Rattle.uart_spec.specs.Build.{refusal}
 use Rattle.uart_chip.specs.Machine.{MachineState, MachineStep, fresh, cutting}
 use Rattle.uart_judges.specs.declared.replay.difference.Difference.{Difference}
 use Rattle.uart_judges.specs.declared.replay.difference.Reported.{Reported}

@@ -14,8 +14,8 @@ use Rattle.uart_spec.specs.declared.errors.RemoteReadyToReceiveError.TheVariants
 use Rattle.uart_spec.specs.declared.errors.LoopbackError.{LoopbackError}
 use Rattle.uart_spec.specs.declared.errors.LoopbackError.TheVariants as loopback
 use Rattle.uart_16550.specs.declared.dump.ConfigRegisterDump.{ConfigRegisterDump}
-use Rattle.uart_chip.specs.declared.event.ArrivalMark.{ArrivalMark}
-use Rattle.uart_chip.specs.declared.event.ArrivalMark.TheVariants as mark
+use Rattle.uart_spec.specs.declared.event.ArrivalMark.{ArrivalMark}
+use Rattle.uart_spec.specs.declared.event.ArrivalMark.TheVariants as mark
 use Rattle.uart_calls.specs.declared.call.Answer.{Answer}
 use Rattle.uart_calls.specs.declared.call.Answer.TheVariants as answer
 use Rattle.uart_language.specs.declared.cause.Cause.{Cause}

@@ -3,10 +3,10 @@ use Rattle.std.specs.Prelude.{◌≡◌, ◌↔◌, ℕ, ◌+◌, ◌<◌, ◌�
 use Rattle.std.specs.Prelude.{[], ◌∷◌, ◌++◌, length, map, Option, Some, None, Result, Ok, Err, IfOk, All, if◌then◌else◌}
 use Rattle.std.specs.Prelude.{flat_map, codes, drop}
 use Rattle.std.specs.Int.NonZero.{non_zero_u64_get}
-use Rattle.uart_chip.specs.declared.event.TheConstants.{MAX_CHAR_TICKS, MAX_WIRE_CAPACITY}
-use Rattle.uart_chip.specs.Build.{IsLegal}
-use Rattle.uart_chip.specs.declared.event.Chip.{Chip}
-use Rattle.uart_chip.specs.declared.event.Event.{Event}
+use Rattle.uart_spec.specs.declared.event.TheConstants.{MAX_CHAR_TICKS, MAX_WIRE_CAPACITY}
+use Rattle.uart_spec.specs.Build.{IsLegal}
+use Rattle.uart_spec.specs.declared.event.Chip.{Chip}
+use Rattle.uart_spec.specs.declared.event.Event.{Event}
 use Rattle.uart_calls.specs.declared.call.Call.{Call}
 use Rattle.uart_language.specs.declared.cause.Cause.{Cause}
 use Rattle.uart_language.specs.declared.cause.Cause.TheVariants.{BadByte, Misplaced, UnknownWord, WrongCount, TooLong}

@@ -16,8 +16,7 @@ use super::text::{has_bad_byte, word_at, word_count};
 use super::words::{Word, has_count, is_placed, word_of};
 use std::num::NonZeroU64;
 use uart_calls::Call;
-use uart_chip::{Chip, Event};
-use uart_spec::Config;
+use uart_spec::{Chip, Config, Event};
 
 /// The meaning of a line after the first.
 #[derive(Drop)]

@@ -16,7 +16,7 @@ use super::text::first_line;
 use std::alloc::{AllocError, Global};
 use std::num::NonZeroU64;
 use uart_calls::Call;
-use uart_chip::{Chip, Event};
+use uart_spec::{Chip, Event};
 
 /// A script: a chip, what happens to it, and the calls that are made.
 #[derive(Drop)]

@@ -14,9 +14,9 @@ use bitflags::Flags;
 use std::alloc::{AllocError, Global};
 use uart_16550::ConfigRegisterDump;
 use uart_calls::Answer;
-use uart_chip::ArrivalMark;
 use uart_spec::{
-    ByteSendError, InitError, InvalidDivisorError, LoopbackError, RemoteReadyToReceiveError,
+    ArrivalMark, ByteSendError, InitError, InvalidDivisorError, LoopbackError,
+    RemoteReadyToReceiveError,
 };
 
 /// Returns a digit below 16 as text, in lower case.

@@ -3,16 +3,16 @@ use Rattle.std.proofs.Common.{◌≡◌, ℕ, zero, suc, ◌≤◌, ◌<◌, Boo
 use Rattle.std.proofs.Common.{Option, Some, None, is_some, bit_or, drop, refl, arith, ◌∙◌, if◌then◌else◌}
 use Rattle.std.proofs.lemmas.Grind.{common_steps}
 use Rattle.std.proofs.lemmas.List.{length-drop}
-use Rattle.uart_chip.specs.declared.event.BuildError.TheVariants.{BadTicks, BadWire}
-use Rattle.uart_chip.specs.declared.event.Chip.{Chip}
-use Rattle.uart_chip.specs.declared.event.Chip.TheVariants.{Uart16550A, Uart16450}
-use Rattle.uart_chip.specs.declared.event.Event.TheVariants.{Lines}
-use Rattle.uart_chip.specs.declared.event.TheConstants.{MAX_CHAR_TICKS, MAX_WIRE_CAPACITY}
+use Rattle.uart_spec.specs.declared.event.BuildError.TheVariants.{BadTicks, BadWire}
+use Rattle.uart_spec.specs.declared.event.Chip.{Chip}
+use Rattle.uart_spec.specs.declared.event.Chip.TheVariants.{Uart16550A, Uart16450}
+use Rattle.uart_spec.specs.declared.event.Event.TheVariants.{Lines}
+use Rattle.uart_spec.specs.declared.event.TheConstants.{MAX_CHAR_TICKS, MAX_WIRE_CAPACITY}
 use Rattle.uart_chip.specs.declared.receiver.Character.{Character}
 use Rattle.uart_chip.specs.declared.receiver.Origin.TheVariants.{Looped, Live}
 use Rattle.uart_chip.specs.declared.transmitter.Shifting.{Shifting}
-use Rattle.uart_chip.specs.Build.{refusal}
-use Rattle.uart_chip.specs.Masks.{IsWithin}
+use Rattle.uart_spec.specs.Build.{refusal}
+use Rattle.uart_spec.specs.Bits.{IsWithin, flag, has_any}
 use Rattle.uart_chip.specs.Transmitter as transmitter
 use Rattle.uart_chip.specs.Transmitter.{TransmitterState, room, looped_byte}
 use Rattle.uart_chip.specs.Receiver as receiver
@@ -27,7 +27,6 @@ use Rattle.uart_device.proofs.soundness.Idle.{whole_ticks}
 use Rattle.uart_device.proofs.soundness.ReceiverSounds.{safe_bring}
 use Rattle.uart_device.proofs.soundness.Sounds.{Steady, steady_ticks, steady_lines, steady_read, steady_write, steady_receiver}
 use Rattle.uart_device.proofs.soundness.Sounds.{steady_transmitter, whole_perform, whole_read, whole_write}
-use Rattle.uart_spec.specs.Bits.{has_any, flag}
 use Rattle.uart_spec.specs.declared.registers.interrupt_type.InterruptType.{InterruptType}
 use Rattle.uart_spec.specs.declared.registers.interrupt_type.InterruptType.TheVariants.{ReceiverLineStatus}
 use Rattle.uart_spec.specs.declared.registers.interrupt_status.TheConstants.ISR
@@ -35,7 +34,7 @@ use Rattle.uart_spec.specs.declared.registers.fifo_control.TheConstants.FCR
 use Rattle.uart_spec.specs.declared.registers.line_status.TheConstants.LSR
 use Rattle.uart_spec.specs.declared.registers.modem_status.TheConstants.MSR
 use Rattle.uart_spec.specs.declared.registers.offsets.TheConstants as offsets
-use Rattle.uart_chip.specs.declared.wire.TheConstants.{WIRE_ROOM}
+use Rattle.uart_live.specs.declared.fixed.TheConstants.{WIRE_ROOM}
 use Rattle.uart_live.specs.declared.errors.ChipError.TheVariants as ChipError
 use Rattle.uart_live.specs.Held.{is_due, expire, arrive_holding}
 use Rattle.uart_live.specs.Live.{IsLive}

@@ -3,3 +3,4 @@ pub mod Held
 pub mod Laws
 pub mod Saved
 pub mod Refused
+pub mod Ring

@@ -1,6 +1,6 @@
 -- What holds of every live chip, whatever its owner and the guest did with it.
 use Rattle.std.specs.Prelude.{◌≡◌, ◌≤◌, false, [], length}
-use Rattle.uart_chip.specs.declared.event.TheConstants.{MAX_WIRE_CAPACITY}
+use Rattle.uart_spec.specs.declared.event.TheConstants.{MAX_WIRE_CAPACITY}
 use Rattle.uart_chip.specs.Chip.{ChipState}
 use Rattle.uart_device.specs.Sound.{IsWhole}
 

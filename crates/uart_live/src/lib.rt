@@ -6,13 +6,14 @@
 #![tactic(auto)]
 
 mod errors;
+mod fixed;
 pub mod laws;
 mod live;
 mod sound;
 
 pub use errors::{ChipError, InputError, RestoreError};
+pub use fixed::WIRE_ROOM;
 pub use live::LiveChip;
 pub use uart_chip::{
     Character, Chip, ChipData, Latches, ModemData, Origin, ReceiverData, Shifting, TransmitterData,
-    WIRE_ROOM,
 };

@@ -3,7 +3,7 @@ ghost use Rattle.std.specs.Prelude.{◌≡◌, ◌≢◌, ◌<◌, ◌≤◌, �
 ghost use Rattle.std.specs.Prelude.{not, bit_and, is_some, Err, IfOk, IsOk};
 ghost use Rattle.uart_chip.specs.Chip as spec;
 ghost use Rattle.uart_chip.specs.Jumps.{most_jumps, jumps_in};
-ghost use Rattle.uart_chip.specs.Masks.{IsWithin};
+ghost use Rattle.uart_spec.specs.Bits.{IsWithin, has_any};
 ghost use Rattle.uart_chip.specs.Receiver.{waiting};
 ghost use Rattle.uart_chip.specs.Transmitter.{held};
 ghost use Rattle.uart_live.specs.declared.errors.ChipError.{ChipError};
@@ -11,7 +11,6 @@ ghost use Rattle.uart_live.specs.declared.errors.InputError.{InputError};
 ghost use Rattle.uart_live.specs.Live.{IsLive};
 ghost use Rattle.uart_live.specs.Held.{arrive_holding};
 ghost use Rattle.uart_live.specs.Refused.{refusal};
-ghost use Rattle.uart_spec.specs.Bits.{has_any};
 ghost use Rattle.uart_spec.specs.declared.baud.TheConstants.{NUM_REGISTERS};
 ghost use Rattle.uart_spec.specs.declared.registers.interrupt_status.TheConstants.ISR;
 ghost use Rattle.uart_spec.specs.declared.registers.line_status.TheConstants.LSR;
@@ -21,10 +20,12 @@ ghost use Rattle.uart_spec.specs.declared.registers.offsets.TheConstants as offs
 mod snapshot;
 
 use crate::errors::{ChipError, InputError};
+use crate::fixed::{FixedFifo, FixedWire, NoMarks, WIRE_ROOM};
 use bitflags::Flags;
 use std::marker::Model;
-use uart_chip::{Character, Chip, FixedFifo, FixedWire, MAX_CHAR_TICKS, NoMarks, Uart, WIRE_ROOM};
+use uart_chip::{Character, Uart};
 use uart_spec::registers::{LSR, MSR};
+use uart_spec::{Chip, MAX_CHAR_TICKS};
 
 // A chip all of whose memory is in arrays, without a schedule.
 type LiveUart = Uart<FixedFifo<u8>, FixedWire, FixedFifo<Character>, NoMarks>;

@@ -3,10 +3,9 @@ use Rattle.std.specs.Prelude.{◌≡◌, ℕ, true, List, [], ◌∷◌, ◌++�
 use Rattle.uart_calls.specs.declared.call.Call.TheVariants as call
 use Rattle.uart_calls.specs.declared.call.Answer.TheVariants as answer
 use Rattle.uart_chip.specs.declared.receiver.Character.{Character}
-use Rattle.uart_spec.specs.Bits.{has_any}
+use Rattle.uart_spec.specs.Bits.{IsWithin, has_any}
 use Rattle.uart_spec.specs.declared.registers.line_status.TheConstants.LSR
 use Rattle.uart_spec.specs.declared.registers.modem_status.TheConstants.MSR
-use Rattle.uart_chip.specs.Masks.{IsWithin}
 use Rattle.uart_chip.specs.Receiver.{ReceiverState}
 use Rattle.uart_device.specs.Conserved.{stands, between, entered, IsDrop}
 use Rattle.uart_device.specs.Laws.{reported_front, AllTold, changes_in}

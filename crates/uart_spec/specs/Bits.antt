@@ -12,6 +12,10 @@ has value bits = bit_and value bits == bits
 abbrev pub has_any : ℕ → ℕ → Bool
 has_any value bits = not (bit_and value bits == 0)
 
+-- no bit outside of the mask is set
+abbrev pub IsWithin : ℕ → ℕ → Type 0
+IsWithin value mask = bit_and value mask ≡ value
+
 -- these bits if the flag is set, else no bits
 abbrev pub flag : Bool → ℕ → ℕ
 flag on bits = if on then bits else 0

@@ -6,3 +6,4 @@ pub mod Divisors
 pub mod BaudRate
 pub mod Config
 pub mod Orders
+pub mod Build

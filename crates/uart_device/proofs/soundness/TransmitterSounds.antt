@@ -3,10 +3,9 @@ use Rattle.std.proofs.Common.{◌≡◌, ℕ, ◌-◌, ◌≤◌, ◌<◌, Bool,
 use Rattle.std.proofs.Common.{refl, arith, length-append, if◌then◌else◌, zero-le}
 use Rattle.std.proofs.lemmas.Grind.{common_steps}
 use Rattle.uart_chip.specs.declared.transmitter.Shifting.{Shifting}
-use Rattle.uart_spec.specs.Bits.{has_any}
+use Rattle.uart_spec.specs.Bits.{IsWithin, has_any}
 use Rattle.uart_spec.specs.declared.registers.modem_control.TheConstants.MCR
 use Rattle.uart_spec.specs.declared.registers.modem_status.TheConstants.MSR
-use Rattle.uart_chip.specs.Masks.{IsWithin}
 use Rattle.uart_chip.specs.Transmitter.{TransmitterState, room, shift, refill, tick, load}
 use Rattle.uart_chip.specs.Modem.{ModemState, looped_lines, lines_under, is_changed, changes, renew}
 use Rattle.uart_device.specs.Sound.{IsTicking, IsSoundTransmitter, IsSoundModem}

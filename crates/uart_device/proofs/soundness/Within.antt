@@ -4,8 +4,7 @@ use Rattle.std.specs.Int.{bit_at}
 use Rattle.std.specs.Int.Bits.{and_self}
 use Rattle.std.proofs.lemmas.Nat.{and_assoc, and_le_r}
 use Rattle.std.proofs.lemmas.Nat.Bits.{bit_at_or, bit_at_and, same_from_bits}
-use Rattle.uart_spec.specs.Bits.{flag}
-use Rattle.uart_chip.specs.Masks.{IsWithin}
+use Rattle.uart_spec.specs.Bits.{IsWithin, flag}
 
 -- what a mask leaves lies within it
 pub within_and : (value mask : ℕ) → IsWithin (bit_and value mask) mask

@@ -10,7 +10,7 @@ use lib.Bits.{or_zero_r}
 use Rattle.uart_spec.specs.declared.registers.line_status.TheConstants.LSR
 use Rattle.uart_chip.specs.declared.receiver.Character.{Character}
 use Rattle.uart_chip.specs.declared.receiver.Origin.TheVariants.{Arrived}
-use Rattle.uart_chip.specs.Masks.{IsWithin}
+use Rattle.uart_spec.specs.Bits.{IsWithin}
 use Rattle.uart_chip.specs.Transmitter.{room}
 use Rattle.uart_chip.specs.Receiver.{ReceiverState, front_errors, arrive, replace, report, take_front}
 use Rattle.uart_chip.specs.Chip.{ChipState, line_status}

@@ -7,11 +7,10 @@ use Rattle.std.specs.Int.Bits.{and_zero_l, and_self}
 use lib.Bits.{or_zero_r}
 use Rattle.uart_chip.specs.declared.receiver.Character.{Character}
 use Rattle.uart_spec.specs.Access.{Access, Read, Write, Path, saved, saved_of, saved_lsr, saved_msr}
-use Rattle.uart_spec.specs.Bits.{has_any}
+use Rattle.uart_spec.specs.Bits.{IsWithin, has_any}
 use Rattle.uart_spec.specs.declared.registers.line_status.TheConstants.LSR
 use Rattle.uart_spec.specs.declared.registers.modem_status.TheConstants.MSR
 use Rattle.uart_spec.specs.declared.registers.offsets.TheConstants as offsets
-use Rattle.uart_chip.specs.Masks.{IsWithin}
 use Rattle.uart_chip.specs.Receiver.{ReceiverState}
 use Rattle.uart_chip.specs.Machine.{MachineState, MachineStep}
 use Rattle.uart_device.specs.Conserved.{between, IsDrop}

@@ -1,7 +1,7 @@
 //! Reads the fields of a line.
 ghost use Rattle.std.specs.Prelude.{◌≡◌, ◌==◌, ◌<◌, ◌≤◌, IfOk, length};
 ghost use Rattle.std.specs.List.{position_or_len};
-ghost use Rattle.uart_chip.specs.Masks.{IsWithin};
+ghost use Rattle.uart_spec.specs.Bits.{IsWithin};
 ghost use Rattle.uart_judges.specs.Fields.{bits_in, level_in, log_byte_in, log_offset_in, log_time_in, number_in};
 ghost use Rattle.uart_judges.specs.Fields.{after, before, repeats_in, time_in, time_of};
 

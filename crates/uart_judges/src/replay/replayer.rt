@@ -1,6 +1,6 @@
 //! Whether a chip answers as the chip that is defined could, read for read.
 ghost use Rattle.std.specs.Prelude.{◌≡◌, List, IsSome, is_some};
-ghost use Rattle.uart_chip.specs.declared.event.Chip.{Chip};
+ghost use Rattle.uart_spec.specs.declared.event.Chip.{Chip};
 ghost use Rattle.uart_judges.specs.declared.replay.known.Start.{Start};
 ghost use Rattle.uart_judges.specs.Known as spec;
 ghost use Rattle.uart_judges.specs.Replays.{AreSound, NoneReturns, Seen, difference, differences, each_of, known_after};

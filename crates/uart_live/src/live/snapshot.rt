@@ -1,14 +1,15 @@
 //! A live chip as plain data, and back.
 ghost use Rattle.std.specs.Prelude.{◌≡◌, ◌<◌, ◌≤◌, Err, IfOk, IsOk};
 ghost use Rattle.uart_chip.specs.Snapshot.{chip_of};
-ghost use Rattle.uart_chip.specs.declared.wire.TheConstants.{WIRE_ROOM};
+ghost use Rattle.uart_live.specs.declared.fixed.TheConstants.{WIRE_ROOM};
 ghost use Rattle.uart_live.specs.declared.errors.RestoreError.{RestoreError};
 ghost use Rattle.uart_live.specs.Live.{IsLive};
 
 use super::LiveChip;
 use crate::errors::RestoreError;
+use crate::fixed::{FixedFifo, FixedWire, NoMarks, WIRE_ROOM};
 use crate::sound::is_live;
-use uart_chip::{Character, ChipData, FixedFifo, FixedWire, NoMarks, Uart, WIRE_ROOM, send};
+use uart_chip::{Character, ChipData, Uart, send};
 
 impl LiveChip {
     /// Returns the chip as plain data. The bytes on its wire are [`LiveChip::wire`].

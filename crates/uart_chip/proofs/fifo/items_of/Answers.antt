@@ -1,6 +1,11 @@
-use Rattle.std.proofs.Common.{rules, ◌≡◌, ◌++◌, [], ◌∷◌, Some, take, suc, ◌+◌, slice_get, ap, ◌∙◌, arith}
-use Rattle.uart_chip.proofs.Rings.{one_more}
+use Rattle.std.proofs.Common.{rules, ◌≡◌, ◌++◌, ℕ, zero, suc, ◌+◌, List, [], ◌∷◌, Some, take, slice_get, ap, ◌∙◌, arith}
 use Rattle.uart_chip.proofs.fifo.items_of.Goals as goal
+
+-- the first items and the next one are one more of the first items
+one_more : {X : Type 0} (i : ℕ) (xs : List X) (x : X) → Some x ≡ slice_get xs i → take i xs ++ x ∷ [] ≡ take (suc i) xs
+one_more i [] x is = absurd cc
+one_more zero (y ∷ ys) x is = let same : x ≡ y = cc in ap (λ z. z ∷ []) same
+one_more (suc i) (y ∷ ys) x is = ap (λ zs. y ∷ zs) (one_more i ys x is)
 
 pub loop-i-preserved : goal.loop-i-preserved
 loop-i-preserved g c =

@@ -4,9 +4,8 @@ use crate::proved::uart_chip::controlling::{
     ChipParts, advance, arrive_live, change_lines, cut, divisor, is_interrupting, is_loopback,
     read, receive_room, tick, write,
 };
-use crate::proved::uart_chip::event::{Chip, Event};
-use crate::proved::uart_chip::fifo::{Fifo};
-use crate::proved::uart_chip::journal::{Journal};
+use crate::proved::uart_chip::fifo::Fifo;
+use crate::proved::uart_chip::journal::Journal;
 use crate::proved::uart_chip::modem::{Modem, ModemData};
 use crate::proved::uart_chip::receiver::{Character, Receiver, ReceiverData};
 use crate::proved::uart_chip::receiving::{
@@ -18,6 +17,7 @@ use crate::proved::uart_chip::wire::{Wire, send};
 use crate::proved::uart_chip::{receiving, transmitting};
 use crate::flags::Flags;
 use crate::proved::uart_spec::registers::{DLL, DLM, FifoTriggerLevel, IER, LCR, MCR, MSR, SPR};
+use crate::proved::uart_spec::{Chip, Event};
 
 /// The registers that keep what is written to them.
 #[derive(Clone, Copy)]

@@ -1,12 +1,12 @@
 //! What happens in a chip, over its parts: what an access does, and what happens between accesses.
 
 use crate::proved::uart_chip::chip::Latches;
-use crate::proved::uart_chip::event::Chip;
 use crate::proved::uart_chip::masks::{flag, kept_interrupts, kept_modem_control};
 use crate::proved::uart_chip::receiving;
 use crate::proved::uart_chip::receiving::{ReceiverParts, is_data_pending, is_timed_out};
 use crate::proved::uart_chip::transmitting::{TransmitterParts, next_move};
 use crate::flags::Flags;
+use crate::proved::uart_spec::Chip;
 use crate::proved::uart_spec::registers::{
     FCR, FifoTriggerLevel, IER, ISR, InterruptType, LCR, LSR, MCR, MSR, WordLength, offsets,
 };

@@ -7,7 +7,6 @@
 mod characters;
 mod chip;
 pub mod controlling;
-mod event;
 mod fifo;
 mod journal;
 mod masks;
@@ -21,13 +20,13 @@ mod wire;
 pub use characters::Characters;
 pub use chip::{ChipData, Latches, Uart};
 pub use controlling::identification;
-pub use event::{
-    ArrivalMark, BuildError, Chip, Event, MAX_CHAR_TICKS, MAX_WIRE_CAPACITY, arrivals, refusal,
-};
-pub use fifo::{Fifo, FixedFifo, room_of};
-pub use journal::{Journal, NoMarks};
+pub use fifo::{Fifo, room_of};
+pub use journal::Journal;
 pub use masks::{flag, kept_interrupts, kept_modem_control};
 pub use modem::{Modem, ModemData};
 pub use receiver::{Character, Origin, Receiver, ReceiverData};
 pub use transmitter::{Shifting, Transmitter, TransmitterData};
-pub use wire::{FixedWire, WIRE_ROOM, Wire, send};
+pub use crate::proved::uart_spec::{
+    ArrivalMark, BuildError, Chip, Event, MAX_CHAR_TICKS, MAX_WIRE_CAPACITY, arrivals, refusal,
+};
+pub use wire::{Wire, send};

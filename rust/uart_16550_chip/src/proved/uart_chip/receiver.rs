@@ -1,15 +1,14 @@
 //! The receiver: a queue of characters, and what became of each arrival.
 
 use crate::proved::uart_chip::characters::Characters;
-use crate::proved::uart_chip::event::ArrivalMark;
 use crate::proved::uart_chip::fifo::{Fifo, items_of};
-use crate::proved::uart_chip::journal::{Journal};
+use crate::proved::uart_chip::journal::Journal;
 use crate::proved::uart_chip::masks::flag;
 use crate::proved::uart_chip::receiving::{ReceiverParts, enter};
 use crate::list::ArrayVec;
 use crate::flags::Flags;
-use crate::proved::uart_spec::FIFO_SIZE;
 use crate::proved::uart_spec::registers::{FifoTriggerLevel, LSR};
+use crate::proved::uart_spec::{ArrivalMark, FIFO_SIZE};
 
 /// Where a character is from.
 #[derive(Clone, Copy, Default)]

@@ -1,10 +1,9 @@
 //! What happens in a receiver, over its parts.
 
-use crate::proved::uart_chip::event::ArrivalMark;
 use crate::proved::uart_chip::fifo::room_of;
 use crate::proved::uart_chip::receiver::{Character, Origin};
-use crate::proved::uart_spec::FIFO_SIZE;
 use crate::proved::uart_spec::registers::{FifoTriggerLevel, LSR};
+use crate::proved::uart_spec::{ArrivalMark, FIFO_SIZE};
 
 /// What a receiver is made of: a queue of characters and what is known of them, and how each is
 /// read and changed.

@@ -1,5 +1,6 @@
 //! Why a live chip refuses what its owner passes to it.
-use crate::proved::uart_chip::{MAX_CHAR_TICKS, WIRE_ROOM};
+use crate::proved::uart_live::fixed::WIRE_ROOM;
+use crate::proved::uart_spec::MAX_CHAR_TICKS;
 
 /// Why a character or a change of the modem lines was refused.
 #[derive(Clone, Copy, Debug, PartialEq, Eq)]

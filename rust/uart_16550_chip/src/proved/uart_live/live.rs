@@ -3,9 +3,11 @@
 mod snapshot;
 
 use crate::proved::uart_live::errors::{ChipError, InputError};
+use crate::proved::uart_live::fixed::{FixedFifo, FixedWire, NoMarks, WIRE_ROOM};
 use crate::flags::Flags;
-use crate::proved::uart_chip::{Character, Chip, FixedFifo, FixedWire, MAX_CHAR_TICKS, NoMarks, Uart, WIRE_ROOM};
+use crate::proved::uart_chip::{Character, Uart};
 use crate::proved::uart_spec::registers::{LSR, MSR};
+use crate::proved::uart_spec::{Chip, MAX_CHAR_TICKS};
 
 // A chip all of whose memory is in arrays, without a schedule.
 type LiveUart = Uart<FixedFifo<u8>, FixedWire, FixedFifo<Character>, NoMarks>;

@@ -5,12 +5,13 @@
 //! level of the interrupt line. Each call does what the definitions of the chip say.
 
 mod errors;
+mod fixed;
 mod live;
 mod sound;
 
 pub use errors::{ChipError, InputError, RestoreError};
+pub use fixed::WIRE_ROOM;
 pub use live::LiveChip;
 pub use crate::proved::uart_chip::{
     Character, Chip, ChipData, Latches, ModemData, Origin, ReceiverData, Shifting, TransmitterData,
-    WIRE_ROOM,
 };

@@ -1,5 +1,5 @@
 use Rattle.std.proofs.Common.{rules}
-use Rattle.uart_chip.specs.Masks.{IsWithin}
+use Rattle.uart_spec.specs.Bits.{IsWithin}
 use Rattle.uart_spec.specs.declared.registers.line_status.TheConstants.LSR
 use Rattle.uart_live.proofs.Lives.{live-arrival}
 use Rattle.uart_live.proofs.live.LiveChip.arrive.Goals as goal

@@ -2,8 +2,9 @@
 
 use super::LiveChip;
 use crate::proved::uart_live::errors::RestoreError;
+use crate::proved::uart_live::fixed::{FixedFifo, FixedWire, NoMarks, WIRE_ROOM};
 use crate::proved::uart_live::sound::is_live;
-use crate::proved::uart_chip::{Character, ChipData, FixedFifo, FixedWire, NoMarks, Uart, WIRE_ROOM, send};
+use crate::proved::uart_chip::{Character, ChipData, Uart, send};
 
 impl LiveChip {
     /// Returns the chip as plain data. The bytes on its wire are [`LiveChip::wire`].

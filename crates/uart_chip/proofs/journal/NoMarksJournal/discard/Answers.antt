@@ -1,5 +1,0 @@
-use Rattle.uart_chip.proofs.Journals.{none_discarded}
-use Rattle.uart_chip.proofs.journal.NoMarksJournal.discard.Goals as goal
-
-pub returns : goal.returns
-returns g c = none_discarded (g.Q.Fifo.items c.args._characters.now)

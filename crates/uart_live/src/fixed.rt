@@ -1,0 +1,181 @@
+//! What a live chip keeps in arrays, without other memory: its queues and its wire. It has no
+//! schedule, so its journal records nothing.
+ghost use Rattle.std.specs.Prelude.{◌≡◌, ◌<◌, ◌≤◌, [], length};
+ghost use Rattle.uart_spec.specs.declared.baud.TheConstants.{FIFO_SIZE};
+ghost use Rattle.uart_live.specs.declared.fixed.TheConstants.{WIRE_ROOM};
+
+use std::marker::Model;
+use uart_chip::{Character, Fifo, Journal, Origin, Wire};
+use uart_spec::{ArrivalMark, FIFO_SIZE};
+
+/// The most bytes that a [`FixedWire`] has room for.
+pub const WIRE_ROOM: usize = 64;
+
+// The places of a `FixedWire`: each byte is in two of them.
+const WIRE_PLACES: usize = 2 * WIRE_ROOM;
+
+/// A queue in an array, without other memory.
+#[derive(Drop)]
+pub struct FixedFifo<T> {
+    slots: [T; FIFO_SIZE],
+    start: usize,
+    len: usize,
+}
+
+impl<T> Model for FixedFifo<T> {
+    ghost use Rattle.std.specs.Prelude.{◌≡◌, ◌<◌, ◌≤◌, List, length};
+    ghost use Rattle.uart_spec.specs.declared.baud.TheConstants.{FIFO_SIZE};
+    ghost use Rattle.uart_live.specs.Ring.{window};
+
+    ghost Value = { List T };
+
+    ghost view = { λ q. window q.start q.len q.slots };
+
+    ghost invariant = { λ q.
+        (q.start < FIFO_SIZE) × (q.len ≤ FIFO_SIZE) × (length q.slots ≡ FIFO_SIZE) };
+}
+
+impl<T: Copy> FixedFifo<T> {
+    /// Returns an empty queue, whose unused places hold `item`.
+    pub fn new(item: T) -> Self
+        ensures { result ≡ [] }
+    {
+        FixedFifo {
+            slots: [item; FIFO_SIZE],
+            start: 0,
+            len: 0,
+        }
+    }
+}
+
+impl<T: Copy + Drop> Fifo<T> for FixedFifo<T> {
+    ghost items = { λ q. q };
+
+    fn len(&self) -> usize {
+        self.len
+    }
+
+    fn is_empty(&self) -> bool {
+        self.len == 0
+    }
+
+    fn get(&self, i: usize) -> Option<T> {
+        if i < self.len {
+            Some(self.slots[(self.start + i) % FIFO_SIZE])
+        } else {
+            None
+        }
+    }
+
+    fn push(&mut self, item: T) {
+        self.slots[(self.start + self.len) % FIFO_SIZE] = item;
+        self.len += 1;
+    }
+
+    fn pop(&mut self) -> Option<T> {
+        if self.len == 0 {
+            return None;
+        }
+        let front = self.slots[self.start % FIFO_SIZE];
+        self.start = (self.start + 1) % FIFO_SIZE;
+        self.len -= 1;
+        Some(front)
+    }
+
+    fn clear(&mut self) {
+        self.len = 0;
+    }
+}
+
+/// A wire in an array, without other memory.
+///
+/// Each byte is in the array twice, [`WIRE_ROOM`] places apart. So the bytes are one slice wherever
+/// the first of them is, and to send or to take a byte costs the same whatever waits.
+#[derive(Drop)]
+pub struct FixedWire {
+    slots: [u8; WIRE_PLACES],
+    start: usize,
+    count: usize,
+    limit: usize,
+}
+
+impl Model for FixedWire {
+    ghost use Rattle.std.specs.Prelude.{◌≡◌, ◌<◌, ◌≤◌, length, take, drop};
+    ghost use Rattle.uart_live.specs.Ring.{window};
+    ghost use Rattle.uart_chip.specs.Wire.{WireState};
+    ghost use Rattle.uart_live.specs.declared.fixed.TheConstants.{WIRE_PLACES, WIRE_ROOM};
+
+    ghost Value = { WireState };
+
+    ghost view = { λ w. record {
+      bytes = window w.start w.count (take WIRE_ROOM w.slots);
+      capacity = w.limit;
+    } };
+
+    ghost invariant = { λ w.
+        (w.start < WIRE_ROOM) × (w.count ≤ w.limit) × (w.limit ≤ WIRE_ROOM) ×
+        (length w.slots ≡ WIRE_PLACES) × (drop WIRE_ROOM w.slots ≡ take WIRE_ROOM w.slots) };
+}
+
+impl FixedWire {
+    /// Returns an empty wire with room for `capacity` bytes.
+    pub fn new(capacity: usize) -> Self
+        requires { capacity ≤ WIRE_ROOM }
+        ensures bytes { result.bytes ≡ [] }
+        ensures capacity { result.capacity ≡ capacity }
+    {
+        FixedWire {
+            slots: [0; WIRE_PLACES],
+            start: 0,
+            count: 0,
+            limit: capacity,
+        }
+    }
+}
+
+impl Wire for FixedWire {
+    ghost sent = { λ w. w.bytes };
+
+    ghost most = { λ w. w.capacity };
+
+    fn capacity(&self) -> usize {
+        self.limit
+    }
+
+    fn room(&self) -> usize {
+        self.limit - self.count
+    }
+
+    fn as_slice(&self) -> &[u8] {
+        &self.slots[self.start..][..self.count]
+    }
+
+    fn push(&mut self, byte: u8) {
+        let place = (self.start + self.count) % WIRE_ROOM;
+        self.slots[place] = byte;
+        self.slots[WIRE_ROOM + place] = byte;
+        self.count += 1;
+    }
+
+    fn take(&mut self, count: usize) {
+        let count = count.min(self.count);
+        self.start = (self.start + count) % WIRE_ROOM;
+        self.count -= count;
+    }
+}
+
+/// The journal of a receiver without a schedule: it records nothing.
+#[derive(Drop)]
+pub struct NoMarks;
+
+impl Journal for NoMarks {
+    ghost recorded = { λ _. [] };
+
+    fn len(&self) -> usize {
+        0
+    }
+
+    fn set_mark(&mut self, _origin: Origin, _mark: ArrivalMark) {}
+
+    fn discard<Q: Fifo<Character>>(&mut self, _characters: &Q) {}
+}
