@@ -352,7 +352,7 @@ ERASURES = [
     ("uart_16550/tty.rs", "b\"\\r\\n\\0\"", "b\"\\n\\r\\0\""),
     ("uart_16550/tty.rs", "0x08 | 0x7f", "0x08"),
     ("uart_16550/driver/loopback.rs", "0..self", "1..self"),
-    ("uart_16550/driver/loopback.rs", "MSR::DELTA_CTS", "MSR::DELTA_DSR"),
+    ("uart_spec/registers/modem_status.rs", "MSR::DELTA_CTS", "MSR::DELTA_DSR"),
     ("uart_16550/driver/transmit.rs", "#[inline(always)]\n", ""),
     (
         "uart_16550/backend.rs",

@@ -196,10 +196,12 @@ calls! {
     length_from_integer(bits: u8) -> WordLength { WordLength::from_integer(bits) }
     length_to_integer(length: WordLength) -> u32 { length.to_integer() }
     lsr_has_error(lsr: LSR) -> bool { lsr.has_error() }
+    msr_changes_since(msr: MSR, before: MSR) -> MSR { msr.changes_since(before) }
     psd_pdf(psd: PSD) -> u8 { psd.pdf() }
     psd_set_pdf(psd: PSD, factor: u8) -> PSD { psd.set_pdf(factor) }
     psd_checked_set_pdf(psd: PSD, factor: u8) -> Option<PSD> { psd.checked_set_pdf(factor) }
 
+    flags_flag(on: bool, ier: IER) -> IER { uart_16550::spec::registers::flag(on, ier) }
     flags_from_name(name: &str) -> Option<IER> { IER::from_name(name) }
     flags_all() -> IER { <IER as Flags>::all() }
     flags_from_bits(bits: u8) -> Option<IER> { <IER as Flags>::from_bits(bits) }

@@ -67,14 +67,7 @@ pub record Did {B : Type 0} (step : B → Access → B → Type 0) (G : Doing) (
 
 -- the fields after a list whose reads are saved
 abbrev pub saving : Fields → List Access → Fields
-saving f l =
-    record {
-      config = f.config;
-      fifo = f.fifo;
-      lsr = bit_or f.lsr (saved_lsr l);
-      msr = bit_or f.msr (saved_msr l);
-      limit = f.limit;
-    }
+saving f l = record f { lsr = bit_or f.lsr (saved_lsr l); msr = bit_or f.msr (saved_msr l) }
 
 -- a list of the language whose reads are saved
 abbrev pub Saving : Language → Doing
@@ -88,27 +81,27 @@ Plain L f l after = L (settings_of f) l × (after ≡ f)
 abbrev pub Sets : (Fields → Fields) → Doing
 Sets change f l after = (l ≡ []) × (after ≡ change f)
 
--- the one, and then the other
-pub record Next (G H : Doing) (f : Fields) (l : List Access) (after : Fields) : Type 0 where
+-- the one, and then the other, over whatever fields they change
+pub record Next {F : Type 0} (G H : F → List Access → F → Type 0) (f : F) (l : List Access) (after : F) : Type 0 where
   pub front : List Access
   pub back : List Access
-  pub mid : Fields
+  pub mid : F
   pub whole : l ≡ front ++ back
   pub first : G f front mid
   pub second : H mid back after
 
 -- the fields with this configuration, these interrupts in it, this FIFO, these saved bits, this limit
 abbrev pub with_config : Config → Fields → Fields
-with_config config f = record { config = config; fifo = f.fifo; lsr = f.lsr; msr = f.msr; limit = f.limit }
+with_config config f = record f { config = config }
 
 abbrev pub with_interrupts : ℕ → Fields → Fields
 with_interrupts bits f = with_config (record f.config { interrupts = record { 0 = bits } }) f
 
 abbrev pub with_fifo : Bool → Fields → Fields
-with_fifo on f = record { config = f.config; fifo = on; lsr = f.lsr; msr = f.msr; limit = f.limit }
+with_fifo on f = record f { fifo = on }
 
 abbrev pub with_saved : ℕ → ℕ → Fields → Fields
-with_saved lsr msr f = record { config = f.config; fifo = f.fifo; lsr = lsr; msr = msr; limit = f.limit }
+with_saved lsr msr f = record f { lsr = lsr; msr = msr }
 
 abbrev pub with_limit : ℕ → Fields → Fields
-with_limit limit f = record { config = f.config; fifo = f.fifo; lsr = f.lsr; msr = f.msr; limit = limit }
+with_limit limit f = record f { limit = limit }

@@ -1,9 +1,9 @@
 -- The loopback test, access by access.
-use Rattle.std.specs.Prelude.{◌≡◌, ◌≢◌, ◌==◌, ◌&&◌, not, ℕ, Bool, true, false, List, [], ◌∷◌, ◌++◌, Result, Ok, Err}
+use Rattle.std.specs.Prelude.{◌≡◌, ◌≢◌, ℕ, Bool, true, false, List, [], ◌∷◌, ◌++◌, Result, Ok, Err}
 use Rattle.std.specs.Prelude.{Option, Some, None, length, map, ◌⊎◌, codes}
-use Rattle.std.specs.Int.RustNames.{bit_and, bit_or}
+use Rattle.std.specs.Int.RustNames.{bit_or}
 use Rattle.bitflags.specs.Sets.{without}
-use Rattle.uart_spec.specs.Bits.{has, flag}
+use Rattle.uart_spec.specs.Lines.{line_changes}
 use Rattle.uart_spec.specs.declared.errors.StalledError.{StalledError}
 use Rattle.uart_spec.specs.declared.errors.LoopbackError.{LoopbackError}
 use Rattle.uart_spec.specs.declared.errors.LoopbackError.TheVariants.{
@@ -15,7 +15,6 @@ use Rattle.uart_spec.specs.declared.errors.LoopbackError.TheVariants.{
 use Rattle.uart_spec.specs.declared.registers.offsets.TheConstants as offsets
 use Rattle.uart_spec.specs.declared.registers.line_status.TheConstants.LSR
 use Rattle.uart_spec.specs.declared.registers.modem_control.TheConstants.MCR
-use Rattle.uart_spec.specs.declared.registers.modem_status.TheConstants.MSR
 use Rattle.uart_spec.specs.Access.{Read, Write}
 use Rattle.uart_16550.specs.Grammar.{Language, Only, Then, InOrder, FewMisses, AllMisses, IfFifo}
 use Rattle.uart_16550.specs.Receive.{Hit, Miss, Awaited, ReceivesExact}
@@ -116,18 +115,6 @@ Exchanges (Err e) s l = ((e ≡ Stalled) × DrainsLoopback false s l)
     ⊎ (Then (DrainsLoopback true) (ExchangesByte {T = Unit {0}} (Err e)) s l
     ⊎ Then (DrainsLoopback true)
     (Then (ExchangesByte {T = Unit {0}} (Ok tt)) (ExchangesMessage {T = Unit {0}} (Err e))) s l)
-
--- the line differs between the two readings
-abbrev pub differs : ℕ → ℕ → ℕ → Bool
-differs before now line = not (bit_and before line == bit_and now line)
-
--- the changes of the lines between two readings of MSR, as their bits: of RI only its trailing edge
-abbrev pub line_changes : (before now : ℕ) → ℕ
-line_changes before now =
-    bit_or (bit_or (flag (differs before now MSR.CTS.0) MSR.DELTA_CTS.0)
-    (flag (differs before now MSR.DSR.0) MSR.DELTA_DSR.0))
-    (bit_or (flag (has before MSR.RI.0 && not (has now MSR.RI.0)) MSR.TRAILING_EDGE_RI.0)
-    (flag (differs before now MSR.CD.0) MSR.DELTA_CD.0))
 
 -- MSR is read, interrupts are switched off, loopback is switched on, and the FIFO step is made
 abbrev pub Enters : (before : ℕ) → (fifo : Bool) → Doing

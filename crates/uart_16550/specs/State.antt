@@ -8,13 +8,14 @@ use Rattle.uart_16550.specs.declared.driver.state.DriverState.{DriverState}
 
 -- the fields of a driver in this state
 abbrev pub fields_of : DriverState → Fields
-fields_of s = record {
-  config = s.config;
-  fifo = s.fifo_enabled;
-  lsr = s.saved_lsr.0;
-  msr = s.saved_msr.0;
-  limit = non_zero_u64_get s.spin_limit;
-}
+fields_of s =
+    record {
+      config = s.config;
+      fifo = s.fifo_enabled;
+      lsr = s.saved_lsr.0;
+      msr = s.saved_msr.0;
+      limit = non_zero_u64_get s.spin_limit;
+    }
 
 -- the fields of a new driver
 abbrev pub fresh_fields : Fields

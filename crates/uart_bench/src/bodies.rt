@@ -2,7 +2,6 @@
 //!
 //! Each is a function of its own in the built program, for each backend, so that a profiler can
 //! identify it.
-ghost use Rattle.std.specs.Prelude.{◌≡◌};
 ghost use Rattle.uart_spec.specs.Config.{IsComputable};
 
 use crate::cells::{Observed, Totals};

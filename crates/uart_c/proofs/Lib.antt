@@ -1,5 +1,6 @@
 pub mod Copies
 pub mod Errors
+pub mod Lengths
 pub mod Levels
 pub mod Marks
 pub mod Queues

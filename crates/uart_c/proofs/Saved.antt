@@ -5,8 +5,8 @@ use Rattle.std.specs.List.{list_all}
 use Rattle.std.proofs.lemmas.Grind.{common_steps}
 use Rattle.std.proofs.lemmas.List.{take_min, length-take, length-map}
 use Rattle.uart_c.specs.Queue.{is_on, character_of, wire_of}
-use Rattle.uart_c.specs.Saved.{chip_data, is_sound}
-use Rattle.uart_c.specs.State.{chip_of, latches_of}
+use Rattle.uart_c.specs.Saved.{is_sound}
+use Rattle.uart_c.specs.State.{chip_data, chip_of, latches_of}
 use Rattle.uart_c.specs.declared.chip.UartChip.{UartChip}
 use Rattle.uart_c.specs.declared.queue.UartCharacter.{UartCharacter}
 use Rattle.uart_c.specs.declared.receiver.TheConstants.{TIMEOUT_CHARACTERS}

@@ -1,10 +1,11 @@
 -- A chip that is made is sound, and stays so.
-use Rattle.std.proofs.Common.{◌≡◌, ℕ, Bool, true, false, not, ◌&&◌, nat_le, nat_lt, Some, None, refl, arith, if◌then◌else◌}
+use Rattle.std.proofs.Common.{◌≡◌, ℕ, Bool, true, false, not, ◌&&◌, nat_le, nat_lt, [], Some, None, refl, arith, if◌then◌else◌}
 use Rattle.std.proofs.lemmas.Grind.{common_steps}
 use Rattle.uart_c.specs.Saved.{MadeChipsAreSound, SoundChipsStaySound}
 use Rattle.uart_c.specs.declared.codes.TheConstants.{UART_OK, UART_BAD_TICKS, UART_BAD_WIRE}
 use Rattle.uart_c.specs.declared.queue.TheConstants.{WIRE_ROOM}
 use Rattle.uart_chip.specs.Chip.{ChipState, fresh}
+use Rattle.uart_device.proofs.soundness.Builds.{whole_cutting}
 use Rattle.uart_spec.specs.declared.event.BuildError.TheVariants.{BadTicks, BadWire}
 use Rattle.uart_spec.specs.declared.event.TheConstants.{MAX_CHAR_TICKS, MAX_WIRE_CAPACITY}
 use Rattle.uart_live.proofs.Lives.{live-arrival, live-fresh, live-hold, live-lines, live-read, live-take, live-ticks, live-write}
@@ -14,23 +15,8 @@ use Rattle.uart_live.specs.Live.{IsLive}
 -- nothing of what holds of a sound chip is about the option for characters
 recut : (cuts : Bool) (c : ChipState) → IsLive c → IsLive (record c { cuts = cuts })
 recut cuts c w =
-    let chip = w.whole.sound.chip in
     record {
-      whole = record {
-        sound = record {
-          chip = record {
-            receiver = chip.receiver;
-            transmitter = chip.transmitter;
-            modem = chip.modem;
-            latches = chip.latches;
-            implemented = chip.implemented;
-            limit = chip.limit;
-          };
-          foreseen = w.whole.sound.foreseen;
-          legal = w.whole.sound.legal;
-        };
-        bytes = w.whole.bytes;
-      };
+      whole = whole_cutting cuts (record { chip = c; ahead = [] }) w.whole;
       no_marks = w.no_marks;
       none_lost = w.none_lost;
       room = w.room;

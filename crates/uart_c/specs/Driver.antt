@@ -10,6 +10,7 @@ use Rattle.uart_c.specs.declared.driver.UartDriver.{UartDriver}
 use Rattle.uart_chip.specs.Receiver.{characters_of}
 use Rattle.uart_spec.specs.BaudRate.{to_integer}
 use Rattle.uart_spec.specs.Bits.{flag}
+use Rattle.uart_spec.specs.Fields.{word_length_bits}
 use Rattle.uart_spec.specs.declared.config.BaudRate.TheVariants.{Custom}
 use Rattle.uart_spec.specs.declared.config.Config.{Config}
 use Rattle.uart_spec.specs.declared.registers.fifo_trigger_level.FifoTriggerLevel.{FifoTriggerLevel}
@@ -68,16 +69,10 @@ numbered f = record f { config = record f.config { baud_rate = Custom (to_intege
 
 -- ---- the data of C that a driver is: one value for each
 
--- the number that is written for a trigger level, 0 for none; for a word length; for a parity
+-- the number that is written for a trigger level, 0 for none; for a parity
 abbrev pub number_of_level : Option FifoTriggerLevel → ℕ
 number_of_level None = 0
 number_of_level (Some level) = characters_of level
-
-abbrev pub number_of_word_length : WordLength → ℕ
-number_of_word_length FiveBits = 5
-number_of_word_length SixBits = 6
-number_of_word_length SevenBits = 7
-number_of_word_length EightBits = 8
 
 abbrev pub number_of_parity : Parity → ℕ
 number_of_parity Disabled = UART_PARITY_NONE
@@ -97,7 +92,7 @@ data_of_config c =
       has_prescaler = flag (is_some c.prescaler_division_factor) 1;
       interrupts = c.interrupts.0;
       fifo_trigger_level = number_of_level c.fifo_trigger_level;
-      data_bits = number_of_word_length c.data_bits;
+      data_bits = word_length_bits c.data_bits;
       extra_stop_bits = flag c.extra_stop_bits 1;
       parity = number_of_parity c.parity;
       check_cts_before_sending = flag c.check_cts_before_sending 1;
@@ -106,9 +101,9 @@ data_of_config c =
 abbrev pub data_of : Fields → UartDriver
 data_of f =
     record {
-      spin_limit = f.limit;
       config = data_of_config f.config;
       fifo_enabled = flag f.fifo 1;
       saved_lsr = f.lsr;
       saved_msr = f.msr;
+      spin_limit = f.limit;
     }

@@ -1,7 +1,7 @@
 //! An access of the driver, as plain data.
 ghost use Rattle.std.specs.Prelude.{◌≡◌};
 ghost use Rattle.uart_c.specs.Calls as spec;
-ghost use Rattle.uart_c.specs.Calls.{access_of, request_of};
+ghost use Rattle.uart_c.specs.Calls.{request_of};
 
 use crate::queue::is_on;
 use uart_16550::replay::Entry;
@@ -17,6 +17,8 @@ pub struct UartAccess {
 }
 
 impl Recorded for UartAccess {
+    ghost use Rattle.uart_c.specs.Calls.{access_of};
+
     ghost access = { access_of };
 
     fn entry(self) -> Entry {

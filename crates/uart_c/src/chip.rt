@@ -13,10 +13,8 @@ use crate::receiver::UartReceiver;
 use crate::transmitter::UartTransmitter;
 use bitflags::Flags;
 use uart_chip::controlling::ChipParts;
-use uart_chip::receiving::{ReceiverParts, arrive_live, clear, count_up, report, take_front};
-use uart_chip::transmitting::{TransmitterParts, count_down, load};
-use uart_chip::{Chip, Latches, receiving, transmitting};
-use uart_spec::registers::{FifoTriggerLevel, IER, LCR, MCR};
+use uart_chip::{Chip, Latches};
+use uart_spec::registers::{IER, LCR, MCR};
 
 /// The registers that keep what is written.
 #[repr(C)]
@@ -99,13 +97,9 @@ impl ChipParts for UartChip {
 
     ghost canonical = { λ c. IsCanonical c };
 
-    fn transmitter(&self) -> &UartTransmitter {
-        &self.transmitter
-    }
+    ghost with_transmitter = { λ c t. record c { transmitter = t } };
 
-    fn receiver(&self) -> &UartReceiver {
-        &self.receiver
-    }
+    ghost with_receiver = { λ c r. record c { receiver = r } };
 
     fn model(&self) -> Chip {
         if is_on(self.model) {
@@ -113,6 +107,50 @@ impl ChipParts for UartChip {
         } else {
             Chip::Uart16450
         }
+    }
+
+    fn cuts(&self) -> bool {
+        is_on(self.cuts)
+    }
+
+    fn transmitter(&self) -> &UartTransmitter {
+        &self.transmitter
+    }
+
+    fn transmitter_mut(&mut self) -> &mut UartTransmitter {
+        &mut self.transmitter
+    }
+
+    fn receiver(&self) -> &UartReceiver {
+        &self.receiver
+    }
+
+    fn receiver_mut(&mut self) -> &mut UartReceiver {
+        &mut self.receiver
+    }
+
+    fn fifo(&self) -> bool {
+        is_on(self.fifo)
+    }
+
+    fn turn_fifo(&mut self, on: bool) {
+        self.fifo = on as u8;
+    }
+
+    fn renew_modem(&mut self, mcr: MCR) {
+        self.modem.renew(mcr);
+    }
+
+    fn change_inputs(&mut self, mcr: MCR, inputs: u8) {
+        self.modem.change_inputs(mcr, inputs);
+    }
+
+    fn read_modem(&mut self) -> u8 {
+        self.modem.read()
+    }
+
+    fn has_modem_changes(&self) -> bool {
+        self.modem.has_changes()
     }
 
     fn ier(&self) -> IER {
@@ -147,81 +185,5 @@ impl ChipParts for UartChip {
             dll: latches.dll,
             dlm: latches.dlm,
         };
-    }
-
-    fn fifo(&self) -> bool {
-        is_on(self.fifo)
-    }
-
-    fn turn_fifo(&mut self, on: bool) {
-        self.fifo = on as u8;
-    }
-
-    fn cuts(&self) -> bool {
-        is_on(self.cuts)
-    }
-
-    fn tick_transmitter(&mut self, loopback: bool) -> Option<u8> {
-        transmitting::tick(&mut self.transmitter, loopback)
-    }
-
-    fn count_down(&mut self, ticks: u16) {
-        count_down(&mut self.transmitter, ticks);
-    }
-
-    fn load(&mut self, byte: u8) {
-        load(&mut self.transmitter, is_on(self.fifo), byte);
-    }
-
-    fn clear_transmitter(&mut self) {
-        self.transmitter.clear_queue();
-    }
-
-    fn set_thr_pending(&mut self, on: bool) {
-        self.transmitter.set_thr_pending(on);
-    }
-
-    fn tick_receiver(&mut self, looped: Option<u8>) {
-        receiving::tick(&mut self.receiver, is_on(self.fifo), looped);
-    }
-
-    fn count_up(&mut self, ticks: u16) {
-        count_up(&mut self.receiver, ticks);
-    }
-
-    fn receive(&mut self, loopback: bool, byte: u8, errors: u8) {
-        arrive_live(&mut self.receiver, loopback, is_on(self.fifo), byte, errors);
-    }
-
-    fn take_front(&mut self) -> u8 {
-        take_front(&mut self.receiver)
-    }
-
-    fn report(&mut self) {
-        report(&mut self.receiver);
-    }
-
-    fn clear_receiver(&mut self) {
-        clear(&mut self.receiver);
-    }
-
-    fn set_trigger(&mut self, trigger: FifoTriggerLevel) {
-        self.receiver.set_trigger(trigger);
-    }
-
-    fn renew_modem(&mut self, mcr: MCR) {
-        self.modem.renew(mcr);
-    }
-
-    fn change_inputs(&mut self, mcr: MCR, inputs: u8) {
-        self.modem.change_inputs(mcr, inputs);
-    }
-
-    fn read_modem(&mut self) -> u8 {
-        self.modem.read()
-    }
-
-    fn has_modem_changes(&self) -> bool {
-        self.modem.has_changes()
     }
 }

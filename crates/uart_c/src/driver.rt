@@ -3,6 +3,7 @@ ghost use Rattle.std.specs.Prelude.{◌≡◌};
 ghost use Rattle.uart_16550.specs.State as driver_state;
 ghost use Rattle.uart_c.specs.Driver as spec;
 ghost use Rattle.uart_spec.specs.BaudRate.{to_integer};
+ghost use Rattle.uart_spec.specs.Fields.{word_length_bits};
 ghost use Rattle.uart_spec.specs.declared.config.BaudRate.TheVariants.{Custom};
 
 use crate::codes::{
@@ -69,24 +70,15 @@ fn number_of_level(level: Option<FifoTriggerLevel>) -> u8
 fn word_length_of(bits: u8) -> WordLength
     ensures { result ≡ spec.word_length_of bits }
 {
-    match bits {
-        5 => WordLength::FiveBits,
-        6 => WordLength::SixBits,
-        7 => WordLength::SevenBits,
-        _ => WordLength::EightBits,
-    }
+    WordLength::from_integer(bits)
 }
 
+#[tactic(auto, using(crate::proofs::Lengths::same_length, crate::proofs::Lengths::is_small))]
 fn number_of_word_length(length: WordLength) -> u8
-    ensures number { result ≡ spec.number_of_word_length length }
+    ensures number { result ≡ word_length_bits length }
     ensures length { spec.word_length_of result ≡ length }
 {
-    match length {
-        WordLength::FiveBits => 5,
-        WordLength::SixBits => 6,
-        WordLength::SevenBits => 7,
-        WordLength::EightBits => 8,
-    }
+    length.to_integer() as u8
 }
 
 fn parity_of(parity: u8) -> Parity

@@ -11,7 +11,7 @@ ghost use Rattle.uart_spec.specs.declared.event.TheConstants.{MAX_CHAR_TICKS};
 use crate::queue::{UartCharacter, UartCharacters, count, is_on, pop_front, push};
 use bitflags::Flags;
 use uart_chip::receiving::{ReceiverParts, characters_of};
-use uart_chip::{ArrivalMark, Character, Origin, flag};
+use uart_chip::{ArrivalMark, Character, Origin, Timeout, flag};
 use uart_spec::FIFO_SIZE;
 use uart_spec::registers::{FifoTriggerLevel, LSR};
 
@@ -185,12 +185,11 @@ impl ReceiverParts for UartReceiver {
         self.last_byte = byte;
     }
 
-    fn timeout_ticks(&self) -> u16 {
-        self.timeout_ticks
-    }
-
-    fn timeout_limit(&self) -> u16 {
-        self.timeout_limit
+    fn timeout(&self) -> Timeout {
+        Timeout {
+            ticks: self.timeout_ticks,
+            limit: self.timeout_limit,
+        }
     }
 
     fn set_timeout_ticks(&mut self, ticks: u16) {

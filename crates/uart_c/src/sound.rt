@@ -3,6 +3,7 @@ ghost use Rattle.std.specs.Prelude.{◌≡◌, ◌==◌, ◌*◌, true, false};
 ghost use Rattle.std.specs.List.{list_all};
 ghost use Rattle.uart_c.specs.Queue.{character_of, characters_of, wire_of};
 ghost use Rattle.uart_c.specs.Saved as saved;
+ghost use Rattle.uart_c.specs.State as state;
 ghost use Rattle.uart_c.specs.State.{chip_of, latches_of, model_of, place_of};
 ghost use Rattle.uart_c.specs.declared.receiver.TheConstants.{TIMEOUT_CHARACTERS};
 ghost use Rattle.uart_device.specs.Sound.{HoldBytes};
@@ -22,7 +23,7 @@ use uart_spec::registers::{IER, LSR, MCR, MSR};
 
 // The two latches that keep only some bits have no others.
 fn are_kept(latches: UartLatches) -> bool
-    ensures value { result ≡ spec.is_sound_latches (saved.latches_data latches) }
+    ensures value { result ≡ spec.is_sound_latches (state.latches_data latches) }
     ensures bytes { HoldBytes (latches_of latches) }
 {
     let ier = IER::from_bits_retain(latches.ier);
@@ -32,7 +33,7 @@ fn are_kept(latches: UartLatches) -> bool
 
 // Inputs and lines have bits of lines, and changes have bits of changes.
 fn are_lines(modem: UartModem) -> bool
-    ensures { result ≡ spec.is_sound_modem (saved.modem_data modem) }
+    ensures { result ≡ spec.is_sound_modem (state.modem_data modem) }
 {
     let inputs = MSR::from_bits_retain(modem.inputs);
     let lines = MSR::from_bits_retain(modem.lines);
@@ -72,7 +73,7 @@ fn is_sound_queue(receiver: &UartReceiver) -> bool
 // The queue fits, its characters may be there, and the idle ticks end when a reception timeout is
 // due.
 fn is_sound_receiver(receiver: &UartReceiver, fifo: bool, char_ticks: u16) -> bool
-    ensures { result ≡ spec.is_sound_receiver fifo char_ticks (saved.receiver_data receiver.now) }
+    ensures { result ≡ spec.is_sound_receiver fifo char_ticks (state.receiver_data receiver.now) }
 {
     receiver.queue_len() <= room_of(fifo)
         && is_sound_queue(receiver)
@@ -96,7 +97,7 @@ fn is_char_time(char_ticks: u16) -> bool
 // The ticks of a character are in their range, and the queue and the wire fit.
 fn is_sound_transmitter(transmitter: &UartTransmitter, fifo: bool) -> bool
     ensures { result ≡ spec.is_sound_transmitter fifo
-        (saved.transmitter_data transmitter.now) (wire_of transmitter.now.wire) }
+        (state.transmitter_data transmitter.now) (wire_of transmitter.now.wire) }
 {
     is_char_time(transmitter.char_ticks)
         && is_ticking(transmitter)

@@ -1,11 +1,9 @@
 //! The transmitter as plain data.
-ghost use Rattle.std.specs.Prelude.{◌≡◌, ◌==◌, ◌≤◌, [], ◌++◌, take, drop, min, nat_lt, length};
+ghost use Rattle.std.specs.Prelude.{◌≡◌, ◌≤◌, ◌++◌, take, drop, min, length};
 ghost use Rattle.uart_c.specs.declared.queue.TheConstants.{WIRE_ROOM};
 ghost use Rattle.uart_c.specs.Canonical.{IsCanonicalTransmitter};
 ghost use Rattle.uart_c.specs.State.{transmitter_of};
-ghost use Rattle.uart_chip.specs.Jumps as jumps;
 ghost use Rattle.uart_chip.specs.Transmitter as spec;
-ghost use Rattle.uart_chip.specs.Transmitter.{held, looped_byte};
 
 use crate::queue::{UartBytes, UartWire, WIRE_ROOM, count, is_on, pop_front, push, put_all};
 use bitflags::Flags;
@@ -105,6 +103,14 @@ impl TransmitterParts for UartTransmitter {
         self.queue.len = 0;
     }
 
+    fn count_overflow(&mut self) {
+        self.overflows = self.overflows.saturating_add(1);
+    }
+
+    fn char_ticks(&self) -> u16 {
+        self.char_ticks
+    }
+
     fn shifting(&self) -> Option<Shifting> {
         if !is_on(self.is_shifting) {
             return None;
@@ -129,14 +135,6 @@ impl TransmitterParts for UartTransmitter {
 
     fn send(&mut self, byte: u8) {
         self.wire.push(byte);
-    }
-
-    fn char_ticks(&self) -> u16 {
-        self.char_ticks
-    }
-
-    fn count_overflow(&mut self) {
-        self.overflows = self.overflows.saturating_add(1);
     }
 
     fn status(&self) -> LSR {

@@ -20,6 +20,10 @@ pub record File : Type 0 where
   pub latch : List ℕ
   pub sent : List ℕ
 
+-- the file with these parts
+abbrev pub file_of : Bool → (registers latch sent : List ℕ) → File
+file_of fifos registers latch sent = record { fifos = fifos; registers = registers; latch = latch; sent = sent }
+
 -- whether the first two registers are the divisor latch: they are while LCR shows DLAB
 abbrev pub is_latch : List ℕ → ℕ → Bool
 is_latch registers offset = nat_lt offset 2 && has (slice_index registers offsets.LCR) LCR.DLAB.0

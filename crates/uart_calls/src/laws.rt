@@ -2,9 +2,9 @@
 //!
 //! The contract of each function is a law that callers can cite. The functions do nothing.
 ghost use Rattle.std.specs.Prelude.{◌≡◌};
-ghost use Rattle.uart_16550.specs.Choice.{LeavesNoChoice};
 ghost use Rattle.uart_calls.specs.Calls.{IsRunnable};
 ghost use Rattle.uart_calls.specs.Meaning.{doing_of, meaning};
+ghost use Rattle.uart_16550.specs.Choice.{LeavesNoChoice};
 ghost use Rattle.uart_calls.specs.declared.call.Call.{Call};
 ghost use Rattle.uart_calls.specs.declared.call.TheConstants.{CALL_BYTES};
 

@@ -3,3 +3,4 @@ pub mod Bits
 pub mod Snapshots
 pub mod Errors
 pub mod Status
+pub mod FifoBits

@@ -1,6 +1,7 @@
--- The modem lines, and which of them changed.
-use Rattle.std.specs.Prelude.{ℕ, Bool, not, ◌&&◌, ◌==◌, bit_and, bit_or, if◌then◌else◌}
+-- The modem lines, and which of them changed since MSR was read.
+use Rattle.std.specs.Prelude.{ℕ, bit_or, if◌then◌else◌}
 use Rattle.uart_spec.specs.Bits.{has_any, flag}
+use Rattle.uart_spec.specs.Lines.{line_changes}
 use Rattle.uart_spec.specs.declared.registers.modem_control.TheConstants.MCR
 use Rattle.uart_spec.specs.declared.registers.modem_status.TheConstants.MSR
 
@@ -27,20 +28,10 @@ looped_lines mcr =
 abbrev pub lines_under : ℕ → ℕ → ℕ
 lines_under mcr inputs = if has_any mcr MCR.LOOP_BACK.0 then looped_lines mcr else inputs
 
--- the line with this mask changed
-abbrev pub is_changed : ℕ → ℕ → ℕ → Bool
-is_changed old new mask = not (bit_and old mask == bit_and new mask)
-
--- the changes between two states of the lines: of RI only from set to clear
-abbrev pub changes : ℕ → ℕ → ℕ
-changes old new =
-    let cts = flag (is_changed old new MSR.CTS.0) MSR.DELTA_CTS.0 in
-    let dsr = flag (is_changed old new MSR.DSR.0) MSR.DELTA_DSR.0 in
-    let ri = flag (has_any old MSR.RI.0 && not (has_any new MSR.RI.0)) MSR.TRAILING_EDGE_RI.0 in
-    let cd = flag (is_changed old new MSR.CD.0) MSR.DELTA_CD.0 in
-    bit_or (bit_or cts dsr) (bit_or ri cd)
-
 -- the lines are computed anew under this modem control register, and their changes are noted
 abbrev pub renew : ℕ → ModemState → ModemState
 renew mcr m =
-    record m { lines = lines_under mcr m.inputs; deltas = bit_or m.deltas (changes m.lines (lines_under mcr m.inputs)) }
+    record m {
+      lines = lines_under mcr m.inputs;
+      deltas = bit_or m.deltas (line_changes m.lines (lines_under mcr m.inputs));
+    }

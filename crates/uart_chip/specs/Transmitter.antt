@@ -14,6 +14,10 @@ pub record TransmitterState : Type 0 where
   pub overflows : ℕ
   pub is_thr_pending : Bool
 
+-- how many characters a queue has room for: 16 with the FIFO, one without it
+abbrev pub room : Bool → ℕ
+room fifo = if fifo then 16 else 1
+
 -- a transmitter that has sent nothing
 abbrev pub fresh : ℕ → ℕ → TransmitterState
 fresh char_ticks capacity =
@@ -60,10 +64,6 @@ refill None (x ∷ y ∷ xs) t =
 -- one tick: shift, then refill
 abbrev pub tick : Bool → TransmitterState → TransmitterState
 tick loopback t = let u = shift loopback t.shift_register t in refill u.shift_register u.queue u
-
--- how many characters a queue has room for: 16 with the FIFO, one without it
-abbrev pub room : Bool → ℕ
-room fifo = if fifo then 16 else 1
 
 -- a byte is written to DATA: if there is room, it is put last; otherwise a full FIFO loses it, and without the FIFO it
 -- replaces the one that waits

@@ -18,17 +18,13 @@ use crate::fifo::{Fifo, HeapFifo};
 use crate::journal::{Journal, Marks};
 use crate::modem::{Modem, ModemData};
 use crate::receiver::{Character, Receiver, ReceiverData};
-use crate::receiving::{
-    ReceiverParts, clear, count_up, expire_timeout, is_timed_out, report, take_front,
-};
+use crate::receiving::{expire_timeout, is_timed_out};
 use crate::transmitter::{Transmitter, TransmitterData};
-use crate::transmitting::{TransmitterParts, count_down, load};
 use crate::wire::{HeapWire, Wire, send};
-use crate::{receiving, transmitting};
 use bitflags::Flags;
 use std::alloc::{AllocError, Global};
 use std::marker::Model;
-use uart_spec::registers::{DLL, DLM, FifoTriggerLevel, IER, LCR, MCR, MSR, SPR};
+use uart_spec::registers::{DLL, DLM, IER, LCR, MCR, MSR, SPR};
 use uart_spec::{Chip, Event};
 
 /// The registers that keep what is written to them.
@@ -87,25 +83,19 @@ pub struct Uart<
 impl<B: Fifo<u8> + Drop, W: Wire + Drop, C: Fifo<Character> + Drop, J: Journal + Drop> Model
     for Uart<B, W, C, J> {
     ghost use Rattle.uart_chip.specs.Chip.{ChipState};
+    ghost use Rattle.uart_chip.specs.Snapshot.{latches_of};
 
     ghost Value = { ChipState };
 
     // A register is seen as the byte that it holds.
     ghost view = { λ c. record {
       model = c.model;
-      latches = record {
-        ier = c.latches.ier.0;
-        lcr = c.latches.lcr.0;
-        mcr = c.latches.mcr.0;
-        scr = c.latches.scr;
-        dll = c.latches.dll;
-        dlm = c.latches.dlm;
-      };
+      cuts = c.cuts;
+      latches = latches_of c.latches;
       fifo = c.fifo;
       transmitter = c.transmitter;
       receiver = c.receiver;
       modem = c.modem;
-      cuts = c.cuts;
     } };
 }
 
@@ -350,16 +340,56 @@ impl<B: Fifo<u8> + Drop, W: Wire + Drop, C: Fifo<Character> + Drop, J: Journal +
 
     ghost canonical = { λ c. Unit {0} };
 
+    ghost with_transmitter = { λ c t. record c { transmitter = t } };
+
+    ghost with_receiver = { λ c r. record c { receiver = r } };
+
+    fn model(&self) -> Chip {
+        self.model
+    }
+
+    fn cuts(&self) -> bool {
+        self.cuts
+    }
+
     fn transmitter(&self) -> &Transmitter<B, W> {
         &self.transmitter
+    }
+
+    fn transmitter_mut(&mut self) -> &mut Transmitter<B, W> {
+        &mut self.transmitter
     }
 
     fn receiver(&self) -> &Receiver<C, J> {
         &self.receiver
     }
 
-    fn model(&self) -> Chip {
-        self.model
+    fn receiver_mut(&mut self) -> &mut Receiver<C, J> {
+        &mut self.receiver
+    }
+
+    fn fifo(&self) -> bool {
+        self.fifo
+    }
+
+    fn turn_fifo(&mut self, on: bool) {
+        self.fifo = on;
+    }
+
+    fn renew_modem(&mut self, mcr: MCR) {
+        self.modem.renew(mcr);
+    }
+
+    fn change_inputs(&mut self, mcr: MCR, inputs: u8) {
+        self.modem.change_inputs(mcr, MSR::from_bits_retain(inputs));
+    }
+
+    fn read_modem(&mut self) -> u8 {
+        self.modem.read().bits()
+    }
+
+    fn has_modem_changes(&self) -> bool {
+        self.modem.has_changes()
     }
 
     fn ier(&self) -> IER {
@@ -380,82 +410,6 @@ impl<B: Fifo<u8> + Drop, W: Wire + Drop, C: Fifo<Character> + Drop, J: Journal +
 
     fn set_latches(&mut self, latches: Latches) {
         self.latches = latches;
-    }
-
-    fn fifo(&self) -> bool {
-        self.fifo
-    }
-
-    fn turn_fifo(&mut self, on: bool) {
-        self.fifo = on;
-    }
-
-    fn cuts(&self) -> bool {
-        self.cuts
-    }
-
-    fn tick_transmitter(&mut self, loopback: bool) -> Option<u8> {
-        transmitting::tick(&mut self.transmitter, loopback)
-    }
-
-    fn count_down(&mut self, ticks: u16) {
-        count_down(&mut self.transmitter, ticks);
-    }
-
-    fn load(&mut self, byte: u8) {
-        load(&mut self.transmitter, self.fifo, byte);
-    }
-
-    fn clear_transmitter(&mut self) {
-        self.transmitter.clear_queue();
-    }
-
-    fn set_thr_pending(&mut self, on: bool) {
-        self.transmitter.set_thr_pending(on);
-    }
-
-    fn tick_receiver(&mut self, looped: Option<u8>) {
-        receiving::tick(&mut self.receiver, self.fifo, looped);
-    }
-
-    fn count_up(&mut self, ticks: u16) {
-        count_up(&mut self.receiver, ticks);
-    }
-
-    fn receive(&mut self, loopback: bool, byte: u8, errors: u8) {
-        receiving::arrive_live(&mut self.receiver, loopback, self.fifo, byte, errors);
-    }
-
-    fn take_front(&mut self) -> u8 {
-        take_front(&mut self.receiver)
-    }
-
-    fn report(&mut self) {
-        report(&mut self.receiver);
-    }
-
-    fn clear_receiver(&mut self) {
-        clear(&mut self.receiver);
-    }
-
-    fn set_trigger(&mut self, trigger: FifoTriggerLevel) {
-        self.receiver.set_trigger(trigger);
-    }
-
-    fn renew_modem(&mut self, mcr: MCR) {
-        self.modem.renew(mcr);
-    }
-
-    fn change_inputs(&mut self, mcr: MCR, inputs: u8) {
-        self.modem.change_inputs(mcr, MSR::from_bits_retain(inputs));
-    }
-
-    fn read_modem(&mut self) -> u8 {
-        self.modem.read().bits()
-    }
-
-    fn has_modem_changes(&self) -> bool {
-        self.modem.has_changes()
     }
 }
 

@@ -1,5 +1,6 @@
 //! What happens in a chip, over its parts: what an access does, and what happens between accesses.
-ghost use Rattle.std.specs.Prelude.{◌≡◌, ◌<◌, ◌≤◌, ◌==◌, ◌+◌, [], not, bit_and, bit_or, is_some};
+ghost use Rattle.std.specs.Borrow.{Lends, sem};
+ghost use Rattle.std.specs.Prelude.{◌≡◌, ◌<◌, ◌≤◌, ◌==◌, ◌+◌, not, bit_and, bit_or, is_some};
 ghost use Rattle.uart_chip.specs.Chip as spec;
 ghost use Rattle.uart_chip.specs.Chip.{ChipState};
 ghost use Rattle.uart_chip.specs.Jumps as jumps;
@@ -15,10 +16,12 @@ ghost use Rattle.uart_spec.specs.declared.baud.TheConstants.{NUM_REGISTERS};
 ghost use Rattle.uart_spec.specs.declared.registers.offsets.TheConstants as offsets;
 
 use crate::chip::Latches;
-use crate::masks::{flag, kept_interrupts, kept_modem_control};
-use crate::receiving;
-use crate::receiving::{ReceiverParts, is_data_pending, is_timed_out};
-use crate::transmitting::{TransmitterParts, next_move};
+use crate::masks::{kept_interrupts, kept_modem_control};
+use crate::receiving::{
+    ReceiverParts, clear, count_up, is_data_pending, is_timed_out, report, take_front,
+};
+use crate::transmitting::{TransmitterParts, count_down, load, next_move};
+use crate::{flag, receiving, transmitting};
 use bitflags::Flags;
 use uart_spec::Chip;
 use uart_spec::registers::{
@@ -40,38 +43,51 @@ pub trait ChipParts {
     // Whether the parts have the one value for this chip. It stays so.
     ghost canonical: { Self → Type 0 };
 
-    /// Returns the transmitter.
-    fn transmitter(&self) -> &Self::Transmitter
-        ensures { Self.Transmitter.state result.now ≡ (state self.now).transmitter };
+    // The parts with another transmitter, and with another receiver.
+    ghost with_transmitter: { Self → Self.Transmitter → Self };
 
-    /// Returns the receiver.
-    fn receiver(&self) -> &Self::Receiver
-        ensures { Self.Receiver.state result.now ≡ (state self.now).receiver };
+    ghost with_receiver: { Self → Self.Receiver → Self };
 
     /// Returns the model.
     fn model(&self) -> Chip
         ensures { result ≡ (state self.now).model };
 
-    /// Returns the interrupt enable register.
-    fn ier(&self) -> IER
-        ensures { result.0 ≡ (state self.now).latches.ier };
+    /// Returns whether characters are cut to the word length.
+    fn cuts(&self) -> bool
+        ensures { result ≡ (state self.now).cuts };
 
-    /// Returns the line control register.
-    fn lcr(&self) -> LCR
-        ensures { result.0 ≡ (state self.now).latches.lcr };
+    /// Returns the transmitter.
+    fn transmitter(&self) -> &Self::Transmitter
+        ensures { Self.Transmitter.state result.now ≡ (state self.now).transmitter };
 
-    /// Returns the modem control register.
-    fn mcr(&self) -> MCR
-        ensures { result.0 ≡ (state self.now).latches.mcr };
+    /// Lends the transmitter.
+    fn transmitter_mut(&mut self) -> &mut Self::Transmitter
+        ensures* writes_back { sem 𝓛 (Lends Self.row Self.Transmitter.row self.entry result
+            (with_transmitter self.old)) }
+        ensures value { Self.Transmitter.state result.now ≡ (state self.old).transmitter }
+        ensures after { (transmitter : Self.Transmitter) →
+            state (with_transmitter self.old transmitter) ≡ record (state self.old)
+            { transmitter = Self.Transmitter.state transmitter } }
+        ensures part { canonical self.old → Self.Transmitter.canonical result.now }
+        ensures canonical { (transmitter : Self.Transmitter) → canonical self.old →
+            Self.Transmitter.canonical transmitter →
+            canonical (with_transmitter self.old transmitter) };
 
-    /// Returns the registers that keep what is written to them.
-    fn latches(&self) -> Latches
-        ensures { latches_of result ≡ (state self.now).latches };
+    /// Returns the receiver.
+    fn receiver(&self) -> &Self::Receiver
+        ensures { Self.Receiver.state result.now ≡ (state self.now).receiver };
 
-    /// Sets the registers that keep what is written to them.
-    fn set_latches(&mut self, latches: Latches)
-        ensures after { state self.new ≡ record (state self.old) { latches = latches_of latches } }
-        ensures canonical { canonical self.old → canonical self.new };
+    /// Lends the receiver.
+    fn receiver_mut(&mut self) -> &mut Self::Receiver
+        ensures* writes_back { sem 𝓛 (Lends Self.row Self.Receiver.row self.entry result
+            (with_receiver self.old)) }
+        ensures value { Self.Receiver.state result.now ≡ (state self.old).receiver }
+        ensures after { (receiver : Self.Receiver) →
+            state (with_receiver self.old receiver) ≡ record (state self.old)
+            { receiver = Self.Receiver.state receiver } }
+        ensures part { canonical self.old → Self.Receiver.canonical result.now }
+        ensures canonical { (receiver : Self.Receiver) → canonical self.old →
+            Self.Receiver.canonical receiver → canonical (with_receiver self.old receiver) };
 
     /// Returns whether the FIFOs are on.
     fn fifo(&self) -> bool
@@ -80,84 +96,6 @@ pub trait ChipParts {
     /// Sets whether the FIFOs are on.
     fn turn_fifo(&mut self, on: bool)
         ensures after { state self.new ≡ record (state self.old) { fifo = on } }
-        ensures canonical { canonical self.old → canonical self.new };
-
-    /// Returns whether characters are cut to the word length.
-    fn cuts(&self) -> bool
-        ensures { result ≡ (state self.now).cuts };
-
-    /// Lets one tick pass in the transmitter, and returns the byte that loopback returns in it.
-    fn tick_transmitter(&mut self, loopback: bool) -> Option<u8>
-        ensures after { state self.new ≡ record (state self.old)
-            { transmitter = transmitter.tick loopback (state self.old).transmitter } }
-        ensures looped { result ≡ looped_byte loopback (state self.old).transmitter.shift_register }
-        ensures canonical { canonical self.old → canonical self.new };
-
-    /// Lets ticks pass in the transmitter in which no character enters or leaves the shift
-    /// register.
-    fn count_down(&mut self, ticks: u16)
-        ensures after { state self.new ≡ record (state self.old)
-            { transmitter = jumps.count_down ticks (state self.old).transmitter } }
-        ensures canonical { canonical self.old → canonical self.new };
-
-    /// Passes a byte that is written to DATA to the transmitter.
-    fn load(&mut self, byte: u8)
-        ensures after { let c = state self.old in
-            state self.new ≡ record c { transmitter = transmitter.load c.fifo byte c.transmitter } }
-        ensures canonical { canonical self.old → canonical self.new };
-
-    /// Empties the queue of the transmitter.
-    fn clear_transmitter(&mut self)
-        ensures after { state self.new ≡ record (state self.old)
-            { transmitter = record (state self.old).transmitter { queue = [] } } }
-        ensures canonical { canonical self.old → canonical self.new };
-
-    /// Sets whether a `THR_EMPTY` interrupt is pending.
-    fn set_thr_pending(&mut self, on: bool)
-        ensures after { state self.new ≡ spec.with_thr_pending on (state self.old) }
-        ensures canonical { canonical self.old → canonical self.new };
-
-    /// Lets one tick pass in the receiver, with the byte that loopback returned in it.
-    fn tick_receiver(&mut self, looped: Option<u8>)
-        ensures after { let c = state self.old in
-            state self.new ≡ record c { receiver = receiver.tick c.fifo looped c.receiver } }
-        ensures canonical { canonical self.old → canonical self.new };
-
-    /// Lets ticks pass in the receiver in which no character is received or read.
-    fn count_up(&mut self, ticks: u16)
-        ensures after { state self.new ≡
-            record (state self.old) { receiver = jumps.count_up ticks (state self.old).receiver } }
-        ensures canonical { canonical self.old → canonical self.new };
-
-    /// Passes a character without a schedule to the receiver. In loopback it is lost.
-    fn receive(&mut self, loopback: bool, byte: u8, errors: u8)
-        ensures after { let c = state self.old in state self.new ≡
-            record c { receiver = receiver.arrive_live loopback c.fifo byte errors c.receiver } }
-        ensures canonical { canonical self.old → canonical self.new };
-
-    /// Takes the front of the receiver if there is one, and returns the byte that was taken last.
-    fn take_front(&mut self) -> u8
-        ensures after { let c = state self.old in state self.new ≡
-            record c { receiver = receiver.take_front c.receiver.queue c.receiver } }
-        ensures byte { result ≡ (state self.new).receiver.last_byte }
-        ensures canonical { canonical self.old → canonical self.new };
-
-    /// Does to the receiver what a read of LSR does: clears the overrun and the errors of the
-    /// front.
-    fn report(&mut self)
-        ensures after { state self.new ≡
-            record (state self.old) { receiver = receiver.report (state self.old).receiver } }
-        ensures canonical { canonical self.old → canonical self.new };
-
-    /// Empties the queue of the receiver. Its characters are discarded.
-    fn clear_receiver(&mut self)
-        ensures after { state self.new ≡
-            record (state self.old) { receiver = receiver.clear (state self.old).receiver } }
-        ensures canonical { canonical self.old → canonical self.new };
-
-    /// Sets the trigger level of the receiver.
-    fn set_trigger(&mut self, trigger: FifoTriggerLevel)
-        ensures after { state self.new ≡ spec.set_trigger trigger (state self.old) }
         ensures canonical { canonical self.old → canonical self.new };
 
     /// Computes the modem lines anew under this value of MCR, and adds their changes.
@@ -184,6 +122,27 @@ pub trait ChipParts {
     /// Returns whether a modem line has changed since the last read of MSR.
     fn has_modem_changes(&self) -> bool
         ensures { result ≡ not ((state self.now).modem.deltas == 0) };
+
+    /// Returns the interrupt enable register.
+    fn ier(&self) -> IER
+        ensures { result.0 ≡ (state self.now).latches.ier };
+
+    /// Returns the line control register.
+    fn lcr(&self) -> LCR
+        ensures { result.0 ≡ (state self.now).latches.lcr };
+
+    /// Returns the modem control register.
+    fn mcr(&self) -> MCR
+        ensures { result.0 ≡ (state self.now).latches.mcr };
+
+    /// Returns the registers that keep what is written to them.
+    fn latches(&self) -> Latches
+        ensures { latches_of result ≡ (state self.now).latches };
+
+    /// Sets the registers that keep what is written to them.
+    fn set_latches(&mut self, latches: Latches)
+        ensures after { state self.new ≡ record (state self.old) { latches = latches_of latches } }
+        ensures canonical { canonical self.old → canonical self.new };
 }
 
 /// Returns whether a read of ISR that shows this interrupt acknowledges it.
@@ -263,8 +222,9 @@ pub fn tick<P: ChipParts>(parts: &mut P)
     ensures canonical { P.canonical parts.old → P.canonical parts.new }
 {
     let loopback = is_loopback(parts);
-    let looped = parts.tick_transmitter(loopback);
-    parts.tick_receiver(looped);
+    let looped = transmitting::tick(parts.transmitter_mut(), loopback);
+    let fifo = parts.fifo();
+    receiving::tick(parts.receiver_mut(), fifo, looped);
 }
 
 // Lets ticks pass in which no character enters or leaves the shift register.
@@ -272,8 +232,8 @@ fn skip<P: ChipParts>(parts: &mut P, ticks: u16)
     ensures after { P.state parts.new ≡ jumps.skip ticks (P.state parts.old) }
     ensures canonical { P.canonical parts.old → P.canonical parts.new }
 {
-    parts.count_down(ticks);
-    parts.count_up(ticks);
+    count_down(parts.transmitter_mut(), ticks);
+    count_up(parts.receiver_mut(), ticks);
 }
 
 /// Lets `n` ticks pass, and returns the number of jumps that this took.
@@ -314,7 +274,8 @@ pub fn arrive_live<P: ChipParts>(parts: &mut P, byte: u8, errors: u8)
 {
     let loopback = is_loopback(parts);
     let byte = cut(parts, byte);
-    parts.receive(loopback, byte, errors);
+    let fifo = parts.fifo();
+    receiving::arrive_live(parts.receiver_mut(), loopback, fifo, byte, errors);
 }
 
 /// Returns how many characters can be received before one is lost. In loopback that is 0.
@@ -438,7 +399,7 @@ fn read_line_status<P: ChipParts>(parts: &mut P) -> u8
         .receiver()
         .status()
         .union(parts.transmitter().status());
-    parts.report();
+    report(parts.receiver_mut());
     status.bits()
 }
 
@@ -450,7 +411,7 @@ fn read_errors<P: ChipParts>(parts: &mut P) -> u8
     ensures canonical { P.canonical parts.old → P.canonical parts.new }
 {
     let status = lsr(parts);
-    parts.report();
+    report(parts.receiver_mut());
     status.bits()
 }
 
@@ -462,7 +423,7 @@ fn read_data<P: ChipParts>(parts: &mut P) -> u8
     if is_dlab_set(parts) {
         return parts.latches().dll;
     }
-    parts.take_front()
+    take_front(parts.receiver_mut())
 }
 
 // Reads ISR. A read that shows `THR_EMPTY` acknowledges it.
@@ -474,7 +435,7 @@ fn read_interrupt<P: ChipParts>(parts: &mut P) -> u8
     let interrupt = pending_interrupt(parts);
     let fifo = flag(parts.fifo(), ISR::FIFOS_ENABLED);
     if is_thr_empty(interrupt) {
-        parts.set_thr_pending(false);
+        parts.transmitter_mut().set_thr_pending(false);
     }
     identification(interrupt).union(fifo).bits()
 }
@@ -507,7 +468,8 @@ fn write_data<P: ChipParts>(parts: &mut P, value: u8)
         });
     } else {
         let byte = cut(parts, value);
-        parts.load(byte);
+        let fifo = parts.fifo();
+        load(parts.transmitter_mut(), fifo, byte);
     }
 }
 
@@ -549,7 +511,7 @@ fn enable<P: ChipParts>(parts: &mut P, interrupts: IER)
         && interrupts.intersects(IER::THR_EMPTY)
         && parts.transmitter().queue_len() == 0
     {
-        parts.set_thr_pending(true);
+        parts.transmitter_mut().set_thr_pending(true);
     }
     parts.set_latches(Latches {
         ier: kept_interrupts(interrupts),
@@ -592,7 +554,7 @@ fn set_fifo<P: ChipParts>(parts: &mut P, value: FCR)
     if on {
         reset_receiver(parts, value);
         reset_transmitter(parts, value);
-        parts.set_trigger(trigger_level(value));
+        parts.receiver_mut().set_trigger(trigger_level(value));
     }
 }
 
@@ -601,7 +563,7 @@ fn reset_receiver<P: ChipParts>(parts: &mut P, value: FCR)
     ensures canonical { P.canonical parts.old → P.canonical parts.new }
 {
     if value.intersects(FCR::RX_FIFO_RESET) {
-        parts.clear_receiver();
+        clear(parts.receiver_mut());
     }
 }
 
@@ -610,8 +572,8 @@ fn reset_transmitter<P: ChipParts>(parts: &mut P, value: FCR)
     ensures canonical { P.canonical parts.old → P.canonical parts.new }
 {
     if value.intersects(FCR::TX_FIFO_RESET) {
-        parts.clear_transmitter();
-        parts.set_thr_pending(true);
+        parts.transmitter_mut().clear_queue();
+        parts.transmitter_mut().set_thr_pending(true);
     }
 }
 
@@ -621,6 +583,6 @@ fn switch<P: ChipParts>(parts: &mut P, on: bool)
     ensures canonical { P.canonical parts.old → P.canonical parts.new }
 {
     parts.turn_fifo(on);
-    parts.clear_receiver();
-    parts.clear_transmitter();
+    clear(parts.receiver_mut());
+    parts.transmitter_mut().clear_queue();
 }

@@ -30,7 +30,10 @@ pub trait Fifo<T> {
 
     /// Returns whether there is no item.
     fn is_empty(&self) -> bool
-        ensures { result ≡ (length (items self.now) == 0) };
+        ensures { result ≡ (length (items self.now) == 0) }
+    {
+        self.len() == 0
+    }
 
     /// Returns the item with this index, from the front.
     fn get(&self, i: usize) -> Option<T>
@@ -108,10 +111,6 @@ impl<T: Copy + Drop> Fifo<T> for HeapFifo<T> {
 
     fn len(&self) -> usize {
         self.ring.len()
-    }
-
-    fn is_empty(&self) -> bool {
-        self.ring.is_empty()
     }
 
     fn get(&self, i: usize) -> Option<T> {

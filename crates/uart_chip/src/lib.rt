@@ -23,10 +23,11 @@ pub use chip::{ChipData, Latches, Uart};
 pub use controlling::identification;
 pub use fifo::{Fifo, HeapFifo, room_of};
 pub use journal::{Journal, Marks};
-pub use masks::{flag, kept_interrupts, kept_modem_control};
+pub use masks::{kept_interrupts, kept_modem_control};
 pub use modem::{Modem, ModemData};
-pub use receiver::{Character, Origin, Receiver, ReceiverData};
+pub use receiver::{Character, Origin, Receiver, ReceiverData, Timeout};
 pub use transmitter::{Shifting, Transmitter, TransmitterData};
+pub use uart_spec::registers::flag;
 pub use uart_spec::{
     ArrivalMark, BuildError, Chip, Event, MAX_CHAR_TICKS, MAX_WIRE_CAPACITY, arrivals, refusal,
 };

@@ -1,17 +1,9 @@
-//! Masks of registers: bits under a condition, and what the chip keeps of a write.
+//! Masks of registers: what the chip keeps of a write.
 ghost use Rattle.std.specs.Prelude.{◌≡◌, bit_and};
-ghost use Rattle.uart_spec.specs.Bits.{flag};
 ghost use Rattle.uart_chip.specs.Masks as spec;
 
 use bitflags::Flags;
 use uart_spec::registers::{IER, MCR};
-
-/// Returns these bits if the condition holds, else none.
-pub fn flag<F: Flags>(on: bool, bits: F) -> F
-    ensures { F.exact → F.set_of result ≡ flag on (F.set_of bits) }
-{
-    if on { bits } else { F::empty() }
-}
 
 /// Returns what IER keeps of a write: the interrupts that the chip has.
 pub fn kept_interrupts(written: IER) -> IER

@@ -3,10 +3,9 @@ ghost use Rattle.std.specs.Prelude.{◌≡◌, ◌==◌, not, bit_or};
 ghost use Rattle.uart_chip.specs.Modem as spec;
 ghost use Rattle.uart_chip.specs.Data.{modem_of};
 
-use crate::masks::flag;
 use bitflags::Flags;
 use std::marker::Model;
-use uart_spec::registers::{MCR, MSR};
+use uart_spec::registers::{MCR, MSR, flag};
 
 /// The modem's inputs, the lines that MSR shows, and their changes since its last read.
 #[derive(Drop)]
@@ -33,26 +32,6 @@ pub struct ModemData {
     pub lines: MSR,
     /// The changes since the last read of MSR.
     pub deltas: MSR,
-}
-
-fn is_changed(old: MSR, new: MSR, line: MSR) -> bool
-    ensures { result ≡ spec.is_changed old.0 new.0 line.0 }
-{
-    old.intersection(line) != new.intersection(line)
-}
-
-// Returns the changes between two states of the lines: of RI only from set to clear.
-fn changes(old: MSR, new: MSR) -> MSR
-    ensures { result.0 ≡ spec.changes old.0 new.0 }
-{
-    let cts = flag(is_changed(old, new, MSR::CTS), MSR::DELTA_CTS);
-    let dsr = flag(is_changed(old, new, MSR::DSR), MSR::DELTA_DSR);
-    let ri = flag(
-        old.intersects(MSR::RI) && !new.intersects(MSR::RI),
-        MSR::TRAILING_EDGE_RI,
-    );
-    let cd = flag(is_changed(old, new, MSR::CD), MSR::DELTA_CD);
-    cts.union(dsr).union(ri.union(cd))
 }
 
 // Returns the lines in loopback, where the outputs replace the inputs.
@@ -116,7 +95,7 @@ impl Modem {
         ensures { self.new ≡ spec.renew mcr.0 self.old }
     {
         let lines = lines_under(mcr, self.inputs);
-        self.deltas = self.deltas.union(changes(self.lines, lines));
+        self.deltas = self.deltas.union(lines.changes_since(self.lines));
         self.lines = lines;
     }
 

@@ -1,18 +1,16 @@
 //! The receiver: a queue of characters, and what became of each arrival.
-ghost use Rattle.std.specs.Prelude.{◌≡◌, ◌<◌, ◌≤◌, ℕ, [], true, bit_and, length, slice_get};
-ghost use Rattle.uart_chip.specs.Receiver as spec;
-ghost use Rattle.uart_chip.specs.Receiver.{has_errors, waiting};
-ghost use Rattle.uart_chip.specs.Status.{receiver_status};
-ghost use Rattle.uart_chip.specs.Errors.{error_weight};
-ghost use Rattle.uart_spec.specs.declared.baud.TheConstants.{FIFO_SIZE};
-ghost use Rattle.uart_spec.specs.declared.registers.line_status.TheConstants.LSR;
+ghost use Rattle.std.specs.Prelude.{◌≡◌, ◌==◌, ◌<◌, ◌≤◌, ℕ, [], true, bit_and, length, slice_get};
 ghost use Rattle.uart_chip.specs.Data.{receiver_of, without_schedule};
+ghost use Rattle.uart_chip.specs.Receiver as spec;
+ghost use Rattle.uart_chip.specs.Receiver.{waiting};
+ghost use Rattle.uart_chip.specs.Status.{receiver_status};
+ghost use Rattle.uart_spec.specs.declared.baud.TheConstants.{FIFO_SIZE};
 ghost use Rattle.uart_spec.specs.declared.event.TheConstants.{MAX_CHAR_TICKS};
 
 use crate::characters::Characters;
 use crate::fifo::{Fifo, items_of};
+use crate::flag;
 use crate::journal::{Journal, Marks};
-use crate::masks::flag;
 use crate::receiving::{ReceiverParts, enter};
 use arrayvec::ArrayVec;
 use bitflags::Flags;
@@ -43,6 +41,15 @@ pub struct Character {
     pub origin: Origin,
 }
 
+/// The ticks towards a reception timeout.
+#[derive(Clone, Copy)]
+pub struct Timeout {
+    /// The ticks since a character was received or read, counted up to the limit.
+    pub ticks: u16,
+    /// The number of ticks after which the timeout is due.
+    pub limit: u16,
+}
+
 /// The receiver: received characters are in its queue until DATA is read.
 #[derive(Drop)]
 pub struct Receiver<Q: Fifo<Character> + Drop, J: Journal + Drop> {
@@ -51,8 +58,7 @@ pub struct Receiver<Q: Fifo<Character> + Drop, J: Journal + Drop> {
     is_overrun: bool,
     is_front_reported: bool,
     last_byte: u8,
-    timeout_ticks: u16,
-    timeout_limit: u16,
+    timeout: Timeout,
     trigger: FifoTriggerLevel,
     arrived: usize,
     journal: J,
@@ -60,9 +66,7 @@ pub struct Receiver<Q: Fifo<Character> + Drop, J: Journal + Drop> {
 }
 
 impl<Q: Fifo<Character> + Drop, J: Journal + Drop> Model for Receiver<Q, J> {
-    ghost use Rattle.std.specs.Prelude.{◌≡◌};
     ghost use Rattle.uart_chip.specs.Receiver.{ReceiverState};
-    ghost use Rattle.uart_chip.specs.Status.{receiver_status};
 
     ghost Value = { ReceiverState };
 
@@ -71,13 +75,16 @@ impl<Q: Fifo<Character> + Drop, J: Journal + Drop> Model for Receiver<Q, J> {
       is_overrun = r.is_overrun;
       is_front_reported = r.is_front_reported;
       last_byte = r.last_byte;
-      timeout_ticks = r.timeout_ticks;
-      timeout_limit = r.timeout_limit;
+      timeout_ticks = r.timeout.ticks;
+      timeout_limit = r.timeout.limit;
       trigger = r.trigger;
       arrived = r.arrived;
       marks = J.recorded r.journal;
       is_unscheduled_lost = r.is_unscheduled_lost;
     } };
+
+    ghost use Rattle.std.specs.Prelude.{◌≡◌};
+    ghost use Rattle.uart_chip.specs.Status.{receiver_status};
 
     // What LSR shows of the receiver is kept, but for the errors behind the front, which the queue
     // counts.
@@ -85,7 +92,20 @@ impl<Q: Fifo<Character> + Drop, J: Journal + Drop> Model for Receiver<Q, J> {
         r.status.0 ≡ receiver_status r.queue r.is_overrun r.is_front_reported };
 }
 
+impl Timeout {
+    /// Returns whether the timeout is due.
+    pub fn is_due(self) -> bool
+        ensures { result ≡ (self.ticks == self.limit) }
+    {
+        self.ticks == self.limit
+    }
+}
+
 impl Character {
+    ghost use Rattle.uart_chip.specs.Errors.{error_weight};
+    ghost use Rattle.uart_chip.specs.Receiver.{has_errors};
+    ghost use Rattle.uart_spec.specs.declared.registers.line_status.TheConstants.LSR;
+
     // Returns the errors that LSR shows of the character at the front.
     fn shown_errors(&self) -> LSR
         ensures { result.0 ≡ bit_and self.now.errors LSR.CHARACTER_ERRORS.0 }
@@ -150,8 +170,10 @@ impl<Q: Fifo<Character> + Drop, J: Journal + Drop> Receiver<Q, J> {
             is_overrun: false,
             is_front_reported: false,
             last_byte: 0,
-            timeout_ticks: 0,
-            timeout_limit: 4 * char_ticks,
+            timeout: Timeout {
+                ticks: 0,
+                limit: 4 * char_ticks,
+            },
             trigger: FifoTriggerLevel::One,
             arrived: 0,
             journal,
@@ -175,8 +197,10 @@ impl<Q: Fifo<Character> + Drop, J: Journal + Drop> Receiver<Q, J> {
             is_overrun: saved.is_overrun,
             is_front_reported: saved.is_front_reported,
             last_byte: saved.last_byte,
-            timeout_ticks: saved.timeout_ticks,
-            timeout_limit: 4 * char_ticks,
+            timeout: Timeout {
+                ticks: saved.timeout_ticks,
+                limit: 4 * char_ticks,
+            },
             trigger: saved.trigger,
             arrived: 0,
             journal,
@@ -196,7 +220,7 @@ impl<Q: Fifo<Character> + Drop, J: Journal + Drop> Receiver<Q, J> {
             is_overrun: self.is_overrun,
             is_front_reported: self.is_front_reported,
             last_byte: self.last_byte,
-            timeout_ticks: self.timeout_ticks,
+            timeout_ticks: self.timeout.ticks,
             trigger: self.trigger,
         }
     }
@@ -331,16 +355,12 @@ impl<Q: Fifo<Character> + Drop, J: Journal + Drop> ReceiverParts for Receiver<Q,
         self.last_byte = byte;
     }
 
-    fn timeout_ticks(&self) -> u16 {
-        self.timeout_ticks
-    }
-
-    fn timeout_limit(&self) -> u16 {
-        self.timeout_limit
+    fn timeout(&self) -> Timeout {
+        self.timeout
     }
 
     fn set_timeout_ticks(&mut self, ticks: u16) {
-        self.timeout_ticks = ticks;
+        self.timeout.ticks = ticks;
     }
 
     fn trigger(&self) -> FifoTriggerLevel {

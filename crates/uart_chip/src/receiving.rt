@@ -10,7 +10,7 @@ ghost use Rattle.uart_chip.specs.Transmitter.{room};
 ghost use Rattle.uart_spec.specs.declared.baud.TheConstants.{FIFO_SIZE};
 
 use crate::fifo::room_of;
-use crate::receiver::{Character, Origin};
+use crate::receiver::{Character, Origin, Timeout};
 use uart_spec::registers::{FifoTriggerLevel, LSR};
 use uart_spec::{ArrivalMark, FIFO_SIZE};
 
@@ -109,13 +109,10 @@ pub trait ReceiverParts {
         ensures after { state self.new ≡ record (state self.old) { last_byte = byte } }
         ensures canonical { canonical self.old → canonical self.new };
 
-    /// Returns the ticks since a character was received or read, counted up to the timeout.
-    fn timeout_ticks(&self) -> u16
-        ensures { result ≡ (state self.now).timeout_ticks };
-
-    /// Returns the ticks up to the timeout.
-    fn timeout_limit(&self) -> u16
-        ensures { result ≡ (state self.now).timeout_limit };
+    /// Returns the ticks towards a reception timeout, and their limit.
+    fn timeout(&self) -> Timeout
+        ensures ticks { result.ticks ≡ (state self.now).timeout_ticks }
+        ensures limit { result.limit ≡ (state self.now).timeout_limit };
 
     /// Sets the ticks since a character was received or read.
     fn set_timeout_ticks(&mut self, ticks: u16)
@@ -229,9 +226,9 @@ pub fn count_up<R: ReceiverParts>(parts: &mut R, ticks: u16)
     ensures canonical { R.canonical parts.old → R.canonical parts.new }
 {
     if ticks > 0 {
-        let counted = parts.timeout_ticks().saturating_add(ticks);
-        let limit = parts.timeout_limit();
-        parts.set_timeout_ticks(counted.min(limit));
+        let timeout = parts.timeout();
+        let counted = timeout.ticks.saturating_add(ticks);
+        parts.set_timeout_ticks(counted.min(timeout.limit));
     }
 }
 
@@ -302,7 +299,7 @@ pub fn expire_timeout<R: ReceiverParts>(parts: &mut R)
         record (R.state parts.old) { timeout_ticks = (R.state parts.old).timeout_limit } }
     ensures canonical { R.canonical parts.old → R.canonical parts.new }
 {
-    let limit = parts.timeout_limit();
+    let limit = parts.timeout().limit;
     parts.set_timeout_ticks(limit);
 }
 
@@ -323,7 +320,7 @@ pub fn is_data_pending<R: ReceiverParts>(parts: &R, fifo: bool) -> bool
 pub fn is_timed_out<R: ReceiverParts>(parts: &R, fifo: bool) -> bool
     ensures { result ≡ spec.is_timed_out fifo (R.state parts.now) }
 {
-    fifo && parts.queue_len() > 0 && parts.timeout_ticks() == parts.timeout_limit()
+    fifo && parts.queue_len() > 0 && parts.timeout().is_due()
 }
 
 /// Returns how many characters can be received before one is lost.

@@ -1,10 +1,10 @@
 //! The transmitter: a queue, the shift register, and the wire.
 ghost use Rattle.std.specs.Prelude.{◌≡◌, ◌<◌, ◌≤◌, ◌-◌, [], length, slice_get};
+ghost use Rattle.uart_chip.specs.Data.{transmitter_of};
+ghost use Rattle.uart_chip.specs.Status.{transmitter_status};
 ghost use Rattle.uart_chip.specs.Transmitter as spec;
 ghost use Rattle.uart_chip.specs.Transmitter.{held};
 ghost use Rattle.uart_spec.specs.declared.baud.TheConstants.{FIFO_SIZE};
-ghost use Rattle.uart_chip.specs.Data.{transmitter_of};
-ghost use Rattle.uart_chip.specs.Status.{transmitter_status};
 
 use crate::fifo::{Fifo, fill, items_of};
 use crate::transmitting::{TransmitterParts, held_len};
@@ -24,6 +24,19 @@ pub struct Shifting {
     pub ticks_left: u16,
 }
 
+/// The transmitter: bytes that are written to DATA are first in the queue, then in the shift
+/// register, and then on the wire.
+#[derive(Drop)]
+pub struct Transmitter<Q: Fifo<u8> + Drop, W: Wire + Drop> {
+    queue: Q,
+    shift_register: Option<Shifting>,
+    wire: W,
+    char_ticks: u16,
+    overflows: u64,
+    is_thr_pending: bool,
+    status: LSR,
+}
+
 /// A transmitter as plain data, without the bytes on its wire.
 #[derive(Drop)]
 pub struct TransmitterData {
@@ -41,22 +54,7 @@ pub struct TransmitterData {
     pub is_thr_pending: bool,
 }
 
-/// The transmitter: bytes that are written to DATA are first in the queue, then in the shift
-/// register, and then on the wire.
-#[derive(Drop)]
-pub struct Transmitter<Q: Fifo<u8> + Drop, W: Wire + Drop> {
-    queue: Q,
-    shift_register: Option<Shifting>,
-    wire: W,
-    char_ticks: u16,
-    overflows: u64,
-    is_thr_pending: bool,
-    status: LSR,
-}
-
 impl<Q: Fifo<u8> + Drop, W: Wire + Drop> Model for Transmitter<Q, W> {
-    ghost use Rattle.std.specs.Prelude.{◌≡◌};
-    ghost use Rattle.uart_chip.specs.Status.{transmitter_status};
     ghost use Rattle.uart_chip.specs.Transmitter.{TransmitterState};
 
     ghost Value = { TransmitterState };
@@ -70,6 +68,9 @@ impl<Q: Fifo<u8> + Drop, W: Wire + Drop> Model for Transmitter<Q, W> {
       overflows = t.overflows;
       is_thr_pending = t.is_thr_pending;
     } };
+
+    ghost use Rattle.std.specs.Prelude.{◌≡◌};
+    ghost use Rattle.uart_chip.specs.Status.{transmitter_status};
 
     // What LSR shows of the transmitter is kept.
     ghost invariant = { λ t. t.status.0 ≡ transmitter_status (Q.items t.queue) t.shift_register };
@@ -215,6 +216,14 @@ impl<Q: Fifo<u8> + Drop, W: Wire + Drop> TransmitterParts for Transmitter<Q, W> 
         self.status = status_of(&self.queue, self.shift_register);
     }
 
+    fn count_overflow(&mut self) {
+        self.overflows = self.overflows.saturating_add(1);
+    }
+
+    fn char_ticks(&self) -> u16 {
+        self.char_ticks
+    }
+
     fn shifting(&self) -> Option<Shifting> {
         self.shift_register
     }
@@ -230,14 +239,6 @@ impl<Q: Fifo<u8> + Drop, W: Wire + Drop> TransmitterParts for Transmitter<Q, W> 
 
     fn send(&mut self, byte: u8) {
         self.wire.push(byte);
-    }
-
-    fn char_ticks(&self) -> u16 {
-        self.char_ticks
-    }
-
-    fn count_overflow(&mut self) {
-        self.overflows = self.overflows.saturating_add(1);
     }
 
     fn status(&self) -> LSR {

@@ -44,6 +44,16 @@ pub trait TransmitterParts {
         ensures after { state self.new ≡ record (state self.old) { queue = [] } }
         ensures canonical { canonical self.old → canonical self.new };
 
+    /// Counts a byte that was written while there was no room. The count saturates.
+    fn count_overflow(&mut self)
+        ensures after { state self.new ≡ record (state self.old)
+            { overflows = min ((state self.old).overflows + 1) (2 ^ 64 - 1) } }
+        ensures canonical { canonical self.old → canonical self.new };
+
+    /// Returns the ticks that a character takes to be sent.
+    fn char_ticks(&self) -> u16
+        ensures { result ≡ (state self.now).char_ticks };
+
     /// Returns the character in the shift register.
     fn shifting(&self) -> Option<Shifting>
         ensures { result ≡ (state self.now).shift_register };
@@ -62,16 +72,6 @@ pub trait TransmitterParts {
         requires { length (state self.old).wire < (state self.old).capacity }
         ensures after { state self.new ≡
             record (state self.old) { wire = (state self.old).wire ++ byte ∷ [] } }
-        ensures canonical { canonical self.old → canonical self.new };
-
-    /// Returns the ticks that a character takes to be sent.
-    fn char_ticks(&self) -> u16
-        ensures { result ≡ (state self.now).char_ticks };
-
-    /// Counts a byte that was written while there was no room. The count saturates.
-    fn count_overflow(&mut self)
-        ensures after { state self.new ≡ record (state self.old)
-            { overflows = min ((state self.old).overflows + 1) (2 ^ 64 - 1) } }
         ensures canonical { canonical self.old → canonical self.new };
 
     /// Returns what LSR shows of the transmitter.

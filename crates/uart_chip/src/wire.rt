@@ -12,13 +12,13 @@ pub trait Wire {
     // The number of bytes that there is room for.
     ghost most: { Self → ℕ };
 
-    /// Returns the number of bytes that the wire has room for.
-    fn capacity(&self) -> usize
-        ensures { result ≡ most self.now };
-
     /// Returns how many more bytes the wire has room for.
     fn room(&self) -> usize
         ensures { result ≡ most self.now - length (sent self.now) };
+
+    /// Returns the number of bytes that the wire has room for.
+    fn capacity(&self) -> usize
+        ensures { result ≡ most self.now };
 
     /// Returns the bytes, from the first that was sent.
     fn as_slice(&self) -> &[u8]
@@ -88,12 +88,12 @@ impl Wire for HeapWire {
 
     ghost most = { λ w. w.capacity };
 
-    fn capacity(&self) -> usize {
-        self.limit
-    }
-
     fn room(&self) -> usize {
         self.limit.saturating_sub(self.list.len())
+    }
+
+    fn capacity(&self) -> usize {
+        self.limit
     }
 
     fn as_slice(&self) -> &[u8] {

@@ -10,7 +10,7 @@ use Rattle.uart_command.specs.declared.failure.Failure.{Failure}
 use Rattle.uart_command.specs.declared.failure.Failure.TheVariants as failure
 
 -- the exit status of each end: 0 done, 1 refused, 2 failed, 3 out of memory, 4 no permission
-abbrev pub number_of : Status → ℕ
+abbrev pub number_of : (status : Status) → ℕ
 number_of Done = 0
 number_of Refused = 1
 number_of Failed = 2
@@ -18,7 +18,7 @@ number_of OutOfMemory = 3
 number_of NoPermission = 4
 
 -- the end if reading or writing failed
-abbrev pub fault_end : IoErrorKind → Status
+abbrev pub fault_end : (kind : IoErrorKind) → Status
 fault_end io.OutOfMemory = OutOfMemory
 fault_end _ = Failed
 

@@ -27,23 +27,9 @@ const CHECK: &str = "Finds the first fault of a script, and says what is expecte
 
 const TRACE: &str = "Prints each register access with the value read or written, call by call";
 
-const TIMELINE: &str = "Prints the timeline of a run, or of a recording, as an SVG picture";
-
-const TEXT: &str = "Prints a table for a terminal instead of a picture";
-
-const RECORDING: &str = "FILE is a recording: draws what leads to the first warning of its audit";
-
-const LINE: &str = "FILE is a recording: draws what leads to this line";
-
-const LAST: &str = "FILE is a recording: draws so many events [default: 100]";
-
 const AUDIT: &str = "Says what the driver of a recording does wrong";
 
 const REPLAY: &str = "Says where the chip of a recording answers as no 16550A does";
-
-const VERIFY: &str = "Says where a trace has accesses that its call does not make";
-
-const LIMIT: &str = "How many unsuccessful polls in a row end a wait [default: 1000000]";
 
 fn file_argument<'a>(alloc: Global) -> Arg<'a>
     ensures rule { rule_of result ≡ file_rule }
@@ -85,6 +71,16 @@ fn option<'a>(alloc: Global, name: &'a str, value: &'a str, help: &'a str) -> Ar
         .action(ArgAction::Set)
 }
 
+const TIMELINE: &str = "Prints the timeline of a run, or of a recording, as an SVG picture";
+
+const TEXT: &str = "Prints a table for a terminal instead of a picture";
+
+const RECORDING: &str = "FILE is a recording: draws what leads to the first warning of its audit";
+
+const LINE: &str = "FILE is a recording: draws what leads to this line";
+
+const LAST: &str = "FILE is a recording: draws so many events [default: 100]";
+
 fn timeline<'a>(alloc: Global) -> Result<Command<'a>, AllocError>
     ensures { IfOk result (λ c. app_of c ≡ timeline_command) }
 {
@@ -94,6 +90,10 @@ fn timeline<'a>(alloc: Global) -> Result<Command<'a>, AllocError>
         .arg(option(alloc, "line", "LINE", LINE))?
         .arg(option(alloc, "last", "N", LAST))
 }
+
+const VERIFY: &str = "Says where a trace has accesses that its call does not make";
+
+const LIMIT: &str = "How many unsuccessful polls in a row end a wait [default: 1000000]";
 
 fn verify<'a>(alloc: Global) -> Result<Command<'a>, AllocError>
     ensures { IfOk result (λ c. app_of c ≡ verify_command) }

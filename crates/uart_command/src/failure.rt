@@ -25,16 +25,6 @@ pub enum Failure {
 }
 
 impl Failure {
-    /// Returns how the program ends.
-    pub fn end(self) -> Status
-        ensures { result ≡ failure_end self }
-    {
-        match self {
-            Failure::Words | Failure::Output(_) => Status::Failed,
-            Failure::OutOfMemory => Status::OutOfMemory,
-        }
-    }
-
     /// Returns why the words of the command line could not be read.
     pub fn unread_words(cause: io::Error) -> Self
         ensures memory { error_kind cause ≡ ErrorKind.OutOfMemory →
@@ -44,6 +34,16 @@ impl Failure {
         match cause.kind() {
             ErrorKind::OutOfMemory => Failure::OutOfMemory,
             _ => Failure::Words,
+        }
+    }
+
+    /// Returns how the program ends.
+    pub fn end(self) -> Status
+        ensures { result ≡ failure_end self }
+    {
+        match self {
+            Failure::Words | Failure::Output(_) => Status::Failed,
+            Failure::OutOfMemory => Status::OutOfMemory,
         }
     }
 }

@@ -7,7 +7,7 @@ use Rattle.uart_chip.specs.declared.receiver.Character.{Character}
 use Rattle.uart_spec.specs.Bits.{IsWithin, has_any}
 use Rattle.uart_spec.specs.declared.registers.line_status.TheConstants.LSR
 use Rattle.uart_chip.specs.Receiver.{ReceiverState}
-use Rattle.uart_chip.specs.Modem.{changes}
+use Rattle.uart_spec.specs.Lines.{line_changes}
 
 -- ---- line errors
 
@@ -43,5 +43,5 @@ lines_after lines (_ ∷ events) = lines_after lines events
 -- the changes of the modem lines that these events make, also those that are undone, as bits of MSR
 abbrev pub changes_in : ℕ → List Event → ℕ
 changes_in lines [] = 0
-changes_in lines (Lines inputs ∷ events) = bit_or (changes lines inputs) (changes_in inputs events)
+changes_in lines (Lines inputs ∷ events) = bit_or (line_changes lines inputs) (changes_in inputs events)
 changes_in lines (_ ∷ events) = changes_in lines events

@@ -27,25 +27,18 @@ use Rattle.uart_judges.proofs.LatchesHold.{by_number}
 
 -- ---- latches
 
-data_twice : (d : Option Bool) (value : ℕ) (l : KnownLatches) → data_read d value (data_read d value l) ≡ data_read d value l
-data_twice None value l = refl
-data_twice (Some true) value l = refl
-data_twice (Some false) value l = refl
+-- the same read again teaches nothing, and no such read shows DLAB
+data_again : (d : Option Bool) (value : ℕ) (l : KnownLatches) →
+    (data_read d value (data_read d value l) ≡ data_read d value l) × (dlab (data_read d value l) ≡ dlab l)
+data_again None value l = (refl, refl)
+data_again (Some true) value l = (refl, refl)
+data_again (Some false) value l = (refl, refl)
 
-data_dlab : (d : Option Bool) (value : ℕ) (l : KnownLatches) → dlab (data_read d value l) ≡ dlab l
-data_dlab None value l = refl
-data_dlab (Some true) value l = refl
-data_dlab (Some false) value l = refl
-
-ier_twice : (d : Option Bool) (value : ℕ) (l : KnownLatches) → ier_read d value (ier_read d value l) ≡ ier_read d value l
-ier_twice None value l = refl
-ier_twice (Some true) value l = refl
-ier_twice (Some false) value l = refl
-
-ier_dlab : (d : Option Bool) (value : ℕ) (l : KnownLatches) → dlab (ier_read d value l) ≡ dlab l
-ier_dlab None value l = refl
-ier_dlab (Some true) value l = refl
-ier_dlab (Some false) value l = refl
+ier_again : (d : Option Bool) (value : ℕ) (l : KnownLatches) →
+    (ier_read d value (ier_read d value l) ≡ ier_read d value l) × (dlab (ier_read d value l) ≡ dlab l)
+ier_again None value l = (refl, refl)
+ier_again (Some true) value l = (refl, refl)
+ier_again (Some false) value l = (refl, refl)
 
 if_twice : (b : Bool) (f g : KnownLatches → KnownLatches) → ((l : KnownLatches) → f (f l) ≡ f l) →
     ((l : KnownLatches) → g (g l) ≡ g l) → (l : KnownLatches) →
@@ -73,9 +66,9 @@ latches_twice offset value =
     let second : KnownLatches → KnownLatches = λ l. if offset == offsets.LCR then lcr l else third l in
     let first : KnownLatches → KnownLatches = λ l. if offset == offsets.IER then after_read_ier l value else second l in
     if_twice (offset == offsets.DATA) (λ l. after_read_data l value) first
-    (λ l. ap (λ d. data_read d value (after_read_data l value)) (data_dlab (dlab l) value l) ∙ data_twice (dlab l) value l)
+    (λ l. ap (λ d. data_read d value (after_read_data l value)) (data_again (dlab l) value l).1 ∙ (data_again (dlab l) value l).0)
     (if_twice (offset == offsets.IER) (λ l. after_read_ier l value) second
-    (λ l. ap (λ d. ier_read d value (after_read_ier l value)) (ier_dlab (dlab l) value l) ∙ ier_twice (dlab l) value l)
+    (λ l. ap (λ d. ier_read d value (after_read_ier l value)) (ier_again (dlab l) value l).1 ∙ (ier_again (dlab l) value l).0)
     (if_twice (offset == offsets.LCR) lcr third (λ l. refl)
     (if_twice (offset == offsets.MCR) mcr last (λ l. refl)
     (if_twice (offset == offsets.SPR) scr (λ l. l) (λ l. refl) (λ l. refl)))))
@@ -110,7 +103,7 @@ waits_twice (Some false) waits = refl
 waits_then : (value : ℕ) (l : KnownLatches) (waits : Bool) →
     waits_after (dlab (after_read_data l value)) (waits_after (dlab l) waits) ≡ waits_after (dlab l) waits
 waits_then value l waits =
-    ap (λ d. waits_after d (waits_after (dlab l) waits)) (data_dlab (dlab l) value l) ∙ waits_twice (dlab l) waits
+    ap (λ d. waits_after d (waits_after (dlab l) waits)) (data_again (dlab l) value l).1 ∙ waits_twice (dlab l) waits
 
 -- whether a character waits, after a read and the same read
 waits_read : (b c : Bool) (value : ℕ) (l other : KnownLatches) (shown waits : Bool) →

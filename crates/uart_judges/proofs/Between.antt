@@ -1,16 +1,13 @@
 -- What lasts between the accesses: an empty transmitter stays empty, and a character that waits stays.
-use Rattle.std.proofs.Common.{◌≡◌, ℕ, zero, suc, ◌+◌, Bool, true, false, nat_lt, List, [], ◌∷◌, ◌++◌, length, Option, Some, None, refl}
+use Rattle.std.proofs.Common.{◌≡◌, ℕ, suc, ◌+◌, Bool, true, false, nat_lt, List, [], ◌∷◌, ◌++◌, length, Option, Some, None, refl}
 use Rattle.std.proofs.Common.{arith, ◌∙◌, ap, if◌then◌else◌}
 use Rattle.std.proofs.lemmas.Bool.{lt-ltb}
-use Rattle.uart_spec.specs.declared.event.Event.{Event}
-use Rattle.uart_spec.specs.declared.event.Event.TheVariants.{Ticks, Arrive, Access as Gate, Mark}
 use Rattle.uart_chip.specs.declared.receiver.Character.{Character}
 use Rattle.uart_chip.specs.declared.transmitter.Shifting.{Shifting}
 use Rattle.uart_chip.specs.Transmitter as transmitter
 use Rattle.uart_chip.specs.Transmitter.{TransmitterState, shift, refill, looped_byte, room}
 use Rattle.uart_chip.specs.Receiver.{ReceiverState, enter, come_back, replace}
-use Rattle.uart_chip.specs.Chip.{ChipState, is_loopback, tick, ticks, arrive}
-use Rattle.uart_chip.specs.Machine.{perform, before_access}
+use Rattle.uart_chip.specs.Chip.{ChipState, is_loopback, tick, arrive}
 use Rattle.uart_device.proofs.lasting.Lasting.{Lasts}
 use Rattle.uart_judges.specs.declared.replay.known.Sender.{Sender}
 use Rattle.uart_judges.specs.declared.replay.known.Sender.TheVariants.{Unknown, ThrEmpty, Idle}
@@ -111,24 +108,9 @@ has-come_back : (fifo : Bool) (looped : Option ℕ) (r : ReceiverState) → HasC
 has-come_back fifo None r h = h
 has-come_back fifo (Some byte) r h = has-enter fifo _ r h
 
-has-tick : (c : ChipState) → HasCharacter c.receiver → HasCharacter (tick c).receiver
+pub has-tick : (c : ChipState) → HasCharacter c.receiver → HasCharacter (tick c).receiver
 has-tick c h = has-come_back c.fifo (looped_byte (is_loopback c.latches) c.transmitter.shift_register) c.receiver h
 
-has-ticks : (n : ℕ) (c : ChipState) → HasCharacter c.receiver → HasCharacter (ticks n c).receiver
-has-ticks zero c h = h
-has-ticks (suc n) c h = has-tick (ticks n c) (has-ticks n c h)
-
-has-arrive : (byte errors : ℕ) (c : ChipState) → HasCharacter c.receiver → HasCharacter (arrive byte errors c).receiver
+pub has-arrive : (byte errors : ℕ) (c : ChipState) → HasCharacter c.receiver → HasCharacter (arrive byte errors c).receiver
 has-arrive byte errors c h =
     has_if _ _ (is_loopback c.latches) h (has-enter c.fifo _ (record c.receiver { arrived = c.receiver.arrived + 1 }) h)
-
-has-perform : (event : Event) (c : ChipState) → HasCharacter c.receiver → HasCharacter (perform event c).receiver
-has-perform (Ticks n) c h = has-ticks n c h
-has-perform (Arrive byte errors) c h = has-arrive byte errors c h
-has-perform _ c h = h
-
-pub has-before : (events : List Event) (c : ChipState) → HasCharacter c.receiver → HasCharacter (before_access events c).receiver
-has-before [] c h = has-tick c h
-has-before (Gate ∷ events) c h = h
-has-before (Mark ∷ events) c h = has-tick c h
-has-before (event ∷ events) c h = has-before events (perform event c) (has-perform event c h)

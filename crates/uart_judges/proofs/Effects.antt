@@ -1,13 +1,11 @@
 -- What is known of a chip holds after a read or a write.
 use Rattle.std.proofs.Common.{◌≡◌, ℕ, suc, Bool, true, false, ◌==◌, List, [], ◌∷◌, length, Option, Some, None, refl}
-use Rattle.std.proofs.Common.{arith, sym, ◌∙◌, bit_or, if◌then◌else◌}
+use Rattle.std.proofs.Common.{arith, sym, ◌∙◌, if◌then◌else◌}
 use Rattle.std.proofs.lemmas.Grind.{common_steps}
-use Rattle.uart_spec.specs.Bits.{has_any, flag}
+use Rattle.uart_spec.specs.Bits.{has_any}
 use Rattle.uart_spec.specs.declared.registers.fifo_control.TheConstants.FCR
 use Rattle.uart_spec.specs.declared.registers.interrupt_status.TheConstants.ISR
 use Rattle.uart_spec.specs.declared.registers.line_status.TheConstants.LSR
-use Rattle.uart_spec.specs.declared.registers.interrupt_type.InterruptType.{InterruptType}
-use Rattle.uart_spec.specs.declared.registers.interrupt_type.InterruptType.TheVariants.{ReceiverLineStatus}
 use Rattle.uart_spec.specs.declared.registers.offsets.TheConstants as offsets
 use Rattle.uart_spec.specs.declared.event.Chip.{Chip}
 use Rattle.uart_spec.specs.declared.event.Chip.TheVariants.{Uart16550A, Uart16450}
@@ -15,9 +13,10 @@ use Rattle.uart_chip.specs.declared.transmitter.Shifting.{Shifting}
 use Rattle.uart_chip.specs.Transmitter.{TransmitterState}
 use Rattle.uart_chip.specs.Receiver.{ReceiverState, clear}
 use Rattle.uart_chip.specs.Chip as chip
-use Rattle.uart_chip.specs.Chip.{ChipState, answer, interrupt, identification, is_dlab_set, is_thr_empty, is_transmitter_empty}
+use Rattle.uart_chip.specs.Chip.{ChipState, answer, interrupt, is_dlab_set, is_thr_empty, is_transmitter_empty}
 use Rattle.uart_chip.specs.Chip.{line_status, trigger_level, switch, reset_receiver, reset_transmitter, set_trigger, is_same}
 use Rattle.uart_chip.specs.Chip.{set_fifo, control}
+use Rattle.uart_chip.proofs.FifoBits.{any_shown}
 use Rattle.uart_device.proofs.lasting.Lasting.{lasts-read, lasts-write, lasts-latch}
 use Rattle.uart_device.proofs.status.Status.{status_data, status_room, status_empty}
 use Rattle.uart_judges.specs.declared.replay.known.Known.{Known}
@@ -40,16 +39,6 @@ same_read offset c =
     (same_if c _ _ (is_thr_empty (interrupt c)) (record { model = refl; latches = refl; fifo = refl }) same)
     (same_if c _ _ (offset == offsets.LSR) (record { model = refl; latches = refl; fifo = refl })
     (same_if c _ _ (offset == offsets.MSR) (record { model = refl; latches = refl; fifo = refl }) same)))
-
--- no code of an interrupt has a bit that shows the FIFO
-pub fifo_shown : (on : Bool) (pending : Option InterruptType) →
-    has_any (bit_or (identification pending) (flag on ISR.FIFOS_ENABLED.0)) ISR.FIFOS_ENABLED.0 ≡ on
-fifo_shown true None = refl
-fifo_shown true (Some ReceiverLineStatus) = refl
-fifo_shown true (Some _) = refl
-fifo_shown false None = refl
-fifo_shown false (Some ReceiverLineStatus) = refl
-fifo_shown false (Some _) = refl
 
 -- a queue that is empty as LSR shows it
 no_queue : (queue : List ℕ) → (length queue == 0) ≡ true → queue ≡ []
@@ -134,7 +123,7 @@ module _ (offset : ℕ) (k : Known) (c : ChipState) (h : Holds k c) where
           Agrees (if offset == offsets.ISR then Some (has_any (answer offset c) ISR.FIFOS_ENABLED.0) else k.fifo) c.fifo
       go true e =
           by_number (λ n. Agrees (if n == offsets.ISR then Some (has_any (answer n c) ISR.FIFOS_ENABLED.0) else k.fifo) c.fifo)
-          offset offsets.ISR e (sym (fifo_shown c.fifo (interrupt c)))
+          offset offsets.ISR e (sym (any_shown c.fifo (interrupt c)))
       go false e = rw e h.fifo
 
   -- the answer of LSR

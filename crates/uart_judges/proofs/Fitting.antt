@@ -1,4 +1,4 @@
--- No value that the chip returns breaks a
+-- No value that the chip returns breaks a rule.
 use Rattle.std.proofs.Common.{◌≡◌, ℕ, Bool, true, false, not, ◌&&◌, ◌==◌, nat_lt, List, [], ◌∷◌, length, Option, Some, None}
 use Rattle.std.proofs.Common.{refl, arith, sym, ◌∙◌, ap, bit_and, bit_or, if◌then◌else◌}
 use Rattle.std.specs.List.{list_any}
@@ -28,6 +28,7 @@ use Rattle.uart_chip.specs.Receiver.{unreported, has_errors, is_data_pending, is
 use Rattle.uart_chip.specs.Chip.{ChipState, answer, interrupt, identification, line_status, is_transmitter_empty}
 use Rattle.uart_chip.specs.Modem.{ModemState, looped_lines, lines_under}
 use Rattle.uart_chip.proofs.Bits.{and_or}
+use Rattle.uart_chip.proofs.FifoBits.{any_shown, fifo_bits}
 use Rattle.uart_device.specs.Sound.{IsSoundModem}
 use Rattle.uart_device.proofs.status.Status.{status_data, status_room, status_empty, status_fifo}
 use Rattle.uart_judges.specs.declared.replay.known.Known.{Known}
@@ -44,7 +45,6 @@ use Rattle.uart_judges.proofs.Between.{SenderHolds, HasCharacter, positive}
 use Rattle.uart_judges.proofs.Holding.{Agrees, Holds}
 use Rattle.uart_judges.proofs.Looped.{Looped}
 use Rattle.uart_judges.proofs.LatchesHold.{by_number, agrees_shown}
-use Rattle.uart_judges.proofs.Effects.{fifo_shown}
 
 if_none : (b : Bool) (x y : Option Rule) → (b ≡ true → x ≡ None) → y ≡ None → (if b then x else y) ≡ None
 if_none true x y p q = p refl
@@ -58,24 +58,14 @@ latch_kept (Some kept) value a = let same : (value == kept) ≡ true = grind (ar
 
 -- ---- ISR
 
--- the bits that show the FIFO, of any interrupt
-fifo_part : (on : Bool) (pending : Option InterruptType) →
-    bit_and (bit_or (identification pending) (flag on ISR.FIFOS_ENABLED.0)) ISR.FIFOS_ENABLED.0 ≡ flag on ISR.FIFOS_ENABLED.0
-fifo_part true None = refl
-fifo_part true (Some ReceiverLineStatus) = refl
-fifo_part true (Some _) = refl
-fifo_part false None = refl
-fifo_part false (Some ReceiverLineStatus) = refl
-fifo_part false (Some _) = refl
-
 fifo_on : (o : Option Bool) (on : Bool) (pending : Option InterruptType) → Agrees o on →
     known_or o (has_any (bit_or (identification pending) (flag on ISR.FIFOS_ENABLED.0)) ISR.FIFOS_ENABLED.0) ≡ on
-fifo_on None on pending a = fifo_shown on pending
+fifo_on None on pending a = any_shown on pending
 fifo_on (Some b) on pending a = sym a
 
 fifo_kept : (o : Option Bool) (on : Bool) (pending : Option InterruptType) → Agrees o on →
     breaks_fifo_bits o (bit_or (identification pending) (flag on ISR.FIFOS_ENABLED.0)) ≡ false
-fifo_kept o on pending a = rw (fifo_on o on pending a, fifo_part on pending) (itself on)
+fifo_kept o on pending a = rw (fifo_on o on pending a, fifo_bits on pending) (itself on)
   where
     itself : (on : Bool) → not (flag on ISR.FIFOS_ENABLED.0 == flag on ISR.FIFOS_ENABLED.0) ≡ false
     itself true = refl
@@ -129,7 +119,7 @@ module _ (k : Known) (c : ChipState) (h : Holds k c) where
   shows pending e =
       let same : (bit_or (identification pending) (flag c.fifo ISR.FIFOS_ENABLED.0) ==
       bit_or (identification pending) (flag c.fifo ISR.FIFOS_ENABLED.0)) ≡ true = grind (arith, common_steps) in
-      rw (fifo_shown c.fifo pending) (both_true _ _ same e)
+      rw (any_shown c.fifo pending) (both_true _ _ same e)
 
 -- one of the interrupts explains the value
 one_explains : (value : ℕ) (k : Known) (pending : Option InterruptType) → may_show value pending k ≡ true →

@@ -1,13 +1,12 @@
 -- That what is known holds of a chip, and that nothing between the accesses changes it.
-use Rattle.std.proofs.Common.{◌≡◌, ℕ, zero, suc, Bool, true, false, List, [], ◌∷◌, Option, Some, None, refl, ◌∙◌, if◌then◌else◌}
+use Rattle.std.proofs.Common.{◌≡◌, Bool, true, false, List, Option, Some, None, refl, if◌then◌else◌}
 use Rattle.uart_spec.specs.declared.event.Event.{Event}
-use Rattle.uart_spec.specs.declared.event.Event.TheVariants.{Ticks, Access as Gate, Mark}
-use Rattle.uart_chip.specs.Chip.{ChipState, LatchesState, tick, ticks}
-use Rattle.uart_chip.specs.Machine.{perform, before_access}
-use Rattle.uart_device.proofs.lasting.Lasting.{lasts-before}
+use Rattle.uart_chip.specs.Chip.{ChipState, LatchesState, is_loopback}
+use Rattle.uart_chip.specs.Machine.{before_access}
+use Rattle.uart_device.proofs.lasting.Lasting.{LastsInEvents, chip_lasts-before}
 use Rattle.uart_judges.specs.declared.replay.known.Known.{Known}
 use Rattle.uart_judges.specs.declared.replay.latches.KnownLatches.{KnownLatches}
-use Rattle.uart_judges.proofs.Between.{SenderHolds, HasCharacter, sender_lasts, has-before}
+use Rattle.uart_judges.proofs.Between.{SenderHolds, HasCharacter, sender_lasts, has-tick, has-arrive}
 
 -- the value is this one, if it is known
 abbrev pub Agrees : {A : Type 0} → Option A → A → Type 0
@@ -48,41 +47,36 @@ pub record Same (c d : ChipState) : Type 0 where
 pub same_refl : (c : ChipState) → Same c c
 same_refl c = record { model = refl; latches = refl; fifo = refl }
 
-pub same_trans : (c d e : ChipState) → Same c d → Same d e → Same c e
-same_trans c d e p q = record { model = q.model ∙ p.model; latches = q.latches ∙ p.latches; fifo = q.fifo ∙ p.fifo }
-
 pub same_if : (c d e : ChipState) (b : Bool) → Same c d → Same c e → Same c (if b then d else e)
 same_if c d e true p q = p
 same_if c d e false p q = q
 
 -- ---- between the accesses
 
-same_tick : (c : ChipState) → Same c (tick c)
-same_tick c = record { model = refl; latches = refl; fifo = refl }
-
-same_ticks : (n : ℕ) (c : ChipState) → Same c (ticks n c)
-same_ticks zero c = same_refl c
-same_ticks (suc n) c = same_trans c (ticks n c) (tick (ticks n c)) (same_ticks n c) (same_tick (ticks n c))
-
-same_perform : (event : Event) (c : ChipState) → Same c (perform event c)
-same_perform (Ticks n) c = same_ticks n c
-same_perform _ c = record { model = refl; latches = refl; fifo = refl }
-
-same_before : (events : List Event) (c : ChipState) → Same c (before_access events c)
-same_before [] c = same_tick c
-same_before (Gate ∷ events) c = same_refl c
-same_before (Mark ∷ events) c = same_tick c
-same_before (event ∷ events) c =
-    same_trans c (perform event c) (before_access events (perform event c)) (same_perform event c)
-    (same_before events (perform event c))
+holds_lasts : (k : Known) → LastsInEvents (Holds k)
+holds_lasts k = record {
+  in_tick = λ c h. record {
+    model = h.model;
+    latches = h.latches;
+    fifo = h.fifo;
+    sender = (sender_lasts k.sender).in_tick (is_loopback c.latches) c.transmitter h.sender;
+    waits = λ e. has-tick c (h.waits e);
+  };
+  in_arrival = λ byte errors c h. record {
+    model = h.model;
+    latches = h.latches;
+    fifo = h.fifo;
+    sender = h.sender;
+    waits = λ e. has-arrive byte errors c (h.waits e);
+  };
+  in_lines = λ inputs c h. record {
+    model = h.model;
+    latches = h.latches;
+    fifo = h.fifo;
+    sender = h.sender;
+    waits = h.waits;
+  };
+}
 
 pub holds_before : (events : List Event) (k : Known) (c : ChipState) → Holds k c → Holds k (before_access events c)
-holds_before events k c h =
-    let p : Same c (before_access events c) = same_before events c in
-    record {
-      model = p.model ∙ h.model;
-      latches = latches_moved k.latches c.latches _ p.latches h.latches;
-      fifo = fifo_moved k.fifo c.fifo _ p.fifo h.fifo;
-      sender = lasts-before (SenderHolds k.sender) (sender_lasts k.sender).in_tick events c h.sender;
-      waits = λ e. has-before events c (h.waits e);
-    }
+holds_before events k c h = chip_lasts-before (Holds k) (holds_lasts k) events c h

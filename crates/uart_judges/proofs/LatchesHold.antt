@@ -137,11 +137,6 @@ either : (k : KnownLatches) (c d : ChipState) (b : Bool) → LatchesHold k c.lat
 either k c d true p q = p
 either k c d false p q = q
 
-both : (j k : KnownLatches) (c d : ChipState) (b : Bool) → LatchesHold j c.latches → LatchesHold k d.latches →
-    LatchesHold (if b then j else k) (if b then c else d).latches
-both j k c d true p q = p
-both j k c d false p q = q
-
 module _ (k : KnownLatches) (c : ChipState) (h : LatchesHold k c.latches) (value : ℕ) where
   data_wrote : (b : Option Bool) → Agrees b (is_dlab_set c.latches) → LatchesHold (data_written b value k) (write_data value c).latches
   data_wrote None a =
@@ -163,9 +158,9 @@ module _ (k : KnownLatches) (c : ChipState) (h : LatchesHold k c.latches) (value
   -- what is known after a write of another register than FCR holds
   pub written : (offset : ℕ) → (offset == offsets.FCR) ≡ false →
       LatchesHold (after_write offset value k) (chip.after_write offset value c).latches
-  written offset e =
-      rw e (both _ _ _ _ (offset == offsets.DATA) (data_wrote (dlab k) (knows_dlab k c.latches h))
-      (both _ _ _ _ (offset == offsets.IER) (ier_wrote (dlab k) (knows_dlab k c.latches h))
-      (both _ _ _ _ (offset == offsets.LCR) (with_lcr k c.latches h (Some value) value refl)
-      (both _ _ _ _ (offset == offsets.MCR) (with_mcr k c.latches h (Some _) _ refl)
-      (both _ _ _ _ (offset == offsets.SPR) (with_scr k c.latches h (Some value) value refl) h)))))
+  written =
+      by_register (λ n. (n == offsets.FCR) ≡ false → LatchesHold (after_write n value k) (chip.after_write n value c).latches)
+      (λ e. data_wrote (dlab k) (knows_dlab k c.latches h)) (λ e. ier_wrote (dlab k) (knows_dlab k c.latches h))
+      (λ e. with_lcr k c.latches h (Some value) value refl) (λ e. with_mcr k c.latches h (Some _) _ refl)
+      (λ e. with_scr k c.latches h (Some value) value refl)
+      (λ n o e. rw (e, o.not_data, o.not_ier, o.not_lcr, o.not_mcr, o.not_spr) h)

@@ -1,19 +1,18 @@
 -- What holds of every machine: it is sound, and MSR shows the inputs, or in loopback the outputs.
-use Rattle.std.proofs.Common.{◌≡◌, ℕ, zero, suc, Bool, true, false, ◌==◌, List, [], ◌∷◌, refl, if◌then◌else◌}
+use Rattle.std.proofs.Common.{◌≡◌, ℕ, Bool, true, false, ◌==◌, List, [], ◌∷◌, refl, if◌then◌else◌}
 use Rattle.uart_spec.specs.Access.{Access, Read, Write, Path}
 use Rattle.uart_spec.specs.Bits.{has_any}
 use Rattle.uart_spec.specs.declared.registers.fifo_control.TheConstants.FCR
 use Rattle.uart_spec.specs.declared.registers.offsets.TheConstants as offsets
 use Rattle.uart_spec.specs.declared.event.Chip.{Chip}
 use Rattle.uart_spec.specs.declared.event.Chip.TheVariants.{Uart16550A, Uart16450}
-use Rattle.uart_spec.specs.declared.event.Event.{Event}
-use Rattle.uart_spec.specs.declared.event.Event.TheVariants.{Ticks, Lines, Access as Gate, Mark}
 use Rattle.uart_chip.specs.Receiver.{clear}
 use Rattle.uart_chip.specs.Modem.{lines_under}
-use Rattle.uart_chip.specs.Chip.{ChipState, ticks, interrupt, is_dlab_set, is_thr_empty, after_read, after_write, trigger_level}
+use Rattle.uart_chip.specs.Chip.{ChipState, interrupt, is_dlab_set, is_thr_empty, after_read, after_write, trigger_level}
 use Rattle.uart_chip.specs.Chip.{switch, reset_receiver, reset_transmitter, set_trigger, is_same, set_fifo, control}
-use Rattle.uart_chip.specs.Machine.{MachineState, MachineStep, fresh, perform, before_access, at_access}
+use Rattle.uart_chip.specs.Machine.{MachineState, MachineStep, fresh, at_access}
 use Rattle.uart_device.specs.Sound.{IsSound}
+use Rattle.uart_device.proofs.lasting.Lasting.{LastsInEvents, chip_lasts-before}
 use Rattle.uart_device.proofs.soundness.Builds.{whole_fresh, whole_cutting}
 use Rattle.uart_device.proofs.soundness.Sounds.{sound_access, sound_step}
 use Rattle.uart_judges.specs.Replays.{Seen, Did, Asked, SeenPath, IsBuilt}
@@ -28,20 +27,8 @@ looped_if c d false p q = q
 
 -- ---- between the accesses
 
-looped-ticks : (n : ℕ) (c : ChipState) → Looped c → Looped (ticks n c)
-looped-ticks zero c h = h
-looped-ticks (suc n) c h = looped-ticks n c h
-
-looped-perform : (event : Event) (c : ChipState) → Looped c → Looped (perform event c)
-looped-perform (Ticks n) c h = looped-ticks n c h
-looped-perform (Lines inputs) c h = refl
-looped-perform _ c h = h
-
-looped-before : (events : List Event) (c : ChipState) → Looped c → Looped (before_access events c)
-looped-before [] c h = h
-looped-before (Gate ∷ events) c h = h
-looped-before (Mark ∷ events) c h = h
-looped-before (event ∷ events) c h = looped-before events (perform event c) (looped-perform event c h)
+looped_lasts : LastsInEvents Looped
+looped_lasts = record { in_tick = λ c h. h; in_arrival = λ byte errors c h. h; in_lines = λ inputs c h. refl }
 
 -- ---- accesses
 
@@ -83,7 +70,7 @@ pub record IsMachine (m : MachineState) : Type 0 where
   pub looped : Looped m.chip
 
 pub machine_access : (m : MachineState) → IsMachine m → IsMachine (at_access m)
-machine_access m w = record { sound = sound_access m w.sound; looped = looped-before m.ahead m.chip w.looped }
+machine_access m w = record { sound = sound_access m w.sound; looped = chip_lasts-before Looped looped_lasts m.ahead m.chip w.looped }
 
 pub machine_step : (m n : MachineState) (access : Access) → IsMachine m → MachineStep m access n → IsMachine n
 machine_step m n (Read offset value) w s = record {

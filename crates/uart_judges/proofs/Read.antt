@@ -121,23 +121,25 @@ pub record CallsSoFar (all : List (List ℕ)) (xs : List Exchange) (n : ℕ) (fi
 pub calls_begin : (all : List (List ℕ)) → CallsSoFar all [] 0 true all
 calls_begin all = record { goes = λ ys a. a; fault = refl }
 
+-- a line that makes no exchange
+calls_pass : {all : List (List ℕ)} {xs : List Exchange} {n : ℕ} {first after : Bool} {lines left : List (List ℕ)} {said : Saying} →
+    CallsSoFar all xs n first lines → (r : ReadsLine lines said left) →
+    ((ys : List Exchange) → AreExchanges (n + 1) after left ys → AreExchanges n first (r.line ∷ left) ys) →
+    first_fault n None lines ≡ first_fault (n + 1) None left → CallsSoFar all xs (n + 1) after left
+calls_pass {n = n} {first = first} s r goes fault = record {
+  goes = λ ys a. s.goes ys (subst (λ (l : List (List ℕ)). AreExchanges n first l ys) (sym r.first) (goes ys a));
+  fault = s.fault ∙ fault;
+}
+
 pub calls_blank : {all : List (List ℕ)} {xs : List Exchange} {n : ℕ} {first : Bool} {lines left : List (List ℕ)} →
     CallsSoFar all xs n first lines → ReadsLine lines Nothing left → CallsSoFar all xs (n + 1) first left
-calls_blank {all} {xs} {n} {first} {lines} {left} s r = record {
-  goes = λ ys a.
-      let A : List (List ℕ) → Type 0 = λ l. AreExchanges n first l ys in
-      s.goes ys (subst A (sym r.first) (blank r.means a));
-  fault = s.fault ∙ after_line n None lines Nothing left r;
-}
+calls_blank {n = n} {lines = lines} {left = left} s r =
+    calls_pass s r (λ ys a. blank r.means a) (after_line n None lines Nothing left r)
 
 pub calls_fresh : {all : List (List ℕ)} {xs : List Exchange} {n : ℕ} {first : Bool} {lines left : List (List ℕ)} →
     CallsSoFar all xs n first lines → ReadsLine lines Fresh left → CallsSoFar all xs (n + 1) true left
-calls_fresh {all} {xs} {n} {first} {lines} {left} s r = record {
-  goes = λ ys a.
-      let A : List (List ℕ) → Type 0 = λ l. AreExchanges n first l ys in
-      s.goes ys (subst A (sym r.first) (renews r.means a));
-  fault = s.fault ∙ after_line n None lines Fresh left r;
-}
+calls_fresh {n = n} {lines = lines} {left = left} s r =
+    calls_pass s r (λ ys a. renews r.means a) (after_line n None lines Fresh left r)
 
 pub calls_call : {all : List (List ℕ)} {xs : List Exchange} {n : ℕ} {first : Bool} {lines after left : List (List ℕ)} →
     (call : Call) (x : Exchange) → CallsSoFar all xs n first lines → ReadsLine lines (Calls (plain call)) after →

@@ -94,8 +94,7 @@ told_again x s told = go (transfers x)
 -- the set-up is settled after one action
 pub setup_again : (s : Setup) (x : Action) → next_setup (next_setup s x) x ≡ next_setup s x
 setup_again s x = λ i. record {
-  divisor_low = or_again (low_of x) s.divisor_low i;
-  divisor_high = or_again (high_of x) s.divisor_high i;
+  divisor = record { low = or_again (low_of x) s.divisor.low i; high = or_again (high_of x) s.divisor.high i };
   line = or_again (line_of x) s.line i;
   has_fifo = or_again (fifo_of x) s.has_fifo i;
   trigger = or_again (trigger_of x) s.trigger i;

@@ -47,8 +47,8 @@ besides_thr_empty ier = bit_or ier.0 ier_bits.THR_EMPTY.0
 -- two set-ups are the same; the THR_EMPTY interrupt is left out, which drivers turn on and off as they send
 abbrev pub same_setup : Setup → Setup → Bool
 same_setup a b =
-    same a.divisor_low b.divisor_low
-    && (same a.divisor_high b.divisor_high
+    same a.divisor.low b.divisor.low
+    && (same a.divisor.high b.divisor.high
     && (same (option_map (λ lcr. lcr.0) a.line) (option_map (λ lcr. lcr.0) b.line)
     && (same (option_map (λ on. flag on 1) a.has_fifo) (option_map (λ on. flag on 1) b.has_fifo)
     && (same (option_map characters_of a.trigger) (option_map characters_of b.trigger)
@@ -124,8 +124,8 @@ is_other (Some old) new = not (old == new)
 -- what is changed, and not to be changed while bytes go out
 abbrev pub change : Auditor → Action → Option Finding
 change a (SetsLine lcr) = when (is_other_frame a.setup.line lcr) found.FrameChangedWhileSending
-change a (SetsDivisorLow value) = when (is_other a.setup.divisor_low value) found.DivisorChangedWhileSending
-change a (SetsDivisorHigh value) = when (is_other a.setup.divisor_high value) found.DivisorChangedWhileSending
+change a (SetsDivisorLow value) = when (is_other a.setup.divisor.low value) found.DivisorChangedWhileSending
+change a (SetsDivisorHigh value) = when (is_other a.setup.divisor.high value) found.DivisorChangedWhileSending
 change a (ControlsFifo fcr) =
     when (empties fcr_bits.TX_FIFO_RESET.0 a.setup.has_fifo fcr) found.ResetWhileSending
 change a _ = None
@@ -148,7 +148,7 @@ cuts None byte = false
 abbrev pub closes_at_zero : Auditor → LCR → Bool
 closes_at_zero a lcr =
     has_dlab a.setup.line
-    && (not (has lcr.0 lcr_bits.DLAB.0) && (is_zero a.setup.divisor_low && is_zero a.setup.divisor_high))
+    && (not (has lcr.0 lcr_bits.DLAB.0) && (is_zero a.setup.divisor.low && is_zero a.setup.divisor.high))
 
 -- a set-up with which nothing is sent, or not what was given
 abbrev pub setting : Auditor → Action → Option Finding

@@ -56,8 +56,7 @@ actions (access ∷ past) = action (is_open (actions past)) access ∷ actions p
 -- the set-up as far as it was written, or shown by a read
 abbrev pub setup : List Action → Setup
 setup past = record {
-  divisor_low = latest low_of past;
-  divisor_high = latest high_of past;
+  divisor = record { low = latest low_of past; high = latest high_of past };
   line = latest line_of past;
   has_fifo = latest fifo_of past;
   trigger = latest trigger_of past;

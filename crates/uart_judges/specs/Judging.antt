@@ -16,8 +16,7 @@ use Rattle.uart_judges.specs.declared.audit.setup.Setup.{Setup}
 -- the set-up: what the action gives, else what was known
 abbrev pub next_setup : Setup → Action → Setup
 next_setup s x = record {
-  divisor_low = option_or (low_of x) s.divisor_low;
-  divisor_high = option_or (high_of x) s.divisor_high;
+  divisor = record { low = option_or (low_of x) s.divisor.low; high = option_or (high_of x) s.divisor.high };
   line = option_or (line_of x) s.line;
   has_fifo = option_or (fifo_of x) s.has_fifo;
   trigger = option_or (trigger_of x) s.trigger;

@@ -79,11 +79,7 @@ after_read offset value l =
 -- to offset 0, under this DLAB
 abbrev pub data_written : Option Bool → ℕ → KnownLatches → KnownLatches
 data_written None value l = record l { dll = None }
-data_written (Some true) value l = record l { dll = Some value }
-data_written (Some false) value l = l
-
-abbrev pub after_write_data : KnownLatches → ℕ → KnownLatches
-after_write_data l value = data_written (dlab l) value l
+data_written (Some is_open) value l = data_read (Some is_open) value l
 
 -- to offset 1, under this DLAB
 abbrev pub ier_written : Option Bool → ℕ → KnownLatches → KnownLatches
@@ -91,15 +87,10 @@ ier_written None value l = record l { dlm = None; ier = None }
 ier_written (Some true) value l = record l { dlm = Some value }
 ier_written (Some false) value l = record l { ier = Some (bit_and value ier_bits) }
 
-abbrev pub after_write_ier : KnownLatches → ℕ → KnownLatches
-after_write_ier l value = ier_written (dlab l) value l
-
--- to any register
+-- to any register: LCR and SPR keep the value as a read would return it, and MCR a part of it
 abbrev pub after_write : ℕ → ℕ → KnownLatches → KnownLatches
 after_write offset value l =
-    if offset == offsets.DATA then after_write_data l value
-    else if offset == offsets.IER then after_write_ier l value
-    else if offset == offsets.LCR then record l { lcr = Some value }
+    if offset == offsets.DATA then data_written (dlab l) value l
+    else if offset == offsets.IER then ier_written (dlab l) value l
     else if offset == offsets.MCR then record l { mcr = Some (bit_and value mcr_bits) }
-    else if offset == offsets.SPR then record l { scr = Some value }
-    else l
+    else after_read offset value l

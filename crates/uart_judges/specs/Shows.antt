@@ -1,8 +1,9 @@
 -- What one action does or shows, whatever was before it.
 use Rattle.std.specs.Prelude.{ℕ, ◌+◌, ◌^◌, Bool, true, false, ◌==◌, ◌&&◌, ◌||◌, not, if◌then◌else◌, nat_le}
-use Rattle.std.specs.Prelude.{Option, Some, None, List, [], ◌∷◌, find}
+use Rattle.std.specs.Prelude.{Option, Some, None, find}
 use Rattle.uart_spec.specs.Bits.{field, has, has_any}
 use Rattle.uart_spec.specs.Fields.{interrupt_code}
+use Rattle.uart_spec.specs.Orders.{interrupt_types}
 use Rattle.uart_spec.specs.declared.registers.fifo_control.FCR.{FCR}
 use Rattle.uart_spec.specs.declared.registers.fifo_control.TheConstants.FCR as fcr_bits
 use Rattle.uart_spec.specs.declared.registers.fifo_trigger_level.FifoTriggerLevel.{FifoTriggerLevel}
@@ -33,15 +34,9 @@ use Rattle.uart_judges.specs.declared.audit.action.Action.TheVariants.{ControlsF
 use Rattle.uart_judges.specs.declared.audit.action.Action.TheVariants.{SetsModem}
 use Rattle.uart_judges.specs.declared.audit.action.Action.TheVariants.{LooksAtLine, LooksAtModem}
 
--- all interrupts that ISR has a code for
-abbrev pub interrupts : List InterruptType
-interrupts =
-    ReceiverLineStatus ∷ ReceivedDataReady ∷ ReceptionTimeout ∷ TransmitterHoldingRegisterEmpty ∷ ModemStatus
-    ∷ DmaReceptionEndOfTransfer ∷ DmaTransmissionEndOfTransfer ∷ []
-
 -- the interrupt that a value of ISR identifies, if one is pending
 abbrev pub identified : ISR → Option InterruptType
-identified isr = find (λ one. (field 0 1 isr.0 == 0) && (field 1 3 isr.0 == interrupt_code one)) interrupts
+identified isr = find (λ one. (field 0 1 isr.0 == 0) && (field 1 3 isr.0 == interrupt_code one)) interrupt_types
 
 -- the trigger level in a value of FCR
 abbrev pub level_of : FCR → FifoTriggerLevel
@@ -70,6 +65,16 @@ abbrev pub looks_at_line : Action → Bool
 looks_at_line (LooksAtLine lsr) = true
 looks_at_line _ = false
 
+-- nothing is going out
+abbrev pub shows_idle : Action → Bool
+shows_idle (LooksAtLine lsr) = has lsr.0 lsr_bits.TRANSMITTER_EMPTY.0
+shows_idle _ = false
+
+-- whether a look at LSR shows a received byte
+abbrev pub ready_of : Action → Option Bool
+ready_of (LooksAtLine lsr) = Some (has lsr.0 lsr_bits.DATA_READY.0)
+ready_of _ = None
+
 -- MSR is read
 abbrev pub looks_at_modem : Action → Bool
 looks_at_modem (LooksAtModem msr) = true
@@ -79,16 +84,6 @@ looks_at_modem _ = false
 abbrev pub identifies : Action → Bool
 identifies (IdentifiesInterrupt isr) = true
 identifies _ = false
-
--- the low byte of the divisor is written
-abbrev pub sets_low : Action → Bool
-sets_low (SetsDivisorLow value) = true
-sets_low _ = false
-
--- the divisor latch is opened
-abbrev pub opens : Action → Bool
-opens (SetsLine lcr) = has lcr.0 lcr_bits.DLAB.0
-opens _ = false
 
 -- the interrupt is that the transmitter is empty
 abbrev pub is_thr_empty : Option InterruptType → Bool
@@ -101,15 +96,11 @@ shows_room (LooksAtLine lsr) = has lsr.0 lsr_bits.THR_EMPTY.0
 shows_room (IdentifiesInterrupt isr) = is_thr_empty (identified isr)
 shows_room _ = false
 
--- nothing is going out
-abbrev pub shows_idle : Action → Bool
-shows_idle (LooksAtLine lsr) = has lsr.0 lsr_bits.TRANSMITTER_EMPTY.0
-shows_idle _ = false
-
--- whether a look at LSR shows a received byte
-abbrev pub ready_of : Action → Option Bool
-ready_of (LooksAtLine lsr) = Some (has lsr.0 lsr_bits.DATA_READY.0)
-ready_of _ = None
+-- whether the FIFOs are on: a write of FCR sets it, and a read of ISR shows it
+abbrev pub fifo_of : Action → Option Bool
+fifo_of (ControlsFifo fcr) = Some (has fcr.0 fcr_bits.FIFO_ENABLE.0)
+fifo_of (IdentifiesInterrupt isr) = Some (has isr.0 isr_bits.FIFOS_ENABLED.0)
+fifo_of _ = None
 
 -- the value of LCR that is written or read
 abbrev pub line_of : Action → Option LCR
@@ -117,11 +108,10 @@ line_of (SetsLine lcr) = Some lcr
 line_of (ReadsLine lcr) = Some lcr
 line_of _ = None
 
--- the value of MCR that is written or read
-abbrev pub modem_of : Action → Option MCR
-modem_of (SetsModem mcr) = Some mcr
-modem_of (ReadsModem mcr) = Some mcr
-modem_of _ = None
+-- the divisor latch is opened
+abbrev pub opens : Action → Bool
+opens (SetsLine lcr) = has lcr.0 lcr_bits.DLAB.0
+opens _ = false
 
 -- the low byte of the divisor that is written
 abbrev pub low_of : Action → Option ℕ
@@ -133,26 +123,31 @@ abbrev pub high_of : Action → Option ℕ
 high_of (SetsDivisorHigh value) = Some value
 high_of _ = None
 
+-- the low byte of the divisor is written
+abbrev pub sets_low : Action → Bool
+sets_low (SetsDivisorLow value) = true
+sets_low _ = false
+
+-- the value of MCR that is written or read
+abbrev pub modem_of : Action → Option MCR
+modem_of (SetsModem mcr) = Some mcr
+modem_of (ReadsModem mcr) = Some mcr
+modem_of _ = None
+
 -- the value of IER that is written
 abbrev pub interrupts_of : Action → Option IER
 interrupts_of (EnablesInterrupts ier) = Some ier
 interrupts_of _ = None
 
--- whether the FIFOs are on: a write of FCR sets it, and a read of ISR shows it
-abbrev pub fifo_of : Action → Option Bool
-fifo_of (ControlsFifo fcr) = Some (has fcr.0 fcr_bits.FIFO_ENABLE.0)
-fifo_of (IdentifiesInterrupt isr) = Some (has isr.0 isr_bits.FIFOS_ENABLED.0)
-fifo_of _ = None
+-- a write of IER without this bit
+abbrev pub disables : ℕ → Action → Bool
+disables bit (EnablesInterrupts ier) = not (has ier.0 bit)
+disables bit _ = false
 
 -- the trigger level that is set
 abbrev pub trigger_of : Action → Option FifoTriggerLevel
 trigger_of (ControlsFifo fcr) = if has fcr.0 fcr_bits.FIFO_ENABLE.0 then Some (level_of fcr) else None
 trigger_of _ = None
-
--- a write of IER without this bit
-abbrev pub disables : ℕ → Action → Bool
-disables bit (EnablesInterrupts ier) = not (has ier.0 bit)
-disables bit _ = false
 
 -- the receiver FIFO is reset
 abbrev pub resets_receiver : Action → Bool

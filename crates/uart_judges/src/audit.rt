@@ -18,4 +18,4 @@ pub use action::Action;
 pub use auditor::{Auditor, Due};
 pub use finding::{Finding, Severity};
 pub use reads::Stretch;
-pub use setup::Setup;
+pub use setup::{DivisorBytes, Setup};

@@ -46,7 +46,12 @@ unfolding word_of item_of call_of config_in arrival_in
 is_read {number = number} le (row.limit e h) = rw (e, h) refl
 is_read {number = number} le (row.tick h) = rw (not_first number le, h) refl
 is_read {number = number} le (row.arrive h) = rw (not_first number le, h) refl
+is_read {number = number} le (row.arrive_faulty h e) = rw (not_first number le, h, e) refl
 is_read {number = number} le (row.lines h) = rw (not_first number le, h) refl
+is_read {number = number} le row.access = rw (not_first number le) refl
+is_read {number = number} le row.next = rw (not_first number le) refl
+is_read {number = number} le (row.init f b c h l) = rw (not_first number le, f, b, c, h, l) refl
+is_read {number = number} le (row.bare w {c = c} e) = bare_is_read number w c le e
 is_read {number = number} le (row.try_send h) = rw (not_first number le, h) refl
 is_read {number = number} le (row.enable h) = rw (not_first number le, h) refl
 is_read {number = number} le (row.disable h) = rw (not_first number le, h) refl
@@ -57,11 +62,6 @@ is_read {number = number} le (row.send h) = rw (not_first number le, h) refl
 is_read {number = number} le (row.send_exact h) = rw (not_first number le, h) refl
 is_read {number = number} le (row.write h) = rw (not_first number le, h) refl
 is_read {number = number} le (row.text h) = rw (not_first number le, h) refl
-is_read {number = number} le (row.arrive_faulty h e) = rw (not_first number le, h, e) refl
-is_read {number = number} le (row.init f b c h l) = rw (not_first number le, f, b, c, h, l) refl
-is_read {number = number} le row.access = rw (not_first number le) refl
-is_read {number = number} le row.next = rw (not_first number le) refl
-is_read {number = number} le (row.bare w {c = c} e) = bare_is_read number w c le e
 
 -- ---- what is read is what the words mean
 

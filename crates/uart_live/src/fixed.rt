@@ -55,10 +55,6 @@ impl<T: Copy + Drop> Fifo<T> for FixedFifo<T> {
         self.len
     }
 
-    fn is_empty(&self) -> bool {
-        self.len == 0
-    }
-
     fn get(&self, i: usize) -> Option<T> {
         if i < self.len {
             Some(self.slots[(self.start + i) % FIFO_SIZE])
@@ -138,12 +134,12 @@ impl Wire for FixedWire {
 
     ghost most = { λ w. w.capacity };
 
-    fn capacity(&self) -> usize {
-        self.limit
-    }
-
     fn room(&self) -> usize {
         self.limit - self.count
+    }
+
+    fn capacity(&self) -> usize {
+        self.limit
     }
 
     fn as_slice(&self) -> &[u8] {

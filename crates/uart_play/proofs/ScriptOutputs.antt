@@ -1,8 +1,5 @@
 -- From a script's calls to what is printed for it.
-use Rattle.std.proofs.Common.{◌≡◌, ◌<◌, ◌+◌, ℕ, List, [], ◌∷◌, ◌++◌, length, map, take, Some, None, inl, inr, refl, sym, ◌∙◌, ap}
-use Rattle.std.proofs.Common.{arith, slice_get}
-use Rattle.std.proofs.lemmas.List.{take_more}
-use Rattle.std.proofs.lemmas.Option.{slice_get_cases}
+use Rattle.std.proofs.Common.{◌≡◌, List, [], ◌∷◌, map, refl, ◌∙◌, ap}
 use Rattle.uart_calls.specs.declared.call.Call.{Call}
 use Rattle.uart_calls.specs.declared.call.Call.TheVariants as call
 use Rattle.uart_calls.specs.declared.call.Answer.{Answer}
@@ -10,24 +7,6 @@ use Rattle.uart_language.specs.Sayings.{plain}
 use Rattle.uart_run.specs.Chains.{calls_of, answers_of}
 use Rattle.uart_run.specs.Run.{State, CallStep, Link, Chain, IsRun}
 use Rattle.uart_run.specs.Session.{Ran}
-
--- one item more
-take_got : {A : Type 0} (xs : List A) (i : ℕ) (x : A) → slice_get xs i ≡ Some x → take (i + 1) xs ≡ take i xs ++ x ∷ []
-take_got xs i x got =
-    elim (slice_get_cases xs i).1 [
-      | inl h ↦ let same : h.0 ≡ x = cc in rw (take_more xs i h.0 h.1, h.3, same) refl
-      | inr h ↦ absurd (cc)
-    ]
-
--- the items that a loop has taken, once it took the next
-pub got_more : {A : Type 0} (xs : List A) (i : ℕ) (x : A) (old new : List A) → Some x ≡ slice_get xs i → old ≡ take i xs →
-    new ≡ old ++ x ∷ [] →
-    new ≡ take (i + 1) xs
-got_more xs i x old new got before after = after ∙ ap (λ ys. ys ++ x ∷ []) before ∙ sym (take_got xs i x (sym got))
-
-pub never_none : {A : Type 0} (xs : List A) (i : ℕ) → i < length xs → slice_get xs i ≡ None → ⊥
-never_none xs i within none =
-    elim (slice_get_cases xs i).1 [ inl h ↦ cc | inr h ↦ omega arith ]
 
 step_plain : (s t : State) (c : Call) (a : Answer) → CallStep s c a t → CallStep s (plain c) a t
 step_plain s t (call.Text text) a h = h
@@ -51,8 +30,8 @@ answers_plain (l ∷ ls) = ap (λ answers. l.answer ∷ answers) (answers_plain 
 pub run_plain : (s t : State) (calls plans : List Call) (answers : List Answer) → map plain calls ≡ plans → Ran s calls answers t
     → IsRun s plans answers t
 run_plain s t calls plans answers same r = record {
-  links = map plain_link r.links;
-  chain = chain_plain s t r.links r.chain;
-  calls_same = calls_plain r.links ∙ ap (map plain) r.calls_same ∙ same;
-  answers_same = answers_plain r.links ∙ r.answers_same;
+  links = map plain_link r.run.links;
+  chain = chain_plain s t r.run.links r.run.chain;
+  calls_same = calls_plain r.run.links ∙ ap (map plain) r.run.calls_same ∙ same;
+  answers_same = answers_plain r.run.links ∙ r.run.answers_same;
 }

@@ -169,42 +169,27 @@ fn empty_answers(alloc: Global, count: usize) -> Result<Vec<Answer>, AllocError>
 fn held_of(alloc: Global, machine: &Device16550) -> Result<Vec<u8>, AllocError>
     ensures { IfOk result (λ bytes. bytes.items ≡ held machine.now.chip.transmitter) }
 {
-    let mut bytes = Vec::new(alloc);
-    for i in 0..machine.held_len() {
-        match machine.held_at(i) {
-            Some(byte) => bytes.push(byte)?,
-            None => unreachable!(),
-        }
-    }
-    Ok(bytes)
+    (0..machine.held_len())
+        .filter_map(|i| machine.held_at(i))
+        .collect(alloc)
 }
 
 // Returns the received bytes that have not been read.
 fn waiting_of(alloc: Global, machine: &Device16550) -> Result<Vec<u8>, AllocError>
     ensures { IfOk result (λ bytes. bytes.items ≡ waiting machine.now) }
 {
-    let mut bytes = Vec::new(alloc);
-    for i in 0..machine.waiting_len() {
-        match machine.waiting_at(i) {
-            Some(byte) => bytes.push(byte)?,
-            None => unreachable!(),
-        }
-    }
-    Ok(bytes)
+    (0..machine.waiting_len())
+        .filter_map(|i| machine.waiting_at(i))
+        .collect(alloc)
 }
 
 // Returns what became of each arrival.
 fn marks_of(alloc: Global, machine: &Device16550) -> Result<Vec<ArrivalMark>, AllocError>
     ensures { IfOk result (λ marks. marks.items ≡ machine.now.chip.receiver.marks) }
 {
-    let mut marks = Vec::new(alloc);
-    for i in 0..machine.arrivals() {
-        match machine.mark(i) {
-            Some(mark) => marks.push(mark)?,
-            None => unreachable!(),
-        }
-    }
-    Ok(marks)
+    (0..machine.arrivals())
+        .filter_map(|i| machine.mark(i))
+        .collect(alloc)
 }
 
 // Returns what is printed for answers and the last state of the machine.

@@ -3,7 +3,7 @@
 use crate::replay::{Arrival, Seen};
 use crate::shown::{Place, Shown};
 use std::alloc::{AllocError, Global};
-use std::fmt::Write;
+use std::fmt::{Display, Write};
 use uart_16550::replay::Entry;
 
 /// The width of a moment.
@@ -57,28 +57,46 @@ pub fn letters_in(width: usize) -> usize {
     width.saturating_mul(10) / LETTER
 }
 
+// Appends a rectangle: where its left and its upper edge are, its width and its height.
+fn push_rectangle(
+    text: &mut String,
+    class: &str,
+    (x, y, width, height): (usize, usize, usize, usize),
+) -> Result<(), AllocError> {
+    write!(
+        text,
+        "<rect class=\"{class}\" x=\"{x}\" y=\"{y}\" width=\"{width}\" height=\"{height}\"/>"
+    )
+}
+
+// Appends words in the middle of a moment, at this height.
+fn push_words<D: Display + Drop>(
+    text: &mut String,
+    class: &str,
+    y: usize,
+    words: D,
+) -> Result<(), AllocError> {
+    write!(
+        text,
+        "<text class=\"{class}\" x=\"13\" y=\"{y}\">{words}</text>"
+    )
+}
+
 /// Appends a box of one moment, with a text in it.
 pub fn push_box(text: &mut String, class: &str, words: &str) -> Result<(), AllocError> {
-    writeln!(
-        text,
-        "<rect class=\"{class}\" x=\"1\" y=\"0\" width=\"24\" height=\"15\"/>\
-            <text class=\"m\" x=\"13\" y=\"11\">{words}</text>"
-    )
+    push_rectangle(text, class, (1, 0, 24, 15))?;
+    push_words(text, "m", 11, words)?;
+    text.push('\n')
 }
 
 /// Appends a byte that arrived, and under it, in small, the letters of its errors and of its mark.
 pub fn push_arrival(text: &mut String, arrival: Arrival, mark: char) -> Result<(), AllocError> {
     let (byte, letters) = (arrival.byte, arrival.letters());
     let class = if letters.is_empty() { "a" } else { "e" };
-    write!(
-        text,
-        "<rect class=\"{class}\" x=\"1\" y=\"0\" width=\"24\" height=\"26\"/>\
-            <text class=\"m\" x=\"13\" y=\"11\">{byte:02x}</text>"
-    )?;
-    writeln!(
-        text,
-        "<text class=\"m s\" x=\"13\" y=\"22\">{letters}{mark}</text>"
-    )
+    push_rectangle(text, class, (1, 0, 24, 26))?;
+    push_words(text, "m", 11, format_args!("{byte:02x}"))?;
+    push_words(text, "m s", 22, format_args!("{letters}{mark}"))?;
+    text.push('\n')
 }
 
 /// Appends a bar for this number of characters, of at most so many.
@@ -93,11 +111,9 @@ pub fn push_bar(
         .checked_div(most)
         .unwrap_or(0);
     let top = FULL.saturating_sub(height);
-    writeln!(
-        text,
-        "<rect class=\"{class}\" x=\"4\" y=\"{top}\" width=\"18\" height=\"{height}\"/>\
-            <text class=\"m s\" x=\"13\" y=\"43\">{count}</text>"
-    )
+    push_rectangle(text, class, (4, top, 18, height))?;
+    push_words(text, "m s", 43, count)?;
+    text.push('\n')
 }
 
 // Appends an access: its register over its value, red if the audit warns of it.
@@ -107,16 +123,10 @@ fn push_seen(text: &mut String, seen: Seen, is_wrong: bool) -> Result<(), AllocE
         Entry::Write(_, value) => ("w", value),
     };
     let class = if is_wrong { "e" } else { class };
-    let register = seen.register;
-    write!(
-        text,
-        "<rect class=\"{class}\" x=\"1\" y=\"0\" width=\"24\" height=\"27\"/>\
-            <text class=\"m s\" x=\"13\" y=\"10\">{register}</text>"
-    )?;
-    writeln!(
-        text,
-        "<text class=\"m\" x=\"13\" y=\"22\">{value:02x}</text>"
-    )
+    push_rectangle(text, class, (1, 0, 24, 27))?;
+    push_words(text, "m s", 10, seen.register)?;
+    push_words(text, "m", 22, format_args!("{value:02x}"))?;
+    text.push('\n')
 }
 
 // Appends how many times an access happened by itself, in letters that are small enough for its
@@ -144,10 +154,8 @@ fn push_mark(alloc: Global, text: &mut String, shown: Shown) -> Result<(), Alloc
         Place::Middle => (0, 26),
         Place::Last => (0, 23),
     };
-    writeln!(
-        text,
-        "<rect class=\"g\" x=\"{x}\" y=\"29\" width=\"{width}\" height=\"1\"/>"
-    )?;
+    push_rectangle(text, "g", (x, 29, width, 1))?;
+    text.push('\n')?;
     if shown.place == Place::Last {
         writeln!(
             text,

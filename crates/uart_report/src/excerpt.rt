@@ -9,6 +9,7 @@ use circular_buffer::HeapCircularBuffer;
 use std::alloc::{AllocError, Global};
 use std::fmt::Write;
 use std::io::Read;
+use thiserror::Error;
 use uart_16550::replay::Entry;
 use uart_command::Form;
 use uart_judges::audit::{Auditor, Finding, Severity, Stretch};
@@ -22,23 +23,19 @@ pub const USUAL_EVENTS: usize = 100;
 pub const MOST_EVENTS: usize = 10_000;
 
 /// Why a recording was not drawn.
-#[derive(Debug, Drop)]
+#[derive(Debug, Drop, Error)]
 pub enum ExcerptError {
     /// A line is no line of a recording, or the reader failed.
-    Recording(RecordingError),
+    #[error(transparent)]
+    Recording(#[from] RecordingError),
     /// Memory could not be allocated.
+    #[error("out of memory")]
     OutOfMemory,
 }
 
 impl From<AllocError> for ExcerptError {
     fn from(_error: AllocError) -> ExcerptError {
         ExcerptError::OutOfMemory
-    }
-}
-
-impl From<RecordingError> for ExcerptError {
-    fn from(error: RecordingError) -> ExcerptError {
-        ExcerptError::Recording(error)
     }
 }
 

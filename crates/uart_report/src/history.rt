@@ -84,29 +84,6 @@ fn line_or_empty<'a>(lines: &[&'a [u8]], index: usize) -> &'a [u8]
     lines.get(index).copied().unwrap_or(&[])
 }
 
-// Returns a call with its accesses.
-fn told_call(
-    alloc: Global,
-    lines: &[&[u8]],
-    answers: &[&[u8]],
-    accesses: &ByCall<Entry>,
-    number: usize,
-) -> Result<ToldCall, AllocError>
-    ensures told { IfOk result (λ call. told_of call ≡ told_at
-        (map (λ line. line.now) lines.now) (map (λ line. line.now) answers.now)
-        accesses.now.all.items accesses.now.ends.items number) }
-    ensures tellable { IfOk result IsTellable }
-{
-    let line = printable(alloc, line_or_empty(lines, number))?;
-    let accesses = accesses.of(number).to_vec(alloc)?;
-    let answer = printable(alloc, line_or_empty(answers, number))?;
-    Ok(ToldCall {
-        line,
-        accesses,
-        answer,
-    })
-}
-
 // Returns this number of calls with their accesses.
 fn told_calls(
     alloc: Global,
@@ -122,7 +99,14 @@ fn told_calls(
 {
     let mut calls = Vec::new(alloc);
     for number in 0..count {
-        calls.push(told_call(alloc, lines, answers, accesses, number)?)?;
+        let line = printable(alloc, line_or_empty(lines, number))?;
+        let of_call = accesses.of(number).to_vec(alloc)?;
+        let answer = printable(alloc, line_or_empty(answers, number))?;
+        calls.push(ToldCall {
+            line,
+            accesses: of_call,
+            answer,
+        })?;
     }
     Ok(calls)
 }

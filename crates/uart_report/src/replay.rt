@@ -61,10 +61,10 @@ pub struct Happened {
     pub lines: Option<u8>,
     /// The access.
     pub access: Option<Seen>,
-    /// The new level of the interrupt line. Only a recording says so.
-    pub interrupt: Option<bool>,
     /// Whether the audit of a recording warns of it.
     pub is_wrong: bool,
+    /// The new level of the interrupt line. Only a recording says so.
+    pub interrupt: Option<bool>,
 }
 
 impl Happened {

@@ -105,10 +105,7 @@ pub ran_ring : (s t : RingState) (calls : List RingCall) (answers : List RingAns
 ran_ring s t calls answers i all slots sound run =
     let r = run_whole RingCallStep s t calls answers i all slots run in
     record {
-      links = r.links;
-      chain = r.chain;
-      calls_same = r.calls_same;
-      answers_same = r.answers_same;
+      run = r;
       sessions = λ front session rest a b parts before within after ready.
           ring_conserves (modes_of (under a)) a b session (in_session (under a) ready (ring_sound_chain s a front sound before)) within;
     }

@@ -2,7 +2,7 @@
 use Rattle.std.specs.Prelude.{◌≡◌, ◌≤◌, ◌==◌, ◌-◌, ℕ, zero, suc, Bool, false, List, [], ◌++◌, length, drop}
 use Rattle.circular_buffer.specs.Buffer.{Buffer, buffer}
 use Rattle.uart_spec.specs.Access.{Access, Path}
-use Rattle.uart_16550.specs.Driver.{Fields, Doing, fields, backend_of}
+use Rattle.uart_16550.specs.Driver.{Fields, Doing, Next, fields, backend_of}
 use Rattle.uart_16550.specs.declared.driver.Uart16550.{Uart16550}
 use Rattle.uart_ring.specs.declared.ring.TheConstants.{MAX_CAPACITY}
 use Rattle.uart_ring.specs.declared.ring.Uart16550Ring.{Uart16550Ring}
@@ -122,13 +122,8 @@ abbrev pub Stays : RingDoing
 Stays f l after = (l ≡ []) × (after ≡ f)
 
 -- the first, and then the second
-pub record RingNext (G H : RingDoing) (f : RingFields) (l : List Access) (after : RingFields) : Type 0 where
-  pub front : List Access
-  pub back : List Access
-  pub mid : RingFields
-  pub whole : l ≡ front ++ back
-  pub first : G f front mid
-  pub second : H mid back after
+abbrev pub RingNext : RingDoing → RingDoing → RingDoing
+RingNext G H = Next G H
 
 -- n times
 abbrev pub RingTimes : ℕ → RingDoing → RingDoing

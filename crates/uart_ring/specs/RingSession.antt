@@ -2,14 +2,14 @@
 use Rattle.std.specs.Prelude.{◌≡◌, List, ◌++◌, map}
 use Rattle.uart_chip.specs.Chip.{cut_of}
 use Rattle.uart_device.specs.Conserved.{out, waiting, kept}
-use Rattle.uart_run.specs.Chains.{calls_of, answers_of}
+use Rattle.uart_run.specs.Chains.{RunOf}
 use Rattle.uart_run.specs.Ready.{Ready}
 use Rattle.uart_run.specs.Session.{overflows}
 use Rattle.uart_run.specs.Progress.{IsUnchecked}
 use Rattle.uart_run.specs.Uncut.{IsUncut, kept_uncut}
 use Rattle.uart_ring.specs.declared.running.call.RingCall.{RingCall}
 use Rattle.uart_ring.specs.declared.running.call.RingAnswer.{RingAnswer}
-use Rattle.uart_ring.specs.RingRun.{RingState, under, ring_machine, RingLink, RingChain}
+use Rattle.uart_ring.specs.RingRun.{RingState, under, ring_machine, RingCallStep, RingLink, RingChain}
 use Rattle.uart_ring.specs.RingBytes.{to_send, to_take, queued, taken}
 use Rattle.uart_ring.specs.RingStatuses.{RingTells}
 use Rattle.uart_ring.specs.RingArmed.{AllLeaveRingArmed}
@@ -38,9 +38,6 @@ pub record RingConserves (s : RingState) (links : List RingLink) (t : RingState)
 -- these calls, with these answers, lead from s to t; and each session in them conserves, which is each part that
 -- begins in a ready state: no ring call ends a session
 pub record RanRing (s : RingState) (calls : List RingCall) (answers : List RingAnswer) (t : RingState) : Type 0 where
-  pub links : List RingLink
-  pub chain : RingChain s links t
-  pub calls_same : calls_of links ≡ calls
-  pub answers_same : answers_of links ≡ answers
-  pub sessions : (front session rest : List RingLink) (a b : RingState) → links ≡ front ++ (session ++ rest) →
+  pub run : RunOf RingCallStep s calls answers t
+  pub sessions : (front session rest : List RingLink) (a b : RingState) → run.links ≡ front ++ (session ++ rest) →
       RingChain s front a → RingChain a session b → RingChain b rest t → Ready (under a) → RingConserves a session b

@@ -25,7 +25,7 @@ ShowsInterrupt interrupt f l after =
     (isr : ℕ) × IsOnlyIfAny (Identifies isr) interrupt × Saving (Only (Read offsets.ISR isr ∷ [])) f l after
 
 -- how an interrupt is served: bytes are received, a pump is made, a status is noted, or nothing is done
-abbrev pub ServesInterrupt : InterruptType → RingDoing
+abbrev pub ServesInterrupt : (interrupt : InterruptType) → RingDoing
 ServesInterrupt ReceiverLineStatus = NotesLine
 ServesInterrupt ReceivedDataReady = FillsReceiveRing
 ServesInterrupt ReceptionTimeout = FillsReceiveRing

@@ -13,6 +13,39 @@ pub use laws::init_leaves_ready;
 use uart_calls::CALL_BYTES;
 use uart_device::Device16550;
 
+// Takes into these slots.
+fn take(ring: &mut Uart16550Ring<Device16550>, slots: &mut [u8]) -> RingAnswer
+    requires { length slots.old ≤ CALL_BYTES }
+    ensures { TakesInto (length slots.old) result ring.old ring.new }
+{
+    let count = ring.take(slots);
+    let mut bytes = ArrayVec::new();
+    let _ = bytes.try_extend_from_slice(&slots[..count]);
+    RingAnswer::Bytes(bytes)
+}
+
+// Makes one call of a run.
+fn run_ring_call(ring: &mut Uart16550Ring<Device16550>, call: &RingCall) -> RingAnswer
+    requires { IsRingRunnable call.now }
+    ensures { RingCallStep ring.old call.now result ring.new }
+{
+    match call {
+        RingCall::Queue(bytes) => RingAnswer::Count(ring.queue(bytes.as_slice())),
+        RingCall::ResumeTransmit => {
+            ring.resume_transmit();
+            RingAnswer::Done
+        }
+        RingCall::Take(slots) => take(ring, &mut [0; CALL_BYTES][..*slots]),
+        RingCall::Service => RingAnswer::Count(ring.service()),
+        RingCall::TakeLine => RingAnswer::Line(ring.take_line()),
+        RingCall::TakeModem => RingAnswer::Modem(ring.take_modem()),
+        RingCall::Next => {
+            ring.inner_mut().backend_mut().next();
+            RingAnswer::Done
+        }
+    }
+}
+
 /// Makes the calls in turn, and stores the answer of each in its slot. Never fails, and allocates
 /// no memory.
 ///
@@ -46,37 +79,4 @@ pub fn run_ring(
     for i in 0..calls.len() {
         answers[i] = run_ring_call(ring, &calls[i]);
     }
-}
-
-// Makes one call of a run.
-fn run_ring_call(ring: &mut Uart16550Ring<Device16550>, call: &RingCall) -> RingAnswer
-    requires { IsRingRunnable call.now }
-    ensures { RingCallStep ring.old call.now result ring.new }
-{
-    match call {
-        RingCall::Queue(bytes) => RingAnswer::Count(ring.queue(bytes.as_slice())),
-        RingCall::ResumeTransmit => {
-            ring.resume_transmit();
-            RingAnswer::Done
-        }
-        RingCall::Take(slots) => take(ring, &mut [0; CALL_BYTES][..*slots]),
-        RingCall::Service => RingAnswer::Count(ring.service()),
-        RingCall::TakeLine => RingAnswer::Line(ring.take_line()),
-        RingCall::TakeModem => RingAnswer::Modem(ring.take_modem()),
-        RingCall::Next => {
-            ring.inner_mut().backend_mut().next();
-            RingAnswer::Done
-        }
-    }
-}
-
-// Takes into these slots.
-fn take(ring: &mut Uart16550Ring<Device16550>, slots: &mut [u8]) -> RingAnswer
-    requires { length slots.old ≤ CALL_BYTES }
-    ensures { TakesInto (length slots.old) result ring.old ring.new }
-{
-    let count = ring.take(slots);
-    let mut bytes = ArrayVec::new();
-    let _ = bytes.try_extend_from_slice(&slots[..count]);
-    RingAnswer::Bytes(bytes)
 }

@@ -53,10 +53,7 @@ follow_chain s t (link ∷ links) w h =
 pub ran : (s t : State) (calls : List Call) (answers : List Answer) → IsSound (machine_of s) → IsRun s calls answers t →
     Ran s calls answers t
 ran s t calls answers sound r = record {
-  links = r.links;
-  chain = r.chain;
-  calls_same = r.calls_same;
-  answers_same = r.answers_same;
+  run = r;
   follows = follow_chain s t r.links sound r.chain;
   sessions =
       λ front session rest a b parts before within after is. session_conserves a b session (sound_chain s a front sound before) is within;

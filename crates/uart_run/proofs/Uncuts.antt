@@ -79,12 +79,9 @@ all_follow_uncut s t (link ∷ links) e h f =
 
 pub ran_uncut : (s t : State) (calls : List Call) (answers : List Answer) → Ran s calls answers t → IsUncut s → RanUncut s calls answers t
 ran_uncut s t calls answers r e = record {
-  links = r.links;
-  chain = r.chain;
-  calls_same = r.calls_same;
-  answers_same = r.answers_same;
+  run = r.run;
   follows = r.follows;
-  tests = all_follow_uncut s t r.links e r.chain r.follows;
+  tests = all_follow_uncut s t r.run.links e r.run.chain r.follows;
   sessions = λ front session rest a b parts before within after is.
       conserves_uncut a b session (lasts_chain s a front lasts_uncut e before)
       (r.sessions front session rest a b parts before within after is);

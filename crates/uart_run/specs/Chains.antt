@@ -30,6 +30,11 @@ pub record RunOf {S C A : Type 0} (Step : S → C → A → S → Type 0) (s : S
   pub calls_same : calls_of links ≡ calls
   pub answers_same : answers_of links ≡ answers
 
+-- each link is related in this way: its states, its call and its answer
+abbrev pub EachLink : {S C A : Type 0} → (S → C → A → S → Type 0) → List (LinkOf S C A) → Type 0
+EachLink P [] = Unit {0}
+EachLink P (link ∷ links) = P link.before link.call link.answer link.after × EachLink P links
+
 -- none of the calls of some links is this one
 abbrev pub NoneIs : {S C A : Type 0} → C → List (LinkOf S C A) → Type 0
 NoneIs c links = AllByRecursion (λ link. link.call ≢ c) links

@@ -9,6 +9,7 @@ use Rattle.uart_chip.specs.Transmitter.{TransmitterState}
 use Rattle.uart_chip.specs.Chip.{is_transmitter_empty}
 use Rattle.uart_device.specs.Conserved.{out, waiting}
 use Rattle.uart_calls.specs.Meaning.{bytes_answer}
+use Rattle.uart_run.specs.Chains.{EachLink}
 use Rattle.uart_run.specs.Run.{State, machine_of, Link}
 
 -- the answer holds at least this number of bytes
@@ -40,5 +41,4 @@ Serves s other a t = Unit {0}
 
 -- each of these calls
 abbrev pub AllServe : List Link → Type 0
-AllServe [] = Unit {0}
-AllServe (link ∷ links) = Serves link.before link.call link.answer link.after × AllServe links
+AllServe = EachLink Serves

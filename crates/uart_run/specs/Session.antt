@@ -7,8 +7,8 @@ use Rattle.uart_calls.specs.declared.call.Answer.{Answer}
 use Rattle.uart_calls.specs.declared.call.Answer.TheVariants as answer
 use Rattle.uart_chip.specs.Chip.{cut_of}
 use Rattle.uart_device.specs.Conserved.{out, waiting, kept}
-use Rattle.uart_run.specs.Chains.{calls_of, answers_of}
-use Rattle.uart_run.specs.Run.{State, machine_of, Link, Chain}
+use Rattle.uart_run.specs.Chains.{EachLink}
+use Rattle.uart_run.specs.Run.{State, machine_of, Link, Chain, IsRun}
 use Rattle.uart_run.specs.Statuses.{Tells}
 use Rattle.uart_run.specs.Served.{AllServe}
 use Rattle.uart_run.specs.Ready.{Ready, ComesTo}
@@ -109,18 +109,14 @@ pub record Follows (s : State) (call : Call) (a : Answer) (t : State) : Type 0 w
 
 -- each of these calls
 abbrev pub AllFollow : List Link → Type 0
-AllFollow [] = Unit {0}
-AllFollow (link ∷ links) = Follows link.before link.call link.answer link.after × AllFollow links
+AllFollow = EachLink Follows
 
 -- ---- runs
 
 -- these calls, with these answers, lead from s to t; each does what is promised of it alone, and each session in them
 -- conserves
 pub record Ran (s : State) (calls : List Call) (answers : List Answer) (t : State) : Type 0 where
-  pub links : List Link
-  pub chain : Chain s links t
-  pub calls_same : calls_of links ≡ calls
-  pub answers_same : answers_of links ≡ answers
-  pub follows : AllFollow links
-  pub sessions : (front session rest : List Link) (a b : State) → links ≡ front ++ (session ++ rest) →
+  pub run : IsRun s calls answers t
+  pub follows : AllFollow run.links
+  pub sessions : (front session rest : List Link) (a b : State) → run.links ≡ front ++ (session ++ rest) →
       Chain s front a → Chain a session b → Chain b rest t → IsSession a session → Conserves a session b

@@ -9,8 +9,8 @@ use Rattle.uart_calls.specs.declared.call.Answer.{Answer}
 use Rattle.uart_calls.specs.declared.call.Answer.TheVariants.{Done, LoopbackRefused}
 use Rattle.uart_chip.specs.Machine.{MachineState}
 use Rattle.uart_device.specs.Conserved.{out, waiting, stands, arriving, between, entered}
-use Rattle.uart_run.specs.Chains.{calls_of, answers_of}
-use Rattle.uart_run.specs.Run.{State, machine_of, Link, Chain}
+use Rattle.uart_run.specs.Chains.{EachLink}
+use Rattle.uart_run.specs.Run.{State, machine_of, Link, Chain, IsRun}
 use Rattle.uart_run.specs.Served.{AllServe, IsFlushed}
 use Rattle.uart_run.specs.Statuses.{Tells}
 use Rattle.uart_run.specs.Ready.{Ready}
@@ -55,17 +55,13 @@ FollowsUncut s call.TestLoopback a t = TestsUncut s a t
 FollowsUncut s other a t = Unit {0}
 
 abbrev pub AllFollowUncut : List Link → Type 0
-AllFollowUncut [] = Unit {0}
-AllFollowUncut (link ∷ links) = FollowsUncut link.before link.call link.answer link.after × AllFollowUncut links
+AllFollowUncut = EachLink FollowsUncut
 
 -- these calls, with these answers, lead from s to t; each does what is promised of it alone, and each session in them
 -- conserves
 pub record RanUncut (s : State) (calls : List Call) (answers : List Answer) (t : State) : Type 0 where
-  pub links : List Link
-  pub chain : Chain s links t
-  pub calls_same : calls_of links ≡ calls
-  pub answers_same : answers_of links ≡ answers
-  pub follows : AllFollow links
-  pub tests : AllFollowUncut links
-  pub sessions : (front session rest : List Link) (a b : State) → links ≡ front ++ (session ++ rest) →
+  pub run : IsRun s calls answers t
+  pub follows : AllFollow run.links
+  pub tests : AllFollowUncut run.links
+  pub sessions : (front session rest : List Link) (a b : State) → run.links ≡ front ++ (session ++ rest) →
       Chain s front a → Chain a session b → Chain b rest t → IsSession a session → ConservesUncut a session b

@@ -9,6 +9,20 @@ use uart_16550::Uart16550Tty;
 use uart_calls::{Answer, Call, perform};
 use uart_device::Device16550;
 
+// Makes one call of a run.
+fn run_call(uart: &mut Uart16550Tty<Device16550>, call: &Call) -> Answer
+    requires { IsRunnable call.now }
+    ensures { CallStep uart.old call.now result uart.new }
+{
+    match call {
+        Call::Next => {
+            uart.inner_mut().backend_mut().next();
+            Answer::Done
+        }
+        _ => perform(uart, call),
+    }
+}
+
 /// Makes the calls in turn, and stores the answer of each in its slot. Never fails, and allocates
 /// no memory.
 ///
@@ -51,19 +65,5 @@ pub fn run(uart: &mut Uart16550Tty<Device16550>, calls: &[Call], answers: &mut [
     let _fifo = uart.inner().backend().fifo_enabled();
     for i in 0..calls.len() {
         answers[i] = run_call(uart, &calls[i]);
-    }
-}
-
-// Makes one call of a run.
-fn run_call(uart: &mut Uart16550Tty<Device16550>, call: &Call) -> Answer
-    requires { IsRunnable call.now }
-    ensures { CallStep uart.old call.now result uart.new }
-{
-    match call {
-        Call::Next => {
-            uart.inner_mut().backend_mut().next();
-            Answer::Done
-        }
-        _ => perform(uart, call),
     }
 }

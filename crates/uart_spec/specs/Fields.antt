@@ -1,5 +1,5 @@
 -- The codes of the fields of FCR, LCR and ISR.
-use Rattle.std.specs.Prelude.{◌≡◌, ℕ}
+use Rattle.std.specs.Prelude.{◌≡◌, ℕ, ◌+◌}
 use Rattle.uart_spec.specs.Bits.{field}
 use Rattle.uart_spec.specs.declared.registers.fifo_trigger_level.FifoTriggerLevel.{FifoTriggerLevel}
 use Rattle.uart_spec.specs.declared.registers.fifo_trigger_level.FifoTriggerLevel.TheVariants.{One, Four, Eight}
@@ -32,14 +32,11 @@ word_length_code SevenBits = 2
 word_length_code EightBits = 3
 
 -- the number of data bits of a word length
-abbrev pub word_length_bits : WordLength → ℕ
-word_length_bits FiveBits = 5
-word_length_bits SixBits = 6
-word_length_bits SevenBits = 7
-word_length_bits EightBits = 8
+abbrev pub word_length_bits : (length : WordLength) → ℕ
+word_length_bits length = 5 + word_length_code length
 
 -- the three-bit code of a parity
-abbrev pub parity_code : Parity → ℕ
+abbrev pub parity_code : (parity : Parity) → ℕ
 parity_code Disabled = 0
 parity_code Odd = 1
 parity_code Even = 3
@@ -63,26 +60,23 @@ parity_places _ = 3
 abbrev pub HasParity : (lowest value : ℕ) → Parity → Type 0
 HasParity lowest value parity = field lowest (parity_places parity) value ≡ parity_code parity
 
--- the identification code, bits 1 to 3 of ISR
+-- of each interrupt: its identification code, bits 1 to 3 of ISR, and its priority; 1 is the highest
+abbrev interrupt_row : InterruptType → ℕ × ℕ
+interrupt_row ReceiverLineStatus = (3, 1)
+interrupt_row ReceivedDataReady = (2, 2)
+interrupt_row ReceptionTimeout = (6, 2)
+interrupt_row TransmitterHoldingRegisterEmpty = (1, 3)
+interrupt_row ModemStatus = (0, 4)
+interrupt_row DmaReceptionEndOfTransfer = (7, 5)
+interrupt_row DmaTransmissionEndOfTransfer = (5, 6)
+
+-- the identification code of an interrupt; its priority
 abbrev pub interrupt_code : InterruptType → ℕ
-interrupt_code ReceiverLineStatus = 3
-interrupt_code ReceivedDataReady = 2
-interrupt_code ReceptionTimeout = 6
-interrupt_code TransmitterHoldingRegisterEmpty = 1
-interrupt_code ModemStatus = 0
-interrupt_code DmaReceptionEndOfTransfer = 7
-interrupt_code DmaTransmissionEndOfTransfer = 5
+interrupt_code interrupt = (interrupt_row interrupt).0
+
+abbrev pub priority : InterruptType → ℕ
+priority interrupt = (interrupt_row interrupt).1
 
 -- bit 0 is clear, so an interrupt is pending, and the code is that of this interrupt
 abbrev pub Identifies : ℕ → InterruptType → Type 0
 Identifies isr interrupt = (field 0 1 isr ≡ 0) × (field 1 3 isr ≡ interrupt_code interrupt)
-
--- the priority of an interrupt; 1 is the highest
-abbrev pub priority : InterruptType → ℕ
-priority ReceiverLineStatus = 1
-priority ReceivedDataReady = 2
-priority ReceptionTimeout = 2
-priority TransmitterHoldingRegisterEmpty = 3
-priority ModemStatus = 4
-priority DmaReceptionEndOfTransfer = 5
-priority DmaTransmissionEndOfTransfer = 6

@@ -1,6 +1,7 @@
 pub mod Access
 pub mod Bits
 pub mod Fields
+pub mod Lines
 pub mod Baud
 pub mod Divisors
 pub mod BaudRate

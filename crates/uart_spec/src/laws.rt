@@ -6,6 +6,7 @@ ghost use Rattle.std.specs.Ordering.{nat_cmp, bool_cmp};
 ghost use Rattle.std.specs.declared.cmp.Ordering.TheVariants.{Less};
 ghost use Rattle.uart_spec.specs.Divisors.{divisors};
 ghost use Rattle.uart_spec.specs.Orders.{IsAscending, in_turn, partial_in_turn};
+ghost use Rattle.uart_spec.specs.Orders.{interrupt_types, parities, trigger_levels, word_lengths};
 ghost use Rattle.uart_spec.specs.declared.baud.TheConstants.{CLK_FREQUENCY_HZ};
 ghost use Rattle.uart_spec.specs.declared.baud.TheConstants.{FIFO_SIZE, NUM_REGISTERS};
 ghost use Rattle.uart_spec.specs.declared.config.BaudRate.{BaudRate};
@@ -26,32 +27,14 @@ ghost use Rattle.uart_spec.specs.declared.registers.fifo_trigger_level.FifoTrigg
   FifoTriggerLevel,
 };
 ghost use Rattle.uart_spec.specs.declared.registers.fifo_trigger_level.FifoTriggerLevel.TheVariants.{
-  One,
-  Four,
-  Eight,
   Fourteen,
 };
 ghost use Rattle.uart_spec.specs.declared.registers.frame.Parity.{Parity};
-ghost use Rattle.uart_spec.specs.declared.registers.frame.Parity.TheVariants.{Disabled, Odd, Even};
-ghost use Rattle.uart_spec.specs.declared.registers.frame.Parity.TheVariants.{Forced1, Forced0};
+ghost use Rattle.uart_spec.specs.declared.registers.frame.Parity.TheVariants.{Disabled};
 ghost use Rattle.uart_spec.specs.declared.registers.frame.WordLength.{WordLength};
-ghost use Rattle.uart_spec.specs.declared.registers.frame.WordLength.TheVariants.{
-  FiveBits,
-  SixBits,
-  SevenBits,
-  EightBits,
-};
+ghost use Rattle.uart_spec.specs.declared.registers.frame.WordLength.TheVariants.{EightBits};
 ghost use Rattle.uart_spec.specs.declared.registers.interrupt_enable.IER.{IER};
 ghost use Rattle.uart_spec.specs.declared.registers.interrupt_status.ISR.{ISR};
-ghost use Rattle.uart_spec.specs.declared.registers.interrupt_type.InterruptType.TheVariants.{
-  ReceiverLineStatus,
-  ReceivedDataReady,
-  ReceptionTimeout,
-  TransmitterHoldingRegisterEmpty,
-  ModemStatus,
-  DmaReceptionEndOfTransfer,
-  DmaTransmissionEndOfTransfer,
-};
 ghost use Rattle.uart_spec.specs.declared.registers.line_control.LCR.{LCR};
 ghost use Rattle.uart_spec.specs.declared.registers.line_status.LSR.{LSR};
 ghost use Rattle.uart_spec.specs.declared.registers.modem_control.MCR.{MCR};
@@ -112,15 +95,10 @@ pub fn default_config_is_this()
 /// The cases of each enum, from the least on. Interrupts are in the order in which a chip reports
 /// them.
 pub fn cases_are_in_order()
-    ensures interrupts { IsAscending ⟦<InterruptType as Ord>⟧.cmp
-        (ReceiverLineStatus ∷ ReceivedDataReady ∷ ReceptionTimeout ∷ TransmitterHoldingRegisterEmpty
-        ∷ ModemStatus ∷ DmaReceptionEndOfTransfer ∷ DmaTransmissionEndOfTransfer ∷ []) }
-    ensures trigger_levels { IsAscending ⟦<FifoTriggerLevel as Ord>⟧.cmp
-        (One ∷ Four ∷ Eight ∷ Fourteen ∷ []) }
-    ensures word_lengths { IsAscending ⟦<WordLength as Ord>⟧.cmp
-        (FiveBits ∷ SixBits ∷ SevenBits ∷ EightBits ∷ []) }
-    ensures parities { IsAscending ⟦<Parity as Ord>⟧.cmp
-        (Disabled ∷ Odd ∷ Even ∷ Forced1 ∷ Forced0 ∷ []) }
+    ensures interrupts { IsAscending ⟦<InterruptType as Ord>⟧.cmp interrupt_types }
+    ensures trigger_levels { IsAscending ⟦<FifoTriggerLevel as Ord>⟧.cmp trigger_levels }
+    ensures word_lengths { IsAscending ⟦<WordLength as Ord>⟧.cmp word_lengths }
+    ensures parities { IsAscending ⟦<Parity as Ord>⟧.cmp parities }
     ensures divisor_errors { (error : NonIntegerDivisorError) (divisor : ℕ) →
         ⟦<InvalidDivisorError as PartialOrd>⟧.partial_cmp (NonInteger error) (OutOfRange divisor) ≡
         Some Less }
@@ -142,18 +120,14 @@ pub fn fields_are_in_order()
         ∷ []) }
     ensures baud_rate_error { (a b : NonIntegerBaudRateError) →
         ⟦<NonIntegerBaudRateError as PartialOrd>⟧.partial_cmp a b ≡ partial_in_turn (
-        ⟦<u32 as PartialOrd>⟧.partial_cmp a.frequency b.frequency
-        ∷ ⟦<u32 as PartialOrd>⟧.partial_cmp a.divisor b.divisor
+        Some (nat_cmp a.frequency b.frequency) ∷ Some (nat_cmp a.divisor b.divisor)
         ∷ ⟦<Option<u32> as PartialOrd>⟧.partial_cmp
-        a.prescaler_division_factor b.prescaler_division_factor
-        ∷ []) }
+        a.prescaler_division_factor b.prescaler_division_factor ∷ []) }
     ensures divisor_error { (a b : NonIntegerDivisorError) →
         ⟦<NonIntegerDivisorError as PartialOrd>⟧.partial_cmp a b ≡ partial_in_turn (
-        ⟦<u32 as PartialOrd>⟧.partial_cmp a.frequency b.frequency
-        ∷ ⟦<u32 as PartialOrd>⟧.partial_cmp a.baud_rate b.baud_rate
+        Some (nat_cmp a.frequency b.frequency) ∷ Some (nat_cmp a.baud_rate b.baud_rate)
         ∷ ⟦<Option<u32> as PartialOrd>⟧.partial_cmp
-        a.prescaler_division_factor b.prescaler_division_factor
-        ∷ []) }
+        a.prescaler_division_factor b.prescaler_division_factor ∷ []) }
 {}
 
 /// Registers are compared as the numbers that their bytes are.

@@ -1,6 +1,6 @@
 //! The registers of a 16550: their offsets, their named bits and their fields.
 ghost use Rattle.std.specs.Prelude.{◌≡◌, ◌+◌};
-ghost use Rattle.uart_spec.specs.Bits.{NamesEachByte};
+ghost use Rattle.uart_spec.specs.Bits.{NamesEachByte, flag};
 
 use bitflags::Flags;
 
@@ -45,6 +45,13 @@ pub type DLL = u8;
 
 /// High byte of the divisor latch (DLM), offset 1 while DLAB is set.
 pub type DLM = u8;
+
+/// Returns these bits if the condition holds, else none.
+pub fn flag<F: Flags>(on: bool, bits: F) -> F
+    ensures { F.exact → F.set_of result ≡ flag on (F.set_of bits) }
+{
+    if on { bits } else { F::empty() }
+}
 
 /// Each byte is a value of each register, since each of the eight bits has a name: `from_bits`
 /// never returns `None`.

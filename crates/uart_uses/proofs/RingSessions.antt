@@ -13,9 +13,9 @@ use Rattle.uart_ring.specs.RingRun.{RingState, RingLink, ring_machine, under}
 use Rattle.uart_ring.specs.RingSession.{RanRing, RingConserves}
 
 pub ring_conserves : (s t : RingState) (calls : List RingCall) (answers : List RingAnswer) (ran : RanRing s calls answers t) →
-    Ready (under s) → RingConserves s ran.links t
+    Ready (under s) → RingConserves s ran.run.links t
 ring_conserves s t calls answers ran ready =
-    ran.sessions [] ran.links [] s t (sym (append-nil ran.links)) refl ran.chain refl ready
+    ran.sessions [] ran.run.links [] s t (sym (append-nil ran.run.links)) refl ran.run.chain refl ready
 
 last_took : (n : ℕ) (answers : List RingAnswer) (other : RingAnswer) (links : List RingLink) →
     calls_of links ≡ call.Next ∷ call.Service ∷ call.Take n ∷ [] → answers_of links ≡ answers →
@@ -39,7 +39,7 @@ pub received : (s t : RingState) (n : ℕ) (answers : List RingAnswer) (other : 
     bytes ++ (to_take t ++ waiting (ring_machine t)) ≡ to_take s ++ kept (ring_machine s) (ring_machine t)
 received s t n answers other bytes ran ready is =
     ap (λ xs. xs ++ (to_take t ++ waiting (ring_machine t)))
-    (is ∙ sym (last_took n answers other ran.links ran.calls_same ran.answers_same)) ∙
+    (is ∙ sym (last_took n answers other ran.run.links ran.run.calls_same ran.run.answers_same)) ∙
     (ring_conserves s t _ answers ran ready).kept
 
 -- no other answer has bytes

@@ -16,10 +16,10 @@ pub runs_from_empty : (begins ends : RingState) (calls : List RingCall) (answers
     × (answers_of links ≡ answers) × RingConserves s links ends
 runs_from_empty begins ends calls answers empty ran ready = (
   begins,
-  ran.links,
+  ran.run.links,
   empty.0,
   empty.1,
-  ran.calls_same,
-  ran.answers_same,
+  ran.run.calls_same,
+  ran.run.answers_same,
   ring_conserves begins ends calls answers ran ready,
 )

@@ -23,8 +23,8 @@ all_within (link ∷ links) within = (
 pub conserves_all : (s t : State) (calls : List Call) (answers : List Answer) → All IsWithinSession calls → Ran s calls answers t →
     Ready s → (links : List Link) × Conserves s links t
 conserves_all s t calls answers within ran ready =
-    let each = all_within ran.links (subst (λ (cs : List Call). All IsWithinSession cs) (sym ran.calls_same) within) in
-    (ran.links, ran.sessions [] ran.links [] s t (sym (append-nil ran.links)) refl ran.chain refl (ready, each))
+    let each = all_within ran.run.links (subst (λ (cs : List Call). All IsWithinSession cs) (sym ran.run.calls_same) within) in
+    (ran.run.links, ran.sessions [] ran.run.links [] s t (sym (append-nil ran.run.links)) refl ran.run.chain refl (ready, each))
 
 initialised_by : (s t : State) (config : Config) (answers : List Answer) (other : Answer) (links : List Link) →
     calls_of links ≡ call.Init config ∷ [] → answers_of links ≡ answers → AllFollow links → Chain s links t →
@@ -40,4 +40,4 @@ initialised_by s t config answers other (link ∷ next ∷ links) calls same fol
 pub initialises_one : (s t : State) (config : Config) (answers : List Answer) (other : Answer) →
     Ran s (call.Init config ∷ []) answers t → get_or answers 0 other ≡ Done → Ready t
 initialises_one s t config answers other ran done =
-    initialised_by s t config answers other ran.links ran.calls_same ran.answers_same ran.follows ran.chain done
+    initialised_by s t config answers other ran.run.links ran.run.calls_same ran.run.answers_same ran.follows ran.run.chain done

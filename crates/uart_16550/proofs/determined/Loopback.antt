@@ -19,7 +19,8 @@ use Rattle.uart_16550.specs.Init.{SetsFifo}
 use Rattle.uart_16550.specs.Driver.{Doing, Fields, Saving, Plain, Sets, Next, settings_of, with_fifo}
 use Rattle.uart_16550.specs.Loopback.{test_byte, test_message, TakesOne, DrainsLoopback, SendsTestByte, ExchangesByte, Echo, EchoFails}
 use Rattle.uart_16550.specs.Loopback.{WholeEchoes, WholeFails, EachEchoes, HasEchoedWhole, HasEchoedEach, HasEchoedAll, ExchangesMessage}
-use Rattle.uart_16550.specs.Loopback.{Exchanges, Enters, Leaves, with_changes, line_changes, BeginsTest, Tests, IsStalled, TestsLoopback}
+use Rattle.uart_spec.specs.Lines.{line_changes}
+use Rattle.uart_16550.specs.Loopback.{Exchanges, Enters, Leaves, with_changes, BeginsTest, Tests, IsStalled, TestsLoopback}
 use Rattle.uart_16550.proofs.Languages.{then_later}
 use Rattle.uart_16550.proofs.determined.Parting.{SameOrPart, Determined, so, so_is, so_read, so_reads, determined_so, determined_sym}
 use Rattle.uart_16550.proofs.determined.Parting.{determined_then, determined_front, determined_among, determined_none, determined_only}

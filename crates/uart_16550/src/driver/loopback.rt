@@ -1,11 +1,9 @@
 //! The loopback test.
 ghost use Rattle.std.specs.Prelude.{◌≡◌, length, IfSome};
-ghost use Rattle.uart_spec.specs.Bits.{flag};
 ghost use Rattle.uart_16550.specs.Loopback.{test_message, DrainsLoopback, HasEchoed};
 ghost use Rattle.uart_16550.specs.Loopback.{HasEchoedWhole, HasEchoedEach, HasEchoedAll};
 ghost use Rattle.uart_16550.specs.Loopback.{ExchangesByte, ExchangesMessage, Exchanges};
-ghost use Rattle.uart_16550.specs.Loopback.{Enters, Leaves, TestsLoopback, differs};
-ghost use Rattle.uart_16550.specs.Loopback.{line_changes};
+ghost use Rattle.uart_16550.specs.Loopback.{Enters, Leaves, TestsLoopback};
 ghost use Rattle.uart_16550.specs.Driver.{Made, Did, fields};
 
 use super::Uart16550;
@@ -17,34 +15,6 @@ use uart_spec::registers::{IER, LSR, MCR, MSR, offsets};
 const TEST_BYTE: u8 = 0x42;
 
 const TEST_MESSAGE: [u8; 16] = *b"hello world!1337";
-
-// Returns the bits if the flag is set, else none.
-fn flag(on: bool, bits: MSR) -> MSR
-    ensures { result.0 ≡ flag on bits.0 }
-{
-    if on { bits } else { MSR::from_bits_retain(0) }
-}
-
-// Returns whether a line differs between two readings.
-fn differs(before: MSR, now: MSR, line: MSR) -> bool
-    ensures { result ≡ differs before.0 now.0 line.0 }
-{
-    before.intersection(line) != now.intersection(line)
-}
-
-// Returns the changes of the lines between two readings, as their bits.
-fn line_changes(before: MSR, now: MSR) -> MSR
-    ensures { result.0 ≡ line_changes before.0 now.0 }
-{
-    let cts = flag(differs(before, now, MSR::CTS), MSR::DELTA_CTS);
-    let dsr = flag(differs(before, now, MSR::DSR), MSR::DELTA_DSR);
-    let ri = flag(
-        before.contains(MSR::RI) && !now.contains(MSR::RI),
-        MSR::TRAILING_EDGE_RI,
-    );
-    let cd = flag(differs(before, now, MSR::CD), MSR::DELTA_CD);
-    cts.union(dsr).union(ri.union(cd))
-}
 
 impl<B: Backend> Uart16550<B> {
     // Discards received bytes until none is available. Returns false after as many bytes as the
@@ -172,7 +142,7 @@ impl<B: Backend> Uart16550<B> {
         let now = MSR::from_bits_retain(self.read_plain(offsets::MSR));
         self.write_register(offsets::MCR, mcr.bits());
         self.write_register(offsets::IER, ier.bits());
-        self.saved_msr.insert(line_changes(before, now));
+        self.saved_msr.insert(now.changes_since(before));
         self.saved_lsr = noted;
     }
 

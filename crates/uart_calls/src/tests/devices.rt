@@ -2,7 +2,7 @@
 ghost use Rattle.std.specs.Prelude.{◌≡◌, ℕ};
 ghost use Rattle.uart_spec.specs.Access.{Read as read_access};
 ghost use Rattle.uart_16550.specs.Replay.{AnswersInTurn};
-ghost use Rattle.uart_calls.specs.Devices.{AnswersAlways, FileStep, is_latch};
+ghost use Rattle.uart_calls.specs.Devices.{AnswersAlways, FileStep, file_of, is_latch};
 
 use crate::tests::lists::{Accesses, Entry};
 use arrayvec::ArrayVec;
@@ -180,21 +180,9 @@ impl RegisterFile {
 }
 
 impl Backend for RegisterFile {
-    ghost step = { λ old access new.
-        FileStep
-        (record {
-          fifos = old.fifos;
-          registers = old.registers;
-          latch = old.latch;
-          sent = old.sent.items;
-        })
-        access
-        (record {
-          fifos = new.fifos;
-          registers = new.registers;
-          latch = new.latch;
-          sent = new.sent.items;
-        }) };
+    ghost step = { λ old access new. FileStep
+        (file_of old.fifos old.registers old.latch old.sent.items) access
+        (file_of new.fifos new.registers new.latch new.sent.items) };
 
     fn read(&mut self, register_offset: u8) -> u8 {
         let offset = register_offset as usize;

@@ -1,18 +1,19 @@
--- What lasts of the transmitter while no byte is written: shown once for any property of it.
+-- What lasts of the transmitter while no byte is written, and of the chip in events: shown once for any property.
 use Rattle.std.proofs.Common.{◌≡◌, ℕ, zero, suc, Bool, true, false, ◌==◌, List, [], ◌∷◌, if◌then◌else◌}
 use Rattle.std.specs.List.{AllByRecursion}
 use Rattle.uart_spec.specs.Access.{Access, Read, Write, Path}
 use Rattle.uart_spec.specs.declared.event.Chip.{Chip}
 use Rattle.uart_spec.specs.declared.event.Chip.TheVariants.{Uart16550A, Uart16450}
 use Rattle.uart_spec.specs.declared.event.Event.{Event}
-use Rattle.uart_spec.specs.declared.event.Event.TheVariants.{Ticks, Access as Gate, Mark}
+use Rattle.uart_spec.specs.declared.event.Event.TheVariants.{Ticks, Arrive, Lines, Access as Gate, Mark}
 use Rattle.uart_spec.specs.Bits.{has_any}
 use Rattle.uart_spec.specs.declared.registers.fifo_control.TheConstants.FCR
 use Rattle.uart_spec.specs.declared.registers.offsets.TheConstants as offsets
 use Rattle.uart_chip.specs.Transmitter as transmitter
 use Rattle.uart_chip.specs.Transmitter.{TransmitterState}
 use Rattle.uart_chip.specs.Receiver.{clear}
-use Rattle.uart_chip.specs.Chip.{ChipState, is_dlab_set, is_loopback, tick, ticks, interrupt, is_thr_empty, after_read, after_write}
+use Rattle.uart_chip.specs.Chip.{ChipState, is_dlab_set, is_loopback, tick, ticks, arrive, change_lines, interrupt, is_thr_empty}
+use Rattle.uart_chip.specs.Chip.{after_read, after_write}
 use Rattle.uart_chip.specs.Chip.{trigger_level, switch, reset_receiver, reset_transmitter, set_trigger, is_same, set_fifo, control}
 use Rattle.uart_chip.specs.Machine.{MachineState, MachineStep, perform, before_access, before_mark, at_access}
 
@@ -82,30 +83,52 @@ module _ (P : TransmitterState → Type 0) (w : LastsInAccesses P) where
       P (after_write offsets.DATA value c).transmitter
   lasts-latch value c on p = rw on p
 
--- ---- events, and accesses after them
+-- ---- events, for any property of the chip
+
+-- a property of the chip lasts in a tick, and in each event from outside
+pub record LastsInEvents (P : ChipState → Type 0) : Type 0 where
+  pub in_tick : (c : ChipState) → P c → P (tick c)
+  pub in_arrival : (byte errors : ℕ) (c : ChipState) → P c → P (arrive byte errors c)
+  pub in_lines : (inputs : ℕ) (c : ChipState) → P c → P (change_lines inputs c)
+
+module _ (P : ChipState → Type 0) (w : LastsInEvents P) where
+  chip_lasts-ticks : (n : ℕ) (c : ChipState) → P c → P (ticks n c)
+  chip_lasts-ticks zero c p = p
+  chip_lasts-ticks (suc n) c p = w.in_tick (ticks n c) (chip_lasts-ticks n c p)
+
+  chip_lasts-perform : (event : Event) (c : ChipState) → P c → P (perform event c)
+  chip_lasts-perform (Ticks n) c p = chip_lasts-ticks n c p
+  chip_lasts-perform (Arrive byte errors) c p = w.in_arrival byte errors c p
+  chip_lasts-perform (Lines inputs) c p = w.in_lines inputs c p
+  chip_lasts-perform _ c p = p
+
+  pub chip_lasts-before : (events : List Event) (c : ChipState) → P c → P (before_access events c)
+  chip_lasts-before [] c p = w.in_tick c p
+  chip_lasts-before (Gate ∷ events) c p = p
+  chip_lasts-before (Mark ∷ events) c p = w.in_tick c p
+  chip_lasts-before (event ∷ events) c p = chip_lasts-before events (perform event c) (chip_lasts-perform event c p)
+
+  pub chip_lasts-before_mark : (events : List Event) (c : ChipState) → P c → P (before_mark events c)
+  chip_lasts-before_mark [] c p = p
+  chip_lasts-before_mark (Mark ∷ events) c p = p
+  chip_lasts-before_mark (event ∷ events) c p = chip_lasts-before_mark events (perform event c) (chip_lasts-perform event c p)
+
+-- ---- events, for the transmitter, and accesses after them
 
 module _ (P : TransmitterState → Type 0) (in_tick : (loopback : Bool) (t : TransmitterState) → P t → P (transmitter.tick loopback t)) where
-  lasts-tick : (c : ChipState) → P c.transmitter → P (tick c).transmitter
-  lasts-tick c p = in_tick (is_loopback c.latches) c.transmitter p
-
-  lasts-ticks : (n : ℕ) (c : ChipState) → P c.transmitter → P (ticks n c).transmitter
-  lasts-ticks zero c p = p
-  lasts-ticks (suc n) c p = lasts-tick (ticks n c) (lasts-ticks n c p)
-
-  lasts-perform : (event : Event) (c : ChipState) → P c.transmitter → P (perform event c).transmitter
-  lasts-perform (Ticks n) c p = lasts-ticks n c p
-  lasts-perform _ c p = p
+  -- no event from outside reaches the transmitter
+  in_events : LastsInEvents (λ c. P c.transmitter)
+  in_events = record {
+    in_tick = λ c p. in_tick (is_loopback c.latches) c.transmitter p;
+    in_arrival = λ byte errors c p. p;
+    in_lines = λ inputs c p. p;
+  }
 
   pub lasts-before : (events : List Event) (c : ChipState) → P c.transmitter → P (before_access events c).transmitter
-  lasts-before [] c p = lasts-tick c p
-  lasts-before (Gate ∷ events) c p = p
-  lasts-before (Mark ∷ events) c p = lasts-tick c p
-  lasts-before (event ∷ events) c p = lasts-before events (perform event c) (lasts-perform event c p)
+  lasts-before events c p = chip_lasts-before (λ c. P c.transmitter) in_events events c p
 
   pub lasts-before_mark : (events : List Event) (c : ChipState) → P c.transmitter → P (before_mark events c).transmitter
-  lasts-before_mark [] c p = p
-  lasts-before_mark (Mark ∷ events) c p = p
-  lasts-before_mark (event ∷ events) c p = lasts-before_mark events (perform event c) (lasts-perform event c p)
+  lasts-before_mark events c p = chip_lasts-before_mark (λ c. P c.transmitter) in_events events c p
 
 module _ (P : TransmitterState → Type 0) (w : Lasts P) where
   lasts-step : (access : Access) (m n : MachineState) → SendsNothing access → P m.chip.transmitter → MachineStep m access n →

@@ -7,7 +7,8 @@ use Rattle.uart_spec.specs.Bits.{IsWithin, has_any}
 use Rattle.uart_spec.specs.declared.registers.modem_control.TheConstants.MCR
 use Rattle.uart_spec.specs.declared.registers.modem_status.TheConstants.MSR
 use Rattle.uart_chip.specs.Transmitter.{TransmitterState, room, shift, refill, tick, load}
-use Rattle.uart_chip.specs.Modem.{ModemState, looped_lines, lines_under, is_changed, changes, renew}
+use Rattle.uart_spec.specs.Lines.{is_changed, line_changes}
+use Rattle.uart_chip.specs.Modem.{ModemState, looped_lines, lines_under, renew}
 use Rattle.uart_device.specs.Sound.{IsTicking, IsSoundTransmitter, IsSoundModem}
 use Rattle.uart_device.proofs.soundness.Within.{within_or, within_flags}
 
@@ -124,7 +125,7 @@ lines-within mcr inputs w = go (has_any mcr MCR.LOOP_BACK.0)
         refl refl refl refl refl
     go false = w
 
-changes-within : (old new : ℕ) → IsWithin (changes old new) MSR.CHANGES.0
+changes-within : (old new : ℕ) → IsWithin (line_changes old new) MSR.CHANGES.0
 changes-within old new =
     within_flags (is_changed old new MSR.CTS.0) (is_changed old new MSR.DSR.0) (has_any old MSR.RI.0 && not (has_any new MSR.RI.0))
     (is_changed old new MSR.CD.0)
@@ -135,6 +136,6 @@ pub sound_renew : (mcr inputs : ℕ) (m : ModemState) → IsWithin inputs MSR.LI
 sound_renew mcr inputs m i w = record {
   inputs = i;
   lines = lines-within mcr inputs i;
-  deltas = within_or m.deltas (changes m.lines (lines_under mcr inputs)) MSR.CHANGES.0 w.deltas
+  deltas = within_or m.deltas (line_changes m.lines (lines_under mcr inputs)) MSR.CHANGES.0 w.deltas
       (changes-within m.lines (lines_under mcr inputs));
 }

@@ -8,7 +8,8 @@ use Rattle.uart_spec.specs.declared.event.Event.TheVariants.{Lines}
 use Rattle.uart_spec.specs.Bits.{IsWithin, has_any}
 use Rattle.uart_spec.specs.declared.registers.modem_status.TheConstants.MSR
 use Rattle.uart_spec.specs.declared.registers.modem_control.TheConstants.MCR
-use Rattle.uart_chip.specs.Modem.{ModemState, renew, lines_under, changes}
+use Rattle.uart_spec.specs.Lines.{line_changes}
+use Rattle.uart_chip.specs.Modem.{ModemState, renew, lines_under}
 use Rattle.uart_device.specs.Laws.{lines_after, changes_in}
 use Rattle.uart_device.specs.Sound.{IsSoundModem}
 use Rattle.uart_chip.proofs.Bits.{or_assoc}
@@ -22,8 +23,8 @@ pub changes_in-append : (lines : ℕ) (xs ys : List Event) →
     changes_in lines (xs ++ ys) ≡ bit_or (changes_in lines xs) (changes_in (lines_after lines xs) ys)
 changes_in-append lines [] ys = refl
 changes_in-append lines (Lines inputs ∷ xs) ys =
-    ap (bit_or (changes lines inputs)) (changes_in-append inputs xs ys) ∙
-    sym (or_assoc (changes lines inputs) (changes_in inputs xs) (changes_in (lines_after inputs xs) ys))
+    ap (bit_or (line_changes lines inputs)) (changes_in-append inputs xs ys) ∙
+    sym (or_assoc (line_changes lines inputs) (changes_in inputs xs) (changes_in (lines_after inputs xs) ys))
 changes_in-append lines (_ ∷ xs) ys = changes_in-append lines xs ys
 
 -- from m to n these events came, and the modem status showed these changes
@@ -54,7 +55,8 @@ changed-lines mcr inputs m e =
     let same : lines_under mcr inputs ≡ inputs = rw e refl in
     record {
       lines = same;
-      deltas = ap (λ l. bit_or m.deltas (changes m.lines l)) same ∙ ap (bit_or m.deltas) (sym (or_zero_r (changes m.lines inputs)));
+      deltas = ap (λ l. bit_or m.deltas (line_changes m.lines l)) same
+          ∙ ap (bit_or m.deltas) (sym (or_zero_r (line_changes m.lines inputs)));
     }
 
 -- the low nibble of the modem status is the changes

@@ -1,16 +1,16 @@
 //! The judge.
 ghost use Rattle.std.specs.Prelude.{◌≡◌, ◌∷◌, [], List};
+ghost use Rattle.uart_spec.specs.Access.{Access};
 ghost use Rattle.uart_16550.specs.Replay.{access_of};
 ghost use Rattle.uart_judges.specs.Actions.{action};
 ghost use Rattle.uart_judges.specs.Findings.{findings};
 ghost use Rattle.uart_judges.specs.History.{actions, has_dlab, known};
-ghost use Rattle.uart_spec.specs.Access.{Access};
 
 use crate::audit::action::Action;
 use crate::audit::finding::Finding;
 use crate::audit::findings::{disturbance, interrupt, loss, note, setting};
 use crate::audit::judging::has_dlab;
-use crate::audit::setup::Setup;
+use crate::audit::setup::{DivisorBytes, Setup};
 use uart_16550::replay::Entry;
 use uart_spec::registers::{InterruptType, MCR};
 
@@ -73,8 +73,10 @@ impl Auditor {
     {
         Auditor {
             setup: Setup {
-                divisor_low: None,
-                divisor_high: None,
+                divisor: DivisorBytes {
+                    low: None,
+                    high: None,
+                },
                 line: None,
                 has_fifo: None,
                 trigger: None,

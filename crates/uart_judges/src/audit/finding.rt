@@ -1,6 +1,4 @@
 //! What is found.
-ghost use Rattle.std.specs.Prelude.{◌≡◌};
-ghost use Rattle.uart_judges.specs.Severities.{severity};
 
 use crate::audit::setup::Setup;
 use bitflags::Flags;
@@ -87,6 +85,9 @@ pub enum Finding {
 }
 
 impl Finding {
+    ghost use Rattle.std.specs.Prelude.{◌≡◌};
+    ghost use Rattle.uart_judges.specs.Severities.{severity};
+
     /// Returns whether this is a fault of the driver.
     pub fn severity(self) -> Severity
         ensures { result ≡ severity self }

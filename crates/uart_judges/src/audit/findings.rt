@@ -149,11 +149,11 @@ fn change(a: &Auditor, action: Action) -> Option<Finding>
             Finding::FrameChangedWhileSending,
         ),
         Action::SetsDivisorLow(value) => when(
-            is_other(a.setup.divisor_low, value),
+            is_other(a.setup.divisor.low, value),
             Finding::DivisorChangedWhileSending,
         ),
         Action::SetsDivisorHigh(value) => when(
-            is_other(a.setup.divisor_high, value),
+            is_other(a.setup.divisor.high, value),
             Finding::DivisorChangedWhileSending,
         ),
         Action::ControlsFifo(fcr) => when(
@@ -194,10 +194,10 @@ fn closes_at_zero(a: &Auditor, lcr: LCR) -> bool
     if lcr.contains(LCR::DLAB) {
         return false;
     }
-    if !is_zero(a.setup.divisor_low) {
+    if !is_zero(a.setup.divisor.low) {
         return false;
     }
-    is_zero(a.setup.divisor_high)
+    is_zero(a.setup.divisor.high)
 }
 
 // Returns whether a byte has more bits than a character.

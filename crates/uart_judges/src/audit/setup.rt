@@ -7,18 +7,26 @@ ghost use Rattle.uart_judges.specs.Judging.{next_setup};
 ghost use Rattle.uart_spec.specs.Bits.{flag};
 
 use crate::audit::action::Action;
+use crate::audit::shows::level_of;
 use bitflags::Flags;
 use std::fmt;
 use uart_chip::receiving::characters_of;
-use uart_spec::registers::{FifoTriggerLevel, IER, LCR, Parity};
+use uart_spec::registers::{FCR, FifoTriggerLevel, IER, ISR, LCR, Parity};
+
+/// The bytes of the divisor, as far as they were written.
+#[derive(Clone, Copy, Debug, PartialEq, Eq)]
+pub struct DivisorBytes {
+    /// The low byte.
+    pub low: Option<u8>,
+    /// The high byte.
+    pub high: Option<u8>,
+}
 
 /// The set-up of a chip, as far as it was written, or shown by a read.
 #[derive(Clone, Copy, Debug, PartialEq, Eq)]
 pub struct Setup {
-    /// The low byte of the divisor.
-    pub divisor_low: Option<u8>,
-    /// The high byte of the divisor.
-    pub divisor_high: Option<u8>,
+    /// The divisor.
+    pub divisor: DivisorBytes,
     /// The format of a character.
     pub line: Option<LCR>,
     /// Whether the FIFOs are on.
@@ -82,24 +90,35 @@ impl Setup {
     pub(crate) fn after(self, action: Action) -> Setup
         ensures { result ≡ next_setup self action }
     {
-        Setup {
-            divisor_low: action.divisor_low().or(self.divisor_low),
-            divisor_high: action.divisor_high().or(self.divisor_high),
-            line: action.line().or(self.line),
-            has_fifo: action.has_fifo().or(self.has_fifo),
-            trigger: action.trigger().or(self.trigger),
-            interrupts: action.interrupts().or(self.interrupts),
+        let mut after = self;
+        match action {
+            Action::SetsDivisorLow(value) => after.divisor.low = Some(value),
+            Action::SetsDivisorHigh(value) => after.divisor.high = Some(value),
+            Action::SetsLine(lcr) | Action::ReadsLine(lcr) => after.line = Some(lcr),
+            Action::EnablesInterrupts(ier) => after.interrupts = Some(ier),
+            Action::IdentifiesInterrupt(isr) => {
+                after.has_fifo = Some(isr.contains(ISR::FIFOS_ENABLED));
+            }
+            Action::ControlsFifo(fcr) => {
+                let is_on = fcr.contains(FCR::FIFO_ENABLE);
+                after.has_fifo = Some(is_on);
+                if is_on {
+                    after.trigger = Some(level_of(fcr));
+                }
+            }
+            _ => {}
         }
+        after
     }
 
     // Returns whether two set-ups are the same, the THR_EMPTY interrupt apart.
     pub(crate) fn is_same(self, other: Setup) -> bool
         ensures { result ≡ same_setup self other }
     {
-        if !is_same_byte(self.divisor_low, other.divisor_low) {
+        if !is_same_byte(self.divisor.low, other.divisor.low) {
             return false;
         }
-        if !is_same_byte(self.divisor_high, other.divisor_high) {
+        if !is_same_byte(self.divisor.high, other.divisor.high) {
             return false;
         }
         if !is_same_byte(line_bits(self.line), line_bits(other.line)) {
@@ -132,7 +151,7 @@ impl fmt::Display for Setup {
 
 impl Setup {
     fn write_rate<W: fmt::Write>(&self, f: &mut fmt::Formatter<W>) -> fmt::Result {
-        let (Some(low), Some(high)) = (self.divisor_low, self.divisor_high) else {
+        let (Some(low), Some(high)) = (self.divisor.low, self.divisor.high) else {
             return f.write_str("divisor not seen");
         };
         let divisor = u32::from(u16::from_le_bytes([low, high]));

@@ -6,7 +6,7 @@ ghost use Rattle.uart_spec.specs.Fields.{word_length_code};
 use crate::audit::action::Action;
 use bitflags::Flags;
 use uart_spec::registers::{
-    FCR, FifoTriggerLevel, IER, ISR, InterruptType, LCR, LSR, MCR, MSR, WordLength,
+    FCR, FifoTriggerLevel, IER, ISR, InterruptType, LCR, LSR, MCR, WordLength,
 };
 
 // Returns the interrupt that a value of ISR identifies.
@@ -17,7 +17,7 @@ pub(crate) fn identified(isr: ISR) -> Option<InterruptType>
 }
 
 // Returns the trigger level in a value of FCR.
-fn level_of(fcr: FCR) -> FifoTriggerLevel
+pub(crate) fn level_of(fcr: FCR) -> FifoTriggerLevel
     ensures { result ≡ spec.level_of fcr }
 {
     fcr.fifo_trigger_level()
@@ -64,6 +64,23 @@ impl Action {
         matches!(self, Action::LooksAtLine(_))
     }
 
+    // Returns whether nothing is going out.
+    pub(crate) fn shows_idle(self) -> bool
+        ensures { result ≡ spec.shows_idle self }
+    {
+        matches!(self, Action::LooksAtLine(lsr) if lsr.contains(LSR::TRANSMITTER_EMPTY))
+    }
+
+    // Returns whether a look at LSR shows a received byte.
+    pub(crate) fn ready(self) -> Option<bool>
+        ensures { result ≡ spec.ready_of self }
+    {
+        match self {
+            Action::LooksAtLine(lsr) => Some(lsr.contains(LSR::DATA_READY)),
+            _ => None,
+        }
+    }
+
     // Returns whether MSR is read.
     pub(crate) fn looks_at_modem(self) -> bool
         ensures { result ≡ spec.looks_at_modem self }
@@ -76,23 +93,6 @@ impl Action {
         ensures { result ≡ spec.identifies self }
     {
         matches!(self, Action::IdentifiesInterrupt(_))
-    }
-
-    // Returns whether the low byte of the divisor is written.
-    pub(crate) fn sets_low(self) -> bool
-        ensures { result ≡ spec.sets_low self }
-    {
-        matches!(self, Action::SetsDivisorLow(_))
-    }
-
-    // Returns whether the divisor latch is opened.
-    pub(crate) fn opens(self) -> bool
-        ensures { result ≡ spec.opens self }
-    {
-        match self {
-            Action::SetsLine(lcr) => lcr.contains(LCR::DLAB),
-            _ => false,
-        }
     }
 
     // Returns whether the transmitter has room.
@@ -111,34 +111,18 @@ impl Action {
         }
     }
 
-    // Returns whether nothing is going out.
-    pub(crate) fn shows_idle(self) -> bool
-        ensures { result ≡ spec.shows_idle self }
+    // Returns whether the divisor latch is opened.
+    pub(crate) fn opens(self) -> bool
+        ensures { result ≡ spec.opens self }
     {
-        match self {
-            Action::LooksAtLine(lsr) => lsr.contains(LSR::TRANSMITTER_EMPTY),
-            _ => false,
-        }
+        matches!(self, Action::SetsLine(lcr) if lcr.contains(LCR::DLAB))
     }
 
-    // Returns whether a look at LSR shows a received byte.
-    pub(crate) fn ready(self) -> Option<bool>
-        ensures { result ≡ spec.ready_of self }
+    // Returns whether the low byte of the divisor is written.
+    pub(crate) fn sets_low(self) -> bool
+        ensures { result ≡ spec.sets_low self }
     {
-        match self {
-            Action::LooksAtLine(lsr) => Some(lsr.contains(LSR::DATA_READY)),
-            _ => None,
-        }
-    }
-
-    // Returns the value of LCR that is written or read.
-    pub(crate) fn line(self) -> Option<LCR>
-        ensures { result ≡ spec.line_of self }
-    {
-        match self {
-            Action::SetsLine(lcr) | Action::ReadsLine(lcr) => Some(lcr),
-            _ => None,
-        }
+        matches!(self, Action::SetsDivisorLow(_))
     }
 
     // Returns the value of MCR that is written or read.
@@ -151,81 +135,18 @@ impl Action {
         }
     }
 
-    // Returns the low byte of the divisor that is written.
-    pub(crate) fn divisor_low(self) -> Option<u8>
-        ensures { result ≡ spec.low_of self }
-    {
-        match self {
-            Action::SetsDivisorLow(value) => Some(value),
-            _ => None,
-        }
-    }
-
-    // Returns the high byte of the divisor that is written.
-    pub(crate) fn divisor_high(self) -> Option<u8>
-        ensures { result ≡ spec.high_of self }
-    {
-        match self {
-            Action::SetsDivisorHigh(value) => Some(value),
-            _ => None,
-        }
-    }
-
-    // Returns the value of IER that is written.
-    pub(crate) fn interrupts(self) -> Option<IER>
-        ensures { result ≡ spec.interrupts_of self }
-    {
-        match self {
-            Action::EnablesInterrupts(ier) => Some(ier),
-            _ => None,
-        }
-    }
-
-    // Returns whether the FIFOs are on, if the action sets or shows it.
-    pub(crate) fn has_fifo(self) -> Option<bool>
-        ensures { result ≡ spec.fifo_of self }
-    {
-        match self {
-            Action::ControlsFifo(fcr) => Some(fcr.contains(FCR::FIFO_ENABLE)),
-            Action::IdentifiesInterrupt(isr) => Some(isr.contains(ISR::FIFOS_ENABLED)),
-            _ => None,
-        }
-    }
-
-    // Returns the trigger level that is set.
-    pub(crate) fn trigger(self) -> Option<FifoTriggerLevel>
-        ensures { result ≡ spec.trigger_of self }
-    {
-        match self {
-            Action::ControlsFifo(fcr) => {
-                if fcr.contains(FCR::FIFO_ENABLE) {
-                    Some(level_of(fcr))
-                } else {
-                    None
-                }
-            }
-            _ => None,
-        }
-    }
-
     // Returns whether this writes IER without these bits.
     pub(crate) fn disables(self, interrupts: IER) -> bool
         ensures { result ≡ spec.disables interrupts.0 self }
     {
-        match self {
-            Action::EnablesInterrupts(ier) => !ier.contains(interrupts),
-            _ => false,
-        }
+        matches!(self, Action::EnablesInterrupts(ier) if !ier.contains(interrupts))
     }
 
     // Returns whether the receiver FIFO is reset.
     pub(crate) fn resets_receiver(self) -> bool
         ensures { result ≡ spec.resets_receiver self }
     {
-        match self {
-            Action::ControlsFifo(fcr) => fcr.contains(FCR::RX_FIFO_RESET),
-            _ => false,
-        }
+        matches!(self, Action::ControlsFifo(fcr) if fcr.contains(FCR::RX_FIFO_RESET))
     }
 
     // Returns whether this does what the interrupt asks for, or disables it.

@@ -1,7 +1,7 @@
 //! Prints what the driver of a recording does to its chip.
 
 use crate::audit::{Auditor, Finding, Severity, Stretch};
-use crate::findings::printing::{Judge, print_findings};
+use crate::findings::printing::{Judge, Listing, print_findings};
 use crate::findings::stop::Stop;
 use crate::findings::times::Times;
 use crate::recording::{Event, Happening};
@@ -20,12 +20,12 @@ fn severity_text(severity: Severity) -> &'static str {
 // Prints the findings of a line, each of which was made so many times in turn. Returns how many
 // warnings these are.
 fn print<W: Write>(
-    out: &mut W,
-    file: &str,
+    to: &mut Listing<W>,
     line: u64,
     findings: &[Option<Finding>],
     times: Times,
 ) -> Result<u64, Stop> {
+    let file = to.file;
     let mut warnings = 0u64;
     for finding in findings {
         if let Some(finding) = finding {
@@ -34,7 +34,7 @@ fn print<W: Write>(
                 warnings = warnings.saturating_add(times.0);
             }
             let word = severity_text(severity);
-            writeln!(out, "{file}:{line}: {word}: {finding}{times}").map_err(Stop::Output)?;
+            writeln!(to.out, "{file}:{line}: {word}: {finding}{times}").map_err(Stop::Output)?;
         }
     }
     Ok(warnings)
@@ -42,8 +42,7 @@ fn print<W: Write>(
 
 // Prints what is found at reads in turn that are one event. Returns how many warnings these are.
 fn print_reads<W: Write>(
-    out: &mut W,
-    file: &str,
+    to: &mut Listing<W>,
     line: u64,
     stretches: [Stretch; 3],
 ) -> Result<u64, Stop> {
@@ -56,12 +55,12 @@ fn print_reads<W: Write>(
         if stretch.findings == held.findings {
             held.times = held.times.saturating_add(stretch.times);
         } else if stretch.times > 0 {
-            let found = print(out, file, line, &held.findings, Times(held.times))?;
+            let found = print(to, line, &held.findings, Times(held.times))?;
             warnings = warnings.saturating_add(found);
             held = stretch;
         }
     }
-    let found = print(out, file, line, &held.findings, Times(held.times))?;
+    let found = print(to, line, &held.findings, Times(held.times))?;
     Ok(warnings.saturating_add(found))
 }
 
@@ -79,8 +78,7 @@ impl Auditing {
     // found there. Returns how many warnings these are.
     fn print_accesses<W: Write>(
         &mut self,
-        out: &mut W,
-        file: &str,
+        to: &mut Listing<W>,
         access: Entry,
         line: u64,
         times: u64,
@@ -90,15 +88,15 @@ impl Auditing {
         if self.auditor == before {
             // Nothing changes, so each access has the same findings.
             self.quiet = (findings == [None; 5]).then_some(access);
-            return print(out, file, line, &findings, Times(times));
+            return print(to, line, &findings, Times(times));
         }
         self.quiet = None;
         match access {
             Entry::Read(offset, answer) if times != 1 => {
                 self.auditor = before;
-                print_reads(out, file, line, self.auditor.reads(offset, answer, times))
+                print_reads(to, line, self.auditor.reads(offset, answer, times))
             }
-            _ => print(out, file, line, &findings, Times(times)),
+            _ => print(to, line, &findings, Times(times)),
         }
     }
 }
@@ -106,22 +104,17 @@ impl Auditing {
 impl Judge for Auditing {
     const COUNTED: &'static str = "warnings";
 
-    fn print_event<W: Write>(
-        &mut self,
-        out: &mut W,
-        file: &str,
-        event: &Event,
-    ) -> Result<u64, Stop> {
+    fn print_event<W: Write>(&mut self, to: &mut Listing<W>, event: &Event) -> Result<u64, Stop> {
         match event.happening {
             Happening::Access(access) if event.times > 0 && self.quiet != Some(access) => {
-                self.print_accesses(out, file, access, event.line, event.times)
+                self.print_accesses(to, access, event.line, event.times)
             }
             _ => Ok(0),
         }
     }
 
-    fn print_end<W: Write>(&self, out: &mut W, file: &str, lines: u64) -> Result<u64, Stop> {
-        print(out, file, lines, &self.auditor.end(), Times(1))
+    fn print_end<W: Write>(&self, to: &mut Listing<W>, lines: u64) -> Result<u64, Stop> {
+        print(to, lines, &self.auditor.end(), Times(1))
     }
 }
 

@@ -5,6 +5,15 @@ use crate::recording::{Event, Recording};
 use std::alloc::Global;
 use std::io::{Read, Write};
 
+// Where what is found in a file is printed.
+#[derive(Drop)]
+pub(crate) struct Listing<'out, 'file, W> {
+    // The writer.
+    pub(crate) out: &'out mut W,
+    // The name of the file.
+    pub(crate) file: &'file str,
+}
+
 // A judge of recordings, which prints what it finds behind the name of the file and the number of
 // the line.
 pub(crate) trait Judge {
@@ -13,16 +22,11 @@ pub(crate) trait Judge {
 
     // Goes on by what happened, and prints what is found there. Returns how many of what is counted
     // these are.
-    fn print_event<W: Write>(
-        &mut self,
-        out: &mut W,
-        file: &str,
-        event: &Event,
-    ) -> Result<u64, Stop>;
+    fn print_event<W: Write>(&mut self, to: &mut Listing<W>, event: &Event) -> Result<u64, Stop>;
 
     // Prints what is found at the end, after this many lines. Returns how many of what is counted
     // these are.
-    fn print_end<W: Write>(&self, out: &mut W, file: &str, lines: u64) -> Result<u64, Stop>;
+    fn print_end<W: Write>(&self, to: &mut Listing<W>, lines: u64) -> Result<u64, Stop>;
 }
 
 // Reads a recording to its end, prints what the judge finds, and then how many there are. Returns
@@ -35,16 +39,17 @@ pub(crate) fn print_findings<R: Read + Drop, W: Write, J: Judge>(
     judge: &mut J,
 ) -> Result<u64, Stop> {
     let mut recording = Recording::new(alloc, reader)?;
+    let mut listing = Listing { out, file };
     let mut count = 0u64;
     for _ in 0..u64::MAX {
         let Some(event) = recording.next_event()? else {
             break;
         };
-        count = count.saturating_add(judge.print_event(out, file, &event)?);
+        count = count.saturating_add(judge.print_event(&mut listing, &event)?);
     }
     let lines = recording.lines();
-    count = count.saturating_add(judge.print_end(out, file, lines)?);
+    count = count.saturating_add(judge.print_end(&mut listing, lines)?);
     let counted = J::COUNTED;
-    writeln!(out, "{file}: {lines} lines, {count} {counted}").map_err(Stop::Output)?;
+    writeln!(listing.out, "{file}: {lines} lines, {count} {counted}").map_err(Stop::Output)?;
     Ok(count)
 }

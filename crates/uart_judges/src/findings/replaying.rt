@@ -1,6 +1,6 @@
 //! Prints where the chip of a recording answers as no chip of its model could.
 
-use crate::findings::printing::{Judge, print_findings};
+use crate::findings::printing::{Judge, Listing, print_findings};
 use crate::findings::stop::Stop;
 use crate::findings::times::Times;
 use crate::recording::{Event, Happening};
@@ -13,16 +13,15 @@ use uart_chip::Chip;
 // Prints a difference of a line, if there is one, that was found so many times in turn. Returns how
 // many these are.
 fn print<W: Write>(
-    out: &mut W,
-    file: &str,
+    to: &mut Listing<W>,
     line: u64,
     difference: Option<Difference>,
     times: u64,
 ) -> Result<u64, Stop> {
     match difference {
         Some(difference) if times > 0 => {
-            let many = Times(times);
-            writeln!(out, "{file}:{line}: {difference}{many}").map_err(Stop::Output)?;
+            let (file, many) = (to.file, Times(times));
+            writeln!(to.out, "{file}:{line}: {difference}{many}").map_err(Stop::Output)?;
             Ok(times)
         }
         _ => Ok(0),
@@ -32,21 +31,16 @@ fn print<W: Write>(
 impl Judge for Replayer {
     const COUNTED: &'static str = "differences";
 
-    fn print_event<W: Write>(
-        &mut self,
-        out: &mut W,
-        file: &str,
-        event: &Event,
-    ) -> Result<u64, Stop> {
+    fn print_event<W: Write>(&mut self, to: &mut Listing<W>, event: &Event) -> Result<u64, Stop> {
         match event.happening {
             Happening::Access(Entry::Read(offset, answer)) => {
                 let reported = self.reads(offset, answer, event.times);
                 let others = event.times.saturating_sub(1);
                 if reported.first == reported.others {
-                    return print(out, file, event.line, reported.first, event.times);
+                    return print(to, event.line, reported.first, event.times);
                 }
-                let first = print(out, file, event.line, reported.first, 1)?;
-                let more = print(out, file, event.line, reported.others, others)?;
+                let first = print(to, event.line, reported.first, 1)?;
+                let more = print(to, event.line, reported.others, others)?;
                 Ok(first.saturating_add(more))
             }
             Happening::Access(Entry::Write(offset, value)) => {
@@ -57,7 +51,7 @@ impl Judge for Replayer {
         }
     }
 
-    fn print_end<W: Write>(&self, _out: &mut W, _file: &str, _lines: u64) -> Result<u64, Stop> {
+    fn print_end<W: Write>(&self, _to: &mut Listing<W>, _lines: u64) -> Result<u64, Stop> {
         Ok(0)
     }
 }

@@ -19,6 +19,20 @@ pub const MICROSECOND: u64 = 1_000;
 /// The most microseconds that QEMU's log writes behind the seconds.
 pub const MOST_MICROSECONDS: u64 = 999_999;
 
+/// Reads a byte of two hexadecimal digits that has no other bits than these.
+#[tactic(auto, unfolding(crate::specs::Fields::bits_in))]
+pub fn bits_in(mask: u8, word: &[u8]) -> Result<u8, Cause>
+    ensures read { result ≡ bits_in mask word.now }
+    ensures range { IfOk result (λ bits. IsWithin bits mask) }
+{
+    let bits = byte_in(word)?;
+    if bits & mask == bits {
+        Ok(bits)
+    } else {
+        Err(Cause::BadHex)
+    }
+}
+
 // Reads a number up to `most`.
 fn number_in(most: u64, word: &[u8]) -> Result<u64, Cause>
     ensures value { result ≡ number_in most word.now }
@@ -32,20 +46,6 @@ pub fn repeats_in(word: &[u8]) -> Result<u64, Cause>
     ensures { result ≡ repeats_in word.now }
 {
     number_in(MOST_REPEATS, word)
-}
-
-/// Reads a byte of two hexadecimal digits that has no other bits than these.
-#[tactic(auto, unfolding(crate::specs::Fields::bits_in))]
-pub fn bits_in(mask: u8, word: &[u8]) -> Result<u8, Cause>
-    ensures read { result ≡ bits_in mask word.now }
-    ensures range { IfOk result (λ bits. IsWithin bits mask) }
-{
-    let bits = byte_in(word)?;
-    if bits & mask == bits {
-        Ok(bits)
-    } else {
-        Err(Cause::BadHex)
-    }
 }
 
 /// Reads the level of the interrupt line, or that it was not recorded.

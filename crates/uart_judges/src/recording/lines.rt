@@ -160,6 +160,18 @@ fn access_in(direction: Direction, number: u64, line: &[u8]) -> Result<Line, Cau
     Ok(happened_at(number, happening, stamp))
 }
 
+// Returns how often the read before is repeated.
+#[tactic(auto, unfolding(crate::specs::RecordingLines::again_in))]
+fn again_in(line: &[u8]) -> Result<Line, Cause>
+    ensures read { result ≡ again_in (words_of line.now) }
+    ensures event { (number : ℕ) → IfOk result (HasEvent number) }
+{
+    if word_count(line) != 2 {
+        return Err(Cause::WrongCount);
+    }
+    Ok(Line::Again(repeats_in(word_at(line, 1))?))
+}
+
 // Returns the arrival of a line.
 #[tactic(auto, unfolding(crate::specs::RecordingLines::arrival_in))]
 fn arrival_in(number: u64, line: &[u8]) -> Result<Line, Cause>
@@ -196,18 +208,6 @@ fn modem_in(number: u64, line: &[u8]) -> Result<Line, Cause>
     let stamp = stamp_in(2, line)?;
     let inputs = MSR::from_bits_retain(bits_in(MSR::LINES.bits(), word_at(line, 1))?);
     Ok(happened_at(number, Happening::Lines(inputs), stamp))
-}
-
-// Returns how often the read before is repeated.
-#[tactic(auto, unfolding(crate::specs::RecordingLines::again_in))]
-fn again_in(line: &[u8]) -> Result<Line, Cause>
-    ensures read { result ≡ again_in (words_of line.now) }
-    ensures event { (number : ℕ) → IfOk result (HasEvent number) }
-{
-    if word_count(line) != 2 {
-        return Err(Cause::WrongCount);
-    }
-    Ok(Line::Again(repeats_in(word_at(line, 1))?))
 }
 
 // Returns the meaning of a line of our own.
@@ -272,12 +272,9 @@ fn direction_of(name: &[u8]) -> Option<Direction>
     ensures { result ≡ direction_of name.now }
 {
     if name == b"serial_read".as_slice() {
-        Some(Direction::Read)
-    } else if name == b"serial_write".as_slice() {
-        Some(Direction::Write)
-    } else {
-        None
+        return Some(Direction::Read);
     }
+    (name == b"serial_write".as_slice()).then_some(Direction::Write)
 }
 
 // Returns whether this is the word that QEMU writes behind the name.

@@ -1,10 +1,6 @@
 //! A recording that is read as a stream.
 ghost use Rattle.std.specs.Prelude.{◌≡◌, ◌==◌, ◌≤◌, [], IfErr, IfOk};
-ghost use Rattle.std.specs.Io.KnownBytes.{Keeps};
 ghost use Rattle.std.specs.List.{position};
-ghost use Rattle.uart_judges.specs.Places.{IsAtLine};
-ghost use Rattle.uart_judges.specs.Streams.{IsFilled, IsNext, ahead};
-ghost use Rattle.uart_judges.specs.Windows.{items};
 
 use crate::recording::cause::Fault;
 use crate::recording::event::Event;
@@ -56,6 +52,11 @@ fn line_length(bytes: &[u8]) -> Option<usize>
 }
 
 impl<R: Read + Drop> Recording<R> {
+    ghost use Rattle.std.specs.Io.KnownBytes.{Keeps};
+    ghost use Rattle.uart_judges.specs.Places.{IsAtLine};
+    ghost use Rattle.uart_judges.specs.Streams.{IsFilled, IsNext, ahead};
+    ghost use Rattle.uart_judges.specs.Windows.{items};
+
     /// Returns the recording that this reader gives. Allocates all of its memory.
     ///
     /// # Errors

@@ -142,26 +142,20 @@ impl Known {
     pub fn after_read(self, offset: usize, value: u8) -> Self
         ensures { result ≡ spec.after_read offset value self }
     {
-        let latches = self.latches.after_read(offset, value);
+        let mut known = self;
+        known.latches = self.latches.after_read(offset, value);
         match offset {
-            offsets::DATA => Self {
-                latches,
-                waits: self.waits_after_data(),
-                ..self
-            },
-            offsets::ISR => Self {
-                latches,
-                fifo: Some(ISR::from_bits_retain(value).intersects(ISR::FIFOS_ENABLED)),
-                ..self
-            },
-            offsets::LSR => Self {
-                latches,
-                sender: sender_shown(LSR::from_bits_retain(value), self.sender),
-                waits: LSR::from_bits_retain(value).intersects(LSR::DATA_READY),
-                ..self
-            },
-            _ => Self { latches, ..self },
+            offsets::DATA => known.waits = self.waits_after_data(),
+            offsets::ISR => {
+                known.fifo = Some(ISR::from_bits_retain(value).intersects(ISR::FIFOS_ENABLED));
+            }
+            offsets::LSR => {
+                known.sender = sender_shown(LSR::from_bits_retain(value), self.sender);
+                known.waits = LSR::from_bits_retain(value).intersects(LSR::DATA_READY);
+            }
+            _ => {}
         }
+        known
     }
 
     /// Returns what is known after a read of this register, whatever it returned.
@@ -181,20 +175,16 @@ impl Known {
     pub fn after_write(self, offset: usize, value: u8) -> Self
         ensures { result ≡ spec.after_write offset value self }
     {
-        let latches = self.latches.after_write(offset, value);
+        let mut known = self;
+        known.latches = self.latches.after_write(offset, value);
         match offset {
-            offsets::DATA => Self {
-                latches,
-                sender: sender_after(self.latches.dlab(), self.sender),
-                ..self
-            },
-            offsets::FCR => Self {
-                latches,
-                fifo: fifo_after(self.model, value, self.fifo),
-                waits: false,
-                ..self
-            },
-            _ => Self { latches, ..self },
+            offsets::DATA => known.sender = sender_after(self.latches.dlab(), self.sender),
+            offsets::FCR => {
+                known.fifo = fifo_after(self.model, value, self.fifo);
+                known.waits = false;
+            }
+            _ => {}
         }
+        known
     }
 }

@@ -83,110 +83,39 @@ impl KnownLatches {
     pub fn after_read(self, offset: usize, value: u8) -> Self
         ensures { result ≡ spec.after_read offset value self }
     {
-        match offset {
-            offsets::DATA => self.after_read_data(value),
-            offsets::IER => self.after_read_ier(value),
-            offsets::LCR => Self {
-                lcr: Some(value),
-                ..self
-            },
-            offsets::MCR => Self {
-                mcr: Some(value),
-                ..self
-            },
-            offsets::SPR => Self {
-                scr: Some(value),
-                ..self
-            },
+        let known = Some(value);
+        match (offset, self.dlab()) {
+            (offsets::DATA, Some(true)) => Self { dll: known, ..self },
+            (offsets::IER, Some(true)) => Self { dlm: known, ..self },
+            (offsets::IER, Some(false)) => Self { ier: known, ..self },
+            (offsets::LCR, _) => Self { lcr: known, ..self },
+            (offsets::MCR, _) => Self { mcr: known, ..self },
+            (offsets::SPR, _) => Self { scr: known, ..self },
             _ => self,
         }
     }
 
-    // Returns what is known after a read of offset 0.
-    fn after_read_data(self, value: u8) -> Self
-        ensures { result ≡ spec.after_read_data self value }
-    {
-        match self.dlab() {
-            Some(true) => Self {
-                dll: Some(value),
-                ..self
-            },
-            _ => self,
-        }
-    }
-
-    // Returns what is known after a read of offset 1.
-    fn after_read_ier(self, value: u8) -> Self
-        ensures { result ≡ spec.after_read_ier self value }
-    {
-        match self.dlab() {
-            None => self,
-            Some(true) => Self {
-                dlm: Some(value),
-                ..self
-            },
-            Some(false) => Self {
-                ier: Some(value),
-                ..self
-            },
-        }
-    }
-
-    /// Returns what is known after this value was written to this register.
+    /// Returns what is known after this value was written to this register: what the register keeps
+    /// is known as after a read. If DLAB is not known, what may have been written is forgotten.
     pub fn after_write(self, offset: usize, value: u8) -> Self
         ensures { result ≡ spec.after_write offset value self }
     {
-        match offset {
-            offsets::DATA => self.after_write_data(value),
-            offsets::IER => self.after_write_ier(value),
-            offsets::LCR => Self {
-                lcr: Some(value),
-                ..self
-            },
-            offsets::MCR => Self {
-                mcr: Some(kept_modem_control(MCR::from_bits_retain(value)).bits()),
-                ..self
-            },
-            offsets::SPR => Self {
-                scr: Some(value),
-                ..self
-            },
-            _ => self,
-        }
-    }
-
-    // Returns what is known after a write of offset 0.
-    fn after_write_data(self, value: u8) -> Self
-        ensures { result ≡ spec.after_write_data self value }
-    {
-        match self.dlab() {
-            None => Self { dll: None, ..self },
-            Some(true) => Self {
-                dll: Some(value),
-                ..self
-            },
-            Some(false) => self,
-        }
-    }
-
-    // Returns what is known after a write of offset 1.
-    fn after_write_ier(self, value: u8) -> Self
-        ensures { result ≡ spec.after_write_ier self value }
-    {
-        match self.dlab() {
-            None => Self {
+        match (offset, self.dlab()) {
+            (offsets::DATA, None) => Self { dll: None, ..self },
+            (offsets::IER, None) => Self {
                 dlm: None,
                 ier: None,
                 ..self
             },
-            Some(true) => Self {
-                dlm: Some(value),
-                ..self
-            },
-            Some(false) => Self {
+            (offsets::IER, Some(false)) => Self {
                 ier: Some(kept_interrupts(IER::from_bits_retain(value)).bits()),
                 ..self
             },
+            (offsets::MCR, _) => Self {
+                mcr: Some(kept_modem_control(MCR::from_bits_retain(value)).bits()),
+                ..self
+            },
+            _ => self.after_read(offset, value),
         }
     }
 }

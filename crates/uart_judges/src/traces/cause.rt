@@ -24,14 +24,6 @@ pub enum Fault {
     NoAnswer,
 }
 
-impl From<Cause> for Fault {
-    ghost from_gives = { λ cause fault. fault ≡ Line cause };
-
-    fn from(cause: Cause) -> Fault {
-        Fault::Line(cause)
-    }
-}
-
 /// Why bytes were not read as a trace.
 #[derive(Clone, Copy, Debug, PartialEq, Eq, Error)]
 pub enum TraceError {
@@ -48,11 +40,11 @@ pub enum TraceError {
     OutOfMemory,
 }
 
-impl From<AllocError> for TraceError {
-    ghost from_gives = { λ _ e. e ≡ OutOfMemory };
+impl From<Cause> for Fault {
+    ghost from_gives = { λ cause fault. fault ≡ Line cause };
 
-    fn from(_error: AllocError) -> TraceError {
-        TraceError::OutOfMemory
+    fn from(cause: Cause) -> Fault {
+        Fault::Line(cause)
     }
 }
 
@@ -60,6 +52,14 @@ impl<T: Drop> From<AllocFailed<T>> for TraceError {
     ghost from_gives = { λ _ e. e ≡ OutOfMemory };
 
     fn from(_error: AllocFailed<T>) -> TraceError {
+        TraceError::OutOfMemory
+    }
+}
+
+impl From<AllocError> for TraceError {
+    ghost from_gives = { λ _ e. e ≡ OutOfMemory };
+
+    fn from(_error: AllocError) -> TraceError {
         TraceError::OutOfMemory
     }
 }

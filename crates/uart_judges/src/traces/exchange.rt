@@ -8,8 +8,6 @@ use uart_calls::Call;
 /// One call of a trace: the call, its accesses, and what it returned.
 #[derive(Debug, Drop)]
 pub struct Exchange {
-    /// Whether the call is the first of a new driver.
-    pub is_first: bool,
     /// The call.
     pub call: Call,
     /// Its accesses.
@@ -20,5 +18,7 @@ pub struct Exchange {
     pub answer: Vec<u8>,
     /// The line of the answer.
     pub answer_line: usize,
+    /// Whether the call is the first of a new driver.
+    pub is_first: bool,
     ghost runnable: { IsRunnable call } by { runnable_is_one call },
 }

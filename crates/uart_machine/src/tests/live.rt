@@ -4,8 +4,6 @@ use crate::{
     Character, Chip, ChipData, ChipError, InputError, LiveChip, Origin, RestoreError, Shifting,
 };
 use bitflags::Flags;
-use std::error::Error;
-use std::fmt::InlineText;
 use std::process::Abort;
 use std::test::Fail;
 use uart_spec::registers;
@@ -439,39 +437,23 @@ fn a_longer_wire_is_not_restored(rt: HostRuntime) -> Result<(), Fail> {
     Ok(())
 }
 
-fn text<E: Error>(error: E) -> InlineText<128> {
-    InlineText::of(error)
-}
-
 #[test]
-fn texts_of_the_refusals(rt: HostRuntime) {
-    let texts = [
-        (
-            text(ChipError::BadTicks),
-            "a character takes 1 to 1000 ticks",
-        ),
-        (
-            text(ChipError::BadWire),
-            "the wire has room for at most 64 bytes",
-        ),
-        (
-            text(InputError::BadErrors),
-            "a character has other error bits than parity, framing and break",
-        ),
-        (
-            text(InputError::BadLines),
-            "the modem lines have other bits than CTS, DSR, RI and CD",
-        ),
-        (
-            text(RestoreError::BadData),
-            "the data are not those of a sound chip",
-        ),
-        (
-            text(RestoreError::BadWire),
-            "the wire has room for at most 64 bytes",
-        ),
-    ];
-    for (shown, expected) in &texts {
-        assert_eq!(rt; shown.as_str(), *expected);
-    }
+fn texts_of_the_refusals(rt: HostRuntime) -> Result<(), Fail> {
+    let texts = format!(in rt.alloc();
+        "{}\n{}\n{}\n{}\n{}\n{}\n",
+        ChipError::BadTicks,
+        ChipError::BadWire,
+        InputError::BadErrors,
+        InputError::BadLines,
+        RestoreError::BadData,
+        RestoreError::BadWire
+    )?;
+    let expected = "a character takes 1 to 1000 ticks\n\
+        the wire has room for at most 64 bytes\n\
+        a character has other error bits than parity, framing and break\n\
+        the modem lines have other bits than CTS, DSR, RI and CD\n\
+        the data are not those of a sound chip\n\
+        the wire has room for at most 64 bytes\n";
+    assert_eq!(rt; texts.as_str(), expected);
+    Ok(())
 }

@@ -31,6 +31,14 @@ fn rings(
     }
 }
 
+// Returns rings, the one that transmits of this capacity, over a machine that is given time to send
+// only between two marks.
+fn slow_rings(rt: &HostRuntime, tx_capacity: usize) -> Result<Uart16550Ring<Device16550>, Fail> {
+    let schedule = [Event::Mark, Event::Ticks(100), Event::Mark];
+    let set = (Some(FifoTriggerLevel::Fourteen), IER::empty());
+    rings(rt, (Chip::Uart16550A, &schedule), set, (tx_capacity, 4))
+}
+
 fn bytes(some: &[u8]) -> ArrayVec<u8, 64> {
     let mut copy = ArrayVec::new();
     let _ = copy.try_extend_from_slice(some);
@@ -69,9 +77,7 @@ fn resumed(rt: &(impl AllocGlobal + Abort), ring: &mut Uart16550Ring<Device16550
 
 #[test]
 fn bytes_that_wait_are_sent_at_the_interrupt(rt: HostRuntime) -> Result<(), Fail> {
-    let schedule = [Event::Mark, Event::Ticks(100), Event::Mark];
-    let set = (Some(FifoTriggerLevel::Fourteen), IER::from_bits_retain(0));
-    let mut ring = rings(&rt, (Chip::Uart16550A, &schedule), set, (32, 4))?;
+    let mut ring = slow_rings(&rt, 32)?;
     let sent = [
         1, 2, 3, 4, 5, 6, 7, 8, 9, 10, 11, 12, 13, 14, 15, 16, 17, 18, 19, 20,
     ];
@@ -95,9 +101,7 @@ fn bytes_that_wait_are_sent_at_the_interrupt(rt: HostRuntime) -> Result<(), Fail
 
 #[test]
 fn a_full_ring_goes_on_after_an_init(rt: HostRuntime) -> Result<(), Fail> {
-    let schedule = [Event::Mark, Event::Ticks(100), Event::Mark];
-    let set = (Some(FifoTriggerLevel::Fourteen), IER::from_bits_retain(0));
-    let mut ring = rings(&rt, (Chip::Uart16550A, &schedule), set, (4, 4))?;
+    let mut ring = slow_rings(&rt, 4)?;
     // Four bytes in the chip, and a full ring behind them.
     let full = [
         (RingCall::Queue(bytes(b"abcd")), RingAnswer::Count(4), false),

@@ -15,7 +15,8 @@ use Rattle.uart_16550.specs.Grammar.{Language, Settings, Only, Then}
 use Rattle.uart_16550.specs.Transmit.{WaitsFor}
 use Rattle.uart_16550.specs.Driver.{Fields, Saving, Plain, Sets, Next, fields, settings_of, with_fifo}
 use Rattle.uart_16550.specs.Init.{SetsFifo}
-use Rattle.uart_16550.specs.Loopback.{Exchanges, Enters, Leaves, BeginsTest, Tests, IsStalled, TestsLoopback, with_changes, line_changes}
+use Rattle.uart_spec.specs.Lines.{line_changes}
+use Rattle.uart_16550.specs.Loopback.{Exchanges, Enters, Leaves, BeginsTest, Tests, IsStalled, TestsLoopback, with_changes}
 use Rattle.uart_16550.specs.Tty.{inner_of}
 use Rattle.uart_calls.specs.declared.call.Call.TheVariants as call
 use Rattle.uart_calls.specs.declared.call.Answer.{Answer}

@@ -19,12 +19,12 @@ fn rest<'a>(expected: &'a [Finding], found: Option<Finding>) -> Option<&'a [Find
     }
 }
 
-// Whether these findings are returned at these accesses and at the end, in this order, and no
-// others.
-fn finds(accesses: &[Entry], expected: &[Finding]) -> bool {
+// Whether these findings are returned at these lists of accesses, one behind the other, and at the
+// end, in this order, and no others.
+fn finds_in_turn(lists: &[&[Entry]], expected: &[Finding]) -> bool {
     let mut auditor = Auditor::new();
     let mut expected = expected;
-    for access in accesses {
+    for access in lists.iter().copied().flatten() {
         for found in auditor.step(*access) {
             match rest(expected, found) {
                 Some(left) => expected = left,
@@ -40,6 +40,14 @@ fn finds(accesses: &[Entry], expected: &[Finding]) -> bool {
     }
     expected.is_empty()
 }
+
+// The same for one list.
+fn finds(accesses: &[Entry], expected: &[Finding]) -> bool {
+    finds_in_turn(&[accesses], expected)
+}
+
+// A look that shows room, and a byte that is sent.
+const SENT: [Entry; 2] = [Read(STATUS, 0x60), Write(DATA, b'a')];
 
 #[test]
 fn a_driver_that_looks_is_not_blamed(rt: HostRuntime) {
@@ -66,52 +74,41 @@ fn a_driver_that_looks_is_not_blamed(rt: HostRuntime) {
 
 #[test]
 fn bytes_that_no_look_allowed(rt: HostRuntime) {
-    let first = [Write(DATA, b'a')];
-    assert!(rt; finds(&first, &[Finding::SentWithoutLook(0, 0)]));
-    let second = [Read(STATUS, 0x60), Write(DATA, b'a'), Write(DATA, b'b')];
-    assert!(rt; finds(&second, &[Finding::SentWithoutLook(1, 1)]));
-    let mut seventeen = [Write(DATA, b'a'); 19];
-    seventeen[0] = Write(FCR, 0x01);
-    seventeen[1] = Read(STATUS, 0x60);
-    assert!(rt; finds(&seventeen, &[Finding::SentWithoutLook(16, 16)]));
+    let a = Write(DATA, b'a');
+    assert!(rt; finds(&[a], &[Finding::SentWithoutLook(0, 0)]));
+    assert!(rt; finds_in_turn(&[&SENT, &[a]], &[Finding::SentWithoutLook(1, 1)]));
+    let seventeen = [a; 17];
+    let look = Read(STATUS, 0x60);
+    let with_fifo = [Write(FCR, 0x01), look];
+    assert!(rt;
+        finds_in_turn(
+            &[&with_fifo, &seventeen],
+            &[Finding::SentWithoutLook(16, 16)]
+        )
+    );
     assert!(rt; finds(&[Read(DATA, 0x00)], &[Finding::ReceivedWithoutLook]));
-    let empty = [Read(STATUS, 0x60), Read(DATA, 0x00)];
-    assert!(rt; finds(&empty, &[Finding::ReceivedFromEmpty]));
+    assert!(rt; finds(&[look, Read(DATA, 0x00)], &[Finding::ReceivedFromEmpty]));
     let again = [Read(STATUS, 0x61), Read(DATA, b'a'), Read(DATA, 0x00)];
     assert!(rt; finds(&again, &[Finding::ReceivedWithoutLook]));
 }
 
 #[test]
 fn an_interrupt_allows_as_many_reads_as_the_trigger_level(rt: HostRuntime) {
-    let mut accesses = [Read(DATA, b'a'); 11];
-    accesses[0] = Write(FCR, 0x81);
-    accesses[1] = Read(ISR, 0xc4);
-    assert!(rt; finds(&accesses, &[Finding::ReceivedWithoutLook]));
-    assert!(rt; finds(&accesses[..10], &[]));
+    let interrupted = [Write(FCR, 0x81), Read(ISR, 0xc4)];
+    let nine = [Read(DATA, b'a'); 9];
+    assert!(rt; finds_in_turn(&[&interrupted, &nine], &[Finding::ReceivedWithoutLook]));
+    assert!(rt; finds_in_turn(&[&interrupted, &nine[..8]], &[]));
 }
 
 #[test]
 fn an_open_latch_takes_what_is_sent(rt: HostRuntime) {
-    let sent = [
-        Write(LCR, 0x83),
-        Write(DATA, 0x01),
-        Write(IER, 0x00),
-        Write(DATA, b'a'),
-    ];
-    assert!(rt;
-        finds(
-            &sent,
-            &[Finding::SentIntoLatch(b'a'), Finding::LatchLeftOpen]
-        )
-    );
-    let received = [
-        Write(LCR, 0x83),
-        Read(STATUS, 0x61),
-        Read(DATA, 0x01),
-        Write(LCR, 0x03),
-    ];
+    let (open, close) = (Write(LCR, 0x83), Write(LCR, 0x03));
+    let divisor = [open, Write(DATA, 0x01), Write(IER, 0x00)];
+    let sent = [Finding::SentIntoLatch(b'a'), Finding::LatchLeftOpen];
+    assert!(rt; finds_in_turn(&[&divisor, &[Write(DATA, b'a')]], &sent));
+    let received = [open, Read(STATUS, 0x61), Read(DATA, 0x01), close];
     assert!(rt; finds(&received, &[Finding::ReceivedFromLatch]));
-    assert!(rt; finds(&[Write(LCR, 0x83)], &[Finding::LatchLeftOpen]));
+    assert!(rt; finds(&[open], &[Finding::LatchLeftOpen]));
 }
 
 #[test]
@@ -128,35 +125,28 @@ fn what_a_read_or_a_reset_clears(rt: HostRuntime) {
 
 #[test]
 fn what_is_changed_while_bytes_go_out(rt: HostRuntime) {
-    let frame = [
-        Write(LCR, 0x03),
-        Read(STATUS, 0x60),
-        Write(DATA, b'a'),
-        Write(LCR, 0x02),
-    ];
-    assert!(rt; finds(&frame, &[Finding::FrameChangedWhileSending]));
-    let divisor = [
-        Write(LCR, 0x83),
-        Write(DATA, 0x01),
-        Write(LCR, 0x03),
-        Read(STATUS, 0x60),
-        Write(DATA, b'a'),
-        Write(LCR, 0x83),
-        Write(DATA, 0x02),
-        Write(LCR, 0x03),
-    ];
-    assert!(rt; finds(&divisor, &[Finding::DivisorChangedWhileSending]));
-    let reset = [
-        Write(FCR, 0x01),
-        Read(STATUS, 0x60),
-        Write(DATA, b'a'),
-        Write(FCR, 0x05),
-    ];
-    assert!(rt; finds(&reset, &[Finding::ResetWhileSending]));
+    let (eight, seven) = (Write(LCR, 0x03), Write(LCR, 0x02));
+    let framed = finds_in_turn(
+        &[&[eight], &SENT, &[seven]],
+        &[Finding::FrameChangedWhileSending],
+    );
+    assert!(rt; framed);
+    let first = [Write(LCR, 0x83), Write(DATA, 0x01), Write(LCR, 0x03)];
+    let other = [Write(LCR, 0x83), Write(DATA, 0x02), Write(LCR, 0x03)];
+    assert!(rt;
+        finds_in_turn(
+            &[&first, &SENT, &other],
+            &[Finding::DivisorChangedWhileSending]
+        )
+    );
+    let (on, reset) = (Write(FCR, 0x01), Write(FCR, 0x05));
+    assert!(rt; finds_in_turn(&[&[on], &SENT, &[reset]], &[Finding::ResetWhileSending]));
 }
 
 #[test]
 fn a_set_up_that_cannot_work(rt: HostRuntime) {
+    let short = [Write(LCR, 0x02), Read(STATUS, 0x60), Write(DATA, 0x80)];
+    assert!(rt; finds(&short, &[Finding::WordTooShort(0x80)]));
     let zero = [
         Write(LCR, 0x83),
         Write(DATA, 0x00),
@@ -164,8 +154,6 @@ fn a_set_up_that_cannot_work(rt: HostRuntime) {
         Write(LCR, 0x03),
     ];
     assert!(rt; finds(&zero, &[Finding::ZeroDivisor]));
-    let short = [Write(LCR, 0x02), Read(STATUS, 0x60), Write(DATA, 0x80)];
-    assert!(rt; finds(&short, &[Finding::WordTooShort(0x80)]));
     assert!(rt; finds(&[Write(MCR, 0x10)], &[Finding::LoopbackLeftOn]));
 }
 

@@ -48,12 +48,13 @@ fn events_are_printed_and_read_back(rt: HostRuntime) -> Result<(), Fail> {
     Ok(())
 }
 
-// A reader that gives at most so many bytes at once, and is interrupted before each.
+// A reader that is interrupted before each read that gives bytes, and gives at most so many at
+// once.
 #[derive(Drop)]
 struct Pieces<'a> {
-    bytes: &'a [u8],
-    most: usize,
     is_interrupted: bool,
+    most: usize,
+    bytes: &'a [u8],
 }
 
 impl Read for Pieces<'_> {
@@ -62,10 +63,8 @@ impl Read for Pieces<'_> {
         if self.is_interrupted {
             return Err(io::Error::from(io::ErrorKind::Interrupted));
         }
-        let count = self.most.min(self.bytes.len()).min(buf.len());
-        buf[..count].copy_from_slice(&self.bytes[..count]);
-        self.bytes = &self.bytes[count..];
-        Ok(count)
+        let most = self.most.min(buf.len());
+        self.bytes.read(&mut buf[..most])
     }
 }
 
@@ -94,9 +93,9 @@ fn lines_of_a_reader(rt: HostRuntime) -> Result<(), Fail> {
     let recording = b"r 5 60\n\nx 3\n# nothing\nw 0 41\nserial_tx 5\nr 0 41";
     for most in [1, 2, 7, 1000] {
         let reader = Pieces {
-            bytes: recording,
-            most,
             is_interrupted: false,
+            most,
+            bytes: recording,
         };
         let text = all_of(rt.alloc(), reader)?;
         assert_eq!(rt;

@@ -1,16 +1,21 @@
 //! Small recordings, and the rule that the last read of each breaks.
+use std::process::Abort;
 use std::test::Fail;
 use uart_chip::Chip;
 use uart_judges::replay::{Difference, Replayer, Rule, Start};
 use uart_spec::registers::offsets::{DATA, FCR, IER, ISR, LCR, LSR, MCR, MSR, SPR};
 
 // An access to a register, and the value that was read or written.
-#[derive(Clone, Copy)]
+#[derive(Clone, Copy, Debug)]
 enum Step {
     Read(usize, u8),
     Write(usize, u8),
 }
 
+use Rule::{
+    EmptyBits, ErrorAlone, FifoBits, FifoError, Interrupt, Keeps, LoopedLines, StaysIdle,
+    StillWaits, ThrStaysEmpty,
+};
 use Step::{Read, Write};
 
 // Returns what is reported for the last access.
@@ -29,107 +34,86 @@ fn last(model: Chip, start: Start, steps: &[Step]) -> Option<Rule> {
     reported.map(|difference| difference.rule)
 }
 
+// Accesses, and the rule that the last of them breaks.
+type Case<'a> = (&'a [Step], Option<Rule>);
+
+// Asserts what is reported for the last access of each list.
+fn assert_last(rt: &impl Abort, model: Chip, start: Start, cases: &[Case<'_>]) {
+    for &(steps, want) in cases {
+        assert_eq!(rt; last(model, start, steps), want, "after {steps:?}");
+    }
+}
+
+// A divisor, while the latch that it is written to is open.
+const LATCHED: [Step; 3] = [Write(LCR, 0x83), Write(DATA, 0x0c), Write(IER, 0x01)];
+
 #[test]
 fn latches(rt: HostRuntime) {
-    let at_reset = |steps: &[Step]| last(Chip::Uart16550A, Start::Reset, steps);
-    let in_use = |steps: &[Step]| last(Chip::Uart16550A, Start::InUse, steps);
-    assert_eq!(rt; at_reset(&[Read(MCR, 0x08)]), Some(Rule::Keeps(0)));
-    assert_eq!(rt; in_use(&[Read(MCR, 0x08)]), None);
-    assert_eq!(rt;
-        in_use(&[Write(SPR, 0x5a), Read(SPR, 0xff)]),
-        Some(Rule::Keeps(0x5a))
-    );
-    assert_eq!(rt;
-        in_use(&[Read(SPR, 0x11), Read(SPR, 0x10)]),
-        Some(Rule::Keeps(0x11))
-    );
-    assert_eq!(rt;
-        at_reset(&[Write(IER, 0xff), Read(IER, 0xff)]),
-        Some(Rule::Keeps(0x0f))
-    );
-    assert_eq!(rt; at_reset(&[Write(MCR, 0xff), Read(MCR, 0x1f)]), None);
-    let divisor = [Write(LCR, 0x83), Write(DATA, 0x0c), Write(IER, 0x01)];
-    let [lcr, dll, dlm] = divisor;
-    assert_eq!(rt; in_use(&[lcr, dll, dlm, Read(DATA, 0x0c)]), None);
-    assert_eq!(rt;
-        in_use(&[lcr, dll, dlm, Read(IER, 0x00)]),
-        Some(Rule::Keeps(0x01))
-    );
-    assert_eq!(rt;
-        at_reset(&[lcr, dll, dlm, Write(LCR, 0x03), Read(IER, 0x00)]),
-        None
-    );
-    // A value that was reported is left out of what follows.
-    assert_eq!(rt; at_reset(&[Read(LCR, 0x03), Read(LCR, 0x00)]), None);
+    let [lcr, dll, dlm] = LATCHED;
+    let at_reset: [Case<'_>; 5] = [
+        (&[Read(MCR, 0x08)], Some(Keeps(0))),
+        (&[Write(IER, 0xff), Read(IER, 0xff)], Some(Keeps(0x0f))),
+        (&[Write(MCR, 0xff), Read(MCR, 0x1f)], None),
+        (&[lcr, dll, dlm, Write(LCR, 0x03), Read(IER, 0x00)], None),
+        // A value that was reported is left out of what follows.
+        (&[Read(LCR, 0x03), Read(LCR, 0x00)], None),
+    ];
+    assert_last(&rt, Chip::Uart16550A, Start::Reset, &at_reset);
+    let in_use: [Case<'_>; 5] = [
+        (&[Read(MCR, 0x08)], None),
+        (&[Write(SPR, 0x5a), Read(SPR, 0xff)], Some(Keeps(0x5a))),
+        (&[Read(SPR, 0x11), Read(SPR, 0x10)], Some(Keeps(0x11))),
+        (&[lcr, dll, dlm, Read(DATA, 0x0c)], None),
+        (&[lcr, dll, dlm, Read(IER, 0x00)], Some(Keeps(0x01))),
+    ];
+    assert_last(&rt, Chip::Uart16550A, Start::InUse, &in_use);
 }
 
 #[test]
 fn interrupts(rt: HostRuntime) {
-    let at_reset = |steps: &[Step]| last(Chip::Uart16550A, Start::Reset, steps);
-    let of_16450 = |steps: &[Step]| last(Chip::Uart16450, Start::InUse, steps);
-    assert_eq!(rt; at_reset(&[Write(FCR, 0x07), Read(ISR, 0xc1)]), None);
-    assert_eq!(rt;
-        at_reset(&[Write(FCR, 0x07), Read(ISR, 0x01)]),
-        Some(Rule::FifoBits)
-    );
-    assert_eq!(rt;
-        at_reset(&[Write(FCR, 0x07), Read(ISR, 0x81)]),
-        Some(Rule::FifoBits)
-    );
-    assert_eq!(rt;
-        of_16450(&[Write(FCR, 0x07), Read(ISR, 0xc1)]),
-        Some(Rule::FifoBits)
-    );
-    assert_eq!(rt; of_16450(&[Read(ISR, 0x0c)]), Some(Rule::Interrupt));
-    assert_eq!(rt; at_reset(&[Write(IER, 0x02), Read(ISR, 0x02)]), None);
-    assert_eq!(rt;
-        at_reset(&[Write(IER, 0x02), Read(ISR, 0x04)]),
-        Some(Rule::Interrupt)
-    );
-    assert_eq!(rt;
-        at_reset(&[Write(IER, 0x0f), Read(ISR, 0x08)]),
-        Some(Rule::Interrupt)
-    );
+    let at_reset: [Case<'_>; 6] = [
+        (&[Write(FCR, 0x07), Read(ISR, 0xc1)], None),
+        (&[Write(FCR, 0x07), Read(ISR, 0x01)], Some(FifoBits)),
+        (&[Write(FCR, 0x07), Read(ISR, 0x81)], Some(FifoBits)),
+        (&[Write(IER, 0x02), Read(ISR, 0x02)], None),
+        (&[Write(IER, 0x02), Read(ISR, 0x04)], Some(Interrupt)),
+        (&[Write(IER, 0x0f), Read(ISR, 0x08)], Some(Interrupt)),
+    ];
+    assert_last(&rt, Chip::Uart16550A, Start::Reset, &at_reset);
+    let of_16450: [Case<'_>; 2] = [
+        (&[Write(FCR, 0x07), Read(ISR, 0xc1)], Some(FifoBits)),
+        (&[Read(ISR, 0x0c)], Some(Interrupt)),
+    ];
+    assert_last(&rt, Chip::Uart16450, Start::InUse, &of_16450);
 }
 
 #[test]
 fn line_status(rt: HostRuntime) {
-    let at_reset = |steps: &[Step]| last(Chip::Uart16550A, Start::Reset, steps);
-    let in_use = |steps: &[Step]| last(Chip::Uart16550A, Start::InUse, steps);
-    assert_eq!(rt; in_use(&[Read(LSR, 0x40)]), Some(Rule::EmptyBits));
-    assert_eq!(rt; in_use(&[Read(LSR, 0x68)]), Some(Rule::ErrorAlone));
-    assert_eq!(rt; at_reset(&[Read(LSR, 0xe9)]), Some(Rule::FifoError));
-    assert_eq!(rt; in_use(&[Read(LSR, 0xe9)]), None);
-    assert_eq!(rt;
-        in_use(&[Read(LSR, 0x61), Read(LSR, 0x60)]),
-        Some(Rule::StillWaits)
-    );
-    assert_eq!(rt;
-        at_reset(&[Read(LSR, 0x61), Read(DATA, 0x41), Read(LSR, 0x60)]),
-        None
-    );
-    assert_eq!(rt;
-        at_reset(&[Read(LSR, 0x61), Write(FCR, 0x07), Read(LSR, 0x60)]),
-        None
-    );
-    assert_eq!(rt; at_reset(&[Read(LSR, 0x00)]), Some(Rule::StaysIdle));
-    assert_eq!(rt;
-        in_use(&[Read(LSR, 0x20), Read(LSR, 0x00)]),
-        Some(Rule::ThrStaysEmpty)
-    );
-    assert_eq!(rt; at_reset(&[Write(DATA, 0x41), Read(LSR, 0x00)]), None);
-    assert_eq!(rt;
-        at_reset(&[Write(LCR, 0x80), Write(DATA, 1), Read(LSR, 0x00)]),
-        Some(Rule::StaysIdle)
-    );
-    assert_eq!(rt; in_use(&[Read(MSR, 0xff)]), None);
-    // The outputs of MCR are read back in the order CTS of RTS, DSR of DTR, RI of OUT 1, CD of OUT
-    // 2.
-    assert_eq!(rt; in_use(&[Write(MCR, 0x1a), Read(MSR, 0x9b)]), None);
-    assert_eq!(rt;
-        in_use(&[Write(MCR, 0x1a), Read(MSR, 0xb0)]),
-        Some(Rule::LoopedLines)
-    );
+    let at_reset: [Case<'_>; 6] = [
+        (&[Read(LSR, 0xe9)], Some(FifoError)),
+        (&[Read(LSR, 0x61), Read(DATA, 0x41), Read(LSR, 0x60)], None),
+        (&[Read(LSR, 0x61), Write(FCR, 0x07), Read(LSR, 0x60)], None),
+        (&[Read(LSR, 0x00)], Some(StaysIdle)),
+        (&[Write(DATA, 0x41), Read(LSR, 0x00)], None),
+        (
+            &[Write(LCR, 0x80), Write(DATA, 1), Read(LSR, 0x00)],
+            Some(StaysIdle),
+        ),
+    ];
+    assert_last(&rt, Chip::Uart16550A, Start::Reset, &at_reset);
+    let in_use: [Case<'_>; 8] = [
+        (&[Read(LSR, 0x40)], Some(EmptyBits)),
+        (&[Read(LSR, 0x68)], Some(ErrorAlone)),
+        (&[Read(LSR, 0xe9)], None),
+        (&[Read(LSR, 0x61), Read(LSR, 0x60)], Some(StillWaits)),
+        (&[Read(LSR, 0x20), Read(LSR, 0x00)], Some(ThrStaysEmpty)),
+        (&[Read(MSR, 0xff)], None),
+        // The outputs of MCR are read back in the order CTS of RTS, DSR of DTR, RI of OUT 1, CD of
+        // OUT 2.
+        (&[Write(MCR, 0x1a), Read(MSR, 0x9b)], None),
+        (&[Write(MCR, 0x1a), Read(MSR, 0xb0)], Some(LoopedLines)),
+    ];
+    assert_last(&rt, Chip::Uart16550A, Start::InUse, &in_use);
 }
 
 #[test]

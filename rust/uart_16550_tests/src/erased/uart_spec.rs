@@ -4,12 +4,28 @@ use crate::runtime::{AllocGlobal, HostRuntime, assert, assert_eq, assert_ne, for
 use crate::libraries::uart_spec::*;
 use crate::libraries::bitflags::Flags;
 use crate::libraries::uart_spec::registers::{
-    Divisor, FCR, FifoTriggerLevel, IER, ISR, InterruptType, LCR, LSR, PSD, Parity, WordLength,
-    offsets,
+    Divisor, FCR, FifoTriggerLevel, IER, ISR, InterruptType, LCR, LSR, MSR, PSD, Parity,
+    WordLength, offsets,
 };
-use std::error::Error;
-use crate::runtime::InlineText;
 use crate::runtime::Fail;
+
+#[test]
+fn lines_that_changed() {
+    let rt = HostRuntime;
+    let lines = [MSR::CTS, MSR::DSR, MSR::RI, MSR::CD];
+    let rises = [MSR::DELTA_CTS, MSR::DELTA_DSR, MSR::empty(), MSR::DELTA_CD];
+    let falls = [
+        MSR::DELTA_CTS,
+        MSR::DELTA_DSR,
+        MSR::TRAILING_EDGE_RI,
+        MSR::DELTA_CD,
+    ];
+    for i in 0..lines.len() {
+        assert_eq!(rt; lines[i].changes_since(MSR::empty()), rises[i]);
+        assert_eq!(rt; MSR::empty().changes_since(lines[i]), falls[i]);
+        assert_eq!(rt; lines[i].changes_since(lines[i]), MSR::empty());
+    }
+}
 
 #[test]
 fn offsets_of_the_registers() {
@@ -228,12 +244,8 @@ fn configuration() -> Result<(), Fail> {
     Ok(())
 }
 
-fn text<E: Error>(error: E) -> InlineText<256> {
-    InlineText::of(error)
-}
-
 #[test]
-fn texts_of_the_arithmetic() {
+fn texts_of_the_arithmetic() -> Result<(), Fail> {
     let rt = HostRuntime;
     let no_divisor = NonIntegerDivisorError {
         frequency: 1_843_200,
@@ -241,122 +253,87 @@ fn texts_of_the_arithmetic() {
         prescaler_division_factor: Some(3),
     };
     let too_large = InvalidDivisorError::OutOfRange { divisor: 115_200 };
-    let texts = [
-        (
-            text(NO_RATE),
-            "Input values do not result in even (integer representable) baud rate! \
-            frequency=1843200, divisor=73, prescaler_division_factor=None",
-        ),
-        (
-            text(InvalidDivisorError::NonInteger(no_divisor)),
-            "input values do not result in even (integer representable) baud rate! \
-            frequency=1843200, baud_rate=7211, prescaler_division_factor=Some(3)",
-        ),
-        (
-            text(InitError::InvalidBaudRate(too_large)),
-            "invalid baud rate: divisor 115200 is out of range (1..=65535)",
-        ),
-    ];
-    for (shown, expected) in &texts {
-        assert_eq!(rt; shown.as_str(), *expected);
-    }
+    let texts = format!(in rt.alloc();
+        "{}\n{}\n{}\n",
+        NO_RATE,
+        InvalidDivisorError::NonInteger(no_divisor),
+        InitError::InvalidBaudRate(too_large)
+    )?;
+    let expected = "Input values do not result in even (integer representable) baud rate! \
+        frequency=1843200, divisor=73, prescaler_division_factor=None\n\
+        input values do not result in even (integer representable) baud rate! \
+        frequency=1843200, baud_rate=7211, prescaler_division_factor=Some(3)\n\
+        invalid baud rate: divisor 115200 is out of range (1..=65535)\n";
+    assert_eq!(rt; texts.as_str(), expected);
+    Ok(())
 }
 
 #[test]
-fn texts_of_the_driver() {
+fn texts_of_the_driver() -> Result<(), Fail> {
     let rt = HostRuntime;
-    let texts = [
-        (
-            text(Uart16550TtyError::AddressError(InvalidAddressError::InvalidBaseAddress(65_529))),
-            "invalid register address: 0xfff9",
-        ),
-        (
-            text(InvalidAddressError::InvalidStride(3)),
-            "invalid stride 3: must be non-zero and a power of two (typically 1, 2, 4, or 8)",
-        ),
-        (
-            text(InitError::DeviceNotPresent),
-            "the device could not be detected",
-        ),
-        (
-            text(Uart16550TtyError::InitError(InitError::Stalled)),
-            "error initializing the device: the device stalled",
-        ),
-        (text(ByteReceiveError), "there is no data to read"),
-        (
-            text(ByteSendError::NoCapacity),
-            "device has no capacity to send another byte (the FIFO might be full)",
-        ),
-        (
-            text(ByteSendError::RemoteNotClearToSend),
-            "the remote didn't raised its clear to send signal",
-        ),
-        (
-            text(RemoteReadyToReceiveError::NoRemoteConnectedNoDSR),
-            "there is no remote connected: missing Data Set Ready (DSR)",
-        ),
-        (
-            text(RemoteReadyToReceiveError::NoRemoteConnectedNoCD),
-            "there is no remote connected: missing Carrier Detect (CD)",
-        ),
-        (
-            text(RemoteReadyToReceiveError::RemoteNotClearToSend),
-            "remote is not (yet) ready to receive more data",
-        ),
-        (
-            text(StalledError { done: 5 }),
-            "the device stalled after 5 bytes",
-        ),
-    ];
-    for (shown, expected) in &texts {
-        assert_eq!(rt; shown.as_str(), *expected);
-    }
+    let too_high = InvalidAddressError::InvalidBaseAddress(65_529);
+    let texts = format!(in rt.alloc();
+        "{}\n{}\n{}\n{}\n{}\n{}\n{}\n{}\n{}\n{}\n{}\n",
+        Uart16550TtyError::AddressError(too_high),
+        InvalidAddressError::InvalidStride(3),
+        InitError::DeviceNotPresent,
+        Uart16550TtyError::InitError(InitError::Stalled),
+        ByteReceiveError,
+        ByteSendError::NoCapacity,
+        ByteSendError::RemoteNotClearToSend,
+        RemoteReadyToReceiveError::NoRemoteConnectedNoDSR,
+        RemoteReadyToReceiveError::NoRemoteConnectedNoCD,
+        RemoteReadyToReceiveError::RemoteNotClearToSend,
+        StalledError { done: 5 }
+    )?;
+    let expected = "invalid register address: 0xfff9\n\
+        invalid stride 3: must be non-zero and a power of two (typically 1, 2, 4, or 8)\n\
+        the device could not be detected\n\
+        error initializing the device: the device stalled\n\
+        there is no data to read\n\
+        device has no capacity to send another byte (the FIFO might be full)\n\
+        the remote didn't raised its clear to send signal\n\
+        there is no remote connected: missing Data Set Ready (DSR)\n\
+        there is no remote connected: missing Carrier Detect (CD)\n\
+        remote is not (yet) ready to receive more data\n\
+        the device stalled after 5 bytes\n";
+    assert_eq!(rt; texts.as_str(), expected);
+    Ok(())
 }
 
 #[test]
-fn texts_of_the_loopback_test() {
+fn texts_of_the_loopback_test() -> Result<(), Fail> {
     let rt = HostRuntime;
-    let unlike = LoopbackError::UnexpectedLoopbackMsg {
-        expected: *b"hello world!1337",
-        actual: *b"say \"\\\" 123 ~~~ ",
-    };
-    let unprintable = LoopbackError::UnexpectedLoopbackMsg {
-        expected: *b"hello world!1337",
-        actual: *b"hello world!133\n",
-    };
-    let texts = [
-        (
-            text(LoopbackError::SendError(ByteSendError::NoCapacity)),
-            "loopback test failed: couldn't send data: \
-            device has no capacity to send another byte (the FIFO might be full)",
-        ),
-        (
-            text(LoopbackError::UnexpectedLoopbackByte {
-                expected: 0x42,
-                actual: 0,
-            }),
-            "loopback test failed: read unexpected byte! expected=66, actual=0",
-        ),
-        (
-            text(unlike),
-            "loopback test failed: read unexpected string! \
-            expected (str)=Ok(\"hello world!1337\"), \
-            actual (str)=Ok(\"say \\\"\\\\\\\" 123 ~~~ \"), \
-            actual (bytes)=[115, 97, 121, 32, 34, 92, 34, 32, 49, 50, 51, 32, 126, 126, 126, 32]",
-        ),
-        (
-            text(unprintable),
-            "loopback test failed: read unexpected string! \
-            expected (str)=Ok(\"hello world!1337\"), actual (str)=Err(not printable ASCII), \
-            actual (bytes)=[104, 101, 108, 108, 111, 32, 119, 111, \
-            114, 108, 100, 33, 49, 51, 51, 10]",
-        ),
-        (
-            text(Uart16550TtyError::TestError(LoopbackError::Stalled)),
-            "error testing the device: loopback test failed: the device stalled",
-        ),
-    ];
-    for (shown, expected) in &texts {
-        assert_eq!(rt; shown.as_str(), *expected);
-    }
+    let sent = *b"hello world!1337";
+    let texts = format!(in rt.alloc();
+        "{}\n{}\n{}\n{}\n{}\n",
+        LoopbackError::SendError(ByteSendError::NoCapacity),
+        LoopbackError::UnexpectedLoopbackByte {
+            expected: 0x42,
+            actual: 0,
+        },
+        LoopbackError::UnexpectedLoopbackMsg {
+            expected: sent,
+            actual: *b"say \"\\\" 123 ~~~ ",
+        },
+        LoopbackError::UnexpectedLoopbackMsg {
+            expected: sent,
+            actual: *b"hello world!133\n",
+        },
+        Uart16550TtyError::TestError(LoopbackError::Stalled)
+    )?;
+    let expected = "loopback test failed: couldn't send data: \
+        device has no capacity to send another byte (the FIFO might be full)\n\
+        loopback test failed: read unexpected byte! expected=66, actual=0\n\
+        loopback test failed: read unexpected string! \
+        expected (str)=Ok(\"hello world!1337\"), \
+        actual (str)=Ok(\"say \\\"\\\\\\\" 123 ~~~ \"), \
+        actual (bytes)=[115, 97, 121, 32, 34, 92, 34, 32, 49, 50, 51, 32, 126, 126, 126, 32]\n\
+        loopback test failed: read unexpected string! \
+        expected (str)=Ok(\"hello world!1337\"), actual (str)=Err(not printable ASCII), \
+        actual (bytes)=[104, 101, 108, 108, 111, 32, 119, 111, \
+        114, 108, 100, 33, 49, 51, 51, 10]\n\
+        error testing the device: loopback test failed: the device stalled\n";
+    assert_eq!(rt; texts.as_str(), expected);
+    Ok(())
 }

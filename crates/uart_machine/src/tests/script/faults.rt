@@ -20,10 +20,8 @@ impl Read for Reader<'_> {
             return Err(io::ErrorKind::Other.into());
         }
         self.reads -= 1;
-        let count = self.piece.min(buf.len()).min(self.text.len());
-        buf[..count].copy_from_slice(&self.text[..count]);
-        self.text = &self.text[count..];
-        Ok(count)
+        let most = self.piece.min(buf.len());
+        self.text.read(&mut buf[..most])
     }
 }
 

@@ -1,8 +1,14 @@
+use Rattle.std.proofs.Common.{rules, tests, ◌≡◌, List, ℕ, length, IfOk, arith, subst, slice_get}
+use Rattle.std.proofs.lemmas.Iterator.{YieldsList-from_range, items_from_collect}
+use Rattle.std.proofs.lemmas.Iterator.Consumers.{YieldsList-from_filter_map}
 use Rattle.uart_device.specs.Conserved.{waiting}
-use Rattle.uart_play.proofs.ScriptOutputs.{got_more}
+use Rattle.uart_play.proofs.Picked.{picks_all}
 use Rattle.uart_play.proofs.playing.waiting_of.Goals as goal
 
-pub loop-i-preserved : goal.loop-i-preserved
-loop-i-preserved c =
-    got_more (waiting c.args.machine.now) c.loop-i.i c.in-Some.byte _ _ c.in-Some.ensures c.loop-i.invariant
-    c.in_ok-push-in-Some.ensures.items
+pub returns : goal.returns
+returns c =
+    let xs = (waiting c.args.machine.now) in
+    subst (λ (all : List ℕ). IfOk c.collect.result (λ items. items.items ≡ all)) (picks_all xs)
+    (items_from_collect _ c.collect.ensures.ran (YieldsList-from_filter_map _ (slice_get xs)
+    (YieldsList-from_range 0 c.waiting_len.result (length xs) (cc) (omega (arith, c.waiting_len.ensures)))
+    c.filter_map.ensures.closure (λ x r q k. search (rules, tests))))

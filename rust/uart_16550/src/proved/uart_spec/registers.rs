@@ -43,3 +43,8 @@ pub type DLL = u8;
 
 /// High byte of the divisor latch (DLM), offset 1 while DLAB is set.
 pub type DLM = u8;
+
+/// Returns these bits if the condition holds, else none.
+pub fn flag<F: Flags>(on: bool, bits: F) -> F {
+    if on { bits } else { F::empty() }
+}

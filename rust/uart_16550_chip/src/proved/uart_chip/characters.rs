@@ -52,10 +52,6 @@ impl<Q: Fifo<Character>> Fifo<Character> for Characters<Q> {
         self.queue.len()
     }
 
-    fn is_empty(&self) -> bool {
-        self.queue.is_empty()
-    }
-
     fn get(&self, i: usize) -> Option<Character> {
         self.queue.get(i)
     }

@@ -8,15 +8,11 @@ use crate::proved::uart_chip::fifo::Fifo;
 use crate::proved::uart_chip::journal::Journal;
 use crate::proved::uart_chip::modem::{Modem, ModemData};
 use crate::proved::uart_chip::receiver::{Character, Receiver, ReceiverData};
-use crate::proved::uart_chip::receiving::{
-    ReceiverParts, clear, count_up, expire_timeout, is_timed_out, report, take_front,
-};
+use crate::proved::uart_chip::receiving::{expire_timeout, is_timed_out};
 use crate::proved::uart_chip::transmitter::{Transmitter, TransmitterData};
-use crate::proved::uart_chip::transmitting::{TransmitterParts, count_down, load};
 use crate::proved::uart_chip::wire::{Wire, send};
-use crate::proved::uart_chip::{receiving, transmitting};
 use crate::flags::Flags;
-use crate::proved::uart_spec::registers::{DLL, DLM, FifoTriggerLevel, IER, LCR, MCR, MSR, SPR};
+use crate::proved::uart_spec::registers::{DLL, DLM, IER, LCR, MCR, MSR, SPR};
 use crate::proved::uart_spec::{Chip, Event};
 
 /// The registers that keep what is written to them.
@@ -245,16 +241,52 @@ impl<B: Fifo<u8>, W: Wire, C: Fifo<Character>, J: Journal> ChipParts
 
     type Receiver = Receiver<C, J>;
 
+    fn model(&self) -> Chip {
+        self.model
+    }
+
+    fn cuts(&self) -> bool {
+        self.cuts
+    }
+
     fn transmitter(&self) -> &Transmitter<B, W> {
         &self.transmitter
+    }
+
+    fn transmitter_mut(&mut self) -> &mut Transmitter<B, W> {
+        &mut self.transmitter
     }
 
     fn receiver(&self) -> &Receiver<C, J> {
         &self.receiver
     }
 
-    fn model(&self) -> Chip {
-        self.model
+    fn receiver_mut(&mut self) -> &mut Receiver<C, J> {
+        &mut self.receiver
+    }
+
+    fn fifo(&self) -> bool {
+        self.fifo
+    }
+
+    fn turn_fifo(&mut self, on: bool) {
+        self.fifo = on;
+    }
+
+    fn renew_modem(&mut self, mcr: MCR) {
+        self.modem.renew(mcr);
+    }
+
+    fn change_inputs(&mut self, mcr: MCR, inputs: u8) {
+        self.modem.change_inputs(mcr, MSR::from_bits_retain(inputs));
+    }
+
+    fn read_modem(&mut self) -> u8 {
+        self.modem.read().bits()
+    }
+
+    fn has_modem_changes(&self) -> bool {
+        self.modem.has_changes()
     }
 
     fn ier(&self) -> IER {
@@ -275,81 +307,5 @@ impl<B: Fifo<u8>, W: Wire, C: Fifo<Character>, J: Journal> ChipParts
 
     fn set_latches(&mut self, latches: Latches) {
         self.latches = latches;
-    }
-
-    fn fifo(&self) -> bool {
-        self.fifo
-    }
-
-    fn turn_fifo(&mut self, on: bool) {
-        self.fifo = on;
-    }
-
-    fn cuts(&self) -> bool {
-        self.cuts
-    }
-
-    fn tick_transmitter(&mut self, loopback: bool) -> Option<u8> {
-        transmitting::tick(&mut self.transmitter, loopback)
-    }
-
-    fn count_down(&mut self, ticks: u16) {
-        count_down(&mut self.transmitter, ticks);
-    }
-
-    fn load(&mut self, byte: u8) {
-        load(&mut self.transmitter, self.fifo, byte);
-    }
-
-    fn clear_transmitter(&mut self) {
-        self.transmitter.clear_queue();
-    }
-
-    fn set_thr_pending(&mut self, on: bool) {
-        self.transmitter.set_thr_pending(on);
-    }
-
-    fn tick_receiver(&mut self, looped: Option<u8>) {
-        receiving::tick(&mut self.receiver, self.fifo, looped);
-    }
-
-    fn count_up(&mut self, ticks: u16) {
-        count_up(&mut self.receiver, ticks);
-    }
-
-    fn receive(&mut self, loopback: bool, byte: u8, errors: u8) {
-        receiving::arrive_live(&mut self.receiver, loopback, self.fifo, byte, errors);
-    }
-
-    fn take_front(&mut self) -> u8 {
-        take_front(&mut self.receiver)
-    }
-
-    fn report(&mut self) {
-        report(&mut self.receiver);
-    }
-
-    fn clear_receiver(&mut self) {
-        clear(&mut self.receiver);
-    }
-
-    fn set_trigger(&mut self, trigger: FifoTriggerLevel) {
-        self.receiver.set_trigger(trigger);
-    }
-
-    fn renew_modem(&mut self, mcr: MCR) {
-        self.modem.renew(mcr);
-    }
-
-    fn change_inputs(&mut self, mcr: MCR, inputs: u8) {
-        self.modem.change_inputs(mcr, MSR::from_bits_retain(inputs));
-    }
-
-    fn read_modem(&mut self) -> u8 {
-        self.modem.read().bits()
-    }
-
-    fn has_modem_changes(&self) -> bool {
-        self.modem.has_changes()
     }
 }

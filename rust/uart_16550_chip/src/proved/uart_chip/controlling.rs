@@ -1,10 +1,12 @@
 //! What happens in a chip, over its parts: what an access does, and what happens between accesses.
 
 use crate::proved::uart_chip::chip::Latches;
-use crate::proved::uart_chip::masks::{flag, kept_interrupts, kept_modem_control};
-use crate::proved::uart_chip::receiving;
-use crate::proved::uart_chip::receiving::{ReceiverParts, is_data_pending, is_timed_out};
-use crate::proved::uart_chip::transmitting::{TransmitterParts, next_move};
+use crate::proved::uart_chip::masks::{kept_interrupts, kept_modem_control};
+use crate::proved::uart_chip::receiving::{
+    ReceiverParts, clear, count_up, is_data_pending, is_timed_out, report, take_front,
+};
+use crate::proved::uart_chip::transmitting::{TransmitterParts, count_down, load, next_move};
+use crate::proved::uart_chip::{flag, receiving, transmitting};
 use crate::flags::Flags;
 use crate::proved::uart_spec::Chip;
 use crate::proved::uart_spec::registers::{
@@ -20,14 +22,42 @@ pub trait ChipParts {
     /// The receiver.
     type Receiver: ReceiverParts;
 
+    /// Returns the model.
+    fn model(&self) -> Chip;
+
+    /// Returns whether characters are cut to the word length.
+    fn cuts(&self) -> bool;
+
     /// Returns the transmitter.
     fn transmitter(&self) -> &Self::Transmitter;
+
+    /// Lends the transmitter.
+    fn transmitter_mut(&mut self) -> &mut Self::Transmitter;
 
     /// Returns the receiver.
     fn receiver(&self) -> &Self::Receiver;
 
-    /// Returns the model.
-    fn model(&self) -> Chip;
+    /// Lends the receiver.
+    fn receiver_mut(&mut self) -> &mut Self::Receiver;
+
+    /// Returns whether the FIFOs are on.
+    fn fifo(&self) -> bool;
+
+    /// Sets whether the FIFOs are on.
+    fn turn_fifo(&mut self, on: bool);
+
+    /// Computes the modem lines anew under this value of MCR, and adds their changes.
+    fn renew_modem(&mut self, mcr: MCR);
+
+    /// Sets the inputs of the modem, and computes its lines anew under this value of MCR.
+    fn change_inputs(&mut self, mcr: MCR, inputs: u8);
+
+    /// Returns what a read of MSR returns, and clears the changes of the modem lines, as the read
+    /// does.
+    fn read_modem(&mut self) -> u8;
+
+    /// Returns whether a modem line has changed since the last read of MSR.
+    fn has_modem_changes(&self) -> bool;
 
     /// Returns the interrupt enable register.
     fn ier(&self) -> IER;
@@ -43,66 +73,6 @@ pub trait ChipParts {
 
     /// Sets the registers that keep what is written to them.
     fn set_latches(&mut self, latches: Latches);
-
-    /// Returns whether the FIFOs are on.
-    fn fifo(&self) -> bool;
-
-    /// Sets whether the FIFOs are on.
-    fn turn_fifo(&mut self, on: bool);
-
-    /// Returns whether characters are cut to the word length.
-    fn cuts(&self) -> bool;
-
-    /// Lets one tick pass in the transmitter, and returns the byte that loopback returns in it.
-    fn tick_transmitter(&mut self, loopback: bool) -> Option<u8>;
-
-    /// Lets ticks pass in the transmitter in which no character enters or leaves the shift
-    /// register.
-    fn count_down(&mut self, ticks: u16);
-
-    /// Passes a byte that is written to DATA to the transmitter.
-    fn load(&mut self, byte: u8);
-
-    /// Empties the queue of the transmitter.
-    fn clear_transmitter(&mut self);
-
-    /// Sets whether a `THR_EMPTY` interrupt is pending.
-    fn set_thr_pending(&mut self, on: bool);
-
-    /// Lets one tick pass in the receiver, with the byte that loopback returned in it.
-    fn tick_receiver(&mut self, looped: Option<u8>);
-
-    /// Lets ticks pass in the receiver in which no character is received or read.
-    fn count_up(&mut self, ticks: u16);
-
-    /// Passes a character without a schedule to the receiver. In loopback it is lost.
-    fn receive(&mut self, loopback: bool, byte: u8, errors: u8);
-
-    /// Takes the front of the receiver if there is one, and returns the byte that was taken last.
-    fn take_front(&mut self) -> u8;
-
-    /// Does to the receiver what a read of LSR does: clears the overrun and the errors of the
-    /// front.
-    fn report(&mut self);
-
-    /// Empties the queue of the receiver. Its characters are discarded.
-    fn clear_receiver(&mut self);
-
-    /// Sets the trigger level of the receiver.
-    fn set_trigger(&mut self, trigger: FifoTriggerLevel);
-
-    /// Computes the modem lines anew under this value of MCR, and adds their changes.
-    fn renew_modem(&mut self, mcr: MCR);
-
-    /// Sets the inputs of the modem, and computes its lines anew under this value of MCR.
-    fn change_inputs(&mut self, mcr: MCR, inputs: u8);
-
-    /// Returns what a read of MSR returns, and clears the changes of the modem lines, as the read
-    /// does.
-    fn read_modem(&mut self) -> u8;
-
-    /// Returns whether a modem line has changed since the last read of MSR.
-    fn has_modem_changes(&self) -> bool;
 }
 
 /// Returns whether a read of ISR that shows this interrupt acknowledges it.
@@ -163,14 +133,15 @@ pub fn is_loopback<P: ChipParts>(parts: &P) -> bool {
 /// Lets one tick pass.
 pub fn tick<P: ChipParts>(parts: &mut P) {
     let loopback = is_loopback(parts);
-    let looped = parts.tick_transmitter(loopback);
-    parts.tick_receiver(looped);
+    let looped = transmitting::tick(parts.transmitter_mut(), loopback);
+    let fifo = parts.fifo();
+    receiving::tick(parts.receiver_mut(), fifo, looped);
 }
 
 // Lets ticks pass in which no character enters or leaves the shift register.
 fn skip<P: ChipParts>(parts: &mut P, ticks: u16) {
-    parts.count_down(ticks);
-    parts.count_up(ticks);
+    count_down(parts.transmitter_mut(), ticks);
+    count_up(parts.receiver_mut(), ticks);
 }
 
 /// Lets `n` ticks pass, and returns the number of jumps that this took.
@@ -203,7 +174,8 @@ pub fn advance<P: ChipParts>(parts: &mut P, n: u16) -> usize {
 pub fn arrive_live<P: ChipParts>(parts: &mut P, byte: u8, errors: u8) {
     let loopback = is_loopback(parts);
     let byte = cut(parts, byte);
-    parts.receive(loopback, byte, errors);
+    let fifo = parts.fifo();
+    receiving::arrive_live(parts.receiver_mut(), loopback, fifo, byte, errors);
 }
 
 /// Returns how many characters can be received before one is lost. In loopback that is 0.
@@ -300,7 +272,7 @@ fn read_line_status<P: ChipParts>(parts: &mut P) -> u8 {
         .receiver()
         .status()
         .union(parts.transmitter().status());
-    parts.report();
+    report(parts.receiver_mut());
     status.bits()
 }
 
@@ -308,7 +280,7 @@ fn read_line_status<P: ChipParts>(parts: &mut P) -> u8 {
 #[inline(never)]
 fn read_errors<P: ChipParts>(parts: &mut P) -> u8 {
     let status = lsr(parts);
-    parts.report();
+    report(parts.receiver_mut());
     status.bits()
 }
 
@@ -316,7 +288,7 @@ fn read_data<P: ChipParts>(parts: &mut P) -> u8 {
     if is_dlab_set(parts) {
         return parts.latches().dll;
     }
-    parts.take_front()
+    take_front(parts.receiver_mut())
 }
 
 // Reads ISR. A read that shows `THR_EMPTY` acknowledges it.
@@ -324,7 +296,7 @@ fn read_interrupt<P: ChipParts>(parts: &mut P) -> u8 {
     let interrupt = pending_interrupt(parts);
     let fifo = flag(parts.fifo(), ISR::FIFOS_ENABLED);
     if is_thr_empty(interrupt) {
-        parts.set_thr_pending(false);
+        parts.transmitter_mut().set_thr_pending(false);
     }
     identification(interrupt).union(fifo).bits()
 }
@@ -350,7 +322,8 @@ fn write_data<P: ChipParts>(parts: &mut P, value: u8) {
         });
     } else {
         let byte = cut(parts, value);
-        parts.load(byte);
+        let fifo = parts.fifo();
+        load(parts.transmitter_mut(), fifo, byte);
     }
 }
 
@@ -386,7 +359,7 @@ fn enable<P: ChipParts>(parts: &mut P, interrupts: IER) {
         && interrupts.intersects(IER::THR_EMPTY)
         && parts.transmitter().queue_len() == 0
     {
-        parts.set_thr_pending(true);
+        parts.transmitter_mut().set_thr_pending(true);
     }
     parts.set_latches(Latches {
         ier: kept_interrupts(interrupts),
@@ -418,26 +391,26 @@ fn set_fifo<P: ChipParts>(parts: &mut P, value: FCR) {
     if on {
         reset_receiver(parts, value);
         reset_transmitter(parts, value);
-        parts.set_trigger(trigger_level(value));
+        parts.receiver_mut().set_trigger(trigger_level(value));
     }
 }
 
 fn reset_receiver<P: ChipParts>(parts: &mut P, value: FCR) {
     if value.intersects(FCR::RX_FIFO_RESET) {
-        parts.clear_receiver();
+        clear(parts.receiver_mut());
     }
 }
 
 fn reset_transmitter<P: ChipParts>(parts: &mut P, value: FCR) {
     if value.intersects(FCR::TX_FIFO_RESET) {
-        parts.clear_transmitter();
-        parts.set_thr_pending(true);
+        parts.transmitter_mut().clear_queue();
+        parts.transmitter_mut().set_thr_pending(true);
     }
 }
 
 // Switches the FIFOs on or off, which empties both.
 fn switch<P: ChipParts>(parts: &mut P, on: bool) {
     parts.turn_fifo(on);
-    parts.clear_receiver();
-    parts.clear_transmitter();
+    clear(parts.receiver_mut());
+    parts.transmitter_mut().clear_queue();
 }

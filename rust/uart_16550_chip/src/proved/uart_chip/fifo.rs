@@ -15,7 +15,9 @@ pub trait Fifo<T> {
     fn len(&self) -> usize;
 
     /// Returns whether there is no item.
-    fn is_empty(&self) -> bool;
+    fn is_empty(&self) -> bool {
+        self.len() == 0
+    }
 
     /// Returns the item with this index, from the front.
     fn get(&self, i: usize) -> Option<T>;

@@ -1,12 +1,7 @@
-//! Masks of registers: bits under a condition, and what the chip keeps of a write.
+//! Masks of registers: what the chip keeps of a write.
 
 use crate::flags::Flags;
 use crate::proved::uart_spec::registers::{IER, MCR};
-
-/// Returns these bits if the condition holds, else none.
-pub fn flag<F: Flags>(on: bool, bits: F) -> F {
-    if on { bits } else { F::empty() }
-}
 
 /// Returns what IER keeps of a write: the interrupts that the chip has.
 pub fn kept_interrupts(written: IER) -> IER {

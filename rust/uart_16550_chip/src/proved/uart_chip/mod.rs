@@ -22,10 +22,11 @@ pub use chip::{ChipData, Latches, Uart};
 pub use controlling::identification;
 pub use fifo::{Fifo, room_of};
 pub use journal::Journal;
-pub use masks::{flag, kept_interrupts, kept_modem_control};
+pub use masks::{kept_interrupts, kept_modem_control};
 pub use modem::{Modem, ModemData};
-pub use receiver::{Character, Origin, Receiver, ReceiverData};
+pub use receiver::{Character, Origin, Receiver, ReceiverData, Timeout};
 pub use transmitter::{Shifting, Transmitter, TransmitterData};
+pub use crate::proved::uart_spec::registers::flag;
 pub use crate::proved::uart_spec::{
     ArrivalMark, BuildError, Chip, Event, MAX_CHAR_TICKS, MAX_WIRE_CAPACITY, arrivals, refusal,
 };

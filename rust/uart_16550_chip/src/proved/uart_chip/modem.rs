@@ -1,8 +1,7 @@
 //! The modem lines, and which of them changed.
 
-use crate::proved::uart_chip::masks::flag;
 use crate::flags::Flags;
-use crate::proved::uart_spec::registers::{MCR, MSR};
+use crate::proved::uart_spec::registers::{MCR, MSR, flag};
 
 /// The modem's inputs, the lines that MSR shows, and their changes since its last read.
 pub struct Modem {
@@ -20,22 +19,6 @@ pub struct ModemData {
     pub lines: MSR,
     /// The changes since the last read of MSR.
     pub deltas: MSR,
-}
-
-fn is_changed(old: MSR, new: MSR, line: MSR) -> bool {
-    old.intersection(line) != new.intersection(line)
-}
-
-// Returns the changes between two states of the lines: of RI only from set to clear.
-fn changes(old: MSR, new: MSR) -> MSR {
-    let cts = flag(is_changed(old, new, MSR::CTS), MSR::DELTA_CTS);
-    let dsr = flag(is_changed(old, new, MSR::DSR), MSR::DELTA_DSR);
-    let ri = flag(
-        old.intersects(MSR::RI) && !new.intersects(MSR::RI),
-        MSR::TRAILING_EDGE_RI,
-    );
-    let cd = flag(is_changed(old, new, MSR::CD), MSR::DELTA_CD);
-    cts.union(dsr).union(ri.union(cd))
 }
 
 // Returns the lines in loopback, where the outputs replace the inputs.
@@ -87,7 +70,7 @@ impl Modem {
     /// Computes the lines anew under this value of MCR, and adds their changes.
     pub fn renew(&mut self, mcr: MCR) {
         let lines = lines_under(mcr, self.inputs);
-        self.deltas = self.deltas.union(changes(self.lines, lines));
+        self.deltas = self.deltas.union(lines.changes_since(self.lines));
         self.lines = lines;
     }
 

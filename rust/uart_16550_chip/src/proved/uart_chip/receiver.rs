@@ -2,8 +2,8 @@
 
 use crate::proved::uart_chip::characters::Characters;
 use crate::proved::uart_chip::fifo::{Fifo, items_of};
+use crate::proved::uart_chip::flag;
 use crate::proved::uart_chip::journal::Journal;
-use crate::proved::uart_chip::masks::flag;
 use crate::proved::uart_chip::receiving::{ReceiverParts, enter};
 use crate::list::ArrayVec;
 use crate::flags::Flags;
@@ -33,6 +33,15 @@ pub struct Character {
     pub origin: Origin,
 }
 
+/// The ticks towards a reception timeout.
+#[derive(Clone, Copy)]
+pub struct Timeout {
+    /// The ticks since a character was received or read, counted up to the limit.
+    pub ticks: u16,
+    /// The number of ticks after which the timeout is due.
+    pub limit: u16,
+}
+
 /// The receiver: received characters are in its queue until DATA is read.
 pub struct Receiver<Q: Fifo<Character>, J: Journal> {
     queue: Characters<Q>,
@@ -40,12 +49,18 @@ pub struct Receiver<Q: Fifo<Character>, J: Journal> {
     is_overrun: bool,
     is_front_reported: bool,
     last_byte: u8,
-    timeout_ticks: u16,
-    timeout_limit: u16,
+    timeout: Timeout,
     trigger: FifoTriggerLevel,
     arrived: usize,
     journal: J,
     is_unscheduled_lost: bool,
+}
+
+impl Timeout {
+    /// Returns whether the timeout is due.
+    pub fn is_due(self) -> bool {
+        self.ticks == self.limit
+    }
 }
 
 impl Character {
@@ -100,8 +115,10 @@ impl<Q: Fifo<Character>, J: Journal> Receiver<Q, J> {
             is_overrun: false,
             is_front_reported: false,
             last_byte: 0,
-            timeout_ticks: 0,
-            timeout_limit: 4 * char_ticks,
+            timeout: Timeout {
+                ticks: 0,
+                limit: 4 * char_ticks,
+            },
             trigger: FifoTriggerLevel::One,
             arrived: 0,
             journal,
@@ -120,8 +137,10 @@ impl<Q: Fifo<Character>, J: Journal> Receiver<Q, J> {
             is_overrun: saved.is_overrun,
             is_front_reported: saved.is_front_reported,
             last_byte: saved.last_byte,
-            timeout_ticks: saved.timeout_ticks,
-            timeout_limit: 4 * char_ticks,
+            timeout: Timeout {
+                ticks: saved.timeout_ticks,
+                limit: 4 * char_ticks,
+            },
             trigger: saved.trigger,
             arrived: 0,
             journal,
@@ -137,7 +156,7 @@ impl<Q: Fifo<Character>, J: Journal> Receiver<Q, J> {
             is_overrun: self.is_overrun,
             is_front_reported: self.is_front_reported,
             last_byte: self.last_byte,
-            timeout_ticks: self.timeout_ticks,
+            timeout_ticks: self.timeout.ticks,
             trigger: self.trigger,
         }
     }
@@ -246,16 +265,12 @@ impl<Q: Fifo<Character>, J: Journal> ReceiverParts for Receiver<Q, J> {
         self.last_byte = byte;
     }
 
-    fn timeout_ticks(&self) -> u16 {
-        self.timeout_ticks
-    }
-
-    fn timeout_limit(&self) -> u16 {
-        self.timeout_limit
+    fn timeout(&self) -> Timeout {
+        self.timeout
     }
 
     fn set_timeout_ticks(&mut self, ticks: u16) {
-        self.timeout_ticks = ticks;
+        self.timeout.ticks = ticks;
     }
 
     fn trigger(&self) -> FifoTriggerLevel {

@@ -1,7 +1,7 @@
 //! What happens in a receiver, over its parts.
 
 use crate::proved::uart_chip::fifo::room_of;
-use crate::proved::uart_chip::receiver::{Character, Origin};
+use crate::proved::uart_chip::receiver::{Character, Origin, Timeout};
 use crate::proved::uart_spec::registers::{FifoTriggerLevel, LSR};
 use crate::proved::uart_spec::{ArrivalMark, FIFO_SIZE};
 
@@ -53,11 +53,8 @@ pub trait ReceiverParts {
     /// Sets the byte that was read last.
     fn set_last_byte(&mut self, byte: u8);
 
-    /// Returns the ticks since a character was received or read, counted up to the timeout.
-    fn timeout_ticks(&self) -> u16;
-
-    /// Returns the ticks up to the timeout.
-    fn timeout_limit(&self) -> u16;
+    /// Returns the ticks towards a reception timeout, and their limit.
+    fn timeout(&self) -> Timeout;
 
     /// Sets the ticks since a character was received or read.
     fn set_timeout_ticks(&mut self, ticks: u16);
@@ -147,9 +144,9 @@ pub fn tick<R: ReceiverParts>(parts: &mut R, fifo: bool, looped: Option<u8>) {
 /// Lets ticks pass in which no character is received or read.
 pub fn count_up<R: ReceiverParts>(parts: &mut R, ticks: u16) {
     if ticks > 0 {
-        let counted = parts.timeout_ticks().saturating_add(ticks);
-        let limit = parts.timeout_limit();
-        parts.set_timeout_ticks(counted.min(limit));
+        let timeout = parts.timeout();
+        let counted = timeout.ticks.saturating_add(ticks);
+        parts.set_timeout_ticks(counted.min(timeout.limit));
     }
 }
 
@@ -201,7 +198,7 @@ pub fn clear<R: ReceiverParts>(parts: &mut R) {
 /// Makes a reception timeout due if the FIFO is on and has a character: counts the ticks towards it
 /// to their end.
 pub fn expire_timeout<R: ReceiverParts>(parts: &mut R) {
-    let limit = parts.timeout_limit();
+    let limit = parts.timeout().limit;
     parts.set_timeout_ticks(limit);
 }
 
@@ -218,7 +215,7 @@ pub fn is_data_pending<R: ReceiverParts>(parts: &R, fifo: bool) -> bool {
 /// Returns whether there are characters in the FIFO, and none was received or read for four
 /// character times.
 pub fn is_timed_out<R: ReceiverParts>(parts: &R, fifo: bool) -> bool {
-    fifo && parts.queue_len() > 0 && parts.timeout_ticks() == parts.timeout_limit()
+    fifo && parts.queue_len() > 0 && parts.timeout().is_due()
 }
 
 /// Returns how many characters can be received before one is lost.

@@ -17,6 +17,18 @@ pub struct Shifting {
     pub ticks_left: u16,
 }
 
+/// The transmitter: bytes that are written to DATA are first in the queue, then in the shift
+/// register, and then on the wire.
+pub struct Transmitter<Q: Fifo<u8>, W: Wire> {
+    queue: Q,
+    shift_register: Option<Shifting>,
+    wire: W,
+    char_ticks: u16,
+    overflows: u64,
+    is_thr_pending: bool,
+    status: LSR,
+}
+
 /// A transmitter as plain data, without the bytes on its wire.
 pub struct TransmitterData {
     /// The bytes in the FIFO or in THR, from the front.
@@ -31,18 +43,6 @@ pub struct TransmitterData {
     pub overflows: u64,
     /// Whether a `THR_EMPTY` interrupt is pending.
     pub is_thr_pending: bool,
-}
-
-/// The transmitter: bytes that are written to DATA are first in the queue, then in the shift
-/// register, and then on the wire.
-pub struct Transmitter<Q: Fifo<u8>, W: Wire> {
-    queue: Q,
-    shift_register: Option<Shifting>,
-    wire: W,
-    char_ticks: u16,
-    overflows: u64,
-    is_thr_pending: bool,
-    status: LSR,
 }
 
 // Returns what LSR shows of a transmitter with this queue and this shift register.
@@ -155,6 +155,14 @@ impl<Q: Fifo<u8>, W: Wire> TransmitterParts for Transmitter<Q, W> {
         self.status = status_of(&self.queue, self.shift_register);
     }
 
+    fn count_overflow(&mut self) {
+        self.overflows = self.overflows.saturating_add(1);
+    }
+
+    fn char_ticks(&self) -> u16 {
+        self.char_ticks
+    }
+
     fn shifting(&self) -> Option<Shifting> {
         self.shift_register
     }
@@ -170,14 +178,6 @@ impl<Q: Fifo<u8>, W: Wire> TransmitterParts for Transmitter<Q, W> {
 
     fn send(&mut self, byte: u8) {
         self.wire.push(byte);
-    }
-
-    fn char_ticks(&self) -> u16 {
-        self.char_ticks
-    }
-
-    fn count_overflow(&mut self) {
-        self.overflows = self.overflows.saturating_add(1);
     }
 
     fn status(&self) -> LSR {

@@ -19,6 +19,12 @@ pub trait TransmitterParts {
     /// Empties the queue.
     fn clear_queue(&mut self);
 
+    /// Counts a byte that was written while there was no room. The count saturates.
+    fn count_overflow(&mut self);
+
+    /// Returns the ticks that a character takes to be sent.
+    fn char_ticks(&self) -> u16;
+
     /// Returns the character in the shift register.
     fn shifting(&self) -> Option<Shifting>;
 
@@ -30,12 +36,6 @@ pub trait TransmitterParts {
 
     /// Appends a byte to the wire. The caller must show that there is room.
     fn send(&mut self, byte: u8);
-
-    /// Returns the ticks that a character takes to be sent.
-    fn char_ticks(&self) -> u16;
-
-    /// Counts a byte that was written while there was no room. The count saturates.
-    fn count_overflow(&mut self);
 
     /// Returns what LSR shows of the transmitter.
     fn status(&self) -> LSR;

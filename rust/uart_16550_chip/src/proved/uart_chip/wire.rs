@@ -2,11 +2,11 @@
 
 /// A wire with room for some number of bytes, wherever they are.
 pub trait Wire {
-    /// Returns the number of bytes that the wire has room for.
-    fn capacity(&self) -> usize;
-
     /// Returns how many more bytes the wire has room for.
     fn room(&self) -> usize;
+
+    /// Returns the number of bytes that the wire has room for.
+    fn capacity(&self) -> usize;
 
     /// Returns the bytes, from the first that was sent.
     fn as_slice(&self) -> &[u8];

@@ -33,10 +33,6 @@ impl<T: Copy> Fifo<T> for FixedFifo<T> {
         self.len
     }
 
-    fn is_empty(&self) -> bool {
-        self.len == 0
-    }
-
     fn get(&self, i: usize) -> Option<T> {
         if i < self.len {
             Some(self.slots[(self.start + i) % FIFO_SIZE])
@@ -89,12 +85,12 @@ impl FixedWire {
 }
 
 impl Wire for FixedWire {
-    fn capacity(&self) -> usize {
-        self.limit
-    }
-
     fn room(&self) -> usize {
         self.limit - self.count
+    }
+
+    fn capacity(&self) -> usize {
+        self.limit
     }
 
     fn as_slice(&self) -> &[u8] {

@@ -1,7 +1,8 @@
 use Rattle.std.proofs.Common.{◌∙◌, refl, ap, bit_or}
 use Rattle.std.specs.Int.NonZero.{non_zero_u64_get}
 use Rattle.uart_spec.specs.declared.registers.offsets.TheConstants as offsets
-use Rattle.uart_16550.specs.Loopback.{line_changes, with_changes}
+use Rattle.uart_spec.specs.Lines.{line_changes}
+use Rattle.uart_16550.specs.Loopback.{with_changes}
 use Rattle.uart_16550.proofs.Making.{made_only}
 use Rattle.uart_16550.proofs.Doings.{did_then, did_made, did_set, did_among}
 use Rattle.uart_16550.proofs.Loopbacks.{made_value}
@@ -15,7 +16,7 @@ returns g c =
     let restored =
     made_only _ _ (made_value offsets.MCR _ _ (c.bits-2.ensures tt) c.write_register-2.ensures)
     (made_value offsets.IER _ _ (c.bits-3.ensures tt) c.write_register-3.ensures) in
-    let changes = c.line_changes.ensures ∙ ap (line_changes c.args.before.0) (c.from_bits_retain-now.ensures tt) in
+    let changes = c.changes_since.ensures ∙ ap (line_changes c.args.before.0) (c.from_bits_retain-now.ensures tt) in
     let msr = c.insert.ensures tt ∙ ap (bit_or d.saved_msr.0) changes in
     did_among (λ f l after t. (now, t))
     (did_then (did_made left) (did_then c.read_plain.ensures (did_then (did_made restored)

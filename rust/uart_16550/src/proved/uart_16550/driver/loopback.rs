@@ -10,28 +10,6 @@ const TEST_BYTE: u8 = 0x42;
 
 const TEST_MESSAGE: [u8; 16] = *b"hello world!1337";
 
-// Returns the bits if the flag is set, else none.
-fn flag(on: bool, bits: MSR) -> MSR {
-    if on { bits } else { MSR::from_bits_retain(0) }
-}
-
-// Returns whether a line differs between two readings.
-fn differs(before: MSR, now: MSR, line: MSR) -> bool {
-    before.intersection(line) != now.intersection(line)
-}
-
-// Returns the changes of the lines between two readings, as their bits.
-fn line_changes(before: MSR, now: MSR) -> MSR {
-    let cts = flag(differs(before, now, MSR::CTS), MSR::DELTA_CTS);
-    let dsr = flag(differs(before, now, MSR::DSR), MSR::DELTA_DSR);
-    let ri = flag(
-        before.contains(MSR::RI) && !now.contains(MSR::RI),
-        MSR::TRAILING_EDGE_RI,
-    );
-    let cd = flag(differs(before, now, MSR::CD), MSR::DELTA_CD);
-    cts.union(dsr).union(ri.union(cd))
-}
-
 impl<B: Backend> Uart16550<B> {
     // Discards received bytes until none is available. Returns false after as many bytes as the
     // spin limit.
@@ -135,7 +113,7 @@ impl<B: Backend> Uart16550<B> {
         let now = MSR::from_bits_retain(self.read_plain(offsets::MSR));
         self.write_register(offsets::MCR, mcr.bits());
         self.write_register(offsets::IER, ier.bits());
-        self.saved_msr.insert(line_changes(before, now));
+        self.saved_msr.insert(now.changes_since(before));
         self.saved_lsr = noted;
     }
 
