@@ -106,14 +106,12 @@ impl<B: Backend> Uart16550<B> {
     pub(crate) fn receive_one(&mut self) -> Option<u8>
         ensures { Made B.step (Awaits result) self.old self.new }
     {
-        match self.try_receive_byte() {
-            Ok(byte) => return Some(byte),
-            Err(_) => {}
+        if let Ok(byte) = self.try_receive_byte() {
+            return Some(byte);
         }
         for _turn in 1..self.spin_limit.get() {
-            match self.try_receive_byte() {
-                Ok(byte) => return Some(byte),
-                Err(_) => {}
+            if let Ok(byte) = self.try_receive_byte() {
+                return Some(byte);
             }
         }
         None

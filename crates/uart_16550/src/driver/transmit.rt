@@ -153,14 +153,12 @@ impl<B: Backend> Uart16550<B> {
     fn wait_to_send(&mut self) -> bool
         ensures { Made B.step (WaitsToSend result) self.old self.new }
     {
-        match self.ready_to_send() {
-            Ok(()) => return true,
-            Err(_) => {}
+        if let Ok(()) = self.ready_to_send() {
+            return true;
         }
         for _turn in 1..self.spin_limit.get() {
-            match self.ready_to_send() {
-                Ok(()) => return true,
-                Err(_) => {}
+            if let Ok(()) = self.ready_to_send() {
+                return true;
             }
         }
         false

@@ -9,8 +9,9 @@ returns-in-Ok g c = made_at_once SendMiss c.in-Ok.ensures
 
 pub returns-in-Ok-ready_to_send : goal.returns-in-Ok-ready_to_send
 returns-in-Ok-ready_to_send g c =
-    made_then (made_few _ _ (omega (arith, ap non_zero_u64_get c.in-Err.ensures.limit)) c.loop-turn.invariant) c.in-Ok-ready_to_send.ensures
+    made_then (made_few _ _ (omega (arith, ap non_zero_u64_get c.in_default.ensures.limit)) c.loop-turn.invariant)
+    c.in-Ok-ready_to_send.ensures
 
 pub loop-turn-preserved : goal.loop-turn-preserved
 loop-turn-preserved g c =
-    made_times _ _ c.loop-turn.invariant (made_among (λ l t. (c.in-Err-ready_to_send.field-0, t)) c.in-Err-ready_to_send.ensures)
+    made_times _ _ c.loop-turn.invariant (made_among (λ l t. (c.in_default-ready_to_send.field-0, t)) c.in_default-ready_to_send.ensures)

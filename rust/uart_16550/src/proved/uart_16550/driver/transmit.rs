@@ -137,14 +137,12 @@ impl<B: Backend> Uart16550<B> {
     // Waits until bytes may be written. The first check is separate, since it mostly succeeds.
     #[inline(always)]
     fn wait_to_send(&mut self) -> bool {
-        match self.ready_to_send() {
-            Ok(()) => return true,
-            Err(_) => {}
+        if let Ok(()) = self.ready_to_send() {
+            return true;
         }
         for _turn in 1..self.spin_limit.get() {
-            match self.ready_to_send() {
-                Ok(()) => return true,
-                Err(_) => {}
+            if let Ok(()) = self.ready_to_send() {
+                return true;
             }
         }
         false
