@@ -12,9 +12,9 @@ OUTPUT = "rust/uart_16550_tests/src/erased"
 
 # A folder or file of sources, its module of the crate of tests, and what `crate::` and `super::*` are there.
 PARTS = [
+    ("uart_16550/src/call.rt", "call", "crate::libraries::uart_16550"),
     ("uart_16550/src/replay.rt", "replay", "crate::libraries::uart_16550"),
     ("uart_calls/src/lib.rt", "uart_calls", "crate::erased::uart_calls"),
-    ("uart_calls/src/call.rt", "uart_calls/call", "crate::erased::uart_calls"),
     ("uart_calls/src/performing.rt", "uart_calls/performing", "crate::erased::uart_calls"),
     ("uart_spec/src/tests.rt", "uart_spec", "crate::libraries::uart_spec"),
     ("uart_uses/src/tests/rings.rt", "uart_ring", "crate::libraries::uart_ring"),

@@ -13,5 +13,6 @@ pub mod Pio
 pub mod Mmio
 pub mod Loopback
 pub mod Choice
+pub mod Calls
 pub mod DriverCalls
 pub mod Replay

@@ -12,6 +12,7 @@ ghost use Rattle.uart_16550.specs.DriverCalls.{SavingCall, SavingLists};
 ghost use Rattle.uart_16550.specs.Mmio.{Mapped};
 ghost use Rattle.uart_16550.specs.Pio.{Ports};
 ghost use Rattle.uart_16550.specs.Replay.{Repeats, RepeatsSaving};
+ghost use Rattle.uart_16550.specs.declared.call.TheConstants.{CALL_BYTES};
 ghost use Rattle.uart_16550.specs.declared.driver.TheConstants.{DEFAULT_SPIN_LIMIT};
 ghost use Rattle.uart_16550.specs.declared.dump.ConfigRegisterDump.{ConfigRegisterDump};
 
@@ -52,6 +53,11 @@ pub fn calls_have_one_outcome<B: Backend>()
 pub fn replays_repeat_calls<B: Backend>()
     ensures saving { (call : SavingCall) → RepeatsSaving (SavingLists call) B.step }
     ensures changing { (call : ChangingCall) → Repeats (ChangingDoing call) B.step }
+{}
+
+/// The most bytes of a call as data.
+pub fn limits_are_these()
+    ensures { CALL_BYTES ≡ 64 }
 {}
 
 /// The spin limit of a driver until `set_spin_limit` is called.

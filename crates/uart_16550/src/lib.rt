@@ -22,6 +22,7 @@
 
 mod address;
 pub mod backend;
+pub mod call;
 mod driver;
 mod dump;
 pub mod embedded_io;

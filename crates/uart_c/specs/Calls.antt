@@ -7,11 +7,11 @@ use Rattle.uart_c.specs.declared.access.UartAccess.{UartAccess}
 use Rattle.uart_c.specs.declared.answer.UartAnswer.{UartAnswer}
 use Rattle.uart_c.specs.declared.codes.TheConstants as code
 use Rattle.uart_c.specs.declared.call.UartCall.{UartCall}
-use Rattle.uart_calls.specs.declared.call.Call.{Call}
-use Rattle.uart_calls.specs.declared.call.Call.TheVariants as call
-use Rattle.uart_calls.specs.declared.call.TheConstants.{CALL_BYTES}
-use Rattle.uart_calls.specs.declared.call.Answer.{Answer}
-use Rattle.uart_calls.specs.declared.call.Answer.TheVariants as answer
+use Rattle.uart_16550.specs.declared.call.Call.{Call}
+use Rattle.uart_16550.specs.declared.call.Call.TheVariants as call
+use Rattle.uart_16550.specs.declared.call.TheConstants.{CALL_BYTES}
+use Rattle.uart_16550.specs.declared.call.Answer.{Answer}
+use Rattle.uart_16550.specs.declared.call.Answer.TheVariants as answer
 use Rattle.uart_spec.specs.Access.{Access, Read, Write}
 use Rattle.uart_spec.specs.Bits.{flag}
 use Rattle.uart_spec.specs.declared.errors.ByteSendError.{ByteSendError}

@@ -2,13 +2,13 @@
 ghost use Rattle.std.specs.Prelude.{◌≡◌, IfSome, IsNone, map};
 ghost use Rattle.uart_16550.specs.Driver.{Fields};
 ghost use Rattle.uart_16550.specs.State.{fields_of};
-ghost use Rattle.uart_calls.specs.Calls.{IsRunnable};
-ghost use Rattle.uart_calls.specs.declared.call.Answer.{Answer};
+ghost use Rattle.uart_16550.specs.Calls.{IsRunnable};
+ghost use Rattle.uart_16550.specs.declared.call.Answer.{Answer};
 ghost use Rattle.uart_calls.specs.Lists.{IsFollowed, IsListOf, IsNext, Makes};
 
-use crate::call::{Answer, Call};
 use crate::performing::perform;
 use crate::tape::{Recorded, Request, Tape};
+use uart_16550::call::{Answer, Call};
 use uart_16550::{DriverState, Uart16550, Uart16550Tty};
 
 /// What a call returned, and the state of the driver after it.

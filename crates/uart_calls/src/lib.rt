@@ -1,4 +1,4 @@
-//! Calls of the driver and their answers as data, and the function that makes such a call, over any
+//! What a call of the driver as data means, and the function that makes such a call, over any
 //! backend.
 //!
 //! [`check`] returns whether a list of accesses is one that a call makes; if it returns `None`, the
@@ -6,7 +6,6 @@
 //! after some accesses, and [`follow`] how much of a list it makes.
 #![tactic(auto)]
 
-mod call;
 mod checking;
 pub mod laws;
 mod performing;
@@ -14,7 +13,7 @@ mod tape;
 #[cfg(test)]
 mod tests;
 
-pub use call::{Answer, CALL_BYTES, Call};
 pub use checking::{Followed, NextStep, Returned, Turn, check, follow, next};
 pub use performing::perform;
 pub use tape::{Recorded, Request, Tape};
+pub use uart_16550::call::{Answer, CALL_BYTES, Call};

@@ -13,7 +13,7 @@ ghost use Rattle.uart_language.specs.Output.{final_lines, printed};
 use bitflags::Flags;
 use std::alloc::{AllocError, Global};
 use uart_16550::ConfigRegisterDump;
-use uart_calls::Answer;
+use uart_16550::call::Answer;
 use uart_spec::{
     ArrivalMark, ByteSendError, InitError, InvalidDivisorError, LoopbackError,
     RemoteReadyToReceiveError,

@@ -3,8 +3,13 @@ pub mod arrayvec;
 
 /// The driver.
 pub mod uart_16550 {
-    pub use crate::erased::replay;
+    pub use crate::erased::{call, replay};
     pub use ::uart_16550::native::*;
+
+    /// The type that an answer holds.
+    pub mod dump {
+        pub use ::uart_16550::native::ConfigRegisterDump;
+    }
 }
 
 /// Registers, arithmetic, configuration and errors.

@@ -1,10 +1,10 @@
 //! Calls of a driver, and their answers.
 
 ghost use Rattle.std.specs.Prelude.{◌↔◌, IsTrue};
-ghost use Rattle.uart_calls.specs.Calls.{IsRunnable};
+ghost use Rattle.uart_16550.specs.Calls.{IsRunnable};
 
+use crate::dump::ConfigRegisterDump;
 use arrayvec::{ArrayString, ArrayVec};
-use uart_16550::ConfigRegisterDump;
 use uart_spec::registers::IER;
 use uart_spec::{ByteSendError, Config, InitError, LoopbackError, RemoteReadyToReceiveError};
 

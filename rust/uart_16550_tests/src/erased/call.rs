@@ -2,8 +2,8 @@
 use crate::runtime::{AllocGlobal, HostRuntime, assert, assert_eq, assert_ne, format};
 // Calls of a driver, and their answers.
 
+use crate::libraries::uart_16550::dump::ConfigRegisterDump;
 use crate::libraries::arrayvec::{ArrayString, ArrayVec};
-use crate::libraries::uart_16550::ConfigRegisterDump;
 use crate::libraries::uart_spec::registers::IER;
 use crate::libraries::uart_spec::{ByteSendError, Config, InitError, LoopbackError, RemoteReadyToReceiveError};
 
