@@ -7,3 +7,4 @@ pub mod Faults
 pub mod Exact
 pub mod Parsed
 pub mod Playable
+pub mod Pieces

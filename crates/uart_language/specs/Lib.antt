@@ -6,3 +6,4 @@ pub mod Script
 pub mod Items
 pub mod Reading
 pub mod Output
+pub mod Streams

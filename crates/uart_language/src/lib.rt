@@ -1,5 +1,5 @@
-//! The script language: the meaning of the bytes of a script, and what is printed for a script that
-//! was run.
+//! The script language: the meaning of the bytes of a script, what is printed for a script that was
+//! run, and where both are read from and written to.
 //!
 //! [`parse`] reads a [`Script`]: a chip, the events of its schedule, and the calls to be made on
 //! it. Bytes that are not a script are refused with the first faulty line and its [`Cause`]. The
@@ -13,7 +13,9 @@ mod items;
 pub mod limits;
 mod numbers;
 mod parsing;
+mod play_error;
 mod rendering;
+mod streams;
 mod text;
 mod words;
 
@@ -22,5 +24,7 @@ pub use fields::byte_in;
 pub use items::{Item, item_at};
 pub use numbers::number_of;
 pub use parsing::{Script, parse};
+pub use play_error::PlayError;
 pub use rendering::{hex_digit, push_answer, render};
+pub use streams::{Fault, Input, Output, Std, read_all, write_all};
 pub use text::{first_line, has_bad_byte, word_at, word_count};

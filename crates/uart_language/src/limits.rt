@@ -1,8 +1,11 @@
 //! The limits of the language.
 ghost use Rattle.std.specs.Prelude.{◌≡◌};
 
-/// The longest script, in bytes. The crate that plays scripts reads at most one byte more.
+/// The longest script, in bytes.
 pub const MOST_BYTES: usize = 65_536;
+
+/// The most bytes that are read of a script: one more than the longest script has.
+pub const MOST_READ: usize = MOST_BYTES + 1;
 
 /// The longest script, in lines.
 pub const MOST_LINES: u32 = 4_096;
@@ -28,6 +31,7 @@ pub const MOST_DIGITS: usize = 19;
 /// The values of the limits in the definition of the language.
 pub fn limits_are_these()
     ensures bytes { MOST_BYTES ≡ 65536 }
+    ensures read { MOST_READ ≡ 65537 }
     ensures lines { MOST_LINES ≡ 4096 }
     ensures limit { MOST_LIMIT ≡ 1000000 }
     ensures default_limit { DEFAULT_LIMIT ≡ 1000000 }

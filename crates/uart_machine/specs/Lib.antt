@@ -22,6 +22,7 @@ pub use Rattle.uart_run.specs.Run
 pub use Rattle.uart_language.specs.Script
 pub use Rattle.uart_language.specs.Sayings
 pub use Rattle.uart_language.specs.Reading
+pub use Rattle.uart_language.specs.Streams
 pub use Rattle.uart_run.specs.Served
 pub use Rattle.uart_run.specs.Session
 pub use Rattle.uart_device.specs.Sound

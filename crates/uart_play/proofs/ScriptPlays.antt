@@ -7,9 +7,10 @@ use Rattle.uart_language.specs.declared.cause.Cause.{Cause}
 use Rattle.uart_language.specs.declared.cause.ScriptError.{ScriptError}
 use Rattle.uart_language.specs.declared.cause.ScriptError.TheVariants as errors
 use Rattle.uart_language.specs.Script.{Plan, IsScript, IsFaulty, long, empty, faulty, IsParsed}
-use Rattle.uart_play.specs.declared.playing.TheConstants.{MOST_READ}
+use Rattle.uart_language.specs.declared.limits.TheConstants.{MOST_READ}
 use Rattle.uart_play.specs.ScriptOutput.{IsOutput}
-use Rattle.uart_play.specs.Play.{IsReadText, IsPlayed, Outcome, play_error}
+use Rattle.uart_language.specs.Streams.{IsReadText, play_error}
+use Rattle.uart_play.specs.Play.{IsPlayed, Outcome}
 
 -- a text that did not fill its room is the whole input
 whole_is : (input rest text : List ℕ) → IsReadText (Some input) (Some rest) text → length text < MOST_READ → input ≡ text

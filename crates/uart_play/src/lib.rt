@@ -6,7 +6,6 @@
 
 pub mod laws;
 mod playing;
-mod streams;
 
-pub use playing::{PlayError, play};
-pub use streams::{Fault, Input, Output, Std};
+pub use playing::play;
+pub use uart_language::{Fault, Input, Output, PlayError, Std};

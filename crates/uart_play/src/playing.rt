@@ -1,118 +1,22 @@
 //! Plays a script from a reader to a writer.
 
-ghost use Rattle.std.specs.Prelude.{◌≡◌, ◌≤◌, ◌||◌, length, IfOk, IfErr, IfSome, OnOk, is_err};
-ghost use Rattle.std.specs.Io.KnownBytes.{Appends, IsAtEnd};
-ghost use Rattle.uart_play.specs.declared.playing.PlayError.TheVariants.{OutOfMemory};
+ghost use Rattle.std.specs.Prelude.{◌≡◌, ◌||◌, length, IfOk, IfSome, OnOk};
+ghost use Rattle.std.specs.Io.KnownBytes.{IsAtEnd};
 ghost use Rattle.uart_language.specs.Script.{plan_of, IsPlayable};
 ghost use Rattle.uart_chip.specs.Transmitter.{held};
 ghost use Rattle.uart_device.specs.Conserved.{waiting};
 ghost use Rattle.uart_play.specs.ScriptOutput.{first_machine, output_of, IsFirst, IsOutput};
-ghost use Rattle.uart_play.specs.Play.{ConsumesAtMost, is_read_fault, is_write_fault};
-ghost use Rattle.uart_play.specs.Play.{IsReadText, IsReading, WritesFront, Outcome};
-ghost use Rattle.uart_play.specs.Play.{WritesNothing, play_error};
+ghost use Rattle.uart_language.specs.Streams.{ConsumesAtMost, is_read_fault, is_write_fault};
+ghost use Rattle.uart_play.specs.Play.{Outcome, WritesNothing};
 
-use crate::streams::{Fault, Input, Output};
 use std::alloc::{AllocError, Global};
-use thiserror::Error;
 use uart_16550::{Uart16550, Uart16550Tty};
 use uart_calls::Answer;
 use uart_chip::ArrivalMark;
 use uart_device::Device16550;
-use uart_language::limits::MOST_BYTES;
-use uart_language::{Cause, Script, ScriptError, parse, render};
+use uart_language::limits::MOST_READ;
+use uart_language::{Input, Output, PlayError, Script, parse, read_all, render, write_all};
 use uart_run::run;
-
-/// Why a script was not played to its end.
-///
-/// Something was written only at a `WriteFault`: a beginning of the output.
-#[derive(Clone, Copy, Debug, PartialEq, Eq, Error)]
-pub enum PlayError {
-    /// The input is not a script: the first faulty line, counted from 1, and what is wrong with it;
-    /// line 0 if there are too many bytes.
-    #[error("line {line}: {}", .cause.text())]
-    Refused {
-        /// The number of the line.
-        line: u32,
-        /// What is wrong with it.
-        cause: Cause,
-    },
-    /// The reader failed.
-    #[error("read fault")]
-    ReadFault,
-    /// The writer failed, or accepted no byte.
-    #[error("write fault")]
-    WriteFault,
-    /// Memory for the script, its machine or its output could not be allocated.
-    #[error("out of memory")]
-    OutOfMemory,
-}
-
-impl From<ScriptError> for PlayError {
-    ghost from_gives = { λ e p. p ≡ play_error e };
-
-    fn from(error: ScriptError) -> PlayError {
-        match error {
-            ScriptError::Refused { line, cause } => PlayError::Refused { line, cause },
-            ScriptError::OutOfMemory => PlayError::OutOfMemory,
-        }
-    }
-}
-
-impl From<AllocError> for PlayError {
-    ghost from_gives = { λ _ p. p ≡ OutOfMemory };
-
-    fn from(_error: AllocError) -> PlayError {
-        PlayError::OutOfMemory
-    }
-}
-
-/// The most bytes that are read: one more than the longest script has.
-const MOST_READ: usize = MOST_BYTES + 1;
-
-/// The size of the buffer of a read.
-const CHUNK: usize = 512;
-
-/// Reads to the end of the input, or `MOST_READ` bytes.
-fn read_all<R: Input>(alloc: Global, reader: &mut R) -> Result<Vec<u8>, PlayError>
-    ensures whole { IfOk result (λ text.
-        IsReadText (R.remaining reader.old) (R.remaining reader.new) text.items) }
-    ensures most { ConsumesAtMost MOST_READ (R.remaining reader.old) (R.remaining reader.new) }
-    ensures fault { R.has_failed reader.new ≡ (R.has_failed reader.old || is_read_fault result) }
-    ensures kind { IfErr result IsReading }
-{
-    let mut text = Vec::new(alloc);
-    let mut chunk = [0u8; CHUNK];
-    while text.len() < MOST_READ {
-        let room = (MOST_READ - text.len()).min(CHUNK);
-        match reader.read(&mut chunk[..room]) {
-            Err(_) => return Err(PlayError::ReadFault),
-            Ok(0) => return Ok(text),
-            Ok(count) => {
-                if text.extend_from_slice(&chunk[..count]).is_err() {
-                    return Err(PlayError::OutOfMemory);
-                }
-            }
-        }
-    }
-    Ok(text)
-}
-
-/// Writes all of the bytes.
-fn write_all<W: Output>(writer: &mut W, bytes: &[u8]) -> Result<(), Fault>
-    ensures all { OnOk result (Appends (W.contents writer.old) (W.contents writer.new) bytes.now) }
-    ensures front { WritesFront (W.contents writer.old) (W.contents writer.new) bytes.now }
-    ensures fault { W.has_failed writer.new ≡ (W.has_failed writer.old || is_err result) }
-{
-    let mut done = 0;
-    while done < bytes.len() {
-        match writer.write(&bytes[done..]) {
-            Err(_) => return Err(Fault),
-            Ok(0) => return Err(Fault),
-            Ok(count) => done += count,
-        }
-    }
-    Ok(())
-}
 
 // Returns the machine of the script.
 fn machine_for(alloc: Global, script: &Script) -> Result<Device16550, AllocError>

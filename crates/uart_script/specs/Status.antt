@@ -1,8 +1,8 @@
 -- The statuses of the program.
 use Rattle.std.specs.Prelude.{ℕ, Result, Ok, Err}
-use Rattle.uart_play.specs.declared.playing.PlayError.{PlayError}
-use Rattle.uart_play.specs.declared.playing.PlayError.TheVariants.{Refused, ReadFault, WriteFault}
-use Rattle.uart_play.specs.declared.playing.PlayError.TheVariants.{OutOfMemory}
+use Rattle.uart_language.specs.declared.play_error.PlayError.{PlayError}
+use Rattle.uart_language.specs.declared.play_error.PlayError.TheVariants.{Refused, ReadFault, WriteFault}
+use Rattle.uart_language.specs.declared.play_error.PlayError.TheVariants.{OutOfMemory}
 
 -- 1 for a script that is refused, 2 for a reader or writer that failed, 3 for out of memory
 abbrev pub error_status : PlayError → ℕ

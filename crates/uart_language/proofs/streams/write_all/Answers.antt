@@ -1,6 +1,6 @@
 use Rattle.std.proofs.Common.{◌∙◌, arith}
-use Rattle.uart_play.proofs.Pieces.{appends_more, none_failed, take_left}
-use Rattle.uart_play.proofs.playing.write_all.Goals as goal
+use Rattle.uart_language.proofs.Pieces.{appends_more, none_failed, take_left}
+use Rattle.uart_language.proofs.streams.write_all.Goals as goal
 
 pub loop-done-preserved : goal.loop-done-preserved
 loop-done-preserved g c = (

@@ -1,6 +1,6 @@
 use Rattle.std.proofs.Common.{◌≡◌, ◌≤◌, ◌-◌, length, take}
 use Rattle.std.specs.Io.KnownBytes.{Appends}
-use Rattle.uart_play.proofs.playing.write_all.Given as goal
+use Rattle.uart_language.proofs.streams.write_all.Given as goal
 
 abbrev pub invariant-loop-done : goal.invariant-loop-done
 invariant-loop-done g l =

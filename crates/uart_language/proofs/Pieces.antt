@@ -19,10 +19,6 @@ consumes_more (Some u) None c x y p q = absurd p
 consumes_more (Some u) (Some v) None x y p q = absurd q
 consumes_more (Some u) (Some v) (Some w) x y p q = p ∙ rw (q, append_assoc) refl
 
-pub still : (old new b : Bool) → new ≡ (old || b) → b ≡ false → new ≡ old
-still true new b e f = e
-still false new b e f = e ∙ f
-
 -- a write of what is left is one of the front of it
 pub take_left : (m n : ℕ) (bytes : List ℕ) → take n (take (length bytes - m) (drop m bytes)) ≡ take n (drop m bytes)
 take_left m n bytes = ap (take n) (take_all (length bytes - m) (drop m bytes) (omega (arith, length-drop m bytes)))

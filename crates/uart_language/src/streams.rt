@@ -1,12 +1,19 @@
 //! Where a script is read from, and where its output is written to.
 
 ghost use Rattle.std.specs.Prelude.{◌≡◌, ◌≤◌, ◌||◌, Option, List, ℕ};
-ghost use Rattle.std.specs.Prelude.{Bool, false, length, IfOk, is_err};
-ghost use Rattle.std.specs.Io.KnownBytes.{ReadConsumes, WriteAppends};
-ghost use Rattle.uart_play.specs.Play.{takes_none};
+ghost use Rattle.std.specs.Prelude.{Bool, false, length, IfOk, IfErr, OnOk, is_err};
+ghost use Rattle.std.specs.Io.KnownBytes.{Appends, ReadConsumes, WriteAppends};
+ghost use Rattle.uart_language.specs.Streams.{takes_none, is_read_fault, IsReading};
+ghost use Rattle.uart_language.specs.Streams.{ConsumesAtMost, IsReadText, WritesFront};
 
+use crate::limits::MOST_READ;
+use crate::play_error::PlayError;
+use std::alloc::Global;
 use std::io::{Read, Write};
 use thiserror::Error;
+
+/// The size of the buffer of a read.
+const CHUNK: usize = 512;
 
 /// The error of a read or a write.
 #[derive(Clone, Copy, Debug, PartialEq, Eq, Error)]
@@ -54,7 +61,7 @@ pub struct Std<T> {
 }
 
 impl<T> Std<T> {
-    ghost use Rattle.uart_play.specs.Play.{std_inner, std_has_failed};
+    ghost use Rattle.uart_language.specs.Streams.{std_inner, std_has_failed};
 
     /// Returns the reader or writer, which has not failed.
     pub fn new(inner: T) -> Self
@@ -69,7 +76,7 @@ impl<T> Std<T> {
 }
 
 impl<T: Read> Input for Std<T> {
-    ghost use Rattle.uart_play.specs.Play.{std_inner, std_has_failed};
+    ghost use Rattle.uart_language.specs.Streams.{std_inner, std_has_failed};
 
     ghost remaining = { λ s. T.remaining (std_inner s) };
 
@@ -87,7 +94,7 @@ impl<T: Read> Input for Std<T> {
 }
 
 impl<T: Write> Output for Std<T> {
-    ghost use Rattle.uart_play.specs.Play.{std_inner, std_has_failed};
+    ghost use Rattle.uart_language.specs.Streams.{std_inner, std_has_failed};
 
     ghost contents = { λ s. T.contents (std_inner s) };
 
@@ -107,4 +114,55 @@ impl<T: Write> Output for Std<T> {
             }
         }
     }
+}
+
+/// Reads to the end of the input, or [`MOST_READ`] bytes.
+///
+/// # Errors
+///
+/// - `ReadFault` if the reader failed.
+/// - `OutOfMemory` if memory for the text could not be allocated.
+pub fn read_all<R: Input>(alloc: Global, reader: &mut R) -> Result<Vec<u8>, PlayError>
+    ensures whole { IfOk result (λ text.
+        IsReadText (R.remaining reader.old) (R.remaining reader.new) text.items) }
+    ensures most { ConsumesAtMost MOST_READ (R.remaining reader.old) (R.remaining reader.new) }
+    ensures fault { R.has_failed reader.new ≡ (R.has_failed reader.old || is_read_fault result) }
+    ensures kind { IfErr result IsReading }
+{
+    let mut text = Vec::new(alloc);
+    let mut chunk = [0u8; CHUNK];
+    while text.len() < MOST_READ {
+        let room = (MOST_READ - text.len()).min(CHUNK);
+        match reader.read(&mut chunk[..room]) {
+            Err(_) => return Err(PlayError::ReadFault),
+            Ok(0) => return Ok(text),
+            Ok(count) => {
+                if text.extend_from_slice(&chunk[..count]).is_err() {
+                    return Err(PlayError::OutOfMemory);
+                }
+            }
+        }
+    }
+    Ok(text)
+}
+
+/// Writes all of the bytes.
+///
+/// # Errors
+///
+/// [`Fault`] if the writer failed, or accepted no byte; a beginning of the bytes may be written.
+pub fn write_all<W: Output>(writer: &mut W, bytes: &[u8]) -> Result<(), Fault>
+    ensures all { OnOk result (Appends (W.contents writer.old) (W.contents writer.new) bytes.now) }
+    ensures front { WritesFront (W.contents writer.old) (W.contents writer.new) bytes.now }
+    ensures fault { W.has_failed writer.new ≡ (W.has_failed writer.old || is_err result) }
+{
+    let mut done = 0;
+    while done < bytes.len() {
+        match writer.write(&bytes[done..]) {
+            Err(_) => return Err(Fault),
+            Ok(0) => return Err(Fault),
+            Ok(count) => done += count,
+        }
+    }
+    Ok(())
 }

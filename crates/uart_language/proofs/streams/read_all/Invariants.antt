@@ -1,7 +1,7 @@
 use Rattle.std.proofs.Common.{◌≡◌, ◌≤◌, ◌-◌, length}
 use Rattle.std.specs.Io.KnownBytes.{Consumes}
-use Rattle.uart_play.specs.declared.playing.TheConstants.{MOST_READ}
-use Rattle.uart_play.proofs.playing.read_all.Given as goal
+use Rattle.uart_language.specs.declared.limits.TheConstants.{MOST_READ}
+use Rattle.uart_language.proofs.streams.read_all.Given as goal
 
 abbrev pub invariant-loop-chunk : goal.invariant-loop-chunk
 invariant-loop-chunk g l = record {

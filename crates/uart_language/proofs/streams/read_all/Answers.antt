@@ -1,6 +1,6 @@
 use Rattle.std.proofs.Common.{◌++◌, take, arith}
-use Rattle.uart_play.proofs.Pieces.{consumes_more, within_most}
-use Rattle.uart_play.proofs.playing.read_all.Goals as goal
+use Rattle.uart_language.proofs.Pieces.{consumes_more, within_most}
+use Rattle.uart_language.proofs.streams.read_all.Goals as goal
 
 pub returns-then-is_err-clause-most : goal.returns-then-is_err-clause-most
 returns-then-is_err-clause-most g c = (
