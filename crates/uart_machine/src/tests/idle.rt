@@ -30,8 +30,8 @@ const TICKING: (Event, u16) = (Event::Lines(0), 1000);
 #[test]
 fn jumps_pass_the_ticks(rt: HostRuntime) -> Result<(), Fail> {
     for (gate, given, mcr, want) in [
-        // Each move is a turn, and so is what is left. A character of 5 ticks enters the free shift
-        // place in the first and leaves it in the sixth.
+        // Each move of a character ends a jump, and so does the last tick. A character of 5 ticks
+        // enters the free shift register in the first tick and leaves it in the sixth.
         (UNGATED, (0, 64, 0), 0x00, (0, 0, 0)),
         (UNGATED, (0, 64, 1), 0x00, (1, 0, 0)),
         (UNGATED, (0, 64, 65_535), 0x00, (1, 0, 0)),
