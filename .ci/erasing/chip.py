@@ -28,7 +28,6 @@ OF_THE_DRIVER = "of the driver, which is in rust/uart_16550"
 HEAP = "allocates: for a chip under a schedule"
 
 LEFT_OUT = {
-    "uart_spec/src/tests.rt": table.LEFT_OUT["uart_spec/src/tests.rt"],
     "uart_spec/src/backend.rt": OF_THE_DRIVER,
     "uart_spec/src/config.rt": OF_THE_DRIVER,
     "uart_spec/src/errors.rt": OF_THE_DRIVER,

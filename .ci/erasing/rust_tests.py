@@ -16,7 +16,6 @@ PARTS = [
     ("uart_16550/src/replay.rt", "replay", "crate::libraries::uart_16550"),
     ("uart_calls/src/lib.rt", "uart_calls", "crate::erased::uart_calls"),
     ("uart_calls/src/performing.rt", "uart_calls/performing", "crate::erased::uart_calls"),
-    ("uart_spec/src/tests.rt", "uart_spec", "crate::libraries::uart_spec"),
     ("uart_uses/src/tests/rings.rt", "uart_ring", "crate::libraries::uart_ring"),
     ("uart_uses/src/tests/rings/calls.rt", "uart_ring/calls", "crate::libraries::uart_ring"),
     ("uart_uses/src/tests/rings/handler.rt", "uart_ring/handler", "crate::libraries::uart_ring"),

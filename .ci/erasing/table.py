@@ -45,7 +45,6 @@ MODULES = {
 
 # Files that are not read further, with the reason.
 LEFT_OUT = {
-    "uart_spec/src/tests.rt": "tests, in rust/uart_16550_tests",
     "uart_spec/src/event.rt": "of the chip, which is in rust/uart_16550_chip",
     "uart_16550/src/call.rt": "calls as data, for runs and scripts",
     "uart_16550/src/replay.rt": "a backend for proofs about other crates",

@@ -17,5 +17,14 @@ mod looks;
 mod loopback;
 mod replays;
 mod setup;
+mod spec;
 mod states;
 mod terminal;
+
+use std::fmt::Debug;
+use std::process::Abort;
+
+// Asserts that two values are equal. A function, since what a macro writes is proved at each use.
+fn assert_equal<T: PartialEq + Debug + Drop>(rt: &impl Abort, left: T, right: T) {
+    assert_eq!(rt; left, right);
+}

@@ -12,6 +12,8 @@ mod script;
 mod steps;
 
 use crate::{ArrivalMark, BuildError, Call, Chip, Device16550, Event};
+use std::fmt::{Debug, Display};
+use std::process::Abort;
 use std::test::Fail;
 use uart_16550::Uart16550;
 use uart_16550::backend::Backend;
@@ -104,6 +106,21 @@ const WITHOUT_FIFO: Config = Config {
     ..Config::DEFAULT
 };
 
+// Asserts that two values are equal. A function, since what a macro writes is proved at each use.
+fn assert_equal<T: PartialEq + Debug + Drop>(rt: &impl Abort, left: T, right: T) {
+    assert_eq!(rt; left, right);
+}
+
+// Asserts that two values are equal, and says where they are not.
+fn assert_equal_at<T: PartialEq + Debug + Drop>(
+    rt: &impl Abort,
+    left: T,
+    right: T,
+    place: impl Display + Drop,
+) {
+    assert_eq!(rt; left, right, "{place}");
+}
+
 fn arrive(byte: u8) -> Event {
     Event::Arrive { byte, errors: 0 }
 }
@@ -122,10 +139,11 @@ fn registers_one_by_one(rt: HostRuntime) -> Result<(), Fail> {
             let mut machine = machine(&rt, chip, 4, 64, &[])?;
             assert!(rt; write < 8 && read < 8);
             machine.write(write, value);
-            assert_eq!(rt;
+            assert_equal_at(
+                &rt,
                 machine.read(read) & mask,
                 want,
-                "{chip:?}, register {read}"
+                format_args!("{chip:?}, register {read}"),
             );
         }
     }
@@ -136,14 +154,14 @@ fn registers_one_by_one(rt: HostRuntime) -> Result<(), Fail> {
 fn thr_empty_is_told_again(rt: HostRuntime) -> Result<(), Fail> {
     let mut machine = fresh(&rt)?;
     machine.write(IER, 0x02);
-    assert_eq!(rt; machine.read(ISR), 0x02);
+    assert_equal(&rt, machine.read(ISR), 0x02);
     machine.write(IER, 0x00);
     machine.write(IER, 0x02);
-    assert_eq!(rt; machine.read(ISR), 0x02);
+    assert_equal(&rt, machine.read(ISR), 0x02);
     machine.write(IER, 0x00);
     machine.write(IER, 0x02);
-    assert_eq!(rt; machine.read(LSR), 0x60);
-    assert_eq!(rt; machine.read(ISR), 0x02);
+    assert_equal(&rt, machine.read(LSR), 0x60);
+    assert_equal(&rt, machine.read(ISR), 0x02);
     Ok(())
 }
 
@@ -191,10 +209,11 @@ fn builds_up_to_the_limits(rt: HostRuntime) -> Result<(), Fail> {
             wire_capacity,
             schedule,
         );
-        assert_eq!(rt;
+        assert_equal_at(
+            &rt,
             built.err(),
             want,
-            "{char_ticks} ticks, room for {wire_capacity}"
+            format_args!("{char_ticks} ticks, room for {wire_capacity}"),
         );
     }
     Ok(())
@@ -218,7 +237,7 @@ fn texts(rt: HostRuntime) -> Result<(), Fail> {
         ),
         (BuildError::OutOfMemory, "out of memory"),
     ] {
-        assert_eq!(rt; format!(in rt.alloc(); "{error}")?.as_str(), text);
+        assert_equal(&rt, format!(in rt.alloc(); "{error}")?.as_str(), text);
     }
     Ok(())
 }
@@ -241,12 +260,12 @@ fn send(machine: &mut Device16550, bytes: &[u8]) {
 fn a_full_wire_keeps_the_rest(rt: HostRuntime) -> Result<(), Fail> {
     let mut machine = machine(&rt, Chip::Uart16450, 1, 2, &[])?;
     send(&mut machine, &[1, 2, 3, 4, 5]);
-    assert_eq!(rt; machine.wire(), [1, 2].as_slice());
-    assert_eq!(rt; machine.held_len(), 2);
-    assert_eq!(rt; machine.held_at(0), Some(3));
-    assert_eq!(rt; machine.held_at(1), Some(4));
-    assert_eq!(rt; machine.held_at(2), None);
-    assert_eq!(rt; machine.overflows(), 0);
+    assert_equal(&rt, machine.wire(), [1, 2].as_slice());
+    assert_equal(&rt, machine.held_len(), 2);
+    assert_equal(&rt, machine.held_at(0), Some(3));
+    assert_equal(&rt, machine.held_at(1), Some(4));
+    assert_equal(&rt, machine.held_at(2), None);
+    assert_equal(&rt, machine.overflows(), 0);
     Ok(())
 }
 
@@ -255,22 +274,22 @@ fn a_gated_access_takes_no_tick(rt: HostRuntime) -> Result<(), Fail> {
     let mut machine = machine(&rt, Chip::Uart16450, 4, 64, &[Event::Access, Event::Access])?;
     machine.write(DATA, 0x41);
     machine.write(DATA, 0x42);
-    assert_eq!(rt; machine.held_at(0), Some(0x42));
-    assert_eq!(rt; machine.overflows(), 1);
+    assert_equal(&rt, machine.held_at(0), Some(0x42));
+    assert_equal(&rt, machine.overflows(), 1);
     Ok(())
 }
 
 #[test]
 fn without_fifo_the_new_character_stays(rt: HostRuntime) -> Result<(), Fail> {
     let mut machine = machine(&rt, Chip::Uart16450, 4, 64, &[arrive(0x41), arrive(0x42)])?;
-    assert_eq!(rt; machine.mark(1), Some(ArrivalMark::Pending));
-    assert_eq!(rt; machine.read(LSR), 0x63);
-    assert_eq!(rt; machine.waiting_len(), 1);
-    assert_eq!(rt; machine.read(DATA), 0x42);
-    assert_eq!(rt; machine.arrivals(), 2);
-    assert_eq!(rt; machine.mark(0), Some(ArrivalMark::Dropped));
-    assert_eq!(rt; machine.mark(1), Some(ArrivalMark::Read));
-    assert_eq!(rt; machine.mark(2), None);
+    assert_equal(&rt, machine.mark(1), Some(ArrivalMark::Pending));
+    assert_equal(&rt, machine.read(LSR), 0x63);
+    assert_equal(&rt, machine.waiting_len(), 1);
+    assert_equal(&rt, machine.read(DATA), 0x42);
+    assert_equal(&rt, machine.arrivals(), 2);
+    assert_equal(&rt, machine.mark(0), Some(ArrivalMark::Dropped));
+    assert_equal(&rt, machine.mark(1), Some(ArrivalMark::Read));
+    assert_equal(&rt, machine.mark(2), None);
     Ok(())
 }
 
@@ -284,13 +303,13 @@ fn a_full_fifo_drops_the_new_character(rt: HostRuntime) -> Result<(), Fail> {
     machine.write(FCR, 0xc7);
     assert!(rt; machine.fifo_enabled());
     machine.next();
-    assert_eq!(rt; machine.read(LSR), 0x63);
+    assert_equal(&rt, machine.read(LSR), 0x63);
     for byte in 1..=16 {
-        assert_eq!(rt; machine.read(DATA), byte);
+        assert_equal(&rt, machine.read(DATA), byte);
     }
-    assert_eq!(rt; machine.read(LSR), 0x60);
-    assert_eq!(rt; machine.mark(15), Some(ArrivalMark::Read));
-    assert_eq!(rt; machine.mark(16), Some(ArrivalMark::Dropped));
+    assert_equal(&rt, machine.read(LSR), 0x60);
+    assert_equal(&rt, machine.mark(15), Some(ArrivalMark::Read));
+    assert_equal(&rt, machine.mark(16), Some(ArrivalMark::Dropped));
     Ok(())
 }
 
@@ -303,9 +322,9 @@ fn an_error_is_reported_once(rt: HostRuntime) -> Result<(), Fail> {
     let mut machine = machine(&rt, Chip::Uart16550A, 4, 64, &[Event::Mark, parity_error])?;
     machine.write(FCR, 0xc7);
     machine.next();
-    assert_eq!(rt; machine.read(LSR), 0xe5);
-    assert_eq!(rt; machine.read(LSR), 0x61);
-    assert_eq!(rt; machine.read(DATA), 0x41);
+    assert_equal(&rt, machine.read(LSR), 0xe5);
+    assert_equal(&rt, machine.read(LSR), 0x61);
+    assert_equal(&rt, machine.read(DATA), 0x41);
     Ok(())
 }
 
@@ -314,10 +333,10 @@ fn a_reset_discards_what_waits(rt: HostRuntime) -> Result<(), Fail> {
     let mut machine = machine(&rt, Chip::Uart16550A, 4, 64, &[Event::Mark, arrive(0x41)])?;
     machine.write(FCR, 0xc7);
     machine.next();
-    assert_eq!(rt; machine.read(LSR), 0x61);
+    assert_equal(&rt, machine.read(LSR), 0x61);
     machine.write(FCR, 0xc7);
-    assert_eq!(rt; machine.waiting_at(0), None);
-    assert_eq!(rt; machine.mark(0), Some(ArrivalMark::Discarded));
+    assert_equal(&rt, machine.waiting_at(0), None);
+    assert_equal(&rt, machine.mark(0), Some(ArrivalMark::Discarded));
     Ok(())
 }
 
@@ -325,12 +344,12 @@ fn a_reset_discards_what_waits(rt: HostRuntime) -> Result<(), Fail> {
 fn modem_lines(rt: HostRuntime) -> Result<(), Fail> {
     let undone = [Event::Lines(0x10), Event::Lines(0x00)];
     let mut undone = machine(&rt, Chip::Uart16450, 4, 64, &undone)?;
-    assert_eq!(rt; undone.read(MSR), 0x01);
-    assert_eq!(rt; undone.read(MSR), 0x00);
+    assert_equal(&rt, undone.read(MSR), 0x01);
+    assert_equal(&rt, undone.read(MSR), 0x00);
     let rings = [Event::Lines(0x40), Event::Mark, Event::Lines(0x00)];
     let mut rings = machine(&rt, Chip::Uart16450, 4, 64, &rings)?;
-    assert_eq!(rt; rings.read(MSR), 0x40);
+    assert_equal(&rt, rings.read(MSR), 0x40);
     rings.next();
-    assert_eq!(rt; rings.read(MSR), 0x04);
+    assert_equal(&rt, rings.read(MSR), 0x04);
     Ok(())
 }

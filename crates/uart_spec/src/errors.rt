@@ -106,15 +106,18 @@ pub enum RemoteReadyToReceiveError {
     RemoteNotClearToSend,
 }
 
+// How each message of a [`LoopbackError`] begins.
+const LOOPBACK: &str = "loopback test failed";
+
 /// Why a loopback test failed.
 #[derive(Clone, Debug, PartialEq, Eq, Hash, Drop, Error)]
 pub enum LoopbackError {
     /// The device did not accept the single test byte, although its transmitter had been empty. The
     /// cause is always `NoCapacity`.
-    #[error("loopback test failed: couldn't send data: {0}")]
+    #[error("{head}: couldn't send data: {0}", head = LOOPBACK)]
     SendError(ByteSendError),
     /// The device returned a byte other than the test byte.
-    #[error("loopback test failed: read unexpected byte! expected={expected}, actual={actual}")]
+    #[error("{head}: read unexpected byte! expected={expected}, actual={actual}", head = LOOPBACK)]
     UnexpectedLoopbackByte {
         /// The byte that was sent, always 0x42.
         expected: u8,
@@ -122,8 +125,8 @@ pub enum LoopbackError {
         actual: u8,
     },
     /// The device returned bytes other than the test message.
-    #[error("loopback test failed: read unexpected string! expected (str)={}, actual (str)={}, \
-        actual (bytes)={actual:?}", Message(.expected), Message(.actual))]
+    #[error("{head}: read unexpected string! expected (str)={}, actual (str)={}, \
+        actual (bytes)={actual:?}", Message(.expected), Message(.actual), head = LOOPBACK)]
     UnexpectedLoopbackMsg {
         /// The bytes that were sent, always the test message.
         expected: [u8; 16],
@@ -132,7 +135,7 @@ pub enum LoopbackError {
     },
     /// The device made no progress within the spin limit. A test byte may still be in its
     /// transmitter, and is then sent after the test.
-    #[error("loopback test failed: the device stalled")]
+    #[error("{head}: the device stalled", head = LOOPBACK)]
     Stalled,
 }
 

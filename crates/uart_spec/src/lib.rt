@@ -13,8 +13,6 @@ mod errors;
 mod event;
 pub mod laws;
 pub mod registers;
-#[cfg(test)]
-mod tests;
 
 pub use baud::{
     CLK_FREQUENCY_HZ, FIFO_SIZE, NUM_REGISTERS, calc_baud_rate, calc_divisor, calc_frequency,

@@ -13,6 +13,7 @@ use crate::{
     ring_starting, running, spec, tracing,
 };
 use bitflags::Flags;
+use rings::assert_equal;
 use std::num::NonZeroU64;
 use std::test::Fail;
 use uart_16550::replay::Entry;
@@ -43,7 +44,11 @@ fn a_divisor() -> Result<(), Fail> {
 fn a_line_of_a_log(rt: HostRuntime) -> Result<(), Fail> {
     let mut uart = ready_driver(&rt)?;
     driver::log_line(&mut uart, b"ready\n")?;
-    assert_eq!(rt; uart.backend().held_len() + uart.backend().wire().len(), 6);
+    assert_equal(
+        &rt,
+        uart.backend().held_len() + uart.backend().wire().len(),
+        6,
+    );
     Ok(())
 }
 
@@ -53,9 +58,13 @@ fn a_message_in_a_ring(rt: HostRuntime) -> Result<(), Fail> {
         assert!(rt; false, "out of memory");
         return Ok(());
     };
-    assert_eq!(rt; ring::queue_message(&mut rings, b"hello"), b"o".as_slice());
+    assert_equal(
+        &rt,
+        ring::queue_message(&mut rings, b"hello"),
+        b"o".as_slice(),
+    );
     let received = ring_running::receive_at_mark(&mut rings);
-    assert_eq!(rt; received.as_slice(), [].as_slice());
+    assert_equal(&rt, received.as_slice(), [].as_slice());
     Ok(())
 }
 
@@ -66,7 +75,7 @@ fn rings_from_an_init(rt: HostRuntime) -> Result<(), Fail> {
     let mut answers = [RingAnswer::Count(1), RingAnswer::Count(1)];
     let ran = ring_starting::run_from_init(rt.alloc(), uart, Config::DEFAULT, &calls, &mut answers);
     assert!(rt; ran.is_ok());
-    assert_eq!(rt; answers, [RingAnswer::Done, RingAnswer::Done]);
+    assert_equal(&rt, answers, [RingAnswer::Done, RingAnswer::Done]);
     Ok(())
 }
 
@@ -94,15 +103,16 @@ fn a_turn_of_a_monitor(rt: HostRuntime) -> Result<(), Fail> {
     ] {
         assert!(rt; offset < NUM_REGISTERS);
         let turn = live::turn(&mut chip, offset as u8, value, elapsed, &mut sink);
-        assert_eq!(rt;
+        assert_equal(
+            &rt,
             turn,
             live::Outcome {
                 sent,
-                is_interrupting
-            }
+                is_interrupting,
+            },
         );
     }
-    assert_eq!(rt; sink, [0x41, 0, 0, 0, 0, 0, 0, 0]);
+    assert_equal(&rt, sink, [0x41, 0, 0, 0, 0, 0, 0, 0]);
     Ok(())
 }
 
@@ -141,7 +151,11 @@ fn traces_that_a_driver_makes(rt: HostRuntime) -> Result<(), Fail> {
 #[test]
 fn calls_on_a_chip(rt: HostRuntime) -> Result<(), Fail> {
     let mut terminal = Uart16550Tty::from_inner(ready_driver(&rt)?);
-    assert_eq!(rt; performing::ask_presence(&mut terminal), Answer::Flag(true));
+    assert_equal(
+        &rt,
+        performing::ask_presence(&mut terminal),
+        Answer::Flag(true),
+    );
     Ok(())
 }
 
@@ -153,7 +167,7 @@ fn calls_in_a_session(rt: HostRuntime) -> Result<(), Fail> {
     if running::begin_session(&mut terminal, Config::DEFAULT) {
         running::make_calls(&mut terminal, &[Call::FifoEnabled], &mut answers);
     }
-    assert_eq!(rt; answers, [Answer::Flag(true)]);
+    assert_equal(&rt, answers, [Answer::Flag(true)]);
     Ok(())
 }
 
@@ -161,17 +175,17 @@ fn calls_in_a_session(rt: HostRuntime) -> Result<(), Fail> {
 fn the_line_status_of_a_chip(rt: HostRuntime) -> Result<(), Fail> {
     let mut fresh = Uart::new(rt.alloc(), Chip::Uart16450, 4, 64, 0, false)?;
     let idle = LSR::THR_EMPTY.union(LSR::TRANSMITTER_EMPTY);
-    assert_eq!(rt; chip::line_status(&mut fresh), idle);
+    assert_equal(&rt, chip::line_status(&mut fresh), idle);
     Ok(())
 }
 
 #[test]
 fn a_script(rt: HostRuntime) -> Result<(), Fail> {
     let script = b"chip 16450 4 64\nlsr\nmsr\n".as_slice();
-    assert_eq!(rt; language::count_calls(rt.alloc(), script)?, 2);
+    assert_equal(&rt, language::count_calls(rt.alloc(), script)?, 2);
     let mut output = Vec::new(rt.alloc());
     let mut writer = Std::new(&mut output);
     assert!(rt; playing::is_refused(rt.alloc(), &mut Std::new(b"lsr".as_slice()), &mut writer));
-    assert_eq!(rt; output.len(), 0);
+    assert_equal(&rt, output.len(), 0);
     Ok(())
 }

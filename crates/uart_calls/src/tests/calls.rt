@@ -1,4 +1,5 @@
 //! The calls of a driver that is initialised, and of one that is not.
+use super::assert_equal;
 use crate::tests::devices::{RegisterFile, driver};
 use crate::tests::driving::dump;
 use crate::tests::examples::Memory;
@@ -14,9 +15,13 @@ use uart_spec::{BaudRate, Config};
 fn send_bytes_exact_sends_all(rt: HostRuntime) {
     for has_fifos in [true, false] {
         let mut uart = driver(RegisterFile::new(has_fifos));
-        assert_eq!(rt; uart.init(Config::DEFAULT), Ok(()));
-        assert_eq!(rt; uart.send_bytes_exact(b"hello"), Ok(()));
-        assert_eq!(rt; uart.backend().device.sent.as_slice(), b"hello".as_slice());
+        assert_equal(&rt, uart.init(Config::DEFAULT), Ok(()));
+        assert_equal(&rt, uart.send_bytes_exact(b"hello"), Ok(()));
+        assert_equal(
+            &rt,
+            uart.backend().device.sent.as_slice(),
+            b"hello".as_slice(),
+        );
     }
 }
 
@@ -25,20 +30,20 @@ fn registers_are_shown(rt: HostRuntime) {
     let mut uart = driver(RegisterFile::new(true));
     uart.backend_mut().write(offsets::SPR as u8, 0x5a);
     assert!(rt; uart.check_present());
-    assert_eq!(rt; uart.init(Config::DEFAULT), Ok(()));
+    assert_equal(&rt, uart.init(Config::DEFAULT), Ok(()));
     let shown = dump([0x00, 0xc1, 0x03, 0x0b, 0x60, 0x00, 0x5a], 12, 0);
-    assert_eq!(rt; uart.config_register_dump(), shown);
-    assert_eq!(rt; shown.divisor(), 12);
-    assert_eq!(rt; uart.dll_dlm(), (12, 0));
-    assert_eq!(rt; uart.ier(), shown.ier);
-    assert_eq!(rt; uart.isr(), shown.isr);
-    assert_eq!(rt; uart.lcr(), shown.lcr);
-    assert_eq!(rt; uart.mcr(), shown.mcr);
-    assert_eq!(rt; uart.lsr(), shown.lsr);
-    assert_eq!(rt; uart.msr(), shown.msr);
-    assert_eq!(rt; uart.spr(), shown.spr);
-    assert_eq!(rt; uart.ready_to_send(), Ok(()));
-    assert_eq!(rt; uart.try_send_byte(b'h'), Ok(()));
+    assert_equal(&rt, &uart.config_register_dump(), &shown);
+    assert_equal(&rt, shown.divisor(), 12);
+    assert_equal(&rt, uart.dll_dlm(), (12, 0));
+    assert_equal(&rt, uart.ier(), shown.ier);
+    assert_equal(&rt, uart.isr(), shown.isr);
+    assert_equal(&rt, uart.lcr(), shown.lcr);
+    assert_equal(&rt, uart.mcr(), shown.mcr);
+    assert_equal(&rt, uart.lsr(), shown.lsr);
+    assert_equal(&rt, uart.msr(), shown.msr);
+    assert_equal(&rt, uart.spr(), shown.spr);
+    assert_equal(&rt, uart.ready_to_send(), Ok(()));
+    assert_equal(&rt, uart.try_send_byte(b'h'), Ok(()));
     assert!(rt; uart.ready_to_receive().is_err());
 }
 
@@ -49,15 +54,16 @@ fn interrupts_are_enabled_and_disabled(rt: HostRuntime) {
         interrupts: IER::DATA_READY,
         ..Config::DEFAULT
     };
-    assert_eq!(rt; uart.init(config), Ok(()));
+    assert_equal(&rt, uart.init(config), Ok(()));
     uart.enable_interrupts(IER::THR_EMPTY);
-    assert_eq!(rt;
+    assert_equal(
+        &rt,
         uart.config().interrupts,
-        IER::DATA_READY.union(IER::THR_EMPTY)
+        IER::DATA_READY.union(IER::THR_EMPTY),
     );
     uart.disable_interrupts(IER::DATA_READY);
-    assert_eq!(rt; uart.ier(), IER::THR_EMPTY);
-    assert_eq!(rt; uart.config().interrupts, IER::THR_EMPTY);
+    assert_equal(&rt, uart.ier(), IER::THR_EMPTY);
+    assert_equal(&rt, uart.config().interrupts, IER::THR_EMPTY);
 }
 
 #[test]
@@ -72,7 +78,7 @@ fn plain_memory_shows_the_divisor(rt: HostRuntime) -> Result<(), Fail> {
             ..Config::DEFAULT
         };
         uart.init(config)?;
-        assert_eq!(rt; uart.config_register_dump().dll, 3);
+        assert_equal(&rt, uart.config_register_dump().dll, 3);
     }
     Ok(())
 }

@@ -1,6 +1,7 @@
 //! Generic code over a writer, which relies on the contract of the trait alone.
 ghost use Rattle.uart_calls.specs.Links.{SendsThrough};
 
+use super::assert_equal;
 use crate::tests::devices::{Constant, RegisterFile, driver, impatient};
 use uart_16550::embedded_io::Write;
 use uart_spec::{Config, StalledError};
@@ -22,12 +23,17 @@ fn send_all<W: Write>(writer: &mut W, bytes: &[u8]) -> Result<(), W::Error>
 #[test]
 fn a_driver_is_a_writer(rt: HostRuntime) {
     let mut uart = driver(RegisterFile::new(false));
-    assert_eq!(rt; uart.init(Config::DEFAULT), Ok(()));
-    assert_eq!(rt; send_all(&mut uart, b"hello"), Ok(()));
-    assert_eq!(rt; uart.backend().device.sent.as_slice(), b"hello".as_slice());
+    assert_equal(&rt, uart.init(Config::DEFAULT), Ok(()));
+    assert_equal(&rt, send_all(&mut uart, b"hello"), Ok(()));
+    assert_equal(
+        &rt,
+        uart.backend().device.sent.as_slice(),
+        b"hello".as_slice(),
+    );
     let mut stalled = impatient(Constant(0));
-    assert_eq!(rt;
+    assert_equal(
+        &rt,
         send_all(&mut stalled, b"hello"),
-        Err(StalledError { done: 0 })
+        Err(StalledError { done: 0 }),
     );
 }

@@ -1,4 +1,5 @@
 //! The initialisation: its whole list of accesses, each error, and what each leaves behind.
+use super::assert_equal;
 use crate::Answer::{Done, InitRefused, NoData};
 use crate::Call::{self, ReadyToReceive};
 use crate::tests::devices::{RegisterFile, driver};
@@ -33,7 +34,7 @@ fn init_makes_its_list(rt: HostRuntime) {
     let drained = begun(0xc1).hit(0x55).look(0x00).write(offsets::MCR, 0x0b);
     let all = drained.look(0x22).look(0x60).end(0x1e, 0xc1, 0x0f, 0x00);
     let terminal = row(&rt, New, init(Some(Fourteen), Baud9600), Done, &all);
-    assert_eq!(rt; read_back(terminal), SET_UP);
+    assert_equal(&rt, read_back(terminal), SET_UP);
 }
 
 #[test]
@@ -50,7 +51,7 @@ fn init_takes_the_fifo_to_be_on_where_isr_shows_both_bits(rt: HostRuntime) {
     for (isr, fifo_enabled) in [(0xc0, true), (0xbf, false), (0x7f, false), (0x01, false)] {
         let all = begun(isr).undisturbed(0x00, 0x00);
         let terminal = row(&rt, New, init(Some(Fourteen), Baud9600), Done, &all);
-        assert_eq!(rt; terminal.inner().fifo_enabled(), fifo_enabled);
+        assert_equal(&rt, terminal.inner().fifo_enabled(), fifo_enabled);
     }
 }
 
@@ -67,7 +68,7 @@ fn init_without_level(rt: HostRuntime) {
         fcr: Some(0x06),
         ..SET_UP
     };
-    assert_eq!(rt; read_back(terminal), left);
+    assert_equal(&rt, read_back(terminal), left);
 }
 
 #[test]
@@ -108,10 +109,10 @@ fn init_counts_its_accesses(rt: HostRuntime) {
             fifo_trigger_level: level,
             ..Config::DEFAULT
         };
-        assert_eq!(rt; uart.init(config), Ok(()));
-        assert_eq!(rt; uart.backend().log.count(), accesses);
-        assert_eq!(rt; uart.fifo_enabled(), sent == 5);
-        assert_eq!(rt; uart.send_bytes(b"hello"), sent);
+        assert_equal(&rt, uart.init(config), Ok(()));
+        assert_equal(&rt, uart.backend().log.count(), accesses);
+        assert_equal(&rt, uart.fifo_enabled(), sent == 5);
+        assert_equal(&rt, uart.send_bytes(b"hello"), sent);
     }
 }
 
@@ -136,7 +137,7 @@ fn init_finds_no_device(rt: HostRuntime) {
         let looked = list().look(0x02);
         let mut terminal = row(&rt, New, ReadyToReceive, NoData, &looked);
         then(&rt, &mut terminal, init(None, Baud38400), absent(), &all);
-        assert_eq!(rt; read_back(terminal), left());
+        assert_equal(&rt, read_back(terminal), left());
     }
 }
 
@@ -152,7 +153,7 @@ fn init_refuses_a_rate_without_divisor(rt: HostRuntime) {
         let refusal = InitRefused(InvalidBaudRate(cause));
         let nothing = list();
         let terminal = row(&rt, New, init(None, Custom(rate)), refusal, &nothing);
-        assert_eq!(rt; read_back(terminal), NOTHING);
+        assert_equal(&rt, read_back(terminal), NOTHING);
     }
 }
 
@@ -162,13 +163,13 @@ fn init_stalls(rt: HostRuntime) {
     // 20 accesses. The polls are saved; the drain, which saw a framing error, is not.
     let drained = begun(0xc1).look(0x08).write(offsets::MCR, 0x0b);
     let polled = drained.look(0x02).look(0x20).look(0x04);
-    assert_eq!(rt; polled.count(), 20);
+    assert_equal(&rt, polled.count(), 20);
     let terminal = row(&rt, New, init(Some(Fourteen), Baud9600), stalled(), &polled);
     let left = Left {
         saved_lsr: 0x06,
         ..SET_UP
     };
-    assert_eq!(rt; read_back(terminal), left);
+    assert_equal(&rt, read_back(terminal), left);
     // A device without FIFO. The driver has the new configuration.
     let line = list().present(0x00).line(0x03, 0x00, 0x03);
     let drained = line.fifo(0xc7, 0x00).look(0x00).write(offsets::MCR, 0x0b);
@@ -185,5 +186,5 @@ fn init_stalls(rt: HostRuntime) {
         fifo_enabled: false,
         ..SET_UP
     };
-    assert_eq!(rt; read_back(terminal), left);
+    assert_equal(&rt, read_back(terminal), left);
 }

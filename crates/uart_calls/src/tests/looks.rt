@@ -1,5 +1,6 @@
 //! The calls that look once, and those that read and write single registers: each with its whole
 //! list of accesses.
+use super::assert_equal;
 use crate::Answer::{self, Done, Flag, Latch, NoData, NotConnected, NotSent, Register};
 use crate::Call::{
     self, CheckConnected, CheckPresent, DllDlm, Dump, ReadReady, ReadyToReceive, ReadyToSend,
@@ -82,7 +83,7 @@ fn interrupts(rt: HostRuntime) {
     ] {
         let changed = list().read(offsets::IER, ier).write(offsets::IER, left);
         let terminal = row(&rt, New, call, Done, &changed);
-        assert_eq!(rt; terminal.inner().config().interrupts.bits(), left);
+        assert_equal(&rt, terminal.inner().config().interrupts.bits(), left);
     }
 }
 

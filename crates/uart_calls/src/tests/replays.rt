@@ -11,6 +11,7 @@ ghost use Rattle.uart_16550.specs.Replay.{Replayed};
 ghost use Rattle.uart_16550.specs.Tty.{inner_of};
 ghost use Rattle.uart_calls.specs.Replays.{CallReplayed};
 
+use super::assert_equal;
 use crate::Answer::{
     self, Bytes, Count, Done, Flag, InitRefused, Latch, LoopbackRefused, NoData, NotConnected,
     ReceiveStalled, Register, Stalled,
@@ -80,9 +81,10 @@ fn a_replay_shows_what_a_call_does(rt: HostRuntime) {
         Entry::Write(offsets::DATA, b'h'),
         Entry::Write(offsets::DATA, b'i'),
     ];
-    assert_eq!(rt;
+    assert_equal(
+        &rt,
         terminal.inner().backend().accesses(),
-        Some(accesses.as_slice())
+        Some(accesses.as_slice()),
     );
 }
 
@@ -90,8 +92,8 @@ fn a_replay_shows_what_a_call_does(rt: HostRuntime) {
 fn a_replay_says_that_it_is_full(rt: HostRuntime) {
     let mut terminal = replay(&[], 512);
     shows(&rt, &mut terminal, Flush, Stalled(0), 512);
-    assert_eq!(rt; replayed(&mut terminal, &ReadReady), Flag(false));
-    assert_eq!(rt; kept(&terminal), None);
+    assert_equal(&rt, replayed(&mut terminal, &ReadReady), Flag(false));
+    assert_equal(&rt, kept(&terminal), None);
 }
 
 #[test]
@@ -141,6 +143,6 @@ fn bytes_over_a_replay(rt: HostRuntime) {
     ] {
         shows(&rt, &mut terminal, call, answer, count);
     }
-    assert_eq!(rt; write_str(&mut terminal, "a"), Ok(()));
-    assert_eq!(rt; kept(&terminal), Some(46));
+    assert_equal(&rt, write_str(&mut terminal, "a"), Ok(()));
+    assert_equal(&rt, kept(&terminal), Some(46));
 }

@@ -1,4 +1,5 @@
 //! What a driver keeps beside its backend, saved and taken up again.
+use super::assert_equal;
 use bitflags::Flags;
 use std::num::NonZeroU64;
 use uart_16550::replay::Replay;
@@ -21,15 +22,15 @@ fn used_driver() -> Uart16550<Replay<'static>> {
 fn a_driver_goes_on_from_its_state(rt: HostRuntime) {
     let state: DriverState = used_driver().state();
     let mut uart = Uart16550::from_state(Replay::new(&[0x60, 0x30]), &state);
-    assert_eq!(rt; uart.state(), state);
-    assert_eq!(rt; uart.spin_limit().get(), 7);
-    assert_eq!(rt; uart.config().interrupts, IER::THR_EMPTY);
-    assert_eq!(rt; uart.lsr().bits(), 0x7e);
-    assert_eq!(rt; uart.msr().bits(), 0x3f);
+    assert_equal(&rt, uart.state(), state);
+    assert_equal(&rt, uart.spin_limit().get(), 7);
+    assert_equal(&rt, uart.config().interrupts, IER::THR_EMPTY);
+    assert_equal(&rt, uart.lsr().bits(), 0x7e);
+    assert_equal(&rt, uart.msr().bits(), 0x3f);
 }
 
 #[test]
 fn a_new_driver_has_the_state_of_one(rt: HostRuntime) {
     let uart = Uart16550::new_with_backend(Replay::new(&[]));
-    assert_eq!(rt; uart.state(), DriverState::new());
+    assert_equal(&rt, uart.state(), DriverState::new());
 }

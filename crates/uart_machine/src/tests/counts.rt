@@ -1,7 +1,7 @@
 //! How many accesses a call makes over an idle chip, and how many unsuccessful polls it takes.
 ghost use Rattle.std.specs.Prelude.{⊤};
 
-use super::machine;
+use super::{assert_equal_at, machine};
 use crate::{Chip, Device16550};
 use std::num::NonZeroU64;
 use std::test::Fail;
@@ -102,7 +102,12 @@ fn small_calls(rt: HostRuntime) -> Result<(), Fail> {
     for (name, call, accesses) in calls {
         let mut uart = idle(&rt, Chip::Uart16550A, 4, Some(FifoTriggerLevel::Fourteen))?;
         call(&mut uart);
-        assert_eq!(rt; uart.backend().accesses, accesses, "of {name}");
+        assert_equal_at(
+            &rt,
+            uart.backend().accesses,
+            accesses,
+            format_args!("of {name}"),
+        );
     }
     Ok(())
 }
@@ -156,13 +161,24 @@ fn loopback_tests(rt: HostRuntime) -> Result<(), Fail> {
         for (&char_ticks, &accesses) in CHAR_TICKS.iter().zip(counts.iter()) {
             let limit = u64::from(char_ticks);
             let (answer, made) = tested(&rt, chip, char_ticks, level, limit.saturating_add(1))?;
-            assert_eq!(rt; answer, Ok(()), "of {chip:?} with {char_ticks} ticks");
-            assert_eq!(rt; made, accesses, "of {chip:?} with {char_ticks} ticks");
+            assert_equal_at(
+                &rt,
+                answer,
+                Ok(()),
+                format_args!("of {chip:?} with {char_ticks} ticks"),
+            );
+            assert_equal_at(
+                &rt,
+                made,
+                accesses,
+                format_args!("of {chip:?} with {char_ticks} ticks"),
+            );
             let (answer, _) = tested(&rt, chip, char_ticks, level, limit)?;
-            assert_eq!(rt;
+            assert_equal_at(
+                &rt,
                 answer,
                 Err(LoopbackError::Stalled),
-                "of {chip:?} with {char_ticks} ticks"
+                format_args!("of {chip:?} with {char_ticks} ticks"),
             );
         }
     }

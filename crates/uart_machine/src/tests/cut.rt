@@ -1,5 +1,5 @@
 //! Characters that are cut to the word length.
-use super::{DATA, FCR, IER, LCR, MCR, arrive};
+use super::{DATA, FCR, IER, LCR, MCR, arrive, assert_equal};
 use crate::{Chip, Device16550, Event};
 use std::test::Fail;
 use uart_16550::backend::Backend;
@@ -18,9 +18,9 @@ fn bytes_are_cut_as_they_are_written_and_as_they_arrive(rt: HostRuntime) -> Resu
         machine.write(FCR, 0x01);
         machine.write(LCR, lcr);
         machine.write(DATA, 0xff);
-        assert_eq!(rt; machine.held_at(0), Some(want));
+        assert_equal(&rt, machine.held_at(0), Some(want));
         machine.next();
-        assert_eq!(rt; machine.read(DATA), want);
+        assert_equal(&rt, machine.read(DATA), want);
     }
     Ok(())
 }
@@ -31,7 +31,7 @@ fn the_divisor_latch_is_not_cut(rt: HostRuntime) -> Result<(), Fail> {
     machine.write(LCR, DLAB);
     machine.write(DATA, 0xff);
     machine.write(IER, 0xfe);
-    assert_eq!(rt; machine.divisor(), 0xfeff);
+    assert_equal(&rt, machine.divisor(), 0xfeff);
     Ok(())
 }
 
@@ -45,7 +45,7 @@ fn a_looped_character_is_not_cut_again(rt: HostRuntime) -> Result<(), Fail> {
         machine.write(DATA, 0xff);
         machine.write(LCR, read);
         machine.idle(10);
-        assert_eq!(rt; machine.read(DATA), want);
+        assert_equal(&rt, machine.read(DATA), want);
     }
     Ok(())
 }
@@ -54,6 +54,6 @@ fn a_looped_character_is_not_cut_again(rt: HostRuntime) -> Result<(), Fail> {
 fn without_the_option_nothing_is_cut(rt: HostRuntime) -> Result<(), Fail> {
     let mut machine = super::fresh(&rt)?;
     machine.write(DATA, 0xff);
-    assert_eq!(rt; machine.held_at(0), Some(0xff));
+    assert_equal(&rt, machine.held_at(0), Some(0xff));
     Ok(())
 }

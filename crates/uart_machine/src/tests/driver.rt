@@ -1,5 +1,5 @@
 //! The driver over a chip that raw accesses left in some state.
-use super::{DATA, LCR, MCR, WITHOUT_FIFO, initialised, new_driver};
+use super::{DATA, LCR, MCR, WITHOUT_FIFO, assert_equal, assert_equal_at, initialised, new_driver};
 use crate::Chip;
 use bitflags::Flags;
 use std::test::Fail;
@@ -14,15 +14,17 @@ fn a_looped_byte_comes_back_late(rt: HostRuntime) -> Result<(), Fail> {
         uart.backend_mut().write(MCR, 0x10);
         uart.backend_mut().write(DATA, 0x55);
         uart.init(WITHOUT_FIFO)?;
-        assert_eq!(rt;
+        assert_equal_at(
+            &rt,
             uart.backend().waiting_at(0),
             waiting,
-            "with {char_ticks} ticks"
+            format_args!("with {char_ticks} ticks"),
         );
-        assert_eq!(rt;
+        assert_equal_at(
+            &rt,
             uart.try_receive_byte().ok(),
             waiting,
-            "with {char_ticks} ticks"
+            format_args!("with {char_ticks} ticks"),
         );
     }
     Ok(())
@@ -34,26 +36,26 @@ fn init_clears_the_divisor_latch_access(rt: HostRuntime) -> Result<(), Fail> {
     uart.backend_mut().write(LCR, 0x83);
     uart.init(Config::DEFAULT)?;
     let dump = uart.config_register_dump();
-    assert_eq!(rt; dump.lcr.bits(), 0x03);
-    assert_eq!(rt; dump.divisor(), 12);
+    assert_equal(&rt, dump.lcr.bits(), 0x03);
+    assert_equal(&rt, dump.divisor(), 12);
     Ok(())
 }
 
 #[test]
 fn init_leaves_what_is_configured(rt: HostRuntime) -> Result<(), Fail> {
     let mut uart = initialised(&rt, Chip::Uart16550A, Some(FifoTriggerLevel::Eight))?;
-    assert_eq!(rt; uart.fifo_enabled(), true);
-    assert_eq!(rt; uart.backend().fifo_enabled(), true);
-    assert_eq!(rt; uart.mcr().bits(), 0x0b);
-    assert_eq!(rt; uart.ier().bits(), 0x00);
-    assert_eq!(rt; uart.backend().divisor(), 12);
+    assert_equal(&rt, uart.fifo_enabled(), true);
+    assert_equal(&rt, uart.backend().fifo_enabled(), true);
+    assert_equal(&rt, uart.mcr().bits(), 0x0b);
+    assert_equal(&rt, uart.ier().bits(), 0x00);
+    assert_equal(&rt, uart.backend().divisor(), 12);
     Ok(())
 }
 
 #[test]
 fn a_chip_without_fifo_takes_one_byte(rt: HostRuntime) -> Result<(), Fail> {
     let mut uart = initialised(&rt, Chip::Uart16450, Some(FifoTriggerLevel::Fourteen))?;
-    assert_eq!(rt; uart.fifo_enabled(), false);
-    assert_eq!(rt; uart.send_bytes(&[0x48, 0x65, 0x6c]), 1);
+    assert_equal(&rt, uart.fifo_enabled(), false);
+    assert_equal(&rt, uart.send_bytes(&[0x48, 0x65, 0x6c]), 1);
     Ok(())
 }

@@ -1,5 +1,5 @@
 //! Time that passes outside of the schedule, and in how many jumps.
-use super::{DATA, FCR, IER, ISR, MCR, arrive, machine};
+use super::{DATA, FCR, IER, ISR, MCR, arrive, assert_equal, assert_equal_at, machine};
 use crate::{ArrivalMark, Chip, Event};
 use std::test::Fail;
 use uart_16550::backend::Backend;
@@ -60,7 +60,12 @@ fn jumps_pass_the_ticks(rt: HostRuntime) -> Result<(), Fail> {
         (UNGATED, (1, 0, 65_535), 0x00, (2, 0, 1)),
         (UNGATED, (16, 0, 81), 0x10, (17, 0, 0)),
     ] {
-        assert_eq!(rt; idled(&rt, gate, given, mcr)?, want, "{given:?}");
+        assert_equal_at(
+            &rt,
+            idled(&rt, gate, given, mcr)?,
+            want,
+            format_args!("{given:?}"),
+        );
     }
     Ok(())
 }
@@ -75,8 +80,8 @@ fn idle_ticks_count_towards_a_timeout(rt: HostRuntime) -> Result<(), Fail> {
         chip.write(IER, 0x01);
         chip.next();
         chip.next();
-        assert_eq!(rt; chip.idle(idle), jumps);
-        assert_eq!(rt; chip.read(ISR), shown, "{idle} ticks");
+        assert_equal(&rt, chip.idle(idle), jumps);
+        assert_equal_at(&rt, chip.read(ISR), shown, format_args!("{idle} ticks"));
     }
     Ok(())
 }
@@ -84,11 +89,11 @@ fn idle_ticks_count_towards_a_timeout(rt: HostRuntime) -> Result<(), Fail> {
 #[test]
 fn idle_leaves_the_schedule_alone(rt: HostRuntime) -> Result<(), Fail> {
     let mut chip = machine(&rt, Chip::Uart16450, 5, 64, &[Event::Mark, arrive(0x41)])?;
-    assert_eq!(rt; chip.idle(100), 1);
-    assert_eq!(rt; chip.mark(0), Some(ArrivalMark::Pending));
+    assert_equal(&rt, chip.idle(100), 1);
+    assert_equal(&rt, chip.mark(0), Some(ArrivalMark::Pending));
     chip.next();
-    assert_eq!(rt; chip.mark(0), Some(ArrivalMark::Pending));
+    assert_equal(&rt, chip.mark(0), Some(ArrivalMark::Pending));
     chip.next();
-    assert_eq!(rt; chip.mark(0), Some(ArrivalMark::Waiting));
+    assert_equal(&rt, chip.mark(0), Some(ArrivalMark::Waiting));
     Ok(())
 }

@@ -1,5 +1,5 @@
 //! Worked examples on a live chip.
-use super::{DATA, FCR, IER, ISR, LCR, LSR, MCR, MSR, SPR};
+use super::{DATA, FCR, IER, ISR, LCR, LSR, MCR, MSR, SPR, assert_equal, assert_equal_at};
 use crate::{
     Character, Chip, ChipData, ChipError, InputError, LiveChip, Origin, RestoreError, Shifting,
 };
@@ -28,16 +28,16 @@ fn lengths(chip: &LiveChip) -> [usize; 5] {
 fn a_byte_goes_out_and_a_character_comes_in(rt: HostRuntime) -> Result<(), Fail> {
     let mut chip = live(Chip::Uart16550A)?;
     chip.write(DATA, 0x41);
-    assert_eq!(rt; lengths(&chip), [0, 1, 0, 64, 1]);
-    assert_eq!(rt; chip.ticks(4), 2);
-    assert_eq!(rt; lengths(&chip), [0, 1, 0, 64, 1]);
-    assert_eq!(rt; chip.ticks(1), 1);
-    assert_eq!(rt; chip.wire(), [0x41].as_slice());
-    assert_eq!(rt; lengths(&chip), [1, 0, 0, 63, 1]);
+    assert_equal(&rt, lengths(&chip), [0, 1, 0, 64, 1]);
+    assert_equal(&rt, chip.ticks(4), 2);
+    assert_equal(&rt, lengths(&chip), [0, 1, 0, 64, 1]);
+    assert_equal(&rt, chip.ticks(1), 1);
+    assert_equal(&rt, chip.wire(), [0x41].as_slice());
+    assert_equal(&rt, lengths(&chip), [1, 0, 0, 63, 1]);
     chip.take_wire(1);
-    assert_eq!(rt; chip.arrive(0x42, registers::LSR::empty()), Ok(()));
-    assert_eq!(rt; lengths(&chip), [0, 0, 1, 64, 0]);
-    assert_eq!(rt; chip.read(DATA), 0x42);
+    assert_equal(&rt, chip.arrive(0x42, registers::LSR::empty()), Ok(()));
+    assert_equal(&rt, lengths(&chip), [0, 0, 1, 64, 0]);
+    assert_equal(&rt, chip.read(DATA), 0x42);
     Ok(())
 }
 
@@ -51,7 +51,12 @@ fn live_chips_are_built_up_to_the_limits(rt: HostRuntime) -> Result<(), Fail> {
         (1, 65, Some(ChipError::BadWire)),
     ] {
         let built = LiveChip::new(Chip::Uart16450, char_ticks, wire_capacity);
-        assert_eq!(rt; built.err(), want, "with {char_ticks} ticks");
+        assert_equal_at(
+            &rt,
+            built.err(),
+            want,
+            format_args!("with {char_ticks} ticks"),
+        );
     }
     Ok(())
 }
@@ -69,7 +74,7 @@ fn the_divisor_and_overflows(rt: HostRuntime) -> Result<(), Fail> {
         assert!(rt; register < 8);
         chip.write(register, value);
     }
-    assert_eq!(rt; (chip.divisor(), chip.overflows()), (12, 1));
+    assert_equal(&rt, (chip.divisor(), chip.overflows()), (12, 1));
     Ok(())
 }
 
@@ -80,14 +85,14 @@ fn the_interrupt_line(rt: HostRuntime) -> Result<(), Fail> {
     assert!(rt; !chip.is_interrupting());
     chip.write(IER, 0x0f);
     assert!(rt; chip.is_interrupting());
-    assert_eq!(rt; chip.read(ISR), 0x02);
+    assert_equal(&rt, chip.read(ISR), 0x02);
     assert!(rt; !chip.is_interrupting());
     chip.arrive(0x41, registers::LSR::PARITY_ERROR)?;
     chip.set_lines(registers::MSR::CTS)?;
     for (shown, served_by, read) in [(0x06, LSR, 0x65), (0x04, DATA, 0x41), (0x00, MSR, 0x11)] {
         assert!(rt; chip.is_interrupting() && served_by < 8);
-        assert_eq!(rt; chip.read(ISR), shown);
-        assert_eq!(rt; chip.read(served_by), read);
+        assert_equal(&rt, chip.read(ISR), shown);
+        assert_equal(&rt, chip.read(served_by), read);
     }
     assert!(rt; !chip.is_interrupting());
     Ok(())
@@ -97,10 +102,10 @@ fn the_interrupt_line(rt: HostRuntime) -> Result<(), Fail> {
 fn other_bits_do_not_come_in(rt: HostRuntime) -> Result<(), Fail> {
     let mut chip = live(Chip::Uart16450)?;
     let refused = chip.arrive(0x41, registers::LSR::OVERRUN_ERROR);
-    assert_eq!(rt; refused, Err(InputError::BadErrors));
+    assert_equal(&rt, refused, Err(InputError::BadErrors));
     let refused = chip.set_lines(registers::MSR::DELTA_CTS);
-    assert_eq!(rt; refused, Err(InputError::BadLines));
-    assert_eq!(rt; (chip.read(LSR), chip.read(MSR)), (0x60, 0x00));
+    assert_equal(&rt, refused, Err(InputError::BadLines));
+    assert_equal(&rt, (chip.read(LSR), chip.read(MSR)), (0x60, 0x00));
     Ok(())
 }
 
@@ -114,7 +119,7 @@ fn bytes_leave_a_full_wire_in_order(rt: HostRuntime) -> Result<(), Fail> {
     for (taken, left) in [(0, [1, 2]), (1, [2, 3]), (2, [4, 5])] {
         chip.take_wire(taken);
         chip.ticks(100);
-        assert_eq!(rt; chip.wire(), left.as_slice());
+        assert_equal(&rt, chip.wire(), left.as_slice());
     }
     Ok(())
 }
@@ -130,8 +135,12 @@ fn characters_are_read_in_order_or_an_overrun_shows(rt: HostRuntime) -> Result<(
         for byte in [1, 2, 3] {
             chip.arrive(byte, registers::LSR::empty())?;
         }
-        assert_eq!(rt; chip.read(LSR), line);
-        assert_eq!(rt; [chip.read(DATA), chip.read(DATA), chip.read(DATA)], read);
+        assert_equal(&rt, chip.read(LSR), line);
+        assert_equal(
+            &rt,
+            [chip.read(DATA), chip.read(DATA), chip.read(DATA)],
+            read,
+        );
     }
     Ok(())
 }
@@ -215,7 +224,7 @@ fn runs_of_a_handler(rt: HostRuntime) -> Result<(), Fail> {
             }
             chip.ticks(16);
         }
-        assert_eq!(rt; runs, want, "{arriving:?}");
+        assert_equal_at(&rt, runs, want, format_args!("{arriving:?}"));
     }
     Ok(())
 }
@@ -237,14 +246,15 @@ fn a_timeout_is_held_until_data_is_read(rt: HostRuntime) -> Result<(), Fail> {
         let due = chip.read(ISR);
         arriving.arrive(&mut chip, 0x42)?;
         let after_another = chip.read(ISR);
-        assert_eq!(rt; chip.read(DATA), 0x41);
+        assert_equal(&rt, chip.read(DATA), 0x41);
         let after_a_read = chip.read(ISR);
         chip.ticks(16);
         chip.write(FCR, 0xc3);
         arriving.arrive(&mut chip, 0x43)?;
-        assert_eq!(rt;
+        assert_equal(
+            &rt,
             [early, due, after_another, after_a_read, chip.read(ISR)],
-            shown
+            shown,
         );
     }
     Ok(())
@@ -284,14 +294,21 @@ fn read_all(chip: &mut LiveChip) -> [u8; 8] {
     ]
 }
 
+// Lets a chip jump over this many ticks, and returns what its owner and its guest see of it then.
+fn seen_after(chip: &mut LiveChip, count: u16) -> (usize, [usize; 5], bool, [u8; 8]) {
+    (
+        chip.ticks(count),
+        lengths(chip),
+        chip.is_interrupting(),
+        read_all(chip),
+    )
+}
+
 // Asserts that both do the same from now on.
 fn go_on_alike(rt: &impl Abort, one: &mut LiveChip, other: &mut LiveChip) {
     for count in [0, 1, 3, 100] {
-        assert_eq!(rt; one.ticks(count), other.ticks(count));
-        assert_eq!(rt; one.wire(), other.wire());
-        assert_eq!(rt; lengths(one), lengths(other));
-        assert_eq!(rt; one.is_interrupting(), other.is_interrupting());
-        assert_eq!(rt; read_all(one), read_all(other));
+        assert_equal(rt, seen_after(one, count), seen_after(other, count));
+        assert_equal(rt, one.wire(), other.wire());
     }
 }
 
@@ -299,9 +316,9 @@ fn go_on_alike(rt: &impl Abort, one: &mut LiveChip, other: &mut LiveChip) {
 fn a_restored_chip_behaves_as_the_saved_one(rt: HostRuntime) -> Result<(), Fail> {
     let mut saved = busy()?;
     let mut restored = LiveChip::from_data(&saved.data(), saved.wire())?;
-    assert_eq!(rt; lengths(&restored), [1, 2, 16, 63, 0]);
+    assert_equal(&rt, lengths(&restored), [1, 2, 16, 63, 0]);
     go_on_alike(&rt, &mut saved, &mut restored);
-    assert_eq!(rt; restored.wire(), [1, 2, 3].as_slice());
+    assert_equal(&rt, restored.wire(), [1, 2, 3].as_slice());
     Ok(())
 }
 
@@ -310,7 +327,7 @@ fn a_read_of_a_plain_register_changes_nothing(rt: HostRuntime) -> Result<(), Fai
     let (mut read, mut unread) = (busy()?, busy()?);
     for (offset, want) in [(IER, 0x0f), (LCR, 0x1b), (MCR, 0x0b), (SPR, 0xa5)] {
         assert!(rt; offset < 8);
-        assert_eq!(rt; read.read(offset), want);
+        assert_equal(&rt, read.read(offset), want);
     }
     go_on_alike(&rt, &mut read, &mut unread);
     Ok(())
@@ -421,7 +438,7 @@ fn only_data_of_a_live_chip_are_restored(rt: HostRuntime) -> Result<(), Fail> {
         } else {
             Some(RestoreError::BadData)
         };
-        assert_eq!(rt; refused, want, "{change:?}");
+        assert_equal_at(&rt, refused, want, format_args!("{change:?}"));
     }
     Ok(())
 }
@@ -432,7 +449,12 @@ fn a_longer_wire_is_not_restored(rt: HostRuntime) -> Result<(), Fail> {
         let mut data = live(Chip::Uart16450)?.data();
         make(Change::WireCapacity(wire_capacity), &mut data);
         let refused = LiveChip::from_data(&data, &[0x41]).err();
-        assert_eq!(rt; refused, Some(RestoreError::BadWire), "{wire_capacity}");
+        assert_equal_at(
+            &rt,
+            refused,
+            Some(RestoreError::BadWire),
+            format_args!("{wire_capacity}"),
+        );
     }
     Ok(())
 }
@@ -454,6 +476,6 @@ fn texts_of_the_refusals(rt: HostRuntime) -> Result<(), Fail> {
         the modem lines have other bits than CTS, DSR, RI and CD\n\
         the data are not those of a sound chip\n\
         the wire has room for at most 64 bytes\n";
-    assert_eq!(rt; texts.as_str(), expected);
+    assert_equal(&rt, texts.as_str(), expected);
     Ok(())
 }

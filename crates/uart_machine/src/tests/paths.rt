@@ -1,5 +1,5 @@
 //! Each public path of the crate, named once.
-use super::arrive;
+use super::{arrive, assert_equal};
 use crate::laws::{
     bytes_leave_in_order, characters_are_read_in_order, idle_keeps_ready, meanings_leave_no_choice,
     plain_reads_change_nothing, runs_have_one_outcome, scripts_have_one_output,
@@ -31,12 +31,13 @@ fn no_calls_are_run_and_one_is_performed(rt: HostRuntime) -> Result<(), Fail> {
     let calls: [Call; 0] = [];
     let mut answers: [Answer; 0] = [];
     run(&mut terminal, &calls, &mut answers);
-    assert_eq!(rt;
+    assert_equal(
+        &rt,
         terminal.inner().backend().mark(0),
-        Some(ArrivalMark::Pending)
+        Some(ArrivalMark::Pending),
     );
-    assert_eq!(rt; perform(&mut terminal, &Call::Spr), Answer::Register(0));
-    assert_eq!(rt; CALL_BYTES, 64);
+    assert_equal(&rt, perform(&mut terminal, &Call::Spr), Answer::Register(0));
+    assert_equal(&rt, CALL_BYTES, 64);
     Ok(())
 }
 
@@ -54,16 +55,21 @@ fn scripts_are_parsed_and_played(rt: HostRuntime) -> Result<(), Fail> {
         line: 1,
         cause: Cause::Misplaced,
     };
-    assert_eq!(rt; parsed.err(), Some(misplaced));
+    assert_equal(&rt, parsed.err(), Some(misplaced));
     let mut output = Vec::new(rt.alloc());
     let mut writer = Std::new(&mut output);
     let script = b"chip 16450 4 64".as_slice();
     let played: Result<(), PlayError> = play(rt.alloc(), &mut Std::new(script), &mut writer);
-    assert_eq!(rt; played, Ok(()));
-    assert_eq!(rt; moved(&mut Std::new(b"!".as_slice()), &mut writer), Ok(1));
-    assert_eq!(rt;
+    assert_equal(&rt, played, Ok(()));
+    assert_equal(
+        &rt,
+        moved(&mut Std::new(b"!".as_slice()), &mut writer),
+        Ok(1),
+    );
+    assert_equal(
+        &rt,
         output.as_slice(),
-        b"wire -\nheld -\nwaiting -\nmarks -\n!".as_slice()
+        b"wire -\nheld -\nwaiting -\nmarks -\n!".as_slice(),
     );
     Ok(())
 }
@@ -131,10 +137,10 @@ fn data_are_a_live_chip(rt: HostRuntime) -> Result<(), Fail> {
     let restored: Result<LiveChip, RestoreError> = LiveChip::from_data(&live_data(), &[]);
     let mut chip = restored?;
     chip.ticks(1);
-    assert_eq!(rt; chip.wire(), [0x41].as_slice());
-    assert_eq!(rt; chip.waiting_len(), 1);
-    assert_eq!(rt; chip.divisor(), 12);
+    assert_equal(&rt, chip.wire(), [0x41].as_slice());
+    assert_equal(&rt, chip.waiting_len(), 1);
+    assert_equal(&rt, chip.divisor(), 12);
     let refused: Result<(), InputError> = chip.arrive(0, LSR::DATA_READY);
-    assert_eq!(rt; refused, Err(InputError::BadErrors));
+    assert_equal(&rt, refused, Err(InputError::BadErrors));
     Ok(())
 }

@@ -1,5 +1,5 @@
 //! Worked examples of ring calls over a machine.
-use super::{arrive, machine};
+use super::{arrive, assert_equal, assert_equal_at, machine};
 use crate::{ArrivalMark, Chip, Device16550, Event, RingAnswer, RingCall, run_ring};
 use arrayvec::ArrayVec;
 use bitflags::Flags;
@@ -56,8 +56,13 @@ fn made(
         assert!(rt; call.is_runnable());
         let mut answers = [RingAnswer::Done];
         run_ring(ring, std::slice::from_ref(call), &mut answers);
-        assert_eq!(rt; &answers[0], want, "{call:?}");
-        assert_eq!(rt; ring.is_paused(), *is_paused, "after {call:?}");
+        assert_equal_at(rt, &answers[0], want, format_args!("{call:?}"));
+        assert_equal_at(
+            rt,
+            ring.is_paused(),
+            *is_paused,
+            format_args!("after {call:?}"),
+        );
     }
 }
 
@@ -72,7 +77,7 @@ fn resumed(rt: &(impl AllocGlobal + Abort), ring: &mut Uart16550Ring<Device16550
         (RingCall::Service, RingAnswer::Count(1), false),
     ];
     made(rt, ring, &steps);
-    assert_eq!(rt; ring.transmit_len(), 0);
+    assert_equal(rt, ring.transmit_len(), 0);
 }
 
 #[test]
@@ -89,12 +94,12 @@ fn bytes_that_wait_are_sent_at_the_interrupt(rt: HostRuntime) -> Result<(), Fail
         (RingCall::Service, RingAnswer::Count(1), false),
     ];
     made(&rt, &mut ring, &steps);
-    assert_eq!(rt; ring.transmit_len(), 0);
+    assert_equal(&rt, ring.transmit_len(), 0);
     let machine = ring.inner().backend();
-    assert_eq!(rt; machine.wire(), &sent[..17]);
-    assert_eq!(rt; machine.held_len(), 3);
+    assert_equal(&rt, machine.wire(), &sent[..17]);
+    assert_equal(&rt, machine.held_len(), 3);
     for (place, byte) in [(0, 18), (1, 19), (2, 20)] {
-        assert_eq!(rt; machine.held_at(place), Some(byte));
+        assert_equal(&rt, machine.held_at(place), Some(byte));
     }
     Ok(())
 }
@@ -108,7 +113,7 @@ fn a_full_ring_goes_on_after_an_init(rt: HostRuntime) -> Result<(), Fail> {
         (RingCall::Queue(bytes(b"efgh")), RingAnswer::Count(4), false),
     ];
     made(&rt, &mut ring, &full);
-    assert_eq!(rt; ring.transmit_len(), 4);
+    assert_equal(&rt, ring.transmit_len(), 4);
     ring.inner_mut().init(Config::DEFAULT)?;
     let steps = [
         // It is asleep: no byte is accepted, and no interrupt is shown.
@@ -118,8 +123,8 @@ fn a_full_ring_goes_on_after_an_init(rt: HostRuntime) -> Result<(), Fail> {
     made(&rt, &mut ring, &steps);
     resumed(&rt, &mut ring);
     let machine = ring.inner().backend();
-    assert_eq!(rt; machine.wire(), b"abcdefgh".as_slice());
-    assert_eq!(rt; machine.held_at(0), Some(b'i'));
+    assert_equal(&rt, machine.wire(), b"abcdefgh".as_slice());
+    assert_equal(&rt, machine.held_at(0), Some(b'i'));
     Ok(())
 }
 
@@ -170,7 +175,7 @@ fn a_full_ring_goes_on_when_cts_comes_back(rt: HostRuntime) -> Result<(), Fail> 
     ];
     made(&rt, &mut ring, &steps);
     resumed(&rt, &mut ring);
-    assert_eq!(rt; ring.inner().backend().wire(), b"abcdefgh".as_slice());
+    assert_equal(&rt, ring.inner().backend().wire(), b"abcdefgh".as_slice());
     Ok(())
 }
 
@@ -188,9 +193,10 @@ fn a_full_ring_leaves_bytes_in_the_chip(rt: HostRuntime) -> Result<(), Fail> {
     ];
     made(&rt, &mut ring, &steps);
     for arrival in 0..3 {
-        assert_eq!(rt;
+        assert_equal(
+            &rt,
             ring.inner().backend().mark(arrival),
-            Some(ArrivalMark::Read)
+            Some(ArrivalMark::Read),
         );
     }
     Ok(())
@@ -212,7 +218,7 @@ fn an_overrun_is_told_once(rt: HostRuntime) -> Result<(), Fail> {
     ];
     made(&rt, &mut ring, &steps);
     let machine = ring.inner().backend();
-    assert_eq!(rt; machine.mark(0), Some(ArrivalMark::Dropped));
-    assert_eq!(rt; machine.mark(1), Some(ArrivalMark::Read));
+    assert_equal(&rt, machine.mark(0), Some(ArrivalMark::Dropped));
+    assert_equal(&rt, machine.mark(1), Some(ArrivalMark::Read));
     Ok(())
 }

@@ -1,5 +1,8 @@
 //! Chips that others left in some state, and an `init` of them.
-use super::{DATA, FCR, IER, ISR, LCR, MCR, SPR, WITHOUT_FIFO, initialised, machine, new_driver};
+use super::{
+    DATA, FCR, IER, ISR, LCR, MCR, SPR, WITHOUT_FIFO, assert_equal, assert_equal_at, initialised,
+    machine, new_driver,
+};
 use crate::{Chip, Device16550, Event};
 use bitflags::Flags;
 use std::test::Fail;
@@ -60,13 +63,43 @@ fn an_init_clears_what_was_left(rt: HostRuntime) -> Result<(), Fail> {
             }
             uart.init(Config::DEFAULT)?;
             let want = [0x00, isr, 0x03, 0x0b, 0x60, 0x00, spr];
-            assert_eq!(rt; registers(&mut uart), want, "{chip:?} with {left}");
-            assert_eq!(rt; uart.backend().divisor(), 12, "{chip:?} with {left}");
+            assert_equal_at(
+                &rt,
+                registers(&mut uart),
+                want,
+                format_args!("{chip:?} with {left}"),
+            );
+            assert_equal_at(
+                &rt,
+                uart.backend().divisor(),
+                12,
+                format_args!("{chip:?} with {left}"),
+            );
             let has_fifo = chip == Chip::Uart16550A;
-            assert_eq!(rt; fifos(&uart), (has_fifo, has_fifo), "{chip:?} with {left}");
-            assert_eq!(rt; uart.backend().wire().len(), 0, "{chip:?} with {left}");
-            assert_eq!(rt; uart.send_bytes(&[0x55; 20]), room, "{chip:?} with {left}");
-            assert_eq!(rt; uart.backend().overflows(), 0, "{chip:?} with {left}");
+            assert_equal_at(
+                &rt,
+                fifos(&uart),
+                (has_fifo, has_fifo),
+                format_args!("{chip:?} with {left}"),
+            );
+            assert_equal_at(
+                &rt,
+                uart.backend().wire().len(),
+                0,
+                format_args!("{chip:?} with {left}"),
+            );
+            assert_equal_at(
+                &rt,
+                uart.send_bytes(&[0x55; 20]),
+                room,
+                format_args!("{chip:?} with {left}"),
+            );
+            assert_equal_at(
+                &rt,
+                uart.backend().overflows(),
+                0,
+                format_args!("{chip:?} with {left}"),
+            );
         }
     }
     Ok(())
@@ -90,12 +123,23 @@ fn an_init_lets_a_byte_go_out(rt: HostRuntime) -> Result<(), Fail> {
         }
         uart.init(Config::DEFAULT)?;
         let machine = uart.backend();
-        assert_eq!(rt; machine.wire(), wire, "{chip:?} with {char_ticks} ticks");
-        assert_eq!(rt; machine.held_len(), 0, "{chip:?} with {char_ticks} ticks");
-        assert_eq!(rt;
+        assert_equal_at(
+            &rt,
+            machine.wire(),
+            wire,
+            format_args!("{chip:?} with {char_ticks} ticks"),
+        );
+        assert_equal_at(
+            &rt,
+            machine.held_len(),
+            0,
+            format_args!("{chip:?} with {char_ticks} ticks"),
+        );
+        assert_equal_at(
+            &rt,
             machine.overflows(),
             overflows,
-            "{chip:?} with {char_ticks} ticks"
+            format_args!("{chip:?} with {char_ticks} ticks"),
         );
     }
     Ok(())
@@ -107,20 +151,21 @@ fn an_init_lets_a_byte_go_out(rt: HostRuntime) -> Result<(), Fail> {
 fn a_fifo_is_switched_off_behind_the_driver(rt: HostRuntime) -> Result<(), Fail> {
     let mut uart = initialised(&rt, Chip::Uart16550A, Some(FifoTriggerLevel::Fourteen))?;
     uart.backend_mut().write(FCR, 0x00);
-    assert_eq!(rt; fifos(&uart), (true, false));
-    assert_eq!(rt; uart.send_bytes(&[1, 2, 3, 4, 5]), 5);
-    assert_eq!(rt; uart.backend().overflows(), 3);
+    assert_equal(&rt, fifos(&uart), (true, false));
+    assert_equal(&rt, uart.send_bytes(&[1, 2, 3, 4, 5]), 5);
+    assert_equal(&rt, uart.backend().overflows(), 3);
     uart.init(Config::DEFAULT)?;
-    assert_eq!(rt; fifos(&uart), (true, true));
-    assert_eq!(rt;
+    assert_equal(&rt, fifos(&uart), (true, true));
+    assert_equal(
+        &rt,
         registers(&mut uart),
-        [0x00, 0xc1, 0x03, 0x0b, 0x60, 0x00, 0x00]
+        [0x00, 0xc1, 0x03, 0x0b, 0x60, 0x00, 0x00],
     );
-    assert_eq!(rt; uart.backend().wire(), [1, 5].as_slice());
-    assert_eq!(rt; uart.send_bytes(&[6, 7, 8]), 3);
+    assert_equal(&rt, uart.backend().wire(), [1, 5].as_slice());
+    assert_equal(&rt, uart.send_bytes(&[6, 7, 8]), 3);
     uart.backend_mut().idle(100);
-    assert_eq!(rt; uart.backend().wire(), [1, 5, 6, 7, 8].as_slice());
-    assert_eq!(rt; uart.backend().overflows(), 3);
+    assert_equal(&rt, uart.backend().wire(), [1, 5, 6, 7, 8].as_slice());
+    assert_equal(&rt, uart.backend().overflows(), 3);
     Ok(())
 }
 
@@ -128,17 +173,18 @@ fn a_fifo_is_switched_off_behind_the_driver(rt: HostRuntime) -> Result<(), Fail>
 fn a_fifo_is_switched_on_behind_the_driver(rt: HostRuntime) -> Result<(), Fail> {
     let mut uart = initialised(&rt, Chip::Uart16550A, None)?;
     uart.backend_mut().write(FCR, 0x01);
-    assert_eq!(rt; fifos(&uart), (false, true));
-    assert_eq!(rt; uart.send_bytes(&[1, 2, 3, 4, 5]), 1);
+    assert_equal(&rt, fifos(&uart), (false, true));
+    assert_equal(&rt, uart.send_bytes(&[1, 2, 3, 4, 5]), 1);
     uart.init(WITHOUT_FIFO)?;
-    assert_eq!(rt; fifos(&uart), (false, false));
-    assert_eq!(rt;
+    assert_equal(&rt, fifos(&uart), (false, false));
+    assert_equal(
+        &rt,
         registers(&mut uart),
-        [0x00, 0x01, 0x03, 0x0b, 0x60, 0x00, 0x00]
+        [0x00, 0x01, 0x03, 0x0b, 0x60, 0x00, 0x00],
     );
-    assert_eq!(rt; uart.backend().wire(), [1].as_slice());
-    assert_eq!(rt; uart.send_bytes(&[2, 3]), 1);
-    assert_eq!(rt; uart.backend().overflows(), 0);
+    assert_equal(&rt, uart.backend().wire(), [1].as_slice());
+    assert_equal(&rt, uart.send_bytes(&[2, 3]), 1);
+    assert_equal(&rt, uart.backend().overflows(), 0);
     Ok(())
 }
 
@@ -149,18 +195,19 @@ fn a_loopback_test_leaves_loopback_on(rt: HostRuntime) -> Result<(), Fail> {
     let mut uart = initialised(&rt, Chip::Uart16550A, Some(FifoTriggerLevel::Fourteen))?;
     uart.backend_mut().write(MCR, 0x1b);
     uart.test_loopback()?;
-    assert_eq!(rt; uart.mcr().bits(), 0x1b);
-    assert_eq!(rt; uart.msr().bits(), 0xbb);
-    assert_eq!(rt; uart.send_bytes(&[0x55]), 1);
+    assert_equal(&rt, uart.mcr().bits(), 0x1b);
+    assert_equal(&rt, uart.msr().bits(), 0xbb);
+    assert_equal(&rt, uart.send_bytes(&[0x55]), 1);
     uart.backend_mut().idle(10);
-    assert_eq!(rt; uart.backend().waiting_at(0), Some(0x55));
+    assert_equal(&rt, uart.backend().waiting_at(0), Some(0x55));
     uart.init(Config::DEFAULT)?;
-    assert_eq!(rt;
+    assert_equal(
+        &rt,
         registers(&mut uart),
-        [0x00, 0xc1, 0x03, 0x0b, 0x60, 0x00, 0x00]
+        [0x00, 0xc1, 0x03, 0x0b, 0x60, 0x00, 0x00],
     );
-    assert_eq!(rt; uart.backend().waiting_len(), 0);
-    assert_eq!(rt; uart.backend().wire().len(), 0);
+    assert_equal(&rt, uart.backend().waiting_len(), 0);
+    assert_equal(&rt, uart.backend().wire().len(), 0);
     Ok(())
 }
 
@@ -172,12 +219,12 @@ fn thr_empty_is_due_again_after_a_byte(rt: HostRuntime) -> Result<(), Fail> {
         let mut machine = machine(&rt, chip, 4, 64, &[Event::Access; 6])?;
         machine.write(IER, 0x02);
         for want in [0x02, 0x01] {
-            assert_eq!(rt; machine.read(ISR), want, "of {chip:?}");
+            assert_equal_at(&rt, machine.read(ISR), want, format_args!("of {chip:?}"));
         }
         machine.write(DATA, 0x41);
         machine.write(IER, 0x02);
         for want in [0x01, 0x02, 0x01] {
-            assert_eq!(rt; machine.read(ISR), want, "of {chip:?}");
+            assert_equal_at(&rt, machine.read(ISR), want, format_args!("of {chip:?}"));
         }
     }
     Ok(())

@@ -1,3 +1,4 @@
+use super::assert_equal_at;
 use crate::script::{Std, play};
 use std::process::Abort;
 use std::test::Fail;
@@ -30,7 +31,12 @@ fn assert_told(
 ) -> Result<(), Fail> {
     for &(lines, want) in rows {
         let text = format!(in rt.alloc(); "{front}{lines}")?;
-        assert_eq!(rt; told(rt, text.as_bytes())?.as_str(), want, "at {lines}");
+        assert_equal_at(
+            rt,
+            told(rt, text.as_bytes())?.as_str(),
+            want,
+            format_args!("at {lines}"),
+        );
     }
     Ok(())
 }

@@ -5,4 +5,3 @@ pub mod call;
 pub mod replay;
 pub mod uart_calls;
 pub mod uart_ring;
-pub mod uart_spec;

@@ -1,4 +1,5 @@
 //! Readers and writers that fail, one call later each time, and scripts that are cut off.
+use super::super::{assert_equal, assert_equal_at};
 use super::streams::{OUTPUT, SCRIPT};
 use super::told;
 use crate::script::{Cause, PlayError, Std, play};
@@ -77,16 +78,32 @@ fn a_reader_fails_at_each_read(rt: HostRuntime) -> Result<(), Fail> {
     for (text, piece, enough) in cases {
         for reads in 0..enough {
             let (result, output) = read_by(&rt, text, piece, reads);
-            assert_eq!(rt;
+            assert_equal_at(
+                &rt,
                 result,
                 Err(PlayError::ReadFault),
-                "{reads} reads of {piece}"
+                format_args!("{reads} reads of {piece}"),
             );
-            assert_eq!(rt; output.len(), 0, "{reads} reads of {piece}");
+            assert_equal_at(
+                &rt,
+                output.len(),
+                0,
+                format_args!("{reads} reads of {piece}"),
+            );
         }
         let (result, output) = read_by(&rt, text, piece, enough);
-        assert_eq!(rt; result, Ok(()), "{enough} reads of {piece}");
-        assert_eq!(rt; output.as_slice(), OUTPUT, "{enough} reads of {piece}");
+        assert_equal_at(
+            &rt,
+            result,
+            Ok(()),
+            format_args!("{enough} reads of {piece}"),
+        );
+        assert_equal_at(
+            &rt,
+            output.as_slice(),
+            OUTPUT,
+            format_args!("{enough} reads of {piece}"),
+        );
     }
     Ok(())
 }
@@ -103,8 +120,8 @@ fn a_long_script_is_not_read_to_its_end(rt: HostRuntime) -> Result<(), Fail> {
     };
     for (reads, want) in [(128, PlayError::ReadFault), (129, too_long)] {
         let (result, output) = read_by(&rt, &text, 512, reads);
-        assert_eq!(rt; result, Err(want), "{reads} reads");
-        assert_eq!(rt; output.len(), 0, "{reads} reads");
+        assert_equal_at(&rt, result, Err(want), format_args!("{reads} reads"));
+        assert_equal_at(&rt, output.len(), 0, format_args!("{reads} reads"));
     }
     Ok(())
 }
@@ -129,12 +146,18 @@ fn a_writer_fails_at_each_write(rt: HostRuntime) -> Result<(), Fail> {
             } else {
                 Ok(())
             };
-            assert_eq!(rt; result, want, "{writes} writes of {piece}");
+            assert_equal_at(
+                &rt,
+                result,
+                want,
+                format_args!("{writes} writes of {piece}"),
+            );
             let length = piece.saturating_mul(writes).min(OUTPUT.len());
-            assert_eq!(rt;
+            assert_equal_at(
+                &rt,
                 writer.taken.as_slice(),
                 &OUTPUT[..length],
-                "{writes} writes of {piece}"
+                format_args!("{writes} writes of {piece}"),
             );
         }
     }
@@ -153,9 +176,9 @@ fn a_writer_takes_nothing(rt: HostRuntime) {
         &mut Std::new(SCRIPT),
         &mut Std::new(&mut writer),
     );
-    assert_eq!(rt; result, Err(PlayError::WriteFault));
-    assert_eq!(rt; writer.taken.len(), 0);
-    assert_eq!(rt; writer.writes, 0);
+    assert_equal(&rt, result, Err(PlayError::WriteFault));
+    assert_equal(&rt, writer.taken.len(), 0);
+    assert_equal(&rt, writer.writes, 0);
 }
 
 const OVERRUN: &[u8] = b"chip 16450 4 64
@@ -197,12 +220,13 @@ fn a_script_is_cut_off(rt: HostRuntime) -> Result<(), Fail> {
             );
         }
     }
-    assert_eq!(rt;
+    assert_equal(
+        &rt,
         played.as_slice(),
         [
-            14, 15, 16, 23, 24, 25, 26, 50, 51, 55, 56, 65, 66, 75, 76, 85, 86, 89, 90
+            14, 15, 16, 23, 24, 25, 26, 50, 51, 55, 56, 65, 66, 75, 76, 85, 86, 89, 90,
         ]
-        .as_slice()
+        .as_slice(),
     );
     Ok(())
 }

@@ -1,3 +1,4 @@
+use super::super::assert_equal;
 use super::{HEADER, assert_told};
 use crate::script::parse;
 use crate::tests::BARE_CALLS;
@@ -83,46 +84,50 @@ text c3a9";
 #[test]
 fn every_word_means_its_event_or_call(rt: HostRuntime) -> Result<(), Fail> {
     let script = parse(rt.alloc(), EVERY_WORD).ok().ok_or("refused")?;
-    assert_eq!(rt; script.chip(), Chip::Uart16550A);
-    assert_eq!(rt;
+    assert_equal(&rt, script.chip(), Chip::Uart16550A);
+    assert_equal(
+        &rt,
         (script.ticks(), script.wire_capacity(), script.limit().get()),
-        (3, 7, 5)
+        (3, 7, 5),
     );
-    assert_eq!(rt;
+    assert_equal(
+        &rt,
         script.events(),
         [
             Event::Ticks(65535),
             Event::Arrive {
                 byte: 0x4a,
-                errors: 0
+                errors: 0,
             },
             Event::Arrive {
                 byte: 0xff,
-                errors: 0x1c
+                errors: 0x1c,
             },
             Event::Lines(0xf0),
             Event::Access,
             Event::Mark,
         ]
-        .as_slice()
+        .as_slice(),
     );
     let calls = script.calls();
     assert_eq!(rt; calls.len(), 31);
-    assert_eq!(rt;
-        calls[1],
-        Call::Init(Config {
+    assert_equal(
+        &rt,
+        &calls[1],
+        &Call::Init(Config {
             interrupts: IER::from_bits_retain(0x0f),
             fifo_trigger_level: Some(FifoTriggerLevel::Eight),
             baud_rate: BaudRate::Baud9600,
             data_bits: WordLength::FiveBits,
             check_cts_before_sending: true,
             ..Config::DEFAULT
-        })
+        }),
     );
-    assert_eq!(rt; calls[2..21], BARE_CALLS[..]);
-    assert_eq!(rt;
-        calls[21..],
-        [
+    assert_equal(&rt, &calls[2..21], &BARE_CALLS[..]);
+    assert_equal(
+        &rt,
+        &calls[21..],
+        &[
             Call::TrySend(0x7f),
             Call::Enable(IER::THR_EMPTY),
             Call::Disable(IER::DATA_READY),
@@ -133,15 +138,15 @@ fn every_word_means_its_event_or_call(rt: HostRuntime) -> Result<(), Fail> {
             Call::SendExact(
                 ArrayVec::try_from([0x00, 0xff].as_slice())
                     .ok()
-                    .ok_or("too many")?
+                    .ok_or("too many")?,
             ),
             Call::Write(
                 ArrayVec::try_from([0x41].as_slice())
                     .ok()
-                    .ok_or("too many")?
+                    .ok_or("too many")?,
             ),
             Call::Text(ArrayString::try_from("\u{e9}").ok().ok_or("too many")?),
-        ][..]
+        ][..],
     );
     Ok(())
 }

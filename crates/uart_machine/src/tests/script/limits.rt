@@ -1,3 +1,4 @@
+use super::super::assert_equal;
 use super::{HEADER, assert_told, told};
 use std::process::Abort;
 use std::test::Fail;
@@ -116,18 +117,18 @@ fn calls_have_at_most_64_bytes(rt: HostRuntime) -> Result<(), Fail> {
 #[test]
 fn scripts_have_at_most_4096_lines(rt: HostRuntime) -> Result<(), Fail> {
     let mut text = repeated(&rt, HEADER, b"lsr\n", LINES_AFTER_HEADER)?;
-    assert_eq!(rt; told(&rt, &text)?.as_str(), "a script");
+    assert_equal(&rt, told(&rt, &text)?.as_str(), "a script");
     text.extend_from_slice(b"lsr\n")?;
-    assert_eq!(rt; told(&rt, &text)?.as_str(), "line 4097: too long");
+    assert_equal(&rt, told(&rt, &text)?.as_str(), "line 4097: too long");
 
     // A blank line counts, and what follows the last line feed is a line only if there is anything.
     let mut blank = repeated(&rt, HEADER, b"\n", LINES_AFTER_HEADER)?;
-    assert_eq!(rt; told(&rt, &blank)?.as_str(), "a script");
+    assert_equal(&rt, told(&rt, &blank)?.as_str(), "a script");
     blank.push(b'\n')?;
-    assert_eq!(rt; told(&rt, &blank)?.as_str(), "line 4097: too long");
+    assert_equal(&rt, told(&rt, &blank)?.as_str(), "line 4097: too long");
 
     let faulty = repeated(&rt, "chip 16450 4 64\nx\n", b"lsr\n", MOST_LINES as usize)?;
-    assert_eq!(rt; told(&rt, &faulty)?.as_str(), "line 2: unknown word");
+    assert_equal(&rt, told(&rt, &faulty)?.as_str(), "line 2: unknown word");
     Ok(())
 }
 
@@ -135,16 +136,16 @@ fn scripts_have_at_most_4096_lines(rt: HostRuntime) -> Result<(), Fail> {
 fn scripts_have_at_most_65536_bytes(rt: HostRuntime) -> Result<(), Fail> {
     // Lines of 16 bytes, like the first.
     let mut text = repeated(&rt, HEADER, b"send 4141414141\n", LINES_AFTER_HEADER)?;
-    assert_eq!(rt; text.len(), MOST_BYTES);
-    assert_eq!(rt; told(&rt, &text)?.as_str(), "a script");
+    assert_equal(&rt, text.len(), MOST_BYTES);
+    assert_equal(&rt, told(&rt, &text)?.as_str(), "a script");
     text.push(b'\n')?;
-    assert_eq!(rt; told(&rt, &text)?.as_str(), "line 0: too long");
+    assert_equal(&rt, told(&rt, &text)?.as_str(), "line 0: too long");
 
     // Too many bytes are reported before too many lines.
     let mut blank = repeated(&rt, "chip 16450 4 64\nlsr\n", b"\n", MOST_BYTES - 20)?;
-    assert_eq!(rt; blank.len(), MOST_BYTES);
-    assert_eq!(rt; told(&rt, &blank)?.as_str(), "line 4097: too long");
+    assert_equal(&rt, blank.len(), MOST_BYTES);
+    assert_equal(&rt, told(&rt, &blank)?.as_str(), "line 4097: too long");
     blank.push(b'\n')?;
-    assert_eq!(rt; told(&rt, &blank)?.as_str(), "line 0: too long");
+    assert_equal(&rt, told(&rt, &blank)?.as_str(), "line 0: too long");
     Ok(())
 }

@@ -1,3 +1,4 @@
+use super::super::{assert_equal, assert_equal_at};
 use arrayvec::ArrayVec;
 use bitflags::Flags;
 use std::test::Fail;
@@ -111,7 +112,12 @@ fn each_answer_has_its_line(rt: HostRuntime) -> Result<(), Fail> {
         let text = render(rt.alloc(), &[answer], &[], &[], &[], &[])?;
         let mut wanted = want.to_string(rt.alloc())?;
         wanted.push_str("\nwire -\nheld -\nwaiting -\nmarks -\n")?;
-        assert_eq!(rt; text.as_slice(), wanted.as_bytes(), "at {want}");
+        assert_equal_at(
+            &rt,
+            text.as_slice(),
+            wanted.as_bytes(),
+            format_args!("at {want}"),
+        );
     }
     Ok(())
 }
@@ -126,9 +132,10 @@ fn what_is_left_has_four_lines(rt: HostRuntime) -> Result<(), Fail> {
         ArrivalMark::Dropped,
     ];
     let text = render(rt.alloc(), &[], &[1, 2, 3], &[0x48], &[0x41, 0xff], &marks)?;
-    assert_eq!(rt;
+    assert_equal(
+        &rt,
         text.as_slice(),
-        b"wire 010203\nheld 48\nwaiting 41ff\nmarks pwrdx\n".as_slice()
+        b"wire 010203\nheld 48\nwaiting 41ff\nmarks pwrdx\n".as_slice(),
     );
     Ok(())
 }

@@ -1,3 +1,4 @@
+use super::super::assert_equal;
 use crate::script::{PlayError, Std, play};
 use std::io;
 use std::io::Write;
@@ -37,15 +38,16 @@ pub const OUTPUT: &[u8] = b"ok\nok 1\nwire -\nheld 48\nwaiting -\nmarks -\n";
 #[test]
 fn plays_from_a_reader_to_a_writer(rt: HostRuntime) -> Result<(), Fail> {
     let mut output = Vec::new(rt.alloc());
-    assert_eq!(rt;
+    assert_equal(
+        &rt,
         play(
             rt.alloc(),
             &mut Std::new(SCRIPT),
-            &mut Std::new(&mut output)
+            &mut Std::new(&mut output),
         ),
-        Ok(())
+        Ok(()),
     );
-    assert_eq!(rt; output.as_slice(), OUTPUT);
+    assert_equal(&rt, output.as_slice(), OUTPUT);
     Ok(())
 }
 
@@ -59,8 +61,8 @@ fn a_failing_writer_is_told(rt: HostRuntime) -> Result<(), Fail> {
         &mut Std::new(SCRIPT),
         &mut Std::new(&mut writer),
     );
-    assert_eq!(rt; result, Err(PlayError::WriteFault));
-    assert_eq!(rt; writer.held.as_slice(), b"ok\nok 1\nwi".as_slice());
+    assert_equal(&rt, result, Err(PlayError::WriteFault));
+    assert_equal(&rt, writer.held.as_slice(), b"ok\nok 1\nwi".as_slice());
     Ok(())
 }
 
@@ -68,9 +70,10 @@ fn a_failing_writer_is_told(rt: HostRuntime) -> Result<(), Fail> {
 fn a_writer_that_takes_nothing_has_failed(rt: HostRuntime) {
     let mut room = [0u8; 4];
     let mut writer = Std::new(&mut room[..]);
-    assert_eq!(rt;
+    assert_equal(
+        &rt,
         play(rt.alloc(), &mut Std::new(SCRIPT), &mut writer),
-        Err(PlayError::WriteFault)
+        Err(PlayError::WriteFault),
     );
-    assert_eq!(rt; room, *b"ok\no");
+    assert_equal(&rt, room, *b"ok\no");
 }

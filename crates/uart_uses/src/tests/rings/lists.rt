@@ -1,4 +1,5 @@
 //! Rings over a replay, what the reads of a chip return, and lists of accesses as tests write them.
+use super::assert_equal;
 use std::process::Abort;
 use std::test::Fail;
 use uart_16550::Uart16550;
@@ -113,10 +114,10 @@ pub fn play(
     let mut ring = rings(rt, &answers, tx_capacity, 4)?;
     for call in calls {
         match *call {
-            Call::Queue(bytes, accepted) => assert_eq!(rt; ring.queue(bytes), accepted),
-            Call::Left(count) => assert_eq!(rt; ring.transmit_len(), count),
+            Call::Queue(bytes, accepted) => assert_equal(rt, ring.queue(bytes), accepted),
+            Call::Left(count) => assert_equal(rt, ring.transmit_len(), count),
             Call::Resume => ring.resume_transmit(),
-            Call::Service(count) => assert_eq!(rt; ring.service(), count),
+            Call::Service(count) => assert_equal(rt, ring.service(), count),
         }
     }
     made(rt, ring.inner().backend(), steps);
@@ -133,33 +134,33 @@ pub fn made<R: Abort>(rt: &R, replay: &Replay<'_>, steps: &[Step]) {
     for step in steps {
         match *step {
             Step::Read(offset, answer) => {
-                assert_eq!(rt; accesses.next(), Some(Entry::Read(offset, answer)));
+                assert_equal(rt, accesses.next(), Some(Entry::Read(offset, answer)));
             }
             Step::Write(offset, value) => {
-                assert_eq!(rt; accesses.next(), Some(Entry::Write(offset, value)));
+                assert_equal(rt, accesses.next(), Some(Entry::Write(offset, value)));
             }
             Step::Changed(offset, from, to) => {
-                assert_eq!(rt; accesses.next(), Some(Entry::Read(offset, from)));
-                assert_eq!(rt; accesses.next(), Some(Entry::Write(offset, to)));
+                assert_equal(rt, accesses.next(), Some(Entry::Read(offset, from)));
+                assert_equal(rt, accesses.next(), Some(Entry::Write(offset, to)));
             }
             Step::Burst(bytes) => {
-                assert_eq!(rt; accesses.next(), Some(Entry::Read(offsets::LSR, EMPTY)));
+                assert_equal(rt, accesses.next(), Some(Entry::Read(offsets::LSR, EMPTY)));
                 for &byte in bytes {
-                    assert_eq!(rt; accesses.next(), Some(Entry::Write(offsets::DATA, byte)));
+                    assert_equal(rt, accesses.next(), Some(Entry::Write(offsets::DATA, byte)));
                 }
             }
             Step::Sent(bytes) => {
                 for &byte in bytes {
-                    assert_eq!(rt; accesses.next(), Some(Entry::Write(offsets::DATA, byte)));
+                    assert_equal(rt, accesses.next(), Some(Entry::Write(offsets::DATA, byte)));
                 }
             }
             Step::Received(bytes) => {
                 for &byte in bytes {
-                    assert_eq!(rt; accesses.next(), Some(Entry::Read(offsets::LSR, WAITS)));
-                    assert_eq!(rt; accesses.next(), Some(Entry::Read(offsets::DATA, byte)));
+                    assert_equal(rt, accesses.next(), Some(Entry::Read(offsets::LSR, WAITS)));
+                    assert_equal(rt, accesses.next(), Some(Entry::Read(offsets::DATA, byte)));
                 }
             }
         }
     }
-    assert_eq!(rt; accesses.next(), None);
+    assert_equal(rt, accesses.next(), None);
 }

@@ -225,6 +225,9 @@ impl ::core::fmt::Display for RemoteReadyToReceiveError {
     }
 }
 
+// How each message of a [`LoopbackError`] begins.
+const LOOPBACK: &str = "loopback test failed";
+
 /// Why a loopback test failed.
 #[derive(Clone, Debug, PartialEq, Eq, Hash)]
 pub enum LoopbackError {
@@ -257,29 +260,32 @@ impl ::core::fmt::Display for LoopbackError {
             Self::SendError(_0) => {
                 ({
                     (f.write_fmt(format_args!(
-                        "loopback test failed: couldn't send data: {0}",
-                        _0
+                        "{head}: couldn't send data: {0}",
+                        _0,
+                        head = LOOPBACK
                     )))
                 })
             }
             Self::UnexpectedLoopbackByte { expected, actual } => {
                 ({
                     (f.write_fmt(format_args!(
-                        "loopback test failed: read unexpected byte! expected={expected}, actual={actual}"
+                        "{head}: read unexpected byte! expected={expected}, actual={actual}",
+                        head = LOOPBACK
                     )))
                 })
             }
             Self::UnexpectedLoopbackMsg { expected, actual } => {
                 ({
                     (f.write_fmt(format_args!(
-                        "loopback test failed: read unexpected string! expected (str)={}, actual (str)={}, actual (bytes)={actual:?}",
+                        "{head}: read unexpected string! expected (str)={}, actual (str)={}, actual (bytes)={actual:?}",
                         Message(expected),
-                        Message(actual)
+                        Message(actual),
+                        head = LOOPBACK
                     )))
                 })
             }
             Self::Stalled => {
-                ({ (f.write_fmt(format_args!("loopback test failed: the device stalled"))) })
+                ({ (f.write_fmt(format_args!("{head}: the device stalled", head = LOOPBACK))) })
             }
         }
     }

@@ -1,6 +1,7 @@
 #[allow(unused_imports)]
 use crate::runtime::{AllocGlobal, HostRuntime, assert, assert_eq, assert_ne, format};
 // Each call over a replay, with lists of accesses that were written down by hand.
+use super::assert_equal;
 use super::lists::Call::{Left, Queue, Resume, Service};
 use super::lists::Step::{Burst, Changed, Read, Received, Write};
 use super::lists::{
@@ -113,19 +114,19 @@ fn receiving_is_paused_by_a_full_ring() -> Result<(), Fail> {
     ];
     let answers = answers_in(&rt, &steps)?;
     let mut ring = rings(&rt, &answers, 32, 2)?;
-    assert_eq!(rt; ring.service(), 1);
-    assert_eq!(rt; ring.receive_len(), 2);
+    assert_equal(&rt, ring.service(), 1);
+    assert_equal(&rt, ring.receive_len(), 2);
     assert!(rt; ring.is_paused());
     let mut slots = [0xee; 8];
-    assert_eq!(rt; ring.take(&mut []), 0);
+    assert_equal(&rt, ring.take(&mut []), 0);
     assert!(rt; ring.is_paused());
-    assert_eq!(rt; ring.take(&mut slots), 2);
-    assert_eq!(rt; slots, [0x41, 0x42, 0xee, 0xee, 0xee, 0xee, 0xee, 0xee]);
+    assert_equal(&rt, ring.take(&mut slots), 2);
+    assert_equal(&rt, slots, [0x41, 0x42, 0xee, 0xee, 0xee, 0xee, 0xee, 0xee]);
     assert!(rt; !ring.is_paused());
-    assert_eq!(rt; ring.service(), 1);
-    assert_eq!(rt; ring.take(&mut slots), 1);
-    assert_eq!(rt; slots[0], 0x43);
-    assert_eq!(rt; ring.take(&mut slots), 0);
+    assert_equal(&rt, ring.service(), 1);
+    assert_equal(&rt, ring.take(&mut slots), 1);
+    assert_equal(&rt, slots[0], 0x43);
+    assert_equal(&rt, ring.take(&mut slots), 0);
     made(&rt, ring.inner().backend(), &steps);
     Ok(())
 }
@@ -147,12 +148,12 @@ fn line_errors_are_noted() -> Result<(), Fail> {
         0x60,
     ];
     let mut ring = rings(&rt, &answers, 32, 4)?;
-    assert_eq!(rt; ring.service(), 2);
-    assert_eq!(rt; ring.take_line().bits(), 0x66);
-    assert_eq!(rt; ring.take_line().bits(), 0x60);
+    assert_equal(&rt, ring.service(), 2);
+    assert_equal(&rt, ring.take_line().bits(), 0x66);
+    assert_equal(&rt, ring.take_line().bits(), 0x60);
     let mut slots = [0; 8];
-    assert_eq!(rt; ring.take(&mut slots), 1);
-    assert_eq!(rt; slots[0], 0x42);
+    assert_equal(&rt, ring.take(&mut slots), 1);
+    assert_equal(&rt, slots[0], 0x42);
     Ok(())
 }
 
@@ -170,9 +171,13 @@ fn modem_changes_are_noted() -> Result<(), Fail> {
     ];
     let answers = answers_in(&rt, &steps)?;
     let mut ring = rings(&rt, &answers, 32, 4)?;
-    assert_eq!(rt; ring.service(), 2);
-    assert_eq!(rt; ring.take_modem().bits(), 0x33);
-    assert_eq!(rt; ring.take_modem(), ModemStatus::CTS.union(ModemStatus::DSR));
+    assert_equal(&rt, ring.service(), 2);
+    assert_equal(&rt, ring.take_modem().bits(), 0x33);
+    assert_equal(
+        &rt,
+        ring.take_modem(),
+        ModemStatus::CTS.union(ModemStatus::DSR),
+    );
     made(&rt, ring.inner().backend(), &steps);
     Ok(())
 }
@@ -182,11 +187,11 @@ fn service_ends() -> Result<(), Fail> {
     let rt = HostRuntime;
     // ISR never stops to show an interrupt.
     let mut ring = rings(&rt, &[DMA_RECEPTION; 16], 32, 4)?;
-    assert_eq!(rt; ring.service(), MAX_INTERRUPTS);
+    assert_equal(&rt, ring.service(), MAX_INTERRUPTS);
     made(&rt, ring.inner().backend(), &[Read(ISR, DMA_RECEPTION); 8]);
     // The code 100 names no interrupt, although one is pending.
     let mut ring = rings(&rt, &[DMA_TRANSMISSION, 0xc8], 32, 4)?;
-    assert_eq!(rt; ring.service(), 1);
+    assert_equal(&rt, ring.service(), 1);
     // With an empty ring a pump does not look.
     let steps = [
         Read(ISR, THR_EMPTY),
@@ -210,9 +215,9 @@ fn a_refusal_returns_the_driver() {
         match Uart16550Ring::new(rt.alloc(), uart, tx_capacity, rx_capacity) {
             Ok(_ring) => assert!(rt; false, "made for {tx_capacity} and {rx_capacity} bytes"),
             Err((mut uart, cause)) => {
-                assert_eq!(rt; cause, RingError::BadCapacity);
-                assert_eq!(rt; uart.spin_limit().get(), 7);
-                assert_eq!(rt; uart.lsr().bits(), 0x60);
+                assert_equal(&rt, cause, RingError::BadCapacity);
+                assert_equal(&rt, uart.spin_limit().get(), 7);
+                assert_equal(&rt, uart.lsr().bits(), 0x60);
             }
         }
     }
@@ -226,8 +231,8 @@ fn the_driver_is_reached() -> Result<(), Fail> {
     ring.inner_mut().enable_interrupts(registers::IER::DATA_READY.union(
         registers::IER::RECEIVER_LINE_STATUS,
     ));
-    assert_eq!(rt; ring.queue(b"lost"), 4);
-    assert_eq!(rt; ring.inner().config().interrupts.bits(), 0x07);
+    assert_equal(&rt, ring.queue(b"lost"), 4);
+    assert_equal(&rt, ring.inner().config().interrupts.bits(), 0x07);
     let uart = ring.into_inner();
     let steps = [
         Changed(IER, 0x00, 0x05),
@@ -249,7 +254,7 @@ fn refusals_have_texts() -> Result<(), Fail> {
         ),
         (RingError::OutOfMemory, "out of memory"),
     ] {
-        assert_eq!(rt; format!(in alloc; "{cause}")?.as_str(), text);
+        assert_equal(&rt, format!(in alloc; "{cause}")?.as_str(), text);
     }
     Ok(())
 }

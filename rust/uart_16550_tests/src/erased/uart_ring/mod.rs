@@ -6,3 +6,11 @@ use crate::runtime::{AllocGlobal, HostRuntime, assert, assert_eq, assert_ne, for
 mod calls;
 mod handler;
 mod lists;
+
+use std::fmt::Debug;
+use crate::runtime::Abort;
+
+// Asserts that two values are equal. A function, since what a macro writes is proved at each use.
+pub fn assert_equal<T: PartialEq + Debug>(rt: &impl Abort, left: T, right: T) {
+    assert_eq!(rt; left, right);
+}

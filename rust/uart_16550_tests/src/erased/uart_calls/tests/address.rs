@@ -1,6 +1,7 @@
 #[allow(unused_imports)]
 use crate::runtime::{AllocGlobal, HostRuntime, assert, assert_eq, assert_ne, format};
 // The constructors and the backends for devices at ports and at addresses.
+use super::assert_equal;
 use crate::erased::uart_calls::tests::devices::{Constant, Recorder};
 use crate::erased::uart_calls::tests::lists::Entry::{Read, Write};
 use std::collections::HashSet;
@@ -73,9 +74,10 @@ fn new_mmio_ends_with_the_last_address() -> Result<(), Fail> {
         let mut uart = Uart16550::new_mmio(base, stride, Recorder::new(SILENT))?;
         uart.backend_mut().read(offsets::SPR as u8);
         let accesses = [Read(usize::MAX, 0xff)];
-        assert_eq!(rt;
+        assert_equal(
+            &rt,
             uart.backend().access().log.entries(),
-            Some(accesses.as_slice())
+            Some(accesses.as_slice()),
         );
         let beyond = NonZeroUsize::new(last + 1).ok_or("base 0")?;
         let refusals = [
@@ -98,9 +100,10 @@ fn ports_are_reached_one_by_one() -> Result<(), Fail> {
     uart.backend_mut().write(offsets::SPR as u8, 0x5a);
     uart.backend_mut().read(offsets::LSR as u8);
     let accesses = [Write(0x3ff, 0x5a), Read(0x3fd, 0xff)];
-    assert_eq!(rt;
+    assert_equal(
+        &rt,
         uart.backend().access().log.entries(),
-        Some(accesses.as_slice())
+        Some(accesses.as_slice()),
     );
     Ok(())
 }
@@ -115,7 +118,7 @@ fn is_value<B: Clone + Debug + Eq + Hash + PartialOrd>(
 ) -> Result<(), Fail> {
     assert!(rt; lower < backend);
     let shown = format!(in rt.alloc(); "{backend:?}")?;
-    assert_eq!(rt; shown.as_str(), text);
+    assert_equal(rt, shown.as_str(), text);
     let mut seen = HashSet::new();
     seen.insert(backend.clone());
     assert!(rt; seen.contains(backend));
@@ -128,7 +131,7 @@ fn port_backends_are_values() -> Result<(), Fail> {
     let rt = HostRuntime;
     let uart = Uart16550::new_port(0x3f8, SILENT)?;
     let lower = Uart16550::new_port(0x2f8, SILENT)?;
-    assert_eq!(rt; uart.backend().base(), 0x3f8);
+    assert_equal(&rt, uart.backend().base(), 0x3f8);
     let text = "PioBackend { base: 1016, access: Constant(255) }";
     is_value(&rt, uart.backend(), lower.backend(), text)
 }
@@ -139,8 +142,8 @@ fn memory_backends_are_values() -> Result<(), Fail> {
     let base = NonZeroUsize::new(0x1000).unwrap();
     let uart = Uart16550::new_mmio(base, 4, SILENT)?;
     let lower = Uart16550::new_mmio(base, 2, SILENT)?;
-    assert_eq!(rt; uart.backend().base(), base);
-    assert_eq!(rt; uart.backend().stride().get(), 4);
+    assert_equal(&rt, uart.backend().base(), base);
+    assert_equal(&rt, uart.backend().stride().get(), 4);
     let text = "MmioBackend { base: 4096, stride: 4, access: Constant(255) }";
     is_value(&rt, uart.backend(), lower.backend(), text)
 }

@@ -2,6 +2,7 @@
 use crate::runtime::{AllocGlobal, HostRuntime, assert, assert_eq, assert_ne, format};
 // Every call over a device whose reads always return FF, over one whose reads always return 00,
 // and over the register file: each on a new driver, with its whole list of accesses.
+use super::assert_equal;
 use crate::erased::uart_calls::Answer::{
     self, Bytes, Count, Done, Flag, InitRefused, Latch, LoopbackRefused, NoData, NotConnected,
     NotSent, ReceiveStalled, Register, Stalled,
@@ -230,5 +231,5 @@ fn small_calls_over_the_register_file() {
     }
     let mut uart = driver(RegisterFile::new(true));
     uart.config_register_dump();
-    assert_eq!(rt; uart.backend().log.count(), 12);
+    assert_equal(&rt, uart.backend().log.count(), 12);
 }

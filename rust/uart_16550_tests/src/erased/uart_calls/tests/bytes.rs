@@ -2,6 +2,7 @@
 use crate::runtime::{AllocGlobal, HostRuntime, assert, assert_eq, assert_ne, format};
 // The calls that receive and send, by bytes and by slices: each with its whole list of accesses,
 // and each of their waits to its stall.
+use super::assert_equal;
 use crate::erased::uart_calls::Answer::{Bytes, Count, Done, Flag, NoData, NotSent, ReceiveStalled, Register, Stalled};
 use crate::erased::uart_calls::Call::{
     self, Flush, ReadReady, ReadyToReceive, ReadyToSend, Receive, ReceiveExact, TryReceive,
@@ -69,15 +70,15 @@ fn slots_beyond_what_came_stay() {
     let mut slots = [0xee; 4];
     let mut terminal = started(&rt, New, &[0x01, 0x41, 0x01, 0x42, 0x00, 0x01, 0x43]);
     let uart = terminal.inner_mut();
-    assert_eq!(rt; uart.receive_bytes(&mut slots), 2);
-    assert_eq!(rt; slots, [0x41, 0x42, 0xee, 0xee]);
-    assert_eq!(rt; uart.read(&mut slots[1..]), Ok(1));
-    assert_eq!(rt; slots, [0x41, 0x43, 0xee, 0xee]);
+    assert_equal(&rt, uart.receive_bytes(&mut slots), 2);
+    assert_equal(&rt, slots, [0x41, 0x42, 0xee, 0xee]);
+    assert_equal(&rt, uart.read(&mut slots[1..]), Ok(1));
+    assert_equal(&rt, slots, [0x41, 0x43, 0xee, 0xee]);
     let mut terminal = started(&rt, New, &[0x01, 0x44]);
     let stall = StalledError { done: 1 };
     let uart = terminal.inner_mut();
-    assert_eq!(rt; uart.receive_bytes_exact(&mut slots), Err(stall));
-    assert_eq!(rt; slots, [0x44, 0x43, 0xee, 0xee]);
+    assert_equal(&rt, uart.receive_bytes_exact(&mut slots), Err(stall));
+    assert_equal(&rt, slots, [0x44, 0x43, 0xee, 0xee]);
 }
 
 #[test]
@@ -135,7 +136,7 @@ fn send_bytes_exact() {
     );
     // 22 accesses.
     let some = late().burst(FIRST).looks(3, 0x00);
-    assert_eq!(rt; some.count(), 22);
+    assert_equal(&rt, some.count(), 22);
     row(&rt, New, send_exact(LONG), Stalled(16), &some);
 }
 
@@ -308,10 +309,10 @@ fn refusals_leave_all_but_the_saved_bits() {
             (text("hello"), Stalled(0), &thrice, 0x0e),
         ] {
             let terminal = row(&rt, start, call, answer, looks);
-            assert_eq!(rt; read_back(terminal), left(saved_lsr));
+            assert_equal(&rt, read_back(terminal), left(saved_lsr));
         }
         let terminal = writing(&rt, start, "hello", Err(fmt::Error), &thrice);
-        assert_eq!(rt; read_back(terminal), left(0x0e));
+        assert_equal(&rt, read_back(terminal), left(0x0e));
     }
 }
 
@@ -340,12 +341,12 @@ fn refusals_that_check_cts_save_changes_too() {
         (send(b"hello"), Count(0)),
     ] {
         let terminal = row(&rt, Checking, call, answer, &once);
-        assert_eq!(rt; read_back(terminal), left(0x02, 0x01));
+        assert_equal(&rt, read_back(terminal), left(0x02, 0x01));
     }
     for call in [send_exact(b"hello"), write(b"hello"), text("hello")] {
         let terminal = row(&rt, Checking, call, Stalled(0), &thrice);
-        assert_eq!(rt; read_back(terminal), left(0x06, 0x07));
+        assert_equal(&rt, read_back(terminal), left(0x06, 0x07));
     }
     let terminal = writing(&rt, Checking, "hello", Err(fmt::Error), &thrice);
-    assert_eq!(rt; read_back(terminal), left(0x06, 0x07));
+    assert_equal(&rt, read_back(terminal), left(0x06, 0x07));
 }

@@ -2,6 +2,7 @@
 use crate::runtime::{AllocGlobal, HostRuntime, assert, assert_eq, assert_ne, format};
 // The rows of tables: how a driver is set up, the call that it makes, what that returns, and each
 // of its accesses.
+use super::assert_equal;
 use crate::erased::uart_calls::tests::devices::impatient;
 use crate::erased::uart_calls::tests::lists::{Accesses, last_write};
 use crate::erased::uart_calls::{Answer, CALL_BYTES, Call, perform};
@@ -106,7 +107,7 @@ fn prepared<'a>(
     if let Some((config, first)) = setup {
         *uart.backend_mut() = Replay::new(first);
         assert!(rt; config.is_computable());
-        assert_eq!(rt; uart.init(config), Ok(()));
+        assert_equal(rt, uart.init(config), Ok(()));
         *uart.backend_mut() = Replay::new(answers);
     }
     Uart16550Tty::from_inner(uart)

@@ -2,6 +2,7 @@
 use crate::runtime::{AllocGlobal, HostRuntime, assert, assert_eq, assert_ne, format};
 // Generic code over a writer, which relies on the contract of the trait alone.
 
+use super::assert_equal;
 use crate::erased::uart_calls::tests::devices::{Constant, RegisterFile, driver, impatient};
 use crate::libraries::uart_16550::embedded_io::Write;
 use crate::libraries::uart_spec::{Config, StalledError};
@@ -24,12 +25,17 @@ fn send_all<W: Write>(writer: &mut W, bytes: &[u8]) -> Result<(), W::Error>
 fn a_driver_is_a_writer() {
     let rt = HostRuntime;
     let mut uart = driver(RegisterFile::new(false));
-    assert_eq!(rt; uart.init(Config::DEFAULT), Ok(()));
-    assert_eq!(rt; send_all(&mut uart, b"hello"), Ok(()));
-    assert_eq!(rt; uart.backend().device.sent.as_slice(), b"hello".as_slice());
+    assert_equal(&rt, uart.init(Config::DEFAULT), Ok(()));
+    assert_equal(&rt, send_all(&mut uart, b"hello"), Ok(()));
+    assert_equal(
+        &rt,
+        uart.backend().device.sent.as_slice(),
+        b"hello".as_slice(),
+    );
     let mut stalled = impatient(Constant(0));
-    assert_eq!(rt;
+    assert_equal(
+        &rt,
         send_all(&mut stalled, b"hello"),
-        Err(StalledError { done: 0 })
+        Err(StalledError { done: 0 }),
     );
 }

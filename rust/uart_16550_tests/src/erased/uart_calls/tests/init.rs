@@ -1,6 +1,7 @@
 #[allow(unused_imports)]
 use crate::runtime::{AllocGlobal, HostRuntime, assert, assert_eq, assert_ne, format};
 // The initialisation: its whole list of accesses, each error, and what each leaves behind.
+use super::assert_equal;
 use crate::erased::uart_calls::Answer::{Done, InitRefused, NoData};
 use crate::erased::uart_calls::Call::{self, ReadyToReceive};
 use crate::erased::uart_calls::tests::devices::{RegisterFile, driver};
@@ -36,7 +37,7 @@ fn init_makes_its_list() {
     let drained = begun(0xc1).hit(0x55).look(0x00).write(offsets::MCR, 0x0b);
     let all = drained.look(0x22).look(0x60).end(0x1e, 0xc1, 0x0f, 0x00);
     let terminal = row(&rt, New, init(Some(Fourteen), Baud9600), Done, &all);
-    assert_eq!(rt; read_back(terminal), SET_UP);
+    assert_equal(&rt, read_back(terminal), SET_UP);
 }
 
 #[test]
@@ -55,7 +56,7 @@ fn init_takes_the_fifo_to_be_on_where_isr_shows_both_bits() {
     for (isr, fifo_enabled) in [(0xc0, true), (0xbf, false), (0x7f, false), (0x01, false)] {
         let all = begun(isr).undisturbed(0x00, 0x00);
         let terminal = row(&rt, New, init(Some(Fourteen), Baud9600), Done, &all);
-        assert_eq!(rt; terminal.inner().fifo_enabled(), fifo_enabled);
+        assert_equal(&rt, terminal.inner().fifo_enabled(), fifo_enabled);
     }
 }
 
@@ -73,7 +74,7 @@ fn init_without_level() {
         fcr: Some(0x06),
         ..SET_UP
     };
-    assert_eq!(rt; read_back(terminal), left);
+    assert_equal(&rt, read_back(terminal), left);
 }
 
 #[test]
@@ -117,10 +118,10 @@ fn init_counts_its_accesses() {
             fifo_trigger_level: level,
             ..Config::DEFAULT
         };
-        assert_eq!(rt; uart.init(config), Ok(()));
-        assert_eq!(rt; uart.backend().log.count(), accesses);
-        assert_eq!(rt; uart.fifo_enabled(), sent == 5);
-        assert_eq!(rt; uart.send_bytes(b"hello"), sent);
+        assert_equal(&rt, uart.init(config), Ok(()));
+        assert_equal(&rt, uart.backend().log.count(), accesses);
+        assert_equal(&rt, uart.fifo_enabled(), sent == 5);
+        assert_equal(&rt, uart.send_bytes(b"hello"), sent);
     }
 }
 
@@ -146,7 +147,7 @@ fn init_finds_no_device() {
         let looked = list().look(0x02);
         let mut terminal = row(&rt, New, ReadyToReceive, NoData, &looked);
         then(&rt, &mut terminal, init(None, Baud38400), absent(), &all);
-        assert_eq!(rt; read_back(terminal), left());
+        assert_equal(&rt, read_back(terminal), left());
     }
 }
 
@@ -163,7 +164,7 @@ fn init_refuses_a_rate_without_divisor() {
         let refusal = InitRefused(InvalidBaudRate(cause));
         let nothing = list();
         let terminal = row(&rt, New, init(None, Custom(rate)), refusal, &nothing);
-        assert_eq!(rt; read_back(terminal), NOTHING);
+        assert_equal(&rt, read_back(terminal), NOTHING);
     }
 }
 
@@ -174,13 +175,13 @@ fn init_stalls() {
     // 20 accesses. The polls are saved; the drain, which saw a framing error, is not.
     let drained = begun(0xc1).look(0x08).write(offsets::MCR, 0x0b);
     let polled = drained.look(0x02).look(0x20).look(0x04);
-    assert_eq!(rt; polled.count(), 20);
+    assert_equal(&rt, polled.count(), 20);
     let terminal = row(&rt, New, init(Some(Fourteen), Baud9600), stalled(), &polled);
     let left = Left {
         saved_lsr: 0x06,
         ..SET_UP
     };
-    assert_eq!(rt; read_back(terminal), left);
+    assert_equal(&rt, read_back(terminal), left);
     // A device without FIFO. The driver has the new configuration.
     let line = list().present(0x00).line(0x03, 0x00, 0x03);
     let drained = line.fifo(0xc7, 0x00).look(0x00).write(offsets::MCR, 0x0b);
@@ -197,5 +198,5 @@ fn init_stalls() {
         fifo_enabled: false,
         ..SET_UP
     };
-    assert_eq!(rt; read_back(terminal), left);
+    assert_equal(&rt, read_back(terminal), left);
 }

@@ -2,6 +2,7 @@
 use crate::runtime::{AllocGlobal, HostRuntime, assert, assert_eq, assert_ne, format};
 // The calls that look once, and those that read and write single registers: each with its whole
 // list of accesses.
+use super::assert_equal;
 use crate::erased::uart_calls::Answer::{self, Done, Flag, Latch, NoData, NotConnected, NotSent, Register};
 use crate::erased::uart_calls::Call::{
     self, CheckConnected, CheckPresent, DllDlm, Dump, ReadReady, ReadyToReceive, ReadyToSend,
@@ -89,7 +90,7 @@ fn interrupts() {
     ] {
         let changed = list().read(offsets::IER, ier).write(offsets::IER, left);
         let terminal = row(&rt, New, call, Done, &changed);
-        assert_eq!(rt; terminal.inner().config().interrupts.bits(), left);
+        assert_equal(&rt, terminal.inner().config().interrupts.bits(), left);
     }
 }
 

@@ -1,6 +1,7 @@
 #[allow(unused_imports)]
 use crate::runtime::{AllocGlobal, HostRuntime, assert, assert_eq, assert_ne, format};
 // The loopback test: its whole list of accesses, each refusal, and what each leaves behind.
+use super::assert_equal;
 use crate::erased::uart_calls::Answer::{self, Done, LoopbackRefused};
 use crate::erased::uart_calls::Call::TestLoopback;
 use crate::erased::uart_calls::tests::driving::Start::{Checking, New, NoFifo};
@@ -47,7 +48,7 @@ fn left(accesses: Accesses) -> Accesses {
 // Makes a row of the test, and checks what it leaves behind.
 fn tested(rt: &impl Abort, start: Start, answer: Answer, accesses: Accesses, state: Left) {
     let terminal = row(rt, start, TestLoopback, answer, &accesses);
-    assert_eq!(rt; read_back(terminal), state);
+    assert_equal(rt, read_back(terminal), state);
 }
 
 // Makes a row of a new driver whose FIFO is on.
@@ -224,7 +225,7 @@ fn worked_rows() {
     let turn = list().look(0xff).read(offsets::DATA, 0xff);
     let drained = entered.then(&turn).then(&turn).then(&turn);
     let all = drained.leave(0xf7, 0xff, 0xff, 0xff);
-    assert_eq!(rt; all.count(), 18);
+    assert_equal(&rt, all.count(), 18);
     let state = Left {
         saved_lsr: 0x1e,
         saved_msr: 0x0f,
@@ -239,8 +240,8 @@ fn worked_rows() {
     let exchanged = entered.look(0x00).burst(b"B").hit(0x43);
     let all = exchanged.leave(0x00, 0x00, 0x00, 0x00);
     let answers = [0x00, 0x00, 0x40, 0x00, 0x01, 0x00, 0x20, 0x01, 0x43, 0x00];
-    assert_eq!(rt; all.count(), 17);
-    assert_eq!(rt; all.answers(), answers.as_slice());
+    assert_equal(&rt, all.count(), 17);
+    assert_equal(&rt, all.answers(), answers.as_slice());
     let refusal = LoopbackRefused(UnexpectedLoopbackByte {
         expected: 0x42,
         actual: 0x43,

@@ -4,6 +4,7 @@ use crate::runtime::{AllocGlobal, HostRuntime, assert, assert_eq, assert_ne, for
 // the bytes of the replay in turn. So over any other backend too the accesses of a call are known
 // from the driver's fields and what its reads return.
 
+use super::assert_equal;
 use crate::erased::uart_calls::Answer::{
     self, Bytes, Count, Done, Flag, InitRefused, Latch, LoopbackRefused, NoData, NotConnected,
     ReceiveStalled, Register, Stalled,
@@ -71,9 +72,10 @@ fn a_replay_shows_what_a_call_does() {
         Entry::Write(offsets::DATA, b'h'),
         Entry::Write(offsets::DATA, b'i'),
     ];
-    assert_eq!(rt;
+    assert_equal(
+        &rt,
         terminal.inner().backend().accesses(),
-        Some(accesses.as_slice())
+        Some(accesses.as_slice()),
     );
 }
 
@@ -82,8 +84,8 @@ fn a_replay_says_that_it_is_full() {
     let rt = HostRuntime;
     let mut terminal = replay(&[], 512);
     shows(&rt, &mut terminal, Flush, Stalled(0), 512);
-    assert_eq!(rt; replayed(&mut terminal, &ReadReady), Flag(false));
-    assert_eq!(rt; kept(&terminal), None);
+    assert_equal(&rt, replayed(&mut terminal, &ReadReady), Flag(false));
+    assert_equal(&rt, kept(&terminal), None);
 }
 
 #[test]
@@ -135,6 +137,6 @@ fn bytes_over_a_replay() {
     ] {
         shows(&rt, &mut terminal, call, answer, count);
     }
-    assert_eq!(rt; write_str(&mut terminal, "a"), Ok(()));
-    assert_eq!(rt; kept(&terminal), Some(46));
+    assert_equal(&rt, write_str(&mut terminal, "a"), Ok(()));
+    assert_equal(&rt, kept(&terminal), Some(46));
 }

@@ -3,6 +3,7 @@ use crate::runtime::{AllocGlobal, HostRuntime, assert, assert_eq, assert_ne, for
 // The constructors of terminals: an initialisation and then a loopback test, each with its whole
 // list, up to the error.
 
+use super::assert_equal;
 use crate::erased::uart_calls::tests::devices::{Constant, Listed, Recorder};
 use crate::erased::uart_calls::tests::lists::{Accesses, Entry, list};
 use std::cell::Cell;
@@ -51,24 +52,27 @@ fn terminals_are_set_up() -> Result<(), Fail> {
     let rt = HostRuntime;
     let device = || Recorder::new(Listed(&LOOPING));
     let tty = Uart16550Tty::new_with_backend(device(), Config::DEFAULT)?;
-    assert_eq!(rt; tty.inner().backend().log.entries(), tested().entries());
+    assert_equal(&rt, tty.inner().backend().log.entries(), tested().entries());
     let tty = Uart16550Tty::new_port(0x3f8, device(), Config::DEFAULT)?;
     let list = tested().placed(0x3f8, 1);
-    assert_eq!(rt;
+    assert_equal(
+        &rt,
         tty.inner().backend().access().log.entries(),
-        list.entries()
+        list.entries(),
     );
     let base = NonZeroUsize::new(0x1000).ok_or("base 0")?;
     let list = tested().placed(0x1000, 4);
     let tty = Uart16550Tty::new_mmio(base, 4, device(), Config::DEFAULT)?;
-    assert_eq!(rt;
+    assert_equal(
+        &rt,
         tty.inner().backend().access().log.entries(),
-        list.entries()
+        list.entries(),
     );
     let tty = Uart16550Tty::new_mmio_from_address(base, 4, device(), Config::DEFAULT)?;
-    assert_eq!(rt;
+    assert_equal(
+        &rt,
         tty.inner().backend().access().log.entries(),
-        list.entries()
+        list.entries(),
     );
     Ok(())
 }
@@ -120,17 +124,21 @@ fn refusal(answers: &'static [u8], config: Config) -> (Option<Uart16550TtyError>
 fn terminals_are_refused_by_init() {
     let rt = HostRuntime;
     let (cause, accesses) = refusal(&[0xa5, 0xa5], Config::DEFAULT);
-    assert_eq!(rt; cause, Some(InitError(Refusal::DeviceNotPresent)));
+    assert_equal(&rt, cause, Some(InitError(Refusal::DeviceNotPresent)));
     let absent = list().absent(0xa5);
-    assert_eq!(rt; accesses.entries(), absent.entries());
+    assert_equal(&rt, accesses.entries(), absent.entries());
     let config = Config {
         baud_rate: BaudRate::Custom(1),
         ..Config::DEFAULT
     };
     let (cause, accesses) = refusal(&[], config);
     let divisor = InvalidDivisorError::OutOfRange { divisor: 115_200 };
-    assert_eq!(rt; cause, Some(InitError(Refusal::InvalidBaudRate(divisor))));
-    assert_eq!(rt; accesses.count(), 0);
+    assert_equal(
+        &rt,
+        cause,
+        Some(InitError(Refusal::InvalidBaudRate(divisor))),
+    );
+    assert_equal(&rt, accesses.count(), 0);
 }
 
 #[test]
@@ -145,9 +153,9 @@ fn terminals_are_refused_by_the_test() {
         expected: 0x42,
         actual: 0x43,
     };
-    assert_eq!(rt; cause, Some(TestError(byte)));
+    assert_equal(&rt, cause, Some(TestError(byte)));
     let list = looping().hit(0x43).leave(0x03, 0x00, 0x0b, 0x00);
-    assert_eq!(rt; accesses.entries(), list.entries());
+    assert_equal(&rt, accesses.entries(), list.entries());
 }
 
 #[test]
@@ -155,7 +163,7 @@ fn terminals_stall() {
     let rt = HostRuntime;
     // In the wait of `init`, and in each part of the test: the spin limit is that of a new driver.
     let refused = Uart16550Tty::new_with_backend(Listed(&[0x00, 0x42, 0x73]), Config::DEFAULT);
-    assert_eq!(rt; refused.err(), Some(InitError(Refusal::Stalled)));
+    assert_equal(&rt, refused.err(), Some(InitError(Refusal::Stalled)));
     for answers in [
         [0x00, 0x42, 0x73, 0xc1, 0x00, 0x40].as_slice(),
         &[
@@ -164,7 +172,7 @@ fn terminals_stall() {
         ],
     ] {
         let refused = Uart16550Tty::new_with_backend(Listed(answers), Config::DEFAULT);
-        assert_eq!(rt; refused.err(), Some(TestError(LoopbackError::Stalled)));
+        assert_equal(&rt, refused.err(), Some(TestError(LoopbackError::Stalled)));
     }
 }
 
@@ -173,12 +181,16 @@ fn terminals_are_refused_at_an_address() {
     let rt = HostRuntime;
     let beyond = InvalidAddressError::InvalidBaseAddress(65529);
     let refused = Uart16550Tty::new_port(65529, Constant(0xff), Config::DEFAULT);
-    assert_eq!(rt; refused.err(), Some(AddressError(beyond)));
+    assert_equal(&rt, refused.err(), Some(AddressError(beyond)));
     let stride = InvalidAddressError::InvalidStride(3);
     let refused = Uart16550Tty::new_mmio(NonZeroUsize::MAX, 3, Constant(0xff), Config::DEFAULT);
-    assert_eq!(rt; refused.err(), Some(AddressError(stride)));
+    assert_equal(&rt, refused.err(), Some(AddressError(stride)));
     let refused = Uart16550Tty::new_port(0x3f8, Constant(0xff), Config::DEFAULT);
-    assert_eq!(rt; refused.err(), Some(InitError(Refusal::DeviceNotPresent)));
+    assert_equal(
+        &rt,
+        refused.err(),
+        Some(InitError(Refusal::DeviceNotPresent)),
+    );
 }
 
 #[test]
@@ -190,12 +202,13 @@ fn drivers_and_terminals_have_debug_texts() -> Result<(), Fail> {
         baud_rate: Baud9600, data_bits: EightBits, extra_stop_bits: false, parity: Disabled, \
         check_cts_before_sending: false }, fifo_enabled: true, saved_lsr: LSR(0x0), \
         saved_msr: MSR(0x0), spin_limit: 1000000 }";
-    assert_eq!(rt; format!(in rt.alloc(); "{uart:?}")?.as_str(), driver);
+    assert_equal(&rt, format!(in rt.alloc(); "{uart:?}")?.as_str(), driver);
     let terminal = Uart16550Tty::from_inner(uart);
     let expected = format!(in rt.alloc(); "Uart16550Tty {{ inner: {driver} }}")?;
-    assert_eq!(rt;
+    assert_equal(
+        &rt,
         format!(in rt.alloc(); "{terminal:?}")?.as_str(),
-        expected.as_str()
+        expected.as_str(),
     );
     Ok(())
 }

@@ -1,6 +1,7 @@
 #[allow(unused_imports)]
 use crate::runtime::{AllocGlobal, HostRuntime, assert, assert_eq, assert_ne, format};
 // What a driver keeps beside its backend, saved and taken up again.
+use super::assert_equal;
 use crate::libraries::bitflags::Flags;
 use std::num::NonZeroU64;
 use crate::libraries::uart_16550::replay::Replay;
@@ -24,16 +25,16 @@ fn a_driver_goes_on_from_its_state() {
     let rt = HostRuntime;
     let state: DriverState = used_driver().state();
     let mut uart = Uart16550::from_state(Replay::new(&[0x60, 0x30]), &state);
-    assert_eq!(rt; uart.state(), state);
-    assert_eq!(rt; uart.spin_limit().get(), 7);
-    assert_eq!(rt; uart.config().interrupts, IER::THR_EMPTY);
-    assert_eq!(rt; uart.lsr().bits(), 0x7e);
-    assert_eq!(rt; uart.msr().bits(), 0x3f);
+    assert_equal(&rt, uart.state(), state);
+    assert_equal(&rt, uart.spin_limit().get(), 7);
+    assert_equal(&rt, uart.config().interrupts, IER::THR_EMPTY);
+    assert_equal(&rt, uart.lsr().bits(), 0x7e);
+    assert_equal(&rt, uart.msr().bits(), 0x3f);
 }
 
 #[test]
 fn a_new_driver_has_the_state_of_one() {
     let rt = HostRuntime;
     let uart = Uart16550::new_with_backend(Replay::new(&[]));
-    assert_eq!(rt; uart.state(), DriverState::new());
+    assert_equal(&rt, uart.state(), DriverState::new());
 }

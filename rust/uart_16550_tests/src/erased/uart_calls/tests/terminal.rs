@@ -1,6 +1,7 @@
 #[allow(unused_imports)]
 use crate::runtime::{AllocGlobal, HostRuntime, assert, assert_eq, assert_ne, format};
 // The terminal, the traits at one concrete type, and generic code over them.
+use super::assert_equal;
 use crate::erased::uart_calls::tests::devices::{RegisterFile, driver};
 use std::fmt::Write as _;
 use std::num::NonZeroU64;
@@ -11,13 +12,14 @@ use crate::libraries::uart_spec::{BaudRate, Config};
 fn a_line_ends_as_terminals_expect() {
     let rt = HostRuntime;
     let mut uart = driver(RegisterFile::new(true));
-    assert_eq!(rt; uart.init(Config::DEFAULT), Ok(()));
+    assert_equal(&rt, uart.init(Config::DEFAULT), Ok(()));
     let mut terminal = Uart16550Tty::from_inner(uart);
     assert!(rt; writeln!(terminal, "hello").is_ok());
-    assert_eq!(rt; terminal.write_text("\x7f"), Ok(()));
-    assert_eq!(rt;
+    assert_equal(&rt, terminal.write_text("\x7f"), Ok(()));
+    assert_equal(
+        &rt,
         terminal.inner().backend().device.sent.as_slice(),
-        b"hello\r\n\x08 \x08".as_slice()
+        b"hello\r\n\x08 \x08".as_slice(),
     );
 }
 
@@ -26,13 +28,17 @@ fn a_terminal_gives_its_driver_back() {
     let rt = HostRuntime;
     let mut uart = driver(RegisterFile::new(true));
     uart.set_spin_limit(NonZeroU64::new(7).unwrap());
-    assert_eq!(rt; uart.init(Config::DEFAULT), Ok(()));
+    assert_equal(&rt, uart.init(Config::DEFAULT), Ok(()));
     let mut terminal = Uart16550Tty::from_inner(uart);
-    assert_eq!(rt; terminal.write_text("hi"), Ok(()));
+    assert_equal(&rt, terminal.write_text("hi"), Ok(()));
     let uart = terminal.into_inner();
-    assert_eq!(rt; (uart.spin_limit().get(), uart.fifo_enabled()), (7, true));
-    assert_eq!(rt; *uart.config(), Config::DEFAULT);
-    assert_eq!(rt; uart.backend().device.sent.as_slice(), b"hi".as_slice());
+    assert_equal(
+        &rt,
+        (uart.spin_limit().get(), uart.fifo_enabled()),
+        (7, true),
+    );
+    assert_equal(&rt, uart.config(), &Config::DEFAULT);
+    assert_equal(&rt, uart.backend().device.sent.as_slice(), b"hi".as_slice());
 }
 
 #[test]
@@ -42,7 +48,11 @@ fn a_dump_tells_its_baud_rate() {
         dll: 12,
         ..ConfigRegisterDump::default()
     };
-    assert_eq!(rt; dump.baud_rate(&Config::DEFAULT), Ok(BaudRate::Baud9600));
+    assert_equal(
+        &rt,
+        dump.baud_rate(&Config::DEFAULT),
+        Ok(BaudRate::Baud9600),
+    );
     assert!(rt;
         ConfigRegisterDump::default()
             .baud_rate(&Config::DEFAULT)

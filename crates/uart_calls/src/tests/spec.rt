@@ -1,11 +1,16 @@
-//! Worked examples, and texts, which no contract covers.
-use super::*;
+//! Worked examples of `uart_spec`, and texts, which no contract covers.
 use bitflags::Flags;
-use registers::{
+use std::test::Fail;
+use uart_spec::registers::{
     Divisor, FCR, FifoTriggerLevel, IER, ISR, InterruptType, LCR, LSR, MSR, PSD, Parity,
     WordLength, offsets,
 };
-use std::test::Fail;
+use uart_spec::{
+    BaudRate, ByteReceiveError, ByteSendError, CLK_FREQUENCY_HZ, Config, FIFO_SIZE, InitError,
+    InvalidAddressError, InvalidDivisorError, LoopbackError, NUM_REGISTERS,
+    NonIntegerBaudRateError, NonIntegerDivisorError, RemoteReadyToReceiveError, StalledError,
+    Uart16550TtyError, calc_baud_rate, calc_divisor, calc_frequency,
+};
 
 #[test]
 fn lines_that_changed(rt: HostRuntime) {

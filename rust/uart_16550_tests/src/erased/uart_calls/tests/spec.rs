@@ -1,13 +1,18 @@
 #[allow(unused_imports)]
 use crate::runtime::{AllocGlobal, HostRuntime, assert, assert_eq, assert_ne, format};
-// Worked examples, and texts, which no contract covers.
-use crate::libraries::uart_spec::*;
+// Worked examples of `uart_spec`, and texts, which no contract covers.
 use crate::libraries::bitflags::Flags;
+use crate::runtime::Fail;
 use crate::libraries::uart_spec::registers::{
     Divisor, FCR, FifoTriggerLevel, IER, ISR, InterruptType, LCR, LSR, MSR, PSD, Parity,
     WordLength, offsets,
 };
-use crate::runtime::Fail;
+use crate::libraries::uart_spec::{
+    BaudRate, ByteReceiveError, ByteSendError, CLK_FREQUENCY_HZ, Config, FIFO_SIZE, InitError,
+    InvalidAddressError, InvalidDivisorError, LoopbackError, NUM_REGISTERS,
+    NonIntegerBaudRateError, NonIntegerDivisorError, RemoteReadyToReceiveError, StalledError,
+    Uart16550TtyError, calc_baud_rate, calc_divisor, calc_frequency,
+};
 
 #[test]
 fn lines_that_changed() {
