@@ -29,7 +29,9 @@ HEAP = "allocates: for a chip under a schedule"
 
 LEFT_OUT = {
     "uart_spec/src/backend.rt": OF_THE_DRIVER,
+    "uart_spec/src/call.rt": table.LEFT_OUT["uart_spec/src/call.rt"],
     "uart_spec/src/config.rt": OF_THE_DRIVER,
+    "uart_spec/src/dump.rt": OF_THE_DRIVER,
     "uart_spec/src/errors.rt": OF_THE_DRIVER,
 }
 LEFT_OUT_ITEMS = {

@@ -165,8 +165,8 @@ EXAMPLES = {
     "uart_16550::driver::Uart16550::fifo_enabled": compiles(UART),
     "uart_16550::driver::Uart16550::spin_limit": compiles(UART, "bool", True),
     "uart_16550::driver::Uart16550::set_spin_limit": compiles(UART),
-    "uart_16550::dump::ConfigRegisterDump::divisor": compiles("shown: &ConfigRegisterDump"),
-    "uart_16550::dump::ConfigRegisterDump::baud_rate": runs("use uart_16550::native::*;"),
+    "uart_spec::dump::ConfigRegisterDump::divisor": compiles("shown: &ConfigRegisterDump"),
+    "uart_spec::dump::ConfigRegisterDump::baud_rate": runs("use uart_16550::native::*;"),
     "uart_16550::embedded_io::Uart16550::read": compiles(UART + ", slots: &mut [u8]"),
     "uart_16550::embedded_io::Uart16550::write": (
         INCLUDE + ["# fn example(writer: &mut Uart16550<Device>, bytes: &[u8], mut done: usize) -> Result<(), StalledError> {"],

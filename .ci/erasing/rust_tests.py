@@ -12,7 +12,7 @@ OUTPUT = "rust/uart_16550_tests/src/erased"
 
 # A folder or file of sources, its module of the crate of tests, and what `crate::` and `super::*` are there.
 PARTS = [
-    ("uart_16550/src/call.rt", "call", "crate::libraries::uart_16550"),
+    ("uart_spec/src/call.rt", "call", "crate::libraries::uart_spec"),
     ("uart_16550/src/replay.rt", "replay", "crate::libraries::uart_16550"),
     ("uart_calls/src/lib.rt", "uart_calls", "crate::erased::uart_calls"),
     ("uart_calls/src/performing.rt", "uart_calls/performing", "crate::erased::uart_calls"),

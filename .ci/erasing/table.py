@@ -46,7 +46,7 @@ MODULES = {
 # Files that are not read further, with the reason.
 LEFT_OUT = {
     "uart_spec/src/event.rt": "of the chip, which is in rust/uart_16550_chip",
-    "uart_16550/src/call.rt": "calls as data, for runs and scripts",
+    "uart_spec/src/call.rt": "calls as data, for runs and scripts",
     "uart_16550/src/replay.rt": "a backend for proofs about other crates",
     "uart_ring/src/running.rt": "runs over the software chip",
     "uart_ring/src/running/call.rt": "runs over the software chip",
@@ -101,7 +101,7 @@ uart_16550::driver::Uart16550::config
 uart_16550::driver::Uart16550::fifo_enabled
 uart_16550::driver::Uart16550::spin_limit
 uart_16550::driver::Uart16550::set_spin_limit
-uart_16550::dump::ConfigRegisterDump::divisor
+uart_spec::dump::ConfigRegisterDump::divisor
 uart_16550::mmio::MmioBackend::base
 uart_16550::mmio::MmioBackend::stride
 uart_16550::pio::PioBackend::base
@@ -201,7 +201,7 @@ GUARDS = {
         panics=NOT_COMPUTABLE + " No access was made then.",
         reason="before the first access; a test here would be the second",
     ),
-    "uart_16550::dump::ConfigRegisterDump::baud_rate": Guard(
+    "uart_spec::dump::ConfigRegisterDump::baud_rate": Guard(
         [
             "requires frequency { 0 < config.now.frequency }",
             "requires prescaler { prescaler config.now.prescaler_division_factor ≤ 15 }",

@@ -302,7 +302,7 @@ SOURCES = [
         "something else on the line",
     ),
     (
-        "uart_16550/src/dump.rt",
+        "uart_spec/src/dump.rt",
         "/// # Errors\n    ///\n    /// `NonInteger",
         "/// # Panics\n    ///\n    /// `NonInteger",
         "a section Panics in the source",

@@ -7,7 +7,7 @@ use Rattle.uart_16550.specs.Grammar.{Language, Only}
 use Rattle.uart_16550.specs.Driver.{Made, Did, fields, with_saved}
 use Rattle.uart_16550.specs.Status.{TakesLsr, TakesMsr, Dumps, divisor_accesses}
 use Rattle.uart_16550.specs.declared.driver.Uart16550.{Uart16550}
-use Rattle.uart_16550.specs.declared.dump.ConfigRegisterDump.{ConfigRegisterDump}
+use Rattle.uart_spec.specs.declared.dump.ConfigRegisterDump.{ConfigRegisterDump}
 use Rattle.uart_16550.proofs.Making.{made_only, lsr_kept, msr_kept, lsr_joined, msr_joined}
 use Rattle.uart_16550.proofs.Doings.{did_made}
 

@@ -22,7 +22,7 @@ use Rattle.uart_16550.specs.Io.{Writes, Flushes, AnswersRead, AnswersWrite}
 use Rattle.uart_16550.specs.Expansion.{SendsText, SendsStr}
 use Rattle.uart_16550.specs.Tty.{Starts}
 use Rattle.uart_16550.specs.Choice.{ReceivesInto, ReceivesExactInto, ReadsInto}
-use Rattle.uart_16550.specs.declared.dump.ConfigRegisterDump.{ConfigRegisterDump}
+use Rattle.uart_spec.specs.declared.dump.ConfigRegisterDump.{ConfigRegisterDump}
 
 -- the calls that save what their reads clear, and change nothing else in the driver's fields
 -- -- `read_register` is `ier`, `isr`, `lcr`, `mcr` and `spr`

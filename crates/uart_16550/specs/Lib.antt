@@ -13,6 +13,5 @@ pub mod Pio
 pub mod Mmio
 pub mod Loopback
 pub mod Choice
-pub mod Calls
 pub mod DriverCalls
 pub mod Replay

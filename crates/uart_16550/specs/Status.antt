@@ -1,13 +1,8 @@
--- The lists of the register calls, and the register dump.
-use Rattle.std.specs.Prelude.{◌≡◌, ℕ, true, false, List, [], ◌∷◌, ◌++◌, ◌+◌, ◌*◌, Result, Ok, Err}
+-- The lists of the register calls, and of the register dump.
+use Rattle.std.specs.Prelude.{◌≡◌, ℕ, true, false, List, [], ◌∷◌, ◌++◌, Result, Ok, Err}
 use Rattle.std.specs.Int.RustNames.{bit_or}
 use Rattle.bitflags.specs.Sets.{without}
 use Rattle.uart_spec.specs.Bits.{has}
-use Rattle.uart_spec.specs.Baud.{IsBaudRateAnswer}
-use Rattle.uart_spec.specs.BaudRate.{to_integer, IsNamed}
-use Rattle.uart_spec.specs.declared.config.Config.{Config}
-use Rattle.uart_spec.specs.declared.config.BaudRate.{BaudRate}
-use Rattle.uart_spec.specs.declared.errors.NonIntegerBaudRateError.{NonIntegerBaudRateError}
 use Rattle.uart_spec.specs.declared.errors.RemoteReadyToReceiveError.{RemoteReadyToReceiveError}
 use Rattle.uart_spec.specs.declared.errors.RemoteReadyToReceiveError.TheVariants.{
   NoRemoteConnectedNoDSR,
@@ -20,7 +15,7 @@ use Rattle.uart_spec.specs.declared.registers.modem_status.TheConstants.MSR
 use Rattle.uart_spec.specs.Access.{Access, Read, Write}
 use Rattle.uart_16550.specs.Grammar.{Language}
 use Rattle.uart_16550.specs.Driver.{Fields, Doing, saving, with_saved, with_interrupts}
-use Rattle.uart_16550.specs.declared.dump.ConfigRegisterDump.{ConfigRegisterDump}
+use Rattle.uart_spec.specs.declared.dump.ConfigRegisterDump.{ConfigRegisterDump}
 
 -- `lsr`: one read. The result is joined with the saved bits, of which none are left
 abbrev pub TakesLsr : ℕ → Doing
@@ -83,15 +78,3 @@ pub record Dumps (dump : ConfigRegisterDump) (f : Fields) (l : List Access) (aft
   pub shows_lsr : dump.lsr.0 ≡ bit_or lsr f.lsr
   pub shows_msr : dump.msr.0 ≡ bit_or msr f.msr
   pub keeps : after ≡ saving f l
-
--- the divisor that a dump shows
-abbrev pub divisor_of : ConfigRegisterDump → ℕ
-divisor_of dump = 256 * dump.dlm + dump.dll
-
--- the baud rate that a dump's divisor gives, with its name if it has one; or an error if it is not a whole number
-abbrev pub IsDumpRate : Config → ConfigRegisterDump → Result BaudRate NonIntegerBaudRateError → Type 0
-IsDumpRate config dump (Ok rate) =
-    IsBaudRateAnswer config.frequency (divisor_of dump) config.prescaler_division_factor (Ok (to_integer rate))
-    × ((named : BaudRate) → IsNamed named → to_integer named ≡ to_integer rate → rate ≡ named)
-IsDumpRate config dump (Err e) =
-    IsBaudRateAnswer config.frequency (divisor_of dump) config.prescaler_division_factor (Err e)

@@ -2,8 +2,7 @@
 //!
 //! The contract of each function is a law that callers can cite. The functions do nothing.
 ghost use Rattle.std.specs.Prelude.{◌≡◌, [], ◌∷◌};
-ghost use Rattle.std.specs.Ordering.{nat_cmp};
-ghost use Rattle.uart_spec.specs.Orders.{in_turn, partial_in_turn};
+ghost use Rattle.uart_spec.specs.Orders.{partial_in_turn};
 ghost use Rattle.uart_16550.specs.Choice.{Agree, AgreeSaving, HasOneOutcome};
 ghost use Rattle.uart_16550.specs.Choice.{HasOneOutcomeSaving, IsFunction, LeavesNoChoice};
 ghost use Rattle.uart_16550.specs.Driver.{Saving};
@@ -12,14 +11,10 @@ ghost use Rattle.uart_16550.specs.DriverCalls.{SavingCall, SavingLists};
 ghost use Rattle.uart_16550.specs.Mmio.{Mapped};
 ghost use Rattle.uart_16550.specs.Pio.{Ports};
 ghost use Rattle.uart_16550.specs.Replay.{Repeats, RepeatsSaving};
-ghost use Rattle.uart_16550.specs.declared.call.TheConstants.{CALL_BYTES};
 ghost use Rattle.uart_16550.specs.declared.driver.TheConstants.{DEFAULT_SPIN_LIMIT};
-ghost use Rattle.uart_16550.specs.declared.dump.ConfigRegisterDump.{ConfigRegisterDump};
 
 use crate::backend::{Backend, MmioBackend, PioBackend};
-use crate::dump::ConfigRegisterDump;
 use std::num::{NonZeroU8, NonZeroUsize};
-use uart_spec::registers::{IER, ISR, LCR, LSR, MCR, MSR};
 
 /// The contract of each call determines what the call does: what its reads have returned so far
 /// determines the next access, and in the end the result, the contents of the slots, and the
@@ -55,41 +50,9 @@ pub fn replays_repeat_calls<B: Backend>()
     ensures changing { (call : ChangingCall) → Repeats (ChangingDoing call) B.step }
 {}
 
-/// The most bytes of a call as data.
-pub fn limits_are_these()
-    ensures { CALL_BYTES ≡ 64 }
-{}
-
 /// The spin limit of a driver until `set_spin_limit` is called.
 pub fn default_spin_limit_is_this()
     ensures { DEFAULT_SPIN_LIMIT ≡ 1000000 }
-{}
-
-/// Dumps are compared by their registers, in this order. In the default value all bits are clear.
-pub fn dump_fields_are_in_order()
-    ensures order { (a b : ConfigRegisterDump) → ⟦<ConfigRegisterDump as Ord>⟧.cmp a b ≡ in_turn (
-        ⟦<IER as Ord>⟧.cmp a.ier b.ier
-        ∷ ⟦<ISR as Ord>⟧.cmp a.isr b.isr
-        ∷ ⟦<LCR as Ord>⟧.cmp a.lcr b.lcr
-        ∷ ⟦<MCR as Ord>⟧.cmp a.mcr b.mcr
-        ∷ ⟦<LSR as Ord>⟧.cmp a.lsr b.lsr
-        ∷ ⟦<MSR as Ord>⟧.cmp a.msr b.msr
-        ∷ nat_cmp a.spr b.spr
-        ∷ nat_cmp a.dll b.dll
-        ∷ nat_cmp a.dlm b.dlm
-        ∷ []) }
-    ensures default { (dump : ConfigRegisterDump) →
-        ⟦<ConfigRegisterDump as Default>⟧.is_default dump → dump ≡ record {
-          ier = record { 0 = 0 };
-          isr = record { 0 = 0 };
-          lcr = record { 0 = 0 };
-          mcr = record { 0 = 0 };
-          lsr = record { 0 = 0 };
-          msr = record { 0 = 0 };
-          spr = 0;
-          dll = 0;
-          dlm = 0;
-        } }
 {}
 
 /// Backends are compared by where the first register is, then those in memory by their stride, and

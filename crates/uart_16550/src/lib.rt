@@ -22,9 +22,7 @@
 
 mod address;
 pub mod backend;
-pub mod call;
 mod driver;
-mod dump;
 pub mod embedded_io;
 pub mod laws;
 mod mmio;
@@ -33,11 +31,10 @@ pub mod replay;
 mod tty;
 
 pub use driver::{DEFAULT_SPIN_LIMIT, DriverState, Uart16550};
-pub use dump::ConfigRegisterDump;
 pub use tty::Uart16550Tty;
 pub use uart_spec as spec;
 pub use uart_spec::{
-    BaudRate, ByteReceiveError, ByteSendError, Config, InitError, InvalidAddressError,
-    InvalidDivisorError, LoopbackError, NonIntegerBaudRateError, NonIntegerDivisorError,
-    RemoteReadyToReceiveError, StalledError, Uart16550TtyError,
+    BaudRate, ByteReceiveError, ByteSendError, Config, ConfigRegisterDump, InitError,
+    InvalidAddressError, InvalidDivisorError, LoopbackError, NonIntegerBaudRateError,
+    NonIntegerDivisorError, RemoteReadyToReceiveError, StalledError, Uart16550TtyError,
 };

@@ -1,7 +1,7 @@
 //! A call of the driver, as plain data.
 ghost use Rattle.std.specs.Prelude.{◌≡◌, ◌≤◌, ℕ, List, length, IfSome, IfNone};
 ghost use Rattle.uart_c.specs.Calls.{IsCall, IsGiven};
-ghost use Rattle.uart_16550.specs.declared.call.Call.{Call};
+ghost use Rattle.uart_spec.specs.declared.call.Call.{Call};
 
 use crate::codes::{
     UART_CHECK_CONNECTED, UART_CHECK_PRESENT, UART_DISABLE, UART_DLL_DLM, UART_DUMP, UART_ENABLE,

@@ -20,13 +20,13 @@ use Rattle.uart_16550.specs.Expansion.{SendsText}
 use Rattle.uart_16550.specs.Tty.{inner_of}
 use Rattle.uart_16550.specs.declared.driver.Uart16550.{Uart16550}
 use Rattle.uart_16550.specs.declared.tty.Uart16550Tty.{Uart16550Tty}
-use Rattle.uart_16550.specs.declared.call.Call.{Call}
-use Rattle.uart_16550.specs.declared.call.Call.TheVariants as call
-use Rattle.uart_16550.specs.declared.call.Answer.{Answer}
-use Rattle.uart_16550.specs.declared.call.Answer.TheVariants.{Done, Flag, Count, Bytes, Register, Latch, Dump, Stalled}
-use Rattle.uart_16550.specs.declared.call.Answer.TheVariants.{ReceiveStalled, InitRefused, LoopbackRefused}
-use Rattle.uart_16550.specs.declared.call.Answer.TheVariants.{NotConnected, NoData, NotSent}
-use Rattle.uart_16550.specs.declared.call.TheConstants.{CALL_BYTES}
+use Rattle.uart_spec.specs.declared.call.Call.{Call}
+use Rattle.uart_spec.specs.declared.call.Call.TheVariants as call
+use Rattle.uart_spec.specs.declared.call.Answer.{Answer}
+use Rattle.uart_spec.specs.declared.call.Answer.TheVariants.{Done, Flag, Count, Bytes, Register, Latch, Dump, Stalled}
+use Rattle.uart_spec.specs.declared.call.Answer.TheVariants.{ReceiveStalled, InitRefused, LoopbackRefused}
+use Rattle.uart_spec.specs.declared.call.Answer.TheVariants.{NotConnected, NoData, NotSent}
+use Rattle.uart_spec.specs.declared.call.TheConstants.{CALL_BYTES}
 
 -- ---- the answer for an outcome
 

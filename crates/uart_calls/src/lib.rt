@@ -16,4 +16,4 @@ mod tests;
 pub use checking::{Followed, NextStep, Returned, Turn, check, follow, next};
 pub use performing::perform;
 pub use tape::{Recorded, Request, Tape};
-pub use uart_16550::call::{Answer, CALL_BYTES, Call};
+pub use uart_spec::call::{Answer, CALL_BYTES, Call};

@@ -1,7 +1,7 @@
 //! Makes a call of the driver, over any backend.
 ghost use Rattle.std.specs.Prelude.{◌≡◌, ◌≤◌, length};
 ghost use Rattle.uart_spec.specs.Config.{IsComputable};
-ghost use Rattle.uart_16550.specs.Calls.{IsRunnable};
+ghost use Rattle.uart_spec.specs.Calls.{IsRunnable};
 ghost use Rattle.uart_calls.specs.Meaning.{Called, Performed, meaning};
 ghost use Rattle.uart_calls.specs.Meaning.{loopback_answer, connected_answer};
 ghost use Rattle.uart_calls.specs.Meaning.{receive_ready_answer, received_answer, sent_answer};
@@ -10,9 +10,9 @@ ghost use Rattle.uart_calls.specs.Meaning.{exact_answer, count_answer, ready_ans
 use arrayvec::ArrayVec;
 use bitflags::Flags;
 use uart_16550::backend::Backend;
-use uart_16550::call::{Answer, CALL_BYTES, Call};
 use uart_16550::embedded_io::{Read, ReadReady, Write, WriteReady};
 use uart_16550::{Uart16550, Uart16550Tty};
+use uart_spec::call::{Answer, CALL_BYTES, Call};
 use uart_spec::{
     ByteReceiveError, ByteSendError, Config, InitError, LoopbackError, RemoteReadyToReceiveError,
     StalledError,

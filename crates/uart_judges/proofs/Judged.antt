@@ -7,9 +7,9 @@ use Rattle.uart_16550.specs.Driver.{Fields}
 use Rattle.uart_16550.specs.Replay.{access_of}
 use Rattle.uart_16550.specs.declared.replay.Entry.{Entry}
 use Rattle.uart_language.specs.Output.{answer_text}
-use Rattle.uart_16550.specs.declared.call.Call.{Call}
-use Rattle.uart_16550.specs.declared.call.Answer.{Answer}
-use Rattle.uart_16550.specs.Calls.{IsRunnable}
+use Rattle.uart_spec.specs.declared.call.Call.{Call}
+use Rattle.uart_spec.specs.declared.call.Answer.{Answer}
+use Rattle.uart_spec.specs.Calls.{IsRunnable}
 use Rattle.uart_calls.specs.Meaning.{meaning, outcome_of}
 use Rattle.uart_calls.proofs.NoChoice.{meaning_leaves_no_choice}
 use Rattle.uart_calls.specs.Lists.{IsFollowed, IsListOf, answer_of}

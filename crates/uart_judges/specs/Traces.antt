@@ -3,7 +3,7 @@ use Rattle.std.specs.Prelude.{◌≡◌, ◌⊎◌, ℕ, List, [], ◌∷◌, ma
 use Rattle.uart_16550.specs.Driver.{Fields, with_limit}
 use Rattle.uart_16550.specs.Replay.{access_of}
 use Rattle.uart_16550.specs.State.{fresh_fields}
-use Rattle.uart_16550.specs.declared.call.Answer.{Answer}
+use Rattle.uart_spec.specs.declared.call.Answer.{Answer}
 use Rattle.uart_language.specs.Output.{answer_text}
 use Rattle.uart_calls.specs.Lists.{IsFollowed, IsListOf}
 use Rattle.uart_judges.specs.declared.traces.judging.Stray.{Stray}

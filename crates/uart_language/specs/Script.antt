@@ -7,7 +7,7 @@ use Rattle.uart_spec.specs.declared.event.TheConstants.{MAX_CHAR_TICKS, MAX_WIRE
 use Rattle.uart_spec.specs.Build.{IsLegal}
 use Rattle.uart_spec.specs.declared.event.Chip.{Chip}
 use Rattle.uart_spec.specs.declared.event.Event.{Event}
-use Rattle.uart_16550.specs.declared.call.Call.{Call}
+use Rattle.uart_spec.specs.declared.call.Call.{Call}
 use Rattle.uart_language.specs.declared.cause.Cause.{Cause}
 use Rattle.uart_language.specs.declared.cause.Cause.TheVariants.{BadByte, Misplaced, UnknownWord, WrongCount, TooLong}
 use Rattle.uart_language.specs.declared.cause.ScriptError.{ScriptError}
@@ -15,7 +15,7 @@ use Rattle.uart_language.specs.declared.cause.ScriptError.TheVariants as errors
 use Rattle.uart_language.specs.declared.limits.TheConstants.{MOST_BYTES, MOST_LINES, MOST_LIMIT, DEFAULT_LIMIT}
 use Rattle.uart_language.specs.declared.parsing.Script.{Script}
 use Rattle.uart_language.specs.declared.words.Word.{Word}
-use Rattle.uart_16550.specs.Calls.{IsRunnable}
+use Rattle.uart_spec.specs.Calls.{IsRunnable}
 use Rattle.uart_language.specs.Text.{lines_of, words_of, word_at, has_bad_byte}
 use Rattle.uart_language.specs.Fields.{char_ticks_in, wire_capacity_in, chip_in}
 use Rattle.uart_language.specs.Words.{word_of, has_count, is_placed, fields_of}

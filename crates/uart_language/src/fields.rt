@@ -18,7 +18,7 @@ use super::numbers::number_of;
 use arrayvec::{ArrayString, ArrayVec};
 use bitflags::Flags;
 use std::num::NonZeroU64;
-use uart_16550::call::CALL_BYTES;
+use uart_spec::call::CALL_BYTES;
 use uart_spec::registers::{FifoTriggerLevel, IER, LSR, WordLength};
 use uart_spec::{BaudRate, Chip, MAX_CHAR_TICKS, MAX_WIRE_CAPACITY};
 

@@ -15,7 +15,7 @@ use super::fields::{
 use super::text::{has_bad_byte, word_at, word_count};
 use super::words::{Word, has_count, is_placed, word_of};
 use std::num::NonZeroU64;
-use uart_16550::call::Call;
+use uart_spec::call::Call;
 use uart_spec::{Chip, Config, Event};
 
 /// The meaning of a line after the first.

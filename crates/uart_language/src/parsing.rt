@@ -15,7 +15,7 @@ use super::limits::{DEFAULT_LIMIT, MOST_BYTES, MOST_LINES};
 use super::text::first_line;
 use std::alloc::{AllocError, Global};
 use std::num::NonZeroU64;
-use uart_16550::call::Call;
+use uart_spec::call::Call;
 use uart_spec::{Chip, Event};
 
 /// A script: a chip, what happens to it, and the calls that are made.

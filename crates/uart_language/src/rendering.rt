@@ -12,10 +12,9 @@ ghost use Rattle.uart_language.specs.Output.{final_lines, printed};
 
 use bitflags::Flags;
 use std::alloc::{AllocError, Global};
-use uart_16550::ConfigRegisterDump;
-use uart_16550::call::Answer;
+use uart_spec::call::Answer;
 use uart_spec::{
-    ArrivalMark, ByteSendError, InitError, InvalidDivisorError, LoopbackError,
+    ArrivalMark, ByteSendError, ConfigRegisterDump, InitError, InvalidDivisorError, LoopbackError,
     RemoteReadyToReceiveError,
 };
 

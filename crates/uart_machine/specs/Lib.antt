@@ -2,7 +2,7 @@ pub use Rattle.uart_play.specs.ScriptOutput
 pub use Rattle.uart_play.specs.Play
 pub use Rattle.uart_play.specs.OneOutcome
 pub use Rattle.uart_spec.specs.Build
-pub use Rattle.uart_16550.specs.Calls
+pub use Rattle.uart_spec.specs.Calls
 pub use Rattle.uart_run.specs.Chains
 pub use Rattle.uart_chip.specs.Chip
 pub use Rattle.uart_device.specs.Conserved

@@ -5,8 +5,8 @@ use Rattle.std.specs.Io.KnownBytes.{Appends}
 use Rattle.std.specs.Option.{option_and_then}
 use Rattle.uart_spec.specs.declared.baud.TheConstants.{NUM_REGISTERS}
 use Rattle.uart_spec.specs.Access.{Access, Read, Write}
-use Rattle.uart_16550.specs.declared.call.Call.{Call}
-use Rattle.uart_16550.specs.declared.call.Call.TheVariants.{Next}
+use Rattle.uart_spec.specs.declared.call.Call.{Call}
+use Rattle.uart_spec.specs.declared.call.Call.TheVariants.{Next}
 use Rattle.uart_language.specs.Output.{hex_byte, line}
 use Rattle.uart_port.specs.Ports.{Attempt, Made, Failed}
 use Rattle.uart_port.specs.declared.device.DeviceFile.{DeviceFile}

@@ -2,7 +2,7 @@
 
 ghost use Rattle.std.specs.Prelude.{◌≡◌, All, OnOk};
 ghost use Rattle.std.specs.Io.KnownBytes.{Appends};
-ghost use Rattle.uart_16550.specs.Calls.{IsRunnable};
+ghost use Rattle.uart_spec.specs.Calls.{IsRunnable};
 ghost use Rattle.uart_language.specs.Output.{answer_text, line};
 ghost use Rattle.uart_port.specs.Playing.{IsPlayed, writer_of, traced_by};
 ghost use Rattle.uart_port.specs.Trace.{answer_line, if_driven, is_driven, traced};

@@ -10,7 +10,7 @@ use Rattle.std.specs.Char.{digit_char}
 use Rattle.std.specs.List.{AllByRecursion, flat_map, before_first, list_any, onto_first, range_with_len, slice_split}
 use Rattle.uart_16550.specs.declared.replay.Entry.{Entry}
 use Rattle.uart_16550.specs.declared.replay.Entry.TheVariants as entry
-use Rattle.uart_16550.specs.declared.call.Call.{Call}
+use Rattle.uart_spec.specs.declared.call.Call.{Call}
 use Rattle.uart_language.specs.Output.{line}
 use Rattle.uart_language.specs.Sayings.{plain}
 use Rattle.uart_language.specs.Script.{Plan}

@@ -2,7 +2,7 @@
 ghost use Rattle.std.specs.Prelude.{◌≡◌, All, IfOk};
 ghost use Rattle.uart_chip.specs.Machine.{fresh, cutting};
 ghost use Rattle.uart_language.specs.Script.{plan_of, IsPlayable};
-ghost use Rattle.uart_16550.specs.Calls.{IsRunnable};
+ghost use Rattle.uart_spec.specs.Calls.{IsRunnable};
 ghost use Rattle.uart_run.specs.Chains.{RunOf};
 ghost use Rattle.uart_report.specs.Run.{BeginsRun, IsMade, CallStep, IsRecorded};
 

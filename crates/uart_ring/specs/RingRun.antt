@@ -1,6 +1,6 @@
 -- Runs of ring calls over the machine: what each call does, and lists of calls.
 use Rattle.std.specs.Prelude.{◌≡◌, ◌≤◌, ⊤, ℕ, List}
-use Rattle.uart_16550.specs.declared.call.TheConstants.{CALL_BYTES}
+use Rattle.uart_spec.specs.declared.call.TheConstants.{CALL_BYTES}
 use Rattle.uart_chip.specs.Machine.{MachineState, MachineStep, at_mark}
 use Rattle.uart_run.specs.Chains.{LinkOf, ChainOf}
 use Rattle.uart_run.specs.Run.{State, machine_of}

@@ -14,7 +14,7 @@ use Rattle.uart_16550.specs.Expansion.{SendsEach, SendsBeginning}
 use Rattle.uart_16550.specs.Init.{Keeps as Keeps_pattern, KeepsPatterns, ChecksPresence}
 use Rattle.uart_16550.specs.Io.{Reads, Writes, Flushes, AnswersRead, AnswersWrite}
 use Rattle.uart_16550.specs.Status.{TakesLsr, TakesMsr, Connects, ReadsDivisor, Enables, Disables, Dumps}
-use Rattle.uart_16550.specs.declared.dump.ConfigRegisterDump.{ConfigRegisterDump}
+use Rattle.uart_spec.specs.declared.dump.ConfigRegisterDump.{ConfigRegisterDump}
 use Rattle.uart_calls.specs.Meaning.{ShowsFifo}
 use Rattle.uart_chip.specs.Transmitter.{room}
 use Rattle.uart_device.proofs.conservation.Blocks.{is_quiet, Look, Other, Divisor, AllQuiet}

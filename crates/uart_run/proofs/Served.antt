@@ -12,10 +12,10 @@ use Rattle.uart_16550.specs.Driver.{fields, settings_of}
 use Rattle.uart_16550.specs.Receive.{Miss, TryReceive, Receives, ReceivesExact}
 use Rattle.uart_16550.specs.Io.{Reads, Flushes}
 use Rattle.uart_16550.specs.Tty.{inner_of}
-use Rattle.uart_16550.specs.declared.call.Call.{Call}
-use Rattle.uart_16550.specs.declared.call.Call.TheVariants as call
-use Rattle.uart_16550.specs.declared.call.Answer.{Answer}
-use Rattle.uart_16550.specs.declared.call.Answer.TheVariants.{Register, Done}
+use Rattle.uart_spec.specs.declared.call.Call.{Call}
+use Rattle.uart_spec.specs.declared.call.Call.TheVariants as call
+use Rattle.uart_spec.specs.declared.call.Answer.{Answer}
+use Rattle.uart_spec.specs.declared.call.Answer.TheVariants.{Register, Done}
 use Rattle.uart_chip.specs.declared.receiver.Character.{Character}
 use Rattle.uart_chip.specs.declared.transmitter.Shifting.{Shifting}
 use Rattle.uart_chip.specs.Transmitter.{shift_bytes}

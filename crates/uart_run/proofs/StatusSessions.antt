@@ -5,10 +5,10 @@ use Rattle.uart_spec.specs.Access.{Access, Read, Path}
 use Rattle.uart_16550.specs.Driver.{Doing, Fields, fields}
 use Rattle.uart_16550.specs.Status.{TakesLsr, TakesMsr}
 use Rattle.uart_16550.specs.Tty.{inner_of}
-use Rattle.uart_16550.specs.declared.call.Call.{Call}
-use Rattle.uart_16550.specs.declared.call.Call.TheVariants as call
-use Rattle.uart_16550.specs.declared.call.Answer.{Answer}
-use Rattle.uart_16550.specs.declared.call.Answer.TheVariants.{Register}
+use Rattle.uart_spec.specs.declared.call.Call.{Call}
+use Rattle.uart_spec.specs.declared.call.Call.TheVariants as call
+use Rattle.uart_spec.specs.declared.call.Answer.{Answer}
+use Rattle.uart_spec.specs.declared.call.Answer.TheVariants.{Register}
 use Rattle.uart_calls.specs.Meaning.{CalledAs}
 use Rattle.uart_chip.specs.declared.receiver.Character.{Character}
 use Rattle.uart_chip.specs.Machine.{MachineState, MachineStep}

@@ -6,10 +6,10 @@ use Rattle.uart_16550.specs.Driver.{fields}
 use Rattle.uart_16550.specs.Init.{DivisorOf}
 use Rattle.uart_16550.specs.Expansion.{expansion}
 use Rattle.uart_16550.specs.Tty.{inner_of}
-use Rattle.uart_16550.specs.declared.call.Call.{Call}
-use Rattle.uart_16550.specs.declared.call.Call.TheVariants as call
-use Rattle.uart_16550.specs.declared.call.Answer.{Answer}
-use Rattle.uart_16550.specs.declared.call.Answer.TheVariants.{Done, Count}
+use Rattle.uart_spec.specs.declared.call.Call.{Call}
+use Rattle.uart_spec.specs.declared.call.Call.TheVariants as call
+use Rattle.uart_spec.specs.declared.call.Answer.{Answer}
+use Rattle.uart_spec.specs.declared.call.Answer.TheVariants.{Done, Count}
 use Rattle.uart_spec.specs.declared.event.Event.{Event}
 use Rattle.uart_spec.specs.declared.event.Event.TheVariants.{Ticks, Access as Gate, Mark}
 use Rattle.uart_chip.specs.declared.transmitter.Shifting.{Shifting}

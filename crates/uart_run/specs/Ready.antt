@@ -8,10 +8,10 @@ use Rattle.uart_16550.specs.Driver.{fields}
 use Rattle.uart_16550.specs.Init.{DivisorOf, frame_bits}
 use Rattle.uart_16550.specs.Loopback.{test_byte}
 use Rattle.uart_16550.specs.Tty.{inner_of}
-use Rattle.uart_16550.specs.declared.call.Call.{Call}
-use Rattle.uart_16550.specs.declared.call.Call.TheVariants as call
-use Rattle.uart_16550.specs.declared.call.Answer.{Answer}
-use Rattle.uart_16550.specs.declared.call.Answer.TheVariants.{Done, InitRefused, LoopbackRefused}
+use Rattle.uart_spec.specs.declared.call.Call.{Call}
+use Rattle.uart_spec.specs.declared.call.Call.TheVariants as call
+use Rattle.uart_spec.specs.declared.call.Answer.{Answer}
+use Rattle.uart_spec.specs.declared.call.Answer.TheVariants.{Done, InitRefused, LoopbackRefused}
 use Rattle.uart_spec.specs.declared.event.Chip.{Chip}
 use Rattle.uart_spec.specs.declared.event.Chip.TheVariants.{Uart16550A, Uart16450}
 use Rattle.uart_chip.specs.Masks.{ier_bits}

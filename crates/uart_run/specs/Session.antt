@@ -1,10 +1,10 @@
 -- Sessions, and what holds in each.
 use Rattle.std.specs.Prelude.{◌≡◌, ℕ, List, [], ◌∷◌, ◌++◌, map, take}
 use Rattle.uart_16550.specs.Expansion.{expansion}
-use Rattle.uart_16550.specs.declared.call.Call.{Call}
-use Rattle.uart_16550.specs.declared.call.Call.TheVariants as call
-use Rattle.uart_16550.specs.declared.call.Answer.{Answer}
-use Rattle.uart_16550.specs.declared.call.Answer.TheVariants as answer
+use Rattle.uart_spec.specs.declared.call.Call.{Call}
+use Rattle.uart_spec.specs.declared.call.Call.TheVariants as call
+use Rattle.uart_spec.specs.declared.call.Answer.{Answer}
+use Rattle.uart_spec.specs.declared.call.Answer.TheVariants as answer
 use Rattle.uart_chip.specs.Chip.{cut_of}
 use Rattle.uart_device.specs.Conserved.{out, waiting, kept}
 use Rattle.uart_run.specs.Chains.{EachLink}

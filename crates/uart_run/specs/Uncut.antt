@@ -3,10 +3,10 @@
 use Rattle.std.specs.Prelude.{◌≡◌, ◌⊎◌, false, ℕ, List, [], ◌∷◌, ◌++◌, map, filter}
 use Rattle.uart_spec.specs.declared.errors.LoopbackError.TheVariants.{Stalled}
 use Rattle.uart_chip.specs.declared.receiver.Character.{Character}
-use Rattle.uart_16550.specs.declared.call.Call.{Call}
-use Rattle.uart_16550.specs.declared.call.Call.TheVariants as call
-use Rattle.uart_16550.specs.declared.call.Answer.{Answer}
-use Rattle.uart_16550.specs.declared.call.Answer.TheVariants.{Done, LoopbackRefused}
+use Rattle.uart_spec.specs.declared.call.Call.{Call}
+use Rattle.uart_spec.specs.declared.call.Call.TheVariants as call
+use Rattle.uart_spec.specs.declared.call.Answer.{Answer}
+use Rattle.uart_spec.specs.declared.call.Answer.TheVariants.{Done, LoopbackRefused}
 use Rattle.uart_chip.specs.Machine.{MachineState}
 use Rattle.uart_device.specs.Conserved.{out, waiting, stands, arriving, between, entered}
 use Rattle.uart_run.specs.Chains.{EachLink}

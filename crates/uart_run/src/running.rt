@@ -1,6 +1,6 @@
 //! Runs of calls over the machine.
 ghost use Rattle.std.specs.Prelude.{◌≡◌, length, All};
-ghost use Rattle.uart_16550.specs.Calls.{IsRunnable};
+ghost use Rattle.uart_spec.specs.Calls.{IsRunnable};
 ghost use Rattle.uart_run.specs.Session.{Ran};
 ghost use Rattle.uart_run.specs.Uncut.{IsUncut, RanUncut};
 ghost use Rattle.uart_run.specs.Run.{CallStep};

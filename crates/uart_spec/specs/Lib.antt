@@ -8,3 +8,5 @@ pub mod BaudRate
 pub mod Config
 pub mod Orders
 pub mod Build
+pub mod Dump
+pub mod Calls

@@ -9,10 +9,12 @@ ghost use Rattle.uart_spec.specs.Orders.{IsAscending, in_turn, partial_in_turn};
 ghost use Rattle.uart_spec.specs.Orders.{interrupt_types, parities, trigger_levels, word_lengths};
 ghost use Rattle.uart_spec.specs.declared.baud.TheConstants.{CLK_FREQUENCY_HZ};
 ghost use Rattle.uart_spec.specs.declared.baud.TheConstants.{FIFO_SIZE, NUM_REGISTERS};
+ghost use Rattle.uart_spec.specs.declared.call.TheConstants.{CALL_BYTES};
 ghost use Rattle.uart_spec.specs.declared.config.BaudRate.{BaudRate};
 ghost use Rattle.uart_spec.specs.declared.config.BaudRate.TheVariants.{Baud9600};
 ghost use Rattle.uart_spec.specs.declared.config.Config.{Config};
 ghost use Rattle.uart_spec.specs.declared.config.TheConstants.Config.{DEFAULT};
+ghost use Rattle.uart_spec.specs.declared.dump.ConfigRegisterDump.{ConfigRegisterDump};
 ghost use Rattle.uart_spec.specs.declared.errors.InvalidDivisorError.{InvalidDivisorError};
 ghost use Rattle.uart_spec.specs.declared.errors.InvalidDivisorError.TheVariants.{
   NonInteger,
@@ -43,6 +45,7 @@ ghost use Rattle.uart_spec.specs.declared.registers.offsets.TheConstants as offs
 ghost use Rattle.uart_spec.specs.declared.registers.prescaler_division.PSD.{PSD};
 
 use crate::config::{BaudRate, Config};
+use crate::dump::ConfigRegisterDump;
 use crate::errors::{InvalidDivisorError, NonIntegerBaudRateError, NonIntegerDivisorError};
 use crate::registers::{
     Divisor, FCR, FifoTriggerLevel, IER, ISR, InterruptType, LCR, LSR, MCR, MSR, PSD, Parity,
@@ -130,6 +133,33 @@ pub fn fields_are_in_order()
         a.prescaler_division_factor b.prescaler_division_factor ∷ []) }
 {}
 
+/// Dumps are compared by their registers, in this order. In the default value all bits are clear.
+pub fn dump_fields_are_in_order()
+    ensures order { (a b : ConfigRegisterDump) → ⟦<ConfigRegisterDump as Ord>⟧.cmp a b ≡ in_turn (
+        ⟦<IER as Ord>⟧.cmp a.ier b.ier
+        ∷ ⟦<ISR as Ord>⟧.cmp a.isr b.isr
+        ∷ ⟦<LCR as Ord>⟧.cmp a.lcr b.lcr
+        ∷ ⟦<MCR as Ord>⟧.cmp a.mcr b.mcr
+        ∷ ⟦<LSR as Ord>⟧.cmp a.lsr b.lsr
+        ∷ ⟦<MSR as Ord>⟧.cmp a.msr b.msr
+        ∷ nat_cmp a.spr b.spr
+        ∷ nat_cmp a.dll b.dll
+        ∷ nat_cmp a.dlm b.dlm
+        ∷ []) }
+    ensures default { (dump : ConfigRegisterDump) →
+        ⟦<ConfigRegisterDump as Default>⟧.is_default dump → dump ≡ record {
+          ier = record { 0 = 0 };
+          isr = record { 0 = 0 };
+          lcr = record { 0 = 0 };
+          mcr = record { 0 = 0 };
+          lsr = record { 0 = 0 };
+          msr = record { 0 = 0 };
+          spr = 0;
+          dll = 0;
+          dlm = 0;
+        } }
+{}
+
 /// Registers are compared as the numbers that their bytes are.
 pub fn registers_are_in_order()
     ensures ier { (a b : IER) → ⟦<IER as Ord>⟧.cmp a b ≡ nat_cmp a.0 b.0 }
@@ -152,4 +182,9 @@ pub fn constants_are_these()
         ≡ (0 ∷ 1 ∷ 2 ∷ 3 ∷ 4 ∷ 5 ∷ 6 ∷ 7 ∷ []) }
     ensures shared_offsets { (offsets.FCR ∷ offsets.DLL ∷ offsets.DLM ∷ offsets.PSD ∷ []) ≡
         (2 ∷ 0 ∷ 1 ∷ 6 ∷ []) }
+{}
+
+/// The most bytes of a call as data.
+pub fn limits_are_these()
+    ensures { CALL_BYTES ≡ 64 }
 {}

@@ -1,6 +1,6 @@
 //! Everything about a 16550 serial chip that needs no access to it: its registers with their named
 //! bits and fields, the arithmetic of its baud rate generator, its configuration, the errors of its
-//! driver, and what happens to it from outside.
+//! driver, the driver's calls and their answers as data, and what happens to it from outside.
 //!
 //! Bits are numbered from 0, the lowest, to 7. Frequencies are in hertz and baud rates in bits per
 //! second.
@@ -8,7 +8,9 @@
 
 pub mod backend;
 mod baud;
+pub mod call;
 mod config;
+mod dump;
 mod errors;
 mod event;
 pub mod laws;
@@ -18,6 +20,7 @@ pub use baud::{
     CLK_FREQUENCY_HZ, FIFO_SIZE, NUM_REGISTERS, calc_baud_rate, calc_divisor, calc_frequency,
 };
 pub use config::{BaudRate, Config};
+pub use dump::ConfigRegisterDump;
 pub use errors::{
     ByteReceiveError, ByteSendError, InitError, InvalidAddressError, InvalidDivisorError,
     LoopbackError, NonIntegerBaudRateError, NonIntegerDivisorError, RemoteReadyToReceiveError,

@@ -3,17 +3,13 @@ pub mod arrayvec;
 
 /// The driver.
 pub mod uart_16550 {
-    pub use crate::erased::{call, replay};
+    pub use crate::erased::replay;
     pub use ::uart_16550::native::*;
-
-    /// The type that an answer holds.
-    pub mod dump {
-        pub use ::uart_16550::native::ConfigRegisterDump;
-    }
 }
 
 /// Registers, arithmetic, configuration and errors.
 pub mod uart_spec {
+    pub use crate::erased::call;
     pub use ::uart_16550::native::backend;
     pub use ::uart_16550::native::spec::*;
     pub use ::uart_16550::native::*;

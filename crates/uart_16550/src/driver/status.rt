@@ -9,10 +9,9 @@ ghost use Rattle.uart_16550.specs.Driver.{Made, Did};
 
 use super::Uart16550;
 use crate::backend::Backend;
-use crate::dump::ConfigRegisterDump;
 use bitflags::Flags;
-use uart_spec::RemoteReadyToReceiveError;
 use uart_spec::registers::{DLL, DLM, IER, ISR, LCR, LSR, MCR, MSR, SPR, offsets};
+use uart_spec::{ConfigRegisterDump, RemoteReadyToReceiveError};
 
 impl<B: Backend> Uart16550<B> {
     /// Reads and returns the interrupt enable register (IER). Reading it changes nothing.

@@ -2,10 +2,11 @@
 use crate::runtime::{AllocGlobal, HostRuntime, assert, assert_eq, assert_ne, format};
 // Calls of a driver, and their answers.
 
-use crate::libraries::uart_16550::dump::ConfigRegisterDump;
-use crate::libraries::arrayvec::{ArrayString, ArrayVec};
 use crate::libraries::uart_spec::registers::IER;
-use crate::libraries::uart_spec::{ByteSendError, Config, InitError, LoopbackError, RemoteReadyToReceiveError};
+use crate::libraries::uart_spec::{
+    ByteSendError, Config, ConfigRegisterDump, InitError, LoopbackError, RemoteReadyToReceiveError,
+};
+use crate::libraries::arrayvec::{ArrayString, ArrayVec};
 
 // The most bytes that a call sends or receives.
 pub const CALL_BYTES: usize = 64;

@@ -1,5 +1,5 @@
 use Rattle.std.proofs.Common.{ℕ, List, length, ap, arith}
-use Rattle.uart_16550.specs.declared.call.TheConstants.{CALL_BYTES}
+use Rattle.uart_spec.specs.declared.call.TheConstants.{CALL_BYTES}
 use Rattle.uart_c.specs.declared.answer.UartAnswer.{UartAnswer}
 use Rattle.uart_c.proofs.Copies.{all_copied, one_copied}
 use Rattle.uart_c.proofs.answer.of_bytes.Goals as goal

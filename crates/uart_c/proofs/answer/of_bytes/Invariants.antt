@@ -1,5 +1,5 @@
 use Rattle.std.proofs.Common.{◌≡◌, ◌++◌, ◌-◌, take, length, replicate}
-use Rattle.uart_16550.specs.declared.call.TheConstants.{CALL_BYTES}
+use Rattle.uart_spec.specs.declared.call.TheConstants.{CALL_BYTES}
 use Rattle.uart_c.proofs.answer.of_bytes.Given as goal
 
 abbrev pub invariant-loop-place : goal.invariant-loop-place

@@ -1,7 +1,7 @@
 use Rattle.std.proofs.Common.{map, sym, subst, ◌∙◌}
 use Rattle.uart_16550.specs.Driver.{Fields}
 use Rattle.uart_16550.specs.Replay.{access_of}
-use Rattle.uart_16550.specs.declared.call.Call.TheVariants as call
+use Rattle.uart_spec.specs.declared.call.Call.TheVariants as call
 use Rattle.uart_calls.specs.Lists.{IsListOf}
 use Rattle.uart_uses.proofs.tracing.is_flush.Goals as goal
 

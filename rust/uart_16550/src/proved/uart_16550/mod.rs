@@ -26,18 +26,16 @@
 mod address;
 pub mod backend;
 mod driver;
-mod dump;
 pub mod embedded_io;
 mod mmio;
 mod pio;
 mod tty;
 
 pub use driver::{DEFAULT_SPIN_LIMIT, DriverState, Uart16550};
-pub use dump::ConfigRegisterDump;
 pub use tty::Uart16550Tty;
 pub use crate::proved::uart_spec as spec;
 pub use crate::proved::uart_spec::{
-    BaudRate, ByteReceiveError, ByteSendError, Config, InitError, InvalidAddressError,
-    InvalidDivisorError, LoopbackError, NonIntegerBaudRateError, NonIntegerDivisorError,
-    RemoteReadyToReceiveError, StalledError, Uart16550TtyError,
+    BaudRate, ByteReceiveError, ByteSendError, Config, ConfigRegisterDump, InitError,
+    InvalidAddressError, InvalidDivisorError, LoopbackError, NonIntegerBaudRateError,
+    NonIntegerDivisorError, RemoteReadyToReceiveError, StalledError, Uart16550TtyError,
 };

@@ -1,6 +1,6 @@
 //! Everything about a 16550 serial chip that needs no access to it: its registers with their named
 //! bits and fields, the arithmetic of its baud rate generator, its configuration, the errors of its
-//! driver, and what happens to it from outside.
+//! driver, the driver's calls and their answers as data, and what happens to it from outside.
 //!
 //! Bits are numbered from 0, the lowest, to 7. Frequencies are in hertz and baud rates in bits per
 //! second.

@@ -12,4 +12,4 @@ mod performing;
 mod tests;
 
 pub use performing::perform;
-pub use crate::libraries::uart_16550::call::{Answer, CALL_BYTES, Call};
+pub use crate::libraries::uart_spec::call::{Answer, CALL_BYTES, Call};

@@ -5,9 +5,9 @@ use crate::runtime::{AllocGlobal, HostRuntime, assert, assert_eq, assert_ne, for
 use crate::libraries::arrayvec::ArrayVec;
 use crate::libraries::bitflags::Flags;
 use crate::libraries::uart_16550::backend::Backend;
-use crate::libraries::uart_16550::call::{Answer, CALL_BYTES, Call};
 use crate::libraries::uart_16550::embedded_io::{Read, ReadReady, Write, WriteReady};
 use crate::libraries::uart_16550::{Uart16550, Uart16550Tty};
+use crate::libraries::uart_spec::call::{Answer, CALL_BYTES, Call};
 use crate::libraries::uart_spec::{
     ByteReceiveError, ByteSendError, Config, InitError, LoopbackError, RemoteReadyToReceiveError,
     StalledError,

@@ -2,10 +2,9 @@
 
 use super::Uart16550;
 use crate::proved::uart_16550::backend::Backend;
-use crate::proved::uart_16550::dump::ConfigRegisterDump;
 use crate::flags::Flags;
-use crate::proved::uart_spec::RemoteReadyToReceiveError;
 use crate::proved::uart_spec::registers::{DLL, DLM, IER, ISR, LCR, LSR, MCR, MSR, SPR, offsets};
+use crate::proved::uart_spec::{ConfigRegisterDump, RemoteReadyToReceiveError};
 
 impl<B: Backend> Uart16550<B> {
     /// Reads and returns the interrupt enable register (IER). Reading it changes nothing.

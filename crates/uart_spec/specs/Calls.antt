@@ -1,9 +1,9 @@
 -- Calls of a driver.
 use Rattle.std.specs.Prelude.{◌≤◌, ⊤}
 use Rattle.uart_spec.specs.Config.{IsComputable}
-use Rattle.uart_16550.specs.declared.call.Call.{Call}
-use Rattle.uart_16550.specs.declared.call.Call.TheVariants as call
-use Rattle.uart_16550.specs.declared.call.TheConstants.{CALL_BYTES}
+use Rattle.uart_spec.specs.declared.call.Call.{Call}
+use Rattle.uart_spec.specs.declared.call.Call.TheVariants as call
+use Rattle.uart_spec.specs.declared.call.TheConstants.{CALL_BYTES}
 
 -- a count is at most that of a call's bytes, and a configuration is computable
 abbrev pub IsRunnable : Call → Type 0

@@ -1,7 +1,9 @@
 //! The values of the registers, read one after another.
 
+use crate::proved::uart_spec::baud::calc_baud_rate;
+use crate::proved::uart_spec::config::{BaudRate, Config};
+use crate::proved::uart_spec::errors::NonIntegerBaudRateError;
 use crate::proved::uart_spec::registers::{DLL, DLM, IER, ISR, LCR, LSR, MCR, MSR, SPR};
-use crate::proved::uart_spec::{BaudRate, Config, NonIntegerBaudRateError, calc_baud_rate};
 
 /// The values of the registers of a device, read one after another by
 /// `Uart16550::config_register_dump`.

@@ -1,12 +1,13 @@
 //! Calls of a driver, and their answers.
 
 ghost use Rattle.std.specs.Prelude.{◌↔◌, IsTrue};
-ghost use Rattle.uart_16550.specs.Calls.{IsRunnable};
+ghost use Rattle.uart_spec.specs.Calls.{IsRunnable};
 
-use crate::dump::ConfigRegisterDump;
+use crate::registers::IER;
+use crate::{
+    ByteSendError, Config, ConfigRegisterDump, InitError, LoopbackError, RemoteReadyToReceiveError,
+};
 use arrayvec::{ArrayString, ArrayVec};
-use uart_spec::registers::IER;
-use uart_spec::{ByteSendError, Config, InitError, LoopbackError, RemoteReadyToReceiveError};
 
 /// The most bytes that a call sends or receives.
 pub const CALL_BYTES: usize = 64;

@@ -1,5 +1,5 @@
 use Rattle.std.proofs.Common.{◌∙◌, refl, Ok, Err}
-use Rattle.uart_16550.proofs.dump.ConfigRegisterDump.baud_rate.Goals as goal
+use Rattle.uart_spec.proofs.dump.ConfigRegisterDump.baud_rate.Goals as goal
 
 pub returns-in-Ok : goal.returns-in-Ok
 returns-in-Ok c =

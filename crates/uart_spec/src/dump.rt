@@ -1,10 +1,12 @@
 //! The values of the registers, read one after another.
 ghost use Rattle.std.specs.Prelude.{◌≡◌, ◌<◌, ◌≤◌};
 ghost use Rattle.uart_spec.specs.Baud.{prescaler};
-ghost use Rattle.uart_16550.specs.Status.{divisor_of, IsDumpRate};
+ghost use Rattle.uart_spec.specs.Dump.{divisor_of, IsDumpRate};
 
-use uart_spec::registers::{DLL, DLM, IER, ISR, LCR, LSR, MCR, MSR, SPR};
-use uart_spec::{BaudRate, Config, NonIntegerBaudRateError, calc_baud_rate};
+use crate::baud::calc_baud_rate;
+use crate::config::{BaudRate, Config};
+use crate::errors::NonIntegerBaudRateError;
+use crate::registers::{DLL, DLM, IER, ISR, LCR, LSR, MCR, MSR, SPR};
 
 /// The values of the registers of a device, read one after another by
 /// `Uart16550::config_register_dump`.
