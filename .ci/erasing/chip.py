@@ -28,6 +28,7 @@ OF_THE_DRIVER = "of the driver, which is in rust/uart_16550"
 HEAP = "allocates: for a chip under a schedule"
 
 LEFT_OUT = {
+    "uart_chip/src/device.rt": HEAP,
     "uart_spec/src/backend.rt": OF_THE_DRIVER,
     "uart_spec/src/call.rt": table.LEFT_OUT["uart_spec/src/call.rt"],
     "uart_spec/src/config.rt": OF_THE_DRIVER,

@@ -15,7 +15,7 @@ use Rattle.uart_chip.specs.Receiver.{is_unscheduled}
 use Rattle.uart_chip.specs.Snapshot as snapshot
 use Rattle.uart_chip.specs.declared.receiver.Character.{Character}
 use Rattle.uart_chip.specs.declared.receiver.Origin.TheVariants.{Looped, Live}
-use Rattle.uart_device.specs.Sound.{HoldBytes}
+use Rattle.uart_chip.specs.Sound.{HoldBytes}
 use Rattle.uart_live.proofs.Saves.{live_of, of_live}
 use Rattle.uart_live.specs.Live.{IsLive}
 use Rattle.uart_live.specs.Saved.{is_within, is_live, is_live_character}

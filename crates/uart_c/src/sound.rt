@@ -6,7 +6,7 @@ ghost use Rattle.uart_c.specs.Saved as saved;
 ghost use Rattle.uart_c.specs.State as state;
 ghost use Rattle.uart_c.specs.State.{chip_of, latches_of, model_of, place_of};
 ghost use Rattle.uart_c.specs.declared.receiver.TheConstants.{TIMEOUT_CHARACTERS};
-ghost use Rattle.uart_device.specs.Sound.{HoldBytes};
+ghost use Rattle.uart_chip.specs.Sound.{HoldBytes};
 ghost use Rattle.uart_live.specs.Live.{IsLive};
 ghost use Rattle.uart_live.specs.Saved as spec;
 

@@ -4,3 +4,9 @@ pub mod Snapshots
 pub mod Errors
 pub mod Status
 pub mod FifoBits
+pub mod Lists
+pub mod lasting
+pub mod soundness
+pub mod conservation
+pub mod statuses
+pub mod loopback

@@ -10,3 +10,6 @@ pub mod Jumps
 pub mod Machine
 pub mod Data
 pub mod Snapshot
+pub mod Sound
+pub mod Conserved
+pub mod Laws

@@ -63,7 +63,7 @@ pub struct ChipData {
     pub cuts: bool,
 }
 
-/// A chip of either model, without a schedule. `Device16550` of `uart_device` puts it under one.
+/// A chip of either model, without a schedule. `Device16550` puts it under one.
 #[derive(Drop)]
 pub struct Uart<
     B: Fifo<u8> + Drop = HeapFifo<u8>,

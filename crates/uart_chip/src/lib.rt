@@ -2,12 +2,17 @@
 //! modem lines.
 //!
 //! The contract of each function says exactly which state follows. [`Uart`] is the chip without a
-//! schedule; `uart_device` puts it under one, and `uart_live` gives it to its owner.
+//! schedule. [`Device16550`] puts it under a schedule of ticks, arrivals and modem lines, as a
+//! backend of the driver, and `uart_live` gives it to its owner.
+//!
+//! What holds of every machine, and what every access conserves, is proved here, whatever makes the
+//! accesses.
 #![tactic(auto)]
 
 mod characters;
 mod chip;
 pub mod controlling;
+mod device;
 mod fifo;
 mod journal;
 mod masks;
@@ -21,6 +26,7 @@ mod wire;
 pub use characters::Characters;
 pub use chip::{ChipData, Latches, Uart};
 pub use controlling::identification;
+pub use device::Device16550;
 pub use fifo::{Fifo, HeapFifo, room_of};
 pub use journal::{Journal, Marks};
 pub use masks::{kept_interrupts, kept_modem_control};

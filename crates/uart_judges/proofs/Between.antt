@@ -8,7 +8,7 @@ use Rattle.uart_chip.specs.Transmitter as transmitter
 use Rattle.uart_chip.specs.Transmitter.{TransmitterState, shift, refill, looped_byte, room}
 use Rattle.uart_chip.specs.Receiver.{ReceiverState, enter, come_back, replace}
 use Rattle.uart_chip.specs.Chip.{ChipState, is_loopback, tick, arrive}
-use Rattle.uart_device.proofs.lasting.Lasting.{Lasts}
+use Rattle.uart_chip.proofs.lasting.Lasting.{Lasts}
 use Rattle.uart_judges.specs.declared.replay.known.Sender.{Sender}
 use Rattle.uart_judges.specs.declared.replay.known.Sender.TheVariants.{Unknown, ThrEmpty, Idle}
 

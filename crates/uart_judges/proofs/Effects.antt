@@ -17,8 +17,8 @@ use Rattle.uart_chip.specs.Chip.{ChipState, answer, interrupt, is_dlab_set, is_t
 use Rattle.uart_chip.specs.Chip.{line_status, trigger_level, switch, reset_receiver, reset_transmitter, set_trigger, is_same}
 use Rattle.uart_chip.specs.Chip.{set_fifo, control}
 use Rattle.uart_chip.proofs.FifoBits.{any_shown}
-use Rattle.uart_device.proofs.lasting.Lasting.{lasts-read, lasts-write, lasts-latch}
-use Rattle.uart_device.proofs.status.Status.{status_data, status_room, status_empty}
+use Rattle.uart_chip.proofs.lasting.Lasting.{lasts-read, lasts-write, lasts-latch}
+use Rattle.uart_chip.proofs.statuses.Status.{status_data, status_room, status_empty}
 use Rattle.uart_judges.specs.declared.replay.known.Known.{Known}
 use Rattle.uart_judges.specs.declared.replay.known.Sender.{Sender}
 use Rattle.uart_judges.specs.declared.replay.known.Sender.TheVariants.{ThrEmpty, Idle}

@@ -29,8 +29,8 @@ use Rattle.uart_chip.specs.Chip.{ChipState, answer, interrupt, identification, l
 use Rattle.uart_chip.specs.Modem.{ModemState, looped_lines, lines_under}
 use Rattle.uart_chip.proofs.Bits.{and_or}
 use Rattle.uart_chip.proofs.FifoBits.{any_shown, fifo_bits}
-use Rattle.uart_device.specs.Sound.{IsSoundModem}
-use Rattle.uart_device.proofs.status.Status.{status_data, status_room, status_empty, status_fifo}
+use Rattle.uart_chip.specs.Sound.{IsSoundModem}
+use Rattle.uart_chip.proofs.statuses.Status.{status_data, status_room, status_empty, status_fifo}
 use Rattle.uart_judges.specs.declared.replay.known.Known.{Known}
 use Rattle.uart_judges.specs.declared.replay.known.Sender.{Sender}
 use Rattle.uart_judges.specs.declared.replay.known.Sender.TheVariants.{Unknown, ThrEmpty, Idle}

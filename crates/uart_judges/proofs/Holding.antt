@@ -3,7 +3,7 @@ use Rattle.std.proofs.Common.{◌≡◌, Bool, true, false, List, Option, Some, 
 use Rattle.uart_spec.specs.declared.event.Event.{Event}
 use Rattle.uart_chip.specs.Chip.{ChipState, LatchesState, is_loopback}
 use Rattle.uart_chip.specs.Machine.{before_access}
-use Rattle.uart_device.proofs.lasting.Lasting.{LastsInEvents, chip_lasts-before}
+use Rattle.uart_chip.proofs.lasting.Lasting.{LastsInEvents, chip_lasts-before}
 use Rattle.uart_judges.specs.declared.replay.known.Known.{Known}
 use Rattle.uart_judges.specs.declared.replay.latches.KnownLatches.{KnownLatches}
 use Rattle.uart_judges.proofs.Between.{SenderHolds, HasCharacter, sender_lasts, has-tick, has-arrive}

@@ -11,10 +11,10 @@ use Rattle.uart_chip.specs.Modem.{lines_under}
 use Rattle.uart_chip.specs.Chip.{ChipState, interrupt, is_dlab_set, is_thr_empty, after_read, after_write, trigger_level}
 use Rattle.uart_chip.specs.Chip.{switch, reset_receiver, reset_transmitter, set_trigger, is_same, set_fifo, control}
 use Rattle.uart_chip.specs.Machine.{MachineState, MachineStep, fresh, at_access}
-use Rattle.uart_device.specs.Sound.{IsSound}
-use Rattle.uart_device.proofs.lasting.Lasting.{LastsInEvents, chip_lasts-before}
-use Rattle.uart_device.proofs.soundness.Builds.{whole_fresh, whole_cutting}
-use Rattle.uart_device.proofs.soundness.Sounds.{sound_access, sound_step}
+use Rattle.uart_chip.specs.Sound.{IsSound}
+use Rattle.uart_chip.proofs.lasting.Lasting.{LastsInEvents, chip_lasts-before}
+use Rattle.uart_chip.proofs.soundness.Builds.{whole_fresh, whole_cutting}
+use Rattle.uart_chip.proofs.soundness.Sounds.{sound_access, sound_step}
 use Rattle.uart_judges.specs.Replays.{Seen, Did, Asked, SeenPath, IsBuilt}
 
 -- the lines that MSR shows

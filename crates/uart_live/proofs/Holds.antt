@@ -15,7 +15,7 @@ use Rattle.uart_chip.specs.Receiver.{ReceiverState, enter, replace, come_back, t
 use Rattle.uart_chip.specs.Chip.{ChipState, cut_of, is_dlab_set, is_loopback, tick, ticks, arrive_live, take_wire, change_lines}
 use Rattle.uart_chip.specs.Chip.{line_status, interrupt, is_thr_empty, with_thr_pending, answer, after_read, after_write}
 use Rattle.uart_chip.specs.Chip.{set_fifo, control, switch, is_same, reset_receiver, reset_transmitter, set_trigger, trigger_level}
-use Rattle.uart_device.proofs.soundness.Sounds.{latches-ticks}
+use Rattle.uart_chip.proofs.soundness.Sounds.{latches-ticks}
 use Rattle.uart_spec.specs.Bits.{has_any}
 use Rattle.uart_spec.specs.declared.registers.fifo_control.TheConstants.FCR
 use Rattle.uart_spec.specs.declared.registers.interrupt_enable.TheConstants.IER

@@ -21,12 +21,12 @@ use Rattle.uart_chip.specs.Chip.{ChipState, fresh, cut_of, is_dlab_set, is_loopb
 use Rattle.uart_chip.specs.Chip.{identification, interrupt, is_thr_empty, after_read, after_write}
 use Rattle.uart_chip.specs.Chip.{set_fifo, control, switch, is_same, reset_receiver}
 use Rattle.uart_chip.specs.Chip.{reset_transmitter, set_trigger, trigger_level}
-use Rattle.uart_device.specs.Sound.{IsWhole}
-use Rattle.uart_device.proofs.soundness.Builds.{whole_fresh}
-use Rattle.uart_device.proofs.soundness.Idle.{whole_ticks}
-use Rattle.uart_device.proofs.soundness.ReceiverSounds.{safe_bring}
-use Rattle.uart_device.proofs.soundness.Sounds.{Steady, steady_ticks, steady_lines, steady_read, steady_write, steady_receiver}
-use Rattle.uart_device.proofs.soundness.Sounds.{steady_transmitter, whole_perform, whole_read, whole_write}
+use Rattle.uart_chip.specs.Sound.{IsWhole}
+use Rattle.uart_chip.proofs.soundness.Builds.{whole_fresh}
+use Rattle.uart_chip.proofs.soundness.Idle.{whole_ticks}
+use Rattle.uart_chip.proofs.soundness.ReceiverSounds.{safe_bring}
+use Rattle.uart_chip.proofs.soundness.Sounds.{Steady, steady_ticks, steady_lines, steady_read, steady_write, steady_receiver}
+use Rattle.uart_chip.proofs.soundness.Sounds.{steady_transmitter, whole_perform, whole_read, whole_write}
 use Rattle.uart_spec.specs.declared.registers.interrupt_type.InterruptType.{InterruptType}
 use Rattle.uart_spec.specs.declared.registers.interrupt_type.InterruptType.TheVariants.{ReceiverLineStatus}
 use Rattle.uart_spec.specs.declared.registers.interrupt_status.TheConstants.ISR

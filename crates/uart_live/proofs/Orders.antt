@@ -10,9 +10,9 @@ use Rattle.uart_chip.specs.Transmitter.{TransmitterState, room, held, out, load}
 use Rattle.uart_chip.specs.Receiver.{ReceiverState, enter, replace, take_front}
 use Rattle.uart_chip.specs.Chip.{ChipState, cut_of, is_dlab_set, is_loopback, line_status, interrupt, is_thr_empty, ticks, arrive_live}
 use Rattle.uart_chip.specs.Chip.{after_read, after_write}
-use Rattle.uart_device.proofs.conservation.Sends.{sends-tick, sends-load}
-use Rattle.uart_device.proofs.soundness.Sounds.{latches-ticks}
-use Rattle.uart_device.proofs.status.Status.{status_overrun}
+use Rattle.uart_chip.proofs.conservation.Sends.{sends-tick, sends-load}
+use Rattle.uart_chip.proofs.soundness.Sounds.{latches-ticks}
+use Rattle.uart_chip.proofs.statuses.Status.{status_overrun}
 use Rattle.uart_spec.specs.Bits.{has_any}
 use Rattle.uart_spec.specs.declared.registers.line_status.TheConstants.LSR
 use Rattle.uart_spec.specs.declared.registers.offsets.TheConstants as offsets

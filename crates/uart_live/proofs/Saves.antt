@@ -20,8 +20,8 @@ use Rattle.uart_chip.specs.Transmitter.{room}
 use Rattle.uart_chip.specs.Chip.{ChipState}
 use Rattle.uart_chip.specs.Data.{transmitter_of, receiver_of}
 use Rattle.uart_chip.specs.Snapshot.{latches_of, chip_of, unscheduled}
-use Rattle.uart_device.specs.Sound.{IsInQueue, AllInQueue, NoneHas, Distinct, AllErrorsLegal, IsSoundReceiver, IsTicking}
-use Rattle.uart_device.specs.Sound.{IsSoundTransmitter, IsSoundChip, IsSound, HoldBytes}
+use Rattle.uart_chip.specs.Sound.{IsInQueue, AllInQueue, NoneHas, Distinct, AllErrorsLegal, IsSoundReceiver, IsTicking}
+use Rattle.uart_chip.specs.Sound.{IsSoundTransmitter, IsSoundChip, IsSound, HoldBytes}
 use Rattle.uart_live.specs.Live.{IsLive}
 use Rattle.uart_live.specs.Saved.{is_within, is_live_character, is_sound_receiver, is_ticking, is_char_time, is_sound_transmitter}
 use Rattle.uart_live.specs.Saved.{is_implemented, is_live}

@@ -2,7 +2,7 @@
 use Rattle.std.specs.Prelude.{◌≡◌, ◌≤◌, false, [], length}
 use Rattle.uart_spec.specs.declared.event.TheConstants.{MAX_WIRE_CAPACITY}
 use Rattle.uart_chip.specs.Chip.{ChipState}
-use Rattle.uart_device.specs.Sound.{IsWhole}
+use Rattle.uart_chip.specs.Sound.{IsWhole}
 
 -- the chip is sound and has nothing of a schedule: no event is to come, no arrival has a mark, none can be lost
 -- unnoticed; the wire has room for at most as much as a wire may have

@@ -2,7 +2,7 @@
 ghost use Rattle.std.specs.Prelude.{◌≡◌, true, false};
 ghost use Rattle.std.specs.List.{list_all};
 ghost use Rattle.uart_chip.specs.Snapshot.{latches_of, chip_of};
-ghost use Rattle.uart_device.specs.Sound.{HoldBytes};
+ghost use Rattle.uart_chip.specs.Sound.{HoldBytes};
 ghost use Rattle.uart_live.specs.Live.{IsLive};
 ghost use Rattle.uart_live.specs.Saved as spec;
 ghost use Rattle.uart_chip.specs.Transmitter.{room};

@@ -5,11 +5,11 @@ pub use Rattle.uart_spec.specs.Build
 pub use Rattle.uart_spec.specs.Calls
 pub use Rattle.uart_run.specs.Chains
 pub use Rattle.uart_chip.specs.Chip
-pub use Rattle.uart_device.specs.Conserved
+pub use Rattle.uart_chip.specs.Conserved
 pub use Rattle.uart_language.specs.Fields
 pub use Rattle.uart_language.specs.Items
 pub use Rattle.uart_chip.specs.Jumps
-pub use Rattle.uart_device.specs.Laws
+pub use Rattle.uart_chip.specs.Laws
 pub use Rattle.uart_chip.specs.Machine
 pub use Rattle.uart_calls.specs.Meaning
 pub use Rattle.uart_chip.specs.Modem
@@ -25,7 +25,7 @@ pub use Rattle.uart_language.specs.Reading
 pub use Rattle.uart_language.specs.Streams
 pub use Rattle.uart_run.specs.Served
 pub use Rattle.uart_run.specs.Session
-pub use Rattle.uart_device.specs.Sound
+pub use Rattle.uart_chip.specs.Sound
 pub use Rattle.uart_run.specs.Statuses
 pub use Rattle.uart_language.specs.Text
 pub use Rattle.uart_chip.specs.Transmitter

@@ -14,10 +14,10 @@
 //! - [`script`] plays a script from a reader to a writer.
 //! - [`laws`] has what follows from these contracts.
 //!
-//! The chip is in the crate `uart_chip`, the device in `uart_device`, the live chip in `uart_live`,
-//! calls and answers in `uart_calls`, runs in `uart_run`, runs of the rings in `uart_ring`, the
-//! script language in `uart_language`, and the player of scripts in `uart_play`. This crate
-//! re-exports them, and has the tests that cross them.
+//! The chip and the device are in the crate `uart_chip`, the live chip in `uart_live`, calls and
+//! answers in `uart_calls`, runs in `uart_run`, runs of the rings in `uart_ring`, the script
+//! language in `uart_language`, and the player of scripts in `uart_play`. This crate re-exports
+//! them, and has the tests that cross them.
 #![tactic(auto)]
 
 pub mod laws;
@@ -26,8 +26,7 @@ pub mod script;
 mod tests;
 
 pub use uart_calls::{Answer, CALL_BYTES, Call, perform};
-pub use uart_chip::{ArrivalMark, BuildError, Chip, Event};
-pub use uart_device::Device16550;
+pub use uart_chip::{ArrivalMark, BuildError, Chip, Device16550, Event};
 pub use uart_live::{
     Character, ChipData, ChipError, InputError, Latches, LiveChip, ModemData, Origin, ReceiverData,
     RestoreError, Shifting, TransmitterData, WIRE_ROOM,

@@ -6,7 +6,7 @@ use Rattle.uart_16550.specs.Tty.{inner_of}
 use Rattle.uart_spec.specs.declared.call.Answer.{Answer}
 use Rattle.uart_chip.specs.Transmitter.{held}
 use Rattle.uart_chip.specs.Machine.{MachineState, fresh, cutting}
-use Rattle.uart_device.specs.Conserved.{waiting}
+use Rattle.uart_chip.specs.Conserved.{waiting}
 use Rattle.uart_run.specs.Run.{State, machine_of, IsRun}
 use Rattle.uart_language.specs.Script.{Plan}
 use Rattle.uart_language.specs.Output.{printed}

@@ -4,7 +4,7 @@ ghost use Rattle.std.specs.Prelude.{◌≡◌, ◌||◌, length, IfOk, IfSome, O
 ghost use Rattle.std.specs.Io.KnownBytes.{IsAtEnd};
 ghost use Rattle.uart_language.specs.Script.{plan_of, IsPlayable};
 ghost use Rattle.uart_chip.specs.Transmitter.{held};
-ghost use Rattle.uart_device.specs.Conserved.{waiting};
+ghost use Rattle.uart_chip.specs.Conserved.{waiting};
 ghost use Rattle.uart_play.specs.ScriptOutput.{first_machine, output_of, IsFirst, IsOutput};
 ghost use Rattle.uart_language.specs.Streams.{ConsumesAtMost, is_read_fault, is_write_fault};
 ghost use Rattle.uart_play.specs.Play.{Outcome, WritesNothing};
@@ -12,8 +12,7 @@ ghost use Rattle.uart_play.specs.Play.{Outcome, WritesNothing};
 use std::alloc::{AllocError, Global};
 use uart_16550::{Uart16550, Uart16550Tty};
 use uart_calls::Answer;
-use uart_chip::ArrivalMark;
-use uart_device::Device16550;
+use uart_chip::{ArrivalMark, Device16550};
 use uart_language::limits::MOST_READ;
 use uart_language::{Input, Output, PlayError, Script, parse, read_all, render, write_all};
 use uart_run::run;

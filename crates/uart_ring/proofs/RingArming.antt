@@ -2,7 +2,7 @@
 use Rattle.std.proofs.Common.{◌<◌, ◌⊎◌, ℕ, List, [], ◌∷◌, length, length-take, take, inl, inr, sym, ◌∙◌, ap, subst, arith}
 use Rattle.uart_16550.specs.Grammar.{Settings}
 use Rattle.uart_chip.specs.Machine.{MachineState, MachineStep, at_mark}
-use Rattle.uart_device.proofs.conservation.Went.{Modes, dlab-in}
+use Rattle.uart_chip.proofs.conservation.Went.{Modes, dlab-in}
 use Rattle.uart_run.specs.Progress.{IsUnchecked}
 use Rattle.uart_run.proofs.CallLaws.{InSession}
 use Rattle.uart_ring.specs.Ring.{RingDoing, RingDid, RingFields, ring_fields}

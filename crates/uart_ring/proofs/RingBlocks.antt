@@ -23,7 +23,7 @@ use Rattle.uart_ring.specs.Status.{TakesLine, TakesModem}
 use Rattle.uart_ring.specs.Service.{ShowsInterrupt, ServesInterrupt, ServesOne, Services}
 use Rattle.uart_ring.specs.Lossless.{data_written, data_read, Implies}
 use Rattle.uart_ring.proofs.Losses.{data_written-append, data_read-append, Moves, sends_move, receives_move}
-use Rattle.uart_device.proofs.Lists.{each-append}
+use Rattle.uart_chip.proofs.Lists.{each-append}
 use Rattle.uart_run.proofs.CallBlocks.{InBlocks, blocks_none, blocks_then, sends_blocks, receives_blocks}
 use Rattle.uart_run.proofs.CallKeeps.{plain_blocks, saving_keeps, enables_keeps, disables_keeps, takes_lsr_keeps, takes_msr_keeps}
 

@@ -23,8 +23,8 @@ use Rattle.uart_chip.specs.Chip.{ChipState, cut_of, is_dlab_set, interrupt, iden
 use Rattle.uart_chip.specs.Chip.{after_read, enable, with_thr_pending}
 use Rattle.uart_chip.specs.Machine.{MachineState, MachineStep, at_access, at_mark}
 use Rattle.uart_chip.proofs.Bits.{has_one, has_and}
-use Rattle.uart_device.proofs.conservation.BlockLaws.{look_room}
-use Rattle.uart_device.proofs.lasting.Lasting.{either, lasts-before, lasts-before_mark}
+use Rattle.uart_chip.proofs.conservation.BlockLaws.{look_room}
+use Rattle.uart_chip.proofs.lasting.Lasting.{either, lasts-before, lasts-before_mark}
 use Rattle.uart_run.proofs.Latches.{Kept, keep_control, keep_write, kept_in, kept_access, kept_step, kept-before_mark}
 use Rattle.uart_ring.specs.Armed.{ThrEmpty, shows_thr_empty, due_after_read, known_after, known_after_all, IsTrueOfIer, KeepsIer}
 use Rattle.uart_ring.specs.RingArmed.{is_due, thr_empty_of}

@@ -8,9 +8,9 @@ use Rattle.uart_16550.specs.Grammar.{Settings}
 use Rattle.uart_16550.specs.Driver.{settings_of}
 use Rattle.uart_chip.specs.Machine.{MachineStep}
 use Rattle.uart_chip.proofs.Bits.{or_assoc}
-use Rattle.uart_device.proofs.conservation.Went.{Modes}
-use Rattle.uart_device.proofs.conservation.Passed.{passed-refl, passed-mark}
-use Rattle.uart_device.proofs.conservation.BlockLaws.{PassedBlocks, passed_blocks-trans, stands-after}
+use Rattle.uart_chip.proofs.conservation.Went.{Modes}
+use Rattle.uart_chip.proofs.conservation.Passed.{passed-refl, passed-mark}
+use Rattle.uart_chip.proofs.conservation.BlockLaws.{PassedBlocks, passed_blocks-trans, stands-after}
 use Rattle.uart_run.specs.Chains.{NoneIs}
 use Rattle.uart_run.proofs.CallBlocks.{InBlocks, passed_in_blocks}
 use Rattle.uart_run.proofs.CallLaws.{InSession}

@@ -7,7 +7,7 @@ use Rattle.uart_16550.specs.declared.driver.Uart16550.{Uart16550}
 use Rattle.uart_spec.specs.declared.call.Call.TheVariants as call
 use Rattle.uart_spec.specs.declared.call.Answer.TheVariants.{Done}
 use Rattle.uart_chip.specs.Machine.{MachineState, MachineStep}
-use Rattle.uart_device.specs.Sound.{IsSound}
+use Rattle.uart_chip.specs.Sound.{IsSound}
 use Rattle.uart_ring.specs.Ring.{driver_of}
 use Rattle.uart_ring.specs.RingRun.{RingState, under}
 use Rattle.uart_run.specs.Ready.{Ready}

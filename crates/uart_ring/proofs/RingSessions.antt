@@ -4,10 +4,10 @@ use Rattle.std.specs.List.{filter}
 use Rattle.std.proofs.lemmas.List.{map-id, map-append}
 use Rattle.uart_chip.specs.declared.receiver.Character.{Character}
 use Rattle.uart_chip.specs.Chip.{cut_of}
-use Rattle.uart_device.specs.Sound.{IsSound}
-use Rattle.uart_device.specs.Conserved.{out, waiting, kept, stands}
-use Rattle.uart_device.proofs.conservation.Went.{Modes, dlab-in, loopback-in}
-use Rattle.uart_device.proofs.conservation.SessionLaws.{received_kept}
+use Rattle.uart_chip.specs.Sound.{IsSound}
+use Rattle.uart_chip.specs.Conserved.{out, waiting, kept, stands}
+use Rattle.uart_chip.proofs.conservation.Went.{Modes, dlab-in, loopback-in}
+use Rattle.uart_chip.proofs.conservation.SessionLaws.{received_kept}
 use Rattle.uart_16550.specs.Grammar.{Settings}
 use Rattle.uart_run.specs.Chains.{RunOf}
 use Rattle.uart_run.specs.Uncut.{IsUncut}

@@ -10,10 +10,10 @@ use Rattle.uart_spec.specs.declared.registers.offsets.TheConstants as offsets
 use Rattle.uart_16550.specs.Driver.{Fields}
 use Rattle.uart_chip.specs.declared.receiver.Character.{Character}
 use Rattle.uart_chip.specs.Machine.{MachineState, MachineStep}
-use Rattle.uart_device.specs.Laws.{reported_front}
-use Rattle.uart_device.proofs.conservation.Went.{Modes}
-use Rattle.uart_device.proofs.conservation.SessionLaws.{look_clears, status_clears}
-use Rattle.uart_device.proofs.status.StatusLaws.{LsrTells, lsr_tells, MsrTells, msr_tells, told-by, all_told-by}
+use Rattle.uart_chip.specs.Laws.{reported_front}
+use Rattle.uart_chip.proofs.conservation.Went.{Modes}
+use Rattle.uart_chip.proofs.conservation.SessionLaws.{look_clears, status_clears}
+use Rattle.uart_chip.proofs.statuses.StatusLaws.{LsrTells, lsr_tells, MsrTells, msr_tells, told-by, all_told-by}
 use Rattle.uart_run.specs.Chains.{NoneIs}
 use Rattle.uart_run.proofs.Chains.{step_is, ended}
 use Rattle.uart_run.proofs.CallLaws.{InSession}

@@ -1,7 +1,7 @@
 -- Sessions of ring calls, and what holds in each.
 use Rattle.std.specs.Prelude.{◌≡◌, List, ◌++◌, map}
 use Rattle.uart_chip.specs.Chip.{cut_of}
-use Rattle.uart_device.specs.Conserved.{out, waiting, kept}
+use Rattle.uart_chip.specs.Conserved.{out, waiting, kept}
 use Rattle.uart_run.specs.Chains.{RunOf}
 use Rattle.uart_run.specs.Ready.{Ready}
 use Rattle.uart_run.specs.Session.{overflows}

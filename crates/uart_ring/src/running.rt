@@ -11,7 +11,7 @@ use arrayvec::ArrayVec;
 pub use call::{RingAnswer, RingCall};
 pub use laws::init_leaves_ready;
 use uart_calls::CALL_BYTES;
-use uart_device::Device16550;
+use uart_chip::Device16550;
 
 // Takes into these slots.
 fn take(ring: &mut Uart16550Ring<Device16550>, slots: &mut [u8]) -> RingAnswer

@@ -20,10 +20,10 @@ use Rattle.uart_spec.specs.Bits.{has_any}
 use Rattle.uart_chip.specs.Transmitter.{room}
 use Rattle.uart_chip.specs.Machine.{MachineState, MachineStep}
 use Rattle.uart_chip.proofs.Bits.{has_one}
-use Rattle.uart_device.proofs.conservation.Blocks.{is_quiet, Block, Look, Hit as Hit_block, Burst as Burst_block, Other, accesses_of}
-use Rattle.uart_device.proofs.conservation.Blocks.{AllQuiet, IsFit, AllFit, flat, written_in, read_in, data_written, data_read}
-use Rattle.uart_device.proofs.conservation.Went.{Modes}
-use Rattle.uart_device.proofs.conservation.BlockLaws.{IsOpen, Stands, PassedBlocks, passed_blocks}
+use Rattle.uart_chip.proofs.conservation.Blocks.{is_quiet, Block, Look, Hit as Hit_block, Burst as Burst_block, Other, accesses_of}
+use Rattle.uart_chip.proofs.conservation.Blocks.{AllQuiet, IsFit, AllFit, flat, written_in, read_in, data_written, data_read}
+use Rattle.uart_chip.proofs.conservation.Went.{Modes}
+use Rattle.uart_chip.proofs.conservation.BlockLaws.{IsOpen, Stands, PassedBlocks, passed_blocks}
 
 -- ---- accesses in blocks
 

@@ -17,7 +17,7 @@ use Rattle.uart_16550.specs.Status.{TakesLsr, TakesMsr, Connects, ReadsDivisor, 
 use Rattle.uart_spec.specs.declared.dump.ConfigRegisterDump.{ConfigRegisterDump}
 use Rattle.uart_calls.specs.Meaning.{ShowsFifo}
 use Rattle.uart_chip.specs.Transmitter.{room}
-use Rattle.uart_device.proofs.conservation.Blocks.{is_quiet, Look, Other, Divisor, AllQuiet}
+use Rattle.uart_chip.proofs.conservation.Blocks.{is_quiet, Look, Other, Divisor, AllQuiet}
 use Rattle.uart_run.proofs.CallBlocks.{no_bytes, InBlocks, blocks_none, blocks_one, blocks_then, Makes, makes_only_none}
 use Rattle.uart_run.proofs.CallBlocks.{makes_then, makes_all, makes_look, send_hit_blocks, send_miss_blocks, round_blocks}
 use Rattle.uart_run.proofs.CallBlocks.{sends_some_blocks, sends_some_none_blocks, waits_blocks, receives_some_blocks}

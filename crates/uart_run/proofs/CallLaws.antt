@@ -26,9 +26,9 @@ use Rattle.uart_calls.specs.Meaning.{received_answer, sent_answer, exact_answer,
 use Rattle.uart_calls.specs.Meaning.{ready_answer, latch_answer, bytes_answer, receive_exact_answer, read_answer}
 use Rattle.uart_run.specs.Run.{State, machine_of, CallStep}
 use Rattle.uart_run.specs.Session.{count_of, sent_of, sent_byte_of, byte_of, bytes_of, reported_by, received_by, IsWithinSession}
-use Rattle.uart_device.proofs.conservation.Went.{Modes}
-use Rattle.uart_device.proofs.conservation.Passed.{passed-refl, passed-mark}
-use Rattle.uart_device.proofs.conservation.BlockLaws.{IsOpen, Stands, PassedBlocks}
+use Rattle.uart_chip.proofs.conservation.Went.{Modes}
+use Rattle.uart_chip.proofs.conservation.Passed.{passed-refl, passed-mark}
+use Rattle.uart_chip.proofs.conservation.BlockLaws.{IsOpen, Stands, PassedBlocks}
 use Rattle.uart_run.proofs.CallBlocks.{no_bytes, InBlocks, Makes, passed_in_blocks, ready_to_send_blocks}
 use Rattle.uart_run.proofs.CallBlocks.{ready_to_receive_blocks, sends_blocks, sends_exact_blocks, try_sends_blocks}
 use Rattle.uart_run.proofs.CallBlocks.{try_receive_blocks, receives_blocks, receives_exact_blocks}

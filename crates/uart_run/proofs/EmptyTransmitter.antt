@@ -11,9 +11,9 @@ use Rattle.uart_chip.specs.Transmitter.{TransmitterState, shift, refill, tick, o
 use Rattle.uart_chip.specs.Chip.{line_status, is_transmitter_empty}
 use Rattle.uart_chip.specs.Machine.{MachineState, MachineStep, at_access}
 use Rattle.uart_chip.proofs.Bits.{has_one}
-use Rattle.uart_device.proofs.status.Status.{status_empty}
-use Rattle.uart_device.proofs.lasting.Lasting.{Lasts, AllSendNothing, lasts-path}
-use Rattle.uart_device.proofs.conservation.BlockLaws.{path_as, path_split}
+use Rattle.uart_chip.proofs.statuses.Status.{status_empty}
+use Rattle.uart_chip.proofs.lasting.Lasting.{Lasts, AllSendNothing, lasts-path}
+use Rattle.uart_chip.proofs.conservation.BlockLaws.{path_as, path_split}
 
 -- nothing is left to send
 abbrev pub IsEmpty : TransmitterState → Type 0

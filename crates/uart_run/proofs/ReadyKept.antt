@@ -5,7 +5,7 @@ use Rattle.uart_spec.specs.declared.call.Call.TheVariants as call
 use Rattle.uart_spec.specs.declared.call.Answer.{Answer}
 use Rattle.uart_run.specs.Run.{State, machine_of, Link, CallStep}
 use Rattle.uart_run.specs.Ready.{Ready}
-use Rattle.uart_device.specs.Sound.{IsSound}
+use Rattle.uart_chip.specs.Sound.{IsSound}
 use Rattle.uart_run.specs.Session.{IsWithinSession}
 use Rattle.uart_run.proofs.Sessions.{session_conserves}
 use Rattle.uart_run.proofs.initialising.Initialised.{init_ready}

@@ -5,7 +5,7 @@ use Rattle.uart_chip.specs.Chip.{ChipState, is_dlab_set, is_loopback, ticks}
 use Rattle.uart_chip.specs.Machine.{MachineState}
 use Rattle.uart_run.specs.Run.{machine_of}
 use Rattle.uart_run.specs.Ready.{KeepsReady}
-use Rattle.uart_device.proofs.soundness.Sounds.{latches-ticks}
+use Rattle.uart_chip.proofs.soundness.Sounds.{latches-ticks}
 
 fifo-ticks : (n : ℕ) (c : ChipState) → (ticks n c).fifo ≡ c.fifo
 fifo-ticks zero c = refl

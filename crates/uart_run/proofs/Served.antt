@@ -21,15 +21,15 @@ use Rattle.uart_chip.specs.declared.transmitter.Shifting.{Shifting}
 use Rattle.uart_chip.specs.Transmitter.{shift_bytes}
 use Rattle.uart_chip.specs.Chip.{is_transmitter_empty}
 use Rattle.uart_chip.specs.Machine.{MachineState, MachineStep}
-use Rattle.uart_device.specs.Conserved.{out}
+use Rattle.uart_chip.specs.Conserved.{out}
 use Rattle.uart_calls.specs.Meaning.{received_answer, read_answer, receive_exact_answer, exact_answer}
 use Rattle.uart_run.specs.Run.{State, machine_of, CallStep, Link, Chain}
 use Rattle.uart_run.specs.Session.{AllWithinSession}
 use Rattle.uart_run.specs.Served.{HoldsAtLeast, waiting_len, transmitter_of, IsFlushed, Serves, AllServe}
 use Rattle.uart_chip.proofs.Bits.{has_one}
-use Rattle.uart_device.proofs.conservation.Went.{Modes}
+use Rattle.uart_chip.proofs.conservation.Went.{Modes}
 use Rattle.uart_run.proofs.EmptyTransmitter.{wait_empties}
-use Rattle.uart_device.proofs.conservation.BlockLaws.{PassedBlocks, path_as, path_split, look_data}
+use Rattle.uart_chip.proofs.conservation.BlockLaws.{PassedBlocks, path_as, path_split, look_data}
 use Rattle.uart_run.proofs.CallBlocks.{InBlocks, Makes, passed_in_blocks, try_receive_blocks, receives_blocks, receives_exact_blocks}
 use Rattle.uart_run.proofs.CallKeeps.{reads_blocks, flushes_blocks}
 use Rattle.uart_run.proofs.CallLaws.{InSession, passes_call}

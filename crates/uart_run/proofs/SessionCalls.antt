@@ -7,14 +7,14 @@ use Rattle.uart_spec.specs.Access.{Access, saved, saved_lsr, saved_msr}
 use Rattle.uart_16550.specs.Driver.{fields}
 use Rattle.uart_16550.specs.Tty.{inner_of}
 use Rattle.uart_chip.specs.Chip.{cut_of}
-use Rattle.uart_device.specs.Sound.{IsSound}
+use Rattle.uart_chip.specs.Sound.{IsSound}
 use Rattle.uart_run.specs.Run.{State, machine_of, Link, Chain}
 use Rattle.uart_run.specs.Ready.{Ready}
 use Rattle.uart_run.specs.Session.{AllWithinSession, reported, received, reported_by, received_by}
 use Rattle.uart_run.specs.Statuses.{AllNoLsr, AllNoMsr}
 use Rattle.uart_chip.proofs.Bits.{or_assoc}
-use Rattle.uart_device.proofs.conservation.Went.{Modes, saved-append}
-use Rattle.uart_device.proofs.conservation.BlockLaws.{passed_blocks-trans, stands-after}
+use Rattle.uart_chip.proofs.conservation.Went.{Modes, saved-append}
+use Rattle.uart_chip.proofs.conservation.BlockLaws.{passed_blocks-trans, stands-after}
 use Rattle.uart_run.proofs.CallLaws.{Passes, InSession, passes_none, passes_call}
 
 -- the modes in which a session runs are those in which it begins

@@ -5,13 +5,13 @@ use Rattle.uart_spec.specs.declared.call.Call.{Call}
 use Rattle.uart_spec.specs.declared.call.Call.TheVariants as call
 use Rattle.uart_spec.specs.declared.call.Answer.{Answer}
 use Rattle.uart_chip.specs.Machine.{MachineState, MachineStep, at_mark}
-use Rattle.uart_device.specs.Sound.{IsSound}
-use Rattle.uart_device.specs.Conserved.{out}
+use Rattle.uart_chip.specs.Sound.{IsSound}
+use Rattle.uart_chip.specs.Conserved.{out}
 use Rattle.uart_run.specs.Run.{State, machine_of, Link, Chain, CallStep}
 use Rattle.uart_run.specs.Session.{AllWithinSession, IsSession, reported, received, Conserves}
-use Rattle.uart_device.proofs.soundness.Sounds.{sound_path, sound_mark}
-use Rattle.uart_device.proofs.conservation.Went.{Modes, dlab-in, loopback-in}
-use Rattle.uart_device.proofs.conservation.SessionLaws.{received_kept}
+use Rattle.uart_chip.proofs.soundness.Sounds.{sound_path, sound_mark}
+use Rattle.uart_chip.proofs.conservation.Went.{Modes, dlab-in, loopback-in}
+use Rattle.uart_chip.proofs.conservation.SessionLaws.{received_kept}
 use Rattle.uart_run.proofs.Chains.{chain_keeps}
 use Rattle.uart_run.proofs.CallLaws.{InSession}
 use Rattle.uart_run.proofs.SessionCalls.{modes_of, in_session, passes_chain}

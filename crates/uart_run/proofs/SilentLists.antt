@@ -9,7 +9,7 @@ use Rattle.uart_16550.specs.Grammar.{Language, Settings, Asks, ReadsRegister}
 use Rattle.uart_16550.specs.Driver.{Fields, Doing, Saving, Plain, Sets, Next, settings_of}
 use Rattle.uart_16550.specs.Init.{Keeps, ChecksPresence, SetsFifo, Discards, DrainsReceiver}
 use Rattle.uart_run.proofs.ListsInTurn.{HoldsInTurn, HoldsOfAll, all_only, all_then, all_times}
-use Rattle.uart_device.proofs.lasting.Lasting.{AllSendNothing}
+use Rattle.uart_chip.proofs.lasting.Lasting.{AllSendNothing}
 
 -- ---- languages
 

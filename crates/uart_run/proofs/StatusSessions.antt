@@ -12,13 +12,13 @@ use Rattle.uart_spec.specs.declared.call.Answer.TheVariants.{Register}
 use Rattle.uart_calls.specs.Meaning.{CalledAs}
 use Rattle.uart_chip.specs.declared.receiver.Character.{Character}
 use Rattle.uart_chip.specs.Machine.{MachineState, MachineStep}
-use Rattle.uart_device.specs.Laws.{reported_front, IsTold, AllTold}
+use Rattle.uart_chip.specs.Laws.{reported_front, IsTold, AllTold}
 use Rattle.uart_run.specs.Run.{State, machine_of, CallStep, Link, Chain}
 use Rattle.uart_run.specs.Session.{AllWithinSession, IsWithinSession, reported, received}
 use Rattle.uart_run.specs.Statuses.{AllNoLsr, AllNoMsr, receiver_of, TellsLine, TellsNoOtherDrop, TellsNoOtherChange, Tells}
-use Rattle.uart_device.proofs.conservation.Went.{Modes}
-use Rattle.uart_device.proofs.conservation.SessionLaws.{taken_entered, look_clears, status_clears}
-use Rattle.uart_device.proofs.status.StatusLaws.{LsrTells, lsr_tells, MsrTells, msr_tells}
+use Rattle.uart_chip.proofs.conservation.Went.{Modes}
+use Rattle.uart_chip.proofs.conservation.SessionLaws.{taken_entered, look_clears, status_clears}
+use Rattle.uart_chip.proofs.statuses.StatusLaws.{LsrTells, lsr_tells, MsrTells, msr_tells}
 use Rattle.uart_run.proofs.Chains.{step_is, ended}
 use Rattle.uart_run.proofs.CallLaws.{Passes, InSession, passes_call}
 use Rattle.uart_run.proofs.SessionCalls.{in_session-after, passes_chain}

@@ -10,7 +10,7 @@ use Rattle.uart_spec.specs.declared.call.Answer.{Answer}
 use Rattle.uart_spec.specs.declared.call.Answer.TheVariants.{Done, LoopbackRefused}
 use Rattle.uart_chip.specs.Chip.{ChipState, word_length, cut_to, cut_of}
 use Rattle.uart_chip.specs.Machine.{MachineState}
-use Rattle.uart_device.specs.Conserved.{out, stands, arriving, cut_character, between, entered}
+use Rattle.uart_chip.specs.Conserved.{out, stands, arriving, cut_character, between, entered}
 use Rattle.uart_run.specs.Run.{State, machine_of, Link, Chain}
 use Rattle.uart_run.specs.Ready.{is_narrow, test_answer}
 use Rattle.uart_run.specs.Session.{reported, Conserves, Follows, AllFollow, Ran}

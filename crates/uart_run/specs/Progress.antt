@@ -15,7 +15,7 @@ use Rattle.uart_spec.specs.declared.event.Event.TheVariants.{Ticks, Access as Ga
 use Rattle.uart_chip.specs.declared.transmitter.Shifting.{Shifting}
 use Rattle.uart_chip.specs.Transmitter.{TransmitterState}
 use Rattle.uart_chip.specs.Machine.{MachineState}
-use Rattle.uart_device.specs.Conserved.{out}
+use Rattle.uart_chip.specs.Conserved.{out}
 use Rattle.uart_run.specs.Run.{State, machine_of}
 use Rattle.uart_run.specs.Served.{transmitter_of}
 use Rattle.uart_run.specs.Ready.{Ready, is_narrow, test_answer}

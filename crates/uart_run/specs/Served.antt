@@ -7,7 +7,7 @@ use Rattle.uart_spec.specs.declared.call.Answer.{Answer}
 use Rattle.uart_spec.specs.declared.call.Answer.TheVariants as answer
 use Rattle.uart_chip.specs.Transmitter.{TransmitterState}
 use Rattle.uart_chip.specs.Chip.{is_transmitter_empty}
-use Rattle.uart_device.specs.Conserved.{out, waiting}
+use Rattle.uart_chip.specs.Conserved.{out, waiting}
 use Rattle.uart_calls.specs.Meaning.{bytes_answer}
 use Rattle.uart_run.specs.Chains.{EachLink}
 use Rattle.uart_run.specs.Run.{State, machine_of, Link}

@@ -6,7 +6,7 @@ use Rattle.uart_spec.specs.declared.call.Call.TheVariants as call
 use Rattle.uart_spec.specs.declared.call.Answer.{Answer}
 use Rattle.uart_spec.specs.declared.call.Answer.TheVariants as answer
 use Rattle.uart_chip.specs.Chip.{cut_of}
-use Rattle.uart_device.specs.Conserved.{out, waiting, kept}
+use Rattle.uart_chip.specs.Conserved.{out, waiting, kept}
 use Rattle.uart_run.specs.Chains.{EachLink}
 use Rattle.uart_run.specs.Run.{State, machine_of, Link, Chain, IsRun}
 use Rattle.uart_run.specs.Statuses.{Tells}

@@ -7,8 +7,8 @@ use Rattle.uart_spec.specs.Bits.{IsWithin, has_any}
 use Rattle.uart_spec.specs.declared.registers.line_status.TheConstants.LSR
 use Rattle.uart_spec.specs.declared.registers.modem_status.TheConstants.MSR
 use Rattle.uart_chip.specs.Receiver.{ReceiverState}
-use Rattle.uart_device.specs.Conserved.{stands, between, entered, IsDrop}
-use Rattle.uart_device.specs.Laws.{reported_front, AllTold, changes_in}
+use Rattle.uart_chip.specs.Conserved.{stands, between, entered, IsDrop}
+use Rattle.uart_chip.specs.Laws.{reported_front, AllTold, changes_in}
 use Rattle.uart_run.specs.Chains.{NoneIs}
 use Rattle.uart_run.specs.Run.{State, machine_of, Link}
 

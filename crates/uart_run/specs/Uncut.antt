@@ -8,7 +8,7 @@ use Rattle.uart_spec.specs.declared.call.Call.TheVariants as call
 use Rattle.uart_spec.specs.declared.call.Answer.{Answer}
 use Rattle.uart_spec.specs.declared.call.Answer.TheVariants.{Done, LoopbackRefused}
 use Rattle.uart_chip.specs.Machine.{MachineState}
-use Rattle.uart_device.specs.Conserved.{out, waiting, stands, arriving, between, entered}
+use Rattle.uart_chip.specs.Conserved.{out, waiting, stands, arriving, between, entered}
 use Rattle.uart_run.specs.Chains.{EachLink}
 use Rattle.uart_run.specs.Run.{State, machine_of, Link, Chain, IsRun}
 use Rattle.uart_run.specs.Served.{AllServe, IsFlushed}

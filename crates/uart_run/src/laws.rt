@@ -6,7 +6,7 @@ ghost use Rattle.uart_chip.specs.Chip.{ticks};
 ghost use Rattle.uart_chip.specs.Machine.{MachineState};
 ghost use Rattle.uart_run.specs.Ready.{KeepsReady};
 
-/// Ticks outside of the schedule, as by [`Device16550::idle`](uart_device::Device16550::idle),
+/// Ticks outside of the schedule, as by [`Device16550::idle`](uart_chip::Device16550::idle),
 /// preserve a state in which a session may begin.
 pub fn idle_keeps_ready()
     ensures { (n : ℕ) (machine : MachineState) →

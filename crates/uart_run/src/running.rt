@@ -7,7 +7,7 @@ ghost use Rattle.uart_run.specs.Run.{CallStep};
 
 use uart_16550::Uart16550Tty;
 use uart_calls::{Answer, Call, perform};
-use uart_device::Device16550;
+use uart_chip::Device16550;
 
 // Makes one call of a run.
 fn run_call(uart: &mut Uart16550Tty<Device16550>, call: &Call) -> Answer

@@ -1,7 +1,7 @@
 -- A run of ring calls is one session, and what is taken in one with a single `take`.
 use Rattle.std.proofs.Common.{◌≡◌, ℕ, List, [], ◌∷◌, ◌++◌, get_or, refl, sym, ap, ◌∙◌}
 use Rattle.std.proofs.lemmas.List.{append-nil}
-use Rattle.uart_device.specs.Conserved.{kept, waiting}
+use Rattle.uart_chip.specs.Conserved.{kept, waiting}
 use Rattle.uart_run.specs.Chains.{calls_of, answers_of}
 use Rattle.uart_run.specs.Ready.{Ready}
 use Rattle.uart_ring.specs.declared.running.call.RingCall.{RingCall}

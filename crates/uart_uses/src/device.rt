@@ -1,9 +1,9 @@
-//! A caller of `uart_device`.
+//! A caller of `uart_chip` under a schedule.
 ghost use Rattle.std.specs.Prelude.{◌≡◌, [], ◌∷◌, IfOk};
 ghost use Rattle.uart_chip.specs.Machine.{fresh};
 
 use std::alloc::Global;
-use uart_device::{BuildError, Chip, Device16550, Event};
+use uart_chip::{BuildError, Chip, Device16550, Event};
 
 /// Returns a 16550A at which a byte arrives after 10 ticks. It takes 4 ticks to send a character,
 /// and its wire has room for 64.

@@ -27,7 +27,7 @@ use port::{PortError, ask, open};
 use std::alloc::Global;
 use std::num::NonZeroU64;
 use uart_16550::Uart16550;
-use uart_device::{BuildError, Chip, Device16550, Event};
+use uart_chip::{BuildError, Chip, Device16550, Event};
 use uart_spec::registers::MSR;
 
 // How many ticks a character takes, and how many bytes the wire has room for.

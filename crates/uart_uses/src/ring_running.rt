@@ -1,6 +1,6 @@
 //! A caller of `run_ring`.
 ghost use Rattle.std.specs.Prelude.{◌≡◌, ◌++◌};
-ghost use Rattle.uart_device.specs.Conserved.{kept, waiting};
+ghost use Rattle.uart_chip.specs.Conserved.{kept, waiting};
 ghost use Rattle.uart_ring.specs.RingBytes.{to_take};
 ghost use Rattle.uart_ring.specs.RingRun.{ring_machine, under};
 ghost use Rattle.uart_run.specs.Ready.{Ready};
@@ -9,7 +9,7 @@ ghost use Rattle.uart_run.specs.Session.{overflows};
 use arrayvec::ArrayVec;
 use std::mem;
 use uart_calls::CALL_BYTES;
-use uart_device::Device16550;
+use uart_chip::Device16550;
 use uart_ring::{RingAnswer, RingCall, Uart16550Ring, run_ring};
 
 /// Goes on to the next mark of the schedule, serves the interrupts there, and returns up to

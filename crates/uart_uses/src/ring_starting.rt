@@ -9,7 +9,7 @@ ghost use Rattle.uart_spec.specs.Config.{IsComputable};
 
 use std::alloc::Global;
 use uart_16550::{Config, InitError, Uart16550, Uart16550Tty};
-use uart_device::Device16550;
+use uart_chip::Device16550;
 use uart_ring::laws::init_leaves_ready;
 use uart_ring::{RingAnswer, RingCall, RingError, Uart16550Ring, run_ring};
 

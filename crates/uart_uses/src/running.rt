@@ -7,7 +7,7 @@ ghost use Rattle.uart_spec.specs.Config.{IsComputable};
 
 use uart_16550::{Config, Uart16550Tty};
 use uart_calls::{Answer, Call};
-use uart_device::Device16550;
+use uart_chip::Device16550;
 use uart_run::run;
 
 /// Initialises the chip, and returns whether a session begins.

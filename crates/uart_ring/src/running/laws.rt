@@ -12,7 +12,7 @@ ghost use Rattle.uart_run.specs.Ready.{Ready};
 ghost use Rattle.uart_spec.specs.declared.config.Config.{Config};
 
 use uart_16550::Uart16550;
-use uart_device::Device16550;
+use uart_chip::Device16550;
 
 /// If an `init` of this driver returns `Ok`, a session of ring calls may begin with the driver that
 /// it leaves, whatever the chip did before. The driver may be put into rings then, or be in rings

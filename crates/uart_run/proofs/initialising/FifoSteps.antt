@@ -14,8 +14,8 @@ use Rattle.uart_spec.specs.declared.event.Chip.TheVariants.{Uart16550A, Uart1645
 use Rattle.uart_spec.specs.declared.registers.fifo_control.TheConstants.FCR
 use Rattle.uart_chip.specs.Machine.{MachineState, MachineStep}
 use Rattle.uart_run.specs.Ready.{has_fifo, is_level}
-use Rattle.uart_device.specs.Sound.{IsSound}
-use Rattle.uart_device.proofs.conservation.BlockLaws.{path_as}
+use Rattle.uart_chip.specs.Sound.{IsSound}
+use Rattle.uart_chip.proofs.conservation.BlockLaws.{path_as}
 use Rattle.uart_run.proofs.Latches.{Kept, kept_in, keep_control, kept_list, kept_path}
 use Rattle.uart_run.proofs.initialising.FifoShown.{fifo_shown}
 use Rattle.uart_run.proofs.Pieces.{then_parts}

@@ -26,12 +26,12 @@ use Rattle.uart_spec.specs.declared.call.Answer.TheVariants.{Done, InitRefused}
 use Rattle.uart_spec.specs.Bits.{has_any}
 use Rattle.uart_chip.specs.Chip.{is_dlab_set}
 use Rattle.uart_chip.specs.Machine.{MachineState, MachineStep, at_access}
-use Rattle.uart_device.specs.Sound.{IsSound}
+use Rattle.uart_chip.specs.Sound.{IsSound}
 use Rattle.uart_calls.specs.Meaning.{init_answer}
 use Rattle.uart_run.specs.Run.{State, machine_of, CallStep}
 use Rattle.uart_run.specs.Progress.{HasDivisor, IsTimely, HasRoom, left}
 use Rattle.uart_run.proofs.Latches.{Kept, kept_access}
-use Rattle.uart_device.proofs.conservation.BlockLaws.{path_as}
+use Rattle.uart_chip.proofs.conservation.BlockLaws.{path_as}
 use Rattle.uart_run.proofs.Pieces.{then_parts, next_stages}
 use Rattle.uart_run.proofs.progress.Nearing.{RunsFree, free_runs, free-step, free-path, nearer-latch}
 use Rattle.uart_run.proofs.SilentLists.{IsSilent, silent_presence, silent_sets_fifo, silent_drains}

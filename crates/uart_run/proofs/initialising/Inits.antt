@@ -17,15 +17,15 @@ use Rattle.uart_spec.specs.Bits.{has_any}
 use Rattle.uart_chip.specs.Chip.{LatchesState, is_dlab_set, divisor}
 use Rattle.uart_chip.specs.Machine.{MachineState, MachineStep}
 use Rattle.uart_run.specs.Ready.{has_fifo, is_level}
-use Rattle.uart_device.specs.Sound.{IsSound}
+use Rattle.uart_chip.specs.Sound.{IsSound}
 use Rattle.uart_chip.proofs.Bits.{has_bit}
-use Rattle.uart_device.proofs.soundness.Sounds.{sound_path}
-use Rattle.uart_device.proofs.conservation.BlockLaws.{path_as}
+use Rattle.uart_chip.proofs.soundness.Sounds.{sound_path}
+use Rattle.uart_chip.proofs.conservation.BlockLaws.{path_as}
 use Rattle.uart_run.proofs.Latches.{Kept, kept_in, kept_after, kept_list, kept_path, LeftBy}
 use Rattle.uart_run.proofs.Pieces.{then_parts, next_stages}
 use Rattle.uart_run.proofs.KeptLists.{keeps_drains, kept_still}
 use Rattle.uart_run.proofs.initialising.FifoSteps.{sets_fifo}
-use Rattle.uart_device.proofs.lasting.Lasting.{AllSendNothing}
+use Rattle.uart_chip.proofs.lasting.Lasting.{AllSendNothing}
 use Rattle.uart_run.proofs.EmptyTransmitter.{IsEmpty, empty_path}
 
 -- ---- the frame

@@ -12,15 +12,15 @@ use Rattle.uart_chip.specs.Transmitter.{room}
 use Rattle.uart_chip.specs.Chip.{ChipState, word_length, cut_to, after_read, after_write}
 use Rattle.uart_chip.specs.Machine.{MachineState, MachineStep, at_access}
 use Rattle.uart_chip.proofs.Bits.{has_or, word_same}
-use Rattle.uart_device.proofs.conservation.Blocks.{Block, Look, Hit, Burst, Other, Divisor, accesses_of, AllQuiet}
-use Rattle.uart_device.proofs.conservation.Blocks.{IsFit, AllFit, flat, written_in, read_in, data_written, data_read}
-use Rattle.uart_device.proofs.conservation.Went.{Modes, IsIn, dlab, dlab-in, loopback}
-use Rattle.uart_device.proofs.conservation.BlockLaws.{path_split, look_data, look_room}
+use Rattle.uart_chip.proofs.conservation.Blocks.{Block, Look, Hit, Burst, Other, Divisor, accesses_of, AllQuiet}
+use Rattle.uart_chip.proofs.conservation.Blocks.{IsFit, AllFit, flat, written_in, read_in, data_written, data_read}
+use Rattle.uart_chip.proofs.conservation.Went.{Modes, IsIn, dlab, dlab-in, loopback}
+use Rattle.uart_chip.proofs.conservation.BlockLaws.{path_split, look_data, look_room}
 use Rattle.uart_run.proofs.CallBlocks.{InBlocks}
-use Rattle.uart_device.proofs.loopback.Loops.{line_in, Loops, loops-trans, loops-still, loops-refl, carries-refl, line-length, Fits}
-use Rattle.uart_device.proofs.loopback.Loops.{fits-after}
-use Rattle.uart_device.proofs.loopback.LoopAccesses.{IsLooped, loops_effect, loops_read, loops_quiet}
-use Rattle.uart_device.proofs.loopback.LoopAccesses.{loops_take, loops_none, loops_quiets, loops_sends}
+use Rattle.uart_chip.proofs.loopback.Loops.{line_in, Loops, loops-trans, loops-still, loops-refl, carries-refl, line-length, Fits}
+use Rattle.uart_chip.proofs.loopback.Loops.{fits-after}
+use Rattle.uart_chip.proofs.loopback.LoopAccesses.{IsLooped, loops_effect, loops_read, loops_quiet}
+use Rattle.uart_chip.proofs.loopback.LoopAccesses.{loops_take, loops_none, loops_quiets, loops_sends}
 
 -- ---- the divisor latch
 

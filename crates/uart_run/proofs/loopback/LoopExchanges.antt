@@ -11,7 +11,7 @@ use Rattle.uart_16550.specs.Grammar.{Settings, Then}
 use Rattle.uart_16550.specs.Transmit.{burst_limit, Sends, TrySends}
 use Rattle.uart_16550.specs.Loopback.{test_byte, test_message, DrainsLoopback, ExchangesByte, ExchangesMessage, Exchanges}
 use Rattle.uart_chip.specs.Machine.{MachineState, MachineStep}
-use Rattle.uart_device.proofs.conservation.Went.{Modes}
+use Rattle.uart_chip.proofs.conservation.Went.{Modes}
 use Rattle.uart_run.proofs.Pieces.{then_parts}
 use Rattle.uart_run.proofs.loopback.LoopPhases.{IsEntered, IsReadyToTest, drained, byte_exchanged, message_exchanged, never_refused}
 

@@ -20,10 +20,10 @@ use Rattle.uart_chip.specs.Transmitter.{room, shift_bytes}
 use Rattle.uart_chip.specs.Chip.{ChipState}
 use Rattle.uart_chip.specs.Machine.{MachineState, MachineStep}
 use Rattle.uart_chip.proofs.Bits.{has_one}
-use Rattle.uart_device.proofs.conservation.Went.{Modes, IsIn, dlab-in}
+use Rattle.uart_chip.proofs.conservation.Went.{Modes, IsIn, dlab-in}
 use Rattle.uart_run.proofs.EmptyTransmitter.{IsSent, sent_path}
 use Rattle.uart_run.proofs.SilentLists.{IsSilent, silence, silent_asks}
-use Rattle.uart_device.proofs.conservation.BlockLaws.{path_as, look_room}
+use Rattle.uart_chip.proofs.conservation.BlockLaws.{path_as, look_room}
 use Rattle.uart_run.proofs.CallBlocks.{InBlocks, Makes, makes_then, makes_reads, awaited_blocks}
 use Rattle.uart_run.proofs.CallBlocks.{round_blocks, sends_all_blocks, try_sends_blocks}
 use Rattle.uart_run.proofs.CallKeeps.{one_fits}
@@ -32,7 +32,7 @@ use Rattle.uart_run.proofs.Latches.{Kept, kept_in, kept_cut, kept_access, kept_l
 use Rattle.uart_run.proofs.Pieces.{then_parts}
 use Rattle.uart_run.proofs.ListsInTurn.{all_only, all_then, all_few}
 use Rattle.uart_run.proofs.KeptLists.{AllKeep, keeping, keeps_miss, keeps_hit, kept_still}
-use Rattle.uart_device.proofs.loopback.LoopAccesses.{IsLooped}
+use Rattle.uart_chip.proofs.loopback.LoopAccesses.{IsLooped}
 use Rattle.uart_run.proofs.loopback.LoopBlocks.{IsIdle, CameBack, comes_back}
 
 -- ---- an idle chip

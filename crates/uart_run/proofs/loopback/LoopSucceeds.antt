@@ -19,14 +19,14 @@ use Rattle.uart_spec.specs.declared.call.Answer.{Answer}
 use Rattle.uart_spec.specs.declared.call.Answer.TheVariants.{LoopbackRefused}
 use Rattle.uart_chip.specs.Transmitter.{room, out}
 use Rattle.uart_chip.specs.Machine.{MachineState, MachineStep}
-use Rattle.uart_device.specs.Sound.{IsSound}
+use Rattle.uart_chip.specs.Sound.{IsSound}
 use Rattle.uart_calls.specs.Meaning.{loopback_answer}
 use Rattle.uart_run.specs.Run.{State, machine_of, CallStep}
 use Rattle.uart_run.specs.Ready.{Ready, is_narrow, test_answer}
 use Rattle.uart_chip.specs.Chip.{cut_of}
 use Rattle.uart_run.specs.Progress.{IsTimely, HasRoom}
-use Rattle.uart_device.proofs.conservation.Went.{Modes}
-use Rattle.uart_device.proofs.conservation.BlockLaws.{path_as}
+use Rattle.uart_chip.proofs.conservation.Went.{Modes}
+use Rattle.uart_chip.proofs.conservation.BlockLaws.{path_as}
 use Rattle.uart_run.proofs.CallBlocks.{Makes, makes_then, makes_reads, awaited_blocks, round_blocks, sends_all_blocks, try_sends_blocks}
 use Rattle.uart_run.proofs.CallKeeps.{one_fits}
 use Rattle.uart_run.proofs.Pieces.{then_parts, next_stages}

@@ -16,20 +16,20 @@ use Rattle.uart_chip.specs.declared.receiver.Character.{Character}
 use Rattle.uart_chip.specs.Transmitter.{room, out, shift_bytes}
 use Rattle.uart_chip.specs.Chip.{ChipState}
 use Rattle.uart_chip.specs.Machine.{MachineState, MachineStep}
-use Rattle.uart_device.specs.Sound.{IsSound}
+use Rattle.uart_chip.specs.Sound.{IsSound}
 use Rattle.uart_run.specs.Progress.{IsTicked, left}
 use Rattle.uart_chip.proofs.Bits.{has_one}
-use Rattle.uart_device.proofs.soundness.Sounds.{sound_path}
+use Rattle.uart_chip.proofs.soundness.Sounds.{sound_path}
 use Rattle.uart_run.proofs.progress.Left.{left-most}
 use Rattle.uart_run.proofs.progress.Nearing.{Runs, ticked-path}
-use Rattle.uart_device.proofs.lasting.Constants.{same_pace}
-use Rattle.uart_device.proofs.conservation.Went.{Modes, loopback-in}
-use Rattle.uart_device.proofs.conservation.BlockLaws.{look_data}
+use Rattle.uart_chip.proofs.lasting.Constants.{same_pace}
+use Rattle.uart_chip.proofs.conservation.Went.{Modes, loopback-in}
+use Rattle.uart_chip.proofs.conservation.BlockLaws.{look_data}
 use Rattle.uart_run.proofs.EmptyTransmitter.{IsSent, sent_shown}
 use Rattle.uart_run.proofs.CallBlocks.{InBlocks, Makes, blocks_none, blocks_then, hit_blocks}
 use Rattle.uart_run.proofs.Pieces.{then_parts}
-use Rattle.uart_device.proofs.loopback.Loops.{line_in, Fits, fits-after, line-length}
-use Rattle.uart_device.proofs.loopback.LoopAccesses.{IsLooped, loops_read}
+use Rattle.uart_chip.proofs.loopback.Loops.{line_in, Fits, fits-after, line-length}
+use Rattle.uart_chip.proofs.loopback.LoopAccesses.{IsLooped, loops_read}
 use Rattle.uart_run.proofs.loopback.LoopBlocks.{loops_in_blocks}
 use Rattle.uart_run.proofs.loopback.LoopPhases.{IsEntered, IsReadyToTest, never_refused}
 use Rattle.uart_run.proofs.progress.WaitEnds.{Awaited, no_stall, all_empty}

@@ -20,10 +20,10 @@ use Rattle.uart_chip.specs.Chip.{is_dlab_set}
 use Rattle.uart_chip.specs.Machine.{MachineState, MachineStep}
 use Rattle.uart_run.specs.Run.{State, machine_of, CallStep}
 use Rattle.uart_run.specs.Ready.{Ready}
-use Rattle.uart_device.specs.Sound.{IsSound}
+use Rattle.uart_chip.specs.Sound.{IsSound}
 use Rattle.uart_chip.proofs.Bits.{has_and}
-use Rattle.uart_device.proofs.soundness.Sounds.{sound_path}
-use Rattle.uart_device.proofs.conservation.BlockLaws.{path_as}
+use Rattle.uart_chip.proofs.soundness.Sounds.{sound_path}
+use Rattle.uart_chip.proofs.conservation.BlockLaws.{path_as}
 use Rattle.uart_run.proofs.Latches.{Kept, kept_in, keep_write, kept_after, kept_list, kept_access, LeftBy}
 use Rattle.uart_run.proofs.Pieces.{then_parts, next_stages}
 use Rattle.uart_run.proofs.ListsInTurn.{all_only, all_then}

@@ -4,7 +4,7 @@ use Rattle.std.proofs.Common.{◌++◌, length, length-append, Option, Some, Non
 use Rattle.std.proofs.lemmas.Grind.{common_steps}
 use Rattle.uart_chip.specs.declared.transmitter.Shifting.{Shifting}
 use Rattle.uart_chip.specs.Transmitter.{TransmitterState, shift, refill, tick, out, room}
-use Rattle.uart_device.specs.Sound.{IsTicking, IsSoundTransmitter}
+use Rattle.uart_chip.specs.Sound.{IsTicking, IsSoundTransmitter}
 use Rattle.uart_run.specs.Progress.{left_of, left}
 
 -- from t to u the end came nearer by at least so many ticks, and nothing was added to what is to go out

@@ -9,11 +9,11 @@ use Rattle.uart_chip.specs.declared.transmitter.Shifting.{Shifting}
 use Rattle.uart_chip.specs.Transmitter.{TransmitterState, out, shift_bytes}
 use Rattle.uart_chip.specs.Chip.{ChipState, is_dlab_set, is_loopback, tick, ticks, after_read, after_write}
 use Rattle.uart_chip.specs.Machine.{MachineState, MachineStep, perform, before_access, after_access, at_access}
-use Rattle.uart_device.specs.Sound.{IsSoundChip, IsSound}
+use Rattle.uart_chip.specs.Sound.{IsSoundChip, IsSound}
 use Rattle.uart_run.specs.Progress.{TickedAfter, IsTicked, left_of, HasRoom}
-use Rattle.uart_device.proofs.soundness.Sounds.{steady_ticks, sound_perform, sound_step, latches-ticks}
+use Rattle.uart_chip.proofs.soundness.Sounds.{steady_ticks, sound_perform, sound_step, latches-ticks}
 use Rattle.uart_run.proofs.Latches.{Kept, kept_step}
-use Rattle.uart_device.proofs.lasting.Lasting.{LastsInAccesses, SendsNothing, AllSendNothing, lasts-read, lasts-write, lasts-latch}
+use Rattle.uart_chip.proofs.lasting.Lasting.{LastsInAccesses, SendsNothing, AllSendNothing, lasts-read, lasts-write, lasts-latch}
 use Rattle.uart_run.proofs.progress.Left.{Nearer, nearer-refl, nearer-trans, nearer-less, nearer-tick}
 
 -- the wire takes all that is to go out

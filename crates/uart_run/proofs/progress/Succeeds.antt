@@ -15,17 +15,17 @@ use Rattle.uart_16550.specs.Tty.{inner_of}
 use Rattle.uart_spec.specs.declared.call.Answer.{Answer}
 use Rattle.uart_spec.specs.declared.call.Answer.TheVariants.{Done, Count}
 use Rattle.uart_chip.specs.Machine.{MachineState, MachineStep}
-use Rattle.uart_device.specs.Sound.{IsSound}
-use Rattle.uart_device.specs.Conserved.{out}
+use Rattle.uart_chip.specs.Sound.{IsSound}
+use Rattle.uart_chip.specs.Conserved.{out}
 use Rattle.uart_calls.specs.Meaning.{exact_answer, count_answer}
 use Rattle.uart_run.specs.Run.{State, machine_of}
 use Rattle.uart_run.specs.Ready.{Ready}
 use Rattle.uart_run.specs.Progress.{IsTimely, IsUnchecked, left, HasRoom}
-use Rattle.uart_device.proofs.soundness.Sounds.{sound_path}
+use Rattle.uart_chip.proofs.soundness.Sounds.{sound_path}
 use Rattle.uart_run.proofs.progress.Left.{left-most}
 use Rattle.uart_run.proofs.progress.Nearing.{Runs, ticked-path}
-use Rattle.uart_device.proofs.lasting.Constants.{same_pace}
-use Rattle.uart_device.proofs.conservation.BlockLaws.{PassedBlocks, path_split, path_as}
+use Rattle.uart_chip.proofs.lasting.Constants.{same_pace}
+use Rattle.uart_chip.proofs.conservation.BlockLaws.{PassedBlocks, path_split, path_as}
 use Rattle.uart_run.proofs.CallBlocks.{InBlocks, Makes, passed_in_blocks, pieces_blocks, cut_whole}
 use Rattle.uart_run.proofs.CallKeeps.{sends_each_blocks}
 use Rattle.uart_run.proofs.CallLaws.{InSession}

@@ -13,11 +13,11 @@ use Rattle.uart_chip.specs.declared.transmitter.Shifting.{Shifting}
 use Rattle.uart_chip.specs.Chip.{is_transmitter_empty}
 use Rattle.uart_chip.specs.Machine.{MachineState, MachineStep}
 use Rattle.uart_run.specs.Progress.{left_of, left}
-use Rattle.uart_device.specs.Sound.{IsTicking}
+use Rattle.uart_chip.specs.Sound.{IsTicking}
 use Rattle.uart_chip.proofs.Bits.{has_one}
 use Rattle.uart_run.proofs.progress.Left.{Nearer}
 use Rattle.uart_run.proofs.progress.Nearing.{Runs, runs-look, nearer-step}
-use Rattle.uart_device.proofs.conservation.BlockLaws.{path_split, path_as, look_room}
+use Rattle.uart_chip.proofs.conservation.BlockLaws.{path_split, path_as, look_room}
 use Rattle.uart_run.proofs.EmptyTransmitter.{look_empty}
 
 -- what holds while it is awaited, and that then a look shows the bits once the transmitter is empty

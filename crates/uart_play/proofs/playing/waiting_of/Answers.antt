@@ -1,7 +1,7 @@
 use Rattle.std.proofs.Common.{rules, tests, ◌≡◌, List, ℕ, length, IfOk, arith, subst, slice_get}
 use Rattle.std.proofs.lemmas.Iterator.{YieldsList-from_range, items_from_collect}
 use Rattle.std.proofs.lemmas.Iterator.Consumers.{YieldsList-from_filter_map}
-use Rattle.uart_device.specs.Conserved.{waiting}
+use Rattle.uart_chip.specs.Conserved.{waiting}
 use Rattle.uart_play.proofs.Picked.{picks_all}
 use Rattle.uart_play.proofs.playing.waiting_of.Goals as goal
 

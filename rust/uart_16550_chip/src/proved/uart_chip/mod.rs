@@ -2,7 +2,11 @@
 //! modem lines.
 //!
 //! The contract of each function says exactly which state follows. [`Uart`] is the chip without a
-//! schedule; `uart_device` puts it under one, and `uart_live` gives it to its owner.
+//! schedule. [`Device16550`] puts it under a schedule of ticks, arrivals and modem lines, as a
+//! backend of the driver, and `uart_live` gives it to its owner.
+//!
+//! What holds of every machine, and what every access conserves, is proved here, whatever makes the
+//! accesses.
 
 mod characters;
 mod chip;

@@ -1,5 +1,5 @@
 use Rattle.std.proofs.Common.{arith}
-use Rattle.uart_device.proofs.soundness.Idle.{moves-most}
+use Rattle.uart_chip.proofs.soundness.Idle.{moves-most}
 use Rattle.uart_live.proofs.Lives.{live-ticks}
 use Rattle.uart_live.proofs.live.LiveChip.ticks.Goals as goal
 

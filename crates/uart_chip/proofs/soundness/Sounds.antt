@@ -1,0 +1,453 @@
+-- Every event and every access leaves a machine sound.
+use Rattle.std.proofs.Common.{◌≡◌, ℕ, zero, suc, ◌+◌, ◌*◌, ◌<◌, Bool, true, false, ◌==◌, nat_lt, List, [], ◌∷◌, length, Option, Some, None}
+use Rattle.std.proofs.Common.{refl, arith, sym, ◌∙◌, ap, bit_and, if◌then◌else◌}
+use Rattle.std.proofs.lemmas.Grind.{common_steps}
+use Rattle.uart_spec.specs.declared.event.Chip.{Chip}
+use Rattle.uart_spec.specs.declared.event.Chip.TheVariants.{Uart16550A, Uart16450}
+use Rattle.uart_spec.specs.declared.event.Event.{Event}
+use Rattle.uart_spec.specs.declared.event.Event.TheVariants.{Ticks, Arrive, Lines, Access as Gate, Mark}
+use Rattle.uart_spec.specs.Access.{Access, Read, Write, Path}
+use Rattle.uart_spec.specs.Bits.{IsWithin, has_any}
+use Rattle.uart_spec.specs.declared.registers.fifo_control.TheConstants.FCR
+use Rattle.uart_spec.specs.declared.registers.line_status.TheConstants.LSR
+use Rattle.uart_spec.specs.declared.registers.modem_status.TheConstants.MSR
+use Rattle.uart_spec.specs.declared.registers.offsets.TheConstants as offsets
+use Rattle.uart_chip.specs.Masks.{ier_bits, mcr_bits}
+use Rattle.uart_chip.specs.declared.transmitter.Shifting.{Shifting}
+use Rattle.uart_chip.specs.Transmitter as transmitter
+use Rattle.uart_chip.specs.Transmitter.{TransmitterState, looped_byte, load}
+use Rattle.uart_chip.specs.Receiver as receiver
+use Rattle.uart_chip.specs.Receiver.{ReceiverState, take_front, report, clear}
+use Rattle.uart_chip.specs.Chip.{LatchesState, ChipState, cut_of, is_dlab_set, is_loopback, tick, ticks, arrive, change_lines, interrupt}
+use Rattle.uart_chip.specs.Chip.{is_thr_empty, after_read, after_write, trigger_level, switch, reset_receiver, reset_transmitter}
+use Rattle.uart_chip.specs.Chip.{set_trigger, is_same, set_fifo, control, with_latches, enable, control_modem}
+use Rattle.uart_chip.specs.Machine.{MachineState, MachineStep, arrivals, perform, at_access, at_mark}
+use Rattle.uart_chip.specs.Sound.{IsSoundTransmitter, IsSoundLatches, IsSoundChip, HoldBytes, AllLegal, IsSound, IsWhole}
+use Rattle.uart_chip.proofs.soundness.Within.{within_and, within-le}
+use Rattle.uart_chip.proofs.soundness.ReceiverSounds.{Safe, safe_tick, safe_arrive, safe_take_front, safe_clear, sound_report}
+use Rattle.uart_chip.proofs.soundness.ReceiverSounds.{sound_trigger}
+use Rattle.uart_chip.proofs.soundness.TransmitterSounds.{sound_tick as sound_shift_tick, sound_load, sound_clear, sound_pending}
+use Rattle.uart_chip.proofs.soundness.TransmitterSounds.{sound_renew}
+
+-- the chip is sound after a move, with the same number of arrivals, and as many to come
+pub record Steady (arrived : ℕ) (c d : ChipState) : Type 0 where
+  pub sound : IsSoundChip d
+  pub number : d.receiver.arrived ≡ arrived
+  pub known : length d.receiver.marks ≡ length c.receiver.marks
+
+pub steady_if : (arrived : ℕ) (c x y : ChipState) (b : Bool) → Steady arrived c x → Steady arrived c y →
+    Steady arrived c (if b then x else y)
+steady_if arrived c x y true p q = p
+steady_if arrived c x y false p q = q
+
+pub steady_refl : (c : ChipState) → IsSoundChip c → Steady c.receiver.arrived c c
+steady_refl c w = record { sound = w; number = refl; known = refl }
+
+pub steady_trans : (arrived : ℕ) (c d e : ChipState) → Steady arrived c d → Steady d.receiver.arrived d e → Steady arrived c e
+steady_trans arrived c d e p q = record { sound = q.sound; number = q.number ∙ p.number; known = q.known ∙ p.known }
+
+-- ---- one part changes
+
+-- the receiver
+pub steady_receiver : (arrived : ℕ) (c : ChipState) (s : ReceiverState) → IsSoundChip c → Safe c.fifo arrived c.receiver s →
+    Steady arrived c (record c { receiver = s })
+steady_receiver arrived c s w a = record {
+  sound = record {
+    receiver = a.sound;
+    transmitter = w.transmitter;
+    modem = w.modem;
+    latches = w.latches;
+    implemented = w.implemented;
+    limit = a.limit ∙ w.limit;
+  };
+  number = a.number;
+  known = a.known;
+}
+
+-- the transmitter
+pub steady_transmitter : (c : ChipState) (t : TransmitterState) → IsSoundChip c → IsSoundTransmitter c.fifo t →
+    t.char_ticks ≡ c.transmitter.char_ticks →
+    Steady c.receiver.arrived c (record c { transmitter = t })
+steady_transmitter c t w a e = record {
+  sound = record {
+    receiver = w.receiver;
+    transmitter = a;
+    modem = w.modem;
+    latches = w.latches;
+    implemented = w.implemented;
+    limit = w.limit ∙ ap (λ n. 4 * n) (sym e);
+  };
+  number = refl;
+  known = refl;
+}
+
+-- the latches
+pub steady_latches : (c : ChipState) (l : LatchesState) → IsSoundChip c → IsSoundLatches l → Steady c.receiver.arrived c (with_latches l c)
+steady_latches c l w a = record {
+  sound = record {
+    receiver = w.receiver;
+    transmitter = w.transmitter;
+    modem = w.modem;
+    latches = a;
+    implemented = w.implemented;
+    limit = w.limit;
+  };
+  number = refl;
+  known = refl;
+}
+
+-- ---- events
+
+-- a tick
+char_ticks-shift : (loopback : Bool) (place : Option Shifting) (t : TransmitterState) →
+    (transmitter.shift loopback place t).char_ticks ≡ t.char_ticks
+char_ticks-shift loopback None t = refl
+char_ticks-shift loopback (Some s) t =
+    either _ _ (nat_lt 1 s.ticks_left) refl (either _ _ loopback refl (either _ _ (nat_lt (length t.wire) t.capacity) refl refl))
+  where
+    either : (x y : TransmitterState) (b : Bool) → x.char_ticks ≡ t.char_ticks → y.char_ticks ≡ t.char_ticks →
+        (if b then x else y).char_ticks ≡ t.char_ticks
+    either x y true p q = p
+    either x y false p q = q
+
+char_ticks-refill : (place : Option Shifting) (queue : List ℕ) (t : TransmitterState) →
+    (transmitter.refill place queue t).char_ticks ≡ t.char_ticks
+char_ticks-refill (Some s) queue t = refl
+char_ticks-refill None [] t = refl
+char_ticks-refill None (x ∷ []) t = refl
+char_ticks-refill None (x ∷ y ∷ xs) t = refl
+
+char_ticks-tick : (loopback : Bool) (t : TransmitterState) → (transmitter.tick loopback t).char_ticks ≡ t.char_ticks
+char_ticks-tick loopback t =
+    let u : TransmitterState = transmitter.shift loopback t.shift_register t in
+    char_ticks-refill u.shift_register u.queue u ∙ char_ticks-shift loopback t.shift_register t
+
+pub steady_tick : (c : ChipState) → IsSoundChip c → Steady c.receiver.arrived c (tick c)
+steady_tick c w =
+    let loopback : Bool = is_loopback c.latches in
+    let looped : Option ℕ = looped_byte loopback c.transmitter.shift_register in
+    let a : Steady c.receiver.arrived c (record c { receiver = receiver.tick c.fifo looped c.receiver }) =
+    steady_receiver c.receiver.arrived c (receiver.tick c.fifo looped c.receiver) w (safe_tick c.fifo looped c.receiver w.receiver) in
+    let b =
+    steady_transmitter (record c { receiver = receiver.tick c.fifo looped c.receiver }) (transmitter.tick loopback c.transmitter) a.sound
+    (sound_shift_tick c.fifo loopback c.transmitter w.transmitter) (char_ticks-tick loopback c.transmitter) in
+    record { sound = b.sound; number = a.number; known = a.known }
+
+pub steady_ticks : (n : ℕ) (c : ChipState) → IsSoundChip c → Steady c.receiver.arrived c (ticks n c)
+steady_ticks zero c w = steady_refl c w
+steady_ticks (suc n) c w =
+    let a = steady_ticks n c w in steady_trans c.receiver.arrived c (ticks n c) (ticks (suc n) c) a (steady_tick (ticks n c) a.sound)
+
+-- an arrival
+pub steady_arrive : (byte errors : ℕ) (c : ChipState) → IsSoundChip c → c.receiver.arrived < length c.receiver.marks →
+    IsWithin errors LSR.CHARACTER_ERRORS.0 →
+    Steady (c.receiver.arrived + 1) c (arrive byte errors c)
+steady_arrive byte errors c w k l =
+    let loopback : Bool = is_loopback c.latches in
+    steady_receiver (c.receiver.arrived + 1) c (receiver.arrive loopback c.fifo (cut_of c byte) errors c.receiver) w
+    (safe_arrive loopback c.fifo c.receiver (cut_of c byte) errors w.receiver k l)
+
+-- a change of the lines
+pub steady_lines : (inputs : ℕ) (c : ChipState) → IsSoundChip c → IsWithin inputs MSR.LINES.0 →
+    Steady c.receiver.arrived c (change_lines inputs c)
+steady_lines inputs c w i = record {
+  sound = record {
+    receiver = w.receiver;
+    transmitter = w.transmitter;
+    modem = sound_renew c.latches.mcr inputs c.modem i w.modem;
+    latches = w.latches;
+    implemented = w.implemented;
+    limit = w.limit;
+  };
+  number = refl;
+  known = refl;
+}
+
+-- ---- reads
+
+pub steady_read : (offset : ℕ) (c : ChipState) → IsSoundChip c → Steady c.receiver.arrived c (after_read offset c)
+steady_read offset c w =
+    let n : ℕ = c.receiver.arrived in
+    steady_if n c _ _ (offset == offsets.DATA)
+    (steady_if n c _ _ (is_dlab_set c.latches) (steady_refl c w)
+    (steady_receiver n c (take_front c.receiver.queue c.receiver) w (safe_take_front c.fifo c.receiver w.receiver)))
+    (steady_if n c _ _ (offset == offsets.ISR)
+    (steady_if n c _ _ (is_thr_empty (interrupt c))
+    (steady_transmitter c (record c.transmitter { is_thr_pending = false }) w
+    (sound_pending c.fifo false c.transmitter w.transmitter) refl) (steady_refl c w))
+    (steady_if n c _ _ (offset == offsets.LSR)
+    (steady_receiver n c (report c.receiver) w
+    (record { sound = sound_report c.fifo c.receiver w.receiver; number = refl; known = refl; limit = refl }))
+    (steady_if n c _ _ (offset == offsets.MSR) (unchanged) (steady_refl c w))))
+  where
+    unchanged : Steady c.receiver.arrived c (record c { modem = record c.modem { deltas = 0 } })
+    unchanged = record {
+      sound = record {
+        receiver = w.receiver;
+        transmitter = w.transmitter;
+        modem = record { inputs = w.modem.inputs; lines = w.modem.lines; deltas = refl };
+        latches = w.latches;
+        implemented = w.implemented;
+        limit = w.limit;
+      };
+      number = refl;
+      known = refl;
+    }
+
+-- ---- the FIFO control register
+
+pub steady_switch : (on : Bool) (c : ChipState) → IsSoundChip c → c.model ≡ Uart16550A → Steady c.receiver.arrived c (switch on c)
+steady_switch on c w has_fifo =
+    let a = safe_clear c.fifo on c.receiver w.receiver in
+    record {
+      sound = record {
+        receiver = a.sound;
+        transmitter = sound_clear c.fifo on c.transmitter.is_thr_pending c.transmitter w.transmitter;
+        modem = w.modem;
+        latches = w.latches;
+        implemented = λ e. has_fifo;
+        limit = a.limit ∙ w.limit;
+      };
+      number = a.number;
+      known = a.known;
+    }
+
+pub steady_fifo : (value : ℕ) (c : ChipState) → IsSoundChip c → c.model ≡ Uart16550A → Steady c.receiver.arrived c (set_fifo value c)
+steady_fifo value c w has_fifo =
+    let n : ℕ = c.receiver.arrived in
+    let on : Bool = has_any value FCR.FIFO_ENABLE.0 in
+    let d : ChipState = if is_same c.fifo on then c else switch on c in
+    let a : Steady n c d = steady_if n c c (switch on c) (is_same c.fifo on) (steady_refl c w) (steady_switch on c w has_fifo) in
+    let e : ChipState = reset_receiver value d in
+    let b : Steady d.receiver.arrived d e =
+    steady_if d.receiver.arrived d (record d { receiver = clear d.receiver }) d (has_any value FCR.RX_FIFO_RESET.0)
+    (steady_receiver d.receiver.arrived d (clear d.receiver) a.sound (safe_clear d.fifo d.fifo d.receiver a.sound.receiver))
+    (steady_refl d a.sound) in
+    let f : ChipState = reset_transmitter value e in
+    let g : Steady e.receiver.arrived e f =
+    steady_if e.receiver.arrived e (record e { transmitter = record e.transmitter { queue = []; is_thr_pending = true } }) e
+    (has_any value FCR.TX_FIFO_RESET.0)
+    (steady_transmitter e (record e.transmitter { queue = []; is_thr_pending = true }) b.sound
+    (sound_clear e.fifo e.fifo true e.transmitter b.sound.transmitter) refl) (steady_refl e b.sound) in
+    let h : Steady f.receiver.arrived f (set_trigger (trigger_level value) f) =
+    steady_receiver f.receiver.arrived f (record f.receiver { trigger = trigger_level value }) g.sound
+    (record {
+      sound = sound_trigger f.fifo f.receiver (trigger_level value) g.sound.receiver;
+      number = refl;
+      known = refl;
+      limit = refl;
+    }) in
+    steady_if n c (set_trigger (trigger_level value) f) d on
+    (steady_trans n c d _ a (steady_trans d.receiver.arrived d e _ b (steady_trans e.receiver.arrived e f _ g h))) a
+
+steady_control : (model : Chip) (value : ℕ) (c : ChipState) → IsSoundChip c → c.model ≡ model →
+    Steady c.receiver.arrived c (control model value c)
+steady_control Uart16450 value c w e = steady_refl c w
+steady_control Uart16550A value c w e = steady_fifo value c w e
+
+-- ---- writes
+
+steady_enable : (value : ℕ) (c : ChipState) → IsSoundChip c → Steady c.receiver.arrived c (enable value c)
+steady_enable value c w = record {
+  sound = record {
+    receiver = w.receiver;
+    transmitter = sound_pending c.fifo _ c.transmitter w.transmitter;
+    modem = w.modem;
+    latches = record { ier = within_and value ier_bits; mcr = w.latches.mcr };
+    implemented = w.implemented;
+    limit = w.limit;
+  };
+  number = refl;
+  known = refl;
+}
+
+steady_modem_control : (value : ℕ) (c : ChipState) → IsSoundChip c →
+    Steady c.receiver.arrived c (control_modem (bit_and value mcr_bits) c)
+steady_modem_control value c w = record {
+  sound = record {
+    receiver = w.receiver;
+    transmitter = w.transmitter;
+    modem = sound_renew (bit_and value mcr_bits) c.modem.inputs c.modem w.modem.inputs w.modem;
+    latches = record { ier = w.latches.ier; mcr = within_and value mcr_bits };
+    implemented = w.implemented;
+    limit = w.limit;
+  };
+  number = refl;
+  known = refl;
+}
+
+pub steady_write : (offset value : ℕ) (c : ChipState) → IsSoundChip c → Steady c.receiver.arrived c (after_write offset value c)
+steady_write offset value c w =
+    let n : ℕ = c.receiver.arrived in
+    let same : IsSoundLatches c.latches = w.latches in
+    let still : (l : LatchesState) → l.ier ≡ c.latches.ier → l.mcr ≡ c.latches.mcr → Steady n c (with_latches l c) =
+    λ l p q. steady_latches c l w (kept l p q) in
+    steady_if n c _ _ (offset == offsets.DATA)
+    (steady_if n c _ _ (is_dlab_set c.latches) (still _ refl refl)
+    (steady_transmitter c (load c.fifo (cut_of c value) c.transmitter) w
+    (sound_load c.fifo (cut_of c value) c.transmitter w.transmitter) (char_ticks-load c.fifo (cut_of c value) c.transmitter)))
+    (steady_if n c _ _ (offset == offsets.IER) (steady_if n c _ _ (is_dlab_set c.latches) (still _ refl refl) (steady_enable value c w))
+    (steady_if n c _ _ (offset == offsets.FCR) (steady_control c.model value c w refl)
+    (steady_if n c _ _ (offset == offsets.LCR) (still _ refl refl)
+    (steady_if n c _ _ (offset == offsets.MCR) (steady_modem_control value c w)
+    (steady_if n c _ _ (offset == offsets.SPR) (still _ refl refl) (steady_refl c w))))))
+  where
+    kept : (l : LatchesState) → l.ier ≡ c.latches.ier → l.mcr ≡ c.latches.mcr → IsSoundLatches l
+    kept l p q = record { ier = rw p w.latches.ier; mcr = rw q w.latches.mcr }
+
+    char_ticks-load : (fifo : Bool) (byte : ℕ) (t : TransmitterState) → (load fifo byte t).char_ticks ≡ t.char_ticks
+    char_ticks-load fifo byte t = either _ _ (nat_lt (length t.queue) (transmitter.room fifo)) refl refl
+      where
+        either : (x y : TransmitterState) (b : Bool) → x.char_ticks ≡ t.char_ticks → y.char_ticks ≡ t.char_ticks →
+            (if b then x else y).char_ticks ≡ t.char_ticks
+        either x y true p q = p
+        either x y false p q = q
+
+-- ---- the machine
+
+-- a move that brings no arrival
+sound_steady : (c d : ChipState) (events : List Event) → Steady c.receiver.arrived c d →
+    c.receiver.arrived + arrivals events ≡ length c.receiver.marks → AllLegal events →
+    IsSound (record { chip = d; ahead = events })
+sound_steady c d events s f l = record { chip = s.sound; foreseen = omega (arith, s.number, s.known, f); legal = l }
+
+-- one event is performed
+pub sound_perform : (event : Event) (events : List Event) (c : ChipState) → IsSound (record { chip = c; ahead = event ∷ events }) →
+    IsSound (record { chip = perform event c; ahead = events })
+sound_perform (Ticks n) events c w = sound_steady c (ticks n c) events (steady_ticks n c w.chip) w.foreseen w.legal.1
+sound_perform (Arrive byte errors) events c w =
+    let within : c.receiver.arrived < length c.receiver.marks = omega (arith, w.foreseen) in
+    let a = steady_arrive byte errors c w.chip within w.legal.0 in
+    record { chip = a.sound; foreseen = omega (arith, a.number, a.known, w.foreseen); legal = w.legal.1 }
+sound_perform (Lines inputs) events c w =
+    sound_steady c (change_lines inputs c) events (steady_lines inputs c w.chip w.legal.0) w.foreseen w.legal.1
+sound_perform _ events c w = record { chip = w.chip; foreseen = w.foreseen; legal = w.legal.1 }
+
+pub sound_tick : (events : List Event) (c : ChipState) → IsSound (record { chip = c; ahead = events }) →
+    IsSound (record { chip = tick c; ahead = events })
+sound_tick events c w = sound_steady c (tick c) events (steady_tick c w.chip) w.foreseen w.legal
+
+-- an access performs the events before it
+pub sound_before : (events : List Event) (c : ChipState) → IsSound (record { chip = c; ahead = events }) →
+    IsSound (at_access (record { chip = c; ahead = events }))
+sound_before [] c w = sound_tick [] c w
+sound_before (Gate ∷ events) c w = sound_perform Gate events c w
+sound_before (Mark ∷ events) c w = sound_tick (Mark ∷ events) c w
+sound_before (event ∷ events) c w = sound_before events (perform event c) (sound_perform event events c w)
+
+pub sound_access : (m : MachineState) → IsSound m → IsSound (at_access m)
+sound_access m w = sound_before m.ahead m.chip (record { chip = w.chip; foreseen = w.foreseen; legal = w.legal })
+
+-- the events up to the next Mark are performed
+pub sound_before_mark : (events : List Event) (c : ChipState) → IsSound (record { chip = c; ahead = events }) →
+    IsSound (at_mark (record { chip = c; ahead = events }))
+sound_before_mark [] c w = w
+sound_before_mark (Mark ∷ events) c w = sound_perform Mark events c w
+sound_before_mark (event ∷ events) c w = sound_before_mark events (perform event c) (sound_perform event events c w)
+
+pub sound_mark : (m : MachineState) → IsSound m → IsSound (at_mark m)
+sound_mark m w = sound_before_mark m.ahead m.chip (record { chip = w.chip; foreseen = w.foreseen; legal = w.legal })
+
+pub sound_read : (offset : ℕ) (m : MachineState) → IsSound m → IsSound (record m { chip = after_read offset m.chip })
+sound_read offset m w = sound_steady m.chip (after_read offset m.chip) m.ahead (steady_read offset m.chip w.chip) w.foreseen w.legal
+
+pub sound_write : (offset value : ℕ) (m : MachineState) → IsSound m → IsSound (record m { chip = after_write offset value m.chip })
+sound_write offset value m w =
+    sound_steady m.chip (after_write offset value m.chip) m.ahead (steady_write offset value m.chip w.chip) w.foreseen w.legal
+
+-- one access, and a list of them
+pub sound_step : (m n : MachineState) (access : Access) → IsSound m → MachineStep m access n → IsSound n
+sound_step m n (Read offset answer) w s = rw s.0 (sound_read offset (at_access m) (sound_access m w))
+sound_step m n (Write offset value) w s = rw s (sound_write offset value (at_access m) (sound_access m w))
+
+pub sound_path : (accesses : List Access) (m n : MachineState) → IsSound m → Path MachineStep m accesses n → IsSound n
+sound_path [] m n w p = rw p w
+sound_path (access ∷ accesses) m n w p = sound_path accesses p.0 n (sound_step m p.0 access w p.1) p.2
+
+-- ---- the latches hold bytes
+
+pub latches-ticks : (n : ℕ) (c : ChipState) → (ticks n c).latches ≡ c.latches
+latches-ticks zero c = refl
+latches-ticks (suc n) c = latches-ticks n c
+
+pub latches-perform : (event : Event) (c : ChipState) → (perform event c).latches ≡ c.latches
+latches-perform (Ticks n) c = latches-ticks n c
+latches-perform _ c = refl
+
+latches_if : (c x y : ChipState) (b : Bool) → x.latches ≡ c.latches → y.latches ≡ c.latches → (if b then x else y).latches ≡ c.latches
+latches_if c x y true p q = p
+latches_if c x y false p q = q
+
+pub latches-read : (offset : ℕ) (c : ChipState) → (after_read offset c).latches ≡ c.latches
+latches-read offset c =
+    latches_if c _ _ (offset == offsets.DATA) (latches_if c _ _ (is_dlab_set c.latches) refl refl)
+    (latches_if c _ _ (offset == offsets.ISR) (latches_if c _ _ (is_thr_empty (interrupt c)) refl refl)
+    (latches_if c _ _ (offset == offsets.LSR) refl (latches_if c _ _ (offset == offsets.MSR) refl refl)))
+
+latches-fifo : (value : ℕ) (c : ChipState) → (set_fifo value c).latches ≡ c.latches
+latches-fifo value c =
+    let on : Bool = has_any value FCR.FIFO_ENABLE.0 in
+    let d : ChipState = if is_same c.fifo on then c else switch on c in
+    let a : d.latches ≡ c.latches = latches_if c c (switch on c) (is_same c.fifo on) refl refl in
+    let e : ChipState = reset_receiver value d in
+    let b : e.latches ≡ d.latches =
+    latches_if d (record d { receiver = clear d.receiver }) d (has_any value FCR.RX_FIFO_RESET.0) refl refl in
+    let f : ChipState = reset_transmitter value e in
+    let g : f.latches ≡ e.latches =
+    latches_if e (record e { transmitter = record e.transmitter { queue = []; is_thr_pending = true } }) e
+    (has_any value FCR.TX_FIFO_RESET.0) refl refl in
+    latches_if c (set_trigger (trigger_level value) f) d on (g ∙ (b ∙ a)) a
+
+latches-control : (model : Chip) (value : ℕ) (c : ChipState) → (control model value c).latches ≡ c.latches
+latches-control Uart16450 value c = refl
+latches-control Uart16550A value c = latches-fifo value c
+
+bytes_if : (x y : ChipState) (b : Bool) → HoldBytes x.latches → HoldBytes y.latches → HoldBytes (if b then x else y).latches
+bytes_if x y true p q = p
+bytes_if x y false p q = q
+
+bytes_same : (l k : LatchesState) → k ≡ l → HoldBytes l → HoldBytes k
+bytes_same l k e w = rw e w
+
+bytes-write : (offset value : ℕ) (c : ChipState) → value < 256 → HoldBytes c.latches → HoldBytes (after_write offset value c).latches
+bytes-write offset value c v w =
+    bytes_if _ _ (offset == offsets.DATA)
+    (bytes_if _ _ (is_dlab_set c.latches) (record { ier = w.ier; lcr = w.lcr; mcr = w.mcr; scr = w.scr; dll = v; dlm = w.dlm }) w)
+    (bytes_if _ _ (offset == offsets.IER)
+    (bytes_if _ _ (is_dlab_set c.latches) (record { ier = w.ier; lcr = w.lcr; mcr = w.mcr; scr = w.scr; dll = w.dll; dlm = v })
+    (record { ier = below value ier_bits refl; lcr = w.lcr; mcr = w.mcr; scr = w.scr; dll = w.dll; dlm = w.dlm }))
+    (bytes_if _ _ (offset == offsets.FCR) (bytes_same c.latches (control c.model value c).latches (latches-control c.model value c) w)
+    (bytes_if _ _ (offset == offsets.LCR) (record { ier = w.ier; lcr = v; mcr = w.mcr; scr = w.scr; dll = w.dll; dlm = w.dlm })
+    (bytes_if _ _ (offset == offsets.MCR)
+    (record { ier = w.ier; lcr = w.lcr; mcr = below value mcr_bits refl; scr = w.scr; dll = w.dll; dlm = w.dlm })
+    (bytes_if _ _ (offset == offsets.SPR) (record { ier = w.ier; lcr = w.lcr; mcr = w.mcr; scr = v; dll = w.dll; dlm = w.dlm }) w)))))
+  where
+    below : (value mask : ℕ) → nat_lt mask 256 ≡ true → bit_and value mask < 256
+    below value mask e =
+        let few : mask < 256 = grind (arith, common_steps) in
+        let h = within-le (bit_and value mask) mask (within_and value mask) in omega (arith, few, h)
+
+-- ---- what holds of every machine
+
+pub whole_perform : (event : Event) (events : List Event) (c : ChipState) → IsWhole (record { chip = c; ahead = event ∷ events }) →
+    IsWhole (record { chip = perform event c; ahead = events })
+whole_perform event events c w =
+    record {
+      sound = sound_perform event events c w.sound;
+      bytes = bytes_same c.latches (perform event c).latches (latches-perform event c) w.bytes;
+    }
+
+pub whole_tick : (events : List Event) (c : ChipState) → IsWhole (record { chip = c; ahead = events }) →
+    IsWhole (record { chip = tick c; ahead = events })
+whole_tick events c w = record { sound = sound_tick events c w.sound; bytes = w.bytes }
+
+pub whole_read : (offset : ℕ) (m : MachineState) → IsWhole m → IsWhole (record m { chip = after_read offset m.chip })
+whole_read offset m w =
+    record {
+      sound = sound_read offset m w.sound;
+      bytes = bytes_same m.chip.latches (after_read offset m.chip).latches (latches-read offset m.chip) w.bytes;
+    }
+
+pub whole_write : (offset value : ℕ) (m : MachineState) → value < 256 → IsWhole m →
+    IsWhole (record m { chip = after_write offset value m.chip })
+whole_write offset value m v w = record { sound = sound_write offset value m w.sound; bytes = bytes-write offset value m.chip v w.bytes }
