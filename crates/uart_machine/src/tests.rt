@@ -10,8 +10,9 @@ mod rings;
 mod schedules;
 mod script;
 mod steps;
+mod unpromised;
 
-use crate::{ArrivalMark, BuildError, Call, Chip, Device16550, Event};
+use crate::{ArrivalMark, BuildError, Call, Chip, Event};
 use std::fmt::{Debug, Display};
 use std::process::Abort;
 use std::test::Fail;
@@ -19,6 +20,7 @@ use uart_16550::Uart16550;
 use uart_16550::backend::Backend;
 use uart_spec::Config;
 use uart_spec::registers::{FifoTriggerLevel, offsets};
+use unpromised::Device16550;
 
 // The calls that take nothing, from the loopback test to the dump.
 const BARE_CALLS: [Call; 19] = [

@@ -1,8 +1,9 @@
 //! How many accesses a call makes over an idle chip, and how many unsuccessful polls it takes.
 ghost use Rattle.std.specs.Prelude.{⊤};
 
+use super::unpromised::Device16550;
 use super::{assert_equal_at, machine};
-use crate::{Chip, Device16550};
+use crate::Chip;
 use std::num::NonZeroU64;
 use std::test::Fail;
 use uart_16550::Uart16550;

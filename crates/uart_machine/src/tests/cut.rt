@@ -1,6 +1,7 @@
 //! Characters that are cut to the word length.
+use super::unpromised::Device16550;
 use super::{DATA, FCR, IER, LCR, MCR, arrive, assert_equal};
-use crate::{Chip, Device16550, Event};
+use crate::{Chip, Event};
 use std::test::Fail;
 use uart_16550::backend::Backend;
 

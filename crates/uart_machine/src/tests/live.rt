@@ -1,8 +1,7 @@
 //! Worked examples on a live chip.
+use super::unpromised::LiveChip;
 use super::{DATA, FCR, IER, ISR, LCR, LSR, MCR, MSR, SPR, assert_equal, assert_equal_at};
-use crate::{
-    Character, Chip, ChipData, ChipError, InputError, LiveChip, Origin, RestoreError, Shifting,
-};
+use crate::{Character, Chip, ChipData, ChipError, InputError, Origin, RestoreError, Shifting};
 use bitflags::Flags;
 use std::process::Abort;
 use std::test::Fail;

@@ -1,5 +1,5 @@
 //! Worked examples of ring calls over a machine.
-use super::{arrive, assert_equal, assert_equal_at, machine};
+use super::{arrive, assert_equal, assert_equal_at};
 use crate::{ArrivalMark, Chip, Device16550, Event, RingAnswer, RingCall, run_ring};
 use arrayvec::ArrayVec;
 use bitflags::Flags;
@@ -23,7 +23,8 @@ fn rings(
         interrupts,
         ..Config::DEFAULT
     };
-    let mut uart = Uart16550::new_with_backend(machine(rt, chip, 4, 64, schedule)?);
+    let machine = Device16550::new(rt.alloc(), chip, 4, 64, schedule.to_vec(rt.alloc())?)?;
+    let mut uart = Uart16550::new_with_backend(machine);
     uart.init(config)?;
     match Uart16550Ring::new(rt.alloc(), uart, tx_capacity, rx_capacity) {
         Ok(ring) => Ok(ring),

@@ -1,9 +1,10 @@
 //! Chips that others left in some state, and an `init` of them.
+use super::unpromised::Device16550;
 use super::{
     DATA, FCR, IER, ISR, LCR, MCR, SPR, WITHOUT_FIFO, assert_equal, assert_equal_at, initialised,
     machine, new_driver,
 };
-use crate::{Chip, Device16550, Event};
+use crate::{Chip, Event};
 use bitflags::Flags;
 use std::test::Fail;
 use uart_16550::Uart16550;
