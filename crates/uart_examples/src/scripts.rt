@@ -6,7 +6,8 @@ use std::alloc::Global;
 use std::io;
 use std::io::Write;
 use std::path::Path;
-use uart_machine::script::{Std, play};
+use uart_language::Std;
+use uart_play::play;
 
 // Returns what is printed for a script: its output, or the line of its refusal.
 fn printed(alloc: Global, script: &[u8]) -> io::Result<Vec<u8>> {

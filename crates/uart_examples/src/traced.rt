@@ -7,13 +7,13 @@ use std::io;
 use std::path::Path;
 use uart_command::Task;
 use uart_judges::traces::judge;
-use uart_machine::script;
+use uart_language::parse;
 use uart_report::{Request, report_on};
 
 // Returns whether in the trace of a script each list is its call's, with the answer that is
 // printed; and `None` if the bytes are not a script.
 fn is_driver_trace(alloc: Global, text: &[u8]) -> Result<Option<bool>, AllocError> {
-    let Ok(script) = script::parse(alloc, text) else {
+    let Ok(script) = parse(alloc, text) else {
         return Ok(None);
     };
     let request = Request {

@@ -4,7 +4,7 @@ use crate::grammar::{Field, fields_after, usage};
 use crate::text::{line_at, printable, word_at, word_count};
 use std::alloc::{AllocError, Global};
 use std::fmt::Write;
-use uart_machine::script::Cause;
+use uart_language::Cause;
 
 // What is expected where a word is empty.
 const ONE_SPACE: &str = "exactly one space between two words, and none at the end";

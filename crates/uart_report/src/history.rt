@@ -11,8 +11,7 @@ use crate::run::recorded;
 use crate::text::printable;
 use std::alloc::{AllocError, Global};
 use uart_16550::replay::Entry;
-use uart_language::{Item, item_at};
-use uart_machine::script::Script;
+use uart_language::{Item, Script, item_at};
 
 // The number of a line at which neither the first line of a script nor its limit may be.
 const AFTER_THE_HEAD: u32 = 3;

@@ -8,7 +8,7 @@ use crate::replay::{Arrival, Moment};
 use crate::shown::{Shown, merged};
 use std::alloc::{AllocError, Global};
 use std::fmt::Write;
-use uart_machine::Chip;
+use uart_chip::Chip;
 use uart_spec::FIFO_SIZE;
 
 // How many moments are in a band, and the room for names to the left of them.

@@ -7,7 +7,7 @@ use std::alloc::{AllocError, Global};
 use std::marker::Model;
 use uart_16550::backend::Backend;
 use uart_16550::replay::Entry;
-use uart_machine::Device16550;
+use uart_chip::Device16550;
 
 /// A backend over another one, with a list of the accesses that it made.
 #[derive(Drop)]

@@ -6,8 +6,9 @@ use bitflags::Flags;
 use std::alloc::{AllocError, Global};
 use uart_16550::backend::Backend;
 use uart_16550::replay::Entry;
-use uart_machine::script::Script;
-use uart_machine::{Call, Device16550, Event};
+use uart_calls::Call;
+use uart_chip::{Device16550, Event};
+use uart_language::Script;
 use uart_spec::registers::{LCR, LSR, offsets};
 
 /// An access, with the name of its register.

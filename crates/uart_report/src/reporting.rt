@@ -18,9 +18,10 @@ use crate::trace::trace;
 use crate::written::Written;
 use std::alloc::{AllocError, Global};
 use std::fmt::Write;
+use uart_chip::Chip;
 use uart_command::{Form, Task};
-use uart_machine::Chip;
-use uart_machine::script::{Script, ScriptError, Std, parse, play};
+use uart_language::{Script, ScriptError, Std, parse};
+use uart_play::play;
 
 /// What is printed, and the exit status.
 #[derive(Debug, Drop)]

@@ -11,8 +11,9 @@ use crate::recording::Recorder;
 use std::alloc::{AllocError, Global};
 use uart_16550::replay::Entry;
 use uart_16550::{Uart16550, Uart16550Tty};
-use uart_machine::script::Script;
-use uart_machine::{Call, Device16550, Event, perform};
+use uart_calls::{Call, perform};
+use uart_chip::{Device16550, Event};
+use uart_language::Script;
 
 /// Returns the machine of the script, under this schedule.
 pub fn machine_for(

@@ -1,7 +1,7 @@
 //! A writer into memory.
 ghost use Rattle.std.specs.Prelude.{Some};
 
-use uart_machine::script::{Fault, Output};
+use uart_language::{Fault, Output};
 
 /// The bytes that were written.
 #[derive(Drop)]
