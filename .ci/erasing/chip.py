@@ -29,6 +29,7 @@ HEAP = "allocates: for a chip under a schedule"
 
 LEFT_OUT = {
     "uart_chip/src/device.rt": HEAP,
+    "uart_spec/src/access.rt": table.LEFT_OUT["uart_spec/src/access.rt"],
     "uart_spec/src/backend.rt": OF_THE_DRIVER,
     "uart_spec/src/call.rt": table.LEFT_OUT["uart_spec/src/call.rt"],
     "uart_spec/src/config.rt": OF_THE_DRIVER,

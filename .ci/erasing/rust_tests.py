@@ -12,6 +12,7 @@ OUTPUT = "rust/uart_16550_tests/src/erased"
 
 # A folder or file of sources, its module of the crate of tests, and what `crate::` and `super::*` are there.
 PARTS = [
+    ("uart_spec/src/access.rt", "access", "crate::libraries::uart_spec"),
     ("uart_spec/src/call.rt", "call", "crate::libraries::uart_spec"),
     ("uart_16550/src/replay.rt", "replay", "crate::libraries::uart_16550"),
     ("uart_calls/src/lib.rt", "uart_calls", "crate::erased::uart_calls"),

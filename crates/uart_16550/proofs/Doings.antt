@@ -3,7 +3,9 @@ use Rattle.std.proofs.Common.{◌≡◌, ◌+◌, ℕ, Bool, List, [], ◌∷◌
 use lib.Bits.{or_zero_r}
 use Rattle.std.specs.Int.NonZero.{non_zero_u64_get}
 use Rattle.uart_spec.specs.Bits.{has}
-use Rattle.uart_spec.specs.Access.{Access, Read, saved_lsr, saved_msr}
+use Rattle.uart_spec.specs.Access.{saved_lsr, saved_msr}
+use Rattle.uart_spec.specs.declared.access.Access.{Access}
+use Rattle.uart_spec.specs.declared.access.Access.TheVariants.{Read}
 use Rattle.uart_16550.specs.Grammar.{Language, Settings, Only, Then, Times, Asks, ReadsRegister}
 use Rattle.uart_16550.specs.Driver.{Made, Did, Doing, Fields, fields, settings_of, Saving, saving, Plain, Sets, Next}
 use Rattle.uart_16550.specs.declared.driver.Uart16550.{Uart16550}

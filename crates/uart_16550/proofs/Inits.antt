@@ -6,7 +6,8 @@ use Rattle.uart_spec.specs.declared.errors.InitError.{InitError}
 use Rattle.uart_spec.specs.declared.errors.InvalidDivisorError.{InvalidDivisorError}
 use Rattle.uart_spec.specs.declared.config.Config.{Config}
 use Rattle.uart_spec.specs.declared.registers.offsets.TheConstants as offsets
-use Rattle.uart_spec.specs.Access.{Access, Write}
+use Rattle.uart_spec.specs.declared.access.Access.{Access}
+use Rattle.uart_spec.specs.declared.access.Access.TheVariants.{Write}
 use Rattle.uart_16550.specs.Grammar.{Settings, Only, Then}
 use Rattle.uart_16550.specs.Driver.{Made, Did, Plain, with_config, with_fifo}
 use Rattle.uart_16550.specs.Init.{first_pattern, second_pattern, Keeps, KeepsPatterns, ChecksPresence, SetsFifo, DrainsReceiver, Begins}

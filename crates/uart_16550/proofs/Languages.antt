@@ -1,7 +1,7 @@
 -- Lists of a language, one after another.
 use Rattle.std.proofs.Common.{◌≡◌, ◌<◌, ◌≤◌, ◌+◌, ℕ, zero, suc, true, false, List, [], ◌∷◌, ◌++◌, refl, sym, arith, append_assoc}
 use Rattle.std.proofs.Common.{append-nil, add-one, length, take, drop, inl, inr, Result, Ok, Err, is_ok, map}
-use Rattle.uart_spec.specs.Access.{Access}
+use Rattle.uart_spec.specs.declared.access.Access.{Access}
 use Rattle.uart_16550.specs.Grammar.{Language, Settings, Then, InOrder, Times}
 use Rattle.uart_16550.specs.Receive.{Receives, Miss}
 use Rattle.uart_16550.specs.Transmit.{IsCut, burst_size, burst_limit, Sends, SendMiss, Burst, ReadyToSend}

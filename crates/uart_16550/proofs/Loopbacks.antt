@@ -3,7 +3,8 @@ use Rattle.std.proofs.Common.{◌≡◌, ◌++◌, ◌+◌, ◌<◌, ℕ, true, 
 use Rattle.std.proofs.Common.{take, drop, get_or, add-one, drop-cons}
 use Rattle.std.proofs.lemmas.List.{take-append-drop, map-append}
 use Rattle.uart_spec.specs.declared.errors.LoopbackError.{LoopbackError}
-use Rattle.uart_spec.specs.Access.{Access, Write}
+use Rattle.uart_spec.specs.declared.access.Access.{Access}
+use Rattle.uart_spec.specs.declared.access.Access.TheVariants.{Write}
 use Rattle.uart_16550.specs.Grammar.{Settings, Only, Then}
 use Rattle.uart_16550.specs.Receive.{Awaits}
 use Rattle.uart_16550.specs.Transmit.{Round}

@@ -2,7 +2,8 @@
 use Rattle.std.proofs.Common.{◌≡◌, ℕ, List, [], ◌∷◌, ◌++◌, refl, subst, arith, bit_and, bit_or}
 use Rattle.std.proofs.lemmas.Nat.Bits.{same_from_bits, bit_at_or, bit_at_and}
 use lib.Bits.{or_zero_r}
-use Rattle.uart_spec.specs.Access.{Access, Path, saved_of, saved}
+use Rattle.uart_spec.specs.Access.{Path, saved_of, saved}
+use Rattle.uart_spec.specs.declared.access.Access.{Access}
 
 pub or_assoc : (a b c : ℕ) → bit_or (bit_or a b) c ≡ bit_or a (bit_or b c)
 or_assoc a b c =

@@ -4,7 +4,7 @@ use Rattle.std.proofs.Common.{length-append, length-take, length-drop, append-ni
 use Rattle.std.proofs.lemmas.List.{take-append-le, take-append-drop, drop-append-le, drop-drop, length-take-le, take-take}
 use Rattle.std.proofs.Math.Seq.{take-append-add, drop-append-add, take-add}
 use borrow.Rule.Slice.PartMut.{mid_of, post_of, put_mid, put_same}
-use Rattle.uart_spec.specs.Access.{Access}
+use Rattle.uart_spec.specs.declared.access.Access.{Access}
 use Rattle.uart_16550.specs.Grammar.{Language, Settings, Then, InOrder}
 use Rattle.uart_16550.specs.Receive.{Awaited, ReceivesExact}
 use Rattle.uart_16550.specs.Transmit.{IsCut, burst_size, Round, SendsExact}

@@ -1,7 +1,8 @@
 -- What a tape shows of the calls over it.
 use Rattle.std.proofs.Common.{◌≡◌, Bool, true, false, ◌&&◌, List, [], ◌∷◌, ◌++◌, refl, sym, ◌∙◌, ap, append_assoc, append-nil, nat_lt}
 use Rattle.std.proofs.Common.{length}
-use Rattle.uart_spec.specs.Access.{Access, Path}
+use Rattle.uart_spec.specs.Access.{Path}
+use Rattle.uart_spec.specs.declared.access.Access.{Access}
 use Rattle.uart_16550.specs.Grammar.{Language}
 use Rattle.uart_16550.specs.Driver.{Made, Did, Doing, Saving}
 use Rattle.uart_16550.specs.declared.replay.TheConstants.{REPLAY_ROOM}

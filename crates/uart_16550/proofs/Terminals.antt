@@ -5,7 +5,7 @@ use Rattle.uart_spec.specs.declared.config.TheConstants.Config.{DEFAULT}
 use Rattle.uart_spec.specs.declared.errors.InvalidAddressError.{InvalidAddressError}
 use Rattle.uart_spec.specs.declared.errors.Uart16550TtyError.{Uart16550TtyError}
 use Rattle.uart_spec.specs.declared.errors.Uart16550TtyError.TheVariants.{AddressError, InitError, TestError}
-use Rattle.uart_spec.specs.Access.{Access}
+use Rattle.uart_spec.specs.declared.access.Access.{Access}
 use Rattle.uart_16550.specs.Driver.{IsFresh, backend_of}
 use Rattle.uart_16550.specs.Tty.{IsStarted, BuildsTerminalAt}
 use Rattle.uart_16550.specs.declared.driver.Uart16550.{Uart16550}

@@ -3,7 +3,7 @@ use Rattle.std.proofs.Common.{◌≡◌, ◌+◌, ◌<◌, ◌≤◌, ℕ, List,
 use Rattle.std.proofs.Common.{append-nil, arith, length-append, min, ◌-◌, ◌^◌, Err}
 use Rattle.std.proofs.lemmas.List.{take_more, take-append-le, take-append-drop}
 use Rattle.std.proofs.Math.Seq.{take-append-add}
-use Rattle.uart_spec.specs.Access.{Access}
+use Rattle.uart_spec.specs.declared.access.Access.{Access}
 use Rattle.uart_16550.specs.Grammar.{Settings, Then}
 use Rattle.uart_16550.specs.Transmit.{Round}
 use Rattle.uart_16550.specs.Expansion.{expansion, expansion_of, SendsEach, SendsBeginning, SendsText}

@@ -3,7 +3,8 @@ use Rattle.std.specs.Prelude.{◌≡◌, ℕ, Bool, true, List, [], ◌++◌}
 use Rattle.std.specs.Int.RustNames.{bit_or}
 use Rattle.std.specs.Int.NonZero.{non_zero_u64_get}
 use Rattle.uart_spec.specs.declared.config.Config.{Config}
-use Rattle.uart_spec.specs.Access.{Access, Path, saved_lsr, saved_msr}
+use Rattle.uart_spec.specs.Access.{Path, saved_lsr, saved_msr}
+use Rattle.uart_spec.specs.declared.access.Access.{Access}
 use Rattle.uart_16550.specs.Grammar.{Language, Settings}
 use Rattle.uart_16550.specs.declared.driver.TheConstants.{DEFAULT_SPIN_LIMIT}
 use Rattle.uart_16550.specs.declared.driver.Uart16550.{Uart16550}

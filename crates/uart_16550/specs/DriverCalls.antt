@@ -10,7 +10,7 @@ use Rattle.uart_spec.specs.declared.errors.LoopbackError.{LoopbackError}
 use Rattle.uart_spec.specs.declared.errors.RemoteReadyToReceiveError.{RemoteReadyToReceiveError}
 use Rattle.uart_spec.specs.declared.errors.StalledError.{StalledError}
 use Rattle.uart_spec.specs.declared.errors.Uart16550TtyError.{Uart16550TtyError}
-use Rattle.uart_spec.specs.Access.{Read}
+use Rattle.uart_spec.specs.declared.access.Access.TheVariants.{Read}
 use Rattle.uart_16550.specs.Grammar.{Language, Only}
 use Rattle.uart_16550.specs.Driver.{Doing, Sets, with_limit}
 use Rattle.uart_16550.specs.Receive.{ReadyToReceive, TryReceive}

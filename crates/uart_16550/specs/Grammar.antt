@@ -1,7 +1,8 @@
 -- Languages of register accesses: the lists that a call may make.
 use Rattle.std.specs.Prelude.{◌≡◌, ◌<◌, ℕ, Bool, List, [], ◌∷◌, ◌++◌, MatchBool, zero, suc}
 use Rattle.uart_spec.specs.Bits.{has}
-use Rattle.uart_spec.specs.Access.{Access, Read}
+use Rattle.uart_spec.specs.declared.access.Access.{Access}
+use Rattle.uart_spec.specs.declared.access.Access.TheVariants.{Read}
 
 -- what the lists of a call depend on: whether CTS is checked before sending, whether the FIFO is on, and the spin
 -- limit

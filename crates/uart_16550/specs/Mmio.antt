@@ -7,7 +7,7 @@ use Rattle.std.specs.declared.num.NonZeroU8.{NonZeroU8}
 use Rattle.uart_spec.specs.declared.errors.InvalidAddressError.{InvalidAddressError}
 use Rattle.uart_spec.specs.declared.errors.InvalidAddressError.TheVariants.{InvalidBaseAddress, InvalidStride}
 use Rattle.uart_spec.specs.declared.registers.offsets.TheConstants as offsets
-use Rattle.uart_spec.specs.Access.{Access}
+use Rattle.uart_spec.specs.declared.access.Access.{Access}
 use Rattle.uart_16550.specs.Backend.{access_at}
 
 -- the address of the first register, the distance between two registers in bytes, and the object that accesses the

@@ -1,18 +1,13 @@
 -- A backend that plays back answers and keeps the accesses, and what it shows about a call.
 use Rattle.std.specs.Prelude.{◌≡◌, ℕ, Bool, true, ◌&&◌, List, [], ◌∷◌, ◌++◌, nat_lt, length}
-use Rattle.uart_spec.specs.Access.{Access, Path, Read, Write}
+use Rattle.uart_spec.specs.Access.{Path}
+use Rattle.uart_spec.specs.declared.access.Access.{Access}
+use Rattle.uart_spec.specs.declared.access.Access.TheVariants.{Read, Write}
 use Rattle.uart_16550.specs.Grammar.{Language}
 use Rattle.uart_16550.specs.Driver.{Did, Doing, Made, fields}
 use Rattle.uart_16550.specs.Choice.{answers}
 use Rattle.uart_16550.specs.declared.driver.Uart16550.{Uart16550}
 use Rattle.uart_16550.specs.declared.replay.TheConstants.{REPLAY_ROOM}
-use Rattle.uart_16550.specs.declared.replay.Entry.{Entry}
-use Rattle.uart_16550.specs.declared.replay.Entry.TheVariants.{Read as ReadEntry, Write as WriteEntry}
-
--- the access that an entry of a replay names
-abbrev pub access_of : Entry → Access
-access_of (ReadEntry offset answer) = Read offset answer
-access_of (WriteEntry offset value) = Write offset value
 
 -- the answers that are left, the accesses that were made, and whether all of them were kept
 pub record Tape : Type 0 where

@@ -5,7 +5,7 @@ use Rattle.uart_spec.specs.declared.config.TheConstants.Config.{DEFAULT}
 use Rattle.uart_spec.specs.declared.errors.InvalidAddressError.{InvalidAddressError}
 use Rattle.uart_spec.specs.declared.errors.Uart16550TtyError.{Uart16550TtyError}
 use Rattle.uart_spec.specs.declared.errors.Uart16550TtyError.TheVariants.{AddressError, InitError, TestError}
-use Rattle.uart_spec.specs.Access.{Access}
+use Rattle.uart_spec.specs.declared.access.Access.{Access}
 use Rattle.uart_16550.specs.Grammar.{Language}
 use Rattle.uart_16550.specs.Driver.{Made, Did, Doing, Next, IsFresh}
 use Rattle.uart_16550.specs.Init.{Inits}

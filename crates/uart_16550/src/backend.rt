@@ -1,5 +1,6 @@
 //! How a driver reads and writes the registers of its device.
-ghost use Rattle.uart_spec.specs.Access.{Access, Read, Write};
+ghost use Rattle.uart_spec.specs.declared.access.Access.{Access};
+ghost use Rattle.uart_spec.specs.declared.access.Access.TheVariants.{Read, Write};
 
 pub use crate::mmio::MmioBackend;
 pub use crate::pio::PioBackend;

@@ -5,52 +5,34 @@
 //! make: over any other backend, a call with the same fields whose reads return the same bytes
 //! makes the same accesses ([`replays_repeat_calls`](crate::laws::replays_repeat_calls)).
 ghost use Rattle.std.specs.Prelude.{◌≡◌, true, false, ◌&&◌, [], ◌∷◌, ◌++◌};
-ghost use Rattle.std.specs.Prelude.{nat_lt, length, map, IfSome, IsNone};
-ghost use Rattle.uart_spec.specs.Access.{Read};
-ghost use Rattle.uart_16550.specs.Replay.{Plays, TapesShow, access_of};
+ghost use Rattle.std.specs.Prelude.{nat_lt, length, IfSome, IsNone};
+ghost use Rattle.uart_16550.specs.Replay.{Plays, TapesShow};
 
 use crate::backend::Backend;
 use arrayvec::ArrayVec;
 use std::marker::Model;
+use uart_spec::access::Access;
 
 /// The number of accesses that a `Replay` keeps.
 pub const REPLAY_ROOM: usize = 512;
-
-/// One access: the offset of the register, and the byte that was read or written.
-#[derive(Clone, Copy, Debug, PartialEq, Eq)]
-pub enum Entry {
-    /// A read of the register at this offset, which returned this byte.
-    Read(usize, u8),
-    /// A write of this byte to the register at this offset.
-    Write(usize, u8),
-}
-
-impl Default for Entry {
-    ghost is_default = { λ entry. access_of entry ≡ Read 0 0 };
-
-    fn default() -> Self {
-        Entry::Read(0, 0)
-    }
-}
 
 /// A backend whose reads return the bytes of a list in turn, and then 0, whatever the register. It
 /// keeps the accesses until there is no more room.
 #[derive(Drop)]
 pub struct Replay<'a> {
     answers: &'a [u8],
-    accesses: ArrayVec<Entry, REPLAY_ROOM>,
+    accesses: ArrayVec<Access, REPLAY_ROOM>,
     is_whole: bool,
 }
 
 impl<'a> Model for Replay<'a> {
-    ghost use Rattle.std.specs.Prelude.{map};
-    ghost use Rattle.uart_16550.specs.Replay.{Tape, access_of};
+    ghost use Rattle.uart_16550.specs.Replay.{Tape};
 
     ghost Value = { Tape };
 
     ghost view = { λ r. record {
       answers = r.answers.now;
-      made = map access_of r.accesses.items;
+      made = r.accesses.items;
       whole = r.is_whole;
     } };
 }
@@ -74,9 +56,9 @@ impl<'a> Replay<'a> {
     }
 
     /// Returns the accesses that were made, or `None` if there were more than `REPLAY_ROOM`.
-    pub fn accesses(&self) -> Option<&[Entry]>
+    pub fn accesses(&self) -> Option<&[Access]>
         ensures some { IfSome result (λ accesses. (self.now.whole ≡ true)
-            × (self.now.made ≡ map access_of accesses.now)) }
+            × (self.now.made ≡ accesses.now)) }
         ensures none { IsNone result → self.now.whole ≡ false }
     {
         if self.is_whole {
@@ -87,14 +69,14 @@ impl<'a> Replay<'a> {
     }
 
     // Keeps an access.
-    fn keep(&mut self, entry: Entry)
+    fn keep(&mut self, access: Access)
         ensures answers { self.new.answers ≡ self.old.answers }
         ensures whole { self.new.whole ≡
             (self.old.whole && nat_lt (length self.old.made) REPLAY_ROOM) }
         ensures made { self.new.whole ≡ true →
-            self.new.made ≡ self.old.made ++ access_of entry ∷ [] }
+            self.new.made ≡ self.old.made ++ access ∷ [] }
     {
-        if self.accesses.try_push(entry).is_err() {
+        if self.accesses.try_push(access).is_err() {
             self.is_whole = false;
         }
     }
@@ -111,12 +93,12 @@ impl Backend for Replay<'_> {
             }
             [] => 0,
         };
-        self.keep(Entry::Read(register_offset as usize, answer));
+        self.keep(Access::Read(register_offset as usize, answer));
         answer
     }
 
     fn write(&mut self, register_offset: u8, value: u8) {
-        self.keep(Entry::Write(register_offset as usize, value));
+        self.keep(Access::Write(register_offset as usize, value));
     }
 }
 

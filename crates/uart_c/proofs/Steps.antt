@@ -1,6 +1,6 @@
 -- A list of a call, of equal fields and accesses.
 use Rattle.std.proofs.Common.{◌≡◌, List, subst}
-use Rattle.uart_spec.specs.Access.{Access}
+use Rattle.uart_spec.specs.declared.access.Access.{Access}
 use Rattle.uart_16550.specs.Driver.{Fields}
 use Rattle.uart_spec.specs.declared.call.Call.{Call}
 use Rattle.uart_calls.specs.Lists.{Makes}

@@ -12,7 +12,8 @@ use Rattle.uart_spec.specs.declared.call.Call.TheVariants as call
 use Rattle.uart_spec.specs.declared.call.TheConstants.{CALL_BYTES}
 use Rattle.uart_spec.specs.declared.call.Answer.{Answer}
 use Rattle.uart_spec.specs.declared.call.Answer.TheVariants as answer
-use Rattle.uart_spec.specs.Access.{Access, Read, Write}
+use Rattle.uart_spec.specs.declared.access.Access.{Access}
+use Rattle.uart_spec.specs.declared.access.Access.TheVariants.{Read, Write}
 use Rattle.uart_spec.specs.Bits.{flag}
 use Rattle.uart_spec.specs.declared.errors.ByteSendError.{ByteSendError}
 use Rattle.uart_spec.specs.declared.errors.ByteSendError.TheVariants as send_error

@@ -4,8 +4,8 @@ ghost use Rattle.uart_c.specs.Calls as spec;
 ghost use Rattle.uart_c.specs.Calls.{request_of};
 
 use crate::queue::is_on;
-use uart_16550::replay::Entry;
 use uart_calls::{Recorded, Request};
+use uart_spec::access::Access;
 
 /// An access: what was read or written.
 #[repr(C)]
@@ -21,11 +21,11 @@ impl Recorded for UartAccess {
 
     ghost access = { access_of };
 
-    fn entry(self) -> Entry {
+    fn to_access(self) -> Access {
         if is_on(self.is_write) {
-            Entry::Write(self.offset, self.value)
+            Access::Write(self.offset, self.value)
         } else {
-            Entry::Read(self.offset, self.value)
+            Access::Read(self.offset, self.value)
         }
     }
 }

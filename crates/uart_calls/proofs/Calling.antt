@@ -1,6 +1,6 @@
 -- Calls that make no access.
 use Rattle.std.proofs.Common.{◌≡◌, Bool, [], refl}
-use Rattle.uart_spec.specs.Access.{Access}
+use Rattle.uart_spec.specs.declared.access.Access.{Access}
 use Rattle.uart_16550.specs.Driver.{fields}
 use Rattle.uart_16550.specs.declared.driver.Uart16550.{Uart16550}
 use Rattle.uart_spec.specs.declared.call.Answer.TheVariants.{Done, Flag}

@@ -1,8 +1,8 @@
 -- What a call over a tape says of the call's lists.
 use Rattle.std.proofs.Common.{◌≡◌, ◌⊎◌, ℕ, List, [], ◌∷◌, ◌++◌, Some, None, inl, inr, refl, subst, ap, sym, ◌∙◌}
-use Rattle.std.proofs.Common.{◌<◌, ◌≤◌, ◌-◌, length, arith, append-nil}
-use Rattle.std.proofs.lemmas.List.{length-append}
-use Rattle.uart_spec.specs.Access.{Access}
+use Rattle.std.proofs.Common.{◌<◌, ◌≤◌, ◌-◌, length, map, arith, append-nil}
+use Rattle.std.proofs.lemmas.List.{length-append, map-id}
+use Rattle.uart_spec.specs.declared.access.Access.{Access}
 use Rattle.uart_16550.specs.Choice.{PartAtRead}
 use Rattle.uart_16550.specs.Driver.{Did, Fields, fields}
 use Rattle.uart_16550.specs.State.{fields_of}
@@ -160,3 +160,7 @@ pub never_on : (call : Call) → IsRunnable call → (f after : Fields) (list : 
 never_on call ok f after list answer request p (access, back, asks, goes) =
     never_longer list access back
     (alike call ok f after goes.after list (list ++ access ∷ back) p.outcome goes.makes.outcome p.does goes.makes.does)
+
+-- a list of accesses is the list that it holds
+pub same_accesses : (l : List Access) → map (λ (access : Access). access) l ≡ l
+same_accesses l = map-id l

@@ -1,7 +1,9 @@
 -- What a path over a tape says of its list.
 use Rattle.std.proofs.Common.{◌≡◌, ◌⊎◌, ℕ, suc, ◌≤◌, List, [], ◌∷◌, ◌++◌, Some, None, inl, inr, refl, subst, ap, sym, ◌∙◌}
 use Rattle.std.proofs.Common.{length, arith}
-use Rattle.uart_spec.specs.Access.{Access, Path, Read}
+use Rattle.uart_spec.specs.Access.{Path}
+use Rattle.uart_spec.specs.declared.access.Access.{Access}
+use Rattle.uart_spec.specs.declared.access.Access.TheVariants.{Read}
 use Rattle.uart_16550.specs.Choice.{PartAtRead}
 use Rattle.uart_calls.specs.Tape.{Tape, GoesOnBy, Plays, first_of, request_of}
 use Rattle.uart_calls.specs.declared.tape.Request.{Request}

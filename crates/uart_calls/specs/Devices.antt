@@ -6,7 +6,8 @@ use Rattle.uart_spec.specs.declared.registers.offsets.TheConstants as offsets
 use Rattle.uart_spec.specs.declared.registers.fifo_control.TheConstants.FCR
 use Rattle.uart_spec.specs.declared.registers.interrupt_status.TheConstants.ISR
 use Rattle.uart_spec.specs.declared.registers.line_control.TheConstants.LCR
-use Rattle.uart_spec.specs.Access.{Access, Read, Write}
+use Rattle.uart_spec.specs.declared.access.Access.{Access}
+use Rattle.uart_spec.specs.declared.access.Access.TheVariants.{Read, Write}
 
 -- a read returns this byte, whatever the register
 abbrev pub AnswersAlways : ℕ → Access → Type 0

@@ -1,6 +1,6 @@
 -- The lists of a call, from a driver's fields.
 use Rattle.std.specs.Prelude.{◌≡◌, ◌<◌, List, ◌∷◌, ◌++◌, length}
-use Rattle.uart_spec.specs.Access.{Access}
+use Rattle.uart_spec.specs.declared.access.Access.{Access}
 use Rattle.uart_16550.specs.Driver.{Fields}
 use Rattle.uart_16550.specs.State.{fields_of}
 use Rattle.uart_spec.specs.declared.call.Call.{Call}

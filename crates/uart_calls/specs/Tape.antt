@@ -1,6 +1,7 @@
 -- A recorded list that is played back, access by access.
 use Rattle.std.specs.Prelude.{◌≡◌, ◌⊎◌, ℕ, List, [], ◌∷◌, Option, Some, None}
-use Rattle.uart_spec.specs.Access.{Access, Read, Write}
+use Rattle.uart_spec.specs.declared.access.Access.{Access}
+use Rattle.uart_spec.specs.declared.access.Access.TheVariants.{Read, Write}
 use Rattle.uart_calls.specs.declared.tape.Request.{Request}
 use Rattle.uart_calls.specs.declared.tape.Request.TheVariants as request
 

@@ -1,29 +1,28 @@
 //! A backend that plays a recorded list back, access by access.
 ghost use Rattle.std.specs.Prelude.{◌≡◌, Some, None, map, length};
-ghost use Rattle.uart_16550.specs.Replay.{access_of};
-ghost use Rattle.uart_spec.specs.Access.{Access};
+ghost use Rattle.uart_spec.specs.declared.access.Access.{Access};
 ghost use Rattle.uart_calls.specs.Tape.{Plays, answered, first_of, request_of};
 
 use bitflags::Flags;
 use std::marker::Model;
 use uart_16550::backend::Backend;
-use uart_16550::replay::Entry;
+use uart_spec::access::Access;
 use uart_spec::registers::{LSR, MSR, offsets};
 
-/// An access as its owner keeps it: [`Entry`], or a struct of another language.
+/// An access as its owner keeps it: [`Access`], or a struct of another language.
 pub trait Recorded: Copy {
     // The access that this value is.
     ghost access: { Self → Access };
 
-    /// Returns the access as an entry of a list.
-    fn entry(self) -> Entry
-        ensures { access_of result ≡ access self };
+    /// Returns the access.
+    fn to_access(self) -> Access
+        ensures { result ≡ access self };
 }
 
-impl Recorded for Entry {
-    ghost access = { access_of };
+impl Recorded for Access {
+    ghost access = { λ access. access };
 
-    fn entry(self) -> Entry {
+    fn to_access(self) -> Access {
         self
     }
 }
@@ -60,32 +59,32 @@ impl<'a, R: Recorded> Model for Tape<'a, R> {
 }
 
 // Returns the request of this access.
-fn request_of(entry: Entry) -> Request
-    ensures { result ≡ request_of (access_of entry) }
+fn request_of(access: Access) -> Request
+    ensures { result ≡ request_of access }
 {
-    match entry {
-        Entry::Read(offset, _) => Request::Read(offset),
-        Entry::Write(offset, value) => Request::Write(offset, value),
+    match access {
+        Access::Read(offset, _) => Request::Read(offset),
+        Access::Write(offset, value) => Request::Write(offset, value),
     }
 }
 
 // Returns the byte that was read or written.
-fn byte_of(entry: Entry) -> u8
-    ensures { access_of entry ≡ answered (request_of (access_of entry)) result }
+fn byte_of(access: Access) -> u8
+    ensures { access ≡ answered (request_of access) result }
 {
-    match entry {
-        Entry::Read(_, answer) => answer,
-        Entry::Write(_, value) => value,
+    match access {
+        Access::Read(_, answer) => answer,
+        Access::Write(_, value) => value,
     }
 }
 
 impl<'a, R: Recorded> Tape<'a, R> {
     /// Returns a tape that plays this list, from its first access on.
-    pub fn new(entries: &'a [R]) -> Self
-        ensures { result ≡ record { left = map R.access entries.now; asked = None } }
+    pub fn new(accesses: &'a [R]) -> Self
+        ensures { result ≡ record { left = map R.access accesses.now; asked = None } }
     {
         Tape {
-            left: entries,
+            left: accesses,
             asked: None,
             filler: LSR::THR_EMPTY.bits() | LSR::TRANSMITTER_EMPTY.bits() | MSR::CTS.bits(),
         }
@@ -126,9 +125,9 @@ impl<'a, R: Recorded> Tape<'a, R> {
         ensures { Plays self.old (answered request result) self.new }
     {
         match self.left {
-            [next, rest @ ..] if self.asked.is_none() && request_of(next.entry()) == request => {
+            [one, rest @ ..] if self.asked.is_none() && request_of(one.to_access()) == request => {
                 self.left = rest;
-                byte_of(next.entry())
+                byte_of(one.to_access())
             }
             _ => self.stray(request),
         }

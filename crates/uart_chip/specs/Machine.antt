@@ -3,7 +3,8 @@ use Rattle.std.specs.Prelude.{◌≡◌, ℕ, ◌+◌, Bool, List, [], ◌∷◌
 use Rattle.uart_spec.specs.declared.event.Chip.{Chip}
 use Rattle.uart_spec.specs.declared.event.Event.{Event}
 use Rattle.uart_spec.specs.declared.event.Event.TheVariants.{Ticks, Arrive, Lines, Access as Gate, Mark}
-use Rattle.uart_spec.specs.Access.{Access, Read, Write}
+use Rattle.uart_spec.specs.declared.access.Access.{Access}
+use Rattle.uart_spec.specs.declared.access.Access.TheVariants.{Read, Write}
 use Rattle.uart_chip.specs.Chip as chip
 use Rattle.uart_chip.specs.Chip.{ChipState, tick, ticks, arrive, change_lines, answer, after_read, after_write}
 

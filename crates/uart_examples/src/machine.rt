@@ -6,11 +6,11 @@
 
 use bitflags::Flags;
 use std::alloc::{AllocError, Global};
-use uart_16550::replay::Entry;
-use uart_judges::traces::{TraceError, parse, push_entry};
+use uart_judges::traces::{TraceError, parse, push_access};
 use uart_language::byte_in;
 use uart_live::{Chip, LiveChip, WIRE_ROOM};
 use uart_spec::FIFO_SIZE;
+use uart_spec::access::Access;
 use uart_spec::registers::{LSR, MSR, offsets};
 
 // A character takes one tick.
@@ -74,15 +74,15 @@ impl<'a> Machine<'a> {
     }
 
     // Makes an access, and returns it with what a read returned.
-    fn make(&mut self, line: usize, entry: Entry) -> Entry {
+    fn make(&mut self, line: usize, access: Access) -> Access {
         self.chip.ticks(MOST_HELD * CHAR_TICKS);
         self.chip.take_wire(WIRE_ROOM);
         self.arrive(line);
-        match entry {
-            Entry::Read(offset, _) => Entry::Read(offset, self.chip.read((offset % 8) as u8)),
-            Entry::Write(offset, value) => {
+        match access {
+            Access::Read(offset, _) => Access::Read(offset, self.chip.read((offset % 8) as u8)),
+            Access::Write(offset, value) => {
                 self.chip.write((offset % 8) as u8, value);
-                entry
+                access
             }
         }
     }
@@ -93,16 +93,16 @@ fn push_difference(
     alloc: Global,
     out: &mut Vec<u8>,
     line: usize,
-    recorded: Entry,
-    made: Entry,
+    recorded: Access,
+    made: Access,
 ) -> Result<(), AllocError> {
     let number = line.to_string(alloc)?;
     out.extend_from_slice(b"line ")?;
     out.extend_from_slice(number.as_bytes())?;
     out.extend_from_slice(b": '")?;
-    push_entry(out, recorded)?;
+    push_access(out, recorded)?;
     out.extend_from_slice(b"', on the machine '")?;
-    push_entry(out, made)?;
+    push_access(out, made)?;
     out.extend_from_slice(b"'\n")
 }
 
@@ -117,10 +117,10 @@ pub fn differences(alloc: Global, bytes: &[u8]) -> Result<Vec<u8>, TraceError> {
     let mut machine = Machine::new(&arrivals);
     let mut lines = Vec::new(alloc);
     for exchange in &trace {
-        for (entry, line) in exchange.accesses.iter().zip(exchange.access_lines.iter()) {
-            let made = machine.make(*line, *entry);
-            if made != *entry {
-                push_difference(alloc, &mut lines, *line, *entry, made)?;
+        for (access, line) in exchange.accesses.iter().zip(exchange.access_lines.iter()) {
+            let made = machine.make(*line, *access);
+            if made != *access {
+                push_difference(alloc, &mut lines, *line, *access, made)?;
             }
         }
     }

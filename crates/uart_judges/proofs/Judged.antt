@@ -1,11 +1,10 @@
 -- What the calls of a trace leave for the calls after them.
-use Rattle.std.proofs.Common.{◌≡◌, ◌⊎◌, ℕ, Bool, true, false, List, ◌∷◌, inl, inr, subst, ap, sym, ◌∙◌, map}
+use Rattle.std.proofs.Common.{◌≡◌, ◌⊎◌, ℕ, Bool, true, false, List, ◌∷◌, inl, inr, subst, ap, sym, ◌∙◌}
 use Rattle.std.proofs.lemmas.List.{append_cancel_left}
-use Rattle.uart_spec.specs.Access.{Access, Read}
+use Rattle.uart_spec.specs.declared.access.Access.{Access}
+use Rattle.uart_spec.specs.declared.access.Access.TheVariants.{Read}
 use Rattle.uart_16550.specs.Choice.{PartAtRead}
 use Rattle.uart_16550.specs.Driver.{Fields}
-use Rattle.uart_16550.specs.Replay.{access_of}
-use Rattle.uart_16550.specs.declared.replay.Entry.{Entry}
 use Rattle.uart_language.specs.Output.{answer_text}
 use Rattle.uart_spec.specs.declared.call.Call.{Call}
 use Rattle.uart_spec.specs.declared.call.Answer.{Answer}
@@ -67,12 +66,12 @@ no_call limit f before x xs is none all =
     let E : Fields → Type 0 = λ g. IsExchange x g all.0 in none all.0 (subst E (sym is) all.1)
 
 -- two answers for one list are printed the same
-pub not_printed : (call : Call) → IsRunnable call → (f after other : Fields) (entries recorded : List Entry) (a b : Answer)
-    (text printed : List ℕ) → entries ≡ recorded → text ≡ printed → IsListOf call f (map access_of entries) a after →
-    IsListOf call f (map access_of recorded) b other → answer_text b ≡ printed → answer_text a ≡ text
-not_printed call ok f after other entries recorded a b text printed same same_text p q is =
-    let L : List Entry → Type 0 = λ l. IsListOf call f (map access_of l) b other in
-    let one = one_return call ok f after other (map access_of entries) a b p (subst L (sym same) q) in
+pub not_printed : (call : Call) → IsRunnable call → (f after other : Fields) (accesses recorded : List Access) (a b : Answer)
+    (text printed : List ℕ) → accesses ≡ recorded → text ≡ printed → IsListOf call f accesses a after →
+    IsListOf call f recorded b other → answer_text b ≡ printed → answer_text a ≡ text
+not_printed call ok f after other accesses recorded a b text printed same same_text p q is =
+    let L : List Access → Type 0 = λ l. IsListOf call f l b other in
+    let one = one_return call ok f after other accesses a b p (subst L (sym same) q) in
     ap answer_text one.0 ∙ is ∙ sym same_text
 
 pub not_true : {A : Type 0} {b : Bool} → b ≡ false → b ≡ true → A
@@ -113,7 +112,7 @@ one_less limit f g before after x xs left all so_far whole is made =
 pub stray_here : (limit : ℕ) (f g before : Fields) (x : Exchange) (xs left all : List Exchange) (stray : Stray) →
     LeavesOpen limit f all g left → left ≡ x ∷ xs → before ≡ fields_before limit x g → stray.exchange.now ≡ x →
     ((fields : Fields) → IsExchange x before fields → ⊥) →
-    IsFollowed x.call before (map access_of x.accesses.items) (record { kept = stray.kept; turn = stray.turn }) →
+    IsFollowed x.call before x.accesses.items (record { kept = stray.kept; turn = stray.turn }) →
     IsStray limit f all stray
 stray_here limit f g before x xs left all stray so_far whole is same none first =
     let H : Fields → Type 0 = λ b. StraysHere b x stray in

@@ -3,7 +3,7 @@ use Rattle.std.proofs.Common.{◌≡◌, ◌∙◌, ◌+◌, ℕ, Bool, true, fa
 use Rattle.std.proofs.Common.{filter}
 use Rattle.std.specs.Prelude.{if◌then◌else◌}
 use Rattle.std.specs.List.{list_any}
-use Rattle.uart_spec.specs.Access.{Access}
+use Rattle.uart_spec.specs.declared.access.Access.{Access}
 use Rattle.uart_judges.specs.Actions.{action}
 use Rattle.uart_judges.specs.Shows.{looks_at_line, opens, sends, sets_low, shows_idle, shows_room}
 use Rattle.uart_judges.specs.History.{actions, capped, has_dlab, known, sent, since}

@@ -3,7 +3,7 @@ use Rattle.std.proofs.Common.{◌≡◌, ℕ, ◌+◌, Bool, true, false, List, 
 use Rattle.std.proofs.Common.{Option, Some, None, Ok, Err, refl, sym, subst, ap, ◌∙◌}
 use Rattle.std.proofs.Common.{append_assoc, append-nil, arith, eqb, length}
 use Rattle.std.proofs.lemmas.Bool.{eqb-true}
-use Rattle.uart_16550.specs.declared.replay.Entry.{Entry}
+use Rattle.uart_spec.specs.declared.access.Access.{Access}
 use Rattle.uart_spec.specs.declared.call.Call.{Call}
 use Rattle.uart_language.specs.Sayings.{plain}
 use Rattle.uart_language.specs.Text.{lines_of}
@@ -47,16 +47,16 @@ same_fault found other e same r = subst (λ (x : Option Faulty). Refuses x e) (s
 
 -- ---- what follows a call
 
-pub record BodySoFar (call : ℕ) (all : List (List ℕ)) (entries : List Entry) (numbers : List ℕ) (n : ℕ)
+pub record BodySoFar (call : ℕ) (all : List (List ℕ)) (entries : List Access) (numbers : List ℕ) (n : ℕ)
     (lines : List (List ℕ)) : Type 0 where
-  pub goes : (es : List Entry) (ns answer : List ℕ) (last : ℕ) (left : List (List ℕ)) → Goes n lines es ns answer last left →
+  pub goes : (es : List Access) (ns answer : List ℕ) (last : ℕ) (left : List (List ℕ)) → Goes n lines es ns answer last left →
       Goes call all (entries ++ es) (numbers ++ ns) answer last left
   pub fault : first_fault call (Some call) all ≡ first_fault n (Some call) lines
 
 pub body_begins : (call : ℕ) (all : List (List ℕ)) → BodySoFar call all [] [] call all
 body_begins call all = record { goes = λ es ns answer last left g. g; fault = refl }
 
-pub body_blank : {call : ℕ} {all : List (List ℕ)} {entries : List Entry} {numbers : List ℕ} {n : ℕ} {lines left : List (List ℕ)} →
+pub body_blank : {call : ℕ} {all : List (List ℕ)} {entries : List Access} {numbers : List ℕ} {n : ℕ} {lines left : List (List ℕ)} →
     BodySoFar call all entries numbers n lines → ReadsLine lines Nothing left → BodySoFar call all entries numbers (n + 1) left
 body_blank {call} {all} {entries} {numbers} {n} {lines} {left} s r = record {
   goes = λ es ns answer last after g.
@@ -65,37 +65,37 @@ body_blank {call} {all} {entries} {numbers} {n} {lines} {left} s r = record {
   fault = s.fault ∙ after_line n (Some call) lines Nothing left r;
 }
 
-pub body_access : {call : ℕ} {all : List (List ℕ)} {entries : List Entry} {numbers : List ℕ} {n : ℕ} {lines left : List (List ℕ)} →
-    (entry : Entry) → BodySoFar call all entries numbers n lines → ReadsLine lines (Makes entry) left →
-    BodySoFar call all (entries ++ entry ∷ []) (numbers ++ (n + 1) ∷ []) (n + 1) left
-body_access {call} {all} {entries} {numbers} {n} {lines} {left} entry s r = record {
+pub body_access : {call : ℕ} {all : List (List ℕ)} {entries : List Access} {numbers : List ℕ} {n : ℕ} {lines left : List (List ℕ)} →
+    (access : Access) → BodySoFar call all entries numbers n lines → ReadsLine lines (Makes access) left →
+    BodySoFar call all (entries ++ access ∷ []) (numbers ++ (n + 1) ∷ []) (n + 1) left
+body_access {call} {all} {entries} {numbers} {n} {lines} {left} access s r = record {
   goes = λ es ns answer last after g.
-      let G : List (List ℕ) → Type 0 = λ l. Goes n l (entry ∷ es) ((n + 1) ∷ ns) answer last after in
-      let E : List Entry → Type 0 = λ l. Goes call all l ((numbers ++ (n + 1) ∷ []) ++ ns) answer last after in
-      let N : List ℕ → Type 0 = λ l. Goes call all (entries ++ entry ∷ es) l answer last after in
-      subst E (sym (append_assoc entries (entry ∷ []) es))
+      let G : List (List ℕ) → Type 0 = λ l. Goes n l (access ∷ es) ((n + 1) ∷ ns) answer last after in
+      let E : List Access → Type 0 = λ l. Goes call all l ((numbers ++ (n + 1) ∷ []) ++ ns) answer last after in
+      let N : List ℕ → Type 0 = λ l. Goes call all (entries ++ access ∷ es) l answer last after in
+      subst E (sym (append_assoc entries (access ∷ []) es))
       (subst N (sym (append_assoc numbers ((n + 1) ∷ []) ns))
-      (s.goes (entry ∷ es) ((n + 1) ∷ ns) answer last after (subst G (sym r.first) (makes r.means g))));
-  fault = s.fault ∙ after_line n (Some call) lines (Makes entry) left r;
+      (s.goes (access ∷ es) ((n + 1) ∷ ns) answer last after (subst G (sym r.first) (makes r.means g))));
+  fault = s.fault ∙ after_line n (Some call) lines (Makes access) left r;
 }
 
-pub body_ends : {call : ℕ} {all : List (List ℕ)} {entries : List Entry} {numbers : List ℕ} {n : ℕ} {lines left : List (List ℕ)} →
+pub body_ends : {call : ℕ} {all : List (List ℕ)} {entries : List Access} {numbers : List ℕ} {n : ℕ} {lines left : List (List ℕ)} →
     (answer : List ℕ) → BodySoFar call all entries numbers n lines → ReadsLine lines (Returns answer) left →
     Goes call all entries numbers answer (n + 1) left
 body_ends {call} {all} {entries} {numbers} {n} {lines} {left} answer s r =
     let G : List (List ℕ) → Type 0 = λ l. Goes n l [] [] answer (n + 1) left in
-    let E : List Entry → Type 0 = λ l. Goes call all l numbers answer (n + 1) left in
+    let E : List Access → Type 0 = λ l. Goes call all l numbers answer (n + 1) left in
     let N : List ℕ → Type 0 = λ l. Goes call all (entries ++ []) l answer (n + 1) left in
     subst E (append-nil entries) (subst N (append-nil numbers)
     (s.goes [] [] answer (n + 1) left (subst G (sym r.first) (returns r.means))))
 
-pub body_ends_fault : {call : ℕ} {all : List (List ℕ)} {entries : List Entry} {numbers : List ℕ} {n : ℕ} {lines left : List (List ℕ)} →
+pub body_ends_fault : {call : ℕ} {all : List (List ℕ)} {entries : List Access} {numbers : List ℕ} {n : ℕ} {lines left : List (List ℕ)} →
     (answer : List ℕ) → BodySoFar call all entries numbers n lines → ReadsLine lines (Returns answer) left →
     first_fault call (Some call) all ≡ first_fault (n + 1) None left
 body_ends_fault {call} {n = n} {lines = lines} {left = left} answer s r = s.fault ∙ after_line n (Some call) lines (Returns answer) left r
 
 -- a call or a new driver before the answer
-pub body_broken : {call : ℕ} {all : List (List ℕ)} {entries : List Entry} {numbers : List ℕ} {n : ℕ} {lines left : List (List ℕ)} →
+pub body_broken : {call : ℕ} {all : List (List ℕ)} {entries : List Access} {numbers : List ℕ} {n : ℕ} {lines left : List (List ℕ)} →
     (said : Saying) → BodySoFar call all entries numbers n lines → ReadsLine lines said left →
     fault_at (n + 1) (Ok said) (Some call) ≡ Some (record { line = call; fault = NoAnswer }) →
     first_fault call (Some call) all ≡ Some (record { line = call; fault = NoAnswer })
@@ -107,7 +107,7 @@ no_lines : (n : ℕ) (waiting : Option ℕ) (lines : List (List ℕ)) → lines 
 unfolding first_fault
 no_lines n waiting lines is = rw is refl
 
-pub body_cut : {call : ℕ} {all : List (List ℕ)} {entries : List Entry} {numbers : List ℕ} {n : ℕ} {lines : List (List ℕ)} →
+pub body_cut : {call : ℕ} {all : List (List ℕ)} {entries : List Access} {numbers : List ℕ} {n : ℕ} {lines : List (List ℕ)} →
     BodySoFar call all entries numbers n lines → lines ≡ [] →
     first_fault call (Some call) all ≡ Some (record { line = call; fault = NoAnswer })
 body_cut {call} {n = n} {lines = lines} s is = s.fault ∙ no_lines n (Some call) lines is
@@ -189,7 +189,7 @@ empty_lines (b ∷ bytes) e = absurd (omega (arith, eqb-true _ _ (sym e)))
 read_as : (line : List ℕ) (lines : List (List ℕ)) (said : Saying) → says line ≡ Ok said → ReadsLine (line ∷ lines) said lines
 read_as line lines said is = record { line = line; first = refl; means = is }
 
-body_faultless : (call n : ℕ) (lines : List (List ℕ)) (es : List Entry) (ns answer : List ℕ) (last : ℕ) (left : List (List ℕ)) →
+body_faultless : (call n : ℕ) (lines : List (List ℕ)) (es : List Access) (ns answer : List ℕ) (last : ℕ) (left : List (List ℕ)) →
     Goes n lines es ns answer last left → first_fault n (Some call) lines ≡ first_fault last None left
 body_faultless call n [] es ns answer last left g = elim g [ ]
 body_faultless call n (line ∷ lines) es ns answer last left (skip is g) =

@@ -1,7 +1,7 @@
 -- What was seen at the port of a chip.
 use Rattle.std.specs.Prelude.{◌<◌, ⊤}
-use Rattle.uart_16550.specs.declared.replay.Entry.{Entry}
-use Rattle.uart_16550.specs.declared.replay.Entry.TheVariants as entry
+use Rattle.uart_spec.specs.declared.access.Access.{Access as RegisterAccess}
+use Rattle.uart_spec.specs.declared.access.Access.TheVariants.{Read, Write}
 use Rattle.uart_spec.specs.Bits.{IsWithin}
 use Rattle.uart_judges.specs.declared.recording.event.Event.{Event}
 use Rattle.uart_judges.specs.declared.recording.event.Happening.{Happening}
@@ -11,13 +11,13 @@ use Rattle.uart_spec.specs.declared.registers.line_status.TheConstants.LSR
 use Rattle.uart_spec.specs.declared.registers.modem_status.TheConstants.MSR
 
 -- the access is to one of the eight registers
-abbrev pub IsOfARegister : Entry → Type 0
-IsOfARegister (entry.Read offset answer) = offset < NUM_REGISTERS
-IsOfARegister (entry.Write offset value) = offset < NUM_REGISTERS
+abbrev pub IsOfARegister : RegisterAccess → Type 0
+IsOfARegister (Read offset answer) = offset < NUM_REGISTERS
+IsOfARegister (Write offset value) = offset < NUM_REGISTERS
 
 -- a chip can do this: the register exists, a character's errors are those of a character, the lines are modem inputs
 abbrev pub IsHappening : Happening → Type 0
-IsHappening (Access entry) = IsOfARegister entry
+IsHappening (Access access) = IsOfARegister access
 IsHappening (Arrive byte errors) = IsWithin errors.0 LSR.CHARACTER_ERRORS.0
 IsHappening (Interrupt is_raised) = ⊤
 IsHappening (Lines inputs) = IsWithin inputs.0 MSR.LINES.0

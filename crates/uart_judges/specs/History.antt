@@ -4,7 +4,7 @@ use Rattle.std.specs.Prelude.{Option, Some, None, List, [], ◌∷◌, length, f
 use Rattle.std.specs.List.{list_any}
 use Rattle.std.specs.Option.{option_or}
 use Rattle.uart_chip.specs.Receiver.{characters_of}
-use Rattle.uart_spec.specs.Access.{Access}
+use Rattle.uart_spec.specs.declared.access.Access.{Access}
 use Rattle.uart_spec.specs.Bits.{has}
 use Rattle.uart_spec.specs.declared.baud.TheConstants.{FIFO_SIZE}
 use Rattle.uart_spec.specs.declared.registers.fifo_control.FCR.{FCR}

@@ -1,6 +1,6 @@
 -- What the next line of a recording says at its place.
 use Rattle.std.specs.Prelude.{◌≡◌, ℕ, ◌+◌, List, Option, Some, None, Result, Ok, Err, ⊤}
-use Rattle.uart_16550.specs.declared.replay.Entry.TheVariants as entry
+use Rattle.uart_spec.specs.declared.access.Access.TheVariants as access
 use Rattle.uart_judges.specs.RecordingLines.{says}
 use Rattle.uart_judges.specs.declared.recording.cause.Fault.{Fault}
 use Rattle.uart_judges.specs.declared.recording.cause.Fault.TheVariants.{NoReadBefore}
@@ -15,7 +15,7 @@ use Rattle.uart_judges.specs.declared.recording.place.Place.{Place}
 
 -- the event so many times more, at this line and without time and level, if what happened is a read
 abbrev pub repeated_as : Happening → Event → ℕ → ℕ → Option Event
-repeated_as (Access (entry.Read offset answer)) event number times =
+repeated_as (Access (access.Read offset answer)) event number times =
     Some (record { happening = event.happening; times = times; line = number; time = None; interrupt = None })
 repeated_as other event number times = None
 

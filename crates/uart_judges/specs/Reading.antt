@@ -1,6 +1,6 @@
 -- What the bytes of a trace mean, and the first fault of bytes that are no trace.
 use Rattle.std.specs.Prelude.{◌≡◌, ℕ, ◌+◌, Bool, true, false, List, [], ◌∷◌, Option, Some, None, Result, Ok, Err, ⊤}
-use Rattle.uart_16550.specs.declared.replay.Entry.{Entry}
+use Rattle.uart_spec.specs.declared.access.Access.{Access}
 use Rattle.uart_spec.specs.declared.call.Call.{Call}
 use Rattle.uart_language.specs.Sayings.{plain}
 use Rattle.uart_language.specs.Text.{lines_of}
@@ -15,15 +15,15 @@ use Rattle.uart_judges.specs.declared.traces.exchange.Exchange.{Exchange}
 
 -- What follows the line of a call: its accesses, each with the number of its line, and then its answer with that of its
 -- own. The first number is that of the line before; the lines after the answer are left.
-pub data Goes : ℕ → List (List ℕ) → List Entry → List ℕ → (answer : List ℕ) → (answer_line : ℕ) → List (List ℕ) →
+pub data Goes : ℕ → List (List ℕ) → List Access → List ℕ → (answer : List ℕ) → (answer_line : ℕ) → List (List ℕ) →
     Type 0 where
-  skip : {n : ℕ} {line : List ℕ} {lines : List (List ℕ)} {entries : List Entry} {numbers answer : List ℕ} {last : ℕ}
+  skip : {n : ℕ} {line : List ℕ} {lines : List (List ℕ)} {entries : List Access} {numbers answer : List ℕ} {last : ℕ}
       {left : List (List ℕ)} → says line ≡ Ok Nothing → Goes (n + 1) lines entries numbers answer last left
       → Goes n (line ∷ lines) entries numbers answer last left
-  makes : {n : ℕ} {line : List ℕ} {lines : List (List ℕ)} {entry : Entry} {entries : List Entry}
-      {numbers answer : List ℕ} {last : ℕ} {left : List (List ℕ)} → says line ≡ Ok (Makes entry)
+  makes : {n : ℕ} {line : List ℕ} {lines : List (List ℕ)} {access : Access} {entries : List Access}
+      {numbers answer : List ℕ} {last : ℕ} {left : List (List ℕ)} → says line ≡ Ok (Makes access)
       → Goes (n + 1) lines entries numbers answer last left
-      → Goes n (line ∷ lines) (entry ∷ entries) ((n + 1) ∷ numbers) answer last left
+      → Goes n (line ∷ lines) (access ∷ entries) ((n + 1) ∷ numbers) answer last left
   returns : {n : ℕ} {line answer : List ℕ} {left : List (List ℕ)} → says line ≡ Ok (Returns answer)
       → Goes n (line ∷ left) [] [] answer (n + 1) left
 
@@ -60,7 +60,7 @@ open_after number said waiting = waiting
 -- what is wrong with a line that means this, at its place: an access or an answer has no call before it, or the call
 -- before has no answer, and then that call is faulty
 abbrev pub misplaced : ℕ → Saying → Option ℕ → Option Faulty
-misplaced number (Makes entry) None = Some (record { line = number; fault = NoCallBefore })
+misplaced number (Makes access) None = Some (record { line = number; fault = NoCallBefore })
 misplaced number (Returns text) None = Some (record { line = number; fault = NoCallBefore })
 misplaced number (Calls _) (Some before) = Some (record { line = before; fault = NoAnswer })
 misplaced number Fresh (Some before) = Some (record { line = before; fault = NoAnswer })

@@ -1,6 +1,6 @@
 -- The findings at equal reads in turn.
 use Rattle.std.specs.Prelude.{ℕ, ◌-◌, ◌*◌, ◌==◌, if◌then◌else◌, Option, List, [], ◌∷◌, ◌++◌, zero, suc, replicate}
-use Rattle.uart_spec.specs.Access.{Access}
+use Rattle.uart_spec.specs.declared.access.Access.{Access}
 use Rattle.uart_judges.specs.Actions.{action}
 use Rattle.uart_judges.specs.Findings.{findings}
 use Rattle.uart_judges.specs.History.{actions, is_open, known, taken_by}

@@ -2,8 +2,8 @@
 use Rattle.std.specs.Prelude.{ℕ, ◌+◌, Bool, List, [], ◌∷◌, length, Option, Some, None, Result, Ok, Err, ⊤}
 use Rattle.std.specs.Prelude.{◌≡◌, ◌==◌, ◌&&◌, nat_lt, if◌then◌else◌, bytes_eq, codes}
 use Rattle.std.specs.List.{list_any}
-use Rattle.uart_16550.specs.declared.replay.Entry.{Entry}
-use Rattle.uart_16550.specs.declared.replay.Entry.TheVariants as entry
+use Rattle.uart_spec.specs.declared.access.Access.{Access}
+use Rattle.uart_spec.specs.declared.access.Access.TheVariants.{Read, Write}
 use Rattle.uart_language.specs.Fields.{◌>>=◌, byte_in}
 use Rattle.uart_language.specs.Text.{words_of, word_at, has_bad_byte}
 use Rattle.uart_language.specs.declared.cause.Cause.{Cause}
@@ -78,9 +78,9 @@ happened_at number what stamp =
     line.Event (record { happening = what; times = 1; line = number; time = stamp.time; interrupt = stamp.interrupt })
 
 -- an access in this direction
-abbrev pub of_direction : Direction → ℕ → ℕ → Entry
-of_direction direction.Read offset byte = entry.Read offset byte
-of_direction direction.Write offset byte = entry.Write offset byte
+abbrev pub of_direction : Direction → ℕ → ℕ → Access
+of_direction direction.Read offset byte = Read offset byte
+of_direction direction.Write offset byte = Write offset byte
 
 -- OFFSET VALUE: an access in this direction
 unfoldable pub access_in : Direction → ℕ → List (List ℕ) → Result Line Cause
@@ -162,7 +162,7 @@ word_of direction.Read = codes "read"
 word_of direction.Write = codes "write"
 
 -- addr 0xHH val 0xHH, from this word on
-unfoldable pub log_fields_in : Direction → ℕ → List (List ℕ) → Result Entry Cause
+unfoldable pub log_fields_in : Direction → ℕ → List (List ℕ) → Result Access Cause
 log_fields_in way k ws =
     if bytes_eq (word_at k ws) (codes "addr") && bytes_eq (word_at (k + 2) ws) (codes "val")
     then log_offset_in (word_at (k + 1) ws) >>= (λ offset.
@@ -170,7 +170,7 @@ log_fields_in way k ws =
     else Err BadWord
 
 -- the access of a line, with or without the word behind the name
-unfoldable pub log_access_in : Direction → List (List ℕ) → Result Entry Cause
+unfoldable pub log_access_in : Direction → List (List ℕ) → Result Access Cause
 log_access_in way ws =
     if length ws == 5 then log_fields_in way 1 ws
     else if length ws == 6 && bytes_eq (word_at 1 ws) (word_of way) then log_fields_in way 2 ws

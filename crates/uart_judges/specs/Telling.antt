@@ -2,9 +2,8 @@
 use Rattle.std.specs.Prelude.{ℕ, ◌%◌, List, [], ◌∷◌, ◌++◌, Option, Some, None, codes, slice_get}
 use Rattle.std.specs.Char.{digit_char}
 use Rattle.std.specs.Fmt.{decimal}
-use Rattle.uart_spec.specs.Access.{Access, Read, Write}
-use Rattle.uart_16550.specs.Replay.{access_of}
-use Rattle.uart_16550.specs.declared.replay.Entry.{Entry}
+use Rattle.uart_spec.specs.declared.access.Access.{Access}
+use Rattle.uart_spec.specs.declared.access.Access.TheVariants.{Read, Write}
 use Rattle.uart_language.specs.Output.{answer_text, hex_byte}
 use Rattle.uart_calls.specs.declared.tape.Request.{Request}
 use Rattle.uart_calls.specs.declared.tape.Request.TheVariants as request
@@ -36,9 +35,9 @@ abbrev pub answer_line_text : Exchange → List ℕ
 answer_line_text x = line_text x.answer_line ++ codes "= " ++ x.answer.items
 
 -- this access and its line, or else the answer and its line
-abbrev pub found_text : Option Entry → Option ℕ → Exchange → List ℕ
-found_text (Some entry) (Some number) x = line_text number ++ access_text (access_of entry)
-found_text (Some entry) None x = answer_line_text x
+abbrev pub found_text : Option Access → Option ℕ → Exchange → List ℕ
+found_text (Some access) (Some number) x = line_text number ++ access_text access
+found_text (Some access) None x = answer_line_text x
 found_text None number x = answer_line_text x
 
 -- what the driver does: `makes '` and a request, or `returns '= ` and an answer

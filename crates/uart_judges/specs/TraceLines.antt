@@ -3,8 +3,8 @@ use Rattle.std.specs.Prelude.{ℕ, ◌==◌, ◌&&◌, nat_lt, nat_le, Bool, Lis
 use Rattle.std.specs.Prelude.{if◌then◌else◌, bytes_eq, codes, ⊤}
 use Rattle.std.specs.List.{list_all, before_first}
 use Rattle.std.specs.Str.Parse.{digits_value}
-use Rattle.uart_16550.specs.declared.replay.Entry.{Entry}
-use Rattle.uart_16550.specs.declared.replay.Entry.TheVariants as entry
+use Rattle.uart_spec.specs.declared.access.Access.{Access}
+use Rattle.uart_spec.specs.declared.access.Access.TheVariants as access
 use Rattle.uart_spec.specs.Calls.{IsRunnable}
 use Rattle.uart_spec.specs.declared.call.Call.{Call}
 use Rattle.uart_language.specs.Fields.{◌>>=◌, byte_in}
@@ -24,7 +24,7 @@ pub data Saying : Type 0 where
   Nothing : Saying
   Fresh : Saying
   Calls : Call → Saying
-  Makes : Entry → Saying
+  Makes : Access → Saying
   Returns : List ℕ → Saying
 
 -- the meaning of a line that was read; nothing is said about the room that a text does not use
@@ -71,7 +71,7 @@ access_in ws =
     else Err WrongCount
 
 -- an access of this kind, or what is wrong with its line
-abbrev pub made_as : (ℕ → ℕ → Entry) → Result (ℕ × ℕ) Cause → Result Saying Fault
+abbrev pub made_as : (ℕ → ℕ → Access) → Result (ℕ × ℕ) Cause → Result Saying Fault
 made_as kind (Ok (offset, byte)) = Ok (Makes (kind offset byte))
 made_as kind (Err cause) = Err (fault.Line cause)
 
@@ -94,8 +94,8 @@ abbrev pub said_by : (word text : List ℕ) → Result Saying Fault
 said_by word text =
     if bytes_eq word (codes "fresh") then fresh_in text
     else if bytes_eq word (codes "=") then answer_in text
-    else if bytes_eq word (codes "r") then made_as entry.Read (access_in (words_of text))
-    else if bytes_eq word (codes "w") then made_as entry.Write (access_in (words_of text))
+    else if bytes_eq word (codes "r") then made_as access.Read (access_in (words_of text))
+    else if bytes_eq word (codes "w") then made_as access.Write (access_in (words_of text))
     else called_as (item_at AFTER_THE_HEAD text)
 
 -- what a line without its remark means, or what is wrong with it: a bad byte first

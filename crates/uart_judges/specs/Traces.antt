@@ -1,7 +1,6 @@
 -- A trace: calls with their lists and answers, one after the other.
-use Rattle.std.specs.Prelude.{◌≡◌, ◌⊎◌, ℕ, List, [], ◌∷◌, map, if◌then◌else◌, ⊤}
+use Rattle.std.specs.Prelude.{◌≡◌, ◌⊎◌, ℕ, List, [], ◌∷◌, if◌then◌else◌, ⊤}
 use Rattle.uart_16550.specs.Driver.{Fields, with_limit}
-use Rattle.uart_16550.specs.Replay.{access_of}
 use Rattle.uart_16550.specs.State.{fresh_fields}
 use Rattle.uart_spec.specs.declared.call.Answer.{Answer}
 use Rattle.uart_language.specs.Output.{answer_text}
@@ -13,7 +12,7 @@ use Rattle.uart_judges.specs.declared.traces.exchange.Exchange.{Exchange}
 -- are after it
 pub record IsExchange (x : Exchange) (before after : Fields) : Type 0 where
   pub answer : Answer
-  pub makes : IsListOf x.call before (map access_of x.accesses.items) answer after
+  pub makes : IsListOf x.call before x.accesses.items answer after
   pub printed : answer_text answer ≡ x.answer.items
 
 -- the fields before a call: those after the call before it, or those of a new driver with this limit
@@ -32,7 +31,7 @@ pub record StraysHere (before : Fields) (x : Exchange) (stray : Stray) : Type 0 
   pub call : stray.exchange.now ≡ x
   pub none : (after : Fields) → IsExchange x before after → ⊥
   pub first :
-      IsFollowed x.call before (map access_of x.accesses.items) (record { kept = stray.kept; turn = stray.turn })
+      IsFollowed x.call before x.accesses.items (record { kept = stray.kept; turn = stray.turn })
 
 -- so it is for the first call that is not as recorded
 abbrev pub IsStray : ℕ → Fields → List Exchange → Stray → Type 0

@@ -15,4 +15,4 @@ pub use exchange::Exchange;
 pub use judging::{Stray, judge};
 pub use lines::{before_remark, offset_in};
 pub use parsing::parse;
-pub use telling::{push_entry, push_stray};
+pub use telling::{push_access, push_stray};

@@ -1,7 +1,8 @@
 -- Access to the ports of a file, which ends at the first fault.
 use Rattle.std.specs.Prelude.{◌≡◌, ◌⊎◌, ℕ, ⊤, Option, Some, None, Result, Ok, Err, MatchOption}
 use Rattle.std.specs.declared.io.Error.{Error}
-use Rattle.uart_spec.specs.Access.{Access, Read, Write}
+use Rattle.uart_spec.specs.declared.access.Access.{Access}
+use Rattle.uart_spec.specs.declared.access.Access.TheVariants.{Read, Write}
 use Rattle.uart_port.specs.declared.ports.TheConstants.{FLOATING}
 use Rattle.uart_port.specs.declared.ports.Fault.{Fault}
 use Rattle.uart_port.specs.declared.ports.GuardedPorts.{GuardedPorts}

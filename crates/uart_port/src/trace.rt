@@ -2,7 +2,7 @@
 
 ghost use Rattle.std.specs.Prelude.{◌≡◌, ◌<◌, ◌++◌, OnOk, codes};
 ghost use Rattle.std.specs.Int.NonZero.{non_zero_u64_get};
-ghost use Rattle.uart_spec.specs.Access.{Read, Write as WriteAccess};
+ghost use Rattle.uart_spec.specs.declared.access.Access.TheVariants.{Read, Write as WriteAccess};
 ghost use Rattle.uart_language.specs.Output.{line};
 ghost use Rattle.uart_port.specs.Trace.{Grows, lettered, access_line, answer_line, output_of};
 

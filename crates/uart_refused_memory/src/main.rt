@@ -12,12 +12,13 @@ use std::num::NonZeroU64;
 use std::process::ExitCode;
 use std::{fmt, io};
 use uart_16550::backend::Backend;
-use uart_16550::replay::{Entry, Replay};
+use uart_16550::replay::Replay;
 use uart_16550::spec::registers::offsets;
 use uart_16550::{Config, Uart16550};
 use uart_machine::script::{PlayError, ScriptError, Std, parse, play};
 use uart_machine::{BuildError, Call, Chip, Device16550, Event};
 use uart_ring::{RingError, Uart16550Ring};
+use uart_spec::access::Access;
 
 // A script with so many calls and events that their lists grow, and its output too.
 const SCRIPT: &[u8] = b"chip 16550a 4 64
@@ -169,7 +170,7 @@ fn is_unchanged(mut uart: Uart16550<Replay<'static>>) -> bool {
     let is_same = uart.config() == &Config::DEFAULT
         && uart.fifo_enabled()
         && uart.spin_limit().get() == 7
-        && uart.backend().accesses() == Some(&[Entry::Read(offsets::LSR, 0x1e)]);
+        && uart.backend().accesses() == Some(&[Access::Read(offsets::LSR, 0x1e)]);
     is_same && uart.lsr().bits() == 0x7e && uart.msr().bits() == 0x0f
 }
 

@@ -8,8 +8,8 @@ use Rattle.std.proofs.lemmas.List.FromFn.{map-range_with_len_more}
 use Rattle.std.proofs.lemmas.Bool.{ne_eqb}
 use Rattle.std.specs.Char.{digit_char}
 use Rattle.std.specs.List.{AllByRecursion, flat_map, before_first, list_any, onto_first, range_with_len, slice_split}
-use Rattle.uart_16550.specs.declared.replay.Entry.{Entry}
-use Rattle.uart_16550.specs.declared.replay.Entry.TheVariants as entry
+use Rattle.uart_spec.specs.declared.access.Access.{Access}
+use Rattle.uart_spec.specs.declared.access.Access.TheVariants.{Read, Write}
 use Rattle.uart_spec.specs.declared.call.Call.{Call}
 use Rattle.uart_language.specs.Output.{line}
 use Rattle.uart_language.specs.Sayings.{plain}
@@ -94,19 +94,19 @@ adds_last a b c said first second =
     adds_same a c (said ++ []) said (append-nil said) (adds_more a b c said [] first second)
 
 -- the next access, after what happened before it
-pub adds_next : (a b c d : List ℕ) (entries : List Entry) (i : ℕ) (e : Entry) → i < length entries → e ≡ get_or entries i e
+pub adds_next : (a b c d : List ℕ) (entries : List Access) (i : ℕ) (e : Access) → i < length entries → e ≡ get_or entries i e
     → Adds a b (map access_line (take i entries)) → Adds b c [] → Adds c d (access_line e ∷ [])
     → Adds a d (map access_line (take (i + 1) entries))
 adds_next a b c d entries i e below is made between next =
     let said = map access_line (take i entries) in
     let all : Adds a d (said ++ access_line e ∷ []) = adds_more a c d said (access_line e ∷ []) (adds_last a b c said made between) next in
     let more : map access_line (take (i + 1) entries) ≡ said ++ access_line e ∷ [] =
-    ap (map access_line) (take_more entries i e below ∙ ap (λ (x : Entry). take i entries ++ x ∷ []) (sym is))
+    ap (map access_line) (take_more entries i e below ∙ ap (λ (x : Access). take i entries ++ x ∷ []) (sym is))
     ∙ map-append access_line (take i entries) (e ∷ []) in
     adds_same a d (said ++ access_line e ∷ []) (map access_line (take (i + 1) entries)) (sym more) all
 
 -- all accesses, and then remarks
-pub adds_whole : (a b c : List ℕ) (entries : List Entry) (i : ℕ) → length entries ≤ i → Adds a b (map access_line (take i entries))
+pub adds_whole : (a b c : List ℕ) (entries : List Access) (i : ℕ) → length entries ≤ i → Adds a b (map access_line (take i entries))
     → Adds b c [] → Adds a c (map access_line entries)
 adds_whole a b c entries i past made after =
     adds_last a b c (map access_line entries) (adds_same a b (map access_line (take i entries)) (map access_line entries)
@@ -206,11 +206,11 @@ adds_place a b letter p v w remark below above one is =
     let added : Adds a b (line_said text) = adds_line a b text whole is in
     adds_same a b (line_said text) ((letter ∷ 32 ∷ digit_char p ∷ 32 ∷ digit_char v ∷ digit_char w ∷ []) ∷ []) says added
 
-pub adds_access : (a b : List ℕ) (e : Entry) (remark : List ℕ) → IsOneLine remark
+pub adds_access : (a b : List ℕ) (e : Access) (remark : List ℕ) → IsOneLine remark
     → b ≡ a ++ line (access_line e ++ (32 ∷ 35 ∷ 32 ∷ remark)) → Adds a b (access_line e ∷ [])
-adds_access a b (entry.Read offset answer) remark one is =
+adds_access a b (Read offset answer) remark one is =
     adds_place a b 114 (offset % 8) (answer / 16) (answer % 16) remark (lit< tt) (lit< tt) one is
-adds_access a b (entry.Write offset value) remark one is =
+adds_access a b (Write offset value) remark one is =
     adds_place a b 119 (offset % 8) (value / 16) (value % 16) remark (lit< tt) (lit< tt) one is
 
 part_is_line : (parts : List (List ℕ)) (k : ℕ) → AllByRecursion IsOneLine parts → IsOneLine (slice_index_or parts k [])
@@ -245,7 +245,7 @@ other_said call is =
     ap (λ t. cond t (map access_line call.accesses)
     (line_said call.line ++ map access_line call.accesses ++ line_said (codes "= " ++ call.answer))) is
 
-pub adds_next_of_machine : {E : Type 0} (r : Result (Unit {0}) E) (a b c : List ℕ) (call : CallTold) (accesses : List Entry)
+pub adds_next_of_machine : {E : Type 0} (r : Result (Unit {0}) E) (a b c : List ℕ) (call : CallTold) (accesses : List Access)
     → bytes_eq call.line (codes "next") ≡ true → accesses ≡ call.accesses → b ≡ a ++ remark_line (codes "next")
     → OnOk r (Adds b c (map access_line accesses)) → OnOk r (Adds a c (call_said call))
 adds_next_of_machine (Ok x) a b c call accesses is same remark made =
@@ -255,7 +255,7 @@ adds_next_of_machine (Ok x) a b c call accesses is same remark made =
 adds_next_of_machine (Err e) a b c call accesses is same remark made = tt
 
 pub adds_call_of_driver : {E : Type 0} (r : Result (Unit {0}) E) (a b c d : List ℕ) (call : CallTold) (text answer : List ℕ)
-    (accesses : List Entry) → bytes_eq call.line (codes "next") ≡ false → text ≡ call.line → accesses ≡ call.accesses
+    (accesses : List Access) → bytes_eq call.line (codes "next") ≡ false → text ≡ call.line → accesses ≡ call.accesses
     → answer ≡ call.answer → Adds a b (line_said text) → Adds b c (map access_line accesses)
     → OnOk r (Adds c d (line_said (codes "= " ++ answer))) → OnOk r (Adds a d (call_said call))
 adds_call_of_driver (Ok x) a b c d call text answer accesses is text_is same answer_is head made tail =
@@ -263,7 +263,7 @@ adds_call_of_driver (Ok x) a b c d call text answer accesses is text_is same ans
     let last = line_said (codes "= " ++ answer) in
     adds_same a d (said ++ last) (call_said call)
     (ap (λ (t : List ℕ). line_said t ++ map access_line accesses ++ last) text_is
-    ∙ ap (λ (es : List Entry). line_said call.line ++ map access_line es ++ last) same
+    ∙ ap (λ (es : List Access). line_said call.line ++ map access_line es ++ last) same
     ∙ ap (λ (t : List ℕ). line_said call.line ++ map access_line call.accesses ++ line_said (codes "= " ++ t)) answer_is
     ∙ sym (other_said call is))
     (adds_more a c d said last (adds_more a b c (line_said text) (map access_line accesses) head made) tail)
@@ -271,16 +271,16 @@ adds_call_of_driver (Err e) a b c d call text answer accesses is text_is same an
 
 -- ---- the calls of a run
 
-abbrev pub told : List ℕ → List Entry → List ℕ → CallTold
+abbrev pub told : List ℕ → List Access → List ℕ → CallTold
 told line accesses answer = record { line = line; accesses = accesses; answer = answer }
 
-pub told_same : {line answer : List ℕ} {accesses : List Entry} (lines answers : List (List ℕ)) (entries : List Entry) (ends : List ℕ)
+pub told_same : {line answer : List ℕ} {accesses : List Access} (lines answers : List (List ℕ)) (entries : List Access) (ends : List ℕ)
     (n : ℕ) → line ≡ printable (slice_index_or lines n []) → accesses ≡ part_of entries ends n
     → answer ≡ printable (slice_index_or answers n [])
     → told line accesses answer ≡ told_at lines answers entries ends n
 told_same {line} {answer} {accesses} lines answers entries ends n line_is accesses_is answer_is =
     ap (λ (l : List ℕ). told l accesses answer) line_is
-    ∙ ap (λ (es : List Entry). told (printable (slice_index_or lines n [])) es answer) accesses_is
+    ∙ ap (λ (es : List Access). told (printable (slice_index_or lines n [])) es answer) accesses_is
     ∙ ap (λ (a : List ℕ). told (printable (slice_index_or lines n [])) (part_of entries ends n) a) answer_is
 
 pub told_more : (old new : List ToldCall) (call : ToldCall) (f : ℕ → CallTold) (n : ℕ) → new ≡ old ++ call ∷ []
@@ -289,7 +289,7 @@ told_more old new call f n is before next =
     ap (map told_of) is ∙ map-append told_of old (call ∷ []) ∙ ap (λ (cs : List CallTold). cs ++ told_of call ∷ []) before
     ∙ ap (λ (c : CallTold). map f (range_with_len 0 n) ++ c ∷ []) next ∙ sym (map-range_with_len_more f 0 n n (omega arith))
 
-pub are_told : (plan : Plan) (text printed : List ℕ) (calls : List CallTold) (entries : List Entry) (ends : List ℕ)
+pub are_told : (plan : Plan) (text printed : List ℕ) (calls : List CallTold) (entries : List Access) (ends : List ℕ)
     (lines answers : List (List ℕ)) (made : List Call) (count : ℕ) → IsRecorded plan entries ends → lines ≡ call_lines text
     → answers ≡ slice_split is_line_feed printed → map plain made ≡ plan.calls → count ≡ length made
     → calls ≡ map (told_at lines answers entries ends) (range_with_len 0 count) → AreTold plan text printed calls

@@ -1,13 +1,11 @@
 -- A backend that records.
-use Rattle.std.specs.Prelude.{◌≡◌, Bool, true, List, [], ◌∷◌, ◌++◌, map}
-use Rattle.uart_spec.specs.Access.{Access}
-use Rattle.uart_16550.specs.Replay.{access_of}
-use Rattle.uart_16550.specs.declared.replay.Entry.{Entry}
+use Rattle.std.specs.Prelude.{◌≡◌, Bool, true, List, [], ◌∷◌, ◌++◌}
+use Rattle.uart_spec.specs.declared.access.Access.{Access}
 
 -- a device, the accesses to it that were recorded, and whether these are all of them, because memory can run out
 pub record Recorded (B : Type 0) : Type 0 where
   pub device : B
-  pub entries : List Entry
+  pub entries : List Access
   pub is_complete : Bool
 
 -- the device makes the access, and a list that is complete afterwards is the complete list from before with this access
@@ -16,4 +14,4 @@ pub record RecordsStep {B : Type 0} (step : B → Access → B → Type 0) (old 
     (new : Recorded B) : Type 0 where
   pub made : step old.device access new.device
   pub kept : new.is_complete ≡ true →
-      (old.is_complete ≡ true) × (map access_of new.entries ≡ map access_of old.entries ++ access ∷ [])
+      (old.is_complete ≡ true) × (new.entries ≡ old.entries ++ access ∷ [])

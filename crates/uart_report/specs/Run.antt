@@ -3,7 +3,7 @@ use Rattle.std.specs.Prelude.{◌≡◌, ℕ, true, List, [], length}
 use Rattle.uart_spec.specs.declared.config.TheConstants.Config.{DEFAULT}
 use Rattle.uart_16550.specs.Driver.{backend_of, fields}
 use Rattle.uart_16550.specs.Tty.{inner_of}
-use Rattle.uart_16550.specs.declared.replay.Entry.{Entry}
+use Rattle.uart_spec.specs.declared.access.Access.{Access}
 use Rattle.uart_16550.specs.declared.tty.Uart16550Tty.{Uart16550Tty}
 use Rattle.uart_calls.specs.Meaning.{Performed}
 use Rattle.uart_spec.specs.declared.call.Answer.{Answer}
@@ -44,7 +44,7 @@ pub record BeginsRun (plan : Plan) (s : State) : Type 0 where
   pub driver : fields (inner_of s) ≡ record { config = DEFAULT; fifo = true; lsr = 0; msr = 0; limit = plan.limit }
 
 -- these are the accesses of a run of the script, all of them, and how many there are after each call
-pub record IsRecorded (plan : Plan) (entries : List Entry) (ends : List ℕ) : Type 0 where
+pub record IsRecorded (plan : Plan) (entries : List Access) (ends : List ℕ) : Type 0 where
   pub first : State
   pub last : State
   pub begins : BeginsRun plan first

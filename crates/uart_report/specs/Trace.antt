@@ -3,8 +3,7 @@ use Rattle.std.specs.Prelude.{◌≡◌, ℕ, ◌-◌, ◌==◌, ◌&&◌, nat_l
 use Rattle.std.specs.Prelude.{take, drop, Result, Ok, codes, bytes_eq, if◌then◌else◌, slice_index_or}
 use Rattle.std.specs.List.{AllByRecursion, filter, flat_map, list_any, range_with_len, slice_split}
 use Rattle.std.specs.String.{string_bytes}
-use Rattle.uart_16550.specs.Replay.{access_of}
-use Rattle.uart_16550.specs.declared.replay.Entry.{Entry}
+use Rattle.uart_spec.specs.declared.access.Access.{Access}
 use Rattle.uart_language.specs.Items.{item_at}
 use Rattle.uart_language.specs.Output.{line}
 use Rattle.uart_language.specs.Sayings.{Saying, Calls, Marks}
@@ -35,12 +34,12 @@ text_said text = flat_map line_said (slice_split is_line_feed text)
 -- a call of a run: its line in the script, its accesses in order, and its answer as it is printed
 pub record CallTold : Type 0 where
   pub line : List ℕ
-  pub accesses : List Entry
+  pub accesses : List Access
   pub answer : List ℕ
 
 -- r OFFSET VALUE, or w OFFSET VALUE
-abbrev pub access_line : Entry → List ℕ
-access_line entry = access_text (access_of entry)
+abbrev pub access_line : Access → List ℕ
+access_line access = access_text access
 
 -- What a trace says of a call: its line, a line for each access, and its answer after `=`. `next` is the machine's own,
 -- so that its line is a remark, and it has no answer.
@@ -82,7 +81,7 @@ printable bytes = map printable_byte bytes
 
 -- the call with this number: its line among those of the script that are calls, and its answer among the lines that are
 -- printed for the script
-abbrev pub told_at : (lines answers : List (List ℕ)) → List Entry → List ℕ → ℕ → CallTold
+abbrev pub told_at : (lines answers : List (List ℕ)) → List Access → List ℕ → ℕ → CallTold
 told_at lines answers entries ends call = record {
   line = printable (slice_index_or lines call []);
   accesses = part_of entries ends call;
@@ -90,14 +89,14 @@ told_at lines answers entries ends call = record {
 }
 
 -- all calls of a script that ran, with the accesses of the run and what was printed for it
-abbrev pub calls_told : Plan → (text printed : List ℕ) → List Entry → List ℕ → List CallTold
+abbrev pub calls_told : Plan → (text printed : List ℕ) → List Access → List ℕ → List CallTold
 calls_told plan text printed entries ends =
     map (told_at (call_lines text) (slice_split is_line_feed printed) entries ends)
     (range_with_len 0 (length plan.calls))
 
 -- these are the calls of a run of the script with all their accesses, which printed this
 pub record AreTold (plan : Plan) (text printed : List ℕ) (calls : List CallTold) : Type 0 where
-  pub entries : List Entry
+  pub entries : List Access
   pub ends : List ℕ
   pub recorded : IsRecorded plan entries ends
   pub told : calls ≡ calls_told plan text printed entries ends

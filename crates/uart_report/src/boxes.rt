@@ -4,7 +4,7 @@ use crate::replay::{Arrival, Seen};
 use crate::shown::{Place, Shown};
 use std::alloc::{AllocError, Global};
 use std::fmt::{Display, Write};
-use uart_16550::replay::Entry;
+use uart_spec::access::Access;
 
 /// The width of a moment.
 pub const COLUMN: usize = 26;
@@ -119,8 +119,8 @@ pub fn push_bar(
 // Appends an access: its register over its value, red if the audit warns of it.
 fn push_seen(text: &mut String, seen: Seen, is_wrong: bool) -> Result<(), AllocError> {
     let (class, value) = match seen.access {
-        Entry::Read(_, answer) => ("r", answer),
-        Entry::Write(_, value) => ("w", value),
+        Access::Read(_, answer) => ("r", answer),
+        Access::Write(_, value) => ("w", value),
     };
     let class = if is_wrong { "e" } else { class };
     push_rectangle(text, class, (1, 0, 24, 27))?;

@@ -10,10 +10,10 @@ use std::alloc::{AllocError, Global};
 use std::fmt::Write;
 use std::io::Read;
 use thiserror::Error;
-use uart_16550::replay::Entry;
 use uart_command::Form;
 use uart_judges::audit::{Auditor, Finding, Severity, Stretch};
 use uart_judges::recording::{Event, Happening, Recording, RecordingError};
+use uart_spec::access::Access;
 use uart_spec::registers::{LCR, offsets};
 
 /// How many events are drawn unless it is said.
@@ -83,15 +83,15 @@ fn has_findings(stretch: &Stretch) -> bool {
 }
 
 // Returns the register and the value of an access.
-fn parts(access: Entry) -> (usize, u8) {
+fn parts(access: Access) -> (usize, u8) {
     match access {
-        Entry::Read(offset, value) | Entry::Write(offset, value) => (offset, value),
+        Access::Read(offset, value) | Access::Write(offset, value) => (offset, value),
     }
 }
 
 impl Watch {
     // Returns an access with the name of its register.
-    fn seen(&mut self, access: Entry) -> Seen {
+    fn seen(&mut self, access: Access) -> Seen {
         let register = register_of(access, self.is_dlab_set);
         let (offset, value) = parts(access);
         if offset == offsets::LCR {
@@ -115,10 +115,10 @@ impl Watch {
 
     // Returns what the audit finds at an access that is made so many times: at the first of them at
     // which it finds something.
-    fn found(&mut self, access: Entry, times: u64) -> [Option<Finding>; 5] {
+    fn found(&mut self, access: Access, times: u64) -> [Option<Finding>; 5] {
         match access {
-            Entry::Write(..) => self.auditor.step(access),
-            Entry::Read(offset, value) => {
+            Access::Write(..) => self.auditor.step(access),
+            Access::Read(offset, value) => {
                 let stretches = self.auditor.reads(offset, value, times);
                 let found = stretches.iter().find(|stretch| has_findings(stretch));
                 match found {

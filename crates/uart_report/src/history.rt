@@ -10,8 +10,8 @@ use crate::replay::{Moment, replayed};
 use crate::run::recorded;
 use crate::text::printable;
 use std::alloc::{AllocError, Global};
-use uart_16550::replay::Entry;
 use uart_language::{Item, Script, item_at};
+use uart_spec::access::Access;
 
 // The number of a line at which neither the first line of a script nor its limit may be.
 const AFTER_THE_HEAD: u32 = 3;
@@ -22,7 +22,7 @@ pub struct ToldCall {
     /// Its line of the script.
     pub line: String,
     /// Its accesses.
-    pub accesses: Vec<Entry>,
+    pub accesses: Vec<Access>,
     /// Its line of the output.
     pub answer: String,
 }
@@ -88,7 +88,7 @@ fn told_calls(
     alloc: Global,
     lines: &[&[u8]],
     answers: &[&[u8]],
-    accesses: &ByCall<Entry>,
+    accesses: &ByCall<Access>,
     count: usize,
 ) -> Result<Vec<ToldCall>, AllocError>
     ensures told { IfOk result (λ calls. map told_of calls.items ≡ map (told_at

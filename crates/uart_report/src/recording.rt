@@ -1,19 +1,18 @@
 //! A backend that records the accesses that are made through it.
-ghost use Rattle.std.specs.Prelude.{◌≡◌, ◌∷◌, [], ◌++◌, true, IfOk, is_err, not, map};
-ghost use Rattle.uart_16550.specs.Replay.{access_of};
+ghost use Rattle.std.specs.Prelude.{◌≡◌, ◌∷◌, [], ◌++◌, true, IfOk, is_err, not};
 ghost use Rattle.uart_report.specs.Recorder.{RecordsStep};
 
 use std::alloc::{AllocError, Global};
 use std::marker::Model;
 use uart_16550::backend::Backend;
-use uart_16550::replay::Entry;
 use uart_chip::Device16550;
+use uart_spec::access::Access;
 
 /// A backend over another one, with a list of the accesses that it made.
 #[derive(Drop)]
 pub struct Recorder<B> {
     device: B,
-    entries: Vec<Entry>,
+    entries: Vec<Access>,
     is_complete: bool,
 }
 
@@ -46,7 +45,7 @@ impl<B> Recorder<B> {
     /// # Errors
     ///
     /// `AllocError` if memory for one of them could not be allocated.
-    pub fn entries(&self) -> Result<&[Entry], AllocError>
+    pub fn entries(&self) -> Result<&[Access], AllocError>
         ensures entries { IfOk result (λ entries. entries.now ≡ self.now.entries) }
         ensures complete { is_err result ≡ not self.now.is_complete }
     {
@@ -58,13 +57,12 @@ impl<B> Recorder<B> {
     }
 
     // Keeps an access, if all before it were kept.
-    fn keep(&mut self, entry: Entry)
+    fn keep(&mut self, access: Access)
         ensures device { self.new.device ≡ self.old.device }
         ensures kept { self.new.is_complete ≡ true → (self.old.is_complete ≡ true) ×
-            (map access_of self.new.entries
-            ≡ map access_of self.old.entries ++ access_of entry ∷ []) }
+            (self.new.entries ≡ self.old.entries ++ access ∷ []) }
     {
-        if self.is_complete && self.entries.push(entry).is_err() {
+        if self.is_complete && self.entries.push(access).is_err() {
             self.is_complete = false;
         }
     }
@@ -86,12 +84,12 @@ impl<B: Backend> Backend for Recorder<B> {
 
     fn read(&mut self, register_offset: u8) -> u8 {
         let answer = self.device.read(register_offset);
-        self.keep(Entry::Read(register_offset as usize, answer));
+        self.keep(Access::Read(register_offset as usize, answer));
         answer
     }
 
     fn write(&mut self, register_offset: u8, value: u8) {
         self.device.write(register_offset, value);
-        self.keep(Entry::Write(register_offset as usize, value));
+        self.keep(Access::Write(register_offset as usize, value));
     }
 }

@@ -5,17 +5,17 @@ use crate::run::machine_for;
 use bitflags::Flags;
 use std::alloc::{AllocError, Global};
 use uart_16550::backend::Backend;
-use uart_16550::replay::Entry;
 use uart_calls::Call;
 use uart_chip::{Device16550, Event};
 use uart_language::Script;
+use uart_spec::access::Access;
 use uart_spec::registers::{LCR, LSR, offsets};
 
 /// An access, with the name of its register.
 #[derive(Clone, Copy, PartialEq)]
 pub struct Seen {
     /// The access.
-    pub access: Entry,
+    pub access: Access,
     /// The name of the register.
     pub register: &'static str,
 }
@@ -74,7 +74,7 @@ impl Happened {
         matches!(
             self.access,
             Some(Seen {
-                access: Entry::Read(_, _),
+                access: Access::Read(_, _),
                 ..
             })
         ) && self.sent.is_none()
@@ -115,10 +115,10 @@ fn spread(alloc: Global, events: &[Event]) -> Result<Vec<Event>, AllocError> {
 }
 
 /// Returns the name of the register of an access.
-pub fn register_of(access: Entry, is_dlab_set: bool) -> &'static str {
+pub fn register_of(access: Access, is_dlab_set: bool) -> &'static str {
     let (offset, is_read) = match access {
-        Entry::Read(offset, _) => (offset, true),
-        Entry::Write(offset, _) => (offset, false),
+        Access::Read(offset, _) => (offset, true),
+        Access::Write(offset, _) => (offset, false),
     };
     match offset {
         offsets::DLL if is_dlab_set => "DLL",
@@ -285,12 +285,12 @@ impl Replay<'_> {
     }
 
     // Makes an access on the device.
-    fn reach(&mut self, access: Entry) {
+    fn reach(&mut self, access: Access) {
         match access {
-            Entry::Read(offset, _) => {
+            Access::Read(offset, _) => {
                 self.device.read((offset % 8) as u8);
             }
-            Entry::Write(offset, value) => {
+            Access::Write(offset, value) => {
                 self.device.write((offset % 8) as u8, value);
                 if offset == offsets::LCR {
                     self.is_dlab_set = LCR::from_bits_retain(value).contains(LCR::DLAB);
@@ -299,7 +299,7 @@ impl Replay<'_> {
         }
     }
 
-    fn access(&mut self, access: Entry) -> Result<(), AllocError> {
+    fn access(&mut self, access: Access) -> Result<(), AllocError> {
         let register = register_of(access, self.is_dlab_set);
         if self.reach_access()? {
             self.device.next();
@@ -315,7 +315,7 @@ impl Replay<'_> {
     }
 
     // Makes the accesses of a call, and `next` as a call of the machine.
-    fn call(&mut self, number: usize, call: &Call, accesses: &[Entry]) -> Result<(), AllocError> {
+    fn call(&mut self, number: usize, call: &Call, accesses: &[Access]) -> Result<(), AllocError> {
         self.current.call = number;
         if *call == Call::Next {
             self.reach_mark()?;
@@ -331,7 +331,7 @@ impl Replay<'_> {
 pub fn replayed(
     alloc: Global,
     script: &Script,
-    accesses: &ByCall<Entry>,
+    accesses: &ByCall<Access>,
 ) -> Result<ByCall<Moment>, AllocError> {
     let schedule = spread(alloc, script.events())?;
     let mut replay = Replay {

@@ -9,11 +9,11 @@ ghost use Rattle.uart_report.specs.Run.{BeginsRun, IsMade, CallStep, IsRecorded}
 use crate::by_call::ByCall;
 use crate::recording::Recorder;
 use std::alloc::{AllocError, Global};
-use uart_16550::replay::Entry;
 use uart_16550::{Uart16550, Uart16550Tty};
 use uart_calls::{Call, perform};
 use uart_chip::{Device16550, Event};
 use uart_language::Script;
+use uart_spec::access::Access;
 
 /// Returns the machine of the script, under this schedule.
 pub fn machine_for(
@@ -83,7 +83,7 @@ fn make_all(
 }
 
 /// Runs a script, and returns its accesses.
-pub fn recorded(alloc: Global, script: &Script) -> Result<ByCall<Entry>, AllocError>
+pub fn recorded(alloc: Global, script: &Script) -> Result<ByCall<Access>, AllocError>
     requires { IsPlayable (plan_of script.now) }
     ensures { IfOk result (λ run. IsRecorded (plan_of script.now) run.all.items run.ends.items) }
 {

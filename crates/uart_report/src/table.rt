@@ -5,7 +5,7 @@ use crate::replay::{Arrival, Moment};
 use crate::shown::{Place, Shown, merged};
 use std::alloc::{AllocError, Global};
 use std::fmt::Write;
-use uart_16550::replay::Entry;
+use uart_spec::access::Access;
 
 const HEAD: &str = "    tick  access              wire  arrives  lines  held  waiting\n";
 
@@ -28,8 +28,8 @@ fn push_access(text: &mut String, shown: &Shown) -> Result<(), AllocError> {
         return write!(text, "                  ");
     };
     let (letter, value) = match seen.access {
-        Entry::Read(_, answer) => ('r', answer),
-        Entry::Write(_, value) => ('w', value),
+        Access::Read(_, answer) => ('r', answer),
+        Access::Write(_, value) => ('w', value),
     };
     let register = seen.register;
     write!(text, "{letter} {register:<4} {value:02x}")?;

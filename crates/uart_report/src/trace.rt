@@ -9,8 +9,8 @@ use crate::replay::Moment;
 use crate::text::line_at;
 use std::alloc::{AllocError, Global};
 use std::fmt::Write;
-use uart_16550::replay::Entry;
-use uart_judges::traces::push_entry;
+use uart_judges::traces::push_access;
+use uart_spec::access::Access;
 
 // Appends a remark of one line, unless it is empty.
 fn push_remark(out: &mut Vec<u8>, remark: &[u8]) -> Result<(), AllocError>
@@ -58,10 +58,10 @@ fn push_answer(out: &mut Vec<u8>, answer: &[u8]) -> Result<(), AllocError>
 }
 
 // Appends the line of an access, with the first line of a remark.
-fn push_access(out: &mut Vec<u8>, entry: Entry, remark: &[u8]) -> Result<(), AllocError>
-    ensures { OnOk result (Adds out.old.items out.new.items (access_line entry ∷ [])) }
+fn push_access_line(out: &mut Vec<u8>, access: Access, remark: &[u8]) -> Result<(), AllocError>
+    ensures { OnOk result (Adds out.old.items out.new.items (access_line access ∷ [])) }
 {
-    push_entry(out, entry)?;
+    push_access(out, access)?;
     out.extend_from_slice(b" # ")?;
     out.extend_from_slice(line_at(remark, 0))?;
     out.push(b'\n')?;
@@ -122,14 +122,14 @@ fn push_accesses(
     out: &mut Vec<u8>,
     history: &History,
     moments: &[Moment],
-    accesses: &[Entry],
+    accesses: &[Access],
 ) -> Result<(), AllocError>
     ensures { OnOk result (Adds out.old.items out.new.items (map access_line accesses.now)) }
 {
     let mut left = moments;
     for access in accesses {
         let (remark, after) = push_events(alloc, out, history, left)?;
-        push_access(out, *access, remark.as_bytes())?;
+        push_access_line(out, *access, remark.as_bytes())?;
         left = after;
     }
     push_events(alloc, out, history, left)?;

@@ -6,7 +6,8 @@ use Rattle.std.specs.Prelude.{⊤}
 use Rattle.std.proofs.lemmas.Bool.Decides.{nat_tests}
 use lib.Bits.{or_zero_r}
 use Rattle.bitflags.specs.Sets.{without}
-use Rattle.uart_spec.specs.Access.{Access, Read, Write}
+use Rattle.uart_spec.specs.declared.access.Access.{Access}
+use Rattle.uart_spec.specs.declared.access.Access.TheVariants.{Read, Write}
 use Rattle.uart_spec.specs.Bits.{has, field}
 use Rattle.uart_spec.specs.Fields.{Identifies, interrupt_code}
 use Rattle.uart_spec.specs.declared.baud.TheConstants.{FIFO_SIZE}

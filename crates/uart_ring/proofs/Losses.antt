@@ -4,7 +4,9 @@ use Rattle.std.proofs.Common.{drop, append_assoc, append-nil, take-append-drop, 
 use Rattle.std.proofs.Common.{Option, bit_and, bit_or}
 use Rattle.std.proofs.lemmas.List.{take-take, drop_min}
 use lib.Bits.{or_zero_r}
-use Rattle.uart_spec.specs.Access.{Access, Read, Write, saved_lsr, saved_msr}
+use Rattle.uart_spec.specs.Access.{saved_lsr, saved_msr}
+use Rattle.uart_spec.specs.declared.access.Access.{Access}
+use Rattle.uart_spec.specs.declared.access.Access.TheVariants.{Read, Write}
 use Rattle.uart_spec.specs.declared.baud.TheConstants.{FIFO_SIZE}
 use Rattle.uart_spec.specs.declared.errors.ByteSendError.TheVariants.{NoCapacity, RemoteNotClearToSend}
 use Rattle.uart_spec.specs.declared.registers.interrupt_enable.TheConstants.IER

@@ -1,7 +1,7 @@
 -- Changes of IER, and of the pause that goes with one of them.
 use Rattle.std.proofs.Common.{◌≡◌, ℕ, Bool, MatchBool, [], ◌∷◌, bit_or}
 use Rattle.bitflags.specs.Sets.{without}
-use Rattle.uart_spec.specs.Access.{Read, Write}
+use Rattle.uart_spec.specs.declared.access.Access.TheVariants.{Read, Write}
 use Rattle.uart_spec.specs.declared.registers.offsets.TheConstants as offsets
 use Rattle.uart_16550.specs.Driver.{Doing, with_interrupts}
 use Rattle.uart_ring.specs.Ring.{RingDoing, OnDriver, Stays, with_paused}

@@ -1,6 +1,6 @@
 -- What the rings do, one after another.
 use Rattle.std.proofs.Common.{◌≡◌, ◌+◌, ℕ, zero, suc, List, [], ◌++◌, refl, sym, subst, add-one, append_assoc, append-nil}
-use Rattle.uart_spec.specs.Access.{Access}
+use Rattle.uart_spec.specs.declared.access.Access.{Access}
 use Rattle.uart_16550.specs.Driver.{Did, Doing, fields}
 use Rattle.uart_16550.proofs.Paths.{path_then}
 use Rattle.uart_ring.specs.Ring.{RingFields, RingDoing, RingDid, ring_fields, ring_backend_of, OnDriver, Stays, RingNext, RingTimes}

@@ -1,6 +1,7 @@
 -- Why no bytes stay in the transmit ring with no interrupt to come: what accesses show of the THR-empty interrupt.
 use Rattle.std.specs.Prelude.{◌≡◌, ◌==◌, ◌⊎◌, ℕ, Bool, true, false, not, ◌&&◌, ◌||◌, ⊤, List, [], ◌∷◌, if◌then◌else◌}
-use Rattle.uart_spec.specs.Access.{Access, Read, Write}
+use Rattle.uart_spec.specs.declared.access.Access.{Access}
+use Rattle.uart_spec.specs.declared.access.Access.TheVariants.{Read, Write}
 use Rattle.uart_spec.specs.Bits.{has, field}
 use Rattle.uart_spec.specs.Fields.{interrupt_code}
 use Rattle.uart_spec.specs.declared.registers.interrupt_enable.TheConstants.IER

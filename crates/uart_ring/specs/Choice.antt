@@ -1,6 +1,6 @@
 -- What the reads of a ring call determine.
 use Rattle.std.specs.Prelude.{◌≡◌, ◌⊎◌, List}
-use Rattle.uart_spec.specs.Access.{Access}
+use Rattle.uart_spec.specs.declared.access.Access.{Access}
 use Rattle.uart_16550.specs.Choice.{PartAtRead}
 use Rattle.uart_ring.specs.Ring.{RingDoing, RingFields}
 

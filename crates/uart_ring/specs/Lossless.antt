@@ -1,7 +1,9 @@
 -- What ring calls do not lose, whatever reads return: bytes to be sent, received bytes, line errors, and changes of
 -- the modem lines.
 use Rattle.std.specs.Prelude.{◌≡◌, ◌==◌, ℕ, List, [], ◌∷◌, ◌++◌, bit_and, bit_or, if◌then◌else◌}
-use Rattle.uart_spec.specs.Access.{Access, Read, Write, saved_lsr, saved_msr}
+use Rattle.uart_spec.specs.Access.{saved_lsr, saved_msr}
+use Rattle.uart_spec.specs.declared.access.Access.{Access}
+use Rattle.uart_spec.specs.declared.access.Access.TheVariants.{Read, Write}
 use Rattle.uart_spec.specs.declared.registers.line_status.TheConstants.LSR
 use Rattle.uart_spec.specs.declared.registers.modem_status.TheConstants.MSR
 use Rattle.uart_spec.specs.declared.registers.offsets.TheConstants as offsets

@@ -1,7 +1,8 @@
 -- The rings over a driver: their contents, and what a ring call does to them and to the backend.
 use Rattle.std.specs.Prelude.{◌≡◌, ◌≤◌, ◌==◌, ◌-◌, ℕ, zero, suc, Bool, false, List, [], ◌++◌, length, drop}
 use Rattle.circular_buffer.specs.Buffer.{Buffer, buffer}
-use Rattle.uart_spec.specs.Access.{Access, Path}
+use Rattle.uart_spec.specs.Access.{Path}
+use Rattle.uart_spec.specs.declared.access.Access.{Access}
 use Rattle.uart_16550.specs.Driver.{Fields, Doing, Next, fields, backend_of}
 use Rattle.uart_16550.specs.declared.driver.Uart16550.{Uart16550}
 use Rattle.uart_ring.specs.declared.ring.TheConstants.{MAX_CAPACITY}

@@ -1,6 +1,6 @@
 -- Serving interrupts.
 use Rattle.std.specs.Prelude.{◌≡◌, ◌<◌, ◌⊎◌, ℕ, [], ◌∷◌, Option, Some, None}
-use Rattle.uart_spec.specs.Access.{Read}
+use Rattle.uart_spec.specs.declared.access.Access.TheVariants.{Read}
 use Rattle.uart_spec.specs.Bits.{IsOnlyIfAny}
 use Rattle.uart_spec.specs.Fields.{Identifies}
 use Rattle.uart_spec.specs.declared.registers.interrupt_type.InterruptType.{InterruptType}

@@ -6,7 +6,9 @@ use Rattle.uart_spec.specs.declared.errors.RemoteReadyToReceiveError.{RemoteRead
 use Rattle.uart_spec.specs.declared.errors.StalledError.{StalledError}
 use Rattle.uart_spec.specs.declared.registers.offsets.TheConstants as offsets
 use Rattle.uart_spec.specs.declared.registers.line_status.TheConstants.LSR
-use Rattle.uart_spec.specs.Access.{Access, Read, Write, saved_lsr, saved_msr}
+use Rattle.uart_spec.specs.Access.{saved_lsr, saved_msr}
+use Rattle.uart_spec.specs.declared.access.Access.{Access}
+use Rattle.uart_spec.specs.declared.access.Access.TheVariants.{Read, Write}
 use Rattle.uart_16550.specs.Grammar.{Language, Settings, Only, Then, AllMisses}
 use Rattle.uart_16550.specs.Driver.{Fields, settings_of, Saving, with_interrupts}
 use Rattle.uart_16550.specs.Transmit.{SendMiss, Round}

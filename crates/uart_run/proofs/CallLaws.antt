@@ -7,7 +7,8 @@ use Rattle.uart_spec.specs.declared.errors.ByteSendError.{ByteSendError}
 use Rattle.uart_spec.specs.declared.errors.ByteReceiveError.{ByteReceiveError}
 use Rattle.uart_spec.specs.declared.errors.StalledError.{StalledError}
 use Rattle.uart_spec.specs.declared.registers.offsets.TheConstants as offsets
-use Rattle.uart_spec.specs.Access.{Access, saved_lsr, saved_msr}
+use Rattle.uart_spec.specs.Access.{saved_lsr, saved_msr}
+use Rattle.uart_spec.specs.declared.access.Access.{Access}
 use Rattle.uart_16550.specs.Grammar.{Language, Settings}
 use Rattle.uart_16550.specs.Driver.{Doing, Did, Saving, Fields, fields, settings_of}
 use Rattle.uart_16550.specs.Receive.{TryReceive, ReceivesExact}

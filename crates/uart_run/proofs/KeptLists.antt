@@ -8,7 +8,9 @@ use Rattle.uart_spec.specs.declared.registers.offsets.TheConstants as offsets
 use Rattle.uart_spec.specs.declared.registers.line_status.TheConstants.LSR
 use Rattle.uart_spec.specs.declared.registers.modem_status.TheConstants.MSR
 use Rattle.uart_spec.specs.declared.registers.modem_control.TheConstants.MCR
-use Rattle.uart_spec.specs.Access.{Access, Read, Write, Path}
+use Rattle.uart_spec.specs.Access.{Path}
+use Rattle.uart_spec.specs.declared.access.Access.{Access}
+use Rattle.uart_spec.specs.declared.access.Access.TheVariants.{Read, Write}
 use Rattle.uart_16550.specs.Grammar.{Language, Settings, Then, Asks, ReadsRegister, Never}
 use Rattle.uart_16550.specs.Receive.{Hit, Miss, Awaited, ReceivesExact}
 use Rattle.uart_16550.specs.Transmit.{LinesAllow, SendHit, SendRefused, SendMiss, data_writes, Burst}

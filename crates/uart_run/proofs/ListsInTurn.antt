@@ -1,6 +1,6 @@
 -- What holds of all lists of a language, since it holds of those of its parts.
 use Rattle.std.proofs.Common.{ℕ, zero, suc, List, [], ◌∷◌, ◌++◌}
-use Rattle.uart_spec.specs.Access.{Access}
+use Rattle.uart_spec.specs.declared.access.Access.{Access}
 use Rattle.uart_16550.specs.Grammar.{Language, Settings, Only, Then, InOrder, Times, FewMisses, AllMisses}
 
 -- it holds of no accesses, and of two lists in turn if it holds of both

@@ -1,6 +1,7 @@
 -- Pieces of a path: where a list, or what a call does, has two parts, its path leads through a machine between them.
 use Rattle.std.proofs.Common.{◌≡◌, List, ◌++◌}
-use Rattle.uart_spec.specs.Access.{Access, Path}
+use Rattle.uart_spec.specs.Access.{Path}
+use Rattle.uart_spec.specs.declared.access.Access.{Access}
 use Rattle.uart_16550.specs.Grammar.{Language, Settings, Then}
 use Rattle.uart_16550.specs.Driver.{Fields, Doing, Next}
 use Rattle.uart_chip.specs.Machine.{MachineState, MachineStep}

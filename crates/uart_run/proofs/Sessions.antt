@@ -1,6 +1,7 @@
 -- What a session conserves, carried over its calls.
 use Rattle.std.proofs.Common.{ℕ, List, ◌++◌, map, ap, sym, ◌∙◌}
-use Rattle.uart_spec.specs.Access.{Access, Path}
+use Rattle.uart_spec.specs.Access.{Path}
+use Rattle.uart_spec.specs.declared.access.Access.{Access}
 use Rattle.uart_spec.specs.declared.call.Call.{Call}
 use Rattle.uart_spec.specs.declared.call.Call.TheVariants as call
 use Rattle.uart_spec.specs.declared.call.Answer.{Answer}

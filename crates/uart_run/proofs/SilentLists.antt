@@ -4,7 +4,8 @@ use Rattle.uart_spec.specs.declared.registers.fifo_trigger_level.FifoTriggerLeve
 use Rattle.uart_spec.specs.declared.registers.offsets.TheConstants as offsets
 use Rattle.uart_spec.specs.declared.registers.line_status.TheConstants.LSR
 use Rattle.uart_spec.specs.declared.registers.interrupt_status.TheConstants.ISR
-use Rattle.uart_spec.specs.Access.{Access, Read, Write}
+use Rattle.uart_spec.specs.declared.access.Access.{Access}
+use Rattle.uart_spec.specs.declared.access.Access.TheVariants.{Read, Write}
 use Rattle.uart_16550.specs.Grammar.{Language, Settings, Asks, ReadsRegister}
 use Rattle.uart_16550.specs.Driver.{Fields, Doing, Saving, Plain, Sets, Next, settings_of}
 use Rattle.uart_16550.specs.Init.{Keeps, ChecksPresence, SetsFifo, Discards, DrainsReceiver}

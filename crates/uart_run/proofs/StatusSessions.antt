@@ -1,7 +1,9 @@
 -- What `lsr` and `msr` tell in a session, carried over its calls.
 use Rattle.std.proofs.Common.{◌≡◌, ℕ, Bool, List, [], ◌∷◌, ◌++◌, take, Option, refl, sym, ◌∙◌, ap, subst, bit_or}
 use Rattle.uart_spec.specs.declared.registers.offsets.TheConstants as offsets
-use Rattle.uart_spec.specs.Access.{Access, Read, Path}
+use Rattle.uart_spec.specs.Access.{Path}
+use Rattle.uart_spec.specs.declared.access.Access.{Access}
+use Rattle.uart_spec.specs.declared.access.Access.TheVariants.{Read}
 use Rattle.uart_16550.specs.Driver.{Doing, Fields, fields}
 use Rattle.uart_16550.specs.Status.{TakesLsr, TakesMsr}
 use Rattle.uart_16550.specs.Tty.{inner_of}

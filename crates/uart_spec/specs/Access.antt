@@ -1,14 +1,11 @@
 -- Accesses to the eight registers, paths of accesses, and the bits of their answers that the driver saves.
 use Rattle.std.specs.Prelude.{◌≡◌, ℕ, List, [], ◌∷◌, ◌==◌, if◌then◌else◌}
 use Rattle.std.specs.Int.RustNames.{bit_and, bit_or}
+use Rattle.uart_spec.specs.declared.access.Access.{Access}
+use Rattle.uart_spec.specs.declared.access.Access.TheVariants.{Read, Write}
 use Rattle.uart_spec.specs.declared.registers.line_status.TheConstants.LSR
 use Rattle.uart_spec.specs.declared.registers.modem_status.TheConstants.MSR
 use Rattle.uart_spec.specs.declared.registers.offsets.TheConstants as offsets
-
--- a read with its answer, the value that it returned; or a write with its value
-pub data Access : Type 0 where
-  Read : (offset answer : ℕ) → Access
-  Write : (offset value : ℕ) → Access
 
 -- these accesses lead from one state of the backend to another, one step after another
 abbrev pub Path : {S : Type 0} → (S → Access → S → Type 0) → S → List Access → S → Type 0

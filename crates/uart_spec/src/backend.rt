@@ -1,7 +1,8 @@
 //! How the registers of a device are read and written.
 ghost use Rattle.std.specs.Prelude.{◌<◌};
 ghost use Rattle.uart_spec.specs.declared.baud.TheConstants.{NUM_REGISTERS};
-ghost use Rattle.uart_spec.specs.Access.{Access, Read, Write};
+ghost use Rattle.uart_spec.specs.declared.access.Access.{Access};
+ghost use Rattle.uart_spec.specs.declared.access.Access.TheVariants.{Read, Write};
 
 /// Access to the eight registers of one device.
 ///

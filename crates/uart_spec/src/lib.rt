@@ -6,6 +6,7 @@
 //! second.
 #![tactic(auto)]
 
+pub mod access;
 pub mod backend;
 mod baud;
 pub mod call;

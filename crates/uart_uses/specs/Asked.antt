@@ -4,7 +4,7 @@ use Rattle.uart_16550.specs.Driver.{Made}
 use Rattle.uart_16550.specs.Receive.{ReceivesExact}
 use Rattle.uart_16550.specs.Transmit.{SendsExact}
 use Rattle.uart_16550.specs.declared.driver.Uart16550.{Uart16550}
-use Rattle.uart_spec.specs.Access.{Access}
+use Rattle.uart_spec.specs.declared.access.Access.{Access}
 
 -- all of the question was sent, then all of the answer was received, and no other access was made
 pub record Asked {B T : Type 0} (step : B → Access → B → Type 0) (question answer : List ℕ) (done : T)

@@ -16,13 +16,13 @@ use bitflags::Flags;
 use rings::assert_equal;
 use std::num::NonZeroU64;
 use std::test::Fail;
-use uart_16550::replay::Entry;
 use uart_16550::{DEFAULT_SPIN_LIMIT, Uart16550, Uart16550Tty};
 use uart_calls::{Answer, Call};
 use uart_chip::{Chip, Device16550, Uart};
 use uart_live::LiveChip;
 use uart_play::Std;
 use uart_ring::{RingAnswer, RingCall, Uart16550Ring};
+use uart_spec::access::Access;
 use uart_spec::registers::{LSR, offsets};
 use uart_spec::{BaudRate, Config, NUM_REGISTERS};
 
@@ -118,8 +118,8 @@ fn a_turn_of_a_monitor(rt: HostRuntime) -> Result<(), Fail> {
 #[test]
 fn accesses_of_a_flush(rt: HostRuntime) {
     let (busy, empty) = (
-        Entry::Read(offsets::LSR, 0x20),
-        Entry::Read(offsets::LSR, 0x60),
+        Access::Read(offsets::LSR, 0x20),
+        Access::Read(offsets::LSR, 0x60),
     );
     for (accesses, is_flush) in [
         ([busy, empty].as_slice(), true),

@@ -9,7 +9,7 @@ pub mod uart_16550 {
 
 /// Registers, arithmetic, configuration and errors.
 pub mod uart_spec {
-    pub use crate::erased::call;
+    pub use crate::erased::{access, call};
     pub use ::uart_16550::native::backend;
     pub use ::uart_16550::native::spec::*;
     pub use ::uart_16550::native::*;

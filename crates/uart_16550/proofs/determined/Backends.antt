@@ -2,7 +2,9 @@
 use Rattle.std.proofs.Common.{◌≡◌, ℕ, List, [], ◌∷◌, ◌++◌, refl, sym, ◌∙◌, ap, subst, append_assoc, inl, inr, ◌⊎◌}
 use Rattle.std.proofs.lemmas.List.{append_cancel_left}
 use Rattle.std.specs.Int.NonZero.{non_zero_u64_get}
-use Rattle.uart_spec.specs.Access.{Access, Read, Write, Path}
+use Rattle.uart_spec.specs.Access.{Path}
+use Rattle.uart_spec.specs.declared.access.Access.{Access}
+use Rattle.uart_spec.specs.declared.access.Access.TheVariants.{Read, Write}
 use Rattle.uart_16550.specs.Choice.{PartAtRead, LeavesNoChoice, answers, IsAnsweredFrom, Agree, AgreeSaving, IsFunction, IsSame}
 use Rattle.uart_16550.specs.Choice.{HasOneOutcome, HasOneOutcomeSaving}
 use Rattle.uart_16550.specs.Grammar.{Language}

@@ -1,6 +1,6 @@
 -- What calls do is determined.
 use Rattle.std.proofs.Common.{◌≡◌, List, sym, ◌∙◌, ap, subst, inl, inr, ◌⊎◌}
-use Rattle.uart_spec.specs.Access.{Access}
+use Rattle.uart_spec.specs.declared.access.Access.{Access}
 use Rattle.uart_16550.specs.Choice.{PartAtRead, LeavesNoChoice}
 use Rattle.uart_16550.specs.Grammar.{Language, Settings}
 use Rattle.uart_16550.specs.Driver.{Doing, Fields, settings_of, saving, Saving, Plain, Sets, Next}

@@ -5,7 +5,7 @@ use Rattle.std.proofs.lemmas.List.{length-take-le, take-append-drop, nil_from_le
 use Rattle.uart_spec.specs.declared.errors.StalledError.{StalledError}
 use Rattle.uart_spec.specs.declared.registers.offsets.TheConstants as offsets
 use Rattle.uart_spec.specs.declared.registers.line_status.TheConstants.LSR
-use Rattle.uart_spec.specs.Access.{Access}
+use Rattle.uart_spec.specs.declared.access.Access.{Access}
 use Rattle.uart_16550.specs.Choice.{ReceivesInto, ReceivesExactInto, ReadsInto}
 use Rattle.uart_16550.specs.Grammar.{Settings, Then, InOrder}
 use Rattle.uart_16550.specs.Receive.{Hit, Miss, Receives, ReceivesSome}

@@ -11,7 +11,8 @@ use Rattle.uart_spec.specs.declared.errors.LoopbackError.TheVariants.{Stalled, S
 use Rattle.uart_spec.specs.declared.registers.offsets.TheConstants as offsets
 use Rattle.uart_spec.specs.declared.registers.line_status.TheConstants.LSR
 use Rattle.uart_spec.specs.declared.registers.modem_control.TheConstants.MCR
-use Rattle.uart_spec.specs.Access.{Access, Read, Write}
+use Rattle.uart_spec.specs.declared.access.Access.{Access}
+use Rattle.uart_spec.specs.declared.access.Access.TheVariants.{Read, Write}
 use Rattle.uart_16550.specs.Grammar.{Language, Settings, Only, Then, InOrder, AllMisses}
 use Rattle.uart_16550.specs.Receive.{Miss, Awaited, ReceivesExact}
 use Rattle.uart_16550.specs.Transmit.{Round, SendMiss, SendsAll, SendsExact, TrySends}

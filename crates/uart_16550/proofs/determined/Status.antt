@@ -10,7 +10,7 @@ use Rattle.uart_spec.specs.declared.errors.RemoteReadyToReceiveError.TheVariants
 }
 use Rattle.uart_spec.specs.declared.registers.line_control.TheConstants.LCR
 use Rattle.uart_spec.specs.declared.registers.modem_status.TheConstants.MSR
-use Rattle.uart_spec.specs.Access.{Access}
+use Rattle.uart_spec.specs.declared.access.Access.{Access}
 use Rattle.uart_16550.specs.Grammar.{Settings}
 use Rattle.uart_16550.specs.Driver.{Fields, with_interrupts, saving}
 use Rattle.uart_16550.specs.Status.{TakesLsr, TakesMsr, Connects, ShowsConnection, ReadsDivisor, divisor_accesses, Enables, Disables, Dumps}

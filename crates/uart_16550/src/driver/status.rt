@@ -1,7 +1,7 @@
 //! The register calls.
 ghost use Rattle.std.specs.Prelude.{◌≡◌, [], ◌∷◌};
 ghost use Rattle.uart_spec.specs.declared.registers.offsets.TheConstants as offsets;
-ghost use Rattle.uart_spec.specs.Access.{Read};
+ghost use Rattle.uart_spec.specs.declared.access.Access.TheVariants.{Read};
 ghost use Rattle.uart_16550.specs.Grammar.{Only};
 ghost use Rattle.uart_16550.specs.Status.{TakesLsr, TakesMsr, Connects, ReadsDivisor};
 ghost use Rattle.uart_16550.specs.Status.{StoresInterrupts, Enables, Disables, Dumps};

@@ -6,7 +6,7 @@ ghost use Rattle.uart_16550.specs.Transmit.{Sends, WaitsToSend, SendsSome, Sends
 ghost use Rattle.uart_16550.specs.Transmit.{WaitsFor, TrySends};
 ghost use Rattle.uart_16550.specs.Expansion.{SendsSingly};
 ghost use Rattle.uart_16550.specs.Driver.{Made, settings};
-ghost use Rattle.uart_spec.specs.Access.{Write};
+ghost use Rattle.uart_spec.specs.declared.access.Access.TheVariants.{Write};
 ghost use Rattle.uart_spec.specs.declared.registers.offsets.TheConstants as offsets;
 
 use super::{PIECE_SIZE, Uart16550};

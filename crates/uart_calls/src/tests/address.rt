@@ -1,7 +1,7 @@
 //! The constructors and the backends for devices at ports and at addresses.
 use super::assert_equal;
 use crate::tests::devices::{Constant, Recorder};
-use crate::tests::lists::Entry::{Read, Write};
+use crate::tests::lists::Access::{Read, Write};
 use std::collections::HashSet;
 use std::fmt::Debug;
 use std::hash::Hash;

@@ -1,10 +1,11 @@
 //! Devices for tests.
 ghost use Rattle.std.specs.Prelude.{◌≡◌, ℕ};
-ghost use Rattle.uart_spec.specs.Access.{Read as read_access};
+ghost use Rattle.uart_spec.specs.declared.access.Access.TheVariants.{Read as read_access};
 ghost use Rattle.uart_16550.specs.Replay.{AnswersInTurn};
 ghost use Rattle.uart_calls.specs.Devices.{AnswersAlways, FileStep, file_of, is_latch};
 
-use crate::tests::lists::{Accesses, Entry};
+use crate::tests::lists::Access::{Read, Write};
+use crate::tests::lists::Accesses;
 use arrayvec::ArrayVec;
 use std::num::NonZeroU64;
 use uart_16550::Uart16550;
@@ -35,13 +36,13 @@ impl<D: Backend> Backend for Recorder<D> {
 
     fn read(&mut self, register_offset: u8) -> u8 {
         let answer = self.device.read(register_offset);
-        self.log.push(Entry::Read(register_offset as usize, answer));
+        self.log.push(Read(register_offset as usize, answer));
         answer
     }
 
     fn write(&mut self, register_offset: u8, value: u8) {
         self.device.write(register_offset, value);
-        self.log.push(Entry::Write(register_offset as usize, value));
+        self.log.push(Write(register_offset as usize, value));
     }
 }
 
@@ -50,13 +51,13 @@ impl<D: ByteAccess> ByteAccess for Recorder<D> {
 
     fn load(&mut self, address: usize) -> u8 {
         let answer = self.device.load(address);
-        self.log.push(Entry::Read(address, answer));
+        self.log.push(Read(address, answer));
         answer
     }
 
     fn store(&mut self, address: usize, value: u8) {
         self.device.store(address, value);
-        self.log.push(Entry::Write(address, value));
+        self.log.push(Write(address, value));
     }
 }
 

@@ -1,13 +1,13 @@
 //! Lists of accesses, as they are recorded, and as tables write them.
 use arrayvec::ArrayVec;
-pub use uart_16550::replay::Entry;
 use uart_16550::replay::REPLAY_ROOM;
+pub use uart_spec::access::Access;
 use uart_spec::registers::offsets;
 
 /// A list of accesses, what its reads returned, and whether it had room for all of them.
 #[derive(Debug, PartialEq, Drop)]
 pub struct Accesses {
-    entries: ArrayVec<Entry, REPLAY_ROOM>,
+    entries: ArrayVec<Access, REPLAY_ROOM>,
     answers: ArrayVec<u8, REPLAY_ROOM>,
     is_whole: bool,
 }
@@ -23,17 +23,17 @@ impl Accesses {
     }
 
     /// Appends an access, if there is room.
-    pub fn push(&mut self, entry: Entry) {
-        if let Entry::Read(_, answer) = entry {
+    pub fn push(&mut self, access: Access) {
+        if let Access::Read(_, answer) = access {
             let _ = self.answers.try_push(answer);
         }
-        if self.entries.try_push(entry).is_err() {
+        if self.entries.try_push(access).is_err() {
             self.is_whole = false;
         }
     }
 
     /// Returns the accesses; `None` if there was no room for all of them.
-    pub fn entries(&self) -> Option<&[Entry]> {
+    pub fn entries(&self) -> Option<&[Access]> {
         if self.is_whole {
             Some(self.entries.as_slice())
         } else {
@@ -53,13 +53,13 @@ impl Accesses {
 
     /// Appends one read.
     pub fn read(mut self, offset: usize, answer: u8) -> Self {
-        self.push(Entry::Read(offset, answer));
+        self.push(Access::Read(offset, answer));
         self
     }
 
     /// Appends one write.
     pub fn write(mut self, offset: usize, value: u8) -> Self {
-        self.push(Entry::Write(offset, value));
+        self.push(Access::Write(offset, value));
         self
     }
 
@@ -71,7 +71,7 @@ impl Accesses {
     /// Appends `count` reads of LSR, each with this value.
     pub fn looks(mut self, count: usize, lsr: u8) -> Self {
         for _turn in 0..count {
-            self.push(Entry::Read(offsets::LSR, lsr));
+            self.push(Access::Read(offsets::LSR, lsr));
         }
         self
     }
@@ -84,8 +84,8 @@ impl Accesses {
     /// Appends for each of the bytes a read of LSR that shows data, and a read of it.
     pub fn hits(mut self, bytes: &[u8]) -> Self {
         for &byte in bytes {
-            self.push(Entry::Read(offsets::LSR, 0x01));
-            self.push(Entry::Read(offsets::DATA, byte));
+            self.push(Access::Read(offsets::LSR, 0x01));
+            self.push(Access::Read(offsets::DATA, byte));
         }
         self
     }
@@ -93,7 +93,7 @@ impl Accesses {
     /// Appends a write of each byte to DATA.
     pub fn data(mut self, bytes: &[u8]) -> Self {
         for &byte in bytes {
-            self.push(Entry::Write(offsets::DATA, byte));
+            self.push(Access::Write(offsets::DATA, byte));
         }
         self
     }
@@ -102,16 +102,16 @@ impl Accesses {
     /// distance between two registers.
     pub fn placed(&self, base: usize, stride: usize) -> Self {
         let mut placed = Accesses::new();
-        for entry in self.entries.as_slice() {
-            match *entry {
-                Entry::Read(offset, answer) => {
-                    placed.push(Entry::Read(
+        for access in self.entries.as_slice() {
+            match *access {
+                Access::Read(offset, answer) => {
+                    placed.push(Access::Read(
                         base.wrapping_add(offset.wrapping_mul(stride)),
                         answer,
                     ));
                 }
-                Entry::Write(offset, value) => {
-                    placed.push(Entry::Write(
+                Access::Write(offset, value) => {
+                    placed.push(Access::Write(
                         base.wrapping_add(offset.wrapping_mul(stride)),
                         value,
                     ));
@@ -123,8 +123,8 @@ impl Accesses {
 
     /// Appends the accesses of another list.
     pub fn then(mut self, others: &Accesses) -> Self {
-        for &entry in others.entries.as_slice() {
-            self.push(entry);
+        for &access in others.entries.as_slice() {
+            self.push(access);
         }
         self
     }
@@ -169,7 +169,7 @@ impl Accesses {
     /// Appends a read of each of the seven registers from IER to SPR.
     pub fn registers(mut self, answers: [u8; 7]) -> Self {
         for place in 0..7 {
-            self.push(Entry::Read(offsets::IER + place, answers[place]));
+            self.push(Access::Read(offsets::IER + place, answers[place]));
         }
         self
     }
@@ -254,11 +254,11 @@ pub fn list() -> Accesses {
 
 /// Returns the last byte that was written to a register. While DLAB is set, the first two are the
 /// divisor latch.
-pub fn last_write(accesses: &[Entry], offset: usize) -> Option<u8> {
+pub fn last_write(accesses: &[Access], offset: usize) -> Option<u8> {
     let mut is_latch = false;
     let mut last = None;
-    for entry in accesses {
-        if let Entry::Write(place, value) = *entry {
+    for access in accesses {
+        if let Access::Write(place, value) = *access {
             if place == offsets::LCR {
                 is_latch = value >= 0x80;
             }

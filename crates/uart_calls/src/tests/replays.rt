@@ -27,10 +27,11 @@ use bitflags::Flags;
 use std::fmt;
 use std::num::NonZeroU64;
 use std::process::Abort;
-use uart_16550::replay::{Entry, Replay};
+use uart_16550::replay::Replay;
 use uart_16550::{Uart16550, Uart16550Tty};
 use uart_spec::InitError::DeviceNotPresent;
 use uart_spec::RemoteReadyToReceiveError::RemoteNotClearToSend;
+use uart_spec::access::Access;
 use uart_spec::registers::{IER, offsets};
 use uart_spec::{Config, LoopbackError};
 
@@ -76,10 +77,10 @@ fn a_replay_shows_what_a_call_does(rt: HostRuntime) {
     let mut terminal = replay(&[0x00, 0x20], 3);
     shows(&rt, &mut terminal, SendExact(bytes(b"hi")), Done, 4);
     let accesses = [
-        Entry::Read(offsets::LSR, 0x00),
-        Entry::Read(offsets::LSR, 0x20),
-        Entry::Write(offsets::DATA, b'h'),
-        Entry::Write(offsets::DATA, b'i'),
+        Access::Read(offsets::LSR, 0x00),
+        Access::Read(offsets::LSR, 0x20),
+        Access::Write(offsets::DATA, b'h'),
+        Access::Write(offsets::DATA, b'i'),
     ];
     assert_equal(
         &rt,

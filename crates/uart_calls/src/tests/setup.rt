@@ -4,7 +4,7 @@ ghost use Rattle.std.specs.Prelude.{⊤};
 
 use super::assert_equal;
 use crate::tests::devices::{Constant, Listed, Recorder};
-use crate::tests::lists::{Accesses, Entry, list};
+use crate::tests::lists::{Access, Accesses, list};
 use std::cell::Cell;
 use std::num::NonZeroUsize;
 use std::test::Fail;
@@ -83,9 +83,9 @@ struct Watched<'a> {
 }
 
 impl Watched<'_> {
-    fn note(&self, entry: Entry) {
+    fn note(&self, access: Access) {
         let mut log = self.log.replace(Accesses::new());
-        log.push(entry);
+        log.push(access);
         self.log.set(log);
     }
 }
@@ -96,12 +96,12 @@ impl Backend for Watched<'_> {
 
     fn read(&mut self, register_offset: u8) -> u8 {
         let answer = self.device.read(register_offset);
-        self.note(Entry::Read(register_offset as usize, answer));
+        self.note(Access::Read(register_offset as usize, answer));
         answer
     }
 
     fn write(&mut self, register_offset: u8, value: u8) {
-        self.note(Entry::Write(register_offset as usize, value));
+        self.note(Access::Write(register_offset as usize, value));
     }
 }
 

@@ -3,7 +3,7 @@ use Rattle.std.proofs.Common.{◌≡◌, ℕ, ◌+◌, ◌≤◌, false, List, [
 use Rattle.uart_spec.specs.declared.event.Event.{Event}
 use Rattle.uart_spec.specs.declared.event.Event.TheVariants.{Arrive, Access as Gate, Mark}
 use Rattle.uart_chip.specs.declared.receiver.Character.{Character}
-use Rattle.uart_spec.specs.Access.{Access}
+use Rattle.uart_spec.specs.declared.access.Access.{Access}
 use Rattle.uart_chip.specs.Chip.{ChipState, tick}
 use Rattle.uart_chip.specs.Machine.{MachineState, perform, arrivals, at_access, at_mark}
 use Rattle.uart_chip.specs.Sound.{IsSound}

@@ -6,7 +6,9 @@ use Rattle.std.proofs.lemmas.List.{map-append}
 use lib.Bits.{or_zero_r}
 use Rattle.uart_spec.specs.declared.event.Event.{Event}
 use Rattle.uart_chip.specs.declared.receiver.Character.{Character}
-use Rattle.uart_spec.specs.Access.{Access, Read, saved_lsr, saved_msr}
+use Rattle.uart_spec.specs.Access.{saved_lsr, saved_msr}
+use Rattle.uart_spec.specs.declared.access.Access.{Access}
+use Rattle.uart_spec.specs.declared.access.Access.TheVariants.{Read}
 use Rattle.uart_spec.specs.Bits.{has_any}
 use Rattle.uart_spec.specs.declared.registers.line_status.TheConstants.LSR
 use Rattle.uart_spec.specs.declared.registers.offsets.TheConstants as offsets

@@ -6,7 +6,8 @@ use Rattle.uart_spec.specs.declared.event.Event.{Event}
 use Rattle.uart_spec.specs.declared.event.Event.TheVariants.{Ticks, Arrive, Lines}
 use Rattle.uart_chip.specs.declared.receiver.Character.{Character}
 use Rattle.uart_chip.specs.declared.receiver.Origin.TheVariants.{Arrived}
-use Rattle.uart_spec.specs.Access.{Access, saved, saved_of, saved_lsr, saved_msr}
+use Rattle.uart_spec.specs.Access.{saved, saved_of, saved_lsr, saved_msr}
+use Rattle.uart_spec.specs.declared.access.Access.{Access}
 use Rattle.uart_spec.specs.Bits.{has_any}
 use Rattle.uart_spec.specs.declared.registers.line_control.TheConstants.LCR
 use Rattle.uart_spec.specs.declared.registers.modem_control.TheConstants.MCR

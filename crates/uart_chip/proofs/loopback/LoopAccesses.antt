@@ -3,7 +3,9 @@ use Rattle.std.proofs.Common.{◌≡◌, ℕ, ◌+◌, ◌≤◌, ◌<◌, Bool,
 use Rattle.std.proofs.Common.{sym, ◌∙◌, ap, if◌then◌else◌}
 use Rattle.std.proofs.lemmas.Grind.{common_steps}
 use Rattle.uart_chip.specs.declared.receiver.Character.{Character}
-use Rattle.uart_spec.specs.Access.{Access, Read, Write, Path}
+use Rattle.uart_spec.specs.Access.{Path}
+use Rattle.uart_spec.specs.declared.access.Access.{Access}
+use Rattle.uart_spec.specs.declared.access.Access.TheVariants.{Read, Write}
 use Rattle.uart_spec.specs.declared.registers.offsets.TheConstants as offsets
 use Rattle.uart_chip.specs.Transmitter.{TransmitterState, load, room}
 use Rattle.uart_chip.specs.Receiver.{ReceiverState, report, take_front}

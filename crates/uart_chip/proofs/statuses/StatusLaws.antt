@@ -6,7 +6,9 @@ use Rattle.std.proofs.lemmas.Nat.Bits.{same_from_bits, bit_at_or, bit_at_and, bi
 use Rattle.std.specs.Int.Bits.{and_zero_l, and_self}
 use lib.Bits.{or_zero_r}
 use Rattle.uart_chip.specs.declared.receiver.Character.{Character}
-use Rattle.uart_spec.specs.Access.{Access, Read, Write, Path, saved, saved_of, saved_lsr, saved_msr}
+use Rattle.uart_spec.specs.Access.{Path, saved, saved_of, saved_lsr, saved_msr}
+use Rattle.uart_spec.specs.declared.access.Access.{Access}
+use Rattle.uart_spec.specs.declared.access.Access.TheVariants.{Read, Write}
 use Rattle.uart_spec.specs.Bits.{IsWithin, has_any}
 use Rattle.uart_spec.specs.declared.registers.line_status.TheConstants.LSR
 use Rattle.uart_spec.specs.declared.registers.modem_status.TheConstants.MSR

@@ -1,10 +1,9 @@
 //! What an access does.
 ghost use Rattle.std.specs.Prelude.{◌≡◌};
 ghost use Rattle.uart_judges.specs.Actions as spec;
-ghost use Rattle.uart_16550.specs.Replay.{access_of};
 
 use bitflags::Flags;
-use uart_16550::replay::Entry;
+use uart_spec::access::Access;
 use uart_spec::registers::{FCR, IER, ISR, LCR, LSR, MCR, MSR, offsets};
 
 /// What an access does, or shows, if the chip is a 16550.
@@ -76,12 +75,12 @@ fn write_action(is_open: bool, offset: usize, value: u8) -> Action
 
 impl Action {
     /// Returns what an access does, while the divisor latch is open or not.
-    pub fn new(is_open: bool, access: Entry) -> Self
-        ensures { result ≡ spec.action is_open (access_of access) }
+    pub fn new(is_open: bool, access: Access) -> Self
+        ensures { result ≡ spec.action is_open access }
     {
         match access {
-            Entry::Read(offset, answer) => read_action(is_open, offset, answer),
-            Entry::Write(offset, value) => write_action(is_open, offset, value),
+            Access::Read(offset, answer) => read_action(is_open, offset, answer),
+            Access::Write(offset, value) => write_action(is_open, offset, value),
         }
     }
 }

@@ -1,7 +1,6 @@
 //! The judge.
 ghost use Rattle.std.specs.Prelude.{◌≡◌, ◌∷◌, [], List};
-ghost use Rattle.uart_spec.specs.Access.{Access};
-ghost use Rattle.uart_16550.specs.Replay.{access_of};
+ghost use Rattle.uart_spec.specs.declared.access.Access.{Access};
 ghost use Rattle.uart_judges.specs.Actions.{action};
 ghost use Rattle.uart_judges.specs.Findings.{findings};
 ghost use Rattle.uart_judges.specs.History.{actions, has_dlab, known};
@@ -11,7 +10,7 @@ use crate::audit::finding::Finding;
 use crate::audit::findings::{disturbance, interrupt, loss, note, setting};
 use crate::audit::judging::has_dlab;
 use crate::audit::setup::{DivisorBytes, Setup};
-use uart_16550::replay::Entry;
+use uart_spec::access::Access;
 use uart_spec::registers::{InterruptType, MCR};
 
 /// The interrupts that were enabled and had a reason, and that no read of ISR acknowledged since.
@@ -117,11 +116,11 @@ impl Auditor {
     /// Goes on by one access, and returns the findings at it, each in its place: what the access
     /// shows, bytes that are lost, what is changed while bytes go out, a set-up that cannot work,
     /// and an interrupt that was not served.
-    pub fn step(&mut self, access: Entry) -> [Option<Finding>; 5]
+    pub fn step(&mut self, access: Access) -> [Option<Finding>; 5]
         ensures findings { result ≡
-            findings self.old (action (has_dlab self.old.setup.line) (access_of access)) }
+            findings self.old (action (has_dlab self.old.setup.line) access) }
         ensures known { (past : List Access) → self.old ≡ known (actions past) →
-            self.new ≡ known (actions (access_of access ∷ past)) }
+            self.new ≡ known (actions (access ∷ past)) }
     {
         let action = Action::new(has_dlab(self.setup.line), access);
         let found = self.findings(action);

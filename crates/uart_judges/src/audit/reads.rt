@@ -3,13 +3,14 @@ ghost use Rattle.std.specs.Prelude.{◌≡◌, ◌++◌, List, replicate};
 ghost use Rattle.uart_judges.specs.Findings.{findings};
 ghost use Rattle.uart_judges.specs.History.{actions, known};
 ghost use Rattle.uart_judges.specs.Reads.{found_at_each, gone_on, gone_on_settled, spread, unsettled};
-ghost use Rattle.uart_spec.specs.Access.{Access, Read};
+ghost use Rattle.uart_spec.specs.declared.access.Access.{Access};
+ghost use Rattle.uart_spec.specs.declared.access.Access.TheVariants.{Read};
 
 use crate::audit::action::Action;
 use crate::audit::auditor::Auditor;
 use crate::audit::finding::Finding;
 use crate::audit::judging::has_dlab;
-use uart_16550::replay::Entry;
+use uart_spec::access::Access;
 
 /// The findings at each of so many accesses in turn, which are the same.
 #[derive(Clone, Copy, Debug, PartialEq, Eq)]
@@ -74,7 +75,7 @@ impl Auditor {
         ensures known { (past : List Access) → self.old ≡ known (actions past) →
             self.new ≡ known (actions (replicate times (Read offset answer) ++ past)) }
     {
-        let action = Action::new(has_dlab(self.setup.line), Entry::Read(offset, answer));
+        let action = Action::new(has_dlab(self.setup.line), Access::Read(offset, answer));
         let first = self.go_on(action, times.min(1));
         let behind = times - first.times;
         let second = self.go_on(action, self.unsettled(action).min(behind));

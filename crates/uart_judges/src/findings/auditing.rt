@@ -7,7 +7,7 @@ use crate::findings::times::Times;
 use crate::recording::{Event, Happening};
 use std::alloc::Global;
 use std::io::{Read, Write};
-use uart_16550::replay::Entry;
+use uart_spec::access::Access;
 
 // Returns the word for a finding that compilers print.
 fn severity_text(severity: Severity) -> &'static str {
@@ -70,7 +70,7 @@ struct Auditing {
     auditor: Auditor,
     // An access that has no finding and changes nothing now, so that more of them have none either,
     // if one is known.
-    quiet: Option<Entry>,
+    quiet: Option<Access>,
 }
 
 impl Auditing {
@@ -79,7 +79,7 @@ impl Auditing {
     fn print_accesses<W: Write>(
         &mut self,
         to: &mut Listing<W>,
-        access: Entry,
+        access: Access,
         line: u64,
         times: u64,
     ) -> Result<u64, Stop> {
@@ -92,7 +92,7 @@ impl Auditing {
         }
         self.quiet = None;
         match access {
-            Entry::Read(offset, answer) if times != 1 => {
+            Access::Read(offset, answer) if times != 1 => {
                 self.auditor = before;
                 print_reads(to, line, self.auditor.reads(offset, answer, times))
             }

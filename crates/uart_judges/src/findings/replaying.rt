@@ -7,8 +7,8 @@ use crate::recording::{Event, Happening};
 use crate::replay::{Difference, Replayer, Start};
 use std::alloc::Global;
 use std::io::{Read, Write};
-use uart_16550::replay::Entry;
 use uart_chip::Chip;
+use uart_spec::access::Access;
 
 // Prints a difference of a line, if there is one, that was found so many times in turn. Returns how
 // many these are.
@@ -33,7 +33,7 @@ impl Judge for Replayer {
 
     fn print_event<W: Write>(&mut self, to: &mut Listing<W>, event: &Event) -> Result<u64, Stop> {
         match event.happening {
-            Happening::Access(Entry::Read(offset, answer)) => {
+            Happening::Access(Access::Read(offset, answer)) => {
                 let reported = self.reads(offset, answer, event.times);
                 let others = event.times.saturating_sub(1);
                 if reported.first == reported.others {
@@ -43,7 +43,7 @@ impl Judge for Replayer {
                 let more = print(to, event.line, reported.others, others)?;
                 Ok(first.saturating_add(more))
             }
-            Happening::Access(Entry::Write(offset, value)) => {
+            Happening::Access(Access::Write(offset, value)) => {
                 self.write(offset, value);
                 Ok(0)
             }

@@ -2,14 +2,14 @@
 
 use bitflags::Flags;
 use std::fmt;
-use uart_16550::replay::Entry;
+use uart_spec::access::Access;
 use uart_spec::registers::{LSR, MSR};
 
 /// What happened at the port of a chip.
 #[derive(Clone, Copy, Debug, PartialEq, Eq)]
 pub enum Happening {
     /// The driver accessed a register, whose offset is less than `NUM_REGISTERS`.
-    Access(Entry),
+    Access(Access),
     /// A character arrived from the remote, with these errors: parity, framing and break.
     Arrive {
         /// The byte.
@@ -44,8 +44,8 @@ pub struct Event {
 impl fmt::Display for Happening {
     fn fmt<W: fmt::Write>(&self, f: &mut fmt::Formatter<W>) -> fmt::Result {
         match self {
-            Happening::Access(Entry::Read(offset, answer)) => write!(f, "r {offset} {answer:02x}"),
-            Happening::Access(Entry::Write(offset, value)) => write!(f, "w {offset} {value:02x}"),
+            Happening::Access(Access::Read(offset, answer)) => write!(f, "r {offset} {answer:02x}"),
+            Happening::Access(Access::Write(offset, value)) => write!(f, "w {offset} {value:02x}"),
             Happening::Arrive { byte, errors } => write!(f, "a {:02x} {byte:02x}", errors.bits()),
             Happening::Interrupt { .. } => write!(f, "i"),
             Happening::Lines(inputs) => write!(f, "m {:02x}", inputs.bits()),

@@ -16,8 +16,8 @@ use crate::recording::fields::{
 use crate::recording::limits::MOST_LINE_BYTES;
 use crate::traces::{before_remark, offset_in};
 use bitflags::Flags;
-use uart_16550::replay::Entry;
 use uart_language::{Cause, byte_in, has_bad_byte, word_at, word_count};
+use uart_spec::access::Access;
 use uart_spec::registers::{LSR, MSR};
 
 /// The meaning of a line of a recording.
@@ -51,13 +51,13 @@ enum Direction {
 
 impl Direction {
     // Returns an access in this direction.
-    fn access(self, offset: usize, byte: u8) -> Entry
+    fn access(self, offset: usize, byte: u8) -> Access
         ensures value { result ≡ of_direction self offset byte }
         ensures register { offset < NUM_REGISTERS → IsOfARegister result }
     {
         match self {
-            Direction::Read => Entry::Read(offset, byte),
-            Direction::Write => Entry::Write(offset, byte),
+            Direction::Read => Access::Read(offset, byte),
+            Direction::Write => Access::Write(offset, byte),
         }
     }
 }
@@ -289,7 +289,7 @@ fn is_word_of(direction: Direction, word: &[u8]) -> bool
 
 // Returns the access of the words from here on.
 #[tactic(auto, unfolding(crate::specs::RecordingLines::log_fields_in))]
-fn log_fields_in(direction: Direction, at: usize, line: &[u8]) -> Result<Entry, Cause>
+fn log_fields_in(direction: Direction, at: usize, line: &[u8]) -> Result<Access, Cause>
     requires { at < 8 }
     ensures read { result ≡ log_fields_in direction at (words_of line.now) }
     ensures register { IfOk result IsOfARegister }
@@ -304,7 +304,7 @@ fn log_fields_in(direction: Direction, at: usize, line: &[u8]) -> Result<Entry, 
 
 // Returns the access of a line of the log, with or without the word behind the name.
 #[tactic(auto, unfolding(crate::specs::RecordingLines::log_access_in))]
-fn log_access_in(direction: Direction, line: &[u8]) -> Result<Entry, Cause>
+fn log_access_in(direction: Direction, line: &[u8]) -> Result<Access, Cause>
     ensures read { result ≡ log_access_in direction (words_of line.now) }
     ensures register { IfOk result IsOfARegister }
 {

@@ -5,7 +5,7 @@ ghost use Rattle.uart_judges.specs.Places.{IsLineRead, repeated};
 use crate::recording::cause::Fault;
 use crate::recording::event::{Event, Happening};
 use crate::recording::lines::{Line, line_in};
-use uart_16550::replay::Entry;
+use uart_spec::access::Access;
 
 /// How far a recording is read.
 #[derive(Clone, Copy, Debug, PartialEq, Eq)]
@@ -22,7 +22,7 @@ fn repeated(event: Event, line: u64, times: u64) -> Option<Event>
     ensures { result ≡ repeated event line times }
 {
     match event.happening {
-        Happening::Access(Entry::Read(_, _)) => Some(Event {
+        Happening::Access(Access::Read(_, _)) => Some(Event {
             times,
             line,
             time: None,

@@ -5,7 +5,7 @@ ghost use Rattle.uart_judges.specs.declared.replay.known.Start.{Start};
 ghost use Rattle.uart_judges.specs.Known as spec;
 ghost use Rattle.uart_judges.specs.Replays.{AreSound, NoneReturns, Seen, difference, differences, each_of, known_after};
 ghost use Rattle.uart_judges.specs.Replays.{known_from, known_reads, seen_read};
-ghost use Rattle.uart_spec.specs.Access.{Write};
+ghost use Rattle.uart_spec.specs.declared.access.Access.TheVariants.{Write};
 ghost use Rattle.uart_judges.specs.Replays.{Did};
 
 use crate::replay::difference::{Difference, Reported};

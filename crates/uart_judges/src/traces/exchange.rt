@@ -2,8 +2,8 @@
 ghost use Rattle.uart_spec.specs.Calls.{IsRunnable};
 ghost use Rattle.uart_judges.specs.Runnable.{runnable_is_one};
 
-use uart_16550::replay::Entry;
 use uart_calls::Call;
+use uart_spec::access::Access;
 
 /// One call of a trace: the call, its accesses, and what it returned.
 #[derive(Debug, Drop)]
@@ -11,7 +11,7 @@ pub struct Exchange {
     /// The call.
     pub call: Call,
     /// Its accesses.
-    pub accesses: Vec<Entry>,
+    pub accesses: Vec<Access>,
     /// The line of each access, counted from 1.
     pub access_lines: Vec<usize>,
     /// What it returned, as it is printed.

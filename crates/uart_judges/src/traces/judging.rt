@@ -1,8 +1,7 @@
 //! Whether each call of a trace made one of its lists.
-ghost use Rattle.std.specs.Prelude.{◌≡◌, ◌↔◌, true, map, IfOk, IfSome, IsNone};
+ghost use Rattle.std.specs.Prelude.{◌≡◌, ◌↔◌, true, IfOk, IfSome, IsNone};
 ghost use Rattle.std.specs.Int.NonZero.{non_zero_u64_get};
 ghost use Rattle.uart_16550.specs.Driver.{Fields};
-ghost use Rattle.uart_16550.specs.Replay.{access_of};
 ghost use Rattle.uart_16550.specs.State.{fields_of, fresh_fields};
 ghost use Rattle.uart_language.specs.Output.{answer_text};
 ghost use Rattle.uart_calls.specs.Lists.{IsFollowed};
@@ -52,6 +51,7 @@ fn state_before(exchange: &Exchange, state: DriverState, limit: NonZeroU64) -> D
 }
 
 // Returns the state of the driver after a call, if it makes this list and returns this answer.
+#[tactic(auto, using(uart_calls::proofs::Checked::same_accesses))]
 fn after(
     alloc: Global,
     exchange: &Exchange,
@@ -73,10 +73,10 @@ fn after(
 }
 
 // Returns what the driver does instead of what a trace has.
+#[tactic(auto, using(uart_calls::proofs::Checked::same_accesses))]
 fn stray_at<'a>(exchange: &'a Exchange, state: &DriverState) -> Stray<'a>
     ensures call { result.exchange.now ≡ exchange.now }
-    ensures first { IsFollowed exchange.now.call (fields_of state.now)
-        (map access_of exchange.now.accesses.items)
+    ensures first { IsFollowed exchange.now.call (fields_of state.now) exchange.now.accesses.items
         (record { kept = result.kept; turn = result.turn }) }
 {
     let followed = follow(&exchange.accesses, state, &exchange.call);

@@ -11,9 +11,9 @@ ghost use Rattle.uart_judges.specs.TraceLines.{offset_in, said_by, said_in};
 ghost use Rattle.uart_judges.specs.TraceLines.{saying_of, says, without_end};
 
 use crate::traces::cause::Fault;
-use uart_16550::replay::Entry;
 use uart_calls::Call;
 use uart_language::{Cause, Item, byte_in, has_bad_byte, item_at, word_at, word_count};
+use uart_spec::access::Access;
 
 // The number of a line at which neither the first line of a script nor its limit may be.
 const AFTER_THE_HEAD: u32 = 3;
@@ -28,7 +28,7 @@ pub enum Line<'a> {
     /// A call.
     Call(Call),
     /// An access.
-    Access(Entry),
+    Access(Access),
     /// What the call returned, as it is printed.
     Answer(&'a [u8]),
 }
@@ -132,11 +132,11 @@ fn line_by<'a>(word: &[u8], line: &'a [u8]) -> Result<Line<'a>, Fault>
         b"=" => answer_in(line),
         b"r" => {
             let (offset, answer) = access_in(line)?;
-            Ok(Line::Access(Entry::Read(offset, answer)))
+            Ok(Line::Access(Access::Read(offset, answer)))
         }
         b"w" => {
             let (offset, value) = access_in(line)?;
-            Ok(Line::Access(Entry::Write(offset, value)))
+            Ok(Line::Access(Access::Write(offset, value)))
         }
         _ => call_in(line),
     }

@@ -67,8 +67,8 @@ fn read_exchange(
         rest = left;
         match line {
             Line::Blank => {}
-            Line::Access(entry) => {
-                accesses.push(entry)?;
+            Line::Access(access) => {
+                accesses.push(access)?;
                 access_lines.push(number)?;
             }
             Line::Answer(text) => {

@@ -1,6 +1,5 @@
 //! How accesses are printed, and where a trace strays.
 ghost use Rattle.std.specs.Prelude.{◌≡◌, ◌∷◌, ◌++◌, OnOk, slice_get};
-ghost use Rattle.uart_16550.specs.Replay.{access_of};
 ghost use Rattle.uart_language.specs.Output.{hex_byte};
 ghost use Rattle.uart_judges.specs.Telling.{access_text, answer_line_text, found_text};
 ghost use Rattle.uart_judges.specs.Telling.{line_text, place_text, request_text};
@@ -9,9 +8,9 @@ ghost use Rattle.uart_judges.specs.Telling.{stray_text, turn_text};
 use crate::traces::exchange::Exchange;
 use crate::traces::judging::Stray;
 use std::alloc::{AllocError, Global};
-use uart_16550::replay::Entry;
 use uart_calls::{Request, Turn};
 use uart_language::{hex_digit, push_answer};
+use uart_spec::access::Access;
 
 // Appends a letter and the offset of a register.
 fn push_place(out: &mut Vec<u8>, letter: u8, offset: usize) -> Result<(), AllocError>
@@ -33,15 +32,15 @@ fn push_byte(out: &mut Vec<u8>, byte: u8) -> Result<(), AllocError>
 }
 
 /// Appends an access as a trace has it, without the end of its line.
-pub fn push_entry(out: &mut Vec<u8>, entry: Entry) -> Result<(), AllocError>
-    ensures { OnOk result (out.new.items ≡ out.old.items ++ access_text (access_of entry)) }
+pub fn push_access(out: &mut Vec<u8>, access: Access) -> Result<(), AllocError>
+    ensures { OnOk result (out.new.items ≡ out.old.items ++ access_text access) }
 {
-    match entry {
-        Entry::Read(offset, answer) => {
+    match access {
+        Access::Read(offset, answer) => {
             push_place(out, b'r', offset)?;
             push_byte(out, answer)
         }
-        Entry::Write(offset, value) => {
+        Access::Write(offset, value) => {
             push_place(out, b'w', offset)?;
             push_byte(out, value)
         }
@@ -54,7 +53,7 @@ fn push_request(out: &mut Vec<u8>, request: Request) -> Result<(), AllocError>
 {
     match request {
         Request::Read(offset) => push_place(out, b'r', offset),
-        Request::Write(offset, value) => push_entry(out, Entry::Write(offset, value)),
+        Request::Write(offset, value) => push_access(out, Access::Write(offset, value)),
     }
 }
 
@@ -68,7 +67,7 @@ fn push_line(alloc: Global, out: &mut Vec<u8>, line: usize) -> Result<(), AllocE
 }
 
 // Returns the access at this place of a call.
-fn entry_at(exchange: &Exchange, place: usize) -> Option<Entry>
+fn access_at(exchange: &Exchange, place: usize) -> Option<Access>
     ensures { result ≡ slice_get exchange.now.accesses.items place }
 {
     exchange.accesses.get(place).copied()
@@ -94,16 +93,16 @@ fn push_answer_line(alloc: Global, out: &mut Vec<u8>, exchange: &Exchange) -> Re
 fn push_found(
     alloc: Global,
     out: &mut Vec<u8>,
-    entry: Option<Entry>,
+    access: Option<Access>,
     line: Option<usize>,
     exchange: &Exchange,
 ) -> Result<(), AllocError>
-    ensures { OnOk result (out.new.items ≡ out.old.items ++ found_text entry line exchange.now) }
+    ensures { OnOk result (out.new.items ≡ out.old.items ++ found_text access line exchange.now) }
 {
-    match (entry, line) {
-        (Some(entry), Some(line)) => {
+    match (access, line) {
+        (Some(access), Some(line)) => {
             push_line(alloc, out, line)?;
-            push_entry(out, entry)
+            push_access(out, access)
         }
         (Some(_), None) => push_answer_line(alloc, out, exchange),
         (None, _) => push_answer_line(alloc, out, exchange),
@@ -131,9 +130,9 @@ fn push_turn(alloc: Global, out: &mut Vec<u8>, turn: &Turn) -> Result<(), AllocE
 pub fn push_stray(alloc: Global, out: &mut Vec<u8>, stray: &Stray<'_>) -> Result<(), AllocError>
     ensures { OnOk result (out.new.items ≡ out.old.items ++ stray_text stray.now) }
 {
-    let entry = entry_at(stray.exchange, stray.kept);
+    let access = access_at(stray.exchange, stray.kept);
     let line = line_at(stray.exchange, stray.kept);
-    push_found(alloc, out, entry, line, stray.exchange)?;
+    push_found(alloc, out, access, line, stray.exchange)?;
     out.extend_from_slice(b"' strays: the driver ")?;
     push_turn(alloc, out, &stray.turn)?;
     out.push(b'\'')?;

@@ -7,16 +7,16 @@ use std::num::NonZeroU64;
 use std::process::Abort;
 use std::test::Fail;
 use uart_16550::DriverState;
-use uart_16550::replay::Entry;
 use uart_calls::{CALL_BYTES, Call, NextStep, Request, next};
 use uart_spec::Config;
+use uart_spec::access::Access;
 use uart_spec::registers::{IER, offsets};
 
 // More accesses than a loopback test makes.
 const MOST_PLACES: usize = 100;
 
 // No call makes this access.
-const STRANGE: Entry = Entry::Write(8, 0);
+const STRANGE: Access = Access::Write(8, 0);
 
 // Returns a call of every kind that takes something, and `next`.
 fn calls_with_words() -> [Call; 12] {
@@ -52,21 +52,21 @@ struct Chip {
 
 impl Chip {
     // Makes an access, and returns it with what a read returned.
-    fn make(&mut self, request: Request) -> Entry {
+    fn make(&mut self, request: Request) -> Access {
         match request {
             Request::Read(offset) if offset == offsets::LSR || offset == offsets::MSR => {
                 let [first, second] = self.status;
                 self.status = [second, first];
-                Entry::Read(offset, first)
+                Access::Read(offset, first)
             }
             Request::Read(offset) => {
-                Entry::Read(offset, self.cells.get(offset).copied().unwrap_or(0))
+                Access::Read(offset, self.cells.get(offset).copied().unwrap_or(0))
             }
             Request::Write(offset, value) => {
                 if let Some(cell) = self.cells.get_mut(offset) {
                     *cell = value;
                 }
-                Entry::Write(offset, value)
+                Access::Write(offset, value)
             }
         }
     }

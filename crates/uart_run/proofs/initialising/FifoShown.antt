@@ -1,7 +1,7 @@
 -- The interrupt identification shows whether the FIFO is on.
 use Rattle.std.proofs.Common.{◌≡◌, ℕ, ◌∙◌, ap}
 use Rattle.uart_spec.specs.Bits.{has}
-use Rattle.uart_spec.specs.Access.{Read}
+use Rattle.uart_spec.specs.declared.access.Access.TheVariants.{Read}
 use Rattle.uart_spec.specs.declared.registers.interrupt_status.TheConstants.ISR
 use Rattle.uart_spec.specs.declared.registers.offsets.TheConstants as offsets
 use Rattle.uart_chip.specs.Chip.{ChipState, interrupt, answer}

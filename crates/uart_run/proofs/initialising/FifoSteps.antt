@@ -6,7 +6,9 @@ use Rattle.uart_spec.specs.declared.registers.fifo_trigger_level.FifoTriggerLeve
 use Rattle.uart_spec.specs.declared.registers.fifo_trigger_level.FifoTriggerLevel.TheVariants.{One, Four, Eight, Fourteen}
 use Rattle.uart_spec.specs.declared.registers.offsets.TheConstants as offsets
 use Rattle.uart_spec.specs.declared.registers.interrupt_status.TheConstants.ISR
-use Rattle.uart_spec.specs.Access.{Access, Read, Write, Path}
+use Rattle.uart_spec.specs.Access.{Path}
+use Rattle.uart_spec.specs.declared.access.Access.{Access}
+use Rattle.uart_spec.specs.declared.access.Access.TheVariants.{Read, Write}
 use Rattle.uart_16550.specs.Grammar.{Settings, Only, Asks}
 use Rattle.uart_16550.specs.Init.{fifo_bits, SetsFifo}
 use Rattle.uart_spec.specs.declared.event.Chip.{Chip}

@@ -13,7 +13,9 @@ use Rattle.uart_spec.specs.declared.errors.InitError.TheVariants.{InvalidBaudRat
 use Rattle.uart_spec.specs.declared.registers.offsets.TheConstants as offsets
 use Rattle.uart_spec.specs.declared.registers.line_status.TheConstants.LSR
 use Rattle.uart_spec.specs.declared.registers.line_control.TheConstants.LCR
-use Rattle.uart_spec.specs.Access.{Access, Write, Path}
+use Rattle.uart_spec.specs.Access.{Path}
+use Rattle.uart_spec.specs.declared.access.Access.{Access}
+use Rattle.uart_spec.specs.declared.access.Access.TheVariants.{Write}
 use Rattle.uart_16550.specs.Grammar.{Language, Settings, Only, Then}
 use Rattle.uart_16550.specs.Transmit.{WaitsFor}
 use Rattle.uart_16550.specs.Driver.{Fields, fields, settings_of, Doing, Saving, Plain, Sets, Next, with_config, with_fifo}

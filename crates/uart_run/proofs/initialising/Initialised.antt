@@ -7,7 +7,9 @@ use Rattle.uart_spec.specs.declared.errors.InitError.{InitError}
 use Rattle.uart_spec.specs.declared.errors.InitError.TheVariants.{InvalidBaudRate, DeviceNotPresent, Stalled}
 use Rattle.uart_spec.specs.declared.registers.offsets.TheConstants as offsets
 use Rattle.uart_spec.specs.declared.registers.line_status.TheConstants.LSR
-use Rattle.uart_spec.specs.Access.{Access, Write, Path}
+use Rattle.uart_spec.specs.Access.{Path}
+use Rattle.uart_spec.specs.declared.access.Access.{Access}
+use Rattle.uart_spec.specs.declared.access.Access.TheVariants.{Write}
 use Rattle.uart_16550.specs.Grammar.{FewMisses, Asks}
 use Rattle.uart_16550.specs.Driver.{Fields, fields, settings_of, Saving, Sets, Next, with_config}
 use Rattle.uart_16550.specs.Transmit.{WaitsFor}

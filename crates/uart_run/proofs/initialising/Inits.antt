@@ -9,7 +9,9 @@ use Rattle.uart_spec.specs.declared.registers.frame.WordLength.TheVariants.{Five
 use Rattle.uart_spec.specs.declared.registers.frame.Parity.{Parity}
 use Rattle.uart_spec.specs.declared.registers.frame.Parity.TheVariants.{Disabled, Odd, Even, Forced1, Forced0}
 use Rattle.uart_spec.specs.declared.registers.offsets.TheConstants as offsets
-use Rattle.uart_spec.specs.Access.{Access, Read, Write, Path}
+use Rattle.uart_spec.specs.Access.{Path}
+use Rattle.uart_spec.specs.declared.access.Access.{Access}
+use Rattle.uart_spec.specs.declared.access.Access.TheVariants.{Read, Write}
 use Rattle.uart_16550.specs.Grammar.{Settings, Only, Then, ReadsRegister}
 use Rattle.uart_16550.specs.Driver.{Fields, settings_of, Saving, Plain, Sets, Next, with_saved}
 use Rattle.uart_16550.specs.Init.{raised_outputs, ChecksPresence, frame_bits, line_writes, SetsFifo, DrainsReceiver, Begins, Ends}

@@ -6,7 +6,9 @@ use Rattle.std.proofs.lemmas.Grind.{common_steps}
 use Rattle.uart_spec.specs.declared.registers.offsets.TheConstants as offsets
 use Rattle.uart_spec.specs.declared.registers.line_status.TheConstants.LSR
 use Rattle.uart_spec.specs.declared.registers.line_control.TheConstants.LCR
-use Rattle.uart_spec.specs.Access.{Access, Read, Write, Path}
+use Rattle.uart_spec.specs.Access.{Path}
+use Rattle.uart_spec.specs.declared.access.Access.{Access}
+use Rattle.uart_spec.specs.declared.access.Access.TheVariants.{Read, Write}
 use Rattle.uart_spec.specs.Bits.{has_any}
 use Rattle.uart_chip.specs.Transmitter.{room}
 use Rattle.uart_chip.specs.Chip.{ChipState, word_length, cut_to, after_read, after_write}

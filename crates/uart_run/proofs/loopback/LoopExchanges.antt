@@ -6,7 +6,8 @@ use Rattle.uart_spec.specs.declared.errors.ByteSendError.{ByteSendError}
 use Rattle.uart_spec.specs.declared.errors.ByteSendError.TheVariants.{NoCapacity, RemoteNotClearToSend}
 use Rattle.uart_spec.specs.declared.errors.LoopbackError.{LoopbackError}
 use Rattle.uart_spec.specs.declared.errors.LoopbackError.TheVariants.{Stalled, SendError, UnexpectedLoopbackByte, UnexpectedLoopbackMsg}
-use Rattle.uart_spec.specs.Access.{Access, Path}
+use Rattle.uart_spec.specs.Access.{Path}
+use Rattle.uart_spec.specs.declared.access.Access.{Access}
 use Rattle.uart_16550.specs.Grammar.{Settings, Then}
 use Rattle.uart_16550.specs.Transmit.{burst_limit, Sends, TrySends}
 use Rattle.uart_16550.specs.Loopback.{test_byte, test_message, DrainsLoopback, ExchangesByte, ExchangesMessage, Exchanges}

@@ -5,7 +5,9 @@ use Rattle.uart_spec.specs.declared.errors.LoopbackError.{LoopbackError}
 use Rattle.uart_spec.specs.declared.registers.offsets.TheConstants as offsets
 use Rattle.uart_spec.specs.declared.registers.line_status.TheConstants.LSR
 use Rattle.uart_spec.specs.declared.registers.modem_control.TheConstants.MCR
-use Rattle.uart_spec.specs.Access.{Access, Read, Write, Path}
+use Rattle.uart_spec.specs.Access.{Path}
+use Rattle.uart_spec.specs.declared.access.Access.{Access}
+use Rattle.uart_spec.specs.declared.access.Access.TheVariants.{Read, Write}
 use Rattle.uart_16550.specs.Grammar.{Settings, Only, Then}
 use Rattle.uart_16550.specs.Driver.{Fields, fields, settings_of, Saving, Sets, Next, with_fifo}
 use Rattle.uart_16550.specs.Transmit.{WaitsFor}

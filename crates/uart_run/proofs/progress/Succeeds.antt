@@ -5,7 +5,8 @@ use Rattle.std.proofs.lemmas.List.{length-map}
 use Rattle.std.specs.List.{concat}
 use Rattle.std.proofs.lemmas.List.{length-take}
 use Rattle.uart_spec.specs.declared.errors.StalledError.{StalledError}
-use Rattle.uart_spec.specs.Access.{Access, Path}
+use Rattle.uart_spec.specs.Access.{Path}
+use Rattle.uart_spec.specs.declared.access.Access.{Access}
 use Rattle.uart_16550.specs.Grammar.{Language, Settings, Then, InOrder, AllMisses}
 use Rattle.uart_16550.specs.Driver.{fields, settings_of}
 use Rattle.uart_16550.specs.Transmit.{SendMiss, Round, SendsExact}

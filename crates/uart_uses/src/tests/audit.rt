@@ -2,8 +2,8 @@
 use bitflags::Flags;
 use std::process::Abort;
 use std::test::Fail;
-use uart_16550::replay::Entry::{self, Read, Write};
 use uart_judges::audit::{Auditor, Finding, Severity};
+use uart_spec::access::Access::{self, Read, Write};
 use uart_spec::registers::offsets::{DATA, FCR, IER, ISR, LCR, LSR as STATUS, MCR, MSR as LINES};
 use uart_spec::registers::{InterruptType, LSR, MSR};
 
@@ -21,7 +21,7 @@ fn rest<'a>(expected: &'a [Finding], found: Option<Finding>) -> Option<&'a [Find
 
 // Whether these findings are returned at these lists of accesses, one behind the other, and at the
 // end, in this order, and no others.
-fn finds_in_turn(lists: &[&[Entry]], expected: &[Finding]) -> bool {
+fn finds_in_turn(lists: &[&[Access]], expected: &[Finding]) -> bool {
     let mut auditor = Auditor::new();
     let mut expected = expected;
     for access in lists.iter().copied().flatten() {
@@ -42,12 +42,12 @@ fn finds_in_turn(lists: &[&[Entry]], expected: &[Finding]) -> bool {
 }
 
 // The same for one list.
-fn finds(accesses: &[Entry], expected: &[Finding]) -> bool {
+fn finds(accesses: &[Access], expected: &[Finding]) -> bool {
     finds_in_turn(&[accesses], expected)
 }
 
 // A look that shows room, and a byte that is sent.
-const SENT: [Entry; 2] = [Read(STATUS, 0x60), Write(DATA, b'a')];
+const SENT: [Access; 2] = [Read(STATUS, 0x60), Write(DATA, b'a')];
 
 #[test]
 fn a_driver_that_looks_is_not_blamed(rt: HostRuntime) {

@@ -1,6 +1,7 @@
 //! Made by `.ci/erase emit` from the tests in `crates/`. Do not edit.
 #![allow(warnings)]
 
+pub mod access;
 pub mod call;
 pub mod replay;
 pub mod uart_calls;

@@ -9,31 +9,16 @@ use crate::runtime::{AllocGlobal, HostRuntime, assert, assert_eq, assert_ne, for
 
 use crate::libraries::uart_16550::backend::Backend;
 use crate::libraries::arrayvec::ArrayVec;
+use crate::libraries::uart_spec::access::Access;
 
 // The number of accesses that a `Replay` keeps.
 pub const REPLAY_ROOM: usize = 512;
-
-// One access: the offset of the register, and the byte that was read or written.
-#[derive(Clone, Copy, Debug, PartialEq, Eq)]
-pub enum Entry {
-    // A read of the register at this offset, which returned this byte.
-    Read(usize, u8),
-    // A write of this byte to the register at this offset.
-    Write(usize, u8),
-}
-
-impl Default for Entry {
-
-    fn default() -> Self {
-        Entry::Read(0, 0)
-    }
-}
 
 // A backend whose reads return the bytes of a list in turn, and then 0, whatever the register. It
 // keeps the accesses until there is no more room.
 pub struct Replay<'a> {
     answers: &'a [u8],
-    accesses: ArrayVec<Entry, REPLAY_ROOM>,
+    accesses: ArrayVec<Access, REPLAY_ROOM>,
     is_whole: bool,
 }
 
@@ -56,7 +41,7 @@ impl<'a> Replay<'a> {
     }
 
     // Returns the accesses that were made, or `None` if there were more than `REPLAY_ROOM`.
-    pub fn accesses(&self) -> Option<&[Entry]>
+    pub fn accesses(&self) -> Option<&[Access]>
 
     {
         if self.is_whole {
@@ -67,10 +52,10 @@ impl<'a> Replay<'a> {
     }
 
     // Keeps an access.
-    fn keep(&mut self, entry: Entry)
+    fn keep(&mut self, access: Access)
 
     {
-        if self.accesses.try_push(entry).is_err() {
+        if self.accesses.try_push(access).is_err() {
             self.is_whole = false;
         }
     }
@@ -86,12 +71,12 @@ impl Backend for Replay<'_> {
             }
             [] => 0,
         };
-        self.keep(Entry::Read(register_offset as usize, answer));
+        self.keep(Access::Read(register_offset as usize, answer));
         answer
     }
 
     fn write(&mut self, register_offset: u8, value: u8) {
-        self.keep(Entry::Write(register_offset as usize, value));
+        self.keep(Access::Write(register_offset as usize, value));
     }
 }
 

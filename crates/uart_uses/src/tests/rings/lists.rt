@@ -3,8 +3,9 @@ use super::assert_equal;
 use std::process::Abort;
 use std::test::Fail;
 use uart_16550::Uart16550;
-use uart_16550::replay::{Entry, Replay};
+use uart_16550::replay::Replay;
 use uart_ring::{RingError, Uart16550Ring};
+use uart_spec::access::Access::{Read, Write};
 use uart_spec::registers::offsets;
 
 /// LSR: the transmitter is empty.
@@ -134,30 +135,30 @@ pub fn made<R: Abort>(rt: &R, replay: &Replay<'_>, steps: &[Step]) {
     for step in steps {
         match *step {
             Step::Read(offset, answer) => {
-                assert_equal(rt, accesses.next(), Some(Entry::Read(offset, answer)));
+                assert_equal(rt, accesses.next(), Some(Read(offset, answer)));
             }
             Step::Write(offset, value) => {
-                assert_equal(rt, accesses.next(), Some(Entry::Write(offset, value)));
+                assert_equal(rt, accesses.next(), Some(Write(offset, value)));
             }
             Step::Changed(offset, from, to) => {
-                assert_equal(rt, accesses.next(), Some(Entry::Read(offset, from)));
-                assert_equal(rt, accesses.next(), Some(Entry::Write(offset, to)));
+                assert_equal(rt, accesses.next(), Some(Read(offset, from)));
+                assert_equal(rt, accesses.next(), Some(Write(offset, to)));
             }
             Step::Burst(bytes) => {
-                assert_equal(rt, accesses.next(), Some(Entry::Read(offsets::LSR, EMPTY)));
+                assert_equal(rt, accesses.next(), Some(Read(offsets::LSR, EMPTY)));
                 for &byte in bytes {
-                    assert_equal(rt, accesses.next(), Some(Entry::Write(offsets::DATA, byte)));
+                    assert_equal(rt, accesses.next(), Some(Write(offsets::DATA, byte)));
                 }
             }
             Step::Sent(bytes) => {
                 for &byte in bytes {
-                    assert_equal(rt, accesses.next(), Some(Entry::Write(offsets::DATA, byte)));
+                    assert_equal(rt, accesses.next(), Some(Write(offsets::DATA, byte)));
                 }
             }
             Step::Received(bytes) => {
                 for &byte in bytes {
-                    assert_equal(rt, accesses.next(), Some(Entry::Read(offsets::LSR, WAITS)));
-                    assert_equal(rt, accesses.next(), Some(Entry::Read(offsets::DATA, byte)));
+                    assert_equal(rt, accesses.next(), Some(Read(offsets::LSR, WAITS)));
+                    assert_equal(rt, accesses.next(), Some(Read(offsets::DATA, byte)));
                 }
             }
         }

@@ -1,7 +1,7 @@
 use Rattle.std.proofs.Common.{◌∙◌, ℕ, [], ◌∷◌, ap, refl}
 use Rattle.std.specs.Int.NonZero.{non_zero_u64_get}
 use Rattle.uart_spec.specs.declared.registers.offsets.TheConstants as offsets
-use Rattle.uart_spec.specs.Access.{Write}
+use Rattle.uart_spec.specs.declared.access.Access.TheVariants.{Write}
 use Rattle.uart_16550.specs.Grammar.{Only}
 use Rattle.uart_16550.specs.Driver.{Made, Fields, with_saved}
 use Rattle.uart_16550.proofs.Making.{made_among}

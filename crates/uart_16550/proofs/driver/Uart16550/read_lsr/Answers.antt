@@ -1,7 +1,7 @@
 use Rattle.std.proofs.Common.{refl, sym}
 use lib.Bits.{or_zero_r}
 use Rattle.uart_spec.specs.declared.registers.offsets.TheConstants as offsets
-use Rattle.uart_spec.specs.Access.{Read}
+use Rattle.uart_spec.specs.declared.access.Access.TheVariants.{Read}
 use Rattle.uart_16550.proofs.Making.{made_among, made_access}
 use Rattle.uart_16550.proofs.driver.Uart16550.read_lsr.Goals as goal
 

@@ -1,5 +1,5 @@
 use Rattle.std.proofs.Common.{refl, [], ◌∷◌}
-use Rattle.uart_spec.specs.Access.{Read}
+use Rattle.uart_spec.specs.declared.access.Access.TheVariants.{Read}
 use Rattle.uart_16550.proofs.driver.Uart16550.read_plain.Goals as goal
 
 pub returns : goal.returns

@@ -1,7 +1,7 @@
 use Rattle.std.proofs.Common.{◌≡◌, ◌∙◌, ℕ, [], ◌∷◌, ap, sym}
 use Rattle.uart_spec.specs.declared.registers.offsets.TheConstants as offsets
 use Rattle.uart_spec.specs.declared.registers.interrupt_status.TheConstants.ISR
-use Rattle.uart_spec.specs.Access.{Write}
+use Rattle.uart_spec.specs.declared.access.Access.TheVariants.{Write}
 use Rattle.uart_16550.specs.Init.{fifo_bits}
 use Rattle.uart_16550.proofs.Making.{made_then, made_asks, made_among}
 use Rattle.uart_16550.proofs.driver.Uart16550.set_fifo.Goals as goal

@@ -1,6 +1,6 @@
 use Rattle.std.proofs.Common.{◌≡◌, ◌∙◌, ℕ, [], ◌∷◌, ap, refl}
 use Rattle.uart_spec.specs.declared.registers.offsets.TheConstants as offsets
-use Rattle.uart_spec.specs.Access.{Write}
+use Rattle.uart_spec.specs.declared.access.Access.TheVariants.{Write}
 use Rattle.uart_16550.proofs.Doings.{did_unsaved}
 use Rattle.uart_16550.proofs.driver.Uart16550.store_interrupts.Goals as goal
 

@@ -1,7 +1,7 @@
 use Rattle.std.proofs.Common.{◌<◌, length, arith}
 use Rattle.std.proofs.lemmas.List.{map_more}
 use Rattle.uart_spec.specs.declared.registers.offsets.TheConstants as offsets
-use Rattle.uart_spec.specs.Access.{Write}
+use Rattle.uart_spec.specs.declared.access.Access.TheVariants.{Write}
 use Rattle.uart_16550.proofs.Making.{made_none, made_only}
 use Rattle.uart_16550.proofs.driver.Uart16550.write_data.Goals as goal
 

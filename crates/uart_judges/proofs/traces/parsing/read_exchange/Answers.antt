@@ -23,7 +23,7 @@ pub loop-rest-preserved : goal.loop-rest-preserved
 loop-rest-preserved c = record {
   so_far =
       rw (c.in_ok-push-in-Access.ensures.items, c.in_ok-push-in-Access-2.ensures.items)
-      (body_access c.in-Access.entry c.loop-rest.invariant.so_far (rw c.in-Access.is at c.in_ok-line.ensures.read));
+      (body_access c.in-Access.access c.loop-rest.invariant.so_far (rw c.in-Access.is at c.in_ok-line.ensures.read));
   forward = omega (arith, c.loop-rest.invariant.forward);
   fits = omega (arith, c.loop-rest.invariant.fits, c.in_ok-line.ensures.shorter);
 }

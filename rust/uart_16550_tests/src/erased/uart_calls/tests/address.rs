@@ -3,7 +3,7 @@ use crate::runtime::{AllocGlobal, HostRuntime, assert, assert_eq, assert_ne, for
 // The constructors and the backends for devices at ports and at addresses.
 use super::assert_equal;
 use crate::erased::uart_calls::tests::devices::{Constant, Recorder};
-use crate::erased::uart_calls::tests::lists::Entry::{Read, Write};
+use crate::erased::uart_calls::tests::lists::Access::{Read, Write};
 use std::collections::HashSet;
 use std::fmt::Debug;
 use std::hash::Hash;

@@ -2,7 +2,8 @@
 use crate::runtime::{AllocGlobal, HostRuntime, assert, assert_eq, assert_ne, format};
 // Devices for tests.
 
-use crate::erased::uart_calls::tests::lists::{Accesses, Entry};
+use crate::erased::uart_calls::tests::lists::Access::{Read, Write};
+use crate::erased::uart_calls::tests::lists::Accesses;
 use crate::libraries::arrayvec::ArrayVec;
 use std::num::NonZeroU64;
 use crate::libraries::uart_16550::Uart16550;
@@ -31,13 +32,13 @@ impl<D: Backend> Backend for Recorder<D> {
 
     fn read(&mut self, register_offset: u8) -> u8 {
         let answer = self.device.read(register_offset);
-        self.log.push(Entry::Read(register_offset as usize, answer));
+        self.log.push(Read(register_offset as usize, answer));
         answer
     }
 
     fn write(&mut self, register_offset: u8, value: u8) {
         self.device.write(register_offset, value);
-        self.log.push(Entry::Write(register_offset as usize, value));
+        self.log.push(Write(register_offset as usize, value));
     }
 }
 
@@ -45,13 +46,13 @@ impl<D: ByteAccess> ByteAccess for Recorder<D> {
 
     fn load(&mut self, address: usize) -> u8 {
         let answer = self.device.load(address);
-        self.log.push(Entry::Read(address, answer));
+        self.log.push(Read(address, answer));
         answer
     }
 
     fn store(&mut self, address: usize, value: u8) {
         self.device.store(address, value);
-        self.log.push(Entry::Write(address, value));
+        self.log.push(Write(address, value));
     }
 }
 

@@ -20,10 +20,11 @@ use crate::libraries::bitflags::Flags;
 use std::fmt;
 use std::num::NonZeroU64;
 use crate::runtime::Abort;
-use crate::libraries::uart_16550::replay::{Entry, Replay};
+use crate::libraries::uart_16550::replay::Replay;
 use crate::libraries::uart_16550::{Uart16550, Uart16550Tty};
 use crate::libraries::uart_spec::InitError::DeviceNotPresent;
 use crate::libraries::uart_spec::RemoteReadyToReceiveError::RemoteNotClearToSend;
+use crate::libraries::uart_spec::access::Access;
 use crate::libraries::uart_spec::registers::{IER, offsets};
 use crate::libraries::uart_spec::{Config, LoopbackError};
 
@@ -67,10 +68,10 @@ fn a_replay_shows_what_a_call_does() {
     let mut terminal = replay(&[0x00, 0x20], 3);
     shows(&rt, &mut terminal, SendExact(bytes(b"hi")), Done, 4);
     let accesses = [
-        Entry::Read(offsets::LSR, 0x00),
-        Entry::Read(offsets::LSR, 0x20),
-        Entry::Write(offsets::DATA, b'h'),
-        Entry::Write(offsets::DATA, b'i'),
+        Access::Read(offsets::LSR, 0x00),
+        Access::Read(offsets::LSR, 0x20),
+        Access::Write(offsets::DATA, b'h'),
+        Access::Write(offsets::DATA, b'i'),
     ];
     assert_equal(
         &rt,

@@ -1,5 +1,6 @@
 use Rattle.std.specs.Prelude.{◌≡◌, ◌++◌, ◌∷◌, [], List, replicate}
-use Rattle.uart_spec.specs.Access.{Access, Read}
+use Rattle.uart_spec.specs.declared.access.Access.{Access}
+use Rattle.uart_spec.specs.declared.access.Access.TheVariants.{Read}
 use Rattle.uart_judges.specs.History.{actions, known}
 use Rattle.uart_judges.specs.Reads.{found_at_each, spread}
 use Rattle.uart_judges.proofs.Repeated.{reads_over}

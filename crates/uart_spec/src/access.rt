@@ -1,0 +1,22 @@
+//! An access to a register, as data.
+ghost use Rattle.std.specs.Prelude.{◌≡◌};
+ghost use Rattle.uart_spec.specs.declared.access.Access.TheVariants.{Read};
+
+/// One access: the offset of the register, and the byte that was read or written.
+///
+/// Contracts speak of accesses by this type too.
+#[derive(Clone, Copy, Debug, PartialEq, Eq)]
+pub enum Access {
+    /// A read of the register at this offset, which returned this byte.
+    Read(usize, u8),
+    /// A write of this byte to the register at this offset.
+    Write(usize, u8),
+}
+
+impl Default for Access {
+    ghost is_default = { λ access. access ≡ Read 0 0 };
+
+    fn default() -> Self {
+        Access::Read(0, 0)
+    }
+}
