@@ -10,3 +10,4 @@ pub mod Loopbacks
 pub mod Terminals
 pub mod Replays
 pub mod determined
+pub mod Switching

@@ -7,6 +7,7 @@ pub mod Expansion
 pub mod Doings
 pub mod Status
 pub mod Init
+pub mod Frame
 pub mod Io
 pub mod Loopback
 pub mod Tty

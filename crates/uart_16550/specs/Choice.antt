@@ -5,7 +5,8 @@ use Rattle.uart_spec.specs.declared.access.Access.{Access}
 use Rattle.uart_spec.specs.declared.access.Access.TheVariants.{Read, Write}
 use Rattle.uart_16550.specs.Grammar.{Language}
 use Rattle.uart_16550.specs.Driver.{Did, Doing, Fields, Made, backend_of, fields}
-use Rattle.uart_16550.specs.Receive.{Receives, ReceivesExact, filled}
+use Rattle.uart_16550.specs.Receive.{Receives, ReceivesWithErrors, ReceivesExact, filled}
+use Rattle.uart_16550.specs.declared.driver.receive.Received.{Received}
 use Rattle.uart_16550.specs.Io.{Reads, got}
 use Rattle.uart_16550.specs.declared.driver.Uart16550.{Uart16550}
 
@@ -89,6 +90,12 @@ abbrev pub ReceivesInto : (old new : List ℕ) → (count : ℕ) → Language
 ReceivesInto old new count s l =
     (length new ≡ length old) × (count ≤ length old) × (drop count new ≡ drop count old)
     × Receives (length old) (take count new) s l
+
+-- what `receive_with_errors` does to its slots, with its count
+abbrev pub ReceivesWithErrorsInto : (old new : List Received) → (count : ℕ) → Language
+ReceivesWithErrorsInto old new count s l =
+    (length new ≡ length old) × (count ≤ length old) × (drop count new ≡ drop count old)
+    × ReceivesWithErrors (length old) (take count new) s l
 
 -- what `receive_bytes_exact` does to its slots, with its result
 abbrev pub ReceivesExactInto : {T : Type 0} → (old new : List ℕ) → Result T StalledError → Language

@@ -3,9 +3,11 @@ use Rattle.std.specs.Prelude.{ℕ, Bool, List, [], ◌∷◌, Result}
 use Rattle.std.specs.declared.fmt.Error.{Error}
 use Rattle.uart_spec.specs.Config.{IsComputable}
 use Rattle.uart_spec.specs.declared.config.Config.{Config}
+use Rattle.uart_spec.specs.declared.errors.AttachError.{AttachError}
 use Rattle.uart_spec.specs.declared.errors.ByteReceiveError.{ByteReceiveError}
 use Rattle.uart_spec.specs.declared.errors.ByteSendError.{ByteSendError}
 use Rattle.uart_spec.specs.declared.errors.InitError.{InitError}
+use Rattle.uart_spec.specs.declared.errors.InvalidDivisorError.{InvalidDivisorError}
 use Rattle.uart_spec.specs.declared.errors.LoopbackError.{LoopbackError}
 use Rattle.uart_spec.specs.declared.errors.RemoteReadyToReceiveError.{RemoteReadyToReceiveError}
 use Rattle.uart_spec.specs.declared.errors.StalledError.{StalledError}
@@ -13,23 +15,31 @@ use Rattle.uart_spec.specs.declared.errors.Uart16550TtyError.{Uart16550TtyError}
 use Rattle.uart_spec.specs.declared.access.Access.TheVariants.{Read}
 use Rattle.uart_16550.specs.Grammar.{Language, Only}
 use Rattle.uart_16550.specs.Driver.{Doing, Sets, with_limit}
-use Rattle.uart_16550.specs.Receive.{ReadyToReceive, TryReceive}
+use Rattle.uart_16550.specs.Receive.{ReadyToReceive, TryReceive, TryReceiveWithErrors}
+use Rattle.uart_16550.specs.declared.driver.receive.Received.{Received}
 use Rattle.uart_16550.specs.Transmit.{ReadyToSend, Sends, TrySends, SendsExact}
 use Rattle.uart_16550.specs.Status.{TakesLsr, TakesMsr, Connects, ReadsDivisor, Enables, Disables, Dumps}
+use Rattle.uart_16550.specs.Status.{Retriggers}
 use Rattle.uart_16550.specs.Init.{ChecksPresence, Inits}
+use Rattle.uart_16550.specs.Frame.{SetsFrame, ShowsIdle, SetsBreak, SetsControl, SetsOutput}
+use Rattle.uart_16550.specs.Attach.{Attaches}
 use Rattle.uart_16550.specs.Loopback.{TestsLoopback}
 use Rattle.uart_16550.specs.Io.{Writes, Flushes, AnswersRead, AnswersWrite}
 use Rattle.uart_16550.specs.Expansion.{SendsText, SendsStr}
 use Rattle.uart_16550.specs.Tty.{Starts}
-use Rattle.uart_16550.specs.Choice.{ReceivesInto, ReceivesExactInto, ReadsInto}
+use Rattle.uart_16550.specs.Choice.{ReceivesInto, ReceivesWithErrorsInto, ReceivesExactInto, ReadsInto}
 use Rattle.uart_spec.specs.declared.dump.ConfigRegisterDump.{ConfigRegisterDump}
 
 -- the calls that save what their reads clear, and change nothing else in the driver's fields
--- -- `read_register` is `ier`, `isr`, `lcr`, `mcr` and `spr`
+-- -- `read_register` is `ier`, `isr`, `lcr`, `mcr`, `spr` and `peek_modem`; `set_output` is `set_rts` and `set_dtr`
 pub data SavingCall : Type 0 where
   read_register : (register : ℕ) → SavingCall
-  check_connected dll_dlm check_present : SavingCall
-  ready_to_receive try_receive_byte ready_to_send : SavingCall
+  check_connected dll_dlm check_present is_idle retrigger_interrupts : SavingCall
+  set_break : (on : Bool) → SavingCall
+  set_modem_control : (bits : ℕ) → SavingCall
+  set_output : (output : ℕ) (on : Bool) → SavingCall
+  ready_to_receive try_receive_byte try_receive_with_errors ready_to_send : SavingCall
+  receive_with_errors : (slots : List Received) → SavingCall
   receive_bytes receive_bytes_exact : (slots : List ℕ) → SavingCall
   try_send_byte : (byte : ℕ) → SavingCall
   send_bytes send_bytes_exact : (bytes : List ℕ) → SavingCall
@@ -45,8 +55,15 @@ SavingOutcome (read_register register) = ℕ
 SavingOutcome check_connected = Result (Unit {0}) RemoteReadyToReceiveError
 SavingOutcome dll_dlm = ℕ × ℕ
 SavingOutcome check_present = Bool
+SavingOutcome is_idle = Bool
+SavingOutcome (set_break on) = Unit {0}
+SavingOutcome (set_modem_control bits) = Unit {0}
+SavingOutcome (set_output output on) = Unit {0}
+SavingOutcome retrigger_interrupts = Unit {0}
 SavingOutcome ready_to_receive = Result (Unit {0}) ByteReceiveError
 SavingOutcome try_receive_byte = Result ℕ ByteReceiveError
+SavingOutcome try_receive_with_errors = Result Received ByteReceiveError
+SavingOutcome (receive_with_errors slots) = ℕ × List Received
 SavingOutcome ready_to_send = Result (Unit {0}) ByteSendError
 SavingOutcome (receive_bytes slots) = ℕ × List ℕ
 SavingOutcome (receive_bytes_exact slots) = Result (Unit {0}) StalledError × List ℕ
@@ -67,8 +84,15 @@ SavingLists (read_register register) value = Only (Read register value ∷ [])
 SavingLists check_connected result = Connects result
 SavingLists dll_dlm divisor = ReadsDivisor divisor.0 divisor.1
 SavingLists check_present present = ChecksPresence present
+SavingLists is_idle idle = ShowsIdle idle
+SavingLists (set_break on) result = SetsBreak on
+SavingLists (set_modem_control bits) result = SetsControl bits
+SavingLists (set_output output on) result = SetsOutput output on
+SavingLists retrigger_interrupts result = Retriggers
 SavingLists ready_to_receive result = ReadyToReceive result
 SavingLists try_receive_byte result = TryReceive result
+SavingLists try_receive_with_errors result = TryReceiveWithErrors result
+SavingLists (receive_with_errors slots) end = ReceivesWithErrorsInto slots end.1 end.0
 SavingLists ready_to_send result = ReadyToSend result
 SavingLists (receive_bytes slots) end = ReceivesInto slots end.1 end.0
 SavingLists (receive_bytes_exact slots) end = ReceivesExactInto slots end.1 end.0
@@ -83,13 +107,13 @@ SavingLists write_ready result = AnswersWrite result
 SavingLists (write_text text) result = SendsText text result
 SavingLists (write_str text) result = SendsStr text result
 
--- the other calls; `init`, and `start` of a terminal, with a configuration that is computable
+-- the other calls; `init`, `set_frame`, and `start` of a terminal, with a configuration that is computable
 pub data ChangingCall : Type 0 where
   lsr msr config_register_dump : ChangingCall
   enable_interrupts disable_interrupts : (bits : ℕ) → ChangingCall
   set_spin_limit : (limit : ℕ) → ChangingCall
-  init start : (config : Config) → IsComputable config → ChangingCall
-  test_loopback : ChangingCall
+  init start set_frame : (config : Config) → IsComputable config → ChangingCall
+  test_loopback attach : ChangingCall
 
 -- the outcomes that a call which changes fields may have
 abbrev pub ChangingOutcome : ChangingCall → Type 0
@@ -101,6 +125,8 @@ ChangingOutcome (disable_interrupts bits) = Unit {0}
 ChangingOutcome (set_spin_limit limit) = Unit {0}
 ChangingOutcome (init config computable) = Result (Unit {0}) InitError
 ChangingOutcome (start config computable) = Result (Unit {0}) Uart16550TtyError
+ChangingOutcome (set_frame config computable) = Result (Unit {0}) InvalidDivisorError
+ChangingOutcome attach = Result (ℕ × ℕ) AttachError
 ChangingOutcome test_loopback = Result (Unit {0}) LoopbackError
 
 -- what it did for this outcome
@@ -113,4 +139,6 @@ ChangingDoing (disable_interrupts bits) result = Disables bits
 ChangingDoing (set_spin_limit limit) result = Sets (with_limit limit)
 ChangingDoing (init config computable) result = Inits config result
 ChangingDoing (start config computable) result = Starts config result
+ChangingDoing (set_frame config computable) result = SetsFrame config result
+ChangingDoing attach result = Attaches result
 ChangingDoing test_loopback result = TestsLoopback result

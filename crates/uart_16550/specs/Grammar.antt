@@ -2,7 +2,7 @@
 use Rattle.std.specs.Prelude.{◌≡◌, ◌<◌, ℕ, Bool, List, [], ◌∷◌, ◌++◌, MatchBool, zero, suc}
 use Rattle.uart_spec.specs.Bits.{has}
 use Rattle.uart_spec.specs.declared.access.Access.{Access}
-use Rattle.uart_spec.specs.declared.access.Access.TheVariants.{Read}
+use Rattle.uart_spec.specs.declared.access.Access.TheVariants.{Read, Write}
 
 -- what the lists of a call depend on: whether CTS is checked before sending, whether the FIFO is on, and the spin
 -- limit
@@ -54,6 +54,10 @@ pub record Asks (register bits : ℕ) (outcome : Bool) (s : Settings) (l : List 
 -- one read of the register, with any answer
 abbrev pub ReadsRegister : ℕ → Language
 ReadsRegister register s l = (answer : ℕ) × (l ≡ Read register answer ∷ [])
+
+-- one read of the register, and a write of what its answer is changed to
+abbrev pub Modifies : (register : ℕ) → (ℕ → ℕ) → Language
+Modifies register change s l = (answer : ℕ) × (l ≡ Read register answer ∷ Write register (change answer) ∷ [])
 
 -- the first language if CTS is checked, otherwise the second; likewise if the FIFO is on
 abbrev pub IfChecks : Language → Language → Language

@@ -5,6 +5,8 @@ pub mod Driver
 pub mod State
 pub mod Status
 pub mod Init
+pub mod Frame
+pub mod Attach
 pub mod Expansion
 pub mod Io
 pub mod Tty

@@ -1,10 +1,12 @@
 -- The lists of the receiving calls.
 use Rattle.std.specs.Prelude.{◌≡◌, ◌<◌, ℕ, Bool, true, false, List, [], ◌∷◌, Result, Ok, Err, Option, Some, None}
-use Rattle.std.specs.Prelude.{length, take, ◌⊎◌}
+use Rattle.std.specs.Prelude.{length, take, bit_and, ◌⊎◌}
 use Rattle.uart_spec.specs.declared.errors.StalledError.{StalledError}
 use Rattle.uart_spec.specs.declared.registers.offsets.TheConstants as offsets
 use Rattle.uart_spec.specs.declared.registers.line_status.TheConstants.LSR
 use Rattle.uart_spec.specs.declared.access.Access.TheVariants.{Read}
+use Rattle.uart_spec.specs.Bits.{has}
+use Rattle.uart_16550.specs.declared.driver.receive.Received.{Received}
 use Rattle.uart_16550.specs.Grammar.{Language, Only, Then, InOrder, FewMisses, AllMisses, Asks}
 
 -- a read of LSR that shows data, and a read of the byte
@@ -29,6 +31,23 @@ TryReceive (Err e) = Miss
 abbrev pub Receives : ℕ → List ℕ → Language
 Receives n bytes s l =
     ((length bytes ≡ n) × InOrder Hit bytes s l) ⊎ ((length bytes < n) × Then (InOrder Hit bytes) Miss s l)
+
+-- a read of LSR that shows data and these line errors, and a read of the byte
+abbrev pub HitWithErrors : Received → Language
+HitWithErrors received s l =
+    (lsr : ℕ) × (has lsr LSR.DATA_READY.0 ≡ true) × (received.errors.0 ≡ bit_and lsr LSR.LINE_ERRORS.0)
+    × (l ≡ Read offsets.LSR lsr ∷ Read offsets.DATA received.byte ∷ [])
+
+-- `try_receive_with_errors`: a hit with the byte and its errors, or a miss
+abbrev pub TryReceiveWithErrors : {E : Type 0} → Result Received E → Language
+TryReceiveWithErrors (Ok received) = HitWithErrors received
+TryReceiveWithErrors (Err e) = Miss
+
+-- `receive_with_errors` into n slots: these fill all slots, or a miss follows them
+abbrev pub ReceivesWithErrors : ℕ → List Received → Language
+ReceivesWithErrors n items s l =
+    ((length items ≡ n) × InOrder HitWithErrors items s l)
+    ⊎ ((length items < n) × Then (InOrder HitWithErrors items) Miss s l)
 
 -- a byte, after fewer misses in a row than the limit
 abbrev pub Awaited : ℕ → Language

@@ -1,5 +1,5 @@
 -- The lists of the register calls, and of the register dump.
-use Rattle.std.specs.Prelude.{◌≡◌, ℕ, true, false, List, [], ◌∷◌, ◌++◌, Result, Ok, Err}
+use Rattle.std.specs.Prelude.{◌≡◌, ℕ, Bool, true, false, List, [], ◌∷◌, ◌++◌, Result, Ok, Err}
 use Rattle.std.specs.Int.RustNames.{bit_or}
 use Rattle.bitflags.specs.Sets.{without}
 use Rattle.uart_spec.specs.Bits.{has}
@@ -62,6 +62,13 @@ Enables bits f l after = (ier : ℕ) × (l ≡ Read offsets.IER ier ∷ Write of
 abbrev pub Disables : ℕ → Doing
 Disables bits f l after = (ier : ℕ) × (l ≡ Read offsets.IER ier ∷ Write offsets.IER (without 8 ier bits) ∷ [])
     × (after ≡ with_interrupts (without 8 ier bits) f)
+
+-- `retrigger_interrupts`: IER is read, then 0 is written to it, and then what was read
+abbrev pub retrigger_accesses : (ier : ℕ) → List Access
+retrigger_accesses ier = Read offsets.IER ier ∷ Write offsets.IER 0 ∷ Write offsets.IER ier ∷ []
+
+abbrev pub Retriggers : Language
+Retriggers s l = (ier : ℕ) × (l ≡ retrigger_accesses ier)
 
 -- the seven registers after the divisor latch: IER, ISR, LCR, MCR, LSR, MSR, SPR
 abbrev pub dump_reads : (lsr msr : ℕ) → ConfigRegisterDump → List Access

@@ -11,6 +11,7 @@ ghost use Rattle.uart_16550.specs.Driver.{Made, Did, Plain, Sets, IsFresh};
 ghost use Rattle.uart_16550.specs.Driver.{backend_of, fields, with_limit};
 ghost use Rattle.uart_16550.specs.contracts.driver.Uart16550.{the_row};
 
+mod frame;
 mod init;
 mod loopback;
 mod receive;
@@ -20,6 +21,7 @@ mod transmit;
 
 use crate::backend::Backend;
 use bitflags::Flags;
+pub use receive::Received;
 pub use state::DriverState;
 use std::num::NonZeroU64;
 use uart_spec::Config;

@@ -1,17 +1,20 @@
 //! Laws about the calls of a driver. They follow from the contracts of the calls.
 //!
 //! The contract of each function is a law that callers can cite. The functions do nothing.
-ghost use Rattle.std.specs.Prelude.{◌≡◌, [], ◌∷◌};
+ghost use Rattle.std.specs.Prelude.{◌≡◌, ℕ, Bool, [], ◌∷◌};
 ghost use Rattle.uart_spec.specs.Orders.{partial_in_turn};
 ghost use Rattle.uart_16550.specs.Choice.{Agree, AgreeSaving, HasOneOutcome};
 ghost use Rattle.uart_16550.specs.Choice.{HasOneOutcomeSaving, IsFunction, LeavesNoChoice};
 ghost use Rattle.uart_16550.specs.Driver.{Saving};
 ghost use Rattle.uart_16550.specs.DriverCalls.{ChangingCall, ChangingDoing};
 ghost use Rattle.uart_16550.specs.DriverCalls.{SavingCall, SavingLists};
+ghost use Rattle.uart_16550.specs.Frame.{ChangesOnly, ChangesOutput};
 ghost use Rattle.uart_16550.specs.Mmio.{Mapped};
 ghost use Rattle.uart_16550.specs.Pio.{Ports};
 ghost use Rattle.uart_16550.specs.Replay.{Repeats, RepeatsSaving};
 ghost use Rattle.uart_16550.specs.declared.driver.TheConstants.{DEFAULT_SPIN_LIMIT};
+ghost use Rattle.uart_spec.specs.declared.registers.line_control.TheConstants.LCR;
+ghost use Rattle.uart_spec.specs.declared.registers.modem_control.TheConstants.MCR;
 
 use crate::backend::{Backend, MmioBackend, PioBackend};
 use std::num::{NonZeroU8, NonZeroUsize};
@@ -48,6 +51,14 @@ pub fn calls_have_one_outcome<B: Backend>()
 pub fn replays_repeat_calls<B: Backend>()
     ensures saving { (call : SavingCall) → RepeatsSaving (SavingLists call) B.step }
     ensures changing { (call : ChangingCall) → Repeats (ChangingDoing call) B.step }
+{}
+
+/// `set_rts`, `set_dtr` and `set_break` write their bit as asked, and the other bits of the
+/// register as they were read: DLAB and the frame stay as they are. The first two clear loopback.
+pub fn switches_change_one_bit()
+    ensures rts { ChangesOutput MCR.RTS.0 }
+    ensures dtr { ChangesOutput MCR.DTR.0 }
+    ensures set_break { ChangesOnly LCR.SET_BREAK.0 }
 {}
 
 /// The spin limit of a driver until `set_spin_limit` is called.

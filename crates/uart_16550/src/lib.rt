@@ -30,7 +30,7 @@ mod pio;
 pub mod replay;
 mod tty;
 
-pub use driver::{DEFAULT_SPIN_LIMIT, DriverState, Uart16550};
+pub use driver::{DEFAULT_SPIN_LIMIT, DriverState, Received, Uart16550};
 pub use tty::Uart16550Tty;
 pub use uart_spec as spec;
 pub use uart_spec::{

@@ -400,7 +400,9 @@ enum uart_answer_kind {
     UART_ANSWER_LOOPBACK_REFUSED = 10, /* value: an enum uart_loopback_error */
     UART_ANSWER_NOT_CONNECTED = 11,  /* value: an enum uart_remote_error */
     UART_ANSWER_NO_DATA = 12,
-    UART_ANSWER_NOT_SENT = 13        /* value: an enum uart_send_error */
+    UART_ANSWER_NOT_SENT = 13,       /* value: an enum uart_send_error */
+    UART_ANSWER_FRAME_REFUSED = 14,
+    UART_ANSWER_ATTACH_REFUSED = 15
 };
 
 /* Why an initialisation failed. */

@@ -70,6 +70,14 @@ IsCall c (call.Send bytes) = (c.kind ≡ code.UART_SEND) × IsGiven c bytes.item
 IsCall c (call.SendExact bytes) = (c.kind ≡ code.UART_SEND_EXACT) × IsGiven c bytes.items
 IsCall c (call.Write bytes) = (c.kind ≡ code.UART_WRITE) × IsGiven c bytes.items
 IsCall c call.Next = ⊥
+IsCall c (call.SetFrame config) = ⊥
+IsCall c call.PeekModem = ⊥
+IsCall c call.IsIdle = ⊥
+IsCall c call.Attach = ⊥
+IsCall c (call.SetBreak on) = ⊥
+IsCall c (call.SetModemControl outputs) = ⊥
+IsCall c (call.SetRts on) = ⊥
+IsCall c (call.SetDtr on) = ⊥
 IsCall c (call.Text text) = ⊥
 
 -- the one struct of C that asks for an access: a flag of 0 or 1, and the value 0 for a read
@@ -140,3 +148,5 @@ shown (answer.LoopbackRefused error) = loopback_refused error
 shown (answer.NotConnected error) = of_value code.UART_ANSWER_NOT_CONNECTED (remote_code error) 0
 shown answer.NoData = of_kind code.UART_ANSWER_NO_DATA
 shown (answer.NotSent error) = of_value code.UART_ANSWER_NOT_SENT (send_code error) 0
+shown (answer.FrameRefused error) = of_kind code.UART_ANSWER_FRAME_REFUSED
+shown (answer.AttachRefused error) = of_kind code.UART_ANSWER_ATTACH_REFUSED

@@ -4,8 +4,9 @@ ghost use Rattle.uart_c.specs.Calls as spec;
 ghost use Rattle.uart_c.specs.Calls.{init_code, registers_of, remote_code, send_code};
 
 use crate::codes::{
-    UART_ANSWER_BYTES, UART_ANSWER_COUNT, UART_ANSWER_DONE, UART_ANSWER_DUMP, UART_ANSWER_FLAG,
-    UART_ANSWER_INIT_REFUSED, UART_ANSWER_LATCH, UART_ANSWER_LOOPBACK_REFUSED, UART_ANSWER_NO_DATA,
+    UART_ANSWER_ATTACH_REFUSED, UART_ANSWER_BYTES, UART_ANSWER_COUNT, UART_ANSWER_DONE,
+    UART_ANSWER_DUMP, UART_ANSWER_FLAG, UART_ANSWER_FRAME_REFUSED, UART_ANSWER_INIT_REFUSED,
+    UART_ANSWER_LATCH, UART_ANSWER_LOOPBACK_REFUSED, UART_ANSWER_NO_DATA,
     UART_ANSWER_NOT_CONNECTED, UART_ANSWER_NOT_SENT, UART_ANSWER_RECEIVE_STALLED,
     UART_ANSWER_REGISTER, UART_ANSWER_STALLED, UART_INIT_DEVICE_NOT_PRESENT,
     UART_INIT_INVALID_BAUD_RATE, UART_INIT_STALLED, UART_LOOPBACK_SEND_ERROR,
@@ -178,5 +179,7 @@ pub fn shown(answer: &Answer) -> UartAnswer
         Answer::NotConnected(error) => of_value(UART_ANSWER_NOT_CONNECTED, remote_error(error), 0),
         Answer::NoData => of_kind(UART_ANSWER_NO_DATA),
         Answer::NotSent(error) => of_value(UART_ANSWER_NOT_SENT, send_error(error), 0),
+        Answer::FrameRefused(_) => of_kind(UART_ANSWER_FRAME_REFUSED),
+        Answer::AttachRefused(_) => of_kind(UART_ANSWER_ATTACH_REFUSED),
     }
 }

@@ -121,6 +121,10 @@ pub const UART_ANSWER_NO_DATA: u8 = 12;
 
 pub const UART_ANSWER_NOT_SENT: u8 = 13;
 
+pub const UART_ANSWER_FRAME_REFUSED: u8 = 14;
+
+pub const UART_ANSWER_ATTACH_REFUSED: u8 = 15;
+
 // Why an initialisation failed: `enum uart_init_error`.
 
 pub const UART_INIT_DEVICE_NOT_PRESENT: u8 = 0;

@@ -2,6 +2,7 @@
 use Rattle.std.proofs.Common.{ℕ, List, Result, refl, sym, ◌∙◌, inl}
 use Rattle.uart_spec.specs.declared.errors.StalledError.{StalledError}
 use Rattle.uart_spec.specs.declared.registers.offsets.TheConstants as offsets
+use Rattle.uart_spec.specs.declared.registers.modem_control.TheConstants.MCR
 use Rattle.uart_16550.specs.Choice.{LeavesNoChoice}
 use Rattle.uart_16550.specs.Driver.{Saving}
 use Rattle.uart_16550.specs.DriverCalls.{SavingCall, ChangingCall}
@@ -45,6 +46,12 @@ text_one text f a b l m after after' p q =
 pub meaning_leaves_no_choice : (call : Call) → IsRunnable call → LeavesNoChoice (doing_of (meaning call))
 meaning_leaves_no_choice call.Next ok = no_access_one
 meaning_leaves_no_choice (call.Init config) ok = changing_leaves_no_choice (ChangingCall.init config ok)
+meaning_leaves_no_choice (call.SetFrame config) ok = changing_leaves_no_choice (ChangingCall.set_frame config ok)
+meaning_leaves_no_choice call.Attach ok = changing_leaves_no_choice ChangingCall.attach
+meaning_leaves_no_choice (call.SetBreak on) ok = saving_leaves_no_choice (SavingCall.set_break on)
+meaning_leaves_no_choice (call.SetModemControl outputs) ok = saving_leaves_no_choice (SavingCall.set_modem_control outputs.0)
+meaning_leaves_no_choice (call.SetRts on) ok = saving_leaves_no_choice (SavingCall.set_output MCR.RTS.0 on)
+meaning_leaves_no_choice (call.SetDtr on) ok = saving_leaves_no_choice (SavingCall.set_output MCR.DTR.0 on)
 meaning_leaves_no_choice call.TestLoopback ok = changing_leaves_no_choice ChangingCall.test_loopback
 meaning_leaves_no_choice call.CheckPresent ok = saving_leaves_no_choice SavingCall.check_present
 meaning_leaves_no_choice call.CheckConnected ok = saving_leaves_no_choice SavingCall.check_connected
@@ -60,6 +67,8 @@ meaning_leaves_no_choice call.Lcr ok = saving_leaves_no_choice (SavingCall.read_
 meaning_leaves_no_choice call.Mcr ok = saving_leaves_no_choice (SavingCall.read_register offsets.MCR)
 meaning_leaves_no_choice call.Lsr ok = changing_leaves_no_choice ChangingCall.lsr
 meaning_leaves_no_choice call.Msr ok = changing_leaves_no_choice ChangingCall.msr
+meaning_leaves_no_choice call.PeekModem ok = saving_leaves_no_choice (SavingCall.read_register offsets.MSR)
+meaning_leaves_no_choice call.IsIdle ok = saving_leaves_no_choice SavingCall.is_idle
 meaning_leaves_no_choice call.Spr ok = saving_leaves_no_choice (SavingCall.read_register offsets.SPR)
 meaning_leaves_no_choice call.DllDlm ok = saving_leaves_no_choice SavingCall.dll_dlm
 meaning_leaves_no_choice call.FifoEnabled ok = shows_fifo_one

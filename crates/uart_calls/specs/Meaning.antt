@@ -3,6 +3,7 @@ use Rattle.std.specs.Prelude.{◌≡◌, ◌≤◌, ℕ, Bool, List, [], ◌∷�
 use Rattle.uart_spec.specs.declared.errors.ByteReceiveError.{ByteReceiveError}
 use Rattle.uart_spec.specs.declared.errors.ByteSendError.{ByteSendError}
 use Rattle.uart_spec.specs.declared.errors.InitError.{InitError}
+use Rattle.uart_spec.specs.declared.errors.InvalidDivisorError.{InvalidDivisorError}
 use Rattle.uart_spec.specs.declared.errors.LoopbackError.{LoopbackError}
 use Rattle.uart_spec.specs.declared.errors.RemoteReadyToReceiveError.{RemoteReadyToReceiveError}
 use Rattle.uart_spec.specs.declared.errors.StalledError.{StalledError}
@@ -14,6 +15,10 @@ use Rattle.uart_16550.specs.Driver.{Doing, Did, Saving}
 use Rattle.uart_16550.specs.Receive.{ReadyToReceive, TryReceive, Receives, ReceivesExact}
 use Rattle.uart_16550.specs.Transmit.{ReadyToSend, TrySends, Sends, SendsExact}
 use Rattle.uart_16550.specs.Init.{ChecksPresence, Inits}
+use Rattle.uart_16550.specs.Frame.{SetsFrame, ShowsIdle, SetsBreak, SetsControl, SetsOutput}
+use Rattle.uart_16550.specs.Attach.{Attaches}
+use Rattle.uart_spec.specs.declared.errors.AttachError.{AttachError}
+use Rattle.uart_spec.specs.declared.registers.modem_control.TheConstants.MCR
 use Rattle.uart_16550.specs.Loopback.{TestsLoopback}
 use Rattle.uart_16550.specs.Status.{TakesLsr, TakesMsr, Connects, ReadsDivisor, Enables, Disables, Dumps}
 use Rattle.uart_16550.specs.Io.{Reads, Writes, Flushes, AnswersRead, AnswersWrite}
@@ -25,7 +30,8 @@ use Rattle.uart_spec.specs.declared.call.Call.{Call}
 use Rattle.uart_spec.specs.declared.call.Call.TheVariants as call
 use Rattle.uart_spec.specs.declared.call.Answer.{Answer}
 use Rattle.uart_spec.specs.declared.call.Answer.TheVariants.{Done, Flag, Count, Bytes, Register, Latch, Dump, Stalled}
-use Rattle.uart_spec.specs.declared.call.Answer.TheVariants.{ReceiveStalled, InitRefused, LoopbackRefused}
+use Rattle.uart_spec.specs.declared.call.Answer.TheVariants.{ReceiveStalled, InitRefused, FrameRefused}
+use Rattle.uart_spec.specs.declared.call.Answer.TheVariants.{AttachRefused, LoopbackRefused}
 use Rattle.uart_spec.specs.declared.call.Answer.TheVariants.{NotConnected, NoData, NotSent}
 use Rattle.uart_spec.specs.declared.call.TheConstants.{CALL_BYTES}
 
@@ -38,6 +44,14 @@ bytes_answer bytes = Bytes (record { items = bytes })
 abbrev pub init_answer : Result (Unit {0}) InitError → Answer
 init_answer (Ok x) = Done
 init_answer (Err e) = InitRefused e
+
+abbrev pub frame_answer : Result (Unit {0}) InvalidDivisorError → Answer
+frame_answer (Ok x) = Done
+frame_answer (Err e) = FrameRefused e
+
+abbrev pub attach_answer : Result (ℕ × ℕ) AttachError → Answer
+attach_answer (Ok latch) = Latch latch.0 latch.1
+attach_answer (Err e) = AttachRefused e
 
 abbrev pub loopback_answer : Result (Unit {0}) LoopbackError → Answer
 loopback_answer (Ok x) = Done
@@ -125,6 +139,12 @@ tells_nothing doing = means {Outcome = Unit {0}} (λ outcome. doing) (λ outcome
 abbrev pub meaning : Call → Meaning
 meaning call.Next = tells_nothing MakesNoAccess
 meaning (call.Init config) = means (Inits config) init_answer
+meaning (call.SetFrame config) = means (SetsFrame config) frame_answer
+meaning call.Attach = means Attaches attach_answer
+meaning (call.SetBreak on) = tells_nothing (Saving (SetsBreak on))
+meaning (call.SetModemControl outputs) = tells_nothing (Saving (SetsControl outputs.0))
+meaning (call.SetRts on) = tells_nothing (Saving (SetsOutput MCR.RTS.0 on))
+meaning (call.SetDtr on) = tells_nothing (Saving (SetsOutput MCR.DTR.0 on))
 meaning call.TestLoopback = means TestsLoopback loopback_answer
 meaning call.CheckPresent = saves ChecksPresence Flag
 meaning call.CheckConnected = saves Connects connected_answer
@@ -140,6 +160,8 @@ meaning call.Lcr = saves (ShowsRegister offsets.LCR) Register
 meaning call.Mcr = saves (ShowsRegister offsets.MCR) Register
 meaning call.Lsr = means TakesLsr Register
 meaning call.Msr = means TakesMsr Register
+meaning call.PeekModem = saves (ShowsRegister offsets.MSR) Register
+meaning call.IsIdle = saves ShowsIdle Flag
 meaning call.Spr = saves (ShowsRegister offsets.SPR) Register
 meaning call.DllDlm = saves (λ latch. ReadsDivisor latch.0 latch.1) latch_answer
 meaning call.FifoEnabled = means ShowsFifo Flag

@@ -13,3 +13,4 @@ pub mod Snapshot
 pub mod Sound
 pub mod Conserved
 pub mod Laws
+pub mod Sending

@@ -1,7 +1,8 @@
 //! The chip: its registers, its transmitter, its receiver and its modem lines.
-ghost use Rattle.std.specs.Prelude.{◌≡◌, ◌<◌, ◌≤◌, ◌+◌, ℕ, [], ◌∷◌};
+ghost use Rattle.std.specs.Prelude.{◌≡◌, ◌<◌, ◌≤◌, ◌+◌, ℕ, [], ◌∷◌, true};
 ghost use Rattle.std.specs.Prelude.{length, replicate, is_some, IfOk};
 ghost use Rattle.uart_chip.specs.Chip as spec;
+ghost use Rattle.uart_chip.specs.Sending as sending_spec;
 ghost use Rattle.uart_chip.specs.Snapshot.{chip_of, unscheduled};
 ghost use Rattle.uart_chip.specs.Machine.{arrivals, perform};
 ghost use Rattle.uart_chip.specs.Jumps.{moves, jumps_in};
@@ -19,6 +20,7 @@ use crate::journal::{Journal, Marks};
 use crate::modem::{Modem, ModemData};
 use crate::receiver::{Character, Receiver, ReceiverData};
 use crate::receiving::{expire_timeout, is_timed_out};
+use crate::sending::{send_at_once, sends_at_once};
 use crate::transmitter::{Transmitter, TransmitterData};
 use crate::wire::{HeapWire, Wire, send};
 use bitflags::Flags;
@@ -327,6 +329,22 @@ impl<B: Fifo<u8> + Drop, W: Wire + Drop, C: Fifo<Character> + Drop, J: Journal +
         ensures { self.new ≡ spec.after_write offset value self.old }
     {
         write(self, offset, value);
+    }
+
+    /// Returns whether a byte that is written to DATA meets an idle transmitter, outside of
+    /// loopback.
+    pub fn sends_at_once(&self) -> bool
+        ensures { result ≡ sending_spec.sends_at_once self.now }
+    {
+        sends_at_once(self)
+    }
+
+    /// Puts a byte on the wire that is written to DATA. The caller must show that it may.
+    pub fn send_at_once(&mut self, value: u8)
+        requires { sending_spec.sends_at_once self.old ≡ true }
+        ensures { self.new ≡ sending_spec.send_at_once value self.old }
+    {
+        send_at_once(self, value);
     }
 }
 

@@ -19,6 +19,7 @@ mod masks;
 mod modem;
 mod receiver;
 pub mod receiving;
+pub mod sending;
 mod transmitter;
 pub mod transmitting;
 mod wire;

@@ -4,6 +4,9 @@ use Rattle.std.specs.Prelude.{codes}
 use Rattle.std.specs.List.{flat_map}
 use Rattle.std.specs.Char.{digit_char}
 use Rattle.std.specs.Fmt.{decimal}
+use Rattle.uart_spec.specs.declared.errors.AttachError.{AttachError}
+use Rattle.uart_spec.specs.declared.errors.AttachError.TheVariants as attach
+use Rattle.uart_spec.specs.declared.errors.InvalidDivisorError.{InvalidDivisorError}
 use Rattle.uart_spec.specs.declared.errors.InvalidDivisorError.TheVariants as divisor
 use Rattle.uart_spec.specs.declared.errors.InitError.{InitError}
 use Rattle.uart_spec.specs.declared.errors.InitError.TheVariants as init
@@ -55,10 +58,17 @@ remote_error_name remote.NoRemoteConnectedNoDSR = codes "NoRemoteConnectedNoDSR"
 remote_error_name remote.NoRemoteConnectedNoCD = codes "NoRemoteConnectedNoCD"
 remote_error_name remote.RemoteNotClearToSend = codes "RemoteNotClearToSend"
 
+abbrev pub divisor_error_text : InvalidDivisorError → List ℕ
+divisor_error_text (divisor.NonInteger e) = codes "InvalidBaudRate NonInteger"
+divisor_error_text (divisor.OutOfRange d) = codes "InvalidBaudRate OutOfRange " ++ decimal d
+
+abbrev pub attach_error_name : AttachError → List ℕ
+attach_error_name attach.DivisorLatchOpen = codes "DivisorLatchOpen"
+attach_error_name attach.Loopback = codes "Loopback"
+
 abbrev pub init_error_text : InitError → List ℕ
 init_error_text init.DeviceNotPresent = codes "DeviceNotPresent"
-init_error_text (init.InvalidBaudRate (divisor.NonInteger e)) = codes "InvalidBaudRate NonInteger"
-init_error_text (init.InvalidBaudRate (divisor.OutOfRange d)) = codes "InvalidBaudRate OutOfRange " ++ decimal d
+init_error_text (init.InvalidBaudRate e) = divisor_error_text e
 init_error_text init.Stalled = codes "Stalled"
 
 abbrev pub loopback_error_text : LoopbackError → List ℕ
@@ -93,6 +103,8 @@ answer_text (answer.Stalled n) = codes "stalled " ++ decimal n
 answer_text (answer.ReceiveStalled bytes) =
     codes "stalled " ++ decimal (length bytes.items) ++ codes " " ++ hex bytes.items
 answer_text (answer.InitRefused e) = codes "err " ++ init_error_text e
+answer_text (answer.FrameRefused e) = codes "err " ++ divisor_error_text e
+answer_text (answer.AttachRefused e) = codes "err " ++ attach_error_name e
 answer_text (answer.LoopbackRefused e) = codes "err " ++ loopback_error_text e
 answer_text (answer.NotConnected e) = codes "err " ++ remote_error_name e
 answer_text answer.NoData = codes "err ByteReceiveError"

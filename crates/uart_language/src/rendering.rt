@@ -5,7 +5,8 @@ ghost use Rattle.std.specs.List.{flat_map};
 ghost use Rattle.std.specs.Char.{digit_char};
 ghost use Rattle.std.specs.Fmt.{decimal};
 ghost use Rattle.uart_language.specs.Output.{hex_byte, hex, send_error_name, remote_error_name};
-ghost use Rattle.uart_language.specs.Output.{init_error_text, loopback_error_text};
+ghost use Rattle.uart_language.specs.Output.{init_error_text, divisor_error_text, attach_error_name};
+ghost use Rattle.uart_language.specs.Output.{loopback_error_text};
 ghost use Rattle.uart_language.specs.Output.{setup_text, status_text, answer_text, line};
 ghost use Rattle.uart_language.specs.Output.{answer_lines, mark_letter, marks_text};
 ghost use Rattle.uart_language.specs.Output.{final_lines, printed};
@@ -14,8 +15,8 @@ use bitflags::Flags;
 use std::alloc::{AllocError, Global};
 use uart_spec::call::Answer;
 use uart_spec::{
-    ArrivalMark, ByteSendError, ConfigRegisterDump, InitError, InvalidDivisorError, LoopbackError,
-    RemoteReadyToReceiveError,
+    ArrivalMark, AttachError, ByteSendError, ConfigRegisterDump, InitError, InvalidDivisorError,
+    LoopbackError, RemoteReadyToReceiveError,
 };
 
 /// Returns a digit below 16 as text, in lower case.
@@ -74,6 +75,33 @@ fn send_error_name(error: &ByteSendError) -> &'static [u8]
     }
 }
 
+/// Appends why there is no divisor.
+fn push_divisor_error(
+    alloc: Global,
+    out: &mut Vec<u8>,
+    error: &InvalidDivisorError,
+) -> Result<(), AllocError>
+    ensures { OnOk result (out.new.items ≡ out.old.items ++ divisor_error_text error.now) }
+{
+    match error {
+        InvalidDivisorError::NonInteger(_) => out.extend_from_slice(b"InvalidBaudRate NonInteger"),
+        InvalidDivisorError::OutOfRange { divisor } => {
+            out.extend_from_slice(b"InvalidBaudRate OutOfRange ")?;
+            push_number(alloc, out, *divisor as usize)
+        }
+    }
+}
+
+/// Returns the name of a refusal.
+fn attach_error_name(error: &AttachError) -> &'static [u8]
+    ensures { result.now ≡ attach_error_name error.now }
+{
+    match error {
+        AttachError::DivisorLatchOpen => b"DivisorLatchOpen",
+        AttachError::Loopback => b"Loopback",
+    }
+}
+
 fn remote_error_name(error: &RemoteReadyToReceiveError) -> &'static [u8]
     ensures { result.now ≡ remote_error_name error.now }
 {
@@ -89,13 +117,7 @@ fn push_init_error(alloc: Global, out: &mut Vec<u8>, error: &InitError) -> Resul
 {
     match error {
         InitError::DeviceNotPresent => out.extend_from_slice(b"DeviceNotPresent"),
-        InitError::InvalidBaudRate(InvalidDivisorError::NonInteger(_)) => {
-            out.extend_from_slice(b"InvalidBaudRate NonInteger")
-        }
-        InitError::InvalidBaudRate(InvalidDivisorError::OutOfRange { divisor }) => {
-            out.extend_from_slice(b"InvalidBaudRate OutOfRange ")?;
-            push_number(alloc, out, *divisor as usize)
-        }
+        InitError::InvalidBaudRate(cause) => push_divisor_error(alloc, out, cause),
         InitError::Stalled => out.extend_from_slice(b"Stalled"),
     }
 }
@@ -206,6 +228,14 @@ pub fn push_answer(alloc: Global, out: &mut Vec<u8>, answer: &Answer) -> Result<
         Answer::InitRefused(error) => {
             out.extend_from_slice(b"err ")?;
             push_init_error(alloc, out, error)
+        }
+        Answer::FrameRefused(error) => {
+            out.extend_from_slice(b"err ")?;
+            push_divisor_error(alloc, out, error)
+        }
+        Answer::AttachRefused(error) => {
+            out.extend_from_slice(b"err ")?;
+            out.extend_from_slice(attach_error_name(error))
         }
         Answer::LoopbackRefused(error) => {
             out.extend_from_slice(b"err ")?;

@@ -5,3 +5,4 @@ pub mod Saves
 pub mod Rings
 pub mod Wires
 pub mod Journals
+pub mod Sends

@@ -174,7 +174,7 @@ live-lines inputs c i w =
     (w.none_lost, w.room)
 
 -- a move of one part that leaves the latches alone
-live-part : (c d : ChipState) → IsLive c → Steady c.receiver.arrived c d → d.latches ≡ c.latches → Keeps d → IsLive d
+pub live-part : (c d : ChipState) → IsLive c → Steady c.receiver.arrived c d → d.latches ≡ c.latches → Keeps d → IsLive d
 live-part c d w s l k =
     live-steady c d w s
     (record {

@@ -1,7 +1,8 @@
 //! The live chip.
 ghost use Rattle.std.specs.Prelude.{◌≡◌, ◌≢◌, ◌<◌, ◌≤◌, ◌-◌, length, Some, None};
-ghost use Rattle.std.specs.Prelude.{not, bit_and, is_some, Err, IfOk, IsOk};
+ghost use Rattle.std.specs.Prelude.{true, not, bit_and, is_some, Err, IfOk, IsOk};
 ghost use Rattle.uart_chip.specs.Chip as spec;
+ghost use Rattle.uart_chip.specs.Sending as sending_spec;
 ghost use Rattle.uart_chip.specs.Jumps.{most_jumps, jumps_in};
 ghost use Rattle.uart_spec.specs.Bits.{IsWithin, has_any};
 ghost use Rattle.uart_chip.specs.Receiver.{waiting};
@@ -155,6 +156,26 @@ impl LiveChip {
         ensures { self.new ≡ spec.after_write offset value self.old }
     {
         self.uart.write(offset, value);
+    }
+
+    /// Returns whether a byte that is written to DATA meets an idle transmitter, outside of
+    /// loopback, so that it may go onto the wire at once.
+    pub fn sends_at_once(&self) -> bool
+        ensures sends { result ≡ sending_spec.sends_at_once self.now }
+        ensures live { IsLive self.now }
+    {
+        self.uart.sends_at_once()
+    }
+
+    /// Puts a byte on the wire that is written to DATA. The caller must show that it may.
+    ///
+    /// If a character takes one tick, that is the same as to write DATA and to let two ticks or
+    /// more pass.
+    pub fn send_at_once(&mut self, value: u8)
+        requires { sending_spec.sends_at_once self.old ≡ true }
+        ensures { self.new ≡ sending_spec.send_at_once value self.old }
+    {
+        self.uart.send_at_once(value);
     }
 
     /// Lets `count` ticks pass. Returns the number of jumps that this took, which is at most 18,

@@ -1,5 +1,6 @@
 -- That ring calls make few accesses.
-use Rattle.std.proofs.Common.{◌≡◌, ◌≤◌, ◌+◌, ◌*◌, ℕ, zero, suc, Bool, true, false, min, MatchBool, List, [], ◌∷◌, ◌++◌, length, take, drop}
+use Rattle.std.proofs.Common.{◌≡◌, ◌≤◌, ◌+◌, ◌-◌, ◌*◌, ℕ, zero, suc, Bool, true, false, min, MatchBool, List, [], ◌∷◌, ◌++◌, length, take}
+use Rattle.std.proofs.Common.{drop}
 use Rattle.std.proofs.Common.{length-append, length-take, refl, arith, ap, inl, inr}
 use Rattle.uart_spec.specs.declared.access.Access.{Access}
 use Rattle.uart_spec.specs.declared.baud.TheConstants.{FIFO_SIZE}
@@ -22,9 +23,14 @@ use Rattle.uart_ring.specs.Transmit.{ArmsIfLeft, Pumps, Queues, ResumesTransmit}
 use Rattle.uart_ring.specs.Receive.{PausesIfFull, FillsReceiveRing, EndsPause, TakesBytes}
 use Rattle.uart_ring.specs.Status.{TakesLine, TakesModem}
 use Rattle.uart_ring.specs.Service.{ServesInterrupt, ServesOne, Services}
+use Rattle.uart_ring.specs.Handle.{Retriggers, Ends, IsWithin, Handles}
+use Rattle.uart_ring.specs.declared.ring.service.HandleEnd.{HandleEnd}
+use Rattle.uart_ring.specs.declared.ring.service.HandleEnd.TheVariants.{Idle, Unknown, Limit}
+use Rattle.uart_ring.specs.declared.ring.service.Handled.{Handled}
 use Rattle.uart_ring.specs.Lossless.{Implies}
 use Rattle.uart_ring.proofs.Pausing.{ChangesIer, Pausing, joined_with, rid_of}
 use Rattle.uart_ring.specs.Bounded.{MakesAtMost, most_of_change, most_of_pump, most_of_receiving, most_of_service}
+use Rattle.uart_ring.specs.Bounded.{most_of_retrigger, most_of_handle}
 
 -- two lists in turn
 both : (l m k : List Access) (x y : ℕ) → l ≡ m ++ k → length m ≤ x → length k ≤ y → length l ≤ x + y
@@ -164,6 +170,41 @@ services_size count f l after (inl (fewer, t)) =
     let read : length t.back ≤ 1 = omega (arith, ap length t.second.0.2.0.is) in
     omega (arith, fewer, ap length t.whole, length-append t.front t.back, times_size count f t.front t.mid t.first, read)
 services_size count f l after (inr (all, t)) = omega (arith, all, times_size count f l after t)
+
+pub retriggers_size : Implies Retriggers (MakesAtMost most_of_retrigger)
+retriggers_size f l after (((ier, is), saved), same) = omega (arith, ap length is)
+
+-- the end comes after as many as the limit, or after fewer
+ended_size : (limit served : ℕ) (end : HandleEnd) → IsWithin limit served end → Implies (Ends end) (MakesAtMost
+    (most_of_handle limit - served * (1 + most_of_receiving)))
+ended_size limit served Idle within f l after ((isr, shown, idle, t), same) = omega (arith, within, ap length t.0.is)
+ended_size limit served Unknown within f l after t =
+    let u = t.first.0.3 in
+    omega (
+      arith,
+      within,
+      ap length t.whole,
+      length-append t.front t.back,
+      ap length u.0.is,
+      retriggers_size t.mid t.back after t.second,
+    )
+ended_size limit served Limit within f l after t = omega (arith, within, retriggers_size f l after t)
+
+within_limit : (limit served : ℕ) (end : HandleEnd) → IsWithin limit served end → served ≤ limit
+within_limit limit served Idle within = omega (arith, within)
+within_limit limit served Unknown within = omega (arith, within)
+within_limit limit served Limit within = omega (arith, within)
+
+pub handles_size : (limit : ℕ) (handled : Handled) → Implies (Handles limit handled) (MakesAtMost (most_of_handle limit))
+handles_size limit handled f l after (within, t) =
+    omega (
+      arith,
+      within_limit limit handled.served handled.end within,
+      ap length t.whole,
+      length-append t.front t.back,
+      times_size handled.served f t.front t.mid t.first,
+      ended_size limit handled.served handled.end within t.mid t.back after t.second,
+    )
 
 any_pumps_size : (count : ℕ) → Implies (IfAny count Pumps) (MakesAtMost most_of_pump)
 any_pumps_size zero f l after t = omega (arith, ap length t.0)

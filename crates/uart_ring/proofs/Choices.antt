@@ -2,7 +2,7 @@
 use Rattle.std.proofs.Common.{◌≡◌, ◌<◌, ℕ, zero, suc, Bool, true, false, min, List, [], ◌∷◌, ◌++◌, length, take, drop}
 use Rattle.std.proofs.Common.{append_assoc, refl, arith}
 use Rattle.std.specs.Prelude.{⊤}
-use Rattle.std.proofs.Common.{sym, ◌∙◌, ap, subst, inl, inr, ◌⊎◌, Option, Some, None, bit_and, bit_or}
+use Rattle.std.proofs.Common.{sym, ◌∙◌, ap, subst, inl, inr, ◌⊎◌, Option, Some, None, Err, bit_and, bit_or}
 use Rattle.uart_spec.specs.declared.access.Access.{Access}
 use Rattle.uart_spec.specs.declared.access.Access.TheVariants.{Read}
 use Rattle.uart_spec.specs.Bits.{IsOnlyIfAny}
@@ -36,6 +36,15 @@ use Rattle.uart_ring.specs.Receive.{EndsPause, FillsReceiveRing, PausesIfFull, T
 use Rattle.uart_ring.specs.Status.{TakesLine, TakesModem}
 use Rattle.uart_ring.specs.Service.{ServesInterrupt, ServesOne, Services, ShowsInterrupt}
 use Rattle.uart_ring.specs.Choice.{LeavesNoRingChoice}
+use Rattle.uart_ring.specs.Handle.{Retriggers, ShowsNone, Ends, ShowsOrEnds, IsWithin, Handles}
+use Rattle.uart_ring.specs.declared.ring.service.HandleEnd.{HandleEnd}
+use Rattle.uart_ring.specs.declared.ring.service.HandleEnd.TheVariants.{Idle, Unknown, Limit}
+use Rattle.uart_ring.specs.declared.ring.service.Handled.{Handled}
+use Rattle.uart_16550.specs.Status as status
+use Rattle.uart_16550.proofs.determined.Status.{retriggers_determined}
+use Rattle.uart_ring.proofs.Losses.{shows_none}
+use Rattle.uart_spec.specs.Bits.{has}
+use Rattle.uart_spec.specs.declared.registers.interrupt_status.TheConstants.ISR
 
 -- from these fields, each list of the first and each of the second are one list, with the same fields after it, and this holds; or
 -- they part at a read
@@ -270,6 +279,130 @@ services_same f x y = record { at = at }
 
 pub services_leave_no_choice : LeavesNoRingChoice Services
 services_leave_no_choice = no_choice services_same
+
+-- ---- handle
+
+retriggers_same : (f : RingFields) → RingDoes (Unit {0}) f Retriggers Retriggers
+retriggers_same f =
+    on_driver {f = f} unchanged unchanged
+    (does_so (λ e. tt) (does_saving f.driver status.Retriggers status.Retriggers (retriggers_determined (settings_of f.driver) tt tt)))
+    (λ e. refl)
+
+pub retriggers_leave_no_choice : LeavesNoRingChoice (λ (_ : ⊤). Retriggers)
+retriggers_leave_no_choice =
+    no_choice (λ f x y. record { at = λ l m a b p q. so (λ r. (refl, r.1)) ((retriggers_same f).at l m a b p q) })
+
+-- one value of ISR has one bit 0
+none_same : (x y : Bool) (f : RingFields) → RingDoes (x ≡ y) f (OnDriver (ShowsNone x) unchanged) (OnDriver (ShowsNone y) unchanged)
+none_same x y f = on_driver {f = f} unchanged unchanged (record {
+  at = λ l m a b p q. so (λ r. (sym p.2 ∙ ap (λ (n : ℕ). has n ISR.INTERRUPT_STATUS.0) r.0 ∙ q.2, r.1))
+      ((does_saving f.driver (Only (Read offsets.ISR p.0 ∷ [])) (Only (Read offsets.ISR q.0 ∷ []))
+      (read_determined offsets.ISR p.0 q.0)).at l m a b p.3 q.3);
+}) (λ e. refl)
+
+-- how it ends after a look at ISR
+abbrev LookEnds : HandleEnd → RingDoing
+LookEnds end = ShowsOrEnds (Err end)
+
+look_ends_same : (x y : HandleEnd) (f : RingFields) → RingDoes (x ≡ y) f (LookEnds x) (LookEnds y)
+look_ends_same Idle Idle f = ring_so (λ e. refl) (none_same true true f)
+look_ends_same Idle Unknown f = ring_sym (ring_front (ring_so (λ e. cc) (none_same false true f)))
+look_ends_same Unknown Idle f = ring_front (ring_so (λ e. cc) (none_same false true f))
+look_ends_same Unknown Unknown f = ring_next (none_same false false f) (λ e mid. ring_so (λ r. refl) (retriggers_same mid))
+look_ends_same Limit y f = record { at = λ l m a b p q. absurd p }
+look_ends_same Idle Limit f = record { at = λ l m a b p q. absurd q }
+look_ends_same Unknown Limit f = record { at = λ l m a b p q. absurd q }
+
+-- an interrupt is shown, or an end
+none_apart : (idle : Bool) (f : RingFields) → RingDoes ⊥ f ServesOne (OnDriver (ShowsNone idle) unchanged)
+none_apart idle f = record { at = λ l m a b p q. (apart f).at l m a b p (shows_none idle f m b q) }
+
+end_apart : (end : HandleEnd) (f : RingFields) → RingDoes ⊥ f ServesOne (LookEnds end)
+end_apart Idle f = none_apart true f
+end_apart Unknown f = ring_sym (ring_front (ring_sym (none_apart false f)))
+end_apart Limit f = record { at = λ l m a b p q. absurd q }
+
+-- some were served, and then it ended
+abbrev Ended : ℕ → HandleEnd → RingDoing
+Ended n end = RingNext (RingTimes n ServesOne) (LookEnds end)
+
+-- some more after one
+more_later : (n : ℕ) (G : RingDoing) (f : RingFields) (l : List Access) (a : RingFields) → RingNext (RingTimes (suc n) ServesOne) G f l a →
+    RingNext ServesOne (RingNext (RingTimes n ServesOne) G) f l a
+more_later n G f l a t = then_later ServesOne (RingTimes n ServesOne) G f l a t
+
+went_on : {D : Type 0} (G : RingDoing) (end : HandleEnd) (f : RingFields) → RingDoes D f (RingNext ServesOne G) (Ended zero end)
+went_on G end f = record { at = λ l m a b p q. (ring_front (end_apart end f)).at l m a b p (stays_then (LookEnds end) f m b q) }
+
+ended_same : (n k : ℕ) (x y : HandleEnd) (f : RingFields) → RingDoes ((n ≡ k) × (x ≡ y)) f (Ended n x) (Ended k y)
+ended_same zero zero x y f = ring_next (stays_same f) (λ t mid. ring_so (λ e. (refl, e)) (look_ends_same x y mid))
+ended_same zero (suc k) x y f = ring_sym (record {
+  at = λ l m a b p q. (went_on (Ended k y) x f).at l m a b (more_later k (LookEnds y) f l a p) q;
+})
+ended_same (suc n) zero x y f = record {
+  at = λ l m a b p q. (went_on (Ended n x) y f).at l m a b (more_later n (LookEnds x) f l a p) q;
+}
+ended_same (suc n) (suc k) x y f = record {
+  at = λ l m a b p q.
+      (ring_next (serves_one_same f) (λ t mid. ring_so (λ e. (ap suc e.0, e.1)) (ended_same n k x y mid))).at l m a b
+      (more_later n (LookEnds x) f l a p) (more_later k (LookEnds y) f m b q);
+}
+
+-- it ended, or more were served
+ended_before : (n k : ℕ) → n < k → (end : HandleEnd) (G : RingDoing) (f : RingFields) →
+    RingDoes ⊥ f (Ended n end) (RingNext (RingTimes k ServesOne) G)
+ended_before n zero few end G f = absurd (omega (arith, few))
+ended_before zero (suc k) few end G f = ring_sym (record {
+  at = λ l m a b p q. (went_on (RingNext (RingTimes k ServesOne) G) end f).at l m a b (more_later k G f l a p) q;
+})
+ended_before (suc n) (suc k) few end G f = record {
+  at = λ l m a b p q. (ring_next (serves_one_same f) (λ t mid. ended_before n k (omega (arith, few)) end G mid)).at l m a b
+      (more_later n (LookEnds end) f l a p) (more_later k G f m b q);
+}
+
+-- as many as the limit were served
+all_served : (n k : ℕ) → n ≡ k → (f : RingFields) →
+    RingDoes (Unit {0}) f (RingNext (RingTimes n ServesOne) Retriggers) (RingNext (RingTimes k ServesOne) Retriggers)
+all_served n k e f =
+    let P : ℕ → Type 0 = λ i. RingDoes (Unit {0}) f (RingNext (RingTimes n ServesOne) Retriggers)
+    (RingNext (RingTimes i ServesOne) Retriggers) in
+    subst P e (ring_next (times_same n f) (λ t mid. retriggers_same mid))
+
+-- it ended after a look, or at the limit
+by_look : (limit n : ℕ) (end : HandleEnd) (f : RingFields) (l : List Access) (a : RingFields) → IsWithin limit n end →
+    RingNext (RingTimes n ServesOne) (Ends end) f l a →
+    ((n < limit) × Ended n end f l a) ⊎ ((n ≡ limit) × (end ≡ Limit) × RingNext (RingTimes n ServesOne) Retriggers f l a)
+by_look limit n Idle f l a within t = inl (within, t)
+by_look limit n Unknown f l a within t = inl (within, t)
+by_look limit n Limit f l a within t = inr (within, refl, t)
+
+handles_same : (limit : ℕ) (f : RingFields) (x y : Handled) → RingDoes (x ≡ y) f (Handles limit x) (Handles limit y)
+handles_same limit f x y = record {
+  at = λ l m a b p q. at l m a b (by_look limit x.served x.end f l a p.0 p.1) (by_look limit y.served y.end f m b q.0 q.1);
+}
+  where
+    same : (x.served ≡ y.served) × (x.end ≡ y.end) → x ≡ y
+    same e i = record { served = e.0 i; end = e.1 i }
+
+    at : (l m : List Access) (a b : RingFields) →
+        ((x.served < limit) × Ended x.served x.end f l a)
+        ⊎ ((x.served ≡ limit) × (x.end ≡ Limit) × RingNext (RingTimes x.served ServesOne) Retriggers f l a) →
+        ((y.served < limit) × Ended y.served y.end f m b)
+        ⊎ ((y.served ≡ limit) × (y.end ≡ Limit) × RingNext (RingTimes y.served ServesOne) Retriggers f m b) →
+        SameOrPart ((x ≡ y) × (a ≡ b)) l m
+    at l m a b (inl p) (inl q) = so (λ r. (same r.0, r.1)) ((ended_same x.served y.served x.end y.end f).at l m a b p.1 q.1)
+    at l m a b (inl p) (inr q) =
+        so (λ r. absurd r.0)
+        ((ended_before x.served y.served (omega (arith, p.0, q.0)) x.end Retriggers f).at l m a b p.1 q.2)
+    at l m a b (inr p) (inl q) =
+        so_sym (so (λ r. r.0)
+        ((ended_before y.served x.served (omega (arith, p.0, q.0)) y.end Retriggers f).at m l b a q.1 p.2))
+    at l m a b (inr p) (inr q) =
+        let served : x.served ≡ y.served = p.0 ∙ sym q.0 in
+        so (λ r. (same (served, p.1 ∙ sym q.1), r.1)) ((all_served x.served y.served served f).at l m a b p.2 q.2)
+
+pub handles_leave_no_choice : (limit : ℕ) → LeavesNoRingChoice (Handles limit)
+handles_leave_no_choice limit = no_choice (handles_same limit)
 
 -- ---- the other calls
 

@@ -6,6 +6,7 @@ pub mod Losses
 pub mod Arming
 pub mod Bounding
 pub mod Choices
+pub mod Handling
 pub mod RingBlocks
 pub mod RingPasses
 pub mod RingTold
@@ -13,3 +14,4 @@ pub mod RingDue
 pub mod RingArming
 pub mod RingSessions
 pub mod RingReady
+pub mod RingEdges

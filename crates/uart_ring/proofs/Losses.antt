@@ -1,7 +1,7 @@
 -- That ring calls lose no bytes, line errors or changes of the modem lines.
 use Rattle.std.proofs.Common.{◌≡◌, ◌≤◌, ◌==◌, ℕ, zero, suc, Bool, true, false, min, MatchBool, List, [], ◌∷◌, ◌++◌, length, take}
 use Rattle.std.proofs.Common.{drop, append_assoc, append-nil, take-append-drop, length-take, refl, arith, sym, ◌∙◌, ap, inl, inr}
-use Rattle.std.proofs.Common.{Option, bit_and, bit_or}
+use Rattle.std.proofs.Common.{Option, None, bit_and, bit_or}
 use Rattle.std.proofs.lemmas.List.{take-take, drop_min}
 use lib.Bits.{or_zero_r}
 use Rattle.uart_spec.specs.Access.{saved_lsr, saved_msr}
@@ -29,6 +29,10 @@ use Rattle.uart_ring.specs.Transmit.{ArmsIfLeft, Pumps, Queues, ResumesTransmit}
 use Rattle.uart_ring.specs.Receive.{PausesIfFull, FillsReceiveRing, EndsPause, TakesBytes}
 use Rattle.uart_ring.specs.Status.{NotesLine, NotesModem, TakesLine, TakesModem}
 use Rattle.uart_ring.specs.Service.{ShowsInterrupt, ServesInterrupt, ServesOne, Services}
+use Rattle.uart_ring.specs.Handle.{Retriggers, ShowsNone, Ends, Handles}
+use Rattle.uart_ring.specs.declared.ring.service.HandleEnd.{HandleEnd}
+use Rattle.uart_ring.specs.declared.ring.service.HandleEnd.TheVariants.{Idle, Unknown, Limit}
+use Rattle.uart_ring.specs.declared.ring.service.Handled.{Handled}
 use Rattle.uart_ring.proofs.RegisterBits.{more_saved, now_noted, now_told, saved_lsr-append, saved_msr-append, saved_lsr-within}
 use Rattle.uart_ring.proofs.RegisterBits.{saved_msr-within}
 use Rattle.uart_ring.proofs.Pausing.{ChangesIer, Pausing, joined_with, rid_of}
@@ -321,6 +325,23 @@ times_carry (suc n) f l after t =
     rw t.whole (carries-then f t.mid after t.front t.back (serves_one_carries f t.front t.mid t.first)
     (times_carry n t.mid t.back after t.second))
 
+-- a read of ISR that shows none
+pub shows_none : (idle : Bool) → Implies (OnDriver (ShowsNone idle) unchanged) (OnDriver (ShowsInterrupt None) unchanged)
+shows_none idle f l after ((isr, shown, bit, t), same) = ((isr, shown, t), same)
+
+pub retriggers_carry : Implies Retriggers Carries
+retriggers_carry f l after (((ier, is), saved), same) =
+    let moves : Moves [] [] l = rw is (record { written_is = refl; read_is = refl }) in
+    carries_still f f l after (saving_saves [] [] f.driver l after.driver moves saved) same refl refl refl refl
+
+pub ends_carry : (end : HandleEnd) → Implies (Ends end) Carries
+ends_carry Idle f l after t = shows_carry None f l after (shows_none true f l after t)
+ends_carry Unknown f l after t =
+    rw t.whole (carries-then f t.mid after t.front t.back
+    (shows_carry None f t.front t.mid (shows_none false f t.front t.mid t.first))
+    (retriggers_carry t.mid t.back after t.second))
+ends_carry Limit f l after t = retriggers_carry f l after t
+
 -- ---- each call
 
 -- a call that accepts no bytes, returns no bytes and no status
@@ -339,6 +360,14 @@ services_lose_nothing count f l after (inl (fewer, t)) =
     carried f l after (rw t.whole (carries-then f t.mid after t.front t.back (times_carry count f t.front t.mid t.first)
     (shows_carry _ t.mid t.back after t.second)))
 services_lose_nothing count f l after (inr (all, t)) = carried f l after (times_carry count f l after t)
+
+pub retriggers_lose_nothing : Implies Retriggers (LosesNothing [] [] 0 0)
+retriggers_lose_nothing f l after t = carried f l after (retriggers_carry f l after t)
+
+pub handles_lose_nothing : (limit : ℕ) (handled : Handled) → Implies (Handles limit handled) (LosesNothing [] [] 0 0)
+handles_lose_nothing limit handled f l after (within, t) =
+    carried f l after (rw t.whole (carries-then f t.mid after t.front t.back (times_carry handled.served f t.front t.mid t.first)
+    (ends_carry handled.end t.mid t.back after t.second)))
 
 any_pumps_carry : (count : ℕ) → Implies (IfAny count Pumps) Carries
 any_pumps_carry zero f l after t = stays_carries f l after t

@@ -8,13 +8,14 @@ use Rattle.uart_run.proofs.CallLaws.{InSession}
 use Rattle.uart_ring.specs.Ring.{RingDoing, RingDid, RingFields, ring_fields}
 use Rattle.uart_ring.specs.Armed.{ThrEmpty, known_after_all, IsArmed, LeavesArmed, Arms}
 use Rattle.uart_ring.proofs.Arming.{queues_leave, queues_arm, resumes_arm, takes_leave, services_leave, takes_line_leave, takes_modem_leave}
+use Rattle.uart_ring.proofs.Arming.{handles_leave, retriggers_leave}
 use Rattle.uart_ring.specs.declared.running.call.RingCall.{RingCall}
 use Rattle.uart_ring.specs.declared.running.call.RingCall.TheVariants as call
 use Rattle.uart_ring.specs.declared.running.call.RingAnswer.{RingAnswer}
 use Rattle.uart_ring.specs.RingRun.{RingState, under, ring_machine, RingCallStep, RingLink, RingChain}
 use Rattle.uart_ring.specs.RingArmed.{thr_empty_of, IsRingArmed, RearmsRing, AllLeaveRingArmed}
 use Rattle.uart_ring.proofs.RingBlocks.{MakesRingBlocks, queues_make, resumes_make, takes_make, services_make}
-use Rattle.uart_ring.proofs.RingBlocks.{takes_line_makes, takes_modem_makes}
+use Rattle.uart_ring.proofs.RingBlocks.{takes_line_makes, takes_modem_makes, handles_make, retriggers_make}
 use Rattle.uart_ring.proofs.RingPasses.{ring_passes_call, ring_in_session-after}
 use Rattle.uart_ring.proofs.RingDue.{Holds, IsDlabOff, path_holds, mark_holds}
 
@@ -68,6 +69,12 @@ call_leaves s t (call.Take slots) a unchecked off h armed =
     (none_accepted armed)
 call_leaves s t call.Service a unchecked off h armed =
     did_leaves _ s t unchecked off h.did (services_make h.outcome _ _ _ h.did.does) (services_leave h.outcome _ _ _ h.did.does)
+    (none_accepted armed)
+call_leaves s t (call.Handle limit) a unchecked off h armed =
+    did_leaves _ s t unchecked off h.did (handles_make limit h.outcome _ _ _ h.did.does) (handles_leave limit h.outcome _ _ _ h.did.does)
+    (none_accepted armed)
+call_leaves s t call.Retrigger a unchecked off h armed =
+    did_leaves _ s t unchecked off h.did (retriggers_make _ _ _ h.did.does) (retriggers_leave _ _ _ h.did.does)
     (none_accepted armed)
 call_leaves s t call.TakeLine a unchecked off h armed =
     did_leaves _ s t unchecked off h.did (takes_line_makes h.outcome _ _ _ h.did.does) (takes_line_leave h.outcome _ _ _ h.did.does)

@@ -1,6 +1,6 @@
 -- The accesses of a ring call are blocks, and none of them writes LCR.
 use Rattle.std.proofs.Common.{◌≡◌, ◌==◌, ℕ, zero, suc, Bool, true, false, inl, inr, MatchBool, List, [], ◌∷◌, ◌++◌, length, take, drop}
-use Rattle.std.proofs.Common.{min, refl, ◌∙◌, ap, subst, Option}
+use Rattle.std.proofs.Common.{min, refl, ◌∙◌, ap, subst, Option, None}
 use Rattle.std.specs.List.{AllByRecursion}
 use Rattle.uart_spec.specs.declared.access.Access.{Access}
 use Rattle.uart_spec.specs.declared.access.Access.TheVariants.{Read, Write}
@@ -22,11 +22,17 @@ use Rattle.uart_ring.specs.Transmit.{ArmsIfLeft, Pumps, Queues, ResumesTransmit}
 use Rattle.uart_ring.specs.Receive.{PausesIfFull, FillsReceiveRing, EndsPause, TakesBytes}
 use Rattle.uart_ring.specs.Status.{TakesLine, TakesModem}
 use Rattle.uart_ring.specs.Service.{ShowsInterrupt, ServesInterrupt, ServesOne, Services}
+use Rattle.uart_ring.specs.Handle.{Retriggers, Ends, Handles}
+use Rattle.uart_ring.specs.declared.ring.service.HandleEnd.{HandleEnd}
+use Rattle.uart_ring.specs.declared.ring.service.HandleEnd.TheVariants.{Idle, Unknown, Limit}
+use Rattle.uart_ring.specs.declared.ring.service.Handled.{Handled}
+use Rattle.uart_16550.specs.Status as status
 use Rattle.uart_ring.specs.Lossless.{data_written, data_read, Implies}
-use Rattle.uart_ring.proofs.Losses.{data_written-append, data_read-append, Moves, sends_move, receives_move}
+use Rattle.uart_ring.proofs.Losses.{data_written-append, data_read-append, Moves, sends_move, receives_move, shows_none}
 use Rattle.uart_chip.proofs.Lists.{each-append}
 use Rattle.uart_run.proofs.CallBlocks.{InBlocks, blocks_none, blocks_then, sends_blocks, receives_blocks}
-use Rattle.uart_run.proofs.CallKeeps.{plain_blocks, saving_keeps, enables_keeps, disables_keeps, takes_lsr_keeps, takes_msr_keeps}
+use Rattle.uart_run.proofs.CallKeeps.{plain_blocks, quiet_blocks, saving_keeps, enables_keeps, disables_keeps, takes_lsr_keeps}
+use Rattle.uart_run.proofs.CallKeeps.{takes_msr_keeps}
 
 -- ---- lists that do not write LCR
 
@@ -206,7 +212,7 @@ serves_one_makes f l after (interrupt, t) =
     rw t.whole (makes-then f.driver t.mid.driver after.driver t.front t.back (isr_makes _ f.driver t.front t.mid.driver t.first.0)
     (serves_make interrupt t.mid t.back after t.second))
 
-times_make : (n : ℕ) → Implies (RingTimes n ServesOne) MakesRingBlocks
+pub times_make : (n : ℕ) → Implies (RingTimes n ServesOne) MakesRingBlocks
 times_make zero f l after t = stays_make f l after t
 times_make (suc n) f l after t =
     rw t.whole (makes-then f.driver t.mid.driver after.driver t.front t.back (serves_one_makes f t.front t.mid t.first)
@@ -219,6 +225,24 @@ services_make count f l after (inl (fewer, t)) =
     rw t.whole (makes-then f.driver t.mid.driver after.driver t.front t.back (times_make count f t.front t.mid t.first)
     (isr_makes _ t.mid.driver t.back after.driver t.second.0))
 services_make count f l after (inr (all, t)) = times_make count f l after t
+
+pub retriggers_make : Implies Retriggers MakesRingBlocks
+retriggers_make f l after (((ier, is), saved), same) =
+    makes_kept f.driver after.driver l [] [] (rw is (quiet_blocks f.driver.fifo (status.retrigger_accesses ier) (refl, (refl, (refl, tt)))))
+    (rw is (record { written_is = refl; read_is = refl })) (rw is (tt, (refl, (refl, tt)))) (ap (λ (g : Fields). g.fifo) saved)
+
+ends_make : (end : HandleEnd) → Implies (Ends end) MakesRingBlocks
+ends_make Idle f l after t = isr_makes None f.driver l after.driver (shows_none true f l after t).0
+ends_make Unknown f l after t =
+    rw t.whole (makes-then f.driver t.mid.driver after.driver t.front t.back
+    (isr_makes None f.driver t.front t.mid.driver (shows_none false f t.front t.mid t.first).0)
+    (retriggers_make t.mid t.back after t.second))
+ends_make Limit f l after t = retriggers_make f l after t
+
+pub handles_make : (limit : ℕ) (handled : Handled) → Implies (Handles limit handled) MakesRingBlocks
+handles_make limit handled f l after (within, t) =
+    rw t.whole (makes-then f.driver t.mid.driver after.driver t.front t.back (times_make handled.served f t.front t.mid t.first)
+    (ends_make handled.end t.mid t.back after t.second))
 
 any_make : {G : RingDoing} (count : ℕ) → Implies G MakesRingBlocks → Implies (IfAny count G) MakesRingBlocks
 any_make zero k f l after t = stays_make f l after t

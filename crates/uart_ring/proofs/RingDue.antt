@@ -141,7 +141,7 @@ Holds known m =
 abbrev pub IsDlabOff : MachineState → Type 0
 IsDlabOff m = is_dlab_set m.chip.latches ≡ false
 
-off_access : (m : MachineState) → IsDlabOff m → IsDlabOff (at_access m)
+pub off_access : (m : MachineState) → IsDlabOff m → IsDlabOff (at_access m)
 off_access m off = ap (λ (k : Kept). is_dlab_set k.latches) (kept_access m) ∙ off
 
 not_true : (b : Bool) → not b ≡ true → b ≡ false
@@ -221,7 +221,7 @@ lcr_write offset value k other =
     (lcr_if (offset == offsets.MCR) _ _ k refl
     (lcr_if (offset == offsets.SPR) _ _ k refl refl)))))
 
-off_step : (access : Access) (m n : MachineState) → LeavesLcr access → IsDlabOff m → MachineStep m access n → IsDlabOff n
+pub off_step : (access : Access) (m n : MachineState) → LeavesLcr access → IsDlabOff m → MachineStep m access n → IsDlabOff n
 off_step (Read offset value) m n leaves off s = ap (λ (k : Kept). is_dlab_set k.latches) (kept_step (Read offset value) m n s) ∙ off
 off_step (Write offset value) m n leaves off s =
     let kept : n.chip.latches.lcr ≡ m.chip.latches.lcr =

@@ -20,13 +20,14 @@ use Rattle.uart_ring.specs.Lossless.{data_written, data_read, untold_line, untol
 use Rattle.uart_ring.proofs.RegisterBits.{saved_lsr-append, saved_msr-append}
 use Rattle.uart_ring.proofs.Losses.{data_written-append, data_read-append, queues_lose_nothing, takes_lose_nothing, services_lose_nothing}
 use Rattle.uart_ring.proofs.Losses.{resumes_lose_nothing, takes_line_loses_nothing, takes_modem_loses_nothing}
+use Rattle.uart_ring.proofs.Losses.{handles_lose_nothing, retriggers_lose_nothing}
 use Rattle.uart_ring.specs.declared.running.call.RingCall.{RingCall}
 use Rattle.uart_ring.specs.declared.running.call.RingCall.TheVariants as call
 use Rattle.uart_ring.specs.declared.running.call.RingAnswer.{RingAnswer}
 use Rattle.uart_ring.specs.RingRun.{RingState, under, ring_machine, RingCallStep, RingLink, RingChain}
 use Rattle.uart_ring.specs.RingBytes.{to_send, to_take, queued_by, taken_by, queued, taken}
 use Rattle.uart_ring.proofs.RingBlocks.{MakesRingBlocks, queues_make, resumes_make, takes_make, services_make}
-use Rattle.uart_ring.proofs.RingBlocks.{takes_line_makes, takes_modem_makes}
+use Rattle.uart_ring.proofs.RingBlocks.{takes_line_makes, takes_modem_makes, handles_make, retriggers_make}
 
 -- what is still to be told of LSR and MSR
 abbrev pub untold_line_of : RingState → ℕ
@@ -93,6 +94,12 @@ ring_passes_call x s t (call.Take slots) a w h =
 ring_passes_call x s t call.Service a w h =
     ring_passes_did x _ _ _ _ _ 0 0 s t w h.did (services_make h.outcome _ _ _ h.did.does)
     (services_lose_nothing h.outcome _ _ _ h.did.does) (λ n. refl) (λ m. refl)
+ring_passes_call x s t (call.Handle limit) a w h =
+    ring_passes_did x _ _ _ _ _ 0 0 s t w h.did (handles_make limit h.outcome _ _ _ h.did.does)
+    (handles_lose_nothing limit h.outcome _ _ _ h.did.does) (λ n. refl) (λ m. refl)
+ring_passes_call x s t call.Retrigger a w h =
+    ring_passes_did x _ _ _ _ _ 0 0 s t w h.did (retriggers_make _ _ _ h.did.does) (retriggers_lose_nothing _ _ _ h.did.does)
+    (λ n. refl) (λ m. refl)
 ring_passes_call x s t call.TakeLine a w h =
     ring_passes_did x _ _ _ _ _ h.outcome 0 s t w h.did (takes_line_makes h.outcome _ _ _ h.did.does)
     (takes_line_loses_nothing h.outcome _ _ _ h.did.does) (λ n. absurd (n refl)) (λ m. refl)

@@ -36,6 +36,8 @@ ring_sound_call s t (call.Queue bytes) a w h = lasts_sound.path h.did.list (ring
 ring_sound_call s t call.ResumeTransmit a w h = lasts_sound.path h.did.list (ring_machine s) (ring_machine t) w h.did.path
 ring_sound_call s t (call.Take slots) a w h = lasts_sound.path h.did.list (ring_machine s) (ring_machine t) w h.did.path
 ring_sound_call s t call.Service a w h = lasts_sound.path h.did.list (ring_machine s) (ring_machine t) w h.did.path
+ring_sound_call s t (call.Handle limit) a w h = lasts_sound.path h.did.list (ring_machine s) (ring_machine t) w h.did.path
+ring_sound_call s t call.Retrigger a w h = lasts_sound.path h.did.list (ring_machine s) (ring_machine t) w h.did.path
 ring_sound_call s t call.TakeLine a w h = lasts_sound.path h.did.list (ring_machine s) (ring_machine t) w h.did.path
 ring_sound_call s t call.TakeModem a w h = lasts_sound.path h.did.list (ring_machine s) (ring_machine t) w h.did.path
 
@@ -82,7 +84,7 @@ ring_conserves x s t links w chain =
     let got : taken links ++ (to_take t ++ waiting n) ≡ to_take s ++ kept m n =
     sym (append_assoc (taken links) (to_take t) (waiting n)) ∙ (ap (λ zs. zs ++ waiting n) p.received ∙
     (append_assoc (to_take s) (data_read p.made) (waiting n) ∙
-    ap (λ zs. to_take s ++ zs) (received_kept x m n p.made written (data_read p.made) w.stands.modes p.passed))) in
+    ap (λ zs. to_take s ++ zs) (received_kept x m n p.made written (data_read p.made) w.stands.modes.cut p.passed))) in
     record {
       ready = record {
         dlab = dlab-in x n.chip went.modes ∙ w.open_modes.dlab;

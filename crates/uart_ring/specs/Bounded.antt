@@ -23,3 +23,11 @@ most_of_receiving = 2 * FIFO_SIZE + most_of_change
 -- `service`: for each interrupt a read of ISR, and at most the accesses that receive a full FIFO
 abbrev pub most_of_service : ℕ
 most_of_service = MAX_INTERRUPTS * (1 + most_of_receiving)
+
+-- `retrigger`: one read and two writes of IER
+abbrev pub most_of_retrigger : ℕ
+most_of_retrigger = 3
+
+-- `handle`: the same for each interrupt as `service`, and a `retrigger`
+abbrev pub most_of_handle : (limit : ℕ) → ℕ
+most_of_handle limit = limit * (1 + most_of_receiving) + most_of_retrigger

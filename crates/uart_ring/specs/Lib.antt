@@ -3,6 +3,7 @@ pub mod Transmit
 pub mod Receive
 pub mod Status
 pub mod Service
+pub mod Handle
 pub mod Lossless
 pub mod Armed
 pub mod Bounded
@@ -12,3 +13,4 @@ pub mod RingBytes
 pub mod RingStatuses
 pub mod RingArmed
 pub mod RingSession
+pub mod Edges

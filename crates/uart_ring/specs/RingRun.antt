@@ -8,12 +8,14 @@ use Rattle.uart_ring.specs.Ring.{RingDoing, RingDid, ring_fields, driver_of}
 use Rattle.uart_ring.specs.Transmit.{Queues, ResumesTransmit}
 use Rattle.uart_ring.specs.Receive.{TakesBytes}
 use Rattle.uart_ring.specs.Service.{Services}
+use Rattle.uart_ring.specs.Handle.{Retriggers, Handles}
 use Rattle.uart_ring.specs.Status.{TakesLine, TakesModem}
 use Rattle.uart_ring.specs.declared.ring.Uart16550Ring.{Uart16550Ring}
 use Rattle.uart_ring.specs.declared.running.call.RingCall.{RingCall}
 use Rattle.uart_ring.specs.declared.running.call.RingCall.TheVariants as call
 use Rattle.uart_ring.specs.declared.running.call.RingAnswer.{RingAnswer}
 use Rattle.uart_ring.specs.declared.running.call.RingAnswer.TheVariants.{Count, Bytes, Line, Modem, Done}
+use Rattle.uart_ring.specs.declared.running.call.RingAnswer.TheVariants as answers
 
 -- there are at most as many slots as a call may have
 abbrev pub IsRingRunnable : RingCall → Type 0
@@ -67,6 +69,8 @@ RingCallStep s (call.Queue bytes) answer t = RingCalled (Queues bytes.items) Cou
 RingCallStep s call.ResumeTransmit answer t = RingCalled (λ (_ : ⊤). ResumesTransmit) (λ _. Done) answer s t
 RingCallStep s (call.Take slots) answer t = TakesInto slots answer s t
 RingCallStep s call.Service answer t = RingCalled Services Count answer s t
+RingCallStep s (call.Handle limit) answer t = RingCalled (Handles limit) answers.Handled answer s t
+RingCallStep s call.Retrigger answer t = RingCalled (λ (_ : ⊤). Retriggers) (λ _. Done) answer s t
 RingCallStep s call.TakeLine answer t = RingCalled TakesLine line_answer answer s t
 RingCallStep s call.TakeModem answer t = RingCalled TakesModem modem_answer answer s t
 RingCallStep s call.Next answer t = RingGoesOn answer s t

@@ -8,15 +8,18 @@ ghost use Rattle.uart_ring.specs.Transmit.{Queues, ResumesTransmit};
 ghost use Rattle.uart_ring.specs.Receive.{TakesBytes};
 ghost use Rattle.uart_ring.specs.Status.{TakesLine, TakesModem};
 ghost use Rattle.uart_ring.specs.Service.{Services};
+ghost use Rattle.uart_ring.specs.Handle.{Handles, Retriggers};
 ghost use Rattle.uart_ring.specs.Lossless.{LosesNothing, Implies};
 ghost use Rattle.uart_ring.specs.Armed.{Arms, ArmsUnlessHeld, LeavesArmed};
 ghost use Rattle.uart_ring.specs.Choice.{LeavesNoRingChoice};
 ghost use Rattle.uart_ring.specs.Bounded.{MakesAtMost, most_of_change};
 ghost use Rattle.uart_ring.specs.Bounded.{most_of_pump, most_of_service};
+ghost use Rattle.uart_ring.specs.Bounded.{most_of_handle, most_of_retrigger};
+ghost use Rattle.uart_ring.specs.declared.ring.service.Handled.{Handled};
 ghost use Rattle.uart_ring.specs.declared.ring.TheConstants.{MAX_CAPACITY};
 ghost use Rattle.uart_ring.specs.declared.ring.service.TheConstants.{MAX_INTERRUPTS};
 
-pub use crate::running::init_leaves_ready;
+pub use crate::running::{handles_lose_no_edge, init_leaves_ready};
 
 /// No byte is lost between the rings and DATA, and nothing that reads of LSR and MSR cleared. What
 /// was written to DATA and what is left in the transmit ring is what was there and what was queued.
@@ -30,6 +33,9 @@ pub fn ring_calls_lose_nothing()
     ensures take { (slots : ℕ) (bytes : List ℕ) →
         Implies (TakesBytes slots bytes) (LosesNothing [] bytes 0 0) }
     ensures service { (count : ℕ) → Implies (Services count) (LosesNothing [] [] 0 0) }
+    ensures handle { (limit : ℕ) (handled : Handled) →
+        Implies (Handles limit handled) (LosesNothing [] [] 0 0) }
+    ensures retrigger { Implies Retriggers (LosesNothing [] [] 0 0) }
     ensures take_line { (line : ℕ) → Implies (TakesLine line) (LosesNothing [] [] line 0) }
     ensures take_modem { (modem : ℕ) → Implies (TakesModem modem) (LosesNothing [] [] 0 modem) }
 {}
@@ -50,6 +56,9 @@ pub fn ring_calls_leave_armed()
     ensures resume_transmit_unless_held { Implies ResumesTransmit ArmsUnlessHeld }
     ensures take { (slots : ℕ) (bytes : List ℕ) → Implies (TakesBytes slots bytes) LeavesArmed }
     ensures service { (count : ℕ) → Implies (Services count) LeavesArmed }
+    ensures handle { (limit : ℕ) (handled : Handled) →
+        Implies (Handles limit handled) LeavesArmed }
+    ensures retrigger { Implies Retriggers LeavesArmed }
     ensures take_line { (line : ℕ) → Implies (TakesLine line) LeavesArmed }
     ensures take_modem { (modem : ℕ) → Implies (TakesModem modem) LeavesArmed }
 {}
@@ -62,6 +71,9 @@ pub fn ring_calls_are_bounded()
     ensures take { (slots : ℕ) (bytes : List ℕ) →
         Implies (TakesBytes slots bytes) (MakesAtMost most_of_change) }
     ensures service { (count : ℕ) → Implies (Services count) (MakesAtMost most_of_service) }
+    ensures handle { (limit : ℕ) (handled : Handled) →
+        Implies (Handles limit handled) (MakesAtMost (most_of_handle limit)) }
+    ensures retrigger { Implies Retriggers (MakesAtMost most_of_retrigger) }
     ensures take_line { (line : ℕ) → Implies (TakesLine line) (MakesAtMost 1) }
     ensures take_modem { (modem : ℕ) → Implies (TakesModem modem) (MakesAtMost 1) }
 {}
@@ -74,6 +86,8 @@ pub fn ring_calls_leave_no_choice()
     ensures resume_transmit { LeavesNoRingChoice (λ (_ : ⊤). ResumesTransmit) }
     ensures take { (slots : ℕ) → LeavesNoRingChoice (TakesBytes slots) }
     ensures service { LeavesNoRingChoice Services }
+    ensures handle { (limit : ℕ) → LeavesNoRingChoice (Handles limit) }
+    ensures retrigger { LeavesNoRingChoice (λ (_ : ⊤). Retriggers) }
     ensures take_line { LeavesNoRingChoice TakesLine }
     ensures take_modem { LeavesNoRingChoice TakesModem }
 {}

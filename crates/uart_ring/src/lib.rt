@@ -9,5 +9,5 @@ pub mod laws;
 mod ring;
 mod running;
 
-pub use ring::{MAX_CAPACITY, MAX_INTERRUPTS, RingError, Uart16550Ring};
+pub use ring::{HandleEnd, Handled, MAX_CAPACITY, MAX_INTERRUPTS, RingError, Uart16550Ring};
 pub use running::{RingAnswer, RingCall, run_ring};

@@ -12,7 +12,7 @@ mod transmit;
 
 use bitflags::Flags;
 use circular_buffer::HeapCircularBuffer;
-pub use service::MAX_INTERRUPTS;
+pub use service::{HandleEnd, Handled, MAX_INTERRUPTS};
 use std::alloc::Global;
 use thiserror::Error;
 use uart_16550::Uart16550;

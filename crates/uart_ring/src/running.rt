@@ -9,7 +9,7 @@ mod laws;
 use crate::ring::Uart16550Ring;
 use arrayvec::ArrayVec;
 pub use call::{RingAnswer, RingCall};
-pub use laws::init_leaves_ready;
+pub use laws::{handles_lose_no_edge, init_leaves_ready};
 use uart_calls::CALL_BYTES;
 use uart_chip::Device16550;
 
@@ -37,6 +37,11 @@ fn run_ring_call(ring: &mut Uart16550Ring<Device16550>, call: &RingCall) -> Ring
         }
         RingCall::Take(slots) => take(ring, &mut [0; CALL_BYTES][..*slots]),
         RingCall::Service => RingAnswer::Count(ring.service()),
+        RingCall::Handle(limit) => RingAnswer::Handled(ring.handle(*limit)),
+        RingCall::Retrigger => {
+            ring.retrigger();
+            RingAnswer::Done
+        }
         RingCall::TakeLine => RingAnswer::Line(ring.take_line()),
         RingCall::TakeModem => RingAnswer::Modem(ring.take_modem()),
         RingCall::Next => {

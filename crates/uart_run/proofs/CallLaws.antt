@@ -7,6 +7,7 @@ use Rattle.uart_spec.specs.declared.errors.ByteSendError.{ByteSendError}
 use Rattle.uart_spec.specs.declared.errors.ByteReceiveError.{ByteReceiveError}
 use Rattle.uart_spec.specs.declared.errors.StalledError.{StalledError}
 use Rattle.uart_spec.specs.declared.registers.offsets.TheConstants as offsets
+use Rattle.uart_spec.specs.declared.registers.line_status.TheConstants.LSR
 use Rattle.uart_spec.specs.Access.{saved_lsr, saved_msr}
 use Rattle.uart_spec.specs.declared.access.Access.{Access}
 use Rattle.uart_16550.specs.Grammar.{Language, Settings}
@@ -26,11 +27,11 @@ use Rattle.uart_calls.specs.Meaning.{ShowsFifo, SendsShortText, CalledAs, connec
 use Rattle.uart_calls.specs.Meaning.{received_answer, sent_answer, exact_answer, count_answer}
 use Rattle.uart_calls.specs.Meaning.{ready_answer, latch_answer, bytes_answer, receive_exact_answer, read_answer}
 use Rattle.uart_run.specs.Run.{State, machine_of, CallStep}
-use Rattle.uart_run.specs.Session.{count_of, sent_of, sent_byte_of, byte_of, bytes_of, reported_by, received_by, IsWithinSession}
+use Rattle.uart_run.specs.Session.{count_of, sent_of, sent_byte_of, byte_of, bytes_of, reported_by, received_by}
 use Rattle.uart_chip.proofs.conservation.Went.{Modes}
 use Rattle.uart_chip.proofs.conservation.Passed.{passed-refl, passed-mark}
 use Rattle.uart_chip.proofs.conservation.BlockLaws.{IsOpen, Stands, PassedBlocks}
-use Rattle.uart_run.proofs.CallBlocks.{no_bytes, InBlocks, Makes, passed_in_blocks, ready_to_send_blocks}
+use Rattle.uart_run.proofs.CallBlocks.{no_bytes, InBlocks, Makes, makes_look, passed_in_blocks, ready_to_send_blocks}
 use Rattle.uart_run.proofs.CallBlocks.{ready_to_receive_blocks, sends_blocks, sends_exact_blocks, try_sends_blocks}
 use Rattle.uart_run.proofs.CallBlocks.{try_receive_blocks, receives_blocks, receives_exact_blocks}
 use Rattle.uart_run.proofs.CallKeeps.{plain_blocks, connects_blocks, reads_divisor_blocks, checks_presence_blocks}
@@ -139,7 +140,7 @@ sends_text_told text s (Err e) l (short, (sent, is, t)) =
 -- ---- each call
 
 -- no access is made, and the fields stay
-passes_quietly : (x : Modes) (N M : Type 0) (s t : State) → PassedBlocks x (machine_of s) (machine_of t) [] [] [] →
+pub passes_quietly : (x : Modes) (N M : Type 0) (s t : State) → PassedBlocks x (machine_of s) (machine_of t) [] [] [] →
     fields (inner_of t) ≡ fields (inner_of s) → Passes x N M s t [] []
 passes_quietly x N M s t p e = record {
   made = [];
@@ -153,12 +154,30 @@ pub passes_none : (x : Modes) (N M : Type 0) (s : State) → InSession x s → P
 passes_none x N M s w =
     passes_quietly x N M s s (record { takes = []; bytes = refl; passed = passed-refl x (machine_of s) w.stands.sound w.stands.modes }) refl
 
-pub passes_call : (x : Modes) (s t : State) (c : Call) (a : Answer) → InSession x s → IsWithinSession c → CallStep s c a t →
+-- the call changes no mode
+abbrev pub IsSteady : Call → Type 0
+IsSteady (call.Init config) = ⊥
+IsSteady (call.SetFrame config) = ⊥
+IsSteady call.Attach = ⊥
+IsSteady (call.SetBreak on) = ⊥
+IsSteady (call.SetModemControl outputs) = ⊥
+IsSteady (call.SetRts on) = ⊥
+IsSteady (call.SetDtr on) = ⊥
+IsSteady call.TestLoopback = ⊥
+IsSteady other = Unit {0}
+
+pub passes_call : (x : Modes) (s t : State) (c : Call) (a : Answer) → InSession x s → IsSteady c → CallStep s c a t →
     Passes x (c ≢ call.Lsr) (c ≢ call.Msr) s t (reported_by c a) (received_by c a)
 passes_call x s t call.Next a w i h =
     let p = passed-mark x (machine_of s) w.open_modes.loopback w.stands.sound w.stands.modes in
     passes_quietly x _ _ s t (record { takes = []; bytes = refl; passed = rw h.machine p }) h.driver
 passes_call x s t (call.Init config) a w i h = absurd i
+passes_call x s t (call.SetFrame config) a w i h = absurd i
+passes_call x s t call.Attach a w i h = absurd i
+passes_call x s t (call.SetBreak on) a w i h = absurd i
+passes_call x s t (call.SetModemControl outputs) a w i h = absurd i
+passes_call x s t (call.SetRts on) a w i h = absurd i
+passes_call x s t (call.SetDtr on) a w i h = absurd i
 passes_call x s t call.TestLoopback a w i h = absurd i
 passes_call x s t call.CheckPresent a w i h = passes_silent x _ _ _ Flag s t a w (λ v r. checks_presence_blocks v r) h
 passes_call x s t call.CheckConnected a w i h = passes_silent x _ _ _ connected_answer s t a w (λ v r. connects_blocks v r) h
@@ -178,6 +197,8 @@ passes_call x s t call.Lsr a w i h =
 passes_call x s t call.Msr a w i h =
     let told = takes_msr_keeps h.outcome (fields (inner_of s)) (fields (inner_of t)) h.did.list h.did.does in
     passes_by x _ _ (TakesMsr h.outcome) [] [] s t w h.did told.blocks told.fifo (λ n. told.lsr) (λ n. absurd (n refl))
+passes_call x s t call.PeekModem a w i h = passes_silent x _ _ _ Register s t a w (λ v r. plain_blocks v offsets.MSR r refl) h
+passes_call x s t call.IsIdle a w i h = passes_silent x _ _ _ Flag s t a w (λ v r. makes_look v LSR.TRANSMITTER_EMPTY.0 r) h
 passes_call x s t call.Spr a w i h = passes_silent x _ _ _ Register s t a w (λ v r. plain_blocks v offsets.SPR r refl) h
 passes_call x s t call.DllDlm a w i h = passes_silent x _ _ _ latch_answer s t a w (λ v latch. reads_divisor_blocks v latch.0 latch.1) h
 passes_call x s t call.FifoEnabled a w i h =

@@ -8,6 +8,7 @@ pub mod KeptLists
 pub mod CallBlocks
 pub mod CallKeeps
 pub mod CallLaws
+pub mod FrameLaws
 pub mod SessionCalls
 pub mod StatusSessions
 pub mod Served
@@ -20,3 +21,5 @@ pub mod Follows
 pub mod Uncuts
 pub mod Runs
 pub mod ReadyTicks
+pub mod ExactErrors
+pub mod Switched

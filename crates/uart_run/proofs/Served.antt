@@ -6,6 +6,7 @@ use Rattle.std.proofs.lemmas.List.{length-map}
 use Rattle.uart_spec.specs.declared.errors.ByteReceiveError.{ByteReceiveError}
 use Rattle.uart_spec.specs.declared.errors.StalledError.{StalledError}
 use Rattle.uart_spec.specs.declared.registers.offsets.TheConstants as offsets
+use Rattle.uart_spec.specs.declared.registers.line_status.TheConstants.LSR
 use Rattle.uart_spec.specs.Access.{Path}
 use Rattle.uart_spec.specs.declared.access.Access.{Access}
 use Rattle.uart_spec.specs.declared.access.Access.TheVariants.{Read}
@@ -13,29 +14,37 @@ use Rattle.uart_16550.specs.Grammar.{Language, Settings, Times}
 use Rattle.uart_16550.specs.Driver.{fields, settings_of}
 use Rattle.uart_16550.specs.Receive.{Miss, TryReceive, Receives, ReceivesExact}
 use Rattle.uart_16550.specs.Io.{Reads, Flushes}
+use Rattle.uart_16550.specs.Frame.{ShowsIdle}
 use Rattle.uart_16550.specs.Tty.{inner_of}
 use Rattle.uart_spec.specs.declared.call.Call.{Call}
 use Rattle.uart_spec.specs.declared.call.Call.TheVariants as call
 use Rattle.uart_spec.specs.declared.call.Answer.{Answer}
-use Rattle.uart_spec.specs.declared.call.Answer.TheVariants.{Register, Done}
+use Rattle.uart_spec.specs.declared.call.Answer.TheVariants.{Register, Done, Flag}
 use Rattle.uart_chip.specs.declared.receiver.Character.{Character}
 use Rattle.uart_chip.specs.declared.transmitter.Shifting.{Shifting}
 use Rattle.uart_chip.specs.Transmitter.{shift_bytes}
 use Rattle.uart_chip.specs.Chip.{is_transmitter_empty}
-use Rattle.uart_chip.specs.Machine.{MachineState, MachineStep}
+use Rattle.uart_chip.specs.Machine.{MachineState, MachineStep, at_access}
+use Rattle.uart_chip.proofs.soundness.Sounds.{sound_access}
+use Rattle.uart_spec.specs.Bits.{IsWithin}
+use Rattle.uart_spec.specs.declared.registers.modem_status.TheConstants.MSR
+use Rattle.std.proofs.Common.{max, bit_and, bit_or}
+use Rattle.std.proofs.lemmas.Nat.Bits.{same_from_bits, bit_at_or, bit_at_and, bit_at-zero}
+use Rattle.std.specs.Int.{bit_at}
 use Rattle.uart_chip.specs.Conserved.{out}
 use Rattle.uart_calls.specs.Meaning.{received_answer, read_answer, receive_exact_answer, exact_answer}
 use Rattle.uart_run.specs.Run.{State, machine_of, CallStep, Link, Chain}
-use Rattle.uart_run.specs.Session.{AllWithinSession}
+use Rattle.uart_run.specs.Session.{AllCalls}
 use Rattle.uart_run.specs.Served.{HoldsAtLeast, waiting_len, transmitter_of, IsFlushed, Serves, AllServe}
 use Rattle.uart_chip.proofs.Bits.{has_one}
 use Rattle.uart_chip.proofs.conservation.Went.{Modes}
-use Rattle.uart_run.proofs.EmptyTransmitter.{wait_empties}
+use Rattle.uart_run.proofs.EmptyTransmitter.{wait_empties, empty_shown}
 use Rattle.uart_chip.proofs.conservation.BlockLaws.{PassedBlocks, path_as, path_split, look_data}
-use Rattle.uart_run.proofs.CallBlocks.{InBlocks, Makes, passed_in_blocks, try_receive_blocks, receives_blocks, receives_exact_blocks}
+use Rattle.uart_run.proofs.CallBlocks.{InBlocks, Makes, makes_look, passed_in_blocks}
+use Rattle.uart_run.proofs.CallBlocks.{try_receive_blocks, receives_blocks, receives_exact_blocks}
 use Rattle.uart_run.proofs.CallKeeps.{reads_blocks, flushes_blocks}
-use Rattle.uart_run.proofs.CallLaws.{InSession, passes_call}
-use Rattle.uart_run.proofs.SessionCalls.{in_session-after}
+use Rattle.uart_run.proofs.CallLaws.{InSession}
+use Rattle.uart_run.proofs.FrameLaws.{GoOn, in_session-gone, same_cut}
 
 -- ---- lists that end with a miss
 
@@ -199,6 +208,49 @@ flush_serves x s t a l (Ok done) w e h path f =
     }
 flush_serves x s t a l (Err stall) w e h path f = absurd (cc)
 
+-- `is_idle`
+idle_serves : (x : Modes) (s t : State) (a : Answer) (l : List Access) (idle : Bool) → InSession x s → a ≡ Flag idle →
+    ShowsIdle idle (settings_at s) l → Path MachineStep (machine_of s) l (machine_of t) → a ≡ Flag true → IsFlushed s t
+idle_serves x s t a l true w e h path f =
+    let empty = empty_shown (settings_at s) l (machine_of s) (machine_of t) h path in
+    let p = passed_list x s t (ShowsIdle true) l [] [] w (makes_look (settings_at s) LSR.TRANSMITTER_EMPTY.0 true) h path in
+    let u = transmitter_of t in
+    record {
+      is_empty = empty;
+      wire =
+          sym (ap (λ zs. u.wire ++ zs) (nothing_held u.queue u.shift_register empty) ∙ append-nil u.wire)
+          ∙ (p.passed.went.sends.grows ∙ append-nil (out (machine_of s)));
+    }
+idle_serves x s t a l false w e h path f = absurd (cc)
+
+-- `peek_modem`
+
+-- of two numbers in masks that have no bit in common
+one_part : (a b h l : ℕ) → IsWithin a h → IsWithin b l → bit_and h l ≡ 0 → bit_and (bit_or a b) h ≡ a
+one_part a b h l p q none = same_from_bits _ _ (λ i. at i)
+  where
+    at : (i : ℕ) → bit_at (bit_and (bit_or a b) h) i ≡ bit_at a i
+    at i =
+        let own : bit_at a i ≡ min (bit_at a i) (bit_at h i) = ap (λ n. bit_at n i) (sym p) ∙ bit_at_and a h i in
+        let other : bit_at b i ≡ min (bit_at b i) (bit_at l i) = ap (λ n. bit_at n i) (sym q) ∙ bit_at_and b l i in
+        let apart : min (bit_at h i) (bit_at l i) ≡ 0 = sym (bit_at_and h l i) ∙ (ap (λ n. bit_at n i) none ∙ bit_at-zero i) in
+        bit_at_and (bit_or a b) h i ∙ (ap (λ n. min n (bit_at h i)) (bit_at_or a b i) ∙
+        joined (bit_at a i) (bit_at b i) (bit_at h i) (bit_at l i) own other apart)
+      where
+        joined : (a b h l : ℕ) → a ≡ min a h → b ≡ min b l → min h l ≡ 0 → min (max a b) h ≡ a
+        joined a b h l p q r = omega arith
+
+peek_serves : (x : Modes) (s t : State) (a : Answer) (l : List Access) (status : ℕ) → InSession x s → a ≡ Register status →
+    l ≡ Read offsets.MSR status ∷ [] → Path MachineStep (machine_of s) l (machine_of t) → Serves s call.PeekModem a t
+peek_serves x s t a l status w e is path =
+    let p = path_as (machine_of s) (machine_of t) l (Read offsets.MSR status ∷ []) is path in
+    let modem = (at_access (machine_of s)).chip.modem in
+    let sound = (sound_access (machine_of s) w.stands.sound).chip.modem in
+    let shown : bit_and status MSR.LINES.0 ≡ modem.lines = ap (λ v. bit_and v MSR.LINES.0) p.1.1
+    ∙ one_part modem.lines modem.deltas MSR.LINES.0 MSR.CHANGES.0 sound.lines sound.deltas refl in
+    let lines : MachineState → ℕ = λ m. m.chip.modem.lines in
+    (status, e, shown ∙ sym (ap lines p.2 ∙ ap lines p.1.0))
+
 -- ---- each call
 
 pub serves_call : (x : Modes) (s t : State) (call : Call) (a : Answer) → InSession x s → CallStep s call a t → Serves s call a t
@@ -210,15 +262,19 @@ serves_call x s t (call.Read slots) a w h =
 serves_call x s t (call.ReceiveExact slots) a w h =
     exact_serves x s t slots a h.did.list h.outcome.0 h.outcome.1 w h.answered h.did.does.0 h.did.path
 serves_call x s t call.Flush a w h = flush_serves x s t a h.did.list h.outcome w h.answered h.did.does.0 h.did.path
+serves_call x s t call.PeekModem a w h = peek_serves x s t a h.did.list h.outcome w h.answered h.did.does.0.is h.did.path
+serves_call x s t call.IsIdle a w h = idle_serves x s t a h.did.list h.outcome w h.answered h.did.does.0 h.did.path
 serves_call x s t other a w h = tt
 
 -- each call of a session
-pub serves_chain : (x : Modes) (s t : State) (links : List Link) → InSession x s → AllWithinSession links → Chain s links t → AllServe links
-serves_chain x s t [] w i h = tt
-serves_chain x s t (link ∷ links) w i h =
+pub serves_chain : {Within : Call → Type 0} {cut : ℕ → ℕ} (k : GoOn Within cut) (x : Modes) (s t : State) (links : List Link) →
+    x.cut ≡ cut → InSession x s → AllCalls Within links → Chain s links t → AllServe links
+serves_chain k x s t [] same w i h = tt
+serves_chain k x s t (link ∷ links) same w i h =
     let W : State → Type 0 = λ v. InSession x v in
     let begins = subst W (sym h.0) w in
-    let first = passes_call x link.before link.after link.call link.answer begins i.0 h.1 in (
+    let first = k.go x link.before link.after link.call link.answer same begins i.0 h.1 in (
       serves_call x link.before link.after link.call link.answer begins h.1,
-      serves_chain x link.after t links (in_session-after x _ _ link.before link.after _ _ begins first) i.1 h.2,
+      serves_chain k first.modes link.after t links (same_cut x first.modes first.same ∙ same)
+          (in_session-gone x _ _ link.before link.after _ _ begins first) i.1 h.2,
     )

@@ -11,12 +11,14 @@ use Rattle.uart_chip.specs.Chip.{cut_of}
 use Rattle.uart_chip.specs.Sound.{IsSound}
 use Rattle.uart_run.specs.Run.{State, machine_of, Link, Chain}
 use Rattle.uart_run.specs.Ready.{Ready}
-use Rattle.uart_run.specs.Session.{AllWithinSession, reported, received, reported_by, received_by}
+use Rattle.uart_spec.specs.declared.call.Call.{Call}
+use Rattle.uart_run.specs.Session.{AllCalls, reported, received, reported_by, received_by}
 use Rattle.uart_run.specs.Statuses.{AllNoLsr, AllNoMsr}
 use Rattle.uart_chip.proofs.Bits.{or_assoc}
-use Rattle.uart_chip.proofs.conservation.Went.{Modes, saved-append}
-use Rattle.uart_chip.proofs.conservation.BlockLaws.{passed_blocks-trans, stands-after}
-use Rattle.uart_run.proofs.CallLaws.{Passes, InSession, passes_none, passes_call}
+use Rattle.uart_chip.proofs.conservation.Went.{Modes, fixed, saved-append}
+use Rattle.uart_chip.proofs.conservation.BlockLaws.{stands-after}
+use Rattle.uart_run.proofs.CallLaws.{Passes, InSession, passes_none}
+use Rattle.uart_run.proofs.FrameLaws.{Goes, GoOn, goes_still, in_session-gone, passed_onwards, same_cut}
 
 -- the modes in which a session runs are those in which it begins
 pub modes_of : State → Modes
@@ -27,6 +29,10 @@ modes_of s =
       fifo = (machine_of s).chip.fifo;
       cut = cut_of (machine_of s).chip;
     }
+
+pub modes_cut : (s : State) → (modes_of s).cut ≡ cut_of (machine_of s).chip
+unfolding modes_of
+modes_cut s = refl
 
 pub in_session : (s : State) → Ready s → IsSound (machine_of s) → InSession (modes_of s) s
 unfolding modes_of
@@ -43,11 +49,11 @@ in_session-after x N M s t ws rs w p = record {
   fifo = p.fifo ∙ w.fifo;
 }
 
-passes-trans : (x : Modes) (N M O P : Type 0) (s t u : State) (ws vs rs qs : List ℕ) → Passes x N M s t ws rs → Passes x O P t u vs qs →
-    Passes x (N × O) (M × P) s u (ws ++ vs) (rs ++ qs)
-passes-trans x N M O P s t u ws vs rs qs p q = record {
+passes-trans : (x y : Modes) (N M O P : Type 0) (s t u : State) (ws vs rs qs : List ℕ) → fixed y ≡ fixed x → Passes x N M s t ws rs →
+    Passes y O P t u vs qs → Passes y (N × O) (M × P) s u (ws ++ vs) (rs ++ qs)
+passes-trans x y N M O P s t u ws vs rs qs same p q = record {
   made = p.made ++ q.made;
-  passed = passed_blocks-trans x (machine_of s) (machine_of t) (machine_of u) p.made q.made ws vs rs qs p.passed q.passed;
+  passed = passed_onwards x y (machine_of s) (machine_of t) (machine_of u) p.made q.made ws vs rs qs same p.passed q.passed;
   fifo = q.fifo ∙ p.fifo;
   lsr =
       λ n. q.lsr n.1
@@ -63,16 +69,27 @@ passes-trans x N M O P s t u ws vs rs qs p q = record {
     saved_both register mask before xs ys =
         or_assoc before (saved register mask xs) (saved register mask ys) ∙ ap (bit_or before) (sym (saved-append register mask xs ys))
 
+goes-trans : (x : Modes) (N M O P : Type 0) (s t u : State) (ws vs rs qs : List ℕ) → (p : Goes x N M s t ws rs) →
+    Goes p.modes O P t u vs qs → Goes x (N × O) (M × P) s u (ws ++ vs) (rs ++ qs)
+goes-trans x N M O P s t u ws vs rs qs p q = record {
+  modes = q.modes;
+  same = q.same ∙ p.same;
+  open_modes = q.open_modes;
+  passes = passes-trans p.modes q.modes N M O P s t u ws vs rs qs q.same p.passes q.passes;
+}
+
 -- the calls of a session in turn
-pub passes_chain : (x : Modes) (s t : State) (links : List Link) → InSession x s → AllWithinSession links → Chain s links t →
-    Passes x (AllNoLsr links) (AllNoMsr links) s t (reported links) (received links)
-passes_chain x s t [] w i h = rw h (passes_none x _ _ s w)
-passes_chain x s t (link ∷ links) w i h =
+pub goes_chain : {Within : Call → Type 0} {cut : ℕ → ℕ} (k : GoOn Within cut) (x : Modes) (s t : State) (links : List Link) → x.cut ≡ cut →
+    InSession x s → AllCalls Within links → Chain s links t →
+    Goes x (AllNoLsr links) (AllNoMsr links) s t (reported links) (received links)
+goes_chain k x s t [] same w i h = rw h (goes_still x _ _ s s [] [] w (passes_none x _ _ s w))
+goes_chain {Within} {cut} k x s t (link ∷ links) same w i h =
     let W : State → Type 0 = λ v. InSession x v in
     let begins = subst W (sym h.0) w in
-    let first = passes_call x link.before link.after link.call link.answer begins i.0 h.1 in
-    let rest = passes_chain x link.after t links (in_session-after x _ _ link.before link.after _ _ begins first) i.1 h.2 in
-    let P : State → Type 0 = λ v. Passes x (AllNoLsr (link ∷ links)) (AllNoMsr (link ∷ links)) v t (reported (link ∷ links))
+    let first = k.go x link.before link.after link.call link.answer same begins i.0 h.1 in
+    let rest = goes_chain k first.modes link.after t links (same_cut x first.modes first.same ∙ same)
+    (in_session-gone x _ _ link.before link.after _ _ begins first) i.1 h.2 in
+    let P : State → Type 0 = λ v. Goes x (AllNoLsr (link ∷ links)) (AllNoMsr (link ∷ links)) v t (reported (link ∷ links))
     (received (link ∷ links)) in
-    subst P h.0 (passes-trans x _ _ _ _ link.before link.after t (reported_by link.call link.answer) (reported links)
+    subst P h.0 (goes-trans x _ _ _ _ link.before link.after t (reported_by link.call link.answer) (reported links)
     (received_by link.call link.answer) (received links) first rest)

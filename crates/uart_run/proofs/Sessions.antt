@@ -1,5 +1,6 @@
 -- What a session conserves, carried over its calls.
-use Rattle.std.proofs.Common.{ℕ, List, ◌++◌, map, ap, sym, ◌∙◌}
+use Rattle.std.proofs.Common.{◌≡◌, ℕ, List, ◌++◌, map, ap, sym, ◌∙◌, refl}
+use Rattle.uart_chip.specs.Chip.{cut_of}
 use Rattle.uart_spec.specs.Access.{Path}
 use Rattle.uart_spec.specs.declared.access.Access.{Access}
 use Rattle.uart_spec.specs.declared.call.Call.{Call}
@@ -9,40 +10,53 @@ use Rattle.uart_chip.specs.Machine.{MachineState, MachineStep, at_mark}
 use Rattle.uart_chip.specs.Sound.{IsSound}
 use Rattle.uart_chip.specs.Conserved.{out}
 use Rattle.uart_run.specs.Run.{State, machine_of, Link, Chain, CallStep}
-use Rattle.uart_run.specs.Session.{AllWithinSession, IsSession, reported, received, Conserves}
+use Rattle.uart_run.specs.Session.{AllCalls, IsSession, reported, received, Conserves}
+use Rattle.uart_run.specs.Uncut.{IsUncutSession}
 use Rattle.uart_chip.proofs.soundness.Sounds.{sound_path, sound_mark}
 use Rattle.uart_chip.proofs.conservation.Went.{Modes, dlab-in, loopback-in}
 use Rattle.uart_chip.proofs.conservation.SessionLaws.{received_kept}
 use Rattle.uart_run.proofs.Chains.{chain_keeps}
 use Rattle.uart_run.proofs.CallLaws.{InSession}
-use Rattle.uart_run.proofs.SessionCalls.{modes_of, in_session, passes_chain}
+use Rattle.uart_run.proofs.FrameLaws.{GoOn, go_within, go_within_uncut, same_cut, same_fifo}
+use Rattle.uart_run.proofs.SessionCalls.{modes_of, modes_cut, in_session, goes_chain}
 use Rattle.uart_run.proofs.StatusSessions.{tells_in}
 use Rattle.uart_run.proofs.Served.{serves_chain}
 
 -- ---- what was conserved
 
-pub conserves : (x : Modes) (s t : State) (links : List Link) → InSession x s → AllWithinSession links → Chain s links t →
-    Conserves s links t
-conserves x s t links w within chain =
-    let p = passes_chain x s t links w within chain in
+pub conserves : {Within : Call → Type 0} {cut : ℕ → ℕ} (k : GoOn Within cut) (x : Modes) (s t : State) (links : List Link) → x.cut ≡ cut →
+    InSession x s → AllCalls Within links → Chain s links t → Conserves s links t
+conserves k x s t links same w within chain =
+    let g = goes_chain k x s t links same w within chain in
+    let p = g.passes in
     let went = p.passed.passed.went in
+    let y = g.modes in
+    let cuts : cut_of (machine_of s).chip ≡ y.cut = w.stands.modes.cut ∙ sym (same_cut x y g.same) in
     record {
       ready = record {
-        dlab = dlab-in x (machine_of t).chip went.modes ∙ w.open_modes.dlab;
-        loopback = loopback-in x (machine_of t).chip went.modes ∙ w.open_modes.loopback;
-        fifo = went.modes.fifo ∙ sym w.fifo ∙ sym p.fifo;
+        dlab = dlab-in y (machine_of t).chip went.modes ∙ g.open_modes.dlab;
+        loopback = loopback-in y (machine_of t).chip went.modes ∙ g.open_modes.loopback;
+        fifo = went.modes.fifo ∙ (same_fifo x y g.same ∙ (sym w.fifo ∙ sym p.fifo));
       };
-      sent = went.sends.grows ∙ sym (ap (λ (f : ℕ → ℕ). out (machine_of s) ++ map f (reported links)) w.stands.modes.cut);
+      sent = went.sends.grows ∙ sym (ap (λ (f : ℕ → ℕ). out (machine_of s) ++ map f (reported links)) cuts);
       no_overflow = went.sends.same_overflows;
-      kept = received_kept x (machine_of s) (machine_of t) p.made (reported links) (received links) w.stands.modes p.passed;
-      tells = tells_in x s t links w within chain;
-      served = serves_chain x s t links w within chain;
+      kept = received_kept y (machine_of s) (machine_of t) p.made (reported links) (received links) cuts p.passed;
+      tells = tells_in k x s t links same w within chain;
+      served = serves_chain k x s t links same w within chain;
     }
 
 -- a session conserves
 pub session_conserves : (s t : State) (links : List Link) → IsSound (machine_of s) → IsSession s links → Chain s links t →
     Conserves s links t
-session_conserves s t links sound session chain = conserves (modes_of s) s t links (in_session s session.0 sound) session.1 chain
+session_conserves s t links sound session chain =
+    conserves (go_within (modes_of s).cut) (modes_of s) s t links refl (in_session s session.0 sound) session.1 chain
+
+-- and so does one with a `set_frame`, on a machine that cuts nothing
+pub uncut_session_conserves : (s t : State) (links : List Link) → IsSound (machine_of s) →
+    cut_of (machine_of s).chip ≡ (λ (byte : ℕ). byte) →
+    IsUncutSession s links → Chain s links t → Conserves s links t
+uncut_session_conserves s t links sound whole session chain =
+    conserves go_within_uncut (modes_of s) s t links (modes_cut s ∙ whole) (in_session s session.0 sound) session.1 chain
 
 -- ---- what every call keeps
 

@@ -16,7 +16,8 @@ use Rattle.uart_run.specs.Ready.{is_narrow, test_answer}
 use Rattle.uart_run.specs.Session.{reported, Conserves, Follows, AllFollow, Ran}
 use Rattle.uart_run.specs.Uncut.{IsUncut, entered_uncut, ConservesUncut, TestsUncut, FollowsUncut, AllFollowUncut, RanUncut}
 use Rattle.uart_run.proofs.Latches.{cuts_path, cuts_mark}
-use Rattle.uart_run.proofs.Sessions.{Lasts, lasts_call, lasts_chain}
+use Rattle.uart_chip.specs.Sound.{IsSound}
+use Rattle.uart_run.proofs.Sessions.{Lasts, lasts_call, lasts_chain, sound_chain, uncut_session_conserves}
 
 lasts_uncut : Lasts (λ (m : MachineState). m.chip.cuts ≡ false)
 lasts_uncut = record { path = cuts_path false; mark = cuts_mark false }
@@ -77,12 +78,14 @@ all_follow_uncut s t (link ∷ links) e h f =
 
 -- ---- a run
 
-pub ran_uncut : (s t : State) (calls : List Call) (answers : List Answer) → Ran s calls answers t → IsUncut s → RanUncut s calls answers t
-ran_uncut s t calls answers r e = record {
+pub ran_uncut : (s t : State) (calls : List Call) (answers : List Answer) → IsSound (machine_of s) → Ran s calls answers t → IsUncut s →
+    RanUncut s calls answers t
+ran_uncut s t calls answers sound r e = record {
   run = r.run;
   follows = r.follows;
   tests = all_follow_uncut s t r.run.links e r.run.chain r.follows;
   sessions = λ front session rest a b parts before within after is.
-      conserves_uncut a b session (lasts_chain s a front lasts_uncut e before)
-      (r.sessions front session rest a b parts before within after is);
+      let here = lasts_chain s a front lasts_uncut e before in
+      conserves_uncut a b session here
+      (uncut_session_conserves a b session (sound_chain s a front sound before) (whole_cut (machine_of a).chip here) is within);
 }

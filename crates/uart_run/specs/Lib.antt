@@ -6,3 +6,4 @@ pub mod Ready
 pub mod Progress
 pub mod Session
 pub mod Uncut
+pub mod ReceivedErrors

@@ -1,7 +1,9 @@
 -- States in which a session may begin, and the outcomes of an `init` and a loopback test over the machine.
-use Rattle.std.specs.Prelude.{◌≡◌, ◌≢◌, ◌⊎◌, Bool, true, false, ◌&&◌, nat_lt, Option, Some, None, Ok, bit_and}
+use Rattle.std.specs.Prelude.{◌≡◌, ◌≢◌, ◌⊎◌, ◌+◌, ◌*◌, ℕ, Bool, true, false}
+use Rattle.std.specs.Prelude.{◌&&◌, nat_lt, Option, Some, None, Ok, bit_and}
 use Rattle.uart_spec.specs.declared.config.Config.{Config}
 use Rattle.uart_spec.specs.declared.errors.InitError.TheVariants.{DeviceNotPresent}
+use Rattle.uart_spec.specs.declared.errors.InvalidDivisorError.{InvalidDivisorError}
 use Rattle.uart_spec.specs.declared.errors.LoopbackError.TheVariants.{Stalled, UnexpectedLoopbackByte}
 use Rattle.uart_spec.specs.declared.registers.fifo_trigger_level.FifoTriggerLevel.{FifoTriggerLevel}
 use Rattle.uart_16550.specs.Driver.{fields}
@@ -11,7 +13,7 @@ use Rattle.uart_16550.specs.Tty.{inner_of}
 use Rattle.uart_spec.specs.declared.call.Call.{Call}
 use Rattle.uart_spec.specs.declared.call.Call.TheVariants as call
 use Rattle.uart_spec.specs.declared.call.Answer.{Answer}
-use Rattle.uart_spec.specs.declared.call.Answer.TheVariants.{Done, InitRefused, LoopbackRefused}
+use Rattle.uart_spec.specs.declared.call.Answer.TheVariants.{Done, Latch, InitRefused, FrameRefused, LoopbackRefused}
 use Rattle.uart_spec.specs.declared.event.Chip.{Chip}
 use Rattle.uart_spec.specs.declared.event.Chip.TheVariants.{Uart16550A, Uart16450}
 use Rattle.uart_chip.specs.Masks.{ier_bits}
@@ -65,6 +67,29 @@ pub record Initialises (config : Config) (a : Answer) (t : State) : Type 0 where
   pub is_present : a ≢ InitRefused DeviceNotPresent
   pub leaves : a ≡ Done → IsInitialised config t
 
+-- ---- after a `set_frame`
+
+-- LCR and the divisor latch are as configured, and the other latches and the FIFO are as before
+pub record IsFramed (config : Config) (s t : State) : Type 0 where
+  pub divisor_latch : DivisorOf config (Ok (divisor (latches_of t)))
+  pub latches : latches_of t ≡
+      record (latches_of s) { lcr = frame_bits config; dll = (latches_of t).dll; dlm = (latches_of t).dlm }
+  pub fifo : (machine_of t).chip.fifo ≡ (machine_of s).chip.fifo
+
+-- this is the state after it if it succeeds; if it fails, the machine is as before
+pub record Frames (config : Config) (s : State) (a : Answer) (t : State) : Type 0 where
+  pub leaves : a ≡ Done → IsFramed config s t
+  pub refused : (e : InvalidDivisorError) → a ≡ FrameRefused e → machine_of t ≡ machine_of s
+
+-- ---- after an `attach`
+
+-- the state after an `attach` that returned this divisor latch, whatever the machine was before: it is ready, all
+-- latches are as before, and the divisor is the one that was returned
+pub record IsAttached (low high : ℕ) (s t : State) : Type 0 where
+  pub ready : Ready t
+  pub latches : latches_of t ≡ latches_of s
+  pub divisor_latch : divisor (latches_of t) ≡ 256 * high + low
+
 -- ---- after a loopback test
 
 -- whether characters are cut to 5 or 6 bits, so that the bytes of a loopback test do not come back as they were sent
@@ -85,8 +110,11 @@ pub record IsTested (s : State) (a : Answer) (t : State) : Type 0 where
 
 -- ---- each call
 
--- the outcome of a call: an `init` initialises, and a loopback test in a ready state tests
+-- the outcome of a call: an `init` initialises, a `set_frame` sets the frame, an `attach` that succeeds
+-- leaves a ready state, whatever it was before, and a loopback test in a ready state tests
 abbrev pub ComesTo : State → Call → Answer → State → Type 0
 ComesTo s (call.Init config) a t = Initialises config a t
+ComesTo s (call.SetFrame config) a t = Frames config s a t
+ComesTo s call.Attach a t = (low high : ℕ) → a ≡ Latch low high → IsAttached low high s t
 ComesTo s call.TestLoopback a t = Ready s → IsTested s a t
 ComesTo s other a t = Unit {0}

@@ -1,6 +1,7 @@
 -- What a call of a session does at least, whatever the schedule is: it takes received bytes, and a flush empties the
 -- transmitter.
-use Rattle.std.specs.Prelude.{◌≡◌, ◌<◌, ◌≤◌, ℕ, true, List, [], ◌∷◌, length, min}
+use Rattle.std.specs.Prelude.{◌≡◌, ◌<◌, ◌≤◌, ℕ, true, List, [], ◌∷◌, length, min, bit_and}
+use Rattle.uart_spec.specs.declared.registers.modem_status.TheConstants.MSR
 use Rattle.uart_spec.specs.declared.call.Call.{Call}
 use Rattle.uart_spec.specs.declared.call.Call.TheVariants as call
 use Rattle.uart_spec.specs.declared.call.Answer.{Answer}
@@ -30,13 +31,17 @@ pub record IsFlushed (s t : State) : Type 0 where
   pub wire : (transmitter_of t).wire ≡ out (machine_of s)
 
 -- if there is a received byte, a `try_receive_byte` returns one; calls into slots take as many of the received bytes
--- as fit, an exact one does not stall if there are as many; and a `flush` that succeeds has emptied the transmitter
+-- as fit, an exact one does not stall if there are as many; a `flush` that succeeds has emptied the transmitter, an
+-- `is_idle` that is true found it empty; and a `peek_modem` shows the modem lines as they are
 abbrev pub Serves : State → Call → Answer → State → Type 0
 Serves s call.TryReceive a t = 0 < waiting_len s → (byte : ℕ) × (a ≡ answer.Register byte)
 Serves s (call.Receive slots) a t = 0 < waiting_len s → HoldsAtLeast (min slots (waiting_len s)) a
 Serves s (call.Read slots) a t = 0 < waiting_len s → HoldsAtLeast (min slots (waiting_len s)) a
 Serves s (call.ReceiveExact slots) a t = slots ≤ waiting_len s → HoldsAtLeast slots a
 Serves s call.Flush a t = a ≡ answer.Done → IsFlushed s t
+Serves s call.IsIdle a t = a ≡ answer.Flag true → IsFlushed s t
+Serves s call.PeekModem a t =
+    (status : ℕ) × (a ≡ answer.Register status) × (bit_and status MSR.LINES.0 ≡ (machine_of t).chip.modem.lines)
 Serves s other a t = Unit {0}
 
 -- each of these calls

@@ -14,15 +14,25 @@ use Rattle.uart_run.specs.Served.{AllServe}
 use Rattle.uart_run.specs.Ready.{Ready, ComesTo}
 use Rattle.uart_run.specs.Progress.{IsTimely, Succeeds}
 
--- the call is no `init` and no loopback test, which end a session; this for each call
+-- the call is no `init` and no loopback test, which end a session, and no `attach`; it writes no MCR, by which modem
+-- lines may change; and it is no `set_frame`, after which a machine may cut characters in another way
 abbrev pub IsWithinSession : Call → Type 0
 IsWithinSession (call.Init config) = ⊥
+IsWithinSession (call.SetFrame config) = ⊥
+IsWithinSession call.Attach = ⊥
+IsWithinSession (call.SetModemControl outputs) = ⊥
+IsWithinSession (call.SetRts on) = ⊥
+IsWithinSession (call.SetDtr on) = ⊥
 IsWithinSession call.TestLoopback = ⊥
 IsWithinSession other = Unit {0}
 
+-- this for each call of some links
+abbrev pub AllCalls : (Call → Type 0) → List Link → Type 0
+AllCalls Within [] = Unit {0}
+AllCalls Within (link ∷ links) = Within link.call × AllCalls Within links
+
 abbrev pub AllWithinSession : List Link → Type 0
-AllWithinSession [] = Unit {0}
-AllWithinSession (link ∷ links) = IsWithinSession link.call × AllWithinSession links
+AllWithinSession = AllCalls IsWithinSession
 
 -- a session: it begins in a ready state, and no call in it is an `init` or a loopback test
 abbrev pub IsSession : State → List Link → Type 0

@@ -15,7 +15,7 @@ use Rattle.uart_run.specs.Served.{AllServe, IsFlushed}
 use Rattle.uart_run.specs.Statuses.{Tells}
 use Rattle.uart_run.specs.Ready.{Ready}
 use Rattle.uart_run.specs.Progress.{IsTimely, HasRoom}
-use Rattle.uart_run.specs.Session.{IsSession, reported, received, overflows, AllFollow}
+use Rattle.uart_run.specs.Session.{AllCalls, reported, received, overflows, AllFollow}
 
 -- the machine does not cut characters to the word length
 abbrev pub IsUncut : State → Type 0
@@ -24,6 +24,20 @@ IsUncut s = (machine_of s).chip.cuts ≡ false
 -- what was in the receiver of the first machine, and then what arrived up to the second
 abbrev pub entered_uncut : MachineState → MachineState → List Character
 entered_uncut m n = m.chip.receiver.queue ++ arriving m.chip.receiver.arrived (between m n)
+
+-- a session: it begins in a ready state, and no call in it is an `init`, a loopback test or an `attach`, or writes MCR.
+-- A `set_frame` may be
+abbrev pub IsWithinUncut : Call → Type 0
+IsWithinUncut (call.Init config) = ⊥
+IsWithinUncut call.Attach = ⊥
+IsWithinUncut (call.SetModemControl outputs) = ⊥
+IsWithinUncut (call.SetRts on) = ⊥
+IsWithinUncut (call.SetDtr on) = ⊥
+IsWithinUncut call.TestLoopback = ⊥
+IsWithinUncut other = Unit {0}
+
+abbrev pub IsUncutSession : State → List Link → Type 0
+IsUncutSession s links = Ready s × AllCalls IsWithinUncut links
 
 -- the bytes of these that were not dropped, according to the second machine
 abbrev pub kept_uncut : MachineState → MachineState → List ℕ
@@ -64,4 +78,4 @@ pub record RanUncut (s : State) (calls : List Call) (answers : List Answer) (t :
   pub follows : AllFollow run.links
   pub tests : AllFollowUncut run.links
   pub sessions : (front session rest : List Link) (a b : State) → run.links ≡ front ++ (session ++ rest) →
-      Chain s front a → Chain a session b → Chain b rest t → IsSession a session → ConservesUncut a session b
+      Chain s front a → Chain a session b → Chain b rest t → IsUncutSession a session → ConservesUncut a session b

@@ -27,7 +27,8 @@ fn run_call(uart: &mut Uart16550Tty<Device16550>, call: &Call) -> Answer
 /// no memory.
 ///
 /// A *session* begins in a ready state: DLAB and loopback are off, and the driver knows whether the
-/// FIFO is on. It goes on up to the next `Init` or `TestLoopback`. In each session
+/// FIFO is on. It goes on up to the next `Init`, `Attach` or `TestLoopback`, or a call that
+/// writes MCR or the frame. In each session
 ///
 /// - the wire and the transmitter grow by exactly the bytes that sends reported;
 /// - no data write meets a full transmitter;
@@ -36,7 +37,12 @@ fn run_call(uart: &mut Uart16550Tty<Device16550>, call: &Call) -> Answer
 ///
 /// On a machine that cuts characters to the word length ([`Device16550::new_cut`]) this holds with
 /// the bytes that sends reported and those that arrived cut in this way. The clause `uncut` states
-/// it without cutting, for every other machine.
+/// it without cutting, for every other machine. There a session goes on through a `SetFrame`.
+///
+/// A `SetFrame` that succeeds leaves LCR and the divisor latch as configured, and the other latches
+/// and the FIFO as they were. An `Attach` that succeeds leaves a ready state, whatever the machine
+/// was before, and changes no latch. An `IsIdle` that is true found the transmitter empty, and
+/// all that was in it on the wire.
 ///
 /// An `Init` finds the device. If it succeeds, the state after it is ready, whatever the machine
 /// was before. A `TestLoopback` in a ready state succeeds or stalls, and if it succeeds, nothing of

@@ -1,5 +1,5 @@
 -- The arithmetic of the baud rate generator.
-use Rattle.std.specs.Prelude.{◌≡◌, ◌≢◌, ℕ, ◌+◌, ◌*◌, ◌<◌, ◌≤◌, Option, unwrap_or, Result, Ok, Err}
+use Rattle.std.specs.Prelude.{◌≡◌, ◌≢◌, ℕ, ◌+◌, ◌-◌, ◌*◌, ◌<◌, ◌≤◌, Option, unwrap_or, Result, Ok, Err}
 use Rattle.uart_spec.specs.declared.errors.InvalidDivisorError.{InvalidDivisorError}
 use Rattle.uart_spec.specs.declared.errors.InvalidDivisorError.TheVariants.{NonInteger, OutOfRange}
 use Rattle.uart_spec.specs.declared.errors.NonIntegerBaudRateError.{NonIntegerBaudRateError}
@@ -29,3 +29,22 @@ IsDivisorAnswer frequency baud_rate factor (Err (OutOfRange divisor)) =
 IsDivisorAnswer frequency baud_rate factor (Err (NonInteger error)) =
     ((divisor : ℕ) → frequency_of baud_rate divisor factor ≢ frequency)
     × (error ≡ record { frequency = frequency; baud_rate = baud_rate; prescaler_division_factor = factor })
+
+-- how far two numbers are apart
+abbrev pub distance : ℕ → ℕ → ℕ
+distance a b = (a - b) + (b - a)
+
+-- the factor is at least 1, and no other one that is has a product with the ticks that is nearer to the frequency
+pub record IsNearestFactor (frequency ticks factor : ℕ) : Type 0 where
+  pub some : 1 ≤ factor
+  pub nearest : (other : ℕ) → 1 ≤ other → distance (ticks * factor) frequency ≤ distance (ticks * other) frequency
+
+-- no divisor gives the baud rate at a frequency that is nearer to this one
+abbrev pub IsNearestDivisor : (frequency baud_rate : ℕ) → Option ℕ → (divisor : ℕ) → Type 0
+IsNearestDivisor frequency baud_rate factor divisor =
+    IsNearestFactor frequency (16 * (prescaler factor + 1) * baud_rate) divisor
+
+-- the frequencies differ by at most so many thousandths of the exact one: so does the baud rate that the divisor gives,
+-- from the one that was asked for
+abbrev pub IsNear : (frequency exact per_mille : ℕ) → Type 0
+IsNear frequency exact per_mille = 1000 * distance exact frequency ≤ per_mille * exact

@@ -8,6 +8,7 @@ use Rattle.uart_spec.specs.declared.call.TheConstants.{CALL_BYTES}
 -- a count is at most that of a call's bytes, and a configuration is computable
 abbrev pub IsRunnable : Call → Type 0
 IsRunnable (call.Init config) = IsComputable config
+IsRunnable (call.SetFrame config) = IsComputable config
 IsRunnable (call.Receive count) = count ≤ CALL_BYTES
 IsRunnable (call.ReceiveExact count) = count ≤ CALL_BYTES
 IsRunnable (call.Read count) = count ≤ CALL_BYTES

@@ -1,7 +1,8 @@
 //! Clock frequency, divisor and baud rate: each of the three from the other two.
 ghost use Rattle.std.specs.Prelude.{◌≡◌, ◌≢◌, ◌↔◌, ℕ, ◌+◌, ◌*◌, ◌<◌, ◌≤◌, ◌^◌, IfSome, IfNone};
 ghost use Rattle.uart_spec.specs.Bits.{IsOnly, IsOnlyIfAny};
-ghost use Rattle.uart_spec.specs.Baud.{IsBaudRateAnswer, IsDivisorAnswer, frequency_of, prescaler};
+ghost use Rattle.uart_spec.specs.Baud.{IsBaudRateAnswer, IsDivisorAnswer, IsNearestFactor};
+ghost use Rattle.uart_spec.specs.Baud.{frequency_of, prescaler};
 
 use crate::errors::{InvalidDivisorError, NonIntegerBaudRateError, NonIntegerDivisorError};
 
@@ -128,4 +129,25 @@ fn whole_quotient(dividend: u32, divisor: u64) -> Option<u32>
     } else {
         None
     }
+}
+
+// Returns how many clock ticks a bit has at divisor 1.
+pub(crate) fn ticks_of(baud_rate: u32, prescaler_division_factor: Option<u32>) -> u64
+    requires prescaler { prescaler prescaler_division_factor ≤ 15 }
+    ensures value { result ≡ 16 * (prescaler prescaler_division_factor + 1) * baud_rate }
+    ensures fits { result < 2 ^ 40 }
+{
+    16 * (prescaler_division_factor.unwrap_or(0) as u64 + 1) * baud_rate as u64
+}
+
+// Returns the factor, at least 1, whose product with the ticks is nearest to the frequency.
+pub(crate) fn nearest_factor(frequency: u64, ticks: u64) -> u64
+    requires some { 0 < ticks }
+    requires ticks { ticks < 2 ^ 40 }
+    requires frequency { frequency < 2 ^ 32 }
+    ensures nearest { IsNearestFactor frequency ticks result }
+    ensures fits { ticks * result < 2 ^ 41 }
+{
+    let rounded = (frequency + ticks / 2) / ticks;
+    if rounded == 0 { 1 } else { rounded }
 }

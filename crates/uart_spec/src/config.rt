@@ -1,15 +1,16 @@
 //! The configuration of a device.
-ghost use Rattle.std.specs.Prelude.{◌≡◌, ◌↔◌, IsTrue};
+ghost use Rattle.std.specs.Prelude.{◌≡◌, ◌↔◌, IsTrue, IfOk};
 ghost use Rattle.std.proofs.Common.{rules};
 ghost use Rattle.std.specs.Cmp.{partial_order_from_own_ties};
 ghost use Rattle.std.specs.Cmp.Rules.{comparing};
 ghost use Rattle.std.specs.Ordering.{as_partial_cmp};
 ghost use Rattle.uart_spec.specs.BaudRate.{IsNamed, baud_rate_cmp, rank, to_integer};
-ghost use Rattle.uart_spec.specs.Config.{IsComputable};
+ghost use Rattle.uart_spec.specs.Config.{IsComputable, IsNearestAnswer};
 ghost use Rattle.uart_spec.specs.declared.config.BaudRate.{BaudRate};
 ghost use Rattle.uart_spec.specs.declared.config.TheConstants.Config.{DEFAULT};
 
-use crate::baud::CLK_FREQUENCY_HZ;
+use crate::baud::{CLK_FREQUENCY_HZ, nearest_factor, ticks_of};
+use crate::errors::NearestDivisorError;
 use crate::registers::{FifoTriggerLevel, IER, Parity, WordLength};
 use std::cmp::Ordering;
 
@@ -229,6 +230,45 @@ impl Config {
             && self
                 .prescaler_division_factor
                 .is_none_or(|factor| factor <= 15)
+    }
+
+    /// Returns the configuration with the frequency at which the nearest divisor gives its baud
+    /// rate exactly, if this frequency differs from the true one by at most so many thousandths. So
+    /// `init` accepts it, and writes the nearest divisor. The rate on the line then differs from
+    /// the configured one by as many thousandths at most.
+    ///
+    /// Receivers tolerate about 20 thousandths in all, of both sides together.
+    ///
+    /// # Errors
+    ///
+    /// - `OutOfRange` if the nearest divisor does not fit into the divisor latch, or its frequency
+    ///   not into 32 bits.
+    /// - `TooFar` if it differs by more.
+    ///
+    /// # Examples
+    ///
+    /// ```
+    /// let config = Config { frequency: 24_000_000, ..Config::DEFAULT }.nearest(20)?;
+    /// ```
+    pub fn nearest(self, per_mille: u32) -> Result<Config, NearestDivisorError>
+        requires { IsComputable self }
+        ensures answer { IsNearestAnswer self per_mille result }
+        ensures computable { IfOk result IsComputable }
+    {
+        let frequency = self.frequency as u64;
+        let ticks = ticks_of(self.baud_rate.to_integer(), self.prescaler_division_factor);
+        let divisor = nearest_factor(frequency, ticks);
+        let exact = ticks * divisor;
+        if divisor > u16::MAX as u64 || exact > u32::MAX as u64 {
+            return Err(NearestDivisorError::OutOfRange { divisor });
+        }
+        if 1000 * exact.abs_diff(frequency) > per_mille as u64 * exact {
+            return Err(NearestDivisorError::TooFar { divisor });
+        }
+        Ok(Config {
+            frequency: exact as u32,
+            ..self
+        })
     }
 }
 

@@ -30,6 +30,35 @@ pub struct NonIntegerDivisorError {
     pub prescaler_division_factor: Option<u32>,
 }
 
+/// Why a port cannot be taken as it is.
+#[derive(Clone, Copy, Debug, PartialEq, Eq, PartialOrd, Hash, Drop, Error)]
+pub enum AttachError {
+    /// DLAB is set: offsets 0 and 1 are the divisor latch.
+    #[error("the divisor latch was left open")]
+    DivisorLatchOpen,
+    /// The chip is in loopback.
+    #[error("the chip was left in loopback")]
+    Loopback,
+}
+
+/// Why the nearest divisor for a baud rate cannot be used.
+#[derive(Clone, Debug, PartialEq, Eq, PartialOrd, Hash, Drop, Error)]
+pub enum NearestDivisorError {
+    /// The baud rate that the nearest divisor gives differs by more than the tolerance.
+    #[error("the nearest divisor {divisor} is not near enough")]
+    TooFar {
+        /// The nearest divisor.
+        divisor: u64,
+    },
+    /// The nearest divisor does not fit into the divisor latch of 16 bits, or the frequency at
+    /// which it is exact not into 32 bits.
+    #[error("the nearest divisor {divisor} is out of range")]
+    OutOfRange {
+        /// The nearest divisor.
+        divisor: u64,
+    },
+}
+
 /// Why there is no divisor for a baud rate.
 #[derive(Clone, Debug, PartialEq, Eq, PartialOrd, Hash, Drop, Error)]
 pub enum InvalidDivisorError {

@@ -46,6 +46,7 @@ received s t n answers other bytes ran ready is =
 pub none_taken : (n : ℕ) (a : RingAnswer) → ((bytes : _) → a ≡ answer.Bytes bytes → ⊥) → [] ≡ taken_by (call.Take n) a
 none_taken n (answer.Count count) isnt = refl
 none_taken n (answer.Bytes bytes) isnt = absurd (isnt bytes refl)
+none_taken n (answer.Handled handled) isnt = refl
 none_taken n (answer.Line line) isnt = refl
 none_taken n (answer.Modem modem) isnt = refl
 none_taken n answer.Done isnt = refl

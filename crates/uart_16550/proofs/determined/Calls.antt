@@ -5,15 +5,22 @@ use Rattle.uart_16550.specs.Choice.{LeavesNoChoice}
 use Rattle.uart_16550.specs.Grammar.{Settings}
 use Rattle.uart_16550.specs.Driver.{Saving, with_limit}
 use Rattle.uart_16550.specs.DriverCalls.{SavingCall, SavingOutcome, SavingLists, ChangingCall, ChangingDoing}
-use Rattle.uart_16550.proofs.determined.Parting.{Determined, read_determined}
+use Rattle.uart_spec.specs.declared.registers.offsets.TheConstants as offsets
+use Rattle.uart_spec.specs.declared.registers.line_control.TheConstants.LCR
+use Rattle.uart_spec.specs.declared.registers.line_status.TheConstants.LSR
+use Rattle.uart_16550.specs.Frame.{switched, unlooped}
+use Rattle.uart_16550.proofs.determined.Parting.{Determined, read_determined, asks_determined, determined_so, determined_only}
+use Rattle.uart_16550.proofs.determined.Frame.{modifies_determined, sets_frame_determined, attaches_determined}
 use Rattle.uart_16550.proofs.determined.Doings.{no_choice, saving_determined, does_so, does_set}
-use Rattle.uart_16550.proofs.determined.Receive.{ready_to_receive_determined, try_receive_determined}
+use Rattle.uart_16550.proofs.determined.Receive.{ready_to_receive_determined, try_receive_determined, try_receive_with_determined}
 use Rattle.uart_16550.proofs.determined.Transmit.{ready_to_send_determined, sends_determined, try_send_determined, sends_exact_determined}
 use Rattle.uart_16550.proofs.determined.Expansion.{text_determined, str_determined}
 use Rattle.uart_16550.proofs.determined.Io.{receives_into_determined, exact_into_determined, reads_into_determined, writes_determined}
+use Rattle.uart_16550.proofs.determined.Io.{receives_with_into_determined}
 use Rattle.uart_16550.proofs.determined.Io.{flushes_determined, answers_read_determined, answers_write_determined}
 use Rattle.uart_16550.proofs.determined.Status.{takes_lsr_determined, takes_msr_determined, connects_determined, divisor_determined}
 use Rattle.uart_16550.proofs.determined.Status.{enables_determined, disables_determined, dumps_determined}
+use Rattle.uart_16550.proofs.determined.Status.{retriggers_determined}
 use Rattle.uart_16550.proofs.determined.Init.{presence_determined, inits_determined}
 use Rattle.uart_16550.proofs.determined.Loopback.{tests_loopback_determined}
 use Rattle.uart_16550.proofs.determined.Tty.{starts_determined}
@@ -24,8 +31,15 @@ lists_determined (SavingCall.read_register register) s = read_determined registe
 lists_determined SavingCall.check_connected s = connects_determined s
 lists_determined SavingCall.dll_dlm s = divisor_determined s
 lists_determined SavingCall.check_present s = presence_determined s
+lists_determined SavingCall.is_idle s = asks_determined offsets.LSR LSR.TRANSMITTER_EMPTY.0
+lists_determined (SavingCall.set_break on) s = modifies_determined s offsets.LCR (switched on LCR.SET_BREAK.0)
+lists_determined (SavingCall.set_modem_control bits) s = λ a b. determined_so (λ t. refl) (determined_only refl)
+lists_determined (SavingCall.set_output output on) s = modifies_determined s offsets.MCR (λ mcr. unlooped (switched on output mcr))
+lists_determined SavingCall.retrigger_interrupts s = retriggers_determined s
 lists_determined SavingCall.ready_to_receive s = ready_to_receive_determined s
 lists_determined SavingCall.try_receive_byte s = try_receive_determined s
+lists_determined SavingCall.try_receive_with_errors s = try_receive_with_determined s
+lists_determined (SavingCall.receive_with_errors slots) s = receives_with_into_determined s slots
 lists_determined SavingCall.ready_to_send s = ready_to_send_determined s
 lists_determined (SavingCall.receive_bytes slots) s = receives_into_determined s slots
 lists_determined (SavingCall.receive_bytes_exact slots) s = exact_into_determined s slots
@@ -52,4 +66,6 @@ changing_leaves_no_choice (ChangingCall.disable_interrupts bits) = no_choice (di
 changing_leaves_no_choice (ChangingCall.set_spin_limit limit) = no_choice (λ f a b. does_so (λ t. refl) (does_set f (with_limit limit)))
 changing_leaves_no_choice (ChangingCall.init config computable) = no_choice (inits_determined config computable)
 changing_leaves_no_choice (ChangingCall.start config computable) = no_choice (starts_determined config computable)
+changing_leaves_no_choice (ChangingCall.set_frame config computable) = no_choice (sets_frame_determined config computable)
+changing_leaves_no_choice ChangingCall.attach = no_choice attaches_determined
 changing_leaves_no_choice ChangingCall.test_loopback = no_choice tests_loopback_determined

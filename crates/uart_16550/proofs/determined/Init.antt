@@ -202,13 +202,14 @@ clock_runs : (config : Config) → IsComputable config → 0 < clock config
 unfolding clock
 clock_runs config ok = mul-pos (mul-pos (omega arith) (omega arith)) ok.baud_rate
 
-divisor_one : (config : Config) → IsComputable config → (d e : ℕ) →
+pub divisor_one : (config : Config) → IsComputable config → (d e : ℕ) →
     frequency_of (to_integer config.baud_rate) d config.prescaler_division_factor ≡ config.frequency →
     frequency_of (to_integer config.baud_rate) e config.prescaler_division_factor ≡ config.frequency → d ≡ e
 unfolding clock
 divisor_one config ok d e p q = factor_cancels (clock config) d e (clock_runs config ok) (p ∙ sym q)
 
-divisors_same : (config : Config) → IsComputable config → (a b : Result ℕ InvalidDivisorError) → DivisorOf config a → DivisorOf config b →
+pub divisors_same : (config : Config) → IsComputable config → (a b : Result ℕ InvalidDivisorError) → DivisorOf config a →
+    DivisorOf config b →
     a ≡ b
 divisors_same config ok (Ok d) (Ok e) p q =
     ap (λ (x : ℕ). let r : Result ℕ InvalidDivisorError = Ok x in r) (divisor_one config ok d e p.0 q.0)
@@ -224,7 +225,7 @@ divisors_same config ok (Err (NonInteger d)) (Err (NonInteger e)) p q =
     ap (λ x. let r : Result ℕ InvalidDivisorError = Err (NonInteger x) in r) (p.1 ∙ sym q.1)
 
 -- there is a divisor, and there is none
-no_divisor : (config : Config) → IsComputable config → (d : ℕ) (e : InvalidDivisorError) → DivisorOf config (Ok d) →
+pub no_divisor : (config : Config) → IsComputable config → (d : ℕ) (e : InvalidDivisorError) → DivisorOf config (Ok d) →
     DivisorOf config (Err e) → ⊥
 no_divisor config ok d e p q = let wrong = divisors_same config ok (Ok d) (Err e) p q in cc
 

@@ -6,7 +6,8 @@ use Rattle.uart_spec.specs.declared.errors.StalledError.{StalledError}
 use Rattle.uart_spec.specs.declared.registers.offsets.TheConstants as offsets
 use Rattle.uart_spec.specs.declared.registers.line_status.TheConstants.LSR
 use Rattle.uart_spec.specs.declared.access.Access.{Access}
-use Rattle.uart_16550.specs.Choice.{ReceivesInto, ReceivesExactInto, ReadsInto}
+use Rattle.uart_16550.specs.Choice.{ReceivesInto, ReceivesWithErrorsInto, ReceivesExactInto, ReadsInto}
+use Rattle.uart_16550.specs.declared.driver.receive.Received.{Received}
 use Rattle.uart_16550.specs.Grammar.{Settings, Then, InOrder}
 use Rattle.uart_16550.specs.Receive.{Hit, Miss, Receives, ReceivesSome}
 use Rattle.uart_16550.specs.Io.{Reads, Writes, Flushes, AnswersRead, AnswersWrite}
@@ -14,16 +15,17 @@ use Rattle.uart_16550.proofs.determined.Parting.{SameOrPart, Determined, so, det
 use Rattle.uart_16550.proofs.determined.Parting.{determined_among, determined_either, asks_determined}
 use Rattle.uart_16550.proofs.determined.Repeated.{Misses, waits_end, wait_ends}
 use Rattle.uart_16550.proofs.determined.Receive.{receives_determined, receives_exact_determined, miss_same, miss_hit, vain_same, stalled}
-use Rattle.uart_16550.proofs.determined.Receive.{ok_same}
+use Rattle.uart_16550.proofs.determined.Receive.{ok_same, receives_with_determined}
 use Rattle.uart_16550.proofs.determined.Transmit.{waits_determined, sends_some_determined, hit_same, refusal_same, refusal_hit}
 
 -- slots with the same front, and the rest as it was
-slots_same : (a b : ℕ) (xs ys old : List ℕ) → a ≡ b → take a xs ≡ take b ys → drop a xs ≡ drop a old → drop b ys ≡ drop b old → xs ≡ ys
-slots_same a b xs ys old same front p q =
+slots_same : {A : Type 0} (a b : ℕ) (xs ys old : List A) → a ≡ b → take a xs ≡ take b ys → drop a xs ≡ drop a old →
+    drop b ys ≡ drop b old → xs ≡ ys
+slots_same {A} a b xs ys old same front p q =
     sym (take-append-drop a xs) ∙ ap (λ zs. zs ++ drop a xs) front
     ∙ ap (λ zs. take b ys ++ zs) (p ∙ ap (λ (n : ℕ). drop n old) same ∙ sym q) ∙ take-append-drop b ys
 
-counts_same : (a b : ℕ) (xs ys : List ℕ) → a ≤ length xs → b ≤ length ys → take a xs ≡ take b ys → a ≡ b
+counts_same : {A : Type 0} (a b : ℕ) (xs ys : List A) → a ≤ length xs → b ≤ length ys → take a xs ≡ take b ys → a ≡ b
 counts_same a b xs ys p q same = sym (length-take-le a xs p) ∙ ap length same ∙ length-take-le b ys q
 
 pub receives_into_determined : (s : Settings) (old : List ℕ) (x y : ℕ × List ℕ) →
@@ -38,6 +40,20 @@ receives_into_determined s old x y = record {
       let slots = slots_same x.0 y.0 x.1 y.1 old count r p.2 q.2 in
       λ i. (count i, slots i))
       ((receives_determined s (length old) (take x.0 x.1) (take y.0 y.1)).at l m p.3 q.3);
+}
+
+pub receives_with_into_determined : (s : Settings) (old : List Received) (x y : ℕ × List Received) →
+    Determined (x ≡ y) (ReceivesWithErrorsInto old x.1 x.0 s) (ReceivesWithErrorsInto old y.1 y.0 s)
+receives_with_into_determined s old x y = record {
+  at = λ l m p q.
+      so
+      (λ r.
+      let within : x.0 ≤ length x.1 = omega (arith, p.0, p.1) in
+      let within' : y.0 ≤ length y.1 = omega (arith, q.0, q.1) in
+      let count = counts_same x.0 y.0 x.1 y.1 within within' r in
+      let slots = slots_same x.0 y.0 x.1 y.1 old count r p.2 q.2 in
+      λ i. (count i, slots i))
+      ((receives_with_determined s (length old) (take x.0 x.1) (take y.0 y.1)).at l m p.3 q.3);
 }
 
 exact_into : (s : Settings) (old new new' : List ℕ) (a b : Result (Unit {0}) StalledError) →

@@ -1,14 +1,18 @@
 -- The receiving calls are determined.
-use Rattle.std.proofs.Common.{◌≡◌, ◌<◌, ℕ, true, false, List, refl, sym, ◌∙◌, ap, arith, inl, inr, Result, Ok, Err, length}
+use Rattle.std.proofs.Common.{◌≡◌, ◌<◌, ℕ, true, false, List, [], ◌∷◌, refl, sym, ◌∙◌}
+use Rattle.std.proofs.Common.{ap, arith, inl, inr, Result, Ok, Err, length, bit_and}
 use Rattle.uart_spec.specs.declared.errors.StalledError.{StalledError}
 use Rattle.uart_spec.specs.declared.errors.ByteReceiveError.{ByteReceiveError}
 use Rattle.uart_spec.specs.declared.registers.offsets.TheConstants as offsets
 use Rattle.uart_spec.specs.declared.registers.line_status.TheConstants.LSR
 use Rattle.uart_spec.specs.declared.access.Access.{Access}
-use Rattle.uart_16550.specs.Grammar.{Settings, Then, InOrder, AllMisses}
+use Rattle.uart_16550.specs.Grammar.{Settings, Only, Then, Asks, InOrder, AllMisses}
+use Rattle.uart_spec.specs.declared.access.Access.TheVariants.{Read}
 use Rattle.uart_16550.specs.Receive.{Hit, Miss, ReadyToReceive, TryReceive, Receives, Awaited, ReceivesExact}
+use Rattle.uart_16550.specs.Receive.{HitWithErrors, TryReceiveWithErrors, ReceivesWithErrors}
+use Rattle.uart_16550.specs.declared.driver.receive.Received.{Received}
 use Rattle.uart_16550.proofs.determined.Parting.{SameOrPart, Determined, so, determined_so, determined_sym, determined_then}
-use Rattle.uart_16550.proofs.determined.Parting.{determined_front, read_determined, asks_apart, asks_same}
+use Rattle.uart_16550.proofs.determined.Parting.{determined_front, read_determined, asks_apart, asks_same, so_is, so_read, so_reads}
 use Rattle.uart_16550.proofs.determined.Repeated.{Misses, Items, waits_end, wait_ends, wait_fails, items_all, items_more, items_short}
 use Rattle.uart_16550.proofs.determined.Repeated.{alike_any, told}
 
@@ -52,6 +56,59 @@ receives_determined s n xs ys = record { at = at }
     at l m (inl p) (inr q) = (determined_sym (more ys xs (omega (arith, p.0, q.0)))).at l m p.1 q.1
     at l m (inr p) (inl q) = (determined_so absurd (more xs ys (omega (arith, p.0, q.0)))).at l m p.1 q.1
     at l m (inr p) (inr q) = (items_short s Hit Miss (hits s) (miss_hit s) (miss_same s) xs ys (alike_any xs ys)).at l m p.1 q.1
+
+-- bytes with their errors
+pub hits_with_determined : (s : Settings) (a b : Received) → Determined (a ≡ b) (HitWithErrors a s) (HitWithErrors b s)
+hits_with_determined s a b = record {
+  at = λ l m p q. so_is p.3 q.3 (so (λ r.
+      let errors = p.2 ∙ ap (λ (n : ℕ). bit_and n LSR.LINE_ERRORS.0) r.0 ∙ sym q.2 in
+      λ i. record { byte = r.1 i; errors = record { 0 = errors i } }) (so_read (λ same. so_reads)));
+}
+
+-- a look that shows no data, beside one that shows data and what follows it
+pub miss_hit_with : (s : Settings) (a : Received) → Determined ⊥ (Miss s) (HitWithErrors a s)
+miss_hit_with s a = determined_sym (record {
+  at = λ l m p q.
+      apart.at l m
+      (record {
+        front = Read offsets.LSR p.0 ∷ [];
+        back = Read offsets.DATA a.byte ∷ [];
+        whole = p.3;
+        first = record { answer = p.0; shows = p.1; is = refl };
+        second = record { is = refl };
+      }) q;
+})
+  where
+    apart : Determined ⊥ (Then (Asks offsets.LSR LSR.DATA_READY.0 true) (Only (Read offsets.DATA a.byte ∷ [])) s) (Miss s)
+    apart = determined_front (asks_apart offsets.LSR LSR.DATA_READY.0)
+
+ok_received : {E : Type 0} (a b : Received) → a ≡ b → ◌≡◌ {A = Result Received E} (Ok a) (Ok b)
+ok_received {E} a b same = ap (λ (x : Received). let r : Result Received E = Ok x in r) same
+
+pub try_receive_with_determined : (s : Settings) (a b : Result Received ByteReceiveError) →
+    Determined (a ≡ b) (TryReceiveWithErrors a s) (TryReceiveWithErrors b s)
+try_receive_with_determined s (Ok a) (Ok b) = determined_so (ok_received a b) (hits_with_determined s a b)
+try_receive_with_determined s (Ok a) (Err d) = determined_sym (miss_hit_with s a)
+try_receive_with_determined s (Err d) (Ok b) = determined_so absurd (miss_hit_with s b)
+try_receive_with_determined s (Err d) (Err f) = determined_so (λ t. refl) (miss_same s)
+
+hits_with : (s : Settings) → Items s HitWithErrors (λ x y. Unit {0})
+hits_with s = record { item = λ x y k. hits_with_determined s x y }
+
+pub receives_with_determined : (s : Settings) (n : ℕ) (xs ys : List Received) →
+    Determined (xs ≡ ys) (ReceivesWithErrors n xs s) (ReceivesWithErrors n ys s)
+receives_with_determined s n xs ys = record { at = at }
+  where
+    more : (xs ys : List Received) → length xs < length ys →
+        Determined ⊥ (Then (InOrder HitWithErrors xs) Miss s) (InOrder HitWithErrors ys s)
+    more xs ys few = items_more s HitWithErrors Miss (hits_with s) (miss_hit_with s) xs ys (alike_any xs ys) few
+
+    at : (l m : List Access) → ReceivesWithErrors n xs s l → ReceivesWithErrors n ys s m → SameOrPart (xs ≡ ys) l m
+    at l m (inl p) (inl q) = (items_all s HitWithErrors (hits_with s) xs ys (alike_any xs ys) (p.0 ∙ sym q.0)).at l m p.1 q.1
+    at l m (inl p) (inr q) = (determined_sym (more ys xs (omega (arith, p.0, q.0)))).at l m p.1 q.1
+    at l m (inr p) (inl q) = (determined_so absurd (more xs ys (omega (arith, p.0, q.0)))).at l m p.1 q.1
+    at l m (inr p) (inr q) =
+        (items_short s HitWithErrors Miss (hits_with s) (miss_hit_with s) (miss_same s) xs ys (alike_any xs ys)).at l m p.1 q.1
 
 -- a wait for a byte
 pub misses : (s : Settings) (a : ℕ) → Misses s Miss (Hit a)

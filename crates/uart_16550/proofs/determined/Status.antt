@@ -1,5 +1,5 @@
 -- The register calls are determined.
-use Rattle.std.proofs.Common.{◌≡◌, ℕ, true, false, List, [], ◌++◌, refl, sym, ◌∙◌, ap, inl, inr, Result, Ok, Err, bit_or}
+use Rattle.std.proofs.Common.{◌≡◌, ℕ, Bool, true, false, List, [], ◌++◌, refl, sym, ◌∙◌, ap, inl, inr, Result, Ok, Err, bit_or}
 use Rattle.bitflags.specs.Sets.{without}
 use Rattle.uart_spec.specs.Bits.{has}
 use Rattle.uart_spec.specs.declared.errors.RemoteReadyToReceiveError.{RemoteReadyToReceiveError}
@@ -14,7 +14,7 @@ use Rattle.uart_spec.specs.declared.access.Access.{Access}
 use Rattle.uart_16550.specs.Grammar.{Settings}
 use Rattle.uart_16550.specs.Driver.{Fields, with_interrupts, saving}
 use Rattle.uart_16550.specs.Status.{TakesLsr, TakesMsr, Connects, ShowsConnection, ReadsDivisor, divisor_accesses, Enables, Disables, Dumps}
-use Rattle.uart_16550.specs.Status.{dump_reads}
+use Rattle.uart_16550.specs.Status.{dump_reads, Retriggers}
 use Rattle.uart_spec.specs.declared.dump.ConfigRegisterDump.{ConfigRegisterDump}
 use Rattle.uart_16550.proofs.determined.Parting.{SameOrPart, Determined, so, so_is, so_read, so_write, so_reads, not_both}
 use Rattle.uart_16550.proofs.determined.Doings.{Does}
@@ -80,6 +80,11 @@ disables_determined bits f x y = record {
       so_is p.1 q.1
       (so (λ r. (refl, p.2 ∙ ap (λ (n : ℕ). with_interrupts (without 8 n bits) f) r.0 ∙ sym q.2))
       (so_read (λ same. so_write (ap (λ (n : ℕ). without 8 n bits) same) (inl (tt {0}, refl)))));
+}
+
+pub retriggers_determined : (s : Settings) (x y : Unit {0}) → Determined (x ≡ y) (Retriggers s) (Retriggers s)
+retriggers_determined s x y = record {
+  at = λ l m p q. so_is p.1 q.1 (so (λ r. refl) (so_read (λ same. so_write refl (so_write same (inl (tt {0}, refl))))));
 }
 
 pub dumps_determined : (f : Fields) (x y : ConfigRegisterDump) → Does (x ≡ y) f (Dumps x) (Dumps y)

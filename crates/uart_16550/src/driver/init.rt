@@ -23,7 +23,7 @@ const SECOND_PATTERN: u8 = 0x73;
 const MOST_WAITING: usize = FIFO_SIZE + 1;
 
 // Returns LCR for a configuration.
-fn frame_of(config: &Config) -> LCR
+pub(super) fn frame_of(config: &Config) -> LCR
     ensures { result.0 ≡ frame_bits config.now }
 {
     let mut frame = LCR::from_bits_retain(0)

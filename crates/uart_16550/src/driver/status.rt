@@ -5,6 +5,7 @@ ghost use Rattle.uart_spec.specs.declared.access.Access.TheVariants.{Read};
 ghost use Rattle.uart_16550.specs.Grammar.{Only};
 ghost use Rattle.uart_16550.specs.Status.{TakesLsr, TakesMsr, Connects, ReadsDivisor};
 ghost use Rattle.uart_16550.specs.Status.{StoresInterrupts, Enables, Disables, Dumps};
+ghost use Rattle.uart_16550.specs.Status.{Retriggers};
 ghost use Rattle.uart_16550.specs.Driver.{Made, Did};
 
 use super::Uart16550;
@@ -107,6 +108,23 @@ impl<B: Backend> Uart16550<B> {
         msr
     }
 
+    /// Reads and returns the modem status register (MSR) as it is now. The changes that this clears
+    /// in the chip are saved for the next `msr`.
+    ///
+    /// Call it to find out how the modem lines are. Does not wait. Like each read of MSR it clears
+    /// a modem status interrupt: who waits for one looks at `msr` afterwards.
+    ///
+    /// # Examples
+    ///
+    /// ```
+    /// assert!(rt; uart.peek_modem().contains(MSR::CTS));
+    /// ```
+    pub fn peek_modem(&mut self) -> MSR
+        ensures { Made B.step (Only (Read offsets.MSR result.0 ∷ [])) self.old self.new }
+    {
+        self.read_msr()
+    }
+
     /// Reads and returns the scratch register (SPR), which the chip does not use.
     ///
     /// # Examples
@@ -192,6 +210,30 @@ impl<B: Backend> Uart16550<B> {
     {
         self.config.interrupts = enabled;
         self.write_register(offsets::IER, enabled.bits());
+    }
+
+    /// Makes the interrupt output fall, and rise again if an interrupt is enabled and pending:
+    /// reads IER, writes 0, and writes back what it read.
+    ///
+    /// An interrupt controller that detects edges sees no new edge while the output stays high.
+    /// Call this at the end of an interrupt handler that leaves before ISR has shown that no
+    /// interrupt is pending, and after the interrupt was masked at a controller that forgets edges
+    /// meanwhile.
+    ///
+    /// If `THR_EMPTY` is enabled and the transmitter is empty, the chip raises that interrupt
+    /// again. Does not wait: makes three accesses.
+    ///
+    /// # Examples
+    ///
+    /// ```
+    /// uart.retrigger_interrupts();
+    /// ```
+    pub fn retrigger_interrupts(&mut self)
+        ensures { Made B.step Retriggers self.old self.new }
+    {
+        let enabled = self.read_register(offsets::IER);
+        self.write_register(offsets::IER, 0);
+        self.write_register(offsets::IER, enabled);
     }
 
     /// Reads and returns the divisor latch, low byte first.

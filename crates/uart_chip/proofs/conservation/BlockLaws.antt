@@ -25,7 +25,7 @@ use Rattle.uart_chip.proofs.conservation.Blocks.{written_in, read_in, data_writt
 use Rattle.uart_chip.proofs.conservation.Went.{Modes, IsIn, fixed, dlab, loopback, Went}
 use Rattle.uart_chip.proofs.statuses.Reports.{IsReported, report_reported}
 use Rattle.uart_chip.proofs.conservation.Effects.{went-look, went-send, TookFront, went-take, went-read_latch, went-write_lcr}
-use Rattle.uart_chip.proofs.conservation.Effects.{went-read_1}
+use Rattle.uart_chip.proofs.conservation.Effects.{went-read_1, went-write_low, went-write_high, went-write_frame}
 use Rattle.uart_chip.proofs.conservation.Effects.{went-quiet_read, went-quiet_write}
 use Rattle.uart_chip.proofs.conservation.Passed.{Passed, passed-refl, passed-trans, passed-access, passed-effect}
 
@@ -102,18 +102,26 @@ look_reported fifo m n line s some =
     rw same (report_reported fifo (at_access m).chip.receiver (rw same at some))
 
 -- a character is taken, which must wait and have been reported
-record Took (x : Modes) (m n : MachineState) (byte : ℕ) : Type 0 where
+pub record Took (x : Modes) (m n : MachineState) (byte : ℕ) : Type 0 where
   pub front : Character
+  pub rest : List Character
+  pub queue : (at_access m).chip.receiver.queue ≡ front ∷ rest
   pub is_byte : front.byte ≡ byte
   pub passed : Passed x m n (Read offsets.DATA byte ∷ []) [] (front ∷ [])
 
-took : (x : Modes) (m n : MachineState) (byte : ℕ) → IsOpen x → Stands x m → IsReported x.fifo m.chip.receiver →
+pub took : (x : Modes) (m n : MachineState) (byte : ℕ) → IsOpen x → Stands x m → IsReported x.fifo m.chip.receiver →
     MachineStep m (Read offsets.DATA byte) n → Took x m n byte
 took x m n byte o w told s =
     let p : Passed x m (at_access m) [] [] [] = passed-access x m o.loopback w.sound w.modes in
     let t : TookFront x (at_access m).chip byte =
     went-take x (at_access m).chip byte o.dlab p.sound.chip p.went.modes (p.went.reports.still refl told) s.1 in
-    record { front = t.front; is_byte = t.is_byte; passed = passed_read x m n 0 byte (t.front ∷ []) o.loopback w s (λ q. t.went) }
+    record {
+      front = t.front;
+      rest = t.rest;
+      queue = t.queue;
+      is_byte = t.is_byte;
+      passed = passed_read x m n 0 byte (t.front ∷ []) o.loopback w s (λ q. t.went);
+    }
 
 passed_send : (x : Modes) (m n : MachineState) (byte : ℕ) → IsOpen x → Stands x m → length m.chip.transmitter.queue < room x.fifo →
     MachineStep m (Write offsets.DATA byte) n →
@@ -161,7 +169,7 @@ pub record PassedBlocks (x : Modes) (m n : MachineState) (made : List Access) (w
   pub bytes : map (λ character. character.byte) takes ≡ read
   pub passed : Passed x m n made written takes
 
-nothing_taken : (x : Modes) (m n : MachineState) (made : List Access) (written : List ℕ) → Passed x m n made written [] →
+pub nothing_taken : (x : Modes) (m n : MachineState) (made : List Access) (written : List ℕ) → Passed x m n made written [] →
     PassedBlocks x m n made written []
 nothing_taken x m n made written p = record { takes = []; bytes = refl; passed = p }
 
@@ -230,6 +238,53 @@ passed_divisor x m n lcr low high o w (m₁, s₁, (m₂, s₂, (m₃, s₃, (m�
     []) [] [] [] [] refl a bcdf in
     let back : z ≡ x = ap (λ v. record x { lcr = v }) same in
     rw e (rw back at all)
+
+-- LCR is read, and written with the same word length
+pub record Relined (x : Modes) (m n : MachineState) (lcr value : ℕ) : Type 0 where
+  pub same : lcr ≡ x.lcr
+  pub passed : Passed (record x { lcr = value }) m n (Read offsets.LCR lcr ∷ Write offsets.LCR value ∷ []) [] []
+
+pub relined : (x : Modes) (m n : MachineState) (lcr value : ℕ) → IsOpen x → Stands x m → word_length value ≡ word_length lcr →
+    Path MachineStep m (Read offsets.LCR lcr ∷ Write offsets.LCR value ∷ []) n → Relined x m n lcr value
+relined x m n lcr value o w word (m₁, s₁, (m₂, s₂, e)) =
+    let z : Modes = record x { lcr = value } in
+    let a = passed_quiet x m m₁ (Read offsets.LCR lcr) o w refl s₁ in
+    let same : lcr ≡ x.lcr = s₁.1 ∙ (sym (ap (λ (n : MachineState). n.chip.latches.lcr) s₁.0) ∙ a.went.modes.lcr) in
+    let b : Passed z m₁ m₂ (Write offsets.LCR value ∷ []) [] [] =
+    passed_write x z m₁ m₂ offsets.LCR value [] o.loopback refl (stands-after x m m₁ _ _ _ a) s₂
+    (λ p. went-write_lcr x (at_access m₁).chip value p.sound.chip p.went.modes (word ∙ ap word_length (same ∙ sym p.went.modes.lcr))) in
+    rw e (record {
+      same = same;
+      passed = passed-trans x z m m₁ m₂ (Read offsets.LCR lcr ∷ []) (Write offsets.LCR value ∷ []) [] [] [] [] refl a b;
+    })
+
+-- the divisor latch is shown and written, and hidden again, with another frame in LCR, on a machine that cuts nothing
+pub passed_frame : (x : Modes) (m n : MachineState) (low high frame : ℕ) → IsOpen x → Stands x m → x.cut ≡ (λ (byte : ℕ). byte) →
+    Path MachineStep m (Write offsets.LCR (bit_or frame LCR.DLAB.0) ∷ Write offsets.DLL low ∷ Write offsets.DLM high ∷
+    Write offsets.LCR frame ∷ []) n →
+    Passed (record x { lcr = frame }) m n (Write offsets.LCR (bit_or frame LCR.DLAB.0) ∷ Write offsets.DLL low ∷ Write offsets.DLM high ∷
+    Write offsets.LCR frame ∷ []) [] []
+passed_frame x m n low high frame o w whole (m₁, s₁, (m₂, s₂, (m₃, s₃, (m₄, s₄, e)))) =
+    let y : Modes = record x { lcr = bit_or frame LCR.DLAB.0 } in
+    let z : Modes = record x { lcr = frame } in
+    let on : dlab y ≡ true = has_or 7 frame 128 ∙ grind (arith, common_steps) in
+    let a : Passed y m m₁ (Write offsets.LCR (bit_or frame LCR.DLAB.0) ∷ []) [] [] =
+    passed_write x y m m₁ offsets.LCR (bit_or frame LCR.DLAB.0) [] o.loopback refl w s₁
+    (λ p. went-write_frame x (at_access m).chip (bit_or frame LCR.DLAB.0) p.sound.chip p.went.modes whole) in
+    let b : Passed y m₁ m₂ (Write offsets.DLL low ∷ []) [] [] =
+    passed_write y y m₁ m₂ offsets.DATA low [] o.loopback refl (stands-after y m m₁ _ _ _ a) s₂
+    (λ p. went-write_low y (at_access m₁).chip low on p.sound.chip p.went.modes) in
+    let c : Passed y m₂ m₃ (Write offsets.DLM high ∷ []) [] [] =
+    passed_write y y m₂ m₃ offsets.IER high [] o.loopback refl (stands-after y m₁ m₂ _ _ _ b) s₃
+    (λ p. went-write_high y (at_access m₂).chip high on p.sound.chip p.went.modes) in
+    let d : Passed z m₃ m₄ (Write offsets.LCR frame ∷ []) [] [] =
+    passed_write y z m₃ m₄ offsets.LCR frame [] o.loopback refl (stands-after y m₂ m₃ _ _ _ c) s₄
+    (λ p. went-write_frame y (at_access m₃).chip frame p.sound.chip p.went.modes whole) in
+    let cd = passed-trans y z m₂ m₃ m₄ (Write offsets.DLM high ∷ []) (Write offsets.LCR frame ∷ []) [] [] [] [] refl c d in
+    let bcd =
+    passed-trans y z m₁ m₂ m₄ (Write offsets.DLL low ∷ []) (Write offsets.DLM high ∷ Write offsets.LCR frame ∷ []) [] [] [] [] refl b cd in
+    rw e (passed-trans y z m m₁ m₄ (Write offsets.LCR (bit_or frame LCR.DLAB.0) ∷ [])
+    (Write offsets.DLL low ∷ Write offsets.DLM high ∷ Write offsets.LCR frame ∷ []) [] [] [] [] refl a bcd)
 
 -- what a block does to a machine of a session
 pub passed_block : (x : Modes) (m n : MachineState) (block : Block) → IsOpen x → Stands x m → IsFit x.fifo block →

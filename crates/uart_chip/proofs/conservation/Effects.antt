@@ -1,6 +1,8 @@
 -- What each access of a session does to the chip.
 use Rattle.std.proofs.Common.{◌≡◌, ℕ, zero, suc, ◌<◌, Bool, true, false, ◌==◌, inl, inr, List, [], ◌∷◌, length, refl, arith, sym, ◌∙◌, ap}
-use Rattle.std.proofs.Common.{subst, bit_and, bit_or}
+use Rattle.std.proofs.Common.{subst, bit_and, bit_or, ◌^◌}
+use Rattle.std.proofs.Math.Nat.{mod_self}
+use Rattle.std.proofs.lemmas.Nat.{pow_pos}
 use Rattle.std.proofs.lemmas.Grind.{common_steps}
 use lib.Bits.{or_zero_r}
 use Rattle.uart_chip.specs.declared.receiver.Character.{Character}
@@ -13,7 +15,7 @@ use Rattle.uart_spec.specs.declared.registers.offsets.TheConstants as offsets
 use Rattle.uart_chip.specs.Transmitter.{TransmitterState, room, load}
 use Rattle.uart_chip.specs.Receiver.{report, take_front}
 use Rattle.uart_chip.specs.Chip.{ChipState, word_length, cut_to, cut_of, line_status, interrupt, is_thr_empty, answer, after_read}
-use Rattle.uart_chip.specs.Chip.{after_write}
+use Rattle.uart_chip.specs.Chip.{after_write, with_latches}
 use Rattle.uart_chip.specs.Sound.{IsSoundChip}
 use Rattle.uart_chip.proofs.Bits.{has_and}
 use Rattle.uart_chip.proofs.statuses.Status.{status_overrun}
@@ -94,6 +96,8 @@ went-send x c byte off s w free =
 -- a character is taken, which must wait and have been reported
 pub record TookFront (x : Modes) (c : ChipState) (byte : ℕ) : Type 0 where
   pub front : Character
+  pub rest : List Character
+  pub queue : c.receiver.queue ≡ front ∷ rest
   pub is_byte : front.byte ≡ byte
   pub went : Went x c (after_read offsets.DATA c) [] (Read offsets.DATA byte ∷ []) [] (front ∷ [])
 
@@ -108,6 +112,8 @@ went-take x c byte off s w told b = go c.receiver.queue refl
         rw (dlab-in x c w ∙ off, e) refl in
         record {
           front = front;
+          rest = others;
+          queue = e;
           is_byte = sym (b ∙ rw (dlab-in x c w ∙ off, e) refl);
           went = rw d (record {
             modes = record { lcr = w.lcr; mcr = w.mcr; fifo = w.fifo; cut = w.cut };
@@ -124,7 +130,43 @@ pub went-read_latch : (x : Modes) (c : ChipState) (low : ℕ) → dlab x ≡ tru
 went-read_latch x c low on s w =
     rw (dlab-in x c w ∙ on) (went-still x c c (Read offsets.DLL low) s w refl refl refl (sends-refl c.transmitter) refl refl refl refl)
 
+-- and writes reach the latch
+pub went-write_low : (x : Modes) (c : ChipState) (value : ℕ) → dlab x ≡ true → IsSoundChip c → IsIn x c →
+    Went x c (after_write offsets.DATA value c) [] (Write offsets.DLL value ∷ []) [] []
+went-write_low x c value on s w =
+    rw (dlab-in x c w ∙ on) (went-still x c (with_latches (record c.latches { dll = value }) c) (Write offsets.DLL value) s w
+    refl refl refl (sends-refl c.transmitter) refl refl refl refl)
+
+pub went-write_high : (x : Modes) (c : ChipState) (value : ℕ) → dlab x ≡ true → IsSoundChip c → IsIn x c →
+    Went x c (after_write offsets.IER value c) [] (Write offsets.DLM value ∷ []) [] []
+went-write_high x c value on s w =
+    rw (dlab-in x c w ∙ on) (went-still x c (with_latches (record c.latches { dlm = value }) c) (Write offsets.DLM value) s w
+    refl refl refl (sends-refl c.transmitter) refl refl refl refl)
+
 -- ---- the other registers
+
+-- a chip that cuts nothing at one word length cuts nothing at any
+pub never_cut : (cuts : Bool) (length other : ℕ) → cut_to cuts length ≡ (λ (byte : ℕ). byte) → cut_to cuts other ≡ (λ (byte : ℕ). byte)
+never_cut false length other e = refl
+never_cut true length other e =
+    let none : 2 ^ length ≡ 0 = sym (ap (λ (f : ℕ → ℕ). f (2 ^ length)) e) ∙ mod_self (2 ^ length) in
+    absurd (omega (arith, none, pow_pos length))
+
+-- LCR is written where nothing is cut, and the mode with it
+pub went-write_frame : (x : Modes) (c : ChipState) (value : ℕ) → IsSoundChip c → IsIn x c → x.cut ≡ (λ (byte : ℕ). byte) →
+    Went (record x { lcr = value }) c (after_write offsets.LCR value c) [] (Write offsets.LCR value ∷ []) [] []
+went-write_frame x c value s w whole = record {
+  modes = record {
+    lcr = refl;
+    mcr = w.mcr;
+    fifo = w.fifo;
+    cut = never_cut c.cuts (word_length c.latches.lcr) (word_length value) (w.cut ∙ whole) ∙ sym whole;
+  };
+  sends = sends-refl c.transmitter;
+  receives = receives-refl x.fifo c.receiver (marked-in x c s w);
+  reports = reports-refl x.fifo c.receiver;
+  modem_lines = changed-refl c.modem;
+}
 
 -- LCR is written with the same word length, and the mode with it
 pub went-write_lcr : (x : Modes) (c : ChipState) (value : ℕ) → IsSoundChip c → IsIn x c → word_length value ≡ word_length c.latches.lcr →

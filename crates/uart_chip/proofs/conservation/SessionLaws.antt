@@ -12,11 +12,12 @@ use Rattle.uart_spec.specs.declared.access.Access.TheVariants.{Read}
 use Rattle.uart_spec.specs.Bits.{has_any}
 use Rattle.uart_spec.specs.declared.registers.line_status.TheConstants.LSR
 use Rattle.uart_spec.specs.declared.registers.offsets.TheConstants as offsets
+use Rattle.uart_chip.specs.Chip.{cut_of}
 use Rattle.uart_chip.specs.Machine.{MachineState, MachineStep}
 use Rattle.uart_chip.specs.Laws.{changes_in}
 use Rattle.uart_chip.specs.Conserved.{waiting, stands, between, entered, kept, IsDrop}
 use Rattle.uart_chip.proofs.conservation.Receives.{Drop, Owed, Shows}
-use Rattle.uart_chip.proofs.conservation.Went.{Modes, IsIn, arriving_cut}
+use Rattle.uart_chip.proofs.conservation.Went.{Modes, arriving_cut}
 use Rattle.uart_chip.proofs.conservation.Passed.{Passed}
 use Rattle.uart_chip.proofs.conservation.BlockLaws.{PassedBlocks}
 
@@ -31,22 +32,22 @@ between_passed x m n made ws ts p =
     rw (few, p.ahead) (take-append_seam p.events n.ahead)
 
 -- what entered and was not dropped was taken or is in the receiver
-pub taken_entered : (x : Modes) (m n : MachineState) (made : List Access) (ws : List ℕ) (ts : List Character) → IsIn x m.chip →
+pub taken_entered : (x : Modes) (m n : MachineState) (made : List Access) (ws : List ℕ) (ts : List Character) → cut_of m.chip ≡ x.cut →
     Passed x m n made ws ts →
     filter (stands n.chip.receiver) (entered m n) ≡ ts ++ n.chip.receiver.queue
-taken_entered x m n made ws ts w p =
+taken_entered x m n made ws ts cut p =
     let r = m.chip.receiver in
-    ap (λ (f : ℕ → ℕ). filter (stands n.chip.receiver) (r.queue ++ arriving_cut f r.arrived (between m n))) w.cut ∙
+    ap (λ (f : ℕ → ℕ). filter (stands n.chip.receiver) (r.queue ++ arriving_cut f r.arrived (between m n))) cut ∙
     (ap (λ (es : List Event). filter (stands n.chip.receiver) (r.queue ++ arriving_cut x.cut r.arrived es))
     (between_passed x m n made ws ts p) ∙ p.went.receives.moved.stay)
 
 -- what was received and what waits is what was kept
-pub received_kept : (x : Modes) (m n : MachineState) (made : List Access) (ws rs : List ℕ) → IsIn x m.chip → PassedBlocks x m n made ws rs →
-    rs ++ waiting n ≡ kept m n
-received_kept x m n made ws rs w p =
+pub received_kept : (x : Modes) (m n : MachineState) (made : List Access) (ws rs : List ℕ) → cut_of m.chip ≡ x.cut →
+    PassedBlocks x m n made ws rs → rs ++ waiting n ≡ kept m n
+received_kept x m n made ws rs cut p =
     let byte : Character → ℕ = λ character. character.byte in
     let s = n.chip.receiver in
-    sym (ap (map byte) (taken_entered x m n made ws p.takes w p.passed) ∙
+    sym (ap (map byte) (taken_entered x m n made ws p.takes cut p.passed) ∙
     (map-append byte p.takes s.queue ∙ ap (λ zs. zs ++ map byte s.queue) p.bytes))
 
 -- ---- the overrun flag

@@ -6,8 +6,8 @@ use bitflags::Flags;
 use std::alloc::AllocGlobal;
 use std::process::Abort;
 use std::test::Fail;
-use uart_16550::Uart16550;
-use uart_ring::Uart16550Ring;
+use uart_16550::{Received, Uart16550};
+use uart_ring::{HandleEnd, Handled, Uart16550Ring};
 use uart_spec::Config;
 use uart_spec::registers::{FifoTriggerLevel, IER, LSR, MSR};
 
@@ -177,6 +177,86 @@ fn a_full_ring_goes_on_when_cts_comes_back(rt: HostRuntime) -> Result<(), Fail> 
     made(&rt, &mut ring, &steps);
     resumed(&rt, &mut ring);
     assert_equal(&rt, ring.inner().backend().wire(), b"abcdefgh".as_slice());
+    Ok(())
+}
+
+#[test]
+fn a_handler_stops_before_all_are_served(rt: HostRuntime) -> Result<(), Fail> {
+    let interrupts = IER::DATA_READY.union(IER::MODEM_STATUS);
+    let set = (Some(FifoTriggerLevel::One), interrupts);
+    let mut ring = rings(&rt, (Chip::Uart16550A, &[Event::Mark]), set, (4, 4))?;
+    let handled = |served, end| RingAnswer::Handled(Handled { served, end });
+    let steps = [
+        (RingCall::Handle(0), handled(0, HandleEnd::Limit), false),
+        (RingCall::Handle(8), handled(0, HandleEnd::Idle), false),
+        (RingCall::Retrigger, RingAnswer::Done, false),
+    ];
+    made(&rt, &mut ring, &steps);
+    // A byte and a change of CTS wait. The second is served by the next handler.
+    let schedule = [
+        Event::Mark,
+        arrive(0x41),
+        Event::Lines(MSR::CTS.bits()),
+        Event::Mark,
+    ];
+    let mut ring = rings(&rt, (Chip::Uart16550A, &schedule), set, (4, 4))?;
+    let steps = [
+        (RingCall::Next, RingAnswer::Done, false),
+        (RingCall::Next, RingAnswer::Done, false),
+        (RingCall::Handle(1), handled(1, HandleEnd::Limit), false),
+        (RingCall::Handle(8), handled(1, HandleEnd::Idle), false),
+        (RingCall::Take(4), RingAnswer::Bytes(bytes(b"A")), false),
+        (
+            RingCall::TakeModem,
+            RingAnswer::Modem(MSR::CTS.union(MSR::DELTA_CTS)),
+            false,
+        ),
+    ];
+    made(&rt, &mut ring, &steps);
+    Ok(())
+}
+
+#[test]
+fn bytes_have_their_errors(rt: HostRuntime) -> Result<(), Fail> {
+    let parity = LSR::PARITY_ERROR.bits();
+    let framing = LSR::FRAMING_ERROR.bits();
+    let schedule = [
+        Event::Mark,
+        Event::Arrive {
+            byte: 0x41,
+            errors: parity,
+        },
+        arrive(0x42),
+        Event::Arrive {
+            byte: 0x43,
+            errors: framing,
+        },
+        Event::Mark,
+    ];
+    let none = Received {
+        byte: 0,
+        errors: LSR::empty(),
+    };
+    // A look before shows the errors of the first byte, and these are in the next `lsr` alone.
+    for (looks, first) in [(false, parity), (true, 0)] {
+        let set = (Some(FifoTriggerLevel::One), IER::empty());
+        let ring = rings(&rt, (Chip::Uart16550A, &schedule), set, (4, 4))?;
+        let mut uart = ring.into_inner();
+        uart.backend_mut().next();
+        uart.backend_mut().next();
+        if looks {
+            assert!(rt; uart.ready_to_receive().is_ok());
+        }
+        let mut slots = [none; 4];
+        assert_equal(&rt, uart.receive_with_errors(&mut slots), 3);
+        for (slot, want) in slots
+            .iter()
+            .zip([(0x41, first), (0x42, 0), (0x43, framing)])
+        {
+            assert_equal(&rt, (slot.byte, slot.errors.bits()), want);
+        }
+        assert_equal(&rt, uart.lsr().bits(), 0x60 | parity | framing);
+    }
     Ok(())
 }
 

@@ -3,6 +3,7 @@
 ghost use Rattle.std.specs.Prelude.{◌↔◌, IsTrue};
 ghost use Rattle.uart_ring.specs.RingRun.{IsRingRunnable};
 
+use crate::ring::Handled;
 use arrayvec::ArrayVec;
 use uart_calls::CALL_BYTES;
 use uart_spec::registers::{LSR, MSR};
@@ -20,6 +21,10 @@ pub enum RingCall {
     Take(usize),
     /// `service`.
     Service,
+    /// `handle` of at most this number of interrupts.
+    Handle(usize),
+    /// `retrigger`.
+    Retrigger,
     /// `take_line`.
     TakeLine,
     /// `take_modem`.
@@ -47,10 +52,13 @@ pub enum RingAnswer {
     Count(usize),
     /// The bytes that were taken.
     Bytes(ArrayVec<u8, CALL_BYTES>),
+    /// What `handle` returned.
+    Handled(Handled),
     /// What `take_line` returned.
     Line(LSR),
     /// What `take_modem` returned.
     Modem(MSR),
-    /// The call returned nothing: sending was resumed, or the schedule went on.
+    /// The call returned nothing: sending was resumed, interrupts were triggered again, or the
+    /// schedule went on.
     Done,
 }

@@ -20,4 +20,5 @@ returns-clause-ran c =
 pub returns-clause-uncut : goal.returns-clause-uncut
 returns-clause-uncut c =
     let whole = rw (c.backend.ensures, c.inner.ensures) at c.fifo_enabled-fifo.ensures.whole in
-    ran_uncut _ _ _ _ (ran _ _ _ _ whole.sound (run_whole CallStep _ _ _ _ c.loop-i.i (omega arith) (omega arith) c.loop-i.invariant))
+    ran_uncut _ _ _ _ whole.sound
+    (ran _ _ _ _ whole.sound (run_whole CallStep _ _ _ _ c.loop-i.i (omega arith) (omega arith) c.loop-i.invariant))

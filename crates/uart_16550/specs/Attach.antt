@@ -1,0 +1,30 @@
+-- Taking a port as it was set up.
+use Rattle.std.specs.Prelude.{ℕ, Bool, true, false, Result, Ok, Err}
+use Rattle.uart_spec.specs.declared.errors.AttachError.{AttachError}
+use Rattle.uart_spec.specs.declared.errors.AttachError.TheVariants.{DivisorLatchOpen, Loopback}
+use Rattle.uart_spec.specs.declared.registers.offsets.TheConstants as offsets
+use Rattle.uart_spec.specs.declared.registers.interrupt_status.TheConstants.ISR
+use Rattle.uart_spec.specs.declared.registers.line_control.TheConstants.LCR
+use Rattle.uart_spec.specs.declared.registers.modem_control.TheConstants.MCR
+use Rattle.uart_16550.specs.Grammar.{Language, Then, Asks}
+use Rattle.uart_16550.specs.Driver.{Doing, Saving, Sets, Next, with_fifo}
+use Rattle.uart_16550.specs.Status.{ReadsDivisor}
+
+-- LCR shows whether DLAB is set; it is clear, and MCR shows whether the chip is in loopback
+abbrev pub FindsLatch : Bool → Language
+FindsLatch open_latch = Asks offsets.LCR LCR.DLAB.0 open_latch
+
+abbrev pub FindsLoopback : Bool → Language
+FindsLoopback looped = Then (FindsLatch false) (Asks offsets.MCR MCR.LOOP_BACK.0 looped)
+
+-- neither is set; ISR shows whether the FIFOs are on, and the divisor latch is read
+abbrev pub FindsPort : (fifo : Bool) → (low high : ℕ) → Language
+FindsPort fifo low high =
+    Then (FindsLoopback false) (Then (Asks offsets.ISR ISR.FIFOS_ENABLED.0 fifo) (ReadsDivisor low high))
+
+-- `attach`: the driver takes the FIFO to be as ISR shows; or the port was refused, and nothing changed
+abbrev pub Attaches : Result (ℕ × ℕ) AttachError → Doing
+Attaches (Ok latch) f l after =
+    (fifo : Bool) × Next (Saving (FindsPort fifo latch.0 latch.1)) (Sets (with_fifo fifo)) f l after
+Attaches (Err DivisorLatchOpen) f l after = Saving (FindsLatch true) f l after
+Attaches (Err Loopback) f l after = Saving (FindsLoopback true) f l after

@@ -1,0 +1,198 @@
+//! The calls that change the frame or the outputs to the modem, and that take a port as it is.
+ghost use Rattle.std.specs.Prelude.{◌≡◌};
+ghost use Rattle.uart_spec.specs.Config.{IsComputable};
+ghost use Rattle.uart_16550.specs.Grammar.{Only};
+ghost use Rattle.uart_16550.specs.Frame.{frame_writes, SetsFrame, ShowsIdle, SetsBreak};
+ghost use Rattle.uart_16550.specs.Frame.{SetsControl, SetsOutput, switched};
+ghost use Rattle.uart_16550.specs.Attach.{Attaches};
+ghost use Rattle.uart_16550.specs.Driver.{Made, Did};
+
+use super::Uart16550;
+use super::init::frame_of;
+use crate::backend::Backend;
+use bitflags::Flags;
+use uart_spec::registers::{DLL, DLM, LCR, LSR, MCR, offsets};
+use uart_spec::{AttachError, Config, InvalidDivisorError, calc_divisor};
+
+// Returns LCR with a break or without.
+fn break_of(lcr: LCR, on: bool) -> LCR
+    ensures { result.0 ≡ switched on LCR.SET_BREAK.0 lcr.0 }
+{
+    if on {
+        lcr.union(LCR::SET_BREAK)
+    } else {
+        lcr.difference(LCR::SET_BREAK)
+    }
+}
+
+// Returns MCR with an output asserted or clear.
+fn outputs_of(mcr: MCR, output: MCR, on: bool) -> MCR
+    ensures { result.0 ≡ switched on output.0 mcr.0 }
+{
+    if on {
+        mcr.union(output)
+    } else {
+        mcr.difference(output)
+    }
+}
+
+impl<B: Backend> Uart16550<B> {
+    /// Changes the baud rate and the frame to those of this configuration, which must be computable
+    /// (`Config::is_computable`), and stores them in the driver's configuration.
+    ///
+    /// Writes LCR, DLL, DLM and LCR, and nothing else. So the FIFOs, the outputs to the modem and
+    /// the interrupts stay as they are, no byte is discarded, and a break ends. Does not wait. The
+    /// characters on the line meanwhile may be cut: call `flush` before, if the remote is to read
+    /// them. In between offsets 0 and 1 are the latch, as in `dll_dlm`.
+    ///
+    /// `interrupts`, `fifo_trigger_level` and `check_cts_before_sending` are not used.
+    ///
+    /// # Errors
+    ///
+    /// The divisor is not a whole number, or does not fit into the divisor latch. No access was
+    /// made, and nothing changed.
+    ///
+    /// # Examples
+    ///
+    /// ```
+    /// uart.set_frame(&Config { baud_rate: BaudRate::Baud38400, ..Config::DEFAULT })?;
+    /// ```
+    pub fn set_frame(&mut self, config: &Config) -> Result<(), InvalidDivisorError>
+        requires { IsComputable config.now }
+        ensures { Did B.step (SetsFrame config.now result) self.old self.new }
+    {
+        let baud_rate = config.baud_rate.to_integer();
+        let prescaler = config.prescaler_division_factor;
+        let divisor = match calc_divisor(config.frequency, baud_rate, prescaler) {
+            Ok(divisor) => divisor,
+            Err(cause) => return Err(cause),
+        };
+        let frame = frame_of(config);
+        self.config.frequency = config.frequency;
+        self.config.prescaler_division_factor = prescaler;
+        self.config.baud_rate = config.baud_rate;
+        self.config.data_bits = config.data_bits;
+        self.config.extra_stop_bits = config.extra_stop_bits;
+        self.config.parity = config.parity;
+        self.write_frame(divisor, frame);
+        Ok(())
+    }
+
+    // Sets the divisor and the frame.
+    fn write_frame(&mut self, divisor: u16, frame: LCR)
+        ensures { Made B.step (Only (frame_writes divisor frame.0)) self.old self.new }
+    {
+        self.write_register(offsets::LCR, frame.union(LCR::DLAB).bits());
+        self.write_register(offsets::DLL, (divisor % 256) as u8);
+        self.write_register(offsets::DLM, (divisor / 256) as u8);
+        self.write_register(offsets::LCR, frame.bits());
+    }
+
+    /// Returns whether the transmitter is empty: the FIFO and the shift register.
+    ///
+    /// Does not wait: reads LSR once. The errors that this clears in the chip are saved for the
+    /// next `lsr`.
+    ///
+    /// # Examples
+    ///
+    /// ```
+    /// assert!(rt; uart.is_idle());
+    /// ```
+    pub fn is_idle(&mut self) -> bool
+        ensures { Made B.step (ShowsIdle result) self.old self.new }
+    {
+        self.read_lsr().contains(LSR::TRANSMITTER_EMPTY)
+    }
+
+    /// Begins or ends a break: reads LCR, and writes it with `SET_BREAK` set or cleared.
+    ///
+    /// # Examples
+    ///
+    /// ```
+    /// uart.set_break(true);
+    /// ```
+    pub fn set_break(&mut self, on: bool)
+        ensures { Made B.step (SetsBreak on) self.old self.new }
+    {
+        let switched = break_of(self.lcr(), on);
+        self.write_register(offsets::LCR, switched.bits());
+    }
+
+    /// Sets the outputs to the modem, and the other bits of MCR but loopback, which is cleared.
+    ///
+    /// # Examples
+    ///
+    /// ```
+    /// uart.set_modem_control(MCR::DTR.union(MCR::OUT_2_INT_ENABLE));
+    /// ```
+    pub fn set_modem_control(&mut self, outputs: MCR)
+        ensures { Made B.step (SetsControl outputs.0) self.old self.new }
+    {
+        self.write_register(offsets::MCR, outputs.difference(MCR::LOOP_BACK).bits());
+    }
+
+    /// Asserts or clears RTS, and leaves the other outputs. Clears loopback.
+    ///
+    /// # Examples
+    ///
+    /// ```
+    /// uart.set_rts(false);
+    /// ```
+    pub fn set_rts(&mut self, on: bool)
+        ensures { Made B.step (SetsOutput MCR.RTS.0 on) self.old self.new }
+    {
+        self.set_output(MCR::RTS, on);
+    }
+
+    /// Asserts or clears DTR, and leaves the other outputs. Clears loopback.
+    ///
+    /// # Examples
+    ///
+    /// ```
+    /// uart.set_dtr(false);
+    /// ```
+    pub fn set_dtr(&mut self, on: bool)
+        ensures { Made B.step (SetsOutput MCR.DTR.0 on) self.old self.new }
+    {
+        self.set_output(MCR::DTR, on);
+    }
+
+    fn set_output(&mut self, output: MCR, on: bool)
+        ensures { Made B.step (SetsOutput output.0 on) self.old self.new }
+    {
+        let switched = outputs_of(self.mcr(), output, on);
+        self.set_modem_control(switched);
+    }
+
+    /// Takes a port as it was set up, for example by firmware: finds out whether the FIFOs are on,
+    /// and returns the divisor latch.
+    ///
+    /// Reads LCR, MCR and ISR, and then the divisor latch as `dll_dlm` does. Nothing else is
+    /// written. The read of ISR acknowledges a `THR_EMPTY` interrupt. `config` is not changed: the
+    /// clock of the chip is not known.
+    ///
+    /// # Errors
+    ///
+    /// - `DivisorLatchOpen` if DLAB is set.
+    /// - `Loopback` if the chip is in loopback.
+    ///
+    /// # Examples
+    ///
+    /// ```
+    /// let (dll, dlm) = uart.attach()?;
+    /// ```
+    pub fn attach(&mut self) -> Result<(DLL, DLM), AttachError>
+        ensures { Did B.step (Attaches result) self.old self.new }
+    {
+        if self.lcr().contains(LCR::DLAB) {
+            return Err(AttachError::DivisorLatchOpen);
+        }
+        if self.mcr().contains(MCR::LOOP_BACK) {
+            return Err(AttachError::Loopback);
+        }
+        let fifo = self.isr().fifo_enabled();
+        let latch = self.dll_dlm();
+        self.fifo_enabled = fifo;
+        Ok(latch)
+    }
+}

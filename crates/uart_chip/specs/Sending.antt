@@ -1,0 +1,19 @@
+-- A byte that goes onto the wire at once, as it does if the transmitter is idle and a character takes one tick.
+use Rattle.std.specs.Prelude.{ℕ, Bool, true, not, ◌&&◌, ◌==◌, [], ◌∷◌, ◌++◌, length, is_some, nat_lt}
+use Rattle.uart_chip.specs.Transmitter.{TransmitterState}
+use Rattle.uart_chip.specs.Chip.{ChipState, cut_of, is_dlab_set, is_loopback}
+
+-- a transmitter that holds nothing, and whose wire has room
+abbrev pub is_ready : TransmitterState → Bool
+is_ready t = (length t.queue == 0) && (not (is_some t.shift_register) && nat_lt (length t.wire) t.capacity)
+
+-- a byte that is written to DATA meets such a transmitter, outside of loopback
+abbrev pub sends_at_once : ChipState → Bool
+sends_at_once c = not (is_dlab_set c.latches) && (not (is_loopback c.latches) && is_ready c.transmitter)
+
+-- the byte is on the wire, and THR is empty again
+abbrev pub put_on_wire : ℕ → TransmitterState → TransmitterState
+put_on_wire byte t = record t { wire = t.wire ++ byte ∷ []; is_thr_pending = true }
+
+abbrev pub send_at_once : ℕ → ChipState → ChipState
+send_at_once value c = record c { transmitter = put_on_wire (cut_of c value) c.transmitter }

@@ -1,0 +1,43 @@
+//! A byte that goes onto the wire at once.
+ghost use Rattle.std.specs.Borrow.{Lends, sem};
+ghost use Rattle.std.specs.Prelude.{◌≡◌, true};
+ghost use Rattle.uart_chip.specs.Sending as spec;
+
+use crate::controlling::{ChipParts, cut, is_loopback};
+use crate::transmitting::TransmitterParts;
+use bitflags::Flags;
+use uart_spec::registers::LCR;
+
+// Returns whether a transmitter holds nothing, and its wire has room.
+fn is_ready<T: TransmitterParts>(parts: &T) -> bool
+    ensures { result ≡ spec.is_ready (T.state parts.now) }
+{
+    parts.queue_len() == 0 && (!parts.shifting().is_some() && parts.has_room())
+}
+
+/// Returns whether a byte that is written to DATA meets an idle transmitter, outside of loopback.
+pub fn sends_at_once<P: ChipParts>(parts: &P) -> bool
+    ensures { result ≡ spec.sends_at_once (P.state parts.now) }
+{
+    !parts.lcr().intersects(LCR::DLAB) && (!is_loopback(parts) && is_ready(parts.transmitter()))
+}
+
+// Puts a byte on the wire.
+fn put_on_wire<T: TransmitterParts>(parts: &mut T, byte: u8)
+    requires { spec.is_ready (T.state parts.old) ≡ true }
+    ensures after { T.state parts.new ≡ spec.put_on_wire byte (T.state parts.old) }
+    ensures canonical { T.canonical parts.old → T.canonical parts.new }
+{
+    parts.send(byte);
+    parts.set_thr_pending(true);
+}
+
+/// Puts a byte on the wire that is written to DATA. The caller must show that it may.
+pub fn send_at_once<P: ChipParts>(parts: &mut P, value: u8)
+    requires { spec.sends_at_once (P.state parts.old) ≡ true }
+    ensures after { P.state parts.new ≡ spec.send_at_once value (P.state parts.old) }
+    ensures canonical { P.canonical parts.old → P.canonical parts.new }
+{
+    let byte = cut(parts, value);
+    put_on_wire(parts.transmitter_mut(), byte);
+}

@@ -1,0 +1,5 @@
+pub mod Tells
+pub mod Times
+pub mod Sends
+pub mod Waits
+pub mod Stays

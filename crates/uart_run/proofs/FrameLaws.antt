@@ -1,0 +1,440 @@
+-- What a call does in a session that may change its modes: a `set_frame` writes LCR.
+use Rattle.std.proofs.Common.{◌≡◌, ◌≢◌, ℕ, Bool, true, false, List, [], ◌∷◌, ◌++◌, ◌%◌, ◌/◌, map, refl, sym, ◌∙◌, ap, subst, bit_or, arith}
+use Rattle.std.proofs.Common.{Result, Ok, Err, ◌+◌, ◌*◌, ◌||◌, bit_and}
+use lib.Bits.{or_zero_r}
+use Rattle.std.proofs.lemmas.Nat.{and_assoc}
+use Rattle.std.proofs.lemmas.List.{map-append}
+use Rattle.std.proofs.lemmas.Grind.{common_steps}
+use Rattle.std.proofs.Math.Nat.{div-add-mod}
+use Rattle.uart_spec.specs.Access.{Path, saved_lsr, saved_msr}
+use Rattle.uart_spec.specs.declared.access.Access.{Access}
+use Rattle.uart_spec.specs.declared.access.Access.TheVariants.{Read, Write}
+use Rattle.uart_spec.specs.Bits.{has, has_any}
+use Rattle.uart_spec.specs.declared.config.Config.{Config}
+use Rattle.uart_spec.specs.declared.errors.InvalidDivisorError.{InvalidDivisorError}
+use Rattle.uart_spec.specs.declared.registers.line_control.TheConstants.LCR
+use Rattle.uart_spec.specs.declared.registers.offsets.TheConstants as offsets
+use Rattle.uart_spec.specs.declared.call.Call.{Call}
+use Rattle.uart_spec.specs.declared.call.Call.TheVariants as call
+use Rattle.uart_spec.specs.declared.call.Answer.{Answer}
+use Rattle.uart_spec.specs.declared.call.Answer.TheVariants.{Done, FrameRefused, Latch}
+use Rattle.uart_16550.specs.Grammar.{Settings, Only, Then, Asks}
+use Rattle.uart_16550.specs.Driver.{Fields, fields, settings_of, saving, Sets, Saving, Next, with_fifo}
+use Rattle.uart_16550.specs.Init.{DivisorOf, frame_bits}
+use Rattle.uart_16550.specs.Frame.{frame_writes, with_frame, SetsFrame, switched, unlooped, SetsBreak, SetsControl, SetsOutput}
+use Rattle.uart_16550.specs.Attach.{FindsLatch, FindsLoopback, FindsPort, Attaches}
+use Rattle.uart_16550.specs.Status.{ReadsDivisor, divisor_accesses}
+use Rattle.uart_spec.specs.declared.errors.AttachError.{AttachError}
+use Rattle.uart_spec.specs.declared.errors.AttachError.TheVariants.{DivisorLatchOpen, Loopback}
+use Rattle.uart_spec.specs.declared.registers.interrupt_status.TheConstants.ISR
+use Rattle.uart_spec.specs.declared.registers.modem_control.TheConstants.MCR
+use Rattle.uart_chip.specs.Masks.{mcr_bits}
+use Rattle.uart_16550.specs.Tty.{inner_of}
+use Rattle.uart_calls.specs.Meaning.{frame_answer, attach_answer}
+use Rattle.uart_chip.specs.declared.receiver.Character.{Character}
+use Rattle.uart_chip.specs.Chip.{ChipState, answer, divisor, is_dlab_set, is_loopback, word_length}
+use Rattle.uart_chip.specs.Machine.{MachineState, MachineStep, at_access}
+use Rattle.uart_chip.proofs.Bits.{has_or, has_and, has_not, has_one, and_or}
+use Rattle.uart_chip.proofs.conservation.Went.{Modes, fixed}
+use Rattle.uart_chip.proofs.conservation.Passed.{passed-refl, passed-trans}
+use Rattle.uart_chip.proofs.conservation.BlockLaws.{IsOpen, PassedBlocks, nothing_taken, passed_frame, relined, path_as, stands-after}
+use Rattle.uart_run.specs.Run.{State, machine_of, CallStep}
+use Rattle.uart_run.specs.Ready.{Ready, IsFramed, Frames, IsAttached, latches_of}
+use Rattle.uart_run.specs.Session.{IsWithinSession, reported_by, received_by}
+use Rattle.uart_run.specs.Uncut.{IsWithinUncut}
+use Rattle.uart_run.proofs.Latches.{Kept, kept_in, keep, kept_after, kept_step, kept_path, kept_list, kept_access}
+use Rattle.uart_run.proofs.Pieces.{then_parts, next_stages}
+use Rattle.uart_run.proofs.initialising.FifoShown.{fifo_shown}
+use Rattle.uart_run.proofs.CallLaws.{Passes, InSession, passes_call, passes_quietly}
+use Rattle.uart_run.proofs.initialising.Inits.{frame-dlab}
+use Rattle.uart_run.proofs.initialising.Initialised.{ready_by}
+
+-- ---- modes that may change
+
+-- the same, in the modes that the call leaves, which cut alike
+pub record Goes (x : Modes) (NoLsr NoMsr : Type 0) (s t : State) (written read : List ℕ) : Type 0 where
+  pub modes : Modes
+  pub same : fixed modes ≡ fixed x
+  pub open_modes : IsOpen modes
+  pub passes : Passes modes NoLsr NoMsr s t written read
+
+pub goes_still : (x : Modes) (N M : Type 0) (s t : State) (ws rs : List ℕ) → InSession x s → Passes x N M s t ws rs → Goes x N M s t ws rs
+goes_still x N M s t ws rs w p = record { modes = x; same = refl; open_modes = w.open_modes; passes = p }
+
+pub same_fifo : (x y : Modes) → fixed y ≡ fixed x → y.fifo ≡ x.fifo
+same_fifo x y same = ap (λ (p : Bool × (ℕ → ℕ)). p.0) same
+
+pub same_cut : (x y : Modes) → fixed y ≡ fixed x → y.cut ≡ x.cut
+same_cut x y same = ap (λ (p : Bool × (ℕ → ℕ)). p.1) same
+
+-- the state after it is one of the session
+pub in_session-gone : (x : Modes) (N M : Type 0) (s t : State) (ws rs : List ℕ) → InSession x s → (g : Goes x N M s t ws rs) →
+    InSession g.modes t
+in_session-gone x N M s t ws rs w g = record {
+  open_modes = g.open_modes;
+  stands = stands-after g.modes (machine_of s) (machine_of t) _ _ _ g.passes.passed.passed;
+  fifo = g.passes.fifo ∙ (w.fifo ∙ sym (same_fifo x g.modes g.same));
+}
+
+pub passed_onwards : (x y : Modes) (m n o : MachineState) (xs ys : List Access) (ws vs rs qs : List ℕ) → fixed y ≡ fixed x →
+    PassedBlocks x m n xs ws rs → PassedBlocks y n o ys vs qs → PassedBlocks y m o (xs ++ ys) (ws ++ vs) (rs ++ qs)
+passed_onwards x y m n o xs ys ws vs rs qs same a b =
+    let byte : Character → ℕ = λ character. character.byte in
+    record {
+      takes = a.takes ++ b.takes;
+      bytes = map-append byte a.takes b.takes ∙ (ap (λ zs. zs ++ map byte b.takes) a.bytes ∙ ap (λ zs. rs ++ zs) b.bytes);
+      passed = passed-trans x y m n o xs ys ws vs a.takes b.takes same a.passed b.passed;
+    }
+
+-- ---- `set_frame`
+
+-- the list that it made, and the driver's fields, which have nothing more saved
+record Framed (d : ℕ) (config : Config) (f : Fields) (l : List Access) (after : Fields) : Type 0 where
+  pub is : l ≡ frame_writes d (frame_bits config)
+  pub fifo : after.fifo ≡ f.fifo
+  pub lsr : after.lsr ≡ bit_or f.lsr (saved_lsr (frame_writes d (frame_bits config)))
+  pub msr : after.msr ≡ bit_or f.msr (saved_msr (frame_writes d (frame_bits config)))
+
+framed_by : (d : ℕ) (config : Config) (f after : Fields) (l : List Access) →
+    Next (Sets (with_frame config)) (Saving (Only (frame_writes d (frame_bits config)))) f l after → Framed d config f l after
+framed_by d config f after l t = record {
+  is = t.whole ∙ (ap (λ zs. zs ++ t.back) t.first.0 ∙ t.second.0.is);
+  fifo = ap (λ (g : Fields). g.fifo) t.second.1 ∙ ap (λ (g : Fields). g.fifo) t.first.1;
+  lsr = ap (λ (g : Fields). g.lsr) t.second.1 ∙ (ap (λ (g : Fields). bit_or g.lsr (saved_lsr t.back)) t.first.1
+      ∙ ap (λ zs. bit_or f.lsr (saved_lsr zs)) t.second.0.is);
+  msr = ap (λ (g : Fields). g.msr) t.second.1 ∙ (ap (λ (g : Fields). bit_or g.msr (saved_msr t.back)) t.first.1
+      ∙ ap (λ zs. bit_or f.msr (saved_msr zs)) t.second.0.is);
+}
+
+goes_framed : (x : Modes) (N M : Type 0) (s t : State) (config : Config) (result : Result (Unit {0}) InvalidDivisorError)
+    (l : List Access) → InSession x s → x.cut ≡ (λ (byte : ℕ). byte) →
+    SetsFrame config result (fields (inner_of s)) l (fields (inner_of t)) →
+    Path MachineStep (machine_of s) l (machine_of t) → Goes x N M s t [] []
+goes_framed x N M s t config (Ok u) l w whole d path =
+    let z : Modes = record x { lcr = frame_bits config } in
+    let f = framed_by d.0 config (fields (inner_of s)) (fields (inner_of t)) l d.2 in
+    let p = passed_frame x (machine_of s) (machine_of t) (d.0 % 256) (d.0 / 256) (frame_bits config) w.open_modes w.stands whole
+    (path_as (machine_of s) (machine_of t) l (frame_writes d.0 (frame_bits config)) f.is path) in
+    record {
+      modes = z;
+      same = refl;
+      open_modes = record { dlab = frame-dlab config; loopback = w.open_modes.loopback };
+      passes = record {
+        made = frame_writes d.0 (frame_bits config);
+        passed = nothing_taken z (machine_of s) (machine_of t) _ [] p;
+        fifo = f.fifo;
+        lsr = λ n. f.lsr;
+        msr = λ n. f.msr;
+      };
+    }
+goes_framed x N M s t config (Err e) l w whole d path =
+    let still : machine_of t ≡ machine_of s = path_as (machine_of s) (machine_of t) l [] d.1 path in
+    goes_still x N M s t [] [] w
+    (passes_quietly x N M s t
+    (record { takes = []; bytes = refl; passed = rw still (passed-refl x (machine_of s) w.stands.sound w.stands.modes) }) d.2)
+
+-- ---- `set_break`
+
+break_word : (on : Bool) (lcr : ℕ) → word_length (switched on LCR.SET_BREAK.0 lcr) ≡ word_length lcr
+break_word true lcr =
+    ap (λ (more : ℕ). 5 + more) (and_or lcr LCR.SET_BREAK.0 LCR.WORD_LENGTH.0 ∙ or_zero_r (bit_and lcr LCR.WORD_LENGTH.0))
+break_word false lcr = ap (λ (more : ℕ). 5 + more) (and_assoc LCR.WORD_LENGTH.0 lcr 191)
+
+or_off : (b : Bool) → (b || false) ≡ b
+or_off true = refl
+or_off false = refl
+
+break_dlab : (on : Bool) (lcr : ℕ) → has_any (switched on LCR.SET_BREAK.0 lcr) LCR.DLAB.0 ≡ has_any lcr LCR.DLAB.0
+break_dlab true lcr = has_or 7 lcr LCR.SET_BREAK.0 ∙ or_off (has_any lcr LCR.DLAB.0)
+break_dlab false lcr = has_and 7 lcr 191 refl
+
+goes_break : (x : Modes) (N M : Type 0) (s t : State) (on : Bool) (l : List Access) → InSession x s →
+    Saving (SetsBreak on) (fields (inner_of s)) l (fields (inner_of t)) → Path MachineStep (machine_of s) l (machine_of t) →
+    Goes x N M s t [] []
+goes_break x N M s t on l w ((lcr, is), saved) path =
+    let value = switched on LCR.SET_BREAK.0 lcr in
+    let made : List Access = Read offsets.LCR lcr ∷ Write offsets.LCR value ∷ [] in
+    let z : Modes = record x { lcr = value } in
+    let r = relined x (machine_of s) (machine_of t) lcr value w.open_modes w.stands (break_word on lcr)
+    (path_as (machine_of s) (machine_of t) l made is path) in
+    let dlab : has_any value LCR.DLAB.0 ≡ false =
+    break_dlab on lcr ∙ (ap (λ (v : ℕ). has_any v LCR.DLAB.0) r.same ∙ w.open_modes.dlab) in
+    record {
+      modes = z;
+      same = refl;
+      open_modes = record { dlab = dlab; loopback = w.open_modes.loopback };
+      passes = record {
+        made = made;
+        passed = nothing_taken z (machine_of s) (machine_of t) made [] r.passed;
+        fifo = ap (λ (g : Fields). g.fifo) saved;
+        lsr = λ n. ap (λ (g : Fields). g.lsr) saved ∙ ap (λ zs. bit_or (fields (inner_of s)).lsr (saved_lsr zs)) is;
+        msr = λ n. ap (λ (g : Fields). g.msr) saved ∙ ap (λ zs. bit_or (fields (inner_of s)).msr (saved_msr zs)) is;
+      };
+    }
+
+-- ---- calls within a session
+
+-- what each call of these does, where characters are cut so
+pub record GoOn (Within : Call → Type 0) (cut : ℕ → ℕ) : Type 0 where
+  pub go : (x : Modes) (s t : State) (c : Call) (a : Answer) → x.cut ≡ cut → InSession x s → Within c → CallStep s c a t →
+      Goes x (c ≢ call.Lsr) (c ≢ call.Msr) s t (reported_by c a) (received_by c a)
+
+go_call : (cut : ℕ → ℕ) (x : Modes) (s t : State) (c : Call) (a : Answer) → x.cut ≡ cut → InSession x s → IsWithinSession c →
+    CallStep s c a t → Goes x (c ≢ call.Lsr) (c ≢ call.Msr) s t (reported_by c a) (received_by c a)
+go_call cut x s t (call.Init config) a same w i h = absurd i
+go_call cut x s t (call.SetFrame config) a same w i h = absurd i
+go_call cut x s t call.Attach a same w i h = absurd i
+go_call cut x s t (call.SetModemControl outputs) a same w i h = absurd i
+go_call cut x s t (call.SetRts on) a same w i h = absurd i
+go_call cut x s t (call.SetDtr on) a same w i h = absurd i
+go_call cut x s t call.TestLoopback a same w i h = absurd i
+go_call cut x s t (call.SetBreak on) a same w i h = goes_break x _ _ s t on h.did.list w h.did.does h.did.path
+go_call cut x s t other a same w i h = goes_still x _ _ s t _ _ w (passes_call x s t other a w tt h)
+
+pub go_within : (cut : ℕ → ℕ) → GoOn IsWithinSession cut
+go_within cut = record { go = go_call cut }
+
+go_uncut : (x : Modes) (s t : State) (c : Call) (a : Answer) → x.cut ≡ (λ (byte : ℕ). byte) → InSession x s → IsWithinUncut c →
+    CallStep s c a t → Goes x (c ≢ call.Lsr) (c ≢ call.Msr) s t (reported_by c a) (received_by c a)
+go_uncut x s t (call.Init config) a whole w i h = absurd i
+go_uncut x s t call.Attach a whole w i h = absurd i
+go_uncut x s t (call.SetModemControl outputs) a whole w i h = absurd i
+go_uncut x s t (call.SetRts on) a whole w i h = absurd i
+go_uncut x s t (call.SetDtr on) a whole w i h = absurd i
+go_uncut x s t call.TestLoopback a whole w i h = absurd i
+go_uncut x s t (call.SetFrame config) a whole w i h = goes_framed x _ _ s t config h.outcome h.did.list w whole h.did.does h.did.path
+go_uncut x s t other a whole w i h = go_call (λ (byte : ℕ). byte) x s t other a whole w tt h
+
+pub go_within_uncut : GoOn IsWithinUncut (λ (byte : ℕ). byte)
+go_within_uncut = record { go = go_uncut }
+
+-- ---- whatever the machine is
+
+-- what is kept after it
+kept_low : (low : ℕ) (k : Kept) → is_dlab_set k.latches ≡ true →
+    keep (Write offsets.DLL low) k ≡ record k { latches = record k.latches { dll = low } }
+kept_low low k on = rw on refl
+
+kept_high : (high : ℕ) (k : Kept) → is_dlab_set k.latches ≡ true →
+    keep (Write offsets.DLM high) k ≡ record k { latches = record k.latches { dlm = high } }
+kept_high high k on = rw on refl
+
+kept_framed : (d : ℕ) (frame : ℕ) (k : Kept) →
+    kept_after (frame_writes d frame) k ≡ record k { latches = record k.latches { lcr = frame; dll = d % 256; dlm = d / 256 } }
+kept_framed d frame k =
+    let on : has_any (bit_or frame LCR.DLAB.0) LCR.DLAB.0 ≡ true = has_or 7 frame 128 ∙ grind (arith, common_steps) in
+    let shown : Kept = record k { latches = record k.latches { lcr = bit_or frame LCR.DLAB.0 } } in
+    let half : Kept = record shown { latches = record shown.latches { dll = d % 256 } } in
+    ap (kept_after (Write offsets.DLM (d / 256) ∷ Write offsets.LCR frame ∷ [])) (kept_low (d % 256) shown on)
+    ∙ ap (kept_after (Write offsets.LCR frame ∷ [])) (kept_high (d / 256) half on)
+
+framed_kept : (d : ℕ) (config : Config) (s t : State) (l : List Access) →
+    Framed d config (fields (inner_of s)) l (fields (inner_of t)) → Path MachineStep (machine_of s) l (machine_of t) →
+    kept_in (machine_of t).chip ≡ record (kept_in (machine_of s).chip) {
+      latches = record (latches_of s) { lcr = frame_bits config; dll = d % 256; dlm = d / 256 };
+    }
+framed_kept d config s t l f path =
+    kept_path (frame_writes d (frame_bits config)) (machine_of s) (machine_of t)
+    (path_as (machine_of s) (machine_of t) l (frame_writes d (frame_bits config)) f.is path)
+    ∙ kept_framed d (frame_bits config) (kept_in (machine_of s).chip)
+
+ready_framed : (s t : State) (config : Config) (result : Result (Unit {0}) InvalidDivisorError) (l : List Access) →
+    SetsFrame config result (fields (inner_of s)) l (fields (inner_of t)) → Path MachineStep (machine_of s) l (machine_of t) →
+    Ready s → Ready t
+ready_framed s t config (Ok u) l d path ready =
+    let f = framed_by d.0 config (fields (inner_of s)) (fields (inner_of t)) l d.2 in
+    ready_by t _ (framed_kept d.0 config s t l f path) (frame-dlab config) ready.loopback (f.fifo ∙ sym ready.fifo)
+ready_framed s t config (Err e) l d path ready =
+    let still : machine_of t ≡ machine_of s = path_as (machine_of s) (machine_of t) l [] d.1 path in
+    ready_by t (kept_in (machine_of s).chip) (ap (λ (m : MachineState). kept_in m.chip) still) ready.dlab ready.loopback
+    (ap (λ (g : Fields). g.fifo) d.2 ∙ sym ready.fifo)
+
+pub set_frame_ready : (s t : State) (config : Config) (a : Answer) → CallStep s (call.SetFrame config) a t → Ready s → Ready t
+set_frame_ready s t config a h ready = ready_framed s t config h.outcome h.did.list h.did.does h.did.path ready
+
+frames_by : (s t : State) (config : Config) (a : Answer) (result : Result (Unit {0}) InvalidDivisorError) (l : List Access) →
+    a ≡ frame_answer result → SetsFrame config result (fields (inner_of s)) l (fields (inner_of t)) →
+    Path MachineStep (machine_of s) l (machine_of t) → Frames config s a t
+frames_by s t config a (Ok u) l e d path =
+    let f = framed_by d.0 config (fields (inner_of s)) (fields (inner_of t)) l d.2 in
+    let kept = framed_kept d.0 config s t l f path in
+    let latches = ap (λ (k : Kept). k.latches) kept in
+    record {
+      leaves = λ done. record {
+        divisor_latch = subst (λ n. DivisorOf config (Ok n)) (sym (ap divisor latches ∙ div-add-mod d.0 256)) d.1;
+        latches = latches ∙ sym (ap (λ k. record (latches_of s) { lcr = frame_bits config; dll = k.dll; dlm = k.dlm }) latches);
+        fifo = ap (λ (k : Kept). k.fifo) kept;
+      };
+      refused = λ x refused. absurd (cc);
+    }
+frames_by s t config a (Err x) l e d path = record {
+  leaves = λ done. absurd (cc);
+  refused = λ y refused. path_as (machine_of s) (machine_of t) l [] d.1 path;
+}
+
+pub frames : (s t : State) (config : Config) (a : Answer) → CallStep s (call.SetFrame config) a t → Frames config s a t
+frames s t config a h = frames_by s t config a h.outcome h.did.list h.answered h.did.does h.did.path
+
+-- ---- calls that write MCR
+
+pub unlooped_off : (bits : ℕ) → has_any (bit_and (unlooped bits) mcr_bits) MCR.LOOP_BACK.0 ≡ false
+unlooped_off bits = has_and 4 (unlooped bits) mcr_bits refl ∙ has_not 4 bits 239 refl
+
+control_ready : (s t : State) (bits : ℕ) (l made : List Access) → l ≡ made → ((k : Kept) →
+    kept_after made k ≡ record k { latches = record k.latches { mcr = bit_and (unlooped bits) mcr_bits } }) →
+    (fields (inner_of t)).fifo ≡ (fields (inner_of s)).fifo → Path MachineStep (machine_of s) l (machine_of t) → Ready s → Ready t
+control_ready s t bits l made is kept fifo path ready =
+    ready_by t _ (kept_list l made (machine_of s) (machine_of t) is path ∙ kept (kept_in (machine_of s).chip)) ready.dlab
+    (unlooped_off bits) (fifo ∙ sym ready.fifo)
+
+pub set_control_ready : (s t : State) (bits : ℕ) (l : List Access) →
+    Saving (SetsControl bits) (fields (inner_of s)) l (fields (inner_of t)) →
+    Path MachineStep (machine_of s) l (machine_of t) → Ready s → Ready t
+set_control_ready s t bits l d path ready =
+    control_ready s t bits l (Write offsets.MCR (unlooped bits) ∷ []) d.0.is (λ k. refl) (ap (λ (g : Fields). g.fifo) d.1) path ready
+
+pub set_output_ready : (s t : State) (output : ℕ) (on : Bool) (l : List Access) →
+    Saving (SetsOutput output on) (fields (inner_of s)) l (fields (inner_of t)) →
+    Path MachineStep (machine_of s) l (machine_of t) → Ready s → Ready t
+set_output_ready s t output on l ((mcr, is), saved) path ready =
+    control_ready s t (switched on output mcr) l (Read offsets.MCR mcr ∷ Write offsets.MCR (unlooped (switched on output mcr)) ∷ []) is
+    (λ k. refl) (ap (λ (g : Fields). g.fifo) saved) path ready
+
+-- ---- `attach`
+
+lcr_read : (m n : MachineState) (value : ℕ) → MachineStep m (Read offsets.LCR value) n → value ≡ m.chip.latches.lcr
+lcr_read m n value s = s.1 ∙ ap (λ (k : Kept). k.latches.lcr) (kept_access m)
+
+mcr_read : (m n : MachineState) (value : ℕ) → MachineStep m (Read offsets.MCR value) n → value ≡ m.chip.latches.mcr
+mcr_read m n value s = s.1 ∙ ap (λ (k : Kept). k.latches.mcr) (kept_access m)
+
+-- a list of the first reads: nothing changes, and DLAB and loopback are off
+record Found (m n : MachineState) : Type 0 where
+  pub still : kept_in n.chip ≡ kept_in m.chip
+  pub dlab : is_dlab_set m.chip.latches ≡ false
+  pub loopback : is_loopback m.chip.latches ≡ false
+
+latch_found : (m n : MachineState) (value : ℕ) → has value LCR.DLAB.0 ≡ false → Path MachineStep m (Read offsets.LCR value ∷ []) n →
+    is_dlab_set m.chip.latches ≡ false
+latch_found m n value shows p =
+    ap (λ (v : ℕ). has_any v LCR.DLAB.0) (sym (lcr_read m p.0 value p.1)) ∙ (sym (has_one 7 value) ∙ shows)
+
+loop_found : (m n : MachineState) (value : ℕ) → has value MCR.LOOP_BACK.0 ≡ false → Path MachineStep m (Read offsets.MCR value ∷ []) n →
+    is_loopback m.chip.latches ≡ false
+loop_found m n value shows p =
+    ap (λ (v : ℕ). has_any v MCR.LOOP_BACK.0) (sym (mcr_read m p.0 value p.1)) ∙ (sym (has_one 4 value) ∙ shows)
+
+found : (v : Settings) (l : List Access) (m n : MachineState) → FindsLoopback false v l → Path MachineStep m l n → Found m n
+found v l m n t path =
+    let a = then_parts (FindsLatch false) (Asks offsets.MCR MCR.LOOP_BACK.0 false) v l m n t path in
+    let first = kept_list a.front (Read offsets.LCR a.first.answer ∷ []) m a.between a.first.is a.before in
+    let second = kept_list a.back (Read offsets.MCR a.second.answer ∷ []) a.between n a.second.is a.after in
+    record {
+      still = second ∙ first;
+      dlab = latch_found m a.between a.first.answer a.first.shows
+          (path_as m a.between a.front (Read offsets.LCR a.first.answer ∷ []) a.first.is a.before);
+      loopback = sym (ap (λ (k : Kept). is_loopback k.latches) first) ∙ loop_found a.between n a.second.answer a.second.shows
+          (path_as a.between n a.back (Read offsets.MCR a.second.answer ∷ []) a.second.is a.after);
+    }
+
+-- the latch is shown, read and hidden again
+latch_kept : (m n : MachineState) (l : List Access) (low high : ℕ) (v : Settings) → ReadsDivisor low high v l → Path MachineStep m l n →
+    kept_in n.chip ≡ kept_in m.chip
+latch_kept m n l low high v (lcr, is) path =
+    let p = path_as m n l (divisor_accesses lcr low high) is path in
+    kept_path (divisor_accesses lcr low high) m n p
+    ∙ ap (λ (x : ℕ). record (kept_in m.chip) { latches = record m.chip.latches { lcr = x } }) (lcr_read m p.0 lcr p.1)
+
+-- and what is read is what it has
+answer_low : (c : ChipState) → is_dlab_set c.latches ≡ true → answer offsets.DLL c ≡ c.latches.dll
+answer_low c on = rw on refl
+
+answer_high : (c : ChipState) → is_dlab_set c.latches ≡ true → answer offsets.DLM c ≡ c.latches.dlm
+answer_high c on = rw on refl
+
+latch_read : (m n : MachineState) (lcr low high : ℕ) → Path MachineStep m (divisor_accesses lcr low high) n →
+    divisor m.chip.latches ≡ 256 * high + low
+latch_read m n lcr low high (m₁, s₁, (m₂, s₂, (m₃, s₃, (m₄, s₄, more)))) =
+    let on : has_any (bit_or lcr LCR.DLAB.0) LCR.DLAB.0 ≡ true = has_or 7 lcr 128 ∙ grind (arith, common_steps) in
+    let shown : kept_in m₂.chip ≡ record (kept_in m.chip) { latches = record m.chip.latches { lcr = bit_or lcr LCR.DLAB.0 } } =
+    kept_step (Write offsets.LCR (bit_or lcr LCR.DLAB.0)) m₁ m₂ s₂
+    ∙ ap (keep (Write offsets.LCR (bit_or lcr LCR.DLAB.0))) (kept_step (Read offsets.LCR lcr) m m₁ s₁) in
+    let first = kept_access m₂ ∙ shown in
+    let second = kept_access m₃ ∙ (kept_step (Read offsets.DLL low) m₂ m₃ s₃ ∙ shown) in
+    let dlab : Kept → Bool = λ k. is_dlab_set k.latches in
+    let is_low : low ≡ m.chip.latches.dll = s₃.1 ∙ (answer_low (at_access m₂).chip (ap dlab first ∙ on) ∙ ap (λ k. k.latches.dll) first) in
+    let is_high : high ≡ m.chip.latches.dlm =
+    s₄.1 ∙ (answer_high (at_access m₃).chip (ap dlab second ∙ on) ∙ ap (λ k. k.latches.dlm) second) in
+    omega (arith, is_low, is_high)
+
+latch_told : (m n : MachineState) (l : List Access) (low high : ℕ) (v : Settings) → ReadsDivisor low high v l → Path MachineStep m l n →
+    divisor m.chip.latches ≡ 256 * high + low
+latch_told m n l low high v (lcr, is) path = latch_read m n lcr low high (path_as m n l (divisor_accesses lcr low high) is path)
+
+attached : (s t : State) (on : Bool) (low high : ℕ) (l : List Access) →
+    Next (Saving (FindsPort on low high)) (Sets (with_fifo on)) (fields (inner_of s)) l (fields (inner_of t)) →
+    Path MachineStep (machine_of s) l (machine_of t) → IsAttached low high s t
+attached s t on low high l d path =
+    let f = fields (inner_of s) in
+    let v = settings_of f in
+    let a = next_stages (Saving (FindsPort on low high)) (Sets (with_fifo on)) f (fields (inner_of t)) l (machine_of s) (machine_of t)
+    d path in
+    let b = then_parts (FindsLoopback false) (Then (Asks offsets.ISR ISR.FIFOS_ENABLED.0 on) (ReadsDivisor low high)) v a.parts.front
+    (machine_of s) a.parts.between a.parts.first.0 a.parts.before in
+    let c = then_parts (Asks offsets.ISR ISR.FIFOS_ENABLED.0 on) (ReadsDivisor low high) v b.back b.between a.parts.between
+    b.second b.after in
+    let first = found v b.front (machine_of s) b.between b.first b.before in
+    let asked = path_as b.between c.between c.front (Read offsets.ISR c.first.answer ∷ []) c.first.is c.before in
+    let is_on : on ≡ b.between.chip.fifo = sym c.first.shows ∙ fifo_shown b.between asked.0 c.first.answer asked.1 in
+    let second = kept_path (Read offsets.ISR c.first.answer ∷ []) b.between c.between asked in
+    let third = latch_kept c.between a.parts.between c.back low high v c.second c.after in
+    let last = kept_list a.parts.back [] a.parts.between (machine_of t) a.parts.second.0 a.parts.after in
+    let told = latch_told c.between a.parts.between c.back low high v c.second c.after in
+    let same : kept_in (machine_of t).chip ≡ kept_in (machine_of s).chip = last ∙ (third ∙ (second ∙ first.still)) in
+    record {
+      ready = ready_by t (kept_in (machine_of s).chip) same first.dlab first.loopback
+          (ap (λ (g : Fields). g.fifo) a.parts.second.1 ∙ (is_on ∙ ap (λ (k : Kept). k.fifo) first.still));
+      latches = ap (λ (k : Kept). k.latches) same;
+      divisor_latch = ap (λ (k : Kept). divisor k.latches) (last ∙ third) ∙ told;
+    }
+
+-- a refusal has only read
+refused_ready : (s t : State) (l : List Access) → kept_in (machine_of t).chip ≡ kept_in (machine_of s).chip →
+    fields (inner_of t) ≡ saving (fields (inner_of s)) l → Ready s → Ready t
+refused_ready s t l still saved ready =
+    ready_by t (kept_in (machine_of s).chip) still ready.dlab ready.loopback (ap (λ (g : Fields). g.fifo) saved ∙ sym ready.fifo)
+
+attaches_ready : (s t : State) (result : Result (ℕ × ℕ) AttachError) (l : List Access) →
+    Attaches result (fields (inner_of s)) l (fields (inner_of t)) → Path MachineStep (machine_of s) l (machine_of t) → Ready s → Ready t
+attaches_ready s t (Ok latch) l d path ready = (attached s t d.0 latch.0 latch.1 l d.1 path).ready
+attaches_ready s t (Err DivisorLatchOpen) l d path ready =
+    refused_ready s t l (kept_list l (Read offsets.LCR d.0.answer ∷ []) (machine_of s) (machine_of t) d.0.is path) d.1 ready
+attaches_ready s t (Err Loopback) l d path ready =
+    let a = then_parts (FindsLatch false) (Asks offsets.MCR MCR.LOOP_BACK.0 true) (settings_of (fields (inner_of s))) l (machine_of s)
+    (machine_of t) d.0 path in
+    refused_ready s t l
+    (kept_list a.back (Read offsets.MCR a.second.answer ∷ []) a.between (machine_of t) a.second.is a.after
+    ∙ kept_list a.front (Read offsets.LCR a.first.answer ∷ []) (machine_of s) a.between a.first.is a.before) d.1 ready
+
+pub attach_ready : (s t : State) (a : Answer) → CallStep s call.Attach a t → Ready s → Ready t
+attach_ready s t a h ready = attaches_ready s t h.outcome h.did.list h.did.does h.did.path ready
+
+-- one that succeeds leaves a ready state, whatever the machine was before
+taken_ready : (s t : State) (a : Answer) (result : Result (ℕ × ℕ) AttachError) (l : List Access) → a ≡ attach_answer result →
+    Attaches result (fields (inner_of s)) l (fields (inner_of t)) → Path MachineStep (machine_of s) l (machine_of t) →
+    (low high : ℕ) → a ≡ Latch low high → IsAttached low high s t
+taken_ready s t a (Ok latch) l e d path low high is =
+    let both : Latch latch.0 latch.1 ≡ Latch low high = sym e ∙ is in
+    let low_same : latch.0 ≡ low = cc in
+    let high_same : latch.1 ≡ high = cc in
+    let taken = attached s t d.0 latch.0 latch.1 l d.1 path in
+    record {
+      ready = taken.ready;
+      latches = taken.latches;
+      divisor_latch = taken.divisor_latch ∙ omega (arith, low_same, high_same);
+    }
+taken_ready s t a (Err x) l e d path low high is = absurd (cc)
+
+pub attach_takes : (s t : State) (a : Answer) → CallStep s call.Attach a t →
+    (low high : ℕ) → a ≡ Latch low high → IsAttached low high s t
+attach_takes s t a h = taken_ready s t a h.outcome h.did.list h.answered h.did.does h.did.path
