@@ -1,4 +1,0 @@
-use Rattle.uart_device.proofs.device.Device.write.Goals as goal
-
-pub invariant_of-self : goal.invariant_of-self
-invariant_of-self c = record { told = c.write.ensures.holds; still = c.write.ensures.still }

@@ -1,9 +1,0 @@
-use Rattle.std.proofs.Common.{◌≡◌, length, ◌∙◌, sym}
-use Rattle.uart_chip.specs.Transmitter.{held}
-use Rattle.uart_device.specs.Device.{TakeOutput}
-use Rattle.uart_device.proofs.Times.{takes-happen, still_take}
-use Rattle.uart_device.proofs.device.take.Goals as goal
-
-pub finish_still-requires : goal.finish_still-requires
-finish_still-requires c =
-    rw c.take_wire.ensures (still_take c.args.count c.args.chip.now (sym c.held_len-held.ensures ∙ c.if-held-eq0.true) c.requires)

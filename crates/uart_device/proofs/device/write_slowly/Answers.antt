@@ -1,8 +1,0 @@
-use Rattle.uart_device.specs.Device.{Write}
-use Rattle.uart_device.proofs.Times.{takes-happen}
-use Rattle.uart_device.proofs.device.write_slowly.Goals as goal
-
-pub returns-clause-still : goal.returns-clause-still
-returns-clause-still c =
-    c.finish.ensures.still
-    (rw c.write.ensures (takes-happen 1 (Write c.args.offset c.args.value) c.args.chip.now c.requires.still.takes))

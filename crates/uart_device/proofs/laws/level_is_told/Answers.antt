@@ -1,5 +1,0 @@
-use Rattle.uart_device.proofs.Tells.{level_told}
-use Rattle.uart_device.proofs.laws.level_is_told.Goals as goal
-
-pub returns : goal.returns
-returns c = level_told

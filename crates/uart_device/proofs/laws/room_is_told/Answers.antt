@@ -1,5 +1,0 @@
-use Rattle.uart_device.proofs.Tells.{room_told}
-use Rattle.uart_device.proofs.laws.room_is_told.Goals as goal
-
-pub returns-clause-room : goal.returns-clause-room
-returns-clause-room c = room_told

@@ -1,0 +1,165 @@
+-- A byte that the guest writes while the transmitter is idle is on the output after the time of the call.
+use Rattle.std.proofs.Common.{◌≡◌, ℕ, zero, suc, ◌+◌, ◌<◌, ◌≤◌, Bool, true, false, not, ◌&&◌}
+use Rattle.std.proofs.Common.{◌||◌, ◌==◌, min, nat_lt, ◌⊎◌, inl, inr, List, [], ◌∷◌, ◌++◌}
+use Rattle.std.proofs.Common.{length, Option, Some, None, is_some, refl, ap, sym, ◌∙◌, subst, arith}
+use Rattle.std.proofs.lemmas.Grind.{common_steps}
+use Rattle.uart_spec.specs.declared.registers.offsets.TheConstants as offsets
+use Rattle.uart_chip.specs.declared.transmitter.Shifting.{Shifting}
+use Rattle.uart_chip.specs.Transmitter as transmitter
+use Rattle.uart_chip.specs.Transmitter.{TransmitterState, looped_byte, shift, refill, load}
+use Rattle.uart_chip.specs.Receiver as receiver
+use Rattle.uart_chip.specs.Receiver.{ReceiverState}
+use Rattle.uart_chip.specs.Chip.{ChipState, tick, ticks, is_loopback, is_dlab_set, cut_of, after_write, write_data}
+use Rattle.uart_chip.specs.Sending.{sends_at_once, put_on_wire, send_at_once}
+use Rattle.uart_chip.specs.Sound.{IsSoundChip}
+use Rattle.uart_chip.proofs.soundness.Sounds.{steady_ticks, steady_write}
+use Rattle.uart_live.proofs.Sends.{Sends, sends}
+use Rattle.uart_virtual.specs.declared.told.Told.{Told}
+use Rattle.uart_virtual.specs.declared.told.Todo.{Todo}
+use Rattle.uart_virtual.specs.Port.{settle, settle_ticks, IsStill, tell, todo_of, is_up}
+use Rattle.uart_virtual.proofs.Times.{still_ticks, tick-shifted, last_tick}
+
+-- nothing in the queue and in the shift register
+abbrev idle : TransmitterState → TransmitterState
+idle t = record t { queue = []; shift_register = None }
+
+-- the byte in the queue, in the shift register, on the wire
+abbrev queued : ℕ → TransmitterState → TransmitterState
+queued byte t = record t { queue = byte ∷ []; shift_register = None; is_thr_pending = false }
+
+abbrev shifted : ℕ → TransmitterState → TransmitterState
+shifted byte t =
+    record t { queue = []; shift_register = Some (record { byte = byte; ticks_left = t.char_ticks }); is_thr_pending = true }
+
+load-idle : (fifo : Bool) (byte : ℕ) (t : TransmitterState) → load fifo byte (idle t) ≡ queued byte t
+load-idle true byte t = refl
+load-idle false byte t = refl
+
+first-tick : (byte : ℕ) (t : TransmitterState) → transmitter.tick false (queued byte t) ≡ shifted byte t
+first-tick byte t = refl
+
+second-tick : (byte : ℕ) (t : TransmitterState) → t.char_ticks ≡ 1 → nat_lt (length t.wire) t.capacity ≡ true →
+    transmitter.tick false (shifted byte t) ≡ put_on_wire byte (idle t)
+second-tick byte t one room =
+    let last : nat_lt 1 t.char_ticks ≡ false = last_tick t.char_ticks (omega (arith, one)) (omega (arith, one)) in
+    tick-shifted false (shifted byte t) (put_on_wire byte (idle t)) (rw (last, room) refl)
+
+-- a receiver whose timeout is due stays as it is
+receiver-still : (loopback fifo : Bool) (place : Option Shifting) (r : ReceiverState) → loopback ≡ false →
+    r.timeout_ticks ≡ r.timeout_limit → receiver.tick fifo (looped_byte loopback place) r ≡ r
+receiver-still true fifo place r l due = absurd (cc)
+receiver-still false fifo place r l due =
+    ap (λ (i : ℕ). record r { timeout_ticks = i }) (more r.timeout_ticks r.timeout_limit due)
+  where
+    more : (i limit : ℕ) → i ≡ limit → min (i + 1) limit ≡ i
+    more i limit e = omega (arith, e)
+
+tick-outside : (c : ChipState) (t : TransmitterState) → is_loopback c.latches ≡ false →
+    c.receiver.timeout_ticks ≡ c.receiver.timeout_limit → transmitter.tick false c.transmitter ≡ t →
+    tick c ≡ record c { transmitter = t }
+tick-outside c t outside due e =
+    let place : Option Shifting = c.transmitter.shift_register in
+    ap (λ (r : ReceiverState). record c { transmitter = transmitter.tick (is_loopback c.latches) c.transmitter; receiver = r })
+    (receiver-still (is_loopback c.latches) c.fifo place c.receiver outside due) ∙
+    (ap (λ (b : Bool). record c { transmitter = transmitter.tick b c.transmitter }) outside ∙
+    ap (λ (u : TransmitterState). record c { transmitter = u }) e)
+
+nothing : (queue : List ℕ) → (length queue == 0) ≡ true → queue ≡ []
+nothing [] e = refl
+nothing (x ∷ xs) e = let no : false ≡ true = grind (arith, common_steps) in absurd (cc)
+
+nowhere : (place : Option Shifting) → is_some place ≡ false → place ≡ None
+nowhere None e = refl
+nowhere (Some s) e = absurd (cc)
+
+ticks-add : (j k : ℕ) (c : ChipState) → ticks (j + k) c ≡ ticks j (ticks k c)
+ticks-add zero k c = ap (λ (n : ℕ). ticks n c) (no_more k)
+  where
+    no_more : (k : ℕ) → 0 + k ≡ k
+    no_more k = omega arith
+ticks-add (suc j) k c = ap (λ (n : ℕ). ticks n c) (one_more j k) ∙ ap tick (ticks-add j k c)
+  where
+    one_more : (j k : ℕ) → suc j + k ≡ suc (j + k)
+    one_more j k = omega arith
+
+-- a chip with an idle transmitter is that chip
+with_idle : (c : ChipState) → Sends c → record c { transmitter = idle c.transmitter } ≡ c
+with_idle c s =
+    ap (λ (queue : List ℕ). record c { transmitter = record c.transmitter { queue = queue; shift_register = None } })
+    (sym (nothing c.transmitter.queue s.empty)) ∙
+    ap (λ (place : Option Shifting). record c { transmitter = record c.transmitter { shift_register = place } })
+    (sym (nowhere c.transmitter.shift_register s.free))
+
+-- two ticks after a write of DATA
+two_ticks : (value : ℕ) (c : ChipState) → IsStill c → Sends c →
+    tick (tick (after_write offsets.DATA value c)) ≡ send_at_once value c
+two_ticks value c still s =
+    let t : TransmitterState = c.transmitter in
+    let byte : ℕ = cut_of c value in
+    let idle_is : idle t ≡ t = ap (λ (d : ChipState). d.transmitter) (with_idle c s) in
+    let loaded : load c.fifo byte t ≡ queued byte t =
+    ap (λ (u : TransmitterState). load c.fifo byte u) (sym idle_is) ∙ load-idle c.fifo byte t in
+    let written : after_write offsets.DATA value c ≡ record c { transmitter = queued byte t } =
+    rw s.latched (ap (λ (u : TransmitterState). record c { transmitter = u }) loaded) in
+    let first : tick (record c { transmitter = queued byte t }) ≡ record c { transmitter = shifted byte t } =
+    tick-outside (record c { transmitter = queued byte t }) (shifted byte t) s.outside still.due (first-tick byte t) in
+    let second : tick (record c { transmitter = shifted byte t }) ≡ record c { transmitter = put_on_wire byte (idle t) } =
+    tick-outside (record c { transmitter = shifted byte t }) (put_on_wire byte (idle t)) s.outside still.due
+    (second-tick byte t still.takes s.room) in
+    ap (λ (d : ChipState). tick (tick d)) written ∙
+    (ap tick first ∙ (second ∙ ap (λ (u : TransmitterState). record c { transmitter = put_on_wire byte u }) idle_is))
+
+-- it is still then
+still_sent : (value : ℕ) (c : ChipState) → IsStill c → Sends c → IsStill (send_at_once value c)
+still_sent value c still s = record {
+  takes = still.takes;
+  unmoved = rw (nothing c.transmitter.queue s.empty, nowhere c.transmitter.shift_register s.free) refl;
+  due = still.due;
+}
+
+ticks-sent : (n value : ℕ) (c : ChipState) → IsSoundChip c → IsStill c → Sends c →
+    ticks (n + 2) (after_write offsets.DATA value c) ≡ send_at_once value c
+ticks-sent n value c w still s =
+    let d : ChipState = after_write offsets.DATA value c in
+    let two : ticks 2 d ≡ send_at_once value c = two_ticks value c still s in
+    let sound : IsSoundChip (send_at_once value c) =
+    subst (λ (e : ChipState). IsSoundChip e) two (steady_ticks 2 d (steady_write offsets.DATA value c w).sound).sound in
+    ticks-add n 2 d ∙ (ap (λ (e : ChipState). ticks n e) two ∙
+    still_ticks n (send_at_once value c) sound (still_sent value c still s))
+
+-- after the time of a call the byte is on the output, and the chip is still
+pub settle-sent : (value : ℕ) (c : ChipState) → IsSoundChip c → IsStill c → sends_at_once c ≡ true →
+    (settle (after_write offsets.DATA value c) ≡ send_at_once value c) × IsStill (send_at_once value c)
+unfolding settle_ticks
+settle-sent value c w still e = (
+  ap (λ (n : ℕ). ticks n (after_write offsets.DATA value c)) many ∙ ticks-sent 20 value c w still (sends c e),
+  still_sent value c still (sends c e),
+)
+  where
+    many : settle_ticks ≡ 20 + 2
+    many = refl
+
+-- ---- what is told
+
+-- if the line was down, or a signal is unanswered, whether the line was up before time passed is the same
+same_rise : (up line unanswered v w : Bool) → (not line || unanswered) ≡ true →
+    (up && (not line || (not v && not unanswered))) ≡ (up && (not line || (not w && not unanswered)))
+same_rise up false unanswered v w e = refl
+same_rise up true false v w e = absurd (cc)
+same_rise up true true true true e = refl
+same_rise up true true true false e = refl
+same_rise up true true false true e = refl
+same_rise up true true false false e = refl
+
+pub same_told : (puts_off v w : Bool) (ended : ChipState) (told : Told) → (not told.line || told.is_unanswered) ≡ true →
+    tell false false puts_off v ended told ≡ tell false false puts_off w ended told
+same_told puts_off v w ended told e =
+    ap (λ (rise : Bool). record (tell false false puts_off w ended told) {
+      is_unanswered = rise || (is_up ended && (told.is_unanswered && true));
+    }) (same_rise (is_up ended) told.line told.is_unanswered v w e)
+
+pub same_todo : (puts_off v w : Bool) (ended : ChipState) (told : Told) → (not told.line || told.is_unanswered) ≡ true →
+    todo_of false false puts_off v ended told ≡ todo_of false false puts_off w ended told
+same_todo puts_off v w ended told e =
+    ap (λ (rise : Bool). record (todo_of false false puts_off w ended told) { signal = rise })
+    (same_rise (is_up ended) told.line told.is_unanswered v w e)

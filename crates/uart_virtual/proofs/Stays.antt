@@ -1,0 +1,151 @@
+-- While time passes the interrupt line does not fall, outside of loopback.
+use Rattle.std.proofs.Common.{◌≡◌, ℕ, zero, suc, ◌+◌, Bool, true, false, not, ◌&&◌, ◌||◌, ◌==◌, min, nat_lt, List, [], ◌∷◌, length}
+use Rattle.std.proofs.Common.{Option, Some, None, is_some, bit_and, bit_or, refl, ap, sym, ◌∙◌, subst, arith, if◌then◌else◌}
+use Rattle.std.proofs.lemmas.Grind.{common_steps}
+use Rattle.uart_spec.specs.Bits.{has_any, flag}
+use Rattle.uart_spec.specs.declared.registers.interrupt_enable.TheConstants.IER
+use Rattle.uart_spec.specs.declared.registers.interrupt_type.InterruptType.{InterruptType}
+use Rattle.uart_spec.specs.declared.registers.interrupt_type.InterruptType.TheVariants.{ReceiverLineStatus, ReceivedDataReady}
+use Rattle.uart_spec.specs.declared.registers.interrupt_type.InterruptType.TheVariants.{ReceptionTimeout}
+use Rattle.uart_spec.specs.declared.registers.interrupt_type.InterruptType.TheVariants.{TransmitterHoldingRegisterEmpty, ModemStatus}
+use Rattle.uart_spec.specs.declared.registers.line_status.TheConstants.LSR
+use Rattle.uart_chip.specs.declared.transmitter.Shifting.{Shifting}
+use Rattle.uart_chip.specs.Transmitter as transmitter
+use Rattle.uart_chip.specs.Transmitter.{TransmitterState, looped_byte, shift, refill}
+use Rattle.uart_chip.specs.Receiver as receiver
+use Rattle.std.specs.List.{list_any}
+use Rattle.uart_chip.specs.Receiver.{is_data_pending, is_timed_out, front_errors, unreported, has_errors}
+use Rattle.uart_chip.specs.Chip.{ChipState, tick, ticks, is_loopback, line_status, is_transmitter_empty}
+use Rattle.uart_chip.proofs.Bits.{and_or}
+use Rattle.uart_chip.proofs.soundness.Sounds.{latches-ticks}
+use Rattle.uart_live.proofs.Lives.{both_if}
+use Rattle.uart_virtual.specs.Port.{is_up}
+use Rattle.uart_virtual.specs.Laws.{LineStays}
+
+-- ---- a pending THR-empty interrupt stays
+
+abbrev Pends : TransmitterState → Type 0
+Pends t = t.is_thr_pending ≡ true
+
+pends-shift : (loopback : Bool) (place : Option Shifting) (t : TransmitterState) → Pends t → Pends (shift loopback place t)
+pends-shift loopback None t h = h
+pends-shift loopback (Some s) t h =
+    both_if Pends _ _ (nat_lt 1 s.ticks_left) h
+    (both_if Pends _ _ loopback h (both_if Pends _ _ (nat_lt (length t.wire) t.capacity) h h))
+
+pends-refill : (place : Option Shifting) (queue : List ℕ) (t : TransmitterState) → Pends t → Pends (refill place queue t)
+pends-refill (Some s) queue t h = h
+pends-refill None [] t h = h
+pends-refill None (x ∷ []) t h = refl
+pends-refill None (x ∷ y ∷ xs) t h = h
+
+pends-tick : (t : TransmitterState) → Pends t → Pends (transmitter.tick false t)
+pends-tick t h =
+    let u : TransmitterState = shift false t.shift_register t in
+    pends-refill u.shift_register u.queue u (pends-shift false t.shift_register t h)
+
+-- ---- the errors of the line stay
+
+unseen : (a e g : ℕ) (d f : Bool) →
+    bit_and (bit_or (bit_or a (bit_or e (flag d LSR.THR_EMPTY.0))) (bit_or (flag f LSR.TRANSMITTER_EMPTY.0) g)) LSR.LINE_ERRORS.0 ≡
+    bit_or (bit_or (bit_and a LSR.LINE_ERRORS.0) (bit_or (bit_and e LSR.LINE_ERRORS.0) 0)) (bit_or 0 (bit_and g LSR.LINE_ERRORS.0))
+unseen a e g true true = simp and_or refl
+unseen a e g true false = simp and_or refl
+unseen a e g false true = simp and_or refl
+unseen a e g false false = simp and_or refl
+
+same_errors : (c : ChipState) (t : TransmitterState) (i : ℕ) →
+    has_any (line_status (record c { transmitter = t; receiver = record c.receiver { timeout_ticks = i } })) LSR.LINE_ERRORS.0 ≡
+    has_any (line_status c) LSR.LINE_ERRORS.0
+same_errors c t i =
+    let a : ℕ =
+    bit_or (flag (nat_lt 0 (length c.receiver.queue)) LSR.DATA_READY.0) (flag c.receiver.is_overrun LSR.OVERRUN_ERROR.0) in
+    let e : ℕ = front_errors c.receiver.queue c.receiver.is_front_reported in
+    let g : ℕ =
+    flag (c.fifo && list_any has_errors (unreported c.receiver.queue c.receiver.is_front_reported)) LSR.FIFO_DATA_ERROR.0 in
+    let u : TransmitterState = c.transmitter in
+    ap (λ (v : ℕ). not (v == 0))
+    (unseen a e g (length t.queue == 0) (is_transmitter_empty t.queue t.shift_register) ∙
+    sym (unseen a e g (length u.queue == 0) (is_transmitter_empty u.queue u.shift_register)))
+
+-- ---- all causes together
+
+up_is : (a b d e f : Bool) (p q r s t : InterruptType) →
+    is_some (if a then Some p else if b then Some q else if d then Some r else if e then Some s else if f then Some t else None) ≡
+    (a || (b || (d || (e || f))))
+up_is true b d e f p q r s t = refl
+up_is false true d e f p q r s t = refl
+up_is false false true e f p q r s t = refl
+up_is false false false true f p q r s t = refl
+up_is false false false false true p q r s t = refl
+up_is false false false false false p q r s t = refl
+
+grows : (a b d e f d' e' : Bool) → (d ≡ true → d' ≡ true) → (e ≡ true → e' ≡ true) → (a || (b || (d || (e || f)))) ≡ true →
+    (a || (b || (d' || (e' || f)))) ≡ true
+grows true b d e f d' e' p q h = refl
+grows false true d e f d' e' p q h = refl
+grows false false true e f d' e' p q h = rw (p refl) refl
+grows false false false true f true e' p q h = refl
+grows false false false true f false e' p q h = rw (q refl) refl
+grows false false false false f true e' p q h = refl
+grows false false false false f false true p q h = refl
+grows false false false false f false false p q h = h
+
+and-grows : (p q r : Bool) → (q ≡ true → r ≡ true) → (p && q) ≡ true → (p && r) ≡ true
+and-grows true q r f h = f h
+and-grows false q r f h = h
+
+at_limit : (i limit : ℕ) → (i == limit) ≡ true → (min (i + 1) limit == limit) ≡ true
+at_limit i limit h = grind (arith, common_steps)
+
+abbrev errors : ChipState → Bool
+errors c = has_any c.latches.ier IER.RECEIVER_LINE_STATUS.0 && has_any (line_status c) LSR.LINE_ERRORS.0
+
+abbrev ready : ChipState → Bool
+ready c = has_any c.latches.ier IER.DATA_READY.0 && is_data_pending c.fifo c.receiver
+
+abbrev timeout : ChipState → Bool
+timeout c = has_any c.latches.ier IER.DATA_READY.0 && is_timed_out c.fifo c.receiver
+
+abbrev empty : ChipState → Bool
+empty c = has_any c.latches.ier IER.THR_EMPTY.0 && c.transmitter.is_thr_pending
+
+abbrev lines : ChipState → Bool
+lines c = has_any c.latches.ier IER.MODEM_STATUS.0 && not (c.modem.deltas == 0)
+
+causes : (c : ChipState) → is_up c ≡ (errors c || (ready c || (timeout c || (empty c || lines c))))
+causes c =
+    up_is (errors c) (ready c) (timeout c) (empty c) (lines c) ReceiverLineStatus ReceivedDataReady ReceptionTimeout
+    TransmitterHoldingRegisterEmpty ModemStatus
+
+stays-tick : (c : ChipState) → is_loopback c.latches ≡ false → is_up c ≡ true → is_up (tick c) ≡ true
+stays-tick c outside up =
+    let t : TransmitterState = transmitter.tick false c.transmitter in
+    let i : ℕ = min (c.receiver.timeout_ticks + 1) c.receiver.timeout_limit in
+    let d : ChipState = record c { transmitter = t; receiver = record c.receiver { timeout_ticks = i } } in
+    let ticked : tick c ≡ d =
+    ap (λ (b : Bool). record c {
+      transmitter = transmitter.tick b c.transmitter;
+      receiver = receiver.tick c.fifo (looped_byte b c.transmitter.shift_register) c.receiver;
+    }) outside in
+    let same : errors d ≡ errors c =
+    ap (λ (b : Bool). has_any c.latches.ier IER.RECEIVER_LINE_STATUS.0 && b) (same_errors c t i) in
+    let before : (errors c || (ready c || (timeout c || (empty c || lines c)))) ≡ true = sym (causes c) ∙ up in
+    let after : (errors c || (ready c || (timeout d || (empty d || lines c)))) ≡ true =
+    grows (errors c) (ready c) (timeout c) (empty c) (lines c) (timeout d) (empty d)
+    (and-grows (has_any c.latches.ier IER.DATA_READY.0) (is_timed_out c.fifo c.receiver) (is_timed_out d.fifo d.receiver)
+    (and-grows c.fifo (nat_lt 0 (length c.receiver.queue) && (c.receiver.timeout_ticks == c.receiver.timeout_limit))
+    (nat_lt 0 (length c.receiver.queue) && (i == c.receiver.timeout_limit))
+    (and-grows (nat_lt 0 (length c.receiver.queue)) (c.receiver.timeout_ticks == c.receiver.timeout_limit)
+    (i == c.receiver.timeout_limit)
+    (at_limit c.receiver.timeout_ticks c.receiver.timeout_limit))))
+    (and-grows (has_any c.latches.ier IER.THR_EMPTY.0) c.transmitter.is_thr_pending t.is_thr_pending (pends-tick c.transmitter))
+    before in
+    let now : is_up d ≡ true =
+    causes d ∙ (ap (λ (b : Bool). b || (ready c || (timeout d || (empty d || lines c)))) same ∙ after) in
+    subst (λ (x : ChipState). is_up x ≡ true) (sym ticked) now
+
+pub line_stays : LineStays
+line_stays zero c outside up = up
+line_stays (suc n) c outside up =
+    stays-tick (ticks n c) (ap (λ l. is_loopback l) (latches-ticks n c) ∙ outside) (line_stays n c outside up)

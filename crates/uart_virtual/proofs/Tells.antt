@@ -1,0 +1,145 @@
+-- Lemmas of ports.
+use Rattle.std.proofs.Common.{◌≡◌, ℕ, ◌<◌, Bool, true, false, not, ◌&&◌, ◌||◌, ◌⊎◌, inl}
+use Rattle.std.proofs.Common.{inr, List, [], ◌∷◌, ◌++◌, length, map, take, drop, min}
+use Rattle.std.proofs.Common.{refl, ap, sym, ◌∙◌, arith, append_assoc, nat_lt}
+use Rattle.uart_chip.specs.Chip.{ChipState, receive_room}
+use Rattle.uart_chip.specs.Transmitter.{out}
+use Rattle.uart_live.specs.Laws as live
+use Rattle.uart_live.specs.Laws.{Act, Ticks, Arrive, TakeWire, in_turn, AllInTurn, sent, taken, IsCareful}
+use Rattle.uart_live.proofs.Orders.{bytes_leave}
+use Rattle.uart_virtual.specs.declared.told.Todo.{Todo}
+use Rattle.uart_virtual.specs.declared.told.Told.{Told}
+use Rattle.uart_virtual.specs.Port.{PortState, Call, Read, Write, Receive, ReceiveOne, SetLines, TakeOutput, after, todo}
+use Rattle.uart_virtual.specs.Port.{happen, brings, looks, puts_off, settle, settle_ticks, is_up}
+use Rattle.uart_virtual.specs.Port.{has_room, IsTold, tell, todo_of, arrive_all, accepted}
+use Rattle.uart_virtual.specs.Laws.{after_all, some_told, LevelIsTold, EachRiseIsSignalled, UnansweredWasSignalled, RoomIsTold}
+use Rattle.uart_virtual.specs.Laws.{acts_of, acts_of_all, BytesGoOut}
+
+and_not : (a b : Bool) → (a && not b) ≡ true → b ≡ false
+and_not a true h = elim a as (λ x. (x && false) ≡ true → true ≡ false) [ true ↦ λ e. cc | false ↦ λ e. cc ] h
+and_not a false h = refl
+
+or_left : (a b : Bool) → a ≡ true → (a || b) ≡ true
+or_left true b h = refl
+or_left false b h = absurd (cc)
+
+or_right : (a b : Bool) → b ≡ true → (a || b) ≡ true
+or_right true b h = refl
+or_right false b h = h
+
+-- what a call leaves was told
+pub told_holds : (brings looks puts_off was_up : Bool) (ended : ChipState) (told : Told) →
+    IsTold (record { chip = ended; told = tell brings looks puts_off was_up ended told })
+told_holds brings looks puts_off was_up ended told = record { line = refl; waits = and_not puts_off (has_room ended) }
+
+told_after : (call : Call) (d : PortState) → IsTold (after call d)
+told_after call d =
+    let c : ChipState = happen call d.chip in
+    told_holds (brings call d.chip) (looks call) (puts_off call d) (is_up c) (settle c) d.told
+
+pub level_told : LevelIsTold
+level_told [] d h = h
+level_told (call ∷ calls) d h =
+    level_told calls (after call d) (told_after call d)
+
+-- ---- the line
+
+rises_from_down : (up line others : Bool) → line ≡ false → up ≡ true → (up && (not line || others)) ≡ true
+rises_from_down true false others l u = refl
+rises_from_down true true others l u = absurd (cc)
+rises_from_down false line others l u = absurd (cc)
+
+pub rise_signalled : EachRiseIsSignalled
+rise_signalled [] d down up = absurd (cc)
+rise_signalled (call ∷ calls) d down up =
+    go (is_up (settle (happen call d.chip))) refl (λ e. rise_signalled calls (after call d) e up)
+  where
+    go : (level : Bool) → is_up (settle (happen call d.chip)) ≡ level →
+        ((after call d).told.line ≡ false → some_told (λ (t : Todo). t.signal) calls (after call d) ≡ true) →
+        some_told (λ (t : Todo). t.signal) (call ∷ calls) d ≡ true
+    go true e later = or_left (todo call d).signal _ (rises_from_down _ d.told.line _ down e)
+    go false e later = or_right (todo call d).signal _ (later e)
+
+was_given : (r u w l : Bool) → (r || (u && (w && not l))) ≡ true → (r ≡ true) ⊎ ((w ≡ true) × (l ≡ false))
+was_given true u w l h = inl refl
+was_given false true true false h = inr (refl, refl)
+was_given false true true true h = absurd (cc)
+was_given false true false l h = absurd (cc)
+was_given false false w l h = absurd (cc)
+
+pub unanswered_signalled : UnansweredWasSignalled
+unanswered_signalled call d h = was_given _ _ d.told.is_unanswered (looks call) h
+
+-- ---- room
+
+stays_put_off : (call : Call) (d : PortState) → d.told.is_put_off ≡ true → puts_off call d ≡ true
+stays_put_off (Receive bytes) d h = or_left d.told.is_put_off _ h
+stays_put_off _ d h = h
+
+both : (a b : Bool) → a ≡ true → b ≡ true → (a && b) ≡ true
+both true b p q = q
+both false b p q = absurd (cc)
+
+pub room_told : RoomIsTold
+room_told [] d h off room = let no : false ≡ true = sym (h.waits off) ∙ room in absurd (cc)
+room_told (call ∷ calls) d h off room =
+    go (has_room (settle (happen call d.chip))) refl
+    (λ e. room_told calls (after call d) (told_after call d) e room)
+  where
+    go : (some : Bool) → has_room (settle (happen call d.chip)) ≡ some →
+        ((after call d).told.is_put_off ≡ true → some_told (λ (t : Todo). t.has_room) calls (after call d) ≡ true) →
+        some_told (λ (t : Todo). t.has_room) (call ∷ calls) d ≡ true
+    go true e later = or_left (todo call d).has_room _ (both _ _ (stays_put_off call d off) e)
+    go false e later = or_right (todo call d).has_room _ (later (both _ _ (stays_put_off call d off) (ap not e)))
+
+-- ---- output
+
+acts-append : (xs ys : List Act) (c : ChipState) → live.after_all (xs ++ ys) c ≡ live.after_all ys (live.after_all xs c)
+acts-append [] ys c = refl
+acts-append (x ∷ xs) ys c = acts-append xs ys (live.after x c)
+
+acts-arrive : (bytes : List ℕ) (c : ChipState) → live.after_all (map (λ (byte : ℕ). Arrive byte 0) bytes) c ≡ arrive_all bytes c
+acts-arrive [] c = refl
+acts-arrive (byte ∷ bytes) c = acts-arrive bytes (live.after (Arrive byte 0) c)
+
+acts-call : (call : Call) (d : PortState) → live.after_all (acts_of call d.chip) d.chip ≡ (after call d).chip
+acts-call (Receive bytes) d =
+    let xs : List ℕ = take (accepted bytes d.chip) bytes in
+    acts-append (map (λ (byte : ℕ). Arrive byte 0) xs) (Ticks settle_ticks ∷ []) d.chip ∙
+    ap settle (acts-arrive xs d.chip)
+acts-call (Read offset) d = refl
+acts-call (Write offset value) d = refl
+acts-call (ReceiveOne byte errors) d = refl
+acts-call (SetLines inputs) d = refl
+acts-call (TakeOutput count) d = refl
+
+acts-all : (calls : List Call) (d : PortState) → live.after_all (acts_of_all calls d) d.chip ≡ (after_all calls d).chip
+acts-all [] d = refl
+acts-all (call ∷ calls) d =
+    acts-append (acts_of call d.chip) (acts_of_all calls (after call d)) d.chip ∙
+    (ap (λ (c : ChipState). live.after_all (acts_of_all calls (after call d)) c) (acts-call call d) ∙ acts-all calls (after call d))
+
+pub bytes_go : BytesGoOut
+bytes_go calls d h =
+    let acts : List Act = acts_of_all calls d in
+    ap (λ (c : ChipState). in_turn taken acts d.chip ++ out c.transmitter) (sym (acts-all calls d)) ∙ bytes_leave acts d.chip h
+
+-- ---- a chip to which time does nothing
+
+same_level : (up down brings answered : Bool) →
+    (up && (down || (brings || (false && answered)))) ≡ (up && (down || (brings || (not up && answered))))
+same_level true down brings answered = refl
+same_level false down brings answered = refl
+
+pub told_still : (brings looks puts_off : Bool) (c : ChipState) (told : Told) →
+    tell brings looks puts_off true c told ≡ tell brings looks puts_off (is_up c) c told
+told_still brings looks puts_off c told =
+    ap (λ (rise : Bool). record (tell brings looks puts_off true c told) {
+      is_unanswered = rise || (is_up c && (told.is_unanswered && not looks));
+    }) (same_level (is_up c) (not told.line) brings (looks || not told.is_unanswered))
+
+pub todo_still : (brings looks puts_off : Bool) (c : ChipState) (told : Told) →
+    todo_of brings looks puts_off true c told ≡ todo_of brings looks puts_off (is_up c) c told
+todo_still brings looks puts_off c told =
+    ap (λ (rise : Bool). record (todo_of brings looks puts_off true c told) { signal = rise })
+    (same_level (is_up c) (not told.line) brings (looks || not told.is_unanswered))

@@ -1,0 +1,268 @@
+-- After the time of a call nothing is left to happen.
+use Rattle.std.proofs.Common.{◌≡◌, ℕ, zero, suc, ◌+◌, ◌-◌, ◌*◌, ◌<◌, ◌≤◌, Bool, true, false, ◌==◌, ◌⊎◌, inl, inr, min, nat_lt}
+use Rattle.std.proofs.Common.{List, [], ◌∷◌, ◌++◌, length, take, drop, Option, Some, None, refl, ap, sym, ◌∙◌, subst, arith, if◌then◌else◌}
+use Rattle.std.proofs.lemmas.Bool.{cases_lt}
+use Rattle.std.proofs.lemmas.Grind.{common_steps}
+use Rattle.uart_spec.specs.declared.event.Chip.{Chip}
+use Rattle.uart_spec.specs.declared.event.Chip.TheVariants.{Uart16550A, Uart16450}
+use Rattle.uart_spec.specs.Bits.{has_any}
+use Rattle.uart_spec.specs.declared.registers.fifo_control.TheConstants.FCR
+use Rattle.uart_spec.specs.declared.registers.offsets.TheConstants as offsets
+use Rattle.uart_chip.specs.declared.transmitter.Shifting.{Shifting}
+use Rattle.uart_chip.specs.Transmitter as transmitter
+use Rattle.uart_chip.specs.Transmitter.{TransmitterState, room, looped_byte, shift, refill, held, shift_bytes}
+use Rattle.uart_chip.specs.Receiver as receiver
+use Rattle.uart_chip.specs.Receiver.{ReceiverState, grow_timeout, clear}
+use Rattle.uart_chip.specs.Chip.{ChipState, tick, ticks, is_loopback, is_dlab_set, interrupt}
+use Rattle.uart_chip.specs.Chip.{is_thr_empty, after_read, after_write, take_wire}
+use Rattle.uart_chip.specs.Chip.{set_fifo, control, switch, is_same, reset_receiver, reset_transmitter, set_trigger, trigger_level}
+use Rattle.uart_chip.specs.Jumps.{next_move_of, next_move, left_after, place_after, count_down, timeout_after, skip, moves}
+use Rattle.uart_chip.specs.Sound.{IsSoundChip, IsTicking}
+use Rattle.uart_chip.proofs.Jumps.{StillFor, ticks_skip}
+use Rattle.uart_chip.proofs.soundness.Idle.{moves-most}
+use Rattle.uart_chip.proofs.soundness.Sounds.{steady_ticks}
+use Rattle.uart_live.proofs.Lives.{both_if}
+use Rattle.uart_virtual.specs.Port.{Call, Read, Write, Receive, ReceiveOne, SetLines, TakeOutput, happen, settle, settle_ticks}
+use Rattle.uart_virtual.specs.Port.{accepted, arrive_all, IsStill}
+
+-- ---- the ticks of a character stay the same
+
+abbrev Takes : ℕ → TransmitterState → Type 0
+Takes k t = t.char_ticks ≡ k
+
+takes-shift : (k : ℕ) (loopback : Bool) (place : Option Shifting) (t : TransmitterState) → Takes k t → Takes k (shift loopback place t)
+takes-shift k loopback None t h = h
+takes-shift k loopback (Some s) t h =
+    both_if (Takes k) _ _ (nat_lt 1 s.ticks_left) h
+    (both_if (Takes k) _ _ loopback h (both_if (Takes k) _ _ (nat_lt (length t.wire) t.capacity) h h))
+
+takes-refill : (k : ℕ) (place : Option Shifting) (queue : List ℕ) (t : TransmitterState) → Takes k t → Takes k (refill place queue t)
+takes-refill k (Some s) queue t h = h
+takes-refill k None [] t h = h
+takes-refill k None (x ∷ []) t h = h
+takes-refill k None (x ∷ y ∷ xs) t h = h
+
+takes-tick : (k : ℕ) (loopback : Bool) (t : TransmitterState) → Takes k t → Takes k (transmitter.tick loopback t)
+takes-tick k loopback t h =
+    let u : TransmitterState = shift loopback t.shift_register t in
+    takes-refill k u.shift_register u.queue u (takes-shift k loopback t.shift_register t h)
+
+-- of a chip
+abbrev pub CharTakes : ℕ → ChipState → Type 0
+CharTakes k c = c.transmitter.char_ticks ≡ k
+
+pub takes-ticks : (k n : ℕ) (c : ChipState) → CharTakes k c → CharTakes k (ticks n c)
+takes-ticks k zero c h = h
+takes-ticks k (suc n) c h =
+    let d : ChipState = ticks n c in takes-tick k (is_loopback d.latches) d.transmitter (takes-ticks k n c h)
+
+takes-read : (k offset : ℕ) (c : ChipState) → CharTakes k c → CharTakes k (after_read offset c)
+takes-read k offset c h =
+    both_if (CharTakes k) _ _ (offset == offsets.DATA) (both_if (CharTakes k) _ _ (is_dlab_set c.latches) h h)
+    (both_if (CharTakes k) _ _ (offset == offsets.ISR) (both_if (CharTakes k) _ _ (is_thr_empty (interrupt c)) h h)
+    (both_if (CharTakes k) _ _ (offset == offsets.LSR) h (both_if (CharTakes k) _ _ (offset == offsets.MSR) h h)))
+
+takes-fifo : (k value : ℕ) (c : ChipState) → CharTakes k c → CharTakes k (set_fifo value c)
+takes-fifo k value c h =
+    let on : Bool = has_any value FCR.FIFO_ENABLE.0 in
+    let d : ChipState = if is_same c.fifo on then c else switch on c in
+    let a : CharTakes k d = both_if (CharTakes k) c (switch on c) (is_same c.fifo on) h h in
+    let e : ChipState = reset_receiver value d in
+    let b : CharTakes k e = both_if (CharTakes k) (record d { receiver = clear d.receiver }) d (has_any value FCR.RX_FIFO_RESET.0) a a in
+    let f : ChipState = reset_transmitter value e in
+    let g : CharTakes k f =
+    both_if (CharTakes k) (record e { transmitter = record e.transmitter { queue = []; is_thr_pending = true } }) e
+    (has_any value FCR.TX_FIFO_RESET.0) b b in
+    both_if (CharTakes k) (set_trigger (trigger_level value) f) d on g a
+
+takes-control : (k : ℕ) (model : Chip) (value : ℕ) (c : ChipState) → CharTakes k c → CharTakes k (control model value c)
+takes-control k Uart16450 value c h = h
+takes-control k Uart16550A value c h = takes-fifo k value c h
+
+takes-write : (k offset value : ℕ) (c : ChipState) → CharTakes k c → CharTakes k (after_write offset value c)
+takes-write k offset value c h =
+    both_if (CharTakes k) _ _ (offset == offsets.DATA) (both_if (CharTakes k) _ _ (is_dlab_set c.latches) h
+    (both_if (Takes k) _ _ (nat_lt (length c.transmitter.queue) (room c.fifo)) h h))
+    (both_if (CharTakes k) _ _ (offset == offsets.IER) (both_if (CharTakes k) _ _ (is_dlab_set c.latches) h h)
+    (both_if (CharTakes k) _ _ (offset == offsets.FCR) (takes-control k c.model value c h)
+    (both_if (CharTakes k) _ _ (offset == offsets.LCR) h (both_if (CharTakes k) _ _ (offset == offsets.MCR) h (both_if (CharTakes k) _ _
+    (offset == offsets.SPR) h h)))))
+
+pub takes-all : (k : ℕ) (bytes : List ℕ) (c : ChipState) → CharTakes k c → CharTakes k (arrive_all bytes c)
+takes-all k [] c h = h
+takes-all k (byte ∷ bytes) c h = takes-all k bytes _ h
+
+pub takes-happen : (k : ℕ) (call : Call) (c : ChipState) → CharTakes k c → CharTakes k (happen call c)
+takes-happen k (Read offset) c h = takes-read k offset c h
+takes-happen k (Write offset value) c h = takes-write k offset value c h
+takes-happen k (Receive bytes) c h = takes-all k (take (accepted bytes c) bytes) c h
+takes-happen k _ c h = h
+
+-- ---- a tick moves a character, or nothing in the transmitter changes any more
+
+record IsStuck (loopback : Bool) (t : TransmitterState) : Type 0 where
+  none : next_move loopback t ≡ None
+  same : transmitter.tick loopback t ≡ t
+  unlooped : looped_byte loopback t.shift_register ≡ None
+
+abbrev with_place : Option Shifting → List ℕ → TransmitterState → TransmitterState
+with_place place queue t = record t { shift_register = place; queue = queue }
+
+pub tick-shifted : (loopback : Bool) (t u : TransmitterState) → shift loopback t.shift_register t ≡ u →
+    transmitter.tick loopback t ≡ refill u.shift_register u.queue u
+tick-shifted loopback t u e = ap (λ (v : TransmitterState). refill v.shift_register v.queue v) e
+
+freed : (queue : List ℕ) (t : TransmitterState) → moves (refill None queue (with_place None queue t)) ≡ length queue
+freed [] t = refl
+freed (x ∷ []) t = refl
+freed (x ∷ y ∷ xs) t = refl
+
+unlooped-none : (loopback : Bool) → looped_byte loopback None ≡ None
+unlooped-none true = refl
+unlooped-none false = refl
+
+pub last_tick : (left : ℕ) → 1 ≤ left → left ≤ 1 → nat_lt 1 left ≡ false
+last_tick left low high = grind (arith, common_steps)
+
+stuck_or_moves : (loopback : Bool) (place : Option Shifting) (queue : List ℕ) (t : TransmitterState) → IsTicking 1 place →
+    IsStuck loopback (with_place place queue t) ⊎
+    (suc (moves (transmitter.tick loopback (with_place place queue t))) ≡ moves (with_place place queue t))
+stuck_or_moves loopback None [] t h = inl (record { none = refl; same = refl; unlooped = unlooped-none loopback })
+stuck_or_moves loopback None (x ∷ []) t h = inr refl
+stuck_or_moves loopback None (x ∷ y ∷ xs) t h = inr refl
+stuck_or_moves loopback (Some s) queue t h =
+    go (last_tick s.ticks_left h.0 h.1) loopback refl (nat_lt (length t.wire) t.capacity) refl
+  where
+    v : TransmitterState
+    v = with_place (Some s) queue t
+
+    go : nat_lt 1 s.ticks_left ≡ false → (b : Bool) → loopback ≡ b → (free : Bool) → nat_lt (length t.wire) t.capacity ≡ free →
+        IsStuck loopback (with_place (Some s) queue t) ⊎
+        (suc (moves (transmitter.tick loopback (with_place (Some s) queue t))) ≡ suc (length queue))
+    go d true f free g =
+        inr (ap (λ (w : TransmitterState). suc (moves w)) (tick-shifted loopback v (with_place None queue t) (rw (d, f) refl)) ∙
+        ap suc (freed queue t))
+    go d false f true g =
+        let u : TransmitterState = record t { wire = t.wire ++ s.byte ∷ [] } in
+        inr (ap (λ (w : TransmitterState). suc (moves w)) (tick-shifted loopback v (with_place None queue u) (rw (d, f, g) refl)) ∙
+        ap suc (freed queue u))
+    go d false f false g =
+        inl (record { none = rw (f, g) refl; same = tick-shifted loopback v v (rw (d, f, g) refl); unlooped = rw f refl })
+
+-- ---- after 21 ticks
+
+-- the ticks towards a timeout, n ticks after which at most 17 moved a character
+abbrev Nears : ℕ → ReceiverState → Type 0
+Nears n r = (n ≤ 17 + r.timeout_ticks) ⊎ (r.timeout_ticks ≡ r.timeout_limit)
+
+nears-tick : (n ticks limit : ℕ) → (n ≤ 17 + ticks) ⊎ (ticks ≡ limit) →
+    (suc n ≤ 17 + min (ticks + 1) limit) ⊎ (min (ticks + 1) limit ≡ limit)
+nears-tick n ticks limit (inr e) = inr (omega (arith, e))
+nears-tick n ticks limit (inl h) = elim (cases_lt ticks limit) [
+  | inl low ↦ inl (omega (arith, h, low))
+  | inr high ↦ inr (omega (arith, high))
+]
+
+record Stops (n : ℕ) (c : ChipState) : Type 0 where
+  stuck : IsStuck (is_loopback c.latches) c.transmitter
+  nears : Nears n c.receiver
+
+stops-tick : (n : ℕ) (c : ChipState) → Stops n c → Stops (suc n) (tick c)
+stops-tick n c h =
+    let loopback : Bool = is_loopback c.latches in
+    let r : (tick c).receiver ≡ grow_timeout c.receiver =
+    ap (λ looped. receiver.tick c.fifo looped c.receiver) h.stuck.unlooped in
+    record {
+      stuck = subst (λ (t : TransmitterState). IsStuck loopback t) (sym h.stuck.same) h.stuck;
+      nears = subst (λ (r : ReceiverState). Nears (suc n) r) (sym r)
+          (nears-tick n c.receiver.timeout_ticks c.receiver.timeout_limit h.nears);
+    }
+
+nearer : (n : ℕ) (c : ChipState) → IsSoundChip c → CharTakes 1 c →
+    (moves (ticks n c).transmitter + n ≤ 17) ⊎ Stops n (ticks n c)
+nearer zero c w k = inl (omega (arith, moves-most c.fifo c.transmitter w.transmitter))
+nearer (suc n) c w k =
+    let d : ChipState = ticks n c in
+    let t : TransmitterState = d.transmitter in
+    let sound = (steady_ticks n c w).sound.transmitter in
+    let ticking : IsTicking 1 t.shift_register =
+    subst (λ m. IsTicking m t.shift_register) (takes-ticks 1 n c k) sound.ticking in
+    elim (nearer n c w k) [
+      | inl more ↦ elim (stuck_or_moves (is_loopback d.latches) t.shift_register t.queue t ticking) [
+        | inl stuck ↦ inr (stops-tick n d (record { stuck = stuck; nears = inl (omega (arith, more)) }))
+        | inr moved ↦ inl (omega (arith, more, moved))
+      ]
+      | inr stops ↦ inr (stops-tick n d stops)
+    ]
+
+-- nothing is left to happen after 22 ticks
+still_after : (n : ℕ) (c : ChipState) → 22 ≤ n → IsSoundChip c → CharTakes 1 c → IsStill (ticks n c)
+still_after n c many w k =
+    let d : ChipState = ticks n c in
+    let sound = (steady_ticks n c w).sound in
+    let one : d.transmitter.char_ticks ≡ 1 = takes-ticks 1 n c k in
+    elim (nearer n c w k) [
+      | inl more ↦ absurd (omega (arith, more, many))
+      | inr stops ↦ record {
+        takes = one;
+        unmoved = stops.stuck.none;
+        due = elim stops.nears [
+          | inl h ↦ omega (arith, h, many, one, sound.limit, sound.receiver.idle)
+          | inr e ↦ e
+        ];
+      }
+    ]
+
+pub still_settle : (c : ChipState) → IsSoundChip c → CharTakes 1 c → IsStill (settle c)
+unfolding settle_ticks
+still_settle c w k = still_after settle_ticks c (omega arith) w k
+
+-- ---- time does nothing to a chip that is still
+
+left-still : (n left : ℕ) → 1 ≤ left → left ≤ 1 → left_after n left ≡ left
+left-still n left low high = grind (arith, common_steps)
+
+place-still : (n : ℕ) (place : Option Shifting) → IsTicking 1 place → place_after n place ≡ place
+place-still n None h = refl
+place-still n (Some s) h =
+    ap (λ (k : ℕ). Some (record { byte = s.byte; ticks_left = k })) (left-still n s.ticks_left h.0 h.1)
+
+timeout-still : (n ticks limit : ℕ) → ticks ≡ limit → timeout_after n ticks limit ≡ ticks
+timeout-still zero ticks limit e = refl
+timeout-still (suc n) ticks limit e = omega (arith, e)
+
+pub still_ticks : (n : ℕ) (c : ChipState) → IsSoundChip c → IsStill c → ticks n c ≡ c
+still_ticks n c w s =
+    let ticking : IsTicking 1 c.transmitter.shift_register =
+    subst (λ m. IsTicking m c.transmitter.shift_register) s.takes w.transmitter.ticking in
+    ticks_skip n c (subst (λ move. StillFor n move) (sym s.unmoved) tt) ∙
+    (ap (λ (place : Option Shifting). record c {
+      transmitter = record c.transmitter { shift_register = place };
+      receiver = record c.receiver { timeout_ticks = timeout_after n c.receiver.timeout_ticks c.receiver.timeout_limit };
+    }) (place-still n c.transmitter.shift_register ticking) ∙
+    ap (λ (i : ℕ). record c { receiver = record c.receiver { timeout_ticks = i } })
+    (timeout-still n c.receiver.timeout_ticks c.receiver.timeout_limit s.due))
+
+-- a read of another register than DATA leaves it still
+pub still_read : (offset : ℕ) (c : ChipState) → (offset == offsets.DATA) ≡ false → IsStill c → IsStill (after_read offset c)
+still_read offset c other s =
+    rw other
+    (both_if IsStill _ _ (offset == offsets.ISR)
+    (both_if IsStill _ _ (is_thr_empty (interrupt c)) (record { takes = s.takes; unmoved = s.unmoved; due = s.due }) s)
+    (both_if IsStill _ _ (offset == offsets.LSR) (record { takes = s.takes; unmoved = s.unmoved; due = s.due })
+    (both_if IsStill _ _ (offset == offsets.MSR) (record { takes = s.takes; unmoved = s.unmoved; due = s.due }) s)))
+
+-- what the host takes of the output leaves a chip still whose transmitter holds nothing
+pub still_take : (count : ℕ) (c : ChipState) → length (held c.transmitter) ≡ 0 → IsStill c → IsStill (take_wire count c)
+still_take count c none s = record {
+  takes = s.takes;
+  unmoved = go c.transmitter.shift_register c.transmitter.queue none;
+  due = s.due;
+}
+  where
+    go : (place : Option Shifting) (queue : List ℕ) → length (shift_bytes place ++ queue) ≡ 0 →
+        next_move_of (if is_loopback c.latches then is_loopback c.latches
+        else nat_lt (length (drop count c.transmitter.wire)) c.transmitter.capacity) place queue ≡ None
+    go None [] e = refl
+    go None (x ∷ xs) e = absurd (omega (arith, e))
+    go (Some s) queue e = absurd (omega (arith, e))

@@ -1,0 +1,61 @@
+-- What is left while a port is still.
+use Rattle.std.proofs.Common.{◌≡◌, ◌≢◌, ℕ, ◌<◌, Bool, true, false, ◌&&◌, ◌==◌, nat_lt}
+use Rattle.std.proofs.Common.{List, [], ◌∷◌, ◌++◌, length, Option, Some, None, is_some}
+use Rattle.std.proofs.Common.{refl, ap, sym, ◌∙◌, arith, eq-eqb, if◌then◌else◌}
+use Rattle.std.proofs.lemmas.Grind.{common_steps}
+use Rattle.uart_spec.specs.Bits.{has_any}
+use Rattle.uart_spec.specs.declared.registers.interrupt_enable.TheConstants.IER
+use Rattle.uart_spec.specs.declared.registers.interrupt_type.InterruptType.{InterruptType}
+use Rattle.uart_spec.specs.declared.registers.line_status.TheConstants.LSR
+use Rattle.uart_spec.specs.declared.registers.offsets.TheConstants as offsets
+use Rattle.uart_chip.specs.declared.transmitter.Shifting.{Shifting}
+use Rattle.uart_chip.specs.Transmitter.{room, shift_bytes}
+use Rattle.uart_chip.specs.Receiver.{is_data_pending}
+use Rattle.uart_chip.specs.Chip.{ChipState, is_loopback, line_status, interrupt}
+use Rattle.uart_chip.specs.Jumps.{next_move_of}
+use Rattle.uart_chip.proofs.statuses.Status.{status_room}
+use Rattle.uart_live.proofs.Lives.{both_if}
+use Rattle.uart_live.proofs.Holds.{due_interrupts}
+use Rattle.uart_virtual.specs.Port.{IsStill}
+use Rattle.uart_virtual.specs.Laws.{HeldOnlyIfFull, WaitingInterrupts, EmptyThrTakesAByte}
+
+pub held_full : HeldOnlyIfFull
+held_full c still some outside =
+    go c.transmitter.shift_register c.transmitter.queue (nat_lt (length c.transmitter.wire) c.transmitter.capacity)
+    (rw outside at still.unmoved) some
+  where
+    go : (place : Option Shifting) (queue : List ℕ) (free : Bool) → next_move_of free place queue ≡ None →
+        (shift_bytes place ++ queue ≢ []) → free ≡ false
+    go None [] free e some = absurd (some refl)
+    go None (x ∷ xs) free e some = absurd (cc)
+    go (Some s) queue true e some = absurd (cc)
+    go (Some s) queue false e some = refl
+
+each_holds : (a b : Bool) → a ≡ true → b ≡ true → (a && b) ≡ true
+each_holds true b p q = q
+each_holds false b p q = absurd (cc)
+
+pub waiting_interrupts : WaitingInterrupts
+waiting_interrupts c still enabled some = go c.fifo refl
+  where
+    go : (fifo : Bool) → c.fifo ≡ fifo → is_some (interrupt c) ≡ true
+    go true f =
+        due_interrupts c
+        (each_holds c.fifo _ f (each_holds _ _ some (eq-eqb c.receiver.timeout_ticks c.receiver.timeout_limit still.due)))
+        enabled
+    go false f =
+        let pending : is_data_pending c.fifo c.receiver ≡ true = rw f some in
+        both_if (λ (x : Option InterruptType). is_some x ≡ true) _ _
+        (has_any c.latches.ier IER.RECEIVER_LINE_STATUS.0 && has_any (line_status c) LSR.LINE_ERRORS.0) refl
+        (rw (enabled, pending) refl)
+
+room_for_one : (n : ℕ) (fifo : Bool) → (n == 0) ≡ true → n < room fifo
+room_for_one n true e = grind (arith, common_steps)
+room_for_one n false e = grind (arith, common_steps)
+
+pub empty_takes : EmptyThrTakesAByte
+empty_takes value c e =
+    (other, λ is_data. room_for_one (length c.transmitter.queue) c.fifo (sym (status_room c) ∙ e))
+  where
+    other : offsets.DATA ≢ offsets.FCR
+    other = λ same. absurd (cc)

@@ -1,0 +1,144 @@
+//! The port in the hands of guests and monitors.
+use crate::{Todo, VirtualPort};
+use bitflags::Flags;
+use std::process::Abort;
+use std::test::Fail;
+use uart_live::Chip;
+use uart_spec::registers::{LSR, MSR};
+
+const DATA: u8 = 0;
+
+const IER: u8 = 1;
+
+const ISR: u8 = 2;
+
+const FCR: u8 = 2;
+
+const MCR: u8 = 4;
+
+const LINE: u8 = 5;
+
+fn port() -> Result<VirtualPort, Fail> {
+    Ok(VirtualPort::new(Chip::Uart16550A)?)
+}
+
+// F1: room that comes by a write of FCR, and by the end of loopback, is told.
+#[test]
+fn room_is_told_whichever_call_gives_it(rt: HostRuntime) -> Result<(), Fail> {
+    let mut port = port()?;
+    let received = port.receive(b"ab");
+    assert!(rt; received.count == 1 && !received.todo.has_room);
+    assert!(rt; !port.read(LINE).todo.has_room);
+    assert!(rt; port.write(FCR, 0x07).has_room);
+    assert!(rt; !port.write(FCR, 0x07).has_room);
+    assert!(rt; port.receive(b"0123456789abcdefg").count == 16);
+    assert!(rt; port.read(DATA).todo.has_room);
+    assert!(rt; !port.write(MCR, 0x18).has_room);
+    let received = port.receive(b"x");
+    assert!(rt; received.count == 0 && !received.todo.has_room);
+    assert!(rt; port.write(MCR, 0x08).has_room);
+    Ok(())
+}
+
+// F3: a burst is one signal, and another after the guest looked.
+#[test]
+fn a_burst_is_one_signal(rt: HostRuntime) -> Result<(), Fail> {
+    let mut port = port()?;
+    assert!(rt; !port.write(FCR, 0x07).signal);
+    assert!(rt; port.write(IER, 0x02).signal);
+    assert!(rt; port.read(ISR).value == 0xc2);
+    let mut signals = 0;
+    for _ in 0..16 {
+        if port.write(DATA, 0x41).signal && signals < 100 {
+            signals += 1;
+        }
+    }
+    assert!(rt; signals == 1);
+    assert!(rt; port.output().len() == 16);
+    assert!(rt; port.read(ISR).value == 0xc2);
+    assert!(rt; port.write(DATA, 0x41).signal);
+    Ok(())
+}
+
+// F7: the guest reads 8 of 12 at trigger 8, and returns.
+#[test]
+fn a_handler_that_reads_its_trigger_level_comes_again(rt: HostRuntime) -> Result<(), Fail> {
+    let mut port = port()?;
+    port.write(FCR, 0x87);
+    port.write(IER, 0x01);
+    assert!(rt; port.receive(b"0123456789ab").todo.signal);
+    assert!(rt; port.read(ISR).value == 0xc4);
+    let mut signals = 0;
+    for _ in 0..8 {
+        if port.read(DATA).todo.signal && signals < 100 {
+            signals += 1;
+        }
+    }
+    assert!(rt; signals == 1);
+    assert!(rt; port.read(ISR).value == 0xcc);
+    Ok(())
+}
+
+// F2: input while the line is up is signalled, once a call.
+#[test]
+fn a_top_up_is_signalled(rt: HostRuntime) -> Result<(), Fail> {
+    let mut port = port()?;
+    port.write(FCR, 0x87);
+    port.write(IER, 0x01);
+    assert!(rt; port.receive(b"0123456789abcdef").todo.signal);
+    assert!(rt; !port.read(LINE).todo.signal);
+    assert!(rt; !port.read(DATA).todo.signal);
+    let todo = port.receive(b"g").todo;
+    assert!(rt; todo.signal && todo.level);
+    assert!(rt; !port.receive(b"g").todo.signal);
+    Ok(())
+}
+
+// F4: a full output shows a transmitter that is not empty, and what the host takes lets it go on.
+#[test]
+fn a_full_output_holds_the_guest_back(rt: HostRuntime) -> Result<(), Fail> {
+    let mut port = port()?;
+    port.write(FCR, 0x07);
+    port.write(IER, 0x02);
+    let mut written = 0;
+    for byte in 0..200 {
+        if port.read(LINE).value & 0x20 != 0 && written < 1000 {
+            port.write(DATA, byte);
+            written += 1;
+        }
+    }
+    assert!(rt; written == 66 && port.output().len() == 64);
+    assert!(rt; port.read(LINE).value == 0x00);
+    assert!(rt; !port.level());
+    let todo = port.take_output(60);
+    assert!(rt; todo.signal && todo.ready == 6);
+    assert!(rt; port.output() == [60, 61, 62, 63, 64, 65].as_slice());
+    assert!(rt; port.read(LINE).value == 0x60);
+    Ok(())
+}
+
+// F8: a break, and an overrun.
+#[test]
+fn breaks_and_overruns(rt: HostRuntime) -> Result<(), Fail> {
+    let mut port = port()?;
+    port.write(IER, 0x05);
+    let todo = port.receive_one(0, LSR::BREAK_INTERRUPT)?;
+    assert!(rt; todo.signal);
+    assert!(rt; port.read(ISR).value == 0x06);
+    assert!(rt; port.read(LINE).value == 0x71);
+    port.receive_one(0x68, LSR::empty())?;
+    assert!(rt; port.read(LINE).value == 0x63);
+    assert!(rt; port.read(DATA).value == 0x68);
+    port.set_lines(MSR::CTS)?;
+    assert!(rt; port.read(6).value == 0x11);
+    assert!(rt;
+        port.read(IER).todo
+            == Todo {
+                signal: false,
+                level: false,
+                has_room: false,
+                ready: 0
+            }
+    );
+    Ok(())
+}
