@@ -82,7 +82,7 @@ extern "C" fn handle_interrupt() {
         let Some(ring) = &mut console.ring else {
             end(End::NoRings)
         };
-        while ring.service() == MAX_INTERRUPTS {}
+        ring.handle(4 * MAX_INTERRUPTS);
     });
     machine::end_of_interrupt();
 }

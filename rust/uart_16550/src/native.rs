@@ -25,6 +25,8 @@ pub mod backend {
     //!
     //! The driver passes offsets of 0 to 7. Other code that gets hold of a backend may pass any, so a
     //! backend that is unsafe inside tests its offset, as the two first do.
+    //!
+    #![doc = include_str!("../BACKENDS.md")]
 
     pub use crate::access::VolatileMemory;
     #[cfg(any(target_arch = "x86", target_arch = "x86_64"))]

@@ -41,6 +41,8 @@
 //! ring.service();
 //! # Ok::<(), Box<dyn std::error::Error>>(())
 //! ```
+//!
+#![doc = include_str!("../HANDLERS.md")]
 
 pub use crate::proved::uart_ring::{
     HandleEnd, Handled, MAX_CAPACITY, MAX_INTERRUPTS, RingError, Uart16550Ring,
