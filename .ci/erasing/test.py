@@ -416,6 +416,7 @@ AROUND = [
     ("src/proved.rs", "", "pub mod uart_spec;", "src/proved.rs: there"),
     ("build.rs", "", "fn main() {}", "build.rs: there"),
     (".cargo/config.toml", "", "[build]\nrustflags = []\n", "more than the stand-in"),
+    (".cargo/config.toml", "", "[net]\nretry = 0\n", "more than the stand-in"),
     ("Cargo.toml", 'edition = "2024"', 'edition = "2021"', 'not `edition = "2024"`'),
     ("Cargo.toml", "[lib]\n", '[lib]\npath = "src/other.rs"\n', "`path` of the library"),
     ("Cargo.toml", "[lib]\n", '[lib]\nedition = "2021"\n', "`edition` of the library"),
