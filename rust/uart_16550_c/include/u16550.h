@@ -11,7 +11,7 @@
  * through a pointer is written only if it returns U16550_OK, unless the function says otherwise.
  *
  * Pointers must point to what they say, or be null, which is refused if nothing else is said. An array of length 0 may be
- * null. Arrays and structs of one call must not overlap.
+ * null. Arrays and structs of one call must not overlap, and nobody else changes them until the call has returned.
  */
 #ifndef U16550_H
 #define U16550_H
@@ -36,7 +36,7 @@ enum u16550_misuse {
     U16550_MISALIGNED = -2,
     U16550_NOT_MADE = -3,         /* there is no driver in this memory */
     U16550_BUSY = -4,             /* a call over this driver is not done: the caller is a callback or an interrupt handler */
-    U16550_BAD_LENGTH = -5,       /* no array is so long */
+    U16550_BAD_LENGTH = -5,       /* no array is so long: it would be larger than half of all memory, or have the last address */
     U16550_BAD_CODE = -6,         /* a number in a configuration or a state stands for nothing */
     U16550_NOT_COMPUTABLE = -7,   /* frequency or baud rate 0, or a prescaler division factor above 15 */
     U16550_ZERO_LIMIT = -8,       /* a spin limit of 0 */
@@ -118,6 +118,9 @@ struct u16550_io {
 /*
  * The memory of a driver. What is in it is the library's. It may be copied to another place between two calls, if only one
  * of the copies is used from then on. One thread at a time may use a driver; different drivers are independent.
+ *
+ * Set it to zero before a first driver is made in it, unless it is static, and so zero from the start. What was left in it
+ * may look like a driver, or like a call that is not done.
  */
 struct u16550 {
     uint64_t opaque[28];
@@ -178,8 +181,9 @@ U16550_ASSERT(sizeof(struct u16550_loopback_failure) == 34, "struct u16550_loopb
 
 /* --------------------------------------------------------------- making a driver
  *
- * These make a driver in the memory, whatever is in it. They make no access. The driver has the default configuration and
- * a spin limit of 1000000 polls.
+ * These make a driver in the memory, in place of one that is there, whose rings end. They make no access. If a call over the
+ * driver that is there is not done, they return U16550_BUSY. The driver has the default configuration and a spin limit of
+ * 1000000 polls.
  */
 
 /* A driver whose functions get offsets. */
@@ -326,7 +330,8 @@ enum u16550_msr_bits {
 
 /*
  * Gives a driver rings for so many bytes to be sent and so many received bytes, in this memory of size bytes. The memory is
- * the rings' until u16550_ring_end or u16550_end. Refused by an enum u16550_ring_error.
+ * the rings' until u16550_ring_end or u16550_end, or until another driver is made in the place of this one. Refused by an
+ * enum u16550_ring_error.
  */
 int u16550_ring_new(struct u16550 *uart, uint8_t *memory, size_t size, size_t tx_capacity, size_t rx_capacity);
 

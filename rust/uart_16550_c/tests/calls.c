@@ -34,12 +34,14 @@ void u16550_panic(void)
 static struct device d;
 static struct u16550 uart;
 static struct u16550_config config;
+static unsigned accesses; /* that were made before a misuse */
 
 /* A new device, and a driver of it in its default state. */
 static void anew(void)
 {
     struct u16550_io io;
     d = device_new();
+    accesses = 0;
     io = device_io(&d);
     memset(&uart, 0xa5, sizeof uart);
     OK(u16550_new(&uart, &io));
@@ -58,7 +60,7 @@ static void ready(void)
 static void misuse(int got, int wanted, const char *what, int line)
 {
     compare(__FILE__, line, what, got, wanted);
-    compare(__FILE__, line, "accesses", d.accesses, 0);
+    compare(__FILE__, line, "accesses", d.accesses, accesses);
 }
 
 #define MISUSE(expression, wanted) misuse(expression, wanted, #expression, __LINE__)
@@ -573,6 +575,8 @@ static void rings(void)
     OK(u16550_write_text(&uart, "t\n", 2, NULL));
     IS(d.sent_len, 43);
     IS(u16550_ring_new(&uart, memory, sizeof memory, 40, 24), U16550_HAS_RINGS);
+    IS(u16550_ring_new(&uart, NULL, 1, 40, 24), U16550_HAS_RINGS);
+    IS(u16550_ring_new(&uart, memory, SIZE_MAX, 40, 24), U16550_HAS_RINGS);
     OK(u16550_ring_resume_transmit(&uart));
     d.is_stuck = 1;
     OK(u16550_ring_queue(&uart, (const uint8_t *)"vw", 2, &count));
@@ -702,6 +706,8 @@ static void nulls(void)
     uint32_t rate;
     size_t count;
     const int null = U16550_NULL_POINTER;
+    volatile uintptr_t top = UINTPTR_MAX;
+    const uintptr_t last = top;
     anew();
     io = device_io(&d);
     MISUSE(u16550_new(&uart, NULL), null);
@@ -749,6 +755,10 @@ static void nulls(void)
     MISUSE(u16550_dump_baud_rate(&dump, &config, NULL), null);
     MISUSE(u16550_receive_bytes(&uart, &byte, SIZE_MAX / 2 + 1, &count), U16550_BAD_LENGTH);
     MISUSE(u16550_send_bytes(&uart, &byte, SIZE_MAX, &count), U16550_BAD_LENGTH);
+    /* An array with the last address would end where no pointer can point to. */
+    MISUSE(u16550_send_bytes(&uart, (const uint8_t *)(last - 3), 4, &count), U16550_BAD_LENGTH);
+    MISUSE(u16550_receive_bytes(&uart, (uint8_t *)last, 1, &count), U16550_BAD_LENGTH);
+    MISUSE(u16550_ring_new(&uart, (uint8_t *)(last - 1), 2, 1, 1), U16550_BAD_LENGTH);
     OK(u16550_ring_new(&uart, memory, sizeof memory, 1, 1));
     MISUSE(u16550_ring_transmit_len(&uart, NULL), null);
     MISUSE(u16550_ring_receive_len(&uart, NULL), null);
@@ -762,18 +772,101 @@ static void nulls(void)
     MISUSE(u16550_ring_take_modem(&uart, NULL), null);
 }
 
-/* A callback that calls the same driver, and a driver that is copied to another place. */
-static void reentry_and_moves(void)
+/* Each constructor over the memory of a driver is refused by this number. */
+static void not_made(struct u16550 *u, int wanted)
 {
-    struct u16550 moved;
+    struct u16550_io io = device_io(&d);
+    struct u16550_state state;
+    memset(&state, 0, sizeof state);
+    MISUSE(u16550_new(u, &io), wanted);
+    MISUSE(u16550_new_port(u, &io, 0), wanted);
+    MISUSE(u16550_new_port(u, &io, UINT16_MAX), wanted);
+    MISUSE(u16550_new_mmio(u, &io, 1, 1), wanted);
+    MISUSE(u16550_new_mmio(u, &io, 0, 0), wanted);
+    MISUSE(u16550_from_state(u, &io, &state), wanted);
+}
+
+static struct u16550 copy;
+
+/* In the middle of a call, at its first access: each call over the driver is refused. */
+static void call_all(struct device *device)
+{
+    device->meanwhile = NULL;
+    accesses = device->accesses;
+    copy = uart;
+    refused(&uart, U16550_BUSY);
+    not_made(&uart, U16550_BUSY);
+}
+
+/* Callbacks that call the same driver, at each kind of call that makes accesses. */
+static void reentry(void)
+{
+    static const char ten[] = "0123456789";
+    struct u16550_io io;
+    uint8_t value, slots[10], *heap;
+    size_t count;
+    ready();
+    d.meanwhile = call_all;
+    OK(u16550_ier(&uart, &value));
+    d.meanwhile = call_all;
+    OK(u16550_init(&uart, &config));
+    d.meanwhile = call_all;
+    OK(u16550_test_loopback(&uart, NULL));
+    d.meanwhile = call_all;
+    OK(u16550_write_text(&uart, "t", 1, NULL));
+    BYTES(d.sent, "t");
+    /* Rings in memory of their own, whose ends a sanitiser sees. */
+    ready();
+    heap = (uint8_t *)malloc(20);
+    if (heap == NULL)
+        abort();
+    OK(u16550_ring_new(&uart, heap, 20, 10, 10));
+    d.is_stuck = 1;
+    d.meanwhile = call_all;
+    OK(u16550_ring_queue(&uart, (const uint8_t *)ten, 10, &count));
+    IS(count, 10);
+    d.is_stuck = 0;
+    d.meanwhile = call_all;
+    OK(u16550_ring_resume_transmit(&uart));
+    BYTES(d.sent, "0123456789");
+    OK(u16550_enable_interrupts(&uart, U16550_IER_DATA_READY));
+    device_arrive(&d, ten);
+    d.meanwhile = call_all;
+    OK(u16550_ring_service(&uart, &count));
+    OK(u16550_ring_take(&uart, slots, 10, &count));
+    IS(count, 10);
+    BYTES(slots, "0123456789");
+    free(heap);
+    /* Between two calls a constructor replaces what is there. */
+    io = device_io(&d);
+    OK(u16550_new(&uart, &io));
+    IS(u16550_ring_end(&uart), U16550_NO_RINGS);
+}
+
+/* Memory in which a call was left is free again once it is zero. */
+static void left_calls(void)
+{
+    struct u16550_io io;
     uint8_t value;
     ready();
-    d.calls = &uart;
-    d.called = 99;
+    io = device_io(&d);
+    d.meanwhile = call_all;
     OK(u16550_ier(&uart, &value));
-    IS(d.called, U16550_BUSY);
-    d.calls = NULL;
-    OK(u16550_ier(&uart, &value));
+    accesses = d.accesses;
+    refused(&copy, U16550_BUSY);
+    not_made(&copy, U16550_BUSY);
+    memset(&copy, 0, sizeof copy);
+    refused(&copy, U16550_NOT_MADE);
+    OK(u16550_new(&copy, &io));
+    OK(u16550_try_send_byte(&copy, 'z'));
+    BYTES(d.sent, "z");
+}
+
+/* A driver that is copied to another place. */
+static void moves(void)
+{
+    struct u16550 moved;
+    ready();
     moved = uart;
     memset(&uart, 0, sizeof uart);
     OK(u16550_try_send_byte(&moved, 'v'));
@@ -816,7 +909,9 @@ int main(void)
     ring_errors();
     misuses();
     nulls();
-    reentry_and_moves();
+    reentry();
+    left_calls();
+    moves();
     texts();
     printf("%d compared, %d failed\n", compared, failed);
     return failed != 0;
