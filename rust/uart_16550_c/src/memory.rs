@@ -88,14 +88,14 @@ pub unsafe fn given<'a, T>(at: *const T) -> Result<&'a T, Failure> {
 
 // Returns whether an array of this length can begin here. An array with the last address in it is none: the end of an array
 // is an address, in C as in Rust, and a slice must not wrap around.
-fn fits(at: *const u8, len: usize) -> Result<(), Failure> {
-    if at.is_null() {
-        return Err(Failure::NullPointer);
+fn fits<T>(at: *const T, len: usize) -> Result<(), Failure> {
+    usable(at.cast_mut())?;
+    match len.checked_mul(size_of::<T>()) {
+        Some(size) if size <= isize::MAX as usize && at.addr().checked_add(size).is_some() => {
+            Ok(())
+        }
+        _ => Err(Failure::BadLength),
     }
-    if len > isize::MAX as usize || at.addr().checked_add(len).is_none() {
-        return Err(Failure::BadLength);
-    }
-    Ok(())
 }
 
 /// Returns the bytes of an array. The pointer may be null if it has none.
@@ -108,7 +108,7 @@ pub unsafe fn bytes<'a>(at: *const u8, len: usize) -> Result<&'a [u8], Failure> 
         return Ok(&[]);
     }
     fits(at, len)?;
-    // SAFETY: the pointer is not null, the length is one of an array, and the caller promises the rest.
+    // SAFETY: the pointer is usable, the length is one of an array, and the caller promises the rest.
     Ok(unsafe { slice::from_raw_parts(at, len) })
 }
 
@@ -117,12 +117,12 @@ pub unsafe fn bytes<'a>(at: *const u8, len: usize) -> Result<&'a [u8], Failure> 
 /// # Safety
 ///
 /// The array is there, and nobody else uses it meanwhile.
-pub unsafe fn slots<'a>(at: *mut u8, len: usize) -> Result<&'a mut [u8], Failure> {
+pub unsafe fn slots<'a, T>(at: *mut T, len: usize) -> Result<&'a mut [T], Failure> {
     if len == 0 {
         return Ok(&mut []);
     }
     fits(at, len)?;
-    // SAFETY: the pointer is not null, the length is one of an array, and the caller promises the rest.
+    // SAFETY: the pointer is usable, the length is one of an array, and the caller promises the rest.
     Ok(unsafe { slice::from_raw_parts_mut(at, len) })
 }
 

@@ -1,5 +1,6 @@
 //! The rings, for use with interrupts.
 
+use crate::data::CHandled;
 use crate::device::Device;
 use crate::memory::{Held, Memory, bytes, slots, usable, with};
 use crate::status::{Failure, status};
@@ -133,6 +134,26 @@ pub unsafe extern "C" fn u16550_ring_resume_transmit(uart: *mut Memory) -> c_int
     };
     // SAFETY: the caller promises that the pointer is null or valid.
     status(unsafe { with(uart, resume) })
+}
+
+#[unsafe(no_mangle)]
+pub unsafe extern "C" fn u16550_ring_handle(
+    uart: *mut Memory,
+    limit: usize,
+    handled: *mut CHandled,
+) -> c_int {
+    // SAFETY: the caller promises that pointers are null or valid.
+    unsafe { report(uart, handled, |ring| Ok(ring.handle(limit).into())) }
+}
+
+#[unsafe(no_mangle)]
+pub unsafe extern "C" fn u16550_ring_retrigger(uart: *mut Memory) -> c_int {
+    let retrigger = |held: &mut Held| {
+        held.ring()?.retrigger();
+        Ok(())
+    };
+    // SAFETY: the caller promises that the pointer is null or valid.
+    status(unsafe { with(uart, retrigger) })
 }
 
 #[unsafe(no_mangle)]

@@ -24,9 +24,11 @@ struct device {
     uint8_t sent[ROOM];
     unsigned sent_len;
     unsigned accesses;
+    unsigned falls;              /* how often 0 was written into IER, so that the interrupt line is low */
     uint8_t fifo_on, thr_pending;
     /* what is wrong with it */
     uint8_t is_absent, is_stuck, is_silent;
+    uint8_t shows;               /* that ISR shows, if not 0 */
     unsigned room;               /* how many more bytes it sends; it is then full */
     uint8_t flips;               /* that a byte in loopback comes back with */
     unsigned flips_after;        /* so many bytes */
@@ -37,6 +39,8 @@ struct device {
 static inline uint8_t device_isr(struct device *d)
 {
     uint8_t ier = d->registers[IER], fifo = d->fifo_on ? FIFOS_ENABLED : 0;
+    if (d->shows)
+        return fifo | d->shows;
     if ((ier & U16550_IER_RECEIVER_LINE_STATUS) && d->errors)
         return fifo | LINE_STATUS;
     if ((ier & U16550_IER_DATA_READY) && d->arrived_len)
@@ -124,6 +128,8 @@ static inline void device_write(void *context, uintptr_t address, uint8_t value)
         *(offset ? &d->dlm : &d->dll) = value;
         return;
     }
+    if (offset == IER && value == 0)
+        d->falls++;
     switch (offset) {
     case DATA:
         device_send(d, value);
