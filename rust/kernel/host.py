@@ -1,10 +1,13 @@
 #!/usr/bin/env python3
-"""The person at the other end of the cable: host.py BANNER POLLED [ENDS] -- COMMAND..
+"""The person at the other end of the cable: host.py BANNER ECHOED.. -- COMMAND..
 
-Starts a machine whose serial port is at standard input and output. Waits for the line BANNER, types 10,000 bytes, and waits
-until they come back and the line POLLED; with ENDS types 10,000 others, and waits until these come back and the line ENDS.
-Every byte that the machine sends has to be as expected, up to the last one. Then the machine has to end, with the status
-that the environment's STATUS names. Prints how long it took.
+Starts a machine whose serial port is at standard input and output. Waits for the line BANNER. Then for each line ECHOED types
+10,000 bytes, and waits until they come back and this line. Every byte that the machine sends has to be as expected, up to the
+last one. Then the machine has to end. Prints how long it took.
+
+The environment says more: STATUS is the status with which the machine has to end, FIRST what is typed behind the banner and
+does not come back, COUNT another number of bytes, BURSTS=1 that they are typed in bursts with pauses, and PATIENCE after how
+many seconds the machine is stopped.
 """
 import os
 import random
@@ -13,8 +16,11 @@ import sys
 import threading
 import time
 
-COUNT = 10_000
-PATIENCE = 30  # seconds, after which the machine is stopped
+COUNT = int(os.environ.get("COUNT", "10000"))
+PATIENCE = float(os.environ.get("PATIENCE", "30"))
+# Around the sizes of a FIFO and of the rings, so that each is filled again while it is read, and runs empty.
+MOST_IN_A_BURST = 600
+LONGEST_PAUSE = 0.001  # seconds
 
 
 def main():
@@ -27,9 +33,11 @@ def main():
     guard.start()
     try:
         expect(machine, lines[0].encode() + b"\r\n", "the banner")
+        type_in(machine, [os.environ.get("FIRST", "").encode()])
         for line in lines[1:]:
             typed = numbers.randbytes(COUNT)
-            threading.Thread(target=type_in, args=(machine, typed), daemon=True).start()
+            pieces = bursts(typed) if os.environ.get("BURSTS") else [typed]
+            threading.Thread(target=type_in, args=(machine, pieces), daemon=True).start()
             expect(machine, typed, "the echo")
             expect(machine, b"\r\n" + line.encode() + b"\r\n", "the line behind the echo")
         expect_end(machine)
@@ -39,10 +47,24 @@ def main():
     print(f"{time.monotonic() - start:.2f} seconds")
 
 
-def type_in(machine, typed):
-    """Types all bytes. The machine takes them as it reads."""
-    machine.stdin.write(typed)
-    machine.stdin.flush()
+def bursts(typed):
+    """The bytes in pieces of random sizes, with a pause behind each. No two runs have the same."""
+    done = 0
+    while done < len(typed):
+        size = random.randint(1, MOST_IN_A_BURST)
+        yield typed[done:done + size]
+        time.sleep(random.uniform(0, LONGEST_PAUSE))
+        done += size
+
+
+def type_in(machine, pieces):
+    """Types all bytes. The machine takes them as it reads, unless it has ended."""
+    try:
+        for piece in pieces:
+            machine.stdin.write(piece)
+            machine.stdin.flush()
+    except BrokenPipeError:
+        pass
 
 
 def expect(machine, wanted, what):
