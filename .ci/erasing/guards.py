@@ -1,4 +1,4 @@
-"""What the clauses rest on that Rust code outside can break: the meaning of the words that a guard is for, and what a public trait promises.
+"""What clauses rest on that Rust code outside can break: the meaning of the words that a guard is for, and what a public trait promises.
 
 A guard is tied to the words of its clauses (table.py). Here each word of a clause that Rust code tests is tied to its definition.
 """

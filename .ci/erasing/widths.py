@@ -9,6 +9,7 @@ from words import KEYWORDS
 # What is multiplied, shifted or added: the file, the words around the sign or the call, and why no target makes a difference.
 U16, U32, U64 = "of u16", "of u32", "of u64"
 OF_A_SLICE = "counts bytes of a slice, and says what it does above usize::MAX"
+AT_MOST = "no more than what is before it, and not below 0"
 OF_ADDRESSES = "an address: `new` refuses what does not fit"
 LISTED = {
     "uart_spec/src/baud.rt": {
@@ -35,9 +36,9 @@ LISTED = {
     "uart_16550/src/tty.rt": {"done . saturating_add": OF_A_SLICE},
     "uart_chip/src/controlling.rt": {"u16 * 256": U16},
     "uart_chip/src/receiver.rt": {"4 * char_ticks": U16},
-    "uart_chip/src/receiving.rt": {"ticks . saturating_add": U32, ") . saturating_sub": "is 0 at least, and no more than what is before it"},
+    "uart_chip/src/receiving.rt": {"ticks . saturating_add": U32, ") . saturating_sub": AT_MOST},
     "uart_chip/src/transmitter.rt": {"overflows . saturating_add": U64},
-    "uart_chip/src/wire.rt": {"limit . saturating_sub": "is 0 at least, and no more than what is before it"},
+    "uart_chip/src/wire.rt": {"limit . saturating_sub": AT_MOST},
     "uart_live/src/fixed.rt": {"2 * WIRE_ROOM": "128"},
     "uart_live/src/sound.rt": {"TIMEOUT_CHARACTERS * char_ticks": U32},
 }
