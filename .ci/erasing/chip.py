@@ -5,7 +5,7 @@ import examples
 import table
 from table import Guard
 
-CRATES = ["uart_spec", "uart_chip", "uart_live"]
+CRATES = ["uart_spec", "uart_chip", "uart_live", "uart_virtual"]
 OUTPUT = "rust/uart_16550_chip/src/proved"
 
 # Files by hand that are those of the driver's crate, but for the paths in their examples.
@@ -35,6 +35,7 @@ LEFT_OUT = {
     "uart_spec/src/config.rt": OF_THE_DRIVER,
     "uart_spec/src/dump.rt": OF_THE_DRIVER,
     "uart_spec/src/errors.rt": OF_THE_DRIVER,
+    "uart_virtual/src/tests.rt": "tests",
 }
 LEFT_OUT_ITEMS = {
     "calc_frequency": OF_THE_DRIVER,
@@ -42,6 +43,8 @@ LEFT_OUT_ITEMS = {
     "calc_divisor": OF_THE_DRIVER,
     "other_factor": OF_THE_DRIVER,
     "whole_quotient": OF_THE_DRIVER,
+    "ticks_of": OF_THE_DRIVER,
+    "nearest_factor": OF_THE_DRIVER,
     "HeapFifo": HEAP,
     "HeapWire": HEAP,
     "Marks": HEAP,
@@ -49,7 +52,7 @@ LEFT_OUT_ITEMS = {
     "AllocError": HEAP,
     "Global": HEAP,
 }
-LEMMA_FILES = ["uart_spec/src/laws.rt", "uart_live/src/laws.rt"]
+LEMMA_FILES = ["uart_spec/src/laws.rt", "uart_live/src/laws.rt", "uart_virtual/src/laws.rt"]
 
 # The parts of the chip, which only `LiveChip` reaches.
 HIDDEN_IN = ["uart_chip"]
@@ -57,6 +60,7 @@ HIDDEN = "Uart Transmitter Receiver Characters Modem Fifo FixedFifo Wire FixedWi
 
 INSIDE = table.HIDDEN_INSIDE
 OFFSET = ["requires { offset < NUM_REGISTERS }"]
+STILL = "requires still { IsStill chip.old }"
 TICKS = "requires char_ticks { char_ticks ≤ MAX_CHAR_TICKS }"
 CLAUSES = {
     "characters::Characters::new": ["requires { Q.items queue ≡ [] }"],
@@ -126,6 +130,42 @@ GUARDS = {
         ["requires { length (state self.old).wire < (state self.old).capacity }"], reason=table.NO_BODY
     ),
 }
+# A byte that goes onto the wire at once.
+SENDS_AT_ONCE = "requires { sending_spec.sends_at_once self.old ≡ true }"
+GUARDS["uart_chip::sending::put_on_wire"] = Guard(["requires { spec.is_ready (T.state parts.old) ≡ true }"], reason=table.INSIDE)
+GUARDS["uart_chip::sending::send_at_once"] = Guard(
+    ["requires { spec.sends_at_once (P.state parts.old) ≡ true }"],
+    test='assert!(sends_at_once(parts), "the transmitter is not idle");',
+    reason="not exported, but reached by `LiveChip::send_at_once`",
+)
+GUARDS["uart_chip::chip::Uart::send_at_once"] = Guard(
+    [SENDS_AT_ONCE], tested_by="send_at_once", reason="it does nothing else"
+)
+GUARDS["uart_live::live::LiveChip::send_at_once"] = Guard(
+    [SENDS_AT_ONCE],
+    tested_by="send_at_once",
+    panics="If [`sends_at_once`](Self::sends_at_once) returns false. Nothing changed then.",
+    reason="it does nothing else",
+)
+# Of a port, whose chip is always still.
+GUARDS["uart_virtual::port::finish_still"] = Guard(["requires { IsStill chip.now }"], reason=table.IN_FILE)
+GUARDS["uart_virtual::port::finish_read"] = Guard(
+    [
+        "requires takes { chip.old.transmitter.char_ticks ≡ 1 }",
+        "requires still { (offset == offsets.DATA) ≡ false → IsStill chip.old }",
+    ],
+    reason=table.IN_FILE,
+)
+GUARDS["uart_virtual::port::send"] = Guard(
+    [
+        "requires live { IsLive chip.old }",
+        STILL,
+        "requires sends { sends_at_once chip.old ≡ true }",
+        "requires settled { port.is_settled told ≡ true }",
+    ],
+    reason=table.IN_FILE,
+)
+GUARDS["uart_virtual::port::take"] = Guard(["requires { IsStill chip.old }"], reason=table.IN_FILE)
 # The access that a guest makes most often is looked for first, and needs no test.
 for access, first in (("read", "LSR"), ("write", "DATA")):
     GUARDS[f"uart_chip::controlling::{access}_register"] = Guard(
@@ -139,6 +179,21 @@ for access, first in (("read", "LSR"), ("write", "DATA")):
     GUARDS[f"uart_chip::chip::Uart::{access}"] = Guard(OFFSET, tested_by=access, reason="it does nothing else")
     GUARDS[f"uart_live::live::LiveChip::{access}"] = Guard(
         OFFSET, tested_by=access, panics="If the offset is 8 or more.", reason="it does nothing else"
+    )
+# Each write that is no byte for an idle transmitter is slow.
+GUARDS["uart_virtual::port::write_slowly"] = Guard(
+    ["requires offset { offset < NUM_REGISTERS }", STILL],
+    tested_by="write",
+    reason="of the offset; the chip of a port is always still",
+)
+GUARDS["uart_virtual::port::write"] = Guard(
+    ["requires offset { offset < NUM_REGISTERS }", STILL],
+    tested_by="write_slowly",
+    reason="of each offset but that of DATA; the chip of a port is always still",
+)
+for access in ("read", "write"):
+    GUARDS[f"uart_virtual::port::VirtualPort::{access}"] = Guard(
+        OFFSET, tested_by=access, panics="If the offset is 8 or more.", reason="before it changes anything"
     )
 # Of types that are not exported, so nothing tests what the trait requires.
 IMPLEMENTED = {
@@ -156,7 +211,7 @@ SAME_NAME = {
     **table.SAME_NAME,
     "as_slice": (OF_WIRES, OWN),
     "capacity": (OF_WIRES, OWN),
-    "take": (OF_WIRES, OWN),
+    "take": ("", OWN_OR_NAMED),
     "clear": ("", OWN),
     "get": (OF_QUEUES, OWN),
     "is_empty": ((*OF_QUEUES, "impl Receiver"), OWN),
@@ -198,7 +253,10 @@ TABLE = types.SimpleNamespace(
         "CASTS": {
             **{f"uart_chip::controlling::{name}": ["offset"] for name in ("read_register", "write_register")},
             "uart_chip::receiving::is_data_pending": ["characters_of ( parts . trigger ( ) )"],
+            **{f"uart_virtual::port::{name}": ["offset"] for name in ("is_look", "finish_read", "is_fast")},
         },
         "LARGE": {"uart_spec/src/event.rt": ["65_536"]},
+        # A field of a port's answers; the macro is none of `MACROS`.
+        "WORDS": [word for word in table.WORDS if word != "todo"],
     }
 )

@@ -28,6 +28,8 @@ FORMATTER = re.compile(
 OPENING = {"(": ")", "[": "]", "{": "}"}
 ITEMS = ("fn", "impl", "mod", "trait", "struct", "enum", "use", "pub", "const", "type")
 VISIBILITIES = ("pub", "pub ( crate )", "pub ( super )")
+# What may stand before an operand that is cast: nothing that makes it a part of a larger one.
+BEFORE_CAST = ("(", "[", "{", ",", ";", "*", "+", "=", "if", "match")
 
 
 class File:
@@ -659,6 +661,8 @@ class File:
             self.refuse(f"{form.path} can be reached, and its guard says that it is not exported", form.start)
         if guard.reason == self.table.INSIDE and (is_reached or guard.test):
             self.refuse(f"{form.path} can be reached, and its guard says that it is private", form.start)
+        if guard.reason == self.table.IN_FILE and (form.visibility or is_reached or guard.test):
+            self.refuse(f"{form.path} can be reached, and its guard says that it is private to its file", form.start)
         if guard.reason == self.table.NO_BODY and form.has_body:
             self.refuse(f"{form.path} has a body, and its guard says that it has none", form.start)
         if not guard.test and not guard.tested_by and not guard.reason:
@@ -673,7 +677,7 @@ class File:
         """A cast to `usize` is one of those that are listed for this function."""
         for what in self.table.CASTS.get(whole, []):
             count = len(what.split())
-            if self.words(at - count, at) == what and self.word(at - count - 1) in ("(", "[", ",", "*", "+", "=", "match"):
+            if self.words(at - count, at) == what and self.word(at - count - 1) in BEFORE_CAST:
                 return
         self.refuse("a cast to `usize` that is not listed", at)
 

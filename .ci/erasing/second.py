@@ -45,7 +45,7 @@ def left_out(text, crate, allow):
         return text
     attributes = r"(?m)(?:^#\[[^\n]*\]\n)*^"
     text = re.sub(rf"{attributes}impl\b[^{{]*\b(?:{names})\b[^{{]*\{{(?:\n.*?^)?\}}", "", text, flags=re.DOTALL)
-    text = re.sub(rf"{attributes}(?:pub )?(?:struct|enum|fn) (?:{names})\b.*?^\}}", "", text, flags=re.DOTALL)
+    text = re.sub(rf"{attributes}(?:pub(?:\(\w+\))? )?(?:struct|enum|fn) (?:{names})\b.*?^\}}", "", text, flags=re.DOTALL)
     text = re.sub(rf" = (?:{names})\b(?:<\w+>)?(?=[,>])", "", text)
     text = re.sub(rf"\buse [\w:]+::(?:{names});", "", text)
     # of the list of a `use` the names that are left, or nothing

@@ -120,6 +120,7 @@ COMPUTABLE = ["requires { IsComputable config }"]
 NOT_COMPUTABLE = "If the configuration is not computable (`Config::is_computable`)."
 NO_BODY = "no body: each implementation has its own entry"
 INSIDE = "private: each caller is proved to meet it"
+IN_FILE = "private to its file: each caller is proved to meet it"
 HIDDEN_INSIDE = "not exported: each caller is proved to meet it"
 EIGHT = 'assert!(register_offset < 8, "no register has this offset");'
 
@@ -178,6 +179,20 @@ GUARDS = {
         reason=INSIDE,
     ),
     "uart_spec::baud::whole_quotient": Guard(["requires { 0 < divisor }"], reason=INSIDE),
+    "uart_spec::baud::ticks_of": Guard(["requires prescaler { prescaler prescaler_division_factor ≤ 15 }"], reason=INSIDE),
+    "uart_spec::baud::nearest_factor": Guard(
+        [
+            "requires some { 0 < ticks }",
+            "requires ticks { ticks < 2 ^ 40 }",
+            "requires frequency { frequency < 2 ^ 32 }",
+        ],
+        reason=INSIDE,
+    ),
+    "uart_spec::config::Config::nearest": Guard(
+        ["requires { IsComputable self }"],
+        test='assert!(self.is_computable(), "a configuration that is not computable");',
+        panics=NOT_COMPUTABLE,
+    ),
     "uart_spec::registers::prescaler_division::PSD::set_pdf": Guard(
         ["requires { pdf ≤ 15 }"],
         test='assert!(pdf <= 15, "a prescaler division factor above 15");',
@@ -198,6 +213,12 @@ GUARDS = {
     "uart_16550::driver::transmit::Uart16550::send_some": Guard(["requires { 0 < length bytes.now }"], reason=INSIDE),
     "uart_16550::driver::init::Uart16550::init": Guard(
         COMPUTABLE,
+        tested_by="calc_divisor",
+        panics=NOT_COMPUTABLE + " No access was made then.",
+        reason="before the first access; a test here would be the second",
+    ),
+    "uart_16550::driver::frame::Uart16550::set_frame": Guard(
+        ["requires { IsComputable config.now }"],
         tested_by="calc_divisor",
         panics=NOT_COMPUTABLE + " No access was made then.",
         reason="before the first access; a test here would be the second",
@@ -258,7 +279,7 @@ NonZeroU8::new NonZeroU64::new NonZeroUsize::new mem::replace HeapCircularBuffer
 """.split()
 # Methods of std that mean in Rattle what they mean in Rust, given that no call panics or overflows.
 METHODS = """
-all as_array as_bytes as_ref checked_add cmp copy_from_slice enumerate filter first_chunk get is_empty is_err is_none is_none_or
+abs_diff all as_array as_bytes as_ref checked_add cmp copy_from_slice enumerate filter first_chunk get is_empty is_err is_none is_none_or
 is_ok is_power_of_two iter iter_mut len min ok_or saturating_add then unwrap unwrap_or write_char write_fmt write_str
 """.split()
 # Methods of the trait `Flags`, in flags.rs.

@@ -615,6 +615,7 @@ class Tests:
         for entry, cause in (
             (table.GUARDS[path]._replace(test=None), "has neither a test nor a reason"),
             (table.GUARDS[path]._replace(test=None, reason=table.INSIDE), "can be reached"),
+            (table.GUARDS[path]._replace(test=None, reason=table.IN_FILE), "private to its file"),
             (table.GUARDS[path]._replace(test=None, reason=table.NO_BODY), "has a body"),
             (table.GUARDS[path]._replace(tested_by="other"), "does not call other"),
         ):

@@ -11,12 +11,12 @@ use uart_16550::native::backend::{
 };
 use uart_16550::native::embedded_io::{Read, ReadReady, Write, WriteReady};
 use uart_16550::native::{
-    BaudRate, ByteReceiveError, ByteSendError, Config, ConfigRegisterDump, DriverState, InitError,
-    InvalidAddressError, InvalidDivisorError, LoopbackError, NonIntegerBaudRateError,
-    NonIntegerDivisorError, RemoteReadyToReceiveError, StalledError, Uart16550, Uart16550Tty,
-    Uart16550TtyError,
+    AttachError, BaudRate, ByteReceiveError, ByteSendError, Config, ConfigRegisterDump,
+    DriverState, InitError, InvalidAddressError, InvalidDivisorError, LoopbackError,
+    NearestDivisorError, NonIntegerBaudRateError, NonIntegerDivisorError, Received,
+    RemoteReadyToReceiveError, StalledError, Uart16550, Uart16550Tty, Uart16550TtyError,
 };
-use uart_16550::ring::{Global, Memory, RingError, Uart16550Ring};
+use uart_16550::ring::{Global, Handled, Memory, RingError, Uart16550Ring};
 use uart_16550::spec::registers::{
     DLL, DLM, FCR, FifoTriggerLevel, IER, ISR, InterruptType, LCR, LSR, MCR, MSR, PSD, Parity, SPR,
     WordLength,
@@ -88,24 +88,36 @@ calls! {
     uart_check_present(uart: &mut Uart) -> bool { uart.check_present() }
     uart_init(uart: &mut Uart, config: Config) -> Result<(), InitError> { uart.init(config) }
     uart_checked_init(uart: &mut Uart, config: Config) -> Result<(), InitError> { uart.checked_init(config) }
+    uart_set_frame(uart: &mut Uart, config: &Config) -> Result<(), InvalidDivisorError> { uart.set_frame(config) }
+    uart_checked_set_frame(uart: &mut Uart, config: &Config) -> Result<(), InvalidDivisorError> { uart.checked_set_frame(config) }
+    uart_attach(uart: &mut Uart) -> Result<(DLL, DLM), AttachError> { uart.attach() }
+    uart_is_idle(uart: &mut Uart) -> bool { uart.is_idle() }
+    uart_set_break(uart: &mut Uart, on: bool) { uart.set_break(on) }
+    uart_set_modem_control(uart: &mut Uart, outputs: MCR) { uart.set_modem_control(outputs) }
+    uart_set_rts(uart: &mut Uart, on: bool) { uart.set_rts(on) }
+    uart_set_dtr(uart: &mut Uart, on: bool) { uart.set_dtr(on) }
     uart_test_loopback(uart: &mut Uart) -> Result<(), LoopbackError> { uart.test_loopback() }
     uart_check_connected(uart: &mut Uart) -> Result<(), RemoteReadyToReceiveError> { uart.check_connected() }
     uart_ready_to_receive(uart: &mut Uart) -> Result<(), ByteReceiveError> { uart.ready_to_receive() }
     uart_ready_to_send(uart: &mut Uart) -> Result<(), ByteSendError> { uart.ready_to_send() }
     uart_try_receive_byte(uart: &mut Uart) -> Result<u8, ByteReceiveError> { uart.try_receive_byte() }
     uart_try_send_byte(uart: &mut Uart, byte: u8) -> Result<(), ByteSendError> { uart.try_send_byte(byte) }
+    uart_try_receive_with_errors(uart: &mut Uart) -> Result<Received, ByteReceiveError> { uart.try_receive_with_errors() }
+    uart_receive_with_errors(uart: &mut Uart, slots: &mut [Received]) -> usize { uart.receive_with_errors(slots) }
     uart_receive_bytes(uart: &mut Uart, buffer: &mut [u8]) -> usize { uart.receive_bytes(buffer) }
     uart_send_bytes(uart: &mut Uart, buffer: &[u8]) -> usize { uart.send_bytes(buffer) }
     uart_receive_bytes_exact(uart: &mut Uart, buffer: &mut [u8]) -> Result<(), StalledError> { uart.receive_bytes_exact(buffer) }
     uart_send_bytes_exact(uart: &mut Uart, bytes: &[u8]) -> Result<(), StalledError> { uart.send_bytes_exact(bytes) }
     uart_enable_interrupts(uart: &mut Uart, interrupts: IER) { uart.enable_interrupts(interrupts) }
     uart_disable_interrupts(uart: &mut Uart, interrupts: IER) { uart.disable_interrupts(interrupts) }
+    uart_retrigger_interrupts(uart: &mut Uart) { uart.retrigger_interrupts() }
     uart_ier(uart: &mut Uart) -> IER { uart.ier() }
     uart_isr(uart: &mut Uart) -> ISR { uart.isr() }
     uart_lcr(uart: &mut Uart) -> LCR { uart.lcr() }
     uart_mcr(uart: &mut Uart) -> MCR { uart.mcr() }
     uart_lsr(uart: &mut Uart) -> LSR { uart.lsr() }
     uart_msr(uart: &mut Uart) -> MSR { uart.msr() }
+    uart_peek_modem(uart: &mut Uart) -> MSR { uart.peek_modem() }
     uart_spr(uart: &mut Uart) -> SPR { uart.spr() }
     uart_dll_dlm(uart: &mut Uart) -> (DLL, DLM) { uart.dll_dlm() }
     uart_config_register_dump(uart: &mut Uart) -> ConfigRegisterDump { uart.config_register_dump() }
@@ -163,6 +175,8 @@ calls! {
     ring_take_line(ring: &mut Ring) -> LSR { ring.take_line() }
     ring_take_modem(ring: &mut Ring) -> MSR { ring.take_modem() }
     ring_service(ring: &mut Ring) -> usize { ring.service() }
+    ring_handle(ring: &mut Ring, limit: usize) -> Handled { ring.handle(limit) }
+    ring_retrigger(ring: &mut Ring) { ring.retrigger() }
     ring_resume_transmit(ring: &mut Ring) { ring.resume_transmit() }
 
     calc_frequency(rate: u32, divisor: u32, factor: Option<u32>) -> u32 { uart_16550::native::spec::calc_frequency(rate, divisor, factor) }
@@ -175,6 +189,8 @@ calls! {
     dump_baud_rate(dump: &ConfigRegisterDump, config: &Config) -> Result<BaudRate, NonIntegerBaudRateError> { dump.baud_rate(config) }
     dump_checked_baud_rate(dump: &ConfigRegisterDump, config: &Config) -> Result<BaudRate, NonIntegerBaudRateError> { dump.checked_baud_rate(config) }
     config_is_computable(config: &Config) -> bool { config.is_computable() }
+    config_nearest(config: Config, per_mille: u32) -> Result<Config, NearestDivisorError> { config.nearest(per_mille) }
+    config_checked_nearest(config: Config, per_mille: u32) -> Result<Config, NearestDivisorError> { config.checked_nearest(per_mille) }
     config_cmp(config: &Config, other: &Config) -> core::cmp::Ordering { config.cmp(other) }
     baud_rate_to_integer(rate: BaudRate) -> u32 { rate.to_integer() }
     baud_rate_from_integer(rate: u32) -> BaudRate { BaudRate::from_integer(rate) }
@@ -258,6 +274,8 @@ texts! {
     text_of_remote: RemoteReadyToReceiveError;
     text_of_loopback: LoopbackError;
     text_of_stalled: StalledError;
+    text_of_attach: AttachError;
+    text_of_nearest: NearestDivisorError;
     text_of_tty: Uart16550TtyError;
     text_of_ring: RingError;
 }

@@ -7,8 +7,8 @@ use core::fmt::{self, Write as _};
 use uart_16550_chip::registers::{LSR, MSR};
 use uart_16550_chip::serial::{Error, FromStateError};
 use uart_16550_chip::{
-    ArrayVec, Character, Chip, ChipData, ChipError, InputError, LiveChip, NoEvents, Output,
-    RestoreError, Serial, SerialState, Trigger,
+    Answer, ArrayVec, Character, Chip, ChipData, ChipError, InputError, LiveChip, NoEvents, Output,
+    Received, RestoreError, Serial, SerialState, Todo, Trigger, VirtualPort,
 };
 
 unsafe extern "Rust" {
@@ -62,6 +62,8 @@ calls! {
     chip_new(chip: Chip, char_ticks: u16, capacity: usize) -> Result<LiveChip, ChipError> { LiveChip::new(chip, char_ticks, capacity) }
     chip_read(chip: &mut LiveChip, offset: u8) -> u8 { chip.read(offset) }
     chip_write(chip: &mut LiveChip, offset: u8, value: u8) { chip.write(offset, value) }
+    chip_sends_at_once(chip: &LiveChip) -> bool { chip.sends_at_once() }
+    chip_send_at_once(chip: &mut LiveChip, value: u8) { chip.send_at_once(value) }
     chip_ticks(chip: &mut LiveChip, count: u16) -> usize { chip.ticks(count) }
     chip_arrive(chip: &mut LiveChip, byte: u8, errors: LSR) -> Result<(), InputError> { chip.arrive(byte, errors) }
     chip_arrive_holding_timeout(chip: &mut LiveChip, byte: u8, errors: LSR) -> Result<(), InputError> { chip.arrive_holding_timeout(byte, errors) }
@@ -81,6 +83,16 @@ calls! {
     character_error_weight(character: &Character) -> usize { character.error_weight() }
     list_push(list: &mut ArrayVec<u8, 16>, item: u8) { list.push(item) }
     list_as_slice(list: &ArrayVec<u8, 16>) -> &[u8] { list.as_slice() }
+
+    port_new(chip: Chip) -> Result<VirtualPort, ChipError> { VirtualPort::new(chip) }
+    port_read(port: &mut VirtualPort, offset: u8) -> Answer { port.read(offset) }
+    port_write(port: &mut VirtualPort, offset: u8, value: u8) -> Todo { port.write(offset, value) }
+    port_receive(port: &mut VirtualPort, input: &[u8]) -> Received { port.receive(input) }
+    port_receive_one(port: &mut VirtualPort, byte: u8, errors: LSR) -> Result<Todo, InputError> { port.receive_one(byte, errors) }
+    port_set_lines(port: &mut VirtualPort, inputs: MSR) -> Result<Todo, InputError> { port.set_lines(inputs) }
+    port_output(port: &VirtualPort) -> &[u8] { port.output() }
+    port_take_output(port: &mut VirtualPort, count: usize) -> Todo { port.take_output(count) }
+    port_level(port: &VirtualPort) -> bool { port.level() }
 
     serial_new() -> Console { Serial::new(Device, Device) }
     serial_with_events() -> Console { Serial::with_events(Device, NoEvents, Device) }

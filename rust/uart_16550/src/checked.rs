@@ -7,8 +7,8 @@ use crate::proved::uart_16550::backend::Backend;
 use crate::proved::uart_16550::{ConfigRegisterDump, Uart16550};
 use crate::proved::uart_spec::registers::PSD;
 use crate::proved::uart_spec::{
-    self, BaudRate, Config, InitError, InvalidDivisorError, NonIntegerBaudRateError,
-    NonIntegerDivisorError,
+    self, BaudRate, Config, InitError, InvalidDivisorError, NearestDivisorError,
+    NonIntegerBaudRateError, NonIntegerDivisorError,
 };
 
 // The largest prescaler division factor.
@@ -162,6 +162,53 @@ impl<B: Backend> Uart16550<B> {
         match checked_divisor(config.frequency, rate, config.prescaler_division_factor) {
             Ok(_) => self.init(config),
             Err(cause) => Err(InitError::InvalidBaudRate(cause)),
+        }
+    }
+
+    /// Does the same as [`set_frame`](Self::set_frame), but also returns an error if that would
+    /// panic: if the configuration is not computable.
+    ///
+    /// # Errors
+    ///
+    /// Those of [`checked_divisor`](crate::native::spec::checked_divisor). No access was made then,
+    /// and nothing changed.
+    pub fn checked_set_frame(&mut self, config: &Config) -> Result<(), InvalidDivisorError> {
+        let rate = config.baud_rate.to_integer();
+        checked_divisor(config.frequency, rate, config.prescaler_division_factor)?;
+        self.set_frame(config)
+    }
+}
+
+impl Config {
+    /// Does the same as [`nearest`](Self::nearest), but also returns an error if that would panic:
+    /// if the configuration is not computable.
+    ///
+    /// # Errors
+    ///
+    /// Those of `nearest`, and `OutOfRange` with the divisor 0 for a configuration that is not
+    /// computable.
+    ///
+    /// # Examples
+    ///
+    /// ```
+    /// use uart_16550::native::{Config, NearestDivisorError};
+    ///
+    /// let clock = |frequency| Config { frequency, ..Config::DEFAULT };
+    /// assert_eq!(clock(24_000_000).checked_nearest(20).map(|config| config.frequency), Ok(23_961_600));
+    /// assert_eq!(clock(0).checked_nearest(20), Err(NearestDivisorError::OutOfRange { divisor: 0 }));
+    /// ```
+    pub fn checked_nearest(self, per_mille: u32) -> Result<Config, NearestDivisorError> {
+        match known(self.prescaler_division_factor) {
+            Ok(prescaler_division_factor)
+                if self.frequency != 0 && self.baud_rate.to_integer() != 0 =>
+            {
+                Config {
+                    prescaler_division_factor,
+                    ..self
+                }
+                .nearest(per_mille)
+            }
+            _ => Err(NearestDivisorError::OutOfRange { divisor: 0 }),
         }
     }
 }

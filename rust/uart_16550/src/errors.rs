@@ -1,9 +1,9 @@
 //! What Rust's errors are beside their texts: [`core::error::Error`] with the cause, and `Copy`.
 
 use crate::proved::uart_spec::{
-    ByteReceiveError, ByteSendError, InitError, InvalidAddressError, InvalidDivisorError,
-    LoopbackError, NonIntegerBaudRateError, NonIntegerDivisorError, RemoteReadyToReceiveError,
-    StalledError, Uart16550TtyError,
+    AttachError, ByteReceiveError, ByteSendError, InitError, InvalidAddressError,
+    InvalidDivisorError, LoopbackError, NearestDivisorError, NonIntegerBaudRateError,
+    NonIntegerDivisorError, RemoteReadyToReceiveError, StalledError, Uart16550TtyError,
 };
 use core::error::Error;
 
@@ -14,6 +14,8 @@ impl Error for ByteReceiveError {}
 impl Error for ByteSendError {}
 impl Error for RemoteReadyToReceiveError {}
 impl Error for StalledError {}
+impl Error for AttachError {}
+impl Error for NearestDivisorError {}
 
 // Its text is that of the cause, so the cause is not named again.
 impl Error for InvalidDivisorError {}
@@ -52,6 +54,7 @@ impl Error for Uart16550TtyError {
 impl Copy for NonIntegerBaudRateError {}
 impl Copy for NonIntegerDivisorError {}
 impl Copy for InvalidDivisorError {}
+impl Copy for NearestDivisorError {}
 impl Copy for InvalidAddressError {}
 impl Copy for ByteReceiveError {}
 impl Copy for ByteSendError {}

@@ -7,9 +7,10 @@
 pub use crate::proved::uart_16550::{
     BaudRate, ByteReceiveError, ByteSendError, Config, ConfigRegisterDump, DEFAULT_SPIN_LIMIT,
     DriverState, InitError, InvalidAddressError, InvalidDivisorError, LoopbackError,
-    NonIntegerBaudRateError, NonIntegerDivisorError, RemoteReadyToReceiveError, StalledError,
-    Uart16550, Uart16550Tty, Uart16550TtyError, embedded_io,
+    NonIntegerBaudRateError, NonIntegerDivisorError, Received, RemoteReadyToReceiveError,
+    StalledError, Uart16550, Uart16550Tty, Uart16550TtyError, embedded_io,
 };
+pub use crate::proved::uart_spec::{AttachError, NearestDivisorError};
 
 pub mod backend {
     //! How the driver reads and writes the registers of its device.

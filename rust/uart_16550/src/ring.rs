@@ -42,5 +42,7 @@
 //! # Ok::<(), Box<dyn std::error::Error>>(())
 //! ```
 
-pub use crate::proved::uart_ring::{MAX_CAPACITY, MAX_INTERRUPTS, RingError, Uart16550Ring};
+pub use crate::proved::uart_ring::{
+    HandleEnd, Handled, MAX_CAPACITY, MAX_INTERRUPTS, RingError, Uart16550Ring,
+};
 pub use crate::queue::{Global, Memory};

@@ -2,7 +2,7 @@
 
 use crate::{
     Character, ChipData, Latches, LiveChip, ModemData, Origin, ReceiverData, Shifting,
-    TransmitterData,
+    TransmitterData, VirtualPort,
 };
 use core::fmt;
 
@@ -73,6 +73,15 @@ impl fmt::Debug for Origin {
             Origin::Looped => f.write_str("Looped"),
             Origin::Live => f.write_str("Live"),
         }
+    }
+}
+
+impl fmt::Debug for VirtualPort {
+    fn fmt(&self, f: &mut fmt::Formatter<'_>) -> fmt::Result {
+        f.debug_struct("VirtualPort")
+            .field("level", &self.level())
+            .field("output", &self.output())
+            .finish_non_exhaustive()
     }
 }
 

@@ -22,4 +22,6 @@ pub use proved::uart_live::{
 };
 pub use proved::uart_spec::registers;
 #[doc(inline)]
+pub use proved::uart_virtual::{Answer, Received, Todo, VirtualPort};
+#[doc(inline)]
 pub use serial::{NoEvents, Output, Serial, SerialEvents, SerialState, Trigger};

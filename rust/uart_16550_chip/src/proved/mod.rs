@@ -5,3 +5,4 @@
 pub mod uart_chip;
 pub mod uart_live;
 pub mod uart_spec;
+pub mod uart_virtual;

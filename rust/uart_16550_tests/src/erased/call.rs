@@ -2,9 +2,10 @@
 use crate::runtime::{AllocGlobal, HostRuntime, assert, assert_eq, assert_ne, format};
 // Calls of a driver, and their answers.
 
-use crate::libraries::uart_spec::registers::IER;
+use crate::libraries::uart_spec::registers::{IER, MCR};
 use crate::libraries::uart_spec::{
-    ByteSendError, Config, ConfigRegisterDump, InitError, LoopbackError, RemoteReadyToReceiveError,
+    AttachError, ByteSendError, Config, ConfigRegisterDump, InitError, InvalidDivisorError,
+    LoopbackError, RemoteReadyToReceiveError,
 };
 use crate::libraries::arrayvec::{ArrayString, ArrayVec};
 
@@ -21,6 +22,18 @@ pub enum Call {
     Next,
     // `Uart16550::init` with this configuration, which must be computable.
     Init(Config),
+    // `Uart16550::set_frame` with this configuration, which must be computable.
+    SetFrame(Config),
+    // `Uart16550::attach`.
+    Attach,
+    // `Uart16550::set_break`.
+    SetBreak(bool),
+    // `Uart16550::set_modem_control` with these outputs.
+    SetModemControl(MCR),
+    // `Uart16550::set_rts`.
+    SetRts(bool),
+    // `Uart16550::set_dtr`.
+    SetDtr(bool),
     // `Uart16550::test_loopback`.
     TestLoopback,
     // `Uart16550::check_present`.
@@ -51,6 +64,10 @@ pub enum Call {
     Lsr,
     // `Uart16550::msr`.
     Msr,
+    // `Uart16550::peek_modem`.
+    PeekModem,
+    // `Uart16550::is_idle`.
+    IsIdle,
     // `Uart16550::spr`.
     Spr,
     // `Uart16550::dll_dlm`.
@@ -88,7 +105,7 @@ impl Call {
 
     {
         match self {
-            Call::Init(config) => config.is_computable(),
+            Call::Init(config) | Call::SetFrame(config) => config.is_computable(),
             Call::Receive(count) | Call::ReceiveExact(count) | Call::Read(count) => {
                 *count <= CALL_BYTES
             }
@@ -102,7 +119,8 @@ impl Call {
 pub enum Answer {
     // The call succeeded, and returned nothing.
     Done,
-    // Whether it is so: the result of `CheckPresent`, `ReadReady`, `WriteReady` or `FifoEnabled`.
+    // Whether it is so: the result of `CheckPresent`, `ReadReady`, `WriteReady`, `IsIdle` or
+    // `FifoEnabled`.
     Flag(bool),
     // The number of bytes that were sent.
     Count(usize),
@@ -110,7 +128,7 @@ pub enum Answer {
     Bytes(ArrayVec<u8, CALL_BYTES>),
     // The value of a register, or the byte of a `TryReceive`.
     Register(u8),
-    // The divisor latch: DLL and DLM.
+    // The divisor latch: DLL and DLM. Also of an `Attach`.
     Latch(u8, u8),
     // The values of all registers.
     Dump(ConfigRegisterDump),
@@ -120,6 +138,10 @@ pub enum Answer {
     ReceiveStalled(ArrayVec<u8, CALL_BYTES>),
     // Why an `Init` failed.
     InitRefused(InitError),
+    // Why a `SetFrame` failed.
+    FrameRefused(InvalidDivisorError),
+    // Why an `Attach` failed.
+    AttachRefused(AttachError),
     // Why a `TestLoopback` failed.
     LoopbackRefused(LoopbackError),
     // Why a `CheckConnected` failed.

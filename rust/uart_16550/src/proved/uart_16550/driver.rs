@@ -1,5 +1,6 @@
 //! The driver: its fields, its constructor, and one function for each kind of register access.
 
+mod frame;
 mod init;
 mod loopback;
 mod receive;
@@ -9,6 +10,7 @@ mod transmit;
 
 use crate::proved::uart_16550::backend::Backend;
 use crate::flags::Flags;
+pub use receive::Received;
 pub use state::DriverState;
 use ::core::num::NonZeroU64;
 use crate::proved::uart_spec::Config;

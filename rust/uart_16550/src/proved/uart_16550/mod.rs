@@ -31,7 +31,7 @@ mod mmio;
 mod pio;
 mod tty;
 
-pub use driver::{DEFAULT_SPIN_LIMIT, DriverState, Uart16550};
+pub use driver::{DEFAULT_SPIN_LIMIT, DriverState, Received, Uart16550};
 pub use tty::Uart16550Tty;
 pub use crate::proved::uart_spec as spec;
 pub use crate::proved::uart_spec::{

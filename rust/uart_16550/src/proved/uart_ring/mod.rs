@@ -6,4 +6,4 @@
 
 mod ring;
 
-pub use ring::{MAX_CAPACITY, MAX_INTERRUPTS, RingError, Uart16550Ring};
+pub use ring::{HandleEnd, Handled, MAX_CAPACITY, MAX_INTERRUPTS, RingError, Uart16550Ring};

@@ -7,7 +7,7 @@ mod transmit;
 
 use crate::flags::Flags;
 use crate::queue::HeapCircularBuffer;
-pub use service::MAX_INTERRUPTS;
+pub use service::{HandleEnd, Handled, MAX_INTERRUPTS};
 use crate::queue::Global;
 use crate::proved::uart_16550::Uart16550;
 use crate::proved::uart_16550::backend::Backend;

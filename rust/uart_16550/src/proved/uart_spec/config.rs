@@ -1,6 +1,7 @@
 //! The configuration of a device.
 
-use crate::proved::uart_spec::baud::CLK_FREQUENCY_HZ;
+use crate::proved::uart_spec::baud::{CLK_FREQUENCY_HZ, nearest_factor, ticks_of};
+use crate::proved::uart_spec::errors::NearestDivisorError;
 use crate::proved::uart_spec::registers::{FifoTriggerLevel, IER, Parity, WordLength};
 use ::core::cmp::Ordering;
 
@@ -212,6 +213,50 @@ impl Config {
             && self
                 .prescaler_division_factor
                 .is_none_or(|factor| factor <= 15)
+    }
+
+    /// Returns the configuration with the frequency at which the nearest divisor gives its baud
+    /// rate exactly, if this frequency differs from the true one by at most so many thousandths. So
+    /// `init` accepts it, and writes the nearest divisor. The rate on the line then differs from
+    /// the configured one by as many thousandths at most.
+    ///
+    /// Receivers tolerate about 20 thousandths in all, of both sides together.
+    ///
+    /// # Errors
+    ///
+    /// - `OutOfRange` if the nearest divisor does not fit into the divisor latch, or its frequency
+    ///   not into 32 bits.
+    /// - `TooFar` if it differs by more.
+    ///
+    /// # Panics
+    ///
+    /// If the configuration is not computable (`Config::is_computable`).
+    ///
+    /// # Examples
+    ///
+    /// ```
+    /// # include!(concat!(env!("CARGO_MANIFEST_DIR"), "/src/proved/examples.rs"));
+    /// # fn main() {}
+    /// # fn example() -> Outcome<()> {
+    /// let config = Config { frequency: 24_000_000, ..Config::DEFAULT }.nearest(20)?;
+    /// # Ok(()) }
+    /// ```
+    pub fn nearest(self, per_mille: u32) -> Result<Config, NearestDivisorError> {
+        assert!(self.is_computable(), "a configuration that is not computable");
+        let frequency = self.frequency as u64;
+        let ticks = ticks_of(self.baud_rate.to_integer(), self.prescaler_division_factor);
+        let divisor = nearest_factor(frequency, ticks);
+        let exact = ticks * divisor;
+        if divisor > u16::MAX as u64 || exact > u32::MAX as u64 {
+            return Err(NearestDivisorError::OutOfRange { divisor });
+        }
+        if 1000 * exact.abs_diff(frequency) > per_mille as u64 * exact {
+            return Err(NearestDivisorError::TooFar { divisor });
+        }
+        Ok(Config {
+            frequency: exact as u32,
+            ..self
+        })
     }
 }
 

@@ -62,6 +62,59 @@ impl ::core::fmt::Display for NonIntegerDivisorError {
     }
 }
 
+/// Why a port cannot be taken as it is.
+#[derive(Clone, Copy, Debug, PartialEq, Eq, PartialOrd, Hash)]
+pub enum AttachError {
+    /// DLAB is set: offsets 0 and 1 are the divisor latch.
+    DivisorLatchOpen,
+    /// The chip is in loopback.
+    Loopback,
+}
+
+#[automatically_derived]
+impl ::core::fmt::Display for AttachError {
+    fn fmt(&self, f: &mut ::core::fmt::Formatter<'_>) -> ::core::fmt::Result {
+        match self {
+            Self::DivisorLatchOpen => {
+                ({ (f.write_fmt(format_args!("the divisor latch was left open"))) })
+            }
+            Self::Loopback => { ({ (f.write_fmt(format_args!("the chip was left in loopback"))) }) }
+        }
+    }
+}
+
+/// Why the nearest divisor for a baud rate cannot be used.
+#[derive(Clone, Debug, PartialEq, Eq, PartialOrd, Hash)]
+pub enum NearestDivisorError {
+    /// The baud rate that the nearest divisor gives differs by more than the tolerance.
+    TooFar {
+        /// The nearest divisor.
+        divisor: u64,
+    },
+    /// The nearest divisor does not fit into the divisor latch of 16 bits, or the frequency at
+    /// which it is exact not into 32 bits.
+    OutOfRange {
+        /// The nearest divisor.
+        divisor: u64,
+    },
+}
+
+#[automatically_derived]
+impl ::core::fmt::Display for NearestDivisorError {
+    fn fmt(&self, f: &mut ::core::fmt::Formatter<'_>) -> ::core::fmt::Result {
+        match self {
+            Self::TooFar { divisor } => {
+                ({
+                    (f.write_fmt(format_args!("the nearest divisor {divisor} is not near enough")))
+                })
+            }
+            Self::OutOfRange { divisor } => {
+                ({ (f.write_fmt(format_args!("the nearest divisor {divisor} is out of range"))) })
+            }
+        }
+    }
+}
+
 /// Why there is no divisor for a baud rate.
 #[derive(Clone, Debug, PartialEq, Eq, PartialOrd, Hash)]
 pub enum InvalidDivisorError {

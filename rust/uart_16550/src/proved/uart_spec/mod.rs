@@ -18,7 +18,7 @@ pub use baud::{
 pub use config::{BaudRate, Config};
 pub use dump::ConfigRegisterDump;
 pub use errors::{
-    ByteReceiveError, ByteSendError, InitError, InvalidAddressError, InvalidDivisorError,
-    LoopbackError, NonIntegerBaudRateError, NonIntegerDivisorError, RemoteReadyToReceiveError,
-    StalledError, Uart16550TtyError,
+    AttachError, ByteReceiveError, ByteSendError, InitError, InvalidAddressError,
+    InvalidDivisorError, LoopbackError, NearestDivisorError, NonIntegerBaudRateError,
+    NonIntegerDivisorError, RemoteReadyToReceiveError, StalledError, Uart16550TtyError,
 };

@@ -9,6 +9,7 @@ use crate::proved::uart_chip::journal::Journal;
 use crate::proved::uart_chip::modem::{Modem, ModemData};
 use crate::proved::uart_chip::receiver::{Character, Receiver, ReceiverData};
 use crate::proved::uart_chip::receiving::{expire_timeout, is_timed_out};
+use crate::proved::uart_chip::sending::{send_at_once, sends_at_once};
 use crate::proved::uart_chip::transmitter::{Transmitter, TransmitterData};
 use crate::proved::uart_chip::wire::{Wire, send};
 use crate::flags::Flags;
@@ -232,6 +233,17 @@ impl<B: Fifo<u8>, W: Wire, C: Fifo<Character>, J: Journal> Uart<
     /// Writes a value to the register at this offset.
     pub fn write(&mut self, offset: u8, value: u8) {
         write(self, offset, value);
+    }
+
+    /// Returns whether a byte that is written to DATA meets an idle transmitter, outside of
+    /// loopback.
+    pub fn sends_at_once(&self) -> bool {
+        sends_at_once(self)
+    }
+
+    /// Puts a byte on the wire that is written to DATA. The caller must show that it may.
+    pub fn send_at_once(&mut self, value: u8) {
+        send_at_once(self, value);
     }
 }
 

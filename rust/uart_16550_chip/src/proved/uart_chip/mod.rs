@@ -17,6 +17,7 @@ mod masks;
 mod modem;
 mod receiver;
 pub mod receiving;
+pub mod sending;
 mod transmitter;
 pub mod transmitting;
 mod wire;

@@ -137,6 +137,24 @@ impl LiveChip {
         self.uart.write(offset, value);
     }
 
+    /// Returns whether a byte that is written to DATA meets an idle transmitter, outside of
+    /// loopback, so that it may go onto the wire at once.
+    pub fn sends_at_once(&self) -> bool {
+        self.uart.sends_at_once()
+    }
+
+    /// Puts a byte on the wire that is written to DATA. The caller must show that it may.
+    ///
+    /// If a character takes one tick, that is the same as to write DATA and to let two ticks or
+    /// more pass.
+    ///
+    /// # Panics
+    ///
+    /// If [`sends_at_once`](Self::sends_at_once) returns false. Nothing changed then.
+    pub fn send_at_once(&mut self, value: u8) {
+        self.uart.send_at_once(value);
+    }
+
     /// Lets `count` ticks pass. Returns the number of jumps that this took, which is at most 18,
     /// whatever `count` is.
     ///

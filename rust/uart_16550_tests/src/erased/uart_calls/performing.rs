@@ -9,8 +9,8 @@ use crate::libraries::uart_16550::embedded_io::{Read, ReadReady, Write, WriteRea
 use crate::libraries::uart_16550::{Uart16550, Uart16550Tty};
 use crate::libraries::uart_spec::call::{Answer, CALL_BYTES, Call};
 use crate::libraries::uart_spec::{
-    ByteReceiveError, ByteSendError, Config, InitError, LoopbackError, RemoteReadyToReceiveError,
-    StalledError,
+    AttachError, ByteReceiveError, ByteSendError, Config, InitError, InvalidDivisorError,
+    LoopbackError, RemoteReadyToReceiveError, StalledError,
 };
 
 // Makes one call of the driver, over any backend, and returns its answer. Allocates no memory.
@@ -32,6 +32,24 @@ pub fn perform<B: Backend>(uart: &mut Uart16550Tty<B>, call: &Call) -> Answer
     match call {
         Call::Next => Answer::Done,
         Call::Init(config) => init(uart.inner_mut(), config),
+        Call::SetFrame(config) => framed(uart.inner_mut().set_frame(config)),
+        Call::Attach => attached(uart.inner_mut().attach()),
+        Call::SetBreak(on) => {
+            uart.inner_mut().set_break(*on);
+            Answer::Done
+        }
+        Call::SetModemControl(outputs) => {
+            uart.inner_mut().set_modem_control(*outputs);
+            Answer::Done
+        }
+        Call::SetRts(on) => {
+            uart.inner_mut().set_rts(*on);
+            Answer::Done
+        }
+        Call::SetDtr(on) => {
+            uart.inner_mut().set_dtr(*on);
+            Answer::Done
+        }
         Call::TestLoopback => tested(uart.inner_mut().test_loopback()),
         Call::CheckPresent => Answer::Flag(uart.inner_mut().check_present()),
         Call::CheckConnected => connected(uart.inner_mut().check_connected()),
@@ -47,6 +65,8 @@ pub fn perform<B: Backend>(uart: &mut Uart16550Tty<B>, call: &Call) -> Answer
         Call::Mcr => Answer::Register(uart.inner_mut().mcr().bits()),
         Call::Lsr => Answer::Register(uart.inner_mut().lsr().bits()),
         Call::Msr => Answer::Register(uart.inner_mut().msr().bits()),
+        Call::PeekModem => Answer::Register(uart.inner_mut().peek_modem().bits()),
+        Call::IsIdle => Answer::Flag(uart.inner_mut().is_idle()),
         Call::Spr => Answer::Register(uart.inner_mut().spr()),
         Call::DllDlm => {
             let (dll, dlm) = uart.inner_mut().dll_dlm();
@@ -120,6 +140,24 @@ fn read<B: Backend>(uart: &mut Uart16550<B>, slots: &mut [u8]) -> Answer
     match uart.read(slots) {
         Ok(count) => Answer::Bytes(copied(&slots[..count])),
         Err(stall) => Answer::Stalled(stall.done),
+    }
+}
+
+fn framed(outcome: Result<(), InvalidDivisorError>) -> Answer
+
+{
+    match outcome {
+        Ok(()) => Answer::Done,
+        Err(error) => Answer::FrameRefused(error),
+    }
+}
+
+fn attached(outcome: Result<(u8, u8), AttachError>) -> Answer
+
+{
+    match outcome {
+        Ok((dll, dlm)) => Answer::Latch(dll, dlm),
+        Err(error) => Answer::AttachRefused(error),
     }
 }
 

@@ -3,7 +3,7 @@ use crate::runtime::{AllocGlobal, HostRuntime, assert, assert_eq, assert_ne, for
 // Each call over a replay, with lists of accesses that were written down by hand.
 use super::assert_equal;
 use super::lists::Call::{Left, Queue, Resume, Service};
-use super::lists::Step::{Burst, Changed, Read, Received, Write};
+use super::lists::Step::{self, Burst, Changed, Read, Received as GotBytes, Write};
 use super::lists::{
     DATA_READY, DMA_RECEPTION, DMA_TRANSMISSION, EMPTY, FULL, LINE_STATUS, MODEM_STATUS, NONE,
     THR_EMPTY, TIMEOUT, answers_in, made, play, rings,
@@ -11,11 +11,11 @@ use super::lists::{
 use crate::libraries::bitflags::Flags;
 use std::num::NonZeroU64;
 use crate::runtime::Fail;
-use crate::libraries::uart_16550::Uart16550;
 use crate::libraries::uart_16550::replay::Replay;
-use crate::libraries::uart_ring::{MAX_CAPACITY, MAX_INTERRUPTS, RingError, Uart16550Ring};
-use crate::libraries::uart_spec::registers::offsets::{IER, ISR, LSR, MSR};
-use crate::libraries::uart_spec::registers::{self, MSR as ModemStatus};
+use crate::libraries::uart_16550::{Received, Uart16550};
+use crate::libraries::uart_ring::{HandleEnd, Handled, MAX_CAPACITY, MAX_INTERRUPTS, RingError, Uart16550Ring};
+use crate::libraries::uart_spec::registers::offsets::{IER, ISR, LCR, LSR, MCR, MSR};
+use crate::libraries::uart_spec::registers::{self, LSR as LineStatus, MSR as ModemStatus};
 
 #[test]
 fn bytes_are_queued_and_sent() -> Result<(), Fail> {
@@ -103,12 +103,12 @@ fn receiving_is_paused_by_a_full_ring() -> Result<(), Fail> {
     let rt = HostRuntime;
     let steps = [
         Read(ISR, DATA_READY),
-        Received(b"AB"), // two of three bytes fit
+        GotBytes(b"AB"), // two of three bytes fit
         Changed(IER, 0x01, 0x00),
         Read(ISR, NONE),
         Changed(IER, 0x00, 0x01), // the pause ends
         Read(ISR, TIMEOUT),
-        Received(b"C"),
+        GotBytes(b"C"),
         Read(LSR, EMPTY),
         Read(ISR, NONE),
     ];
@@ -199,6 +199,101 @@ fn service_ends() -> Result<(), Fail> {
         Read(ISR, NONE),
     ];
     play(&rt, 32, &[Service(1)], &steps)
+}
+
+#[test]
+fn a_handler_ends_with_a_line_that_was_low() -> Result<(), Fail> {
+    let rt = HostRuntime;
+    // None is pending. ISR shows one for ever. The code 100 names no interrupt, although one is
+    // pending.
+    let ends: [(usize, &[Step], usize, HandleEnd); 4] = [
+        (8, &[Read(ISR, NONE)], 0, HandleEnd::Idle),
+        (
+            8,
+            &[Read(ISR, MODEM_STATUS), Read(MSR, 0x11), Read(ISR, NONE)],
+            1,
+            HandleEnd::Idle,
+        ),
+        (
+            2,
+            &[
+                Read(ISR, DMA_RECEPTION),
+                Read(ISR, DMA_RECEPTION),
+                Read(IER, 0x0d),
+                Write(IER, 0x00),
+                Write(IER, 0x0d),
+            ],
+            2,
+            HandleEnd::Limit,
+        ),
+        (
+            8,
+            &[
+                Read(ISR, DMA_TRANSMISSION),
+                Read(ISR, 0xc8),
+                Read(IER, 0x0f),
+                Write(IER, 0x00),
+                Write(IER, 0x0f),
+            ],
+            1,
+            HandleEnd::Unknown,
+        ),
+    ];
+    for (limit, steps, served, end) in ends {
+        let answers = answers_in(&rt, steps)?;
+        let mut ring = rings(&rt, &answers, 32, 4)?;
+        assert_equal(&rt, ring.handle(limit), Handled { served, end });
+        made(&rt, ring.inner().backend(), steps);
+    }
+    let steps = [Read(IER, 0x07), Write(IER, 0x00), Write(IER, 0x07)];
+    let answers = answers_in(&rt, &steps)?;
+    let mut ring = rings(&rt, &answers, 32, 4)?;
+    ring.retrigger();
+    made(&rt, ring.inner().backend(), &steps);
+    Ok(())
+}
+
+#[test]
+fn lines_are_switched() -> Result<(), Fail> {
+    let rt = HostRuntime;
+    let steps = [
+        Changed(MCR, 0x19, 0x0b),
+        Changed(MCR, 0x0b, 0x09),
+        Changed(MCR, 0x09, 0x08),
+        Changed(LCR, 0x03, 0x43),
+        Changed(LCR, 0x43, 0x03),
+    ];
+    let answers = answers_in(&rt, &steps)?;
+    let mut uart = Uart16550::new_with_backend(Replay::new(&answers));
+    uart.set_rts(true);
+    uart.set_rts(false);
+    uart.set_dtr(false);
+    uart.set_break(true);
+    uart.set_break(false);
+    made(&rt, uart.backend(), &steps);
+    Ok(())
+}
+
+#[test]
+fn bytes_are_received_with_their_errors() -> Result<(), Fail> {
+    let rt = HostRuntime;
+    // A good byte, one with a parity error, a break after an overrun, and no more.
+    let answers = [0x61, 0x41, 0xe5, 0x42, 0xf3, 0x00, 0x60];
+    let mut uart = Uart16550::new_with_backend(Replay::new(&answers));
+    let none = Received {
+        byte: 0xee,
+        errors: LineStatus::empty(),
+    };
+    let mut slots = [none; 4];
+    assert_equal(&rt, uart.receive_with_errors(&mut slots), 3);
+    let of = |received: &Received| (received.byte, received.errors.bits());
+    assert_equal(&rt, of(&slots[0]), (0x41, 0x00));
+    assert_equal(&rt, of(&slots[1]), (0x42, 0x04));
+    assert_equal(&rt, of(&slots[2]), (0x00, 0x12));
+    assert_equal(&rt, of(&slots[3]), (0xee, 0x00));
+    // They are in the next `lsr` too, as after each look.
+    assert_equal(&rt, uart.lsr().bits(), 0x16);
+    Ok(())
 }
 
 #[test]

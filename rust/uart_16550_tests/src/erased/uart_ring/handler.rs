@@ -64,13 +64,8 @@ impl<B: Backend> Port<B> {
 
     // Handles an interrupt. Does not wait.
     pub fn on_interrupt(&mut self) {
-        // After `MAX_INTERRUPTS` more may be pending. A controller that detects edges does not
-        // report them again.
-        for _round in 0..4 {
-            if self.ring.service() < MAX_INTERRUPTS {
-                break;
-            }
-        }
+        // The interrupt line was low meanwhile: what is pending now makes a new edge.
+        self.ring.handle(4 * MAX_INTERRUPTS);
         self.look_at_line();
         self.look_at_modem();
     }

@@ -16,7 +16,7 @@ const SECOND_PATTERN: u8 = 0x73;
 const MOST_WAITING: usize = FIFO_SIZE + 1;
 
 // Returns LCR for a configuration.
-fn frame_of(config: &Config) -> LCR {
+pub(super) fn frame_of(config: &Config) -> LCR {
     let mut frame = LCR::from_bits_retain(0)
         .set_word_length(config.data_bits)
         .set_parity(config.parity);

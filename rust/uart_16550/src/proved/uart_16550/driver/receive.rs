@@ -6,6 +6,16 @@ use crate::flags::Flags;
 use crate::proved::uart_spec::registers::{LSR, offsets};
 use crate::proved::uart_spec::{ByteReceiveError, StalledError};
 
+/// A received byte, and the line errors that LSR showed with it.
+#[derive(Clone, Copy, Debug, PartialEq, Eq)]
+pub struct Received {
+    /// The byte, as the chip returned it. For a break it is 0.
+    pub byte: u8,
+    /// Of `PARITY_ERROR`, `FRAMING_ERROR` and `BREAK_INTERRUPT` those of this byte; and
+    /// `OVERRUN_ERROR` if the look before this byte reported that others were lost.
+    pub errors: LSR,
+}
+
 impl<B: Backend> Uart16550<B> {
     /// Checks whether a received byte is available: whether LSR shows `DATA_READY`.
     ///
@@ -81,6 +91,65 @@ impl<B: Backend> Uart16550<B> {
             }
         }
         buffer.len()
+    }
+
+    /// Receives one byte if one is available, with the errors that LSR showed with it: reads LSR,
+    /// and if it shows `DATA_READY`, RBR.
+    ///
+    /// Does not wait. The error bits are saved for the next `lsr` too.
+    ///
+    /// # Errors
+    ///
+    /// `ByteReceiveError` if no byte is available. RBR was not read then.
+    ///
+    /// # Examples
+    ///
+    /// ```
+    /// # include!(concat!(env!("CARGO_MANIFEST_DIR"), "/src/proved/examples.rs"));
+    /// # fn main() {}
+    /// # fn example(uart: &mut Uart16550<Device>) -> Outcome<Option<Received>> {
+    /// # Ok({
+    /// uart.try_receive_with_errors().ok()
+    /// # }) }
+    /// ```
+    pub fn try_receive_with_errors(&mut self) -> Result<Received, ByteReceiveError> {
+        let lsr = self.read_lsr();
+        if !lsr.contains(LSR::DATA_READY) {
+            return Err(ByteReceiveError);
+        }
+        let byte = self.read_register(offsets::DATA);
+        let errors = lsr.intersection(LSR::LINE_ERRORS);
+        Ok(Received { byte, errors })
+    }
+
+    /// Receives bytes with their errors while some are available and there are free slots. Returns
+    /// how many, and leaves the slots beyond them unchanged.
+    ///
+    /// The chip shows the errors of the character that is the next to be read, once: if an earlier
+    /// call has already looked at the first byte, its errors are missing here, and are in the next
+    /// `lsr`. Without a FIFO a byte that arrives between the two reads replaces the one that LSR
+    /// described, and the next look shows an overrun.
+    ///
+    /// Does not wait: reads LSR before each byte, and ends when it shows none. An empty slice makes
+    /// no access. The error bits are saved for the next `lsr` too, and do not end the call.
+    ///
+    /// # Examples
+    ///
+    /// ```
+    /// # include!(concat!(env!("CARGO_MANIFEST_DIR"), "/src/proved/examples.rs"));
+    /// # fn main() {}
+    /// # fn example(uart: &mut Uart16550<Device>, mut slots: [Received; 4]) -> Outcome<()> {
+    /// let count = uart.receive_with_errors(&mut slots);
+    /// # Ok(()) }
+    /// ```
+    pub fn receive_with_errors(&mut self, slots: &mut [Received]) -> usize {
+        for (taken, slot) in slots.iter_mut().enumerate() {
+            match self.try_receive_with_errors() {
+                Ok(received) => *slot = received,
+                Err(_) => return taken,
+            }
+        }
+        slots.len()
     }
 
     // Waits until some bytes were received, and returns how many.

@@ -114,6 +114,25 @@ impl<B: Backend> Uart16550<B> {
         msr
     }
 
+    /// Reads and returns the modem status register (MSR) as it is now. The changes that this clears
+    /// in the chip are saved for the next `msr`.
+    ///
+    /// Call it to find out how the modem lines are. Does not wait. Like each read of MSR it clears
+    /// a modem status interrupt: who waits for one looks at `msr` afterwards.
+    ///
+    /// # Examples
+    ///
+    /// ```
+    /// # include!(concat!(env!("CARGO_MANIFEST_DIR"), "/src/proved/examples.rs"));
+    /// # fn main() {}
+    /// # fn example(uart: &mut Uart16550<Device>) -> Outcome<()> {
+    /// assert!(uart.peek_modem().contains(MSR::CTS));
+    /// # Ok(()) }
+    /// ```
+    pub fn peek_modem(&mut self) -> MSR {
+        self.read_msr()
+    }
+
     /// Reads and returns the scratch register (SPR), which the chip does not use.
     ///
     /// # Examples
@@ -205,6 +224,32 @@ impl<B: Backend> Uart16550<B> {
     fn store_interrupts(&mut self, enabled: IER) {
         self.config.interrupts = enabled;
         self.write_register(offsets::IER, enabled.bits());
+    }
+
+    /// Makes the interrupt output fall, and rise again if an interrupt is enabled and pending:
+    /// reads IER, writes 0, and writes back what it read.
+    ///
+    /// An interrupt controller that detects edges sees no new edge while the output stays high.
+    /// Call this at the end of an interrupt handler that leaves before ISR has shown that no
+    /// interrupt is pending, and after the interrupt was masked at a controller that forgets edges
+    /// meanwhile.
+    ///
+    /// If `THR_EMPTY` is enabled and the transmitter is empty, the chip raises that interrupt
+    /// again. Does not wait: makes three accesses.
+    ///
+    /// # Examples
+    ///
+    /// ```
+    /// # include!(concat!(env!("CARGO_MANIFEST_DIR"), "/src/proved/examples.rs"));
+    /// # fn main() {}
+    /// # fn example(uart: &mut Uart16550<Device>) -> Outcome<()> {
+    /// uart.retrigger_interrupts();
+    /// # Ok(()) }
+    /// ```
+    pub fn retrigger_interrupts(&mut self) {
+        let enabled = self.read_register(offsets::IER);
+        self.write_register(offsets::IER, 0);
+        self.write_register(offsets::IER, enabled);
     }
 
     /// Reads and returns the divisor latch, low byte first.

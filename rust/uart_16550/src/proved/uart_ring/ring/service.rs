@@ -7,6 +7,27 @@ use crate::proved::uart_spec::registers::InterruptType;
 /// The most interrupts that one call of `service` serves.
 pub const MAX_INTERRUPTS: usize = 8;
 
+/// Why a call of `handle` ended.
+#[derive(Clone, Copy, Debug, PartialEq, Eq)]
+pub enum HandleEnd {
+    /// ISR showed that no interrupt is pending.
+    Idle,
+    /// ISR showed an interrupt that has no name. It was not served, and the interrupts were
+    /// triggered again.
+    Unknown,
+    /// As many interrupts as the limit were served, and the interrupts were triggered again.
+    Limit,
+}
+
+/// What a call of `handle` did.
+#[derive(Clone, Copy, Debug, PartialEq, Eq)]
+pub struct Handled {
+    /// How many interrupts were served.
+    pub served: usize,
+    /// Why the call ended.
+    pub end: HandleEnd,
+}
+
 impl<B: Backend> Uart16550Ring<B> {
     // Reads ISR, and returns the pending interrupt.
     fn next_interrupt(&mut self) -> Option<InterruptType> {
@@ -72,5 +93,79 @@ impl<B: Backend> Uart16550Ring<B> {
             self.serve(interrupt);
         }
         MAX_INTERRUPTS
+    }
+
+    /// Makes the chip's interrupt line fall, and rise again if an interrupt is enabled and pending:
+    /// reads IER, writes 0, and writes back what it read.
+    ///
+    /// An interrupt controller that detects edges sees no new edge while the line stays high, so
+    /// the port would not be served again. `handle` calls this when it has to. Call it yourself
+    ///
+    /// - at the end of a handler of your own that leaves before ISR has shown that no interrupt is
+    ///   pending;
+    /// - after the interrupt was masked at a controller that forgets the edges that come meanwhile.
+    ///
+    /// Does not wait: makes three accesses.
+    ///
+    /// # Examples
+    ///
+    /// ```
+    /// # include!(concat!(env!("CARGO_MANIFEST_DIR"), "/src/proved/examples.rs"));
+    /// # fn main() {}
+    /// # use uart_16550::ring;
+    /// # fn example(ring: &mut ring::Uart16550Ring<Device>) -> Outcome<()> {
+    /// ring.retrigger();
+    /// # Ok(()) }
+    /// ```
+    pub fn retrigger(&mut self) {
+        self.uart.retrigger_interrupts();
+    }
+
+    // Reads ISR. Returns the pending interrupt, or why `handle` ends, after what that end does.
+    fn next_or_end(&mut self) -> Result<InterruptType, HandleEnd> {
+        let isr = self.uart.isr();
+        if let Some(interrupt) = isr.interrupt_type() {
+            return Ok(interrupt);
+        }
+        if !isr.has_pending_interrupt() {
+            return Err(HandleEnd::Idle);
+        }
+        self.retrigger();
+        Err(HandleEnd::Unknown)
+    }
+
+    /// Serves interrupts as `service` does, until ISR shows that none is pending, but at most
+    /// `limit`. Otherwise it makes the interrupt line fall and rise again, as `retrigger` does.
+    /// Returns how many were served, and why it ended.
+    ///
+    /// Call it once in an interrupt handler, whether the controller detects levels or edges: the
+    /// line was low at some time during the call, so what is pending afterwards makes a new edge.
+    /// Does not wait, and ends on a chip that shows an interrupt for ever.
+    ///
+    /// If the end is `Unknown` or `Limit` each time the handler runs, the chip is broken: mask the
+    /// interrupt at the controller, or it comes for ever.
+    ///
+    /// # Examples
+    ///
+    /// ```
+    /// # include!(concat!(env!("CARGO_MANIFEST_DIR"), "/src/proved/examples.rs"));
+    /// # fn main() {}
+    /// # use uart_16550::ring::{self, *};
+    /// # fn example(ring: &mut ring::Uart16550Ring<Device>) -> Outcome<()> {
+    /// let handled = ring.handle(MAX_INTERRUPTS);
+    /// # Ok(()) }
+    /// ```
+    pub fn handle(&mut self, limit: usize) -> Handled {
+        for served in 0..limit {
+            match self.next_or_end() {
+                Ok(interrupt) => self.serve(interrupt),
+                Err(end) => return Handled { served, end },
+            }
+        }
+        self.retrigger();
+        Handled {
+            served: limit,
+            end: HandleEnd::Limit,
+        }
     }
 }

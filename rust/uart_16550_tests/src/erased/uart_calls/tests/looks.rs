@@ -16,7 +16,8 @@ use crate::libraries::uart_spec::ByteSendError::{NoCapacity, RemoteNotClearToSen
 use crate::libraries::uart_spec::RemoteReadyToReceiveError::{
     NoRemoteConnectedNoDSR as NoDsr, RemoteNotClearToSend as NoCts,
 };
-use crate::libraries::uart_spec::registers::{IER, offsets};
+use crate::libraries::uart_spec::registers::{IER, MCR, WordLength, offsets};
+use crate::libraries::uart_spec::{AttachError, BaudRate, Config};
 
 #[test]
 fn presence() {
@@ -139,4 +140,94 @@ fn a_dump_shows_what_was_saved_and_keeps_it() {
     let (line, modem) = (list().look(0x60), list().read(offsets::MSR, 0x30));
     then(&rt, &mut terminal, Call::Lsr, Register(0x7e), &line);
     then(&rt, &mut terminal, Call::Msr, Register(0x31), &modem);
+}
+
+#[test]
+fn calls_that_change_the_line() {
+    let rt = HostRuntime;
+    let frame = Config {
+        baud_rate: BaudRate::Baud38400,
+        data_bits: WordLength::SevenBits,
+        ..Config::DEFAULT
+    };
+    let lines = list().write(3, 0x82).write(0, 3).write(1, 0).write(3, 0x02);
+    let terminal = row(&rt, New, Call::SetFrame(frame), Done, &lines);
+    assert_equal(
+        &rt,
+        terminal.inner().config().data_bits,
+        WordLength::SevenBits,
+    );
+    let near = Config {
+        frequency: 24_000_000,
+        baud_rate: BaudRate::Baud115200,
+        ..Config::DEFAULT
+    };
+    let lines = list()
+        .write(3, 0x83)
+        .write(0, 13)
+        .write(1, 0)
+        .write(3, 0x03);
+    if let Ok(near) = near.nearest(2) {
+        row(&rt, New, Call::SetFrame(near), Done, &lines);
+    }
+    for (call, read, written) in [
+        (Call::SetBreak(true), 0x03, 0x43),
+        (Call::SetBreak(false), 0x43, 0x03),
+    ] {
+        row(
+            &rt,
+            New,
+            call,
+            Done,
+            &list().read(3, read).write(3, written),
+        );
+    }
+    for (call, read, written) in [
+        (Call::SetRts(true), 0x19, 0x0b),
+        (Call::SetRts(false), 0x0b, 0x09),
+        (Call::SetDtr(false), 0x0b, 0x0a),
+    ] {
+        row(
+            &rt,
+            New,
+            call,
+            Done,
+            &list().read(4, read).write(4, written),
+        );
+    }
+    row(
+        &rt,
+        New,
+        Call::SetModemControl(MCR::LOOP_BACK.union(MCR::DTR)),
+        Done,
+        &list().write(4, 0x01),
+    );
+    row(&rt, New, Call::IsIdle, Flag(true), &list().look(0x40));
+    row(&rt, New, Call::IsIdle, Flag(false), &list().look(0xbf));
+    let (look, shown) = (list().read(6, 0xff), list().read(6, 0x30));
+    let mut terminal = row(&rt, New, Call::PeekModem, Register(0xff), &look);
+    then(&rt, &mut terminal, Call::PeekModem, Register(0x30), &shown);
+    then(&rt, &mut terminal, Call::Msr, Register(0x3f), &shown);
+}
+
+#[test]
+fn ports_that_are_attached() {
+    let rt = HostRuntime;
+    let taken = list()
+        .read(3, 0x03)
+        .read(4, 0x0b)
+        .read(2, 0x01)
+        .latch(0x03, 0x83, 12, 0);
+    let terminal = row(&rt, New, Call::Attach, Latch(12, 0), &taken);
+    assert_equal(&rt, terminal.inner().fifo_enabled(), false);
+    let opened = Answer::AttachRefused(AttachError::DivisorLatchOpen);
+    row(&rt, New, Call::Attach, opened, &list().read(3, 0x83));
+    let looped = Answer::AttachRefused(AttachError::Loopback);
+    row(
+        &rt,
+        New,
+        Call::Attach,
+        looped,
+        &list().read(3, 0x03).read(4, 0x10),
+    );
 }

@@ -1,0 +1,200 @@
+//! The calls that change the frame or the outputs to the modem, and that take a port as it is.
+
+use super::Uart16550;
+use super::init::frame_of;
+use crate::proved::uart_16550::backend::Backend;
+use crate::flags::Flags;
+use crate::proved::uart_spec::registers::{DLL, DLM, LCR, LSR, MCR, offsets};
+use crate::proved::uart_spec::{AttachError, Config, InvalidDivisorError, calc_divisor};
+
+// Returns LCR with a break or without.
+fn break_of(lcr: LCR, on: bool) -> LCR {
+    if on {
+        lcr.union(LCR::SET_BREAK)
+    } else {
+        lcr.difference(LCR::SET_BREAK)
+    }
+}
+
+// Returns MCR with an output asserted or clear.
+fn outputs_of(mcr: MCR, output: MCR, on: bool) -> MCR {
+    if on {
+        mcr.union(output)
+    } else {
+        mcr.difference(output)
+    }
+}
+
+impl<B: Backend> Uart16550<B> {
+    /// Changes the baud rate and the frame to those of this configuration, which must be computable
+    /// (`Config::is_computable`), and stores them in the driver's configuration.
+    ///
+    /// Writes LCR, DLL, DLM and LCR, and nothing else. So the FIFOs, the outputs to the modem and
+    /// the interrupts stay as they are, no byte is discarded, and a break ends. Does not wait. The
+    /// characters on the line meanwhile may be cut: call `flush` before, if the remote is to read
+    /// them. In between offsets 0 and 1 are the latch, as in `dll_dlm`.
+    ///
+    /// `interrupts`, `fifo_trigger_level` and `check_cts_before_sending` are not used.
+    ///
+    /// # Errors
+    ///
+    /// The divisor is not a whole number, or does not fit into the divisor latch. No access was
+    /// made, and nothing changed.
+    ///
+    /// # Panics
+    ///
+    /// If the configuration is not computable (`Config::is_computable`). No access was made then.
+    ///
+    /// # Examples
+    ///
+    /// ```
+    /// # include!(concat!(env!("CARGO_MANIFEST_DIR"), "/src/proved/examples.rs"));
+    /// # fn main() {}
+    /// # fn example(uart: &mut Uart16550<Device>) -> Outcome<()> {
+    /// uart.set_frame(&Config { baud_rate: BaudRate::Baud38400, ..Config::DEFAULT })?;
+    /// # Ok(()) }
+    /// ```
+    pub fn set_frame(&mut self, config: &Config) -> Result<(), InvalidDivisorError> {
+        let baud_rate = config.baud_rate.to_integer();
+        let prescaler = config.prescaler_division_factor;
+        let divisor = match calc_divisor(config.frequency, baud_rate, prescaler) {
+            Ok(divisor) => divisor,
+            Err(cause) => return Err(cause),
+        };
+        let frame = frame_of(config);
+        self.config.frequency = config.frequency;
+        self.config.prescaler_division_factor = prescaler;
+        self.config.baud_rate = config.baud_rate;
+        self.config.data_bits = config.data_bits;
+        self.config.extra_stop_bits = config.extra_stop_bits;
+        self.config.parity = config.parity;
+        self.write_frame(divisor, frame);
+        Ok(())
+    }
+
+    // Sets the divisor and the frame.
+    fn write_frame(&mut self, divisor: u16, frame: LCR) {
+        self.write_register(offsets::LCR, frame.union(LCR::DLAB).bits());
+        self.write_register(offsets::DLL, (divisor % 256) as u8);
+        self.write_register(offsets::DLM, (divisor / 256) as u8);
+        self.write_register(offsets::LCR, frame.bits());
+    }
+
+    /// Returns whether the transmitter is empty: the FIFO and the shift register.
+    ///
+    /// Does not wait: reads LSR once. The errors that this clears in the chip are saved for the
+    /// next `lsr`.
+    ///
+    /// # Examples
+    ///
+    /// ```
+    /// # include!(concat!(env!("CARGO_MANIFEST_DIR"), "/src/proved/examples.rs"));
+    /// # fn main() {}
+    /// # fn example(uart: &mut Uart16550<Device>) -> Outcome<()> {
+    /// assert!(uart.is_idle());
+    /// # Ok(()) }
+    /// ```
+    pub fn is_idle(&mut self) -> bool {
+        self.read_lsr().contains(LSR::TRANSMITTER_EMPTY)
+    }
+
+    /// Begins or ends a break: reads LCR, and writes it with `SET_BREAK` set or cleared.
+    ///
+    /// # Examples
+    ///
+    /// ```
+    /// # include!(concat!(env!("CARGO_MANIFEST_DIR"), "/src/proved/examples.rs"));
+    /// # fn main() {}
+    /// # fn example(uart: &mut Uart16550<Device>) -> Outcome<()> {
+    /// uart.set_break(true);
+    /// # Ok(()) }
+    /// ```
+    pub fn set_break(&mut self, on: bool) {
+        let switched = break_of(self.lcr(), on);
+        self.write_register(offsets::LCR, switched.bits());
+    }
+
+    /// Sets the outputs to the modem, and the other bits of MCR but loopback, which is cleared.
+    ///
+    /// # Examples
+    ///
+    /// ```
+    /// # include!(concat!(env!("CARGO_MANIFEST_DIR"), "/src/proved/examples.rs"));
+    /// # fn main() {}
+    /// # fn example(uart: &mut Uart16550<Device>) -> Outcome<()> {
+    /// uart.set_modem_control(MCR::DTR.union(MCR::OUT_2_INT_ENABLE));
+    /// # Ok(()) }
+    /// ```
+    pub fn set_modem_control(&mut self, outputs: MCR) {
+        self.write_register(offsets::MCR, outputs.difference(MCR::LOOP_BACK).bits());
+    }
+
+    /// Asserts or clears RTS, and leaves the other outputs. Clears loopback.
+    ///
+    /// # Examples
+    ///
+    /// ```
+    /// # include!(concat!(env!("CARGO_MANIFEST_DIR"), "/src/proved/examples.rs"));
+    /// # fn main() {}
+    /// # fn example(uart: &mut Uart16550<Device>) -> Outcome<()> {
+    /// uart.set_rts(false);
+    /// # Ok(()) }
+    /// ```
+    pub fn set_rts(&mut self, on: bool) {
+        self.set_output(MCR::RTS, on);
+    }
+
+    /// Asserts or clears DTR, and leaves the other outputs. Clears loopback.
+    ///
+    /// # Examples
+    ///
+    /// ```
+    /// # include!(concat!(env!("CARGO_MANIFEST_DIR"), "/src/proved/examples.rs"));
+    /// # fn main() {}
+    /// # fn example(uart: &mut Uart16550<Device>) -> Outcome<()> {
+    /// uart.set_dtr(false);
+    /// # Ok(()) }
+    /// ```
+    pub fn set_dtr(&mut self, on: bool) {
+        self.set_output(MCR::DTR, on);
+    }
+
+    fn set_output(&mut self, output: MCR, on: bool) {
+        let switched = outputs_of(self.mcr(), output, on);
+        self.set_modem_control(switched);
+    }
+
+    /// Takes a port as it was set up, for example by firmware: finds out whether the FIFOs are on,
+    /// and returns the divisor latch.
+    ///
+    /// Reads LCR, MCR and ISR, and then the divisor latch as `dll_dlm` does. Nothing else is
+    /// written. The read of ISR acknowledges a `THR_EMPTY` interrupt. `config` is not changed: the
+    /// clock of the chip is not known.
+    ///
+    /// # Errors
+    ///
+    /// - `DivisorLatchOpen` if DLAB is set.
+    /// - `Loopback` if the chip is in loopback.
+    ///
+    /// # Examples
+    ///
+    /// ```
+    /// # include!(concat!(env!("CARGO_MANIFEST_DIR"), "/src/proved/examples.rs"));
+    /// # fn main() {}
+    /// # fn example(uart: &mut Uart16550<Device>) -> Outcome<()> {
+    /// let (dll, dlm) = uart.attach()?;
+    /// # Ok(()) }
+    /// ```
+    pub fn attach(&mut self) -> Result<(DLL, DLM), AttachError> {
+        if self.lcr().contains(LCR::DLAB) {
+            return Err(AttachError::DivisorLatchOpen);
+        }
+        if self.mcr().contains(MCR::LOOP_BACK) {
+            return Err(AttachError::Loopback);
+        }
+        let fifo = self.isr().fifo_enabled();
+        let latch = self.dll_dlm();
+        self.fifo_enabled = fifo;
+        Ok(latch)
+    }
+}

@@ -1,0 +1,29 @@
+//! A byte that goes onto the wire at once.
+
+use crate::proved::uart_chip::controlling::{ChipParts, cut, is_loopback};
+use crate::proved::uart_chip::transmitting::TransmitterParts;
+use crate::flags::Flags;
+use crate::proved::uart_spec::registers::LCR;
+
+// Returns whether a transmitter holds nothing, and its wire has room.
+fn is_ready<T: TransmitterParts>(parts: &T) -> bool {
+    parts.queue_len() == 0 && (!parts.shifting().is_some() && parts.has_room())
+}
+
+/// Returns whether a byte that is written to DATA meets an idle transmitter, outside of loopback.
+pub fn sends_at_once<P: ChipParts>(parts: &P) -> bool {
+    !parts.lcr().intersects(LCR::DLAB) && (!is_loopback(parts) && is_ready(parts.transmitter()))
+}
+
+// Puts a byte on the wire.
+fn put_on_wire<T: TransmitterParts>(parts: &mut T, byte: u8) {
+    parts.send(byte);
+    parts.set_thr_pending(true);
+}
+
+/// Puts a byte on the wire that is written to DATA. The caller must show that it may.
+pub fn send_at_once<P: ChipParts>(parts: &mut P, value: u8) {
+    assert!(sends_at_once(parts), "the transmitter is not idle");
+    let byte = cut(parts, value);
+    put_on_wire(parts.transmitter_mut(), byte);
+}

@@ -1,0 +1,10 @@
+//! A serial port for virtual machine monitors: a live chip, and what its monitor has to do.
+//!
+//! Each call returns as plain data whether to signal the guest's interrupt, the level of the line,
+//! whether input that was put off has room now, and how many bytes of output are ready.
+
+mod port;
+mod told;
+
+pub use port::{Answer, Received, VirtualPort};
+pub use told::Todo;

@@ -1,0 +1,293 @@
+//! The port.
+
+use crate::proved::uart_virtual::told::{Todo, Told};
+use crate::flags::Flags;
+use crate::proved::uart_live::{Chip, ChipError, InputError, LiveChip, WIRE_ROOM};
+use crate::proved::uart_spec::registers::{LSR, MSR, offsets};
+
+// The ticks that a character takes.
+const CHAR_TICKS: u16 = 1;
+
+// The ticks that pass in each call: 17 for what the transmitter holds, 4 until a reception timeout
+// is due, and one.
+const SETTLE_TICKS: u16 = 22;
+
+/// A serial port.
+pub struct VirtualPort {
+    chip: LiveChip,
+    told: Told,
+}
+
+/// What a read returns: the value for the guest, and what the monitor has to do.
+#[derive(Clone, Copy, Debug, PartialEq, Eq)]
+pub struct Answer {
+    /// The value for the guest.
+    pub value: u8,
+    /// What the monitor has to do.
+    pub todo: Todo,
+}
+
+/// What became of input: how many bytes were received, and what the monitor has to do.
+#[derive(Clone, Copy, Debug, PartialEq, Eq)]
+pub struct Received {
+    /// How many bytes were received, from the front. The others are put off.
+    pub count: usize,
+    /// What the monitor has to do.
+    pub todo: Todo,
+}
+
+// What a call was, as far as the monitor is concerned.
+#[derive(Clone, Copy)]
+struct Kind {
+    brings: bool,
+    looks: bool,
+    puts_off: bool,
+}
+
+// Returns whether a read of this register tells the guest what may have interrupted it.
+fn is_look(offset: u8) -> bool {
+    let offset = offset as usize;
+    offset == offsets::ISR || (offset == offsets::LSR || offset == offsets::MSR)
+}
+
+// The ticks that pass in each call.
+fn settle_ticks() -> u16 {
+    SETTLE_TICKS
+}
+
+// Lets so much time pass that nothing is left to happen. Takes at most 18 jumps.
+fn settle(chip: &mut LiveChip) -> usize {
+    chip.ticks(settle_ticks())
+}
+
+// Returns what was told after a call, and what is to be told.
+fn decide(chip: &LiveChip, was_up: bool, told: Told, kind: Kind) -> (Told, Todo) {
+    let level = chip.is_interrupting();
+    let is_answered = kind.looks || !told.is_unanswered;
+    let signal = level && (!told.line || (kind.brings || (!was_up && is_answered)));
+    let has_room = kind.puts_off && chip.receive_room() != 0;
+    let is_unanswered = signal || (level && (told.is_unanswered && !kind.looks));
+    (
+        Told {
+            line: level,
+            is_unanswered,
+            is_put_off: kind.puts_off && !has_room,
+        },
+        Todo {
+            signal,
+            level,
+            has_room,
+            ready: chip.wire().len(),
+        },
+    )
+}
+
+// Lets the time of a call pass, and returns what was told and what is to be told.
+fn finish(chip: &mut LiveChip, told: Told, kind: Kind) -> (Told, Todo) {
+    let was_up = chip.is_interrupting();
+    settle(chip);
+    decide(chip, was_up, told, kind)
+}
+
+// Returns the same as `finish`, of a chip to which time does nothing.
+fn finish_still(chip: &LiveChip, told: Told, kind: Kind) -> (Told, Todo) {
+    // The level is the same before and after, so it does not matter here.
+    decide(chip, true, told, kind)
+}
+
+// Returns the same as `finish`, after a read of the register at this offset. Only a read of DATA
+// leaves something for time to do.
+fn finish_read(chip: &mut LiveChip, offset: u8, told: Told, kind: Kind) -> (Told, Todo) {
+    if offset as usize == offsets::DATA {
+        finish(chip, told, kind)
+    } else {
+        finish_still(chip, told, kind)
+    }
+}
+
+// Returns whether a byte can be sent at once: it meets an idle transmitter, and what is told does
+// not depend on the level of the line in between.
+fn is_fast(chip: &LiveChip, offset: u8, told: Told) -> bool {
+    let sends = chip.sends_at_once();
+    offset as usize == offsets::DATA && (sends && (!told.line || told.is_unanswered))
+}
+
+// Sends a byte that the guest writes to DATA. It is on the output then, as after the time of a
+// call.
+fn send(chip: &mut LiveChip, value: u8, told: Told) -> (Told, Todo) {
+    let kind = Kind {
+        brings: false,
+        looks: false,
+        puts_off: told.is_put_off,
+    };
+    chip.send_at_once(value);
+    decide(chip, false, told, kind)
+}
+
+// Writes a register and lets the time of a call pass.
+fn write_slowly(chip: &mut LiveChip, offset: u8, value: u8, told: Told) -> (Told, Todo) {
+    let kind = Kind {
+        brings: false,
+        looks: false,
+        puts_off: told.is_put_off,
+    };
+    chip.write(offset, value);
+    finish(chip, told, kind)
+}
+
+// Does the same as `write_slowly`, and sends a byte at once if it can.
+fn write(chip: &mut LiveChip, offset: u8, value: u8, told: Told) -> (Told, Todo) {
+    if is_fast(chip, offset, told) {
+        send(chip, value, told)
+    } else {
+        write_slowly(chip, offset, value, told)
+    }
+}
+
+// The host took output: it has room for what the transmitter holds, if that is anything.
+fn take(chip: &mut LiveChip, count: usize, told: Told) -> (Told, Todo) {
+    let held = chip.held_len();
+    let kind = Kind {
+        brings: held != 0,
+        looks: false,
+        puts_off: told.is_put_off,
+    };
+    chip.take_wire(count);
+    if held == 0 {
+        finish_still(chip, told, kind)
+    } else {
+        finish(chip, told, kind)
+    }
+}
+
+// Receives these bytes.
+fn receive_all(chip: &mut LiveChip, input: &[u8]) {
+    for byte in input {
+        let _received = chip.arrive(*byte, LSR::empty());
+    }
+}
+
+impl VirtualPort {
+    /// Returns a port after power-on.
+    ///
+    /// # Errors
+    ///
+    /// None: a chip of this time and this wire is always made.
+    pub fn new(chip: Chip) -> Result<Self, ChipError> {
+        let mut chip = LiveChip::new(chip, CHAR_TICKS, WIRE_ROOM)?;
+        let none = Told {
+            line: false,
+            is_unanswered: false,
+            is_put_off: false,
+        };
+        let kind = Kind {
+            brings: false,
+            looks: false,
+            puts_off: false,
+        };
+        let (told, _todo) = finish(&mut chip, none, kind);
+        Ok(VirtualPort { chip, told })
+    }
+
+    /// Reads the register at this offset for the guest.
+    ///
+    /// # Panics
+    ///
+    /// If the offset is 8 or more.
+    pub fn read(&mut self, offset: u8) -> Answer {
+        let value = self.chip.read(offset);
+        let kind = Kind {
+            brings: false,
+            looks: is_look(offset),
+            puts_off: self.told.is_put_off,
+        };
+        let (told, todo) = finish_read(&mut self.chip, offset, self.told, kind);
+        self.told = told;
+        Answer { value, todo }
+    }
+
+    /// Writes a value to the register at this offset for the guest. What the transmitter then holds
+    /// leaves as far as the output has room.
+    ///
+    /// # Panics
+    ///
+    /// If the offset is 8 or more.
+    pub fn write(&mut self, offset: u8, value: u8) -> Todo {
+        let (told, todo) = write(&mut self.chip, offset, value, self.told);
+        self.told = told;
+        todo
+    }
+
+    /// Receives as many of these bytes as there is room for. If that is fewer, the others are put
+    /// off: the first call after which there is room says so.
+    pub fn receive(&mut self, input: &[u8]) -> Received {
+        let room = self.chip.receive_room();
+        let count = input.len().min(room);
+        let kind = Kind {
+            brings: 0 < count,
+            looks: false,
+            puts_off: self.told.is_put_off || room < input.len(),
+        };
+        receive_all(&mut self.chip, &input[..count]);
+        let (told, todo) = finish(&mut self.chip, self.told, kind);
+        self.told = told;
+        Received { count, todo }
+    }
+
+    /// Receives a character with these errors: parity, framing and break. Without room it overruns.
+    ///
+    /// # Errors
+    ///
+    /// `BadErrors` if `errors` has any other bit. Nothing changes then.
+    pub fn receive_one(&mut self, byte: u8, errors: LSR) -> Result<Todo, InputError> {
+        if errors.intersection(LSR::CHARACTER_ERRORS) != errors {
+            return Err(InputError::BadErrors);
+        }
+        let _received = self.chip.arrive(byte, errors);
+        let kind = Kind {
+            brings: true,
+            looks: false,
+            puts_off: self.told.is_put_off,
+        };
+        let (told, todo) = finish(&mut self.chip, self.told, kind);
+        self.told = told;
+        Ok(todo)
+    }
+
+    /// Sets the inputs of the modem: CTS, DSR, RI and CD, as bits of MSR.
+    ///
+    /// # Errors
+    ///
+    /// `BadLines` if `inputs` has any other bit. Nothing changes then.
+    pub fn set_lines(&mut self, inputs: MSR) -> Result<Todo, InputError> {
+        if inputs.intersection(MSR::LINES) != inputs {
+            return Err(InputError::BadLines);
+        }
+        let _set = self.chip.set_lines(inputs);
+        let kind = Kind {
+            brings: true,
+            looks: false,
+            puts_off: self.told.is_put_off,
+        };
+        let (told, todo) = finish(&mut self.chip, self.told, kind);
+        self.told = told;
+        Ok(todo)
+    }
+
+    /// Returns the output that the host has not taken, in order.
+    pub fn output(&self) -> &[u8] {
+        self.chip.wire()
+    }
+
+    /// The host took this number of bytes from the front of the output, or all if there are fewer.
+    pub fn take_output(&mut self, count: usize) -> Todo {
+        let (told, todo) = take(&mut self.chip, count, self.told);
+        self.told = told;
+        todo
+    }
+
+    /// Returns the level of the interrupt line, which was told last.
+    pub fn level(&self) -> bool {
+        self.chip.is_interrupting()
+    }
+}
