@@ -27,6 +27,19 @@ MEANINGS = {
         "abbrev pub frequency_of : (baud_rate divisor : ℕ) → Option ℕ → ℕ "
         "frequency_of baud_rate divisor factor = 16 * (prescaler factor + 1) * baud_rate * divisor",
     ),
+    "sends_at_once": (
+        "Rattle.uart_chip.specs.Sending",
+        "uart_chip/specs/Sending.antt",
+        "abbrev pub sends_at_once : ChipState → Bool "
+        "sends_at_once c = not (is_dlab_set c.latches) && (not (is_loopback c.latches) && is_ready c.transmitter)",
+    ),
+    "IsStill": (
+        "Rattle.uart_virtual.specs.Port",
+        "uart_virtual/specs/Port.antt",
+        "pub record IsStill (c : ChipState) : Type 0 where pub takes : c.transmitter.char_ticks ≡ 1 "
+        "pub unmoved : next_move (is_loopback c.latches) c.transmitter ≡ None "
+        "pub due : c.receiver.timeout_ticks ≡ c.receiver.timeout_limit",
+    ),
     "NUM_REGISTERS": (
         "Rattle.uart_spec.specs.declared.baud.TheConstants",
         "uart_spec/src/baud.rt",
@@ -66,7 +79,7 @@ def causes(files, allow, root=ROOT):
     found, used = [], set()
     for file in files:
         words = tested_words(file, allow)
-        used |= words & MEANINGS.keys()
+        used |= {part for word in words for part in word.split(".")} & MEANINGS.keys()
         found += [f"crates/{file.name}: refused: {cause}" for cause in meanings(file, words)]
         if file.name.split("/")[0] not in allow.HIDDEN_IN:
             found += promises(file)
@@ -84,29 +97,37 @@ def definitions(text):
 
 
 def tested_words(file, allow):
-    """The words of the clauses of this file that Rust code tests."""
+    """The names in the clauses of this file that Rust code tests, as `prescaler` or `spec.prescaler`."""
     clauses = []
     for function in file.functions:
         guard = allow.GUARDS.get(function.path)
         if guard and (guard.test or guard.tested_by):
             clauses += [re.sub(r"^requires (\w+ )?", "", one) for one in guard.clauses]
-    return set(re.findall(r"(?<![\w.])[A-Za-z_]\w*", " ".join(clauses)))
+    return set(re.findall(r"(?<![\w.])[A-Za-z_]\w*(?:\.\w+)*", " ".join(clauses)))
 
 
 def meanings(file, words):
     """Why the words of tested clauses may mean something else in this file."""
-    used = {}
+    lists, modules, own = {}, {}, set()
     for token in file.code:
-        if token.kind == "ghost" and re.match(r"ghost (\w+)", token.text)[1] in words:
-            yield f"`{re.match(r'ghost (.+?)( =|:)', token.text)[1]}`, a word of a guard, is defined here"
+        if token.kind == "ghost":
+            own.add(re.match(r"ghost (\w+)", token.text)[1])
         if token.kind == "ghost use":
-            path, listed = re.match(r"ghost use ([\w.]+?)(?:\.\{([^}]*)\}| as \w+)?;", token.text).groups()
-            for name in [one.strip() for one in (listed or path.split(".")[-1]).split(",")]:
-                used.setdefault(name, []).append(path)
-    for name in sorted(words):
-        wanted = [MEANINGS[name][0]] if name in MEANINGS else []
-        if used.get(name, []) != wanted:
-            yield f"`{name}`, a word of a guard, is from {', '.join(used.get(name, [])) or 'nowhere'}"
+            path, listed, name = re.match(r"ghost use ([\w.]+?)(?:\.\{([^}]*)\}| as (\w+))?;", token.text).groups()
+            for one in listed.split(",") if listed else []:
+                lists.setdefault(one.strip(), []).append(path)
+            modules[name or path.split(".")[-1]] = path
+    for word in sorted(words):
+        head, _, rest = word.partition(".")
+        name, places = head, lists.get(head, [])
+        if head in modules and rest:
+            name, places = rest.split(".")[0], [modules[head], *places]
+        if head in own:
+            yield f"`{head}`, a word of a guard, is defined here"
+        elif any(place.startswith("Rattle.std.specs.") for place in places) and name not in MEANINGS:
+            continue
+        elif places != ([MEANINGS[name][0]] if name in MEANINGS else []):
+            yield f"`{name}`, a word of a guard, is from {', '.join(places) or 'nowhere'}"
 
 
 def promises(file):
