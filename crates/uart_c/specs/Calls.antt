@@ -78,6 +78,8 @@ IsCall c (call.SetBreak on) = ⊥
 IsCall c (call.SetModemControl outputs) = ⊥
 IsCall c (call.SetRts on) = ⊥
 IsCall c (call.SetDtr on) = ⊥
+IsCall c call.RetriggerInterrupts = ⊥
+IsCall c (call.ReceiveWithErrors count) = ⊥
 IsCall c (call.Text text) = ⊥
 
 -- the one struct of C that asks for an access: a flag of 0 or 1, and the value 0 for a read
@@ -150,3 +152,4 @@ shown answer.NoData = of_kind code.UART_ANSWER_NO_DATA
 shown (answer.NotSent error) = of_value code.UART_ANSWER_NOT_SENT (send_code error) 0
 shown (answer.FrameRefused error) = of_kind code.UART_ANSWER_FRAME_REFUSED
 shown (answer.AttachRefused error) = of_kind code.UART_ANSWER_ATTACH_REFUSED
+shown (answer.BytesWithErrors received) = of_count code.UART_ANSWER_BYTES_WITH_ERRORS (length received.items)
