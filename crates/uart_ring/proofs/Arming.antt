@@ -42,7 +42,8 @@ use Rattle.uart_ring.specs.Armed.{ThrEmpty, shows_thr_empty, due_after_read, kno
 use Rattle.uart_ring.specs.Armed.{Arms, ShowsCtsClear, ArmsUnlessHeld}
 use Rattle.uart_ring.proofs.RegisterBits.{and_or, and_assoc, or_and}
 use Rattle.uart_ring.proofs.Pausing.{ChangesIer, Pausing, joined_with, rid_of}
-use Rattle.uart_ring.proofs.Losses.{Carries, received_carries, shows_carry, serves_one_carries, times_carry, shows_none, serves_up_to_carries}
+use Rattle.uart_ring.proofs.Losses.{Carries, received_carries, shows_carry, serves_one_carries, times_carry, shows_none}
+use Rattle.uart_ring.proofs.Losses.{serves_up_to_carries}
 
 -- ---- bits of IER
 

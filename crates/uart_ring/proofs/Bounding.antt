@@ -202,7 +202,8 @@ unless_idle_size Limit f l after t = retriggers_size f l after t
 
 pub handles_size : (limit : ℕ) (handled : Handled) → Implies (Handles limit handled) (MakesAtMost (most_of_handle limit))
 handles_size limit handled f l after t =
-    both l t.front t.back (limit * (1 + most_of_receiving)) most_of_retrigger t.whole (serves_up_to_size limit handled f t.front t.mid t.first)
+    both l t.front t.back (limit * (1 + most_of_receiving)) most_of_retrigger t.whole
+    (serves_up_to_size limit handled f t.front t.mid t.first)
     (unless_idle_size handled.end t.mid t.back after t.second)
 
 any_pumps_size : (count : ℕ) → Implies (IfAny count Pumps) (MakesAtMost most_of_pump)

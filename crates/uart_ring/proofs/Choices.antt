@@ -246,7 +246,8 @@ one_first : (n : ℕ) (G : RingDoing) (f : RingFields) (l : List Access) (a : Ri
 one_first n G f l a t = then_later ServesOne (RingTimes n ServesOne) G f l a t
 
 -- one of them went on
-goes_on : {D : Type 0} (G : RingDoing) (idle : Bool) (f : RingFields) → RingDoes D f (RingNext ServesOne G) (ServedThen zero (ReadsNone idle))
+goes_on : {D : Type 0} (G : RingDoing) (idle : Bool) (f : RingFields) →
+    RingDoes D f (RingNext ServesOne G) (ServedThen zero (ReadsNone idle))
 goes_on G idle f = record { at = λ l m a b p q. (ring_front (none_apart idle f)).at l m a b p (stays_then (ReadsNone idle) f m b q) }
 
 looked_same : (n k : ℕ) (x y : Bool) (f : RingFields) →

@@ -165,7 +165,10 @@ rises_in_calls t u (link ∷ links) h down up =
 -- the call was made so, and the line was low meanwhile
 no_edge_lost : (l : List Access) (s t : RingState) (p : Path MachineStep (ring_machine s) l (ring_machine t)) →
     IsDownDuring l (ring_machine s) (ring_machine t) p → LosesNoEdge l s t p
-no_edge_lost l s t p down = record { was_down = down; has_risen = λ calls u chain up. go calls u chain up (is_line_up (ring_machine t)) refl }
+no_edge_lost l s t p down = record {
+  was_down = down;
+  has_risen = λ calls u chain up. go calls u chain up (is_line_up (ring_machine t)) refl;
+}
   where
     go : (calls : List RingLink) (u : RingState) → RingChain t calls u → is_line_up (ring_machine u) ≡ true → (b : Bool) →
         is_line_up (ring_machine t) ≡ b → RisesDuring l (ring_machine s) (ring_machine t) p ⊎ RisesInCalls calls

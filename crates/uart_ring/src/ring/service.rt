@@ -16,7 +16,7 @@ pub const MAX_INTERRUPTS: usize = 8;
 pub enum HandleEnd {
     /// ISR showed that no interrupt is pending.
     Idle,
-    /// ISR showed an interrupt that has no name. It was not served, and the interrupts were
+    /// ISR showed an interrupt that has no name, which cannot be served. The interrupts were
     /// triggered again.
     Unknown,
     /// As many interrupts as the limit were served, and the interrupts were triggered again.
@@ -49,7 +49,8 @@ impl<B: Backend> Uart16550Ring<B> {
         }
     }
 
-    // Serves the interrupts that ISR identifies, at most `limit`, and returns why it serves no more.
+    // Serves the interrupts that ISR identifies, at most `limit`. Returns how many, and why it
+    // serves no more.
     fn serve_up_to(&mut self, limit: usize) -> Handled
         ensures { RingDid B.step (ServesUpTo limit result) self.old self.new }
     {
@@ -112,11 +113,16 @@ impl<B: Backend> Uart16550Ring<B> {
     /// reads IER, writes 0, and writes back what it read.
     ///
     /// An interrupt controller that detects edges sees no new edge while the line stays high, so
-    /// the port would not be served again. `handle` calls this when it has to. Call it yourself
+    /// it would not call the handler again. `handle` retriggers where that is needed. Call this
+    /// yourself
     ///
-    /// - at the end of a handler of your own that leaves before ISR has shown that no interrupt is
+    /// - at the end of a handler of your own that returns before ISR has shown that no interrupt is
     ///   pending;
-    /// - after the interrupt was masked at a controller that forgets the edges that come meanwhile.
+    /// - after the interrupt was unmasked at a controller that forgets the edges that come while it
+    ///   is masked, as an I/O APIC does.
+    ///
+    /// If `THR_EMPTY` is enabled and the transmitter is empty, the chip raises that interrupt
+    /// again.
     ///
     /// Does not wait: makes three accesses.
     ///
@@ -134,15 +140,17 @@ impl<B: Backend> Uart16550Ring<B> {
     /// Handles the chip's interrupt: serves what is pending, as `service` does, but at most `limit`
     /// interrupts. Returns how many it served, and why it ended.
     ///
-    /// Call it once each time the interrupt handler runs. The controller may detect levels or edges:
+    /// Call it once each time the interrupt handler runs, whether the interrupt controller detects
+    /// levels or edges:
     ///
-    /// - If the end is `Idle`, no interrupt is pending and the line is low. The next interrupt makes
-    ///   it rise.
+    /// - If the end is `Idle`, no interrupt is pending, and the line is low. The next interrupt
+    ///   makes the line rise.
     /// - Otherwise an interrupt may be left, and `handle` makes the line fall and rise again, as
-    ///   `retrigger` does. So the handler is called again.
+    ///   `retrigger` does. So the controller calls the handler again.
     ///
-    /// If the end is `Unknown` or `Limit` again and again, the handler may be called for ever, and
-    /// the chip is broken: count these ends, and disable the interrupts after a number of them.
+    /// A broken chip may show interrupts for ever, and the controller then calls the handler for
+    /// ever. So count the calls in a row that do not end with `Idle`, and after a number of them
+    /// disable the chip's interrupts.
     ///
     /// Does not wait: makes at most 35 accesses for each interrupt of the limit, and 3 more.
     ///
