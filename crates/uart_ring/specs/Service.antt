@@ -57,7 +57,7 @@ Stops Idle = OnDriver (ShowsNone true) unchanged
 Stops Unknown = OnDriver (ShowsNone false) unchanged
 Stops Limit = Stays
 
--- as many as the limit were served if it is reached, and fewer if ISR is why no further one is served
+-- exactly as many as the limit were served if this is the end, and else fewer
 abbrev pub IsWithin : (limit served : ℕ) → HandleEnd → Type 0
 IsWithin limit served Idle = served < limit
 IsWithin limit served Unknown = served < limit
@@ -69,7 +69,7 @@ ServesUpTo limit handled f l after =
     IsWithin limit handled.served handled.end
     × RingNext (RingTimes handled.served ServesOne) (Stops handled.end) f l after
 
--- `service`: at most 8 interrupts are served; why no further one is not told
+-- `service`: at most 8 interrupts are served. It tells how many, and not why it ended
 abbrev pub Services : ℕ → RingDoing
 Services count f l after =
     (end : HandleEnd) × ServesUpTo MAX_INTERRUPTS (record { served = count; end = end }) f l after
