@@ -24,20 +24,23 @@ struct device {
     uint8_t sent[ROOM];
     unsigned sent_len;
     unsigned accesses;
+    unsigned falls;              /* how often 0 was written into IER, so that the interrupt line is low */
     uint8_t fifo_on, thr_pending;
     /* what is wrong with it */
     uint8_t is_absent, is_stuck, is_silent;
+    uint8_t shows;               /* that ISR shows, if not 0 */
     unsigned room;               /* how many more bytes it sends; it is then full */
     uint8_t flips;               /* that a byte in loopback comes back with */
     unsigned flips_after;        /* so many bytes */
-    /* a call that a read makes over the driver, and what that call returned */
-    struct u16550 *calls;
-    int called;
+    /* what happens in the middle of a call: at each access */
+    void (*meanwhile)(struct device *d);
 };
 
 static inline uint8_t device_isr(struct device *d)
 {
     uint8_t ier = d->registers[IER], fifo = d->fifo_on ? FIFOS_ENABLED : 0;
+    if (d->shows)
+        return fifo | d->shows;
     if ((ier & U16550_IER_RECEIVER_LINE_STATUS) && d->errors)
         return fifo | LINE_STATUS;
     if ((ier & U16550_IER_DATA_READY) && d->arrived_len)
@@ -60,17 +63,20 @@ static inline uint8_t device_lsr(struct device *d)
     return lsr | U16550_LSR_THR_EMPTY | U16550_LSR_TRANSMITTER_EMPTY;
 }
 
+static inline void device_access(struct device *d)
+{
+    d->accesses++;
+    if (d->meanwhile)
+        d->meanwhile(d);
+}
+
 static inline uint8_t device_read(void *context, uintptr_t address)
 {
     struct device *d = (struct device *)context;
     unsigned offset = (unsigned)((address - d->base) / d->stride);
     uint8_t value;
 
-    d->accesses++;
-    if (d->calls) {
-        uint8_t unused;
-        d->called = u16550_lsr(d->calls, &unused);
-    }
+    device_access(d);
     switch (offset) {
     case DATA:
         if (d->registers[LCR] & DLAB)
@@ -117,11 +123,13 @@ static inline void device_write(void *context, uintptr_t address, uint8_t value)
     struct device *d = (struct device *)context;
     unsigned offset = (unsigned)((address - d->base) / d->stride);
 
-    d->accesses++;
+    device_access(d);
     if (offset <= IER && (d->registers[LCR] & DLAB)) {
         *(offset ? &d->dlm : &d->dll) = value;
         return;
     }
+    if (offset == IER && value == 0)
+        d->falls++;
     switch (offset) {
     case DATA:
         device_send(d, value);
