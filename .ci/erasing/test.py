@@ -9,6 +9,7 @@ import tempfile
 import around
 import chip
 import crate
+import deceptions
 import second
 import table
 import words
@@ -518,14 +519,23 @@ class Tests:
             return crate.refusal(name, text, cause)
         return ""
 
-    def forms(self):
+    def accepted(self):
         name = "uart_spec/src/backend.rt"
         for form in ACCEPTED:
             cause = self.refused(name, f"{self.texts[name]}\n{form}\n")
             self.count(cause == "", f"refused: {form!r}: {cause}")
-        for form, cause in FORMS:
+
+    def forms(self, forms, name="uart_spec/src/backend.rt"):
+        for form, cause in forms:
             found = self.refused(name, f"{self.texts[name]}\n{form}\n")
             self.count(cause in found, f"{form!r}: {found or 'accepted'}, and not: {cause}")
+
+    def widened(self):
+        for *forms, cause in deceptions.WIDENED:
+            texts = {name: f"{self.texts[name]}\n{form}\n" for name, form in forms}
+            files = [crate.read(name, texts.get(name, self.texts[name]), self.table) for name in self.read]
+            found = failure(lambda: crate.check_whole(files, {**self.texts, **texts}, self.table))
+            self.count(cause in found, f"{forms}: {found or 'accepted'}, and not: {cause}")
 
     def sources(self, edits):
         for name, old, new, cause in edits:
@@ -638,8 +648,12 @@ def failure(call):
 
 def run():
     tests = Tests()
-    tests.forms()
+    tests.accepted()
+    tests.forms(FORMS)
     tests.sources(SOURCES)
+    tests.forms(deceptions.FORMS)
+    tests.sources(deceptions.SOURCES)
+    tests.widened()
     tests.erasures(ERASURES)
     tests.bytes()
     tests.files()
@@ -647,6 +661,7 @@ def run():
     tests.tables()
     of_chip = Tests(chip.TABLE)
     of_chip.sources(CHIP_SOURCES)
+    of_chip.forms(deceptions.OF_CHIP, "uart_chip/src/fifo.rt")
     of_chip.erasures(CHIP_ERASURES)
     of_chip.around(CHIP_AROUND)
     passed, failed = tests.passed + of_chip.passed, tests.failed + of_chip.failed

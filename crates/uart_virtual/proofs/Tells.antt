@@ -9,10 +9,10 @@ use Rattle.uart_live.specs.Laws.{Act, Ticks, Arrive, TakeWire, in_turn, AllInTur
 use Rattle.uart_live.proofs.Orders.{bytes_leave}
 use Rattle.uart_virtual.specs.declared.told.Todo.{Todo}
 use Rattle.uart_virtual.specs.declared.told.Told.{Told}
-use Rattle.uart_virtual.specs.Port.{PortState, Call, Read, Write, Receive, ReceiveOne, SetLines, TakeOutput, after, todo}
+use Rattle.uart_virtual.specs.Port.{PortState, PortCall, Read, Write, Receive, ReceiveOne, SetLines, TakeOutput, after, todo}
 use Rattle.uart_virtual.specs.Port.{happen, brings, looks, puts_off, settle, settle_ticks, is_up}
 use Rattle.uart_virtual.specs.Port.{has_room, IsTold, tell, todo_of, arrive_all, accepted}
-use Rattle.uart_virtual.specs.Laws.{after_all, some_told, LevelIsTold, EachRiseIsSignalled, UnansweredWasSignalled, RoomIsTold}
+use Rattle.uart_virtual.specs.Laws.{after_all, some_told, ToldStays, EachRiseIsSignalled, UnansweredWasSignalled, RoomIsTold}
 use Rattle.uart_virtual.specs.Laws.{acts_of, acts_of_all, BytesGoOut}
 
 and_not : (a b : Bool) → (a && not b) ≡ true → b ≡ false
@@ -32,15 +32,15 @@ pub told_holds : (brings looks puts_off was_up : Bool) (ended : ChipState) (told
     IsTold (record { chip = ended; told = tell brings looks puts_off was_up ended told })
 told_holds brings looks puts_off was_up ended told = record { line = refl; waits = and_not puts_off (has_room ended) }
 
-told_after : (call : Call) (d : PortState) → IsTold (after call d)
+told_after : (call : PortCall) (d : PortState) → IsTold (after call d)
 told_after call d =
     let c : ChipState = happen call d.chip in
     told_holds (brings call d.chip) (looks call) (puts_off call d) (is_up c) (settle c) d.told
 
-pub level_told : LevelIsTold
-level_told [] d h = h
-level_told (call ∷ calls) d h =
-    level_told calls (after call d) (told_after call d)
+pub told_stays : ToldStays
+told_stays [] d h = h
+told_stays (call ∷ calls) d h =
+    told_stays calls (after call d) (told_after call d)
 
 -- ---- the line
 
@@ -49,16 +49,20 @@ rises_from_down true false others l u = refl
 rises_from_down true true others l u = absurd (cc)
 rises_from_down false line others l u = absurd (cc)
 
-pub rise_signalled : EachRiseIsSignalled
-rise_signalled [] d down up = absurd (cc)
-rise_signalled (call ∷ calls) d down up =
-    go (is_up (settle (happen call d.chip))) refl (λ e. rise_signalled calls (after call d) e up)
+told-rise : (calls : List PortCall) (d : PortState) → d.told.line ≡ false → (after_all calls d).told.line ≡ true →
+    some_told (λ (t : Todo). t.signal) calls d ≡ true
+told-rise [] d down up = absurd (cc)
+told-rise (call ∷ calls) d down up =
+    go (is_up (settle (happen call d.chip))) refl (λ e. told-rise calls (after call d) e up)
   where
     go : (level : Bool) → is_up (settle (happen call d.chip)) ≡ level →
         ((after call d).told.line ≡ false → some_told (λ (t : Todo). t.signal) calls (after call d) ≡ true) →
         some_told (λ (t : Todo). t.signal) (call ∷ calls) d ≡ true
     go true e later = or_left (todo call d).signal _ (rises_from_down _ d.told.line _ down e)
     go false e later = or_right (todo call d).signal _ (later e)
+
+pub rise_signalled : EachRiseIsSignalled
+rise_signalled calls d h down up = told-rise calls d (h.line ∙ down) ((told_stays calls d h).line ∙ up)
 
 was_given : (r u w l : Bool) → (r || (u && (w && not l))) ≡ true → (r ≡ true) ⊎ ((w ≡ true) × (l ≡ false))
 was_given true u w l h = inl refl
@@ -72,7 +76,7 @@ unanswered_signalled call d h = was_given _ _ d.told.is_unanswered (looks call) 
 
 -- ---- room
 
-stays_put_off : (call : Call) (d : PortState) → d.told.is_put_off ≡ true → puts_off call d ≡ true
+stays_put_off : (call : PortCall) (d : PortState) → d.told.is_put_off ≡ true → puts_off call d ≡ true
 stays_put_off (Receive bytes) d h = or_left d.told.is_put_off _ h
 stays_put_off _ d h = h
 
@@ -102,7 +106,7 @@ acts-arrive : (bytes : List ℕ) (c : ChipState) → live.after_all (map (λ (by
 acts-arrive [] c = refl
 acts-arrive (byte ∷ bytes) c = acts-arrive bytes (live.after (Arrive byte 0) c)
 
-acts-call : (call : Call) (d : PortState) → live.after_all (acts_of call d.chip) d.chip ≡ (after call d).chip
+acts-call : (call : PortCall) (d : PortState) → live.after_all (acts_of call d.chip) d.chip ≡ (after call d).chip
 acts-call (Receive bytes) d =
     let xs : List ℕ = take (accepted bytes d.chip) bytes in
     acts-append (map (λ (byte : ℕ). Arrive byte 0) xs) (Ticks settle_ticks ∷ []) d.chip ∙
@@ -113,7 +117,7 @@ acts-call (ReceiveOne byte errors) d = refl
 acts-call (SetLines inputs) d = refl
 acts-call (TakeOutput count) d = refl
 
-acts-all : (calls : List Call) (d : PortState) → live.after_all (acts_of_all calls d) d.chip ≡ (after_all calls d).chip
+acts-all : (calls : List PortCall) (d : PortState) → live.after_all (acts_of_all calls d) d.chip ≡ (after_all calls d).chip
 acts-all [] d = refl
 acts-all (call ∷ calls) d =
     acts-append (acts_of call d.chip) (acts_of_all calls (after call d)) d.chip ∙

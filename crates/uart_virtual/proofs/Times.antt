@@ -22,7 +22,7 @@ use Rattle.uart_chip.proofs.Jumps.{StillFor, ticks_skip}
 use Rattle.uart_chip.proofs.soundness.Idle.{moves-most}
 use Rattle.uart_chip.proofs.soundness.Sounds.{steady_ticks}
 use Rattle.uart_live.proofs.Lives.{both_if}
-use Rattle.uart_virtual.specs.Port.{Call, Read, Write, Receive, ReceiveOne, SetLines, TakeOutput, happen, settle, settle_ticks}
+use Rattle.uart_virtual.specs.Port.{PortCall, Read, Write, Receive, ReceiveOne, SetLines, TakeOutput, happen, settle, settle_ticks}
 use Rattle.uart_virtual.specs.Port.{accepted, arrive_all, IsStill}
 
 -- ---- the ticks of a character stay the same
@@ -92,7 +92,7 @@ pub takes-all : (k : ℕ) (bytes : List ℕ) (c : ChipState) → CharTakes k c �
 takes-all k [] c h = h
 takes-all k (byte ∷ bytes) c h = takes-all k bytes _ h
 
-pub takes-happen : (k : ℕ) (call : Call) (c : ChipState) → CharTakes k c → CharTakes k (happen call c)
+pub takes-happen : (k : ℕ) (call : PortCall) (c : ChipState) → CharTakes k c → CharTakes k (happen call c)
 takes-happen k (Read offset) c h = takes-read k offset c h
 takes-happen k (Write offset value) c h = takes-write k offset value c h
 takes-happen k (Receive bytes) c h = takes-all k (take (accepted bytes c) bytes) c h

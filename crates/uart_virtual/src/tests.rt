@@ -18,14 +18,10 @@ const MCR: u8 = 4;
 
 const LINE: u8 = 5;
 
-fn port() -> Result<VirtualPort, Fail> {
-    Ok(VirtualPort::new(Chip::Uart16550A)?)
-}
-
-// F1: room that comes by a write of FCR, and by the end of loopback, is told.
+// Room that comes by a write of FCR, and by the end of loopback, is told.
 #[test]
 fn room_is_told_whichever_call_gives_it(rt: HostRuntime) -> Result<(), Fail> {
-    let mut port = port()?;
+    let mut port = VirtualPort::new(Chip::Uart16550A);
     let received = port.receive(b"ab");
     assert!(rt; received.count == 1 && !received.todo.has_room);
     assert!(rt; !port.read(LINE).todo.has_room);
@@ -40,10 +36,10 @@ fn room_is_told_whichever_call_gives_it(rt: HostRuntime) -> Result<(), Fail> {
     Ok(())
 }
 
-// F3: a burst is one signal, and another after the guest looked.
+// A burst is one signal, and another after the guest looked.
 #[test]
 fn a_burst_is_one_signal(rt: HostRuntime) -> Result<(), Fail> {
-    let mut port = port()?;
+    let mut port = VirtualPort::new(Chip::Uart16550A);
     assert!(rt; !port.write(FCR, 0x07).signal);
     assert!(rt; port.write(IER, 0x02).signal);
     assert!(rt; port.read(ISR).value == 0xc2);
@@ -60,10 +56,10 @@ fn a_burst_is_one_signal(rt: HostRuntime) -> Result<(), Fail> {
     Ok(())
 }
 
-// F7: the guest reads 8 of 12 at trigger 8, and returns.
+// The guest reads 8 of 12 at trigger 8, and returns.
 #[test]
 fn a_handler_that_reads_its_trigger_level_comes_again(rt: HostRuntime) -> Result<(), Fail> {
-    let mut port = port()?;
+    let mut port = VirtualPort::new(Chip::Uart16550A);
     port.write(FCR, 0x87);
     port.write(IER, 0x01);
     assert!(rt; port.receive(b"0123456789ab").todo.signal);
@@ -79,10 +75,10 @@ fn a_handler_that_reads_its_trigger_level_comes_again(rt: HostRuntime) -> Result
     Ok(())
 }
 
-// F2: input while the line is up is signalled, once a call.
+// Input while the line is up is signalled, once a call.
 #[test]
 fn a_top_up_is_signalled(rt: HostRuntime) -> Result<(), Fail> {
-    let mut port = port()?;
+    let mut port = VirtualPort::new(Chip::Uart16550A);
     port.write(FCR, 0x87);
     port.write(IER, 0x01);
     assert!(rt; port.receive(b"0123456789abcdef").todo.signal);
@@ -94,10 +90,10 @@ fn a_top_up_is_signalled(rt: HostRuntime) -> Result<(), Fail> {
     Ok(())
 }
 
-// F4: a full output shows a transmitter that is not empty, and what the host takes lets it go on.
+// A full output shows a transmitter that is not empty, and what the host takes lets it go on.
 #[test]
 fn a_full_output_holds_the_guest_back(rt: HostRuntime) -> Result<(), Fail> {
-    let mut port = port()?;
+    let mut port = VirtualPort::new(Chip::Uart16550A);
     port.write(FCR, 0x07);
     port.write(IER, 0x02);
     let mut written = 0;
@@ -117,10 +113,10 @@ fn a_full_output_holds_the_guest_back(rt: HostRuntime) -> Result<(), Fail> {
     Ok(())
 }
 
-// F8: a break, and an overrun.
+// A break is received as such, and the character after it overruns.
 #[test]
 fn breaks_and_overruns(rt: HostRuntime) -> Result<(), Fail> {
-    let mut port = port()?;
+    let mut port = VirtualPort::new(Chip::Uart16550A);
     port.write(IER, 0x05);
     let todo = port.receive_one(0, LSR::BREAK_INTERRUPT)?;
     assert!(rt; todo.signal);

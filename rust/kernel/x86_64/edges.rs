@@ -11,12 +11,16 @@ use echo::{Echoed, Ring, Serve};
 use machine::{End, end};
 use uart_16550::native::backend::{Backend, X86Ports};
 use uart_16550::native::embedded_io::Write as _;
-use uart_16550::native::spec::registers::offsets;
+use uart_16550::native::spec::registers::{FifoTriggerLevel, offsets};
 use uart_16550::native::{BaudRate, Config, Uart16550, Uart16550Tty};
 use uart_16550::ring::{HandleEnd, MAX_INTERRUPTS};
 
 const COM1: u16 = 0x3f8;
 const TYPED: usize = 300_000;
+
+// How many accesses are made before each read, to nothing, so that it takes as long as on a real bus. The other end refills the
+// FIFO meanwhile.
+const SLOWNESS: u32 = 10;
 
 // An ISR that shows an interrupt without a name, with the FIFO on.
 const NO_NAME: u8 = 0xc8;
@@ -29,6 +33,9 @@ struct Ports {
 
 impl Backend for Ports {
     fn read(&mut self, register_offset: u8) -> u8 {
+        for _ in 0..SLOWNESS {
+            self.ports.read(offsets::SPR as u8);
+        }
         let value = self.ports.read(register_offset);
         if self.is_broken && usize::from(register_offset) == offsets::ISR {
             NO_NAME
@@ -64,6 +71,7 @@ fn start() -> Uart16550Tty<Ports> {
     });
     let config = Config {
         baud_rate: BaudRate::Baud115200,
+        fifo_trigger_level: Some(FifoTriggerLevel::One),
         ..Config::DEFAULT
     };
     if driver.init(config).is_err() {

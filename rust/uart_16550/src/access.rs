@@ -366,14 +366,17 @@ pub(crate) mod original {
         ///
         /// # Safety
         ///
-        /// The offset must be less than 8, and the device must be there.
+        /// - The offset must be less than 8.
+        /// - The device must be there, and this program may access it.
+        /// - Nothing else may access the device at the same time: no driver, no copy of this
+        ///   backend, no other thread, no handler of interrupts.
         unsafe fn read(&mut self, register_offset: u8) -> u8;
 
         /// Writes a value to the register at an offset.
         ///
         /// # Safety
         ///
-        /// The offset must be less than 8, and the device must be there.
+        /// That of [`read`](Self::read).
         unsafe fn write(&mut self, register_offset: u8, value: u8);
     }
 
@@ -496,8 +499,8 @@ pub(crate) mod original {
         ///
         /// # Safety
         ///
-        /// That of [`X86Ports::new`](native::backend::X86Ports::new), for the driver and for each
-        /// copy of its backend.
+        /// That of [`X86Ports::new`](native::backend::X86Ports::new), for the driver. A copy of its
+        /// backend does nothing by itself: each of its accesses is `unsafe` again.
         pub const unsafe fn new_port(base_port: u16) -> Result<Self, InvalidAddressError> {
             match check_ports(base_port) {
                 // SAFETY: by the promise of the caller.
@@ -518,8 +521,8 @@ pub(crate) mod original {
         ///
         /// # Safety
         ///
-        /// That of [`VolatileMemory::new`](native::backend::VolatileMemory::new), for the driver
-        /// and for each copy of its backend.
+        /// That of [`VolatileMemory::new`](native::backend::VolatileMemory::new), for the driver.
+        /// A copy of its backend does nothing by itself: each of its accesses is `unsafe` again.
         pub unsafe fn new_mmio(
             base_address: NonNull<u8>,
             stride: u8,
@@ -539,7 +542,8 @@ pub(crate) mod original {
         /// # Safety
         ///
         /// That of [`VolatileMemory::from_address`](native::backend::VolatileMemory::from_address),
-        /// for the driver and for each copy of its backend.
+        /// for the driver. A copy of its backend does nothing by itself: each of its accesses is
+        /// `unsafe` again.
         pub const unsafe fn new_mmio_from_address(
             base_address: NonZeroUsize,
             stride: u8,
@@ -559,8 +563,9 @@ pub(crate) mod original {
         ///
         /// # Safety
         ///
-        /// It must be sound to call `read` and `write` of the backend with offsets below 8, as long
-        /// as the driver lives.
+        /// As long as the driver lives, and on each thread to which it is sent, it must be sound to
+        /// call `read` and `write` of the backend with offsets below 8, whatever safe code does by
+        /// [`backend`](Self::backend).
         pub const unsafe fn new_with_backend(backend: B) -> Self {
             let mut driver = native::Uart16550::new_with_backend(Adapter(backend));
             driver.set_spin_limit(NonZeroU64::MAX);
@@ -575,7 +580,27 @@ pub(crate) mod original {
         /// Returns the backend, for raw accesses by the caller. Makes no access itself.
         ///
         /// After raw accesses that changed the setup of the chip, call [`init`](Self::init) again.
-        pub const fn backend_mut(&mut self) -> &mut B {
+        ///
+        /// # Safety
+        ///
+        /// What is here when the borrow ends must be a backend for which the promise of
+        /// [`new_with_backend`](Self::new_with_backend) holds. So do not put another one here, nor
+        /// a copy of another driver's: no call of the driver asks again.
+        ///
+        /// # Examples
+        ///
+        /// ```no_run
+        /// use uart_16550::compat::Uart16550;
+        /// use uart_16550::compat::backend::{Backend, MmioBackend};
+        ///
+        /// fn leave_a_mark(uart: &mut Uart16550<MmioBackend>) {
+        ///     // SAFETY: the scratch register is written, and the backend stays the one that it was.
+        ///     unsafe { uart.backend_mut().write(7, 0x5a) };
+        /// }
+        /// ```
+        // In the original this call is safe. There safe code can put another backend here, whose
+        // accesses nobody promised anything about, and the next safe call makes them.
+        pub const unsafe fn backend_mut(&mut self) -> &mut B {
             &mut self.0.backend_mut().0
         }
 
@@ -594,8 +619,8 @@ pub(crate) mod original {
 
         // Returns the driver over this one.
         pub(crate) const fn over_mut(driver: &mut native::Uart16550<Adapter<B>>) -> &mut Self {
-            // SAFETY: as for `over`. What the caller puts here was made with the promise of
-            // `new_with_backend`.
+            // SAFETY: as for `over`. What safe code puts here is a driver, which was made with the
+            // promise of `new_with_backend`.
             unsafe { &mut *ptr::from_mut(driver).cast() }
         }
     }

@@ -1,5 +1,5 @@
 use Rattle.uart_virtual.proofs.Waits.{held_full, waiting_interrupts}
-use Rattle.uart_virtual.proofs.laws.time_is_up.Goals as goal
+use Rattle.uart_virtual.proofs.laws.nothing_waits_for_time.Goals as goal
 
 pub returns-clause-held : goal.returns-clause-held
 returns-clause-held c = held_full
