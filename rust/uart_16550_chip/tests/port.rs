@@ -19,13 +19,13 @@ const NOTHING: Todo = Todo {
 };
 
 fn port() -> VirtualPort {
-    VirtualPort::new(Chip::Uart16550A).unwrap()
+    VirtualPort::new(Chip::Uart16550A)
 }
 
 #[test]
 fn after_power_on_nothing_is_to_be_done() {
     for chip in [Chip::Uart16450, Chip::Uart16550A] {
-        let mut port = VirtualPort::new(chip).unwrap();
+        let mut port = VirtualPort::new(chip);
         assert_eq!((port.output(), port.level()), ([].as_slice(), false));
         let answer = Answer {
             value: 0x60,
