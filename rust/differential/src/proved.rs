@@ -142,6 +142,8 @@ impl Answer {
             ),
             12 => "err ByteReceiveError".into(),
             13 => refused(self.value, &["NoCapacity", "RemoteNotClearToSend"]),
+            14 => refused(self.value, &["NonInteger", "OutOfRange"]),
+            15 => refused(self.value, &["DivisorLatchOpen", "Loopback"]),
             kind => format!("an answer of kind {kind}"),
         }
     }
