@@ -293,9 +293,9 @@ int u16550_set_frame(struct u16550 *uart, const struct u16550_config *config);
 
 /*
  * Takes a port as it was set up, for example by firmware: finds out whether the FIFO is on, and gives the divisor. It reads
- * LCR, MCR, ISR and the divisor latch, and changes nothing, but that the read of ISR acknowledges a THR_EMPTY interrupt. The
- * driver's configuration stays as it was, since nobody knows the chip's clock. Returns an enum u16550_attach_error if the port
- * is not one to be taken.
+ * LCR, MCR, ISR and the divisor latch, for which it sets DLAB and then writes LCR back; nothing else is written. The read of ISR
+ * acknowledges a THR_EMPTY interrupt. The driver's configuration stays as it was, since nobody knows the chip's clock. Returns
+ * an enum u16550_attach_error if the port is not one to be taken.
  */
 int u16550_attach(struct u16550 *uart, uint8_t *dll, uint8_t *dlm);
 
