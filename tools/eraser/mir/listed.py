@@ -48,7 +48,8 @@ NOT_EMITTED = {
 OF_ORIGINS = "each character of a live chip has the same origin"
 IN_JUMPS = "time passes for a live chip in jumps, which end where something happens"
 NOT_REACHED = {
-    r"PartialEq::eq \d+ case \d+(\|\d+)+$": "another variant: the numbers of the variants were compared before",
+    r"(PartialEq::eq|PartialOrd::partial_cmp|Ord::cmp) \d+ case \d+(\|\d+)*$": "another variant: their numbers were compared before",
+    r"Clone::clone \d+ case 1$": "no memory: what is cloned has none",
     r"^uart_chip::controlling::read_register 8 case 5$": "LSR, which `read` looks for before",
     r"^uart_chip::controlling::write_register 1 case 0$": "DATA, which `write` looks for before",
     r"^uart_chip::receiving::enter 6 else$": OF_ORIGINS,

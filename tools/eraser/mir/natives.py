@@ -26,7 +26,8 @@ def access(bits, kind):
 def write_str(translation, types):
     text = translation.rust(("Struct", "&[]", (("Ref", ("Int", 8)), ("Int", 64))))
     result, done = ok(translation, "Unit", ERROR, "()")
-    return ["P", text], result, f"crate::run::print_bytes(a2.f0, a2.f1); {done}"
+    failed = f"{result} {{ v1: {result}v1 {{ f0: 1, f1: {translation.rust(ERROR)} {{ }} }} }}"
+    return ["P", text], result, f"if crate::run::print_at(a2.f0, a2.f1) {{ {done} }} else {{ {failed} }}"
 
 
 def allocate(translation, types):

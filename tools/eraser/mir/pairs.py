@@ -171,7 +171,7 @@ class Pairs:
         self.put(
             file,
             f"#[allow(warnings)] pub fn compare_{order}(run: &mut crate::run::Run) {{ use crate::run::Value; "
-            f"run.compare({json.dumps(title)}, {str(DEVICE in ' '.join(texts)).lower()}, {broken}, "
+            f"run.compare({json.dumps(title)}, crate::run::With::{'Device' if DEVICE in ' '.join(texts) else 'Nothing'}, {broken}, "
             f"|choices| {{ {mine} let result = {called}; let mut out = {WORDS}; Value::show(&result, &mut out); {changed} out }}, "
             f"|choices| unsafe {{ {theirs} let result = crate::mir::{function}({passed}); let mut out = {WORDS}; "
             f"{self.shown(result, name)} {changed} out }}); }}",
@@ -257,13 +257,15 @@ class Pairs:
         self.put(
             one.file,
             f"#[allow(warnings)] pub fn compare_{order}(run: &mut crate::run::Run) {{ use crate::run::Value; "
-            f"run.compare({json.dumps(title)}, false, |_| false, "
-            f'|choices| {{ let value: {one.name} = Value::make(choices); let mut out = {WORDS}; '
-            f'::std::format!("{form}", value).as_bytes().show(&mut out); out }}, '
+            f"run.compare({json.dumps(title)}, crate::run::With::Writer, |_| false, "
+            f"|choices| {{ let value: {one.name} = Value::make(choices); let mut writer = crate::run::Writer::make(choices); "
+            f'let is_whole = ::core::fmt::Write::write_fmt(&mut writer, format_args!("{form}", value)).is_ok(); '
+            f"let mut out = {WORDS}; is_whole.show(&mut out); writer.written().show(&mut out); out }}, "
             f"|choices| unsafe {{ let mut value: {self.translation.rust_outside(types[0][1])} = Value::make(choices); "
+            f"let writer = crate::run::Writer::make(choices); "
             f"let mut formatter = crate::mir::{formatter}(Value::make(choices)); {alternate} "
-            f"crate::mir::{function}(&raw mut value as *mut u8, &raw mut formatter as *mut u8); "
-            f"let mut out = {WORDS}; crate::run::printed()[..].show(&mut out); out }}); }}",
+            f"let result = crate::mir::{function}(&raw mut value as *mut u8, &raw mut formatter as *mut u8); "
+            f"let mut out = {WORDS}; (result.v0.f0 == 0).show(&mut out); writer.written().show(&mut out); out }}); }}",
         )
         self.compared[title] = name
         self.calls.append(f"crate::proved::{self.declared.modules[one.file]}::compare_{order}(run);")

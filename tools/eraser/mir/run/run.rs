@@ -27,6 +27,7 @@ pub struct Choices {
     rate: u64,
     mode: Mode,
     answers: usize,
+    is_text: bool,
 }
 
 /// Answers of a device that mean something to the driver, or are the bits of a register.
@@ -36,7 +37,7 @@ const RATES: [u64; 6] = [50, 300, 9600, 115_200, 1, 2];
 
 impl Choices {
     fn new(mode: Mode, seed: u64) -> Self {
-        Self { path: Vec::new(), at: 0, random: seed | 1, rate: 0, mode, answers: 0 }
+        Self { path: Vec::new(), at: 0, random: seed | 1, rate: 0, mode, answers: 0, is_text: false }
     }
 
     fn next_random(&mut self) -> u64 {
@@ -145,6 +146,13 @@ impl Choices {
         self.pick(8)
     }
 
+    /// Goes to the start of the case.
+    fn start(&mut self) {
+        self.at = 0;
+        self.rate = 0;
+        self.is_text = false;
+    }
+
     /// Goes to the next case. Returns whether there is one.
     fn advance(&mut self) -> bool {
         self.at = 0;
@@ -189,6 +197,9 @@ impl Value for u8 {
         out.push(u64::from(*self));
     }
     fn make(choices: &mut Choices) -> Self {
+        if choices.is_text {
+            return b' ' + choices.pick(95) as u8;
+        }
         if choices.mode != Mode::All && choices.pick(2) == 0 { choices.one_of(&ANSWERS) } else { choices.pick(256) as u8 }
     }
 }
@@ -305,8 +316,12 @@ impl<T: Value, const N: usize> Value for [T; N] {
     fn show(&self, out: &mut Vec<u64>) {
         self.iter().for_each(|one| one.show(out));
     }
+    // One of four has bytes that can be printed.
     fn make(choices: &mut Choices) -> Self {
-        core::array::from_fn(|_| T::make(choices))
+        choices.is_text = choices.mode != Mode::All && choices.pick(4) == 0;
+        let made = core::array::from_fn(|_| T::make(choices));
+        choices.is_text = false;
+        made
     }
 }
 
@@ -379,16 +394,17 @@ struct Case {
     choices: *mut Choices,
     answers: usize,
     accesses: Vec<u64>,
-    echoes: Option<bool>,
+    kind: Option<u64>,
     queue: VecDeque<u8>,
     kept: [u8; 8],
     printed: Vec<u8>,
+    room: usize,
 }
 
 std::thread_local! {
     static CASE: RefCell<Case> = const { RefCell::new(Case {
-        choices: core::ptr::null_mut(), answers: 0, accesses: Vec::new(), echoes: None, queue: VecDeque::new(), kept: [0; 8],
-        printed: Vec::new(),
+        choices: core::ptr::null_mut(), answers: 0, accesses: Vec::new(), kind: None, queue: VecDeque::new(), kept: [0; 8],
+        printed: Vec::new(), room: usize::MAX,
     }) };
 }
 
@@ -396,19 +412,20 @@ std::thread_local! {
 struct NoAnswer;
 
 impl Case {
-    // Half of the devices at random have what a loopback has: they answer with what was written.
+    // Half of the devices at random answer with what was written, as in loopback; one of two of them sends nothing.
     fn answer(&mut self, offset: u64) -> u8 {
         // SAFETY: `once` puts the choices of the case here, which outlive it.
         let choices = unsafe { &mut *self.choices };
         if choices.mode != Mode::Random {
             return choices.answer();
         }
-        let echoes = *self.echoes.get_or_insert_with(|| choices.pick(2) == 1);
-        if !echoes || choices.pick(40) == 0 {
+        let kind = *self.kind.get_or_insert_with(|| choices.pick(4));
+        if kind < 2 || choices.pick(40) == 0 {
             return choices.answer();
         }
         match offset & 7 {
             0 => self.queue.pop_front().unwrap_or(0),
+            5 if kind == 2 => 0,
             5 if self.queue.is_empty() && choices.pick(4) > 0 => 0x60,
             5 => 0x61,
             2 => 0xc1,
@@ -442,19 +459,45 @@ pub fn write(offset: u64, value: u8, kind: u64) {
     }
 }
 
-/// Notes what the MIR prints.
+// What is printed.
+
+/// A writer, on both sides. One of four has room for some bytes alone, and then fails.
+pub struct Writer;
+
+impl Writer {
+    pub fn make(choices: &mut Choices) -> Self {
+        let room = if choices.mode != Mode::All && choices.pick(4) == 0 { choices.pick(140) as usize } else { usize::MAX };
+        CASE.with_borrow_mut(|case| case.room = room);
+        Self
+    }
+
+    /// Returns what was written.
+    pub fn written(&self) -> Vec<u8> {
+        CASE.with_borrow_mut(|case| core::mem::take(&mut case.printed))
+    }
+}
+
+impl core::fmt::Write for Writer {
+    fn write_str(&mut self, text: &str) -> core::fmt::Result {
+        if print_bytes(text.as_bytes()) { Ok(()) } else { Err(core::fmt::Error) }
+    }
+}
+
+fn print_bytes(bytes: &[u8]) -> bool {
+    CASE.with_borrow_mut(|case| {
+        let count = bytes.len().min(case.room - case.printed.len());
+        case.printed.extend_from_slice(&bytes[..count]);
+        count == bytes.len()
+    })
+}
+
+/// Prints for the MIR. Returns whether there was room.
 ///
 /// # Safety
 ///
 /// There are so many bytes at this address.
-pub unsafe fn print_bytes(start: *mut u8, count: u64) {
-    let bytes = unsafe { core::slice::from_raw_parts(start, count as usize) };
-    CASE.with_borrow_mut(|case| case.printed.extend_from_slice(bytes));
-}
-
-/// Returns what the MIR printed.
-pub fn printed() -> Vec<u8> {
-    CASE.with_borrow_mut(|case| core::mem::take(&mut case.printed))
+pub unsafe fn print_at(start: *mut u8, count: u64) -> bool {
+    print_bytes(unsafe { core::slice::from_raw_parts(start, count as usize) })
 }
 
 // What the MIR needs to run.
@@ -500,14 +543,14 @@ enum Outcome {
 type Side<'a> = &'a mut dyn FnMut(&mut Choices) -> Vec<u64>;
 
 fn once(choices: &mut Choices, side: Side) -> (Outcome, Vec<u64>) {
-    choices.at = 0;
-    choices.rate = 0;
+    choices.start();
     USED.store(0, Ordering::Relaxed);
     TURNS.store(0, Ordering::Relaxed);
     let (place, answers) = (&raw mut *choices, choices.answers);
     CASE.with_borrow_mut(|case| {
         *case = Case {
-            choices: place, answers, accesses: Vec::new(), echoes: None, queue: VecDeque::new(), kept: [0; 8], printed: Vec::new(),
+            choices: place, answers, accesses: Vec::new(), kind: None, queue: VecDeque::new(), kept: [0; 8], printed: Vec::new(),
+            room: usize::MAX,
         }
     });
     let done = catch_unwind(AssertUnwindSafe(|| side(choices)));
@@ -545,8 +588,7 @@ impl Counts {
     // is proved for, says nothing: what is private has no guard, and what is made may break an invariant.
     fn case(&mut self, choices: &mut Choices, breaks: &mut dyn FnMut(&mut Choices) -> bool, rust: Side, mir: Side) {
         self.cases += 1;
-        choices.at = 0;
-        choices.rate = 0;
+        choices.start();
         let is_broken = breaks(choices);
         let (emitted, accesses) = once(choices, rust);
         if is_broken {
@@ -583,12 +625,20 @@ impl Counts {
     }
 }
 
+/// What else than its arguments a function depends on.
+#[derive(Clone, Copy, PartialEq)]
+pub enum With {
+    Nothing,
+    Device,
+    Writer,
+}
+
 impl Run {
     /// Compares a function. `breaks` tells whether the choices break its contract.
     pub fn compare(
         &mut self,
         name: &str,
-        has_device: bool,
+        with: With,
         mut breaks: impl FnMut(&mut Choices) -> bool,
         mut rust: impl FnMut(&mut Choices) -> Vec<u64>,
         mut mir: impl FnMut(&mut Choices) -> Vec<u64>,
@@ -596,7 +646,7 @@ impl Run {
         if !name.contains(&self.only) {
             return;
         }
-        let (mut counts, mut is_whole) = (Counts::default(), false);
+        let (mut counts, mut is_whole, has_device) = (Counts::default(), false, with == With::Device);
         let mut choices = Choices::new(if has_device { Mode::Answers } else { Mode::All }, self.seed);
         choices.answers = ALL_ANSWERS;
         for _ in 0..if has_device { MOST_OF_ANSWERS } else { MOST_OF_ALL } {
@@ -606,7 +656,7 @@ impl Run {
                 break;
             }
         }
-        if !is_whole {
+        if !is_whole || with == With::Writer {
             self.at_random(self.random, &mut counts, &mut breaks, &mut rust, &mut mir);
         }
         self.report(name, is_whole, &counts);
