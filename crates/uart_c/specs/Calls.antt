@@ -15,10 +15,14 @@ use Rattle.uart_spec.specs.declared.call.Answer.TheVariants as answer
 use Rattle.uart_spec.specs.declared.access.Access.{Access}
 use Rattle.uart_spec.specs.declared.access.Access.TheVariants.{Read, Write}
 use Rattle.uart_spec.specs.Bits.{flag}
+use Rattle.uart_spec.specs.declared.errors.AttachError.{AttachError}
+use Rattle.uart_spec.specs.declared.errors.AttachError.TheVariants as attach_error
 use Rattle.uart_spec.specs.declared.errors.ByteSendError.{ByteSendError}
 use Rattle.uart_spec.specs.declared.errors.ByteSendError.TheVariants as send_error
 use Rattle.uart_spec.specs.declared.errors.InitError.{InitError}
 use Rattle.uart_spec.specs.declared.errors.InitError.TheVariants as init_error
+use Rattle.uart_spec.specs.declared.errors.InvalidDivisorError.{InvalidDivisorError}
+use Rattle.uart_spec.specs.declared.errors.InvalidDivisorError.TheVariants as frame_error
 use Rattle.uart_spec.specs.declared.errors.LoopbackError.{LoopbackError}
 use Rattle.uart_spec.specs.declared.errors.LoopbackError.TheVariants as loopback_error
 use Rattle.uart_spec.specs.declared.errors.RemoteReadyToReceiveError.{RemoteReadyToReceiveError}
@@ -69,15 +73,15 @@ IsCall c (call.Read count) = (c.kind ≡ code.UART_READ) × (count ≡ c.len)
 IsCall c (call.Send bytes) = (c.kind ≡ code.UART_SEND) × IsGiven c bytes.items
 IsCall c (call.SendExact bytes) = (c.kind ≡ code.UART_SEND_EXACT) × IsGiven c bytes.items
 IsCall c (call.Write bytes) = (c.kind ≡ code.UART_WRITE) × IsGiven c bytes.items
+IsCall c (call.SetFrame config) = (c.kind ≡ code.UART_SET_FRAME) × (config ≡ config_of c.config)
+IsCall c call.Attach = c.kind ≡ code.UART_ATTACH
+IsCall c (call.SetBreak on) = (c.kind ≡ code.UART_SET_BREAK) × (c.byte ≡ flag on 1)
+IsCall c (call.SetModemControl outputs) = (c.kind ≡ code.UART_SET_MODEM_CONTROL) × (outputs.0 ≡ c.byte)
+IsCall c (call.SetRts on) = (c.kind ≡ code.UART_SET_RTS) × (c.byte ≡ flag on 1)
+IsCall c (call.SetDtr on) = (c.kind ≡ code.UART_SET_DTR) × (c.byte ≡ flag on 1)
+IsCall c call.PeekModem = c.kind ≡ code.UART_PEEK_MODEM
+IsCall c call.IsIdle = c.kind ≡ code.UART_IS_IDLE
 IsCall c call.Next = ⊥
-IsCall c (call.SetFrame config) = ⊥
-IsCall c call.PeekModem = ⊥
-IsCall c call.IsIdle = ⊥
-IsCall c call.Attach = ⊥
-IsCall c (call.SetBreak on) = ⊥
-IsCall c (call.SetModemControl outputs) = ⊥
-IsCall c (call.SetRts on) = ⊥
-IsCall c (call.SetDtr on) = ⊥
 IsCall c (call.Text text) = ⊥
 
 -- the one struct of C that asks for an access: a flag of 0 or 1, and the value 0 for a read
@@ -112,6 +116,14 @@ abbrev pub init_code : InitError → ℕ
 init_code init_error.DeviceNotPresent = code.UART_INIT_DEVICE_NOT_PRESENT
 init_code (init_error.InvalidBaudRate error) = code.UART_INIT_INVALID_BAUD_RATE
 init_code init_error.Stalled = code.UART_INIT_STALLED
+
+abbrev pub frame_code : InvalidDivisorError → ℕ
+frame_code (frame_error.NonInteger error) = code.UART_FRAME_NO_WHOLE_DIVISOR
+frame_code (frame_error.OutOfRange divisor) = code.UART_FRAME_DIVISOR_OUT_OF_RANGE
+
+abbrev pub attach_code : AttachError → ℕ
+attach_code attach_error.DivisorLatchOpen = code.UART_ATTACH_DIVISOR_LATCH_OPEN
+attach_code attach_error.Loopback = code.UART_ATTACH_LOOPBACK
 
 abbrev pub remote_code : RemoteReadyToReceiveError → ℕ
 remote_code remote_error.NoRemoteConnectedNoDSR = code.UART_REMOTE_NO_DSR
@@ -148,5 +160,5 @@ shown (answer.LoopbackRefused error) = loopback_refused error
 shown (answer.NotConnected error) = of_value code.UART_ANSWER_NOT_CONNECTED (remote_code error) 0
 shown answer.NoData = of_kind code.UART_ANSWER_NO_DATA
 shown (answer.NotSent error) = of_value code.UART_ANSWER_NOT_SENT (send_code error) 0
-shown (answer.FrameRefused error) = of_kind code.UART_ANSWER_FRAME_REFUSED
-shown (answer.AttachRefused error) = of_kind code.UART_ANSWER_ATTACH_REFUSED
+shown (answer.FrameRefused error) = of_value code.UART_ANSWER_FRAME_REFUSED (frame_code error) 0
+shown (answer.AttachRefused error) = of_value code.UART_ANSWER_ATTACH_REFUSED (attach_code error) 0

@@ -1,23 +1,28 @@
 //! What a call returned, as plain data.
 ghost use Rattle.std.specs.Prelude.{◌≡◌, ◌≤◌, length};
 ghost use Rattle.uart_c.specs.Calls as spec;
-ghost use Rattle.uart_c.specs.Calls.{init_code, registers_of, remote_code, send_code};
+ghost use Rattle.uart_c.specs.Calls.{attach_code, frame_code, init_code};
+ghost use Rattle.uart_c.specs.Calls.{registers_of, remote_code, send_code};
 
 use crate::codes::{
     UART_ANSWER_ATTACH_REFUSED, UART_ANSWER_BYTES, UART_ANSWER_COUNT, UART_ANSWER_DONE,
     UART_ANSWER_DUMP, UART_ANSWER_FLAG, UART_ANSWER_FRAME_REFUSED, UART_ANSWER_INIT_REFUSED,
-    UART_ANSWER_LATCH, UART_ANSWER_LOOPBACK_REFUSED, UART_ANSWER_NO_DATA,
-    UART_ANSWER_NOT_CONNECTED, UART_ANSWER_NOT_SENT, UART_ANSWER_RECEIVE_STALLED,
-    UART_ANSWER_REGISTER, UART_ANSWER_STALLED, UART_INIT_DEVICE_NOT_PRESENT,
-    UART_INIT_INVALID_BAUD_RATE, UART_INIT_STALLED, UART_LOOPBACK_SEND_ERROR,
-    UART_LOOPBACK_STALLED, UART_LOOPBACK_UNEXPECTED_BYTE, UART_LOOPBACK_UNEXPECTED_MSG,
-    UART_REMOTE_NO_CD, UART_REMOTE_NO_DSR, UART_REMOTE_NOT_CLEAR_TO_SEND, UART_SEND_NO_CAPACITY,
+    UART_ANSWER_LATCH, UART_ANSWER_LOOPBACK_REFUSED, UART_ANSWER_NO_DATA, UART_ANSWER_NOT_CONNECTED,
+    UART_ANSWER_NOT_SENT, UART_ANSWER_RECEIVE_STALLED, UART_ANSWER_REGISTER, UART_ANSWER_STALLED,
+    UART_ATTACH_DIVISOR_LATCH_OPEN, UART_ATTACH_LOOPBACK, UART_FRAME_DIVISOR_OUT_OF_RANGE,
+    UART_FRAME_NO_WHOLE_DIVISOR, UART_INIT_DEVICE_NOT_PRESENT, UART_INIT_INVALID_BAUD_RATE,
+    UART_INIT_STALLED, UART_LOOPBACK_SEND_ERROR, UART_LOOPBACK_STALLED,
+    UART_LOOPBACK_UNEXPECTED_BYTE, UART_LOOPBACK_UNEXPECTED_MSG, UART_REMOTE_NO_CD,
+    UART_REMOTE_NO_DSR, UART_REMOTE_NOT_CLEAR_TO_SEND, UART_SEND_NO_CAPACITY,
     UART_SEND_REMOTE_NOT_CLEAR_TO_SEND,
 };
 use bitflags::Flags;
 use uart_16550::ConfigRegisterDump;
 use uart_calls::{Answer, CALL_BYTES};
-use uart_spec::{ByteSendError, InitError, LoopbackError, RemoteReadyToReceiveError};
+use uart_spec::{
+    AttachError, ByteSendError, InitError, InvalidDivisorError, LoopbackError,
+    RemoteReadyToReceiveError,
+};
 
 /// What a call returned. Which of the other fields count depends on its kind.
 #[repr(C)]
@@ -124,6 +129,24 @@ fn init_refused(error: &InitError) -> UartAnswer
     }
 }
 
+fn frame_error(error: &InvalidDivisorError) -> u8
+    ensures { result ≡ frame_code error.now }
+{
+    match error {
+        InvalidDivisorError::NonInteger(_) => UART_FRAME_NO_WHOLE_DIVISOR,
+        InvalidDivisorError::OutOfRange { .. } => UART_FRAME_DIVISOR_OUT_OF_RANGE,
+    }
+}
+
+fn attach_error(error: AttachError) -> u8
+    ensures { result ≡ attach_code error }
+{
+    match error {
+        AttachError::DivisorLatchOpen => UART_ATTACH_DIVISOR_LATCH_OPEN,
+        AttachError::Loopback => UART_ATTACH_LOOPBACK,
+    }
+}
+
 fn remote_error(error: &RemoteReadyToReceiveError) -> u8
     ensures { result ≡ remote_code error.now }
 {
@@ -179,7 +202,9 @@ pub fn shown(answer: &Answer) -> UartAnswer
         Answer::NotConnected(error) => of_value(UART_ANSWER_NOT_CONNECTED, remote_error(error), 0),
         Answer::NoData => of_kind(UART_ANSWER_NO_DATA),
         Answer::NotSent(error) => of_value(UART_ANSWER_NOT_SENT, send_error(error), 0),
-        Answer::FrameRefused(_) => of_kind(UART_ANSWER_FRAME_REFUSED),
-        Answer::AttachRefused(_) => of_kind(UART_ANSWER_ATTACH_REFUSED),
+        Answer::FrameRefused(error) => of_value(UART_ANSWER_FRAME_REFUSED, frame_error(error), 0),
+        Answer::AttachRefused(error) => {
+            of_value(UART_ANSWER_ATTACH_REFUSED, attach_error(*error), 0)
+        }
     }
 }
