@@ -410,7 +410,8 @@ enum uart_answer_kind {
     UART_ANSWER_NO_DATA = 12,
     UART_ANSWER_NOT_SENT = 13,       /* value: an enum uart_send_error */
     UART_ANSWER_FRAME_REFUSED = 14,  /* value: an enum uart_frame_error */
-    UART_ANSWER_ATTACH_REFUSED = 15  /* value: an enum uart_attach_error */
+    UART_ANSWER_ATTACH_REFUSED = 15, /* value: an enum uart_attach_error */
+    UART_ANSWER_BYTES_WITH_ERRORS = 16 /* count: how many bytes were received */
 };
 
 /* Why an initialisation failed. */

@@ -82,6 +82,8 @@ IsCall c (call.SetDtr on) = (c.kind ≡ code.UART_SET_DTR) × (c.byte ≡ flag o
 IsCall c call.PeekModem = c.kind ≡ code.UART_PEEK_MODEM
 IsCall c call.IsIdle = c.kind ≡ code.UART_IS_IDLE
 IsCall c call.Next = ⊥
+IsCall c call.RetriggerInterrupts = ⊥
+IsCall c (call.ReceiveWithErrors count) = ⊥
 IsCall c (call.Text text) = ⊥
 
 -- the one struct of C that asks for an access: a flag of 0 or 1, and the value 0 for a read
@@ -162,3 +164,4 @@ shown answer.NoData = of_kind code.UART_ANSWER_NO_DATA
 shown (answer.NotSent error) = of_value code.UART_ANSWER_NOT_SENT (send_code error) 0
 shown (answer.FrameRefused error) = of_value code.UART_ANSWER_FRAME_REFUSED (frame_code error) 0
 shown (answer.AttachRefused error) = of_value code.UART_ANSWER_ATTACH_REFUSED (attach_code error) 0
+shown (answer.BytesWithErrors received) = of_count code.UART_ANSWER_BYTES_WITH_ERRORS (length received.items)

@@ -141,6 +141,8 @@ pub const UART_ANSWER_FRAME_REFUSED: u8 = 14;
 
 pub const UART_ANSWER_ATTACH_REFUSED: u8 = 15;
 
+pub const UART_ANSWER_BYTES_WITH_ERRORS: u8 = 16;
+
 // Why an initialisation failed: `enum uart_init_error`.
 
 pub const UART_INIT_DEVICE_NOT_PRESENT: u8 = 0;
