@@ -119,9 +119,11 @@ padded bytes = bytes ++ replicate (CALL_BYTES - length bytes) 0
 abbrev pub of_bytes : (kind : ℕ) → List ℕ → UartAnswer
 of_bytes kind bytes = record (of_kind kind) { count = length bytes; bytes = padded bytes }
 
--- a received byte, and its errors where LSR has them
-abbrev pub byte_of errors_of : Received → ℕ
+-- a received byte; its errors, where LSR has them
+abbrev pub byte_of : Received → ℕ
 byte_of received = received.byte
+
+abbrev pub errors_of : Received → ℕ
 errors_of received = received.errors.0
 
 -- bytes with the errors of each in the same place
