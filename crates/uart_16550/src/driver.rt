@@ -4,7 +4,6 @@ ghost use Rattle.std.specs.Borrow.{Lends, sem};
 ghost use Rattle.std.specs.Int.NonZero.{non_zero_u64_get};
 ghost use Rattle.uart_spec.specs.declared.baud.TheConstants.{NUM_REGISTERS};
 ghost use Rattle.uart_spec.specs.declared.registers.offsets.TheConstants as offsets;
-ghost use Rattle.uart_spec.specs.declared.access.Access.{Access};
 ghost use Rattle.uart_spec.specs.declared.access.Access.TheVariants.{Read, Write};
 ghost use Rattle.uart_16550.specs.Grammar.{Only};
 ghost use Rattle.uart_16550.specs.Driver.{Made, Did, Plain, Sets, IsFresh};

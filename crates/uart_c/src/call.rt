@@ -1,5 +1,5 @@
 //! A call of the driver, as plain data.
-ghost use Rattle.std.specs.Prelude.{◌≡◌, ◌≤◌, ℕ, Bool, List, length, IfSome, IfNone};
+ghost use Rattle.std.specs.Prelude.{◌≡◌, ℕ, Bool, List, IfSome, IfNone};
 ghost use Rattle.uart_c.specs.Calls.{IsCall, IsGiven};
 ghost use Rattle.uart_spec.specs.Bits.{flag};
 ghost use Rattle.uart_spec.specs.declared.call.Call.{Call};
@@ -9,8 +9,8 @@ use crate::codes::{
     UART_ENABLE, UART_FIFO_ENABLED, UART_FLUSH, UART_IER, UART_INIT, UART_IS_IDLE, UART_ISR,
     UART_LCR, UART_LSR, UART_MCR, UART_MSR, UART_PEEK_MODEM, UART_READ, UART_READ_READY,
     UART_READY_TO_RECEIVE, UART_READY_TO_SEND, UART_RECEIVE, UART_RECEIVE_EXACT,
-    UART_RECEIVE_WITH_ERRORS, UART_RETRIGGER_INTERRUPTS, UART_SEND, UART_SEND_EXACT, UART_SET_BREAK,
-    UART_SET_DTR, UART_SET_FRAME, UART_SET_MODEM_CONTROL, UART_SET_RTS, UART_SPR,
+    UART_RECEIVE_WITH_ERRORS, UART_RETRIGGER_INTERRUPTS, UART_SEND, UART_SEND_EXACT,
+    UART_SET_BREAK, UART_SET_DTR, UART_SET_FRAME, UART_SET_MODEM_CONTROL, UART_SET_RTS, UART_SPR,
     UART_TEST_LOOPBACK, UART_TRY_RECEIVE, UART_TRY_SEND, UART_WRITE, UART_WRITE_READY,
 };
 use crate::driver::{UartConfig, config_of};

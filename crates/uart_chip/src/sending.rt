@@ -1,5 +1,4 @@
 //! A byte that goes onto the wire at once, without queue, shift register and time.
-ghost use Rattle.std.specs.Borrow.{Lends, sem};
 ghost use Rattle.std.specs.Prelude.{◌≡◌, true};
 ghost use Rattle.uart_chip.specs.Sending as spec;
 

@@ -1,6 +1,6 @@
 //! What is printed for answers and for the last state of the machine.
 
-ghost use Rattle.std.specs.Prelude.{◌≡◌, ◌<◌, ◌++◌, OnOk, IfOk, map, codes};
+ghost use Rattle.std.specs.Prelude.{◌≡◌, ◌<◌, ◌++◌, OnOk, IfOk, codes};
 ghost use Rattle.std.specs.List.{flat_map};
 ghost use Rattle.std.specs.Char.{digit_char};
 ghost use Rattle.std.specs.Fmt.{decimal};
@@ -10,7 +10,7 @@ ghost use Rattle.uart_language.specs.Output.{loopback_error_text};
 ghost use Rattle.uart_language.specs.Output.{setup_text, status_text, answer_text, line};
 ghost use Rattle.uart_language.specs.Output.{received_text, all_received_text};
 ghost use Rattle.uart_language.specs.Output.{answer_lines, mark_letter, marks_text};
-ghost use Rattle.uart_language.specs.Output.{final_lines, printed};
+ghost use Rattle.uart_language.specs.Output.{printed};
 
 use bitflags::Flags;
 use std::alloc::{AllocError, Global};

@@ -17,7 +17,7 @@ use Rattle.uart_spec.specs.declared.registers.offsets.TheConstants as offsets
 use Rattle.uart_spec.specs.declared.call.Call.{Call}
 use Rattle.uart_spec.specs.declared.call.Call.TheVariants as call
 use Rattle.uart_spec.specs.declared.call.Answer.{Answer}
-use Rattle.uart_spec.specs.declared.call.Answer.TheVariants.{Done, FrameRefused, Latch}
+use Rattle.uart_spec.specs.declared.call.Answer.TheVariants.{Latch}
 use Rattle.uart_16550.specs.Grammar.{Settings, Only, Then, Asks}
 use Rattle.uart_16550.specs.Driver.{Fields, fields, settings_of, saving, Sets, Saving, Next, with_fifo}
 use Rattle.uart_16550.specs.Init.{DivisorOf, frame_bits}
@@ -39,7 +39,7 @@ use Rattle.uart_chip.proofs.conservation.Went.{Modes, fixed}
 use Rattle.uart_chip.proofs.conservation.Passed.{passed-refl, passed-trans}
 use Rattle.uart_chip.proofs.conservation.BlockLaws.{IsOpen, PassedBlocks, nothing_taken, passed_frame, relined, path_as, stands-after}
 use Rattle.uart_run.specs.Run.{State, machine_of, CallStep}
-use Rattle.uart_run.specs.Ready.{Ready, IsFramed, Frames, IsAttached, latches_of}
+use Rattle.uart_run.specs.Ready.{Ready, Frames, IsAttached, latches_of}
 use Rattle.uart_run.specs.Session.{IsWithinSession, reported_by, received_by}
 use Rattle.uart_run.specs.Uncut.{IsWithinUncut}
 use Rattle.uart_run.proofs.Latches.{Kept, kept_in, keep, kept_after, kept_step, kept_path, kept_list, kept_access}

@@ -1,6 +1,6 @@
 -- What a call of a session does at least, whatever the schedule is: it takes received bytes, and a flush empties the
 -- transmitter.
-use Rattle.std.specs.Prelude.{◌≡◌, ◌<◌, ◌≤◌, ℕ, true, List, [], ◌∷◌, length, min, bit_and}
+use Rattle.std.specs.Prelude.{◌≡◌, ◌<◌, ◌≤◌, ℕ, true, List, length, min, bit_and}
 use Rattle.uart_spec.specs.declared.registers.modem_status.TheConstants.MSR
 use Rattle.uart_spec.specs.declared.received.Received.{Received}
 use Rattle.uart_spec.specs.declared.call.Call.{Call}

@@ -1,5 +1,5 @@
 //! Clock frequency, divisor and baud rate: each of the three from the other two.
-ghost use Rattle.std.specs.Prelude.{◌≡◌, ◌≢◌, ◌↔◌, ℕ, ◌+◌, ◌*◌, ◌<◌, ◌≤◌, ◌^◌, IfSome, IfNone};
+ghost use Rattle.std.specs.Prelude.{◌≡◌, ◌≢◌, ℕ, ◌+◌, ◌*◌, ◌<◌, ◌≤◌, ◌^◌, IfSome, IfNone};
 ghost use Rattle.uart_spec.specs.Bits.{IsOnly, IsOnlyIfAny};
 ghost use Rattle.uart_spec.specs.Baud.{IsBaudRateAnswer, IsDivisorAnswer, IsNearestFactor};
 ghost use Rattle.uart_spec.specs.Baud.{frequency_of, prescaler};

@@ -1,5 +1,5 @@
 //! The register calls.
-ghost use Rattle.std.specs.Prelude.{◌≡◌, [], ◌∷◌};
+ghost use Rattle.std.specs.Prelude.{[], ◌∷◌};
 ghost use Rattle.uart_spec.specs.declared.registers.offsets.TheConstants as offsets;
 ghost use Rattle.uart_spec.specs.declared.access.Access.TheVariants.{Read};
 ghost use Rattle.uart_16550.specs.Grammar.{Only};
