@@ -242,7 +242,7 @@ impl Config {
     /// ```
     /// # include!(concat!(env!("CARGO_MANIFEST_DIR"), "/src/proved/examples.rs"));
     /// # fn main() {}
-    /// # fn example() -> Outcome<()> {
+    /// # fn example(uart: &mut Uart16550<Device>) -> Outcome<()> {
     /// let config = Config {
     ///     frequency: 24_000_000,
     ///     baud_rate: BaudRate::Baud115200,
