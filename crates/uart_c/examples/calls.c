@@ -9,7 +9,7 @@
 #include <stdlib.h>
 #include <string.h>
 
-enum { CALLS = UART_IS_IDLE + 1, ANSWERS = UART_ANSWER_ATTACH_REFUSED + 1 };
+enum { CALLS = UART_RECEIVE_WITH_ERRORS + 1, ANSWERS = UART_ANSWER_BYTES_WITH_ERRORS + 1 };
 enum { SPIN_LIMIT = 3, TAPE_ROOM = 256 };
 
 /* How the driver is before a call, beside what a new one is. */
@@ -135,6 +135,10 @@ static const struct row rows[] = {
     {"peek_modem", NEW, PLAIN(UART_PEEK_MODEM), "r6=3f ", VALUE(UART_ANSWER_REGISTER, 0x3f)},
     {"is_idle", NEW, PLAIN(UART_IS_IDLE), "r5=40 ", VALUE(UART_ANSWER_FLAG, 1)},
     {"is_idle, not yet", NEW, PLAIN(UART_IS_IDLE), "r5=bf ", VALUE(UART_ANSWER_FLAG, 0)},
+    {"retrigger_interrupts", NEW, PLAIN(UART_RETRIGGER_INTERRUPTS), "r1=05 w1=00 w1=05 ", DONE},
+    {"receive_with_errors", NEW, SLOTS(UART_RECEIVE_WITH_ERRORS, 3), "r5=05 r0=61 r5=9b r0=00 r5=60 ",
+     {.kind = UART_ANSWER_BYTES_WITH_ERRORS, .count = 2, .bytes = "a\0", .errors = {0x04, 0x1a}}},
+    {"receive_with_errors, no data", NEW, SLOTS(UART_RECEIVE_WITH_ERRORS, 3), "r5=60 ", PLAIN(UART_ANSWER_BYTES_WITH_ERRORS)},
 };
 
 /* What is left of a row's list. */
@@ -171,7 +175,7 @@ static void make(struct device *device, struct uart_access *access)
 static int is_same(const struct uart_answer *a, const struct uart_answer *b)
 {
     return a->kind == b->kind && a->value == b->value && a->second == b->second && a->count == b->count &&
-           memcmp(a->bytes, b->bytes, sizeof a->bytes) == 0;
+           memcmp(a->bytes, b->bytes, sizeof a->bytes) == 0 && memcmp(a->errors, b->errors, sizeof a->errors) == 0;
 }
 
 /* Makes a row's call, and says whether it made the accesses and returned the answer, in which the fields that do not count are 0. */

@@ -69,7 +69,7 @@ int main(void)
                              .byte = 1, .len = 3, .bytes = "abc"};
 
     alarm(MOST_SECONDS);
-    for (call.kind = UART_INIT; call.kind <= UART_IS_IDLE; call.kind++)
+    for (call.kind = UART_INIT; call.kind <= UART_RECEIVE_WITH_ERRORS; call.kind++)
         for (int flags = 0; flags < 4; flags++)
             for (size_t i = 0; i < sizeof devices / sizeof *devices; i++) {
                 struct uart_driver driver;

@@ -375,7 +375,9 @@ enum uart_call_kind {
     UART_SET_RTS = 33,          /* byte: 1 asserts RTS, 0 clears it; clears loopback */
     UART_SET_DTR = 34,          /* byte: 1 asserts DTR, 0 clears it; clears loopback */
     UART_PEEK_MODEM = 35,       /* MSR as it is now; the changes that this clears are kept for the next UART_MSR */
-    UART_IS_IDLE = 36           /* whether the transmitter is empty: the FIFO and the shift register */
+    UART_IS_IDLE = 36,          /* whether the transmitter is empty: the FIFO and the shift register */
+    UART_RETRIGGER_INTERRUPTS = 37, /* clears IER and writes it back: the interrupt line falls, and may rise again */
+    UART_RECEIVE_WITH_ERRORS = 38 /* len: how many bytes at most; does not wait */
 };
 
 /* A call. Which fields count depends on its kind. */
@@ -411,7 +413,7 @@ enum uart_answer_kind {
     UART_ANSWER_NOT_SENT = 13,       /* value: an enum uart_send_error */
     UART_ANSWER_FRAME_REFUSED = 14,  /* value: an enum uart_frame_error */
     UART_ANSWER_ATTACH_REFUSED = 15, /* value: an enum uart_attach_error */
-    UART_ANSWER_BYTES_WITH_ERRORS = 16 /* count: how many bytes were received */
+    UART_ANSWER_BYTES_WITH_ERRORS = 16 /* bytes, errors and count: each byte, and its errors in the same place */
 };
 
 /* Why an initialisation failed. */
@@ -461,6 +463,7 @@ struct uart_answer {
     uint8_t value;
     uint8_t second;
     uint8_t bytes[UART_CALL_BYTES];
+    uint8_t errors[UART_CALL_BYTES]; /* bits of UART_LSR_LINE_ERRORS */
 };
 
 enum uart_step_status {

@@ -95,6 +95,10 @@ pub const UART_PEEK_MODEM: u8 = 35;
 
 pub const UART_IS_IDLE: u8 = 36;
 
+pub const UART_RETRIGGER_INTERRUPTS: u8 = 37;
+
+pub const UART_RECEIVE_WITH_ERRORS: u8 = 38;
+
 // Parities: `enum uart_parity`.
 
 pub const UART_PARITY_NONE: u8 = 0;

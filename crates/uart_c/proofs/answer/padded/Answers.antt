@@ -1,9 +1,8 @@
-use Rattle.std.proofs.Common.{ℕ, List, length, ap, arith}
+use Rattle.std.proofs.Common.{arith}
 use Rattle.uart_spec.specs.declared.call.TheConstants.{CALL_BYTES}
-use Rattle.uart_c.specs.declared.answer.UartAnswer.{UartAnswer}
 use Rattle.uart_c.proofs.Copies.{all_copied, one_copied}
-use Rattle.uart_c.proofs.answer.of_bytes.Goals as goal
-use Rattle.uart_c.proofs.answer.of_bytes.Goals.{then-place-lt-CALL_BYTES, else-place-lt-CALL_BYTES}
+use Rattle.uart_c.proofs.answer.padded.Goals as goal
+use Rattle.uart_c.proofs.answer.padded.Goals.{then-place-lt-CALL_BYTES, else-place-lt-CALL_BYTES}
 
 pub loop-place-preserved : goal.loop-place-preserved
 loop-place-preserved c = elim c.if-place-lt-CALL_BYTES.branch [
@@ -18,12 +17,5 @@ loop-place-preserved c = elim c.if-place-lt-CALL_BYTES.branch [
 
 pub returns : goal.returns
 returns c =
-    ap {B = UartAnswer} (λ (bytes : List ℕ). record {
-      count = length c.args.received.now;
-      kind = c.args.kind;
-      value = 0;
-      second = 0;
-      bytes = bytes;
-    })
-    (all_copied c.loop-place.place CALL_BYTES c.args.received.now c.loop-place.bytes
-    (omega (arith, c.loop-place-test.false, c.loop-place.auto.place-end)) c.loop-place.invariant.copied)
+    all_copied c.loop-place.place CALL_BYTES c.args.received.now c.loop-place.bytes
+    (omega (arith, c.loop-place-test.false, c.loop-place.auto.place-end)) c.loop-place.invariant.copied
