@@ -9,7 +9,10 @@ import subprocess
 
 import documentation
 import examples
+import guards
+import names
 import table
+import widths
 import words
 from items import File
 from tokens import Refused, tokens
@@ -251,6 +254,7 @@ def check_whole(files, texts, allow=table):
     for path, name in [*tested.items(), *allow.IMPLEMENTED.items()]:
         if name is not None and name not in testing:
             raise Failed(f"{path}: {name} tests nothing")
+    check_meaning(files, allow)
     reachable = {file for one in files for file in one.modules} | {f"{crate}/src/lib.rt" for crate in allow.CRATES}
     for file in files:
         if file.name not in reachable and not file.is_lemmas:
@@ -261,6 +265,19 @@ def check_whole(files, texts, allow=table):
     for name in reachable - {file.name for file in files}:
         raise Failed(f"crates/{name}: declared, and not there")
     check_traits(files, functions, allow)
+
+
+def check_meaning(files, allow):
+    """Names and numbers that mean one thing in Rattle and another in the emitted crate."""
+    causes = names.causes(files, allow) + guards.causes(files, allow)
+    counts = widths.names(files)
+    for file in files:
+        try:
+            widths.check(file, counts)
+        except Refused as cause:
+            causes.append(refusal(file.name, file.text, cause))
+    if causes:
+        raise Failed("\n".join(causes))
 
 
 def check_traits(files, functions, allow):

@@ -1,6 +1,7 @@
 """The documentation of an emitted file: examples that compile in Rust, and what a guard panics for."""
 import re
 
+import hiding
 from items import Edit
 from tokens import Refused
 
@@ -9,6 +10,9 @@ FENCE = re.compile(r"(//[/!]) ```(.*)$")
 
 def edits(file):
     """The edits of a file's documentation."""
+    refused = hiding.in_documentation(file.comments)
+    if refused:
+        raise Refused(refused[1], refused[0].start)
     found = []
     for comments, path in blocks(file):
         found += example(file, comments, path)

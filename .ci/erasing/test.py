@@ -9,6 +9,7 @@ import tempfile
 import around
 import chip
 import crate
+import deceptions
 import second
 import table
 import words
@@ -456,6 +457,10 @@ CHIP_SOURCES = [
     ("uart_chip/src/lib.rt", "mod wire;", "mod wire;\nmod extra;", "extra.rt: declared, and not there"),
     ("uart_live/src/live.rt", "requires { offset < NUM_REGISTERS }\n        ensures answers", "ensures answers", "requires other things"),
     ("uart_spec/src/lib.rt", "pub use baud::{", "pub use config::*;\npub use baud::{", "a `use` of everything"),
+    ("uart_virtual/src/port.rt", "    chip.write(offset, value);\n", "", "write_slowly does not call write"),
+    ("uart_virtual/src/port.rt", "fn take(chip: &mut", "pub fn take(chip: &mut", "port::take can be reached"),
+    ("uart_virtual/src/port.rt", "requires sends { sends_at_once chip.old ≡ true }", "", "port::send requires other things"),
+    ("uart_chip/src/sending.rt", "requires { spec.sends_at_once", "requires { spec.is_ready", "send_at_once requires other things"),
 ]
 CHIP_ERASURES = [
     ("uart_live/fixed.rs", "(self.start + self.len) % FIFO_SIZE", "(self.start + self.len + 1) % FIFO_SIZE"),
@@ -519,14 +524,23 @@ class Tests:
             return crate.refusal(name, text, cause)
         return ""
 
-    def forms(self):
+    def accepted(self):
         name = "uart_spec/src/backend.rt"
         for form in ACCEPTED:
             cause = self.refused(name, f"{self.texts[name]}\n{form}\n")
             self.count(cause == "", f"refused: {form!r}: {cause}")
-        for form, cause in FORMS:
+
+    def forms(self, forms, name="uart_spec/src/backend.rt"):
+        for form, cause in forms:
             found = self.refused(name, f"{self.texts[name]}\n{form}\n")
             self.count(cause in found, f"{form!r}: {found or 'accepted'}, and not: {cause}")
+
+    def widened(self):
+        for *forms, cause in deceptions.WIDENED:
+            texts = {name: f"{self.texts[name]}\n{form}\n" for name, form in forms}
+            files = [crate.read(name, texts.get(name, self.texts[name]), self.table) for name in self.read]
+            found = failure(lambda: crate.check_whole(files, {**self.texts, **texts}, self.table))
+            self.count(cause in found, f"{forms}: {found or 'accepted'}, and not: {cause}")
 
     def sources(self, edits):
         for name, old, new, cause in edits:
@@ -639,8 +653,12 @@ def failure(call):
 
 def run():
     tests = Tests()
-    tests.forms()
+    tests.accepted()
+    tests.forms(FORMS)
     tests.sources(SOURCES)
+    tests.forms(deceptions.FORMS)
+    tests.sources(deceptions.SOURCES)
+    tests.widened()
     tests.erasures(ERASURES)
     tests.bytes()
     tests.files()
@@ -648,6 +666,7 @@ def run():
     tests.tables()
     of_chip = Tests(chip.TABLE)
     of_chip.sources(CHIP_SOURCES)
+    of_chip.forms(deceptions.OF_CHIP, "uart_chip/src/fifo.rt")
     of_chip.erasures(CHIP_ERASURES)
     of_chip.around(CHIP_AROUND)
     passed, failed = tests.passed + of_chip.passed, tests.failed + of_chip.failed

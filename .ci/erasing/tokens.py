@@ -3,6 +3,8 @@ import collections
 import re
 import unicodedata
 
+import hiding
+
 Token = collections.namedtuple("Token", "kind text start end")
 
 
@@ -50,6 +52,7 @@ def check_clause(text, start, ghost):
     inner = text
     if ghost:
         inner = NAME.sub("", inner)
+    refuse(hiding.comment(inner), start)
     # the fields of a record are separated by semicolons
     while RECORD.search(inner):
         inner = RECORD.sub(lambda found: found[0].replace(";", "").replace("{", "(").replace("}", ")"), inner)
@@ -59,6 +62,12 @@ def check_clause(text, start, ghost):
     for letter in inner:
         if not letter.isascii() and letter not in LETTERS:
             raise Refused(f"the letter {ascii(letter)} in a clause", start)
+    refuse(hiding.braces(text), start)
+
+
+def refuse(cause, start):
+    if cause:
+        raise Refused(cause, start)
 
 
 def clause(text, start, word, strict=True):
@@ -75,7 +84,9 @@ def clause(text, start, word, strict=True):
         found = re.compile(r"ghost use [\w.]+(?:\.\{[^{};]*\}| as \w+)?;").match(text, start)
         if not found:
             raise Refused("a `ghost use` of no known form", start)
-        check_clause(found[0][len("ghost use ") : -1], start, False)
+        refuse(hiding.comment(found[0]), start)
+        check_clause(re.sub(r"[{}]", "", found[0][len("ghost use ") : -1]), start, False)
+        refuse(hiding.in_ghost_use(found[0]), start)
         return Token("ghost use", found[0], start, found.end())
     head = re.compile(r"ghost (\w+)( =|:) \{").match(text, start)
     if not head:

@@ -4,6 +4,11 @@ import re
 # Rules that keep what they rewrite as code.
 REWRITES = ("field", "path", "std", "writer", "fields")
 ENDS = (")", "]", "}", ",", ";", "{", "=>", "")
+# Words that end no value, so that a bracket behind one begins a list and a sign behind one is of what follows.
+KEYWORDS = """
+as async await become box break const continue crate do dyn else enum extern final fn for gen if impl in let loop macro match mod move mut
+pub ref return static struct super trait try type typeof union unsafe unsized use virtual where while yield
+""".split()
 
 
 def check(file, known):
@@ -72,7 +77,7 @@ def check_range(file, at, brackets):
     if file.word(at) == ".." and after == "}" and before in ("{", ","):
         return
     is_index = opened > 0 and file.word(opened) == "[" and (
-        file.kind(opened - 1) == "word" and file.word(opened - 1) not in ("in", "return", "mut", "match", "else")
+        file.kind(opened - 1) == "word" and file.word(opened - 1) not in KEYWORDS
         or file.word(opened - 1) in (")", "]")
     )
     if file.word(at) == ".." and after == "]" and is_index and "," not in file.words(opened, at).split():

@@ -1,0 +1,111 @@
+"""Sources that mean one thing in Rattle and another in Rust, if they are erased. Each was accepted before there was a rule against it.
+
+`FORMS` stands behind the code of uart_spec/src/backend.rt, `SOURCES` are edits of files, each with the cause of its refusal.
+"""
+
+FORMS = [
+    # A comment in a clause: in Rattle the brace in it does not count, so that another function is the real one.
+    (
+        "fn go() -> u8\n    ensures { result ≡ 1 {- } }\n{\n    2\n}\n"
+        "fn other() -> u8\n    ensures { 3 ≡ 3 { -} }\n{\n    1\n}",
+        "`{-` in a clause",
+    ),
+    (
+        "pub struct S;\nimpl S {\n    ghost a = { 4 {- } };\n    const SIZE: u64 = 7;\n    ghost b = { { -} };\n}",
+        "`{-` in a clause",
+    ),
+    ("ghost use a.b.{- c};\nconst SIZE: u64 = 7;\nghost use a.b.{d -};", "`{-` in a clause"),
+    ("ghost use a.b.{c -};", "`-}` in a clause"),
+    ("fn f(x: u8) -> u8\n    ensures { a ≡ { b } }\n{\n    x\n}", "braces in a clause that are no record's"),
+    ("fn f(x: u8) -> u8\n    ensures { records {b = 1} }\n{\n    x\n}", "braces in a clause that are no record's"),
+    ("fn f(x: u8) -> u8\n    ensures { (record x) {b = 1} }\n{\n    x\n}", "braces in a clause that are no record's"),
+    ("struct S;\nimpl S {\n    ghost a = { { b } };\n}", "braces in a clause that are no record's"),
+    # The name of a crate for something of its own: the head of a path means the crate in Rust.
+    ("pub struct uart_ring;", "`uart_ring`, the name of a crate, for something else"),
+    ("pub enum uart_16550 {\n    A,\n}", "`uart_16550`, the name of a crate, for something else"),
+    ("pub type bitflags = u8;", "`bitflags`, the name of a crate, for something else"),
+    ("pub enum E {\n    uart_ring,\n}", "`uart_ring`, the name of a crate, for something else"),
+    ("pub trait circular_buffer {}", "`circular_buffer`, the name of a crate, for something else"),
+    # A range with no end behind a word that Rust does not take for a list: it ends in an overflow, and in Rattle at the last number.
+    (
+        "fn f() -> bool {\n    if [250u8..].iter_mut().all(|turn| true) {\n        return true;\n    }\n    false\n}",
+        "a range with no end",
+    ),
+    ("fn f() {\n    while [250u8..].iter_mut().all(|turn| true) {\n    }\n}", "a range with no end"),
+    # An own method with the name of one that is by hand in the type: Rust calls the one by hand.
+    (
+        "pub trait T {\n    fn checked_set_pdf(&self) -> u8;\n}",
+        "`checked_set_pdf`, by hand in a type of the emitted crate",
+    ),
+    ("pub trait T {\n    fn into_native(&self) -> u8;\n}", "`into_native`, by hand in a type of the emitted crate"),
+    # `usize` has 64 bits in Rattle.
+    ("type W = usize;\nfn f(x: u32) -> W {\n    x as W\n}", "another name for `usize`"),
+    ("pub trait T {\n    type W = usize;\n}", "another name for `usize`"),
+    ("fn f(x: u32) -> usize {\n    x as _\n}", "`as _`"),
+    ("fn f(x: u64) -> u64 {\n    x as isize as u64\n}", "`isize`"),
+    ("fn f() -> u64 {\n    isize::MAX as u64\n}", "`isize`"),
+    ("fn f() -> u64 {\n    <usize>::MAX as u64\n}", "a limit of a type in brackets"),
+    ("fn f() -> u64 {\n    !0usize as u64\n}", "`!` of a `usize`"),
+    ("fn f(x: usize) -> u64 {\n    !x as u64\n}", "`!` of a `usize`"),
+    ("fn f(x: &[u8]) -> u64 {\n    !(x.len()) as u64\n}", "`!` of a `usize`"),
+    ("fn f(n: usize) -> usize {\n    n * n * 4\n}", "`n * n` is not listed with its type"),
+    ("fn f(n: usize) -> usize {\n    let mut m = n;\n    m *= n;\n    m\n}", "`m *= n` is not listed with its type"),
+    ("fn f(n: usize) -> usize {\n    { n } * n\n}", "`} * n` is not listed with its type"),
+    ("fn f(k: u32) -> usize {\n    1usize << k\n}", "`1usize << k` is not listed with its type"),
+    ("fn f(k: u32) -> usize {\n    let mut m = k;\n    m <<= k;\n    3\n}", "`m <<= k` is not listed with its type"),
+    ("fn f(n: usize) -> usize {\n    n.saturating_add(n)\n}", "`n . saturating_add` is not listed with its type"),
+    ("fn f(n: usize) -> Option<usize> {\n    n.checked_add(n)\n}", "`n . checked_add` is not listed with its type"),
+    ("const A: usize = 1 << 20;", "`1 << 20` is not listed with its type"),
+    # Documentation that rustdoc runs as a test.
+    ("/// Text.\n///\n///     assert!(false);\nfn f(x: u8) -> u8 {\n    x\n}", "documentation that is indented, which is code"),
+    ("/// ~~~\n/// assert!(false);\n/// ~~~\nfn f(x: u8) -> u8 {\n    x\n}", "a fence of another form"),
+    ("///  ```\n/// assert!(false);\n///  ```\nfn f(x: u8) -> u8 {\n    x\n}", "a fence of another form"),
+    ("///```\n/// assert!(false);\n///```\nfn f(x: u8) -> u8 {\n    x\n}", "a fence of another form"),
+    ("/// - ```\n///   assert!(false);\n///   ```\nfn f(x: u8) -> u8 {\n    x\n}", "a fence of another form"),
+    # What a guard is for, under other definitions.
+    ("ghost use Rattle.uart_spec.specs.Mine.{◌≤◌};", "signs of clauses that are not std's"),
+    # What a public trait promises, and nothing proves of its users' implementations.
+    (
+        "pub trait T {\n    fn f(&self) -> u8\n        ensures low { result < 8 };\n}",
+        "T::f promises what PROMISES does not have",
+    ),
+]
+
+SOURCES = [
+    (
+        "uart_spec/src/baud.rt",
+        "ghost use Rattle.uart_spec.specs.Baud.{frequency_of, prescaler};",
+        "ghost use Rattle.uart_spec.specs.Baud.{frequency_of};\nghost use Rattle.uart_spec.specs.Mine.{prescaler};",
+        "`prescaler`, a word of a guard, is from Rattle.uart_spec.specs.Mine",
+    ),
+    (
+        "uart_16550/src/driver/init.rt",
+        "\nimpl<B: Backend> Uart16550<B> {",
+        "\nghost IsComputable = { anything };\n\nimpl<B: Backend> Uart16550<B> {",
+        "`IsComputable`, a word of a guard, is defined here",
+    ),
+    ("uart_spec/src/baud.rt", "NUM_REGISTERS: usize = 8;", "NUM_REGISTERS: usize = 9;", ""),
+]
+
+# Two files, and what is put behind each: what is `pub(crate)` in a crate is so in the crates above it too, when all are one.
+WIDENED = [
+    (
+        ("uart_spec/src/backend.rt", "pub struct S;\nimpl S {\n    pub(crate) fn pick(&self) -> u8 {\n        1\n    }\n}"),
+        ("uart_16550/src/backend.rt", "trait T {\n    fn pick(&self) -> u8;\n}"),
+        "`pick` is of a trait and `pub(crate)` in a type",
+    ),
+    (
+        ("uart_spec/src/backend.rt", "pub struct S;\nimpl S {\n    pub(crate) const PICK: u8 = 1;\n}"),
+        ("uart_16550/src/backend.rt", "trait T {\n    const PICK: u8;\n}"),
+        "`PICK` is of a trait and `pub(crate)` in a type",
+    ),
+]
+
+# A form behind the code of uart_chip/src/fifo.rt.
+OF_CHIP = [
+    ("mod uart_live;", "`uart_live`, the name of a crate, for something else"),
+    ("mod uart_chip;", "`uart_chip`, the name of a crate, for something else"),
+    ("pub struct uart_live;", "`uart_live`, the name of a crate, for something else"),
+    ("pub type arrayvec = u8;", "`arrayvec`, the name of a crate, for something else"),
+    ("fn f(n: usize) -> usize {\n    n * n\n}", "`n * n` is not listed with its type"),
+]

@@ -1,0 +1,124 @@
+"""Refuses arithmetic on `usize` that 32 bits do not hold: in Rattle it has 64, and in Rust those of the target.
+
+No tool knows the types here. So each product, each shift and each sum that saturates is listed, with the type that it has.
+"""
+import re
+
+from words import KEYWORDS
+
+# What is multiplied, shifted or added: the file, the words around the sign or the call, and why no target makes a difference.
+U16, U32, U64 = "of u16", "of u32", "of u64"
+OF_A_SLICE = "counts bytes of a slice, and says what it does above usize::MAX"
+AT_MOST = "no more than what is before it, and not below 0"
+OF_ADDRESSES = "an address: `new` refuses what does not fit"
+LISTED = {
+    "uart_spec/src/baud.rt": {
+        "16 * (": "of u32 or u64, as the factors behind it",
+        ") * baud_rate": "of u32 or u64, as what is before it",
+        "baud_rate * divisor": U32,
+        ") * factor": U64,
+    },
+    "uart_spec/src/config.rt": {
+        "ticks * divisor": U64,
+        "1000 * exact": U64,
+        "u64 * exact": U64,
+        "exact . abs_diff": U64,
+    },
+    "uart_spec/src/dump.rt": {"256 * self": U16},
+    "uart_spec/src/registers/fifo_control.rt": {") << 6": "of u8"},
+    "uart_spec/src/registers/line_control.rt": {") << 3": "of u8"},
+    "uart_16550/src/mmio.rt": {
+        "SPR * stride": OF_ADDRESSES,
+        ") . checked_add": OF_ADDRESSES,
+        "usize * self": OF_ADDRESSES,
+    },
+    "uart_16550/src/pio.rt": {"base . checked_add": U16},
+    "uart_16550/src/tty.rt": {"done . saturating_add": OF_A_SLICE},
+    "uart_chip/src/controlling.rt": {"u16 * 256": U16},
+    "uart_chip/src/receiver.rt": {"4 * char_ticks": U16},
+    "uart_chip/src/receiving.rt": {"ticks . saturating_add": U32, ") . saturating_sub": AT_MOST},
+    "uart_chip/src/transmitter.rt": {"overflows . saturating_add": U64},
+    "uart_chip/src/wire.rt": {"limit . saturating_sub": AT_MOST},
+    "uart_live/src/fixed.rt": {"2 * WIRE_ROOM": "128"},
+    "uart_live/src/sound.rt": {"TIMEOUT_CHARACTERS * char_ticks": U32},
+}
+CALLS = re.compile(r"(checked|saturating|wrapping|overflowing)_\w+|pow|abs_diff|isqrt|next_multiple_of|div_ceil|midpoint|rotate_\w+")
+# Functions of slices, queues and iterators that give a `usize`.
+COUNTS = ["len", "count", "capacity", "position"]
+
+
+def check(file, counts):
+    """`counts` has the names that are declared as `usize`, in any file."""
+    for at, token in enumerate(file.code):
+        word, before, after = token.text, file.word(at - 1), file.word(at + 1)
+        if word == "isize" or token.kind == "number" and word.endswith("isize"):
+            file.refuse("`isize`", at)
+        if word == "as" and after == "_":
+            file.refuse("`as _`", at)
+        if word == "type" and "usize" in file.words(at, file.semicolon(at)).split():
+            file.refuse("another name for `usize`", at)
+        if before == "::" and word in ("MAX", "MIN", "BITS") and file.word(at - 2) == ">":
+            file.refuse("a limit of a type in brackets", at)
+        if word == "!" and not is_value(file, at - 1) and is_count(file, at + 1, counts):
+            file.refuse("`!` of a `usize`", at)
+        site = operation(file, at)
+        if site and site not in LISTED.get(file.name, {}) and not is_small(site):
+            file.refuse(f"`{site}` is not listed with its type", at)
+
+
+def is_value(file, at):
+    """Whether a value can end here, so that a sign behind it stands between two values."""
+    return file.kind(at) == "number" or file.kind(at) == "word" and file.word(at) not in KEYWORDS or file.word(at) in (")", "]", "}")
+
+
+def is_count(file, at, counts):
+    """Whether the value that begins here is a number with the suffix `usize`, or ends in a name that is one of a `usize`."""
+    if file.kind(at) == "number":
+        return True
+    last = ""
+    while file.kind(at) == "word" and file.word(at) not in KEYWORDS or file.word(at) in (".", "::", "(", "[", "&", "*"):
+        if file.word(at) in ("(", "["):
+            if not last:
+                return is_count(file, at + 1, counts)
+            at = file.closing(at)
+        elif file.kind(at) == "word":
+            last = file.word(at)
+        at += 1
+    return last in counts
+
+
+def names(files):
+    """The names that are declared as `usize`: parameters, fields, constants, and functions with this result."""
+    found = set(COUNTS)
+    for file in files:
+        for at in range(len(file.code)):
+            if file.words(at + 1, at + 3) == ": usize" and file.kind(at) == "word":
+                found.add(file.word(at))
+            if file.word(at) == "fn":
+                parameters = file.behind_generics(at + 2)
+                if file.word(parameters) == "(" and file.begins(file.closing(parameters) + 1, "-> usize"):
+                    found.add(file.word(at + 1))
+    return found
+
+
+def operation(file, at):
+    """The product, shift or call at this index as it is listed, or nothing."""
+    word, after = file.word(at), file.word(at + 1)
+    if file.kind(at) == "word":
+        is_call = file.word(at - 1) in (".", "::") and after in ("(", "::")
+        return file.words(at - 2, at + 1) if is_call and CALLS.fullmatch(word) else None
+    if file.kind(at) != "sign" or not is_value(file, at - 1):
+        return None
+    if word in ("*", "*="):
+        return file.words(at - 1, at + 2)
+    is_shift = word == "<" and after in ("<", "<=") and file.code[at].end == file.code[at + 1].start
+    return f"{file.word(at - 1)} {word}{after} {file.word(at + 2)}" if is_shift else None
+
+
+def is_small(site):
+    """Whether both sides are numbers, and the result is no more than 65,535."""
+    found = re.fullmatch(r"([0-9][0-9_]*) (\*|<<) ([0-9][0-9_]*)", site)
+    if not found:
+        return False
+    one, other = (int(found[side].replace("_", "")) for side in (1, 3))
+    return (one * other if found[2] == "*" else one << min(other, 64)) <= 0xFFFF
