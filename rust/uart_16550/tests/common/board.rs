@@ -14,6 +14,8 @@ mod board {
         pub errors: LSR,
         pub cells: [u8; 8],
         is_empty_due: bool,
+        /// Whether the chip is broken: ISR shows an interrupt without a name as long as one is enabled.
+        pub shows_an_interrupt: bool,
     }
 
     pub static CHIP: Mutex<Chip> = Mutex::new(Chip {
@@ -22,6 +24,7 @@ mod board {
         errors: LSR::empty(),
         cells: [0; 8],
         is_empty_due: false,
+        shows_an_interrupt: false,
     });
 
     pub fn chip() -> MutexGuard<'static, Chip> {
@@ -35,7 +38,9 @@ mod board {
 
         // ISR without acknowledging.
         fn isr(&self) -> u8 {
-            if self.is_enabled(IER::RECEIVER_LINE_STATUS) && !self.errors.is_empty() {
+            if self.shows_an_interrupt && self.is_enabled(IER::all()) {
+                0xc8
+            } else if self.is_enabled(IER::RECEIVER_LINE_STATUS) && !self.errors.is_empty() {
                 0xc6
             } else if self.is_enabled(IER::DATA_READY) && !self.received.is_empty() {
                 0xc4
@@ -132,7 +137,6 @@ mod board {
     }
 
     pub fn end_of_interrupt() {}
-    pub fn mask_the_port() {}
     pub fn stop_other_processors() {}
 
     /// Ends the example.
