@@ -237,7 +237,7 @@ impl Config {
     /// ```
     /// # include!(concat!(env!("CARGO_MANIFEST_DIR"), "/src/proved/examples.rs"));
     /// # fn main() {}
-    /// # fn example() -> Outcome<()> {
+    /// # fn example(uart: &mut Uart16550<Device>) -> Outcome<()> {
     /// let config = Config { frequency: 24_000_000, ..Config::DEFAULT }.nearest(20)?;
     /// # Ok(()) }
     /// ```

@@ -181,7 +181,7 @@ impl<B: Backend> Uart16550<B> {
     /// ```
     /// # include!(concat!(env!("CARGO_MANIFEST_DIR"), "/src/proved/examples.rs"));
     /// # fn main() {}
-    /// # fn example(uart: &mut Uart16550<Device>) -> Outcome<()> {
+    /// # fn example(uart: &mut Uart16550<Device>, ports: Device) -> Outcome<()> {
     /// let (dll, dlm) = uart.attach()?;
     /// # Ok(()) }
     /// ```
