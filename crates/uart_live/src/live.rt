@@ -158,9 +158,9 @@ impl LiveChip {
         self.uart.write(offset, value);
     }
 
-    /// Returns whether a byte that the guest writes to DATA can go onto the wire at once: outside of
-    /// loopback, with nothing in the transmitter and with room on the wire. Under DLAB, DATA is not
-    /// the data register, and the answer is false.
+    /// Returns whether a byte that the guest writes to DATA can go onto the wire at once: outside
+    /// of loopback, with nothing in the transmitter and with room on the wire. Under DLAB, where
+    /// DATA is the divisor latch, it cannot.
     ///
     /// # Examples
     ///

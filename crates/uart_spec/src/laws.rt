@@ -1,7 +1,7 @@
 //! Laws about the types and constants: defaults, orders, values.
 //!
 //! The contract of each function is a law that callers can cite. The functions do nothing.
-ghost use Rattle.std.specs.Prelude.{◌≡◌, ℕ, List, [], ◌∷◌, None, Some, false};
+ghost use Rattle.std.specs.Prelude.{◌≡◌, ℕ, [], ◌∷◌, None, Some, false};
 ghost use Rattle.std.specs.Ordering.{nat_cmp, bool_cmp};
 ghost use Rattle.std.specs.declared.cmp.Ordering.TheVariants.{Less};
 ghost use Rattle.uart_spec.specs.Divisors.{divisors};

@@ -12,6 +12,7 @@ use Rattle.uart_chip.specs.Receiver.{ReceiverState}
 use Rattle.uart_chip.specs.Chip.{ChipState, tick, ticks, is_loopback, is_dlab_set, cut_of, after_write, write_data}
 use Rattle.uart_chip.specs.Sending.{sends_at_once, put_on_wire, send_at_once}
 use Rattle.uart_chip.specs.Sound.{IsSoundChip}
+use Rattle.uart_chip.proofs.Jumps.{ticks-add}
 use Rattle.uart_chip.proofs.soundness.Sounds.{steady_ticks, steady_write}
 use Rattle.uart_live.proofs.Sends.{Sends, sends}
 use Rattle.uart_virtual.specs.declared.told.Told.{Told}
@@ -71,16 +72,6 @@ nothing (x ∷ xs) e = let no : false ≡ true = grind (arith, common_steps) in 
 nowhere : (place : Option Shifting) → is_some place ≡ false → place ≡ None
 nowhere None e = refl
 nowhere (Some s) e = absurd (cc)
-
-ticks-add : (j k : ℕ) (c : ChipState) → ticks (j + k) c ≡ ticks j (ticks k c)
-ticks-add zero k c = ap (λ (n : ℕ). ticks n c) (no_more k)
-  where
-    no_more : (k : ℕ) → 0 + k ≡ k
-    no_more k = omega arith
-ticks-add (suc j) k c = ap (λ (n : ℕ). ticks n c) (one_more j k) ∙ ap tick (ticks-add j k c)
-  where
-    one_more : (j k : ℕ) → suc j + k ≡ suc (j + k)
-    one_more j k = omega arith
 
 -- a chip with an idle transmitter is that chip
 with_idle : (c : ChipState) → Sends c → record c { transmitter = idle c.transmitter } ≡ c

@@ -303,8 +303,8 @@ fn receive_all(chip: &mut LiveChip, input: &[u8])
 }
 
 impl VirtualPort {
-    /// Returns a port after power-on. The output has room for 64 bytes, and no interrupt is enabled,
-    /// so that nothing is to be done.
+    /// Returns a port after power-on. The output has room for 64 bytes. No interrupt is enabled, so
+    /// nothing is to be done.
     ///
     /// # Examples
     ///
@@ -314,7 +314,8 @@ impl VirtualPort {
     pub fn new(chip: Chip) -> Self
         ensures { result ≡ port.fresh chip }
     {
-        // A chip of this time and this wire is always made, as the contract of `LiveChip::new` says.
+        // A chip with this time and this wire is never refused: the contract of `LiveChip::new`
+        // says so, and the check proves it here.
         let mut chip = LiveChip::new(chip, CHAR_TICKS, WIRE_ROOM).unwrap();
         let none = Told {
             line: false,

@@ -3,7 +3,7 @@ use crate::{Todo, VirtualPort};
 use bitflags::Flags;
 use std::process::Abort;
 use std::test::Fail;
-use uart_live::Chip;
+use uart_live::{Chip, InputError};
 use uart_spec::registers::{LSR, MSR};
 
 const DATA: u8 = 0;
@@ -17,6 +17,8 @@ const FCR: u8 = 2;
 const MCR: u8 = 4;
 
 const LINE: u8 = 5;
+
+const MODEM: u8 = 6;
 
 // Room that comes by a write of FCR, and by the end of loopback, is told.
 #[test]
@@ -126,7 +128,7 @@ fn breaks_and_overruns(rt: HostRuntime) -> Result<(), Fail> {
     assert!(rt; port.read(LINE).value == 0x63);
     assert!(rt; port.read(DATA).value == 0x68);
     port.set_lines(MSR::CTS)?;
-    assert!(rt; port.read(6).value == 0x11);
+    assert!(rt; port.read(MODEM).value == 0x11);
     assert!(rt;
         port.read(IER).todo
             == Todo {
@@ -136,5 +138,49 @@ fn breaks_and_overruns(rt: HostRuntime) -> Result<(), Fail> {
                 ready: 0
             }
     );
+    Ok(())
+}
+
+#[test]
+fn a_new_port_has_nothing_to_do(rt: HostRuntime) -> Result<(), Fail> {
+    for (chip, isr) in [(Chip::Uart16550A, 0x01), (Chip::Uart16450, 0x01)] {
+        let mut port = VirtualPort::new(chip);
+        assert!(rt; !port.level() && port.output().is_empty());
+        assert!(rt; port.read(LINE).value == 0x60);
+        assert!(rt; port.read(ISR).value == isr);
+    }
+    Ok(())
+}
+
+#[test]
+fn other_bits_are_refused(rt: HostRuntime) -> Result<(), Fail> {
+    let mut port = VirtualPort::new(Chip::Uart16550A);
+    assert!(rt; port.receive_one(0x41, LSR::OVERRUN_ERROR) == Err(InputError::BadErrors));
+    assert!(rt; port.set_lines(MSR::DELTA_CTS) == Err(InputError::BadLines));
+    assert!(rt; port.read(LINE).value == 0x60 && port.read(MODEM).value == 0x00);
+    Ok(())
+}
+
+// What is not promised: a guest that fills the FIFO, and looks at nothing before it writes again,
+// is signalled once for all of that.
+#[test]
+fn a_guest_that_never_looks_is_signalled_once(rt: HostRuntime) -> Result<(), Fail> {
+    let mut port = VirtualPort::new(Chip::Uart16550A);
+    port.write(FCR, 0x07);
+    assert!(rt; port.write(IER, 0x02).signal);
+    assert!(rt; !port.write(DATA, 0x41).signal);
+    assert!(rt; !port.write(DATA, 0x41).signal);
+    assert!(rt; port.level());
+    Ok(())
+}
+
+// Output is taken while the line is up and nothing is held: that is no news for the guest.
+#[test]
+fn taken_output_is_no_signal_unless_bytes_were_held(rt: HostRuntime) -> Result<(), Fail> {
+    let mut port = VirtualPort::new(Chip::Uart16550A);
+    assert!(rt; port.write(IER, 0x02).signal);
+    assert!(rt; port.write(DATA, 0x41).ready == 1);
+    let todo = port.take_output(7);
+    assert!(rt; !todo.signal && todo.level && todo.ready == 0);
     Ok(())
 }

@@ -1,5 +1,5 @@
-//! The accesses to a device: ports of x86 by `in` and `out`, and memory by volatile loads and
-//! stores.
+//! The accesses to a device: ports of x86 by `in` and `out`, and memory by volatile loads and stores,
+//! with barriers where the architecture needs them.
 //!
 //! This is the one file with `unsafe`, and no proof covers it. An access object has its base and
 //! its stride in itself, tested when it is made, so safe code can make it access nothing else.
@@ -97,6 +97,9 @@ impl Backend for X86Ports {
 
 /// Eight registers in memory, each of one byte, accessed by volatile loads and stores.
 ///
+/// Accesses are made in the order of the program, and inside of a lock that guards the object: where
+/// the architecture does not see to that, there is a barrier before and after each of them.
+///
 /// It can be sent to another thread, but neither shared nor cloned: one object is the one way to
 /// its registers.
 ///
@@ -148,8 +151,8 @@ impl VolatileMemory {
     /// - The pointer must have the provenance of all eight: it comes from one allocation that has
     ///   them, or they are outside of every allocation that Rust knows of, as a device is.
     /// - A device of the 16550 family must be there, or anything that does no harm if it is
-    ///   accessed as one. A mapping of a device must be one for devices: not cached, and not
-    ///   reordered.
+    ///   accessed as one. A mapping of a device must be one for devices, so that accesses are neither
+    ///   cached nor joined, and on Arm and x86 keep their order: Device memory, or uncached.
     /// - Nothing else may access these bytes: no reference, no other object, no other thread, no
     ///   handler of interrupts. If several of them need the device, they share this object by a
     ///   lock, and a handler must not wait for a lock that it has interrupted.
@@ -294,18 +297,78 @@ unsafe fn port_out(port: u16, value: u8) {
     }
 }
 
-// Loads a byte of a device. It must be valid for that.
-#[cfg(any(not(target_arch = "aarch64"), miri))]
+// Loads a byte of a device, after all accesses before it and before all after it. It must be valid for
+// that.
 #[inline]
 unsafe fn load(address: *const u8) -> u8 {
+    barrier();
+    // SAFETY: by the promise of the caller.
+    let value = unsafe { load_byte(address) };
+    barrier();
+    value
+}
+
+// Stores a byte to a device, after all accesses before it and before all after it. It must be valid for
+// that.
+#[inline]
+unsafe fn store(address: *mut u8, value: u8) {
+    barrier();
+    // SAFETY: by the promise of the caller.
+    unsafe { store_byte(address, value) }
+    barrier();
+}
+
+// Makes the processor finish the accesses before this, to devices and to memory, before it begins those
+// after it, where its architecture does not do so by itself.
+//
+// - On x86 and on Arm accesses to one device are made in the order of the program, if its memory is
+//   mapped as a device's, which the caller of a constructor promised. A lock orders them too.
+// - On PowerPC a load may pass a store to another address: LSR is read before a byte was written. The
+//   barriers of a lock are not for devices.
+// - On RISC-V and LoongArch the order within a device depends on its memory's attributes. The barriers
+//   of a lock (`fence rw, w` on RISC-V) are not for devices, so an access could leave the lock.
+// - Elsewhere the barrier is the strongest that atomics have: `sync` on PowerPC and MIPS, `membar` on
+//   SPARC. An architecture without atomics has one processor that keeps the order.
+#[inline(always)]
+fn barrier() {
+    #[cfg(all(any(target_arch = "riscv32", target_arch = "riscv64"), not(miri)))]
+    // SAFETY: a barrier changes nothing. It may not be moved over accesses to memory, as it would be with
+    // `nomem`.
+    unsafe {
+        core::arch::asm!("fence iorw, iorw", options(nostack, preserves_flags));
+    }
+    #[cfg(all(target_arch = "loongarch64", not(miri)))]
+    // SAFETY: as above.
+    unsafe {
+        core::arch::asm!("dbar 0", options(nostack, preserves_flags));
+    }
+    #[cfg(all(
+        target_has_atomic = "ptr",
+        not(any(
+            target_arch = "x86",
+            target_arch = "x86_64",
+            target_arch = "arm",
+            target_arch = "aarch64",
+            target_arch = "riscv32",
+            target_arch = "riscv64",
+            target_arch = "loongarch64"
+        ))
+    ))]
+    core::sync::atomic::fence(core::sync::atomic::Ordering::SeqCst);
+}
+
+// Loads a byte of a device. It must be valid for that.
+#[cfg(any(not(any(target_arch = "arm", target_arch = "aarch64")), miri))]
+#[inline]
+unsafe fn load_byte(address: *const u8) -> u8 {
     // SAFETY: by the promise of the caller.
     unsafe { address.read_volatile() }
 }
 
 // Stores a byte to a device. It must be valid for that.
-#[cfg(any(not(target_arch = "aarch64"), miri))]
+#[cfg(any(not(any(target_arch = "arm", target_arch = "aarch64")), miri))]
 #[inline]
-unsafe fn store(address: *mut u8, value: u8) {
+unsafe fn store_byte(address: *mut u8, value: u8) {
     // SAFETY: by the promise of the caller.
     unsafe { address.write_volatile(value) }
 }
@@ -314,7 +377,7 @@ unsafe fn store(address: *mut u8, value: u8) {
 // A volatile load may be compiled to another one.
 #[cfg(all(target_arch = "aarch64", not(miri)))]
 #[inline]
-unsafe fn load(address: *const u8) -> u8 {
+unsafe fn load_byte(address: *const u8) -> u8 {
     let value: u32;
     // SAFETY: by the promise of the caller.
     unsafe {
@@ -331,11 +394,43 @@ unsafe fn load(address: *const u8) -> u8 {
 // The same for a store.
 #[cfg(all(target_arch = "aarch64", not(miri)))]
 #[inline]
-unsafe fn store(address: *mut u8, value: u8) {
+unsafe fn store_byte(address: *mut u8, value: u8) {
     // SAFETY: by the promise of the caller.
     unsafe {
         core::arch::asm!(
             "strb {value:w}, [{address}]",
+            address = in(reg) address,
+            value = in(reg) u32::from(value),
+            options(nostack, preserves_flags),
+        );
+    }
+}
+
+// The same on 32-bit Arm, where a load may be compiled to one that changes its address register too.
+#[cfg(all(target_arch = "arm", not(miri)))]
+#[inline]
+unsafe fn load_byte(address: *const u8) -> u8 {
+    let value: u32;
+    // SAFETY: by the promise of the caller.
+    unsafe {
+        core::arch::asm!(
+            "ldrb {value}, [{address}]",
+            address = in(reg) address,
+            value = lateout(reg) value,
+            options(nostack, preserves_flags),
+        );
+    }
+    value as u8
+}
+
+// The same for a store.
+#[cfg(all(target_arch = "arm", not(miri)))]
+#[inline]
+unsafe fn store_byte(address: *mut u8, value: u8) {
+    // SAFETY: by the promise of the caller.
+    unsafe {
+        core::arch::asm!(
+            "strb {value}, [{address}]",
             address = in(reg) address,
             value = in(reg) u32::from(value),
             options(nostack, preserves_flags),

@@ -293,9 +293,9 @@ int u16550_set_frame(struct u16550 *uart, const struct u16550_config *config);
 
 /*
  * Takes a port as it was set up, for example by firmware: finds out whether the FIFO is on, and gives the divisor. It reads
- * LCR, MCR, ISR and the divisor latch, and changes nothing, but that the read of ISR acknowledges a THR_EMPTY interrupt. The
- * driver's configuration stays as it was, since nobody knows the chip's clock. Returns an enum u16550_attach_error if the port
- * is not one to be taken.
+ * LCR, MCR, ISR and the divisor latch, for which it sets DLAB and then writes LCR back; nothing else is written. The read of ISR
+ * acknowledges a THR_EMPTY interrupt. The driver's configuration stays as it was, since nobody knows the chip's clock. Returns
+ * an enum u16550_attach_error if the port is not one to be taken.
  */
 int u16550_attach(struct u16550 *uart, uint8_t *dll, uint8_t *dlm);
 
@@ -427,9 +427,13 @@ enum u16550_msr_bits {
 /* --------------------------------------------------------------- rings, for use with interrupts
  *
  * Rings keep bytes until the chip has room for them, and received bytes until they are taken. Initialise the driver with
- * DATA_READY and RECEIVER_LINE_STATUS enabled, call u16550_ring_handle in the interrupt handler, and mask the interrupt during
- * all other calls. No ring call waits. All calls above work on a driver with rings; what they send and receive
- * bypasses the rings.
+ * DATA_READY and RECEIVER_LINE_STATUS enabled, and call u16550_ring_handle in the interrupt handler. No ring call waits. All
+ * calls above work on a driver with rings; what they send and receive bypasses the rings.
+ *
+ * A handler that comes into the middle of another call gets U16550_BUSY, and comes again at once if the line stays high. So turn
+ * the processor's interrupts off during each call that does not wait. During one that waits they may stay on: the handler then
+ * masks the line at the interrupt controller on U16550_BUSY, and after the call the program unmasks it and calls
+ * u16550_retrigger_interrupts. examples/console.c is such a handler.
  */
 
 #define U16550_MAX_CAPACITY 4096

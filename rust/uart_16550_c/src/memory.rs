@@ -156,13 +156,19 @@ pub unsafe fn make(
     if unsafe { is_in_call(made) } {
         return Err(Failure::Busy);
     }
-    let value = Made {
-        mark: MARK,
-        is_busy: AtomicU32::new(FREE),
-        held: Held::Plain(driver()?),
-    };
-    // SAFETY: the memory is large enough and aligned.
-    unsafe { made.write(value) };
+    let driver = driver()?;
+    // An interrupt handler that comes now finds a call that is not done, and never a part of the old driver with a part of the
+    // new one. The sign is set before the mark: so a mark without the sign is that of a whole driver.
+    // SAFETY: the memory is large enough and aligned, and no call that is not done borrows it.
+    unsafe {
+        let is_busy = (&raw mut (*made).is_busy).cast::<u32>();
+        is_busy.write_volatile(BUSY);
+        (&raw mut (*made).mark).write_volatile(MARK);
+        compiler_fence(Ordering::SeqCst);
+        (&raw mut (*made).held).write(Held::Plain(driver));
+        compiler_fence(Ordering::SeqCst);
+        is_busy.write_volatile(FREE);
+    }
     Ok(())
 }
 

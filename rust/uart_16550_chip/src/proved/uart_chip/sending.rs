@@ -10,8 +10,8 @@ fn is_ready<T: TransmitterParts>(parts: &T) -> bool {
     parts.queue_len() == 0 && (!parts.shifting().is_some() && parts.has_room())
 }
 
-/// Returns whether a byte that is written to DATA can go onto the wire at once: outside of loopback,
-/// with nothing in the transmitter and with room on the wire.
+/// Returns whether a byte that is written to DATA can go onto the wire at once: outside of
+/// loopback, with nothing in the transmitter and with room on the wire.
 pub fn sends_at_once<P: ChipParts>(parts: &P) -> bool {
     !parts.lcr().intersects(LCR::DLAB) && (!is_loopback(parts) && is_ready(parts.transmitter()))
 }
@@ -22,8 +22,8 @@ fn put_on_wire<T: TransmitterParts>(parts: &mut T, byte: u8) {
     parts.set_thr_pending(true);
 }
 
-/// Puts a byte that is written to DATA onto the wire, cut to the word length if the chip does so. The
-/// caller must have asked `sends_at_once`.
+/// Puts a byte that is written to DATA onto the wire, cut to the word length if the chip does so.
+/// The caller must have asked `sends_at_once`.
 pub fn send_at_once<P: ChipParts>(parts: &mut P, value: u8) {
     assert!(sends_at_once(parts), "the transmitter is not idle");
     let byte = cut(parts, value);

@@ -1,0 +1,158 @@
+"""The declarations of an emitted crate, read from its text: types, functions and constants, private ones too.
+
+What this reads wrongly does not compile, or has no partner in the MIR.
+"""
+import dataclasses
+import pathlib
+import re
+
+BLANK = re.compile(r'//[^\n]*|b?"(?:\\.|[^"\\])*"|b?\'(?:\\.|[^\'\\])\'', re.DOTALL)
+FUNCTION = re.compile(r"(?:^|\n)[ \t]*(pub(?:\([^)]*\))? )?(?:const )?fn (\w+)\s*(<[^(]*?>)?\s*\(", re.DOTALL)
+TYPE = re.compile(
+    r"((?:#\[[^\]]*\]\s*)*)(?:pub(?:\([^)]*\))? )?(struct|enum) (\w+)(<(?:[^<>]|<[^<>]*>)*>)?\s*(?:where[^{;]*)?([{(;])"
+)
+OWNER = re.compile(r"(?:^|\n)(impl|(?:pub(?:\([^)]*\))? )?trait)\b([^{;]*)\{")
+CONSTANT = re.compile(r"\n( *)((?:pub(?:\([^)]*\))? )?)const (\w+)\s*:\s*([^=;]+?)\s*[=;]")
+NUMBER = re.compile(r"\b(0x[0-9a-fA-F_]+|0b[01_]+|\d[\d_]*)(?:_?[ui](?:8|16|32|64|size))?\b")
+
+
+@dataclasses.dataclass
+class Type:
+    """A struct or an enum. `parts` has the fields of the struct, or of each variant, as name and type; a name is a number in a tuple."""
+
+    name: str
+    module: str
+    file: pathlib.Path
+    is_enum: bool
+    parameters: list
+    variants: list
+    derives: list
+
+    def over(self, device):
+        """The type, with the device for each parameter."""
+        return f"{self.name}<{', '.join(device for _ in self.parameters)}>" if self.parameters else self.name
+
+
+@dataclasses.dataclass
+class Function:
+    """A function. `owner` is the type of its `impl`, `trait` the trait of it, with their parameters; `is_declared` is one of a trait."""
+
+    name: str
+    module: str
+    file: pathlib.Path
+    is_public: bool
+    generics: str
+    parameters: list
+    result: str
+    owner: str = ""
+    trait: str = ""
+    is_declared: bool = False
+
+    def path(self):
+        """The path that the eraser gives the function."""
+        owner = re.match(r"[\w:]+", self.owner)[0].split("::")[-1] if self.owner else self.trait
+        return "::".join(one for one in (self.module, owner, self.name) if one)
+
+
+class Emitted:
+    """The declarations of the files below a folder `proved`."""
+
+    def __init__(self, folder):
+        self.modules, self.types, self.functions, self.constants, self.numbers = {}, [], [], [], set()
+        for file in sorted(folder.rglob("*.rs")):
+            parts = [one for one in file.relative_to(folder).with_suffix("").parts if one != "mod"]
+            if parts and parts != ["examples"]:
+                self.modules[file] = "::".join(parts)
+                self.read(file, "::".join(parts))
+
+    def read(self, file, module):
+        text = blank(file.read_text(encoding="ascii"))
+        self.numbers |= {int(found[1].replace("_", ""), 0) for found in NUMBER.finditer(text)}
+        for found in TYPE.finditer(text):
+            self.types.append(read_type(found, text, file, module))
+        owners = [(found.start(), closing(text, found.end() - 1), found) for found in OWNER.finditer(text)]
+        for found in FUNCTION.finditer(text):
+            owner = next((one for start, end, one in owners if start <= found.start() < end), None)
+            self.functions.append(read_function(found, text, file, module, owner))
+        for found in CONSTANT.finditer(text):
+            owner = next((one for start, end, one in owners if start <= found.start() < end), None)
+            self.constants.append((module, owner[2].strip() if owner else "", found[3], found[4], found[2].strip()))
+
+
+def blank(text):
+    """A text without comments, and with nothing in its strings."""
+    return BLANK.sub(lambda found: " " if found[0].startswith("/") else '""' if '"' in found[0] else found[0], text)
+
+
+def closing(text, at):
+    """The offset of the bracket that closes the one here."""
+    pairs = {"{": "}", "(": ")", ";": ";"}
+    close, depth = pairs[text[at]], 0
+    if close == ";":
+        return at
+    for here in range(at, len(text)):
+        depth += {text[at]: 1, close: -1}.get(text[here], 0)
+        if depth == 0:
+            return here
+    raise ValueError("a bracket that is not closed")
+
+
+def split(text):
+    """The parts of a list that commas separate."""
+    parts, depth, part = [], 0, ""
+    for at, letter in enumerate(text):
+        if letter in "([{<":
+            depth += 1
+        elif letter in ")]}" or letter == ">" and text[at - 1] != "-":
+            depth -= 1
+        if letter == "," and depth == 0:
+            parts.append(part.strip())
+            part = ""
+        else:
+            part += letter
+    return [one for one in [*parts, part.strip()] if one]
+
+
+def named(fields, is_tuple):
+    """Fields as name and type."""
+    fields = [re.sub(r"^(?:#\[[^\]]*\]\s*)*pub(?:\([^)]*\))?\s*", "", one) for one in split(fields)]
+    if is_tuple:
+        return [(str(order), one) for order, one in enumerate(fields)]
+    return [tuple(part.strip() for part in one.split(":", 1)) for one in fields]
+
+
+def read_type(found, text, file, module):
+    close = closing(text, found.end() - 1)
+    body = re.sub(r"#\[[^\]]*\]", "", text[found.end() : close])
+    parameters = [one for one in split(found[4][1:-1])] if found[4] else []
+    if found[2] == "struct":
+        variants = [("", named(body, found[5] == "("))]
+    else:
+        variants = []
+        for one in split(body):
+            inner = re.match(r"\w+\s*([({])(.*)[)}]", one, re.DOTALL)
+            variants.append((re.match(r"\w+", one)[0], named(inner[2], inner[1] == "(") if inner else []))
+    derives = re.findall(r"\w+", " ".join(re.findall(r"derive\(([^)]*)\)", found[1])))
+    return Type(found[3], module, file, found[2] == "enum", parameters, variants, derives)
+
+
+def read_function(found, text, file, module, owner):
+    close = closing(text, found.end() - 1)
+    rest = re.match(r"\s*(?:->\s*([^{;]*?))?\s*(?:where[^{;]*)?[{;]", text[close + 1 :])
+    function = Function(
+        name=found[2],
+        module=module,
+        file=file,
+        is_public=found[1] == "pub ",
+        generics=found[3] or "",
+        parameters=split(text[found.end() : close]),
+        result=(rest[1] or "()").strip(),
+    )
+    if owner and "trait" in owner[1]:
+        function.is_declared, function.trait = True, re.match(r"\s*\w+", owner[2])[0].strip()
+    elif owner:
+        parts = re.match(r"(<(?:[^<>]|<[^<>]*>)*>)?\s*(.*?)\s*(?:\bwhere\b.*)?$", owner[2].strip(), re.DOTALL)
+        function.generics += parts[1] or ""
+        *trait, function.owner = re.split(r"\s+for\s+", parts[2])
+        function.trait = trait[0] if trait else ""
+    return function

@@ -1,0 +1,112 @@
+"""What the comparison may not show, each with the reason; and the contracts whose breach Rust code has to refuse.
+
+An entry that is not needed is a failure, so that none outlives its reason.
+"""
+
+# The packages: the crates of each, which have the MIR, and the features that are compiled.
+PACKAGES = {
+    "uart_16550": (["uart_spec", "uart_16550"], ["alloc"]),
+    "uart_16550_chip": (["uart_spec", "uart_chip", "uart_live"], []),
+}
+# The crates of the kit whose MIR they reach.
+OF_KIT = ["core", "std_heap", "std_alloc", "bitflags", "arrayvec", "circular_buffer"]
+
+# Functions that differ: a pattern of the name, and why.
+SHOWS_REGISTER = "shows a register, of which `Debug` is by hand"
+DIFFER = {
+    r"::registers::\w+::[A-Z]{3}Debug::fmt": "`Debug` of a register shows the names of its bits: by hand, in flags.rs",
+    r"::receive::ReceivedDebug::fmt": SHOWS_REGISTER,
+    r"::state::DriverStateDebug::fmt": SHOWS_REGISTER,
+    r"::config::ConfigDebug::fmt": SHOWS_REGISTER,
+    r"::dump::ConfigRegisterDumpDebug::fmt": SHOWS_REGISTER,
+}
+
+# Emitted functions that no case compares or reaches: a pattern of the name and of the cause that the program gives, and why.
+SCHEDULED = "of a chip under a schedule: no emitted code calls it"
+SKIPPED = {
+    r"^uart_chip::chip::Uart::(fifo|tick|arrive|expire_timeout|perform): generic": SCHEDULED,
+    r"^uart_chip::receiver::Receiver::(arrive|waiting_at|arrivals): generic": SCHEDULED,
+    r"^uart_chip::transmitter::Transmitter::held_at: generic": SCHEDULED,
+    r"^uart_chip::receiving::expire_timeout: generic": SCHEDULED,
+    r"^uart_16550::.*Debug::fmt .*: printed and generic": "prints a backend, which the MIR's formatter does not know",
+}
+
+# Emitted functions that have no MIR: a pattern of the name, and why.
+NOT_IN_MIR = {}
+
+# Functions of the MIR that are not emitted: a pattern of the name, and why.
+NOT_EMITTED = {
+    r"::fn::": "a closure: of the function that has it",
+    r"::Destruct::drop$|\+Destruct::drop$|::Destruct\+\+none::drop$": "what is dropped has nothing to do",
+    r"FnOnce::call_once$": "a case of an enum as a function",
+    r"Hash::hash$": "derived in both: the MIR has no hasher of Rust's std",
+    r"^uart_16550::.*Debug::fmt$": "derived, and prints a backend",
+    r"^uart_chip::fifo::Fifo::is_empty\+decl$": "the declaration of a method that has a body",
+}
+
+# Places of the MIR that no input reaches: a pattern of the function, the number of the place and what it is, and why.
+OF_ORIGINS = "each character of a live chip has the same origin"
+IN_JUMPS = "time passes for a live chip in jumps, which end where something happens"
+NOT_REACHED = {
+    r"(PartialEq::eq|PartialOrd::partial_cmp|Ord::cmp) \d+ case \d+(\|\d+)*$": "another variant: their numbers were compared before",
+    r"Clone::clone \d+ case 1$": "no memory: what is cloned has none",
+    r"^uart_chip::controlling::read_register 8 case 5$": "LSR, which `read` looks for before",
+    r"^uart_chip::controlling::write_register 1 case 0$": "DATA, which `write` looks for before",
+    r"^uart_chip::receiving::enter 6 else$": OF_ORIGINS,
+    r"^uart_chip::receiving::replace 2 case 0$": "an empty receiver, of which nothing is replaced",
+    r"^uart_chip::receiving::replace (4 else|5 if|6 else)$": OF_ORIGINS,
+    r"^uart_chip::transmitting::(refill 1 if|shift 3 if|shift 8 else)$": IN_JUMPS,
+}
+
+# Functions that read outside of an empty slice, as their contract allows.
+NOT_EMPTY = ["receive_some", "write_burst", "send_some", "send_piece"]
+
+# When a call breaks what a guard of the eraser is for, as Rust code over the arguments a0, a1, .. of the function: Rust has to panic then,
+# and at no other time. By the path that the eraser gives.
+PRESCALER = "{}.is_some_and(|factor| factor > 15)"
+NOT_COMPUTABLE = "({0}.frequency == 0 || {0}.baud_rate.to_integer() == 0 || %s)" % PRESCALER.format("{0}.prescaler_division_factor")
+TWO_RATES = f"a0 == 0 || a1 == 0 || {PRESCALER.format('a2')}"
+CONTRACTS = {
+    "uart_spec::baud::calc_frequency": f"{TWO_RATES} || "
+    "16 * (u128::from(a2.unwrap_or(0)) + 1) * u128::from(a0) * u128::from(a1) >= 1 << 32",
+    "uart_spec::baud::calc_baud_rate": TWO_RATES,
+    "uart_spec::baud::calc_divisor": TWO_RATES,
+    "uart_spec::config::Config::nearest": NOT_COMPUTABLE.format("a0"),
+    "uart_spec::dump::ConfigRegisterDump::baud_rate": "(a0.dll != 0 || a0.dlm != 0) && "
+    f"(a1.frequency == 0 || {PRESCALER.format('a1.prescaler_division_factor')})",
+    "uart_spec::registers::prescaler_division::PSD::set_pdf": "a1 > 15",
+    "uart_16550::driver::init::Uart16550::init": NOT_COMPUTABLE.format("a1"),
+    "uart_16550::driver::frame::Uart16550::set_frame": NOT_COMPUTABLE.format("a1"),
+    "uart_16550::tty::Uart16550Tty::start": NOT_COMPUTABLE.format("a1"),
+    "uart_16550::tty::Uart16550Tty::new_with_backend": NOT_COMPUTABLE.format("a1"),
+    "uart_16550::tty::Uart16550Tty::new_port": f"{NOT_COMPUTABLE.format('a2')} && Uart16550::new_port(a0, a1).is_ok()",
+    "uart_16550::tty::Uart16550Tty::new_mmio": f"{NOT_COMPUTABLE.format('a3')} && Uart16550::new_mmio(a0, a1, a2).is_ok()",
+    "uart_16550::tty::Uart16550Tty::new_mmio_from_address": f"{NOT_COMPUTABLE.format('a3')} && Uart16550::new_mmio(a0, a1, a2).is_ok()",
+    **{f"uart_16550::{path}": "a1 >= 8" for path in ("pio::PioBackend::port", "pio::PioBackend::read", "pio::PioBackend::write")},
+    **{f"uart_16550::{path}": "a1 >= 8" for path in ("mmio::MmioBackend::address", "mmio::MmioBackend::read", "mmio::MmioBackend::write")},
+    "uart_live::live::LiveChip::read": "a1 >= 8",
+    "uart_live::live::LiveChip::write": "a1 >= 8",
+    "uart_live::live::LiveChip::send_at_once": "!a0.sends_at_once()",
+    "uart_virtual::port::VirtualPort::read": "a1 >= 8",
+    "uart_virtual::port::VirtualPort::write": "a1 >= 8",
+    "uart_virtual::port::write": "a1 >= 8",
+    "uart_virtual::port::write_slowly": "a1 >= 8",
+}
+
+# Constructors of the types whose calls are also compared in sequence. Beside the public methods, a sequence has these steps, in Rust and in
+# the MIR, where a name in braces is that of the translated function.
+SEQUENCES = {
+    "uart_16550::driver::Uart16550::new_with_backend": [],
+    "uart_ring::ring::Uart16550Ring::new": [],
+    "uart_live::live::LiveChip::new": [
+        (
+            "if let Ok(made) = LiveChip::from_data(&state.data(), state.wire()) { state = made; }",
+            "let mut data = {uart_live::live::LiveChip::data}(&raw mut state as *mut u8); "
+            "let wire = {uart_live::live::LiveChip::wire}(&raw mut state as *mut u8); "
+            "let made = {uart_live::live::LiveChip::from_data}(&raw mut data as *mut u8, wire); "
+            "if made.v0.f0 == 0 { state = made.v0.f1; }",
+        ),
+    ],
+    "uart_virtual::port::VirtualPort::new": [],
+}
+STEPS = 60

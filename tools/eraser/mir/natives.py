@@ -1,0 +1,81 @@
+"""What the MIR calls and what is not in it: the device, what is printed, and memory. Each entry is by the implementation of a trait and the
+index of its method, or by the name of a function: the types of the arguments, the type of the result, and the body."""
+
+DEVICE = ("Named", "Device", ())
+ERROR = ("Named", "core::fmt::Error", ())
+
+
+def ok(translation, value, error, text):
+    """The text of `Ok`."""
+    result = translation.rust(("Named", "core::result::Result", (value, error)))
+    return result, f"{result} {{ v0: {result}v0 {{ f0: 0, f1: {text} }} }}"
+
+
+def access(bits, kind):
+    """The two methods of a trait by which a driver reads and writes."""
+
+    def read(translation, types):
+        return ["P", f"u{bits}"], "u8", f"crate::run::read(a2 as u64, crate::run::{kind})"
+
+    def write(translation, types):
+        return ["P", f"u{bits}", "u8"], "()", f"crate::run::write(a2 as u64, a3, crate::run::{kind})"
+
+    return [read, write]
+
+
+def write_str(translation, types):
+    text = translation.rust(("Struct", "&[]", (("Ref", ("Int", 8)), ("Int", 64))))
+    result, done = ok(translation, "Unit", ERROR, "()")
+    failed = f"{result} {{ v1: {result}v1 {{ f0: 1, f1: {translation.rust(ERROR)} {{ }} }} }}"
+    return ["P", text], result, f"if crate::run::print_at(a2.f0, a2.f1) {{ {done} }} else {{ {failed} }}"
+
+
+def allocate(translation, types):
+    result, done = ok(translation, "Ptr", ("Named", "core::alloc::AllocError", ()), "crate::run::memory(a2)")
+    return ["P", "u64", "u64"], result, f'assert!(a2 <= 1 << 20, "no such memory"); {done}'
+
+
+def free(translation, types):
+    return ["P", "P", "u64", "u64"], "()", ""
+
+
+def clone(translation, types):
+    device = translation.rust(DEVICE)
+    result, done = ok(translation, DEVICE, ("Named", "core::alloc::AllocError", ()), f"{device} {{ }}")
+    return ["P"], result, done
+
+
+def equal(translation, types):
+    return ["P", "P"], "bool", "true"
+
+
+def partial_cmp(translation, types):
+    ordering = ("Named", "core::cmp::Ordering", ())
+    result, inner = translation.rust(("Named", "core::option::Option", (ordering,))), translation.rust(ordering)
+    return ["P", "P"], result, f"{result} {{ v1: {result}v1 {{ f0: 1, f1: {inner} {{ v1: {inner}v1 {{ f0: 1 }} }} }} }}"
+
+
+# The traits that a device has, as a parameter of the driver: the trait, and the name of its implementation here.
+TRAITS = {
+    "uart_spec::backend::Backend": access(8, "REGISTERS"),
+    "uart_16550::backend::PortAccess": access(16, "PORTS"),
+    "uart_16550::backend::ByteAccess": access(64, "MEMORY"),
+    "core::fmt::Write": [write_str],
+    "core::clone::Clone": [clone],
+    "core::cmp::PartialEq": [equal],
+    "core::cmp::PartialOrd": [partial_cmp],
+}
+NATIVES = {
+    ("std_heap::GlobalAllocator", 0): allocate,
+    ("std_heap::GlobalAllocator", 1): free,
+    **{(f"of a device: {trait}", order): one for trait, methods in TRAITS.items() for order, one in enumerate(methods)},
+}
+
+
+def dictionary(trait, types):
+    """The implementation of a trait for the device, or for what a function owns."""
+    if trait in TRAITS:
+        return (f"of a device: {trait}", (), ())
+    if trait.endswith("marker::Destruct"):
+        return ("Destruct of nothing", types, ())
+    return None

@@ -1,0 +1,348 @@
+"""Pairs each emitted function with its MIR, and writes what compares the two: Rust text, behind the file of the function."""
+import dataclasses
+import json
+import re
+
+import emitted
+import listed
+import natives
+from translate import Unknown
+from values import without_lifetimes
+
+DEVICE = "crate::run::Device"
+# The methods of derived traits, and how many values of the type they take.
+DERIVED = {"PartialEq": ("eq", 2), "Ord": ("cmp", 2), "PartialOrd": ("partial_cmp", 2), "Default": ("default", 0), "Clone": ("clone", 1)}
+PRINTED = {"Debug": ["{:?}", "{:#?}"], "Display": ["{}"]}
+WORDS = "::std::vec::Vec::new()"
+# What is checked of an offset: a sequence has only offsets of registers.
+OF_OFFSET = "a1 >= 8"
+DECLARATION = "a declaration"
+
+
+@dataclasses.dataclass
+class Argument:
+    """An argument on both sides: the statements that make it, how it is passed, and what is shown of it behind the call."""
+
+    rust: str
+    mir: str
+    rust_passed: str
+    mir_passed: str
+    is_changed: bool = False
+
+
+class Pairs:
+    """The emitted functions with their MIR. `texts` has what is put behind each file, `calls` what runs it."""
+
+    def __init__(self, declared, translation, crates):
+        self.declared, self.translation, self.crates = declared, translation, crates
+        self.texts, self.calls, self.compared, self.skipped, self.unpaired = {}, [], {}, {}, []
+        self.pairs, self.methods, self.paths = {}, {}, set()
+        self.by_end = {}
+        for name in translation.program.functions:
+            if name.split("::")[0] in crates:
+                self.by_end.setdefault(name.split("::")[-1], []).append(name)
+        for function in declared.functions:
+            name = self.name_in_mir(function)
+            if name is None or name in self.pairs:
+                self.unpaired.append(self.title(function))
+            else:
+                self.pairs[name] = function
+        self.functions()
+        self.derived()
+        self.printed()
+        self.sequences()
+
+    @staticmethod
+    def title(function):
+        owner = f"{function.trait} for {function.owner}" if function.trait and function.owner else function.trait or function.owner
+        return "::".join(one for one in (function.module, re.sub(r"\s+", " ", owner), function.name) if one)
+
+    # Names.
+
+    def name_in_mir(self, function):
+        """The name of the MIR of an emitted function, or None."""
+        functions = self.translation.program.functions
+        if not function.owner:
+            name = "::".join(one for one in (function.module, function.trait, function.name) if one)
+            return next((one for one in (name, f"{name}+decl") if one in functions), None)
+        owner = re.match(r"[\w:]+", re.sub(r"^&(mut )?", "", function.owner))[0].split("::")[-1]
+        crate = function.module.split("::")[0] + "::"
+        found = [one for one in self.by_end.get(function.name, []) if one.startswith(crate)]
+        if function.trait:
+            path = re.match(r"(?:::)?[\w:]+", function.trait)[0].split("::")[-1]
+            arguments = "".join(re.findall(r"\w+", function.trait[function.trait.find("<") :])) if "<" in function.trait else ""
+            ends = {f"{owner}{path}", f"{owner}{path}{arguments}"}
+            return next((one for one in found if one.split("::")[-2] in ends), None)
+        found = [one for one in found if one.split("::")[-2] == owner or one.split("::")[-2].startswith(f"{owner}+")]
+        inner = re.search(r"<(.*)>", function.owner)
+        if len(found) > 1 and inner:
+            is_nested = "<" in inner[1]
+            head = re.match(r"\w+", inner[1])[0]
+            found = [one for one in found if ("+" in one.split("::")[-2]) == is_nested and (not is_nested or head in one)]
+        if len(found) > 1:
+            found = [one for one in found if one.startswith(function.module + "::")] or found
+        return found[0] if len(found) == 1 else None
+
+    # Arguments.
+
+    def put(self, file, text):
+        self.texts.setdefault(file, []).append(text)
+
+    def over_device(self, function, text):
+        """A type of a signature, with the device for each parameter that is a way to reach one."""
+        text = without_lifetimes(text)
+        for name in re.findall(r"(\w+)\s*:\s*[\w:]*(?:Backend|PortAccess|ByteAccess)\b", function.generics):
+            text = re.sub(rf"\b{name}\b", DEVICE, text)
+        return text
+
+    def argument(self, order, text, of, least):
+        """One argument, of this type in the signature, and of this type in the MIR."""
+        rust = self.translation.rust
+        name, slot = f"a{order}", f"let mut a{order}"
+        slice_of = re.fullmatch(r"&(mut )?(?:\[(.*)\]|str)", text)
+        if slice_of:
+            if of[0] != "Struct" or of[1] not in ("&[]", "&str"):
+                raise Unknown(f"{text} is {of} in the MIR")
+            pass_to = f"crate::mir::{rust(of)} {{ f0: {name}.as_mut_ptr() as *mut u8, f1: {name}.len() as u64 }}"
+            is_changed = bool(slice_of[1])
+            if text == "&str":
+                make = f"{slot} = choices.text();"
+                return Argument(make, make, f"core::str::from_utf8(&{name}).unwrap()", pass_to)
+            if slice_of[2] == "u8":
+                make = f"{slot} = choices.bytes({least});"
+                return Argument(make, make, f"&{'mut ' if is_changed else ''}{name}[..]", pass_to, is_changed)
+            item = self.translation.rust_outside(of[2][0][1])
+            mine, theirs = (f"{slot}: ::std::vec::Vec<{one}> = choices.list({least});" for one in (slice_of[2], item))
+            return Argument(mine, theirs, f"&{'mut ' if is_changed else ''}{name}[..]", pass_to, is_changed)
+        if text.startswith("Global"):
+            zeroed = f"{slot}: {self.translation.rust_outside(of)} = core::mem::zeroed();"
+            return Argument("", zeroed, "crate::queue::Global::heap()", name)
+        reference = re.fullmatch(r"&(mut )?(.*)", text, re.DOTALL)
+        if reference:
+            if of[0] != "Ref":
+                raise Unknown(f"{text} is {of} in the MIR")
+            text, of = reference[2], of[1]
+        mine, theirs = f"{slot}: {text} = Value::make(choices);", f"{slot}: {self.translation.rust_outside(of)} = Value::make(choices);"
+        if not reference:
+            return Argument(mine, theirs, name, name)
+        return Argument(mine, theirs, f"&{reference[1] or ''}{name}", f"&raw mut {name} as *mut u8", bool(reference[1]))
+
+    def arguments(self, name, texts, types):
+        least = 1 if name.split("::")[-1] in listed.NOT_EMPTY else 0
+        return [self.argument(order, text, of, least) for order, (text, of) in enumerate(zip(texts, types))]
+
+    def instance(self, name):
+        """The translated function over a device, the types of its parameters, and that of its result."""
+        function = self.translation.program.functions[name]
+        types = tuple(natives.DEVICE for _ in function["generics"]["types"])
+        dictionaries = []
+        for bound in function["generics"]["bounds"]:
+            found = natives.dictionary(bound["of"], tuple(self.translation.type(one, types) for one in bound["types"]))
+            if found is None:
+                raise Unknown(f"the bound {bound['of']}")
+            dictionaries.append(found)
+        locals_ = [self.translation.type(one["ty"], types) for one in function["locals"][: function["params"] + 1]]
+        return self.translation.instance(name, types, tuple(dictionaries)), locals_[1:], locals_[0]
+
+    def shown(self, of, name):
+        """The statement that shows a result of the MIR."""
+        if name.endswith("Clone::clone"):
+            return 'match result.v0.f0 { 0 => Value::show(&{ result.v0.f1 }, &mut out), _ => panic!("no memory") }'
+        if of[0] == "Ref":
+            return f"Value::show(&*(result as *const {self.translation.rust_outside(of[1])}), &mut out);"
+        return "Value::show(&result, &mut out);"
+
+    # Comparisons.
+
+    def compare(self, title, name, file, texts, call, path=None):
+        """Writes a comparison. `texts` has the types of the arguments as the signature has them, `call` gives the call of such arguments."""
+        function, types, result = self.instance(name)
+        if len(types) != len(texts):
+            raise Unknown(f"{len(types)} arguments in the MIR, {len(texts)} emitted")
+        listing = self.arguments(name, texts, types)
+        breaks = listed.CONTRACTS.get(path)
+        self.paths.add(path)
+        mine, theirs = (" ".join(getattr(one, side) for one in listing) for side in ("rust", "mir"))
+        changed = " ".join(f"Value::show(&a{order}, &mut out);" for order, one in enumerate(listing) if one.is_changed)
+        called = call([one.rust_passed for one in listing])
+        broken = f"|choices| {{ {mine} {breaks} }}" if breaks else "|_| false"
+        passed = ", ".join(one.mir_passed for one in listing)
+        order = len(self.compared)
+        self.put(
+            file,
+            f"#[allow(warnings)] pub fn compare_{order}(run: &mut crate::run::Run) {{ use crate::run::Value; "
+            f"run.compare({json.dumps(title)}, crate::run::With::{'Device' if DEVICE in ' '.join(texts) else 'Nothing'}, {broken}, "
+            f"|choices| {{ {mine} let result = {called}; let mut out = {WORDS}; Value::show(&result, &mut out); {changed} out }}, "
+            f"|choices| unsafe {{ {theirs} let result = crate::mir::{function}({passed}); let mut out = {WORDS}; "
+            f"{self.shown(result, name)} {changed} out }}); }}",
+        )
+        self.compared[title] = name
+        self.calls.append(f"crate::proved::{self.declared.modules[file]}::compare_{order}(run);")
+
+    def skip(self, title, why):
+        self.skipped[title] = str(why)
+
+    def functions(self):
+        for name, function in self.pairs.items():
+            try:
+                self.one(name, function)
+            except (Unknown, KeyError) as cause:
+                self.skip(name, cause)
+
+    def one(self, name, function):
+        if name.endswith("+decl"):
+            raise Unknown(DECLARATION)
+        if re.search(r"impl |Formatter|dyn ", " ".join([*function.parameters, function.result])):
+            raise Unknown("printed or generic")
+        owner = self.over_device(function, function.owner)
+        texts = []
+        for parameter in function.parameters:
+            receiver = re.fullmatch(r"(&(?:'\w+ )?(?:mut )?)?(?:mut )?self", parameter)
+            text = f"{receiver[1] or ''}Self" if receiver else parameter.split(":", 1)[1].strip()
+            texts.append(self.over_device(function, text.replace("Self", owner)))
+        if any(re.search(r"\b[A-Z]\b", text) for text in [owner, *texts]):
+            raise Unknown("generic")
+        trait = self.over_device(function, function.trait)
+        path = f"<{owner} as {trait}>::" if trait else f"<{owner}>::" if owner else ""
+        self.compare(name, name, function.file, texts, lambda passed: f"{path}{function.name}({', '.join(passed)})", function.path())
+        is_method = texts and owner and texts[0] in (f"&{owner}", f"&mut {owner}")
+        if is_method and function.is_public and listed.CONTRACTS.get(function.path(), OF_OFFSET) == OF_OFFSET:
+            self.methods.setdefault(owner, []).append((name, function, texts, path))
+
+    def derived(self):
+        for one in self.declared.types:
+            for trait in one.derives:
+                method, count = DERIVED.get(trait, (None, 0))
+                name = f"{one.module}::{one.name}{trait}::{method}"
+                if method is None:
+                    continue
+                if trait == "Clone" and "Copy" in one.derives:
+                    # rustc derives a copy
+                    continue
+                if name not in self.translation.program.functions:
+                    self.skip(name, "derived, and not in the MIR")
+                    continue
+                path = {"Clone": "Clone", "Default": "::core::default::Default"}.get(trait, f"::core::cmp::{trait}")
+                of = one.over(DEVICE)
+                try:
+                    call = f"<{of} as {path}>::{method}"
+                    self.compare(name, name, one.file, [f"&{of}"] * count, lambda passed, call=call: f"{call}({', '.join(passed)})")
+                except (Unknown, KeyError) as cause:
+                    self.skip(name, cause)
+
+    def printed(self):
+        for one in self.declared.types:
+            for trait, form in ((trait, form) for trait, forms in PRINTED.items() for form in forms):
+                name = f"{one.module}::{one.name}{trait}::fmt"
+                title = f"{name} {form}"
+                is_here = trait in one.derives or name in self.pairs
+                try:
+                    if name in self.translation.program.functions:
+                        self.print_one(one, name, title, form)
+                    elif is_here:
+                        raise Unknown("derived, and not in the MIR")
+                except (Unknown, KeyError) as cause:
+                    self.skip(title, cause)
+
+    def print_one(self, one, name, title, form):
+        if one.parameters:
+            raise Unknown("printed and generic")
+        function, types, _ = self.instance(name)
+        new = "core::fmt::formatter::Formatter::new"
+        bounds = self.translation.program.functions[new]["generics"]["bounds"]
+        given = tuple(natives.dictionary(bound["of"], (natives.DEVICE,)) for bound in bounds)
+        formatter = self.translation.instance(new, (natives.DEVICE,), given)
+        alternate = "formatter.f1.f3 = true;" if "#" in form else ""
+        order = len(self.compared)
+        self.put(
+            one.file,
+            f"#[allow(warnings)] pub fn compare_{order}(run: &mut crate::run::Run) {{ use crate::run::Value; "
+            f"run.compare({json.dumps(title)}, crate::run::With::Writer, |_| false, "
+            f"|choices| {{ let value: {one.name} = Value::make(choices); let mut writer = crate::run::Writer::make(choices); "
+            f'let is_whole = ::core::fmt::Write::write_fmt(&mut writer, format_args!("{form}", value)).is_ok(); '
+            f"let mut out = {WORDS}; is_whole.show(&mut out); writer.written().show(&mut out); out }}, "
+            f"|choices| unsafe {{ let mut value: {self.translation.rust_outside(types[0][1])} = Value::make(choices); "
+            f"let writer = crate::run::Writer::make(choices); "
+            f"let mut formatter = crate::mir::{formatter}(Value::make(choices)); {alternate} "
+            f"let result = crate::mir::{function}(&raw mut value as *mut u8, &raw mut formatter as *mut u8); "
+            f"let mut out = {WORDS}; (result.v0.f0 == 0).show(&mut out); writer.written().show(&mut out); out }}); }}",
+        )
+        self.compared[title] = name
+        self.calls.append(f"crate::proved::{self.declared.modules[one.file]}::compare_{order}(run);")
+
+    # Sequences.
+
+    def sequences(self):
+        """Writes a comparison of sequences of calls for each type that has a constructor in the list."""
+        for constructor in listed.SEQUENCES:
+            if constructor in self.pairs:
+                self.sequence(constructor)
+
+    def sequence(self, constructor):
+        function = self.pairs[constructor]
+        owner = self.over_device(function, function.owner)
+        texts = [self.over_device(function, one.split(":", 1)[1].strip().replace("Self", owner)) for one in function.parameters]
+        new, types, made = self.instance(constructor)
+        listing = self.arguments(constructor, texts, types)
+        is_result = made[0] == "Named" and made[1] == "core::result::Result"
+        state = made[2][0] if is_result else made
+        rust_steps, mir_steps = [], []
+        for order, (name, method, step_texts, path) in enumerate(self.methods[owner]):
+            rust_steps.append(f"{order} => {{ {self.step(name, method, step_texts, path, owner, True)} }}")
+            mir_steps.append(f"{order} => {{ {self.step(name, method, step_texts, path, owner, False)} }}")
+        for mine, theirs in listed.SEQUENCES[constructor]:
+            rust_steps.append(f"{len(rust_steps)} => {{ {mine} }}")
+            theirs = re.sub(r"\{([\w:]+)\}", lambda found: f"crate::mir::{self.instance(found[1])[0]}", theirs)
+            mir_steps.append(f"{len(mir_steps)} => {{ {theirs} }}")
+        count, title = len(rust_steps), f"sequences of {constructor.rsplit('::', 1)[0]}"
+        mine, theirs = (" ".join(getattr(one, side) for one in listing) for side in ("rust", "mir"))
+        call = f"<{owner}>::{function.name}({', '.join(one.rust_passed for one in listing)})"
+        passed = ", ".join(one.mir_passed for one in listing)
+        opened, failed = f"let made = {call};", f"let made = crate::mir::{new}({passed});"
+        if is_result:
+            opened = f"let made = match {call} {{ Ok(made) => made, Err(error) => {{ Value::show(&error, &mut out); return out; }} }};"
+            error = self.translation.rust_outside(made)
+            failed = (
+                f"let made: {error} = crate::mir::{new}({passed}); if made.v0.f0 != 0 {{ Value::show(&{{ made.v1.f1 }}, &mut out); "
+                "return out; } let made = made.v0.f1;"
+            )
+        turns = f"for _ in 0..{listed.STEPS} {{ match choices.pick({count}) {{"
+        order = len(self.compared)
+        self.put(
+            function.file,
+            f"#[allow(warnings)] pub fn compare_{order}(run: &mut crate::run::Run) {{ use crate::run::Value; "
+            f"run.sequences({json.dumps(title)}, "
+            f"|choices| {{ let mut out = {WORDS}; {mine} {opened} let mut state = made; "
+            f"{turns} {' '.join(rust_steps)} _ => panic!() }} }} Value::show(&state, &mut out); out }}, "
+            f"|choices| unsafe {{ let mut out = {WORDS}; {theirs} {failed} "
+            f"let mut state: {self.translation.rust_outside(state)} = made; "
+            f"{turns} {' '.join(mir_steps)} _ => panic!() }} }} Value::show(&state, &mut out); out }}); }}",
+        )
+        self.compared[title] = constructor
+        self.calls.append(f"crate::proved::{self.declared.modules[function.file]}::compare_{order}(run);")
+
+    def step(self, name, method, texts, path, owner, is_rust):
+        """One call of a sequence on one side: a helper in the file of the method, and the call of it."""
+        order = f"{'rust' if is_rust else 'mir'}_step_{len(self.compared)}_{name.replace('::', '_').replace('+', '_')}"
+        function, types, result = self.instance(name)
+        listing = self.arguments(name, texts, types)[1:]
+        side = "rust" if is_rust else "mir"
+        made = " ".join(getattr(one, side) for one in listing)
+        for at, parameter in enumerate(method.parameters[1:], 1):
+            if re.match(r"(register_)?offset\s*:", parameter):
+                made = made.replace(f"let mut a{at}: ", f"let mut a{at} = choices.offset() as ", 1).replace(" = Value::make(choices)", "", 1)
+        changed = " ".join(f"Value::show(&a{at}, out);" for at, one in enumerate(listing, 1) if one.is_changed)
+        words = "::std::vec::Vec<u64>"
+        if is_rust:
+            kind = texts[0][: -len(owner)]
+            passed = ", ".join(["state", *(one.rust_passed for one in listing)])
+            body = f"let result = {path}{method.name}({passed}); Value::show(&result, out);"
+            head = f"pub fn {order}(state: {kind}{owner}, choices: &mut crate::run::Choices, out: &mut {words})"
+        else:
+            passed = ", ".join(["state", *(one.mir_passed for one in listing)])
+            shown = self.shown(result, name).replace("&mut out", "out")
+            body = f"let result = crate::mir::{function}({passed}); {shown}"
+            head = f"pub unsafe fn {order}(state: *mut u8, choices: &mut crate::run::Choices, out: &mut {words})"
+        self.put(method.file, f"#[allow(warnings)] {head} {{ use crate::run::Value; unsafe {{ {made} {body} {changed} }} }}")
+        state = f"{texts[0][: -len(owner)]}state" if is_rust else "&raw mut state as *mut u8"
+        return f"crate::proved::{self.declared.modules[method.file]}::{order}({state}, choices, &mut out);"

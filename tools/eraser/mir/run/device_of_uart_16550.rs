@@ -1,0 +1,27 @@
+
+impl crate::native::backend::Backend for Device {
+    fn read(&mut self, offset: u8) -> u8 {
+        read(u64::from(offset), REGISTERS)
+    }
+    fn write(&mut self, offset: u8, value: u8) {
+        write(u64::from(offset), value, REGISTERS);
+    }
+}
+
+impl crate::native::backend::PortAccess for Device {
+    fn port_in(&mut self, port: u16) -> u8 {
+        read(u64::from(port), PORTS)
+    }
+    fn port_out(&mut self, port: u16, value: u8) {
+        write(u64::from(port), value, PORTS);
+    }
+}
+
+impl crate::native::backend::ByteAccess for Device {
+    fn load(&mut self, address: usize) -> u8 {
+        read(address as u64, MEMORY)
+    }
+    fn store(&mut self, address: usize, value: u8) {
+        write(address as u64, value, MEMORY);
+    }
+}

@@ -1,0 +1,703 @@
+//! Runs emitted functions and the proved MIR of them on the same choices, and compares what they do.
+//!
+//! Whatever a case depends on is a choice: each argument, each field of a value, each answer of the device. Both sides take their choices
+//! from one path, so that they get the same values; and a path can be repeated, changed at its end, and printed.
+
+use crate::numbers::NUMBERS;
+use std::{
+    any::Any, boxed::Box, cell::RefCell, collections::VecDeque, format, panic::AssertUnwindSafe, panic::catch_unwind, panic::resume_unwind,
+    print, println, string::String, sync::atomic::AtomicBool, sync::atomic::AtomicU64, sync::atomic::Ordering, vec::Vec,
+};
+
+/// How choices are made.
+#[derive(Clone, Copy, PartialEq)]
+enum Mode {
+    /// One after the other, until all have been made.
+    All,
+    /// The answers of the device one after the other, all else at random.
+    Answers,
+    Random,
+}
+
+/// The choices of a case. Each is a number below a bound.
+pub struct Choices {
+    path: Vec<(u64, u64)>,
+    at: usize,
+    random: u64,
+    rate: u64,
+    mode: Mode,
+    answers: usize,
+    is_text: bool,
+}
+
+/// Answers of a device that mean something to the driver, or are the bits of a register.
+const ANSWERS: [u8; 20] =
+    [0, 1, 2, 4, 6, 8, 0x0c, 0x10, 0x1e, 0x20, 0x40, 0x60, 0x61, 0x80, 0x9e, 0xc1, 0xff, 0x55, 0xaa, 0xb0];
+const RATES: [u64; 6] = [50, 300, 9600, 115_200, 1, 2];
+
+impl Choices {
+    fn new(mode: Mode, seed: u64) -> Self {
+        Self { path: Vec::new(), at: 0, random: seed | 1, rate: 0, mode, answers: 0, is_text: false }
+    }
+
+    fn next_random(&mut self) -> u64 {
+        self.random ^= self.random << 13;
+        self.random ^= self.random >> 7;
+        self.random ^= self.random << 17;
+        self.random.wrapping_mul(0x2545_F491_4F6C_DD1D) >> 11
+    }
+
+    fn choose(&mut self, bound: u64, is_fixed: bool) -> u64 {
+        if let Some((choice, _)) = self.path.get(self.at) {
+            self.at += 1;
+            return *choice;
+        }
+        let is_random = is_fixed || self.mode == Mode::Random;
+        let choice = if is_random { (u128::from(self.next_random()) * u128::from(bound) >> 53) as u64 } else { 0 };
+        self.path.push((choice, if is_fixed { choice + 1 } else { bound }));
+        self.at += 1;
+        choice
+    }
+
+    /// Returns a number below this bound.
+    pub fn pick(&mut self, bound: u64) -> u64 {
+        self.choose(bound, self.mode == Mode::Answers)
+    }
+
+    /// Returns one of these.
+    pub fn one_of<T: Copy>(&mut self, values: &[T]) -> T {
+        values[self.pick(values.len() as u64) as usize]
+    }
+
+    fn answer(&mut self) -> u8 {
+        if self.mode == Mode::Random && self.choose(2, false) == 0 {
+            return self.choose(256, false) as u8;
+        }
+        ANSWERS[self.choose(ANSWERS.len() as u64, false) as usize]
+    }
+
+    /// Returns a number of so many bits: all of 16 bits, if all choices are made; else one that the text has or that is next to it, a small
+    /// one, any one, or a rate or clock that may divide by the last rate.
+    pub fn number(&mut self, bits: u32) -> u64 {
+        let most = u64::MAX >> (64 - bits);
+        if self.mode == Mode::All {
+            return if bits <= 16 { self.pick(1 << bits) } else { self.one_of(&NUMBERS) & most };
+        }
+        if bits >= 32 && self.pick(2) == 0 {
+            return self.of_rate() & most;
+        }
+        match self.pick(4) {
+            0 => self.one_of(&NUMBERS) & most,
+            1 => self.pick(24),
+            2 => self.pick(300) & most,
+            _ => (self.pick(1 << 32) | self.pick(1 << 32) << 32) & most,
+        }
+    }
+
+    fn of_rate(&mut self) -> u64 {
+        if self.rate == 0 || self.pick(2) == 1 {
+            self.rate = if self.pick(4) == 0 { self.one_of(&NUMBERS) } else { self.one_of(&RATES) };
+        }
+        let factor = match self.pick(6) {
+            0 => 65_535,
+            1 => 65_534,
+            2 => 65_536,
+            3 => 1,
+            _ => 1 + self.pick(40),
+        };
+        match self.pick(3) {
+            0 => self.rate,
+            1 => self.rate.wrapping_mul(16 * factor),
+            _ => self.rate.wrapping_mul(16 * factor * (1 + self.pick(16))),
+        }
+    }
+
+    /// Returns how many items a list has.
+    fn length(&mut self) -> u64 {
+        if self.mode == Mode::All {
+            return self.pick(4);
+        }
+        match self.pick(3) {
+            0 => self.pick(4),
+            1 => self.pick(24),
+            _ => self.pick(300),
+        }
+    }
+
+    /// Returns values for a slice of at least so many.
+    pub fn list<T: Value>(&mut self, least: u64) -> Vec<T> {
+        let count = self.length().max(least);
+        (0..count).map(|_| T::make(self)).collect()
+    }
+
+    /// Returns bytes for a slice of at least so many.
+    pub fn bytes(&mut self, least: u64) -> Vec<u8> {
+        let (count, is_all) = (self.length().max(least), self.mode == Mode::All);
+        (0..count).map(|at| if is_all { (at as u8).wrapping_mul(37) + self.pick(2) as u8 } else { self.pick(256) as u8 }).collect()
+    }
+
+    /// Returns the bytes of a text, one of four a line end.
+    pub fn text(&mut self) -> Vec<u8> {
+        self.bytes(0).into_iter().map(|byte| if byte % 4 == 0 { b'\n' } else { byte & 0x7f }).collect()
+    }
+
+    /// Returns an offset of a register.
+    pub fn offset(&mut self) -> u64 {
+        self.pick(8)
+    }
+
+    /// Goes to the start of the case.
+    fn start(&mut self) {
+        self.at = 0;
+        self.rate = 0;
+        self.is_text = false;
+    }
+
+    /// Goes to the next case. Returns whether there is one.
+    fn advance(&mut self) -> bool {
+        self.at = 0;
+        if self.mode == Mode::Random {
+            self.path.clear();
+            return true;
+        }
+        while let Some((choice, bound)) = self.path.pop() {
+            if choice + 1 < bound {
+                self.path.push((choice + 1, bound));
+                return true;
+            }
+        }
+        false
+    }
+}
+
+/// A value of the emitted crate or of the MIR, as words. The same value has the same words, and is made of the same choices.
+pub trait Value {
+    fn show(&self, out: &mut Vec<u64>);
+
+    fn make(_choices: &mut Choices) -> Self
+    where
+        Self: Sized,
+    {
+        panic!("a value that is only shown")
+    }
+}
+
+macro_rules! numbers {
+    ($($number:ty: $bits:expr),*) => {
+        $(impl Value for $number {
+            fn show(&self, out: &mut Vec<u64>) { out.push(*self as u64) }
+            fn make(choices: &mut Choices) -> Self { choices.number($bits) as $number }
+        })*
+    };
+}
+numbers!(u16: 16, u32: 32, u64: 64, usize: 64);
+
+impl Value for u8 {
+    fn show(&self, out: &mut Vec<u64>) {
+        out.push(u64::from(*self));
+    }
+    fn make(choices: &mut Choices) -> Self {
+        if choices.is_text {
+            return b' ' + choices.pick(95) as u8;
+        }
+        if choices.mode != Mode::All && choices.pick(2) == 0 { choices.one_of(&ANSWERS) } else { choices.pick(256) as u8 }
+    }
+}
+
+impl Value for u128 {
+    fn show(&self, out: &mut Vec<u64>) {
+        out.extend([*self as u64, (*self >> 64) as u64]);
+    }
+    fn make(choices: &mut Choices) -> Self {
+        u128::from(choices.number(64))
+    }
+}
+
+impl Value for bool {
+    fn show(&self, out: &mut Vec<u64>) {
+        out.push(u64::from(*self));
+    }
+    fn make(choices: &mut Choices) -> Self {
+        choices.pick(2) != 0
+    }
+}
+
+impl Value for () {
+    fn show(&self, _: &mut Vec<u64>) {}
+    fn make(_: &mut Choices) -> Self {}
+}
+
+/// A reference of the MIR in a struct: who shows the struct shows what it points to.
+impl Value for *mut u8 {
+    fn show(&self, _: &mut Vec<u64>) {}
+}
+
+impl<T: Value + ?Sized> Value for &T {
+    fn show(&self, out: &mut Vec<u64>) {
+        (**self).show(out);
+    }
+}
+
+impl<T: Value + ?Sized> Value for &mut T {
+    fn show(&self, out: &mut Vec<u64>) {
+        (**self).show(out);
+    }
+}
+
+impl<T: Value> Value for [T] {
+    fn show(&self, out: &mut Vec<u64>) {
+        out.push(self.len() as u64);
+        self.iter().for_each(|one| one.show(out));
+    }
+}
+
+impl<T: Value> Value for Vec<T> {
+    fn show(&self, out: &mut Vec<u64>) {
+        self[..].show(out);
+    }
+}
+
+impl Value for str {
+    fn show(&self, out: &mut Vec<u64>) {
+        self.as_bytes().show(out);
+    }
+}
+
+macro_rules! not_zero {
+    ($($number:ty: $inner:ty),*) => {
+        $(impl Value for $number {
+            fn show(&self, out: &mut Vec<u64>) { out.push(self.get() as u64) }
+            fn make(choices: &mut Choices) -> Self { Self::new(<$inner>::make(choices).max(1)).unwrap() }
+        })*
+    };
+}
+not_zero!(core::num::NonZeroU8: u8, core::num::NonZeroU64: u64, core::num::NonZeroUsize: usize);
+
+impl Value for core::fmt::Error {
+    fn show(&self, _: &mut Vec<u64>) {}
+    fn make(_: &mut Choices) -> Self {
+        Self
+    }
+}
+
+impl Value for core::cmp::Ordering {
+    fn show(&self, out: &mut Vec<u64>) {
+        out.push((*self as i8 + 1) as u64);
+    }
+    fn make(choices: &mut Choices) -> Self {
+        choices.one_of(&[Self::Less, Self::Equal, Self::Greater])
+    }
+}
+
+impl<T: Value> Value for Option<T> {
+    fn show(&self, out: &mut Vec<u64>) {
+        out.push(u64::from(self.is_some()));
+        self.iter().for_each(|one| one.show(out));
+    }
+    fn make(choices: &mut Choices) -> Self {
+        if choices.pick(2) == 0 { None } else { Some(T::make(choices)) }
+    }
+}
+
+impl<T: Value, E: Value> Value for Result<T, E> {
+    fn show(&self, out: &mut Vec<u64>) {
+        out.push(u64::from(self.is_err()));
+        match self {
+            Ok(value) => value.show(out),
+            Err(error) => error.show(out),
+        }
+    }
+    fn make(choices: &mut Choices) -> Self {
+        if choices.pick(2) == 0 { Ok(T::make(choices)) } else { Err(E::make(choices)) }
+    }
+}
+
+impl<T: Value, const N: usize> Value for [T; N] {
+    fn show(&self, out: &mut Vec<u64>) {
+        self.iter().for_each(|one| one.show(out));
+    }
+    // One of four has bytes that can be printed.
+    fn make(choices: &mut Choices) -> Self {
+        choices.is_text = choices.mode != Mode::All && choices.pick(4) == 0;
+        let made = core::array::from_fn(|_| T::make(choices));
+        choices.is_text = false;
+        made
+    }
+}
+
+impl<A: Value, B: Value> Value for (A, B) {
+    fn show(&self, out: &mut Vec<u64>) {
+        self.0.show(out);
+        self.1.show(out);
+    }
+    fn make(choices: &mut Choices) -> Self {
+        (A::make(choices), B::make(choices))
+    }
+}
+
+impl<A: Value, B: Value, C: Value> Value for (A, B, C) {
+    fn show(&self, out: &mut Vec<u64>) {
+        self.0.show(out);
+        self.1.show(out);
+        self.2.show(out);
+    }
+    fn make(choices: &mut Choices) -> Self {
+        (A::make(choices), B::make(choices), C::make(choices))
+    }
+}
+
+/// Returns a queue: its capacity, which cell is the front, and its bytes.
+pub fn queue(choices: &mut Choices) -> (usize, usize, Vec<u8>) {
+    let capacity = choices.one_of(&[1usize, 2, 16, 15, 17, 64]);
+    let front = choices.pick(capacity as u64) as usize;
+    let count = match choices.pick(3) {
+        0 => 0,
+        1 => choices.pick(capacity as u64 + 1),
+        _ => capacity as u64,
+    };
+    (capacity, front, (0..count).map(|_| choices.pick(256) as u8).collect())
+}
+
+/// Returns a wire of a live chip: its slots, where it starts, how many bytes it has, and the most.
+pub fn wire(choices: &mut Choices) -> ([u8; 128], u64, u64, u64) {
+    let limit = choices.one_of(&[0u64, 1, 16, 64]);
+    let (count, start) = (choices.pick(limit + 1), choices.pick(64));
+    let mut slots = [0; 128];
+    for place in (start..start + count).map(|place| place as usize % 64) {
+        slots[place] = choices.pick(256) as u8;
+        slots[place + 64] = slots[place];
+    }
+    (slots, start, count, limit)
+}
+
+// The device. It answers by choices, and notes each access.
+
+/// A device for drivers: over registers, ports or memory.
+#[derive(Clone, Copy, Debug, PartialEq, PartialOrd)]
+pub struct Device;
+
+impl Value for Device {
+    fn show(&self, _: &mut Vec<u64>) {}
+    fn make(_: &mut Choices) -> Self {
+        Self
+    }
+}
+
+/// What is read and written, by the kind of access.
+pub const REGISTERS: u64 = 1;
+pub const PORTS: u64 = 2;
+pub const MEMORY: u64 = 3;
+const WRITES: u64 = 4;
+const MOST_ACCESSES: usize = 4000;
+
+struct Case {
+    choices: *mut Choices,
+    answers: usize,
+    accesses: Vec<u64>,
+    kind: Option<u64>,
+    queue: VecDeque<u8>,
+    kept: [u8; 8],
+    printed: Vec<u8>,
+    room: usize,
+}
+
+std::thread_local! {
+    static CASE: RefCell<Case> = const { RefCell::new(Case {
+        choices: core::ptr::null_mut(), answers: 0, accesses: Vec::new(), kind: None, queue: VecDeque::new(), kept: [0; 8],
+        printed: Vec::new(), room: usize::MAX,
+    }) };
+}
+
+/// Why a case ends: the device gives no more answers.
+struct NoAnswer;
+
+impl Case {
+    // Half of the devices at random answer with what was written, as in loopback; one of two of them sends nothing.
+    fn answer(&mut self, offset: u64) -> u8 {
+        // SAFETY: `once` puts the choices of the case here, which outlive it.
+        let choices = unsafe { &mut *self.choices };
+        if choices.mode != Mode::Random {
+            return choices.answer();
+        }
+        let kind = *self.kind.get_or_insert_with(|| choices.pick(4));
+        if kind < 2 || choices.pick(40) == 0 {
+            return choices.answer();
+        }
+        match offset & 7 {
+            0 => self.queue.pop_front().unwrap_or(0),
+            5 if kind == 2 => 0,
+            5 if self.queue.is_empty() && choices.pick(4) > 0 => 0x60,
+            5 => 0x61,
+            2 => 0xc1,
+            6 => choices.one_of(&[0xb0, 0x90, 0x10, 0xbb]),
+            other => self.kept[other as usize],
+        }
+    }
+}
+
+pub fn read(offset: u64, kind: u64) -> u8 {
+    let answer = CASE.with_borrow_mut(|case| {
+        case.answers = case.answers.checked_sub(1)?;
+        let value = case.answer(offset);
+        case.accesses.push(kind << 60 | offset << 8 | u64::from(value));
+        Some(value)
+    });
+    answer.unwrap_or_else(|| resume_unwind(Box::new(NoAnswer)))
+}
+
+pub fn write(offset: u64, value: u8, kind: u64) {
+    let count = CASE.with_borrow_mut(|case| {
+        case.accesses.push((kind | WRITES) << 60 | offset << 8 | u64::from(value));
+        if offset & 7 == 0 {
+            case.queue.push_back(value);
+        }
+        case.kept[(offset & 7) as usize] = value;
+        case.accesses.len()
+    });
+    if count > MOST_ACCESSES {
+        resume_unwind(Box::new(NoAnswer));
+    }
+}
+
+// What is printed.
+
+/// A writer, on both sides. One of four has room for some bytes alone, and then fails.
+pub struct Writer;
+
+impl Writer {
+    pub fn make(choices: &mut Choices) -> Self {
+        let room = if choices.mode != Mode::All && choices.pick(4) == 0 { choices.pick(140) as usize } else { usize::MAX };
+        CASE.with_borrow_mut(|case| case.room = room);
+        Self
+    }
+
+    /// Returns what was written.
+    pub fn written(&self) -> Vec<u8> {
+        CASE.with_borrow_mut(|case| core::mem::take(&mut case.printed))
+    }
+}
+
+impl core::fmt::Write for Writer {
+    fn write_str(&mut self, text: &str) -> core::fmt::Result {
+        if print_bytes(text.as_bytes()) { Ok(()) } else { Err(core::fmt::Error) }
+    }
+}
+
+fn print_bytes(bytes: &[u8]) -> bool {
+    CASE.with_borrow_mut(|case| {
+        let count = bytes.len().min(case.room - case.printed.len());
+        case.printed.extend_from_slice(&bytes[..count]);
+        count == bytes.len()
+    })
+}
+
+/// Prints for the MIR. Returns whether there was room.
+///
+/// # Safety
+///
+/// There are so many bytes at this address.
+pub unsafe fn print_at(start: *mut u8, count: u64) -> bool {
+    print_bytes(unsafe { core::slice::from_raw_parts(start, count as usize) })
+}
+
+// What the MIR needs to run.
+
+const CELLS: usize = 600_000;
+static mut MEMORY_OF_CASE: [u64; CELLS] = [0; CELLS];
+static USED: AtomicU64 = AtomicU64::new(0);
+static TURNS: AtomicU64 = AtomicU64::new(0);
+const MOST_TURNS: u64 = 100_000;
+const PLACES: usize = 40_000;
+static REACHED: [AtomicBool; PLACES] = [const { AtomicBool::new(false) }; PLACES];
+
+/// Returns memory for so many bytes, until the case ends.
+pub fn memory(count: u64) -> *mut u8 {
+    let start = USED.fetch_add(count / 8 + 1, Ordering::Relaxed);
+    assert!(start + count / 8 < CELLS as u64, "no memory for the MIR");
+    // SAFETY: the cell is one of the array.
+    unsafe { (&raw mut MEMORY_OF_CASE).cast::<u64>().add(start as usize).cast() }
+}
+
+/// Ends the MIR if it goes round without an end.
+#[inline]
+pub fn turn() {
+    assert!(TURNS.fetch_add(1, Ordering::Relaxed) < MOST_TURNS, "the MIR does not end");
+}
+
+/// Notes that the MIR reached a place.
+#[inline(always)]
+pub fn reach(place: usize) {
+    REACHED[place].store(true, Ordering::Relaxed);
+}
+
+// The comparison.
+
+#[derive(PartialEq, Debug)]
+enum Outcome {
+    Words(Vec<u64>),
+    NoAnswer,
+    Panic,
+}
+
+/// What both sides are: a function of the choices, whose words are its result and what it changed.
+type Side<'a> = &'a mut dyn FnMut(&mut Choices) -> Vec<u64>;
+
+fn once(choices: &mut Choices, side: Side) -> (Outcome, Vec<u64>) {
+    choices.start();
+    USED.store(0, Ordering::Relaxed);
+    TURNS.store(0, Ordering::Relaxed);
+    let (place, answers) = (&raw mut *choices, choices.answers);
+    CASE.with_borrow_mut(|case| {
+        *case = Case {
+            choices: place, answers, accesses: Vec::new(), kind: None, queue: VecDeque::new(), kept: [0; 8], printed: Vec::new(),
+            room: usize::MAX,
+        }
+    });
+    let done = catch_unwind(AssertUnwindSafe(|| side(choices)));
+    let accesses = CASE.with_borrow_mut(|case| core::mem::take(&mut case.accesses));
+    let is_no_answer = |cause: Box<dyn Any + Send>| if cause.is::<NoAnswer>() { Outcome::NoAnswer } else { Outcome::Panic };
+    (done.map_or_else(is_no_answer, Outcome::Words), accesses)
+}
+
+/// How much is compared.
+pub struct Run {
+    pub random: u64,
+    pub sequences: u64,
+    pub seed: u64,
+    pub only: String,
+}
+
+/// The most cases of a function whose choices are all made.
+const MOST_OF_ALL: u64 = 70_000;
+/// The answers of a device that are all made: so many of them, or so many cases.
+const ALL_ANSWERS: usize = 3;
+const MOST_OF_ANSWERS: u64 = 9_000;
+
+#[derive(Default)]
+struct Counts {
+    cases: u64,
+    no_answer: u64,
+    outside: u64,
+    refused: u64,
+    differ: u64,
+    first: String,
+}
+
+impl Counts {
+    // A case that breaks the contract has to panic in Rust, if the function has a guard. One that makes the MIR overflow, or leave what it
+    // is proved for, says nothing: what is private has no guard, and what is made may break an invariant.
+    fn case(&mut self, choices: &mut Choices, breaks: &mut dyn FnMut(&mut Choices) -> bool, rust: Side, mir: Side) {
+        self.cases += 1;
+        choices.start();
+        let is_broken = breaks(choices);
+        let (emitted, accesses) = once(choices, rust);
+        if is_broken {
+            self.refused += 1;
+            if emitted != Outcome::Panic {
+                self.note("a broken contract is not refused", choices, &emitted, &Outcome::Panic);
+            }
+            return;
+        }
+        let made = choices.path.len();
+        let (proved, accesses_of_mir) = once(choices, mir);
+        if proved == Outcome::Panic {
+            self.outside += 1;
+            return;
+        }
+        self.no_answer += u64::from(emitted == Outcome::NoAnswer);
+        if emitted == Outcome::Panic {
+            self.note("a panic within the contract", choices, &emitted, &proved);
+        } else if emitted != proved {
+            self.note("another result", choices, &emitted, &proved);
+        } else if accesses != accesses_of_mir || choices.path.len() != made || choices.at != made {
+            self.note("other accesses", choices, &Outcome::Words(accesses), &Outcome::Words(accesses_of_mir));
+        }
+    }
+
+    fn note(&mut self, what: &str, choices: &Choices, emitted: &Outcome, proved: &Outcome) {
+        self.differ += 1;
+        if self.differ == 1 {
+            let path: Vec<u64> = choices.path.iter().map(|(choice, _)| *choice).take(200).collect();
+            let short = |one: String| one.chars().take(400).collect::<String>();
+            let (emitted, proved) = (short(format!("{emitted:x?}")), short(format!("{proved:x?}")));
+            self.first = format!("{what}: choices {path:?}; in Rust {emitted}; in the MIR {proved}");
+        }
+    }
+}
+
+/// What else than its arguments a function depends on.
+#[derive(Clone, Copy, PartialEq)]
+pub enum With {
+    Nothing,
+    Device,
+    Writer,
+}
+
+impl Run {
+    /// Compares a function. `breaks` tells whether the choices break its contract.
+    pub fn compare(
+        &mut self,
+        name: &str,
+        with: With,
+        mut breaks: impl FnMut(&mut Choices) -> bool,
+        mut rust: impl FnMut(&mut Choices) -> Vec<u64>,
+        mut mir: impl FnMut(&mut Choices) -> Vec<u64>,
+    ) {
+        if !name.contains(&self.only) {
+            return;
+        }
+        let (mut counts, mut is_whole, has_device) = (Counts::default(), false, with == With::Device);
+        let mut choices = Choices::new(if has_device { Mode::Answers } else { Mode::All }, self.seed);
+        choices.answers = ALL_ANSWERS;
+        for _ in 0..if has_device { MOST_OF_ANSWERS } else { MOST_OF_ALL } {
+            counts.case(&mut choices, &mut breaks, &mut rust, &mut mir);
+            if !choices.advance() {
+                is_whole = !has_device;
+                break;
+            }
+        }
+        if !is_whole || with == With::Writer {
+            self.at_random(self.random, &mut counts, &mut breaks, &mut rust, &mut mir);
+        }
+        self.report(name, is_whole, &counts);
+    }
+
+    /// Compares sequences of calls of one value.
+    pub fn sequences(
+        &mut self,
+        name: &str,
+        mut rust: impl FnMut(&mut Choices) -> Vec<u64>,
+        mut mir: impl FnMut(&mut Choices) -> Vec<u64>,
+    ) {
+        if !name.contains(&self.only) {
+            return;
+        }
+        let mut counts = Counts::default();
+        self.at_random(self.sequences, &mut counts, &mut |_| false, &mut rust, &mut mir);
+        self.report(name, false, &counts);
+    }
+
+    fn at_random(&self, count: u64, counts: &mut Counts, breaks: &mut dyn FnMut(&mut Choices) -> bool, rust: Side, mir: Side) {
+        let mut choices = Choices::new(Mode::Random, self.seed ^ 0xD1B5_4A32_D192_ED03);
+        for turn in 0..count {
+            choices.answers = 3 + if turn % 8 == 0 { 700 } else { turn as usize % 90 };
+            counts.case(&mut choices, breaks, rust, mir);
+            choices.advance();
+        }
+    }
+
+    fn report(&self, name: &str, is_whole: bool, counts: &Counts) {
+        let Counts { cases, no_answer, outside, refused, differ, first } = counts;
+        println!("compared\t{name}\t{cases}\t{is_whole}\t{no_answer}\t{outside}\t{refused}\t{differ}\t{first}");
+    }
+}
+
+/// Runs all comparisons as the command line says, and prints what they found and which places of the MIR were not reached.
+pub fn run(all: fn(&mut Run), places: usize) {
+    let words: Vec<String> = std::env::args().collect();
+    let number = |at: usize| words[at].parse().unwrap();
+    std::panic::set_hook(Box::new(|_| {}));
+    all(&mut Run { random: number(1), sequences: number(2), seed: number(3), only: words[4].clone() });
+    let missed: Vec<String> = (0..places).filter(|at| !REACHED[*at].load(Ordering::Relaxed)).map(|at| format!("{at}")).collect();
+    print!("missed\t{}\n", missed.join(" "));
+}

@@ -1,0 +1,486 @@
+"""The proved MIR of crates as Rust: each function that is asked for and what it reaches, over concrete types, with checked arithmetic.
+
+The kit leaves the MIR that its proofs are about beside each library, in `toolchain/mir.json`: a list of functions, whose bodies are trees
+in prefix order. Here a type is "Unit", "Bool", "Ptr", "Never", ("Int", bits), ("Ref", type), ("Struct", name, types),
+("Array", type, length), ("Vector", type, length), ("Named", name, arguments) or ("Num", number), and a dictionary, the implementation of a
+trait, is (name, types, dictionaries).
+"""
+import json
+import sys
+
+# A body is as deep as its code is nested.
+sys.setrecursionlimit(100_000)
+
+BITWISE = {"And": "&", "Or": "|", "Xor": "^"}
+ORDERS = {"Eq": "==", "Ne": "!=", "Lt": "<", "Le": "<="}
+
+HEAD = """#![allow(warnings, clippy::all)]
+//! The proved MIR, translated by translate.py.
+use crate::run::{Choices, Value};
+use std::{mem::zeroed, vec::Vec};
+pub type P = *mut u8;
+fn checked<T>(value: Option<T>) -> T {
+    match value { Some(value) => value, None => panic!("the MIR overflows") }
+}
+macro_rules! narrow {
+    ($value:expr, $to:ty) => {{ let value = $value; if value > <$to>::MAX as _ { panic!("the MIR narrows") } value as $to }};
+}
+#[repr(transparent)]
+pub struct Shared<T>(pub T);
+unsafe impl<T> Sync for Shared<T> {}
+"""
+
+
+class Unknown(Exception):
+    """A form of the MIR that is not translated."""
+
+
+def head(node):
+    """The kind of a node, and what belongs to it."""
+    if isinstance(node, str):
+        return node, None
+    ((kind, value),) = node.items()
+    return kind, value
+
+
+class Program:
+    """The functions, types and implementations of some crates."""
+
+    def __init__(self, paths):
+        self.functions, self.types, self.implementations = {}, {}, {}
+        for path in paths:
+            with open(path, encoding="utf-8") as file:
+                for name, function in json.load(file):
+                    self.functions[name] = function
+                    self.types |= {one["name"]: one for one in function["types"]}
+                    self.implementations |= {one["name"]: one for one in function["generics"]["impls"]}
+        self.methods = {}
+        for name, function in self.functions.items():
+            of = function["generics"]["method_of"]
+            if of and "Impl" in of:
+                self.methods[tuple(of["Impl"])] = name
+
+
+class Translation:
+    """A program, and what of it has become Rust. `natives` has what is written by hand: by function, or by implementation and index of the
+    method, a function of the translation and the types that returns the types of the arguments, the type of the result, and the body."""
+
+    def __init__(self, program, natives, own):
+        self.program, self.natives, self.own = program, natives, own
+        self.instances, self.waiting, self.texts = {}, [], []
+        self.names_of_types, self.shapes = {}, {}
+        self.statics, self.places = {}, {}
+        self.unknown = []
+
+    # Types.
+
+    def type(self, node, types):
+        """The type of a node, with these types for its parameters."""
+        kind, value = head(node)
+        if kind in ("Unit", "Bool", "Ptr", "Never"):
+            return kind
+        if kind == "Int":
+            return ("Int", value)
+        if kind == "Param":
+            return types[value]
+        if kind == "Ref":
+            return ("Ref", self.type(value[2], types))
+        if kind == "Struct":
+            return ("Struct", value[0], tuple(self.type(one, types) for one in value[1]))
+        if kind in ("Array", "Vector"):
+            return (kind, self.type(value[0], types), self.number(value[1], types))
+        if kind == "Named":
+            return ("Named", value[0]["name"], tuple(self.type(one, types) for one in value[1]))
+        if kind in ("Const", "Lit"):
+            return ("Num", self.number(node, types))
+        return ("Other", json.dumps(node))
+
+    @staticmethod
+    def number(node, types):
+        kind, value = head(node)
+        if kind == "Lit":
+            return value
+        if kind == "Param":
+            return types[value][1]
+        if kind == "Const":
+            return int(value[1] if isinstance(value, list) else value)
+        raise Unknown(f"a number {kind}")
+
+    def dictionary(self, node, types, dictionaries):
+        kind, value = head(node)
+        if kind == "Given":
+            return dictionaries[value]
+        if kind == "Impl":
+            inner = tuple(self.dictionary(one, types, dictionaries) for one in value[2])
+            return (value[0], tuple(self.type(one, types) for one in value[1]), inner)
+        raise Unknown(f"a dictionary {kind}")
+
+    def rust(self, of):
+        """The Rust type of a type."""
+        if of in self.names_of_types:
+            return self.names_of_types[of]
+        if of in ("Unit", "Never"):
+            name = "()"
+        elif of == "Bool":
+            name = "bool"
+        elif of == "Ptr" or of[0] == "Ref":
+            name = "P"
+        elif of[0] == "Int":
+            name = f"u{of[1]}"
+        elif of[0] in ("Array", "Vector"):
+            name = f"[{self.rust(of[1])}; {of[2]}]"
+        elif of[0] in ("Struct", "Named"):
+            return self.shape(of)
+        else:
+            raise Unknown(f"the type {of}")
+        self.names_of_types[of] = name
+        return name
+
+    def rust_outside(self, of):
+        """The Rust type of a type, as another module names it."""
+        name = self.rust(of)
+        return f"crate::mir::{name}" if name[0] in "ST" else name
+
+    def shape(self, of):
+        """The name of the Rust type of a struct or an enum, which has the same fields in the same order."""
+        name = f"{of[0][0].replace('N', 'T')}{len(self.shapes)}"
+        self.names_of_types[of] = name
+        self.shapes[name] = (of, None)
+        if of[0] == "Struct":
+            kind, parts = "fields", [of[2]]
+        else:
+            if of[1] not in self.program.types:
+                raise Unknown(f"the type {of[1]}")
+            shape, value = head(self.program.types[of[1]]["shape"])
+            if shape not in ("Fields", "Variants"):
+                raise Unknown(f"a shape {shape}")
+            kind = shape.lower()
+            parts = [[self.type(one, of[2]) for one in part] for part in ([value] if kind == "fields" else value)]
+        self.shapes[name] = (of, (kind, [[(one, self.rust(one)) for one in part] for part in parts]))
+        return name
+
+    def parts(self, of):
+        """What a struct or an enum has: `fields` or `variants`, and of each variant the types and their names."""
+        return self.shapes[self.rust(of)][1]
+
+    # Functions.
+
+    def instance(self, name, types=(), dictionaries=()):
+        """The Rust name of a function over concrete types."""
+        key = (name, types, dictionaries)
+        if key not in self.instances:
+            self.instances[key] = f"f{len(self.instances)}"
+            self.waiting.append(key)
+        return self.instances[key]
+
+    def method(self, dictionary, index, types, dictionaries):
+        key = (dictionary[0], index)
+        if key in self.natives:
+            return self.instance(("native", key), dictionary[1] + types)
+        name = self.program.methods.get(key)
+        if name is None:
+            listed = self.program.implementations.get(dictionary[0], {"methods": []})["methods"]
+            name = listed[index] if index < len(listed) else None
+        if name is None and index == 0 and "Destruct" in dictionary[0]:
+            return self.instance(("native", "drop"), dictionary[1])
+        if name is None:
+            raise Unknown(f"the method {index} of {dictionary[0]}")
+        return self.instance(name, dictionary[1] + types, dictionary[2] + dictionaries)
+
+    def place(self, function, order, label):
+        """The number of a place of an own function: its entry, or a branch, which all instances share."""
+        return self.places.setdefault((function, order, label), len(self.places))
+
+    def translate(self):
+        while self.waiting:
+            key = self.waiting.pop()
+            try:
+                self.texts.append(self.function(key))
+            except (Unknown, KeyError) as cause:
+                self.unknown.append((key[0], repr(cause)))
+
+    def function(self, key):
+        name, types, dictionaries = key
+        native = self.natives.get(name[1] if isinstance(name, tuple) else name)
+        if native or isinstance(name, tuple):
+            if native is None:
+                arguments, result, body = [self.rust(types[0])], "()", ""
+            else:
+                arguments, result, body = native(self, types)
+            listed = ", ".join(f"a{order}: {one}" for order, one in enumerate(arguments, 1))
+            return f"pub unsafe fn {self.instances[key]}({listed}) -> {result} {{ {body} }}"
+        return Body(self, name, types, dictionaries).text(self.instances[key])
+
+    def module(self):
+        """The text of the module: types, statics and functions."""
+        out = [HEAD]
+        for name, (_, (kind, parts)) in self.shapes.items():
+            derive = "#[repr(C)] #[derive(Clone, Copy)] pub"
+            if kind == "fields":
+                fields = ", ".join(f"pub f{order}: {one}" for order, (_, one) in enumerate(parts[0]))
+                out.append(f"{derive} struct {name} {{ {fields} }}")
+                continue
+            for order, part in enumerate(parts):
+                fields = "".join(f", pub f{place}: {one}" for place, (_, one) in enumerate(part, 1))
+                out.append(f"{derive} struct {name}v{order} {{ pub f0: u8{fields} }}")
+            cases = ", ".join(f"pub v{order}: {name}v{order}" for order in range(len(parts)))
+            out.append(f"{derive} union {name} {{ {cases} }}" if parts else f"{derive} struct {name} {{ none: u8 }}")
+        for name, (of, value) in self.statics.items():
+            out.append(f"static {name}: Shared<{of}> = Shared({value});")
+        return "\n".join(out + self.texts) + "\n"
+
+
+class Body:
+    """The body of one function, over concrete types, as Rust."""
+
+    def __init__(self, translation, name, types, dictionaries):
+        self.of, self.name, self.types, self.dictionaries = translation, name, types, dictionaries
+        self.function = translation.program.functions[name]
+        self.locals = [translation.type(one["ty"], types) for one in self.function["locals"]]
+        self.lines, self.at, self.labels, self.branches = [], 0, 0, 0
+
+    def text(self, me):
+        count, rust = self.function["params"], [self.of.rust(one) for one in self.locals]
+        parameters = ", ".join(f"mut l{order + 1}: {rust[order + 1]}" for order in range(count))
+        self.reach("entry")
+        self.node([])
+        if self.at != len(self.function["body"]):
+            raise Unknown("a body with more than one tree")
+        variables = [0, *range(count + 1, len(rust))]
+        start = [f"let mut l{order}: {rust[order]} = zeroed();" for order in variables]
+        comment = f"// {self.name}"
+        return "\n".join([comment, f"pub unsafe fn {me}({parameters}) -> {rust[0]} {{", *start, *self.lines, "l0", "}"])
+
+    def reach(self, label):
+        """Notes that a place of an own function is reached."""
+        if self.name.split("::")[0] in self.of.own:
+            self.lines.append(f"crate::run::reach({self.of.place(self.name, self.branches, label)});")
+        self.branches += 1
+
+    # Statements.
+
+    def node(self, labels):
+        statement = self.function["body"][self.at]
+        self.at += 1
+        kind, value = head(statement)
+        write = getattr(self, f"write_{kind.lower()}", None)
+        if write is None:
+            raise Unknown(f"a statement {kind}")
+        write(value, labels)
+
+    def write_seq(self, _, labels):
+        self.node(labels)
+        self.node(labels)
+
+    def write_skip(self, _, labels):
+        pass
+
+    def write_block(self, _, labels, word=""):
+        self.labels += 1
+        label = f"'b{self.labels}"
+        self.lines.append(f"{label}: {word}{{")
+        if word:
+            self.lines.append("crate::run::turn();")
+        self.node([label, *labels])
+        self.lines.append("}")
+
+    def write_loop(self, value, labels):
+        self.write_block(value, labels, "loop ")
+
+    def write_return(self, _, labels):
+        self.lines.append("return l0;")
+
+    def write_exit(self, value, labels):
+        self.lines.append(f"break {labels[value]};")
+
+    def write_unreachable(self, _, labels):
+        self.lines.append('panic!("unreachable in the MIR");')
+
+    def write_if(self, value, labels):
+        self.lines.append(f"if {self.operand(value)[0]} {{")
+        self.reach("if")
+        self.node(labels)
+        self.lines.append("} else {")
+        self.reach("else")
+        self.node(labels)
+        self.lines.append("}")
+
+    def write_switch(self, value, labels):
+        self.lines.append(f"match ({self.operand(value[0])[0]}) as u64 {{")
+        for numbers in value[1]:
+            self.lines.append(" | ".join(map(str, numbers)) + " => {")
+            self.reach("case " + "|".join(map(str, numbers)))
+            self.node(labels)
+            self.lines.append("}")
+        if value[2]:
+            self.lines.append("_ => {")
+            self.reach("other")
+            self.node(labels)
+            self.lines.append("}")
+        else:
+            self.lines.append('_ => panic!("no case in the MIR"),')
+        self.lines.append("}")
+
+    def write_assign(self, value, labels):
+        text, of = self.place(value[0])
+        self.lines.append(f"{text} = {self.value(value[1], of)};")
+
+    def write_lendstatic(self, value, labels):
+        of, name = self.of.type(value[1], self.types), f"C{len(self.of.statics)}"
+        self.of.statics[name] = None
+        self.of.statics[name] = (self.of.rust(of), self.constant(value[2], of, name))
+        self.lines.append(f"{self.place(value[0])[0]} = &raw const {name} as P;")
+
+    def write_call(self, value, labels):
+        called, arguments, result = value
+        kind, what = head(called)
+        given = what[1] if kind == "Fn" else what[2] if kind == "Method" else None
+        if given is None:
+            raise Unknown(f"a call {kind}")
+        types = tuple(self.of.type(one, self.types) for one in given["types"])
+        dictionaries = tuple(self.of.dictionary(one, self.types, self.dictionaries) for one in given["dicts"])
+        if kind == "Fn":
+            if what[0] not in self.of.program.functions and what[0] not in self.of.natives:
+                raise Unknown(f"no function {what[0]}")
+            name = self.of.instance(what[0], types, dictionaries)
+        else:
+            name = self.of.method(self.of.dictionary(what[0], self.types, self.dictionaries), what[1], types, dictionaries)
+        listed = ", ".join(self.operand(one)[0] for one in arguments)
+        self.lines.append(f"{self.place(result)[0]} = {name}({listed});")
+
+    # Places and values.
+
+    def place(self, node):
+        """The text of a place, and its type."""
+        text, of = f"l{node['local']}", self.locals[node["local"]]
+        for step in node["steps"]:
+            kind, value = head(step)
+            if kind == "Field":
+                text += f".f{value}"
+                if of[0] == "Variant":
+                    of = ("Int", 8) if value == 0 else of[1][value - 1][0]
+                else:
+                    of = self.of.parts(of)[1][0][value][0]
+            elif kind == "Variant":
+                text, of = f"{text}.v{value}", ("Variant", self.of.parts(of)[1][value])
+            elif kind == "Deref":
+                of = self.of.type(value, self.types)
+                text = f"(*({text} as *mut {self.of.rust(of)}))"
+            else:
+                raise Unknown(f"a step {kind}")
+        return text, of
+
+    def operand(self, node):
+        """The text of an operand, and its type."""
+        kind, value = head(node)
+        if kind in ("Copy", "Move"):
+            return self.place(value)
+        if kind == "Int":
+            return f"{value['value'] % (1 << value['width'])}u{value['width']}", ("Int", value["width"])
+        if kind == "Unit":
+            return "()", "Unit"
+        if kind in ("True", "False"):
+            return kind.lower(), "Bool"
+        if kind == "NumOf":
+            return f"{self.of.number(value[1], self.types)}u{value[0]}", ("Int", value[0])
+        if kind in ("SizeOf", "AlignOf"):
+            function = {"SizeOf": "size_of", "AlignOf": "align_of"}[kind]
+            return f"(core::mem::{function}::<{self.of.rust(self.of.type(value, self.types))}>() as u64)", ("Int", 64)
+        raise Unknown(f"an operand {kind}")
+
+    def made(self, of, parts, tag):
+        """A struct of these parts, or the variant of this number."""
+        name = self.of.rust(of)
+        fields = ", ".join(f"f{order}: {one}" for order, one in enumerate(parts))
+        if tag is None:
+            return f"{name} {{ {fields} }}"
+        return f"{name} {{ v{tag}: {name}v{tag} {{ {fields} }} }}"
+
+    def aggregate(self, of, nodes, text):
+        """An array, a struct or a variant of these nodes, each of which `text` writes, given its type."""
+        if of == "Unit":
+            return "()"
+        if of[0] == "Array":
+            return "[" + ", ".join(text(one, of[1]) for one in nodes) + "]"
+        kind, parts = self.of.parts(of)
+        if kind == "fields":
+            return self.made(of, [text(one, part[0]) for one, part in zip(nodes, parts[0])], None)
+        tag = nodes[0]["Int"]["value"]
+        rest = [text(one, part[0]) for one, part in zip(nodes[1:], parts[tag])]
+        return self.made(of, [f"{tag}u8", *rest], tag)
+
+    def constant(self, node, of, static):
+        """The text of what a static is made of."""
+        kind, value = head(node)
+        if kind == "Int":
+            return str(bool(value["value"])).lower() if of == "Bool" else f"{value['value']}u{value['width']}"
+        if kind in ("True", "False"):
+            return kind.lower()
+        if kind == "Unit":
+            return "()"
+        if kind == "Ints":
+            return "[" + ", ".join(f"{one}u{value['width']}" for one in value["values"]) + "]"
+        if kind == "Repeat":
+            return f"[{self.constant(value[0], of[1] if of[0] == 'Array' else None, static)}; {value[1]}]"
+        if kind == "Here":
+            return f"(&raw const {static} as P).wrapping_add({value})"
+        if kind == "Parts":
+            return self.aggregate(of, value, lambda one, part: self.constant(one, part, static))
+        raise Unknown(f"a constant {kind}")
+
+    def value(self, node, of):
+        """The text of what is assigned to a place of this type."""
+        kind, value = head(node)
+        if kind == "Opd":
+            return self.operand(value)[0]
+        if kind == "AddrOf":
+            return f"(&raw mut {self.place(value)[0]}) as P"
+        if kind == "Repeat":
+            return f"[{self.operand(value[0])[0]}; {self.of.number(value[1], self.types)}]"
+        if kind == "Aggregate":
+            return self.aggregate(of, value, lambda one, _: self.operand(one)[0])
+        if kind == "Op1":
+            return self.of_one(head(value[0]), *self.operand(value[1]), of)
+        if kind == "Op2":
+            return self.of_two(head(value[0]), self.operand(value[1]), self.operand(value[2]))
+        if kind == "Vec2" and "Mask" in value[0]:
+            one, other, sign = self.operand(value[1])[0], self.operand(value[2])[0], ORDERS[value[0]["Mask"]]
+            return f"core::array::from_fn(|i| if {one}[i] {sign} {other}[i] {{ 255 }} else {{ 0 }})"
+        if kind == "Vec1" and "Bitmask" in value[0]:
+            lanes = f"{self.operand(value[1])[0]}.iter().enumerate()"
+            return f"{lanes}.fold(0u64, |mask, (at, lane)| if *lane != 0 {{ mask | 1 << at }} else {{ mask }})"
+        raise Unknown(f"a value {kind}")
+
+    def of_one(self, operation, text, of, to):
+        kind, value = operation
+        if kind == "Not":
+            return f"!{text}"
+        if kind == "Cast":
+            signed, _, bits = value
+            if value[0] == value[1] == "Unsigned":
+                is_wide = of == "Bool" or of[1] <= bits
+                return f"(({text}) as u{bits})" if is_wide else f"narrow!({text}, u{bits})"
+            return f"(({text}) as i{of[1]} as i{bits} as u{bits})" if signed == "Signed" else f"(({text}) as u{bits})"
+        if kind in ("CountOnes", "TrailingZeros"):
+            function = {"CountOnes": "count_ones", "TrailingZeros": "trailing_zeros"}[kind]
+            return f"({text}.{function}() as {self.of.rust(to)})"
+        raise Unknown(f"an operation {kind}")
+
+    @staticmethod
+    def of_two(operation, first, second):
+        (kind, sign), (one, of), (other, _) = operation, first, second
+        if kind == "Offset":
+            return f"({one}).wrapping_add({other} as usize)"
+        if kind in BITWISE:
+            return f"({one} {BITWISE[kind]} {other})"
+        if sign == "Signed":
+            one, other = f"({one} as i{of[1]})", f"({other} as i{of[1]})"
+        if kind in ORDERS:
+            return f"({one} {ORDERS[kind]} {other})"
+        if kind in ("Shl", "Shr"):
+            other = f"{other} as u32"
+        elif kind not in ("Add", "Sub", "Mul", "Div", "Rem"):
+            raise Unknown(f"an operation {kind}")
+        done = f"checked(({one}).checked_{kind.lower()}({other}))"
+        return f"({done} as u{of[1]})" if sign == "Signed" else done
+

@@ -1,0 +1,118 @@
+"""The text of `Value` for each type: of the emitted crate, and of the translated MIR. Both make a value of the same choices, field by field
+in the order of the source, and show it as the same words."""
+import re
+
+VALUE, CHOICES, WORDS = "crate::run::Value", "crate::run::Choices", "::std::vec::Vec<u64>"
+HEAD = f"fn show(&self, out: &mut {WORDS})"
+MAKE = f"fn make(choices: &mut {CHOICES}) -> Self"
+ONE = f"{VALUE}::make(choices)"
+
+# Types whose values are made by hand, in run/behind and below: not each combination of their fields is a value.
+BY_HAND = {"ArrayVec", "FixedFifo", "FixedWire", "HeapCircularBuffer"}
+
+
+def of_emitted(one):
+    """The text for a type of the emitted crate."""
+    parameters, arguments = [], []
+    for parameter in one.parameters:
+        name, _, bound = parameter.partition(":")
+        arguments.append(name.strip())
+        if name.startswith("'"):
+            parameters.append(name)
+            continue
+        parameters.append(f"{name.strip()}: {' + '.join([VALUE, *([bound.strip()] if bound.strip() else [])])}")
+    generics = f"<{', '.join(parameters)}>" if parameters else ""
+    target = f"{one.name}<{', '.join(arguments)}>" if arguments else one.name
+    shows, makes = [], []
+    for order, (variant, fields) in enumerate(one.variants):
+        path = f"{one.name}::{variant}" if one.is_enum else one.name
+        pattern = ", ".join(f"{name}: x{place}" for place, (name, _) in enumerate(fields))
+        shown = " ".join(f"{VALUE}::show(x{place}, out);" for place in range(len(fields)))
+        made = ", ".join(f"{name}: {ONE}" for name, _ in fields)
+        tag = f"out.push({order}); " if one.is_enum else ""
+        shows.append(f"{path} {{ {pattern} }} => {{ {tag}{shown} }}")
+        makes.append(f"{path} {{ {made} }}")
+    if one.is_enum:
+        cases = " ".join(f"{order} => {text}," for order, text in enumerate(makes))
+        make = f"match choices.pick({len(makes)}) {{ {cases} _ => panic!() }}"
+    else:
+        make = makes[0]
+    return f"impl{generics} {VALUE} for {target} {{ {HEAD} {{ match self {{ {' '.join(shows)} }} }} {MAKE} {{ {make} }} }}"
+
+
+# The types by hand of the MIR: how a value is shown, and how it is made.
+OF_MIR = {
+    "circular_buffer::ring::Ring": (
+        "out.extend([self.f1, self.f2]); unsafe { for at in 0..self.f2 { "
+        "out.push(*self.f0.f0.add(((self.f3 + at) % self.f1) as usize) as u64); } }",
+        "let (capacity, front, bytes) = crate::run::queue(choices); unsafe { let mut made: Self = zeroed(); "
+        "made.f0.f0 = crate::run::memory(capacity as u64); made.f1 = capacity as u64; made.f2 = bytes.len() as u64; made.f3 = front as u64; "
+        "for (at, byte) in bytes.iter().enumerate() { *made.f0.f0.add((front + at) % capacity) = *byte; } made }",
+    ),
+    "arrayvec::array_vec::ArrayVec": (
+        "self.f0.f0[..self.f1 as usize].show(out);",
+        "unsafe { let mut made: Self = zeroed(); made.f1 = choices.pick(made.f0.f0.len() as u64 + 1); "
+        "for at in 0..made.f1 as usize { made.f0.f0[at] = Value::make(choices); } made }",
+    ),
+    "uart_live::fixed::FixedFifo": (
+        "out.extend([self.f1, self.f2]); self.f0.show(out);",
+        "let (f1, f2) = (choices.pick(16), choices.pick(17)); Self { f0: Value::make(choices), f1, f2 }",
+    ),
+    "uart_live::fixed::FixedWire": (
+        "self.f0.show(out); out.extend([self.f1, self.f2, self.f3]);",
+        "let (f0, f1, f2, f3) = crate::run::wire(choices); Self { f0, f1, f2, f3 }",
+    ),
+}
+
+
+def of_mir(translation):
+    """The text for all types of the translated MIR. What a reference points to is shown, and never made."""
+    names, out = set(), []
+    while names != set(translation.shapes):
+        for name in [one for one in translation.shapes if one not in names]:
+            names.add(name)
+            out.append(of_shape(translation, name))
+    return "\n".join(out) + "\n"
+
+
+def of_shape(translation, name):
+    of, (kind, parts) = translation.shapes[name]
+    by_hand = OF_MIR.get(of[1]) if of[0] == "Named" else None
+    if by_hand:
+        show, make = by_hand
+    elif of[0] == "Struct" and of[1] in ("&[]", "&str"):
+        item = translation.rust(of[2][0][1])
+        show, make = f"unsafe {{ core::slice::from_raw_parts(self.f0 as *const {item}, self.f1 as usize).show(out) }}", "panic!()"
+    elif kind == "fields":
+        show = " ".join(field(translation, f"self.f{order}", one) for order, (one, _) in enumerate(parts[0]))
+        make = f"Self {{ {', '.join(f'f{order}: Value::make(choices)' for order in range(len(parts[0])))} }}"
+        if of[0] == "Named" and "nonzero::NonZero" in of[1]:
+            make = "Self { f0: core::cmp::max(1, Value::make(choices)) }"
+    elif not parts:
+        show, make = 'panic!("a value of no type")', 'panic!("a value of no type")'
+    else:
+        shows, makes = [], []
+        for tag, part in enumerate(parts):
+            shown = " ".join(field(translation, f"self.v{tag}.f{order}", one) for order, (one, _) in enumerate(part, 1))
+            fields = "".join(f", f{order}: Value::make(choices)" for order in range(1, len(part) + 1))
+            shows.append(f"{tag} => {{ {shown} }}")
+            makes.append(f"{tag} => {name} {{ v{tag}: {name}v{tag} {{ f0: {tag}{fields} }} }},")
+        show = f"out.push(self.v0.f0 as u64); match self.v0.f0 {{ {' '.join(shows)} _ => panic!(\"no variant\") }}"
+        make = f"match choices.pick({len(makes)}) {{ {' '.join(makes)} _ => panic!() }}"
+    return (
+        f"impl Value for {name} {{ fn show(&self, out: &mut Vec<u64>) {{ unsafe {{ {show} }} }} "
+        f"fn make(choices: &mut Choices) -> Self {{ {make} }} }}"
+    )
+
+
+def field(translation, text, of):
+    """The text that shows a field, or what it points to."""
+    if of == "Ptr" or of != "Unit" and of[0] == "Ref" and of[1] in ("Ptr", "Unit"):
+        return ""
+    if of[0] == "Ref":
+        return f"(*({text} as *const {translation.rust(of[1])})).show(out);"
+    return f"{{ let field = {text}; field.show(out); }}"
+
+
+def without_lifetimes(text):
+    return re.sub(r"&'\w+ ", "&", text)
