@@ -93,13 +93,11 @@ impl<B: Backend> Uart16550Ring<B> {
     /// ```
     /// # include!(concat!(env!("CARGO_MANIFEST_DIR"), "/src/proved/examples.rs"));
     /// # fn main() {}
-    /// # use uart_16550::ring::{self, *};
-    /// # struct Port { ring: Uart16550Ring<Device>, overruns: u32 }
-    /// # impl Port {
-    /// # fn example(&mut self) {
-    /// assert_equal(&rt, ring.service(), 1);
-    /// assert_equal(&rt, ring.receive_len(), 2);
-    /// # } }
+    /// # use uart_16550::ring;
+    /// # fn example(ring: &mut ring::Uart16550Ring<Device>) -> Outcome<()> {
+    /// assert_eq!(ring.service(), 1);
+    /// assert_eq!(ring.receive_len(), 2);
+    /// # Ok(()) }
     /// ```
     pub fn service(&mut self) -> usize {
         self.serve_up_to(MAX_INTERRUPTS).served
@@ -159,9 +157,11 @@ impl<B: Backend> Uart16550Ring<B> {
     /// # include!(concat!(env!("CARGO_MANIFEST_DIR"), "/src/proved/examples.rs"));
     /// # fn main() {}
     /// # use uart_16550::ring::{self, *};
-    /// # fn example(ring: &mut ring::Uart16550Ring<Device>) -> Outcome<()> {
+    /// # struct Port { ring: Uart16550Ring<Device>, overruns: u32 }
+    /// # impl Port {
+    /// # fn example(&mut self) {
     /// let handled = self.ring.handle(4 * MAX_INTERRUPTS);
-    /// # Ok(()) }
+    /// # } }
     /// ```
     pub fn handle(&mut self, limit: usize) -> Handled {
         let handled = self.serve_up_to(limit);
