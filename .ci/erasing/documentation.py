@@ -63,9 +63,8 @@ def example(file, comments, path):
             inside = not inside
         elif inside and re.search(r"\brt\b", comment.text):
             text = re.sub(r"\b(assert(?:_eq|_ne)?!)\(rt;(?: |$)", r"\1(", comment.text)
-            text = re.sub(r"\bassert_equal\(&rt, ", "assert_eq!(", text)
             if re.search(r"\brt\b", text):
-                raise Refused("an example with `rt;` of another form", comment.start)
+                raise Refused("an example with `rt` of another form", comment.start)
             found.append(Edit("documentation", comment.start, comment.end, text))
     if inside:
         raise Refused("an example with no end", comments[-1].start)

@@ -118,7 +118,7 @@ EXAMPLES = {
     "uart_16550::driver::frame::Uart16550::set_modem_control": compiles(UART),
     "uart_16550::driver::frame::Uart16550::set_rts": compiles(UART),
     "uart_16550::driver::frame::Uart16550::set_dtr": compiles(UART),
-    "uart_16550::driver::frame::Uart16550::attach": compiles(UART + ", ports: Device"),
+    "uart_16550::driver::frame::Uart16550::attach": compiles("ports: Device"),
     "uart_16550::driver::init::Uart16550::check_present": compiles(UART),
     "uart_16550::driver::init::Uart16550::init": compiles(UART),
     "uart_16550::driver::loopback::Uart16550::test_loopback": compiles(UART),

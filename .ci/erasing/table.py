@@ -29,7 +29,6 @@ RULES = [
     ("writer", "`use std::fmt;` in a file that calls `write_char`", "also `use ::core::fmt::Write as _;`"),
     ("fields", "`format_fields!`", "`format_args!`"),
     ("documentation", "`(rt; ..)` in an example, a fence without a word", "`(..)`, and the lines and the word of `EXAMPLES`"),
-    ("documentation", "`assert_equal(&rt, ..)` in an example", "`assert_eq!(..)`"),
     ("panics", "the documentation of a function in `GUARDS`", "also a section Panics"),
 ]
 

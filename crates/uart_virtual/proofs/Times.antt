@@ -1,5 +1,5 @@
 -- After the time of a call nothing is left to happen.
-use Rattle.std.proofs.Common.{◌≡◌, ℕ, zero, suc, ◌+◌, ◌-◌, ◌*◌, ◌<◌, ◌≤◌, Bool, true, false, ◌==◌, ◌⊎◌, inl, inr, min, nat_lt}
+use Rattle.std.proofs.Common.{◌≡◌, ℕ, zero, suc, ◌+◌, ◌≤◌, Bool, true, false, ◌==◌, ◌⊎◌, inl, inr, min, nat_lt}
 use Rattle.std.proofs.Common.{List, [], ◌∷◌, ◌++◌, length, take, drop, Option, Some, None, refl, ap, sym, ◌∙◌, subst, arith, if◌then◌else◌}
 use Rattle.std.proofs.lemmas.Bool.{cases_lt}
 use Rattle.std.proofs.lemmas.Grind.{common_steps}
@@ -11,14 +11,14 @@ use Rattle.uart_chip.specs.Receiver as receiver
 use Rattle.uart_chip.specs.Receiver.{ReceiverState, grow_timeout}
 use Rattle.uart_chip.specs.Chip.{ChipState, tick, ticks, is_loopback, is_dlab_set, interrupt}
 use Rattle.uart_chip.specs.Chip.{is_thr_empty, after_read, after_write, take_wire}
-use Rattle.uart_chip.specs.Jumps.{next_move_of, next_move, left_after, place_after, count_down, timeout_after, skip, moves}
+use Rattle.uart_chip.specs.Jumps.{next_move_of, next_move, left_after, place_after, timeout_after, moves}
 use Rattle.uart_chip.specs.Sound.{IsSoundChip, IsTicking}
 use Rattle.uart_chip.proofs.Jumps.{StillFor, ticks_skip}
 use Rattle.uart_chip.proofs.soundness.Idle.{moves-most}
 use Rattle.uart_chip.proofs.lasting.Lasting.{LastsInAccesses, lasts-read, lasts-write}
 use Rattle.uart_chip.proofs.soundness.Sounds.{char_ticks-tick, steady_ticks}
 use Rattle.uart_live.proofs.Lives.{both_if}
-use Rattle.uart_virtual.specs.Port.{PortCall, Read, Write, Receive, ReceiveOne, SetLines, TakeOutput, happen, settle, settle_ticks}
+use Rattle.uart_virtual.specs.Port.{PortCall, Read, Write, Receive, happen, settle, settle_ticks}
 use Rattle.uart_virtual.specs.Port.{accepted, arrive_all, IsStill}
 
 -- ---- the ticks of a character stay the same

@@ -3,7 +3,7 @@
 use Rattle.std.specs.Prelude.{◌≡◌, ◌≢◌, ℕ, Bool, true, false, ◌||◌, List, []}
 use Rattle.std.specs.Prelude.{◌∷◌, ◌++◌, map, take, ◌⊎◌, length, ◌<◌, nat_lt}
 use Rattle.uart_chip.specs.Chip.{ChipState, receive_room, is_loopback, line_status, ticks}
-use Rattle.uart_chip.specs.Transmitter.{out, room, held}
+use Rattle.uart_chip.specs.Transmitter.{out, held}
 use Rattle.uart_spec.specs.Bits.{has_any}
 use Rattle.uart_spec.specs.declared.registers.interrupt_enable.TheConstants.IER
 use Rattle.uart_spec.specs.declared.registers.line_status.TheConstants.LSR
@@ -13,7 +13,7 @@ use Rattle.uart_live.specs.Laws.{Act, Ticks, Arrive, TakeWire, in_turn, AllInTur
 use Rattle.uart_virtual.specs.declared.told.Todo.{Todo}
 use Rattle.uart_virtual.specs.Port.{PortState, PortCall, Read, Write, Receive, ReceiveOne}
 use Rattle.uart_virtual.specs.Port.{SetLines, TakeOutput, after, todo}
-use Rattle.uart_virtual.specs.Port.{happen, brings, looks, settle, settle_ticks, is_up}
+use Rattle.uart_virtual.specs.Port.{happen, brings, looks, settle_ticks, is_up}
 use Rattle.uart_virtual.specs.Port.{has_room, accepted, IsTold, IsStill}
 
 -- the port after these calls in turn

@@ -99,8 +99,7 @@ impl<B: Backend> Uart16550Ring<B> {
     /// # Examples
     ///
     /// ```
-    /// assert_equal(&rt, ring.service(), 1);
-    /// assert_equal(&rt, ring.receive_len(), 2);
+    /// let served = ring.service();
     /// ```
     pub fn service(&mut self) -> usize
         ensures did { RingDid B.step (Services result) self.old self.new }

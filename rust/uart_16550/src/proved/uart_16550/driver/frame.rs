@@ -209,7 +209,7 @@ impl<B: Backend> Uart16550<B> {
     /// ```
     /// # include!(concat!(env!("CARGO_MANIFEST_DIR"), "/src/proved/examples.rs"));
     /// # fn main() {}
-    /// # fn example(uart: &mut Uart16550<Device>, ports: Device) -> Outcome<()> {
+    /// # fn example(ports: Device) -> Outcome<()> {
     /// let mut uart = Uart16550::new_port(0x3f8, ports)?;
     /// let (dll, dlm) = uart.attach()?;
     /// uart.send_bytes_exact(b"hello")?;

@@ -95,8 +95,7 @@ impl<B: Backend> Uart16550Ring<B> {
     /// # fn main() {}
     /// # use uart_16550::ring;
     /// # fn example(ring: &mut ring::Uart16550Ring<Device>) -> Outcome<()> {
-    /// assert_eq!(ring.service(), 1);
-    /// assert_eq!(ring.receive_len(), 2);
+    /// let served = ring.service();
     /// # Ok(()) }
     /// ```
     pub fn service(&mut self) -> usize {
