@@ -312,7 +312,13 @@ SOURCES = [
         "uart_16550/src/driver.rt",
         "assert_eq!(rt; uart.fifo_enabled(), true);",
         "check!(rt; uart.fifo_enabled(), true);",
-        "an example with `rt;` of another form",
+        "an example with `rt` of another form",
+    ),
+    (
+        "uart_16550/src/driver.rt",
+        "assert_eq!(rt; uart.fifo_enabled(), true);",
+        "assert_equal(&rt, uart.fifo_enabled(), true);",
+        "an example with `rt` of another form",
     ),
 ]
 

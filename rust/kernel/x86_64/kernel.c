@@ -181,8 +181,11 @@ static uint8_t echo_by_interrupts(void)
         size_t count = echo_some();
         done += count;
         in_a_row = 0;
-        if (is_masked)
+        if (is_masked) {
+            must(u16550_ring_end(&console), NO_RINGS);
+            SAY("\nCOM1's interrupt has no end, and is masked\n");
             end(MASKED);
+        }
         must(u16550_ring_take_line(&console, &line), NO_RINGS);
         errors |= line & LINE_ERRORS;
         must(u16550_ring_transmit_len(&console, &waiting), NO_RINGS);
