@@ -34,7 +34,6 @@ HEADS = {
     "bitflags": "crate::libraries::bitflags",
     "std::test": "crate::runtime",
     "std::process": "crate::runtime",
-    "std::fmt::InlineText": "crate::runtime::InlineText",
     "std::alloc::Global": "crate::runtime::Global",
 }
 REPLACED = [

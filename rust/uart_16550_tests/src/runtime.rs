@@ -1,6 +1,5 @@
 //! What the tests use of the kit's runtime, as far as they use it.
 use std::error::Error;
-use std::fmt::Display;
 
 pub use uart_16550::ring::Global;
 
@@ -30,21 +29,6 @@ pub struct Fail(String);
 impl<E: Into<Box<dyn Error>>> From<E> for Fail {
     fn from(error: E) -> Self {
         Fail(error.into().to_string())
-    }
-}
-
-/// A printed text.
-pub struct InlineText<const N: usize>(String);
-
-impl<const N: usize> InlineText<N> {
-    /// The text of a value.
-    pub fn of<T: Display>(value: T) -> Self {
-        InlineText(value.to_string())
-    }
-
-    /// The text as a slice.
-    pub fn as_str(&self) -> &str {
-        &self.0
     }
 }
 
