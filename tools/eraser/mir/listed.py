@@ -6,7 +6,7 @@ An entry that is not needed is a failure, so that none outlives its reason.
 # The packages: the crates of each, which have the MIR, and the features that are compiled.
 PACKAGES = {
     "uart_16550": (["uart_spec", "uart_16550"], ["alloc"]),
-    "uart_16550_chip": (["uart_spec", "uart_chip", "uart_live"], []),
+    "uart_16550_chip": (["uart_spec", "uart_chip", "uart_live", "uart_virtual"], []),
 }
 # The crates of the kit whose MIR they reach.
 OF_KIT = ["core", "std_heap", "std_alloc", "bitflags", "arrayvec", "circular_buffer"]
@@ -56,6 +56,7 @@ NOT_REACHED = {
     r"^uart_chip::receiving::replace 2 case 0$": "an empty receiver, of which nothing is replaced",
     r"^uart_chip::receiving::replace (4 else|5 if|6 else)$": OF_ORIGINS,
     r"^uart_chip::transmitting::(refill 1 if|shift 3 if|shift 8 else)$": IN_JUMPS,
+    r"^uart_virtual::port::VirtualPort::new 2 case 1$": "a chip that is refused: that of a port has a time and a wire that are in range",
 }
 
 # Functions that read outside of an empty slice, as their contract allows.
@@ -89,6 +90,7 @@ CONTRACTS = {
     "uart_live::live::LiveChip::send_at_once": "!a0.sends_at_once()",
     "uart_virtual::port::VirtualPort::read": "a1 >= 8",
     "uart_virtual::port::VirtualPort::write": "a1 >= 8",
+    "uart_virtual::port::send": "!a0.sends_at_once()",
     "uart_virtual::port::write": "a1 >= 8",
     "uart_virtual::port::write_slowly": "a1 >= 8",
 }
@@ -105,6 +107,14 @@ SEQUENCES = {
             "let wire = {uart_live::live::LiveChip::wire}(&raw mut state as *mut u8); "
             "let made = {uart_live::live::LiveChip::from_data}(&raw mut data as *mut u8, wire); "
             "if made.v0.f0 == 0 { state = made.v0.f1; }",
+        ),
+        # and with a wire that is longer than there are places
+        (
+            "let mut data = state.data(); data.transmitter.wire_capacity += 100; "
+            "out.push(LiveChip::from_data(&data, state.wire()).is_ok() as u64);",
+            "let mut data = {uart_live::live::LiveChip::data}(&raw mut state as *mut u8); data.f3.f2 += 100; "
+            "let wire = {uart_live::live::LiveChip::wire}(&raw mut state as *mut u8); "
+            "let made = {uart_live::live::LiveChip::from_data}(&raw mut data as *mut u8, wire); out.push((made.v0.f0 == 0) as u64);",
         ),
     ],
     "uart_virtual::port::VirtualPort::new": [],

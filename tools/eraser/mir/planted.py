@@ -41,7 +41,14 @@ PLANTED = {
             "assert!(pdf < 15,",
             [r"PSD::set_pdf: .*a panic within the contract"],
         ),
-        # one of two accesses, which returns the same
+        # a constant that no function uses
+        (
+            "uart_spec/registers/offsets.rs",
+            "pub const PSD: usize = MSR;",
+            "pub const PSD: usize = 4;",
+            [r"the constant uart_spec::registers::offsets::PSD: 1 of 1 cases differ"],
+        ),
+        # an access too many, which returns the same
         (
             "uart_16550/driver/status.rs",
             "    pub fn ier(&mut self) -> IER {\n",
