@@ -5,7 +5,7 @@ An entry that is not needed is a failure, so that none outlives its reason.
 
 # The packages: the crates of each, which have the MIR, and the features that are compiled.
 PACKAGES = {
-    "uart_16550": (["uart_spec", "uart_16550"], ["alloc"]),
+    "uart_16550": (["uart_spec", "uart_16550", "uart_ring"], ["alloc"]),
     "uart_16550_chip": (["uart_spec", "uart_chip", "uart_live", "uart_virtual"], []),
 }
 # The crates of the kit whose MIR they reach.

@@ -118,8 +118,9 @@ class Pairs:
             mine, theirs = (f"{slot}: ::std::vec::Vec<{one}> = choices.list({least});" for one in (slice_of[2], item))
             return Argument(mine, theirs, f"&{'mut ' if is_changed else ''}{name}[..]", pass_to, is_changed)
         if text.startswith("Global"):
-            zeroed = f"{slot}: {self.translation.rust_outside(of)} = core::mem::zeroed();"
-            return Argument("", zeroed, "crate::queue::Global::heap()", name)
+            lent = "let memory = crate::queue::Memory::new(crate::run::lent(crate::run::memory_of(choices)));"
+            zeroed = f"crate::run::memory_of(choices); {slot}: {self.translation.rust_outside(of)} = core::mem::zeroed();"
+            return Argument(lent, zeroed, "memory.global()", name)
         reference = re.fullmatch(r"&(mut )?(.*)", text, re.DOTALL)
         if reference:
             if of[0] != "Ref":

@@ -91,9 +91,9 @@ PLANTED = {
         ),
         (
             "uart_chip/controlling.rs",
-            'assert!(offset < 8, "no register has this offset");\n    ',
-            "",
-            [r"LiveChip::(read|write): .*a broken contract is not refused"],
+            'fn read_register<P: ChipParts>(parts: &mut P, offset: u8) -> u8 {\n    assert!(offset < 8, "no register has this offset");\n',
+            "fn read_register<P: ChipParts>(parts: &mut P, offset: u8) -> u8 {\n",
+            [r"LiveChip::read: .*a broken contract is not refused"],
         ),
     ],
 }

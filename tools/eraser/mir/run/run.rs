@@ -399,12 +399,13 @@ struct Case {
     kept: [u8; 8],
     printed: Vec<u8>,
     room: usize,
+    memory: u64,
 }
 
 std::thread_local! {
     static CASE: RefCell<Case> = const { RefCell::new(Case {
         choices: core::ptr::null_mut(), answers: 0, accesses: Vec::new(), kind: None, queue: VecDeque::new(), kept: [0; 8],
-        printed: Vec::new(), room: usize::MAX,
+        printed: Vec::new(), room: usize::MAX, memory: u64::MAX,
     }) };
 }
 
@@ -510,12 +511,35 @@ const MOST_TURNS: u64 = 100_000;
 const PLACES: usize = 40_000;
 static REACHED: [AtomicBool; PLACES] = [const { AtomicBool::new(false) }; PLACES];
 
-/// Returns memory for so many bytes, until the case ends.
+/// Returns how many bytes of memory a case has: enough for two rings, or too few.
+pub fn memory_of(choices: &mut Choices) -> u64 {
+    let count = if choices.pick(4) == 0 { choices.pick(300) } else { 1 << 14 };
+    CASE.with_borrow_mut(|case| case.memory = count);
+    count
+}
+
+/// Returns so many bytes of memory, until the case ends.
 pub fn memory(count: u64) -> *mut u8 {
     let start = USED.fetch_add(count / 8 + 1, Ordering::Relaxed);
     assert!(start + count / 8 < CELLS as u64, "no memory for the MIR");
     // SAFETY: the cell is one of the array.
     unsafe { (&raw mut MEMORY_OF_CASE).cast::<u64>().add(start as usize).cast() }
+}
+
+/// Returns the memory of a case, as Rust code takes it.
+pub fn lent(count: u64) -> &'static mut [u8] {
+    // SAFETY: there are so many bytes, which nothing else has in this case.
+    unsafe { core::slice::from_raw_parts_mut(memory(count), count as usize) }
+}
+
+/// Returns memory for the MIR, or null if the case has no more.
+pub fn allocate(count: u64) -> *mut u8 {
+    let left = CASE.with_borrow_mut(|case| {
+        let left = case.memory.checked_sub(count);
+        case.memory = left.unwrap_or(case.memory);
+        left
+    });
+    if left.is_some() { memory(count) } else { core::ptr::null_mut() }
 }
 
 /// Ends the MIR if it goes round without an end.
@@ -550,7 +574,7 @@ fn once(choices: &mut Choices, side: Side) -> (Outcome, Vec<u64>) {
     CASE.with_borrow_mut(|case| {
         *case = Case {
             choices: place, answers, accesses: Vec::new(), kind: None, queue: VecDeque::new(), kept: [0; 8], printed: Vec::new(),
-            room: usize::MAX,
+            room: usize::MAX, memory: u64::MAX,
         }
     });
     let done = catch_unwind(AssertUnwindSafe(|| side(choices)));
