@@ -80,7 +80,7 @@ PLANTED = {
         (
             "uart_live/sound.rs",
             "<= TIMEOUT_CHARACTERS * char_ticks as u32",
-            "< TIMEOUT_CHARACTERS * char_ticks as u32",
+            "<= 1 + TIMEOUT_CHARACTERS * char_ticks as u32",
             [r"sound::is_sound_receiver: \d+ of \d+ cases differ"],
         ),
         (
