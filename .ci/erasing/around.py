@@ -13,7 +13,8 @@ name version edition rust-version description keywords categories license readme
 metadata
 """.split()
 SECTIONS = ["package", "lib", "features", "dependencies", "dev-dependencies", "workspace"]
-PATCH = {"patch": {"crates-io": {"embedded-io": {"path": "tests/embedded-io"}}}}
+# In .cargo/config.toml: a stand-in for a library, and that cargo asks no index.
+PATCH = {"patch": {"crates-io": {"embedded-io": {"path": "tests/embedded-io"}}}, "net": {"offline": True}}
 
 
 def of(package):

@@ -161,7 +161,7 @@ GUARDS["uart_virtual::port::send"] = Guard(
         "requires live { IsLive chip.old }",
         STILL,
         "requires sends { sends_at_once chip.old ≡ true }",
-        "requires settled { port.is_settled told ≡ true }",
+        "requires settled { port.ignores_falls told ≡ true }",
     ],
     reason=table.IN_FILE,
 )

@@ -61,10 +61,10 @@ def example(file, comments, path):
             if lines:
                 found.append(Edit("documentation", at, at, "".join(lines)))
             inside = not inside
-        elif inside and re.search(r"\brt;", comment.text):
+        elif inside and re.search(r"\brt\b", comment.text):
             text = re.sub(r"\b(assert(?:_eq|_ne)?!)\(rt;(?: |$)", r"\1(", comment.text)
-            if "rt;" in text:
-                raise Refused("an example with `rt;` of another form", comment.start)
+            if re.search(r"\brt\b", text):
+                raise Refused("an example with `rt` of another form", comment.start)
             found.append(Edit("documentation", comment.start, comment.end, text))
     if inside:
         raise Refused("an example with no end", comments[-1].start)

@@ -118,7 +118,7 @@ EXAMPLES = {
     "uart_16550::driver::frame::Uart16550::set_modem_control": compiles(UART),
     "uart_16550::driver::frame::Uart16550::set_rts": compiles(UART),
     "uart_16550::driver::frame::Uart16550::set_dtr": compiles(UART),
-    "uart_16550::driver::frame::Uart16550::attach": compiles(UART),
+    "uart_16550::driver::frame::Uart16550::attach": compiles("ports: Device"),
     "uart_16550::driver::init::Uart16550::check_present": compiles(UART),
     "uart_16550::driver::init::Uart16550::init": compiles(UART),
     "uart_16550::driver::loopback::Uart16550::test_loopback": compiles(UART),
@@ -198,11 +198,11 @@ EXAMPLES = {
     "uart_spec::config::BaudRate::from_integer": runs(SPEC),
     "uart_spec::config::Config": compiles(UART),
     "uart_spec::config::Config::is_computable": runs(SPEC, "let config = Config::DEFAULT;"),
-    "uart_spec::config::Config::nearest": compiles(""),
+    "uart_spec::config::Config::nearest": compiles(UART),
     "uart_ring::ring::receive::Uart16550Ring::take": compiles(RING + ", mut slots: [u8; 2]", items=["use uart_16550::ring;"]),
-    "uart_ring::ring::service::Uart16550Ring::service": in_port(),
+    "uart_ring::ring::service::Uart16550Ring::service": compiles(RING, items=["use uart_16550::ring;"]),
     "uart_ring::ring::service::Uart16550Ring::retrigger": compiles(RING, items=["use uart_16550::ring;"]),
-    "uart_ring::ring::service::Uart16550Ring::handle": compiles(RING, items=["use uart_16550::ring::{self, *};"]),
+    "uart_ring::ring::service::Uart16550Ring::handle": in_port(),
     "uart_ring::ring::status::Uart16550Ring::take_line": in_port(),
     "uart_ring::ring::status::Uart16550Ring::take_modem": in_port(),
     "uart_ring::ring::transmit::Uart16550Ring::resume_transmit": in_port(),
@@ -252,19 +252,57 @@ for register in ("lcr", "mcr", "lsr", "msr", "spr"):
 # The examples of the chip.
 SHARED_OF_CHIP = """// What the examples of the documentation share. Each includes this file; the crate itself does not.
 #[allow(unused_imports)]
-use uart_16550_chip::registers::{LSR, MSR};
+use uart_16550_chip::registers::{LSR, MSR, offsets};
 #[allow(unused_imports)]
-use uart_16550_chip::{Chip, ChipData, ChipError, LiveChip};
+use uart_16550_chip::Flags as _;
+#[allow(unused_imports)]
+use uart_16550_chip::{Chip, ChipData, ChipError, InputError, LiveChip, Todo, VirtualPort};
 
 #[allow(dead_code)]
 type Outcome<T = ()> = Result<T, Box<dyn std::error::Error>>;
+
+/// The host of a monitor's guest.
+#[allow(dead_code)]
+struct Host {
+    line: bool,
+    shown: Vec<u8>,
+}
+
+#[allow(dead_code)]
+impl Host {
+    fn take(&mut self, output: &[u8]) -> usize {
+        self.shown.extend(output);
+        output.len()
+    }
+
+    fn set_line(&mut self, level: bool) {
+        self.line = level;
+    }
+}
+
+#[allow(dead_code)]
+fn obey_signals(host: &mut Host, todo: Todo) {
+    host.set_line(todo.level);
+}
 """
 CHIP = "chip: &mut LiveChip"
+PORT_OF_GUEST = "port: &mut VirtualPort"
+HOST = "host: &mut Host"
+
+
+def in_monitor(parameters, result=None):
+    """An example that is the body of a function of a monitor, with these parameters. It compiles; it is not called."""
+    end = f" -> {result} {{" if result else " {"
+    return INCLUDE + [f"# fn example({parameters}){end}"], ["# }"]
+
+
 OF_CHIP = {
     "uart_live::live::LiveChip": compiles(f"{CHIP}, offset: u8, value: u8, elapsed: u16, sink: &mut [u8]"),
     "uart_live::live::LiveChip::new": (INCLUDE + ["# fn example() -> Result<LiveChip, ChipError> {"], ["# }"]),
     "uart_live::live::LiveChip::read": compiles(f"{CHIP}, offset: u8"),
     "uart_live::live::LiveChip::write": compiles(f"{CHIP}, offset: u8, value: u8, elapsed: u16"),
+    "uart_live::live::LiveChip::sends_at_once": compiles(f"{CHIP}, value: u8"),
+    "uart_live::live::LiveChip::send_at_once": compiles(f"{CHIP}, value: u8"),
     "uart_live::live::LiveChip::ticks": compiles(f"{CHIP}, elapsed: u16"),
     "uart_live::live::LiveChip::arrive": compiles(f"{CHIP}, byte: u8"),
     "uart_live::live::LiveChip::arrive_holding_timeout": compiles(f"{CHIP}, byte: u8"),
@@ -278,6 +316,16 @@ OF_CHIP = {
     "uart_live::live::LiveChip::wire": compiles(f"{CHIP}, sink: &mut [u8]"),
     "uart_live::live::LiveChip::take_wire": compiles(f"{CHIP}, sent: usize"),
     "uart_live::live::LiveChip::receive_room": compiles(f"{CHIP}, byte: u8"),
+    "uart_virtual::port::VirtualPort": in_monitor(f"{PORT_OF_GUEST}, {HOST}, offset: u8, value: u8"),
+    "uart_virtual::port::VirtualPort::new": in_monitor(""),
+    "uart_virtual::port::VirtualPort::read": in_monitor(f"{PORT_OF_GUEST}, {HOST}, offset: u8", "u8"),
+    "uart_virtual::port::VirtualPort::write": in_monitor(f"{PORT_OF_GUEST}, {HOST}, offset: u8, value: u8"),
+    "uart_virtual::port::VirtualPort::receive": in_monitor(f"{PORT_OF_GUEST}, {HOST}, input: &'static [u8]", "&'static [u8]"),
+    "uart_virtual::port::VirtualPort::receive_one": compiles(PORT_OF_GUEST),
+    "uart_virtual::port::VirtualPort::set_lines": compiles(PORT_OF_GUEST),
+    "uart_virtual::port::VirtualPort::output": in_monitor(f"{PORT_OF_GUEST}, {HOST}"),
+    "uart_virtual::port::VirtualPort::take_output": in_monitor(f"{PORT_OF_GUEST}, {HOST}, taken: usize"),
+    "uart_virtual::port::VirtualPort::level": in_monitor(f"{PORT_OF_GUEST}, {HOST}"),
     "uart_live::live::snapshot::LiveChip::data": compiles(CHIP),
     "uart_live::live::snapshot::LiveChip::from_data": compiles(f"{CHIP}, saved: &ChipData"),
 }

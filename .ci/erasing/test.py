@@ -312,7 +312,13 @@ SOURCES = [
         "uart_16550/src/driver.rt",
         "assert_eq!(rt; uart.fifo_enabled(), true);",
         "check!(rt; uart.fifo_enabled(), true);",
-        "an example with `rt;` of another form",
+        "an example with `rt` of another form",
+    ),
+    (
+        "uart_16550/src/driver.rt",
+        "assert_eq!(rt; uart.fifo_enabled(), true);",
+        "assert_equal(&rt, uart.fifo_enabled(), true);",
+        "an example with `rt` of another form",
     ),
 ]
 
@@ -456,6 +462,10 @@ CHIP_SOURCES = [
     ("uart_chip/src/lib.rt", "mod wire;", "mod wire;\nmod extra;", "extra.rt: declared, and not there"),
     ("uart_live/src/live.rt", "requires { offset < NUM_REGISTERS }\n        ensures answers", "ensures answers", "requires other things"),
     ("uart_spec/src/lib.rt", "pub use baud::{", "pub use config::*;\npub use baud::{", "a `use` of everything"),
+    ("uart_virtual/src/port.rt", "    chip.write(offset, value);\n", "", "write_slowly does not call write"),
+    ("uart_virtual/src/port.rt", "fn take(chip: &mut", "pub fn take(chip: &mut", "port::take can be reached"),
+    ("uart_virtual/src/port.rt", "requires sends { sends_at_once chip.old ≡ true }", "", "port::send requires other things"),
+    ("uart_chip/src/sending.rt", "requires { spec.sends_at_once", "requires { spec.is_ready", "send_at_once requires other things"),
 ]
 CHIP_ERASURES = [
     ("uart_live/fixed.rs", "(self.start + self.len) % FIFO_SIZE", "(self.start + self.len + 1) % FIFO_SIZE"),

@@ -84,7 +84,7 @@ calls! {
     list_push(list: &mut ArrayVec<u8, 16>, item: u8) { list.push(item) }
     list_as_slice(list: &ArrayVec<u8, 16>) -> &[u8] { list.as_slice() }
 
-    port_new(chip: Chip) -> Result<VirtualPort, ChipError> { VirtualPort::new(chip) }
+    port_new(chip: Chip) -> VirtualPort { VirtualPort::new(chip) }
     port_read(port: &mut VirtualPort, offset: u8) -> Answer { port.read(offset) }
     port_write(port: &mut VirtualPort, offset: u8, value: u8) -> Todo { port.write(offset, value) }
     port_receive(port: &mut VirtualPort, input: &[u8]) -> Received { port.receive(input) }

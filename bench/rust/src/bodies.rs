@@ -1,7 +1,8 @@
 //! The bodies. Each is a function of its own in the built program, so that callgrind can identify
 //! it.
 
-use crate::cells::Observed;
+use crate::cells::Cells;
+use crate::counted::{Ended, driver};
 use std::fmt::Write;
 use std::hint::black_box;
 use uart_16550::backend::Backend;
@@ -27,12 +28,12 @@ pub enum Body {
 
 #[inline(never)]
 fn send<B: Backend>(uart: &mut Uart16550<B>, bytes: &[u8]) -> bool {
-    uart.send_bytes_exact(bytes).is_ok()
+    uart.send_bytes_exact(bytes).well()
 }
 
 #[inline(never)]
 fn receive<B: Backend>(uart: &mut Uart16550<B>, buffer: &mut [u8]) -> bool {
-    uart.receive_bytes_exact(buffer).is_ok()
+    uart.receive_bytes_exact(buffer).well()
 }
 
 #[inline(never)]
@@ -64,7 +65,7 @@ fn text<B: Backend>(terminal: &mut Uart16550Tty<B>, line: &str) -> bool {
 fn config_with(level: Option<FifoTriggerLevel>) -> Config {
     black_box(Config {
         fifo_trigger_level: level,
-        ..Config::DEFAULT
+        ..Config::default()
     })
 }
 
@@ -85,11 +86,11 @@ impl Body {
         })
     }
 
-    /// Runs the body `count` times, and returns the digest of the backend.
-    pub fn run<B: Observed>(self, count: u64, backend: B) -> u64 {
+    /// Runs the body `count` times, and returns the digest of the cells.
+    pub fn run<C: Cells>(self, count: u64, cells: C) -> u64 {
         let mut buffer = vec![b'U'; BYTES];
         let letters = "U".repeat(BYTES);
-        let mut uart = Uart16550::new_with_backend(backend);
+        let mut uart = driver(cells);
         if self == Body::SendSingle {
             init(&mut uart, config_with(None));
         }
@@ -109,6 +110,6 @@ impl Body {
                 Body::Text => _ = black_box(text(&mut terminal, &letters)),
             }
         }
-        terminal.inner().backend().digest()
+        terminal.inner().backend().0.digest()
     }
 }

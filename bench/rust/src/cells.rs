@@ -1,11 +1,16 @@
 //! Memory cells instead of a device.
 
 use std::ptr;
-use uart_16550::backend::Backend;
 use uart_16550::spec::registers::offsets;
 
-/// A backend that says what its accesses came to.
-pub trait Observed: Backend {
+/// A cell for each register.
+pub trait Cells {
+    /// Reads the cell of the register at this offset.
+    fn load(&mut self, register_offset: u8) -> u8;
+
+    /// Writes it.
+    fn store(&mut self, register_offset: u8, value: u8);
+
     /// Returns a number that depends on every access that counts.
     fn digest(&self) -> u64;
 }
@@ -40,24 +45,22 @@ fn filled(filling: u8, lsr: u8) -> [u8; 8] {
     cells
 }
 
-impl Backend for Folding {
+impl Cells for Folding {
     #[inline(always)]
-    fn read(&mut self, register_offset: u8) -> u8 {
+    fn load(&mut self, register_offset: u8) -> u8 {
         let value = self.cells[register_offset as usize];
         self.fold(value);
         value
     }
 
     #[inline(always)]
-    fn write(&mut self, register_offset: u8, value: u8) {
+    fn store(&mut self, register_offset: u8, value: u8) {
         if register_offset as usize != offsets::LSR {
             self.cells[register_offset as usize] = value;
         }
         self.fold(value);
     }
-}
 
-impl Observed for Folding {
     fn digest(&self) -> u64 {
         self.digest
     }
@@ -76,44 +79,40 @@ impl Volatile {
     }
 }
 
-impl Backend for Volatile {
+impl Cells for Volatile {
     #[inline(always)]
-    fn read(&mut self, register_offset: u8) -> u8 {
+    fn load(&mut self, register_offset: u8) -> u8 {
         let cell = &raw const self.cells[register_offset as usize];
         // SAFETY: the cell is one of this object's.
         unsafe { ptr::read_volatile(cell) }
     }
 
     #[inline(always)]
-    fn write(&mut self, register_offset: u8, value: u8) {
+    fn store(&mut self, register_offset: u8, value: u8) {
         let cell = &raw mut self.cells[register_offset as usize];
         // SAFETY: the cell is one of this object's.
         unsafe { ptr::write_volatile(cell, value) }
     }
-}
 
-impl Observed for Volatile {
     fn digest(&self) -> u64 {
         u64::from_le_bytes(self.cells)
     }
 }
 
 /// Cells whose accesses stay calls in the built program, as those of a device behind a library.
-pub struct Called<B>(pub B);
+pub struct Called<C>(pub C);
 
-impl<B: Backend> Backend for Called<B> {
+impl<C: Cells> Cells for Called<C> {
     #[inline(never)]
-    fn read(&mut self, register_offset: u8) -> u8 {
-        self.0.read(register_offset)
+    fn load(&mut self, register_offset: u8) -> u8 {
+        self.0.load(register_offset)
     }
 
     #[inline(never)]
-    fn write(&mut self, register_offset: u8, value: u8) {
-        self.0.write(register_offset, value);
+    fn store(&mut self, register_offset: u8, value: u8) {
+        self.0.store(register_offset, value);
     }
-}
 
-impl<B: Observed> Observed for Called<B> {
     fn digest(&self) -> u64 {
         self.0.digest()
     }

@@ -1,10 +1,11 @@
-//! Runs one body of the crate over a backend of memory cells, for `measure-rust.sh` to count its
+//! Runs one body of a crate over a backend of memory cells, for `measure-rust.sh` to count its
 //! instructions.
 //!
 //! `measure_rust BODY BACKEND COUNT`: the bodies are those of `crates/uart_bench`.
 
 mod bodies;
 mod cells;
+mod counted;
 
 use bodies::Body;
 use cells::{Called, Folding, Volatile};

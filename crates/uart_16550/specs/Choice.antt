@@ -6,7 +6,7 @@ use Rattle.uart_spec.specs.declared.access.Access.TheVariants.{Read, Write}
 use Rattle.uart_16550.specs.Grammar.{Language}
 use Rattle.uart_16550.specs.Driver.{Did, Doing, Fields, Made, backend_of, fields}
 use Rattle.uart_16550.specs.Receive.{Receives, ReceivesWithErrors, ReceivesExact, filled}
-use Rattle.uart_16550.specs.declared.driver.receive.Received.{Received}
+use Rattle.uart_spec.specs.declared.received.Received.{Received}
 use Rattle.uart_16550.specs.Io.{Reads, got}
 use Rattle.uart_16550.specs.declared.driver.Uart16550.{Uart16550}
 

@@ -16,7 +16,7 @@ use Rattle.uart_spec.specs.declared.access.Access.TheVariants.{Read}
 use Rattle.uart_16550.specs.Grammar.{Language, Only}
 use Rattle.uart_16550.specs.Driver.{Doing, Sets, with_limit}
 use Rattle.uart_16550.specs.Receive.{ReadyToReceive, TryReceive, TryReceiveWithErrors}
-use Rattle.uart_16550.specs.declared.driver.receive.Received.{Received}
+use Rattle.uart_spec.specs.declared.received.Received.{Received}
 use Rattle.uart_16550.specs.Transmit.{ReadyToSend, Sends, TrySends, SendsExact}
 use Rattle.uart_16550.specs.Status.{TakesLsr, TakesMsr, Connects, ReadsDivisor, Enables, Disables, Dumps}
 use Rattle.uart_16550.specs.Status.{Retriggers}

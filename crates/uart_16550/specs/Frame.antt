@@ -52,15 +52,18 @@ SetsFrame config (Err cause) f l after = DivisorOf config (Err cause) × (l ≡ 
 abbrev pub ShowsIdle : Bool → Language
 ShowsIdle idle = Asks offsets.LSR LSR.TRANSMITTER_EMPTY.0 idle
 
--- `set_break`: LCR is read, and written with this bit set or cleared
+-- ---- single bits
+
+-- a value with these bits set, or cleared
 abbrev pub switched : (on : Bool) → (bits value : ℕ) → ℕ
 switched on bits value = if on then bit_or value bits else without 8 value bits
 
--- the value that is written has this bit as asked, and the other bits of the value that was read
+-- of a value that is read, what is written has this bit as asked, and the other bits as they were
 abbrev pub ChangesOnly : (bit : ℕ) → Type 0
 ChangesOnly bit = (on : Bool) (value : ℕ) →
     (has (switched on bit value) bit ≡ on) × (without 8 (switched on bit value) bit ≡ without 8 value bit)
 
+-- `set_break`: LCR is read, and written with the break set or cleared
 abbrev pub SetsBreak : Bool → Language
 SetsBreak on = Modifies offsets.LCR (switched on LCR.SET_BREAK.0)
 
@@ -78,7 +81,7 @@ SetsControl bits = Only (Write offsets.MCR (unlooped bits) ∷ [])
 abbrev pub SetsOutput : (output : ℕ) → Bool → Language
 SetsOutput output on = Modifies offsets.MCR (λ mcr. unlooped (switched on output mcr))
 
--- the value that is written has this output as asked, and the other bits of the value that was read, without loopback
+-- of a value that is read, what is written has this output as asked, and the other bits as they were, without loopback
 abbrev pub ChangesOutput : (output : ℕ) → Type 0
 ChangesOutput output = (on : Bool) (mcr : ℕ) →
     (has (unlooped (switched on output mcr)) output ≡ on)

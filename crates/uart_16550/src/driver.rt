@@ -4,7 +4,6 @@ ghost use Rattle.std.specs.Borrow.{Lends, sem};
 ghost use Rattle.std.specs.Int.NonZero.{non_zero_u64_get};
 ghost use Rattle.uart_spec.specs.declared.baud.TheConstants.{NUM_REGISTERS};
 ghost use Rattle.uart_spec.specs.declared.registers.offsets.TheConstants as offsets;
-ghost use Rattle.uart_spec.specs.declared.access.Access.{Access};
 ghost use Rattle.uart_spec.specs.declared.access.Access.TheVariants.{Read, Write};
 ghost use Rattle.uart_16550.specs.Grammar.{Only};
 ghost use Rattle.uart_16550.specs.Driver.{Made, Did, Plain, Sets, IsFresh};
@@ -21,7 +20,6 @@ mod transmit;
 
 use crate::backend::Backend;
 use bitflags::Flags;
-pub use receive::Received;
 pub use state::DriverState;
 use std::num::NonZeroU64;
 use uart_spec::Config;
@@ -39,8 +37,8 @@ const PIECE_SIZE: usize = 128;
 /// A driver for one serial chip of the 16550 family, over any backend.
 ///
 /// Construct it with `new_port`, `new_mmio` or `new_with_backend`, and call `init` before any other
-/// call. `test_loopback` then tests whether the chip works, and `check_connected` whether a remote
-/// is ready.
+/// call, or `attach` on a port that is set up already. `test_loopback` then tests whether the chip
+/// works, and `check_connected` whether a remote is ready.
 ///
 /// No call blocks forever. `init`, `test_loopback`, `send_bytes_exact`, `receive_bytes_exact`, and
 /// the calls `read`, `write` and `flush` of the traits in [`embedded_io`](crate::embedded_io) poll
@@ -71,9 +69,9 @@ pub struct Uart16550<B> {
 impl<B: Backend> Uart16550<B> {
     /// Returns a driver over this backend.
     ///
-    /// Makes no access: call `init` before any other call. Until then the configuration is
-    /// `Config::DEFAULT`, no status bits are saved, and the FIFO is taken to be on. So a send
-    /// before `init` may write 16 bytes into a chip without a FIFO, which keeps one of them.
+    /// Makes no access: call `init` before any other call, or `attach`. Until then the
+    /// configuration is `Config::DEFAULT`, no status bits are saved, and the FIFO is taken to be
+    /// on. So a send before may write 16 bytes into a chip without a FIFO, which keeps one of them.
     ///
     /// # Examples
     ///
@@ -128,7 +126,8 @@ impl<B: Backend> Uart16550<B> {
     }
 
     /// Returns the configuration of the last `init`, with the interrupts as they were enabled and
-    /// disabled since. Makes no access.
+    /// disabled since, and with the clock, the baud rate and the frame of the last `set_frame`
+    /// since. Makes no access.
     ///
     /// If that `init` failed with `InvalidBaudRate`, it is the configuration before it. If it
     /// failed with `DeviceNotPresent` or `Stalled`, it is the new one.
@@ -148,8 +147,8 @@ impl<B: Backend> Uart16550<B> {
         &self.config
     }
 
-    /// Returns whether the chip has a FIFO that is on, as the last `init` or `test_loopback` read
-    /// it from ISR. Makes no access.
+    /// Returns whether the chip has a FIFO that is on, as the last `init`, `attach` or
+    /// `test_loopback` read it from ISR. Makes no access.
     ///
     /// A driver that was never initialised takes the FIFO to be on. If it is on, a send check is
     /// followed by up to 16 bytes, else by one.

@@ -1,7 +1,7 @@
 //! Laws about the calls of a driver. They follow from the contracts of the calls.
 //!
 //! The contract of each function is a law that callers can cite. The functions do nothing.
-ghost use Rattle.std.specs.Prelude.{◌≡◌, ℕ, Bool, [], ◌∷◌};
+ghost use Rattle.std.specs.Prelude.{◌≡◌, [], ◌∷◌};
 ghost use Rattle.uart_spec.specs.Orders.{partial_in_turn};
 ghost use Rattle.uart_16550.specs.Choice.{Agree, AgreeSaving, HasOneOutcome};
 ghost use Rattle.uart_16550.specs.Choice.{HasOneOutcomeSaving, IsFunction, LeavesNoChoice};
@@ -13,6 +13,7 @@ ghost use Rattle.uart_16550.specs.Mmio.{Mapped};
 ghost use Rattle.uart_16550.specs.Pio.{Ports};
 ghost use Rattle.uart_16550.specs.Replay.{Repeats, RepeatsSaving};
 ghost use Rattle.uart_16550.specs.declared.driver.TheConstants.{DEFAULT_SPIN_LIMIT};
+ghost use Rattle.uart_16550.specs.declared.replay.TheConstants.{REPLAY_ROOM};
 ghost use Rattle.uart_spec.specs.declared.registers.line_control.TheConstants.LCR;
 ghost use Rattle.uart_spec.specs.declared.registers.modem_control.TheConstants.MCR;
 
@@ -64,6 +65,11 @@ pub fn switches_change_one_bit()
 /// The spin limit of a driver until `set_spin_limit` is called.
 pub fn default_spin_limit_is_this()
     ensures { DEFAULT_SPIN_LIMIT ≡ 1000000 }
+{}
+
+/// The number of accesses that a [`Replay`](crate::replay::Replay) keeps.
+pub fn replay_room_is_this()
+    ensures { REPLAY_ROOM ≡ 512 }
 {}
 
 /// Backends are compared by where the first register is, then those in memory by their stride, and

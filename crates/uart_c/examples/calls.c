@@ -9,7 +9,7 @@
 #include <stdlib.h>
 #include <string.h>
 
-enum { CALLS = UART_DUMP + 1, ANSWERS = UART_ANSWER_NOT_SENT + 1 };
+enum { CALLS = UART_RECEIVE_WITH_ERRORS + 1, ANSWERS = UART_ANSWER_BYTES_WITH_ERRORS + 1 };
 enum { SPIN_LIMIT = 3, TAPE_ROOM = 256 };
 
 /* How the driver is before a call, beside what a new one is. */
@@ -116,6 +116,29 @@ static const struct row rows[] = {
     {"write", NEW, BYTES(UART_WRITE, "ab"), "r5=00 r5=20 w0=61 w0=62 ", COUNT(UART_ANSWER_COUNT, 2)},
     {"config_register_dump", NEW, PLAIN(UART_DUMP), LATCH "r1=05 r2=c1 r3=1b r4=0b r5=60 r6=b0 r7=a5 ",
      HELD(UART_ANSWER_DUMP, "\x05\xc1\x1b\x0b\x60\xb0\xa5\x80\x01")},
+    {"set_frame", NEW, {.kind = UART_SET_FRAME, .config = {.frequency = 1843200, .baud_rate = 38400, .data_bits = 7}},
+     "w3=82 w0=03 w1=00 w3=02 ", DONE},
+    {"set_frame at a rate without divisor", NEW, {.kind = UART_SET_FRAME, .config = CONFIG(7211, 14)}, "",
+     VALUE(UART_ANSWER_FRAME_REFUSED, UART_FRAME_NO_WHOLE_DIVISOR)},
+    {"set_frame at a rate with too large a divisor", NEW, {.kind = UART_SET_FRAME, .config = CONFIG(1, 14)}, "",
+     VALUE(UART_ANSWER_FRAME_REFUSED, UART_FRAME_DIVISOR_OUT_OF_RANGE)},
+    {"attach", NEW, PLAIN(UART_ATTACH), "r3=1b r4=0b r2=c1 " LATCH, {.kind = UART_ANSWER_LATCH, .value = 0x80, .second = 0x01}},
+    {"attach, open latch", NEW, PLAIN(UART_ATTACH), "r3=9b ", VALUE(UART_ANSWER_ATTACH_REFUSED, UART_ATTACH_DIVISOR_LATCH_OPEN)},
+    {"attach, in loopback", NEW, PLAIN(UART_ATTACH), "r3=1b r4=1b ", VALUE(UART_ANSWER_ATTACH_REFUSED, UART_ATTACH_LOOPBACK)},
+    {"set_break, begin", NEW, BYTE(UART_SET_BREAK, 1), "r3=1b w3=5b ", DONE},
+    {"set_break, end", NEW, BYTE(UART_SET_BREAK, 0), "r3=5b w3=1b ", DONE},
+    {"set_modem_control", NEW, BYTE(UART_SET_MODEM_CONTROL, 0x1d), "w4=0d ", DONE},
+    {"set_rts, assert", NEW, BYTE(UART_SET_RTS, 1), "r4=09 w4=0b ", DONE},
+    {"set_rts, clear", NEW, BYTE(UART_SET_RTS, 0), "r4=0b w4=09 ", DONE},
+    {"set_dtr, assert", NEW, BYTE(UART_SET_DTR, 1), "r4=0a w4=0b ", DONE},
+    {"set_dtr, clear", NEW, BYTE(UART_SET_DTR, 0), "r4=0b w4=0a ", DONE},
+    {"peek_modem", NEW, PLAIN(UART_PEEK_MODEM), "r6=3f ", VALUE(UART_ANSWER_REGISTER, 0x3f)},
+    {"is_idle", NEW, PLAIN(UART_IS_IDLE), "r5=40 ", VALUE(UART_ANSWER_FLAG, 1)},
+    {"is_idle, not yet", NEW, PLAIN(UART_IS_IDLE), "r5=bf ", VALUE(UART_ANSWER_FLAG, 0)},
+    {"retrigger_interrupts", NEW, PLAIN(UART_RETRIGGER_INTERRUPTS), "r1=05 w1=00 w1=05 ", DONE},
+    {"receive_with_errors", NEW, SLOTS(UART_RECEIVE_WITH_ERRORS, 3), "r5=05 r0=61 r5=9b r0=00 r5=60 ",
+     {.kind = UART_ANSWER_BYTES_WITH_ERRORS, .count = 2, .bytes = "a\0", .errors = {0x04, 0x1a}}},
+    {"receive_with_errors, no data", NEW, SLOTS(UART_RECEIVE_WITH_ERRORS, 3), "r5=60 ", PLAIN(UART_ANSWER_BYTES_WITH_ERRORS)},
 };
 
 /* What is left of a row's list. */
@@ -152,7 +175,7 @@ static void make(struct device *device, struct uart_access *access)
 static int is_same(const struct uart_answer *a, const struct uart_answer *b)
 {
     return a->kind == b->kind && a->value == b->value && a->second == b->second && a->count == b->count &&
-           memcmp(a->bytes, b->bytes, sizeof a->bytes) == 0;
+           memcmp(a->bytes, b->bytes, sizeof a->bytes) == 0 && memcmp(a->errors, b->errors, sizeof a->errors) == 0;
 }
 
 /* Makes a row's call, and says whether it made the accesses and returned the answer, in which the fields that do not count are 0. */
@@ -181,6 +204,7 @@ static int is_made(const struct row *row)
 static void refuse(void)
 {
     const struct uart_access stray = {.offset = 3, .is_write = 1, .value = 0};
+    const uint8_t switches[] = {UART_SET_BREAK, UART_SET_RTS, UART_SET_DTR};
     struct uart_call call = {.kind = UART_LSR};
     struct uart_access access = {0};
     struct uart_answer answer = {0};
@@ -190,6 +214,11 @@ static void refuse(void)
     printf("another access: step %" PRIu32 "\n", uart_step(&driver, &call, &stray, 1, &access, &answer));
     call.kind = CALLS;
     printf("another kind: step %" PRIu32 "\n", uart_step(&driver, &call, &stray, 1, &access, &answer));
+    call.byte = 2;
+    for (size_t i = 0; i < sizeof switches / sizeof *switches; i++) {
+        call.kind = switches[i];
+        printf("neither on nor off: step %" PRIu32 "\n", uart_step(&driver, &call, &stray, 1, &access, &answer));
+    }
 }
 
 int main(void)

@@ -66,10 +66,10 @@ int main(void)
         {.status = {0x00, 0x00}}, {.status = {0x60, 0x60}}, {.status = {0x61, 0x61}},
         {.status = {0x60, 0x71}}, {.status = {0xff, 0xff}}};
     struct uart_call call = {.config = {.frequency = 1843200, .baud_rate = 9600, .data_bits = 8},
-                             .byte = 'a', .len = 3, .bytes = "abc"};
+                             .byte = 1, .len = 3, .bytes = "abc"};
 
     alarm(MOST_SECONDS);
-    for (call.kind = UART_INIT; call.kind <= UART_DUMP; call.kind++)
+    for (call.kind = UART_INIT; call.kind <= UART_RECEIVE_WITH_ERRORS; call.kind++)
         for (int flags = 0; flags < 4; flags++)
             for (size_t i = 0; i < sizeof devices / sizeof *devices; i++) {
                 struct uart_driver driver;

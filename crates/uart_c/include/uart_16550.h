@@ -367,7 +367,17 @@ enum uart_call_kind {
     UART_SEND = 25,             /* bytes and len */
     UART_SEND_EXACT = 26,       /* bytes and len */
     UART_WRITE = 27,            /* bytes and len */
-    UART_DUMP = 28              /* all registers, and the divisor latch */
+    UART_DUMP = 28,             /* all registers, and the divisor latch */
+    UART_SET_FRAME = 29,        /* config: the clock, the baud rate, the data and stop bits and the parity; ends a break */
+    UART_ATTACH = 30,           /* takes a port as it was set up, for example by firmware */
+    UART_SET_BREAK = 31,        /* byte: 1 begins a break, 0 ends it */
+    UART_SET_MODEM_CONTROL = 32, /* byte: as in MCR; UART_MCR_LOOP_BACK is cleared whatever the byte has */
+    UART_SET_RTS = 33,          /* byte: 1 asserts RTS, 0 clears it; clears loopback */
+    UART_SET_DTR = 34,          /* byte: 1 asserts DTR, 0 clears it; clears loopback */
+    UART_PEEK_MODEM = 35,       /* MSR as it is now; the changes that this clears are kept for the next UART_MSR */
+    UART_IS_IDLE = 36,          /* whether the transmitter is empty: the FIFO and the shift register */
+    UART_RETRIGGER_INTERRUPTS = 37, /* clears IER and writes it back: the interrupt line falls, and may rise again */
+    UART_RECEIVE_WITH_ERRORS = 38 /* len: how many bytes at most; does not wait */
 };
 
 /* A call. Which fields count depends on its kind. */
@@ -392,7 +402,7 @@ enum uart_answer_kind {
     UART_ANSWER_COUNT = 2,           /* count: how many bytes were sent */
     UART_ANSWER_BYTES = 3,           /* bytes and count */
     UART_ANSWER_REGISTER = 4,        /* value: a register, or the byte that was received */
-    UART_ANSWER_LATCH = 5,           /* value and second: DLL and DLM */
+    UART_ANSWER_LATCH = 5,           /* value and second: DLL and DLM; also of UART_ATTACH */
     UART_ANSWER_DUMP = 6,            /* bytes and count: IER, ISR, LCR, MCR, LSR, MSR, SPR, DLL and DLM */
     UART_ANSWER_STALLED = 7,         /* count: how many bytes were sent before a wait came to the limit */
     UART_ANSWER_RECEIVE_STALLED = 8, /* bytes and count: what was received before a wait came to the limit */
@@ -401,8 +411,9 @@ enum uart_answer_kind {
     UART_ANSWER_NOT_CONNECTED = 11,  /* value: an enum uart_remote_error */
     UART_ANSWER_NO_DATA = 12,
     UART_ANSWER_NOT_SENT = 13,       /* value: an enum uart_send_error */
-    UART_ANSWER_FRAME_REFUSED = 14,
-    UART_ANSWER_ATTACH_REFUSED = 15
+    UART_ANSWER_FRAME_REFUSED = 14,  /* value: an enum uart_frame_error */
+    UART_ANSWER_ATTACH_REFUSED = 15, /* value: an enum uart_attach_error */
+    UART_ANSWER_BYTES_WITH_ERRORS = 16 /* bytes, errors and count: each byte, and its errors in the same place */
 };
 
 /* Why an initialisation failed. */
@@ -410,6 +421,18 @@ enum uart_init_error {
     UART_INIT_DEVICE_NOT_PRESENT = 0,
     UART_INIT_INVALID_BAUD_RATE = 1, /* no whole divisor gives it */
     UART_INIT_STALLED = 2            /* the transmitter did not become empty within the limit */
+};
+
+/* Why a frame cannot be set. No access was made, and nothing changed. */
+enum uart_frame_error {
+    UART_FRAME_NO_WHOLE_DIVISOR = 0, /* no whole divisor gives the baud rate */
+    UART_FRAME_DIVISOR_OUT_OF_RANGE = 1 /* the divisor does not fit into the 16 bits of the divisor latch */
+};
+
+/* Why a port cannot be taken as it is. Nothing was written. */
+enum uart_attach_error {
+    UART_ATTACH_DIVISOR_LATCH_OPEN = 0, /* UART_LCR_DLAB is set */
+    UART_ATTACH_LOOPBACK = 1         /* the chip is in loopback */
 };
 
 /* Why a loopback test failed. */
@@ -440,6 +463,7 @@ struct uart_answer {
     uint8_t value;
     uint8_t second;
     uint8_t bytes[UART_CALL_BYTES];
+    uint8_t errors[UART_CALL_BYTES]; /* bits of UART_LSR_LINE_ERRORS */
 };
 
 enum uart_step_status {
@@ -458,8 +482,9 @@ void uart_driver_new(struct uart_driver *driver, uint64_t spin_limit);
  * done, and *access if one is asked for; nothing else is changed.
  *
  * Returns an enum uart_step_status, but never UART_STEP_TAPE_FULL. It is UART_STEP_NOT_RUNNABLE exactly if kind is none of
- * enum uart_call_kind; or len is more than UART_CALL_BYTES in a call in which it counts; or, in UART_INIT, frequency or
- * baud_rate is 0, or the prescaler division factor is more than 15.
+ * enum uart_call_kind; or len is more than UART_CALL_BYTES in a call in which it counts; or byte is more than 1 in
+ * UART_SET_BREAK, UART_SET_RTS or UART_SET_DTR; or, in UART_INIT or UART_SET_FRAME, frequency or baud_rate is 0, or the
+ * prescaler division factor is more than 15.
  */
 uint32_t uart_step(struct uart_driver *driver, const struct uart_call *call, const struct uart_access *made, size_t made_len,
                    struct uart_access *access, struct uart_answer *answer);

@@ -1,5 +1,5 @@
 -- The calls of the driver, their accesses and their answers, as data of C.
-use Rattle.std.specs.Prelude.{◌≡◌, ℕ, List, [], ◌∷◌, ◌++◌, ◌-◌, take, length, replicate, if◌then◌else◌}
+use Rattle.std.specs.Prelude.{◌≡◌, ℕ, List, [], ◌∷◌, ◌++◌, ◌-◌, take, length, replicate, map, if◌then◌else◌}
 use Rattle.uart_spec.specs.declared.dump.ConfigRegisterDump.{ConfigRegisterDump}
 use Rattle.uart_c.specs.Driver.{config_of}
 use Rattle.uart_c.specs.Queue.{is_on}
@@ -15,14 +15,19 @@ use Rattle.uart_spec.specs.declared.call.Answer.TheVariants as answer
 use Rattle.uart_spec.specs.declared.access.Access.{Access}
 use Rattle.uart_spec.specs.declared.access.Access.TheVariants.{Read, Write}
 use Rattle.uart_spec.specs.Bits.{flag}
+use Rattle.uart_spec.specs.declared.errors.AttachError.{AttachError}
+use Rattle.uart_spec.specs.declared.errors.AttachError.TheVariants as attach_error
 use Rattle.uart_spec.specs.declared.errors.ByteSendError.{ByteSendError}
 use Rattle.uart_spec.specs.declared.errors.ByteSendError.TheVariants as send_error
 use Rattle.uart_spec.specs.declared.errors.InitError.{InitError}
 use Rattle.uart_spec.specs.declared.errors.InitError.TheVariants as init_error
+use Rattle.uart_spec.specs.declared.errors.InvalidDivisorError.{InvalidDivisorError}
+use Rattle.uart_spec.specs.declared.errors.InvalidDivisorError.TheVariants as frame_error
 use Rattle.uart_spec.specs.declared.errors.LoopbackError.{LoopbackError}
 use Rattle.uart_spec.specs.declared.errors.LoopbackError.TheVariants as loopback_error
 use Rattle.uart_spec.specs.declared.errors.RemoteReadyToReceiveError.{RemoteReadyToReceiveError}
 use Rattle.uart_spec.specs.declared.errors.RemoteReadyToReceiveError.TheVariants as remote_error
+use Rattle.uart_spec.specs.declared.received.Received.{Received}
 use Rattle.uart_calls.specs.declared.tape.Request.{Request}
 use Rattle.uart_calls.specs.declared.tape.Request.TheVariants as request
 
@@ -69,15 +74,17 @@ IsCall c (call.Read count) = (c.kind ≡ code.UART_READ) × (count ≡ c.len)
 IsCall c (call.Send bytes) = (c.kind ≡ code.UART_SEND) × IsGiven c bytes.items
 IsCall c (call.SendExact bytes) = (c.kind ≡ code.UART_SEND_EXACT) × IsGiven c bytes.items
 IsCall c (call.Write bytes) = (c.kind ≡ code.UART_WRITE) × IsGiven c bytes.items
+IsCall c (call.SetFrame config) = (c.kind ≡ code.UART_SET_FRAME) × (config ≡ config_of c.config)
+IsCall c call.Attach = c.kind ≡ code.UART_ATTACH
+IsCall c (call.SetBreak on) = (c.kind ≡ code.UART_SET_BREAK) × (c.byte ≡ flag on 1)
+IsCall c (call.SetModemControl outputs) = (c.kind ≡ code.UART_SET_MODEM_CONTROL) × (outputs.0 ≡ c.byte)
+IsCall c (call.SetRts on) = (c.kind ≡ code.UART_SET_RTS) × (c.byte ≡ flag on 1)
+IsCall c (call.SetDtr on) = (c.kind ≡ code.UART_SET_DTR) × (c.byte ≡ flag on 1)
+IsCall c call.PeekModem = c.kind ≡ code.UART_PEEK_MODEM
+IsCall c call.IsIdle = c.kind ≡ code.UART_IS_IDLE
+IsCall c call.RetriggerInterrupts = c.kind ≡ code.UART_RETRIGGER_INTERRUPTS
+IsCall c (call.ReceiveWithErrors count) = (c.kind ≡ code.UART_RECEIVE_WITH_ERRORS) × (count ≡ c.len)
 IsCall c call.Next = ⊥
-IsCall c (call.SetFrame config) = ⊥
-IsCall c call.PeekModem = ⊥
-IsCall c call.IsIdle = ⊥
-IsCall c call.Attach = ⊥
-IsCall c (call.SetBreak on) = ⊥
-IsCall c (call.SetModemControl outputs) = ⊥
-IsCall c (call.SetRts on) = ⊥
-IsCall c (call.SetDtr on) = ⊥
 IsCall c (call.Text text) = ⊥
 
 -- the one struct of C that asks for an access: a flag of 0 or 1, and the value 0 for a read
@@ -89,7 +96,15 @@ asked (request.Write offset value) = record { offset = offset; is_write = 1; val
 
 -- an answer with nothing but its kind; with two values; with a count
 abbrev pub of_kind : (kind : ℕ) → UartAnswer
-of_kind kind = record { count = 0; kind = kind; value = 0; second = 0; bytes = replicate CALL_BYTES 0 }
+of_kind kind =
+    record {
+      count = 0;
+      kind = kind;
+      value = 0;
+      second = 0;
+      bytes = replicate CALL_BYTES 0;
+      errors = replicate CALL_BYTES 0;
+    }
 
 abbrev pub of_value : (kind value second : ℕ) → UartAnswer
 of_value kind value second = record (of_kind kind) { value = value; second = second }
@@ -98,9 +113,24 @@ abbrev pub of_count : (kind count : ℕ) → UartAnswer
 of_count kind count = record (of_kind kind) { count = count }
 
 -- bytes, with 0 in the places behind them
+abbrev pub padded : List ℕ → List ℕ
+padded bytes = bytes ++ replicate (CALL_BYTES - length bytes) 0
+
 abbrev pub of_bytes : (kind : ℕ) → List ℕ → UartAnswer
-of_bytes kind bytes =
-    record (of_kind kind) { count = length bytes; bytes = bytes ++ replicate (CALL_BYTES - length bytes) 0 }
+of_bytes kind bytes = record (of_kind kind) { count = length bytes; bytes = padded bytes }
+
+-- a received byte; its errors, where LSR has them
+abbrev pub byte_of : Received → ℕ
+byte_of received = received.byte
+
+abbrev pub errors_of : Received → ℕ
+errors_of received = received.errors.0
+
+-- bytes with the errors of each in the same place
+abbrev pub of_received : List Received → UartAnswer
+of_received received =
+    record (of_bytes code.UART_ANSWER_BYTES_WITH_ERRORS (map byte_of received))
+    { errors = padded (map errors_of received) }
 
 -- the registers of a dump, in the order in which they are listed
 abbrev pub registers_of : ConfigRegisterDump → List ℕ
@@ -112,6 +142,14 @@ abbrev pub init_code : InitError → ℕ
 init_code init_error.DeviceNotPresent = code.UART_INIT_DEVICE_NOT_PRESENT
 init_code (init_error.InvalidBaudRate error) = code.UART_INIT_INVALID_BAUD_RATE
 init_code init_error.Stalled = code.UART_INIT_STALLED
+
+abbrev pub frame_code : InvalidDivisorError → ℕ
+frame_code (frame_error.NonInteger error) = code.UART_FRAME_NO_WHOLE_DIVISOR
+frame_code (frame_error.OutOfRange divisor) = code.UART_FRAME_DIVISOR_OUT_OF_RANGE
+
+abbrev pub attach_code : AttachError → ℕ
+attach_code attach_error.DivisorLatchOpen = code.UART_ATTACH_DIVISOR_LATCH_OPEN
+attach_code attach_error.Loopback = code.UART_ATTACH_LOOPBACK
 
 abbrev pub remote_code : RemoteReadyToReceiveError → ℕ
 remote_code remote_error.NoRemoteConnectedNoDSR = code.UART_REMOTE_NO_DSR
@@ -148,5 +186,6 @@ shown (answer.LoopbackRefused error) = loopback_refused error
 shown (answer.NotConnected error) = of_value code.UART_ANSWER_NOT_CONNECTED (remote_code error) 0
 shown answer.NoData = of_kind code.UART_ANSWER_NO_DATA
 shown (answer.NotSent error) = of_value code.UART_ANSWER_NOT_SENT (send_code error) 0
-shown (answer.FrameRefused error) = of_kind code.UART_ANSWER_FRAME_REFUSED
-shown (answer.AttachRefused error) = of_kind code.UART_ANSWER_ATTACH_REFUSED
+shown (answer.FrameRefused error) = of_value code.UART_ANSWER_FRAME_REFUSED (frame_code error) 0
+shown (answer.AttachRefused error) = of_value code.UART_ANSWER_ATTACH_REFUSED (attach_code error) 0
+shown (answer.BytesWithErrors received) = of_received received.items

@@ -1,23 +1,30 @@
 //! What a call returned, as plain data.
-ghost use Rattle.std.specs.Prelude.{◌≡◌, ◌≤◌, length};
+ghost use Rattle.std.specs.Prelude.{◌≡◌, ◌≤◌, length, map};
 ghost use Rattle.uart_c.specs.Calls as spec;
-ghost use Rattle.uart_c.specs.Calls.{init_code, registers_of, remote_code, send_code};
+ghost use Rattle.uart_c.specs.Calls.{attach_code, byte_of, errors_of, frame_code, init_code};
+ghost use Rattle.uart_c.specs.Calls.{registers_of, remote_code, send_code};
 
 use crate::codes::{
-    UART_ANSWER_ATTACH_REFUSED, UART_ANSWER_BYTES, UART_ANSWER_COUNT, UART_ANSWER_DONE,
-    UART_ANSWER_DUMP, UART_ANSWER_FLAG, UART_ANSWER_FRAME_REFUSED, UART_ANSWER_INIT_REFUSED,
-    UART_ANSWER_LATCH, UART_ANSWER_LOOPBACK_REFUSED, UART_ANSWER_NO_DATA,
-    UART_ANSWER_NOT_CONNECTED, UART_ANSWER_NOT_SENT, UART_ANSWER_RECEIVE_STALLED,
-    UART_ANSWER_REGISTER, UART_ANSWER_STALLED, UART_INIT_DEVICE_NOT_PRESENT,
-    UART_INIT_INVALID_BAUD_RATE, UART_INIT_STALLED, UART_LOOPBACK_SEND_ERROR,
-    UART_LOOPBACK_STALLED, UART_LOOPBACK_UNEXPECTED_BYTE, UART_LOOPBACK_UNEXPECTED_MSG,
-    UART_REMOTE_NO_CD, UART_REMOTE_NO_DSR, UART_REMOTE_NOT_CLEAR_TO_SEND, UART_SEND_NO_CAPACITY,
+    UART_ANSWER_ATTACH_REFUSED, UART_ANSWER_BYTES, UART_ANSWER_BYTES_WITH_ERRORS,
+    UART_ANSWER_COUNT, UART_ANSWER_DONE, UART_ANSWER_DUMP, UART_ANSWER_FLAG,
+    UART_ANSWER_FRAME_REFUSED, UART_ANSWER_INIT_REFUSED, UART_ANSWER_LATCH,
+    UART_ANSWER_LOOPBACK_REFUSED, UART_ANSWER_NO_DATA, UART_ANSWER_NOT_CONNECTED,
+    UART_ANSWER_NOT_SENT, UART_ANSWER_RECEIVE_STALLED, UART_ANSWER_REGISTER, UART_ANSWER_STALLED,
+    UART_ATTACH_DIVISOR_LATCH_OPEN, UART_ATTACH_LOOPBACK, UART_FRAME_DIVISOR_OUT_OF_RANGE,
+    UART_FRAME_NO_WHOLE_DIVISOR, UART_INIT_DEVICE_NOT_PRESENT, UART_INIT_INVALID_BAUD_RATE,
+    UART_INIT_STALLED, UART_LOOPBACK_SEND_ERROR, UART_LOOPBACK_STALLED,
+    UART_LOOPBACK_UNEXPECTED_BYTE, UART_LOOPBACK_UNEXPECTED_MSG, UART_REMOTE_NO_CD,
+    UART_REMOTE_NO_DSR, UART_REMOTE_NOT_CLEAR_TO_SEND, UART_SEND_NO_CAPACITY,
     UART_SEND_REMOTE_NOT_CLEAR_TO_SEND,
 };
+use arrayvec::ArrayVec;
 use bitflags::Flags;
 use uart_16550::ConfigRegisterDump;
 use uart_calls::{Answer, CALL_BYTES};
-use uart_spec::{ByteSendError, InitError, LoopbackError, RemoteReadyToReceiveError};
+use uart_spec::{
+    AttachError, ByteSendError, InitError, InvalidDivisorError, LoopbackError, Received,
+    RemoteReadyToReceiveError,
+};
 
 /// What a call returned. Which of the other fields count depends on its kind.
 #[repr(C)]
@@ -28,6 +35,7 @@ pub struct UartAnswer {
     pub value: u8,
     pub second: u8,
     pub bytes: [u8; CALL_BYTES],
+    pub errors: [u8; CALL_BYTES],
 }
 
 const EMPTY: UartAnswer = UartAnswer {
@@ -36,6 +44,7 @@ const EMPTY: UartAnswer = UartAnswer {
     value: 0,
     second: 0,
     bytes: [0; CALL_BYTES],
+    errors: [0; CALL_BYTES],
 };
 
 fn of_kind(kind: u8) -> UartAnswer
@@ -65,11 +74,11 @@ fn of_count(kind: u8, count: usize) -> UartAnswer
     }
 }
 
-// Copies one by one, and looks at the bound each time, because a copy of the whole would call
-// `memcpy`.
-fn of_bytes(kind: u8, received: &[u8]) -> UartAnswer
+// Returns these bytes with 0 in the places behind them. Copies one by one, and looks at the bound
+// each time, because a copy of the whole would call `memcpy`.
+fn padded(received: &[u8]) -> [u8; CALL_BYTES]
     requires { length received.now ≤ CALL_BYTES }
-    ensures { result ≡ spec.of_bytes kind received.now }
+    ensures { result ≡ spec.padded received.now }
 {
     let mut bytes = [0; CALL_BYTES];
     for (place, byte) in received.iter().enumerate() {
@@ -77,11 +86,52 @@ fn of_bytes(kind: u8, received: &[u8]) -> UartAnswer
             bytes[place] = *byte;
         }
     }
+    bytes
+}
+
+fn of_bytes(kind: u8, received: &[u8]) -> UartAnswer
+    requires { length received.now ≤ CALL_BYTES }
+    ensures { result ≡ spec.of_bytes kind received.now }
+{
     UartAnswer {
         count: received.len(),
         kind,
-        bytes,
+        bytes: padded(received),
         ..EMPTY
+    }
+}
+
+// Returns the bytes alone.
+fn bytes_of(received: &[Received]) -> ArrayVec<u8, CALL_BYTES>
+    requires { length received.now ≤ CALL_BYTES }
+    ensures { result.items ≡ map byte_of received.now }
+{
+    let mut bytes = ArrayVec::new();
+    for one in received {
+        let _ = bytes.try_push(one.byte);
+    }
+    bytes
+}
+
+// Returns the errors of each byte.
+fn errors_of(received: &[Received]) -> ArrayVec<u8, CALL_BYTES>
+    requires { length received.now ≤ CALL_BYTES }
+    ensures { result.items ≡ map errors_of received.now }
+{
+    let mut errors = ArrayVec::new();
+    for one in received {
+        let _ = errors.try_push(one.errors.bits());
+    }
+    errors
+}
+
+fn of_received(received: &[Received]) -> UartAnswer
+    requires { length received.now ≤ CALL_BYTES }
+    ensures { result ≡ spec.of_received received.now }
+{
+    UartAnswer {
+        errors: padded(errors_of(received).as_slice()),
+        ..of_bytes(UART_ANSWER_BYTES_WITH_ERRORS, bytes_of(received).as_slice())
     }
 }
 
@@ -121,6 +171,24 @@ fn init_refused(error: &InitError) -> UartAnswer
         InitError::DeviceNotPresent => of_value(kind, UART_INIT_DEVICE_NOT_PRESENT, 0),
         InitError::InvalidBaudRate(_) => of_value(kind, UART_INIT_INVALID_BAUD_RATE, 0),
         InitError::Stalled => of_value(kind, UART_INIT_STALLED, 0),
+    }
+}
+
+fn frame_error(error: &InvalidDivisorError) -> u8
+    ensures { result ≡ frame_code error.now }
+{
+    match error {
+        InvalidDivisorError::NonInteger(_) => UART_FRAME_NO_WHOLE_DIVISOR,
+        InvalidDivisorError::OutOfRange { .. } => UART_FRAME_DIVISOR_OUT_OF_RANGE,
+    }
+}
+
+fn attach_error(error: AttachError) -> u8
+    ensures { result ≡ attach_code error }
+{
+    match error {
+        AttachError::DivisorLatchOpen => UART_ATTACH_DIVISOR_LATCH_OPEN,
+        AttachError::Loopback => UART_ATTACH_LOOPBACK,
     }
 }
 
@@ -179,7 +247,10 @@ pub fn shown(answer: &Answer) -> UartAnswer
         Answer::NotConnected(error) => of_value(UART_ANSWER_NOT_CONNECTED, remote_error(error), 0),
         Answer::NoData => of_kind(UART_ANSWER_NO_DATA),
         Answer::NotSent(error) => of_value(UART_ANSWER_NOT_SENT, send_error(error), 0),
-        Answer::FrameRefused(_) => of_kind(UART_ANSWER_FRAME_REFUSED),
-        Answer::AttachRefused(_) => of_kind(UART_ANSWER_ATTACH_REFUSED),
+        Answer::FrameRefused(error) => of_value(UART_ANSWER_FRAME_REFUSED, frame_error(error), 0),
+        Answer::AttachRefused(error) => {
+            of_value(UART_ANSWER_ATTACH_REFUSED, attach_error(*error), 0)
+        }
+        Answer::BytesWithErrors(received) => of_received(received.as_slice()),
     }
 }

@@ -1,20 +1,23 @@
 //! A call of the driver, as plain data.
-ghost use Rattle.std.specs.Prelude.{◌≡◌, ◌≤◌, ℕ, List, length, IfSome, IfNone};
+ghost use Rattle.std.specs.Prelude.{◌≡◌, ℕ, Bool, List, IfSome, IfNone};
 ghost use Rattle.uart_c.specs.Calls.{IsCall, IsGiven};
+ghost use Rattle.uart_spec.specs.Bits.{flag};
 ghost use Rattle.uart_spec.specs.declared.call.Call.{Call};
 
 use crate::codes::{
-    UART_CHECK_CONNECTED, UART_CHECK_PRESENT, UART_DISABLE, UART_DLL_DLM, UART_DUMP, UART_ENABLE,
-    UART_FIFO_ENABLED, UART_FLUSH, UART_IER, UART_INIT, UART_ISR, UART_LCR, UART_LSR, UART_MCR,
-    UART_MSR, UART_READ, UART_READ_READY, UART_READY_TO_RECEIVE, UART_READY_TO_SEND, UART_RECEIVE,
-    UART_RECEIVE_EXACT, UART_SEND, UART_SEND_EXACT, UART_SPR, UART_TEST_LOOPBACK, UART_TRY_RECEIVE,
-    UART_TRY_SEND, UART_WRITE, UART_WRITE_READY,
+    UART_ATTACH, UART_CHECK_CONNECTED, UART_CHECK_PRESENT, UART_DISABLE, UART_DLL_DLM, UART_DUMP,
+    UART_ENABLE, UART_FIFO_ENABLED, UART_FLUSH, UART_IER, UART_INIT, UART_IS_IDLE, UART_ISR,
+    UART_LCR, UART_LSR, UART_MCR, UART_MSR, UART_PEEK_MODEM, UART_READ, UART_READ_READY,
+    UART_READY_TO_RECEIVE, UART_READY_TO_SEND, UART_RECEIVE, UART_RECEIVE_EXACT,
+    UART_RECEIVE_WITH_ERRORS, UART_RETRIGGER_INTERRUPTS, UART_SEND, UART_SEND_EXACT,
+    UART_SET_BREAK, UART_SET_DTR, UART_SET_FRAME, UART_SET_MODEM_CONTROL, UART_SET_RTS, UART_SPR,
+    UART_TEST_LOOPBACK, UART_TRY_RECEIVE, UART_TRY_SEND, UART_WRITE, UART_WRITE_READY,
 };
 use crate::driver::{UartConfig, config_of};
 use arrayvec::ArrayVec;
 use bitflags::Flags;
 use uart_calls::{CALL_BYTES, Call};
-use uart_spec::registers::IER;
+use uart_spec::registers::{IER, MCR};
 
 /// A call of the driver. Which of the other fields count depends on its kind.
 #[repr(C)]
@@ -39,6 +42,19 @@ fn given(call: &UartCall) -> Option<ArrayVec<u8, CALL_BYTES>>
         copy.try_push(*byte).ok()?;
     }
     Some(copy)
+}
+
+// Whether the byte of a call says on, or `None` if it is neither 0 nor 1. Other calls have data or
+// interrupts there, so another number is a mistake, and not true as in a flag of a struct.
+fn flag_of(byte: u8) -> Option<bool>
+    ensures some { IfSome result (λ on. byte ≡ flag on 1) }
+    ensures none { IfNone result ((on : Bool) → byte ≡ flag on 1 → ⊥) }
+{
+    match byte {
+        0 => Some(false),
+        1 => Some(true),
+        _ => None,
+    }
 }
 
 /// The call that the data of C are, or `None` if they are no call.
@@ -76,6 +92,16 @@ pub fn call_of(call: &UartCall) -> Option<Call>
         UART_SEND_EXACT => Call::SendExact(given(call)?),
         UART_WRITE => Call::Write(given(call)?),
         UART_DUMP => Call::Dump,
+        UART_SET_FRAME => Call::SetFrame(config_of(&call.config)),
+        UART_ATTACH => Call::Attach,
+        UART_SET_BREAK => Call::SetBreak(flag_of(call.byte)?),
+        UART_SET_MODEM_CONTROL => Call::SetModemControl(MCR::from_bits_retain(call.byte)),
+        UART_SET_RTS => Call::SetRts(flag_of(call.byte)?),
+        UART_SET_DTR => Call::SetDtr(flag_of(call.byte)?),
+        UART_PEEK_MODEM => Call::PeekModem,
+        UART_IS_IDLE => Call::IsIdle,
+        UART_RETRIGGER_INTERRUPTS => Call::RetriggerInterrupts,
+        UART_RECEIVE_WITH_ERRORS => Call::ReceiveWithErrors(call.len as usize),
         _ => return None,
     })
 }

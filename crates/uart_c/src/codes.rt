@@ -79,6 +79,26 @@ pub const UART_WRITE: u8 = 27;
 
 pub const UART_DUMP: u8 = 28;
 
+pub const UART_SET_FRAME: u8 = 29;
+
+pub const UART_ATTACH: u8 = 30;
+
+pub const UART_SET_BREAK: u8 = 31;
+
+pub const UART_SET_MODEM_CONTROL: u8 = 32;
+
+pub const UART_SET_RTS: u8 = 33;
+
+pub const UART_SET_DTR: u8 = 34;
+
+pub const UART_PEEK_MODEM: u8 = 35;
+
+pub const UART_IS_IDLE: u8 = 36;
+
+pub const UART_RETRIGGER_INTERRUPTS: u8 = 37;
+
+pub const UART_RECEIVE_WITH_ERRORS: u8 = 38;
+
 // Parities: `enum uart_parity`.
 
 pub const UART_PARITY_NONE: u8 = 0;
@@ -125,6 +145,8 @@ pub const UART_ANSWER_FRAME_REFUSED: u8 = 14;
 
 pub const UART_ANSWER_ATTACH_REFUSED: u8 = 15;
 
+pub const UART_ANSWER_BYTES_WITH_ERRORS: u8 = 16;
+
 // Why an initialisation failed: `enum uart_init_error`.
 
 pub const UART_INIT_DEVICE_NOT_PRESENT: u8 = 0;
@@ -132,6 +154,18 @@ pub const UART_INIT_DEVICE_NOT_PRESENT: u8 = 0;
 pub const UART_INIT_INVALID_BAUD_RATE: u8 = 1;
 
 pub const UART_INIT_STALLED: u8 = 2;
+
+// Why a frame cannot be set: `enum uart_frame_error`.
+
+pub const UART_FRAME_NO_WHOLE_DIVISOR: u8 = 0;
+
+pub const UART_FRAME_DIVISOR_OUT_OF_RANGE: u8 = 1;
+
+// Why a port cannot be taken as it is: `enum uart_attach_error`.
+
+pub const UART_ATTACH_DIVISOR_LATCH_OPEN: u8 = 0;
+
+pub const UART_ATTACH_LOOPBACK: u8 = 1;
 
 // Why a loopback test failed: `enum uart_loopback_error`.
 

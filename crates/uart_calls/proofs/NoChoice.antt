@@ -6,11 +6,11 @@ use Rattle.uart_spec.specs.declared.registers.modem_control.TheConstants.MCR
 use Rattle.uart_16550.specs.Choice.{LeavesNoChoice}
 use Rattle.uart_16550.specs.Driver.{Saving}
 use Rattle.uart_16550.specs.DriverCalls.{SavingCall, ChangingCall}
-use Rattle.uart_16550.specs.Receive.{Receives, ReceivesExact}
+use Rattle.uart_16550.specs.Receive.{Receives, ReceivesExact, ReceivesWithErrors}
 use Rattle.uart_16550.specs.Io.{Reads}
 use Rattle.uart_16550.proofs.determined.Parting.{determined_so}
 use Rattle.uart_16550.proofs.determined.Doings.{saving_determined}
-use Rattle.uart_16550.proofs.determined.Receive.{receives_determined, receives_exact_determined}
+use Rattle.uart_16550.proofs.determined.Receive.{receives_determined, receives_exact_determined, receives_with_determined}
 use Rattle.uart_16550.proofs.determined.Io.{reads_determined}
 use Rattle.uart_16550.proofs.determined.Calls.{saving_leaves_no_choice, changing_leaves_no_choice}
 use Rattle.uart_spec.specs.declared.call.Call.{Call}
@@ -27,6 +27,9 @@ shows_fifo_one f a b l m after after' p q = inl (p.0 ∙ sym q.0, p.1.0 ∙ sym 
 -- calls whose outcome has the bytes that came, and not the slots
 receives_one : (n : ℕ) → LeavesNoChoice (λ bytes. Saving (Receives n bytes))
 receives_one n = saving_determined (Receives n) (λ s. receives_determined s n)
+
+receives_with_one : (n : ℕ) → LeavesNoChoice (λ items. Saving (ReceivesWithErrors n items))
+receives_with_one n = saving_determined (ReceivesWithErrors n) (λ s. receives_with_determined s n)
 
 receives_exact_one : (n : ℕ) →
     LeavesNoChoice {R = List ℕ × Result (Unit {0}) StalledError} (λ got. Saving (ReceivesExact n got.0 got.1))
@@ -76,8 +79,10 @@ meaning_leaves_no_choice call.Dump ok = changing_leaves_no_choice ChangingCall.c
 meaning_leaves_no_choice (call.TrySend byte) ok = saving_leaves_no_choice (SavingCall.try_send_byte byte)
 meaning_leaves_no_choice (call.Enable bits) ok = changing_leaves_no_choice (ChangingCall.enable_interrupts bits.0)
 meaning_leaves_no_choice (call.Disable bits) ok = changing_leaves_no_choice (ChangingCall.disable_interrupts bits.0)
+meaning_leaves_no_choice call.RetriggerInterrupts ok = saving_leaves_no_choice SavingCall.retrigger_interrupts
 meaning_leaves_no_choice (call.Receive slots) ok = receives_one slots
 meaning_leaves_no_choice (call.ReceiveExact slots) ok = receives_exact_one slots
+meaning_leaves_no_choice (call.ReceiveWithErrors slots) ok = receives_with_one slots
 meaning_leaves_no_choice (call.Read slots) ok = reads_one slots
 meaning_leaves_no_choice (call.Send bytes) ok = saving_leaves_no_choice (SavingCall.send_bytes bytes.items)
 meaning_leaves_no_choice (call.SendExact bytes) ok = saving_leaves_no_choice (SavingCall.send_bytes_exact bytes.items)

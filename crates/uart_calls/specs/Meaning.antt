@@ -12,7 +12,7 @@ use Rattle.uart_spec.specs.declared.access.Access.{Access}
 use Rattle.uart_spec.specs.declared.access.Access.TheVariants.{Read}
 use Rattle.uart_16550.specs.Grammar.{Language, Only}
 use Rattle.uart_16550.specs.Driver.{Doing, Did, Saving}
-use Rattle.uart_16550.specs.Receive.{ReadyToReceive, TryReceive, Receives, ReceivesExact}
+use Rattle.uart_16550.specs.Receive.{ReadyToReceive, TryReceive, Receives, ReceivesExact, ReceivesWithErrors}
 use Rattle.uart_16550.specs.Transmit.{ReadyToSend, TrySends, Sends, SendsExact}
 use Rattle.uart_16550.specs.Init.{ChecksPresence, Inits}
 use Rattle.uart_16550.specs.Frame.{SetsFrame, ShowsIdle, SetsBreak, SetsControl, SetsOutput}
@@ -20,16 +20,18 @@ use Rattle.uart_16550.specs.Attach.{Attaches}
 use Rattle.uart_spec.specs.declared.errors.AttachError.{AttachError}
 use Rattle.uart_spec.specs.declared.registers.modem_control.TheConstants.MCR
 use Rattle.uart_16550.specs.Loopback.{TestsLoopback}
-use Rattle.uart_16550.specs.Status.{TakesLsr, TakesMsr, Connects, ReadsDivisor, Enables, Disables, Dumps}
+use Rattle.uart_16550.specs.Status.{TakesLsr, TakesMsr, Connects, ReadsDivisor, Enables, Disables, Retriggers, Dumps}
 use Rattle.uart_16550.specs.Io.{Reads, Writes, Flushes, AnswersRead, AnswersWrite}
 use Rattle.uart_16550.specs.Expansion.{SendsText}
 use Rattle.uart_16550.specs.Tty.{inner_of}
 use Rattle.uart_16550.specs.declared.driver.Uart16550.{Uart16550}
 use Rattle.uart_16550.specs.declared.tty.Uart16550Tty.{Uart16550Tty}
+use Rattle.uart_spec.specs.declared.received.Received.{Received}
 use Rattle.uart_spec.specs.declared.call.Call.{Call}
 use Rattle.uart_spec.specs.declared.call.Call.TheVariants as call
 use Rattle.uart_spec.specs.declared.call.Answer.{Answer}
-use Rattle.uart_spec.specs.declared.call.Answer.TheVariants.{Done, Flag, Count, Bytes, Register, Latch, Dump, Stalled}
+use Rattle.uart_spec.specs.declared.call.Answer.TheVariants.{Done, Flag, Count, Bytes, BytesWithErrors, Register}
+use Rattle.uart_spec.specs.declared.call.Answer.TheVariants.{Latch, Dump, Stalled}
 use Rattle.uart_spec.specs.declared.call.Answer.TheVariants.{ReceiveStalled, InitRefused, FrameRefused}
 use Rattle.uart_spec.specs.declared.call.Answer.TheVariants.{AttachRefused, LoopbackRefused}
 use Rattle.uart_spec.specs.declared.call.Answer.TheVariants.{NotConnected, NoData, NotSent}
@@ -40,6 +42,9 @@ use Rattle.uart_spec.specs.declared.call.TheConstants.{CALL_BYTES}
 -- the answer that an outcome is returned as, one function for each kind of outcome
 abbrev pub bytes_answer : List ℕ → Answer
 bytes_answer bytes = Bytes (record { items = bytes })
+
+abbrev pub with_errors_answer : List Received → Answer
+with_errors_answer items = BytesWithErrors (record { items = items })
 
 abbrev pub init_answer : Result (Unit {0}) InitError → Answer
 init_answer (Ok x) = Done
@@ -169,8 +174,10 @@ meaning call.Dump = means Dumps Dump
 meaning (call.TrySend byte) = saves (TrySends byte) sent_answer
 meaning (call.Enable bits) = tells_nothing (Enables bits.0)
 meaning (call.Disable bits) = tells_nothing (Disables bits.0)
+meaning call.RetriggerInterrupts = tells_nothing (Saving Retriggers)
 meaning (call.Receive slots) = saves (Receives slots) bytes_answer
 meaning (call.ReceiveExact slots) = saves (λ got. ReceivesExact slots got.0 got.1) receive_exact_answer
+meaning (call.ReceiveWithErrors slots) = saves (ReceivesWithErrors slots) with_errors_answer
 meaning (call.Read slots) = saves (λ got. Reads slots got.0 got.1) read_answer
 meaning (call.Send bytes) = saves (Sends bytes.items) Count
 meaning (call.SendExact bytes) = saves (SendsExact bytes.items) exact_answer

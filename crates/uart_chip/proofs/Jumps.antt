@@ -123,7 +123,7 @@ ticks_skip (suc n) c h = ap tick (ticks_skip n c (still-less n _ h)) ∙ tick_sk
 
 -- ---- when something moves
 
-ticks-add : (j k : ℕ) (c : ChipState) → ticks (j + k) c ≡ ticks j (ticks k c)
+pub ticks-add : (j k : ℕ) (c : ChipState) → ticks (j + k) c ≡ ticks j (ticks k c)
 ticks-add zero k c = ap (λ (n : ℕ). ticks n c) (no_more k)
   where
     no_more : (k : ℕ) → 0 + k ≡ k

@@ -1,4 +1,4 @@
--- A byte that goes onto the wire at once, as it does if the transmitter is idle and a character takes one tick.
+-- A byte that goes onto the wire at once, as after a write of DATA and two ticks if a character takes one.
 use Rattle.std.specs.Prelude.{ℕ, Bool, true, not, ◌&&◌, ◌==◌, [], ◌∷◌, ◌++◌, length, is_some, nat_lt}
 use Rattle.uart_chip.specs.Transmitter.{TransmitterState}
 use Rattle.uart_chip.specs.Chip.{ChipState, cut_of, is_dlab_set, is_loopback}
@@ -11,7 +11,7 @@ is_ready t = (length t.queue == 0) && (not (is_some t.shift_register) && nat_lt 
 abbrev pub sends_at_once : ChipState → Bool
 sends_at_once c = not (is_dlab_set c.latches) && (not (is_loopback c.latches) && is_ready c.transmitter)
 
--- the byte is on the wire, and THR is empty again
+-- the byte is on the wire, and THR became empty, which is an interrupt; no time passed
 abbrev pub put_on_wire : ℕ → TransmitterState → TransmitterState
 put_on_wire byte t = record t { wire = t.wire ++ byte ∷ []; is_thr_pending = true }
 

@@ -331,15 +331,16 @@ impl<B: Fifo<u8> + Drop, W: Wire + Drop, C: Fifo<Character> + Drop, J: Journal +
         write(self, offset, value);
     }
 
-    /// Returns whether a byte that is written to DATA meets an idle transmitter, outside of
-    /// loopback.
+    /// Returns whether a byte that is written to DATA can go onto the wire at once: outside of
+    /// loopback, with nothing in the transmitter and with room on the wire.
     pub fn sends_at_once(&self) -> bool
         ensures { result ≡ sending_spec.sends_at_once self.now }
     {
         sends_at_once(self)
     }
 
-    /// Puts a byte on the wire that is written to DATA. The caller must show that it may.
+    /// Puts a byte that is written to DATA onto the wire. The caller must have asked
+    /// `sends_at_once`.
     pub fn send_at_once(&mut self, value: u8)
         requires { sending_spec.sends_at_once self.old ≡ true }
         ensures { self.new ≡ sending_spec.send_at_once value self.old }

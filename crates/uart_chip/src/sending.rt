@@ -1,5 +1,4 @@
-//! A byte that goes onto the wire at once.
-ghost use Rattle.std.specs.Borrow.{Lends, sem};
+//! A byte that goes onto the wire at once, without queue, shift register and time.
 ghost use Rattle.std.specs.Prelude.{◌≡◌, true};
 ghost use Rattle.uart_chip.specs.Sending as spec;
 
@@ -15,14 +14,15 @@ fn is_ready<T: TransmitterParts>(parts: &T) -> bool
     parts.queue_len() == 0 && (!parts.shifting().is_some() && parts.has_room())
 }
 
-/// Returns whether a byte that is written to DATA meets an idle transmitter, outside of loopback.
+/// Returns whether a byte that is written to DATA can go onto the wire at once: outside of
+/// loopback, with nothing in the transmitter and with room on the wire.
 pub fn sends_at_once<P: ChipParts>(parts: &P) -> bool
     ensures { result ≡ spec.sends_at_once (P.state parts.now) }
 {
     !parts.lcr().intersects(LCR::DLAB) && (!is_loopback(parts) && is_ready(parts.transmitter()))
 }
 
-// Puts a byte on the wire.
+// Puts a byte onto the wire. THR is as empty as before, and that counts as a new interrupt.
 fn put_on_wire<T: TransmitterParts>(parts: &mut T, byte: u8)
     requires { spec.is_ready (T.state parts.old) ≡ true }
     ensures after { T.state parts.new ≡ spec.put_on_wire byte (T.state parts.old) }
@@ -32,7 +32,8 @@ fn put_on_wire<T: TransmitterParts>(parts: &mut T, byte: u8)
     parts.set_thr_pending(true);
 }
 
-/// Puts a byte on the wire that is written to DATA. The caller must show that it may.
+/// Puts a byte that is written to DATA onto the wire, cut to the word length if the chip does so.
+/// The caller must have asked `sends_at_once`.
 pub fn send_at_once<P: ChipParts>(parts: &mut P, value: u8)
     requires { spec.sends_at_once (P.state parts.old) ≡ true }
     ensures after { P.state parts.new ≡ spec.send_at_once value (P.state parts.old) }

@@ -8,5 +8,6 @@ pub runnable_is_one : (call : Call) → IsProp (IsRunnable call)
 runnable_is_one (call.Init config) = hlevel props
 runnable_is_one (call.Receive count) = hlevel props
 runnable_is_one (call.ReceiveExact count) = hlevel props
+runnable_is_one (call.ReceiveWithErrors count) = hlevel props
 runnable_is_one (call.Read count) = hlevel props
 runnable_is_one other = hlevel props

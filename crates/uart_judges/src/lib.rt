@@ -7,6 +7,7 @@
 
 pub mod audit;
 pub mod findings;
+pub mod laws;
 pub mod recording;
 pub mod replay;
 pub mod traces;

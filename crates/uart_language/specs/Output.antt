@@ -19,6 +19,7 @@ use Rattle.uart_spec.specs.declared.errors.LoopbackError.TheVariants as loopback
 use Rattle.uart_spec.specs.declared.dump.ConfigRegisterDump.{ConfigRegisterDump}
 use Rattle.uart_spec.specs.declared.event.ArrivalMark.{ArrivalMark}
 use Rattle.uart_spec.specs.declared.event.ArrivalMark.TheVariants as mark
+use Rattle.uart_spec.specs.declared.received.Received.{Received}
 use Rattle.uart_spec.specs.declared.call.Answer.{Answer}
 use Rattle.uart_spec.specs.declared.call.Answer.TheVariants as answer
 use Rattle.uart_language.specs.declared.cause.Cause.{Cause}
@@ -45,6 +46,13 @@ hex_byte b = digit_char (b / 16) ∷ digit_char (b % 16) ∷ []
 -- bytes in digits, or `-` if there are none
 abbrev pub hex : List ℕ → List ℕ
 hex bytes = if length bytes == 0 then codes "-" else flat_map hex_byte bytes
+
+-- a byte and its errors after a slash; and some of them, or `-` if there are none
+abbrev pub received_text : Received → List ℕ
+received_text received = codes " " ++ hex_byte received.byte ++ codes "/" ++ hex_byte received.errors.0
+
+abbrev pub all_received_text : List Received → List ℕ
+all_received_text items = if length items == 0 then codes " -" else flat_map received_text items
 
 -- ---- answers
 
@@ -96,6 +104,7 @@ answer_text (answer.Flag true) = codes "ok true"
 answer_text (answer.Flag false) = codes "ok false"
 answer_text (answer.Count n) = codes "ok " ++ decimal n
 answer_text (answer.Bytes bytes) = codes "ok " ++ hex bytes.items
+answer_text (answer.BytesWithErrors received) = codes "ok" ++ all_received_text received.items
 answer_text (answer.Register byte) = codes "ok " ++ hex_byte byte
 answer_text (answer.Latch low high) = codes "ok " ++ hex_byte low ++ codes " " ++ hex_byte high
 answer_text (answer.Dump dump) = codes "ok" ++ setup_text dump ++ status_text dump

@@ -1,6 +1,6 @@
 //! What is printed for answers and for the last state of the machine.
 
-ghost use Rattle.std.specs.Prelude.{◌≡◌, ◌<◌, ◌++◌, OnOk, IfOk, map, codes};
+ghost use Rattle.std.specs.Prelude.{◌≡◌, ◌<◌, ◌++◌, OnOk, IfOk, codes};
 ghost use Rattle.std.specs.List.{flat_map};
 ghost use Rattle.std.specs.Char.{digit_char};
 ghost use Rattle.std.specs.Fmt.{decimal};
@@ -8,15 +8,16 @@ ghost use Rattle.uart_language.specs.Output.{hex_byte, hex, send_error_name, rem
 ghost use Rattle.uart_language.specs.Output.{init_error_text, divisor_error_text, attach_error_name};
 ghost use Rattle.uart_language.specs.Output.{loopback_error_text};
 ghost use Rattle.uart_language.specs.Output.{setup_text, status_text, answer_text, line};
+ghost use Rattle.uart_language.specs.Output.{received_text, all_received_text};
 ghost use Rattle.uart_language.specs.Output.{answer_lines, mark_letter, marks_text};
-ghost use Rattle.uart_language.specs.Output.{final_lines, printed};
+ghost use Rattle.uart_language.specs.Output.{printed};
 
 use bitflags::Flags;
 use std::alloc::{AllocError, Global};
 use uart_spec::call::Answer;
 use uart_spec::{
     ArrivalMark, AttachError, ByteSendError, ConfigRegisterDump, InitError, InvalidDivisorError,
-    LoopbackError, RemoteReadyToReceiveError,
+    LoopbackError, Received, RemoteReadyToReceiveError,
 };
 
 /// Returns a digit below 16 as text, in lower case.
@@ -169,6 +170,26 @@ fn push_register(out: &mut Vec<u8>, name: &[u8], byte: u8) -> Result<(), AllocEr
     push_byte(out, byte)
 }
 
+fn push_received(out: &mut Vec<u8>, received: &Received) -> Result<(), AllocError>
+    ensures { OnOk result (out.new.items ≡ out.old.items ++ received_text received.now) }
+{
+    push_register(out, b" ", received.byte)?;
+    push_register(out, b"/", received.errors.bits())
+}
+
+/// Appends bytes with their errors, or `-` if there are none.
+fn push_all_received(out: &mut Vec<u8>, items: &[Received]) -> Result<(), AllocError>
+    ensures { OnOk result (out.new.items ≡ out.old.items ++ all_received_text items.now) }
+{
+    if items.is_empty() {
+        return out.extend_from_slice(b" -");
+    }
+    for received in items {
+        push_received(out, received)?;
+    }
+    Ok(())
+}
+
 fn push_setup(out: &mut Vec<u8>, dump: &ConfigRegisterDump) -> Result<(), AllocError>
     ensures { OnOk result (out.new.items ≡ out.old.items ++ setup_text dump.now) }
 {
@@ -205,6 +226,10 @@ pub fn push_answer(alloc: Global, out: &mut Vec<u8>, answer: &Answer) -> Result<
         Answer::Bytes(bytes) => {
             out.extend_from_slice(b"ok ")?;
             push_hex(out, bytes)
+        }
+        Answer::BytesWithErrors(received) => {
+            out.extend_from_slice(b"ok")?;
+            push_all_received(out, received)
         }
         Answer::Register(byte) => push_register(out, b"ok ", *byte),
         Answer::Latch(low, high) => {

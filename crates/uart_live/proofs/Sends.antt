@@ -3,7 +3,7 @@ use Rattle.std.proofs.Common.{◌≡◌, ℕ, ◌≤◌, ◌<◌, Bool, true, fa
 use Rattle.std.proofs.lemmas.Grind.{common_steps}
 use Rattle.std.proofs.lemmas.List.{length-append}
 use Rattle.uart_chip.specs.Chip.{ChipState, cut_of, is_dlab_set, is_loopback}
-use Rattle.uart_chip.specs.Sending.{is_ready, sends_at_once, put_on_wire, send_at_once}
+use Rattle.uart_chip.specs.Sending.{sends_at_once, put_on_wire, send_at_once}
 use Rattle.uart_chip.proofs.soundness.Sounds.{steady_transmitter}
 use Rattle.uart_live.specs.Live.{IsLive}
 use Rattle.uart_live.proofs.Lives.{live-part}

@@ -1,9 +1,11 @@
 //! Laws of live chips. They follow from the contracts.
 //!
 //! The contract of each function is a law that callers can cite. The functions do nothing.
+ghost use Rattle.std.specs.Prelude.{◌≡◌};
 ghost use Rattle.uart_live.specs.Laws.{BytesLeaveInOrder, CharactersAreReadInOrder};
 ghost use Rattle.uart_live.specs.Laws.{PlainReadsChangeNothing, OnlyInterruptsShowHolding};
 ghost use Rattle.uart_live.specs.Laws.{HeldTimeoutsStay, DueTimeoutsInterrupt};
+ghost use Rattle.uart_live.specs.declared.fixed.TheConstants.{WIRE_ROOM};
 
 /// Bytes are sent in the order in which the guest wrote them, each once. A full wire loses none.
 pub fn bytes_leave_in_order()
@@ -33,4 +35,9 @@ pub fn only_interrupts_show_holding()
 pub fn held_timeouts_stay()
     ensures due { HeldTimeoutsStay }
     ensures interrupting { DueTimeoutsInterrupt }
+{}
+
+/// The most bytes that the wire of a live chip has room for.
+pub fn wire_room_is_this()
+    ensures { WIRE_ROOM ≡ 64 }
 {}

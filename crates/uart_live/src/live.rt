@@ -158,8 +158,19 @@ impl LiveChip {
         self.uart.write(offset, value);
     }
 
-    /// Returns whether a byte that is written to DATA meets an idle transmitter, outside of
-    /// loopback, so that it may go onto the wire at once.
+    /// Returns whether a byte that the guest writes to DATA can go onto the wire at once: outside
+    /// of loopback, with nothing in the transmitter and with room on the wire. Under DLAB, where
+    /// DATA is the divisor latch, it cannot.
+    ///
+    /// # Examples
+    ///
+    /// ```
+    /// if chip.sends_at_once() {
+    ///     chip.send_at_once(value);
+    /// } else {
+    ///     chip.write(offsets::DATA as u8, value);
+    /// }
+    /// ```
     pub fn sends_at_once(&self) -> bool
         ensures sends { result ≡ sending_spec.sends_at_once self.now }
         ensures live { IsLive self.now }
@@ -167,10 +178,21 @@ impl LiveChip {
         self.uart.sends_at_once()
     }
 
-    /// Puts a byte on the wire that is written to DATA. The caller must show that it may.
+    /// Puts a byte that the guest writes to DATA onto the wire. The caller must have asked
+    /// `sends_at_once`.
     ///
-    /// If a character takes one tick, that is the same as to write DATA and to let two ticks or
-    /// more pass.
+    /// If a character takes one tick, the transmitter is as after a write of DATA and two ticks or
+    /// more. But no time passes: a reception timeout is as near as before.
+    ///
+    /// # Examples
+    ///
+    /// ```
+    /// if chip.sends_at_once() {
+    ///     chip.send_at_once(value);
+    /// } else {
+    ///     chip.write(offsets::DATA as u8, value);
+    /// }
+    /// ```
     pub fn send_at_once(&mut self, value: u8)
         requires { sending_spec.sends_at_once self.old ≡ true }
         ensures { self.new ≡ sending_spec.send_at_once value self.old }

@@ -30,8 +30,9 @@ use Rattle.uart_ring.specs.Ring.{unchanged, is_full}
 use Rattle.uart_ring.specs.Transmit.{ArmsIfLeft, Pumps, Queues, ResumesTransmit}
 use Rattle.uart_ring.specs.Receive.{PausesIfFull, FillsReceiveRing, EndsPause, TakesBytes}
 use Rattle.uart_ring.specs.Status.{NotesLine, NotesModem, TakesLine, TakesModem}
-use Rattle.uart_ring.specs.Service.{ShowsInterrupt, ServesInterrupt, ServesOne, Services}
-use Rattle.uart_ring.specs.Handle.{Retriggers, Ends, Handles}
+use Rattle.uart_ring.specs.Service.{ShowsInterrupt, ServesInterrupt, ServesOne, Stops, ServesUpTo, Services}
+use Rattle.uart_ring.specs.Handle.{Retriggers, RetriggersUnlessIdle, Handles}
+use Rattle.uart_ring.specs.declared.ring.service.TheConstants.{MAX_INTERRUPTS}
 use Rattle.uart_ring.specs.declared.ring.service.HandleEnd.{HandleEnd}
 use Rattle.uart_ring.specs.declared.ring.service.HandleEnd.TheVariants.{Idle, Unknown, Limit}
 use Rattle.uart_ring.specs.declared.ring.service.Handled.{Handled}
@@ -42,6 +43,7 @@ use Rattle.uart_ring.specs.Armed.{Arms, ShowsCtsClear, ArmsUnlessHeld}
 use Rattle.uart_ring.proofs.RegisterBits.{and_or, and_assoc, or_and}
 use Rattle.uart_ring.proofs.Pausing.{ChangesIer, Pausing, joined_with, rid_of}
 use Rattle.uart_ring.proofs.Losses.{Carries, received_carries, shows_carry, serves_one_carries, times_carry, shows_none}
+use Rattle.uart_ring.proofs.Losses.{serves_up_to_carries}
 
 -- ---- bits of IER
 
@@ -357,11 +359,19 @@ times_leave (suc n) f l after t =
 
 -- ---- each call
 
+stops_leave : (end : HandleEnd) → Implies (Stops end) LeavesArmed
+stops_leave Idle f l after t = isr_leaves None f l after (λ e. cc) (shows_none true f l after t)
+stops_leave Unknown f l after t = isr_leaves None f l after (λ e. cc) (shows_none false f l after t)
+stops_leave Limit f l after t = leaves_stays f l after t
+
+serves_up_to_leaves : (limit : ℕ) (handled : Handled) → Implies (ServesUpTo limit handled) LeavesArmed
+serves_up_to_leaves limit handled f l after (within, t) =
+    rw t.whole (leaves_then f t.mid after t.front t.back (times_carry handled.served f t.front t.mid t.first)
+    (times_leave handled.served f t.front t.mid t.first) (stops_leave handled.end t.mid t.back after t.second))
+
 pub services_leave : (count : ℕ) → Implies (Services count) LeavesArmed
-services_leave count f l after (inl (fewer, t)) =
-    rw t.whole (leaves_then f t.mid after t.front t.back (times_carry count f t.front t.mid t.first)
-    (times_leave count f t.front t.mid t.first) (isr_leaves None t.mid t.back after (λ e. cc) t.second))
-services_leave count f l after (inr (all, t)) = times_leave count f l after t
+services_leave count f l after (end, t) =
+    serves_up_to_leaves MAX_INTERRUPTS (record { served = count; end = end }) f l after t
 
 -- IER is as it was
 pub retriggers_leave : Implies Retriggers LeavesArmed
@@ -373,18 +383,15 @@ retriggers_leave f l after (((ier, is), saved), same) =
         let true_of : KeepsIer known (status.retrigger_accesses ier) = rw is at keeps in
         rw is (true_of.0 refl was.0, was.1)
 
-ends_leave : (end : HandleEnd) → Implies (Ends end) LeavesArmed
-ends_leave Idle f l after t = isr_leaves None f l after (λ e. cc) (shows_none true f l after t)
-ends_leave Unknown f l after t =
-    let shown = shows_none false f t.front t.mid t.first in
-    rw t.whole (leaves_then f t.mid after t.front t.back (shows_carry None f t.front t.mid shown)
-    (isr_leaves None f t.front t.mid (λ e. cc) shown) (retriggers_leave t.mid t.back after t.second))
-ends_leave Limit f l after t = retriggers_leave f l after t
+unless_idle_leave : (end : HandleEnd) → Implies (RetriggersUnlessIdle end) LeavesArmed
+unless_idle_leave Idle f l after t = leaves_stays f l after t
+unless_idle_leave Unknown f l after t = retriggers_leave f l after t
+unless_idle_leave Limit f l after t = retriggers_leave f l after t
 
 pub handles_leave : (limit : ℕ) (handled : Handled) → Implies (Handles limit handled) LeavesArmed
-handles_leave limit handled f l after (within, t) =
-    rw t.whole (leaves_then f t.mid after t.front t.back (times_carry handled.served f t.front t.mid t.first)
-    (times_leave handled.served f t.front t.mid t.first) (ends_leave handled.end t.mid t.back after t.second))
+handles_leave limit handled f l after t =
+    rw t.whole (leaves_then f t.mid after t.front t.back (serves_up_to_carries limit handled f t.front t.mid t.first)
+    (serves_up_to_leaves limit handled f t.front t.mid t.first) (unless_idle_leave handled.end t.mid t.back after t.second))
 
 any_pumps_arm : (count : ℕ) (f : RingFields) (l : List Access) (after : RingFields) → 0 < count → IfAny count Pumps f l after →
     Arms f l after

@@ -22,8 +22,9 @@ use Rattle.uart_ring.specs.Ring.{free, is_full}
 use Rattle.uart_ring.specs.Transmit.{ArmsIfLeft, Pumps, Queues, ResumesTransmit}
 use Rattle.uart_ring.specs.Receive.{PausesIfFull, FillsReceiveRing, EndsPause, TakesBytes}
 use Rattle.uart_ring.specs.Status.{TakesLine, TakesModem}
-use Rattle.uart_ring.specs.Service.{ServesInterrupt, ServesOne, Services}
-use Rattle.uart_ring.specs.Handle.{Retriggers, Ends, IsWithin, Handles}
+use Rattle.uart_ring.specs.Service.{ServesInterrupt, ServesOne, Stops, IsWithin, ServesUpTo, Services}
+use Rattle.uart_ring.specs.Handle.{Retriggers, RetriggersUnlessIdle, Handles}
+use Rattle.uart_ring.specs.declared.ring.service.TheConstants.{MAX_INTERRUPTS}
 use Rattle.uart_ring.specs.declared.ring.service.HandleEnd.{HandleEnd}
 use Rattle.uart_ring.specs.declared.ring.service.HandleEnd.TheVariants.{Idle, Unknown, Limit}
 use Rattle.uart_ring.specs.declared.ring.service.Handled.{Handled}
@@ -165,46 +166,45 @@ times_size (suc n) f l after t =
 
 -- ---- each call
 
-pub services_size : (count : ℕ) → Implies (Services count) (MakesAtMost most_of_service)
-services_size count f l after (inl (fewer, t)) =
-    let read : length t.back ≤ 1 = omega (arith, ap length t.second.0.2.0.is) in
-    omega (arith, fewer, ap length t.whole, length-append t.front t.back, times_size count f t.front t.mid t.first, read)
-services_size count f l after (inr (all, t)) = omega (arith, all, times_size count f l after t)
-
-pub retriggers_size : Implies Retriggers (MakesAtMost most_of_retrigger)
-retriggers_size f l after (((ier, is), saved), same) = omega (arith, ap length is)
-
--- the end comes after as many as the limit, or after fewer
-ended_size : (limit served : ℕ) (end : HandleEnd) → IsWithin limit served end → Implies (Ends end) (MakesAtMost
-    (most_of_handle limit - served * (1 + most_of_receiving)))
-ended_size limit served Idle within f l after ((isr, shown, idle, t), same) = omega (arith, within, ap length t.0.is)
-ended_size limit served Unknown within f l after t =
-    let u = t.first.0.3 in
-    omega (
-      arith,
-      within,
-      ap length t.whole,
-      length-append t.front t.back,
-      ap length u.0.is,
-      retriggers_size t.mid t.back after t.second,
-    )
-ended_size limit served Limit within f l after t = omega (arith, within, retriggers_size f l after t)
+-- the last read of ISR is of an interrupt that was not served
+stops_size : (limit served : ℕ) (end : HandleEnd) → IsWithin limit served end →
+    Implies (Stops end) (MakesAtMost ((limit - served) * (1 + most_of_receiving)))
+stops_size limit served Idle within f l after ((isr, shown, idle, t), same) = omega (arith, within, ap length t.0.is)
+stops_size limit served Unknown within f l after ((isr, shown, idle, t), same) = omega (arith, within, ap length t.0.is)
+stops_size limit served Limit within f l after t = omega (arith, within, ap length t.0)
 
 within_limit : (limit served : ℕ) (end : HandleEnd) → IsWithin limit served end → served ≤ limit
 within_limit limit served Idle within = omega (arith, within)
 within_limit limit served Unknown within = omega (arith, within)
 within_limit limit served Limit within = omega (arith, within)
 
-pub handles_size : (limit : ℕ) (handled : Handled) → Implies (Handles limit handled) (MakesAtMost (most_of_handle limit))
-handles_size limit handled f l after (within, t) =
+serves_up_to_size : (limit : ℕ) (handled : Handled) → Implies (ServesUpTo limit handled) (MakesAtMost (limit * (1 + most_of_receiving)))
+serves_up_to_size limit handled f l after (within, t) =
     omega (
       arith,
       within_limit limit handled.served handled.end within,
       ap length t.whole,
       length-append t.front t.back,
       times_size handled.served f t.front t.mid t.first,
-      ended_size limit handled.served handled.end within t.mid t.back after t.second,
+      stops_size limit handled.served handled.end within t.mid t.back after t.second,
     )
+
+pub services_size : (count : ℕ) → Implies (Services count) (MakesAtMost most_of_service)
+services_size count f l after (end, t) = serves_up_to_size MAX_INTERRUPTS (record { served = count; end = end }) f l after t
+
+pub retriggers_size : Implies Retriggers (MakesAtMost most_of_retrigger)
+retriggers_size f l after (((ier, is), saved), same) = omega (arith, ap length is)
+
+unless_idle_size : (end : HandleEnd) → Implies (RetriggersUnlessIdle end) (MakesAtMost most_of_retrigger)
+unless_idle_size Idle f l after t = omega (arith, ap length t.0)
+unless_idle_size Unknown f l after t = retriggers_size f l after t
+unless_idle_size Limit f l after t = retriggers_size f l after t
+
+pub handles_size : (limit : ℕ) (handled : Handled) → Implies (Handles limit handled) (MakesAtMost (most_of_handle limit))
+handles_size limit handled f l after t =
+    both l t.front t.back (limit * (1 + most_of_receiving)) most_of_retrigger t.whole
+    (serves_up_to_size limit handled f t.front t.mid t.first)
+    (unless_idle_size handled.end t.mid t.back after t.second)
 
 any_pumps_size : (count : ℕ) → Implies (IfAny count Pumps) (MakesAtMost most_of_pump)
 any_pumps_size zero f l after t = omega (arith, ap length t.0)

@@ -1,8 +1,8 @@
 -- That ring calls leave no choice.
 use Rattle.std.proofs.Common.{◌≡◌, ◌<◌, ℕ, zero, suc, Bool, true, false, min, List, [], ◌∷◌, ◌++◌, length, take, drop}
-use Rattle.std.proofs.Common.{append_assoc, refl, arith}
+use Rattle.std.proofs.Common.{refl, arith}
 use Rattle.std.specs.Prelude.{⊤}
-use Rattle.std.proofs.Common.{sym, ◌∙◌, ap, subst, inl, inr, ◌⊎◌, Option, Some, None, Err, bit_and, bit_or}
+use Rattle.std.proofs.Common.{sym, ◌∙◌, ap, subst, inl, inr, ◌⊎◌, Option, Some, None, bit_and, bit_or}
 use Rattle.uart_spec.specs.declared.access.Access.{Access}
 use Rattle.uart_spec.specs.declared.access.Access.TheVariants.{Read}
 use Rattle.uart_spec.specs.Bits.{IsOnlyIfAny}
@@ -34,9 +34,11 @@ use Rattle.uart_ring.proofs.Pausing.{ChangesIer, Pausing, joined_with, rid_of}
 use Rattle.uart_ring.specs.Transmit.{ArmsIfLeft, Pumps, Queues, ResumesTransmit}
 use Rattle.uart_ring.specs.Receive.{EndsPause, FillsReceiveRing, PausesIfFull, TakesBytes}
 use Rattle.uart_ring.specs.Status.{TakesLine, TakesModem}
-use Rattle.uart_ring.specs.Service.{ServesInterrupt, ServesOne, Services, ShowsInterrupt}
+use Rattle.uart_ring.specs.Service.{ServesInterrupt, ServesOne, ShowsInterrupt, ShowsNone, ServesUpTo, Services}
 use Rattle.uart_ring.specs.Choice.{LeavesNoRingChoice}
-use Rattle.uart_ring.specs.Handle.{Retriggers, ShowsNone, Ends, ShowsOrEnds, IsWithin, Handles}
+use Rattle.uart_ring.specs.Handle.{Retriggers, RetriggersUnlessIdle, Handles}
+use Rattle.uart_ring.specs.declared.ring.service.TheConstants.{MAX_INTERRUPTS}
+use Rattle.uart_ring.proofs.RingDoings.{then_later}
 use Rattle.uart_ring.specs.declared.ring.service.HandleEnd.{HandleEnd}
 use Rattle.uart_ring.specs.declared.ring.service.HandleEnd.TheVariants.{Idle, Unknown, Limit}
 use Rattle.uart_ring.specs.declared.ring.service.Handled.{Handled}
@@ -209,73 +211,123 @@ apart f = record { at = λ l m a b p q. (ring_front (read_apart p.0)).at l m a b
     read_apart : (x : InterruptType) → RingDoes ⊥ f (ReadsIsr (Some x)) (ReadsIsr None)
     read_apart x = ring_so (λ e. cc) (reads_same (Some x) None f)
 
--- nothing and then something is that; and what comes after two comes after the second of them
+-- nothing and then something is that
 stays_then : (G : RingDoing) (f : RingFields) (l : List Access) (a : RingFields) → RingNext Stays G f l a → G f l a
 stays_then G f l a t =
     let whole : l ≡ t.back = t.whole ∙ ap (λ xs. xs ++ t.back) t.first.0 in
     let P : RingFields → Type 0 = λ g. G g l a in
     subst P t.first.1 (rw whole t.second)
 
-then_later : (G H K : RingDoing) (f : RingFields) (l : List Access) (a : RingFields) → RingNext (RingNext G H) K f l a →
-    RingNext G (RingNext H K) f l a
-then_later G H K f l a t = record {
-  front = t.first.front;
-  back = t.first.back ++ t.back;
-  mid = t.first.mid;
-  whole = rw (t.whole, t.first.whole) (append_assoc t.first.front t.first.back t.back);
-  first = t.first.first;
-  second = record { front = t.first.back; back = t.back; mid = t.mid; whole = refl; first = t.first.second; second = t.second };
-}
-
--- some were served, and then none was shown
-abbrev Stops : ℕ → RingDoing
-Stops n = RingNext (RingTimes n ServesOne) (ReadsIsr None)
-
-stops_later : (n : ℕ) (f : RingFields) (l : List Access) (a : RingFields) → Stops (suc n) f l a → RingNext ServesOne (Stops n) f l a
-stops_later n f l a t = then_later ServesOne (RingTimes n ServesOne) (ReadsIsr None) f l a t
-
 times_same : (n : ℕ) (f : RingFields) → RingDoes (Unit {0}) f (RingTimes n ServesOne) (RingTimes n ServesOne)
 times_same zero f = stays_same f
 times_same (suc n) f = ring_next (serves_one_same f) (λ t mid. times_same n mid)
 
+-- one read of ISR that identifies none
+abbrev ReadsNone : Bool → RingDoing
+ReadsNone idle = OnDriver (ShowsNone idle) unchanged
+
+-- one value of ISR has one bit 0
+none_same : (x y : Bool) (f : RingFields) → RingDoes (x ≡ y) f (ReadsNone x) (ReadsNone y)
+none_same x y f = on_driver {f = f} unchanged unchanged (record {
+  at = λ l m a b p q. so (λ r. (sym p.2 ∙ ap (λ (n : ℕ). has n ISR.INTERRUPT_STATUS.0) r.0 ∙ q.2, r.1))
+      ((does_saving f.driver (Only (Read offsets.ISR p.0 ∷ [])) (Only (Read offsets.ISR q.0 ∷ []))
+      (read_determined offsets.ISR p.0 q.0)).at l m a b p.3 q.3);
+}) (λ e. refl)
+
+none_apart : (idle : Bool) (f : RingFields) → RingDoes ⊥ f ServesOne (ReadsNone idle)
+none_apart idle f = record { at = λ l m a b p q. (apart f).at l m a b p (shows_none idle f m b q) }
+
+-- some were served, and then this was done
+abbrev ServedThen : ℕ → RingDoing → RingDoing
+ServedThen n G = RingNext (RingTimes n ServesOne) G
+
+one_first : (n : ℕ) (G : RingDoing) (f : RingFields) (l : List Access) (a : RingFields) → ServedThen (suc n) G f l a →
+    RingNext ServesOne (ServedThen n G) f l a
+one_first n G f l a t = then_later ServesOne (RingTimes n ServesOne) G f l a t
+
 -- one of them went on
-goes_on : {D : Type 0} (G : RingDoing) (f : RingFields) → RingDoes D f (RingNext ServesOne G) (Stops zero)
-goes_on G f = record { at = λ l m a b p q. (ring_front (apart f)).at l m a b p (stays_then (ReadsIsr None) f m b q) }
+goes_on : {D : Type 0} (G : RingDoing) (idle : Bool) (f : RingFields) →
+    RingDoes D f (RingNext ServesOne G) (ServedThen zero (ReadsNone idle))
+goes_on G idle f = record { at = λ l m a b p q. (ring_front (none_apart idle f)).at l m a b p (stays_then (ReadsNone idle) f m b q) }
 
-stops_same : (n k : ℕ) (f : RingFields) → RingDoes (n ≡ k) f (Stops n) (Stops k)
-stops_same zero zero f = ring_next (stays_same f) (λ t mid. ring_so (λ e. refl) (reads_same None None mid))
-stops_same zero (suc k) f = ring_sym (record { at = λ l m a b p q. (goes_on (Stops k) f).at l m a b (stops_later k f l a p) q })
-stops_same (suc n) zero f = record { at = λ l m a b p q. (goes_on (Stops n) f).at l m a b (stops_later n f l a p) q }
-stops_same (suc n) (suc k) f = record {
+looked_same : (n k : ℕ) (x y : Bool) (f : RingFields) →
+    RingDoes ((n ≡ k) × (x ≡ y)) f (ServedThen n (ReadsNone x)) (ServedThen k (ReadsNone y))
+looked_same zero zero x y f = ring_next (stays_same f) (λ t mid. ring_so (λ e. (refl, e)) (none_same x y mid))
+looked_same zero (suc k) x y f = ring_sym (record {
+  at = λ l m a b p q. (goes_on (ServedThen k (ReadsNone y)) x f).at l m a b (one_first k (ReadsNone y) f l a p) q;
+})
+looked_same (suc n) zero x y f = record {
+  at = λ l m a b p q. (goes_on (ServedThen n (ReadsNone x)) y f).at l m a b (one_first n (ReadsNone x) f l a p) q;
+}
+looked_same (suc n) (suc k) x y f = record {
   at = λ l m a b p q.
-      (ring_next (serves_one_same f) (λ t mid. ring_so (λ e. ap suc e) (stops_same n k mid))).at l m a b (stops_later n f l a p)
-      (stops_later k f m b q);
+      (ring_next (serves_one_same f) (λ t mid. ring_so (λ e. (ap suc e.0, e.1)) (looked_same n k x y mid))).at l m a b
+      (one_first n (ReadsNone x) f l a p) (one_first k (ReadsNone y) f m b q);
 }
 
--- fewer were served, and then none was shown
-stops_before : (n k : ℕ) → n < k → (f : RingFields) → RingDoes ⊥ f (Stops n) (RingTimes k ServesOne)
-stops_before n zero few f = absurd (omega (arith, few))
-stops_before zero (suc k) few f = ring_sym (goes_on (RingTimes k ServesOne) f)
-stops_before (suc n) (suc k) few f = record {
-  at = λ l m a b p q. (ring_next (serves_one_same f) (λ t mid. stops_before n k (omega (arith, few)) mid)).at l m a b
-      (stops_later n f l a p) q;
+-- ISR showed none, or more were served
+looked_before : (n k : ℕ) → n < k → (idle : Bool) (G : RingDoing) (f : RingFields) →
+    RingDoes ⊥ f (ServedThen n (ReadsNone idle)) (ServedThen k G)
+looked_before n zero few idle G f = absurd (omega (arith, few))
+looked_before zero (suc k) few idle G f = ring_sym (record {
+  at = λ l m a b p q. (goes_on (ServedThen k G) idle f).at l m a b (one_first k G f l a p) q;
+})
+looked_before (suc n) (suc k) few idle G f = record {
+  at = λ l m a b p q. (ring_next (serves_one_same f) (λ t mid. looked_before n k (omega (arith, few)) idle G mid)).at l m a b
+      (one_first n (ReadsNone idle) f l a p) (one_first k G f m b q);
 }
+
+-- as many as the limit were served
+full_same : (n k : ℕ) → n ≡ k → (f : RingFields) → RingDoes (Unit {0}) f (ServedThen n Stays) (ServedThen k Stays)
+full_same n k e f =
+    let P : ℕ → Type 0 = λ i. RingDoes (Unit {0}) f (ServedThen n Stays) (ServedThen i Stays) in
+    subst P e (ring_next (times_same n f) (λ t mid. stays_same mid))
+
+-- what bit 0 of ISR says
+abbrev end_of : Bool → HandleEnd
+end_of true = Idle
+end_of false = Unknown
+
+-- ISR showed none, or the limit was reached
+abbrev ByLook : (limit : ℕ) → Handled → RingFields → List Access → RingFields → Type 0
+ByLook limit x f l a = (idle : Bool) × (x.end ≡ end_of idle) × (x.served < limit) × ServedThen x.served (ReadsNone idle) f l a
+
+abbrev AtLimit : (limit : ℕ) → Handled → RingFields → List Access → RingFields → Type 0
+AtLimit limit x f l a = (x.end ≡ Limit) × (x.served ≡ limit) × ServedThen x.served Stays f l a
+
+by_look : (limit n : ℕ) (end : HandleEnd) (f : RingFields) (l : List Access) (a : RingFields) →
+    ServesUpTo limit (record { served = n; end = end }) f l a →
+    ByLook limit (record { served = n; end = end }) f l a ⊎ AtLimit limit (record { served = n; end = end }) f l a
+by_look limit n Idle f l a t = inl (true, refl, t.0, t.1)
+by_look limit n Unknown f l a t = inl (false, refl, t.0, t.1)
+by_look limit n Limit f l a t = inr (refl, t.0, t.1)
+
+serves_up_to_same : (limit : ℕ) (f : RingFields) (x y : Handled) → RingDoes (x ≡ y) f (ServesUpTo limit x) (ServesUpTo limit y)
+serves_up_to_same limit f x y = record {
+  at = λ l m a b p q. at l m a b (by_look limit x.served x.end f l a p) (by_look limit y.served y.end f m b q);
+}
+  where
+    same : (x.served ≡ y.served) × (x.end ≡ y.end) → x ≡ y
+    same e i = record { served = e.0 i; end = e.1 i }
+
+    at : (l m : List Access) (a b : RingFields) → ByLook limit x f l a ⊎ AtLimit limit x f l a →
+        ByLook limit y f m b ⊎ AtLimit limit y f m b → SameOrPart ((x ≡ y) × (a ≡ b)) l m
+    at l m a b (inl p) (inl q) =
+        so (λ r. (same (r.0.0, p.1 ∙ (ap end_of r.0.1 ∙ sym q.1)), r.1))
+        ((looked_same x.served y.served p.0 q.0 f).at l m a b p.3 q.3)
+    at l m a b (inl p) (inr q) =
+        so (λ r. absurd r.0) ((looked_before x.served y.served (omega (arith, p.2, q.1)) p.0 Stays f).at l m a b p.3 q.2)
+    at l m a b (inr p) (inl q) =
+        so_sym (so (λ r. r.0) ((looked_before y.served x.served (omega (arith, p.1, q.2)) q.0 Stays f).at m l b a q.3 p.2))
+    at l m a b (inr p) (inr q) =
+        let served : x.served ≡ y.served = p.1 ∙ sym q.1 in
+        so (λ r. (same (served, p.0 ∙ sym q.0), r.1)) ((full_same x.served y.served served f).at l m a b p.2 q.2)
 
 services_same : (f : RingFields) (x y : ℕ) → RingDoes (x ≡ y) f (Services x) (Services y)
-services_same f x y = record { at = at }
-  where
-    full : (x y : ℕ) → x ≡ 8 → y ≡ 8 → (l m : List Access) (a b : RingFields) → RingTimes x ServesOne f l a → RingTimes y ServesOne f m b →
-        SameOrPart ((x ≡ y) × (a ≡ b)) l m
-    full x y e d l m a b p q =
-        let P : ℕ → Type 0 = λ n. RingTimes n ServesOne f l a in
-        let Q : ℕ → Type 0 = λ n. RingTimes n ServesOne f m b in
-        so (λ r. (e ∙ sym d, r.1)) ((times_same 8 f).at l m a b (subst P e p) (subst Q d q))
-
-    at : (l m : List Access) (a b : RingFields) → Services x f l a → Services y f m b → SameOrPart ((x ≡ y) × (a ≡ b)) l m
-    at l m a b (inl p) (inl q) = (stops_same x y f).at l m a b p.1 q.1
-    at l m a b (inl p) (inr q) = so (λ r. absurd r.0) ((stops_before x y (omega (arith, p.0, q.0)) f).at l m a b p.1 q.1)
-    at l m a b (inr p) (inl q) = so_sym (so (λ r. r.0) ((stops_before y x (omega (arith, p.0, q.0)) f).at m l b a q.1 p.1))
-    at l m a b (inr p) (inr q) = full x y p.0 q.0 l m a b p.1 q.1
+services_same f x y = record {
+  at = λ l m a b p q. so (λ r. (ap (λ (h : Handled). h.served) r.0, r.1))
+      ((serves_up_to_same MAX_INTERRUPTS f (record { served = x; end = p.0 }) (record { served = y; end = q.0 })).at l m a b p.1 q.1);
+}
 
 pub services_leave_no_choice : LeavesNoRingChoice Services
 services_leave_no_choice = no_choice services_same
@@ -292,114 +344,21 @@ pub retriggers_leave_no_choice : LeavesNoRingChoice (λ (_ : ⊤). Retriggers)
 retriggers_leave_no_choice =
     no_choice (λ f x y. record { at = λ l m a b p q. so (λ r. (refl, r.1)) ((retriggers_same f).at l m a b p q) })
 
--- one value of ISR has one bit 0
-none_same : (x y : Bool) (f : RingFields) → RingDoes (x ≡ y) f (OnDriver (ShowsNone x) unchanged) (OnDriver (ShowsNone y) unchanged)
-none_same x y f = on_driver {f = f} unchanged unchanged (record {
-  at = λ l m a b p q. so (λ r. (sym p.2 ∙ ap (λ (n : ℕ). has n ISR.INTERRUPT_STATUS.0) r.0 ∙ q.2, r.1))
-      ((does_saving f.driver (Only (Read offsets.ISR p.0 ∷ [])) (Only (Read offsets.ISR q.0 ∷ []))
-      (read_determined offsets.ISR p.0 q.0)).at l m a b p.3 q.3);
-}) (λ e. refl)
+unless_idle_same : (end : HandleEnd) (f : RingFields) → RingDoes (Unit {0}) f (RetriggersUnlessIdle end) (RetriggersUnlessIdle end)
+unless_idle_same Idle f = stays_same f
+unless_idle_same Unknown f = retriggers_same f
+unless_idle_same Limit f = retriggers_same f
 
--- how it ends after a look at ISR
-abbrev LookEnds : HandleEnd → RingDoing
-LookEnds end = ShowsOrEnds (Err end)
-
-look_ends_same : (x y : HandleEnd) (f : RingFields) → RingDoes (x ≡ y) f (LookEnds x) (LookEnds y)
-look_ends_same Idle Idle f = ring_so (λ e. refl) (none_same true true f)
-look_ends_same Idle Unknown f = ring_sym (ring_front (ring_so (λ e. cc) (none_same false true f)))
-look_ends_same Unknown Idle f = ring_front (ring_so (λ e. cc) (none_same false true f))
-look_ends_same Unknown Unknown f = ring_next (none_same false false f) (λ e mid. ring_so (λ r. refl) (retriggers_same mid))
-look_ends_same Limit y f = record { at = λ l m a b p q. absurd p }
-look_ends_same Idle Limit f = record { at = λ l m a b p q. absurd q }
-look_ends_same Unknown Limit f = record { at = λ l m a b p q. absurd q }
-
--- an interrupt is shown, or an end
-none_apart : (idle : Bool) (f : RingFields) → RingDoes ⊥ f ServesOne (OnDriver (ShowsNone idle) unchanged)
-none_apart idle f = record { at = λ l m a b p q. (apart f).at l m a b p (shows_none idle f m b q) }
-
-end_apart : (end : HandleEnd) (f : RingFields) → RingDoes ⊥ f ServesOne (LookEnds end)
-end_apart Idle f = none_apart true f
-end_apart Unknown f = ring_sym (ring_front (ring_sym (none_apart false f)))
-end_apart Limit f = record { at = λ l m a b p q. absurd q }
-
--- some were served, and then it ended
-abbrev Ended : ℕ → HandleEnd → RingDoing
-Ended n end = RingNext (RingTimes n ServesOne) (LookEnds end)
-
--- some more after one
-more_later : (n : ℕ) (G : RingDoing) (f : RingFields) (l : List Access) (a : RingFields) → RingNext (RingTimes (suc n) ServesOne) G f l a →
-    RingNext ServesOne (RingNext (RingTimes n ServesOne) G) f l a
-more_later n G f l a t = then_later ServesOne (RingTimes n ServesOne) G f l a t
-
-went_on : {D : Type 0} (G : RingDoing) (end : HandleEnd) (f : RingFields) → RingDoes D f (RingNext ServesOne G) (Ended zero end)
-went_on G end f = record { at = λ l m a b p q. (ring_front (end_apart end f)).at l m a b p (stays_then (LookEnds end) f m b q) }
-
-ended_same : (n k : ℕ) (x y : HandleEnd) (f : RingFields) → RingDoes ((n ≡ k) × (x ≡ y)) f (Ended n x) (Ended k y)
-ended_same zero zero x y f = ring_next (stays_same f) (λ t mid. ring_so (λ e. (refl, e)) (look_ends_same x y mid))
-ended_same zero (suc k) x y f = ring_sym (record {
-  at = λ l m a b p q. (went_on (Ended k y) x f).at l m a b (more_later k (LookEnds y) f l a p) q;
-})
-ended_same (suc n) zero x y f = record {
-  at = λ l m a b p q. (went_on (Ended n x) y f).at l m a b (more_later n (LookEnds x) f l a p) q;
-}
-ended_same (suc n) (suc k) x y f = record {
-  at = λ l m a b p q.
-      (ring_next (serves_one_same f) (λ t mid. ring_so (λ e. (ap suc e.0, e.1)) (ended_same n k x y mid))).at l m a b
-      (more_later n (LookEnds x) f l a p) (more_later k (LookEnds y) f m b q);
-}
-
--- it ended, or more were served
-ended_before : (n k : ℕ) → n < k → (end : HandleEnd) (G : RingDoing) (f : RingFields) →
-    RingDoes ⊥ f (Ended n end) (RingNext (RingTimes k ServesOne) G)
-ended_before n zero few end G f = absurd (omega (arith, few))
-ended_before zero (suc k) few end G f = ring_sym (record {
-  at = λ l m a b p q. (went_on (RingNext (RingTimes k ServesOne) G) end f).at l m a b (more_later k G f l a p) q;
-})
-ended_before (suc n) (suc k) few end G f = record {
-  at = λ l m a b p q. (ring_next (serves_one_same f) (λ t mid. ended_before n k (omega (arith, few)) end G mid)).at l m a b
-      (more_later n (LookEnds end) f l a p) (more_later k G f m b q);
-}
-
--- as many as the limit were served
-all_served : (n k : ℕ) → n ≡ k → (f : RingFields) →
-    RingDoes (Unit {0}) f (RingNext (RingTimes n ServesOne) Retriggers) (RingNext (RingTimes k ServesOne) Retriggers)
-all_served n k e f =
-    let P : ℕ → Type 0 = λ i. RingDoes (Unit {0}) f (RingNext (RingTimes n ServesOne) Retriggers)
-    (RingNext (RingTimes i ServesOne) Retriggers) in
-    subst P e (ring_next (times_same n f) (λ t mid. retriggers_same mid))
-
--- it ended after a look, or at the limit
-by_look : (limit n : ℕ) (end : HandleEnd) (f : RingFields) (l : List Access) (a : RingFields) → IsWithin limit n end →
-    RingNext (RingTimes n ServesOne) (Ends end) f l a →
-    ((n < limit) × Ended n end f l a) ⊎ ((n ≡ limit) × (end ≡ Limit) × RingNext (RingTimes n ServesOne) Retriggers f l a)
-by_look limit n Idle f l a within t = inl (within, t)
-by_look limit n Unknown f l a within t = inl (within, t)
-by_look limit n Limit f l a within t = inr (within, refl, t)
+unless_idle_alike : (x y : HandleEnd) → x ≡ y → (f : RingFields) →
+    RingDoes (Unit {0}) f (RetriggersUnlessIdle x) (RetriggersUnlessIdle y)
+unless_idle_alike x y e f =
+    let P : HandleEnd → Type 0 = λ z. RingDoes (Unit {0}) f (RetriggersUnlessIdle x) (RetriggersUnlessIdle z) in
+    subst P e (unless_idle_same x f)
 
 handles_same : (limit : ℕ) (f : RingFields) (x y : Handled) → RingDoes (x ≡ y) f (Handles limit x) (Handles limit y)
-handles_same limit f x y = record {
-  at = λ l m a b p q. at l m a b (by_look limit x.served x.end f l a p.0 p.1) (by_look limit y.served y.end f m b q.0 q.1);
-}
-  where
-    same : (x.served ≡ y.served) × (x.end ≡ y.end) → x ≡ y
-    same e i = record { served = e.0 i; end = e.1 i }
-
-    at : (l m : List Access) (a b : RingFields) →
-        ((x.served < limit) × Ended x.served x.end f l a)
-        ⊎ ((x.served ≡ limit) × (x.end ≡ Limit) × RingNext (RingTimes x.served ServesOne) Retriggers f l a) →
-        ((y.served < limit) × Ended y.served y.end f m b)
-        ⊎ ((y.served ≡ limit) × (y.end ≡ Limit) × RingNext (RingTimes y.served ServesOne) Retriggers f m b) →
-        SameOrPart ((x ≡ y) × (a ≡ b)) l m
-    at l m a b (inl p) (inl q) = so (λ r. (same r.0, r.1)) ((ended_same x.served y.served x.end y.end f).at l m a b p.1 q.1)
-    at l m a b (inl p) (inr q) =
-        so (λ r. absurd r.0)
-        ((ended_before x.served y.served (omega (arith, p.0, q.0)) x.end Retriggers f).at l m a b p.1 q.2)
-    at l m a b (inr p) (inl q) =
-        so_sym (so (λ r. r.0)
-        ((ended_before y.served x.served (omega (arith, p.0, q.0)) y.end Retriggers f).at m l b a q.1 p.2))
-    at l m a b (inr p) (inr q) =
-        let served : x.served ≡ y.served = p.0 ∙ sym q.0 in
-        so (λ r. (same (served, p.1 ∙ sym q.1), r.1)) ((all_served x.served y.served served f).at l m a b p.2 q.2)
+handles_same limit f x y =
+    ring_next (serves_up_to_same limit f x y)
+    (λ e mid. ring_so (λ t. e) (unless_idle_alike x.end y.end (ap (λ (h : Handled). h.end) e) mid))
 
 pub handles_leave_no_choice : (limit : ℕ) → LeavesNoRingChoice (Handles limit)
 handles_leave_no_choice limit = no_choice (handles_same limit)

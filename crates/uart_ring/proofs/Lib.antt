@@ -6,7 +6,6 @@ pub mod Losses
 pub mod Arming
 pub mod Bounding
 pub mod Choices
-pub mod Handling
 pub mod RingBlocks
 pub mod RingPasses
 pub mod RingTold

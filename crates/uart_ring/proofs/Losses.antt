@@ -28,8 +28,9 @@ use Rattle.uart_ring.specs.Ring.{with_paused, without_sent, without_taken, uncha
 use Rattle.uart_ring.specs.Transmit.{ArmsIfLeft, Pumps, Queues, ResumesTransmit}
 use Rattle.uart_ring.specs.Receive.{PausesIfFull, FillsReceiveRing, EndsPause, TakesBytes}
 use Rattle.uart_ring.specs.Status.{NotesLine, NotesModem, TakesLine, TakesModem}
-use Rattle.uart_ring.specs.Service.{ShowsInterrupt, ServesInterrupt, ServesOne, Services}
-use Rattle.uart_ring.specs.Handle.{Retriggers, ShowsNone, Ends, Handles}
+use Rattle.uart_ring.specs.Service.{ShowsInterrupt, ShowsNone, ServesInterrupt, ServesOne, Stops, ServesUpTo, Services}
+use Rattle.uart_ring.specs.Handle.{Retriggers, RetriggersUnlessIdle, Handles}
+use Rattle.uart_ring.specs.declared.ring.service.TheConstants.{MAX_INTERRUPTS}
 use Rattle.uart_ring.specs.declared.ring.service.HandleEnd.{HandleEnd}
 use Rattle.uart_ring.specs.declared.ring.service.HandleEnd.TheVariants.{Idle, Unknown, Limit}
 use Rattle.uart_ring.specs.declared.ring.service.Handled.{Handled}
@@ -334,13 +335,20 @@ retriggers_carry f l after (((ier, is), saved), same) =
     let moves : Moves [] [] l = rw is (record { written_is = refl; read_is = refl }) in
     carries_still f f l after (saving_saves [] [] f.driver l after.driver moves saved) same refl refl refl refl
 
-pub ends_carry : (end : HandleEnd) → Implies (Ends end) Carries
-ends_carry Idle f l after t = shows_carry None f l after (shows_none true f l after t)
-ends_carry Unknown f l after t =
-    rw t.whole (carries-then f t.mid after t.front t.back
-    (shows_carry None f t.front t.mid (shows_none false f t.front t.mid t.first))
-    (retriggers_carry t.mid t.back after t.second))
-ends_carry Limit f l after t = retriggers_carry f l after t
+stops_carry : (end : HandleEnd) → Implies (Stops end) Carries
+stops_carry Idle f l after t = shows_carry None f l after (shows_none true f l after t)
+stops_carry Unknown f l after t = shows_carry None f l after (shows_none false f l after t)
+stops_carry Limit f l after t = stays_carries f l after t
+
+pub serves_up_to_carries : (limit : ℕ) (handled : Handled) → Implies (ServesUpTo limit handled) Carries
+serves_up_to_carries limit handled f l after (within, t) =
+    rw t.whole (carries-then f t.mid after t.front t.back (times_carry handled.served f t.front t.mid t.first)
+    (stops_carry handled.end t.mid t.back after t.second))
+
+unless_idle_carry : (end : HandleEnd) → Implies (RetriggersUnlessIdle end) Carries
+unless_idle_carry Idle f l after t = stays_carries f l after t
+unless_idle_carry Unknown f l after t = retriggers_carry f l after t
+unless_idle_carry Limit f l after t = retriggers_carry f l after t
 
 -- ---- each call
 
@@ -356,18 +364,16 @@ carried f l after c = record {
 }
 
 pub services_lose_nothing : (count : ℕ) → Implies (Services count) (LosesNothing [] [] 0 0)
-services_lose_nothing count f l after (inl (fewer, t)) =
-    carried f l after (rw t.whole (carries-then f t.mid after t.front t.back (times_carry count f t.front t.mid t.first)
-    (shows_carry _ t.mid t.back after t.second)))
-services_lose_nothing count f l after (inr (all, t)) = carried f l after (times_carry count f l after t)
+services_lose_nothing count f l after (end, t) =
+    carried f l after (serves_up_to_carries MAX_INTERRUPTS (record { served = count; end = end }) f l after t)
 
 pub retriggers_lose_nothing : Implies Retriggers (LosesNothing [] [] 0 0)
 retriggers_lose_nothing f l after t = carried f l after (retriggers_carry f l after t)
 
 pub handles_lose_nothing : (limit : ℕ) (handled : Handled) → Implies (Handles limit handled) (LosesNothing [] [] 0 0)
-handles_lose_nothing limit handled f l after (within, t) =
-    carried f l after (rw t.whole (carries-then f t.mid after t.front t.back (times_carry handled.served f t.front t.mid t.first)
-    (ends_carry handled.end t.mid t.back after t.second)))
+handles_lose_nothing limit handled f l after t =
+    carried f l after (rw t.whole (carries-then f t.mid after t.front t.back (serves_up_to_carries limit handled f t.front t.mid t.first)
+    (unless_idle_carry handled.end t.mid t.back after t.second)))
 
 any_pumps_carry : (count : ℕ) → Implies (IfAny count Pumps) Carries
 any_pumps_carry zero f l after t = stays_carries f l after t

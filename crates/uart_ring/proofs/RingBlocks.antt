@@ -21,8 +21,9 @@ use Rattle.uart_ring.specs.Ring.{with_paused, without_taken}
 use Rattle.uart_ring.specs.Transmit.{ArmsIfLeft, Pumps, Queues, ResumesTransmit}
 use Rattle.uart_ring.specs.Receive.{PausesIfFull, FillsReceiveRing, EndsPause, TakesBytes}
 use Rattle.uart_ring.specs.Status.{TakesLine, TakesModem}
-use Rattle.uart_ring.specs.Service.{ShowsInterrupt, ServesInterrupt, ServesOne, Services}
-use Rattle.uart_ring.specs.Handle.{Retriggers, Ends, Handles}
+use Rattle.uart_ring.specs.Service.{ShowsInterrupt, ServesInterrupt, ServesOne, Stops, ServesUpTo, Services}
+use Rattle.uart_ring.specs.Handle.{Retriggers, RetriggersUnlessIdle, Handles}
+use Rattle.uart_ring.specs.declared.ring.service.TheConstants.{MAX_INTERRUPTS}
 use Rattle.uart_ring.specs.declared.ring.service.HandleEnd.{HandleEnd}
 use Rattle.uart_ring.specs.declared.ring.service.HandleEnd.TheVariants.{Idle, Unknown, Limit}
 use Rattle.uart_ring.specs.declared.ring.service.Handled.{Handled}
@@ -220,29 +221,33 @@ times_make (suc n) f l after t =
 
 -- ---- each call
 
+stops_make : (end : HandleEnd) → Implies (Stops end) MakesRingBlocks
+stops_make Idle f l after t = isr_makes None f.driver l after.driver (shows_none true f l after t).0
+stops_make Unknown f l after t = isr_makes None f.driver l after.driver (shows_none false f l after t).0
+stops_make Limit f l after t = stays_make f l after t
+
+pub serves_up_to_makes : (limit : ℕ) (handled : Handled) → Implies (ServesUpTo limit handled) MakesRingBlocks
+serves_up_to_makes limit handled f l after (within, t) =
+    rw t.whole (makes-then f.driver t.mid.driver after.driver t.front t.back (times_make handled.served f t.front t.mid t.first)
+    (stops_make handled.end t.mid t.back after t.second))
+
 pub services_make : (count : ℕ) → Implies (Services count) MakesRingBlocks
-services_make count f l after (inl (fewer, t)) =
-    rw t.whole (makes-then f.driver t.mid.driver after.driver t.front t.back (times_make count f t.front t.mid t.first)
-    (isr_makes _ t.mid.driver t.back after.driver t.second.0))
-services_make count f l after (inr (all, t)) = times_make count f l after t
+services_make count f l after (end, t) = serves_up_to_makes MAX_INTERRUPTS (record { served = count; end = end }) f l after t
 
 pub retriggers_make : Implies Retriggers MakesRingBlocks
 retriggers_make f l after (((ier, is), saved), same) =
     makes_kept f.driver after.driver l [] [] (rw is (quiet_blocks f.driver.fifo (status.retrigger_accesses ier) (refl, (refl, (refl, tt)))))
     (rw is (record { written_is = refl; read_is = refl })) (rw is (tt, (refl, (refl, tt)))) (ap (λ (g : Fields). g.fifo) saved)
 
-ends_make : (end : HandleEnd) → Implies (Ends end) MakesRingBlocks
-ends_make Idle f l after t = isr_makes None f.driver l after.driver (shows_none true f l after t).0
-ends_make Unknown f l after t =
-    rw t.whole (makes-then f.driver t.mid.driver after.driver t.front t.back
-    (isr_makes None f.driver t.front t.mid.driver (shows_none false f t.front t.mid t.first).0)
-    (retriggers_make t.mid t.back after t.second))
-ends_make Limit f l after t = retriggers_make f l after t
+unless_idle_make : (end : HandleEnd) → Implies (RetriggersUnlessIdle end) MakesRingBlocks
+unless_idle_make Idle f l after t = stays_make f l after t
+unless_idle_make Unknown f l after t = retriggers_make f l after t
+unless_idle_make Limit f l after t = retriggers_make f l after t
 
 pub handles_make : (limit : ℕ) (handled : Handled) → Implies (Handles limit handled) MakesRingBlocks
-handles_make limit handled f l after (within, t) =
-    rw t.whole (makes-then f.driver t.mid.driver after.driver t.front t.back (times_make handled.served f t.front t.mid t.first)
-    (ends_make handled.end t.mid t.back after t.second))
+handles_make limit handled f l after t =
+    rw t.whole (makes-then f.driver t.mid.driver after.driver t.front t.back (serves_up_to_makes limit handled f t.front t.mid t.first)
+    (unless_idle_make handled.end t.mid t.back after t.second))
 
 any_make : {G : RingDoing} (count : ℕ) → Implies G MakesRingBlocks → Implies (IfAny count G) MakesRingBlocks
 any_make zero k f l after t = stays_make f l after t

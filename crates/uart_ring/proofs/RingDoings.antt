@@ -54,3 +54,15 @@ pub ring_times : {B : Type 0} {step : B → Access → B → Type 0} (n : ℕ) (
 ring_times n G {a} {b} {c} p q =
     ring_among (λ l t. let mid = t.mid in rw t.whole (times_more n G (ring_fields a) mid (ring_fields c) t.front t.back t.first t.second))
     (ring_then p q)
+
+-- what comes after two comes after the second of them
+pub then_later : (G H K : RingDoing) (f : RingFields) (l : List Access) (a : RingFields) → RingNext (RingNext G H) K f l a →
+    RingNext G (RingNext H K) f l a
+then_later G H K f l a t = record {
+  front = t.first.front;
+  back = t.first.back ++ t.back;
+  mid = t.first.mid;
+  whole = rw (t.whole, t.first.whole) (append_assoc t.first.front t.first.back t.back);
+  first = t.first.first;
+  second = record { front = t.first.back; back = t.back; mid = t.mid; whole = refl; first = t.first.second; second = t.second };
+}

@@ -1,8 +1,9 @@
 -- Serving interrupts.
-use Rattle.std.specs.Prelude.{◌≡◌, ◌<◌, ◌⊎◌, ℕ, [], ◌∷◌, Option, Some, None}
+use Rattle.std.specs.Prelude.{◌≡◌, ◌<◌, ℕ, Bool, true, false, [], ◌∷◌, Option, Some, None}
 use Rattle.uart_spec.specs.declared.access.Access.TheVariants.{Read}
-use Rattle.uart_spec.specs.Bits.{IsOnlyIfAny}
+use Rattle.uart_spec.specs.Bits.{has, IsOnlyIfAny}
 use Rattle.uart_spec.specs.Fields.{Identifies}
+use Rattle.uart_spec.specs.declared.registers.interrupt_status.TheConstants.ISR
 use Rattle.uart_spec.specs.declared.registers.interrupt_type.InterruptType.{InterruptType}
 use Rattle.uart_spec.specs.declared.registers.interrupt_type.InterruptType.TheVariants.{ReceiverLineStatus}
 use Rattle.uart_spec.specs.declared.registers.interrupt_type.InterruptType.TheVariants.{ReceivedDataReady, ModemStatus}
@@ -14,6 +15,9 @@ use Rattle.uart_spec.specs.declared.registers.offsets.TheConstants as offsets
 use Rattle.uart_16550.specs.Grammar.{Only}
 use Rattle.uart_16550.specs.Driver.{Doing, Saving}
 use Rattle.uart_ring.specs.declared.ring.service.TheConstants.{MAX_INTERRUPTS}
+use Rattle.uart_ring.specs.declared.ring.service.HandleEnd.{HandleEnd}
+use Rattle.uart_ring.specs.declared.ring.service.HandleEnd.TheVariants.{Idle, Unknown, Limit}
+use Rattle.uart_ring.specs.declared.ring.service.Handled.{Handled}
 use Rattle.uart_ring.specs.Ring.{RingDoing, OnDriver, Stays, RingNext, RingTimes, unchanged}
 use Rattle.uart_ring.specs.Transmit.{Pumps}
 use Rattle.uart_ring.specs.Receive.{FillsReceiveRing}
@@ -40,9 +44,32 @@ ServesOne f l after =
     (interrupt : InterruptType)
     × RingNext (OnDriver (ShowsInterrupt (Some interrupt)) unchanged) (ServesInterrupt interrupt) f l after
 
--- `service`: fewer interrupts than the most were served, and then none was identified; or the most were served
+-- one read of ISR that identifies no interrupt: bit 0 tells that none is pending, or else the code has no name
+abbrev pub ShowsNone : (idle : Bool) → Doing
+ShowsNone idle f l after =
+    (isr : ℕ) × IsOnlyIfAny (Identifies isr) None × (has isr ISR.INTERRUPT_STATUS.0 ≡ idle)
+    × Saving (Only (Read offsets.ISR isr ∷ [])) f l after
+
+-- why no further interrupt is served: ISR shows that none is pending, or one without a name; or the limit is reached,
+-- and ISR is not read
+abbrev pub Stops : HandleEnd → RingDoing
+Stops Idle = OnDriver (ShowsNone true) unchanged
+Stops Unknown = OnDriver (ShowsNone false) unchanged
+Stops Limit = Stays
+
+-- exactly as many as the limit were served if this is the end, and else fewer
+abbrev pub IsWithin : (limit served : ℕ) → HandleEnd → Type 0
+IsWithin limit served Idle = served < limit
+IsWithin limit served Unknown = served < limit
+IsWithin limit served Limit = served ≡ limit
+
+-- as many interrupts as are pending are served, but no more than the limit
+abbrev pub ServesUpTo : (limit : ℕ) → Handled → RingDoing
+ServesUpTo limit handled f l after =
+    IsWithin limit handled.served handled.end
+    × RingNext (RingTimes handled.served ServesOne) (Stops handled.end) f l after
+
+-- `service`: at most 8 interrupts are served. It tells how many, and not why it ended
 abbrev pub Services : ℕ → RingDoing
 Services count f l after =
-    ((count < MAX_INTERRUPTS)
-    × RingNext (RingTimes count ServesOne) (OnDriver (ShowsInterrupt None) unchanged) f l after)
-    ⊎ ((count ≡ MAX_INTERRUPTS) × RingTimes count ServesOne f l after)
+    (end : HandleEnd) × ServesUpTo MAX_INTERRUPTS (record { served = count; end = end }) f l after

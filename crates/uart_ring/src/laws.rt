@@ -3,7 +3,6 @@
 //!
 //! The contract of each function is a law that callers can cite. The functions do nothing.
 ghost use Rattle.std.specs.Prelude.{◌≡◌, ◌<◌, ⊤, ℕ, List, [], take};
-ghost use Rattle.uart_ring.specs.Ring.{RingDoing};
 ghost use Rattle.uart_ring.specs.Transmit.{Queues, ResumesTransmit};
 ghost use Rattle.uart_ring.specs.Receive.{TakesBytes};
 ghost use Rattle.uart_ring.specs.Status.{TakesLine, TakesModem};

@@ -37,8 +37,8 @@ pub enum RingError {
 ///
 /// Initialise the driver through `inner_mut`, with `DATA_READY`, `RECEIVER_LINE_STATUS` and
 /// `MODEM_STATUS` enabled and without `THR_EMPTY`, which the rings enable as long as there are
-/// bytes to send. Call `service` in the interrupt handler. Mask the interrupt during all other
-/// calls, since a call of the handler must not run in between.
+/// bytes to send. Call `handle` in the interrupt handler. Mask the interrupt during all other
+/// calls, since the handler must not run in the middle of one.
 ///
 /// No call waits, so none returns a stall.
 ///
@@ -55,7 +55,7 @@ pub struct Uart16550Ring<B> {
     uart: Uart16550<B>,
     transmit: HeapCircularBuffer<u8>,
     receive: HeapCircularBuffer<u8>,
-    // What `service` noted of LSR and MSR, until it is taken.
+    // What was noted of LSR and MSR when interrupts were served, until it is taken.
     line: LSR,
     modem: MSR,
     is_paused: bool,

@@ -63,7 +63,7 @@ fn run_ring_call(ring: &mut Uart16550Ring<Device16550>, call: &RingCall) -> Ring
 ///   receive ring at the start, those that were in the receiver, and those that arrived, in order,
 ///   without those that were dropped;
 /// - `TakeLine` reports drops and line errors, and `TakeModem` changes of the modem lines, also
-///   those that `Service` has read;
+///   those that were read when interrupts were served;
 /// - if CTS is not checked, there are never bytes in the transmit ring with no interrupt to come,
 ///   unless there were at the start and no byte was queued and sending not resumed since;
 /// - each call preserves a ready state.

@@ -16,6 +16,9 @@ use Rattle.uart_spec.specs.declared.access.Access.{Access}
 use Rattle.uart_spec.specs.declared.access.Access.TheVariants.{Read}
 use Rattle.uart_16550.specs.Grammar.{Language, Settings, Only, Then, InOrder, Times, FewMisses, AllMisses, Asks}
 use Rattle.uart_16550.specs.Receive.{Hit, Miss, ReadyToReceive, TryReceive, Receives, Awaited, ReceivesSome, filled, ReceivesExact}
+use Rattle.uart_16550.specs.Receive.{HitWithErrors, ReceivesWithErrors}
+use Rattle.uart_spec.specs.declared.received.Received.{Received}
+use Rattle.uart_run.specs.Session.{only_bytes}
 use Rattle.uart_16550.specs.Transmit.{LinesAllow, SendHit, SendRefused, SendMiss, ReadyToSend, Burst, burst_size}
 use Rattle.uart_16550.specs.Transmit.{Sends, Round, SendsSome, IsCut, SendsAll, SendsExact, TrySends, WaitsFor}
 use Rattle.uart_spec.specs.Bits.{has_any}
@@ -320,3 +323,22 @@ pub receives_exact_blocks : {T : Type 0} (s : Settings) (n : ℕ) (bytes : List 
 receives_exact_blocks s n bytes (Ok x) l t = makes_reads s Awaited (awaited_blocks s) bytes l t.1
 receives_exact_blocks s n bytes (Err e) l t =
     makes_reads_then s Awaited (AllMisses Miss) (awaited_blocks s) bytes (makes_all s Miss (miss_blocks s)) l t.2
+
+-- `receive_with_errors`
+hit_with_blocks : (s : Settings) (received : Received) → Makes s (HitWithErrors received) [] (received.byte ∷ [])
+hit_with_blocks s received l (line, ready, shown, is) =
+    let shows : has_any line LSR.DATA_READY.0 ≡ true = sym (has_one 0 line) ∙ ready in
+    rw is (blocks_one s.fifo (Hit_block line received.byte) shows)
+
+hits_with_blocks : (s : Settings) (items : List Received) → Makes s (InOrder HitWithErrors items) [] (only_bytes items)
+hits_with_blocks s [] l t = makes_only_none s l t
+hits_with_blocks s (received ∷ items) l t =
+    makes_then s (HitWithErrors received) (InOrder HitWithErrors items) [] [] (received.byte ∷ []) (only_bytes items)
+    (hit_with_blocks s received) (λ k u. hits_with_blocks s items k u) l t
+
+pub receives_with_blocks : (s : Settings) (n : ℕ) (items : List Received) → Makes s (ReceivesWithErrors n items) [] (only_bytes items)
+receives_with_blocks s n items l (inl t) = hits_with_blocks s items l t.1
+receives_with_blocks s n items l (inr t) =
+    let b : InBlocks s.fifo l [] (only_bytes items ++ []) =
+    makes_then s (InOrder HitWithErrors items) Miss [] [] (only_bytes items) [] (hits_with_blocks s items) (miss_blocks s) l t.1 in
+    rw (append-nil (only_bytes items)) at b

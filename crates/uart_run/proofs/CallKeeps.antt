@@ -15,7 +15,7 @@ use Rattle.uart_16550.specs.Transmit.{SendMiss, Round}
 use Rattle.uart_16550.specs.Expansion.{SendsEach, SendsBeginning}
 use Rattle.uart_16550.specs.Init.{Keeps as Keeps_pattern, KeepsPatterns, ChecksPresence}
 use Rattle.uart_16550.specs.Io.{Reads, Writes, Flushes, AnswersRead, AnswersWrite}
-use Rattle.uart_16550.specs.Status.{TakesLsr, TakesMsr, Connects, ReadsDivisor, Enables, Disables, Dumps}
+use Rattle.uart_16550.specs.Status.{TakesLsr, TakesMsr, Connects, ReadsDivisor, Enables, Disables, Retriggers, retrigger_accesses, Dumps}
 use Rattle.uart_spec.specs.declared.dump.ConfigRegisterDump.{ConfigRegisterDump}
 use Rattle.uart_calls.specs.Meaning.{ShowsFifo}
 use Rattle.uart_chip.specs.Transmitter.{room}
@@ -44,6 +44,10 @@ connects_blocks s result l (status, shows, is) = rw is (blocks_one s.fifo (Other
 -- `dll_dlm`
 pub reads_divisor_blocks : (s : Settings) (low high : ℕ) → Makes s (ReadsDivisor low high) [] []
 reads_divisor_blocks s low high l (lcr, is) = rw is (blocks_one s.fifo (Divisor lcr low high) tt)
+
+-- `retrigger_interrupts`
+pub retriggers_blocks : (s : Settings) → Makes s Retriggers [] []
+retriggers_blocks s l (ier, is) = rw is (quiet_blocks s.fifo (retrigger_accesses ier) (refl, (refl, (refl, tt))))
 
 -- `check_present`
 keeps_pattern_blocks : (s : Settings) (pattern : ℕ) (outcome : Bool) → Makes s (Keeps_pattern pattern outcome) [] []

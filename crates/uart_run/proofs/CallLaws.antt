@@ -14,18 +14,18 @@ use Rattle.uart_16550.specs.Grammar.{Language, Settings}
 use Rattle.uart_16550.specs.Driver.{Doing, Did, Saving, Fields, fields, settings_of}
 use Rattle.uart_16550.specs.Receive.{TryReceive, ReceivesExact}
 use Rattle.uart_16550.specs.Transmit.{SendsExact, TrySends}
-use Rattle.uart_16550.specs.Status.{TakesLsr, TakesMsr, Enables, Disables, Dumps}
+use Rattle.uart_16550.specs.Status.{TakesLsr, TakesMsr, Enables, Disables, Retriggers, Dumps}
 use Rattle.uart_16550.specs.Io.{Reads, Writes}
 use Rattle.uart_16550.specs.Expansion.{expansion, expansion_of}
 use Rattle.uart_16550.specs.Tty.{inner_of}
 use Rattle.uart_spec.specs.declared.call.Call.{Call}
 use Rattle.uart_spec.specs.declared.call.Call.TheVariants as call
 use Rattle.uart_spec.specs.declared.call.Answer.{Answer}
-use Rattle.uart_spec.specs.declared.call.Answer.TheVariants.{Flag, Count, Register}
+use Rattle.uart_spec.specs.declared.call.Answer.TheVariants.{Done, Flag, Count, Register}
 use Rattle.uart_chip.specs.Machine.{MachineStep}
 use Rattle.uart_calls.specs.Meaning.{ShowsFifo, SendsShortText, CalledAs, connected_answer, receive_ready_answer}
 use Rattle.uart_calls.specs.Meaning.{received_answer, sent_answer, exact_answer, count_answer}
-use Rattle.uart_calls.specs.Meaning.{ready_answer, latch_answer, bytes_answer, receive_exact_answer, read_answer}
+use Rattle.uart_calls.specs.Meaning.{ready_answer, latch_answer, bytes_answer, with_errors_answer, receive_exact_answer, read_answer}
 use Rattle.uart_run.specs.Run.{State, machine_of, CallStep}
 use Rattle.uart_run.specs.Session.{count_of, sent_of, sent_byte_of, byte_of, bytes_of, reported_by, received_by}
 use Rattle.uart_chip.proofs.conservation.Went.{Modes}
@@ -33,8 +33,8 @@ use Rattle.uart_chip.proofs.conservation.Passed.{passed-refl, passed-mark}
 use Rattle.uart_chip.proofs.conservation.BlockLaws.{IsOpen, Stands, PassedBlocks}
 use Rattle.uart_run.proofs.CallBlocks.{no_bytes, InBlocks, Makes, makes_look, passed_in_blocks, ready_to_send_blocks}
 use Rattle.uart_run.proofs.CallBlocks.{ready_to_receive_blocks, sends_blocks, sends_exact_blocks, try_sends_blocks}
-use Rattle.uart_run.proofs.CallBlocks.{try_receive_blocks, receives_blocks, receives_exact_blocks}
-use Rattle.uart_run.proofs.CallKeeps.{plain_blocks, connects_blocks, reads_divisor_blocks, checks_presence_blocks}
+use Rattle.uart_run.proofs.CallBlocks.{try_receive_blocks, receives_blocks, receives_exact_blocks, receives_with_blocks}
+use Rattle.uart_run.proofs.CallKeeps.{plain_blocks, connects_blocks, reads_divisor_blocks, retriggers_blocks, checks_presence_blocks}
 use Rattle.uart_run.proofs.CallKeeps.{reads_blocks, writes_blocks, flushes_blocks, answers_read_blocks, answers_write_blocks}
 use Rattle.uart_run.proofs.CallKeeps.{sends_each_blocks, sends_beginning_blocks, Keeps, saving_keeps, shows_fifo_keeps}
 use Rattle.uart_run.proofs.CallKeeps.{enables_keeps, disables_keeps, dumps_keeps, takes_lsr_keeps, takes_msr_keeps}
@@ -215,10 +215,14 @@ passes_call x s t (call.Enable bits) a w i h =
 passes_call x s t (call.Disable bits) a w i h =
     passes_did x _ _ (Disables bits.0) [] [] s t w h.did
     (disables_keeps bits.0 (fields (inner_of s)) (fields (inner_of t)) h.did.list h.did.does)
+passes_call x s t call.RetriggerInterrupts a w i h =
+    passes_silent {R = Unit {0}} x _ _ (λ r. Retriggers) (λ r. Done) s t a w (λ v r. retriggers_blocks v) h
 passes_call x s t (call.Receive slots) a w i h =
     passes_called x _ _ _ bytes_answer (λ _. []) bytes_of s t a w (λ v bytes. receives_blocks v slots bytes) h
 passes_call x s t (call.ReceiveExact slots) a w i h =
     passes_called x _ _ _ receive_exact_answer (λ _. []) bytes_of s t a w (λ v got. receives_exact_told slots v got) h
+passes_call x s t (call.ReceiveWithErrors slots) a w i h =
+    passes_called x _ _ _ with_errors_answer (λ _. []) bytes_of s t a w (λ v items. receives_with_blocks v slots items) h
 passes_call x s t (call.Read slots) a w i h =
     passes_called x _ _ _ read_answer (λ _. []) bytes_of s t a w (λ v got. reads_told slots v got) h
 passes_call x s t (call.Send bytes) a w i h =

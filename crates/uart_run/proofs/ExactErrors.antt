@@ -18,7 +18,7 @@ use Rattle.uart_spec.specs.declared.registers.offsets.TheConstants as offsets
 use Rattle.uart_16550.specs.Grammar.{Settings, InOrder}
 use Rattle.uart_16550.specs.Driver.{Made, backend_of, fields}
 use Rattle.uart_16550.specs.Receive.{HitWithErrors, ReceivesWithErrors}
-use Rattle.uart_16550.specs.declared.driver.receive.Received.{Received}
+use Rattle.uart_spec.specs.declared.received.Received.{Received}
 use Rattle.uart_16550.specs.declared.driver.Uart16550.{Uart16550}
 use Rattle.uart_chip.specs.declared.receiver.Character.{Character}
 use Rattle.uart_chip.specs.declared.receiver.Origin.TheVariants.{Looped}
@@ -288,6 +288,12 @@ receives x slots items s l m n o on w (inr (fewer, t)) p =
 
 -- ---- the call
 
+pub exactly_received : (x : Modes) (m n : MachineState) (slots : ℕ) (items : List Received) (s : Settings) (l : List Access) → IsOpen x →
+    x.fifo ≡ true → Stands x m → ReceivesWithErrors slots items s l → Path MachineStep m l n → ReceivedExactly m items n
+exactly_received x m n slots items s l o on w made path =
+    let r = receives x slots items s l m n o on w made path in
+    record { characters = r.characters; shown = r.shown; stay = taken_entered x m n l [] r.characters w.modes.cut r.passed }
+
 pub received_exactly : (before after : Uart16550 MachineState) (slots : ℕ) (items : List Received) → IsSound (backend_of before) →
     Ready (under_terminal before) → (fields before).fifo ≡ true → Made MachineStep (ReceivesWithErrors slots items) before after →
     ReceivedExactly (backend_of before) items (backend_of after)
@@ -295,10 +301,5 @@ received_exactly before after slots items sound ready on made =
     let s = under_terminal before in
     let x = modes_of s in
     let w = in_session s ready sound in
-    let r = receives x slots items _ made.list (backend_of before) (backend_of after) w.open_modes (sym w.fifo ∙ on) w.stands made.fits
-    made.path in
-    record {
-      characters = r.characters;
-      shown = r.shown;
-      stay = taken_entered x (backend_of before) (backend_of after) made.list [] r.characters w.stands.modes.cut r.passed;
-    }
+    exactly_received x (backend_of before) (backend_of after) slots items _ made.list w.open_modes (sym w.fifo ∙ on) w.stands made.fits
+    made.path

@@ -17,7 +17,7 @@ use Rattle.uart_spec.specs.declared.registers.offsets.TheConstants as offsets
 use Rattle.uart_spec.specs.declared.call.Call.{Call}
 use Rattle.uart_spec.specs.declared.call.Call.TheVariants as call
 use Rattle.uart_spec.specs.declared.call.Answer.{Answer}
-use Rattle.uart_spec.specs.declared.call.Answer.TheVariants.{Done, FrameRefused, Latch}
+use Rattle.uart_spec.specs.declared.call.Answer.TheVariants.{Latch}
 use Rattle.uart_16550.specs.Grammar.{Settings, Only, Then, Asks}
 use Rattle.uart_16550.specs.Driver.{Fields, fields, settings_of, saving, Sets, Saving, Next, with_fifo}
 use Rattle.uart_16550.specs.Init.{DivisorOf, frame_bits}
@@ -39,7 +39,7 @@ use Rattle.uart_chip.proofs.conservation.Went.{Modes, fixed}
 use Rattle.uart_chip.proofs.conservation.Passed.{passed-refl, passed-trans}
 use Rattle.uart_chip.proofs.conservation.BlockLaws.{IsOpen, PassedBlocks, nothing_taken, passed_frame, relined, path_as, stands-after}
 use Rattle.uart_run.specs.Run.{State, machine_of, CallStep}
-use Rattle.uart_run.specs.Ready.{Ready, IsFramed, Frames, IsAttached, latches_of}
+use Rattle.uart_run.specs.Ready.{Ready, Frames, IsAttached, latches_of}
 use Rattle.uart_run.specs.Session.{IsWithinSession, reported_by, received_by}
 use Rattle.uart_run.specs.Uncut.{IsWithinUncut}
 use Rattle.uart_run.proofs.Latches.{Kept, kept_in, keep, kept_after, kept_step, kept_path, kept_list, kept_access}
@@ -275,6 +275,20 @@ frames_by s t config a (Err x) l e d path = record {
 pub frames : (s t : State) (config : Config) (a : Answer) → CallStep s (call.SetFrame config) a t → Frames config s a t
 frames s t config a h = frames_by s t config a h.outcome h.did.list h.answered h.did.does h.did.path
 
+-- ---- `set_break` leaves a ready state
+
+lcr_read : (m n : MachineState) (value : ℕ) → MachineStep m (Read offsets.LCR value) n → value ≡ m.chip.latches.lcr
+lcr_read m n value s = s.1 ∙ ap (λ (k : Kept). k.latches.lcr) (kept_access m)
+
+pub set_break_ready : (s t : State) (on : Bool) (l : List Access) → Saving (SetsBreak on) (fields (inner_of s)) l (fields (inner_of t)) →
+    Path MachineStep (machine_of s) l (machine_of t) → Ready s → Ready t
+set_break_ready s t on l ((lcr, is), saved) path ready =
+    let made : List Access = Read offsets.LCR lcr ∷ Write offsets.LCR (switched on LCR.SET_BREAK.0 lcr) ∷ [] in
+    let p = path_as (machine_of s) (machine_of t) l made is path in
+    ready_by t _ (kept_list l made (machine_of s) (machine_of t) is path)
+    (break_dlab on lcr ∙ (ap (λ (v : ℕ). has_any v LCR.DLAB.0) (lcr_read (machine_of s) p.0 lcr p.1) ∙ ready.dlab)) ready.loopback
+    (ap (λ (g : Fields). g.fifo) saved ∙ sym ready.fifo)
+
 -- ---- calls that write MCR
 
 pub unlooped_off : (bits : ℕ) → has_any (bit_and (unlooped bits) mcr_bits) MCR.LOOP_BACK.0 ≡ false
@@ -301,9 +315,6 @@ set_output_ready s t output on l ((mcr, is), saved) path ready =
     (λ k. refl) (ap (λ (g : Fields). g.fifo) saved) path ready
 
 -- ---- `attach`
-
-lcr_read : (m n : MachineState) (value : ℕ) → MachineStep m (Read offsets.LCR value) n → value ≡ m.chip.latches.lcr
-lcr_read m n value s = s.1 ∙ ap (λ (k : Kept). k.latches.lcr) (kept_access m)
 
 mcr_read : (m n : MachineState) (value : ℕ) → MachineStep m (Read offsets.MCR value) n → value ≡ m.chip.latches.mcr
 mcr_read m n value s = s.1 ∙ ap (λ (k : Kept). k.latches.mcr) (kept_access m)

@@ -12,7 +12,8 @@ use Rattle.uart_spec.specs.declared.access.Access.{Access}
 use Rattle.uart_spec.specs.declared.access.Access.TheVariants.{Read}
 use Rattle.uart_16550.specs.Grammar.{Language, Settings, Times}
 use Rattle.uart_16550.specs.Driver.{fields, settings_of}
-use Rattle.uart_16550.specs.Receive.{Miss, TryReceive, Receives, ReceivesExact}
+use Rattle.uart_16550.specs.Receive.{Miss, TryReceive, Receives, ReceivesExact, ReceivesWithErrors}
+use Rattle.uart_spec.specs.declared.received.Received.{Received}
 use Rattle.uart_16550.specs.Io.{Reads, Flushes}
 use Rattle.uart_16550.specs.Frame.{ShowsIdle}
 use Rattle.uart_16550.specs.Tty.{inner_of}
@@ -32,19 +33,20 @@ use Rattle.std.proofs.Common.{max, bit_and, bit_or}
 use Rattle.std.proofs.lemmas.Nat.Bits.{same_from_bits, bit_at_or, bit_at_and, bit_at-zero}
 use Rattle.std.specs.Int.{bit_at}
 use Rattle.uart_chip.specs.Conserved.{out}
-use Rattle.uart_calls.specs.Meaning.{received_answer, read_answer, receive_exact_answer, exact_answer}
+use Rattle.uart_calls.specs.Meaning.{received_answer, read_answer, with_errors_answer, receive_exact_answer, exact_answer}
 use Rattle.uart_run.specs.Run.{State, machine_of, CallStep, Link, Chain}
-use Rattle.uart_run.specs.Session.{AllCalls}
-use Rattle.uart_run.specs.Served.{HoldsAtLeast, waiting_len, transmitter_of, IsFlushed, Serves, AllServe}
+use Rattle.uart_run.specs.Session.{AllCalls, only_bytes}
+use Rattle.uart_run.specs.Served.{HoldsAtLeast, waiting_len, ServesWithErrors, transmitter_of, IsFlushed, Serves, AllServe}
 use Rattle.uart_chip.proofs.Bits.{has_one}
 use Rattle.uart_chip.proofs.conservation.Went.{Modes}
 use Rattle.uart_run.proofs.EmptyTransmitter.{wait_empties, empty_shown}
 use Rattle.uart_chip.proofs.conservation.BlockLaws.{PassedBlocks, path_as, path_split, look_data}
 use Rattle.uart_run.proofs.CallBlocks.{InBlocks, Makes, makes_look, passed_in_blocks}
-use Rattle.uart_run.proofs.CallBlocks.{try_receive_blocks, receives_blocks, receives_exact_blocks}
+use Rattle.uart_run.proofs.CallBlocks.{try_receive_blocks, receives_blocks, receives_exact_blocks, receives_with_blocks}
 use Rattle.uart_run.proofs.CallKeeps.{reads_blocks, flushes_blocks}
 use Rattle.uart_run.proofs.CallLaws.{InSession}
 use Rattle.uart_run.proofs.FrameLaws.{GoOn, in_session-gone, same_cut}
+use Rattle.uart_run.proofs.ExactErrors.{exactly_received}
 
 -- ---- lists that end with a miss
 
@@ -132,6 +134,29 @@ received_enough x s t slots bytes l w (inr h) path =
     let dry : EndsDry v l = record { front = h.1.front; back = h.1.back; whole = h.1.whole; miss = h.1.second } in
     let all = dry_received x s t (Receives slots bytes) l bytes w (receives_blocks v slots bytes) (inr h) path dry in
     omega (arith, all)
+
+-- `receive_with_errors`
+with_errors_enough : (x : Modes) (s t : State) (slots : ℕ) (items : List Received) (l : List Access) → InSession x s →
+    ReceivesWithErrors slots items (settings_of (fields (inner_of s))) l → Path MachineStep (machine_of s) l (machine_of t) →
+    min slots (waiting_len s) ≤ length items
+with_errors_enough x s t slots items l w (inl h) path = omega (arith, h.0)
+with_errors_enough x s t slots items l w (inr h) path =
+    let v = settings_of (fields (inner_of s)) in
+    let dry : EndsDry v l = record { front = h.1.front; back = h.1.back; whole = h.1.whole; miss = h.1.second } in
+    let all = dry_received x s t (ReceivesWithErrors slots items) l (only_bytes items) w (receives_with_blocks v slots items) (inr h)
+    path dry in
+    omega (arith, all, length-map items (λ (received : Received). received.byte))
+
+with_errors_serves : (x : Modes) (s t : State) (slots : ℕ) (a : Answer) (items : List Received) (l : List Access) → InSession x s →
+    a ≡ with_errors_answer items → ReceivesWithErrors slots items (settings_of (fields (inner_of s))) l →
+    Path MachineStep (machine_of s) l (machine_of t) → ServesWithErrors s slots a t
+with_errors_serves x s t slots a items l w e h path = record {
+  items = items;
+  answered = e;
+  takes = with_errors_enough x s t slots items l w h path;
+  exact = λ on. exactly_received x (machine_of s) (machine_of t) slots items (settings_of (fields (inner_of s))) l w.open_modes
+      (sym w.stands.modes.fifo ∙ on) w.stands h path;
+}
 
 -- ---- calls that receive
 
@@ -261,6 +286,8 @@ serves_call x s t (call.Read slots) a w h =
     read_serves x s t slots a h.did.list h.outcome.0 h.outcome.1 w h.answered h.did.does.0 h.did.path
 serves_call x s t (call.ReceiveExact slots) a w h =
     exact_serves x s t slots a h.did.list h.outcome.0 h.outcome.1 w h.answered h.did.does.0 h.did.path
+serves_call x s t (call.ReceiveWithErrors slots) a w h =
+    with_errors_serves x s t slots a h.outcome h.did.list w h.answered h.did.does.0 h.did.path
 serves_call x s t call.Flush a w h = flush_serves x s t a h.did.list h.outcome w h.answered h.did.does.0 h.did.path
 serves_call x s t call.PeekModem a w h = peek_serves x s t a h.did.list h.outcome w h.answered h.did.does.0.is h.did.path
 serves_call x s t call.IsIdle a w h = idle_serves x s t a h.did.list h.outcome w h.answered h.did.does.0 h.did.path

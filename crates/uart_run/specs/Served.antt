@@ -1,7 +1,8 @@
 -- What a call of a session does at least, whatever the schedule is: it takes received bytes, and a flush empties the
 -- transmitter.
-use Rattle.std.specs.Prelude.{◌≡◌, ◌<◌, ◌≤◌, ℕ, true, List, [], ◌∷◌, length, min, bit_and}
+use Rattle.std.specs.Prelude.{◌≡◌, ◌<◌, ◌≤◌, ℕ, true, List, length, min, bit_and}
 use Rattle.uart_spec.specs.declared.registers.modem_status.TheConstants.MSR
+use Rattle.uart_spec.specs.declared.received.Received.{Received}
 use Rattle.uart_spec.specs.declared.call.Call.{Call}
 use Rattle.uart_spec.specs.declared.call.Call.TheVariants as call
 use Rattle.uart_spec.specs.declared.call.Answer.{Answer}
@@ -9,9 +10,10 @@ use Rattle.uart_spec.specs.declared.call.Answer.TheVariants as answer
 use Rattle.uart_chip.specs.Transmitter.{TransmitterState}
 use Rattle.uart_chip.specs.Chip.{is_transmitter_empty}
 use Rattle.uart_chip.specs.Conserved.{out, waiting}
-use Rattle.uart_calls.specs.Meaning.{bytes_answer}
+use Rattle.uart_calls.specs.Meaning.{bytes_answer, with_errors_answer}
 use Rattle.uart_run.specs.Chains.{EachLink}
 use Rattle.uart_run.specs.Run.{State, machine_of, Link}
+use Rattle.uart_run.specs.ReceivedErrors.{ReceivedExactly}
 
 -- the answer holds at least this number of bytes
 abbrev pub HoldsAtLeast : ℕ → Answer → Type 0
@@ -20,6 +22,14 @@ HoldsAtLeast n a = (bytes : List ℕ) × (a ≡ bytes_answer bytes) × (n ≤ le
 -- the number of received bytes that have not been read
 abbrev pub waiting_len : State → ℕ
 waiting_len s = length (waiting (machine_of s))
+
+-- a `receive_with_errors` into this number of slots takes as many of the received bytes as fit; and with the FIFO on,
+-- each comes with exactly its errors
+pub record ServesWithErrors (s : State) (slots : ℕ) (a : Answer) (t : State) : Type 0 where
+  pub items : List Received
+  pub answered : a ≡ with_errors_answer items
+  pub takes : min slots (waiting_len s) ≤ length items
+  pub exact : (machine_of s).chip.fifo ≡ true → ReceivedExactly (machine_of s) items (machine_of t)
 
 -- the transmitter of a state
 abbrev pub transmitter_of : State → TransmitterState
@@ -38,6 +48,7 @@ Serves s call.TryReceive a t = 0 < waiting_len s → (byte : ℕ) × (a ≡ answ
 Serves s (call.Receive slots) a t = 0 < waiting_len s → HoldsAtLeast (min slots (waiting_len s)) a
 Serves s (call.Read slots) a t = 0 < waiting_len s → HoldsAtLeast (min slots (waiting_len s)) a
 Serves s (call.ReceiveExact slots) a t = slots ≤ waiting_len s → HoldsAtLeast slots a
+Serves s (call.ReceiveWithErrors slots) a t = ServesWithErrors s slots a t
 Serves s call.Flush a t = a ≡ answer.Done → IsFlushed s t
 Serves s call.IsIdle a t = a ≡ answer.Flag true → IsFlushed s t
 Serves s call.PeekModem a t =

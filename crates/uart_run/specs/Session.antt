@@ -1,6 +1,7 @@
 -- Sessions, and what holds in each.
 use Rattle.std.specs.Prelude.{◌≡◌, ℕ, List, [], ◌∷◌, ◌++◌, map, take}
 use Rattle.uart_16550.specs.Expansion.{expansion}
+use Rattle.uart_spec.specs.declared.received.Received.{Received}
 use Rattle.uart_spec.specs.declared.call.Call.{Call}
 use Rattle.uart_spec.specs.declared.call.Call.TheVariants as call
 use Rattle.uart_spec.specs.declared.call.Answer.{Answer}
@@ -34,7 +35,7 @@ AllCalls Within (link ∷ links) = Within link.call × AllCalls Within links
 abbrev pub AllWithinSession : List Link → Type 0
 AllWithinSession = AllCalls IsWithinSession
 
--- a session: it begins in a ready state, and no call in it is an `init` or a loopback test
+-- a session: it begins in a ready state, and each call in it is one within a session
 abbrev pub IsSession : State → List Link → Type 0
 IsSession s links = Ready s × AllWithinSession links
 
@@ -64,6 +65,10 @@ reported_by (call.SendExact bytes) a = sent_of bytes.items a
 reported_by (call.Text text) a = sent_of (expansion text.bytes) a
 reported_by other a = []
 
+-- the bytes of these, without their errors
+abbrev pub only_bytes : List Received → List ℕ
+only_bytes items = map (λ received. received.byte) items
+
 -- the byte, and the bytes, of an answer
 abbrev pub byte_of : Answer → List ℕ
 byte_of (answer.Register byte) = byte ∷ []
@@ -71,6 +76,7 @@ byte_of other = []
 
 abbrev pub bytes_of : Answer → List ℕ
 bytes_of (answer.Bytes bytes) = bytes.items
+bytes_of (answer.BytesWithErrors received) = only_bytes received.items
 bytes_of (answer.ReceiveStalled bytes) = bytes.items
 bytes_of other = []
 
@@ -79,6 +85,7 @@ abbrev pub received_by : Call → Answer → List ℕ
 received_by call.TryReceive a = byte_of a
 received_by (call.Receive slots) a = bytes_of a
 received_by (call.ReceiveExact slots) a = bytes_of a
+received_by (call.ReceiveWithErrors slots) a = bytes_of a
 received_by (call.Read slots) a = bytes_of a
 received_by other a = []
 

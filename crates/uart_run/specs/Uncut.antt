@@ -1,6 +1,6 @@
 -- What holds of a run over a machine without the option: no byte is cut. A machine from `Device16550::new` cuts none.
 -- For it these definitions say the whole theorem without a word about cutting.
-use Rattle.std.specs.Prelude.{◌≡◌, ◌⊎◌, false, ℕ, List, [], ◌∷◌, ◌++◌, map, filter}
+use Rattle.std.specs.Prelude.{◌≡◌, ◌⊎◌, false, ℕ, List, ◌++◌, map, filter}
 use Rattle.uart_spec.specs.declared.errors.LoopbackError.TheVariants.{Stalled}
 use Rattle.uart_chip.specs.declared.receiver.Character.{Character}
 use Rattle.uart_spec.specs.declared.call.Call.{Call}

@@ -7,7 +7,7 @@ ghost use Rattle.uart_16550.specs.Frame.{SetsBreak, SetsOutput};
 ghost use Rattle.uart_16550.specs.Receive.{ReceivesWithErrors};
 ghost use Rattle.uart_spec.specs.declared.registers.modem_control.TheConstants.MCR;
 ghost use Rattle.uart_16550.specs.declared.driver.Uart16550.{Uart16550};
-ghost use Rattle.uart_16550.specs.declared.driver.receive.Received.{Received};
+ghost use Rattle.uart_spec.specs.declared.received.Received.{Received};
 ghost use Rattle.uart_chip.specs.Chip.{ticks};
 ghost use Rattle.uart_chip.specs.Machine.{MachineState, MachineStep};
 ghost use Rattle.uart_run.specs.Ready.{KeepsReady, Ready};

@@ -42,7 +42,8 @@ fn run_call(uart: &mut Uart16550Tty<Device16550>, call: &Call) -> Answer
 /// A `SetFrame` that succeeds leaves LCR and the divisor latch as configured, and the other latches
 /// and the FIFO as they were. An `Attach` that succeeds leaves a ready state, whatever the machine
 /// was before, and changes no latch. An `IsIdle` that is true found the transmitter empty, and
-/// all that was in it on the wire.
+/// all that was in it on the wire. With the FIFO on, each byte of a `ReceiveWithErrors` comes with
+/// exactly the errors that it arrived with, unless an earlier look has shown those of the first.
 ///
 /// An `Init` finds the device. If it succeeds, the state after it is ready, whatever the machine
 /// was before. A `TestLoopback` in a ready state succeeds or stalls, and if it succeeds, nothing of

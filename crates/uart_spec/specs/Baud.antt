@@ -34,17 +34,19 @@ IsDivisorAnswer frequency baud_rate factor (Err (NonInteger error)) =
 abbrev pub distance : ℕ → ℕ → ℕ
 distance a b = (a - b) + (b - a)
 
--- the factor is at least 1, and no other one that is has a product with the ticks that is nearer to the frequency
+-- of the factors that are at least 1 it is the one whose product with the ticks is nearest to the frequency, and the
+-- larger one if two are equally near
 pub record IsNearestFactor (frequency ticks factor : ℕ) : Type 0 where
   pub some : 1 ≤ factor
   pub nearest : (other : ℕ) → 1 ≤ other → distance (ticks * factor) frequency ≤ distance (ticks * other) frequency
+  pub largest : (other : ℕ) → factor < other → distance (ticks * factor) frequency < distance (ticks * other) frequency
 
--- no divisor gives the baud rate at a frequency that is nearer to this one
+-- no divisor gives the baud rate at a frequency that is nearer to this one, and no larger one at one that is as near
 abbrev pub IsNearestDivisor : (frequency baud_rate : ℕ) → Option ℕ → (divisor : ℕ) → Type 0
 IsNearestDivisor frequency baud_rate factor divisor =
     IsNearestFactor frequency (16 * (prescaler factor + 1) * baud_rate) divisor
 
--- the frequencies differ by at most so many thousandths of the exact one: so does the baud rate that the divisor gives,
--- from the one that was asked for
+-- the frequencies differ by at most so many thousandths of the exact one. The baud rate that the divisor gives is to
+-- the one that was asked for as the frequency is to the exact one, so it differs by as many thousandths of that
 abbrev pub IsNear : (frequency exact per_mille : ℕ) → Type 0
 IsNear frequency exact per_mille = 1000 * distance exact frequency ≤ per_mille * exact

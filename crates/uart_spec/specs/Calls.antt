@@ -11,5 +11,6 @@ IsRunnable (call.Init config) = IsComputable config
 IsRunnable (call.SetFrame config) = IsComputable config
 IsRunnable (call.Receive count) = count ≤ CALL_BYTES
 IsRunnable (call.ReceiveExact count) = count ≤ CALL_BYTES
+IsRunnable (call.ReceiveWithErrors count) = count ≤ CALL_BYTES
 IsRunnable (call.Read count) = count ≤ CALL_BYTES
 IsRunnable other = ⊤

@@ -21,15 +21,19 @@ abbrev pub IsNearestFor : Config → (divisor : ℕ) → Type 0
 IsNearestFor config divisor =
     IsNearestDivisor config.frequency (to_integer config.baud_rate) config.prescaler_division_factor divisor
 
+-- the divisor fits into the divisor latch, and the frequency at which it is exact into 32 bits
+abbrev pub Fits : Config → (divisor : ℕ) → Type 0
+Fits config divisor = (divisor ≤ 65535) × (exact_frequency config divisor < 2 ^ 32)
+
 -- the configuration with the frequency at which the nearest divisor is exact, so that it is the one that the exact
--- arithmetic computes, and this frequency is near enough; or the nearest divisor, which is too far off, or does not fit
--- into the divisor latch or its frequency not into 32 bits
+-- arithmetic computes, and this frequency is near enough; or the nearest divisor, which does not fit, or fits and is
+-- too far off
 abbrev pub IsNearestAnswer : Config → (per_mille : ℕ) → Result Config NearestDivisorError → Type 0
 IsNearestAnswer config per_mille (Ok near) = (divisor : ℕ) × IsNearestFor config divisor
     × (near ≡ record config { frequency = exact_frequency config divisor })
     × IsDivisorAnswer near.frequency (to_integer near.baud_rate) near.prescaler_division_factor (Ok divisor)
     × IsNear config.frequency near.frequency per_mille
-IsNearestAnswer config per_mille (Err (TooFar divisor)) = IsNearestFor config divisor
+IsNearestAnswer config per_mille (Err (TooFar divisor)) = IsNearestFor config divisor × Fits config divisor
     × (per_mille * exact_frequency config divisor < 1000 * distance (exact_frequency config divisor) config.frequency)
 IsNearestAnswer config per_mille (Err (OutOfRange divisor)) = IsNearestFor config divisor
     × ((65535 < divisor) ⊎ (2 ^ 32 ≤ exact_frequency config divisor))

@@ -1,5 +1,5 @@
 //! Clock frequency, divisor and baud rate: each of the three from the other two.
-ghost use Rattle.std.specs.Prelude.{◌≡◌, ◌≢◌, ◌↔◌, ℕ, ◌+◌, ◌*◌, ◌<◌, ◌≤◌, ◌^◌, IfSome, IfNone};
+ghost use Rattle.std.specs.Prelude.{◌≡◌, ◌≢◌, ℕ, ◌+◌, ◌*◌, ◌<◌, ◌≤◌, ◌^◌, IfSome, IfNone};
 ghost use Rattle.uart_spec.specs.Bits.{IsOnly, IsOnlyIfAny};
 ghost use Rattle.uart_spec.specs.Baud.{IsBaudRateAnswer, IsDivisorAnswer, IsNearestFactor};
 ghost use Rattle.uart_spec.specs.Baud.{frequency_of, prescaler};
@@ -140,7 +140,8 @@ pub(crate) fn ticks_of(baud_rate: u32, prescaler_division_factor: Option<u32>) -
     16 * (prescaler_division_factor.unwrap_or(0) as u64 + 1) * baud_rate as u64
 }
 
-// Returns the factor, at least 1, whose product with the ticks is nearest to the frequency.
+// Returns the factor, at least 1, whose product with the ticks is nearest to the frequency, and the
+// larger one if two are equally near.
 pub(crate) fn nearest_factor(frequency: u64, ticks: u64) -> u64
     requires some { 0 < ticks }
     requires ticks { ticks < 2 ^ 40 }

@@ -41,7 +41,7 @@ pub enum AttachError {
     Loopback,
 }
 
-/// Why the nearest divisor for a baud rate cannot be used.
+/// Why the nearest divisor for a baud rate cannot be used. `OutOfRange` comes first.
 #[derive(Clone, Debug, PartialEq, Eq, PartialOrd, Hash, Drop, Error)]
 pub enum NearestDivisorError {
     /// The baud rate that the nearest divisor gives differs by more than the tolerance.

@@ -1,7 +1,7 @@
 //! Laws about the types and constants: defaults, orders, values.
 //!
 //! The contract of each function is a law that callers can cite. The functions do nothing.
-ghost use Rattle.std.specs.Prelude.{◌≡◌, ℕ, List, [], ◌∷◌, None, Some, false};
+ghost use Rattle.std.specs.Prelude.{◌≡◌, ℕ, [], ◌∷◌, None, Some, false};
 ghost use Rattle.std.specs.Ordering.{nat_cmp, bool_cmp};
 ghost use Rattle.std.specs.declared.cmp.Ordering.TheVariants.{Less};
 ghost use Rattle.uart_spec.specs.Divisors.{divisors};
@@ -22,6 +22,7 @@ ghost use Rattle.uart_spec.specs.declared.errors.InvalidDivisorError.TheVariants
 };
 ghost use Rattle.uart_spec.specs.declared.errors.NonIntegerBaudRateError.{NonIntegerBaudRateError};
 ghost use Rattle.uart_spec.specs.declared.errors.NonIntegerDivisorError.{NonIntegerDivisorError};
+ghost use Rattle.uart_spec.specs.declared.event.TheConstants.{MAX_CHAR_TICKS, MAX_WIRE_CAPACITY};
 ghost use Rattle.uart_spec.specs.declared.registers.divisors.Divisor.{Divisor};
 ghost use Rattle.uart_spec.specs.declared.registers.divisors.Divisor.TheVariants.{Divisor1};
 ghost use Rattle.uart_spec.specs.declared.registers.fifo_control.FCR.{FCR};
@@ -184,7 +185,10 @@ pub fn constants_are_these()
         (2 ∷ 0 ∷ 1 ∷ 6 ∷ []) }
 {}
 
-/// The most bytes of a call as data.
+/// The most bytes of a call as data; the most ticks of a character, and the most bytes of a wire,
+/// of a machine that is built.
 pub fn limits_are_these()
-    ensures { CALL_BYTES ≡ 64 }
+    ensures call { CALL_BYTES ≡ 64 }
+    ensures character { MAX_CHAR_TICKS ≡ 1000 }
+    ensures wire { MAX_WIRE_CAPACITY ≡ 65536 }
 {}

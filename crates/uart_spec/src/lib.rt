@@ -15,6 +15,7 @@ mod dump;
 mod errors;
 mod event;
 pub mod laws;
+mod received;
 pub mod registers;
 
 pub use baud::{
@@ -30,3 +31,4 @@ pub use errors::{
 pub use event::{
     ArrivalMark, BuildError, Chip, Event, MAX_CHAR_TICKS, MAX_WIRE_CAPACITY, arrivals, refusal,
 };
+pub use received::Received;

@@ -21,6 +21,7 @@ pub mod spec;
 #[cfg(test)]
 mod tests;
 pub mod tracing;
+pub mod virtual_port;
 
 use bitflags::Flags;
 use port::{PortError, ask, open};

@@ -4,6 +4,7 @@
 
 mod audit;
 mod findings;
+mod monitor;
 mod recording;
 mod replay;
 mod rings;

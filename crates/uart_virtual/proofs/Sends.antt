@@ -1,6 +1,6 @@
 -- A byte that the guest writes while the transmitter is idle is on the output after the time of the call.
-use Rattle.std.proofs.Common.{◌≡◌, ℕ, zero, suc, ◌+◌, ◌<◌, ◌≤◌, Bool, true, false, not, ◌&&◌}
-use Rattle.std.proofs.Common.{◌||◌, ◌==◌, min, nat_lt, ◌⊎◌, inl, inr, List, [], ◌∷◌, ◌++◌}
+use Rattle.std.proofs.Common.{◌≡◌, ℕ, ◌+◌, Bool, true, false, not, ◌&&◌}
+use Rattle.std.proofs.Common.{◌||◌, ◌==◌, min, nat_lt, List, [], ◌∷◌}
 use Rattle.std.proofs.Common.{length, Option, Some, None, is_some, refl, ap, sym, ◌∙◌, subst, arith}
 use Rattle.std.proofs.lemmas.Grind.{common_steps}
 use Rattle.uart_spec.specs.declared.registers.offsets.TheConstants as offsets
@@ -9,13 +9,13 @@ use Rattle.uart_chip.specs.Transmitter as transmitter
 use Rattle.uart_chip.specs.Transmitter.{TransmitterState, looped_byte, shift, refill, load}
 use Rattle.uart_chip.specs.Receiver as receiver
 use Rattle.uart_chip.specs.Receiver.{ReceiverState}
-use Rattle.uart_chip.specs.Chip.{ChipState, tick, ticks, is_loopback, is_dlab_set, cut_of, after_write, write_data}
+use Rattle.uart_chip.specs.Chip.{ChipState, tick, ticks, is_loopback, cut_of, after_write}
 use Rattle.uart_chip.specs.Sending.{sends_at_once, put_on_wire, send_at_once}
 use Rattle.uart_chip.specs.Sound.{IsSoundChip}
+use Rattle.uart_chip.proofs.Jumps.{ticks-add}
 use Rattle.uart_chip.proofs.soundness.Sounds.{steady_ticks, steady_write}
 use Rattle.uart_live.proofs.Sends.{Sends, sends}
 use Rattle.uart_virtual.specs.declared.told.Told.{Told}
-use Rattle.uart_virtual.specs.declared.told.Todo.{Todo}
 use Rattle.uart_virtual.specs.Port.{settle, settle_ticks, IsStill, tell, todo_of, is_up}
 use Rattle.uart_virtual.proofs.Times.{still_ticks, tick-shifted, last_tick}
 
@@ -71,16 +71,6 @@ nothing (x ∷ xs) e = let no : false ≡ true = grind (arith, common_steps) in 
 nowhere : (place : Option Shifting) → is_some place ≡ false → place ≡ None
 nowhere None e = refl
 nowhere (Some s) e = absurd (cc)
-
-ticks-add : (j k : ℕ) (c : ChipState) → ticks (j + k) c ≡ ticks j (ticks k c)
-ticks-add zero k c = ap (λ (n : ℕ). ticks n c) (no_more k)
-  where
-    no_more : (k : ℕ) → 0 + k ≡ k
-    no_more k = omega arith
-ticks-add (suc j) k c = ap (λ (n : ℕ). ticks n c) (one_more j k) ∙ ap tick (ticks-add j k c)
-  where
-    one_more : (j k : ℕ) → suc j + k ≡ suc (j + k)
-    one_more j k = omega arith
 
 -- a chip with an idle transmitter is that chip
 with_idle : (c : ChipState) → Sends c → record c { transmitter = idle c.transmitter } ≡ c

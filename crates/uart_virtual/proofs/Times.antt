@@ -1,28 +1,24 @@
 -- After the time of a call nothing is left to happen.
-use Rattle.std.proofs.Common.{◌≡◌, ℕ, zero, suc, ◌+◌, ◌-◌, ◌*◌, ◌<◌, ◌≤◌, Bool, true, false, ◌==◌, ◌⊎◌, inl, inr, min, nat_lt}
+use Rattle.std.proofs.Common.{◌≡◌, ℕ, zero, suc, ◌+◌, ◌≤◌, Bool, true, false, ◌==◌, ◌⊎◌, inl, inr, min, nat_lt}
 use Rattle.std.proofs.Common.{List, [], ◌∷◌, ◌++◌, length, take, drop, Option, Some, None, refl, ap, sym, ◌∙◌, subst, arith, if◌then◌else◌}
 use Rattle.std.proofs.lemmas.Bool.{cases_lt}
 use Rattle.std.proofs.lemmas.Grind.{common_steps}
-use Rattle.uart_spec.specs.declared.event.Chip.{Chip}
-use Rattle.uart_spec.specs.declared.event.Chip.TheVariants.{Uart16550A, Uart16450}
-use Rattle.uart_spec.specs.Bits.{has_any}
-use Rattle.uart_spec.specs.declared.registers.fifo_control.TheConstants.FCR
 use Rattle.uart_spec.specs.declared.registers.offsets.TheConstants as offsets
 use Rattle.uart_chip.specs.declared.transmitter.Shifting.{Shifting}
 use Rattle.uart_chip.specs.Transmitter as transmitter
 use Rattle.uart_chip.specs.Transmitter.{TransmitterState, room, looped_byte, shift, refill, held, shift_bytes}
 use Rattle.uart_chip.specs.Receiver as receiver
-use Rattle.uart_chip.specs.Receiver.{ReceiverState, grow_timeout, clear}
+use Rattle.uart_chip.specs.Receiver.{ReceiverState, grow_timeout}
 use Rattle.uart_chip.specs.Chip.{ChipState, tick, ticks, is_loopback, is_dlab_set, interrupt}
 use Rattle.uart_chip.specs.Chip.{is_thr_empty, after_read, after_write, take_wire}
-use Rattle.uart_chip.specs.Chip.{set_fifo, control, switch, is_same, reset_receiver, reset_transmitter, set_trigger, trigger_level}
-use Rattle.uart_chip.specs.Jumps.{next_move_of, next_move, left_after, place_after, count_down, timeout_after, skip, moves}
+use Rattle.uart_chip.specs.Jumps.{next_move_of, next_move, left_after, place_after, timeout_after, moves}
 use Rattle.uart_chip.specs.Sound.{IsSoundChip, IsTicking}
 use Rattle.uart_chip.proofs.Jumps.{StillFor, ticks_skip}
 use Rattle.uart_chip.proofs.soundness.Idle.{moves-most}
-use Rattle.uart_chip.proofs.soundness.Sounds.{steady_ticks}
+use Rattle.uart_chip.proofs.lasting.Lasting.{LastsInAccesses, lasts-read, lasts-write}
+use Rattle.uart_chip.proofs.soundness.Sounds.{char_ticks-tick, steady_ticks}
 use Rattle.uart_live.proofs.Lives.{both_if}
-use Rattle.uart_virtual.specs.Port.{Call, Read, Write, Receive, ReceiveOne, SetLines, TakeOutput, happen, settle, settle_ticks}
+use Rattle.uart_virtual.specs.Port.{PortCall, Read, Write, Receive, happen, settle, settle_ticks}
 use Rattle.uart_virtual.specs.Port.{accepted, arrive_all, IsStill}
 
 -- ---- the ticks of a character stay the same
@@ -30,70 +26,33 @@ use Rattle.uart_virtual.specs.Port.{accepted, arrive_all, IsStill}
 abbrev Takes : ℕ → TransmitterState → Type 0
 Takes k t = t.char_ticks ≡ k
 
-takes-shift : (k : ℕ) (loopback : Bool) (place : Option Shifting) (t : TransmitterState) → Takes k t → Takes k (shift loopback place t)
-takes-shift k loopback None t h = h
-takes-shift k loopback (Some s) t h =
-    both_if (Takes k) _ _ (nat_lt 1 s.ticks_left) h
-    (both_if (Takes k) _ _ loopback h (both_if (Takes k) _ _ (nat_lt (length t.wire) t.capacity) h h))
-
-takes-refill : (k : ℕ) (place : Option Shifting) (queue : List ℕ) (t : TransmitterState) → Takes k t → Takes k (refill place queue t)
-takes-refill k (Some s) queue t h = h
-takes-refill k None [] t h = h
-takes-refill k None (x ∷ []) t h = h
-takes-refill k None (x ∷ y ∷ xs) t h = h
-
-takes-tick : (k : ℕ) (loopback : Bool) (t : TransmitterState) → Takes k t → Takes k (transmitter.tick loopback t)
-takes-tick k loopback t h =
-    let u : TransmitterState = shift loopback t.shift_register t in
-    takes-refill k u.shift_register u.queue u (takes-shift k loopback t.shift_register t h)
-
 -- of a chip
 abbrev pub CharTakes : ℕ → ChipState → Type 0
 CharTakes k c = c.transmitter.char_ticks ≡ k
 
+takes_lasts : (k : ℕ) → LastsInAccesses (Takes k)
+takes_lasts k = record { pending = λ t pending h. h; cleared = λ t pending h. h }
+
 pub takes-ticks : (k n : ℕ) (c : ChipState) → CharTakes k c → CharTakes k (ticks n c)
 takes-ticks k zero c h = h
 takes-ticks k (suc n) c h =
-    let d : ChipState = ticks n c in takes-tick k (is_loopback d.latches) d.transmitter (takes-ticks k n c h)
-
-takes-read : (k offset : ℕ) (c : ChipState) → CharTakes k c → CharTakes k (after_read offset c)
-takes-read k offset c h =
-    both_if (CharTakes k) _ _ (offset == offsets.DATA) (both_if (CharTakes k) _ _ (is_dlab_set c.latches) h h)
-    (both_if (CharTakes k) _ _ (offset == offsets.ISR) (both_if (CharTakes k) _ _ (is_thr_empty (interrupt c)) h h)
-    (both_if (CharTakes k) _ _ (offset == offsets.LSR) h (both_if (CharTakes k) _ _ (offset == offsets.MSR) h h)))
-
-takes-fifo : (k value : ℕ) (c : ChipState) → CharTakes k c → CharTakes k (set_fifo value c)
-takes-fifo k value c h =
-    let on : Bool = has_any value FCR.FIFO_ENABLE.0 in
-    let d : ChipState = if is_same c.fifo on then c else switch on c in
-    let a : CharTakes k d = both_if (CharTakes k) c (switch on c) (is_same c.fifo on) h h in
-    let e : ChipState = reset_receiver value d in
-    let b : CharTakes k e = both_if (CharTakes k) (record d { receiver = clear d.receiver }) d (has_any value FCR.RX_FIFO_RESET.0) a a in
-    let f : ChipState = reset_transmitter value e in
-    let g : CharTakes k f =
-    both_if (CharTakes k) (record e { transmitter = record e.transmitter { queue = []; is_thr_pending = true } }) e
-    (has_any value FCR.TX_FIFO_RESET.0) b b in
-    both_if (CharTakes k) (set_trigger (trigger_level value) f) d on g a
-
-takes-control : (k : ℕ) (model : Chip) (value : ℕ) (c : ChipState) → CharTakes k c → CharTakes k (control model value c)
-takes-control k Uart16450 value c h = h
-takes-control k Uart16550A value c h = takes-fifo k value c h
+    let d : ChipState = ticks n c in char_ticks-tick (is_loopback d.latches) d.transmitter ∙ takes-ticks k n c h
 
 takes-write : (k offset value : ℕ) (c : ChipState) → CharTakes k c → CharTakes k (after_write offset value c)
-takes-write k offset value c h =
-    both_if (CharTakes k) _ _ (offset == offsets.DATA) (both_if (CharTakes k) _ _ (is_dlab_set c.latches) h
-    (both_if (Takes k) _ _ (nat_lt (length c.transmitter.queue) (room c.fifo)) h h))
-    (both_if (CharTakes k) _ _ (offset == offsets.IER) (both_if (CharTakes k) _ _ (is_dlab_set c.latches) h h)
-    (both_if (CharTakes k) _ _ (offset == offsets.FCR) (takes-control k c.model value c h)
-    (both_if (CharTakes k) _ _ (offset == offsets.LCR) h (both_if (CharTakes k) _ _ (offset == offsets.MCR) h (both_if (CharTakes k) _ _
-    (offset == offsets.SPR) h h)))))
+takes-write k offset value c h = go (offset == offsets.DATA) refl
+  where
+    go : (b : Bool) → (offset == offsets.DATA) ≡ b → CharTakes k (after_write offset value c)
+    go false e = lasts-write (Takes k) (takes_lasts k) offset value c e h
+    go true e =
+        rw e (both_if (CharTakes k) _ _ (is_dlab_set c.latches) h
+        (both_if (Takes k) _ _ (nat_lt (length c.transmitter.queue) (room c.fifo)) h h))
 
 pub takes-all : (k : ℕ) (bytes : List ℕ) (c : ChipState) → CharTakes k c → CharTakes k (arrive_all bytes c)
 takes-all k [] c h = h
 takes-all k (byte ∷ bytes) c h = takes-all k bytes _ h
 
-pub takes-happen : (k : ℕ) (call : Call) (c : ChipState) → CharTakes k c → CharTakes k (happen call c)
-takes-happen k (Read offset) c h = takes-read k offset c h
+pub takes-happen : (k : ℕ) (call : PortCall) (c : ChipState) → CharTakes k c → CharTakes k (happen call c)
+takes-happen k (Read offset) c h = lasts-read (Takes k) (takes_lasts k) offset c h
 takes-happen k (Write offset value) c h = takes-write k offset value c h
 takes-happen k (Receive bytes) c h = takes-all k (take (accepted bytes c) bytes) c h
 takes-happen k _ c h = h

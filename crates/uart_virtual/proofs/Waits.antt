@@ -1,7 +1,8 @@
 -- What is left while a port is still.
 use Rattle.std.proofs.Common.{◌≡◌, ◌≢◌, ℕ, ◌<◌, Bool, true, false, ◌&&◌, ◌==◌, nat_lt}
 use Rattle.std.proofs.Common.{List, [], ◌∷◌, ◌++◌, length, Option, Some, None, is_some}
-use Rattle.std.proofs.Common.{refl, ap, sym, ◌∙◌, arith, eq-eqb, if◌then◌else◌}
+use Rattle.std.proofs.Common.{refl, sym, ◌∙◌, arith, eq-eqb}
+use Rattle.std.proofs.lemmas.Bool.{and_from}
 use Rattle.std.proofs.lemmas.Grind.{common_steps}
 use Rattle.uart_spec.specs.Bits.{has_any}
 use Rattle.uart_spec.specs.declared.registers.interrupt_enable.TheConstants.IER
@@ -11,12 +12,11 @@ use Rattle.uart_spec.specs.declared.registers.offsets.TheConstants as offsets
 use Rattle.uart_chip.specs.declared.transmitter.Shifting.{Shifting}
 use Rattle.uart_chip.specs.Transmitter.{room, shift_bytes}
 use Rattle.uart_chip.specs.Receiver.{is_data_pending}
-use Rattle.uart_chip.specs.Chip.{ChipState, is_loopback, line_status, interrupt}
+use Rattle.uart_chip.specs.Chip.{line_status, interrupt}
 use Rattle.uart_chip.specs.Jumps.{next_move_of}
 use Rattle.uart_chip.proofs.statuses.Status.{status_room}
 use Rattle.uart_live.proofs.Lives.{both_if}
 use Rattle.uart_live.proofs.Holds.{due_interrupts}
-use Rattle.uart_virtual.specs.Port.{IsStill}
 use Rattle.uart_virtual.specs.Laws.{HeldOnlyIfFull, WaitingInterrupts, EmptyThrTakesAByte}
 
 pub held_full : HeldOnlyIfFull
@@ -31,17 +31,13 @@ held_full c still some outside =
     go (Some s) queue true e some = absurd (cc)
     go (Some s) queue false e some = refl
 
-each_holds : (a b : Bool) → a ≡ true → b ≡ true → (a && b) ≡ true
-each_holds true b p q = q
-each_holds false b p q = absurd (cc)
-
 pub waiting_interrupts : WaitingInterrupts
 waiting_interrupts c still enabled some = go c.fifo refl
   where
     go : (fifo : Bool) → c.fifo ≡ fifo → is_some (interrupt c) ≡ true
     go true f =
         due_interrupts c
-        (each_holds c.fifo _ f (each_holds _ _ some (eq-eqb c.receiver.timeout_ticks c.receiver.timeout_limit still.due)))
+        (and_from c.fifo _ f (and_from _ _ some (eq-eqb c.receiver.timeout_ticks c.receiver.timeout_limit still.due)))
         enabled
     go false f =
         let pending : is_data_pending c.fifo c.receiver ≡ true = rw f some in

@@ -1,8 +1,9 @@
--- What a monitor expects of a port: it is told of each rise of the line, and of room, and no byte is lost.
+-- What a monitor expects of a port: it is told of each rise of the line and of room, no byte is lost, and no guest
+-- waits for time to pass.
 use Rattle.std.specs.Prelude.{◌≡◌, ◌≢◌, ℕ, Bool, true, false, ◌||◌, List, []}
 use Rattle.std.specs.Prelude.{◌∷◌, ◌++◌, map, take, ◌⊎◌, length, ◌<◌, nat_lt}
 use Rattle.uart_chip.specs.Chip.{ChipState, receive_room, is_loopback, line_status, ticks}
-use Rattle.uart_chip.specs.Transmitter.{out, room, held}
+use Rattle.uart_chip.specs.Transmitter.{out, held}
 use Rattle.uart_spec.specs.Bits.{has_any}
 use Rattle.uart_spec.specs.declared.registers.interrupt_enable.TheConstants.IER
 use Rattle.uart_spec.specs.declared.registers.line_status.TheConstants.LSR
@@ -10,71 +11,80 @@ use Rattle.uart_spec.specs.declared.registers.offsets.TheConstants as offsets
 use Rattle.uart_live.specs.Laws as live
 use Rattle.uart_live.specs.Laws.{Act, Ticks, Arrive, TakeWire, in_turn, AllInTurn, sent, taken, IsCareful}
 use Rattle.uart_virtual.specs.declared.told.Todo.{Todo}
-use Rattle.uart_virtual.specs.Port.{PortState, Call, Read, Write, Receive, ReceiveOne}
+use Rattle.uart_virtual.specs.Port.{PortState, PortCall, Read, Write, Receive, ReceiveOne}
 use Rattle.uart_virtual.specs.Port.{SetLines, TakeOutput, after, todo}
-use Rattle.uart_virtual.specs.Port.{happen, brings, looks, settle, settle_ticks, is_up}
+use Rattle.uart_virtual.specs.Port.{happen, brings, looks, settle_ticks, is_up}
 use Rattle.uart_virtual.specs.Port.{has_room, accepted, IsTold, IsStill}
 
 -- the port after these calls in turn
-abbrev pub after_all : List Call → PortState → PortState
-after_all [] d = d
-after_all (call ∷ calls) d = after_all calls (after call d)
+abbrev pub after_all : List PortCall → PortState → PortState
+after_all [] p = p
+after_all (call ∷ calls) p = after_all calls (after call p)
 
--- one of these calls tells the monitor so
-abbrev pub some_told : (Todo → Bool) → List Call → PortState → Bool
-some_told tells [] d = false
-some_told tells (call ∷ calls) d = tells (todo call d) || some_told tells calls (after call d)
+-- one of these calls tells the monitor this
+abbrev pub some_told : (Todo → Bool) → List PortCall → PortState → Bool
+some_told tells [] p = false
+some_told tells (call ∷ calls) p = tells (todo call p) || some_told tells calls (after call p)
 
 -- ---- the line
 
--- the level that a call tells, and the one that the port keeps, is that of the chip's interrupt line
+-- the level that a call tells is that of the chip's interrupt line when the call ends
 abbrev pub LevelIsTold : Type 0
-LevelIsTold = (calls : List Call) (d : PortState) → IsTold d → IsTold (after_all calls d)
+LevelIsTold = (call : PortCall) (p : PortState) → (todo call p).level ≡ is_up (after call p).chip
 
--- a line that was down and is up was signalled in between: so after a look that shows no interrupt, the guest is
--- interrupted as soon as there is a cause
+-- what a port keeps of what it told is so after any calls, if it is so before them
+abbrev pub ToldStays : Type 0
+ToldStays = (calls : List PortCall) (p : PortState) → IsTold p → IsTold (after_all calls p)
+
+-- a signal is given only while the line is up
+abbrev pub SignalsAreUp : Type 0
+SignalsAreUp = (call : PortCall) (p : PortState) → (todo call p).signal ≡ true → is_up (after call p).chip ≡ true
+
+-- a line that was down between two calls and is up between later ones was signalled in between: so after a look that
+-- shows no interrupt, the guest is interrupted as soon as there is a cause
 abbrev pub EachRiseIsSignalled : Type 0
 EachRiseIsSignalled =
-    (calls : List Call) (d : PortState) → d.told.line ≡ false → (after_all calls d).told.line ≡ true →
-    some_told (λ (t : Todo). t.signal) calls d ≡ true
+    (calls : List PortCall) (p : PortState) → IsTold p → is_up p.chip ≡ false → is_up (after_all calls p).chip ≡ true →
+    some_told (λ (t : Todo). t.signal) calls p ≡ true
 
--- a fall and a rise in one call are signalled, unless a signal was given that the guest has not looked after
-abbrev pub EachFallIsSignalled : Type 0
-EachFallIsSignalled =
-    (call : Call) (d : PortState) → is_up (happen call d.chip) ≡ false → (after call d).told.line ≡ true →
-    ((looks call ≡ true) ⊎ (d.told.is_unanswered ≡ false)) → (todo call d).signal ≡ true
+-- a line that is down right after what happens in a call, and up when the call ends, is signalled, unless the guest has
+-- not looked since the last signal
+abbrev pub EachDipIsSignalled : Type 0
+EachDipIsSignalled =
+    (call : PortCall) (p : PortState) → is_up (happen call p.chip) ≡ false → is_up (after call p).chip ≡ true →
+    ((looks call ≡ true) ⊎ (p.told.is_unanswered ≡ false)) → (todo call p).signal ≡ true
 
--- a signal is unanswered only if it was given since the guest looked
+-- a signal is unanswered only if the call gave it, or if it was unanswered before and the guest does not look
 abbrev pub UnansweredWasSignalled : Type 0
 UnansweredWasSignalled =
-    (call : Call) (d : PortState) → (after call d).told.is_unanswered ≡ true →
-    ((todo call d).signal ≡ true) ⊎ ((d.told.is_unanswered ≡ true) × (looks call ≡ false))
+    (call : PortCall) (p : PortState) → (after call p).told.is_unanswered ≡ true →
+    ((todo call p).signal ≡ true) ⊎ ((p.told.is_unanswered ≡ true) × (looks call ≡ false))
 
--- whatever the host brings while the line is up is signalled
+-- whatever the host brings is signalled, if the line is up when the call ends
 abbrev pub EachInputIsSignalled : Type 0
 EachInputIsSignalled =
-    (call : Call) (d : PortState) → brings call d.chip ≡ true → (after call d).told.line ≡ true →
-    (todo call d).signal ≡ true
+    (call : PortCall) (p : PortState) → brings call p.chip ≡ true → is_up (after call p).chip ≡ true →
+    (todo call p).signal ≡ true
 
 -- ---- room
 
--- if input waits and there is room later, a call in between told so
+-- if input is put off and there is room later, a call in between told of room
 abbrev pub RoomIsTold : Type 0
 RoomIsTold =
-    (calls : List Call) (d : PortState) → IsTold d → d.told.is_put_off ≡ true →
-    has_room (after_all calls d).chip ≡ true →
-    some_told (λ (t : Todo). t.has_room) calls d ≡ true
+    (calls : List PortCall) (p : PortState) → IsTold p → p.told.is_put_off ≡ true →
+    has_room (after_all calls p).chip ≡ true →
+    some_told (λ (t : Todo). t.has_room) calls p ≡ true
 
--- input waits after a call that took fewer than it was offered, unless the call itself told of room
+-- input is put off after a call that received fewer bytes than it was offered, unless the call itself told of room
 abbrev pub FewerWait : Type 0
 FewerWait =
-    (bytes : List ℕ) (d : PortState) → receive_room d.chip < length bytes →
-    ((after (Receive bytes) d).told.is_put_off ≡ true) ⊎ ((todo (Receive bytes) d).has_room ≡ true)
+    (bytes : List ℕ) (p : PortState) → receive_room p.chip < length bytes →
+    ((after (Receive bytes) p).told.is_put_off ≡ true) ⊎ ((todo (Receive bytes) p).has_room ≡ true)
 
 -- ---- output
 
 -- what a call does with the chip
-abbrev pub acts_of : Call → ChipState → List Act
+abbrev pub acts_of : PortCall → ChipState → List Act
 acts_of (Read offset) c = live.Read offset ∷ Ticks settle_ticks ∷ []
 acts_of (Write offset value) c = live.Write offset value ∷ Ticks settle_ticks ∷ []
 acts_of (Receive bytes) c = map (λ byte. Arrive byte 0) (take (accepted bytes c) bytes) ++ Ticks settle_ticks ∷ []
@@ -83,38 +93,38 @@ acts_of (SetLines inputs) c = live.SetLines inputs ∷ Ticks settle_ticks ∷ []
 acts_of (TakeOutput count) c = TakeWire count ∷ Ticks settle_ticks ∷ []
 
 -- what these calls do with the chip
-abbrev pub acts_of_all : List Call → PortState → List Act
-acts_of_all [] d = []
-acts_of_all (call ∷ calls) d = acts_of call d.chip ++ acts_of_all calls (after call d)
+abbrev pub acts_of_all : List PortCall → PortState → List Act
+acts_of_all [] p = []
+acts_of_all (call ∷ calls) p = acts_of call p.chip ++ acts_of_all calls (after call p)
 
 -- what the host took, and then what the port still holds, is what it held before and what the guest wrote, in order
 abbrev pub BytesGoOut : Type 0
 BytesGoOut =
-    (calls : List Call) (d : PortState) →
-    let acts = acts_of_all calls d in
-    AllInTurn IsCareful acts d.chip →
-    in_turn taken acts d.chip ++ out (after_all calls d).chip.transmitter ≡
-    out d.chip.transmitter ++ in_turn sent acts d.chip
-
--- ---- no guest waits for time that never passes
-
--- what the guest wrote and is not on the output is held only because the output is full
-abbrev pub HeldOnlyIfFull : Type 0
-HeldOnlyIfFull =
-    (c : ChipState) → IsStill c → held c.transmitter ≢ [] → is_loopback c.latches ≡ false →
-    nat_lt (length c.transmitter.wire) c.transmitter.capacity ≡ false
-
--- a character that waits is an interrupt, whatever the trigger level, as long as the guest has it enabled
-abbrev pub WaitingInterrupts : Type 0
-WaitingInterrupts =
-    (c : ChipState) → IsStill c → has_any c.latches.ier IER.DATA_READY.0 ≡ true →
-    nat_lt 0 (length c.receiver.queue) ≡ true → is_up c ≡ true
+    (calls : List PortCall) (p : PortState) →
+    let acts = acts_of_all calls p in
+    AllInTurn IsCareful acts p.chip →
+    in_turn taken acts p.chip ++ out (after_all calls p).chip.transmitter ≡
+    out p.chip.transmitter ++ in_turn sent acts p.chip
 
 -- a byte that is written while LSR shows an empty THR is not lost
 abbrev pub EmptyThrTakesAByte : Type 0
 EmptyThrTakesAByte =
     (value : ℕ) (c : ChipState) → has_any (line_status c) LSR.THR_EMPTY.0 ≡ true →
     IsCareful (live.Write offsets.DATA value) c
+
+-- ---- no guest waits for time that never passes
+
+-- what the guest wrote and is not on the output is held back only because the output is full
+abbrev pub HeldOnlyIfFull : Type 0
+HeldOnlyIfFull =
+    (c : ChipState) → IsStill c → held c.transmitter ≢ [] → is_loopback c.latches ≡ false →
+    nat_lt (length c.transmitter.wire) c.transmitter.capacity ≡ false
+
+-- while a character waits and the guest has its interrupt enabled, the line is up, whatever the trigger level
+abbrev pub WaitingInterrupts : Type 0
+WaitingInterrupts =
+    (c : ChipState) → IsStill c → has_any c.latches.ier IER.DATA_READY.0 ≡ true →
+    nat_lt 0 (length c.receiver.queue) ≡ true → is_up c ≡ true
 
 -- ---- moments within a call
 

@@ -1,7 +1,8 @@
-//! A serial port for virtual machine monitors: a live chip, and what its monitor has to do.
+//! A serial port of a virtual machine: a live chip, and what its monitor has to do.
 //!
 //! Each call returns as plain data whether to signal the guest's interrupt, the level of the line,
-//! whether input that was put off has room now, and how many bytes of output are ready.
+//! whether input that was put off has room now, and how many bytes of output are ready. Time passes
+//! in the calls alone.
 #![tactic(auto)]
 
 pub mod laws;

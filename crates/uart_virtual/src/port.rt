@@ -1,5 +1,5 @@
-//! The port.
-ghost use Rattle.std.specs.Prelude.{◌≡◌, ◌≢◌, ◌<◌, ◌≤◌, length, min, take, bit_and, Err, IfOk, IsOk, Ok, ◌||◌, ◌==◌, true, false, ℕ};
+//! The port: how each call is carried out, and what is told of it.
+ghost use Rattle.std.specs.Prelude.{◌≡◌, ◌≢◌, ◌<◌, ◌≤◌, length, min, take, bit_and, Err, IsOk, Ok, ◌||◌, ◌==◌, true, false, ℕ};
 ghost use Rattle.uart_chip.specs.Chip as spec;
 ghost use Rattle.uart_chip.specs.Jumps.{most_jumps};
 ghost use Rattle.uart_chip.specs.Sending.{sends_at_once};
@@ -18,7 +18,7 @@ ghost use Rattle.uart_spec.specs.declared.registers.offsets.TheConstants as offs
 use crate::told::{Todo, Told};
 use bitflags::Flags;
 use std::marker::Model;
-use uart_live::{Chip, ChipError, InputError, LiveChip, WIRE_ROOM};
+use uart_live::{Chip, InputError, LiveChip, WIRE_ROOM};
 use uart_spec::registers::{LSR, MSR, offsets};
 
 // The ticks that a character takes.
@@ -28,7 +28,24 @@ const CHAR_TICKS: u16 = 1;
 // is due, and one.
 const SETTLE_TICKS: u16 = 22;
 
-/// A serial port.
+/// A serial port of a virtual machine.
+///
+/// For each access of the guest call `read` or `write`. When the host has input, call `receive`,
+/// and when it can take output, take it with `output` and `take_output`. After each call do what
+/// the returned [`Todo`] says.
+///
+/// Nothing has to be told of time: each call lets so much pass that nothing is left to happen. A
+/// byte that the guest writes is on the output when the call returns, unless the output is full,
+/// and a character that waits interrupts a guest that has this enabled. No call allocates memory,
+/// and none blocks.
+///
+/// # Examples
+///
+/// ```
+/// obey_signals(host, port.write(offset, value));
+/// let taken = host.take(port.output());
+/// obey_signals(host, port.take_output(taken));
+/// ```
 #[derive(Drop)]
 pub struct VirtualPort {
     chip: LiveChip,
@@ -71,7 +88,10 @@ struct Kind {
     puts_off: bool,
 }
 
-// Returns whether a read of this register tells the guest what may have interrupted it.
+// Returns whether a read of this register tells the guest what may have interrupted it. Which
+// registers do is a choice. With ISR alone, a handler that looks at LSR only would not be signalled
+// again; with LSR and MSR, one that looks at LSR before each byte is signalled for each byte, as
+// long as more wait.
 fn is_look(offset: u8) -> bool
     ensures { result ≡ port.looks (Read offset) }
 {
@@ -86,7 +106,8 @@ fn settle_ticks() -> u16
     SETTLE_TICKS
 }
 
-// Lets so much time pass that nothing is left to happen. Takes at most 18 jumps.
+// Lets so much time pass that nothing is left to happen. Returns the number of jumps, which is at
+// most 18.
 fn settle(chip: &mut LiveChip) -> usize
     ensures after { chip.new ≡ settle chip.old }
     ensures most { result ≤ most_jumps }
@@ -136,7 +157,7 @@ fn finish(chip: &mut LiveChip, told: Told, kind: Kind) -> (Told, Todo)
     decide(chip, was_up, told, kind)
 }
 
-// Returns the same as `finish`, of a chip to which time does nothing.
+// Returns the same as `finish`, for a chip to which time does nothing.
 fn finish_still(chip: &LiveChip, told: Told, kind: Kind) -> (Told, Todo)
     requires { IsStill chip.now }
     ensures same { settle chip.now ≡ chip.now }
@@ -150,8 +171,8 @@ fn finish_still(chip: &LiveChip, told: Told, kind: Kind) -> (Told, Todo)
     decide(chip, true, told, kind)
 }
 
-// Returns the same as `finish`, after a read of the register at this offset. Only a read of DATA
-// leaves something for time to do.
+// Does the same as `finish` after a read of the register at this offset. Only a read of DATA leaves
+// something for time to do.
 fn finish_read(chip: &mut LiveChip, offset: u8, told: Told, kind: Kind) -> (Told, Todo)
     requires takes { chip.old.transmitter.char_ticks ≡ 1 }
     requires still { (offset == offsets.DATA) ≡ false → IsStill chip.old }
@@ -170,24 +191,23 @@ fn finish_read(chip: &mut LiveChip, offset: u8, told: Told, kind: Kind) -> (Told
     }
 }
 
-// Returns whether a byte can be sent at once: it meets an idle transmitter, and what is told does
-// not depend on the level of the line in between.
+// Returns whether a write can be made by `send`: it is a byte that meets an idle transmitter, and
+// what is told does not depend on the level of the line in between.
 fn is_fast(chip: &LiveChip, offset: u8, told: Told) -> bool
     ensures fast { result ≡ true → (offset ≡ offsets.DATA) ×
-        ((sends_at_once chip.now ≡ true) × (port.is_settled told ≡ true)) }
+        ((sends_at_once chip.now ≡ true) × (port.ignores_falls told ≡ true)) }
     ensures live { IsLive chip.now }
 {
     let sends = chip.sends_at_once();
     offset as usize == offsets::DATA && (sends && (!told.line || told.is_unanswered))
 }
 
-// Sends a byte that the guest writes to DATA. It is on the output then, as after the time of a
-// call.
+// Does the same as `write_slowly` for a byte that can be sent at once.
 fn send(chip: &mut LiveChip, value: u8, told: Told) -> (Told, Todo)
     requires live { IsLive chip.old }
     requires still { IsStill chip.old }
     requires sends { sends_at_once chip.old ≡ true }
-    requires settled { port.is_settled told ≡ true }
+    requires settled { port.ignores_falls told ≡ true }
     ensures after { chip.new ≡ settle (spec.after_write offsets.DATA value chip.old) }
     ensures still { IsStill chip.new }
     ensures holds { IsTold (record { chip = chip.new; told = result.0 }) }
@@ -226,7 +246,7 @@ fn write_slowly(chip: &mut LiveChip, offset: u8, value: u8, told: Told) -> (Told
     finish(chip, told, kind)
 }
 
-// Does the same as `write_slowly`, and sends a byte at once if it can.
+// Does the same as `write_slowly`, by `send` where that can do it.
 fn write(chip: &mut LiveChip, offset: u8, value: u8, told: Told) -> (Told, Todo)
     requires offset { offset < NUM_REGISTERS }
     requires still { IsStill chip.old }
@@ -245,7 +265,8 @@ fn write(chip: &mut LiveChip, offset: u8, value: u8, told: Told) -> (Told, Todo)
     }
 }
 
-// The host took output: it has room for what the transmitter holds, if that is anything.
+// Takes this number of bytes from the output, or all if there are fewer, and lets the time of a
+// call pass. Only if the transmitter holds something, time has something to do.
 fn take(chip: &mut LiveChip, count: usize, told: Told) -> (Told, Todo)
     requires { IsStill chip.old }
     ensures after { chip.new ≡ settle (spec.take_wire count chip.old) }
@@ -272,7 +293,7 @@ fn take(chip: &mut LiveChip, count: usize, told: Told) -> (Told, Todo)
     }
 }
 
-// Receives these bytes.
+// Receives these bytes, without errors.
 fn receive_all(chip: &mut LiveChip, input: &[u8])
     ensures { chip.new ≡ arrive_all input.now chip.old }
 {
@@ -282,16 +303,20 @@ fn receive_all(chip: &mut LiveChip, input: &[u8])
 }
 
 impl VirtualPort {
-    /// Returns a port after power-on.
+    /// Returns a port after power-on. The output has room for 64 bytes. No interrupt is enabled, so
+    /// nothing is to be done.
     ///
-    /// # Errors
+    /// # Examples
     ///
-    /// None: a chip of this time and this wire is always made.
-    pub fn new(chip: Chip) -> Result<Self, ChipError>
-        ensures built { IfOk result (λ d. d ≡ port.fresh chip) }
-        ensures accepted { IsOk result }
+    /// ```
+    /// let mut port = VirtualPort::new(Chip::Uart16550A);
+    /// ```
+    pub fn new(chip: Chip) -> Self
+        ensures { result ≡ port.fresh chip }
     {
-        let mut chip = LiveChip::new(chip, CHAR_TICKS, WIRE_ROOM)?;
+        // A chip with this time and this wire is never refused: the contract of `LiveChip::new`
+        // says so, and the check proves it here.
+        let mut chip = LiveChip::new(chip, CHAR_TICKS, WIRE_ROOM).unwrap();
         let none = Told {
             line: false,
             is_unanswered: false,
@@ -303,10 +328,22 @@ impl VirtualPort {
             puts_off: false,
         };
         let (told, _todo) = finish(&mut chip, none, kind);
-        Ok(VirtualPort { chip, told })
+        VirtualPort { chip, told }
     }
 
-    /// Reads the register at this offset for the guest.
+    /// Reads the register at this offset for the guest. Returns its value, and what the monitor has
+    /// to do.
+    ///
+    /// A read can change the port: one of DATA takes a received byte and makes room for another,
+    /// and one of ISR, LSR or MSR tells the guest what may have interrupted it.
+    ///
+    /// # Examples
+    ///
+    /// ```
+    /// let answer = port.read(offset);
+    /// obey_signals(host, answer.todo);
+    /// answer.value
+    /// ```
     pub fn read(&mut self, offset: u8) -> Answer
         requires { offset < NUM_REGISTERS }
         ensures value { result.value ≡ spec.answer offset self.old.chip }
@@ -324,8 +361,18 @@ impl VirtualPort {
         Answer { value, todo }
     }
 
-    /// Writes a value to the register at this offset for the guest. What the transmitter then holds
-    /// leaves as far as the output has room.
+    /// Writes a value to the register at this offset for the guest. Returns what the monitor has to
+    /// do.
+    ///
+    /// What the transmitter then holds goes to the output as far as that has room, in loopback to
+    /// the receiver. If the transmitter itself has no room, a byte is lost: LSR shows room, and
+    /// drivers look there first.
+    ///
+    /// # Examples
+    ///
+    /// ```
+    /// obey_signals(host, port.write(offset, value));
+    /// ```
     pub fn write(&mut self, offset: u8, value: u8) -> Todo
         requires { offset < NUM_REGISTERS }
         ensures after { self.new ≡ port.after (Write offset value) self.old }
@@ -336,8 +383,20 @@ impl VirtualPort {
         todo
     }
 
-    /// Receives as many of these bytes as there is room for. If that is fewer, the others are put
-    /// off: the first call after which there is room says so.
+    /// Receives as many of these bytes as there is room for, from the front. Returns how many that
+    /// were, and what the monitor has to do.
+    ///
+    /// If that is not all, the others are put off: the first call after which there is room says so
+    /// in `has_room`. Offer them again then, and not before. Without FIFO there is room for one
+    /// byte, with it for 16, and in loopback for none.
+    ///
+    /// # Examples
+    ///
+    /// ```
+    /// let received = port.receive(input);
+    /// obey_signals(host, received.todo);
+    /// &input[received.count..]
+    /// ```
     pub fn receive(&mut self, input: &[u8]) -> Received
         ensures count { result.count ≡ port.accepted input.now self.old.chip }
         ensures after { self.new ≡ port.after (Receive input.now) self.old }
@@ -356,11 +415,21 @@ impl VirtualPort {
         Received { count, todo }
     }
 
-    /// Receives a character with these errors: parity, framing and break. Without room it overruns.
+    /// Receives a character with these errors: parity, framing and break, as bits of LSR. Returns
+    /// what the monitor has to do.
+    ///
+    /// Without room the character overruns, which the guest sees as the overrun flag, and in
+    /// loopback it is lost. For bytes without errors, `receive` loses none.
     ///
     /// # Errors
     ///
     /// `BadErrors` if `errors` has any other bit. Nothing changes then.
+    ///
+    /// # Examples
+    ///
+    /// ```
+    /// let todo = port.receive_one(0, LSR::BREAK_INTERRUPT)?;
+    /// ```
     pub fn receive_one(&mut self, byte: u8, errors: LSR) -> Result<Todo, InputError>
         ensures accepted { IsWithin errors.0 LSR.CHARACTER_ERRORS.0 →
             IsOk result × (self.new ≡ port.after (ReceiveOne byte errors.0) self.old) }
@@ -383,11 +452,18 @@ impl VirtualPort {
         Ok(todo)
     }
 
-    /// Sets the inputs of the modem: CTS, DSR, RI and CD, as bits of MSR.
+    /// Sets the inputs of the modem: CTS, DSR, RI and CD, as bits of MSR. Returns what the monitor
+    /// has to do.
     ///
     /// # Errors
     ///
     /// `BadLines` if `inputs` has any other bit. Nothing changes then.
+    ///
+    /// # Examples
+    ///
+    /// ```
+    /// let todo = port.set_lines(MSR::CTS.union(MSR::DSR))?;
+    /// ```
     pub fn set_lines(&mut self, inputs: MSR) -> Result<Todo, InputError>
         ensures accepted { IsWithin inputs.0 MSR.LINES.0 →
             IsOk result × (self.new ≡ port.after (SetLines inputs.0) self.old) }
@@ -410,14 +486,30 @@ impl VirtualPort {
         Ok(todo)
     }
 
-    /// Returns the output that the host has not taken, in order.
+    /// Returns the output that the host has not taken, in order: at most 64 bytes. While there are
+    /// 64, the transmitter keeps what the guest writes, and LSR tells the guest so.
+    ///
+    /// # Examples
+    ///
+    /// ```
+    /// let taken = host.take(port.output());
+    /// ```
     pub fn output(&self) -> &[u8]
         ensures { result.now ≡ self.now.chip.transmitter.wire }
     {
         self.chip.wire()
     }
 
-    /// The host took this number of bytes from the front of the output, or all if there are fewer.
+    /// Removes this number of bytes from the front of the output, or all if there are fewer: the
+    /// host took them. Returns what the monitor has to do.
+    ///
+    /// What the transmitter holds goes to the output as far as there is room now.
+    ///
+    /// # Examples
+    ///
+    /// ```
+    /// obey_signals(host, port.take_output(taken));
+    /// ```
     pub fn take_output(&mut self, count: usize) -> Todo
         ensures after { self.new ≡ port.after (TakeOutput count) self.old }
         ensures todo { result ≡ port.todo (TakeOutput count) self.old }
@@ -427,7 +519,14 @@ impl VirtualPort {
         todo
     }
 
-    /// Returns the level of the interrupt line, which was told last.
+    /// Returns the level of the interrupt line, which is the level that was told last. It stays so
+    /// until the next call, however much time passes.
+    ///
+    /// # Examples
+    ///
+    /// ```
+    /// host.set_line(port.level());
+    /// ```
     pub fn level(&self) -> bool
         ensures level { result ≡ port.is_up self.now.chip }
         ensures told { IsTold self.now }

@@ -3,7 +3,7 @@ use crate::{Todo, VirtualPort};
 use bitflags::Flags;
 use std::process::Abort;
 use std::test::Fail;
-use uart_live::Chip;
+use uart_live::{Chip, InputError};
 use uart_spec::registers::{LSR, MSR};
 
 const DATA: u8 = 0;
@@ -18,14 +18,12 @@ const MCR: u8 = 4;
 
 const LINE: u8 = 5;
 
-fn port() -> Result<VirtualPort, Fail> {
-    Ok(VirtualPort::new(Chip::Uart16550A)?)
-}
+const MODEM: u8 = 6;
 
-// F1: room that comes by a write of FCR, and by the end of loopback, is told.
+// Room that comes by a write of FCR, and by the end of loopback, is told.
 #[test]
 fn room_is_told_whichever_call_gives_it(rt: HostRuntime) -> Result<(), Fail> {
-    let mut port = port()?;
+    let mut port = VirtualPort::new(Chip::Uart16550A);
     let received = port.receive(b"ab");
     assert!(rt; received.count == 1 && !received.todo.has_room);
     assert!(rt; !port.read(LINE).todo.has_room);
@@ -40,10 +38,10 @@ fn room_is_told_whichever_call_gives_it(rt: HostRuntime) -> Result<(), Fail> {
     Ok(())
 }
 
-// F3: a burst is one signal, and another after the guest looked.
+// A burst is one signal, and another after the guest looked.
 #[test]
 fn a_burst_is_one_signal(rt: HostRuntime) -> Result<(), Fail> {
-    let mut port = port()?;
+    let mut port = VirtualPort::new(Chip::Uart16550A);
     assert!(rt; !port.write(FCR, 0x07).signal);
     assert!(rt; port.write(IER, 0x02).signal);
     assert!(rt; port.read(ISR).value == 0xc2);
@@ -60,10 +58,10 @@ fn a_burst_is_one_signal(rt: HostRuntime) -> Result<(), Fail> {
     Ok(())
 }
 
-// F7: the guest reads 8 of 12 at trigger 8, and returns.
+// The guest reads 8 of 12 at trigger 8, and returns.
 #[test]
 fn a_handler_that_reads_its_trigger_level_comes_again(rt: HostRuntime) -> Result<(), Fail> {
-    let mut port = port()?;
+    let mut port = VirtualPort::new(Chip::Uart16550A);
     port.write(FCR, 0x87);
     port.write(IER, 0x01);
     assert!(rt; port.receive(b"0123456789ab").todo.signal);
@@ -79,10 +77,10 @@ fn a_handler_that_reads_its_trigger_level_comes_again(rt: HostRuntime) -> Result
     Ok(())
 }
 
-// F2: input while the line is up is signalled, once a call.
+// Input while the line is up is signalled, once a call.
 #[test]
 fn a_top_up_is_signalled(rt: HostRuntime) -> Result<(), Fail> {
-    let mut port = port()?;
+    let mut port = VirtualPort::new(Chip::Uart16550A);
     port.write(FCR, 0x87);
     port.write(IER, 0x01);
     assert!(rt; port.receive(b"0123456789abcdef").todo.signal);
@@ -94,10 +92,10 @@ fn a_top_up_is_signalled(rt: HostRuntime) -> Result<(), Fail> {
     Ok(())
 }
 
-// F4: a full output shows a transmitter that is not empty, and what the host takes lets it go on.
+// A full output shows a transmitter that is not empty, and what the host takes lets it go on.
 #[test]
 fn a_full_output_holds_the_guest_back(rt: HostRuntime) -> Result<(), Fail> {
-    let mut port = port()?;
+    let mut port = VirtualPort::new(Chip::Uart16550A);
     port.write(FCR, 0x07);
     port.write(IER, 0x02);
     let mut written = 0;
@@ -117,10 +115,10 @@ fn a_full_output_holds_the_guest_back(rt: HostRuntime) -> Result<(), Fail> {
     Ok(())
 }
 
-// F8: a break, and an overrun.
+// A break is received as such, and the character after it overruns.
 #[test]
 fn breaks_and_overruns(rt: HostRuntime) -> Result<(), Fail> {
-    let mut port = port()?;
+    let mut port = VirtualPort::new(Chip::Uart16550A);
     port.write(IER, 0x05);
     let todo = port.receive_one(0, LSR::BREAK_INTERRUPT)?;
     assert!(rt; todo.signal);
@@ -130,7 +128,7 @@ fn breaks_and_overruns(rt: HostRuntime) -> Result<(), Fail> {
     assert!(rt; port.read(LINE).value == 0x63);
     assert!(rt; port.read(DATA).value == 0x68);
     port.set_lines(MSR::CTS)?;
-    assert!(rt; port.read(6).value == 0x11);
+    assert!(rt; port.read(MODEM).value == 0x11);
     assert!(rt;
         port.read(IER).todo
             == Todo {
@@ -140,5 +138,49 @@ fn breaks_and_overruns(rt: HostRuntime) -> Result<(), Fail> {
                 ready: 0
             }
     );
+    Ok(())
+}
+
+#[test]
+fn a_new_port_has_nothing_to_do(rt: HostRuntime) -> Result<(), Fail> {
+    for (chip, isr) in [(Chip::Uart16550A, 0x01), (Chip::Uart16450, 0x01)] {
+        let mut port = VirtualPort::new(chip);
+        assert!(rt; !port.level() && port.output().is_empty());
+        assert!(rt; port.read(LINE).value == 0x60);
+        assert!(rt; port.read(ISR).value == isr);
+    }
+    Ok(())
+}
+
+#[test]
+fn other_bits_are_refused(rt: HostRuntime) -> Result<(), Fail> {
+    let mut port = VirtualPort::new(Chip::Uart16550A);
+    assert!(rt; port.receive_one(0x41, LSR::OVERRUN_ERROR) == Err(InputError::BadErrors));
+    assert!(rt; port.set_lines(MSR::DELTA_CTS) == Err(InputError::BadLines));
+    assert!(rt; port.read(LINE).value == 0x60 && port.read(MODEM).value == 0x00);
+    Ok(())
+}
+
+// What is not promised: a guest that fills the FIFO, and looks at nothing before it writes again,
+// is signalled once for all of that.
+#[test]
+fn a_guest_that_never_looks_is_signalled_once(rt: HostRuntime) -> Result<(), Fail> {
+    let mut port = VirtualPort::new(Chip::Uart16550A);
+    port.write(FCR, 0x07);
+    assert!(rt; port.write(IER, 0x02).signal);
+    assert!(rt; !port.write(DATA, 0x41).signal);
+    assert!(rt; !port.write(DATA, 0x41).signal);
+    assert!(rt; port.level());
+    Ok(())
+}
+
+// Output is taken while the line is up and nothing is held: that is no news for the guest.
+#[test]
+fn taken_output_is_no_signal_unless_bytes_were_held(rt: HostRuntime) -> Result<(), Fail> {
+    let mut port = VirtualPort::new(Chip::Uart16550A);
+    assert!(rt; port.write(IER, 0x02).signal);
+    assert!(rt; port.write(DATA, 0x41).ready == 1);
+    let todo = port.take_output(7);
+    assert!(rt; !todo.signal && todo.level && todo.ready == 0);
     Ok(())
 }

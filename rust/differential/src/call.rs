@@ -42,6 +42,14 @@ pub enum Kind {
     SendExact,
     Write,
     Dump,
+    SetFrame,
+    Attach,
+    SetBreak,
+    SetModemControl,
+    SetRts,
+    SetDtr,
+    PeekModem,
+    IsIdle,
     Text,
 }
 
@@ -51,11 +59,12 @@ enum Given {
     Nothing,
     Setup,
     Byte,
+    Flag,
     Slots,
     Bytes,
 }
 
-const KINDS: [(Kind, &str, Given); 30] = [
+const KINDS: [(Kind, &str, Given); 38] = [
     (Kind::Init, "init", Given::Setup),
     (Kind::TestLoopback, "loopback", Given::Nothing),
     (Kind::CheckPresent, "present", Given::Nothing),
@@ -85,6 +94,14 @@ const KINDS: [(Kind, &str, Given); 30] = [
     (Kind::SendExact, "send-exact", Given::Bytes),
     (Kind::Write, "write", Given::Bytes),
     (Kind::Dump, "dump", Given::Nothing),
+    (Kind::SetFrame, "set-frame", Given::Setup),
+    (Kind::Attach, "attach", Given::Nothing),
+    (Kind::SetBreak, "set-break", Given::Flag),
+    (Kind::SetModemControl, "set-modem-control", Given::Byte),
+    (Kind::SetRts, "set-rts", Given::Flag),
+    (Kind::SetDtr, "set-dtr", Given::Flag),
+    (Kind::PeekModem, "peek-modem", Given::Nothing),
+    (Kind::IsIdle, "is-idle", Given::Nothing),
     (Kind::Text, "text", Given::Bytes),
 ];
 
@@ -124,6 +141,7 @@ impl Call {
             Given::Nothing => {}
             Given::Setup => call.config = config_of(&mut words)?,
             Given::Byte => call.byte = u8::from_str_radix(words.next()?, 16).ok()?,
+            Given::Flag => call.byte = words.next()?.parse().ok().filter(|flag| *flag <= 1)?,
             Given::Slots => call.slots = words.next()?.parse().ok()?,
             Given::Bytes => call.bytes = bytes_of(words.next()?)?,
         }
@@ -139,6 +157,7 @@ impl Call {
             Given::Nothing => {}
             Given::Setup => call.config = random_config(random),
             Given::Byte => call.byte = random.byte(),
+            Given::Flag => call.byte = random.is_among(128).into(),
             Given::Slots => call.slots = random_len(random),
             Given::Bytes if kind == Kind::Text => call.bytes = random_text(random).into_bytes(),
             Given::Bytes => {
@@ -157,6 +176,7 @@ impl fmt::Display for Call {
             Given::Nothing => f.write_str(word),
             Given::Setup => write!(f, "{word} {:?}", self.config),
             Given::Byte => write!(f, "{word} {:02x}", self.byte),
+            Given::Flag => write!(f, "{word} {}", self.byte),
             Given::Slots => write!(f, "{word} {}", self.slots),
             Given::Bytes => write!(f, "{word} {}", digits_of(&self.bytes)),
         }

@@ -3,6 +3,7 @@
 use crate::call::{CALL_BYTES, Call, Kind, digits_of};
 use uart_16550::backend::Backend;
 use uart_16550::embedded_io::{Read, ReadReady, Write, WriteReady};
+use uart_16550::spec::registers::MCR;
 use uart_16550::{ConfigRegisterDump, InitError, InvalidDivisorError, LoopbackError, StalledError};
 use uart_16550::{Uart16550, Uart16550Tty};
 
@@ -40,11 +41,32 @@ pub fn perform<B: Backend>(terminal: &mut Uart16550Tty<B>, call: &Call) -> Strin
             ));
             "ok".into()
         }
+        Kind::SetFrame => named(uart.set_frame(&call.config), frame_error),
+        Kind::Attach => match uart.attach() {
+            Ok((dll, dlm)) => format!("ok {dll:02x} {dlm:02x}"),
+            Err(error) => format!("err {error:?}"),
+        },
+        Kind::SetBreak | Kind::SetModemControl | Kind::SetRts | Kind::SetDtr => {
+            switch(uart, call);
+            "ok".into()
+        }
+        Kind::IsIdle => format!("ok {}", uart.is_idle()),
         Kind::Receive | Kind::ReceiveExact | Kind::Read => receive(uart, call),
         Kind::Send => format!("ok {}", uart.send_bytes(&call.bytes)),
         Kind::SendExact => done(uart.send_bytes_exact(&call.bytes)),
         Kind::Write => shown(uart.write(&call.bytes)),
         _ => look(uart, call.kind),
+    }
+}
+
+/// Makes a call that switches a break or outputs to the modem.
+fn switch<B: Backend>(uart: &mut Uart16550<B>, call: &Call) {
+    let on = call.byte != 0;
+    match call.kind {
+        Kind::SetBreak => uart.set_break(on),
+        Kind::SetRts => uart.set_rts(on),
+        Kind::SetDtr => uart.set_dtr(on),
+        _ => uart.set_modem_control(MCR::from_bits_retain(call.byte)),
     }
 }
 
@@ -57,6 +79,7 @@ fn look<B: Backend>(uart: &mut Uart16550<B>, kind: Kind) -> String {
         Kind::Mcr => uart.mcr().bits(),
         Kind::Lsr => uart.lsr().bits(),
         Kind::Msr => uart.msr().bits(),
+        Kind::PeekModem => uart.peek_modem().bits(),
         Kind::Spr => uart.spr(),
         Kind::DllDlm => {
             let (dll, dlm) = uart.dll_dlm();
@@ -135,6 +158,13 @@ fn init_error(error: InitError) -> String {
             format!("InvalidBaudRate OutOfRange {divisor}")
         }
         InitError::Stalled => "Stalled".into(),
+    }
+}
+
+fn frame_error(error: InvalidDivisorError) -> String {
+    match error {
+        InvalidDivisorError::NonInteger(_) => "NonInteger".into(),
+        InvalidDivisorError::OutOfRange { .. } => "OutOfRange".into(),
     }
 }
 

@@ -47,6 +47,7 @@ struct Answer {
     value: u8,
     second: u8,
     bytes: [u8; CALL_BYTES],
+    errors: [u8; CALL_BYTES],
 }
 
 const STEP_DONE: u32 = 0;
@@ -105,6 +106,7 @@ impl Answer {
         value: 0,
         second: 0,
         bytes: [0; CALL_BYTES],
+        errors: [0; CALL_BYTES],
     };
 
     /// Returns the answer in the words of traces. It does not say why a baud rate was refused.
@@ -142,6 +144,8 @@ impl Answer {
             ),
             12 => "err ByteReceiveError".into(),
             13 => refused(self.value, &["NoCapacity", "RemoteNotClearToSend"]),
+            14 => refused(self.value, &["NonInteger", "OutOfRange"]),
+            15 => refused(self.value, &["DivisorLatchOpen", "Loopback"]),
             kind => format!("an answer of kind {kind}"),
         }
     }

@@ -12,6 +12,7 @@ pub enum End {
     NoRings = 0x21,
     NotSent = 0x22,
     NoInterrupts = 0x23,
+    Masked = 0x24,
     Panic = 0x3f,
 }
 
@@ -50,6 +51,11 @@ pub fn end(how: End) -> ! {
 /// Tells the interrupt controller that an interrupt was served.
 pub fn end_of_interrupt() {
     write_port(PRIMARY, END_OF_INTERRUPT);
+}
+
+/// Lets no interrupt in any more.
+pub fn mask_interrupts() {
+    write_port(PRIMARY + 1, 0xff);
 }
 
 unsafe extern "C" {

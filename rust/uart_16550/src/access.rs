@@ -1,5 +1,5 @@
-//! The accesses to a device: ports of x86 by `in` and `out`, and memory by volatile loads and
-//! stores.
+//! The accesses to a device: ports of x86 by `in` and `out`, and memory by volatile loads and stores,
+//! with barriers where the architecture needs them.
 //!
 //! This is the one file with `unsafe`, and no proof covers it. An access object has its base and
 //! its stride in itself, tested when it is made, so safe code can make it access nothing else.
@@ -97,6 +97,9 @@ impl Backend for X86Ports {
 
 /// Eight registers in memory, each of one byte, accessed by volatile loads and stores.
 ///
+/// Accesses are made in the order of the program, and inside of a lock that guards the object: where
+/// the architecture does not see to that, there is a barrier before and after each of them.
+///
 /// It can be sent to another thread, but neither shared nor cloned: one object is the one way to
 /// its registers.
 ///
@@ -148,8 +151,8 @@ impl VolatileMemory {
     /// - The pointer must have the provenance of all eight: it comes from one allocation that has
     ///   them, or they are outside of every allocation that Rust knows of, as a device is.
     /// - A device of the 16550 family must be there, or anything that does no harm if it is
-    ///   accessed as one. A mapping of a device must be one for devices: not cached, and not
-    ///   reordered.
+    ///   accessed as one. A mapping of a device must be one for devices, so that accesses are neither
+    ///   cached nor joined, and on Arm and x86 keep their order: Device memory, or uncached.
     /// - Nothing else may access these bytes: no reference, no other object, no other thread, no
     ///   handler of interrupts. If several of them need the device, they share this object by a
     ///   lock, and a handler must not wait for a lock that it has interrupted.
@@ -294,18 +297,78 @@ unsafe fn port_out(port: u16, value: u8) {
     }
 }
 
-// Loads a byte of a device. It must be valid for that.
-#[cfg(any(not(target_arch = "aarch64"), miri))]
+// Loads a byte of a device, after all accesses before it and before all after it. It must be valid for
+// that.
 #[inline]
 unsafe fn load(address: *const u8) -> u8 {
+    barrier();
+    // SAFETY: by the promise of the caller.
+    let value = unsafe { load_byte(address) };
+    barrier();
+    value
+}
+
+// Stores a byte to a device, after all accesses before it and before all after it. It must be valid for
+// that.
+#[inline]
+unsafe fn store(address: *mut u8, value: u8) {
+    barrier();
+    // SAFETY: by the promise of the caller.
+    unsafe { store_byte(address, value) }
+    barrier();
+}
+
+// Makes the processor finish the accesses before this, to devices and to memory, before it begins those
+// after it, where its architecture does not do so by itself.
+//
+// - On x86 and on Arm accesses to one device are made in the order of the program, if its memory is
+//   mapped as a device's, which the caller of a constructor promised. A lock orders them too.
+// - On PowerPC a load may pass a store to another address: LSR is read before a byte was written. The
+//   barriers of a lock are not for devices.
+// - On RISC-V and LoongArch the order within a device depends on its memory's attributes. The barriers
+//   of a lock (`fence rw, w` on RISC-V) are not for devices, so an access could leave the lock.
+// - Elsewhere the barrier is the strongest that atomics have: `sync` on PowerPC and MIPS, `membar` on
+//   SPARC. An architecture without atomics has one processor that keeps the order.
+#[inline(always)]
+fn barrier() {
+    #[cfg(all(any(target_arch = "riscv32", target_arch = "riscv64"), not(miri)))]
+    // SAFETY: a barrier changes nothing. It may not be moved over accesses to memory, as it would be with
+    // `nomem`.
+    unsafe {
+        core::arch::asm!("fence iorw, iorw", options(nostack, preserves_flags));
+    }
+    #[cfg(all(target_arch = "loongarch64", not(miri)))]
+    // SAFETY: as above.
+    unsafe {
+        core::arch::asm!("dbar 0", options(nostack, preserves_flags));
+    }
+    #[cfg(all(
+        target_has_atomic = "ptr",
+        not(any(
+            target_arch = "x86",
+            target_arch = "x86_64",
+            target_arch = "arm",
+            target_arch = "aarch64",
+            target_arch = "riscv32",
+            target_arch = "riscv64",
+            target_arch = "loongarch64"
+        ))
+    ))]
+    core::sync::atomic::fence(core::sync::atomic::Ordering::SeqCst);
+}
+
+// Loads a byte of a device. It must be valid for that.
+#[cfg(any(not(any(target_arch = "arm", target_arch = "aarch64")), miri))]
+#[inline]
+unsafe fn load_byte(address: *const u8) -> u8 {
     // SAFETY: by the promise of the caller.
     unsafe { address.read_volatile() }
 }
 
 // Stores a byte to a device. It must be valid for that.
-#[cfg(any(not(target_arch = "aarch64"), miri))]
+#[cfg(any(not(any(target_arch = "arm", target_arch = "aarch64")), miri))]
 #[inline]
-unsafe fn store(address: *mut u8, value: u8) {
+unsafe fn store_byte(address: *mut u8, value: u8) {
     // SAFETY: by the promise of the caller.
     unsafe { address.write_volatile(value) }
 }
@@ -314,7 +377,7 @@ unsafe fn store(address: *mut u8, value: u8) {
 // A volatile load may be compiled to another one.
 #[cfg(all(target_arch = "aarch64", not(miri)))]
 #[inline]
-unsafe fn load(address: *const u8) -> u8 {
+unsafe fn load_byte(address: *const u8) -> u8 {
     let value: u32;
     // SAFETY: by the promise of the caller.
     unsafe {
@@ -331,11 +394,43 @@ unsafe fn load(address: *const u8) -> u8 {
 // The same for a store.
 #[cfg(all(target_arch = "aarch64", not(miri)))]
 #[inline]
-unsafe fn store(address: *mut u8, value: u8) {
+unsafe fn store_byte(address: *mut u8, value: u8) {
     // SAFETY: by the promise of the caller.
     unsafe {
         core::arch::asm!(
             "strb {value:w}, [{address}]",
+            address = in(reg) address,
+            value = in(reg) u32::from(value),
+            options(nostack, preserves_flags),
+        );
+    }
+}
+
+// The same on 32-bit Arm, where a load may be compiled to one that changes its address register too.
+#[cfg(all(target_arch = "arm", not(miri)))]
+#[inline]
+unsafe fn load_byte(address: *const u8) -> u8 {
+    let value: u32;
+    // SAFETY: by the promise of the caller.
+    unsafe {
+        core::arch::asm!(
+            "ldrb {value}, [{address}]",
+            address = in(reg) address,
+            value = lateout(reg) value,
+            options(nostack, preserves_flags),
+        );
+    }
+    value as u8
+}
+
+// The same for a store.
+#[cfg(all(target_arch = "arm", not(miri)))]
+#[inline]
+unsafe fn store_byte(address: *mut u8, value: u8) {
+    // SAFETY: by the promise of the caller.
+    unsafe {
+        core::arch::asm!(
+            "strb {value}, [{address}]",
             address = in(reg) address,
             value = in(reg) u32::from(value),
             options(nostack, preserves_flags),
@@ -366,14 +461,17 @@ pub(crate) mod original {
         ///
         /// # Safety
         ///
-        /// The offset must be less than 8, and the device must be there.
+        /// - The offset must be less than 8.
+        /// - The device must be there, and this program may access it.
+        /// - Nothing else may access the device at the same time: no driver, no copy of this
+        ///   backend, no other thread, no handler of interrupts.
         unsafe fn read(&mut self, register_offset: u8) -> u8;
 
         /// Writes a value to the register at an offset.
         ///
         /// # Safety
         ///
-        /// The offset must be less than 8, and the device must be there.
+        /// That of [`read`](Self::read).
         unsafe fn write(&mut self, register_offset: u8, value: u8);
     }
 
@@ -496,8 +594,8 @@ pub(crate) mod original {
         ///
         /// # Safety
         ///
-        /// That of [`X86Ports::new`](native::backend::X86Ports::new), for the driver and for each
-        /// copy of its backend.
+        /// That of [`X86Ports::new`](native::backend::X86Ports::new), for the driver. A copy of its
+        /// backend does nothing by itself: each of its accesses is `unsafe` again.
         pub const unsafe fn new_port(base_port: u16) -> Result<Self, InvalidAddressError> {
             match check_ports(base_port) {
                 // SAFETY: by the promise of the caller.
@@ -518,8 +616,8 @@ pub(crate) mod original {
         ///
         /// # Safety
         ///
-        /// That of [`VolatileMemory::new`](native::backend::VolatileMemory::new), for the driver
-        /// and for each copy of its backend.
+        /// That of [`VolatileMemory::new`](native::backend::VolatileMemory::new), for the driver.
+        /// A copy of its backend does nothing by itself: each of its accesses is `unsafe` again.
         pub unsafe fn new_mmio(
             base_address: NonNull<u8>,
             stride: u8,
@@ -539,7 +637,8 @@ pub(crate) mod original {
         /// # Safety
         ///
         /// That of [`VolatileMemory::from_address`](native::backend::VolatileMemory::from_address),
-        /// for the driver and for each copy of its backend.
+        /// for the driver. A copy of its backend does nothing by itself: each of its accesses is
+        /// `unsafe` again.
         pub const unsafe fn new_mmio_from_address(
             base_address: NonZeroUsize,
             stride: u8,
@@ -559,8 +658,9 @@ pub(crate) mod original {
         ///
         /// # Safety
         ///
-        /// It must be sound to call `read` and `write` of the backend with offsets below 8, as long
-        /// as the driver lives.
+        /// As long as the driver lives, and on each thread to which it is sent, it must be sound to
+        /// call `read` and `write` of the backend with offsets below 8, whatever safe code does by
+        /// [`backend`](Self::backend).
         pub const unsafe fn new_with_backend(backend: B) -> Self {
             let mut driver = native::Uart16550::new_with_backend(Adapter(backend));
             driver.set_spin_limit(NonZeroU64::MAX);
@@ -575,7 +675,27 @@ pub(crate) mod original {
         /// Returns the backend, for raw accesses by the caller. Makes no access itself.
         ///
         /// After raw accesses that changed the setup of the chip, call [`init`](Self::init) again.
-        pub const fn backend_mut(&mut self) -> &mut B {
+        ///
+        /// # Safety
+        ///
+        /// What is here when the borrow ends must be a backend for which the promise of
+        /// [`new_with_backend`](Self::new_with_backend) holds. So do not put another one here, nor
+        /// a copy of another driver's: no call of the driver asks again.
+        ///
+        /// # Examples
+        ///
+        /// ```no_run
+        /// use uart_16550::compat::Uart16550;
+        /// use uart_16550::compat::backend::{Backend, MmioBackend};
+        ///
+        /// fn leave_a_mark(uart: &mut Uart16550<MmioBackend>) {
+        ///     // SAFETY: the scratch register is written, and the backend stays the one that it was.
+        ///     unsafe { uart.backend_mut().write(7, 0x5a) };
+        /// }
+        /// ```
+        // In the original this call is safe. There safe code can put another backend here, whose
+        // accesses nobody promised anything about, and the next safe call makes them.
+        pub const unsafe fn backend_mut(&mut self) -> &mut B {
             &mut self.0.backend_mut().0
         }
 
@@ -594,8 +714,8 @@ pub(crate) mod original {
 
         // Returns the driver over this one.
         pub(crate) const fn over_mut(driver: &mut native::Uart16550<Adapter<B>>) -> &mut Self {
-            // SAFETY: as for `over`. What the caller puts here was made with the promise of
-            // `new_with_backend`.
+            // SAFETY: as for `over`. What safe code puts here is a driver, which was made with the
+            // promise of `new_with_backend`.
             unsafe { &mut *ptr::from_mut(driver).cast() }
         }
     }

@@ -116,16 +116,25 @@ pub fn checked_divisor(
     baud_rate: u32,
     prescaler_division_factor: Option<u32>,
 ) -> Result<u16, InvalidDivisorError> {
-    let refused = InvalidDivisorError::NonInteger(NonIntegerDivisorError {
-        frequency,
-        baud_rate,
-        prescaler_division_factor,
-    });
+    let factor = computable(frequency, baud_rate, prescaler_division_factor)?;
+    uart_spec::calc_divisor(frequency, baud_rate, factor)
+}
+
+// Returns the factor if a divisor can be computed with these, and otherwise why not.
+#[inline(always)]
+fn computable(
+    frequency: u32,
+    baud_rate: u32,
+    prescaler_division_factor: Option<u32>,
+) -> Result<Option<u32>, InvalidDivisorError> {
     match known(prescaler_division_factor) {
-        _ if baud_rate == 0 => Err(refused),
-        Err(UnknownFactor) => Err(refused),
-        Ok(_) if frequency == 0 => Err(InvalidDivisorError::OutOfRange { divisor: 0 }),
-        Ok(factor) => uart_spec::calc_divisor(frequency, baud_rate, factor),
+        Ok(factor) if baud_rate != 0 && frequency != 0 => Ok(factor),
+        Ok(_) if baud_rate != 0 => Err(InvalidDivisorError::OutOfRange { divisor: 0 }),
+        _ => Err(InvalidDivisorError::NonInteger(NonIntegerDivisorError {
+            frequency,
+            baud_rate,
+            prescaler_division_factor,
+        })),
     }
 }
 
@@ -159,7 +168,8 @@ impl<B: Backend> Uart16550<B> {
     /// ```
     pub fn checked_init(&mut self, config: Config) -> Result<(), InitError> {
         let rate = config.baud_rate.to_integer();
-        match checked_divisor(config.frequency, rate, config.prescaler_division_factor) {
+        // `init` computes the divisor, so it is only tested here whether it can be.
+        match computable(config.frequency, rate, config.prescaler_division_factor) {
             Ok(_) => self.init(config),
             Err(cause) => Err(InitError::InvalidBaudRate(cause)),
         }
@@ -174,7 +184,7 @@ impl<B: Backend> Uart16550<B> {
     /// and nothing changed.
     pub fn checked_set_frame(&mut self, config: &Config) -> Result<(), InvalidDivisorError> {
         let rate = config.baud_rate.to_integer();
-        checked_divisor(config.frequency, rate, config.prescaler_division_factor)?;
+        computable(config.frequency, rate, config.prescaler_division_factor)?;
         self.set_frame(config)
     }
 }

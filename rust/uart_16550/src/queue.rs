@@ -1,7 +1,8 @@
 //! The queues of the rings: bytes in order, in memory that the caller gives.
 //!
-//! Written by hand, and trusted: the proof of the rings is about another queue with these methods. This one has no `unsafe`
-//! and no path to a panic, and its tests compare it with a model.
+//! Written by hand, and trusted: the proof of the rings is about another queue with these methods. This one has no `unsafe`,
+//! and its tests compare it with a model. An index that is out of range is a fault of this file: it panics, and is not taken
+//! for an empty slice. `rust/tests/wrong-queues` tries wrong bodies, and the tests find each.
 
 #[cfg(feature = "alloc")]
 extern crate alloc;
@@ -11,6 +12,7 @@ mod tests;
 #[cfg(feature = "alloc")]
 use alloc::{boxed::Box, vec::Vec};
 use core::cell::Cell;
+use core::ops::Range;
 
 /// Memory for rings. Each ring takes its part from the front.
 ///
@@ -52,7 +54,7 @@ impl Memory {
             self.free.set(free);
             return None;
         }
-        let (taken, rest) = free.split_at_mut_checked(count)?;
+        let (taken, rest) = free.split_at_mut(count);
         self.free.set(rest);
         Some(taken)
     }
@@ -162,51 +164,47 @@ impl<T: Copy> HeapCircularBuffer<T> {
         self.len() == self.capacity()
     }
 
-    // The cell of the item with this index, which is at most the capacity.
+    // The cell of the item with this index, which is at most the capacity. The sum is at most twice the
+    // length of a slice, so it does not overflow.
     fn place(&self, index: usize) -> usize {
-        let place = self.front.wrapping_add(index);
-        place.checked_sub(self.capacity()).unwrap_or(place)
+        let place = self.front + index;
+        if place < self.capacity() {
+            place
+        } else {
+            place - self.capacity()
+        }
+    }
+
+    // This number of cells from a place on: those up to the last cell, and the others, from the first
+    // cell on.
+    fn cells_from(&self, place: usize, count: usize) -> (Range<usize>, Range<usize>) {
+        debug_assert!(count <= self.capacity(), "more cells than there are");
+        let end = (place + count).min(self.capacity());
+        (place..end, 0..place + count - end)
     }
 
     /// Returns the items in order, as two slices.
     pub fn as_slices(&self) -> (&[T], &[T]) {
+        let (first, second) = self.cells_from(self.front, self.len);
         let cells = self.cells.as_slice();
-        let (before, behind) = cells.split_at_checked(self.front).unwrap_or_default();
-        let first = behind.get(..self.len).unwrap_or(behind);
-        let rest = self.len.saturating_sub(first.len());
-        (first, before.get(..rest).unwrap_or_default())
-    }
-
-    // The cells without items, in the order in which they are to be filled.
-    fn room(&mut self) -> (&mut [T], &mut [T]) {
-        let room = self.capacity().saturating_sub(self.len);
-        let place = self.place(self.len);
-        let cells = self.cells.as_mut_slice();
-        let (before, behind) = cells.split_at_mut_checked(place).unwrap_or_default();
-        let count = room.min(behind.len());
-        let first = behind.get_mut(..count).unwrap_or_default();
-        (
-            first,
-            before
-                .get_mut(..room.saturating_sub(count))
-                .unwrap_or_default(),
-        )
+        (&cells[first], &cells[second])
     }
 
     /// Appends items from the front of the slice, as many as there is room for, and returns how many.
     pub fn fill_from_slice(&mut self, items: &[T]) -> usize {
-        let (first, second) = self.room();
-        let mut count = copy(first, items);
-        count = count.wrapping_add(copy(second, items.get(count..).unwrap_or_default()));
-        self.len = self.len.wrapping_add(count);
+        let (first, second) = self.cells_from(self.place(self.len), self.capacity() - self.len);
+        let cells = self.cells.as_mut_slice();
+        let before = copy(&mut cells[first], items);
+        let count = before + copy(&mut cells[second], &items[before..]);
+        self.len += count;
         count
     }
 
     /// Takes items from the front, as many as there are slots, and returns how many. Leaves the other slots unchanged.
     pub fn read_into(&mut self, slots: &mut [T]) -> usize {
         let (first, second) = self.as_slices();
-        let mut count = copy(slots, first);
-        count = count.wrapping_add(copy(slots.get_mut(count..).unwrap_or_default(), second));
+        let before = copy(slots, first);
+        let count = before + copy(&mut slots[before..], second);
         self.drop_front(count);
         count
     }
@@ -219,7 +217,7 @@ impl<T: Copy> HeapCircularBuffer<T> {
     // Drops this number of items, which is at most the number of all.
     fn drop_front(&mut self, count: usize) {
         self.front = self.place(count);
-        self.len = self.len.saturating_sub(count);
+        self.len -= count;
     }
 }
 

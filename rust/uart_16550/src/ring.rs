@@ -1,7 +1,8 @@
 //! Transmit and receive rings over the driver, for use with interrupts.
 //!
 //! A [`Uart16550Ring`] keeps bytes until the chip has room for them, and received bytes until they are taken. Call
-//! [`Uart16550Ring::service`] in the interrupt handler, and mask the interrupt during all other calls. No call waits.
+//! [`Uart16550Ring::handle`] in the interrupt handler, whether the interrupt controller detects edges or levels, and mask the
+//! interrupt during all other calls. No call waits.
 //!
 //! The memory of the rings is given by the caller, as [`Memory`]; with the feature `alloc` it may come from the program's
 //! allocator, as `Global::heap()`.
@@ -10,7 +11,7 @@
 //!
 //! ```
 //! use uart_16550::native::backend::Backend;
-//! use uart_16550::ring::{Memory, Uart16550Ring};
+//! use uart_16550::ring::{MAX_INTERRUPTS, Memory, Uart16550Ring};
 //! use uart_16550::spec::registers::IER;
 //! use uart_16550::native::{Config, Uart16550};
 //!
@@ -38,7 +39,7 @@
 //! assert_eq!(ring.queue(b"hello"), 5);
 //!
 //! // in the interrupt handler
-//! ring.service();
+//! ring.handle(MAX_INTERRUPTS);
 //! # Ok::<(), Box<dyn std::error::Error>>(())
 //! ```
 

@@ -3,6 +3,18 @@
 /* The device: registers in memory, one byte apart, and its clock. */
 enum { BASE = 0x10000000, STRIDE = 1, FREQUENCY = 3686400, RING = 1024 };
 
+/*
+ * How many interrupts one run of the handler serves, and how many runs in a row may end with more to do and without a call of
+ * the program. A sound chip moves a byte at each interrupt, and long before this both rings are full or empty.
+ */
+enum { MOST_INTERRUPTS = 32, MOST_RUNS = 1024 };
+
+/* What the program has for this: the device's line at the interrupt controller, and the interrupts of the processor. */
+void mask_line(void);
+void unmask_line(void);
+void interrupts_off(void);
+void interrupts_on(void);
+
 static uint8_t load(void *context, uintptr_t address)
 {
     (void)context;
@@ -17,6 +29,8 @@ static void store(void *context, uintptr_t address, uint8_t value)
 
 static struct u16550 console;
 static uint8_t rings[2 * RING];
+static volatile unsigned runs_in_a_row;
+static volatile uint8_t is_put_off, is_broken;
 
 /* A panic is a defect of the library: there is nothing to go on with. */
 void u16550_panic(void)
@@ -45,39 +59,82 @@ int console_start(void)
     return status;
 }
 
-/* Before there are interrupts: sends a text, and waits for room. */
-int console_say(const char *text, size_t len)
-{
-    return u16550_write_text(&console, text, len, NULL);
-}
-
-/* From here on the interrupt handler moves the bytes. The interrupt is masked until this has returned. */
+/* From here on the interrupt handler moves the bytes. The line is masked until this has returned. */
 int console_use_interrupts(void)
 {
+    runs_in_a_row = is_put_off = is_broken = 0;
     return u16550_ring_new(&console, rings, sizeof rings, RING, RING);
 }
 
-/* The handler of the device's interrupt. */
+/* The handler of the device's interrupt. The controller may detect levels or edges; it gets its end of interrupt after this. */
 void console_interrupt(void)
 {
-    size_t served = 0;
+    struct u16550_handled handled;
+    int status = u16550_ring_handle(&console, MOST_INTERRUPTS, &handled);
 
-    while (u16550_ring_service(&console, &served) == U16550_OK && served == U16550_MAX_INTERRUPTS)
-        ;
+    if (status == U16550_BUSY) {
+        /* A call is not done. It never would be if the line stayed high and the handler came again at once. */
+        mask_line();
+        is_put_off = 1;
+    } else if (status == U16550_OK && handled.end == U16550_HANDLE_IDLE) {
+        runs_in_a_row = 0;
+    } else if (status != U16550_OK || ++runs_in_a_row == MOST_RUNS) {
+        /* Nobody can serve this: there are no rings, or the chip is broken. */
+        mask_line();
+        is_broken = 1;
+    }
 }
 
-/* Sends bytes, as many as there is room for, and returns how many. The interrupt is masked meanwhile. */
+/* Lets the interrupt in again that the handler has put off. To be called after each call that the handler may have come into. */
+void console_catch_up(void)
+{
+    interrupts_off();
+    if (is_put_off) {
+        is_put_off = 0;
+        unmask_line();
+        /* A controller for edges may have missed one while the line was masked. */
+        u16550_retrigger_interrupts(&console);
+    }
+    interrupts_on();
+}
+
+/* Sends a text, a line feed as carriage return and line feed, and waits for room. Interrupts are on meanwhile, since it is long. */
+int console_say(const char *text, size_t len)
+{
+    int status = u16550_write_text(&console, text, len, NULL);
+
+    console_catch_up();
+    return status;
+}
+
+/* Sends bytes, as many as there is room for, and returns how many. */
 size_t console_write(const uint8_t *bytes, size_t len)
 {
     size_t count = 0;
+    int status;
 
-    return u16550_ring_queue(&console, bytes, len, &count) == U16550_OK ? count : 0;
+    interrupts_off();
+    status = u16550_ring_queue(&console, bytes, len, &count);
+    runs_in_a_row = 0;
+    interrupts_on();
+    return status == U16550_OK ? count : 0;
 }
 
-/* Gives received bytes, as many as there are, and returns how many. The interrupt is masked meanwhile. */
+/* Gives received bytes, as many as there are, and returns how many. */
 size_t console_read(uint8_t *slots, size_t len)
 {
     size_t count = 0;
+    int status;
 
-    return u16550_ring_take(&console, slots, len, &count) == U16550_OK ? count : 0;
+    interrupts_off();
+    status = u16550_ring_take(&console, slots, len, &count);
+    runs_in_a_row = 0;
+    interrupts_on();
+    return status == U16550_OK ? count : 0;
+}
+
+/* Whether the handler has given up, because the interrupt had no end. */
+int console_is_broken(void)
+{
+    return is_broken;
 }

@@ -11,7 +11,7 @@
  * through a pointer is written only if it returns U16550_OK, unless the function says otherwise.
  *
  * Pointers must point to what they say, or be null, which is refused if nothing else is said. An array of length 0 may be
- * null. Arrays and structs of one call must not overlap.
+ * null. Arrays and structs of one call must not overlap, and nobody else changes them until the call has returned.
  */
 #ifndef U16550_H
 #define U16550_H
@@ -36,7 +36,7 @@ enum u16550_misuse {
     U16550_MISALIGNED = -2,
     U16550_NOT_MADE = -3,         /* there is no driver in this memory */
     U16550_BUSY = -4,             /* a call over this driver is not done: the caller is a callback or an interrupt handler */
-    U16550_BAD_LENGTH = -5,       /* no array is so long */
+    U16550_BAD_LENGTH = -5,       /* no array is so long: it would be larger than half of all memory, or have the last address */
     U16550_BAD_CODE = -6,         /* a number in a configuration or a state stands for nothing */
     U16550_NOT_COMPUTABLE = -7,   /* frequency or baud rate 0, or a prescaler division factor above 15 */
     U16550_ZERO_LIMIT = -8,       /* a spin limit of 0 */
@@ -93,6 +93,24 @@ enum u16550_ring_error {
     U16550_RING_OUT_OF_MEMORY = 91 /* the memory is smaller than both capacities together */
 };
 
+/* Why no frame was set. No access was made. */
+enum u16550_frame_error {
+    U16550_FRAME_NON_INTEGER_DIVISOR = 100, /* no whole divisor gives the baud rate */
+    U16550_FRAME_DIVISOR_OUT_OF_RANGE = 101 /* it is above 65535 */
+};
+
+/* Why the nearest divisor for a baud rate cannot be used. */
+enum u16550_nearest_error {
+    U16550_NEAREST_TOO_FAR = 110, /* its baud rate differs by more than so many thousandths */
+    U16550_NEAREST_OUT_OF_RANGE = 111 /* it is above 65535, or the frequency at which it is exact is above 32 bits */
+};
+
+/* Why a port could not be taken as it is. */
+enum u16550_attach_error {
+    U16550_ATTACH_DIVISOR_LATCH_OPEN = 120, /* DLAB is set */
+    U16550_ATTACH_LOOPBACK = 121
+};
+
 /* Returns a text for what a function returned, for a log. Never null. */
 const char *u16550_text(int status);
 
@@ -118,6 +136,9 @@ struct u16550_io {
 /*
  * The memory of a driver. What is in it is the library's. It may be copied to another place between two calls, if only one
  * of the copies is used from then on. One thread at a time may use a driver; different drivers are independent.
+ *
+ * Set it to zero before a first driver is made in it, unless it is static, and so zero from the start. What was left in it
+ * may look like a driver, or like a call that is not done.
  */
 struct u16550 {
     uint64_t opaque[28];
@@ -165,6 +186,25 @@ struct u16550_loopback_failure {
     uint8_t expected_msg[16], actual_msg[16];
 };
 
+/* A received byte, and the line errors that LSR showed with it. */
+struct u16550_received {
+    uint8_t byte;                       /* 0 for a break */
+    uint8_t errors;                     /* as in LSR: parity, framing and break are of this byte, an overrun came before it */
+};
+
+/* Why a call of u16550_ring_handle ended. */
+enum u16550_handle_end {
+    U16550_HANDLE_IDLE = 0,       /* ISR showed that no interrupt is pending */
+    U16550_HANDLE_UNKNOWN = 1,    /* ISR showed an interrupt that has no name; it was not served */
+    U16550_HANDLE_LIMIT = 2       /* as many interrupts as the limit were served */
+};
+
+/* What a call of u16550_ring_handle did. */
+struct u16550_handled {
+    size_t served;                      /* how many interrupts */
+    uint8_t end;                        /* an enum u16550_handle_end */
+};
+
 U16550_ASSERT(sizeof(struct u16550) == 224, "struct u16550");
 U16550_ASSERT(sizeof(struct u16550_io) == 3 * sizeof(void *), "struct u16550_io");
 U16550_ASSERT(sizeof(struct u16550_config) == 20, "struct u16550_config");
@@ -175,11 +215,16 @@ U16550_ASSERT(offsetof(struct u16550_state, config) == 8, "struct u16550_state")
 U16550_ASSERT(offsetof(struct u16550_state, saved_msr) == 30, "struct u16550_state");
 U16550_ASSERT(sizeof(struct u16550_dump) == 9, "struct u16550_dump");
 U16550_ASSERT(sizeof(struct u16550_loopback_failure) == 34, "struct u16550_loopback_failure");
+U16550_ASSERT(sizeof(struct u16550_received) == 2, "struct u16550_received");
+U16550_ASSERT(offsetof(struct u16550_received, errors) == 1, "struct u16550_received");
+U16550_ASSERT(sizeof(struct u16550_handled) == 2 * sizeof(size_t), "struct u16550_handled");
+U16550_ASSERT(offsetof(struct u16550_handled, end) == sizeof(size_t), "struct u16550_handled");
 
 /* --------------------------------------------------------------- making a driver
  *
- * These make a driver in the memory, whatever is in it. They make no access. The driver has the default configuration and
- * a spin limit of 1000000 polls.
+ * These make a driver in the memory, in place of one that is there, whose rings end. They make no access. If a call over the
+ * driver that is there is not done, they return U16550_BUSY. The driver has the default configuration and a spin limit of
+ * 1000000 polls.
  */
 
 /* A driver whose functions get offsets. */
@@ -204,6 +249,14 @@ int u16550_end(struct u16550 *uart);
 
 /* Writes the default: no interrupts, 1843200 Hz, 9600 baud, FIFO with trigger level 14, 8 data bits, 1 stop bit, no parity. */
 int u16550_default_config(struct u16550_config *config);
+
+/*
+ * Writes the configuration with the frequency at which the nearest divisor gives its baud rate exactly, if that differs from
+ * its frequency by at most so many thousandths. u16550_init and u16550_set_frame accept it, and write the nearest divisor. The
+ * line then has a rate that differs by as many thousandths at most. Receivers tolerate about 20, of both sides together.
+ * Returns an enum u16550_nearest_error if there is none. nearest may be config.
+ */
+int u16550_nearest(const struct u16550_config *config, uint32_t per_mille, struct u16550_config *nearest);
 
 int u16550_get_io(struct u16550 *uart, struct u16550_io *io);
 int u16550_set_io(struct u16550 *uart, const struct u16550_io *io);
@@ -230,6 +283,37 @@ int u16550_test_loopback(struct u16550 *uart, struct u16550_loopback_failure *fa
 /* Whether a remote is there and ready to receive. Returns an enum u16550_remote_error if not. */
 int u16550_check_connected(struct u16550 *uart);
 
+/*
+ * Changes baud rate and frame to those of this configuration while the port runs: writes LCR, DLL, DLM and LCR, and nothing
+ * else. So FIFOs, outputs to the modem and interrupts stay as they are, and no byte is discarded; characters that are on the
+ * line may be cut, and a break ends. interrupts, fifo_trigger_level and check_cts_before_sending are not used. Returns an enum
+ * u16550_frame_error if the divisor cannot be had.
+ */
+int u16550_set_frame(struct u16550 *uart, const struct u16550_config *config);
+
+/*
+ * Takes a port as it was set up, for example by firmware: finds out whether the FIFO is on, and gives the divisor. It reads
+ * LCR, MCR, ISR and the divisor latch, for which it sets DLAB and then writes LCR back; nothing else is written. The read of ISR
+ * acknowledges a THR_EMPTY interrupt. The driver's configuration stays as it was, since nobody knows the chip's clock. Returns
+ * an enum u16550_attach_error if the port is not one to be taken.
+ */
+int u16550_attach(struct u16550 *uart, uint8_t *dll, uint8_t *dlm);
+
+/* --------------------------------------------------------------- outputs
+ *
+ * on is 0 or 1; another number is refused by U16550_BAD_CODE.
+ */
+
+/* Writes MCR with these bits, an enum u16550_mcr_bits, but never loopback. */
+int u16550_set_modem_control(struct u16550 *uart, uint8_t outputs);
+
+/* Asserts or clears one output, and leaves the others. Clears loopback. */
+int u16550_set_rts(struct u16550 *uart, uint8_t on);
+int u16550_set_dtr(struct u16550 *uart, uint8_t on);
+
+/* Begins or ends a break. */
+int u16550_set_break(struct u16550 *uart, uint8_t on);
+
 /* --------------------------------------------------------------- sending and receiving */
 
 /* These two and the next two do not wait. They return U16550_RECEIVE_NO_DATA or an enum u16550_send_error. */
@@ -241,6 +325,13 @@ int u16550_try_send_byte(struct u16550 *uart, uint8_t byte);
 /* Receive what is there, or send one burst, without waiting. *count is how many bytes it was, perhaps 0. */
 int u16550_receive_bytes(struct u16550 *uart, uint8_t *buffer, size_t len, size_t *count);
 int u16550_send_bytes(struct u16550 *uart, const uint8_t *buffer, size_t len, size_t *count);
+
+/*
+ * The same as u16550_try_receive_byte and u16550_receive_bytes, with the line errors of each byte. A chip shows these once: if
+ * an earlier call has looked at the first byte, its errors are missing here. The next u16550_lsr has all of them.
+ */
+int u16550_try_receive_with_errors(struct u16550 *uart, struct u16550_received *received);
+int u16550_receive_with_errors(struct u16550 *uart, struct u16550_received *received, size_t len, size_t *count);
 
 /*
  * Receive or send all bytes, and wait for each. They return U16550_STALLED after as many unsuccessful polls in a row as the
@@ -255,6 +346,9 @@ int u16550_write(struct u16550 *uart, const uint8_t *buffer, size_t len, size_t 
 int u16550_flush(struct u16550 *uart);
 int u16550_read_ready(struct u16550 *uart, uint8_t *ready);
 int u16550_write_ready(struct u16550 *uart, uint8_t *ready);
+
+/* Whether the transmitter has sent everything: the FIFO and the byte on the line. Does not wait. */
+int u16550_is_idle(struct u16550 *uart, uint8_t *idle);
 
 /*
  * Sends a text as terminals expect it: a line feed as carriage return and line feed, backspace and delete as backspace,
@@ -275,8 +369,18 @@ int u16550_msr(struct u16550 *uart, uint8_t *value);
 int u16550_spr(struct u16550 *uart, uint8_t *value);
 int u16550_dll_dlm(struct u16550 *uart, uint8_t *dll, uint8_t *dlm);
 
+/* MSR as it is now. The changes in it stay saved for the next u16550_msr. */
+int u16550_peek_modem(struct u16550 *uart, uint8_t *msr);
+
 int u16550_enable_interrupts(struct u16550 *uart, uint8_t interrupts);
 int u16550_disable_interrupts(struct u16550 *uart, uint8_t interrupts);
+
+/*
+ * Makes the interrupt line fall, and rise again if an interrupt is enabled and pending: reads IER, writes 0, and writes what it
+ * read. A controller that detects edges sees no new edge while the line stays high. Call this at the end of a handler that
+ * leaves before ISR has shown that none is pending, and after the interrupt was masked at a controller that forgets edges.
+ */
+int u16550_retrigger_interrupts(struct u16550 *uart);
 
 /* Reads all registers. What the driver saved of LSR and MSR is in the dump, and stays saved. */
 int u16550_config_register_dump(struct u16550 *uart, struct u16550_dump *dump);
@@ -291,6 +395,13 @@ enum u16550_ier_bits {
     U16550_IER_THR_EMPTY = 0x02,
     U16550_IER_RECEIVER_LINE_STATUS = 0x04,
     U16550_IER_MODEM_STATUS = 0x08
+};
+enum u16550_mcr_bits {
+    U16550_MCR_DTR = 0x01,
+    U16550_MCR_RTS = 0x02,
+    U16550_MCR_OUT_1 = 0x04,
+    U16550_MCR_OUT_2_INT_ENABLE = 0x08, /* on a PC the interrupt line is connected only with this */
+    U16550_MCR_LOOP_BACK = 0x10
 };
 enum u16550_lsr_bits {
     U16550_LSR_DATA_READY = 0x01,
@@ -316,9 +427,13 @@ enum u16550_msr_bits {
 /* --------------------------------------------------------------- rings, for use with interrupts
  *
  * Rings keep bytes until the chip has room for them, and received bytes until they are taken. Initialise the driver with
- * DATA_READY and RECEIVER_LINE_STATUS enabled, call u16550_ring_service in the interrupt handler, and mask the interrupt
- * during all other calls. No ring call waits. All calls above work on a driver with rings; what they send and receive
- * bypasses the rings.
+ * DATA_READY and RECEIVER_LINE_STATUS enabled, and call u16550_ring_handle in the interrupt handler. No ring call waits. All
+ * calls above work on a driver with rings; what they send and receive bypasses the rings.
+ *
+ * A handler that comes into the middle of another call gets U16550_BUSY, and comes again at once if the line stays high. So turn
+ * the processor's interrupts off during each call that does not wait. During one that waits they may stay on: the handler then
+ * masks the line at the interrupt controller on U16550_BUSY, and after the call the program unmasks it and calls
+ * u16550_retrigger_interrupts. examples/console.c is such a handler.
  */
 
 #define U16550_MAX_CAPACITY 4096
@@ -326,7 +441,8 @@ enum u16550_msr_bits {
 
 /*
  * Gives a driver rings for so many bytes to be sent and so many received bytes, in this memory of size bytes. The memory is
- * the rings' until u16550_ring_end or u16550_end. Refused by an enum u16550_ring_error.
+ * the rings' until u16550_ring_end or u16550_end, or until another driver is made in the place of this one. Refused by an
+ * enum u16550_ring_error.
  */
 int u16550_ring_new(struct u16550 *uart, uint8_t *memory, size_t size, size_t tx_capacity, size_t rx_capacity);
 
@@ -351,8 +467,22 @@ int u16550_ring_take(struct u16550 *uart, uint8_t *buffer, size_t len, size_t *c
 int u16550_ring_resume_transmit(struct u16550 *uart);
 
 /*
- * Serves the interrupts that are pending, at most U16550_MAX_INTERRUPTS. *count is how many. If it is the most, more may be
- * pending: call it again if the interrupt controller detects edges.
+ * Serves interrupts until ISR shows that none is pending, but at most limit. Otherwise it makes the interrupt line fall and
+ * rise again, as u16550_ring_retrigger does. *handled says how many it served, and why it ended.
+ *
+ * Call it once in an interrupt handler, whether the controller detects levels or edges: the line was low at some time during
+ * the call, so what is pending afterwards makes a new edge. It does not wait, and ends on a chip that shows an interrupt for
+ * ever. If its end is another than U16550_HANDLE_IDLE time after time, the chip is broken: mask the interrupt at the
+ * controller, or it comes for ever.
+ */
+int u16550_ring_handle(struct u16550 *uart, size_t limit, struct u16550_handled *handled);
+
+/* The same as u16550_retrigger_interrupts. */
+int u16550_ring_retrigger(struct u16550 *uart);
+
+/*
+ * Serves the interrupts that are pending, at most U16550_MAX_INTERRUPTS, for a handler of your own. *count is how many. If it
+ * is the most, or ISR shows an interrupt without a name, the line may still be high.
  */
 int u16550_ring_service(struct u16550 *uart, size_t *count);
 

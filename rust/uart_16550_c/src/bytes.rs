@@ -1,12 +1,13 @@
 //! Sending and receiving.
 
+use crate::data::CReceived;
 use crate::memory::{Driver, Memory, bytes, slots, with};
 use crate::settings::{perform, report};
 use crate::status::{Failure, status};
 use core::ffi::{c_char, c_int};
 use core::mem;
 use uart_16550::native::embedded_io::{Read, ReadReady, Write, WriteReady};
-use uart_16550::native::{StalledError, Uart16550, Uart16550Tty};
+use uart_16550::native::{ByteReceiveError, StalledError, Uart16550, Uart16550Tty};
 
 #[unsafe(no_mangle)]
 pub unsafe extern "C" fn u16550_ready_to_receive(uart: *mut Memory) -> c_int {
@@ -58,6 +59,46 @@ pub unsafe extern "C" fn u16550_send_bytes(
     unsafe {
         report(uart, count, |driver| {
             Ok(driver.send_bytes(bytes(buffer, len)?))
+        })
+    }
+}
+
+#[unsafe(no_mangle)]
+pub unsafe extern "C" fn u16550_try_receive_with_errors(
+    uart: *mut Memory,
+    received: *mut CReceived,
+) -> c_int {
+    // SAFETY: the caller promises that pointers are null or valid.
+    unsafe {
+        report(uart, received, |driver| {
+            Ok(driver.try_receive_with_errors()?.into())
+        })
+    }
+}
+
+// Receives bytes with their errors into the slots of C, one call of the driver for each: its own call for all makes just these,
+// into slots that are laid out as Rust wants.
+fn receive_with_errors(driver: &mut Driver, slots: &mut [CReceived]) -> usize {
+    for (count, slot) in slots.iter_mut().enumerate() {
+        match driver.try_receive_with_errors() {
+            Ok(received) => *slot = received.into(),
+            Err(ByteReceiveError) => return count,
+        }
+    }
+    slots.len()
+}
+
+#[unsafe(no_mangle)]
+pub unsafe extern "C" fn u16550_receive_with_errors(
+    uart: *mut Memory,
+    received: *mut CReceived,
+    len: usize,
+    count: *mut usize,
+) -> c_int {
+    // SAFETY: the caller promises that pointers are null or valid.
+    unsafe {
+        report(uart, count, |driver| {
+            Ok(receive_with_errors(driver, slots(received, len)?))
         })
     }
 }
@@ -151,6 +192,12 @@ pub unsafe extern "C" fn u16550_write(
 pub unsafe extern "C" fn u16550_flush(uart: *mut Memory) -> c_int {
     // SAFETY: the caller promises that the pointer is null or valid.
     unsafe { perform(uart, |driver| Ok(Write::flush(driver)?)) }
+}
+
+#[unsafe(no_mangle)]
+pub unsafe extern "C" fn u16550_is_idle(uart: *mut Memory, idle: *mut u8) -> c_int {
+    // SAFETY: the caller promises that pointers are null or valid.
+    unsafe { report(uart, idle, |driver| Ok(driver.is_idle().into())) }
 }
 
 #[unsafe(no_mangle)]

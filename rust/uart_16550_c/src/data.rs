@@ -4,7 +4,8 @@ use crate::status::Failure;
 use core::mem::{offset_of, size_of};
 use core::num::NonZeroU64;
 use uart_16550::native::spec::registers::{FifoTriggerLevel, IER, LSR, MSR, Parity, WordLength};
-use uart_16550::native::{BaudRate, Config, ConfigRegisterDump, DriverState};
+use uart_16550::native::{BaudRate, Config, ConfigRegisterDump, DriverState, Received};
+use uart_16550::ring::{HandleEnd, Handled};
 
 // The largest prescaler division factor of which a divisor can be computed.
 const MAX_PRESCALER: u32 = 15;
@@ -39,7 +40,8 @@ const PARITIES: [Parity; 5] = [
     Parity::Forced0,
 ];
 
-fn flag(byte: u8) -> Result<bool, Failure> {
+/// Returns whether a flag is set, which is 0 or 1.
+pub fn flag(byte: u8) -> Result<bool, Failure> {
     match byte {
         0 => Ok(false),
         1 => Ok(true),
@@ -256,3 +258,46 @@ pub struct CLoopbackFailure {
 }
 
 const _: () = assert!(size_of::<CLoopbackFailure>() == 34);
+
+/// The header's `struct u16550_received`.
+#[repr(C)]
+#[derive(Clone, Copy)]
+pub struct CReceived {
+    byte: u8,
+    errors: u8,
+}
+
+const _: () = assert!(size_of::<CReceived>() == 2 && offset_of!(CReceived, errors) == 1);
+
+impl From<Received> for CReceived {
+    fn from(received: Received) -> Self {
+        Self {
+            byte: received.byte,
+            errors: received.errors.bits(),
+        }
+    }
+}
+
+/// The header's `struct u16550_handled`.
+#[repr(C)]
+#[derive(Clone, Copy)]
+pub struct CHandled {
+    served: usize,
+    end: u8,
+}
+
+const _: () = assert!(size_of::<CHandled>() == 2 * size_of::<usize>());
+const _: () = assert!(offset_of!(CHandled, end) == size_of::<usize>());
+
+impl From<Handled> for CHandled {
+    fn from(handled: Handled) -> Self {
+        Self {
+            served: handled.served,
+            end: match handled.end {
+                HandleEnd::Idle => 0,
+                HandleEnd::Unknown => 1,
+                HandleEnd::Limit => 2,
+            },
+        }
+    }
+}

@@ -15,6 +15,7 @@ mod registers;
 mod rings;
 mod settings;
 mod status;
+mod unwinding;
 
 unsafe extern "C" {
     /// What happens in a panic: the program that is linked with the library defines it.

@@ -2,7 +2,7 @@
 
 use crate::data::CState;
 use crate::device::{Device, Io, Nowhere, Place};
-use crate::memory::{Driver, Memory, end, given, make};
+use crate::memory::{Memory, end, given, make};
 use crate::status::{Failure, status};
 use core::ffi::c_int;
 use core::num::NonZeroUsize;
@@ -26,14 +26,13 @@ fn in_memory(base: usize, stride: u8) -> Result<Place, Failure> {
 
 // Puts a new driver into the memory.
 unsafe fn new(uart: *mut Memory, io: *const Io, place: Result<Place, Failure>) -> c_int {
-    let make_it = || {
+    let driver = || {
         // SAFETY: the caller promises that pointers are null or valid.
         let io = unsafe { given(io) }?;
-        let driver = Uart16550::new_with_backend(Device::new(io, place?)?);
-        // SAFETY: the same.
-        unsafe { make(uart, driver) }
+        Ok(Uart16550::new_with_backend(Device::new(io, place?)?))
     };
-    status(make_it())
+    // SAFETY: the same.
+    status(unsafe { make(uart, driver) })
 }
 
 #[unsafe(no_mangle)]
@@ -65,15 +64,14 @@ pub unsafe extern "C" fn u16550_from_state(
     io: *const Io,
     state: *const CState,
 ) -> c_int {
-    let make_it = || {
+    let driver = || {
         // SAFETY: the caller promises that pointers are null or valid.
         let (io, state) = unsafe { (given(io)?, given(state)?) };
         let device = Device::new(io, Place::OFFSETS)?;
-        let driver: Driver = Uart16550::from_state(device, &state.decoded()?);
-        // SAFETY: the same.
-        unsafe { make(uart, driver) }
+        Ok(Uart16550::from_state(device, &state.decoded()?))
     };
-    status(make_it())
+    // SAFETY: the same.
+    status(unsafe { make(uart, driver) })
 }
 
 #[unsafe(no_mangle)]

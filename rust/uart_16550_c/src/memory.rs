@@ -60,8 +60,9 @@ const _: () =
 // Marks a driver that was made.
 const MARK: u32 = 0x1655_0a5e;
 
+// Whether a call over the driver is not done. The second number is as unlikely in other memory as the mark.
 const FREE: u32 = 0;
-const BUSY: u32 = 1;
+const BUSY: u32 = 0x1655_0b5b;
 
 /// Returns the pointer, if it is neither null nor misaligned.
 pub fn usable<T>(at: *mut T) -> Result<*mut T, Failure> {
@@ -85,15 +86,16 @@ pub unsafe fn given<'a, T>(at: *const T) -> Result<&'a T, Failure> {
     Ok(unsafe { &*at })
 }
 
-// Returns whether an array of this length can begin here.
-fn fits(at: *const u8, len: usize) -> Result<(), Failure> {
-    if at.is_null() {
-        return Err(Failure::NullPointer);
+// Returns whether an array of this length can begin here. An array with the last address in it is none: the end of an array
+// is an address, in C as in Rust, and a slice must not wrap around.
+fn fits<T>(at: *const T, len: usize) -> Result<(), Failure> {
+    usable(at.cast_mut())?;
+    match len.checked_mul(size_of::<T>()) {
+        Some(size) if size <= isize::MAX as usize && at.addr().checked_add(size).is_some() => {
+            Ok(())
+        }
+        _ => Err(Failure::BadLength),
     }
-    if len > isize::MAX as usize || at.addr().checked_add(len).is_none() {
-        return Err(Failure::BadLength);
-    }
-    Ok(())
 }
 
 /// Returns the bytes of an array. The pointer may be null if it has none.
@@ -106,7 +108,7 @@ pub unsafe fn bytes<'a>(at: *const u8, len: usize) -> Result<&'a [u8], Failure> 
         return Ok(&[]);
     }
     fits(at, len)?;
-    // SAFETY: the pointer is not null, the length is one of an array, and the caller promises the rest.
+    // SAFETY: the pointer is usable, the length is one of an array, and the caller promises the rest.
     Ok(unsafe { slice::from_raw_parts(at, len) })
 }
 
@@ -115,29 +117,58 @@ pub unsafe fn bytes<'a>(at: *const u8, len: usize) -> Result<&'a [u8], Failure> 
 /// # Safety
 ///
 /// The array is there, and nobody else uses it meanwhile.
-pub unsafe fn slots<'a>(at: *mut u8, len: usize) -> Result<&'a mut [u8], Failure> {
+pub unsafe fn slots<'a, T>(at: *mut T, len: usize) -> Result<&'a mut [T], Failure> {
     if len == 0 {
         return Ok(&mut []);
     }
     fits(at, len)?;
-    // SAFETY: the pointer is not null, the length is one of an array, and the caller promises the rest.
+    // SAFETY: the pointer is usable, the length is one of an array, and the caller promises the rest.
     Ok(unsafe { slice::from_raw_parts_mut(at, len) })
 }
 
-/// Puts a new driver into the memory, whatever is in it.
+// Returns whether the memory has both words of a driver with a call that is not done.
+unsafe fn is_in_call(made: *const Made) -> bool {
+    // SAFETY: the caller promises that there is memory. A read by volatile takes what is there, whoever wrote it.
+    let (mark, is_busy) = unsafe {
+        (
+            (&raw const (*made).mark).read_volatile(),
+            (&raw const (*made).is_busy).cast::<u32>().read_volatile(),
+        )
+    };
+    mark == MARK && is_busy == BUSY
+}
+
+/// Puts a new driver into the memory, whatever is in it, unless a call over a driver there is not done.
 ///
 /// # Safety
 ///
-/// If the pointer is usable, there is memory behind it, which nobody else uses.
-pub unsafe fn make(at: *mut Memory, driver: Driver) -> Result<(), Failure> {
+/// If the pointer is usable, there is memory behind it, which nobody else uses but a call that is not done.
+pub unsafe fn make(
+    at: *mut Memory,
+    driver: impl FnOnce() -> Result<Driver, Failure>,
+) -> Result<(), Failure> {
     let made = usable(at)?.cast::<Made>();
-    let value = Made {
-        mark: MARK,
-        is_busy: AtomicU32::new(FREE),
-        held: Held::Plain(driver),
-    };
-    // SAFETY: the memory is large enough and aligned.
-    unsafe { made.write(value) };
+    // A call that is not done borrows what would be replaced here. It has set both words, and only this library writes
+    // them meanwhile: so no such call is overlooked, and that is what safety needs. The words prove nothing the other way
+    // round, since bytes that were left in the memory may look like them. Then the caller gets a refusal and no harm is
+    // done; and the header keeps this away, too, by asking for zeros in memory whose bytes are unknown.
+    // SAFETY: there is memory.
+    if unsafe { is_in_call(made) } {
+        return Err(Failure::Busy);
+    }
+    let driver = driver()?;
+    // An interrupt handler that comes now finds a call that is not done, and never a part of the old driver with a part of the
+    // new one. The sign is set before the mark: so a mark without the sign is that of a whole driver.
+    // SAFETY: the memory is large enough and aligned, and no call that is not done borrows it.
+    unsafe {
+        let is_busy = (&raw mut (*made).is_busy).cast::<u32>();
+        is_busy.write_volatile(BUSY);
+        (&raw mut (*made).mark).write_volatile(MARK);
+        compiler_fence(Ordering::SeqCst);
+        (&raw mut (*made).held).write(Held::Plain(driver));
+        compiler_fence(Ordering::SeqCst);
+        is_busy.write_volatile(FREE);
+    }
     Ok(())
 }
 

@@ -2,7 +2,7 @@
 
 use crate::data::{CConfig, CDump};
 use crate::memory::{Driver, Memory, given, usable};
-use crate::settings::{perform, report};
+use crate::settings::{perform, report, report_latch};
 use crate::status::{Failure, status};
 use core::ffi::c_int;
 use uart_16550::native::spec::registers::IER;
@@ -50,18 +50,15 @@ pub unsafe extern "C" fn u16550_spr(uart: *mut Memory, value: *mut u8) -> c_int 
 }
 
 #[unsafe(no_mangle)]
+pub unsafe extern "C" fn u16550_peek_modem(uart: *mut Memory, msr: *mut u8) -> c_int {
+    // SAFETY: the caller promises that pointers are null or valid.
+    unsafe { report(uart, msr, |driver| Ok(driver.peek_modem().bits())) }
+}
+
+#[unsafe(no_mangle)]
 pub unsafe extern "C" fn u16550_dll_dlm(uart: *mut Memory, dll: *mut u8, dlm: *mut u8) -> c_int {
-    if let Err(failure) = usable(dlm) {
-        return failure as c_int;
-    }
-    let read = |driver: &mut Driver| {
-        let (low, high) = driver.dll_dlm();
-        // SAFETY: the caller promises that the pointer is null or valid, and it is not null.
-        unsafe { dlm.write(high) };
-        Ok(low)
-    };
-    // SAFETY: the same.
-    unsafe { report(uart, dll, read) }
+    // SAFETY: the caller promises that pointers are null or valid.
+    unsafe { report_latch(uart, dll, dlm, |driver| Ok(driver.dll_dlm())) }
 }
 
 #[unsafe(no_mangle)]
@@ -84,6 +81,16 @@ pub unsafe extern "C" fn u16550_disable_interrupts(uart: *mut Memory, interrupts
     };
     // SAFETY: the caller promises that the pointer is null or valid.
     unsafe { perform(uart, disable) }
+}
+
+#[unsafe(no_mangle)]
+pub unsafe extern "C" fn u16550_retrigger_interrupts(uart: *mut Memory) -> c_int {
+    let retrigger = |driver: &mut Driver| {
+        driver.retrigger_interrupts();
+        Ok(())
+    };
+    // SAFETY: the caller promises that the pointer is null or valid.
+    unsafe { perform(uart, retrigger) }
 }
 
 #[unsafe(no_mangle)]

@@ -1,5 +1,6 @@
 //! The rings, for use with interrupts.
 
+use crate::data::CHandled;
 use crate::device::Device;
 use crate::memory::{Held, Memory, bytes, slots, usable, with};
 use crate::status::{Failure, status};
@@ -26,15 +27,20 @@ unsafe fn report<T>(
 }
 
 // Adds rings in this memory to a driver that has none. If they are refused, the driver is as it was.
-fn add(held: &mut Held, memory: &'static mut [u8], tx: usize, rx: usize) -> Result<(), Failure> {
-    let driver = match mem::replace(held, Held::Nothing) {
-        Held::Plain(driver) => driver,
-        other => {
-            *held = other;
-            return Err(Failure::HasRings);
-        }
+fn add(
+    held: &mut Held,
+    memory: impl FnOnce() -> Result<&'static mut [u8], Failure>,
+    tx: usize,
+    rx: usize,
+) -> Result<(), Failure> {
+    // The memory may be that of rings that are there, which borrow it: so this look comes before the slice.
+    if let Held::WithRings(_) = held {
+        return Err(Failure::HasRings);
+    }
+    let memory = RingMemory::new(memory()?);
+    let Held::Plain(driver) = mem::replace(held, Held::Nothing) else {
+        return Err(Failure::NotMade);
     };
-    let memory = RingMemory::new(memory);
     match Uart16550Ring::new(memory.global(), driver, tx, rx) {
         Ok(ring) => {
             *held = Held::WithRings(ring);
@@ -55,16 +61,12 @@ pub unsafe extern "C" fn u16550_ring_new(
     tx_capacity: usize,
     rx_capacity: usize,
 ) -> c_int {
-    // SAFETY: the caller promises that pointers are null or valid, and that the memory is the rings' until they end.
     let new = |held: &mut Held| {
-        add(
-            held,
-            unsafe { slots(memory, size) }?,
-            tx_capacity,
-            rx_capacity,
-        )
+        // SAFETY: the caller promises that the memory is the rings' until they end.
+        let memory = || unsafe { slots(memory, size) };
+        add(held, memory, tx_capacity, rx_capacity)
     };
-    // SAFETY: the same.
+    // SAFETY: the caller promises that pointers are null or valid.
     status(unsafe { with(uart, new) })
 }
 
@@ -132,6 +134,26 @@ pub unsafe extern "C" fn u16550_ring_resume_transmit(uart: *mut Memory) -> c_int
     };
     // SAFETY: the caller promises that the pointer is null or valid.
     status(unsafe { with(uart, resume) })
+}
+
+#[unsafe(no_mangle)]
+pub unsafe extern "C" fn u16550_ring_handle(
+    uart: *mut Memory,
+    limit: usize,
+    handled: *mut CHandled,
+) -> c_int {
+    // SAFETY: the caller promises that pointers are null or valid.
+    unsafe { report(uart, handled, |ring| Ok(ring.handle(limit).into())) }
+}
+
+#[unsafe(no_mangle)]
+pub unsafe extern "C" fn u16550_ring_retrigger(uart: *mut Memory) -> c_int {
+    let retrigger = |held: &mut Held| {
+        held.ring()?.retrigger();
+        Ok(())
+    };
+    // SAFETY: the caller promises that the pointer is null or valid.
+    status(unsafe { with(uart, retrigger) })
 }
 
 #[unsafe(no_mangle)]

@@ -1,10 +1,11 @@
 //! What the driver keeps, its initialisation, and its tests.
 
-use crate::data::{CConfig, CLoopbackFailure, CState, spin_limit};
+use crate::data::{CConfig, CLoopbackFailure, CState, flag, spin_limit};
 use crate::device::Io;
 use crate::memory::{Driver, Memory, given, usable, with};
 use crate::status::{Failure, status};
 use core::ffi::c_int;
+use uart_16550::native::spec::registers::MCR;
 use uart_16550::native::{Config, LoopbackError};
 
 /// Makes a call over a driver.
@@ -35,6 +36,31 @@ pub unsafe fn report<T>(
         let value = unsafe { with(uart, |held| call(held.driver()?)) }?;
         // SAFETY: the same.
         unsafe { to.write(value) };
+        Ok(())
+    });
+    status(reported)
+}
+
+/// Makes a call over a driver that returns the divisor latch, and writes both bytes.
+///
+/// # Safety
+///
+/// The pointers are null or valid.
+pub unsafe fn report_latch(
+    uart: *mut Memory,
+    dll: *mut u8,
+    dlm: *mut u8,
+    call: impl FnOnce(&mut Driver) -> Result<(u8, u8), Failure>,
+) -> c_int {
+    let reported = usable(dll).and_then(|dll| {
+        let dlm = usable(dlm)?;
+        // SAFETY: the caller promises it.
+        let (low, high) = unsafe { with(uart, |held| call(held.driver()?)) }?;
+        // SAFETY: the same.
+        unsafe {
+            dll.write(low);
+            dlm.write(high);
+        }
         Ok(())
     });
     status(reported)
@@ -113,6 +139,81 @@ pub unsafe extern "C" fn u16550_init(uart: *mut Memory, config: *const CConfig) 
     };
     // SAFETY: the same.
     unsafe { perform(uart, init) }
+}
+
+#[unsafe(no_mangle)]
+pub unsafe extern "C" fn u16550_set_frame(uart: *mut Memory, config: *const CConfig) -> c_int {
+    let set = |driver: &mut Driver| {
+        // SAFETY: the caller promises that the pointer is null or valid.
+        let config = unsafe { given(config) }?.computable()?;
+        Ok(driver.set_frame(&config)?)
+    };
+    // SAFETY: the same.
+    unsafe { perform(uart, set) }
+}
+
+#[unsafe(no_mangle)]
+pub unsafe extern "C" fn u16550_nearest(
+    config: *const CConfig,
+    per_mille: u32,
+    nearest: *mut CConfig,
+) -> c_int {
+    let compute = || -> Result<(), Failure> {
+        let to = usable(nearest)?;
+        // SAFETY: the caller promises that pointers are null or valid.
+        let config = unsafe { given(config) }?.computable()?;
+        let found = CConfig::from(&config.nearest(per_mille)?);
+        // SAFETY: the same. Nothing borrows the configuration any more, which may be the same one.
+        unsafe { to.write(found) };
+        Ok(())
+    };
+    status(compute())
+}
+
+#[unsafe(no_mangle)]
+pub unsafe extern "C" fn u16550_attach(uart: *mut Memory, dll: *mut u8, dlm: *mut u8) -> c_int {
+    // SAFETY: the caller promises that pointers are null or valid.
+    unsafe { report_latch(uart, dll, dlm, |driver| Ok(driver.attach()?)) }
+}
+
+#[unsafe(no_mangle)]
+pub unsafe extern "C" fn u16550_set_modem_control(uart: *mut Memory, outputs: u8) -> c_int {
+    let set = |driver: &mut Driver| {
+        driver.set_modem_control(MCR::from_bits_retain(outputs));
+        Ok(())
+    };
+    // SAFETY: the caller promises that the pointer is null or valid.
+    unsafe { perform(uart, set) }
+}
+
+#[unsafe(no_mangle)]
+pub unsafe extern "C" fn u16550_set_rts(uart: *mut Memory, on: u8) -> c_int {
+    let set = |driver: &mut Driver| {
+        driver.set_rts(flag(on)?);
+        Ok(())
+    };
+    // SAFETY: the caller promises that the pointer is null or valid.
+    unsafe { perform(uart, set) }
+}
+
+#[unsafe(no_mangle)]
+pub unsafe extern "C" fn u16550_set_dtr(uart: *mut Memory, on: u8) -> c_int {
+    let set = |driver: &mut Driver| {
+        driver.set_dtr(flag(on)?);
+        Ok(())
+    };
+    // SAFETY: the caller promises that the pointer is null or valid.
+    unsafe { perform(uart, set) }
+}
+
+#[unsafe(no_mangle)]
+pub unsafe extern "C" fn u16550_set_break(uart: *mut Memory, on: u8) -> c_int {
+    let set = |driver: &mut Driver| {
+        driver.set_break(flag(on)?);
+        Ok(())
+    };
+    // SAFETY: the caller promises that the pointer is null or valid.
+    unsafe { perform(uart, set) }
 }
 
 impl From<&LoopbackError> for CLoopbackFailure {

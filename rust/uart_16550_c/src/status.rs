@@ -2,8 +2,9 @@
 
 use core::ffi::{CStr, c_char, c_int};
 use uart_16550::native::{
-    ByteReceiveError, ByteSendError, InitError, InvalidAddressError, InvalidDivisorError,
-    LoopbackError, NonIntegerBaudRateError, RemoteReadyToReceiveError, StalledError,
+    AttachError, ByteReceiveError, ByteSendError, InitError, InvalidAddressError,
+    InvalidDivisorError, LoopbackError, NearestDivisorError, NonIntegerBaudRateError,
+    RemoteReadyToReceiveError, StalledError,
 };
 use uart_16550::ring::RingError;
 
@@ -43,10 +44,16 @@ pub enum Failure {
     NonIntegerBaudRate = 80,
     RingBadCapacity = 90,
     RingOutOfMemory = 91,
+    FrameNonIntegerDivisor = 100,
+    FrameDivisorOutOfRange = 101,
+    NearestTooFar = 110,
+    NearestOutOfRange = 111,
+    AttachDivisorLatchOpen = 120,
+    AttachLoopback = 121,
 }
 
 impl Failure {
-    const ALL: [Self; 32] = [
+    const ALL: [Self; 38] = [
         Self::NullPointer,
         Self::Misaligned,
         Self::NotMade,
@@ -79,6 +86,12 @@ impl Failure {
         Self::NonIntegerBaudRate,
         Self::RingBadCapacity,
         Self::RingOutOfMemory,
+        Self::FrameNonIntegerDivisor,
+        Self::FrameDivisorOutOfRange,
+        Self::NearestTooFar,
+        Self::NearestOutOfRange,
+        Self::AttachDivisorLatchOpen,
+        Self::AttachLoopback,
     ];
 
     const fn text(self) -> &'static CStr {
@@ -115,6 +128,12 @@ impl Failure {
             Self::NonIntegerBaudRate => c"the divisor gives no whole baud rate",
             Self::RingBadCapacity => c"a ring has room for 1 to 4096 bytes",
             Self::RingOutOfMemory => c"the memory is too small for the rings",
+            Self::FrameNonIntegerDivisor => c"frame: no whole divisor gives the baud rate",
+            Self::FrameDivisorOutOfRange => c"frame: the divisor for the baud rate does not fit",
+            Self::NearestTooFar => c"the nearest divisor is not near enough",
+            Self::NearestOutOfRange => c"the nearest divisor does not fit",
+            Self::AttachDivisorLatchOpen => c"attach: the divisor latch was left open",
+            Self::AttachLoopback => c"attach: the chip was left in loopback",
         }
     }
 }
@@ -191,6 +210,33 @@ impl From<StalledError> for Failure {
 impl From<NonIntegerBaudRateError> for Failure {
     fn from(_: NonIntegerBaudRateError) -> Self {
         Self::NonIntegerBaudRate
+    }
+}
+
+impl From<InvalidDivisorError> for Failure {
+    fn from(error: InvalidDivisorError) -> Self {
+        match error {
+            InvalidDivisorError::NonInteger(_) => Self::FrameNonIntegerDivisor,
+            InvalidDivisorError::OutOfRange { .. } => Self::FrameDivisorOutOfRange,
+        }
+    }
+}
+
+impl From<NearestDivisorError> for Failure {
+    fn from(error: NearestDivisorError) -> Self {
+        match error {
+            NearestDivisorError::TooFar { .. } => Self::NearestTooFar,
+            NearestDivisorError::OutOfRange { .. } => Self::NearestOutOfRange,
+        }
+    }
+}
+
+impl From<AttachError> for Failure {
+    fn from(error: AttachError) -> Self {
+        match error {
+            AttachError::DivisorLatchOpen => Self::AttachDivisorLatchOpen,
+            AttachError::Loopback => Self::AttachLoopback,
+        }
     }
 }
 

@@ -34,12 +34,14 @@ void u16550_panic(void)
 static struct device d;
 static struct u16550 uart;
 static struct u16550_config config;
+static unsigned accesses; /* that were made before a misuse */
 
 /* A new device, and a driver of it in its default state. */
 static void anew(void)
 {
     struct u16550_io io;
     d = device_new();
+    accesses = 0;
     io = device_io(&d);
     memset(&uart, 0xa5, sizeof uart);
     OK(u16550_new(&uart, &io));
@@ -58,7 +60,7 @@ static void ready(void)
 static void misuse(int got, int wanted, const char *what, int line)
 {
     compare(__FILE__, line, what, got, wanted);
-    compare(__FILE__, line, "accesses", d.accesses, 0);
+    compare(__FILE__, line, "accesses", d.accesses, accesses);
 }
 
 #define MISUSE(expression, wanted) misuse(expression, wanted, #expression, __LINE__)
@@ -88,6 +90,10 @@ static void sizes(void)
     IS(offsetof(struct u16550_dump, dlm), 8);
     IS(sizeof(struct u16550_loopback_failure), 34);
     IS(offsetof(struct u16550_loopback_failure, actual_msg), 18);
+    IS(sizeof(struct u16550_received), 2);
+    IS(offsetof(struct u16550_received, errors), 1);
+    IS(sizeof(struct u16550_handled), 2 * sizeof(size_t));
+    IS(offsetof(struct u16550_handled, end), sizeof(size_t));
     IS(sizeof(U16550_OK), sizeof(int));
     IS(sizeof(U16550_NULL_POINTER), sizeof(int));
     IS(sizeof(U16550_STALLED), sizeof(int));
@@ -333,6 +339,202 @@ static void remote(void)
     IS(u16550_try_send_byte(&uart, 'x'), U16550_SEND_NO_CAPACITY);
 }
 
+/* A baud rate that no whole divisor gives. */
+static void nearest(void)
+{
+    struct u16550_config found;
+    anew();
+    config.frequency = 24000000; /* 9600 baud needs a divisor of 156.25 */
+    IS(u16550_init(&uart, &config), U16550_INIT_NON_INTEGER_DIVISOR);
+    found = config;
+    IS(u16550_nearest(&config, 1, &found), U16550_NEAREST_TOO_FAR);
+    IS(found.frequency, 24000000);
+    OK(u16550_nearest(&config, 2, &found));
+    IS(found.frequency, 23961600);
+    IS(found.baud_rate, 9600);
+    IS(found.parity, config.parity);
+    OK(u16550_init(&uart, &found));
+    IS(d.dll, 156);
+    IS(d.dlm, 0);
+    OK(u16550_nearest(&config, 2, &config));
+    IS(config.frequency, 23961600);
+    config.frequency = UINT32_MAX;
+    config.baud_rate = 4000; /* 67108.86 */
+    IS(u16550_nearest(&config, 1000, &config), U16550_NEAREST_OUT_OF_RANGE);
+    config.has_prescaler = 1;
+    config.prescaler_division_factor = 3;
+    OK(u16550_nearest(&config, 1000, &config));
+    IS(config.frequency, 4u * 16 * 4000 * 16777);
+    anew();
+    config.frequency = 0;
+    MISUSE(u16550_nearest(&config, 20, &found), U16550_NOT_COMPUTABLE);
+    config.data_bits = 4;
+    MISUSE(u16550_nearest(&config, 20, &found), U16550_BAD_CODE);
+    MISUSE(u16550_nearest(NULL, 20, &found), U16550_NULL_POINTER);
+    MISUSE(u16550_nearest(&config, 20, NULL), U16550_NULL_POINTER);
+}
+
+/* A new frame while the port runs. */
+static void frame(void)
+{
+    struct u16550_config kept_config, changed;
+    unsigned before;
+    ready();
+    d.registers[IER] = U16550_IER_DATA_READY;
+    d.registers[MCR] = U16550_MCR_DTR;
+    before = d.accesses;
+    changed = config;
+    changed.baud_rate = 300;
+    changed.data_bits = 7;
+    changed.parity = U16550_PARITY_EVEN;
+    changed.extra_stop_bits = 1;
+    changed.interrupts = 0x0f;
+    changed.fifo_trigger_level = 0;
+    changed.check_cts_before_sending = 1;
+    OK(u16550_set_frame(&uart, &changed));
+    IS(d.accesses, before + 4);
+    IS(d.registers[LCR], 0x1e);
+    IS(d.dll, 0x80);
+    IS(d.dlm, 0x01);
+    IS(d.registers[IER], U16550_IER_DATA_READY);
+    IS(d.registers[MCR], U16550_MCR_DTR);
+    IS(d.fifo_on, 1);
+    OK(u16550_get_config(&uart, &kept_config));
+    IS(kept_config.baud_rate, 300);
+    IS(kept_config.data_bits, 7);
+    IS(kept_config.interrupts, config.interrupts);
+    IS(kept_config.fifo_trigger_level, 14);
+    IS(kept_config.check_cts_before_sending, 0);
+    anew();
+    config.baud_rate = 7777;
+    MISUSE(u16550_set_frame(&uart, &config), U16550_FRAME_NON_INTEGER_DIVISOR);
+    config.frequency = 1600000;
+    config.baud_rate = 1;
+    MISUSE(u16550_set_frame(&uart, &config), U16550_FRAME_DIVISOR_OUT_OF_RANGE);
+    config.baud_rate = 0;
+    MISUSE(u16550_set_frame(&uart, &config), U16550_NOT_COMPUTABLE);
+    config.fifo_trigger_level = 2;
+    MISUSE(u16550_set_frame(&uart, &config), U16550_BAD_CODE);
+    MISUSE(u16550_set_frame(&uart, NULL), U16550_NULL_POINTER);
+}
+
+/* A port that firmware has set up. */
+static void attach(void)
+{
+    uint8_t dll = 1, dlm = 1, enabled;
+    anew();
+    d.dll = 24;
+    d.registers[LCR] = 0x07;
+    d.registers[MCR] = U16550_MCR_RTS;
+    OK(u16550_attach(&uart, &dll, &dlm));
+    IS(dll, 24);
+    IS(dlm, 0);
+    IS(d.registers[LCR], 0x07);
+    IS(d.registers[MCR], U16550_MCR_RTS);
+    OK(u16550_fifo_enabled(&uart, &enabled));
+    IS(enabled, 0);
+    d.fifo_on = 1;
+    OK(u16550_attach(&uart, &dll, &dlm));
+    OK(u16550_fifo_enabled(&uart, &enabled));
+    IS(enabled, 1);
+    d.fifo_on = 0;
+    dll = dlm = 7;
+    d.registers[MCR] = U16550_MCR_LOOP_BACK;
+    IS(u16550_attach(&uart, &dll, &dlm), U16550_ATTACH_LOOPBACK);
+    d.registers[LCR] = DLAB;
+    IS(u16550_attach(&uart, &dll, &dlm), U16550_ATTACH_DIVISOR_LATCH_OPEN);
+    IS(dll, 7);
+    IS(dlm, 7);
+    OK(u16550_fifo_enabled(&uart, &enabled));
+    IS(enabled, 1);
+    anew();
+    MISUSE(u16550_attach(&uart, NULL, &dlm), U16550_NULL_POINTER);
+    MISUSE(u16550_attach(&uart, &dll, NULL), U16550_NULL_POINTER);
+}
+
+/* The outputs to the modem, a break, the modem lines now, and whether all is sent. */
+static void outputs(void)
+{
+    uint8_t value = 9;
+    anew();
+    MISUSE(u16550_set_rts(&uart, 2), U16550_BAD_CODE);
+    MISUSE(u16550_set_dtr(&uart, 0xff), U16550_BAD_CODE);
+    MISUSE(u16550_set_break(&uart, 2), U16550_BAD_CODE);
+    MISUSE(u16550_peek_modem(&uart, NULL), U16550_NULL_POINTER);
+    MISUSE(u16550_is_idle(&uart, NULL), U16550_NULL_POINTER);
+    ready();
+    IS(d.registers[MCR], U16550_MCR_DTR | U16550_MCR_RTS | U16550_MCR_OUT_2_INT_ENABLE);
+    OK(u16550_set_rts(&uart, 0));
+    IS(d.registers[MCR], U16550_MCR_DTR | U16550_MCR_OUT_2_INT_ENABLE);
+    OK(u16550_set_dtr(&uart, 0));
+    IS(d.registers[MCR], U16550_MCR_OUT_2_INT_ENABLE);
+    OK(u16550_set_rts(&uart, 1));
+    OK(u16550_set_dtr(&uart, 1));
+    IS(d.registers[MCR], 0x0b);
+    OK(u16550_set_modem_control(&uart, U16550_MCR_OUT_1 | U16550_MCR_LOOP_BACK));
+    IS(d.registers[MCR], U16550_MCR_OUT_1);
+    OK(u16550_set_break(&uart, 1));
+    IS(d.registers[LCR], 0x43);
+    OK(u16550_set_break(&uart, 0));
+    IS(d.registers[LCR], 0x03);
+    d.registers[MSR] |= U16550_MSR_DELTA_CTS;
+    OK(u16550_peek_modem(&uart, &value));
+    IS(value, U16550_MSR_CTS | U16550_MSR_DSR | U16550_MSR_DELTA_CTS);
+    OK(u16550_peek_modem(&uart, &value));
+    IS(value, U16550_MSR_CTS | U16550_MSR_DSR);
+    OK(u16550_msr(&uart, &value));
+    IS(value, U16550_MSR_CTS | U16550_MSR_DSR | U16550_MSR_DELTA_CTS);
+    d.errors = U16550_LSR_PARITY_ERROR;
+    OK(u16550_is_idle(&uart, &value));
+    IS(value, 1);
+    d.is_stuck = 1;
+    OK(u16550_is_idle(&uart, &value));
+    IS(value, 0);
+    d.is_stuck = 0;
+    OK(u16550_lsr(&uart, &value));
+    IS(value, 0x60 | U16550_LSR_PARITY_ERROR);
+}
+
+/* Received bytes with their errors. */
+static void with_errors(void)
+{
+    struct u16550_received slots[4], one = { 1, 1 };
+    size_t count = 99;
+    uint8_t value;
+    memset(slots, '-', sizeof slots);
+    ready();
+    IS(u16550_try_receive_with_errors(&uart, &one), U16550_RECEIVE_NO_DATA);
+    IS(one.byte, 1);
+    device_arrive(&d, "abcdef");
+    d.errors = U16550_LSR_FRAMING_ERROR | U16550_LSR_OVERRUN_ERROR;
+    OK(u16550_try_receive_with_errors(&uart, &one));
+    IS(one.byte, 'a');
+    IS(one.errors, U16550_LSR_FRAMING_ERROR | U16550_LSR_OVERRUN_ERROR);
+    d.errors = U16550_LSR_PARITY_ERROR | U16550_LSR_FIFO_DATA_ERROR;
+    OK(u16550_receive_with_errors(&uart, slots, 2, &count));
+    IS(count, 2);
+    IS(slots[0].byte, 'b');
+    IS(slots[0].errors, U16550_LSR_PARITY_ERROR);
+    IS(slots[1].byte, 'c');
+    IS(slots[1].errors, 0);
+    IS(slots[2].byte, '-');
+    OK(u16550_receive_with_errors(&uart, slots, 4, &count));
+    IS(count, 3);
+    IS(slots[2].byte, 'f');
+    IS(slots[3].byte, '-');
+    OK(u16550_lsr(&uart, &value));
+    IS(value & 0x1e, U16550_LSR_FRAMING_ERROR | U16550_LSR_OVERRUN_ERROR | U16550_LSR_PARITY_ERROR);
+    OK(u16550_receive_with_errors(&uart, slots, 4, &count));
+    IS(count, 0);
+    anew();
+    OK(u16550_receive_with_errors(&uart, NULL, 0, &count));
+    MISUSE(u16550_receive_with_errors(&uart, NULL, 1, &count), U16550_NULL_POINTER);
+    MISUSE(u16550_receive_with_errors(&uart, slots, 1, NULL), U16550_NULL_POINTER);
+    MISUSE(u16550_receive_with_errors(&uart, slots, SIZE_MAX / 4 + 1, &count), U16550_BAD_LENGTH);
+    MISUSE(u16550_receive_with_errors(&uart, slots, SIZE_MAX, &count), U16550_BAD_LENGTH);
+    MISUSE(u16550_try_receive_with_errors(&uart, NULL), U16550_NULL_POINTER);
+}
+
 static void bytes(void)
 {
     uint8_t byte = 0, slots[24], ready_now = 7;
@@ -457,6 +659,10 @@ static void registers(void)
     OK(u16550_disable_interrupts(&uart, U16550_IER_MODEM_STATUS));
     OK(u16550_ier(&uart, &value));
     IS(value, U16550_IER_DATA_READY);
+    d.falls = 0;
+    OK(u16550_retrigger_interrupts(&uart));
+    IS(d.registers[IER], U16550_IER_DATA_READY);
+    IS(d.falls, 1);
     OK(u16550_isr(&uart, &value));
     IS(value, FIFOS_ENABLED | NO_INTERRUPT);
     OK(u16550_lcr(&uart, &value));
@@ -573,6 +779,8 @@ static void rings(void)
     OK(u16550_write_text(&uart, "t\n", 2, NULL));
     IS(d.sent_len, 43);
     IS(u16550_ring_new(&uart, memory, sizeof memory, 40, 24), U16550_HAS_RINGS);
+    IS(u16550_ring_new(&uart, NULL, 1, 40, 24), U16550_HAS_RINGS);
+    IS(u16550_ring_new(&uart, memory, SIZE_MAX, 40, 24), U16550_HAS_RINGS);
     OK(u16550_ring_resume_transmit(&uart));
     d.is_stuck = 1;
     OK(u16550_ring_queue(&uart, (const uint8_t *)"vw", 2, &count));
@@ -586,8 +794,50 @@ static void rings(void)
     BYTES(d.sent + 40, "t\r\nvwu");
 }
 
+/* The ends of a handler's call, and that the interrupt line was low before each. */
+static void handling(void)
+{
+    struct u16550_handled handled = { 9, 9 };
+    size_t count;
+    rings_ready();
+    d.falls = 0;
+    OK(u16550_ring_handle(&uart, 4, &handled));
+    IS(handled.served, 0);
+    IS(handled.end, U16550_HANDLE_IDLE);
+    IS(d.falls, 0);
+    device_arrive(&d, "abc");
+    OK(u16550_ring_handle(&uart, 4, &handled));
+    IS(handled.served, 1);
+    IS(handled.end, U16550_HANDLE_IDLE);
+    IS(d.falls, 0);
+    device_arrive(&d, "0123456789abcdef01");
+    OK(u16550_ring_handle(&uart, 1, &handled));
+    IS(handled.served, 1);
+    IS(handled.end, U16550_HANDLE_LIMIT);
+    IS(d.falls, 1);
+    OK(u16550_ring_handle(&uart, 0, &handled));
+    IS(handled.served, 0);
+    IS(handled.end, U16550_HANDLE_LIMIT);
+    IS(d.falls, 2);
+    OK(u16550_ring_receive_len(&uart, &count));
+    IS(count, 19);
+    d.shows = 0x08; /* no interrupt has this code */
+    OK(u16550_ring_handle(&uart, SIZE_MAX, &handled));
+    IS(handled.served, 0);
+    IS(handled.end, U16550_HANDLE_UNKNOWN);
+    IS(d.falls, 3);
+    d.shows = 0;
+    OK(u16550_ring_retrigger(&uart));
+    IS(d.falls, 4);
+    IS(d.registers[IER], config.interrupts);
+    OK(u16550_ring_handle(&uart, SIZE_MAX, &handled));
+    IS(handled.served, 1);
+    IS(handled.end, U16550_HANDLE_IDLE);
+}
+
 static void ring_errors(void)
 {
+    struct u16550_handled handled;
     size_t count;
     uint8_t value;
     anew();
@@ -606,6 +856,8 @@ static void ring_errors(void)
     MISUSE(u16550_ring_queue(&uart, &value, 1, &count), U16550_NO_RINGS);
     MISUSE(u16550_ring_take(&uart, &value, 1, &count), U16550_NO_RINGS);
     MISUSE(u16550_ring_service(&uart, &count), U16550_NO_RINGS);
+    MISUSE(u16550_ring_handle(&uart, 1, &handled), U16550_NO_RINGS);
+    MISUSE(u16550_ring_retrigger(&uart), U16550_NO_RINGS);
     MISUSE(u16550_ring_resume_transmit(&uart), U16550_NO_RINGS);
     MISUSE(u16550_ring_take_line(&uart, &value), U16550_NO_RINGS);
     MISUSE(u16550_ring_take_modem(&uart, &value), U16550_NO_RINGS);
@@ -617,6 +869,8 @@ static void refused(struct u16550 *u, int wanted)
     struct u16550_io io = device_io(&d);
     struct u16550_state state;
     struct u16550_dump dump;
+    struct u16550_received received;
+    struct u16550_handled handled;
     uint8_t byte;
     uint64_t limit;
     size_t count;
@@ -632,6 +886,17 @@ static void refused(struct u16550 *u, int wanted)
     MISUSE(u16550_init(u, &config), wanted);
     MISUSE(u16550_test_loopback(u, NULL), wanted);
     MISUSE(u16550_check_connected(u), wanted);
+    MISUSE(u16550_set_frame(u, &config), wanted);
+    MISUSE(u16550_attach(u, &byte, &byte), wanted);
+    MISUSE(u16550_set_modem_control(u, 0), wanted);
+    MISUSE(u16550_set_rts(u, 1), wanted);
+    MISUSE(u16550_set_dtr(u, 1), wanted);
+    MISUSE(u16550_set_break(u, 1), wanted);
+    MISUSE(u16550_try_receive_with_errors(u, &received), wanted);
+    MISUSE(u16550_receive_with_errors(u, &received, 1, &count), wanted);
+    MISUSE(u16550_is_idle(u, &byte), wanted);
+    MISUSE(u16550_peek_modem(u, &byte), wanted);
+    MISUSE(u16550_retrigger_interrupts(u), wanted);
     MISUSE(u16550_ready_to_receive(u), wanted);
     MISUSE(u16550_ready_to_send(u), wanted);
     MISUSE(u16550_try_receive_byte(u, &byte), wanted);
@@ -665,6 +930,8 @@ static void refused(struct u16550 *u, int wanted)
     MISUSE(u16550_ring_queue(u, &byte, 1, &count), wanted);
     MISUSE(u16550_ring_take(u, &byte, 1, &count), wanted);
     MISUSE(u16550_ring_service(u, &count), wanted);
+    MISUSE(u16550_ring_handle(u, 1, &handled), wanted);
+    MISUSE(u16550_ring_retrigger(u), wanted);
     MISUSE(u16550_ring_resume_transmit(u), wanted);
     MISUSE(u16550_ring_take_line(u, &byte), wanted);
     MISUSE(u16550_ring_take_modem(u, &byte), wanted);
@@ -702,6 +969,8 @@ static void nulls(void)
     uint32_t rate;
     size_t count;
     const int null = U16550_NULL_POINTER;
+    volatile uintptr_t top = UINTPTR_MAX;
+    const uintptr_t last = top;
     anew();
     io = device_io(&d);
     MISUSE(u16550_new(&uart, NULL), null);
@@ -749,6 +1018,10 @@ static void nulls(void)
     MISUSE(u16550_dump_baud_rate(&dump, &config, NULL), null);
     MISUSE(u16550_receive_bytes(&uart, &byte, SIZE_MAX / 2 + 1, &count), U16550_BAD_LENGTH);
     MISUSE(u16550_send_bytes(&uart, &byte, SIZE_MAX, &count), U16550_BAD_LENGTH);
+    /* An array with the last address would end where no pointer can point to. */
+    MISUSE(u16550_send_bytes(&uart, (const uint8_t *)(last - 3), 4, &count), U16550_BAD_LENGTH);
+    MISUSE(u16550_receive_bytes(&uart, (uint8_t *)last, 1, &count), U16550_BAD_LENGTH);
+    MISUSE(u16550_ring_new(&uart, (uint8_t *)(last - 1), 2, 1, 1), U16550_BAD_LENGTH);
     OK(u16550_ring_new(&uart, memory, sizeof memory, 1, 1));
     MISUSE(u16550_ring_transmit_len(&uart, NULL), null);
     MISUSE(u16550_ring_receive_len(&uart, NULL), null);
@@ -758,22 +1031,106 @@ static void nulls(void)
     MISUSE(u16550_ring_take(&uart, NULL, 1, &count), null);
     MISUSE(u16550_ring_take(&uart, &byte, 1, NULL), null);
     MISUSE(u16550_ring_service(&uart, NULL), null);
+    MISUSE(u16550_ring_handle(&uart, 1, NULL), null);
     MISUSE(u16550_ring_take_line(&uart, NULL), null);
     MISUSE(u16550_ring_take_modem(&uart, NULL), null);
 }
 
-/* A callback that calls the same driver, and a driver that is copied to another place. */
-static void reentry_and_moves(void)
+/* Each constructor over the memory of a driver is refused by this number. */
+static void not_made(struct u16550 *u, int wanted)
 {
-    struct u16550 moved;
+    struct u16550_io io = device_io(&d);
+    struct u16550_state state;
+    memset(&state, 0, sizeof state);
+    MISUSE(u16550_new(u, &io), wanted);
+    MISUSE(u16550_new_port(u, &io, 0), wanted);
+    MISUSE(u16550_new_port(u, &io, UINT16_MAX), wanted);
+    MISUSE(u16550_new_mmio(u, &io, 1, 1), wanted);
+    MISUSE(u16550_new_mmio(u, &io, 0, 0), wanted);
+    MISUSE(u16550_from_state(u, &io, &state), wanted);
+}
+
+static struct u16550 copy;
+
+/* In the middle of a call, at its first access: each call over the driver is refused. */
+static void call_all(struct device *device)
+{
+    device->meanwhile = NULL;
+    accesses = device->accesses;
+    copy = uart;
+    refused(&uart, U16550_BUSY);
+    not_made(&uart, U16550_BUSY);
+}
+
+/* Callbacks that call the same driver, at each kind of call that makes accesses. */
+static void reentry(void)
+{
+    static const char ten[] = "0123456789";
+    struct u16550_io io;
+    uint8_t value, slots[10], *heap;
+    size_t count;
+    ready();
+    d.meanwhile = call_all;
+    OK(u16550_ier(&uart, &value));
+    d.meanwhile = call_all;
+    OK(u16550_init(&uart, &config));
+    d.meanwhile = call_all;
+    OK(u16550_test_loopback(&uart, NULL));
+    d.meanwhile = call_all;
+    OK(u16550_write_text(&uart, "t", 1, NULL));
+    BYTES(d.sent, "t");
+    /* Rings in memory of their own, whose ends a sanitiser sees. */
+    ready();
+    heap = (uint8_t *)malloc(20);
+    if (heap == NULL)
+        abort();
+    OK(u16550_ring_new(&uart, heap, 20, 10, 10));
+    d.is_stuck = 1;
+    d.meanwhile = call_all;
+    OK(u16550_ring_queue(&uart, (const uint8_t *)ten, 10, &count));
+    IS(count, 10);
+    d.is_stuck = 0;
+    d.meanwhile = call_all;
+    OK(u16550_ring_resume_transmit(&uart));
+    BYTES(d.sent, "0123456789");
+    OK(u16550_enable_interrupts(&uart, U16550_IER_DATA_READY));
+    device_arrive(&d, ten);
+    d.meanwhile = call_all;
+    OK(u16550_ring_service(&uart, &count));
+    OK(u16550_ring_take(&uart, slots, 10, &count));
+    IS(count, 10);
+    BYTES(slots, "0123456789");
+    free(heap);
+    /* Between two calls a constructor replaces what is there. */
+    io = device_io(&d);
+    OK(u16550_new(&uart, &io));
+    IS(u16550_ring_end(&uart), U16550_NO_RINGS);
+}
+
+/* Memory in which a call was left is free again once it is zero. */
+static void left_calls(void)
+{
+    struct u16550_io io;
     uint8_t value;
     ready();
-    d.calls = &uart;
-    d.called = 99;
+    io = device_io(&d);
+    d.meanwhile = call_all;
     OK(u16550_ier(&uart, &value));
-    IS(d.called, U16550_BUSY);
-    d.calls = NULL;
-    OK(u16550_ier(&uart, &value));
+    accesses = d.accesses;
+    refused(&copy, U16550_BUSY);
+    not_made(&copy, U16550_BUSY);
+    memset(&copy, 0, sizeof copy);
+    refused(&copy, U16550_NOT_MADE);
+    OK(u16550_new(&copy, &io));
+    OK(u16550_try_send_byte(&copy, 'z'));
+    BYTES(d.sent, "z");
+}
+
+/* A driver that is copied to another place. */
+static void moves(void)
+{
+    struct u16550 moved;
+    ready();
     moved = uart;
     memset(&uart, 0, sizeof uart);
     OK(u16550_try_send_byte(&moved, 'v'));
@@ -784,7 +1141,7 @@ static void texts(void)
 {
     static const int known[] = {
         0, -1, -2, -3, -4, -5, -6, -7, -8, -9, -10, -11, 10, 11, 20, 21, 22, 23, 30, 31, 32, 33, 34, 40, 41, 42, 50, 51,
-        60, 70, 80, 90, 91,
+        60, 70, 80, 90, 91, 100, 101, 110, 111, 120, 121,
     };
     size_t count = sizeof known / sizeof known[0], i, j;
     for (i = 0; i < count; i++)
@@ -807,16 +1164,24 @@ int main(void)
     bad_configs();
     loopback();
     remote();
+    nearest();
+    frame();
+    attach();
+    outputs();
     bytes();
+    with_errors();
     exact();
     io_traits();
     text();
     registers();
     rings();
+    handling();
     ring_errors();
     misuses();
     nulls();
-    reentry_and_moves();
+    reentry();
+    left_calls();
+    moves();
     texts();
     printf("%d compared, %d failed\n", compared, failed);
     return failed != 0;

@@ -24,31 +24,47 @@ struct device {
     uint8_t sent[ROOM];
     unsigned sent_len;
     unsigned accesses;
+    unsigned falls;              /* how often 0 was written into IER, so that the interrupt line is low */
     uint8_t fifo_on, thr_pending;
     /* what is wrong with it */
     uint8_t is_absent, is_stuck, is_silent;
+    uint8_t shows;               /* that ISR shows, if not 0 */
     unsigned room;               /* how many more bytes it sends; it is then full */
     uint8_t flips;               /* that a byte in loopback comes back with */
     unsigned flips_after;        /* so many bytes */
-    /* a call that a read makes over the driver, and what that call returned */
-    struct u16550 *calls;
-    int called;
+    /* what happens in the middle of a call: behind each access */
+    void (*meanwhile)(struct device *d);
 };
+
+/* The interrupt that ISR identifies. */
+static inline uint8_t device_interrupt(const struct device *d)
+{
+    uint8_t ier = d->registers[IER];
+    if (d->shows)
+        return d->shows;
+    if ((ier & U16550_IER_RECEIVER_LINE_STATUS) && d->errors)
+        return LINE_STATUS;
+    if ((ier & U16550_IER_DATA_READY) && d->arrived_len)
+        return RECEIVED_DATA;
+    if ((ier & U16550_IER_THR_EMPTY) && d->thr_pending)
+        return THR_IS_EMPTY;
+    if ((ier & U16550_IER_MODEM_STATUS) && (d->registers[MSR] & CHANGES))
+        return MODEM;
+    return NO_INTERRUPT;
+}
+
+/* Whether the interrupt line is high. */
+static inline int device_is_interrupting(const struct device *d)
+{
+    return d->registers[IER] != 0 && device_interrupt(d) != NO_INTERRUPT;
+}
 
 static inline uint8_t device_isr(struct device *d)
 {
-    uint8_t ier = d->registers[IER], fifo = d->fifo_on ? FIFOS_ENABLED : 0;
-    if ((ier & U16550_IER_RECEIVER_LINE_STATUS) && d->errors)
-        return fifo | LINE_STATUS;
-    if ((ier & U16550_IER_DATA_READY) && d->arrived_len)
-        return fifo | RECEIVED_DATA;
-    if ((ier & U16550_IER_THR_EMPTY) && d->thr_pending) {
+    uint8_t interrupt = device_interrupt(d);
+    if (interrupt == THR_IS_EMPTY)
         d->thr_pending = 0;
-        return fifo | THR_IS_EMPTY;
-    }
-    if ((ier & U16550_IER_MODEM_STATUS) && (d->registers[MSR] & CHANGES))
-        return fifo | MODEM;
-    return fifo | NO_INTERRUPT;
+    return (d->fifo_on ? FIFOS_ENABLED : 0) | interrupt;
 }
 
 static inline uint8_t device_lsr(struct device *d)
@@ -60,17 +76,10 @@ static inline uint8_t device_lsr(struct device *d)
     return lsr | U16550_LSR_THR_EMPTY | U16550_LSR_TRANSMITTER_EMPTY;
 }
 
-static inline uint8_t device_read(void *context, uintptr_t address)
+static inline uint8_t device_value(struct device *d, unsigned offset)
 {
-    struct device *d = (struct device *)context;
-    unsigned offset = (unsigned)((address - d->base) / d->stride);
     uint8_t value;
 
-    d->accesses++;
-    if (d->calls) {
-        uint8_t unused;
-        d->called = u16550_lsr(d->calls, &unused);
-    }
     switch (offset) {
     case DATA:
         if (d->registers[LCR] & DLAB)
@@ -112,12 +121,8 @@ static inline void device_send(struct device *d, uint8_t byte)
     }
 }
 
-static inline void device_write(void *context, uintptr_t address, uint8_t value)
+static inline void device_set(struct device *d, unsigned offset, uint8_t value)
 {
-    struct device *d = (struct device *)context;
-    unsigned offset = (unsigned)((address - d->base) / d->stride);
-
-    d->accesses++;
     if (offset <= IER && (d->registers[LCR] & DLAB)) {
         *(offset ? &d->dlm : &d->dll) = value;
         return;
@@ -125,6 +130,14 @@ static inline void device_write(void *context, uintptr_t address, uint8_t value)
     switch (offset) {
     case DATA:
         device_send(d, value);
+        return;
+    case IER:
+        if (value == 0)
+            d->falls++;
+        /* An empty transmitter interrupts as soon as it may. */
+        if (value & ~d->registers[IER] & U16550_IER_THR_EMPTY)
+            d->thr_pending = 1;
+        d->registers[IER] = value;
         return;
     case FCR:
         d->fifo_on = value & FIFO_ENABLE;
@@ -135,6 +148,29 @@ static inline void device_write(void *context, uintptr_t address, uint8_t value)
     default:
         d->registers[offset] = value;
     }
+}
+
+static inline unsigned device_access(struct device *d, uintptr_t address)
+{
+    d->accesses++;
+    return (unsigned)((address - d->base) / d->stride);
+}
+
+static inline uint8_t device_read(void *context, uintptr_t address)
+{
+    struct device *d = (struct device *)context;
+    uint8_t value = device_value(d, device_access(d, address));
+    if (d->meanwhile)
+        d->meanwhile(d);
+    return value;
+}
+
+static inline void device_write(void *context, uintptr_t address, uint8_t value)
+{
+    struct device *d = (struct device *)context;
+    device_set(d, device_access(d, address), value);
+    if (d->meanwhile)
+        d->meanwhile(d);
 }
 
 /* A device that works, with CTS and DSR set. */

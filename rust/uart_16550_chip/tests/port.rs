@@ -2,7 +2,7 @@
 
 use std::panic::{AssertUnwindSafe, catch_unwind};
 use uart_16550_chip::registers::{FCR, IER, LSR, MSR, offsets};
-use uart_16550_chip::{Answer, Chip, InputError, Received, Todo, VirtualPort};
+use uart_16550_chip::{Answer, Chip, InputError, LiveChip, Received, Todo, VirtualPort, WIRE_ROOM};
 
 const DATA: u8 = offsets::DATA as u8;
 const IER_OFFSET: u8 = offsets::IER as u8;
@@ -19,13 +19,13 @@ const NOTHING: Todo = Todo {
 };
 
 fn port() -> VirtualPort {
-    VirtualPort::new(Chip::Uart16550A).unwrap()
+    VirtualPort::new(Chip::Uart16550A)
 }
 
 #[test]
 fn after_power_on_nothing_is_to_be_done() {
     for chip in [Chip::Uart16450, Chip::Uart16550A] {
-        let mut port = VirtualPort::new(chip).unwrap();
+        let mut port = VirtualPort::new(chip);
         assert_eq!((port.output(), port.level()), ([].as_slice(), false));
         let answer = Answer {
             value: 0x60,
@@ -174,4 +174,152 @@ fn debug_shows_what_can_be_seen() {
     port.write(DATA, b'a');
     let shown = "VirtualPort { level: false, output: [97], .. }";
     assert_eq!(format!("{port:?}"), shown);
+}
+
+/// Pseudorandom numbers: xorshift.
+struct Random(u64);
+
+impl Random {
+    fn below(&mut self, end: usize) -> usize {
+        self.0 ^= self.0 << 13;
+        self.0 ^= self.0 >> 7;
+        self.0 ^= self.0 << 17;
+        (self.0 % end as u64) as usize
+    }
+
+    fn byte(&mut self) -> u8 {
+        self.below(256) as u8
+    }
+}
+
+/// A port by its definition, without fast paths: what a call does, and then all the time that it takes.
+struct Plain {
+    chip: LiveChip,
+    is_line_high: bool,
+    is_unanswered: bool,
+    is_put_off: bool,
+}
+
+impl Plain {
+    fn new(chip: Chip) -> Self {
+        let mut chip = LiveChip::new(chip, 1, WIRE_ROOM).unwrap();
+        chip.ticks(22);
+        Plain {
+            chip,
+            is_line_high: false,
+            is_unanswered: false,
+            is_put_off: false,
+        }
+    }
+
+    /// Lets time pass after what a call did, and returns what is to be done.
+    fn end_call(&mut self, brings: bool, looks: bool) -> Todo {
+        let was_high = self.chip.is_interrupting();
+        self.chip.ticks(22);
+        let level = self.chip.is_interrupting();
+        let is_free = looks || !self.is_unanswered;
+        let signal = level && (!self.is_line_high || brings || !was_high && is_free);
+        let has_room = self.is_put_off && self.chip.receive_room() > 0;
+        self.is_line_high = level;
+        self.is_unanswered = signal || level && self.is_unanswered && !looks;
+        self.is_put_off &= !has_room;
+        Todo {
+            signal,
+            level,
+            has_room,
+            ready: self.chip.wire().len(),
+        }
+    }
+
+    fn read(&mut self, offset: u8) -> Answer {
+        let value = self.chip.read(offset);
+        let looks = [ISR_OFFSET, LSR_OFFSET, MSR_OFFSET].contains(&offset);
+        let todo = self.end_call(false, looks);
+        Answer { value, todo }
+    }
+
+    fn write(&mut self, offset: u8, value: u8) -> Todo {
+        self.chip.write(offset, value);
+        self.end_call(false, false)
+    }
+
+    fn receive(&mut self, input: &[u8]) -> Received {
+        let count = input.len().min(self.chip.receive_room());
+        for byte in &input[..count] {
+            self.chip.arrive(*byte, LSR::empty()).unwrap();
+        }
+        self.is_put_off |= count < input.len();
+        let todo = self.end_call(count > 0, false);
+        Received { count, todo }
+    }
+
+    fn receive_one(&mut self, byte: u8, errors: LSR) -> Todo {
+        self.chip.arrive(byte, errors).unwrap();
+        self.end_call(true, false)
+    }
+
+    fn set_lines(&mut self, inputs: MSR) -> Todo {
+        self.chip.set_lines(inputs).unwrap();
+        self.end_call(true, false)
+    }
+
+    fn take_output(&mut self, count: usize) -> Todo {
+        let brings = self.chip.held_len() > 0;
+        self.chip.take_wire(count);
+        self.end_call(brings, false)
+    }
+}
+
+/// Makes one random call of both. Most writes are data, with FIFO, and with interrupts on.
+fn compare_call(random: &mut Random, port: &mut VirtualPort, plain: &mut Plain) {
+    match random.below(10) {
+        0..3 => {
+            let offset = random.below(8) as u8;
+            assert_eq!(port.read(offset), plain.read(offset));
+        }
+        3..6 => {
+            let value = random.byte();
+            assert_eq!(port.write(DATA, value), plain.write(DATA, value));
+        }
+        6 => {
+            let offset = random.below(8) as u8;
+            let value = match offset {
+                FCR_OFFSET => 0xc1 | random.byte() & 0x06,
+                // DLAB and loopback now and then
+                3 | 4 => random.byte() & [0x0f, 0x0f, 0xff][random.below(3)],
+                _ => random.byte(),
+            };
+            assert_eq!(port.write(offset, value), plain.write(offset, value));
+        }
+        7 => {
+            let input = vec![random.byte(); random.below(20)];
+            assert_eq!(port.receive(&input), plain.receive(&input));
+        }
+        8 => {
+            let (byte, errors) = (random.byte(), random.byte());
+            let errors = LSR::from_bits_retain(errors) & LSR::CHARACTER_ERRORS;
+            let todo = plain.receive_one(byte, errors);
+            assert_eq!(port.receive_one(byte, errors), Ok(todo));
+            let inputs = MSR::from_bits_retain(random.byte()) & MSR::LINES;
+            assert_eq!(port.set_lines(inputs), Ok(plain.set_lines(inputs)));
+        }
+        _ => {
+            let count = random.below(70);
+            assert_eq!(port.take_output(count), plain.take_output(count));
+        }
+    }
+    assert_eq!(port.output(), plain.chip.wire());
+    assert_eq!(port.level(), plain.chip.is_interrupting());
+}
+
+#[test]
+fn each_call_does_what_its_definition_says() {
+    for seed in 1..=200 {
+        let mut random = Random(seed);
+        let chip = [Chip::Uart16450, Chip::Uart16550A][random.below(2)];
+        let (mut port, mut plain) = (VirtualPort::new(chip), Plain::new(chip));
+        for _call in 0..500 {
+            compare_call(&mut random, &mut port, &mut plain);
+        }
+    }
 }

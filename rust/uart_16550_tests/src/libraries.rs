@@ -10,7 +10,6 @@ pub mod uart_16550 {
 /// Registers, arithmetic, configuration and errors.
 pub mod uart_spec {
     pub use crate::erased::{access, call};
-    pub use ::uart_16550::native::backend;
     pub use ::uart_16550::native::spec::*;
     pub use ::uart_16550::native::*;
 }
@@ -22,5 +21,5 @@ pub mod uart_ring {
 
 /// Sets of named bits.
 pub mod bitflags {
-    pub use ::uart_16550::{Flag, Flags};
+    pub use ::uart_16550::Flags;
 }

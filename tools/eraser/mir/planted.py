@@ -76,7 +76,12 @@ PLANTED = {
         ),
     ],
     "uart_16550_chip": [
-        ("uart_chip/receiver.rs", "self.is_overrun = on;", "self.is_overrun = !on;", [r"sequences of uart_live::live::LiveChip: \d+ of"]),
+        (
+            "uart_chip/transmitting.rs",
+            "    parts.set_thr_pending(false);\n",
+            "    parts.set_thr_pending(true);\n",
+            [r"sequences of uart_live::live::LiveChip: \d+ of"],
+        ),
         (
             "uart_live/sound.rs",
             "<= TIMEOUT_CHARACTERS * char_ticks as u32",

@@ -10,7 +10,7 @@ use Rattle.uart_16550.specs.Grammar.{Settings, Only, Then, Asks, InOrder, AllMis
 use Rattle.uart_spec.specs.declared.access.Access.TheVariants.{Read}
 use Rattle.uart_16550.specs.Receive.{Hit, Miss, ReadyToReceive, TryReceive, Receives, Awaited, ReceivesExact}
 use Rattle.uart_16550.specs.Receive.{HitWithErrors, TryReceiveWithErrors, ReceivesWithErrors}
-use Rattle.uart_16550.specs.declared.driver.receive.Received.{Received}
+use Rattle.uart_spec.specs.declared.received.Received.{Received}
 use Rattle.uart_16550.proofs.determined.Parting.{SameOrPart, Determined, so, determined_so, determined_sym, determined_then}
 use Rattle.uart_16550.proofs.determined.Parting.{determined_front, read_determined, asks_apart, asks_same, so_is, so_read, so_reads}
 use Rattle.uart_16550.proofs.determined.Repeated.{Misses, Items, waits_end, wait_ends, wait_fails, items_all, items_more, items_short}

@@ -1,7 +1,7 @@
 //! The presence check and the initialisation.
-ghost use Rattle.std.specs.Prelude.{◌≡◌, ◌≢◌, ◌<◌, [], ◌∷◌};
+ghost use Rattle.std.specs.Prelude.{◌≡◌, ◌<◌};
 ghost use Rattle.uart_spec.specs.Config.{IsComputable};
-ghost use Rattle.uart_16550.specs.Grammar.{Only, Then, ReadsRegister};
+ghost use Rattle.uart_16550.specs.Grammar.{Only};
 ghost use Rattle.uart_16550.specs.Init.{Keeps, KeepsPatterns, ChecksPresence, frame_bits};
 ghost use Rattle.uart_16550.specs.Init.{line_writes, fifo_bits, SetsFifo, DrainsReceiver};
 ghost use Rattle.uart_16550.specs.Init.{Ends, Inits};

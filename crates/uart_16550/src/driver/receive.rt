@@ -10,17 +10,7 @@ use super::{PIECE_SIZE, Uart16550};
 use crate::backend::Backend;
 use bitflags::Flags;
 use uart_spec::registers::{LSR, offsets};
-use uart_spec::{ByteReceiveError, StalledError};
-
-/// A received byte, and the line errors that LSR showed with it.
-#[derive(Clone, Copy, Debug, PartialEq, Eq)]
-pub struct Received {
-    /// The byte, as the chip returned it. For a break it is 0.
-    pub byte: u8,
-    /// Of `PARITY_ERROR`, `FRAMING_ERROR` and `BREAK_INTERRUPT` those of this byte; and
-    /// `OVERRUN_ERROR` if the look before this byte reported that others were lost.
-    pub errors: LSR,
-}
+use uart_spec::{ByteReceiveError, Received, StalledError};
 
 impl<B: Backend> Uart16550<B> {
     /// Checks whether a received byte is available: whether LSR shows `DATA_READY`.
@@ -98,7 +88,8 @@ impl<B: Backend> Uart16550<B> {
     /// Receives one byte if one is available, with the errors that LSR showed with it: reads LSR,
     /// and if it shows `DATA_READY`, RBR.
     ///
-    /// Does not wait. The error bits are saved for the next `lsr` too.
+    /// Does not wait. The error bits are saved for the next `lsr` too. `receive_with_errors` says
+    /// when an error is not shown.
     ///
     /// # Errors
     ///

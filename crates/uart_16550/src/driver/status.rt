@@ -1,5 +1,5 @@
 //! The register calls.
-ghost use Rattle.std.specs.Prelude.{◌≡◌, [], ◌∷◌};
+ghost use Rattle.std.specs.Prelude.{[], ◌∷◌};
 ghost use Rattle.uart_spec.specs.declared.registers.offsets.TheConstants as offsets;
 ghost use Rattle.uart_spec.specs.declared.access.Access.TheVariants.{Read};
 ghost use Rattle.uart_16550.specs.Grammar.{Only};
@@ -112,7 +112,8 @@ impl<B: Backend> Uart16550<B> {
     /// in the chip are saved for the next `msr`.
     ///
     /// Call it to find out how the modem lines are. Does not wait. Like each read of MSR it clears
-    /// a modem status interrupt: who waits for one looks at `msr` afterwards.
+    /// a modem status interrupt that is pending, so no handler is called for it any more: call
+    /// `msr` afterwards, which tells the change.
     ///
     /// # Examples
     ///
@@ -221,7 +222,8 @@ impl<B: Backend> Uart16550<B> {
     /// meanwhile.
     ///
     /// If `THR_EMPTY` is enabled and the transmitter is empty, the chip raises that interrupt
-    /// again. Does not wait: makes three accesses.
+    /// again. Does not wait: makes three accesses. The interrupts of `config` are not used, and not
+    /// changed.
     ///
     /// # Examples
     ///
@@ -232,6 +234,8 @@ impl<B: Backend> Uart16550<B> {
         ensures { Made B.step Retriggers self.old self.new }
     {
         let enabled = self.read_register(offsets::IER);
+        // With no interrupt enabled the output is low. What was pending stays so in the chip, and
+        // no read of ISR acknowledges it.
         self.write_register(offsets::IER, 0);
         self.write_register(offsets::IER, enabled);
     }

@@ -2,17 +2,17 @@
 //! and over the register file: each on a new driver, with its whole list of accesses.
 use super::assert_equal;
 use crate::Answer::{
-    self, Bytes, Count, Done, Flag, InitRefused, Latch, LoopbackRefused, NoData, NotConnected,
-    NotSent, ReceiveStalled, Register, Stalled,
+    self, Bytes, BytesWithErrors, Count, Done, Flag, InitRefused, Latch, LoopbackRefused, NoData,
+    NotConnected, NotSent, ReceiveStalled, Register, Stalled,
 };
 use crate::Call::{
     self, CheckConnected, CheckPresent, Disable, DllDlm, Dump, Enable, Flush, ReadReady,
-    ReadyToReceive, ReadyToSend, Receive, ReceiveExact, Send, SendExact, TestLoopback, TryReceive,
-    TrySend, Write, WriteReady,
+    ReadyToReceive, ReadyToSend, Receive, ReceiveExact, ReceiveWithErrors, RetriggerInterrupts,
+    Send, SendExact, TestLoopback, TryReceive, TrySend, Write, WriteReady,
 };
 use crate::tests::devices::{Constant, RegisterFile, driver};
 use crate::tests::driving::Start::New;
-use crate::tests::driving::{bytes, dump, init, over, row, text, then, writing};
+use crate::tests::driving::{bytes, dump, init, over, row, text, then, with_errors, writing};
 use crate::tests::lists::{Accesses, list};
 use bitflags::Flags;
 use std::fmt;
@@ -59,6 +59,11 @@ fn looks_at(rt: &impl Abort, byte: u8, ready: bool, [enabled, disabled]: [u8; 2]
             Disable(IER::THR_EMPTY),
             Done,
             ier().write(offsets::IER, disabled),
+        ),
+        (
+            RetriggerInterrupts,
+            Done,
+            ier().write(offsets::IER, 0).write(offsets::IER, byte),
         ),
         (DllDlm, Latch(byte, byte), latch()),
         (Dump, Answer::Dump(shown), latch().registers([byte; 7])),
@@ -107,6 +112,11 @@ fn bytes_over_ff(rt: HostRuntime) {
         (TryReceive, Register(0xff), list().then(&byte)),
         (Receive(3), Bytes(bytes(&[0xff; 3])), three()),
         (ReceiveExact(3), Bytes(bytes(&[0xff; 3])), three()),
+        (
+            ReceiveWithErrors(3),
+            BytesWithErrors(with_errors(&[(0xff, 0x1e); 3])),
+            three(),
+        ),
         (Call::Read(3), Bytes(bytes(&[0xff; 3])), three()),
         (TrySend(b'a'), Done, list().look(0xff).data(b"a")),
         (Send(long()), Count(16), burst()),
@@ -147,6 +157,11 @@ fn bytes_over_00(rt: HostRuntime) {
         (TryReceive, NoData, list().look(0x00)),
         (Receive(3), Bytes(none()), list().look(0x00)),
         (ReceiveExact(3), ReceiveStalled(none()), stalled()),
+        (
+            ReceiveWithErrors(3),
+            BytesWithErrors(with_errors(&[])),
+            list().look(0x00),
+        ),
         (Call::Read(3), Stalled(0), stalled()),
         (TrySend(b'a'), NotSent(NoCapacity), list().look(0x00)),
         (Send(bytes(b"hello")), Count(0), list().look(0x00)),

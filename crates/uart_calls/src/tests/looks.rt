@@ -7,7 +7,7 @@ use crate::Call::{
     WriteReady,
 };
 use crate::tests::driving::Start::{Checking, New};
-use crate::tests::driving::{dump, row, then};
+use crate::tests::driving::{dump, row, then, with_errors};
 use crate::tests::lists::list;
 use bitflags::Flags;
 use uart_spec::ByteSendError::{NoCapacity, RemoteNotClearToSend};
@@ -217,5 +217,25 @@ fn ports_that_are_attached(rt: HostRuntime) {
         Call::Attach,
         looped,
         &list().read(3, 0x03).read(4, 0x10),
+    );
+}
+
+#[test]
+fn bytes_come_with_their_errors(rt: HostRuntime) {
+    // A parity error, a framing error, and a miss that shows an overrun.
+    let looked = list()
+        .look(0x05)
+        .read(offsets::DATA, 0x41)
+        .look(0x09)
+        .read(offsets::DATA, 0x42)
+        .look(0x62);
+    let answer = Answer::BytesWithErrors(with_errors(&[(0x41, 0x04), (0x42, 0x08)]));
+    let mut terminal = row(&rt, New, Call::ReceiveWithErrors(3), answer, &looked);
+    then(
+        &rt,
+        &mut terminal,
+        Call::Lsr,
+        Register(0x6e),
+        &list().look(0x60),
     );
 }

@@ -13,16 +13,16 @@ ghost use Rattle.uart_calls.specs.Replays.{CallReplayed};
 
 use super::assert_equal;
 use crate::Answer::{
-    self, Bytes, Count, Done, Flag, InitRefused, Latch, LoopbackRefused, NoData, NotConnected,
-    ReceiveStalled, Register, Stalled,
+    self, Bytes, BytesWithErrors, Count, Done, Flag, InitRefused, Latch, LoopbackRefused, NoData,
+    NotConnected, ReceiveStalled, Register, Stalled,
 };
 use crate::Call::{
     self, CheckConnected, CheckPresent, Disable, DllDlm, Dump, Enable, Flush, Init, ReadReady,
-    ReadyToReceive, ReadyToSend, Receive, ReceiveExact, Send, SendExact, TestLoopback, TryReceive,
-    TrySend, Write, WriteReady,
+    ReadyToReceive, ReadyToSend, Receive, ReceiveExact, ReceiveWithErrors, RetriggerInterrupts,
+    Send, SendExact, TestLoopback, TryReceive, TrySend, Write, WriteReady,
 };
 use crate::perform;
-use crate::tests::driving::{Replaying, bytes, dump, text};
+use crate::tests::driving::{Replaying, bytes, dump, text, with_errors};
 use bitflags::Flags;
 use std::fmt;
 use std::num::NonZeroU64;
@@ -119,6 +119,13 @@ fn looks_and_registers_over_a_replay(rt: HostRuntime) {
         (Call::Spr, Register(0x60), 20),
         (DllDlm, Latch(0x60, 0x60), 25),
         (Dump, Answer::Dump(dump([0x60; 7], 0x60, 0x60)), 37),
+        (RetriggerInterrupts, Done, 40),
+        (Call::PeekModem, Register(0x60), 41),
+        (Call::IsIdle, Flag(true), 42),
+        (Call::SetBreak(true), Done, 44),
+        (Call::SetRts(true), Done, 46),
+        (Call::SetDtr(false), Done, 48),
+        (Call::Attach, Latch(0x60, 0x60), 56),
     ] {
         shows(&rt, &mut terminal, call, answer, count);
     }
@@ -141,9 +148,10 @@ fn bytes_over_a_replay(rt: HostRuntime) {
         // The transmitter is empty, the FIFO off, the byte sent, and none returns.
         (TestLoopback, LoopbackRefused(LoopbackError::Stalled), 42),
         (text("a"), Done, 44),
+        (ReceiveWithErrors(2), BytesWithErrors(with_errors(&[])), 45),
     ] {
         shows(&rt, &mut terminal, call, answer, count);
     }
     assert_equal(&rt, write_str(&mut terminal, "a"), Ok(()));
-    assert_equal(&rt, kept(&terminal), Some(46));
+    assert_equal(&rt, kept(&terminal), Some(47));
 }

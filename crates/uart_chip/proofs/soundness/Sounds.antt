@@ -119,7 +119,7 @@ char_ticks-refill None [] t = refl
 char_ticks-refill None (x ∷ []) t = refl
 char_ticks-refill None (x ∷ y ∷ xs) t = refl
 
-char_ticks-tick : (loopback : Bool) (t : TransmitterState) → (transmitter.tick loopback t).char_ticks ≡ t.char_ticks
+pub char_ticks-tick : (loopback : Bool) (t : TransmitterState) → (transmitter.tick loopback t).char_ticks ≡ t.char_ticks
 char_ticks-tick loopback t =
     let u : TransmitterState = transmitter.shift loopback t.shift_register t in
     char_ticks-refill u.shift_register u.queue u ∙ char_ticks-shift loopback t.shift_register t

@@ -41,6 +41,32 @@ fn a_byte_goes_out_and_a_character_comes_in(rt: HostRuntime) -> Result<(), Fail>
 }
 
 #[test]
+fn a_byte_is_sent_at_once_if_the_transmitter_is_idle(rt: HostRuntime) -> Result<(), Fail> {
+    let mut chip = LiveChip::new(Chip::Uart16550A, 1, 2)?;
+    assert!(rt; chip.send_at_once(0x41));
+    assert_equal(&rt, chip.wire(), [0x41].as_slice());
+    // As after a write of DATA and two ticks, the empty THR is an interrupt.
+    chip.write(IER, 0x02);
+    assert_equal(&rt, (chip.read(LSR), chip.read(ISR)), (0x60, 0x02));
+    // Under DLAB and in loopback no byte is sent.
+    for (register, value, usual) in [(LCR, 0x80, 0x00), (MCR, 0x10, 0x00)] {
+        assert!(rt; register < 8);
+        chip.write(register, value);
+        assert!(rt; !chip.send_at_once(0x42));
+        chip.write(register, usual);
+    }
+    // Nor is it before a byte that waits, or with a full wire.
+    chip.write(DATA, 0x42);
+    assert!(rt; !chip.send_at_once(0x43));
+    chip.ticks(2);
+    assert!(rt; !chip.send_at_once(0x43));
+    chip.take_wire(1);
+    assert!(rt; chip.send_at_once(0x43));
+    assert_equal(&rt, chip.wire(), [0x42, 0x43].as_slice());
+    Ok(())
+}
+
+#[test]
 fn live_chips_are_built_up_to_the_limits(rt: HostRuntime) -> Result<(), Fail> {
     for (char_ticks, wire_capacity, want) in [
         (1, 0, None),

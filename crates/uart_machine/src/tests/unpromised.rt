@@ -131,6 +131,15 @@ impl LiveChip {
         self.0.write(offset, value);
     }
 
+    // Returns whether the byte was sent.
+    pub fn send_at_once(&mut self, value: u8) -> bool {
+        let sends = self.0.sends_at_once();
+        if sends {
+            self.0.send_at_once(value);
+        }
+        sends
+    }
+
     pub fn ticks(&mut self, count: u16) -> usize {
         self.0.ticks(count)
     }

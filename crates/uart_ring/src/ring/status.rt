@@ -25,8 +25,8 @@ impl<B: Backend> Uart16550Ring<B> {
         self.modem.insert(status.intersection(MSR::CHANGES));
     }
 
-    /// Reads LSR once. Returns it joined with the errors that `service` noted and those that the
-    /// driver has saved, which are then forgotten.
+    /// Reads LSR once. Returns it joined with the errors that were noted when interrupts were
+    /// served, and with those that the driver has saved. Both are then forgotten.
     ///
     /// # Examples
     ///
@@ -44,8 +44,8 @@ impl<B: Backend> Uart16550Ring<B> {
         line
     }
 
-    /// Reads MSR once. Returns it joined with the changes that `service` noted and those that the
-    /// driver has saved, which are then forgotten.
+    /// Reads MSR once. Returns it joined with the changes that were noted when interrupts were
+    /// served, and with those that the driver has saved. Both are then forgotten.
     ///
     /// # Examples
     ///

@@ -1,18 +1,18 @@
 //! Laws of rings, driver and machine together. They follow from the contracts.
 //!
 //! The contract of each function is a law that callers can cite.
-ghost use Rattle.std.specs.Prelude.{◌≡◌, ◌⊎◌, ℕ, List, true, false, Ok};
+ghost use Rattle.std.specs.Prelude.{◌≡◌, ℕ, false, Ok};
 ghost use Rattle.uart_16550.specs.Driver.{Did};
 ghost use Rattle.uart_16550.specs.Init.{Inits};
 ghost use Rattle.uart_16550.specs.declared.driver.Uart16550.{Uart16550};
 ghost use Rattle.uart_chip.specs.Chip.{is_dlab_set};
 ghost use Rattle.uart_chip.specs.Machine.{MachineState, MachineStep};
-ghost use Rattle.uart_ring.specs.Edges.{LosesNoEdge, RisesDuring, RisesInCalls, is_line_up};
+ghost use Rattle.uart_ring.specs.Edges.{LosesNoEdge, is_line_up};
 ghost use Rattle.uart_ring.specs.Handle.{Handles, Retriggers};
 ghost use Rattle.uart_ring.specs.Ring.{RingDid, driver_of};
 ghost use Rattle.uart_ring.specs.declared.ring.service.HandleEnd.TheVariants.{Idle};
 ghost use Rattle.uart_ring.specs.declared.ring.service.Handled.{Handled};
-ghost use Rattle.uart_ring.specs.RingRun.{RingChain, RingLink, RingState, ring_machine, under};
+ghost use Rattle.uart_ring.specs.RingRun.{RingState, ring_machine, under};
 ghost use Rattle.uart_run.specs.Ready.{Ready};
 ghost use Rattle.uart_spec.specs.declared.config.Config.{Config};
 
@@ -40,16 +40,16 @@ pub fn init_leaves_ready(uart: &Uart16550<Device16550>)
     let _fifo = uart.backend().fifo_enabled();
 }
 
-/// No interrupt is missed at a controller that detects edges, whatever the schedule.
+/// `handle` and `retrigger` lose no edge, at a controller that calls the handler when the chip's
+/// interrupt line rises, whatever the schedule.
 ///
-/// While `handle` or `retrigger` ran, the chip's interrupt line was down at some time. So if it is
-/// up afterwards, it has risen since the call began, after the controller's acknowledgement; and if
-/// it is down, it has to rise before it is up again. DLAB is off, as in each session.
+/// During the call the line was low at some time. So if the line is high after the call, or after
+/// any ring calls that follow, it has risen since the call began. The controller acknowledged the
+/// edge that it called the handler for before that, so it has seen the new one. DLAB is off, as in
+/// each session.
 ///
-/// If `handle` ends with `Idle`, the line is down, at a controller that detects levels too.
-///
-/// So if the line is up after any further calls of the rings, it has risen since that `handle`
-/// began: in the course of it, or of those calls.
+/// If `handle` ends with `Idle`, the line is low when it returns. So a controller that calls the
+/// handler as long as the line is high does not call it again before the next interrupt.
 ///
 /// # Examples
 ///
@@ -60,16 +60,10 @@ pub fn handles_lose_no_edge()
     ensures handle { (limit : ℕ) (handled : Handled) (s t : RingState) →
         is_dlab_set (ring_machine s).chip.latches ≡ false →
         (did : RingDid MachineStep (Handles limit handled) s t) →
-        LosesNoEdge did.list (ring_machine s) (ring_machine t) did.path }
+        LosesNoEdge did.list s t did.path }
     ensures retrigger { (s t : RingState) →
         is_dlab_set (ring_machine s).chip.latches ≡ false →
-        (did : RingDid MachineStep Retriggers s t) →
-        LosesNoEdge did.list (ring_machine s) (ring_machine t) did.path }
+        (did : RingDid MachineStep Retriggers s t) → LosesNoEdge did.list s t did.path }
     ensures idle { (limit : ℕ) (handled : Handled) (s t : RingState) → handled.end ≡ Idle →
         RingDid MachineStep (Handles limit handled) s t → is_line_up (ring_machine t) ≡ false }
-    ensures later { (limit : ℕ) (handled : Handled) (s t u : RingState) (calls : List RingLink) →
-        is_dlab_set (ring_machine s).chip.latches ≡ false →
-        (did : RingDid MachineStep (Handles limit handled) s t) → RingChain t calls u →
-        is_line_up (ring_machine u) ≡ true →
-        RisesDuring did.list (ring_machine s) (ring_machine t) did.path ⊎ RisesInCalls calls }
 {}

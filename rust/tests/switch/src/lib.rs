@@ -2,6 +2,7 @@
 //! static, macros that print, an echo, a handler of interrupts, and errors that are matched case by
 //! case. Nothing in this file knows which crate it is built over.
 #![no_std]
+#![deny(unreachable_patterns)]
 
 use core::cell::UnsafeCell;
 use core::fmt::{self, Write};
@@ -172,7 +173,12 @@ pub fn advice(refused: &Refused) -> &'static str {
         Refused::Init(InitError::InvalidBaudRate(InvalidDivisorError::OutOfRange { .. })) => {
             "choose a higher rate"
         }
-        Refused::Init(_) => "choose another rate",
+        Refused::Init(InitError::InvalidBaudRate(InvalidDivisorError::NonInteger(_))) => {
+            "choose another rate"
+        }
+        // The original's errors may get more cases, so a program has to have these.
+        Refused::Init(InitError::InvalidBaudRate(_)) => "choose the rate of the firmware",
+        Refused::Init(_) => "ask the board's maker",
         Refused::Loopback(LoopbackError::SendError(ByteSendError::NoCapacity)) => "wait",
         Refused::Loopback(LoopbackError::SendError(ByteSendError::RemoteNotClearToSend)) => "wait",
         Refused::Loopback(LoopbackError::UnexpectedLoopbackByte { .. }) => "replace the chip",

@@ -47,6 +47,13 @@ fn port(chip: Chip) -> Uart16550<Chip> {
     unsafe { Uart16550::new_with_backend(chip) }
 }
 
+// Over the original crate no promise is asked for.
+#[allow(unused_unsafe)]
+fn chip(uart: &mut Uart16550<Chip>) -> &mut Chip {
+    // SAFETY: whatever its state, a chip in software may be accessed.
+    unsafe { uart.backend_mut() }
+}
+
 #[test]
 fn a_session() {
     let mut uart = port(Chip {
@@ -55,9 +62,9 @@ fn a_session() {
     });
     bring_up(&mut uart).unwrap();
     assert_eq!(type_in(&mut uart, b"login: "), 7);
-    uart.backend_mut().received.extend(b"root\n1234");
+    chip(&mut uart).received.extend(b"root\n1234");
     assert_eq!(echo(&mut uart), 9);
-    uart.backend_mut().received.extend(b"yes");
+    chip(&mut uart).received.extend(b"yes");
     let mut answer = [0; 3];
     ask(&mut uart, b"sure? ", &mut answer);
     assert_eq!(&answer, b"yes");
@@ -81,10 +88,10 @@ fn interrupts() {
     bring_up(&mut uart).unwrap();
     let mut errors = 0;
     assert_eq!(serve(&mut uart, &mut errors), None);
-    uart.backend_mut().received.push_back(b'x');
-    uart.backend_mut().interrupt = 4;
+    chip(&mut uart).received.push_back(b'x');
+    chip(&mut uart).interrupt = 4;
     assert_eq!(serve(&mut uart, &mut errors), Some(b'x'));
-    uart.backend_mut().interrupt = 6;
+    chip(&mut uart).interrupt = 6;
     assert_eq!((serve(&mut uart, &mut errors), errors), (None, 1));
 }
 

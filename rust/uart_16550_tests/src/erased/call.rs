@@ -5,7 +5,7 @@ use crate::runtime::{AllocGlobal, HostRuntime, assert, assert_eq, assert_ne, for
 use crate::libraries::uart_spec::registers::{IER, MCR};
 use crate::libraries::uart_spec::{
     AttachError, ByteSendError, Config, ConfigRegisterDump, InitError, InvalidDivisorError,
-    LoopbackError, RemoteReadyToReceiveError,
+    LoopbackError, Received, RemoteReadyToReceiveError,
 };
 use crate::libraries::arrayvec::{ArrayString, ArrayVec};
 
@@ -82,10 +82,14 @@ pub enum Call {
     Enable(IER),
     // `Uart16550::disable_interrupts` with these interrupts.
     Disable(IER),
+    // `Uart16550::retrigger_interrupts`.
+    RetriggerInterrupts,
     // `Uart16550::receive_bytes` into this number of slots.
     Receive(usize),
     // `Uart16550::receive_bytes_exact` into this number of slots.
     ReceiveExact(usize),
+    // `Uart16550::receive_with_errors` into this number of slots.
+    ReceiveWithErrors(usize),
     // `read` of the trait `Read`, into this number of slots.
     Read(usize),
     // `Uart16550::send_bytes` of these bytes.
@@ -106,9 +110,10 @@ impl Call {
     {
         match self {
             Call::Init(config) | Call::SetFrame(config) => config.is_computable(),
-            Call::Receive(count) | Call::ReceiveExact(count) | Call::Read(count) => {
-                *count <= CALL_BYTES
-            }
+            Call::Receive(count)
+            | Call::ReceiveExact(count)
+            | Call::ReceiveWithErrors(count)
+            | Call::Read(count) => *count <= CALL_BYTES,
             _ => true,
         }
     }
@@ -126,6 +131,8 @@ pub enum Answer {
     Count(usize),
     // The bytes that were received.
     Bytes(ArrayVec<u8, CALL_BYTES>),
+    // The bytes that were received, each with its errors.
+    BytesWithErrors(ArrayVec<Received, CALL_BYTES>),
     // The value of a register, or the byte of a `TryReceive`.
     Register(u8),
     // The divisor latch: DLL and DLM. Also of an `Attach`.

@@ -1,5 +1,5 @@
 use Rattle.std.proofs.Common.{◌≡◌, take}
 use Rattle.uart_calls.proofs.performing.copied.Given as goal
 
-abbrev pub invariant-loop-byte : goal.invariant-loop-byte
-invariant-loop-byte l = l.copy.items ≡ take l.byte-index l.fn.bytes
+abbrev pub invariant-loop-item : goal.invariant-loop-item
+invariant-loop-item g l = l.copy.items ≡ take l.item-index l.fn.items

@@ -8,8 +8,8 @@ use uart_chip::ArrivalMark;
 use uart_language::render;
 use uart_spec::registers::{IER, ISR, LCR, LSR, MCR, MSR};
 use uart_spec::{
-    ByteSendError, InitError, InvalidDivisorError, LoopbackError, NonIntegerDivisorError,
-    RemoteReadyToReceiveError,
+    AttachError, ByteSendError, InitError, InvalidDivisorError, LoopbackError,
+    NonIntegerDivisorError, Received, RemoteReadyToReceiveError,
 };
 
 fn bytes(values: &[u8]) -> ArrayVec<u8, CALL_BYTES> {
@@ -20,6 +20,19 @@ fn bytes(values: &[u8]) -> ArrayVec<u8, CALL_BYTES> {
         }
     }
     bytes
+}
+
+fn with_errors(items: &[(u8, LSR)]) -> ArrayVec<Received, CALL_BYTES> {
+    let mut received = ArrayVec::new();
+    for (byte, errors) in items {
+        if !received.is_full() {
+            received.push(Received {
+                byte: *byte,
+                errors: *errors,
+            });
+        }
+    }
+    received
 }
 
 fn dump() -> ConfigRegisterDump {
@@ -46,6 +59,18 @@ fn each_answer_has_its_line(rt: HostRuntime) -> Result<(), Fail> {
         (Answer::Count(16), "ok 16"),
         (Answer::Bytes(bytes(&[])), "ok -"),
         (Answer::Bytes(bytes(&[0x01, 0x0a, 0xff])), "ok 010aff"),
+        (Answer::BytesWithErrors(with_errors(&[])), "ok -"),
+        (
+            Answer::BytesWithErrors(with_errors(&[
+                (0x41, LSR::empty()),
+                (0x00, LSR::FRAMING_ERROR.union(LSR::BREAK_INTERRUPT)),
+            ])),
+            "ok 41/00 00/18",
+        ),
+        (
+            Answer::AttachRefused(AttachError::DivisorLatchOpen),
+            "err DivisorLatchOpen",
+        ),
         (Answer::Register(0x62), "ok 62"),
         (Answer::Latch(0x0c, 0x00), "ok 0c 00"),
         (

@@ -4,7 +4,7 @@ use super::lists::Call::{Left, Queue, Resume, Service};
 use super::lists::Step::{self, Burst, Changed, Read, Received as GotBytes, Write};
 use super::lists::{
     DATA_READY, DMA_RECEPTION, DMA_TRANSMISSION, EMPTY, FULL, LINE_STATUS, MODEM_STATUS, NONE,
-    THR_EMPTY, TIMEOUT, answers_in, made, play, rings,
+    THR_EMPTY, TIMEOUT, UNKNOWN, answers_in, made, play, rings,
 };
 use bitflags::Flags;
 use std::num::NonZeroU64;
@@ -181,7 +181,7 @@ fn service_ends(rt: HostRuntime) -> Result<(), Fail> {
     assert_equal(&rt, ring.service(), MAX_INTERRUPTS);
     made(&rt, ring.inner().backend(), &[Read(ISR, DMA_RECEPTION); 8]);
     // The code 100 names no interrupt, although one is pending.
-    let mut ring = rings(&rt, &[DMA_TRANSMISSION, 0xc8], 32, 4)?;
+    let mut ring = rings(&rt, &[DMA_TRANSMISSION, UNKNOWN], 32, 4)?;
     assert_equal(&rt, ring.service(), 1);
     // With an empty ring a pump does not look.
     let steps = [
@@ -220,7 +220,7 @@ fn a_handler_ends_with_a_line_that_was_low(rt: HostRuntime) -> Result<(), Fail> 
             8,
             &[
                 Read(ISR, DMA_TRANSMISSION),
-                Read(ISR, 0xc8),
+                Read(ISR, UNKNOWN),
                 Read(IER, 0x0f),
                 Write(IER, 0x00),
                 Write(IER, 0x0f),

@@ -1,5 +1,5 @@
-use Rattle.uart_virtual.proofs.Tells.{level_told}
+use Rattle.uart_virtual.proofs.Tells.{told_stays}
 use Rattle.uart_virtual.proofs.laws.level_is_told.Goals as goal
 
-pub returns : goal.returns
-returns c = level_told
+pub returns-clause-stays : goal.returns-clause-stays
+returns-clause-stays c = told_stays

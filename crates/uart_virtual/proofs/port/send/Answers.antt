@@ -1,4 +1,4 @@
-use Rattle.std.proofs.Common.{◌≡◌, ◌∙◌, ap, sym, false, Bool, true}
+use Rattle.std.proofs.Common.{◌∙◌, ap, sym, false}
 use Rattle.uart_spec.specs.declared.registers.offsets.TheConstants as offsets
 use Rattle.uart_chip.specs.Chip.{ChipState, after_write}
 use Rattle.uart_virtual.specs.Port.{tell, todo_of, settle, is_up}

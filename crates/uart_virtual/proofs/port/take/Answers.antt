@@ -1,7 +1,5 @@
-use Rattle.std.proofs.Common.{◌≡◌, length, ◌∙◌, sym}
-use Rattle.uart_chip.specs.Transmitter.{held}
-use Rattle.uart_virtual.specs.Port.{TakeOutput}
-use Rattle.uart_virtual.proofs.Times.{takes-happen, still_take}
+use Rattle.std.proofs.Common.{◌∙◌, sym}
+use Rattle.uart_virtual.proofs.Times.{still_take}
 use Rattle.uart_virtual.proofs.port.take.Goals as goal
 
 pub finish_still-requires : goal.finish_still-requires

@@ -10,7 +10,6 @@ mod transmit;
 
 use crate::proved::uart_16550::backend::Backend;
 use crate::flags::Flags;
-pub use receive::Received;
 pub use state::DriverState;
 use ::core::num::NonZeroU64;
 use crate::proved::uart_spec::Config;
@@ -28,8 +27,8 @@ const PIECE_SIZE: usize = 128;
 /// A driver for one serial chip of the 16550 family, over any backend.
 ///
 /// Construct it with `new_port`, `new_mmio` or `new_with_backend`, and call `init` before any other
-/// call. `test_loopback` then tests whether the chip works, and `check_connected` whether a remote
-/// is ready.
+/// call, or `attach` on a port that is set up already. `test_loopback` then tests whether the chip
+/// works, and `check_connected` whether a remote is ready.
 ///
 /// No call blocks forever. `init`, `test_loopback`, `send_bytes_exact`, `receive_bytes_exact`, and
 /// the calls `read`, `write` and `flush` of the traits in [`embedded_io`](crate::embedded_io) poll
@@ -64,9 +63,9 @@ pub struct Uart16550<B> {
 impl<B: Backend> Uart16550<B> {
     /// Returns a driver over this backend.
     ///
-    /// Makes no access: call `init` before any other call. Until then the configuration is
-    /// `Config::DEFAULT`, no status bits are saved, and the FIFO is taken to be on. So a send
-    /// before `init` may write 16 bytes into a chip without a FIFO, which keeps one of them.
+    /// Makes no access: call `init` before any other call, or `attach`. Until then the
+    /// configuration is `Config::DEFAULT`, no status bits are saved, and the FIFO is taken to be
+    /// on. So a send before may write 16 bytes into a chip without a FIFO, which keeps one of them.
     ///
     /// # Examples
     ///
@@ -132,7 +131,8 @@ impl<B: Backend> Uart16550<B> {
     }
 
     /// Returns the configuration of the last `init`, with the interrupts as they were enabled and
-    /// disabled since. Makes no access.
+    /// disabled since, and with the clock, the baud rate and the frame of the last `set_frame`
+    /// since. Makes no access.
     ///
     /// If that `init` failed with `InvalidBaudRate`, it is the configuration before it. If it
     /// failed with `DeviceNotPresent` or `Stalled`, it is the new one.
@@ -154,8 +154,8 @@ impl<B: Backend> Uart16550<B> {
         &self.config
     }
 
-    /// Returns whether the chip has a FIFO that is on, as the last `init` or `test_loopback` read
-    /// it from ISR. Makes no access.
+    /// Returns whether the chip has a FIFO that is on, as the last `init`, `attach` or
+    /// `test_loopback` read it from ISR. Makes no access.
     ///
     /// A driver that was never initialised takes the FIFO to be on. If it is on, a send check is
     /// followed by up to 16 bytes, else by one.

@@ -31,11 +31,12 @@ mod mmio;
 mod pio;
 mod tty;
 
-pub use driver::{DEFAULT_SPIN_LIMIT, DriverState, Received, Uart16550};
+pub use driver::{DEFAULT_SPIN_LIMIT, DriverState, Uart16550};
 pub use tty::Uart16550Tty;
 pub use crate::proved::uart_spec as spec;
 pub use crate::proved::uart_spec::{
-    BaudRate, ByteReceiveError, ByteSendError, Config, ConfigRegisterDump, InitError,
-    InvalidAddressError, InvalidDivisorError, LoopbackError, NonIntegerBaudRateError,
-    NonIntegerDivisorError, RemoteReadyToReceiveError, StalledError, Uart16550TtyError,
+    AttachError, BaudRate, ByteReceiveError, ByteSendError, Config, ConfigRegisterDump, InitError,
+    InvalidAddressError, InvalidDivisorError, LoopbackError, NearestDivisorError,
+    NonIntegerBaudRateError, NonIntegerDivisorError, Received, RemoteReadyToReceiveError,
+    StalledError, Uart16550TtyError,
 };

@@ -1,7 +1,7 @@
 //! Transmit and receive rings over the serial driver, for use with interrupts.
 //!
 //! A [`Uart16550Ring`] keeps bytes until the chip has room for them, and received bytes until the
-//! caller takes them. Call [`Uart16550Ring::service`] when the chip raises its interrupt. No call
+//! caller takes them. Call [`Uart16550Ring::handle`] when the chip raises its interrupt. No call
 //! waits, and only [`Uart16550Ring::new`] allocates memory.
 
 mod ring;

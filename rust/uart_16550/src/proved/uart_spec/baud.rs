@@ -141,7 +141,8 @@ pub(crate) fn ticks_of(baud_rate: u32, prescaler_division_factor: Option<u32>) -
     16 * (prescaler_division_factor.unwrap_or(0) as u64 + 1) * baud_rate as u64
 }
 
-// Returns the factor, at least 1, whose product with the ticks is nearest to the frequency.
+// Returns the factor, at least 1, whose product with the ticks is nearest to the frequency, and the
+// larger one if two are equally near.
 pub(crate) fn nearest_factor(frequency: u64, ticks: u64) -> u64 {
     let rounded = (frequency + ticks / 2) / ticks;
     if rounded == 0 { 1 } else { rounded }

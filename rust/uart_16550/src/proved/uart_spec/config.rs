@@ -215,18 +215,23 @@ impl Config {
                 .is_none_or(|factor| factor <= 15)
     }
 
-    /// Returns the configuration with the frequency at which the nearest divisor gives its baud
-    /// rate exactly, if this frequency differs from the true one by at most so many thousandths. So
-    /// `init` accepts it, and writes the nearest divisor. The rate on the line then differs from
-    /// the configured one by as many thousandths at most.
+    /// Returns the configuration for the nearest divisor, if the rate that it gives is near enough.
+    /// Use it for a clock that gives no exact divisor, since `init` and `set_frame` round nothing.
     ///
-    /// Receivers tolerate about 20 thousandths in all, of both sides together.
+    /// In the result only `frequency` differs: it is the one, in hertz, at which the nearest
+    /// divisor gives the configured baud rate exactly. So `init` accepts the result, and writes
+    /// this divisor. If two divisors are equally near, it is the larger one.
+    ///
+    /// The rate on the line differs from the configured one by at most `per_mille` thousandths of
+    /// the configured one: 20 are two per cent, 0 takes an exact divisor alone. A receiver looks at
+    /// the last of ten bits nine and a half bit times after the start of the character. So the two
+    /// sides together may be some 45 thousandths apart, and 20 for each side is a usual choice.
     ///
     /// # Errors
     ///
-    /// - `OutOfRange` if the nearest divisor does not fit into the divisor latch, or its frequency
-    ///   not into 32 bits.
-    /// - `TooFar` if it differs by more.
+    /// - `OutOfRange`, with the nearest divisor, if it is above 65,535, or its frequency needs more
+    ///   than 32 bits.
+    /// - `TooFar`, with the nearest divisor, if it is in range, and the rate differs by more.
     ///
     /// # Panics
     ///
@@ -237,8 +242,13 @@ impl Config {
     /// ```
     /// # include!(concat!(env!("CARGO_MANIFEST_DIR"), "/src/proved/examples.rs"));
     /// # fn main() {}
-    /// # fn example() -> Outcome<()> {
-    /// let config = Config { frequency: 24_000_000, ..Config::DEFAULT }.nearest(20)?;
+    /// # fn example(uart: &mut Uart16550<Device>) -> Outcome<()> {
+    /// let config = Config {
+    ///     frequency: 24_000_000,
+    ///     baud_rate: BaudRate::Baud115200,
+    ///     ..Config::DEFAULT
+    /// };
+    /// uart.init(config.nearest(20)?)?;
     /// # Ok(()) }
     /// ```
     pub fn nearest(self, per_mille: u32) -> Result<Config, NearestDivisorError> {

@@ -83,7 +83,7 @@ impl ::core::fmt::Display for AttachError {
     }
 }
 
-/// Why the nearest divisor for a baud rate cannot be used.
+/// Why the nearest divisor for a baud rate cannot be used. `OutOfRange` comes first.
 #[derive(Clone, Debug, PartialEq, Eq, PartialOrd, Hash)]
 pub enum NearestDivisorError {
     /// The baud rate that the nearest divisor gives differs by more than the tolerance.

@@ -10,6 +10,7 @@ mod baud;
 mod config;
 mod dump;
 mod errors;
+mod received;
 pub mod registers;
 
 pub use baud::{
@@ -22,3 +23,4 @@ pub use errors::{
     InvalidDivisorError, LoopbackError, NearestDivisorError, NonIntegerBaudRateError,
     NonIntegerDivisorError, RemoteReadyToReceiveError, StalledError, Uart16550TtyError,
 };
+pub use received::Received;

@@ -1,4 +1,4 @@
-//! A byte that goes onto the wire at once.
+//! A byte that goes onto the wire at once, without queue, shift register and time.
 
 use crate::proved::uart_chip::controlling::{ChipParts, cut, is_loopback};
 use crate::proved::uart_chip::transmitting::TransmitterParts;
@@ -10,18 +10,20 @@ fn is_ready<T: TransmitterParts>(parts: &T) -> bool {
     parts.queue_len() == 0 && (!parts.shifting().is_some() && parts.has_room())
 }
 
-/// Returns whether a byte that is written to DATA meets an idle transmitter, outside of loopback.
+/// Returns whether a byte that is written to DATA can go onto the wire at once: outside of
+/// loopback, with nothing in the transmitter and with room on the wire.
 pub fn sends_at_once<P: ChipParts>(parts: &P) -> bool {
     !parts.lcr().intersects(LCR::DLAB) && (!is_loopback(parts) && is_ready(parts.transmitter()))
 }
 
-// Puts a byte on the wire.
+// Puts a byte onto the wire. THR is as empty as before, and that counts as a new interrupt.
 fn put_on_wire<T: TransmitterParts>(parts: &mut T, byte: u8) {
     parts.send(byte);
     parts.set_thr_pending(true);
 }
 
-/// Puts a byte on the wire that is written to DATA. The caller must show that it may.
+/// Puts a byte that is written to DATA onto the wire, cut to the word length if the chip does so.
+/// The caller must have asked `sends_at_once`.
 pub fn send_at_once<P: ChipParts>(parts: &mut P, value: u8) {
     assert!(sends_at_once(parts), "the transmitter is not idle");
     let byte = cut(parts, value);

@@ -137,20 +137,50 @@ impl LiveChip {
         self.uart.write(offset, value);
     }
 
-    /// Returns whether a byte that is written to DATA meets an idle transmitter, outside of
-    /// loopback, so that it may go onto the wire at once.
+    /// Returns whether a byte that the guest writes to DATA can go onto the wire at once: outside
+    /// of loopback, with nothing in the transmitter and with room on the wire. Under DLAB, where
+    /// DATA is the divisor latch, it cannot.
+    ///
+    /// # Examples
+    ///
+    /// ```
+    /// # include!(concat!(env!("CARGO_MANIFEST_DIR"), "/src/proved/examples.rs"));
+    /// # fn main() {}
+    /// # fn example(chip: &mut LiveChip, value: u8) -> Outcome<()> {
+    /// if chip.sends_at_once() {
+    ///     chip.send_at_once(value);
+    /// } else {
+    ///     chip.write(offsets::DATA as u8, value);
+    /// }
+    /// # Ok(()) }
+    /// ```
     pub fn sends_at_once(&self) -> bool {
         self.uart.sends_at_once()
     }
 
-    /// Puts a byte on the wire that is written to DATA. The caller must show that it may.
+    /// Puts a byte that the guest writes to DATA onto the wire. The caller must have asked
+    /// `sends_at_once`.
     ///
-    /// If a character takes one tick, that is the same as to write DATA and to let two ticks or
-    /// more pass.
+    /// If a character takes one tick, the transmitter is as after a write of DATA and two ticks or
+    /// more. But no time passes: a reception timeout is as near as before.
     ///
     /// # Panics
     ///
     /// If [`sends_at_once`](Self::sends_at_once) returns false. Nothing changed then.
+    ///
+    /// # Examples
+    ///
+    /// ```
+    /// # include!(concat!(env!("CARGO_MANIFEST_DIR"), "/src/proved/examples.rs"));
+    /// # fn main() {}
+    /// # fn example(chip: &mut LiveChip, value: u8) -> Outcome<()> {
+    /// if chip.sends_at_once() {
+    ///     chip.send_at_once(value);
+    /// } else {
+    ///     chip.write(offsets::DATA as u8, value);
+    /// }
+    /// # Ok(()) }
+    /// ```
     pub fn send_at_once(&mut self, value: u8) {
         self.uart.send_at_once(value);
     }

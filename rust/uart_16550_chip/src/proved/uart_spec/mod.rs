@@ -7,9 +7,11 @@
 
 mod baud;
 mod event;
+mod received;
 pub mod registers;
 
 pub use baud::{CLK_FREQUENCY_HZ, FIFO_SIZE, NUM_REGISTERS};
 pub use event::{
     ArrivalMark, BuildError, Chip, Event, MAX_CHAR_TICKS, MAX_WIRE_CAPACITY, arrivals, refusal,
 };
+pub use received::Received;

@@ -10,7 +10,7 @@ use crate::libraries::uart_16550::{Uart16550, Uart16550Tty};
 use crate::libraries::uart_spec::call::{Answer, CALL_BYTES, Call};
 use crate::libraries::uart_spec::{
     AttachError, ByteReceiveError, ByteSendError, Config, InitError, InvalidDivisorError,
-    LoopbackError, RemoteReadyToReceiveError, StalledError,
+    LoopbackError, Received, RemoteReadyToReceiveError, StalledError,
 };
 
 // Makes one call of the driver, over any backend, and returns its answer. Allocates no memory.
@@ -83,10 +83,18 @@ pub fn perform<B: Backend>(uart: &mut Uart16550Tty<B>, call: &Call) -> Answer
             uart.inner_mut().disable_interrupts(*interrupts);
             Answer::Done
         }
+        Call::RetriggerInterrupts => {
+            uart.inner_mut().retrigger_interrupts();
+            Answer::Done
+        }
         Call::Receive(slots) => receive(uart.inner_mut(), &mut [0; CALL_BYTES][..*slots]),
         Call::ReceiveExact(slots) => receive_exact(
             uart.inner_mut(),
             &mut [0; CALL_BYTES][..*slots],
+        ),
+        Call::ReceiveWithErrors(slots) => receive_with_errors(
+            uart.inner_mut(),
+            &mut [Received::default(); CALL_BYTES][..*slots],
         ),
         Call::Read(slots) => read(uart.inner_mut(), &mut [0; CALL_BYTES][..*slots]),
         Call::Send(bytes) => Answer::Count(uart.inner_mut().send_bytes(bytes.as_slice())),
@@ -96,14 +104,14 @@ pub fn perform<B: Backend>(uart: &mut Uart16550Tty<B>, call: &Call) -> Answer
     }
 }
 
-// Returns a copy of these bytes, for an answer. Copies one by one, because a copy of the whole
+// Returns a copy of these items, for an answer. Copies one by one, because a copy of the whole
 // would call `memcpy`, and the library for C calls nothing.
-fn copied(bytes: &[u8]) -> ArrayVec<u8, CALL_BYTES>
+fn copied<T: Copy + Default>(items: &[T]) -> ArrayVec<T, CALL_BYTES>
 
 {
     let mut copy = ArrayVec::new();
-    for byte in bytes {
-        let _ = copy.try_push(*byte);
+    for item in items {
+        let _ = copy.try_push(*item);
     }
     copy
 }
@@ -132,6 +140,13 @@ fn receive_exact<B: Backend>(uart: &mut Uart16550<B>, slots: &mut [u8]) -> Answe
         Ok(()) => Answer::Bytes(copied(slots)),
         Err(stall) => Answer::ReceiveStalled(copied(&slots[..stall.done])),
     }
+}
+
+fn receive_with_errors<B: Backend>(uart: &mut Uart16550<B>, slots: &mut [Received]) -> Answer
+
+{
+    let count = uart.receive_with_errors(slots);
+    Answer::BytesWithErrors(copied(&slots[..count]))
 }
 
 fn read<B: Backend>(uart: &mut Uart16550<B>, slots: &mut [u8]) -> Answer

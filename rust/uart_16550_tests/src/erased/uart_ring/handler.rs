@@ -3,14 +3,14 @@ use crate::runtime::{AllocGlobal, HostRuntime, assert, assert_eq, assert_ne, for
 // The interrupt handler of the documentation, over a replay.
 
 use super::lists::Step::{self, Burst, Changed, Read, Received, Sent, Write};
-use super::lists::{DATA_READY, EMPTY, LINE_STATUS, MODEM_STATUS, NONE, answers_in, made};
+use super::lists::{DATA_READY, EMPTY, LINE_STATUS, MODEM_STATUS, NONE, UNKNOWN, answers_in, made};
 use crate::libraries::bitflags::Flags;
 use crate::runtime::Global;
 use crate::runtime::Fail;
 use crate::libraries::uart_16550::backend::Backend;
 use crate::libraries::uart_16550::replay::Replay;
 use crate::libraries::uart_16550::{Config, InitError, Uart16550};
-use crate::libraries::uart_ring::{MAX_INTERRUPTS, RingError, Uart16550Ring};
+use crate::libraries::uart_ring::{HandleEnd, MAX_INTERRUPTS, RingError, Uart16550Ring};
 use crate::libraries::uart_spec::registers::{IER, LSR, MSR, offsets};
 
 // Why a port was not started.
@@ -22,11 +22,20 @@ pub enum StartError {
     NoDevice(InitError),
 }
 
+// A chip is broken if this many rounds of the handler in a row did not end with `Idle`.
+//
+// One that works leaves a round unfinished only if interrupts come as fast as they are served, and
+// these rounds are 3,200 interrupts without a pause. At a microsecond for an access they take a
+// tenth of a second, which is how long a broken chip can hold up the computer.
+const MAX_UNFINISHED_ROUNDS: u32 = 100;
+
 // A serial port that is served by interrupts.
 pub struct Port<B> {
     ring: Uart16550Ring<B>,
     overruns: u32,
     bad_characters: u32,
+    // Rounds in a row, up to the last one, that did not end with `Idle`.
+    unfinished_rounds: u32,
 }
 
 // Returns a configuration without THR_EMPTY: the rings enable it as long as bytes wait to be sent.
@@ -57,6 +66,7 @@ impl<B: Backend> Port<B> {
                 ring,
                 overruns: 0,
                 bad_characters: 0,
+                unfinished_rounds: 0,
             }),
             Err(cause) => Err(StartError::NoDevice(cause)),
         }
@@ -64,10 +74,37 @@ impl<B: Backend> Port<B> {
 
     // Handles an interrupt. Does not wait.
     pub fn on_interrupt(&mut self) {
-        // The interrupt line was low meanwhile: what is pending now makes a new edge.
-        self.ring.handle(4 * MAX_INTERRUPTS);
+        if self.is_stuck() {
+            // A `read` has enabled DATA_READY again. Or another device on the line interrupted.
+            self.disable_interrupts();
+            return;
+        }
+        let handled = self.ring.handle(4 * MAX_INTERRUPTS);
         self.look_at_line();
         self.look_at_modem();
+        self.count_round(handled.end);
+    }
+
+    // Disables the chip's interrupts if too many rounds in a row did not end with `Idle`.
+    fn count_round(&mut self, end: HandleEnd) {
+        self.unfinished_rounds = match end {
+            HandleEnd::Idle => 0,
+            HandleEnd::Unknown | HandleEnd::Limit => self.unfinished_rounds.saturating_add(1),
+        };
+        if self.is_stuck() {
+            self.disable_interrupts();
+        }
+    }
+
+    // Disables all interrupts of the chip.
+    fn disable_interrupts(&mut self) {
+        self.ring.inner_mut().disable_interrupts(IER::all());
+    }
+
+    // Returns whether the chip is broken: it showed interrupts without end, so they are disabled.
+    // A `configure` starts the port again.
+    pub fn is_stuck(&self) -> bool {
+        self.unfinished_rounds >= MAX_UNFINISHED_ROUNDS
     }
 
     // Counts what was lost or arrived broken.
@@ -89,19 +126,25 @@ impl<B: Backend> Port<B> {
         }
     }
 
-    // Changes the configuration while bytes may wait. The interrupt is to be masked meanwhile.
+    // Changes the configuration while bytes may wait, and starts a port again that is stuck. The
+    // interrupt is to be masked meanwhile.
     pub fn configure(&mut self, config: Config) -> Result<(), InitError>
 
     {
         self.ring.inner_mut().init(config)?;
+        self.unfinished_rounds = 0;
         // `init` has disabled THR_EMPTY.
         self.ring.resume_transmit();
         Ok(())
     }
 
-    // Sends bytes from the front, and returns how many were accepted. The interrupt is to be
-    // masked meanwhile.
+    // Sends bytes from the front, and returns how many were accepted: none if the port is stuck.
+    // The interrupt is to be masked meanwhile.
     pub fn write(&mut self, bytes: &[u8]) -> usize {
+        if self.is_stuck() {
+            // Nothing would send the rest, and `queue` would enable THR_EMPTY.
+            return 0;
+        }
         self.ring.queue(bytes)
     }
 
@@ -211,6 +254,82 @@ fn a_port_that_is_configured_again() -> Result<(), Fail> {
     })?;
     assert_eq!(rt; port.ring.transmit_len(), 0);
     made(&rt, port.ring.inner().backend(), &steps);
+    Ok(())
+}
+
+// A chip that always shows the same ISR, and an empty transmitter. Its other registers return what
+// was written to them.
+struct StuckChip {
+    isr: u8,
+    registers: [u8; 8],
+}
+
+impl StuckChip {
+    fn new() -> Self {
+        StuckChip {
+            isr: UNKNOWN,
+            registers: [0; 8],
+        }
+    }
+
+    // It raises the interrupt line if any interrupt is enabled.
+    fn is_line_high(&self) -> bool {
+        self.registers[offsets::IER] != 0
+    }
+}
+
+impl Backend for StuckChip {
+
+    fn read(&mut self, register_offset: u8) -> u8 {
+        match register_offset as usize {
+            offsets::ISR => self.isr,
+            offsets::LSR => EMPTY,
+            offset => self.registers.get(offset).copied().unwrap_or(0),
+        }
+    }
+
+    fn write(&mut self, register_offset: u8, value: u8) {
+        if let Some(register) = self.registers.get_mut(register_offset as usize) {
+            *register = value;
+        }
+    }
+}
+
+#[test]
+fn a_broken_chip_ends_without_interrupts() -> Result<(), Fail> {
+    let rt = HostRuntime;
+    let mut port = Port::start(rt.alloc(), StuckChip::new())?;
+    for _round in 0..MAX_UNFINISHED_ROUNDS {
+        assert!(rt; !port.is_stuck());
+        assert!(rt; port.ring.inner().backend().is_line_high());
+        port.on_interrupt();
+    }
+    assert!(rt; port.is_stuck());
+    assert!(rt; !port.ring.inner().backend().is_line_high());
+    // It stays so, whatever is written, and if another device interrupts.
+    assert_eq!(rt; port.write(b"hello"), 0);
+    port.on_interrupt();
+    assert!(rt; port.is_stuck());
+    assert!(rt; !port.ring.inner().backend().is_line_high());
+    port.configure(config())?;
+    assert!(rt; !port.is_stuck());
+    assert!(rt; port.ring.inner().backend().is_line_high());
+    Ok(())
+}
+
+#[test]
+fn an_idle_round_starts_the_count_again() -> Result<(), Fail> {
+    let rt = HostRuntime;
+    let mut port = Port::start(rt.alloc(), StuckChip::new())?;
+    for isr in [UNKNOWN, NONE, UNKNOWN] {
+        port.ring.inner_mut().backend_mut().isr = isr;
+        for _round in 1..MAX_UNFINISHED_ROUNDS {
+            port.on_interrupt();
+        }
+        assert!(rt; !port.is_stuck());
+    }
+    port.on_interrupt();
+    assert!(rt; port.is_stuck());
     Ok(())
 }
 

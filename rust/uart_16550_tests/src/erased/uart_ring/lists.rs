@@ -43,6 +43,9 @@ pub const DMA_RECEPTION: u8 = 0xce;
 // ISR: the end of a DMA transmission.
 pub const DMA_TRANSMISSION: u8 = 0xca;
 
+// ISR: an interrupt is pending whose code has no name.
+pub const UNKNOWN: u8 = 0xc8;
+
 // One access, or those of a burst.
 #[derive(Clone, Copy)]
 pub enum Step {

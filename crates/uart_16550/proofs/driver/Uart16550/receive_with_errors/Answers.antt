@@ -1,4 +1,4 @@
-use Rattle.uart_16550.specs.declared.driver.receive.Received.{Received}
+use Rattle.uart_spec.specs.declared.received.Received.{Received}
 use Rattle.std.proofs.Common.{◌<◌, ◌+◌, length, take, inr, arith, refl, ◌∙◌}
 use Rattle.std.proofs.lemmas.List.{take-set, take_more_set, length-take, drop-set-lt}
 use Rattle.std.proofs.lemmas.Grind.{drop_more_same}

@@ -1,19 +1,20 @@
-use Rattle.std.proofs.Common.{◌≡◌, refl, arith}
-use Rattle.uart_ring.specs.Service.{ServesOne}
-use Rattle.uart_ring.proofs.Handling.{handles_by_look}
-use Rattle.uart_ring.proofs.RingDoings.{ring_then, ring_among, ring_times}
+use Rattle.std.proofs.Common.{◌≡◌, ◌⊎◌, inl, inr}
+use Rattle.uart_ring.specs.Handle.{Retriggers, RetriggersUnlessIdle}
+use Rattle.uart_ring.specs.Lossless.{Implies}
+use Rattle.uart_ring.specs.declared.ring.service.HandleEnd.{HandleEnd}
+use Rattle.uart_ring.specs.declared.ring.service.HandleEnd.TheVariants.{Idle, Unknown, Limit}
+use Rattle.uart_ring.proofs.RingDoings.{ring_then, ring_among, ring_none}
 use Rattle.uart_ring.proofs.ring.Uart16550Ring.handle.Goals as goal
 
-pub returns-in-Err : goal.returns-in-Err
-returns-in-Err g c =
-    ring_among (λ l t. handles_by_look _ _ c.in-Err.end c.loop-served-test.true _ l _ t)
-    (ring_then c.loop-served.invariant c.in-Err.ensures)
+not_idle : (end : HandleEnd) → (end ≡ Unknown) ⊎ (end ≡ Limit) → Implies Retriggers (RetriggersUnlessIdle end)
+not_idle Idle (inl e) f l after t = absurd (cc)
+not_idle Idle (inr e) f l after t = absurd (cc)
+not_idle Unknown e f l after t = t
+not_idle Limit e f l after t = t
 
-pub loop-served-preserved : goal.loop-served-preserved
-loop-served-preserved g c = ring_times _ ServesOne c.loop-served.invariant (ring_among (λ l t. (c.in-Ok.interrupt, t))
-    (ring_then c.in-Ok.ensures c.serve.ensures))
+pub returns-in-Idle : goal.returns-in-Idle
+returns-in-Idle g c = ring_then c.serve_up_to-handled.ensures (ring_among (λ l t. rw c.in-Idle.is t) ring_none)
 
-pub returns : goal.returns
-returns g c =
-    let all : c.loop-served.served ≡ c.args.limit = omega arith in
-    ring_among (λ l t. (refl, t)) (ring_then (rw all at c.loop-served.invariant) c.retrigger.ensures)
+pub returns-in-Unknown : goal.returns-in-Unknown
+returns-in-Unknown g c =
+    ring_then c.serve_up_to-handled.ensures (ring_among (λ l t. not_idle _ c.in-Unknown.is _ l _ t) c.retrigger.ensures)

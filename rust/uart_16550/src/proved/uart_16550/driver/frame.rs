@@ -30,16 +30,22 @@ impl<B: Backend> Uart16550<B> {
     /// (`Config::is_computable`), and stores them in the driver's configuration.
     ///
     /// Writes LCR, DLL, DLM and LCR, and nothing else. So the FIFOs, the outputs to the modem and
-    /// the interrupts stay as they are, no byte is discarded, and a break ends. Does not wait. The
-    /// characters on the line meanwhile may be cut: call `flush` before, if the remote is to read
-    /// them. In between offsets 0 and 1 are the latch, as in `dll_dlm`.
+    /// the interrupts stay as they are, no byte is discarded, and a break ends. Does not wait.
     ///
-    /// `interrupts`, `fifo_trigger_level` and `check_cts_before_sending` are not used.
+    /// A character that is on the line meanwhile is corrupted, since its rest has the new rate and
+    /// frame: one that goes out, and one that comes in. Bytes that wait in the transmitter are sent
+    /// in the new frame. So wait before, until `is_idle` is true or with `flush`.
+    ///
+    /// While DLAB is set, offsets 0 and 1 are the latch, as in `dll_dlm`, so nothing else may
+    /// access the chip. Of the configuration `interrupts`, `fifo_trigger_level` and
+    /// `check_cts_before_sending` are not used.
     ///
     /// # Errors
     ///
-    /// The divisor is not a whole number, or does not fit into the divisor latch. No access was
-    /// made, and nothing changed.
+    /// - `NonInteger` if the divisor is not a whole number: `Config::nearest` finds the nearest.
+    /// - `OutOfRange` if it does not fit into the divisor latch.
+    ///
+    /// No access was made then, and nothing changed.
     ///
     /// # Panics
     ///
@@ -51,7 +57,11 @@ impl<B: Backend> Uart16550<B> {
     /// # include!(concat!(env!("CARGO_MANIFEST_DIR"), "/src/proved/examples.rs"));
     /// # fn main() {}
     /// # fn example(uart: &mut Uart16550<Device>) -> Outcome<()> {
-    /// uart.set_frame(&Config { baud_rate: BaudRate::Baud38400, ..Config::DEFAULT })?;
+    /// uart.flush()?;
+    /// uart.set_frame(&Config {
+    ///     baud_rate: BaudRate::Baud38400,
+    ///     ..Config::DEFAULT
+    /// })?;
     /// # Ok(()) }
     /// ```
     pub fn set_frame(&mut self, config: &Config) -> Result<(), InvalidDivisorError> {
@@ -74,16 +84,18 @@ impl<B: Backend> Uart16550<B> {
 
     // Sets the divisor and the frame.
     fn write_frame(&mut self, divisor: u16, frame: LCR) {
+        // The frame goes in together with DLAB, so that LCR never has a third one in between.
         self.write_register(offsets::LCR, frame.union(LCR::DLAB).bits());
         self.write_register(offsets::DLL, (divisor % 256) as u8);
         self.write_register(offsets::DLM, (divisor / 256) as u8);
         self.write_register(offsets::LCR, frame.bits());
     }
 
-    /// Returns whether the transmitter is empty: the FIFO and the shift register.
+    /// Returns whether the transmitter is empty, both its FIFO and its shift register: whether all
+    /// that was sent is on the line. `flush` waits for that.
     ///
-    /// Does not wait: reads LSR once. The errors that this clears in the chip are saved for the
-    /// next `lsr`.
+    /// Does not wait: reads LSR once. This clears the error bits in the chip; they are saved for
+    /// the next `lsr`.
     ///
     /// # Examples
     ///
@@ -98,7 +110,12 @@ impl<B: Backend> Uart16550<B> {
         self.read_lsr().contains(LSR::TRANSMITTER_EMPTY)
     }
 
-    /// Begins or ends a break: reads LCR, and writes it with `SET_BREAK` set or cleared.
+    /// Begins or ends a break: reads LCR, and writes it with `SET_BREAK` set or cleared, the other
+    /// bits as they were.
+    ///
+    /// In a break the line is held at 0, whatever the transmitter sends. So a character that is
+    /// going out is lost: wait until `is_idle` is true. The remote sees a break once the line was 0
+    /// for a whole character. Does not wait: the caller ends the break after that time.
     ///
     /// # Examples
     ///
@@ -114,7 +131,10 @@ impl<B: Backend> Uart16550<B> {
         self.write_register(offsets::LCR, switched.bits());
     }
 
-    /// Sets the outputs to the modem, and the other bits of MCR but loopback, which is cleared.
+    /// Writes MCR: the outputs to the modem are as these bits say, and loopback is off.
+    ///
+    /// `OUT_2_INT_ENABLE` gates the interrupt line on a PC, and `init` sets it. So leave it in the
+    /// bits if interrupts are used.
     ///
     /// # Examples
     ///
@@ -126,10 +146,13 @@ impl<B: Backend> Uart16550<B> {
     /// # Ok(()) }
     /// ```
     pub fn set_modem_control(&mut self, outputs: MCR) {
+        // In loopback the outputs are inactive at the pins, whatever MCR has, so the remote would
+        // not see what was asked for. The driver itself never leaves the chip in loopback.
         self.write_register(offsets::MCR, outputs.difference(MCR::LOOP_BACK).bits());
     }
 
-    /// Asserts or clears RTS, and leaves the other outputs. Clears loopback.
+    /// Asserts or clears RTS: reads MCR, and writes it with this bit so, the other outputs as they
+    /// were, and loopback off, as in `set_modem_control`.
     ///
     /// # Examples
     ///
@@ -144,7 +167,8 @@ impl<B: Backend> Uart16550<B> {
         self.set_output(MCR::RTS, on);
     }
 
-    /// Asserts or clears DTR, and leaves the other outputs. Clears loopback.
+    /// Asserts or clears DTR: reads MCR, and writes it with this bit so, the other outputs as they
+    /// were, and loopback off, as in `set_modem_control`.
     ///
     /// # Examples
     ///
@@ -159,33 +183,42 @@ impl<B: Backend> Uart16550<B> {
         self.set_output(MCR::DTR, on);
     }
 
+    // Asserts or clears one output.
     fn set_output(&mut self, output: MCR, on: bool) {
         let switched = outputs_of(self.mcr(), output, on);
         self.set_modem_control(switched);
     }
 
-    /// Takes a port as it was set up, for example by firmware: finds out whether the FIFOs are on,
-    /// and returns the divisor latch.
+    /// Takes a port as it was set up, for example by firmware, in place of `init`: finds out
+    /// whether the FIFOs are on, and returns the divisor latch, low byte first.
     ///
-    /// Reads LCR, MCR and ISR, and then the divisor latch as `dll_dlm` does. Nothing else is
-    /// written. The read of ISR acknowledges a `THR_EMPTY` interrupt. `config` is not changed: the
-    /// clock of the chip is not known.
+    /// Reads LCR, MCR and ISR, and then the divisor latch as `dll_dlm` does, which writes LCR and
+    /// restores it. Nothing else is written. The read of ISR acknowledges a `THR_EMPTY` interrupt.
+    /// Afterwards `fifo_enabled` is as ISR showed. `config` is not changed, since the clock of the
+    /// chip is not known: it does not say what the chip has.
     ///
     /// # Errors
     ///
     /// - `DivisorLatchOpen` if DLAB is set.
-    /// - `Loopback` if the chip is in loopback.
+    /// - `Loopback` if DLAB is clear, and the chip is in loopback.
+    ///
+    /// Only registers whose read changes nothing were read then, and the driver is unchanged.
     ///
     /// # Examples
     ///
     /// ```
     /// # include!(concat!(env!("CARGO_MANIFEST_DIR"), "/src/proved/examples.rs"));
     /// # fn main() {}
-    /// # fn example(uart: &mut Uart16550<Device>) -> Outcome<()> {
+    /// # fn example(ports: Device) -> Outcome<()> {
+    /// let mut uart = Uart16550::new_port(0x3f8, ports)?;
     /// let (dll, dlm) = uart.attach()?;
+    /// uart.send_bytes_exact(b"hello")?;
     /// # Ok(()) }
     /// ```
     pub fn attach(&mut self) -> Result<(DLL, DLM), AttachError> {
+        // LCR comes first, since its DLAB says what other offsets are: on later chips some of its
+        // values show further registers in place of MCR and ISR. ISR comes last, since its read
+        // may acknowledge an interrupt, and a refusal is to change nothing.
         if self.lcr().contains(LCR::DLAB) {
             return Err(AttachError::DivisorLatchOpen);
         }

@@ -12,7 +12,7 @@ pub const MAX_INTERRUPTS: usize = 8;
 pub enum HandleEnd {
     /// ISR showed that no interrupt is pending.
     Idle,
-    /// ISR showed an interrupt that has no name. It was not served, and the interrupts were
+    /// ISR showed an interrupt that has no name, which cannot be served. The interrupts were
     /// triggered again.
     Unknown,
     /// As many interrupts as the limit were served, and the interrupts were triggered again.
@@ -29,11 +29,6 @@ pub struct Handled {
 }
 
 impl<B: Backend> Uart16550Ring<B> {
-    // Reads ISR, and returns the pending interrupt.
-    fn next_interrupt(&mut self) -> Option<InterruptType> {
-        self.uart.isr().interrupt_type()
-    }
-
     // Serves one interrupt.
     fn serve(&mut self, interrupt: InterruptType) {
         match interrupt {
@@ -48,11 +43,38 @@ impl<B: Backend> Uart16550Ring<B> {
         }
     }
 
+    // Serves the interrupts that ISR identifies, at most `limit`. Returns how many, and why it
+    // serves no more.
+    fn serve_up_to(&mut self, limit: usize) -> Handled {
+        for served in 0..limit {
+            let isr = self.uart.isr();
+            let Some(interrupt) = isr.interrupt_type() else {
+                let end = if isr.has_pending_interrupt() {
+                    HandleEnd::Unknown
+                } else {
+                    HandleEnd::Idle
+                };
+                return Handled { served, end };
+            };
+            self.serve(interrupt);
+        }
+        // ISR is not read once more to see whether another is pending: a read that shows THR_EMPTY
+        // acknowledges it, and an interrupt that is acknowledged and not served never comes again.
+        Handled {
+            served: limit,
+            end: HandleEnd::Limit,
+        }
+    }
+
     /// Serves the interrupts that ISR identifies, until it identifies none or [`MAX_INTERRUPTS`]
     /// were served. Returns how many.
     ///
-    /// Call it when the chip raises its interrupt. Does not wait. What it does depends on the
-    /// interrupt:
+    /// This is for a program that polls, or that has several chips on one line and looks at each in
+    /// turn. A handler calls `handle`, which also leaves the interrupt line so that the next
+    /// interrupt is noticed. `service` does not write IER for that, and its count alone does not
+    /// tell whether an interrupt is left: one that has no name may be.
+    ///
+    /// Does not wait. What it does depends on the interrupt:
     ///
     /// - Received data, or a reception timeout: bytes are moved to the receive ring. If that is
     ///   full then, receiving is paused: `DATA_READY` is disabled, and bytes stay in the chip until
@@ -63,9 +85,6 @@ impl<B: Backend> Uart16550Ring<B> {
     /// - Modem status: the changes are noted for `take_modem`.
     /// - End of DMA: nothing.
     ///
-    /// If it returns `MAX_INTERRUPTS`, more may be pending. Call it again then if the interrupt
-    /// controller detects edges.
-    ///
     /// With CTS checking no byte is sent while CTS is clear, and no `THR_EMPTY` interrupt is raised
     /// when CTS returns. After such a change, which `take_modem` reports, call `resume_transmit`.
     ///
@@ -74,36 +93,29 @@ impl<B: Backend> Uart16550Ring<B> {
     /// ```
     /// # include!(concat!(env!("CARGO_MANIFEST_DIR"), "/src/proved/examples.rs"));
     /// # fn main() {}
-    /// # use uart_16550::ring::{self, *};
-    /// # struct Port { ring: Uart16550Ring<Device>, overruns: u32 }
-    /// # impl Port {
-    /// # fn example(&mut self) {
-    /// for _round in 0..4 {
-    ///     if self.ring.service() < MAX_INTERRUPTS {
-    ///         break;
-    ///     }
-    /// }
-    /// # } }
+    /// # use uart_16550::ring;
+    /// # fn example(ring: &mut ring::Uart16550Ring<Device>) -> Outcome<()> {
+    /// let served = ring.service();
+    /// # Ok(()) }
     /// ```
     pub fn service(&mut self) -> usize {
-        for count in 0..MAX_INTERRUPTS {
-            let Some(interrupt) = self.next_interrupt() else {
-                return count;
-            };
-            self.serve(interrupt);
-        }
-        MAX_INTERRUPTS
+        self.serve_up_to(MAX_INTERRUPTS).served
     }
 
     /// Makes the chip's interrupt line fall, and rise again if an interrupt is enabled and pending:
     /// reads IER, writes 0, and writes back what it read.
     ///
     /// An interrupt controller that detects edges sees no new edge while the line stays high, so
-    /// the port would not be served again. `handle` calls this when it has to. Call it yourself
+    /// it would not call the handler again. `handle` retriggers where that is needed. Call this
+    /// yourself
     ///
-    /// - at the end of a handler of your own that leaves before ISR has shown that no interrupt is
+    /// - at the end of a handler of your own that returns before ISR has shown that no interrupt is
     ///   pending;
-    /// - after the interrupt was masked at a controller that forgets the edges that come meanwhile.
+    /// - after the interrupt was unmasked at a controller that forgets the edges that come while it
+    ///   is masked, as an I/O APIC does.
+    ///
+    /// If `THR_EMPTY` is enabled and the transmitter is empty, the chip raises that interrupt
+    /// again.
     ///
     /// Does not wait: makes three accesses.
     ///
@@ -121,29 +133,22 @@ impl<B: Backend> Uart16550Ring<B> {
         self.uart.retrigger_interrupts();
     }
 
-    // Reads ISR. Returns the pending interrupt, or why `handle` ends, after what that end does.
-    fn next_or_end(&mut self) -> Result<InterruptType, HandleEnd> {
-        let isr = self.uart.isr();
-        if let Some(interrupt) = isr.interrupt_type() {
-            return Ok(interrupt);
-        }
-        if !isr.has_pending_interrupt() {
-            return Err(HandleEnd::Idle);
-        }
-        self.retrigger();
-        Err(HandleEnd::Unknown)
-    }
-
-    /// Serves interrupts as `service` does, until ISR shows that none is pending, but at most
-    /// `limit`. Otherwise it makes the interrupt line fall and rise again, as `retrigger` does.
-    /// Returns how many were served, and why it ended.
+    /// Handles the chip's interrupt: serves what is pending, as `service` does, but at most `limit`
+    /// interrupts. Returns how many it served, and why it ended.
     ///
-    /// Call it once in an interrupt handler, whether the controller detects levels or edges: the
-    /// line was low at some time during the call, so what is pending afterwards makes a new edge.
-    /// Does not wait, and ends on a chip that shows an interrupt for ever.
+    /// Call it once each time the interrupt handler runs, whether the interrupt controller detects
+    /// levels or edges:
     ///
-    /// If the end is `Unknown` or `Limit` each time the handler runs, the chip is broken: mask the
-    /// interrupt at the controller, or it comes for ever.
+    /// - If the end is `Idle`, no interrupt is pending, and the line is low. The next interrupt
+    ///   makes the line rise.
+    /// - Otherwise an interrupt may be left, and `handle` makes the line fall and rise again, as
+    ///   `retrigger` does. So the controller calls the handler again.
+    ///
+    /// A broken chip may show interrupts for ever, and the controller then calls the handler for
+    /// ever. So count the calls in a row that do not end with `Idle`, and after a number of them
+    /// disable the chip's interrupts.
+    ///
+    /// Does not wait: makes at most 35 accesses for each interrupt of the limit, and 3 more.
     ///
     /// # Examples
     ///
@@ -151,21 +156,18 @@ impl<B: Backend> Uart16550Ring<B> {
     /// # include!(concat!(env!("CARGO_MANIFEST_DIR"), "/src/proved/examples.rs"));
     /// # fn main() {}
     /// # use uart_16550::ring::{self, *};
-    /// # fn example(ring: &mut ring::Uart16550Ring<Device>) -> Outcome<()> {
-    /// let handled = ring.handle(MAX_INTERRUPTS);
-    /// # Ok(()) }
+    /// # struct Port { ring: Uart16550Ring<Device>, overruns: u32 }
+    /// # impl Port {
+    /// # fn example(&mut self) {
+    /// let handled = self.ring.handle(4 * MAX_INTERRUPTS);
+    /// # } }
     /// ```
     pub fn handle(&mut self, limit: usize) -> Handled {
-        for served in 0..limit {
-            match self.next_or_end() {
-                Ok(interrupt) => self.serve(interrupt),
-                Err(end) => return Handled { served, end },
-            }
+        let handled = self.serve_up_to(limit);
+        match handled.end {
+            HandleEnd::Idle => {}
+            HandleEnd::Unknown | HandleEnd::Limit => self.retrigger(),
         }
-        self.retrigger();
-        Handled {
-            served: limit,
-            end: HandleEnd::Limit,
-        }
+        handled
     }
 }

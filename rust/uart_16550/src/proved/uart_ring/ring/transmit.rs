@@ -37,7 +37,7 @@ impl<B: Backend> Uart16550Ring<B> {
     ///
     /// If it queues any, it sends bytes of the ring if the chip has room: up to 16 if its FIFO is
     /// on, else one. Then it enables `THR_EMPTY` if bytes are left in the ring, else it disables
-    /// it. The rest is sent by `service`.
+    /// it. The rest is sent when that interrupt is served.
     ///
     /// Does not wait. If it did not queue all bytes, call it again with the rest of the slice after
     /// interrupts were served.
@@ -65,7 +65,7 @@ impl<B: Backend> Uart16550Ring<B> {
     ///
     /// If bytes wait, it sends some of them if the chip has room: up to 16 if its FIFO is on, else
     /// one. Then it enables `THR_EMPTY` if bytes are left in the ring, else it disables it. The
-    /// rest is sent by `service`. If none wait, it makes no access.
+    /// rest is sent when that interrupt is served. If none wait, it makes no access.
     ///
     /// Does not wait. Call it
     ///

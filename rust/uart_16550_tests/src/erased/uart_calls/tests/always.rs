@@ -4,17 +4,17 @@ use crate::runtime::{AllocGlobal, HostRuntime, assert, assert_eq, assert_ne, for
 // and over the register file: each on a new driver, with its whole list of accesses.
 use super::assert_equal;
 use crate::erased::uart_calls::Answer::{
-    self, Bytes, Count, Done, Flag, InitRefused, Latch, LoopbackRefused, NoData, NotConnected,
-    NotSent, ReceiveStalled, Register, Stalled,
+    self, Bytes, BytesWithErrors, Count, Done, Flag, InitRefused, Latch, LoopbackRefused, NoData,
+    NotConnected, NotSent, ReceiveStalled, Register, Stalled,
 };
 use crate::erased::uart_calls::Call::{
     self, CheckConnected, CheckPresent, Disable, DllDlm, Dump, Enable, Flush, ReadReady,
-    ReadyToReceive, ReadyToSend, Receive, ReceiveExact, Send, SendExact, TestLoopback, TryReceive,
-    TrySend, Write, WriteReady,
+    ReadyToReceive, ReadyToSend, Receive, ReceiveExact, ReceiveWithErrors, RetriggerInterrupts,
+    Send, SendExact, TestLoopback, TryReceive, TrySend, Write, WriteReady,
 };
 use crate::erased::uart_calls::tests::devices::{Constant, RegisterFile, driver};
 use crate::erased::uart_calls::tests::driving::Start::New;
-use crate::erased::uart_calls::tests::driving::{bytes, dump, init, over, row, text, then, writing};
+use crate::erased::uart_calls::tests::driving::{bytes, dump, init, over, row, text, then, with_errors, writing};
 use crate::erased::uart_calls::tests::lists::{Accesses, list};
 use crate::libraries::bitflags::Flags;
 use std::fmt;
@@ -61,6 +61,11 @@ fn looks_at(rt: &impl Abort, byte: u8, ready: bool, [enabled, disabled]: [u8; 2]
             Disable(IER::THR_EMPTY),
             Done,
             ier().write(offsets::IER, disabled),
+        ),
+        (
+            RetriggerInterrupts,
+            Done,
+            ier().write(offsets::IER, 0).write(offsets::IER, byte),
         ),
         (DllDlm, Latch(byte, byte), latch()),
         (Dump, Answer::Dump(shown), latch().registers([byte; 7])),
@@ -111,6 +116,11 @@ fn bytes_over_ff() {
         (TryReceive, Register(0xff), list().then(&byte)),
         (Receive(3), Bytes(bytes(&[0xff; 3])), three()),
         (ReceiveExact(3), Bytes(bytes(&[0xff; 3])), three()),
+        (
+            ReceiveWithErrors(3),
+            BytesWithErrors(with_errors(&[(0xff, 0x1e); 3])),
+            three(),
+        ),
         (Call::Read(3), Bytes(bytes(&[0xff; 3])), three()),
         (TrySend(b'a'), Done, list().look(0xff).data(b"a")),
         (Send(long()), Count(16), burst()),
@@ -153,6 +163,11 @@ fn bytes_over_00() {
         (TryReceive, NoData, list().look(0x00)),
         (Receive(3), Bytes(none()), list().look(0x00)),
         (ReceiveExact(3), ReceiveStalled(none()), stalled()),
+        (
+            ReceiveWithErrors(3),
+            BytesWithErrors(with_errors(&[])),
+            list().look(0x00),
+        ),
         (Call::Read(3), Stalled(0), stalled()),
         (TrySend(b'a'), NotSent(NoCapacity), list().look(0x00)),
         (Send(bytes(b"hello")), Count(0), list().look(0x00)),

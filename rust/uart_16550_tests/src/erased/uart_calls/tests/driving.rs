@@ -15,7 +15,7 @@ use crate::libraries::uart_16550::backend::Backend;
 use crate::libraries::uart_16550::replay::Replay;
 use crate::libraries::uart_16550::{ConfigRegisterDump, Uart16550, Uart16550Tty};
 use crate::libraries::uart_spec::registers::{FifoTriggerLevel, IER, ISR, LCR, LSR, MCR, MSR, offsets};
-use crate::libraries::uart_spec::{BaudRate, Config};
+use crate::libraries::uart_spec::{BaudRate, Config, Received};
 
 // A driver under a terminal, over a device whose reads return listed bytes.
 pub type Replaying<'a> = Uart16550Tty<Replay<'a>>;
@@ -25,6 +25,18 @@ pub fn bytes(slice: &[u8]) -> ArrayVec<u8, CALL_BYTES> {
     let mut bytes = ArrayVec::new();
     let _ = bytes.try_extend_from_slice(slice);
     bytes
+}
+
+// Returns these bytes with their errors, for an answer; none of those that are too many.
+pub fn with_errors(items: &[(u8, u8)]) -> ArrayVec<Received, CALL_BYTES> {
+    let mut received = ArrayVec::new();
+    for (byte, errors) in items {
+        let _ = received.try_push(Received {
+            byte: *byte,
+            errors: LSR::from_bits_retain(*errors),
+        });
+    }
+    received
 }
 
 // Returns `write_text` of this text.

@@ -9,7 +9,7 @@ use crate::erased::uart_calls::Call::{
     WriteReady,
 };
 use crate::erased::uart_calls::tests::driving::Start::{Checking, New};
-use crate::erased::uart_calls::tests::driving::{dump, row, then};
+use crate::erased::uart_calls::tests::driving::{dump, row, then, with_errors};
 use crate::erased::uart_calls::tests::lists::list;
 use crate::libraries::bitflags::Flags;
 use crate::libraries::uart_spec::ByteSendError::{NoCapacity, RemoteNotClearToSend};
@@ -229,5 +229,26 @@ fn ports_that_are_attached() {
         Call::Attach,
         looped,
         &list().read(3, 0x03).read(4, 0x10),
+    );
+}
+
+#[test]
+fn bytes_come_with_their_errors() {
+    let rt = HostRuntime;
+    // A parity error, a framing error, and a miss that shows an overrun.
+    let looked = list()
+        .look(0x05)
+        .read(offsets::DATA, 0x41)
+        .look(0x09)
+        .read(offsets::DATA, 0x42)
+        .look(0x62);
+    let answer = Answer::BytesWithErrors(with_errors(&[(0x41, 0x04), (0x42, 0x08)]));
+    let mut terminal = row(&rt, New, Call::ReceiveWithErrors(3), answer, &looked);
+    then(
+        &rt,
+        &mut terminal,
+        Call::Lsr,
+        Register(0x6e),
+        &list().look(0x60),
     );
 }

@@ -6,16 +6,16 @@ use crate::runtime::{AllocGlobal, HostRuntime, assert, assert_eq, assert_ne, for
 
 use super::assert_equal;
 use crate::erased::uart_calls::Answer::{
-    self, Bytes, Count, Done, Flag, InitRefused, Latch, LoopbackRefused, NoData, NotConnected,
-    ReceiveStalled, Register, Stalled,
+    self, Bytes, BytesWithErrors, Count, Done, Flag, InitRefused, Latch, LoopbackRefused, NoData,
+    NotConnected, ReceiveStalled, Register, Stalled,
 };
 use crate::erased::uart_calls::Call::{
     self, CheckConnected, CheckPresent, Disable, DllDlm, Dump, Enable, Flush, Init, ReadReady,
-    ReadyToReceive, ReadyToSend, Receive, ReceiveExact, Send, SendExact, TestLoopback, TryReceive,
-    TrySend, Write, WriteReady,
+    ReadyToReceive, ReadyToSend, Receive, ReceiveExact, ReceiveWithErrors, RetriggerInterrupts,
+    Send, SendExact, TestLoopback, TryReceive, TrySend, Write, WriteReady,
 };
 use crate::erased::uart_calls::perform;
-use crate::erased::uart_calls::tests::driving::{Replaying, bytes, dump, text};
+use crate::erased::uart_calls::tests::driving::{Replaying, bytes, dump, text, with_errors};
 use crate::libraries::bitflags::Flags;
 use std::fmt;
 use std::num::NonZeroU64;
@@ -112,6 +112,13 @@ fn looks_and_registers_over_a_replay() {
         (Call::Spr, Register(0x60), 20),
         (DllDlm, Latch(0x60, 0x60), 25),
         (Dump, Answer::Dump(dump([0x60; 7], 0x60, 0x60)), 37),
+        (RetriggerInterrupts, Done, 40),
+        (Call::PeekModem, Register(0x60), 41),
+        (Call::IsIdle, Flag(true), 42),
+        (Call::SetBreak(true), Done, 44),
+        (Call::SetRts(true), Done, 46),
+        (Call::SetDtr(false), Done, 48),
+        (Call::Attach, Latch(0x60, 0x60), 56),
     ] {
         shows(&rt, &mut terminal, call, answer, count);
     }
@@ -135,9 +142,10 @@ fn bytes_over_a_replay() {
         // The transmitter is empty, the FIFO off, the byte sent, and none returns.
         (TestLoopback, LoopbackRefused(LoopbackError::Stalled), 42),
         (text("a"), Done, 44),
+        (ReceiveWithErrors(2), BytesWithErrors(with_errors(&[])), 45),
     ] {
         shows(&rt, &mut terminal, call, answer, count);
     }
     assert_equal(&rt, write_str(&mut terminal, "a"), Ok(()));
-    assert_equal(&rt, kept(&terminal), Some(46));
+    assert_equal(&rt, kept(&terminal), Some(47));
 }

@@ -1,0 +1,24 @@
+//! Laws of recordings and traces: their limits, and what times count.
+//!
+//! The contract of each function is a law that callers can cite. The functions do nothing.
+ghost use Rattle.std.specs.Prelude.{◌≡◌};
+ghost use Rattle.uart_judges.specs.declared.findings.verifying.TheConstants.{MOST_TRACE_BYTES};
+ghost use Rattle.uart_judges.specs.declared.recording.fields.TheConstants.{MICROSECOND, SECOND};
+ghost use Rattle.uart_judges.specs.declared.recording.fields.TheConstants.{MOST_MICROSECONDS};
+ghost use Rattle.uart_judges.specs.declared.recording.limits.TheConstants.{MOST_LINE_BYTES};
+ghost use Rattle.uart_judges.specs.declared.recording.limits.TheConstants.{MOST_REPEATS, MOST_SECONDS};
+
+/// The most that a recording or a trace may have.
+pub fn limits_are_these()
+    ensures trace { MOST_TRACE_BYTES ≡ 67108864 }
+    ensures line { MOST_LINE_BYTES ≡ 65535 }
+    ensures repeats { MOST_REPEATS ≡ 100000000 }
+    ensures seconds { MOST_SECONDS ≡ 9999999999 }
+    ensures microseconds { MOST_MICROSECONDS ≡ 999999 }
+{}
+
+/// The nanoseconds of a second and of a microsecond.
+pub fn times_are_these()
+    ensures second { SECOND ≡ 1000000000 }
+    ensures microsecond { MICROSECOND ≡ 1000 }
+{}
