@@ -3,7 +3,6 @@ import dataclasses
 import json
 import re
 
-import emitted
 import listed
 import natives
 import witness
