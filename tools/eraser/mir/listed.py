@@ -27,7 +27,6 @@ SKIPPED = {
     r"^uart_chip::chip::Uart::(fifo|tick|arrive|expire_timeout|perform): generic": SCHEDULED,
     r"^uart_chip::receiver::Receiver::(arrive|waiting_at|arrivals): generic": SCHEDULED,
     r"^uart_chip::transmitter::Transmitter::held_at: generic": SCHEDULED,
-    r"^uart_chip::receiving::expire_timeout: generic": SCHEDULED,
     r"^uart_16550::.*Debug::fmt .*: printed and generic": "prints a backend, which the MIR's formatter does not know",
 }
 
@@ -37,7 +36,6 @@ NOT_IN_MIR = {}
 # Functions of the MIR that are not emitted: a pattern of the name, and why.
 NOT_EMITTED = {
     r"::fn::": "a closure: of the function that has it",
-    r"::Destruct::drop$|\+Destruct::drop$|::Destruct\+\+none::drop$": "what is dropped has nothing to do",
     r"FnOnce::call_once$": "a case of an enum as a function",
     r"Hash::hash$": "derived in both: the MIR has no hasher of Rust's std",
     r"^uart_16550::.*Debug::fmt$": "derived, and prints a backend",

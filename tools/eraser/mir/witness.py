@@ -3,8 +3,11 @@
 A constant that is not public has no function here. It is in the MIR of the functions that use it.
 """
 import hashlib
+import pathlib
 import re
+import shutil
 import subprocess
+import tempfile
 
 import emitted
 
@@ -78,24 +81,27 @@ def text_of(listed):
 
 def prove(kit, rlibs, listed, out):
     """Proves the crate, unless the same text was proved over the same libraries. Returns the file with its MIR, or what went wrong."""
-    text = text_of(listed)
-    made = out / f"{NAME}.rlib"
+    text, mir, kept = text_of(listed), out / f"{NAME}.json", out / f"{NAME}.sum"
     inputs = [text.encode(), *((path / "toolchain" / "mir.json").read_bytes() for path in rlibs.values())]
     found = hashlib.sha256(b"\0".join(inputs)).hexdigest()
-    kept = out / "sum"
-    if kept.exists() and kept.read_text(encoding="ascii") == found:
-        return made / "toolchain" / "mir.json", None
-    source = out / "src"
-    source.mkdir(parents=True, exist_ok=True)
-    (source / "lib.rt").write_text(text, encoding="utf-8")
-    words = [f"{kit}/bin/rattle", "build", "src/lib.rt", "--crate-name", NAME, "--jobs", "1"]
-    words += ["--antt-project", f"{kit}/rattle/logic/antt-project.json", "--logic-built", f"{kit}/logic_built"]
-    externs = {"std": kit / "rlibs" / "std.rlib", **rlibs}
-    words += [word for name, path in externs.items() for word in ("--extern", f"{name}={path}")]
-    folders = dict.fromkeys([kit / "rlibs", *(path.parent for path in rlibs.values())])
-    words += [word for folder in folders for word in ("-L", f"dependency={folder}")]
-    done = subprocess.run([*words, "--statements", "-o", str(made)], cwd=out, capture_output=True, text=True, check=False)
-    if done.returncode:
-        return None, f"status {done.returncode}: {(done.stdout + done.stderr)[-2000:]}"
+    if mir.exists() and kept.exists() and kept.read_text(encoding="ascii") == found:
+        return mir, None
+    # `rt ci` takes no source that is in the repository and in no crate.
+    with tempfile.TemporaryDirectory() as folder:
+        folder = pathlib.Path(folder)
+        (folder / "src").mkdir()
+        (folder / "src" / "lib.rt").write_text(text, encoding="utf-8")
+        words = [f"{kit}/bin/rattle", "build", "src/lib.rt", "--crate-name", NAME, "--jobs", "1"]
+        words += ["--antt-project", f"{kit}/rattle/logic/antt-project.json", "--logic-built", f"{kit}/logic_built"]
+        externs = {"std": kit / "rlibs" / "std.rlib", **rlibs}
+        words += [word for name, path in externs.items() for word in ("--extern", f"{name}={path}")]
+        folders = dict.fromkeys([kit / "rlibs", *(path.parent for path in rlibs.values())])
+        words += [word for one in folders for word in ("-L", f"dependency={one}")]
+        words += ["--statements", "-o", f"{NAME}.rlib"]
+        done = subprocess.run(words, cwd=folder, capture_output=True, text=True, check=False)
+        if done.returncode:
+            return None, f"status {done.returncode}: {(done.stdout + done.stderr)[-2000:]}"
+        out.mkdir(parents=True, exist_ok=True)
+        shutil.copyfile(folder / f"{NAME}.rlib" / "toolchain" / "mir.json", mir)
     kept.write_text(found, encoding="ascii")
-    return made / "toolchain" / "mir.json", None
+    return mir, None
