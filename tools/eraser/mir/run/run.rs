@@ -77,7 +77,7 @@ impl Choices {
     }
 
     /// Returns a number of so many bits: all of 16 bits, if all choices are made; else one that the text has or that is next to it, a small
-    /// one, any one, or a rate or clock that may divide by the last rate.
+    /// one, any one, or a rate or clock that may divide by the last rate, or nearly.
     pub fn number(&mut self, bits: u32) -> u64 {
         let most = u64::MAX >> (64 - bits);
         if self.mode == Mode::All {
@@ -105,10 +105,12 @@ impl Choices {
             3 => 1,
             _ => 1 + self.pick(40),
         };
-        match self.pick(3) {
+        let clock = self.rate.wrapping_mul(16 * factor);
+        match self.pick(4) {
             0 => self.rate,
-            1 => self.rate.wrapping_mul(16 * factor),
-            _ => self.rate.wrapping_mul(16 * factor * (1 + self.pick(16))),
+            1 => clock,
+            2 => clock.wrapping_mul(1 + self.pick(16)),
+            _ => clock.wrapping_mul(1000 + self.pick(20)) / 1000,
         }
     }
 
@@ -144,6 +146,11 @@ impl Choices {
     /// Returns an offset of a register.
     pub fn offset(&mut self) -> u64 {
         self.pick(8)
+    }
+
+    /// Returns how many combinations there are of the choices of this case.
+    fn combinations(&self) -> u128 {
+        self.path.iter().fold(1, |product: u128, (_, bound)| product.saturating_mul(u128::from(*bound)))
     }
 
     /// Goes to the start of the case.
@@ -673,15 +680,20 @@ impl Run {
         let (mut counts, mut is_whole, has_device) = (Counts::default(), false, with == With::Device);
         let mut choices = Choices::new(if has_device { Mode::Answers } else { Mode::All }, self.seed);
         choices.answers = ALL_ANSWERS;
-        for _ in 0..if has_device { MOST_OF_ANSWERS } else { MOST_OF_ALL } {
+        let mut most = if has_device { MOST_OF_ANSWERS } else { MOST_OF_ALL };
+        let mut random = self.random;
+        while counts.cases < most {
             counts.case(&mut choices, &mut breaks, &mut rust, &mut mir);
+            if !has_device && choices.combinations() > u128::from(MOST_OF_ALL) {
+                (most, random) = (0, self.random * 10);
+            }
             if !choices.advance() {
                 is_whole = !has_device;
                 break;
             }
         }
         if !is_whole || with == With::Writer {
-            self.at_random(self.random, &mut counts, &mut breaks, &mut rust, &mut mir);
+            self.at_random(random, &mut counts, &mut breaks, &mut rust, &mut mir);
         }
         self.report(name, is_whole, &counts);
     }
