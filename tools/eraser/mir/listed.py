@@ -15,7 +15,7 @@ OF_KIT = ["core", "std_heap", "std_alloc", "bitflags", "arrayvec", "circular_buf
 SHOWS_REGISTER = "shows a register, of which `Debug` is by hand"
 DIFFER = {
     r"::registers::\w+::[A-Z]{3}Debug::fmt": "`Debug` of a register shows the names of its bits: by hand, in flags.rs",
-    r"::receive::ReceivedDebug::fmt": SHOWS_REGISTER,
+    r"^uart_spec::received::ReceivedDebug::fmt": SHOWS_REGISTER,
     r"::state::DriverStateDebug::fmt": SHOWS_REGISTER,
     r"::config::ConfigDebug::fmt": SHOWS_REGISTER,
     r"::dump::ConfigRegisterDumpDebug::fmt": SHOWS_REGISTER,
