@@ -54,7 +54,6 @@ NOT_REACHED = {
     r"^uart_chip::receiving::replace 2 case 0$": "an empty receiver, of which nothing is replaced",
     r"^uart_chip::receiving::replace (4 else|5 if|6 else)$": OF_ORIGINS,
     r"^uart_chip::transmitting::(refill 1 if|shift 3 if|shift 8 else)$": IN_JUMPS,
-    r"^uart_virtual::port::VirtualPort::new 2 case 1$": "a chip that is refused: that of a port has a time and a wire that are in range",
 }
 
 # Functions that read outside of an empty slice, as their contract allows.
