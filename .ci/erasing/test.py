@@ -10,6 +10,7 @@ import around
 import chip
 import crate
 import deceptions
+import guards
 import second
 import table
 import words
@@ -541,6 +542,13 @@ class Tests:
             found = self.refused(name, f"{self.texts[name]}\n{form}\n")
             self.count(cause in found, f"{form!r}: {found or 'accepted'}, and not: {cause}")
 
+    def defined(self):
+        for name, old, new in deceptions.DEFINED:
+            text = (ROOT / "crates" / guards.MEANINGS[name][1]).read_text(encoding="utf-8")
+            self.count(guards.is_defined(name, text), f"{name}: defined otherwise")
+            is_seen = text.count(old) == 1 and not guards.is_defined(name, text.replace(old, new))
+            self.count(is_seen, f"{name}: {old!r} to {new!r}: accepted")
+
     def widened(self):
         for *forms, cause in deceptions.WIDENED:
             texts = {name: f"{self.texts[name]}\n{form}\n" for name, form in forms}
@@ -665,6 +673,7 @@ def run():
     tests.forms(deceptions.FORMS)
     tests.sources(deceptions.SOURCES)
     tests.widened()
+    tests.defined()
     tests.erasures(ERASURES)
     tests.bytes()
     tests.files()
