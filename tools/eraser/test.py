@@ -573,13 +573,13 @@ class Tests:
             found = second.differences(sources, files, self.table)
             causes = self.compared(name, changed.encode())
             self.count(old in text and len(found) == 1 and found[0].startswith(f"{name}: "), f"second: {name}: {old!r} to {new!r}: {found}")
-            self.count(causes == [f"{name}: not what the sources give: run .ci/erase emit"], f"{name}: {old!r}: {causes}")
+            self.count(causes == [f"{name}: not what the sources give: run tools/eraser/erase emit"], f"{name}: {old!r}: {causes}")
 
     def bytes(self):
         for name, old, new in BYTES:
             text = self.there[name].decode()
             causes = self.compared(name, text.replace(old, new, 1).encode())
-            self.count(old in text and causes == [f"{name}: not what the sources give: run .ci/erase emit"], f"{name}: {old!r}: {causes}")
+            self.count(old in text and causes == [f"{name}: not what the sources give: run tools/eraser/erase emit"], f"{name}: {old!r}: {causes}")
 
     def compared(self, name, data):
         return crate.compare(self.there, {**self.there, name: data}, [])
