@@ -13,6 +13,7 @@ TYPE = re.compile(
 )
 OWNER = re.compile(r"(?:^|\n)(impl|(?:pub(?:\([^)]*\))? )?trait)\b([^{;]*)\{")
 CONSTANT = re.compile(r"\n( *)((?:pub(?:\([^)]*\))? )?)const (\w+)\s*:\s*([^=;]+?)\s*[=;]")
+BEGINS = re.compile(r"\b(?:fn|struct|enum|union|static) \w|\bconst [A-Z_]\w*\s*:")
 NUMBER = re.compile(r"\b(0x[0-9a-fA-F_]+|0b[01_]+|\d[\d_]*)(?:_?[ui](?:8|16|32|64|size))?\b")
 
 
@@ -59,14 +60,21 @@ class Emitted:
 
     def __init__(self, folder):
         self.modules, self.types, self.functions, self.constants, self.numbers = {}, [], [], [], set()
+        # How many functions, types and constants the text begins, whatever is read of them.
+        self.begun = 0
         for file in sorted(folder.rglob("*.rs")):
             parts = [one for one in file.relative_to(folder).with_suffix("").parts if one != "mod"]
             if parts and parts != ["examples"]:
                 self.modules[file] = "::".join(parts)
                 self.read(file, "::".join(parts))
 
+    def missing(self):
+        """How many functions, types and constants were not read."""
+        return self.begun - len(self.functions) - len(self.types) - len(self.constants)
+
     def read(self, file, module):
         text = blank(file.read_text(encoding="ascii"))
+        self.begun += len(BEGINS.findall(text))
         self.numbers |= {int(found[1].replace("_", ""), 0) for found in NUMBER.finditer(text)}
         for found in TYPE.finditer(text):
             self.types.append(read_type(found, text, file, module))

@@ -5,8 +5,8 @@ An entry that is not needed is a failure, so that none outlives its reason.
 
 # The packages: the crates of each, which have the MIR, and the features that are compiled.
 PACKAGES = {
-    "uart_16550": (["uart_spec", "uart_16550"], ["alloc"]),
-    "uart_16550_chip": (["uart_spec", "uart_chip", "uart_live"], []),
+    "uart_16550": (["uart_spec", "uart_16550", "uart_ring"], ["alloc"]),
+    "uart_16550_chip": (["uart_spec", "uart_chip", "uart_live", "uart_virtual"], []),
 }
 # The crates of the kit whose MIR they reach.
 OF_KIT = ["core", "std_heap", "std_alloc", "bitflags", "arrayvec", "circular_buffer"]
@@ -15,7 +15,7 @@ OF_KIT = ["core", "std_heap", "std_alloc", "bitflags", "arrayvec", "circular_buf
 SHOWS_REGISTER = "shows a register, of which `Debug` is by hand"
 DIFFER = {
     r"::registers::\w+::[A-Z]{3}Debug::fmt": "`Debug` of a register shows the names of its bits: by hand, in flags.rs",
-    r"::receive::ReceivedDebug::fmt": SHOWS_REGISTER,
+    r"^uart_spec::received::ReceivedDebug::fmt": SHOWS_REGISTER,
     r"::state::DriverStateDebug::fmt": SHOWS_REGISTER,
     r"::config::ConfigDebug::fmt": SHOWS_REGISTER,
     r"::dump::ConfigRegisterDumpDebug::fmt": SHOWS_REGISTER,
@@ -27,7 +27,6 @@ SKIPPED = {
     r"^uart_chip::chip::Uart::(fifo|tick|arrive|expire_timeout|perform): generic": SCHEDULED,
     r"^uart_chip::receiver::Receiver::(arrive|waiting_at|arrivals): generic": SCHEDULED,
     r"^uart_chip::transmitter::Transmitter::held_at: generic": SCHEDULED,
-    r"^uart_chip::receiving::expire_timeout: generic": SCHEDULED,
     r"^uart_16550::.*Debug::fmt .*: printed and generic": "prints a backend, which the MIR's formatter does not know",
 }
 
@@ -37,7 +36,6 @@ NOT_IN_MIR = {}
 # Functions of the MIR that are not emitted: a pattern of the name, and why.
 NOT_EMITTED = {
     r"::fn::": "a closure: of the function that has it",
-    r"::Destruct::drop$|\+Destruct::drop$|::Destruct\+\+none::drop$": "what is dropped has nothing to do",
     r"FnOnce::call_once$": "a case of an enum as a function",
     r"Hash::hash$": "derived in both: the MIR has no hasher of Rust's std",
     r"^uart_16550::.*Debug::fmt$": "derived, and prints a backend",
@@ -89,6 +87,7 @@ CONTRACTS = {
     "uart_live::live::LiveChip::send_at_once": "!a0.sends_at_once()",
     "uart_virtual::port::VirtualPort::read": "a1 >= 8",
     "uart_virtual::port::VirtualPort::write": "a1 >= 8",
+    "uart_virtual::port::send": "!a0.sends_at_once()",
     "uart_virtual::port::write": "a1 >= 8",
     "uart_virtual::port::write_slowly": "a1 >= 8",
 }
@@ -105,6 +104,14 @@ SEQUENCES = {
             "let wire = {uart_live::live::LiveChip::wire}(&raw mut state as *mut u8); "
             "let made = {uart_live::live::LiveChip::from_data}(&raw mut data as *mut u8, wire); "
             "if made.v0.f0 == 0 { state = made.v0.f1; }",
+        ),
+        # and with a wire that is longer than there are places
+        (
+            "let mut data = state.data(); data.transmitter.wire_capacity += 100; "
+            "out.push(LiveChip::from_data(&data, state.wire()).is_ok() as u64);",
+            "let mut data = {uart_live::live::LiveChip::data}(&raw mut state as *mut u8); data.f3.f2 += 100; "
+            "let wire = {uart_live::live::LiveChip::wire}(&raw mut state as *mut u8); "
+            "let made = {uart_live::live::LiveChip::from_data}(&raw mut data as *mut u8, wire); out.push((made.v0.f0 == 0) as u64);",
         ),
     ],
     "uart_virtual::port::VirtualPort::new": [],

@@ -3,6 +3,7 @@ index of its method, or by the name of a function: the types of the arguments, t
 
 DEVICE = ("Named", "Device", ())
 ERROR = ("Named", "core::fmt::Error", ())
+NO_MEMORY = ("Named", "core::alloc::AllocError", ())
 
 
 def ok(translation, value, error, text):
@@ -31,8 +32,10 @@ def write_str(translation, types):
 
 
 def allocate(translation, types):
-    result, done = ok(translation, "Ptr", ("Named", "core::alloc::AllocError", ()), "crate::run::memory(a2)")
-    return ["P", "u64", "u64"], result, f'assert!(a2 <= 1 << 20, "no such memory"); {done}'
+    result, done = ok(translation, "Ptr", NO_MEMORY, "memory")
+    failed = f"{result} {{ v1: {result}v1 {{ f0: 1, f1: {translation.rust(NO_MEMORY)} {{ }} }} }}"
+    body = f"let memory = crate::run::allocate(a2); if memory.is_null() {{ {failed} }} else {{ {done} }}"
+    return ["P", "u64", "u64"], result, body
 
 
 def free(translation, types):
@@ -41,7 +44,7 @@ def free(translation, types):
 
 def clone(translation, types):
     device = translation.rust(DEVICE)
-    result, done = ok(translation, DEVICE, ("Named", "core::alloc::AllocError", ()), f"{device} {{ }}")
+    result, done = ok(translation, DEVICE, NO_MEMORY, f"{device} {{ }}")
     return ["P"], result, done
 
 

@@ -3,9 +3,9 @@ import dataclasses
 import json
 import re
 
-import emitted
 import listed
 import natives
+import witness
 from translate import Unknown
 from values import without_lifetimes
 
@@ -33,7 +33,7 @@ class Argument:
 class Pairs:
     """The emitted functions with their MIR. `texts` has what is put behind each file, `calls` what runs it."""
 
-    def __init__(self, declared, translation, crates):
+    def __init__(self, declared, translation, crates, constants):
         self.declared, self.translation, self.crates = declared, translation, crates
         self.texts, self.calls, self.compared, self.skipped, self.unpaired = {}, [], {}, {}, []
         self.pairs, self.methods, self.paths = {}, {}, set()
@@ -51,6 +51,8 @@ class Pairs:
         self.derived()
         self.printed()
         self.sequences()
+        for name, _, path, inside in constants:
+            self.constant(name, path, inside)
 
     @staticmethod
     def title(function):
@@ -115,8 +117,9 @@ class Pairs:
             mine, theirs = (f"{slot}: ::std::vec::Vec<{one}> = choices.list({least});" for one in (slice_of[2], item))
             return Argument(mine, theirs, f"&{'mut ' if is_changed else ''}{name}[..]", pass_to, is_changed)
         if text.startswith("Global"):
-            zeroed = f"{slot}: {self.translation.rust_outside(of)} = core::mem::zeroed();"
-            return Argument("", zeroed, "crate::queue::Global::heap()", name)
+            lent = "let memory = crate::queue::Memory::new(crate::run::lent(crate::run::memory_of(choices)));"
+            zeroed = f"crate::run::memory_of(choices); {slot}: {self.translation.rust_outside(of)} = core::mem::zeroed();"
+            return Argument(lent, zeroed, "memory.global()", name)
         reference = re.fullmatch(r"&(mut )?(.*)", text, re.DOTALL)
         if reference:
             if of[0] != "Ref":
@@ -269,6 +272,17 @@ class Pairs:
         )
         self.compared[title] = name
         self.calls.append(f"crate::proved::{self.declared.modules[one.file]}::compare_{order}(run);")
+
+    def constant(self, name, path, inside):
+        """Writes a comparison of a constant with the function of the witness that returns it."""
+        function, _, _ = self.instance(f"{witness.NAME}::{name}")
+        title = f"the constant {inside}"
+        self.calls.append(
+            f"run.compare({json.dumps(title)}, crate::run::With::Nothing, |_| false, "
+            f"|_| {{ let mut out = {WORDS}; crate::run::Value::show(&crate::proved::{path}, &mut out); out }}, "
+            f"|_| {{ let mut out = {WORDS}; crate::run::Value::show(&unsafe {{ crate::mir::{function}() }}, &mut out); out }});"
+        )
+        self.compared[title] = title
 
     # Sequences.
 

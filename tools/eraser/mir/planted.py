@@ -41,7 +41,14 @@ PLANTED = {
             "assert!(pdf < 15,",
             [r"PSD::set_pdf: .*a panic within the contract"],
         ),
-        # one of two accesses, which returns the same
+        # a constant that no function uses
+        (
+            "uart_spec/registers/offsets.rs",
+            "pub const PSD: usize = MSR;",
+            "pub const PSD: usize = 4;",
+            [r"the constant uart_spec::registers::offsets::PSD: 1 of 1 cases differ"],
+        ),
+        # an access too many, which returns the same
         (
             "uart_16550/driver/status.rs",
             "    pub fn ier(&mut self) -> IER {\n",
@@ -69,11 +76,16 @@ PLANTED = {
         ),
     ],
     "uart_16550_chip": [
-        ("uart_chip/receiver.rs", "self.is_overrun = on;", "self.is_overrun = !on;", [r"sequences of uart_live::live::LiveChip: \d+ of"]),
+        (
+            "uart_chip/transmitting.rs",
+            "    parts.set_thr_pending(false);\n",
+            "    parts.set_thr_pending(true);\n",
+            [r"sequences of uart_live::live::LiveChip: \d+ of"],
+        ),
         (
             "uart_live/sound.rs",
             "<= TIMEOUT_CHARACTERS * char_ticks as u32",
-            "< TIMEOUT_CHARACTERS * char_ticks as u32",
+            "<= 1 + TIMEOUT_CHARACTERS * char_ticks as u32",
             [r"sound::is_sound_receiver: \d+ of \d+ cases differ"],
         ),
         (
@@ -84,9 +96,9 @@ PLANTED = {
         ),
         (
             "uart_chip/controlling.rs",
-            'assert!(offset < 8, "no register has this offset");\n    ',
-            "",
-            [r"LiveChip::(read|write): .*a broken contract is not refused"],
+            'fn read_register<P: ChipParts>(parts: &mut P, offset: u8) -> u8 {\n    assert!(offset < 8, "no register has this offset");\n',
+            "fn read_register<P: ChipParts>(parts: &mut P, offset: u8) -> u8 {\n",
+            [r"LiveChip::read: .*a broken contract is not refused"],
         ),
     ],
 }

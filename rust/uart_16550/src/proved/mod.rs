@@ -1,4 +1,4 @@
-//! The proved crates, erased: made by `.ci/erase emit` from `crates/`. Do not edit.
+//! The proved crates, erased: made by `tools/eraser/erase emit` from `crates/`. Do not edit.
 #![forbid(unsafe_code)]
 #![allow(unused_imports, unused_parens, unused_braces, dead_code, clippy::all, clippy::pedantic)]
 

@@ -1,4 +1,4 @@
-//! Made by `.ci/erase emit` from the tests in `crates/`. Do not edit.
+//! Made by `tools/eraser/erase emit` from the tests in `crates/`. Do not edit.
 #![allow(warnings)]
 
 pub mod access;

@@ -77,7 +77,7 @@ impl Choices {
     }
 
     /// Returns a number of so many bits: all of 16 bits, if all choices are made; else one that the text has or that is next to it, a small
-    /// one, any one, or a rate or clock that may divide by the last rate.
+    /// one, any one, or a rate or clock that may divide by the last rate, or nearly.
     pub fn number(&mut self, bits: u32) -> u64 {
         let most = u64::MAX >> (64 - bits);
         if self.mode == Mode::All {
@@ -105,10 +105,12 @@ impl Choices {
             3 => 1,
             _ => 1 + self.pick(40),
         };
-        match self.pick(3) {
+        let clock = self.rate.wrapping_mul(16 * factor);
+        match self.pick(4) {
             0 => self.rate,
-            1 => self.rate.wrapping_mul(16 * factor),
-            _ => self.rate.wrapping_mul(16 * factor * (1 + self.pick(16))),
+            1 => clock,
+            2 => clock.wrapping_mul(1 + self.pick(16)),
+            _ => clock.wrapping_mul(1000 + self.pick(20)) / 1000,
         }
     }
 
@@ -144,6 +146,11 @@ impl Choices {
     /// Returns an offset of a register.
     pub fn offset(&mut self) -> u64 {
         self.pick(8)
+    }
+
+    /// Returns how many combinations there are of the choices of this case.
+    fn combinations(&self) -> u128 {
+        self.path.iter().fold(1, |product: u128, (_, bound)| product.saturating_mul(u128::from(*bound)))
     }
 
     /// Goes to the start of the case.
@@ -399,12 +406,13 @@ struct Case {
     kept: [u8; 8],
     printed: Vec<u8>,
     room: usize,
+    memory: u64,
 }
 
 std::thread_local! {
     static CASE: RefCell<Case> = const { RefCell::new(Case {
         choices: core::ptr::null_mut(), answers: 0, accesses: Vec::new(), kind: None, queue: VecDeque::new(), kept: [0; 8],
-        printed: Vec::new(), room: usize::MAX,
+        printed: Vec::new(), room: usize::MAX, memory: u64::MAX,
     }) };
 }
 
@@ -510,12 +518,35 @@ const MOST_TURNS: u64 = 100_000;
 const PLACES: usize = 40_000;
 static REACHED: [AtomicBool; PLACES] = [const { AtomicBool::new(false) }; PLACES];
 
-/// Returns memory for so many bytes, until the case ends.
+/// Returns how many bytes of memory a case has: enough for two rings, or too few.
+pub fn memory_of(choices: &mut Choices) -> u64 {
+    let count = if choices.pick(4) == 0 { choices.pick(300) } else { 1 << 14 };
+    CASE.with_borrow_mut(|case| case.memory = count);
+    count
+}
+
+/// Returns so many bytes of memory, until the case ends.
 pub fn memory(count: u64) -> *mut u8 {
     let start = USED.fetch_add(count / 8 + 1, Ordering::Relaxed);
     assert!(start + count / 8 < CELLS as u64, "no memory for the MIR");
     // SAFETY: the cell is one of the array.
     unsafe { (&raw mut MEMORY_OF_CASE).cast::<u64>().add(start as usize).cast() }
+}
+
+/// Returns the memory of a case, as Rust code takes it.
+pub fn lent(count: u64) -> &'static mut [u8] {
+    // SAFETY: there are so many bytes, which nothing else has in this case.
+    unsafe { core::slice::from_raw_parts_mut(memory(count), count as usize) }
+}
+
+/// Returns memory for the MIR, or null if the case has no more.
+pub fn allocate(count: u64) -> *mut u8 {
+    let left = CASE.with_borrow_mut(|case| {
+        let left = case.memory.checked_sub(count);
+        case.memory = left.unwrap_or(case.memory);
+        left
+    });
+    if left.is_some() { memory(count) } else { core::ptr::null_mut() }
 }
 
 /// Ends the MIR if it goes round without an end.
@@ -550,7 +581,7 @@ fn once(choices: &mut Choices, side: Side) -> (Outcome, Vec<u64>) {
     CASE.with_borrow_mut(|case| {
         *case = Case {
             choices: place, answers, accesses: Vec::new(), kind: None, queue: VecDeque::new(), kept: [0; 8], printed: Vec::new(),
-            room: usize::MAX,
+            room: usize::MAX, memory: u64::MAX,
         }
     });
     let done = catch_unwind(AssertUnwindSafe(|| side(choices)));
@@ -649,15 +680,20 @@ impl Run {
         let (mut counts, mut is_whole, has_device) = (Counts::default(), false, with == With::Device);
         let mut choices = Choices::new(if has_device { Mode::Answers } else { Mode::All }, self.seed);
         choices.answers = ALL_ANSWERS;
-        for _ in 0..if has_device { MOST_OF_ANSWERS } else { MOST_OF_ALL } {
+        let mut most = if has_device { MOST_OF_ANSWERS } else { MOST_OF_ALL };
+        let mut random = self.random;
+        while counts.cases < most {
             counts.case(&mut choices, &mut breaks, &mut rust, &mut mir);
+            if !has_device && choices.combinations() > u128::from(MOST_OF_ALL) {
+                (most, random) = (0, self.random * 10);
+            }
             if !choices.advance() {
                 is_whole = !has_device;
                 break;
             }
         }
         if !is_whole || with == With::Writer {
-            self.at_random(self.random, &mut counts, &mut breaks, &mut rust, &mut mir);
+            self.at_random(random, &mut counts, &mut breaks, &mut rust, &mut mir);
         }
         self.report(name, is_whole, &counts);
     }

@@ -114,6 +114,6 @@ def emitted(root):
         text = erased(crate.text_of(name, found[name]), module)
         files[f"{target}/mod.rs" if target in folders else f"{target}.rs"] = text
     modules = sorted({target.split("/")[0] for _, target, _ in parts})
-    head = "//! Made by `.ci/erase emit` from the tests in `crates/`. Do not edit.\n#![allow(warnings)]\n\n"
+    head = "//! Made by `tools/eraser/erase emit` from the tests in `crates/`. Do not edit.\n#![allow(warnings)]\n\n"
     files["mod.rs"] = head + "".join(f"pub mod {module};\n" for module in modules)
     return {name: text.encode("ascii") for name, text in files.items()}

@@ -10,6 +10,7 @@ import around
 import chip
 import crate
 import deceptions
+import guards
 import second
 import table
 import words
@@ -541,6 +542,13 @@ class Tests:
             found = self.refused(name, f"{self.texts[name]}\n{form}\n")
             self.count(cause in found, f"{form!r}: {found or 'accepted'}, and not: {cause}")
 
+    def defined(self):
+        for name, old, new in deceptions.DEFINED:
+            text = (ROOT / "crates" / guards.MEANINGS[name][1]).read_text(encoding="utf-8")
+            self.count(guards.is_defined(name, text), f"{name}: defined otherwise")
+            is_seen = text.count(old) == 1 and not guards.is_defined(name, text.replace(old, new))
+            self.count(is_seen, f"{name}: {old!r} to {new!r}: accepted")
+
     def widened(self):
         for *forms, cause in deceptions.WIDENED:
             texts = {name: f"{self.texts[name]}\n{form}\n" for name, form in forms}
@@ -565,13 +573,13 @@ class Tests:
             found = second.differences(sources, files, self.table)
             causes = self.compared(name, changed.encode())
             self.count(old in text and len(found) == 1 and found[0].startswith(f"{name}: "), f"second: {name}: {old!r} to {new!r}: {found}")
-            self.count(causes == [f"{name}: not what the sources give: run .ci/erase emit"], f"{name}: {old!r}: {causes}")
+            self.count(causes == [f"{name}: not what the sources give: run tools/eraser/erase emit"], f"{name}: {old!r}: {causes}")
 
     def bytes(self):
         for name, old, new in BYTES:
             text = self.there[name].decode()
             causes = self.compared(name, text.replace(old, new, 1).encode())
-            self.count(old in text and causes == [f"{name}: not what the sources give: run .ci/erase emit"], f"{name}: {old!r}: {causes}")
+            self.count(old in text and causes == [f"{name}: not what the sources give: run tools/eraser/erase emit"], f"{name}: {old!r}: {causes}")
 
     def compared(self, name, data):
         return crate.compare(self.there, {**self.there, name: data}, [])
@@ -665,6 +673,7 @@ def run():
     tests.forms(deceptions.FORMS)
     tests.sources(deceptions.SOURCES)
     tests.widened()
+    tests.defined()
     tests.erasures(ERASURES)
     tests.bytes()
     tests.files()

@@ -1,10 +1,10 @@
-"""The tables of docs/ERASER.md, which are the tables of the program."""
+"""The tables of tools/eraser/README.md, which are the tables of the program."""
 import re
 
 import chip
 import table
 
-NAME = "docs/ERASER.md"
+NAME = "tools/eraser/README.md"
 BLOCK = re.compile(r"(<!-- eraser: ([a-z ]+) -->\n).*?(?=<!-- end -->\n)", re.DOTALL)
 
 

@@ -1,4 +1,4 @@
-"""What the eraser knows of the driver. docs/ERASER.md shows these tables, and those of the chip, in chip.py."""
+"""What the eraser knows of the driver. tools/eraser/README.md shows these tables, and those of the chip, in chip.py."""
 import collections
 import pathlib
 

@@ -84,10 +84,15 @@ def causes(files, allow, root=ROOT):
         if file.name.split("/")[0] not in allow.HIDDEN_IN:
             found += promises(file)
     for name in sorted(used):
-        _, place, definition = MEANINGS[name]
-        if definition not in definitions((root / "crates" / place).read_text(encoding="utf-8")):
+        place = MEANINGS[name][1]
+        if not is_defined(name, (root / "crates" / place).read_text(encoding="utf-8")):
             found.append(f"crates/{place}: `{name}`, which a guard tests, is defined otherwise: look at the guards that use it")
     return found
+
+
+def is_defined(name, text):
+    """Whether a word is defined in this file as the table says."""
+    return MEANINGS[name][2] in definitions(text)
 
 
 def definitions(text):

@@ -17,15 +17,15 @@ import words
 from items import File
 from tokens import Refused, tokens
 
-ROOT_TEXT = """//! The proved crates, erased: made by `.ci/erase emit` from `crates/`. Do not edit.
+ROOT_TEXT = """//! The proved crates, erased: made by `tools/eraser/erase emit` from `crates/`. Do not edit.
 #![forbid(unsafe_code)]
 #![allow(unused_imports, unused_parens, unused_braces, dead_code, clippy::all, clippy::pedantic)]
 
 """
-LIST_TEXT = """# What the eraser dropped: rule, item, what. Made by `.ci/erase emit`.
+LIST_TEXT = """# What the eraser dropped: rule, item, what. Made by `tools/eraser/erase emit`.
 # Read each change of it in a review.
 """
-MANIFEST_TEXT = """# Made by `.ci/erase emit`: the kit, and the SHA-256 of each source and of each file that was made of it.
+MANIFEST_TEXT = """# Made by `tools/eraser/erase emit`: the kit, and the SHA-256 of each source and of each file that was made of it.
 """
 
 
@@ -323,7 +323,7 @@ def compare(files, found, odd):
         elif name not in files:
             causes.append(f"{name}: not expected")
         elif files[name] != found[name]:
-            causes.append(f"{name}: not what the sources give: run .ci/erase emit")
+            causes.append(f"{name}: not what the sources give: run tools/eraser/erase emit")
     return causes
 
 

@@ -84,7 +84,16 @@ SOURCES = [
         "\nghost IsComputable = { anything };\n\nimpl<B: Backend> Uart16550<B> {",
         "`IsComputable`, a word of a guard, is defined here",
     ),
-    ("uart_spec/src/baud.rt", "NUM_REGISTERS: usize = 8;", "NUM_REGISTERS: usize = 9;", ""),
+]
+
+# A word of a guard, and an edit of its definition.
+DEFINED = [
+    ("NUM_REGISTERS", "NUM_REGISTERS: usize = 8;", "NUM_REGISTERS: usize = 9;"),
+    ("frequency_of", "= 16 * (prescaler factor + 1)", "= 8 * (prescaler factor + 1)"),
+    ("prescaler", "unwrap_or factor 0", "unwrap_or factor 1"),
+    ("IsComputable", "  pub baud_rate : 0 < to_integer config.baud_rate\n", ""),
+    ("sends_at_once", "is_ready c.transmitter)", "is_ready c.transmitter || true)"),
+    ("IsStill", "pub takes : c.transmitter.char_ticks ≡ 1", "pub takes : c.transmitter.char_ticks ≡ 2"),
 ]
 
 # Two files, and what is put behind each: what is `pub(crate)` in a crate is so in the crates above it too, when all are one.
