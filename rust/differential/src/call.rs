@@ -50,6 +50,8 @@ pub enum Kind {
     SetDtr,
     PeekModem,
     IsIdle,
+    RetriggerInterrupts,
+    ReceiveWithErrors,
     Text,
 }
 
@@ -64,7 +66,7 @@ enum Given {
     Bytes,
 }
 
-const KINDS: [(Kind, &str, Given); 38] = [
+const KINDS: [(Kind, &str, Given); 40] = [
     (Kind::Init, "init", Given::Setup),
     (Kind::TestLoopback, "loopback", Given::Nothing),
     (Kind::CheckPresent, "present", Given::Nothing),
@@ -102,6 +104,12 @@ const KINDS: [(Kind, &str, Given); 38] = [
     (Kind::SetDtr, "set-dtr", Given::Flag),
     (Kind::PeekModem, "peek-modem", Given::Nothing),
     (Kind::IsIdle, "is-idle", Given::Nothing),
+    (
+        Kind::RetriggerInterrupts,
+        "retrigger-interrupts",
+        Given::Nothing,
+    ),
+    (Kind::ReceiveWithErrors, "receive-with-errors", Given::Slots),
     (Kind::Text, "text", Given::Bytes),
 ];
 

@@ -3,9 +3,9 @@
 use crate::call::{CALL_BYTES, Call, Kind, digits_of};
 use uart_16550::backend::Backend;
 use uart_16550::embedded_io::{Read, ReadReady, Write, WriteReady};
-use uart_16550::spec::registers::MCR;
+use uart_16550::spec::registers::{LSR, MCR};
 use uart_16550::{ConfigRegisterDump, InitError, InvalidDivisorError, LoopbackError, StalledError};
-use uart_16550::{Uart16550, Uart16550Tty};
+use uart_16550::{Received, Uart16550, Uart16550Tty};
 
 /// Makes one call, and returns its answer in the words of traces.
 pub fn perform<B: Backend>(terminal: &mut Uart16550Tty<B>, call: &Call) -> String {
@@ -51,6 +51,11 @@ pub fn perform<B: Backend>(terminal: &mut Uart16550Tty<B>, call: &Call) -> Strin
             "ok".into()
         }
         Kind::IsIdle => format!("ok {}", uart.is_idle()),
+        Kind::RetriggerInterrupts => {
+            uart.retrigger_interrupts();
+            "ok".into()
+        }
+        Kind::ReceiveWithErrors => receive_with_errors(uart, call.slots),
         Kind::Receive | Kind::ReceiveExact | Kind::Read => receive(uart, call),
         Kind::Send => format!("ok {}", uart.send_bytes(&call.bytes)),
         Kind::SendExact => done(uart.send_bytes_exact(&call.bytes)),
@@ -111,6 +116,33 @@ fn receive<B: Backend>(uart: &mut Uart16550<B>, call: &Call) -> String {
         "a slot beyond the count was written"
     );
     format!("{words} {}", digits_of(&buffer[..count]))
+}
+
+/// Receives bytes with their errors into this number of slots.
+fn receive_with_errors<B: Backend>(uart: &mut Uart16550<B>, slots: usize) -> String {
+    let unused = Received {
+        byte: 0xee,
+        errors: LSR::all(),
+    };
+    let mut buffer = [unused; CALL_BYTES];
+    let count = uart.receive_with_errors(&mut buffer[..slots]);
+    assert!(
+        buffer[count..].iter().all(|&slot| slot == unused),
+        "a slot beyond the count was written"
+    );
+    let pairs = buffer[..count].iter();
+    with_errors(pairs.map(|received| (received.byte, received.errors.bits())))
+}
+
+/// Returns the words of bytes with their errors, or `-` if there are none.
+pub fn with_errors(received: impl Iterator<Item = (u8, u8)>) -> String {
+    let words: Vec<String> = received
+        .map(|(byte, errors)| format!("{byte:02x}/{errors:02x}"))
+        .collect();
+    if words.is_empty() {
+        return "ok -".into();
+    }
+    format!("ok {}", words.join(" "))
 }
 
 fn dumped(dump: &ConfigRegisterDump) -> String {

@@ -1,6 +1,7 @@
 //! The proved driver, by the library for C: which access it makes next, and what it returns.
 
 use crate::call::{CALL_BYTES, Call, Kind, LENGTHS, LEVELS, PARITIES, digits_of, number_of};
+use crate::performing::with_errors;
 use crate::tape::Access;
 use uart_16550::{Config, DriverState};
 
@@ -146,6 +147,7 @@ impl Answer {
             13 => refused(self.value, &["NoCapacity", "RemoteNotClearToSend"]),
             14 => refused(self.value, &["NonInteger", "OutOfRange"]),
             15 => refused(self.value, &["DivisorLatchOpen", "Loopback"]),
+            16 => with_errors(self.bytes.into_iter().zip(self.errors).take(self.count)),
             kind => format!("an answer of kind {kind}"),
         }
     }
