@@ -1,7 +1,15 @@
 #!/usr/bin/env bash
 # Measures geesetrunk audit and replay on recordings of 100 MB: of reads that repeat, of single lines, and of QEMU's log.
+#
+# The program is that which cargo builds, unless another one is named.
 set -euo pipefail
-program=$(realpath "$1")
+if (($# > 0)); then
+    program=$(realpath "$1")
+else
+    cd "$(dirname "$0")/.."
+    cargo build --quiet --release -p geesetrunk
+    program=$(realpath "${CARGO_TARGET_DIR:-target}/release/geesetrunk")
+fi
 folder=$(mktemp -d)
 trap 'rm -rf "$folder"' EXIT
 

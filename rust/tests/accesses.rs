@@ -4,18 +4,67 @@
 #![allow(missing_docs)]
 
 use core::num::NonZeroUsize;
-use uart_16550::native::backend::{Backend, VolatileMemory};
+use uart_16550::native::backend::{
+    Backend, ByteOrder, RegisterLayout, RegisterWidth, VolatileMemory, WideMemory,
+};
 
-/// Two writes, and a read of the status that shows what came of them.
+const SWAPPED: ByteOrder = match ByteOrder::NATIVE {
+    ByteOrder::Little => ByteOrder::Big,
+    ByteOrder::Big => ByteOrder::Little,
+};
+
+// Two writes, and a read of the status that shows what came of them.
+#[inline(always)]
+fn access(registers: Option<impl Backend>, value: u8) -> u8 {
+    let Some(mut registers) = registers else {
+        return 0;
+    };
+    registers.write(1, 0);
+    registers.write(0, value);
+    registers.read(5)
+}
+
+#[inline(always)]
+fn access_wide(base: NonZeroUsize, width: RegisterWidth, byte_order: ByteOrder, value: u8) -> u8 {
+    let layout = RegisterLayout {
+        stride: 4,
+        width,
+        byte_order,
+    };
+    // SAFETY: nobody calls this.
+    access(
+        unsafe { WideMemory::from_address(base, layout) }.ok(),
+        value,
+    )
+}
+
 #[unsafe(no_mangle)]
 pub fn accesses(base: NonZeroUsize, value: u8) -> u8 {
     // SAFETY: nobody calls this.
-    match unsafe { VolatileMemory::from_address(base, 4) } {
-        Ok(mut registers) => {
-            registers.write(1, 0);
-            registers.write(0, value);
-            registers.read(5)
-        }
-        Err(_) => 0,
-    }
+    access(unsafe { VolatileMemory::from_address(base, 4) }.ok(), value)
+}
+
+#[unsafe(no_mangle)]
+pub fn accesses_of_8_bits(base: NonZeroUsize, value: u8) -> u8 {
+    access_wide(base, RegisterWidth::Bits8, SWAPPED, value)
+}
+
+#[unsafe(no_mangle)]
+pub fn accesses_of_16_bits(base: NonZeroUsize, value: u8) -> u8 {
+    access_wide(base, RegisterWidth::Bits16, ByteOrder::NATIVE, value)
+}
+
+#[unsafe(no_mangle)]
+pub fn swapped_accesses_of_16_bits(base: NonZeroUsize, value: u8) -> u8 {
+    access_wide(base, RegisterWidth::Bits16, SWAPPED, value)
+}
+
+#[unsafe(no_mangle)]
+pub fn accesses_of_32_bits(base: NonZeroUsize, value: u8) -> u8 {
+    access_wide(base, RegisterWidth::Bits32, ByteOrder::NATIVE, value)
+}
+
+#[unsafe(no_mangle)]
+pub fn swapped_accesses_of_32_bits(base: NonZeroUsize, value: u8) -> u8 {
+    access_wide(base, RegisterWidth::Bits32, SWAPPED, value)
 }

@@ -7,16 +7,20 @@ use core::fmt::{self, Write as _};
 use core::num::{NonZeroU64, NonZeroUsize};
 use uart_16550::Flags;
 use uart_16550::native::backend::{
-    Backend, ByteAccess, MmioBackend, PioBackend, PortAccess, VolatileMemory,
+    Backend, ByteAccess, ByteOrder, InvalidLayoutError, MmioBackend, PioBackend, PortAccess,
+    RegisterLayout, RegisterWidth, VolatileMemory, WideMemory,
 };
 use uart_16550::native::embedded_io::{Read, ReadReady, Write, WriteReady};
 use uart_16550::native::{
     AttachError, BaudRate, ByteReceiveError, ByteSendError, Config, ConfigRegisterDump,
-    DriverState, InitError, InvalidAddressError, InvalidDivisorError, LoopbackError,
+    FifoAction, FifosOffError, FrameError, Setup, DriverState, InitError, InvalidAddressError, InvalidDivisorError, LoopbackError,
     NearestDivisorError, NonIntegerBaudRateError, NonIntegerDivisorError, Received,
     RemoteReadyToReceiveError, StalledError, Uart16550, Uart16550Tty, Uart16550TtyError,
 };
+use core::task::{Context, Poll};
+use uart_16550::emergency::EmergencyConsole;
 use uart_16550::ring::{Global, Handled, Memory, RingError, Uart16550Ring};
+use uart_16550::shared::{CriticalSection, Shared, SharedError, StartError, Unfinished, Wait};
 use uart_16550::spec::registers::{
     DLL, DLM, FCR, FifoTriggerLevel, IER, ISR, InterruptType, LCR, LSR, MCR, MSR, PSD, Parity, SPR,
     WordLength,
@@ -38,6 +42,31 @@ impl Backend for Device {
     fn write(&mut self, register_offset: u8, value: u8) {
         device_write(register_offset.into(), value);
     }
+}
+
+/// A section, as that of a kernel whose interrupts are masked already.
+pub struct Section;
+
+impl CriticalSection for Section {
+    fn run<R>(&self, call: impl FnOnce() -> R) -> R {
+        call()
+    }
+}
+
+type Port = Shared<Section, Device>;
+
+/// A thread that does not wait.
+struct Once;
+
+impl Wait for Once {
+    fn wait(&mut self, _is_there: impl FnMut() -> bool) -> bool {
+        false
+    }
+}
+
+fn take_over(device: Device, patience: NonZeroU64) -> Result<EmergencyConsole<Device>, AttachError> {
+    // SAFETY: the device is somewhere else, and nothing else accesses it.
+    unsafe { EmergencyConsole::take_over(device, patience) }
 }
 
 impl PortAccess for Device {
@@ -90,6 +119,13 @@ calls! {
     uart_checked_init(uart: &mut Uart, config: Config) -> Result<(), InitError> { uart.checked_init(config) }
     uart_set_frame(uart: &mut Uart, config: &Config) -> Result<(), InvalidDivisorError> { uart.set_frame(config) }
     uart_checked_set_frame(uart: &mut Uart, config: &Config) -> Result<(), InvalidDivisorError> { uart.checked_set_frame(config) }
+    uart_set_frame_when_idle(uart: &mut Uart, config: &Config) -> Result<(), FrameError> { uart.set_frame_when_idle(config) }
+    uart_checked_set_frame_when_idle(uart: &mut Uart, config: &Config) -> Result<(), FrameError> { uart.checked_set_frame_when_idle(config) }
+    uart_init_with(uart: &mut Uart, config: Config, setup: &Setup) -> Result<(), InitError> { uart.init_with(config, setup) }
+    uart_checked_init_with(uart: &mut Uart, config: Config, setup: &Setup) -> Result<(), InitError> { uart.checked_init_with(config, setup) }
+    uart_set_trigger_level(uart: &mut Uart, level: FifoTriggerLevel) -> Result<(), FifosOffError> { uart.set_trigger_level(level) }
+    uart_quiesce(uart: &mut Uart, outputs: MCR, fifos: FifoAction) { uart.quiesce(outputs, fifos) }
+    uart_restore(uart: &mut Uart, dump: &ConfigRegisterDump) { uart.restore(dump) }
     uart_attach(uart: &mut Uart) -> Result<(DLL, DLM), AttachError> { uart.attach() }
     uart_is_idle(uart: &mut Uart) -> bool { uart.is_idle() }
     uart_set_break(uart: &mut Uart, on: bool) { uart.set_break(on) }
@@ -160,6 +196,19 @@ calls! {
     volatile_test_loopback(uart: &mut Uart16550<VolatileMemory>) -> Result<(), LoopbackError> { uart.test_loopback() }
     volatile_send_bytes_exact(uart: &mut Uart16550<VolatileMemory>, bytes: &[u8]) -> Result<(), StalledError> { uart.send_bytes_exact(bytes) }
     volatile_receive_bytes_exact(uart: &mut Uart16550<VolatileMemory>, buffer: &mut [u8]) -> Result<(), StalledError> { uart.receive_bytes_exact(buffer) }
+    wide_new(base: core::ptr::NonNull<u8>, layout: RegisterLayout) -> Result<WideMemory, InvalidLayoutError> { unsafe { WideMemory::new(base, layout) } }
+    wide_from_address(base: NonZeroUsize, layout: RegisterLayout) -> Result<WideMemory, InvalidLayoutError> { unsafe { WideMemory::from_address(base, layout) } }
+    wide_read(backend: &mut WideMemory, offset: u8) -> u8 { backend.read(offset) }
+    wide_write(backend: &mut WideMemory, offset: u8, value: u8) { backend.write(offset, value) }
+    wide_base(backend: &WideMemory) -> core::ptr::NonNull<u8> { backend.base() }
+    wide_layout(backend: &WideMemory) -> RegisterLayout { backend.layout() }
+    wide_init(uart: &mut Uart16550<WideMemory>, config: Config) -> Result<(), InitError> { uart.checked_init(config) }
+    wide_test_loopback(uart: &mut Uart16550<WideMemory>) -> Result<(), LoopbackError> { uart.test_loopback() }
+    wide_send_bytes_exact(uart: &mut Uart16550<WideMemory>, bytes: &[u8]) -> Result<(), StalledError> { uart.send_bytes_exact(bytes) }
+    wide_receive_bytes_exact(uart: &mut Uart16550<WideMemory>, buffer: &mut [u8]) -> Result<(), StalledError> { uart.receive_bytes_exact(buffer) }
+    load_register(address: *const u8, width: RegisterWidth, byte_order: ByteOrder) -> u8 { unsafe { uart_16550::native::backend::load_register(address, width, byte_order) } }
+    store_register(address: *mut u8, width: RegisterWidth, byte_order: ByteOrder, value: u8) { unsafe { uart_16550::native::backend::store_register(address, width, byte_order, value) } }
+    width_bytes(width: RegisterWidth) -> u8 { width.bytes() }
 
     ring_new(memory: Global<'_>, uart: Uart, transmit: usize, receive: usize) -> Result<Ring, (Uart, RingError)> { Ring::new(memory, uart, transmit, receive) }
     ring_memory(bytes: &'static mut [u8]) -> Memory { Memory::new(bytes) }
@@ -178,6 +227,23 @@ calls! {
     ring_handle(ring: &mut Ring, limit: usize) -> Handled { ring.handle(limit) }
     ring_retrigger(ring: &mut Ring) { ring.retrigger() }
     ring_resume_transmit(ring: &mut Ring) { ring.resume_transmit() }
+
+    shared_start(port: &Port, memory: Global<'_>, uart: Uart) -> Result<(), (Uart, StartError)> { port.start(memory, uart, 64, 64) }
+    shared_stop(port: &Port) -> Result<Ring, SharedError> { port.stop() }
+    shared_with(port: &Port) -> Result<usize, SharedError> { port.with(|ring| ring.transmit_len()) }
+    shared_poll_read(port: &Port, context: &mut Context<'_>, slots: &mut [u8]) -> Poll<Result<usize, SharedError>> { port.poll_read(context, slots) }
+    shared_poll_write(port: &Port, context: &mut Context<'_>, bytes: &[u8]) -> Poll<Result<usize, SharedError>> { port.poll_write(context, bytes) }
+    shared_blocking_read(port: &Port, slots: &mut [u8]) -> Result<usize, SharedError> { port.blocking(Once).read(slots) }
+    shared_blocking_flush(port: &Port) -> Result<(), SharedError> { port.blocking(Once).flush() }
+    shared_send_bytes_exact(port: &Port, bytes: &[u8]) -> Result<(), Unfinished> { port.blocking(Once).send_bytes_exact(bytes) }
+    shared_receive_bytes_exact(port: &Port, slots: &mut [u8]) -> Result<(), Unfinished> { port.blocking(Once).receive_bytes_exact(slots) }
+
+    emergency_take_over(device: Device, patience: NonZeroU64) -> Result<EmergencyConsole<Device>, AttachError> { take_over(device, patience) }
+    emergency_set_frame(console: &mut EmergencyConsole<Device>, config: &Config) -> Result<(), InvalidDivisorError> { console.set_frame(config) }
+    emergency_send_bytes(console: &mut EmergencyConsole<Device>, bytes: &[u8]) -> Result<(), StalledError> { console.send_bytes(bytes) }
+    emergency_write_str(console: &mut EmergencyConsole<Device>, text: &str) -> fmt::Result { console.write_str(text) }
+    emergency_flush(console: &mut EmergencyConsole<Device>) -> Result<(), StalledError> { console.flush() }
+    emergency_into_inner(console: EmergencyConsole<Device>) -> Uart { console.into_inner() }
 
     calc_frequency(rate: u32, divisor: u32, factor: Option<u32>) -> u32 { uart_16550::native::spec::calc_frequency(rate, divisor, factor) }
     calc_baud_rate(frequency: u32, divisor: u32, factor: Option<u32>) -> Result<u32, NonIntegerBaudRateError> { uart_16550::native::spec::calc_baud_rate(frequency, divisor, factor) }
@@ -275,6 +341,8 @@ texts! {
     text_of_loopback: LoopbackError;
     text_of_stalled: StalledError;
     text_of_attach: AttachError;
+    text_of_fifos_off: FifosOffError;
+    text_of_frame: FrameError;
     text_of_nearest: NearestDivisorError;
     text_of_tty: Uart16550TtyError;
     text_of_ring: RingError;

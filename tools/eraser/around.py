@@ -1,71 +1,101 @@
-"""What is by hand around the emitted folder: nothing there may change what the emitted code means."""
+"""What is by hand around the emitted packages: nothing there may change what the emitted code means."""
 import re
 import tomllib
 
+import names
 import table
 
-# In lib.rs: the line, behind one that is no attribute of it.
-MODULE = re.compile(r"(?:^|\n)(?:[^\n]*[;}]|#!\[[^\n]*\])\n\s*mod proved;\n")
-ODD = re.compile(r"\b(macro_use|no_implicit_prelude|register_tool|no_core)\b|#!?\[\s*(path)\b|\b(feature)\s*\(")
+# Packages by hand that an emitted one is compiled with or under.
+UNDER = ["rust/kit", "rust/kit_of_rings"]
+OVER = ["rust/uart_16550", "rust/uart_16550_chip"]
+ODD = re.compile(r"\b(macro_use|no_implicit_prelude|register_tool|no_core|extern\s+crate)\b|#!?\[\s*(path)\b|\b(feature)\s*\(")
+# Attributes that disable code by hand on some target, or let it be what Rust refuses.
+CONDITION = re.compile(r"#!?\[\s*(cfg|cfg_attr|allow|expect)\b\s*(\([^\n]*\))")
+CONDITIONS = ['(feature = "embedded-io")']
 # What Cargo.toml may have: nothing that changes how the library is compiled.
 PACKAGE = """
 name version edition rust-version description keywords categories license readme include repository documentation authors publish
 metadata
 """.split()
-SECTIONS = ["package", "lib", "features", "dependencies", "dev-dependencies", "workspace"]
-# In .cargo/config.toml: a stand-in for a library, and that cargo asks no index.
-PATCH = {"patch": {"crates-io": {"embedded-io": {"path": "tests/embedded-io"}}}, "net": {"offline": True}}
+SECTIONS = ["package", "lib", "features", "dependencies", "dev-dependencies"]
+# The workspace: stand-ins for two libraries, and profiles that change how fast a program is, and not what it does.
+WORKSPACE = ["workspace", "patch", "profile"]
+PROFILE = ["codegen-units", "debug", "incremental", "lto", "opt-level", "panic", "strip"]
+STAND_INS = {name: {"path": f"rust/uart_16550/tests/{name}"} for name in ("embedded-io", "embedded-io-async")}
+# In .cargo/config.toml: that cargo asks no index.
+OFFLINE = {"net": {"offline": True}}
 
 
-def of(package):
-    """The files by hand of a package, by name, as text."""
+def files_of(root):
+    """The files by hand by name, as text, or None for what is no plain file."""
     files = {}
-    folders = [*(package / ".cargo").rglob("*"), *(package / "src").rglob("*")]
-    for path in sorted([package / "Cargo.toml", package / "build.rs", *folders]):
-        name = str(path.relative_to(package))
+    folders = [*UNDER, *OVER]
+    paths = [root / "Cargo.toml", *(root / ".cargo").rglob("*"), *(root / "rust/.cargo").rglob("*")]
+    for folder in folders:
+        paths += [root / folder / "Cargo.toml", root / folder / "build.rs", *(root / folder / ".cargo").rglob("*")]
+        paths += (root / folder / "src").rglob("*")
+    emitted = root / table.OUTPUT
+    paths += [path for path in emitted.rglob("*") if names.is_by_hand(path.relative_to(emitted)) or path.name in ("build.rs", ".cargo")]
+    for path in sorted(paths):
         if path.is_symlink():
-            files[name] = None
-        elif path.is_file() and not name.startswith("src/proved/"):
-            files[name] = path.read_text(encoding="utf-8")
+            files[str(path.relative_to(root))] = None
+        elif path.is_file():
+            files[str(path.relative_to(root))] = path.read_text(encoding="utf-8")
     return files
 
 
-def causes(files, allow=table):
+def causes(files):
     """What is wrong with the files by hand."""
     found = [f"{name}: not a plain file" for name, text in files.items() if text is None]
     files = {name: text for name, text in files.items() if text is not None}
-    for name in ("build.rs", "src/proved.rs"):
-        if name in files:
-            found.append(f"{name}: there")
-    for name in ("Cargo.toml", "src/lib.rs"):
+    for name in ("Cargo.toml", *(f"{folder}/{file}" for folder in UNDER + OVER for file in ("Cargo.toml", "src/lib.rs"))):
         if name not in files:
             return found + [f"{name}: missing"]
     for name, text in files.items():
-        if name.startswith(".cargo/") and read(text) != PATCH:
-            found.append(f"{name}: more than the stand-in for embedded-io")
-    library = files["src/lib.rs"]
-    plain = re.sub(r"(?m)^\s*//.*\n", "", library)
-    if len(MODULE.findall(plain)) != 1 or library.count("mod proved") != 1:
-        found.append("src/lib.rs: not one plain line `mod proved;`")
-    if re.search(r"macro_rules|extern\s+crate", library):
-        found.append("src/lib.rs: a macro, or `extern crate`")
-    for name, text in files.items():
-        odd = ODD.search(text)
-        if odd and name.endswith(".rs"):
-            found.append(f"{name}: `{odd[1] or odd[2] or odd[3]}`")
-        code = re.sub(r"(?m)//.*$", "", text)
-        for hidden in allow.HIDDEN + allow.HIDDEN_IN:
-            if name.endswith(".rs") and re.search(rf"\b{hidden}\b", code):
-                found.append(f"{name}: `{hidden}`, which is not exported")
-        for path, guard in allow.GUARDS.items():
-            function = path.split("::")[-1]
-            if guard.reason == table.INSIDE and re.search(rf"\b{function}\b", code):
-                found.append(f"{name}: `{function}`, which requires something and tests nothing")
-    reserved = allow.NAMES_OF_STD.union(allow.FLAGS, allow.FLAGS_TOO)
-    for function in re.findall(r"\bfn (\w+)", files.get("src/flags.rs", "")):
-        if function not in reserved and function not in allow.SAME_NAME:
-            found.append(f"src/flags.rs: `{function}`, a name that is not reserved")
-    return found + cargo(files["Cargo.toml"])
+        if name.endswith("build.rs"):
+            found.append(f"{name}: there")
+        if "/.cargo/" in f"/{name}" and read(text) != OFFLINE:
+            found.append(f"{name}: more than that cargo asks no index")
+        if name.endswith(".rs"):
+            found += code(name, text)
+    found += by_hand(files)
+    for folder in UNDER + OVER:
+        found += cargo(f"{folder}/Cargo.toml", files[f"{folder}/Cargo.toml"])
+    return found + workspace(files["Cargo.toml"])
+
+
+def code(name, text):
+    """What is wrong with a file of code by hand: it may not reach what is in no interface, nor what requires something and tests nothing."""
+    text, found = re.sub(r"(?m)//.*$", "", text), []
+    is_under = any(name.startswith(f"{folder}/") for folder in UNDER)
+    odd = ODD.search(text)
+    if odd and name.startswith(f"{table.OUTPUT}/"):
+        found.append(f"{name}: `{odd[1] or odd[2] or odd[3]}`")
+    if not is_under and not name.startswith(f"{table.OUTPUT}/uart_chip/"):
+        found += [f"{name}: `{one}`, which is in no interface" for one in table.HIDDEN + table.HIDDEN_IN if re.search(rf"\b{one}\b", text)]
+    for path, guard in table.GUARDS.items():
+        function = path.split("::")[-1]
+        if guard.reason == table.INSIDE and re.search(rf"\b{function}\b", text):
+            found.append(f"{name}: `{function}`, which requires something and tests nothing")
+    return found
+
+
+def by_hand(files):
+    """What is wrong with the modules by hand in emitted crates: each is declared once, by the emitted file, and nothing turns it off."""
+    found, expected = [], set()
+    for name in table.BY_HAND:
+        folder = re.sub(r"/(lib)?\.rt$|\.rt$", "", name.replace("/src/lib.rt", "/src.rt"))
+        expected.add(f"{table.OUTPUT}/{folder}/by_hand.rs")
+    there = {name for name in files if name.startswith(f"{table.OUTPUT}/")}
+    for name in sorted(expected - there):
+        found.append(f"{name}: missing")
+    for name in sorted(there):
+        if name.endswith("/by_hand.rs") and name not in expected:
+            found.append(f"{name}: no emitted file declares it")
+        for condition in CONDITION.findall(files[name]):
+            if condition[1] not in CONDITIONS:
+                found.append(f"{name}: `{condition[0]}`")
+    return found
 
 
 def read(text):
@@ -76,18 +106,35 @@ def read(text):
         return None
 
 
-def cargo(text):
+def cargo(name, text):
+    """What is wrong with Cargo.toml of a package by hand."""
     entries = read(text)
     if entries is None:
-        return ["Cargo.toml: cannot be read"]
+        return [f"{name}: cannot be read"]
     found = []
     package, library = entries.get("package", {}), entries.get("lib", {})
     if package.get("edition") != "2024":
-        found.append('Cargo.toml: not `edition = "2024"`')
-    found += [f"Cargo.toml: `{name}` of the package" for name in package if name not in PACKAGE]
-    found += [f"Cargo.toml: `{name}` of the library" for name in library if name != "name"]
-    found += [f"Cargo.toml: the section [{name}]" for name in entries if name not in SECTIONS]
-    for name, wanted in entries.get("dependencies", {}).items():
-        if name != "embedded-io" or set(wanted) != {"version", "optional"} or wanted["optional"] is not True:
-            found.append(f"Cargo.toml: the dependency {name}")
+        found.append(f'{name}: not `edition = "2024"`')
+    found += [f"{name}: `{one}` of the package" for one in package if one not in PACKAGE]
+    found += [f"{name}: `{one}` of the library" for one in library if one != "name"]
+    found += [f"{name}: the section [{one}]" for one in entries if one not in SECTIONS]
+    for one, wanted in entries.get("dependencies", {}).items():
+        if isinstance(wanted, dict) and "path" in wanted:
+            if wanted.get("version") != f"={package.get('version')}":
+                found.append(f"{name}: the dependency {one} is of any version")
+        elif one not in STAND_INS or set(wanted) != {"version", "optional"} or wanted["optional"] is not True:
+            found.append(f"{name}: the dependency {one}")
+    return found
+
+
+def workspace(text):
+    """What is wrong with Cargo.toml of the workspace."""
+    entries = read(text)
+    if entries is None:
+        return ["Cargo.toml: cannot be read"]
+    found = [f"Cargo.toml: the section [{one}]" for one in entries if one not in WORKSPACE]
+    for name, profile in entries.get("profile", {}).items():
+        found += [f"Cargo.toml: `{one}` of the profile {name}" for one in profile if one not in PROFILE]
+    if entries.get("patch") != {"crates-io": STAND_INS}:
+        found.append("Cargo.toml: more than the stand-ins has the place of another package")
     return found

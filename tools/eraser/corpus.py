@@ -10,29 +10,24 @@ import subprocess
 import tempfile
 import types
 
-import chip
 import crate
+import table
 import words
 
 RUNNER = re.compile(r"(interpreter|checked|native): |run=")
 FOLDER = pathlib.Path(__file__).resolve().parent / "corpus"
 TABLE = types.SimpleNamespace(
     **{
-        **vars(chip.TABLE),
-        "MODULES": {},
+        **vars(table),
         "CRATES": ["corpus"],
+        "SHIPS": ["corpus"],
         "ERRORS": [],
-        "LEFT_OUT": {},
-        "LEFT_OUT_ITEMS": {},
-        "HIDDEN_IN": [],
-        "LEMMA_FILES": [],
-        "LEMMAS": [],
+        "BY_HAND": {},
         "CONSTANT": [],
         "GUARDS": {},
         "IMPLEMENTED": {},
         "LARGE": {"corpus/src/values.rt": ["115_200"]},
         "CASTS": {f"corpus::traits::Cells::{name}": ["offset"] for name in ("read_one", "write_one")},
-        "SAME_NAME": {**chip.SAME_NAME, "new": ("impl Cells", "")},
     }
 )
 
@@ -40,10 +35,9 @@ TABLE = types.SimpleNamespace(
 def rust(texts):
     """The modules and `main` in Rust."""
     files = [crate.read(f"corpus/src/{name}", text, TABLE) for name, text in texts.items() if name != "main.rt"]
-    known = crate.known_functions(files)
     for file in files:
         try:
-            words.check(file, known)
+            words.check(file)
         except crate.Refused as cause:
             raise crate.Failed(crate.refusal(file.name, file.text, cause)) from cause
     done = {file.name.split("/")[-1].replace(".rt", ".rs"): crate.erase(file) for file in files}

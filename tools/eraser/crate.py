@@ -1,4 +1,4 @@
-"""Reads the crates, erases each file, and makes all files of the emitted folder."""
+"""Reads the crates, erases each file, and makes all files of the emitted packages."""
 import collections
 import concurrent.futures
 import hashlib
@@ -11,17 +11,13 @@ import documentation
 import examples
 import guards
 import names
+import packages
 import table
 import widths
 import words
 from items import File
 from tokens import Refused, tokens
 
-ROOT_TEXT = """//! The proved crates, erased: made by `tools/eraser/erase emit` from `crates/`. Do not edit.
-#![forbid(unsafe_code)]
-#![allow(unused_imports, unused_parens, unused_braces, dead_code, clippy::all, clippy::pedantic)]
-
-"""
 LIST_TEXT = """# What the eraser dropped: rule, item, what. Made by `tools/eraser/erase emit`.
 # Read each change of it in a review.
 """
@@ -69,7 +65,7 @@ def expanded(root, name):
     """The source of a file with the implementations of thiserror written out."""
     crate, file = name.split("/", 1)
     done = subprocess.run(
-        ["rt", "expand", "--file", file], cwd=root / "crates" / crate, capture_output=True, timeout=120, check=False
+        ["rt", "expand", "--file", file], cwd=root / "crates" / crate, capture_output=True, timeout=600, check=False
     )
     if done.returncode != 0:
         raise Failed(f"crates/{name}: rt expand failed: {done.stderr.decode()[-300:]}")
@@ -84,8 +80,12 @@ def module_of(name):
 
 
 def target_of(name):
-    crate, file = name.split("/src/")
-    return f"{crate}/mod.rs" if file == "lib.rt" else f"{crate}/{file[:-len('.rt')]}.rs"
+    return f"{name[:-len('.rt')]}.rs"
+
+
+def is_read(name):
+    """Whether a source is more than tests or laws."""
+    return not re.search(r"/src/tests(\.rt$|/)|/laws\.rt$", name)
 
 
 def text_of(name, data):
@@ -108,20 +108,6 @@ def read(name, text, allow=table):
 def refusal(name, text, cause):
     line = "" if cause.at is None else f":{text.count(chr(10), 0, cause.at) + 1}"
     return f"crates/{name}{line}: refused: {cause.cause}"
-
-
-def known_functions(files):
-    """The names of the functions that are kept, by how they are called."""
-    known = {"methods": set(), "functions": set(), "free": set()}
-    for file in files:
-        for function in file.functions:
-            if not function.kept:
-                continue
-            known["methods" if function.is_method else "functions"].add(function.name)
-            known["functions"].add(function.name)
-            if function.owner is None:
-                known["free"].add(function.name)
-    return known
 
 
 def is_inside(one, other):
@@ -180,33 +166,28 @@ def erase(file):
         place = next((i for i, pair in enumerate(zip(found, expected)) if pair[0] != pair[1]), -1)
         mine, theirs = (" ".join(one[max(place - 3, 0) : place + 5]) for one in (found, expected))
         raise Failed(f"crates/{file.name}: the tokens changed: {mine} is not {theirs}")
-    if not text.isascii():
-        raise Failed(f"crates/{file.name}: not ASCII")
     return text
 
 
 def emitted(root, allow=table, expand=expanded, kit_of=kit):
-    """All files of the emitted folder of a table by name, with their bytes."""
-    found = sources(root, allow.CRATES)
-    wanted = [name for name in found if name not in allow.LEFT_OUT]
-    for name in list(allow.LEFT_OUT) + allow.LEMMA_FILES:
-        if name not in found:
-            raise Failed(f"crates/{name}: listed, and not there")
-    to_expand = [name for name in wanted if b"use thiserror::Error" in found[name]]
+    """All files of the emitted folder by name, with their bytes."""
+    found = {name: data for name, data in sources(root, allow.CRATES).items() if is_read(name)}
+    to_expand = [name for name in found if b"use thiserror::Error" in found[name]]
     with concurrent.futures.ThreadPoolExecutor(4) as pool:
         version = pool.submit(kit_of)
         texts = dict(zip(to_expand, pool.map(lambda name: expand(root, name), to_expand)))
-        texts = {name: text_of(name, texts.get(name, found[name])) for name in wanted}
-        for name in wanted:
-            text_of(name, found[name])
-        files, dropped = files_of(texts, allow)
+        texts = {name: text_of(name, texts.get(name, data)) for name, data in found.items()}
+        for name, data in found.items():
+            text_of(name, data)
+        crates = packages.Crates((root / "crates.txt").read_text(encoding="utf-8"))
+        files, dropped = files_of(texts, crates, allow)
         listed = manifest(version.result(), found, files, allow)
     files["DROPPED"] = dropped
     files["MANIFEST"] = listed + f"{hashlib.sha256(dropped.encode()).hexdigest()}  {allow.OUTPUT}/DROPPED\n"
-    return {name: text.encode("ascii") for name, text in files.items()}
+    return {name: text.encode("utf-8") for name, text in files.items()}
 
 
-def files_of(texts, allow=table):
+def files_of(texts, crates, allow=table):
     """The Rust files and the list of what was dropped, of sources by name."""
     causes, read_files = [], []
     for name, text in texts.items():
@@ -214,26 +195,23 @@ def files_of(texts, allow=table):
             read_files.append(read(name, text, allow))
         except Failed as cause:
             causes.append(str(cause))
-    known = known_functions(read_files)
     for file in read_files:
         try:
-            words.check(file, known)
+            words.check(file)
         except Refused as cause:
             causes.append(refusal(file.name, file.text, cause))
     if causes:
         raise Failed("\n".join(causes))
     check_whole(read_files, texts, allow)
-    modules = "".join(f"pub mod {name};\n" for name in sorted(allow.CRATES))
-    files = {"mod.rs": ROOT_TEXT + modules, examples.SHARED_NAME: allow.SHARED}
-    dropped = collections.Counter()
+    files, dropped = {}, collections.Counter()
+    for name in allow.CRATES:
+        files[f"{name}/Cargo.toml"] = packages.manifest(name, crates)
+        if name in examples.SHARED:
+            files[f"{name}/{examples.SHARED_NAME}"] = examples.shared(name)
     for file in read_files:
         dropped.update(one for one in file.dropped)
-        if not file.is_lemmas:
-            files[target_of(file.name)] = erase(file)
-    for name, reason in allow.LEFT_OUT.items():
-        dropped[("file", name, reason)] += 1
-    for name in allow.LEMMA_FILES:
-        dropped[("file", name, "lemmas")] += 1
+        text, crate = erase(file), file.name.split("/")[0]
+        files[target_of(file.name)] = packages.root(crate, crates, text) if file.name == f"{crate}/src/lib.rt" else text
     lines = []
     for one, count in dropped.items():
         times = f" ({count} times)" if count > 1 else ""
@@ -245,7 +223,7 @@ def check_whole(files, texts, allow=table):
     """What is to be looked at over all files."""
     functions = [function for file in files for function in file.functions]
     paths = collections.Counter(function.path for function in functions)
-    special = list(allow.GUARDS) + allow.CONSTANT + allow.LEMMAS + list(allow.IMPLEMENTED) + list(allow.CASTS)
+    special = list(allow.GUARDS) + allow.CONSTANT + list(allow.IMPLEMENTED) + list(allow.CASTS)
     for path in special:
         if paths[path] != 1:
             raise Failed(f"{path}: listed, and there are {paths[path]} of it")
@@ -257,21 +235,22 @@ def check_whole(files, texts, allow=table):
     check_meaning(files, allow)
     reachable = {file for one in files for file in one.modules} | {f"{crate}/src/lib.rt" for crate in allow.CRATES}
     for file in files:
-        if file.name not in reachable and not file.is_lemmas:
+        if file.name not in reachable:
             raise Failed(f"crates/{file.name}: no module declares it")
         count = len(re.findall(r"(?m)^ *(?:pub(?:\([a-z]+\))? )?fn [a-z]", texts[file.name]))
         if count != len(file.functions):
             raise Failed(f"crates/{file.name}: {count} lines begin a function, and {len(file.functions)} were read")
     for name in reachable - {file.name for file in files}:
         raise Failed(f"crates/{name}: declared, and not there")
-    check_traits(files, functions, allow)
+    check_traits(files, allow)
 
 
 def check_meaning(files, allow):
     """Names and numbers that mean one thing in Rattle and another in the emitted crate."""
     causes = names.causes(files, allow) + guards.causes(files, allow)
-    counts = widths.names(files)
-    for file in files:
+    shipped = [file for file in files if file.ships]
+    counts = widths.names(shipped)
+    for file in shipped:
         try:
             widths.check(file, counts)
         except Refused as cause:
@@ -280,20 +259,16 @@ def check_meaning(files, allow):
         raise Failed("\n".join(causes))
 
 
-def check_traits(files, functions, allow):
-    """Own traits are for own types alone, and what a method of a trait requires is tested in each."""
-    for file in files:
+def check_traits(files, allow):
+    """What has an invariant has no field that others can set, and what a method of a trait requires is tested in each implementation."""
+    shipped = [file for file in files if file.ships]
+    for file in shipped:
         for name in set(file.models) & set(file.open_types):
             raise Failed(f"crates/{file.name}: {name} has an invariant and a field that others can set")
         for name in set(file.models) - set(file.types):
             raise Failed(f"crates/{file.name}: a model of {name}, which is a type of another file")
-    types = {name for file in files for name in file.types}
-    types -= {name for file in files for name in file.aliases}
-    traits = {name for file in files for name in file.traits}
-    for file in files:
-        for _, name in file.implementations:
-            if name not in types:
-                raise Failed(f"crates/{file.name}: an `impl` for {name}, which is not ours")
+    traits = {name for file in shipped for name in file.traits}
+    functions = [function for file in shipped for function in file.functions]
     for function in functions:
         implemented = re.match(r"impl (.* :: )?(\w+)( <.*>)? for ", function.owner or "")
         if not implemented or implemented[2] not in traits:
@@ -328,9 +303,11 @@ def compare(files, found, odd):
 
 
 def there(folder):
-    """The files of a folder by name, with their bytes, and what is no plain file."""
+    """The files of a folder by name, with their bytes, and what is no plain file. What is by hand is left out."""
     found, odd = {}, []
     for path in sorted(folder.rglob("*")):
+        if names.is_by_hand(path.relative_to(folder)):
+            continue
         name = str(path.relative_to(folder))
         if path.is_symlink() or not (path.is_dir() or path.is_file()):
             odd.append(name)

@@ -27,17 +27,11 @@ FORMS = [
     ("pub enum E {\n    uart_ring,\n}", "`uart_ring`, the name of a crate, for something else"),
     ("pub trait circular_buffer {}", "`circular_buffer`, the name of a crate, for something else"),
     # A range with no end behind a word that Rust does not take for a list: it ends in an overflow, and in Rattle at the last number.
-    (
-        "fn f() -> bool {\n    if [250u8..].iter_mut().all(|turn| true) {\n        return true;\n    }\n    false\n}",
-        "a range with no end",
-    ),
-    ("fn f() {\n    while [250u8..].iter_mut().all(|turn| true) {\n    }\n}", "a range with no end"),
     # An own method with the name of one that is by hand in the type: Rust calls the one by hand.
     (
         "pub trait T {\n    fn checked_set_pdf(&self) -> u8;\n}",
-        "`checked_set_pdf`, by hand in a type of the emitted crate",
+        "`checked_set_pdf`, by hand in a type and of a trait",
     ),
-    ("pub trait T {\n    fn into_native(&self) -> u8;\n}", "`into_native`, by hand in a type of the emitted crate"),
     # `usize` has 64 bits in Rattle.
     ("type W = usize;\nfn f(x: u32) -> W {\n    x as W\n}", "another name for `usize`"),
     ("pub trait T {\n    type W = usize;\n}", "another name for `usize`"),
@@ -96,20 +90,6 @@ DEFINED = [
     ("IsStill", "pub takes : c.transmitter.char_ticks ≡ 1", "pub takes : c.transmitter.char_ticks ≡ 2"),
 ]
 
-# Two files, and what is put behind each: what is `pub(crate)` in a crate is so in the crates above it too, when all are one.
-WIDENED = [
-    (
-        ("uart_spec/src/backend.rt", "pub struct S;\nimpl S {\n    pub(crate) fn pick(&self) -> u8 {\n        1\n    }\n}"),
-        ("uart_16550/src/backend.rt", "trait T {\n    fn pick(&self) -> u8;\n}"),
-        "`pick` is of a trait and `pub(crate)` in a type",
-    ),
-    (
-        ("uart_spec/src/backend.rt", "pub struct S;\nimpl S {\n    pub(crate) const PICK: u8 = 1;\n}"),
-        ("uart_16550/src/backend.rt", "trait T {\n    const PICK: u8;\n}"),
-        "`PICK` is of a trait and `pub(crate)` in a type",
-    ),
-]
-
 # A form behind the code of uart_chip/src/fifo.rt.
 OF_CHIP = [
     ("mod uart_live;", "`uart_live`, the name of a crate, for something else"),
@@ -117,4 +97,13 @@ OF_CHIP = [
     ("pub struct uart_live;", "`uart_live`, the name of a crate, for something else"),
     ("pub type arrayvec = u8;", "`arrayvec`, the name of a crate, for something else"),
     ("fn f(n: usize) -> usize {\n    n * n\n}", "`n * n` is not listed with its type"),
+]
+
+# A form behind the code of uart_run/src/running.rt, which does not ship.
+OF_PROGRAMS = [
+    ("mod uart_spec;", "`uart_spec`, the name of a crate, for something else"),
+    ("mod std;", "`std`, the name of a crate, for something else"),
+    ("fn f() {\n    unsafe {}\n}", "the word `unsafe`"),
+    ("#[cfg(unix)]\nfn f(x: u8) -> u8 {\n    x\n}", "the attribute `cfg`"),
+    ("fn f(x: u8) -> u8\n    ensures { a {- } -} }\n{\n    x\n}", "`{-` in a clause"),
 ]

@@ -1,6 +1,7 @@
 """The documentation of an emitted file: examples that compile in Rust, and what a guard panics for."""
 import re
 
+import examples
 import hiding
 from items import Edit
 from tokens import Refused
@@ -30,10 +31,8 @@ def continues(file, last, comment):
 def blocks(file):
     """Each run of lines of documentation, with the path of the item that it is about."""
     places = sorted(file.places)
-    gone = [edit for edit in file.edits if edit.rule == "item"]
-    kept = [one for one in file.comments if not any(edit.start <= one.start < edit.end for edit in gone)]
     block = []
-    for comment in [one for one in kept if re.match(r"//[/!]( |$)", one.text)] + [None]:
+    for comment in [one for one in file.comments if re.match(r"//[/!]( |$)", one.text)] + [None]:
         if block and (comment is None or not continues(file, block[-1], comment)):
             item = next((path for start, path in places if start > block[0].start), None)
             between = next((start for start, _ in places if start > block[0].start), None)
@@ -46,22 +45,29 @@ def blocks(file):
 
 
 def example(file, comments, path):
-    """Hidden lines around each example, and the calls of its assertions without the handle."""
+    """Hidden lines around each example, and the calls of its assertions without the handle. An example of what no user names is a text."""
     found, inside = [], False
+    crate = file.name.split("/")[0]
+    is_text = crate not in examples.SHARED
     for comment in comments:
         fence = FENCE.match(comment.text)
-        if fence:
+        if fence and is_text:
+            if not inside:
+                found.append(Edit("documentation", comment.start, comment.end, f"{fence[1]} ```text"))
+            inside = not inside
+        elif fence:
             if fence[2] or path not in file.table.EXAMPLES:
                 raise Refused(f"an example that is not listed: {path}", comment.start)
             before, behind = file.table.EXAMPLES[path]
             line = file.text.rfind("\n", 0, comment.start) + 1
             indent = file.text[line : comment.start]
             lines = [f"{indent}{fence[1]} {one}\n" for one in (behind if inside else before)]
+            lines = [examples.named(crate, one) for one in lines]
             at = line if inside else comment.end + 1
             if lines:
                 found.append(Edit("documentation", at, at, "".join(lines)))
             inside = not inside
-        elif inside and re.search(r"\brt\b", comment.text):
+        elif inside and not is_text and re.search(r"\brt\b", comment.text):
             text = re.sub(r"\b(assert(?:_eq|_ne)?!)\(rt;(?: |$)", r"\1(", comment.text)
             if re.search(r"\brt\b", text):
                 raise Refused("an example with `rt` of another form", comment.start)

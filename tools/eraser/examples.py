@@ -3,21 +3,22 @@
 An example without an entry in EXAMPLES is refused, so that none is left out silently.
 """
 
-# A file that the examples include. It is no module of the crate.
+# A file beside Cargo.toml that the examples of a package include. In it and in hidden lines, `facade` stands for the package of the users.
 SHARED_NAME = "examples.rs"
-SHARED = """// What the examples of the documentation share. Each includes this file; the crate itself does not.
+HEAD = "// What the examples of the documentation share. Each includes this file; the crate itself does not.\n"
+FOR_DRIVER = HEAD + """\
 #[allow(unused_imports)]
 use core::fmt::Write as _;
 #[allow(unused_imports)]
 use core::num::{NonZeroU64, NonZeroUsize};
 #[allow(unused_imports)]
-use uart_16550::native::backend::{Backend, ByteAccess, PortAccess};
+use facade::native::backend::{Backend, ByteAccess, PortAccess};
 #[allow(unused_imports)]
-use uart_16550::native::embedded_io::{Read as _, Write as _};
+use facade::native::embedded_io::{Read as _, Write as _};
 #[allow(unused_imports)]
-use uart_16550::native::*;
+use facade::native::*;
 #[allow(unused_imports)]
-use uart_16550::native::spec::registers::*;
+use facade::native::spec::registers::*;
 
 /// Eight registers that keep what is written to them.
 #[derive(Debug)]
@@ -65,7 +66,7 @@ impl ByteAccess for Device {
 #[allow(dead_code)]
 type Outcome<T = ()> = Result<T, Box<dyn std::error::Error>>;
 """
-INCLUDE = ['# include!(concat!(env!("CARGO_MANIFEST_DIR"), "/src/proved/examples.rs"));', "# fn main() {}"]
+INCLUDE = ['# include!(concat!(env!("CARGO_MANIFEST_DIR"), "/examples.rs"));', "# fn main() {}"]
 
 
 def compiles(parameters, result="()", value=False, items=()):
@@ -86,12 +87,12 @@ UART = "uart: &mut Uart16550<Device>"
 TTY = "terminal: &mut Uart16550Tty<Device>"
 RING = "ring: &mut ring::Uart16550Ring<Device>"
 PORT = [
-    "use uart_16550::ring::{self, *};",
+    "use facade::ring::{self, *};",
     "struct Port { ring: Uart16550Ring<Device>, overruns: u32 }",
     "impl Port {",
 ]
 
-SPEC = "use uart_16550::native::{*, spec::*};"
+SPEC = "use facade::native::{*, spec::*};"
 
 
 def in_port():
@@ -119,6 +120,11 @@ EXAMPLES = {
     "uart_16550::driver::frame::Uart16550::set_rts": compiles(UART),
     "uart_16550::driver::frame::Uart16550::set_dtr": compiles(UART),
     "uart_16550::driver::frame::Uart16550::attach": compiles("ports: Device"),
+    "uart_16550::driver::setup::Uart16550::set_trigger_level": compiles(UART),
+    "uart_16550::driver::setup::Uart16550::set_frame_when_idle": compiles(UART),
+    "uart_16550::driver::setup::Uart16550::init_with": compiles(UART),
+    "uart_16550::driver::setup::Uart16550::quiesce": compiles(UART),
+    "uart_16550::driver::setup::Uart16550::restore": compiles(UART),
     "uart_16550::driver::init::Uart16550::check_present": compiles(UART),
     "uart_16550::driver::init::Uart16550::init": compiles(UART),
     "uart_16550::driver::loopback::Uart16550::test_loopback": compiles(UART),
@@ -177,7 +183,7 @@ EXAMPLES = {
     "uart_16550::driver::Uart16550::spin_limit": compiles(UART, "bool", True),
     "uart_16550::driver::Uart16550::set_spin_limit": compiles(UART),
     "uart_spec::dump::ConfigRegisterDump::divisor": compiles("shown: &ConfigRegisterDump"),
-    "uart_spec::dump::ConfigRegisterDump::baud_rate": runs("use uart_16550::native::*;"),
+    "uart_spec::dump::ConfigRegisterDump::baud_rate": runs("use facade::native::*;"),
     "uart_16550::embedded_io::Uart16550::read": compiles(UART + ", slots: &mut [u8]"),
     "uart_16550::embedded_io::Uart16550::write": (
         INCLUDE + ["# fn example(writer: &mut Uart16550<Device>, bytes: &[u8], mut done: usize) -> Result<(), StalledError> {"],
@@ -193,45 +199,46 @@ EXAMPLES = {
     "uart_spec::baud::calc_frequency": runs(SPEC),
     "uart_spec::config::BaudRate": runs(SPEC),
     "uart_spec::config::BaudRate::to_integer": compiles(
-        "baud_rate: BaudRate", "Result<u16, InvalidDivisorError>", True, ["use uart_16550::native::spec::{CLK_FREQUENCY_HZ, calc_divisor};"]
+        "baud_rate: BaudRate", "Result<u16, InvalidDivisorError>", True, ["use facade::native::spec::{CLK_FREQUENCY_HZ, calc_divisor};"]
     ),
     "uart_spec::config::BaudRate::from_integer": runs(SPEC),
     "uart_spec::config::Config": compiles(UART),
     "uart_spec::config::Config::is_computable": runs(SPEC, "let config = Config::DEFAULT;"),
     "uart_spec::config::Config::nearest": compiles(UART),
-    "uart_ring::ring::receive::Uart16550Ring::take": compiles(RING + ", mut slots: [u8; 2]", items=["use uart_16550::ring;"]),
-    "uart_ring::ring::service::Uart16550Ring::service": compiles(RING, items=["use uart_16550::ring;"]),
-    "uart_ring::ring::service::Uart16550Ring::retrigger": compiles(RING, items=["use uart_16550::ring;"]),
+    "uart_spec::setup::Setup": runs(SPEC, "use uart_16550::spec::registers::MCR;"),
+    "uart_ring::ring::receive::Uart16550Ring::take": compiles(RING + ", mut slots: [u8; 2]", items=["use facade::ring;"]),
+    "uart_ring::ring::service::Uart16550Ring::service": compiles(RING, items=["use facade::ring;"]),
+    "uart_ring::ring::service::Uart16550Ring::retrigger": compiles(RING, items=["use facade::ring;"]),
     "uart_ring::ring::service::Uart16550Ring::handle": in_port(),
     "uart_ring::ring::status::Uart16550Ring::take_line": in_port(),
     "uart_ring::ring::status::Uart16550Ring::take_modem": in_port(),
     "uart_ring::ring::transmit::Uart16550Ring::resume_transmit": in_port(),
     "uart_ring::ring::transmit::Uart16550Ring::queue": (
         INCLUDE
-        + ["# use uart_16550::ring;", f"# fn example<'a>({RING}, message: &'a [u8]) -> &'a [u8] {{"],
+        + ["# use facade::ring;", f"# fn example<'a>({RING}, message: &'a [u8]) -> &'a [u8] {{"],
         ["# }"],
     ),
     "uart_ring::ring::Uart16550Ring": (
         INCLUDE
-        + ["# use uart_16550::ring::*;", "# enum StartError { NoRings(RingError) }"]
+        + ["# use facade::ring::*;", "# enum StartError { NoRings(RingError) }"]
         + ["# fn example(alloc: Global, uart: Uart16550<Device>) -> Result<(), StartError> {"],
         ["# Ok(()) }"],
     ),
-    "uart_ring::ring::Uart16550Ring::transmit_len": compiles(RING, items=["use uart_16550::ring;"]),
+    "uart_ring::ring::Uart16550Ring::transmit_len": compiles(RING, items=["use facade::ring;"]),
     "uart_ring::ring::Uart16550Ring::inner": (
         INCLUDE
-        + ["# use uart_16550::ring;", "# trait Mark { fn mark(&self, _: u8) -> u8 { 0 } }", "# impl Mark for Device {}"]
+        + ["# use facade::ring;", "# trait Mark { fn mark(&self, _: u8) -> u8 { 0 } }", "# impl Mark for Device {}"]
         + [f"# fn example({RING}, arrival: u8) -> u8 {{"],
         ["# }"],
     ),
     "uart_ring::ring::Uart16550Ring::inner_mut": (
         INCLUDE
-        + ["# use uart_16550::ring::*;", "# enum StartError { NoDevice(InitError) }"]
+        + ["# use facade::ring::*;", "# enum StartError { NoDevice(InitError) }"]
         + ["# struct Port { ring: Uart16550Ring<Device>, overruns: u32, bad_characters: u32 }"]
         + ["# fn example(mut ring: Uart16550Ring<Device>, config: Config) -> Result<Port, StartError> {"],
         ["# }"],
     ),
-    "uart_ring::ring::Uart16550Ring::into_inner": compiles("ring: ring::Uart16550Ring<Device>", items=["use uart_16550::ring;"]),
+    "uart_ring::ring::Uart16550Ring::into_inner": compiles("ring: ring::Uart16550Ring<Device>", items=["use facade::ring;"]),
 }
 for path, like in {
     "uart_16550::address::Uart16550::new_mmio_from_address": "uart_16550::address::Uart16550::new_mmio",
@@ -250,13 +257,13 @@ for register in ("lcr", "mcr", "lsr", "msr", "spr"):
 
 
 # The examples of the chip.
-SHARED_OF_CHIP = """// What the examples of the documentation share. Each includes this file; the crate itself does not.
+FOR_CHIP = HEAD + """\
 #[allow(unused_imports)]
-use uart_16550_chip::registers::{LSR, MSR, offsets};
+use facade::registers::{LSR, MSR, offsets};
 #[allow(unused_imports)]
-use uart_16550_chip::Flags as _;
+use facade::Flags as _;
 #[allow(unused_imports)]
-use uart_16550_chip::{Chip, ChipData, ChipError, InputError, LiveChip, Todo, VirtualPort};
+use facade::{Chip, ChipData, ChipError, InputError, LiveChip, Todo, VirtualPort};
 
 #[allow(dead_code)]
 type Outcome<T = ()> = Result<T, Box<dyn std::error::Error>>;
@@ -296,7 +303,7 @@ def in_monitor(parameters, result=None):
     return INCLUDE + [f"# fn example({parameters}){end}"], ["# }"]
 
 
-OF_CHIP = {
+EXAMPLES |= {
     "uart_live::live::LiveChip": compiles(f"{CHIP}, offset: u8, value: u8, elapsed: u16, sink: &mut [u8]"),
     "uart_live::live::LiveChip::new": (INCLUDE + ["# fn example() -> Result<LiveChip, ChipError> {"], ["# }"]),
     "uart_live::live::LiveChip::read": compiles(f"{CHIP}, offset: u8"),
@@ -329,3 +336,20 @@ OF_CHIP = {
     "uart_live::live::snapshot::LiveChip::data": compiles(CHIP),
     "uart_live::live::snapshot::LiveChip::from_data": compiles(f"{CHIP}, saved: &ChipData"),
 }
+
+# The package of the users that the examples of a crate name, under which name, and the shared file. The rings have a crate `uart_16550`.
+SHARED = {
+    **{name: ("uart_16550", "uart_16550", FOR_DRIVER) for name in ("uart_spec", "uart_16550")},
+    "uart_ring": ("uart_16550", "facade", FOR_DRIVER),
+    **{name: ("uart_16550_chip", "uart_16550_chip", FOR_CHIP) for name in ("uart_live", "uart_virtual")},
+}
+
+
+def named(crate, text):
+    """A hidden line or a shared file, with the name of the package of the users."""
+    return text.replace("facade::", f"{SHARED[crate][1]}::")
+
+
+def shared(crate):
+    """The file that the examples of a crate include."""
+    return named(crate, SHARED[crate][2])

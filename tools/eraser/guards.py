@@ -81,7 +81,7 @@ def causes(files, allow, root=ROOT):
         words = tested_words(file, allow)
         used |= {part for word in words for part in word.split(".")} & MEANINGS.keys()
         found += [f"crates/{file.name}: refused: {cause}" for cause in meanings(file, words)]
-        if file.name.split("/")[0] not in allow.HIDDEN_IN:
+        if file.ships and file.name.split("/")[0] not in allow.HIDDEN_IN:
             found += promises(file)
     for name in sorted(used):
         place = MEANINGS[name][1]

@@ -21,8 +21,8 @@ Form = collections.namedtuple(
     "path visibility owner first start generics behind body close clauses requires has_body is_lemma is_method",
 )
 FORMATTER = re.compile(
-    r"fn fmt < (\w+) : ((?:std :: )?)fmt :: Write > "
-    r"\( & self , f : & mut \2fmt :: Formatter < \1 > \) -> "
+    r"fn (\w+) < (\w+) : ((?:std :: )?)fmt :: Write > "
+    r"\( & self , f : & mut \3fmt :: Formatter < \2 > \) -> "
 )
 
 OPENING = {"(": ")", "[": "]", "{": "}"}
@@ -40,15 +40,14 @@ class File:
         self.code, self.comments = tokens(text)
         self.edits, self.dropped, self.functions = [], [], []
         self.places = []
-        self.modules, self.types, self.traits, self.implementations = [], [], [], []
-        self.aliases, self.models, self.open_types = [], [], []
-        self.is_lemmas = name in allow.LEMMA_FILES
+        self.modules, self.types, self.traits = [], [], []
+        self.models, self.open_types = [], []
+        self.ships = name.split("/")[0] in allow.SHIPS
         self.at = 0
         self.inner_attributes()
         self.items(len(self.code), module, None)
-        self.paths()
-        if self.is_lemmas and any(function.kept for function in self.functions):
-            raise Refused("a file of lemmas with another function")
+        self.allocating()
+        self.by_hand()
 
     # Tokens.
 
@@ -179,70 +178,10 @@ class File:
             name = re.match(r"ghost (?:use )?([\w.]+)", text)[1]
             self.drop(kind, first, self.at, path, name)
             self.at += 1
-        elif word == "final":
-            self.refuse("a `final` function")
-        elif self.is_left_out(word, owner):
-            self.leave_out(first, path)
         elif word in reads:
             reads[word](first, attributes, visibility, path, owner, end)
         else:
             self.refuse(f"an item that begins with `{word}`")
-
-    # Items that are left out.
-
-    def head_end(self):
-        """The index of the brace or the semicolon behind the head of the item that begins here."""
-        at = self.at
-        while self.word(at) not in ("{", ";") or self.kind(at) != "sign":
-            if at >= len(self.code):
-                self.refuse("an item with no end")
-            at = self.closing(at) + 1 if self.word(at) in OPENING else at + 1
-        return at
-
-    def is_left_out(self, word, owner):
-        """Whether an item is one of those that the table leaves out, or an `impl` whose head names one."""
-        if owner or word not in ("struct", "enum", "fn", "impl"):
-            return False
-        if word != "impl":
-            return self.word(self.at + 1) in self.table.LEFT_OUT_ITEMS
-        return any(token.text in self.table.LEFT_OUT_ITEMS for token in self.code[self.at : self.head_end()])
-
-    def leave_out(self, first, path):
-        at = self.head_end()
-        close = self.closing(at) if self.word(at) == "{" else at
-        head = [token.text for token in self.code[self.at : at] if token.kind == "word"]
-        name = next(word for word in head if word in self.table.LEFT_OUT_ITEMS)
-        for inside in range(self.at, close):
-            if self.word(inside) == "fn" and self.kind(inside) == "word":
-                function = self.word(inside + 1)
-                self.functions.append(Function(f"{path}::{name}::{function}", function, False, None, [], False))
-        self.drop("item", first, close, f"{path}::{name}", self.word(self.at))
-        self.at = close + 1
-
-    def left_out_of_use(self, path, visibility, first, close):
-        """Whether a whole `use` is dropped, as it names only what is left out. Takes the other names out of its list."""
-        opened = next((at for at in range(self.at, close) if self.word(at) == "{"), None)
-        head = [token.text for token in self.code[self.at + 1 : opened or close] if token.kind == "word"]
-        names = self.words(opened + 1, close - 1).strip(" ,").split(" , ") if opened else head[-1:]
-        kept = [name for name in names if name not in self.table.LEFT_OUT_ITEMS]
-        if self.is_of_left_out(head):
-            kept = []
-        if visibility == "pub" and path.split("::")[0] not in self.table.HIDDEN_IN:
-            for name in set(kept) & set(self.table.HIDDEN):
-                self.refuse(f"{name} is exported, and the table says that it is not")
-        if not kept:
-            self.drop("item", first, close, path, f"use {', '.join(names)}", comments=False)
-        elif kept != names:
-            self.change("item", opened, close - 1, f"{{{', '.join(kept)}}}" if kept[1:] else kept[0])
-            left_out = [name for name in names if name not in kept]
-            self.dropped.append(Dropped("item", path, f"use {', '.join(left_out)}"))
-        return not kept
-
-    def is_of_left_out(self, head):
-        """Whether the path of a `use` goes through a file that is left out."""
-        crate = self.name.split("/")[0]
-        inside = head[1:] if head[0] == "crate" else head if self.name.endswith("/lib.rt") else []
-        return bool(inside) and f"{crate}/src/{inside[0]}.rt" in self.table.LEFT_OUT
 
     def attribute(self, attributes, names):
         """Keeps, changes or refuses the attributes of an item that is kept."""
@@ -273,17 +212,10 @@ class File:
             self.drop("thiserror", first, close, path)
         elif text == "use std :: marker :: Model ;":
             self.drop("model", first, close, path, "use")
-        elif self.is_lemmas:
-            pass
-        elif "*" in text.split():
-            self.refuse("a `use` of everything")
-        elif self.left_out_of_use(path, visibility, first, close):
-            pass
+        elif re.match(r"use (crate :: |super :: )?laws ::", text):
+            self.drop("file", first, close, path, "use of laws")
         elif text == "use std :: fmt ;" and re.search(r"\.write_char\(", self.text):
-            self.change("writer", self.at, close, "use ::core::fmt;\nuse ::core::fmt::Write as _;")
-        for at in range(self.at, close):
-            if self.word(at) == "as" and self.words(at - 1, at + 2) not in self.table.RENAMED:
-                self.refuse("another name for something", at)
+            self.insert("writer", self.code[close].end, "\nuse std::fmt::Write as _;")
         self.at = close + 1
 
     def mod(self, first, attributes, visibility, path, owner, end):
@@ -291,17 +223,13 @@ class File:
         if self.word(self.at + 2) != ";" or owner:
             self.refuse("a module with a body")
         close = self.at + 2
-        if name in self.table.RESERVED_MODULES:
-            self.refuse(f"a module with the name of a crate: {name}")
         is_test = [self.words(a, b + 1) for _, a, b in attributes] == ["# [ cfg ( test ) ]"]
         file = self.file_of(name)
         if is_test:
-            if file not in self.table.LEFT_OUT:
-                self.refuse(f"tests that are not listed: {file}", first)
             self.drop("tests", first, close, path, name)
         elif attributes or visibility not in ("", "pub"):
             self.refuse("an attribute or a visibility of a module that is not known", first)
-        elif file in self.table.LEFT_OUT or file in self.table.LEMMA_FILES:
+        elif name == "laws":
             self.drop("file", first, close, path, name)
         else:
             self.modules.append(file)
@@ -316,15 +244,8 @@ class File:
     def constant(self, first, attributes, visibility, path, owner, end):
         if self.word(self.at) == "const" and self.word(self.at + 1) == "fn":
             self.refuse("a `const fn` of the source")
-        if self.is_lemmas:
-            self.refuse("a file of lemmas with another item")
         self.attribute(attributes, ())
-        if owner is None or owner.startswith("trait "):
-            self.own_name(self.at + 1, owner)
-        close = self.semicolon(self.at)
-        if self.word(self.at) == "type" and owner is None:
-            self.aliases.append(self.word(self.at + 1))
-        self.at = close + 1
+        self.at = self.semicolon(self.at) + 1
 
     def number(self, at):
         try:
@@ -353,17 +274,14 @@ class File:
                 self.dropped.append(Dropped(rule, self.module, ", ".join(one for one in listed if one not in kept)))
 
     def data(self, first, attributes, visibility, path, owner, end):
-        if owner or self.is_lemmas:
+        if owner:
             self.refuse("a type inside an item")
         name = self.word(self.at + 1)
         self.places.append((self.code[first].start, f"{path}::{name}"))
         self.types.append(name)
-        self.own_name(self.at + 1, None)
         at = self.behind_generics(self.at + 2)
         self.bounds(self.at + 2, at)
         is_register = self.words(at, at + 8) == "( pub ( super ) u8 ) ;"
-        if is_register:
-            self.change("field", at + 1, at + 4, "pub(crate)")
         if is_register and not any(attribute == "derive" for attribute, _, _ in attributes):
             self.refuse("a register without `Debug`", first)
         self.attribute([one for one in attributes if one[0] != "derive"], ("automatically_derived",))
@@ -382,15 +300,9 @@ class File:
 
     def fields(self, at, end, path):
         """The fields of a struct or the cases of an enum: ghost fields are dropped, and attributes are known ones."""
-        last = -1
         while at < end:
-            if self.word(at) == "=":
-                is_number = self.kind(at + 1) == "number" and self.word(at + 2) in (",", "}")
-                if not is_number or self.number(at + 1) <= last:
-                    self.refuse("numbers of cases that do not ascend", at)
-                last = self.number(at + 1)
             if self.kind(at) == "ghost":
-                if self.word(at - 1) not in ("{", ","):
+                if self.word(at - 1) not in ("{", ",") and self.kind(at - 1) != "ghost":
                     self.refuse("something in front of a ghost field", at)
                 self.drop("ghost", at, at, path, re.match(r"ghost (\w+)", self.word(at))[1])
             elif self.kind(at) in ("clause", "ghost use"):
@@ -406,15 +318,8 @@ class File:
             at += 1
 
     def bounds(self, first, end):
-        """Drops `Drop` from the bounds between two indices, and refuses parameters that could be taken for a type."""
-        depth = 0
+        """Drops `Drop` from the bounds between two indices."""
         for at in range(first, end):
-            depth += {"<": 1, ">": -1}.get(self.word(at), 0)
-            if depth == 1 and self.word(at - 1) in ("<", ",") and self.word(at + 1) in (":", ",", ">"):
-                if self.kind(at) == "word" and len(self.word(at)) > 1:
-                    self.refuse(f"a parameter `{self.word(at)}` that is no single letter", at)
-            if depth == 1 and self.word(at) == "=":
-                self.default_type(at, end)
             if self.word(at) != "Drop":
                 continue
             if self.word(at - 1) == "+" and self.word(at + 1) in (",", ">", "+", "="):
@@ -425,18 +330,6 @@ class File:
             else:
                 self.refuse("a bound `Drop` of another form", at)
             self.dropped.append(Dropped("drop", self.module, f"bound of {self.word(at - 2)}"))
-
-    def default_type(self, first, end):
-        """Drops the default of a type parameter that names an item that is left out."""
-        depth, at = 0, first + 1
-        while at < end and (depth > 0 or self.word(at) not in (",", ">")):
-            depth += {"<": 1, ">": -1}.get(self.word(at), 0)
-            at += 1
-        named = [token.text for token in self.code[first:at] if token.text in self.table.LEFT_OUT_ITEMS]
-        if not named:
-            self.refuse("a default of a type parameter", first)
-        self.edits.append(Edit("item", self.code[first - 1].end, self.code[at - 1].end, ""))
-        self.dropped.append(Dropped("item", self.module, f"default {self.words(first + 1, at)}"))
 
     def where(self, at):
         """The index behind a `where` and its conditions, which are all `NAME: Drop`. It is dropped by the caller."""
@@ -449,11 +342,10 @@ class File:
         return at
 
     def trait(self, first, attributes, visibility, path, owner, end):
-        if owner or self.is_lemmas:
+        if owner:
             self.refuse("a trait inside an item")
         self.attribute(attributes, ())
         name = self.word(self.at + 1)
-        self.own_name(self.at + 1, None)
         self.traits.append(name)
         at = self.behind_generics(self.at + 2)
         self.bounds(self.at + 2, at)
@@ -467,7 +359,7 @@ class File:
         self.at = close + 1
 
     def implementation(self, first, attributes, visibility, path, owner, end):
-        if owner or visibility or self.is_lemmas:
+        if owner or visibility:
             self.refuse("an `impl` inside an item")
         self.attribute(attributes, ("automatically_derived",))
         known = len(self.edits)
@@ -486,7 +378,6 @@ class File:
             del self.edits[known:]
             self.drop(rule, first, close, f"{path}::{name}", "impl")
         else:
-            self.implementations.append((trait, name))
             self.at = at + 1
             kind = f"impl {trait} for {name}" if trait else f"impl {name}"
             self.items(close, f"{path}::{name}", kind)
@@ -497,19 +388,16 @@ class File:
         head = self.behind_generics(self.at + 1)
         self.empty_generics(self.at + 1, head)
         self.bounds(self.at + 1, head)
-        parameters = self.words(self.at + 1, head).split()
         at, trait, target = head, None, head
         while self.word(at) not in ("{", "where"):
             if self.word(at) == "for":
                 trait, target = self.words(head, at), at + 1
             if self.word(at) == "<":
                 self.empty_generics(at, self.behind_generics(at))
-            if self.word(at) in ("(", "[", "&", "*", "!", ";") or self.kind(at) == "clause":
-                self.refuse("an `impl` for a type that is not ours", at)
+            if self.word(at) == ";" or self.kind(at) == "clause":
+                self.refuse("an `impl` of another form", at)
             at += 1
         name = self.word(target)
-        if name in parameters:
-            self.refuse(f"an `impl` for {name}, which is not ours", target)
         if self.word(at) == "where":
             behind = self.where(at)
             start, end = self.code[at - 1].end, self.code[min(behind, len(self.code) - 1)].start
@@ -525,27 +413,14 @@ class File:
             self.edits.append(Edit("empty", self.code[first].start, self.code[first + 1].end, ""))
             self.dropped.append(Dropped("empty", self.module, "<>"))
 
-    def own_name(self, at, owner):
-        """Refuses an own name that Rust could take for one of std or of a library."""
-        name = self.word(at)
-        if name in self.table.PRELUDE:
-            self.refuse(f"an own item with a name of the prelude: {name}", at)
-        libraries = self.table.METHODS + self.table.FLAGS + self.table.FLAGS_TOO + self.table.QUEUE
-        if name in self.table.NAMES_OF_STD or name in libraries:
-            where, _ = self.table.SAME_NAME.get(name, ("nowhere", ""))
-            if not (owner or "").startswith(where):
-                self.refuse(f"an own item with a name of std or of a library: {name}", at)
-
     # Functions.
 
     def function(self, first, attributes, visibility, path, owner, end):
         name = self.word(self.at + 1)
         form = self.form(first, f"{path}::{name}", visibility, owner, end)
-        self.own_name(self.at + 1, owner)
         self.places.append((self.code[first].start, form.path))
-        is_listed = form.path in self.table.LEMMAS or self.is_lemmas
-        if form.is_lemma or is_listed:
-            self.lemma(form, attributes, is_listed)
+        if form.is_lemma:
+            self.lemma(form, attributes)
         else:
             self.attribute(attributes, ("inline",))
             self.functions.append(Function(form.path, name, True, owner, form.requires, form.is_method))
@@ -597,9 +472,9 @@ class File:
             is_method=re.match(r"(& ('\w+ )?)?(mut )?self\b", first_parameter) is not None,
         )
 
-    def lemma(self, form, attributes, is_listed):
-        if not form.is_lemma or not is_listed or form.owner:
-            self.refuse("a lemma that is not listed, or listed and no lemma", form.start)
+    def lemma(self, form, attributes):
+        if form.owner:
+            self.refuse("a lemma in an item", form.start)
         if any(name != "tactic" for name, _, _ in attributes):
             self.refuse("an attribute of a lemma", form.first)
         if form.visibility not in ("", "pub"):
@@ -610,13 +485,13 @@ class File:
 
     def signature(self, form):
         text = self.words(form.start, form.behind)
-        if text.startswith("fn fmt <"):
-            found = FORMATTER.match(text)
-            if not found:
-                self.refuse("a `fmt` of another form", form.start)
-            head = "::core::" if found[2] else ""
+        found = FORMATTER.match(text)
+        if text.startswith("fn fmt <") and not found:
+            self.refuse("a `fmt` of another form", form.start)
+        if found:
+            head = "std::" if found[3] else ""
             last = form.start + len(found[0].split()) - 2
-            to = f"fn fmt(&self, f: &mut {head}fmt::Formatter<'_>)"
+            to = f"fn {found[1]}(&self, f: &mut {head}fmt::Formatter<'_>)"
             self.change("formatter", form.start, last, to)
         else:
             self.bounds(*form.generics)
@@ -639,11 +514,13 @@ class File:
                 self.refuse("a clause or a ghost item in a body", at)
             if self.word(at) in ITEMS or self.begins(at, "# [") or self.begins(at, "# ! ["):
                 self.refuse(f"`{self.word(at)}` in a body", at)
-            if self.word(at) == "as" and self.word(at + 1) == "usize":
+            if self.ships and self.word(at) == "as" and self.word(at + 1) == "usize":
                 self.cast(at, form.path)
 
     def guard(self, form):
-        """The test of what a function requires, or the reason why it has none."""
+        """The test of what a function requires, or the reason why it has none. What does not ship is called by proved code alone."""
+        if not self.ships:
+            return
         body = self.words(form.body, form.close + 1)
         guard = self.table.GUARDS.get(form.path)
         tested_by = guard.tested_by if guard else self.table.IMPLEMENTED.get(form.path)
@@ -658,7 +535,7 @@ class File:
         owner = form.owner or ""
         is_reached = form.visibility == "pub" or owner.startswith("trait ") or " for " in owner
         if guard.reason == self.table.HIDDEN_INSIDE and not set(form.path.split("::")[-2:]) & set(self.table.HIDDEN):
-            self.refuse(f"{form.path} can be reached, and its guard says that it is not exported", form.start)
+            self.refuse(f"{form.path} can be reached, and its guard says that it is in no interface", form.start)
         if guard.reason == self.table.INSIDE and (is_reached or guard.test):
             self.refuse(f"{form.path} can be reached, and its guard says that it is private", form.start)
         if guard.reason == self.table.IN_FILE and (form.visibility or is_reached or guard.test):
@@ -681,49 +558,31 @@ class File:
                 return
         self.refuse("a cast to `usize` that is not listed", at)
 
-    # Paths.
+    # What allocates.
 
-    def paths(self):
-        crate = self.module.split("::")[0]
+    def allocating(self):
+        """A method that is given an allocator is the one of the kit, and a list or a text is too: the file has a `use` of what it names."""
         dropped = [edit for edit in self.edits if edit.end > edit.start]
+        used = set()
         for at, token in enumerate(self.code):
             if token.kind != "word" or any(edit.start <= token.start < edit.end for edit in dropped):
                 continue
-            is_head = self.word(at - 1) not in ("::", ".")
-            is_head = is_head and (self.word(at + 1) == "::" or self.word(at - 1) == "use")
-            if self.begins(at, "format_fields !"):
-                self.change("fields", at, at, "format_args")
-            if not is_head:
-                continue
-            if token.text == "std":
-                self.check_std(at)
-                module = self.table.MODULES.get(self.words(at, at + 3).replace(" ", ""))
-                if module:
-                    self.change("path", at, at + 2, module)
-                else:
-                    self.change("std", at, at, "::core")
-            elif token.text == "crate":
-                self.change("path", at, at, f"crate::proved::{crate}")
-            elif token.text in self.table.CRATES:
-                self.change("path", at, at, f"crate::proved::{token.text}")
-            elif token.text in self.table.MODULES:
-                self.change("path", at, at, self.table.MODULES[token.text])
+            is_given = self.word(at + 1) == "(" and self.word(at + 2) == "alloc" and self.word(at + 3) in (")", ",")
+            if self.word(at - 1) == "." and token.text in self.table.WITH_ALLOCATOR and is_given:
+                self.change("allocator", at, at, f"{token.text}_with")
+                used.add(f"{self.table.WITH_ALLOCATOR[token.text]} as _")
+            elif token.text in self.table.ALLOCATED:
+                used.add(token.text)
+        if used:
+            inner = [one.end for one in self.comments if one.text.startswith("//!")]
+            start = self.text.find("\n", inner[-1]) + 1 if inner else 0
+            self.insert("lists", start, "\n" * bool(inner) + f"use std::{{{', '.join(sorted(used))}}};\n")
 
-    def check_std(self, at):
-        """The paths of std that begin here are listed ones."""
-        path = "std"
-        while self.word(at + 1) == "::" and self.kind(at + 2) == "word":
-            path += "::" + self.word(at + 2)
-            at += 2
-        found = [path]
-        if self.word(at + 1) == "::":
-            if self.word(at + 2) != "{":
-                self.refuse(f"the path {path}", at)
-            names = self.words(at + 3, self.closing(at + 2)).split(" , ")
-            found = [f"{path}::{name.strip(' ,')}" for name in names]
-        for one in found:
-            if one not in self.table.PATHS:
-                self.refuse(f"the path {one}", at)
+    def by_hand(self):
+        """Declares the module by hand of this file, behind all else."""
+        declared = self.table.BY_HAND.get(self.name)
+        if declared:
+            self.insert("by hand", len(self.text), f"\n{declared}\n")
 
 
 def number(text):

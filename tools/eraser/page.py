@@ -1,7 +1,6 @@
 """The tables of tools/eraser/README.md, which are the tables of the program."""
 import re
 
-import chip
 import table
 
 NAME = "tools/eraser/README.md"
@@ -29,52 +28,31 @@ def guard(path, entry):
     return [code(last(path, 2)), clauses, tests, entry.reason or ""]
 
 
-def left_out(allow):
-    """Rows for what a table leaves out."""
-    items = [*allow.LEFT_OUT.items(), *allow.LEFT_OUT_ITEMS.items()]
-    rows_of = [[code(name), reason] for name, reason in items]
-    rows_of += [[code(name), "lemmas"] for name in allow.LEMMA_FILES]
-    return rows_of + [[code(name), "a lemma"] for name in allow.LEMMAS]
-
-
-def more(name):
-    """What the chip lets through of a kind, beside what the driver does."""
-    of_driver = getattr(table, name)
-    return ", ".join(code(one) for one in getattr(chip.TABLE, name) if one not in of_driver)
-
-
 def blocks():
     constant = {}
     for path in table.CONSTANT:
         constant.setdefault(path.split("::")[-2], []).append(path.split("::")[-1])
-    guards_of_chip = [one for one in chip.GUARDS.items() if one[0] not in table.GUARDS]
     constant = [[code(name), ", ".join(map(code, sorted(names)))] for name, names in constant.items()]
+    by_hand = {}
+    for name in table.BY_HAND:
+        by_hand.setdefault(name.split("/")[0], []).append(name.split("/src/")[1].replace(".rt", ".rs"))
     return {
         "rules": rows(["rule", "in the source", "in Rust"], table.RULES),
-        "guards": rows(["function", "requires", "in Rust", "why"], [guard(*one) for one in table.GUARDS.items()]),
-        "constant": rows(["type", "`const fn` in Rust"], constant),
-        "left out": rows(["left out", "why"], left_out(table)),
-        "guards of the chip": rows(["function", "requires", "in Rust", "why"], [guard(*one) for one in guards_of_chip]),
-        "left out of the chip": rows(["left out", "why"], left_out(chip.TABLE)),
-        "let through in the chip": rows(
-            ["of its kind, also"],
+        "packages": rows(
+            ["crate", "is part of", "by hand behind"],
             [
-                ["attributes: " + code("inline(never)")],
-                ["functions of libraries, by path: " + more("FUNCTIONS")],
-                ["methods of std and of `list.rs`: " + more("METHODS")],
+                [code(name), "users' programs" if name in table.SHIPS else "our programs", ", ".join(map(code, by_hand.get(name, [])))]
+                for name in table.CRATES
             ],
         ),
+        "guards": rows(["function", "requires", "in Rust", "why"], [guard(*one) for one in table.GUARDS.items()]),
+        "constant": rows(["type", "`const fn` in Rust"], constant),
         "let through": rows(
             ["of its kind, only"],
             [
                 ["macros: " + ", ".join(code(f"{name}!") for name in table.MACROS)],
                 ["attributes: " + ", ".join(map(code, table.ATTRIBUTES))],
                 ["derives: " + ", ".join(map(code, table.DERIVES))],
-                ["paths of std: " + ", ".join(map(code, table.PATHS + table.BELOW))],
-                ["functions of libraries, by path: " + ", ".join(map(code, table.FUNCTIONS))],
-                ["methods of std: " + ", ".join(map(code, table.METHODS))],
-                ["methods of `flags.rs`: " + ", ".join(map(code, table.FLAGS))],
-                ["methods of `queue.rs`: " + ", ".join(map(code, table.QUEUE))],
             ],
         ),
     }

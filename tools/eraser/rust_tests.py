@@ -1,67 +1,52 @@
-"""The tests of the proved crates as Rust tests: rust/uart_16550_tests/src/erased.
+"""The tests of the proved crates as Rust tests: rust/proved_tests/src/erased.
 
-Tests are not trusted, so this works on text: clauses and ghost items are taken out, and the words
-of REPLACED become others. A word that nothing replaces is an error of rustc.
+Tests are not trusted, so this works on text: clauses and ghost items are taken out, and the words of REPLACED become others. A word that
+nothing replaces is an error of rustc.
 """
 import re
 
 import crate
 import tokens
 
-OUTPUT = "rust/uart_16550_tests/src/erased"
+OUTPUT = "rust/proved_tests/src/erased"
 
-# A folder or file of sources, its module of the crate of tests, and what `crate::` and `super::*` are there.
-PARTS = [
-    ("uart_spec/src/access.rt", "access", "crate::libraries::uart_spec"),
-    ("uart_spec/src/call.rt", "call", "crate::libraries::uart_spec"),
-    ("uart_16550/src/replay.rt", "replay", "crate::libraries::uart_16550"),
-    ("uart_calls/src/lib.rt", "uart_calls", "crate::erased::uart_calls"),
-    ("uart_calls/src/performing.rt", "uart_calls/performing", "crate::erased::uart_calls"),
-    ("uart_uses/src/tests/rings.rt", "uart_ring", "crate::libraries::uart_ring"),
-    ("uart_uses/src/tests/rings/calls.rt", "uart_ring/calls", "crate::libraries::uart_ring"),
-    ("uart_uses/src/tests/rings/handler.rt", "uart_ring/handler", "crate::libraries::uart_ring"),
-    ("uart_uses/src/tests/rings/lists.rt", "uart_ring/lists", "crate::libraries::uart_ring"),
-]
-# The tests of the driver.
-DRIVER = "uart_calls/src/tests"
+# The crates with tests. Of the last one only these are compiled: the others are of callers, which are proved.
+CRATES = ["uart_calls", "uart_machine", "uart_uses", "uart_virtual"]
+OF_USES = ["audit", "findings", "recording", "replay", "rings"]
+USES = "//! The tests of the judges and of the rings.\n\n" + "".join(f"mod {name};\n" for name in OF_USES)
 
-# Heads of paths.
+# Heads of paths. A file of tests of the rings takes the allocator of the rings.
+KIT, KIT_OF_RINGS = "geesetrunk_kit", "geesetrunk_kit_of_rings"
 HEADS = {
-    "uart_16550": "crate::libraries::uart_16550",
-    "uart_ring": "crate::libraries::uart_ring",
-    "uart_spec": "crate::libraries::uart_spec",
-    "arrayvec": "crate::libraries::arrayvec",
-    "bitflags": "crate::libraries::bitflags",
+    "bitflags": KIT,
+    "arrayvec": KIT,
+    "circular_buffer": KIT,
     "std::test": "crate::runtime",
     "std::process": "crate::runtime",
-    "std::alloc::Global": "crate::runtime::Global",
+    "std::alloc::AllocGlobal": "crate::runtime::AllocGlobal",
+    "std::alloc": f"{KIT}::alloc",
+    "std::io": f"{KIT}::io",
 }
 REPLACED = [
     (r"(?m)^ *#!?\[tactic\(.*\)\]\n", ""),
     (r"(?m)^(?:use std::marker::Model;|use thiserror::Error;)\n", ""),
-    (r"(?m)^pub mod laws;\n", ""),
-    # no test needs these
-    (r"(?m)^mod (?:checking|tape);\n|^pub use (?:checking|tape)::[^;]*;\n", ""),
     (r"\bimpl<('?\w+)> Model for [^{]*\{\s*\}\n", ""),
-    (r"(?m)^(?:pub )?fn \w+(?:<[^>]*>)?\(\)\s*\{\}\n", ""),
     (r"(?<=[(])Drop, |, Drop(?=[,)])", ""),
     (r", Error(?=[,)]\]?)(?=[^\n]*\)\]\n)|#\[derive\(Drop\)\]\n| *#\[error\([^\n]*\)\]\n", ""),
     (r" \+ Drop\b|: Drop\b", ""),
     (r"\bwhere\s*(?=[{;])", ""),
-    (r"fn fmt<W: fmt::Write>\(&self, f: &mut fmt::Formatter<W>\)", "fn fmt(&self, f: &mut fmt::Formatter<'_>)"),
+    (r"fn (\w+)<W: fmt::Write>\(&self, f: &mut fmt::Formatter<W>\)", r"fn \1(&self, f: &mut fmt::Formatter<'_>)"),
     (r"(fn \w+)\(rt: HostRuntime\)([^{]*)\{", r"\1()\2{\n    let rt = HostRuntime;"),
     (r"impl AllocGlobal \+ Abort", "HostRuntime"),
     (r"\bclone\(\)\?", "clone()"),
-    (r"\bVec::new\(rt\.alloc\(\)\)", "Vec::new()"),
-    (r"\bpush\((\w+)\)\?", r"push(\1)"),
+    (r"\.(collect|to_vec|to_string)\((?=(?:alloc|rt\.alloc\(\)))", r".\1_with("),
     (r"HashSet::new\(rt\.alloc\(\)\)", "HashSet::new()"),
+    (r"seen\.insert\((.*)\)\?;", r"seen.insert(\1);"),
     # `Debug` of a register is not the derived one
     (r"\b(IER|LSR|MSR)\(0\)", r"\1(0x0)"),
-    (r"seen\.insert\((.*)\)\?;", r"seen.insert(\1);"),
 ]
 # What a derive of the sources writes, behind the file.
-APPENDED = {
-    "crate::libraries::uart_ring": """
+START_ERROR = """
 impl std::fmt::Display for StartError {
     fn fmt(&self, f: &mut std::fmt::Formatter<'_>) -> std::fmt::Result {
         match self {
@@ -73,14 +58,16 @@ impl std::fmt::Display for StartError {
 
 impl std::error::Error for StartError {}
 """
-}
 PRELUDE = """#[allow(unused_imports)]
-use crate::runtime::{AllocGlobal, HostRuntime, assert, assert_eq, assert_ne, format};
+use crate::runtime::{AllocGlobal, HostRuntime, assert, assert_eq, assert_ne};
+#[allow(unused_imports)]
+use geesetrunk_kit::{CollectWith as _, String, ToStringWith as _, ToVecWith as _, Vec, format, vec};
 """
 
 
-def erased(text, module):
+def erased(name, text):
     """A source of tests as Rust."""
+    of = name.split("/")[0]
     code, _ = tokens.tokens(text, strict=False)
     out, at = [], 0
     for token in code:
@@ -91,29 +78,32 @@ def erased(text, module):
     text = "".join(out) + text[at:]
     for pattern, to in REPLACED:
         text = re.sub(pattern, to, text)
-    text = re.sub(r"(?<![\w:])crate(?=::)", module, text)
-    for head, to in HEADS.items():
-        behind = r"\b" if "::" in head else "(?=::)"
-        text = re.sub(rf"(?<![\w:]){head}{behind}", to, text)
-    text = text.replace("use super::*;", f"use {module}::*;").replace("use registers::", f"use {module}::registers::")
+    text = re.sub(r"(?<![\w:])crate::tests(?=::)", f"crate::erased::{of}", text)
+    text = re.sub(r"(?<![\w:])crate(?=::)(?!::(erased|runtime))", of, text)
+    # a law does nothing, and neither does a test of its call
+    for law in re.findall(r"(?m)^use \w+::laws::(\{[^}]*\}|\w+);\n", text):
+        for name in re.findall(r"\w+", law):
+            text = re.sub(rf"(?m)^ *{name}\(\);\n", "", text)
+    text = re.sub(r"(?m)^use \w+::laws::(?:\{[^}]*\}|\w+);\n", "", text)
+    heads = dict(HEADS)
+    if "rings" in name:
+        heads["std::alloc::Global"] = f"{KIT_OF_RINGS}::alloc::Global"
+    for head in sorted(heads, key=len, reverse=True):
+        text = re.sub(rf"(?<![\w:]){head}" + (r"\b" if "::" in head else r"(?=::)"), heads[head], text)
+    text = text.replace("use crate::runtime::AllocGlobal;\n", "")
     text = re.sub(r"(?m)^( *)//[/!]", r"\1//", text)
-    return re.sub(r"\n{3,}", "\n\n", PRELUDE + text) + APPENDED.get(module if "Port<B>" in text else "", "")
+    return re.sub(r"\n{3,}", "\n\n", PRELUDE + text) + (START_ERROR if "enum StartError" in text else "")
 
 
 def emitted(root):
     """The files of the erased tests by name, with their bytes."""
-    found = crate.sources(root, ["uart_spec", "uart_16550", "uart_calls", "uart_uses"])
     files = {}
-    parts = [(name, target, module) for name, target, module in PARTS]
-    for name in found:
-        if name.startswith(DRIVER):
-            target = name.replace("/src/", "/")[: -len(".rt")]
-            parts.append((name, target, "crate::erased::uart_calls"))
-    folders = {target.split("/")[0] for _, target, _ in parts if "/" in target}
-    for name, target, module in parts:
-        text = erased(crate.text_of(name, found[name]), module)
-        files[f"{target}/mod.rs" if target in folders else f"{target}.rs"] = text
-    modules = sorted({target.split("/")[0] for _, target, _ in parts})
+    for name, data in crate.sources(root, CRATES).items():
+        of, _, file = name.partition("/src/tests")
+        if not file or of == "uart_uses" and not re.match(rf"/({'|'.join(OF_USES)})\b", file):
+            continue
+        files[f"{of}/mod.rs" if file == ".rt" else f"{of}{file[: -len('.rt')]}.rs"] = erased(name, crate.text_of(name, data))
+    files["uart_uses/mod.rs"] = USES
     head = "//! Made by `tools/eraser/erase emit` from the tests in `crates/`. Do not edit.\n#![allow(warnings)]\n\n"
-    files["mod.rs"] = head + "".join(f"pub mod {module};\n" for module in modules)
-    return {name: text.encode("ascii") for name, text in files.items()}
+    files["mod.rs"] = head + "".join(f"mod {of};\n" for of in CRATES)
+    return {name: text.encode("utf-8") for name, text in files.items()}

@@ -1,8 +1,7 @@
-"""What the eraser knows of the driver. tools/eraser/README.md shows these tables, and those of the chip, in chip.py."""
+"""What the eraser knows of the crates. tools/eraser/README.md shows these tables."""
 import collections
-import pathlib
 
-from examples import EXAMPLES, SHARED  # noqa: F401
+from examples import EXAMPLES  # noqa: F401
 
 # Rule, what it finds, what it becomes.
 RULES = [
@@ -11,61 +10,50 @@ RULES = [
     ("ghost", "`ghost NAME: {..};`, `ghost NAME = {..};`, in a struct with a comma", "nothing"),
     ("tactic", "`#[tactic(..)]`, `#![tactic(..)]`", "nothing"),
     ("model", "`impl Model for ..` of ghost items alone, `use std::marker::Model;`", "nothing"),
-    ("lemma", "a function listed in `LEMMAS`, or of a file listed there: no parameter, no result, no body", "nothing"),
-    ("item", "a type or a function in `LEFT_OUT_ITEMS`, each `impl` whose head names it, its name in a `use` or a default", "nothing"),
-    ("file", "a file listed in `LEFT_OUT` or of lemmas, and its `mod NAME;`", "nothing"),
+    ("lemma", "a function without parameter, result and body, with an `ensures`", "nothing"),
+    ("file", "a file `laws.rt`, which has laws alone, its `mod laws;`, and a `use` of it", "nothing"),
+    ("tests", "`#[cfg(test)] mod NAME;`, a file `tests.rt` and the files below `tests`", "nothing"),
     ("thiserror", "`use thiserror::Error;` (`rt expand` has written out its implementations)", "nothing"),
-    ("error", "an empty `impl std::error::Error` in a file of `ERRORS`", "nothing: `errors.rs` has it, with the source of the error"),
-    ("tests", "`#[cfg(test)] mod NAME;`", "nothing"),
+    ("error", "an empty `impl std::error::Error` in a file of `ERRORS`", "nothing: by hand there is one with the source of the error"),
     ("drop", "`Drop` in a derive, in a bound, in a `where`", "nothing"),
     ("empty", "`impl<>`, `NAME<>`, `where` with nothing behind it", "without the empty part"),
-    ("debug", "`Debug` in the derive of a register", "nothing: `flags.rs` shows the names of the bits"),
+    ("debug", "`Debug` in the derive of a register", "nothing: by hand there is one with the names of the bits"),
     ("guard", "the body of a function in `GUARDS`", "the test of what its clause requires, then the body"),
     ("const", "a function in `CONSTANT`", "`const fn`"),
-    ("path", "`crate::`, and the name of a crate, at the head of a path", "the module in `CRATES` or `MODULES`"),
-    ("std", "`std::` at the head of a path in `PATHS`", "`::core::`"),
-    ("field", "`pub(super) u8`, the field of a register", "`pub(crate) u8`"),
     ("formatter", "`fn fmt<W: fmt::Write>(&self, f: &mut fmt::Formatter<W>)`", "`fn fmt(&self, f: &mut fmt::Formatter<'_>)`"),
-    ("writer", "`use std::fmt;` in a file that calls `write_char`", "also `use ::core::fmt::Write as _;`"),
-    ("fields", "`format_fields!`", "`format_args!`"),
+    ("writer", "`use std::fmt;` in a file that calls `write_char`", "also `use std::fmt::Write as _;`"),
+    ("allocator", "`collect(alloc)`, `to_vec(alloc)`, `to_string(alloc)`", "`collect_with(alloc)`, and so on"),
+    ("lists", "a file that names `Vec` or `String`, or has a method of the line above", "a `use` of what it names"),
+    ("by hand", "a file in `BY_HAND`", "also `mod by_hand;`"),
+    ("root", "the root of a crate", "also `#![no_std]`, `#![forbid(unsafe_code)]`, and `extern crate` for std and the libraries"),
     ("documentation", "`(rt; ..)` in an example, a fence without a word", "`(..)`, and the lines and the word of `EXAMPLES`"),
     ("panics", "the documentation of a function in `GUARDS`", "also a section Panics"),
 ]
 
-# The crates, each a module of the emitted crate.
-CRATES = ["uart_spec", "uart_16550", "uart_ring"]
-OUTPUT = "rust/uart_16550/src/proved"
+# The crates that become packages. What ships is part of a program of a user, on any target. The others are parts of this repository's
+# programs, and of targets of 64 bits.
+SHIPS = "uart_spec uart_16550 uart_ring uart_events uart_chip uart_live uart_virtual".split()
+OF_PROGRAMS = "uart_calls uart_run uart_ring_runs uart_language uart_play uart_judges uart_trace uart_port uart_machine".split()
+CRATES = SHIPS + OF_PROGRAMS
+OUTPUT = "rust/proved"
 
-# What is written by hand in place of a library: the head of a path, and the module.
-MODULES = {
-    "bitflags": "crate::flags",
-    "circular_buffer": "crate::queue",
-    "std::alloc": "crate::queue",
+# The libraries that a crate may use, by the package that has them: that of the rings has queues in memory that is given.
+LIBRARIES = "bitflags arrayvec circular_buffer".split()
+OF_RINGS = "uart_ring"
+
+# Files that end with a module by hand, which is not emitted: what has to be in a type's own crate.
+BY_HAND = {
+    "uart_spec/src/lib.rt": "pub mod by_hand;",
+    "uart_spec/src/registers.rt": "mod by_hand;",
+    "uart_16550/src/lib.rt": "mod by_hand;",
+    "uart_chip/src/lib.rt": "mod by_hand;",
+    "uart_live/src/lib.rt": "mod by_hand;",
+    "uart_virtual/src/lib.rt": "mod by_hand;",
 }
+# The crates whose code by hand has the traits of the crate `embedded-io`, behind a feature of this name.
+EMBEDDED_IO = ["uart_spec", "uart_16550"]
 
-# Files that are not read further, with the reason.
-LEFT_OUT = {
-    "uart_spec/src/access.rt": "accesses as data, for proofs and judges",
-    "uart_spec/src/event.rt": "of the chip, which is in rust/uart_16550_chip",
-    "uart_spec/src/call.rt": "calls as data, for runs and scripts",
-    "uart_16550/src/replay.rt": "a backend for proofs about other crates",
-    "uart_ring/src/running.rt": "runs over the software chip",
-    "uart_ring/src/running/call.rt": "runs over the software chip",
-    "uart_ring/src/running/laws.rt": "runs over the software chip",
-}
-
-# Types and functions that are left out by name, with the reason: the item, each `impl` whose head names it, its name in a `use`, and a
-# default of a type parameter that names it.
-LEFT_OUT_ITEMS = {}
-
-# Types and functions that are `pub` in a crate, and that the emitted crate does not export; and the crates that it does not export.
-HIDDEN, HIDDEN_IN = [], []
-
-# Files with lemmas and `use` alone, and single lemmas.
-LEMMA_FILES = ["uart_spec/src/laws.rt", "uart_16550/src/laws.rt", "uart_ring/src/laws.rt"]
-LEMMAS = ["uart_spec::registers::every_byte_is_a_value", "uart_spec::registers::masks_are_these"]
-
-# Files whose errors have `core::error::Error` by hand, in errors.rs: Rattle's has no `source`.
+# Files whose errors have `core::error::Error` by hand: Rattle's has no `source`.
 ERRORS = ["uart_spec/src/errors.rt"]
 
 # The functions that are `const fn`, so that callers can make a driver or a configuration in a `static`.
@@ -115,18 +103,18 @@ uart_16550::tty::Uart16550Tty::inner_mut
 # calls and that tests the same, or None; what its documentation says under Panics, or None; the reason if there is no test.
 Guard = collections.namedtuple("Guard", "clauses test tested_by panics reason", defaults=(None, None, None, None))
 
-OFFSET = ["requires { register_offset < NUM_REGISTERS }"]
+REGISTER_OFFSET = ["requires { register_offset < NUM_REGISTERS }"]
 COMPUTABLE = ["requires { IsComputable config }"]
 NOT_COMPUTABLE = "If the configuration is not computable (`Config::is_computable`)."
 NO_BODY = "no body: each implementation has its own entry"
 INSIDE = "private: each caller is proved to meet it"
 IN_FILE = "private to its file: each caller is proved to meet it"
-HIDDEN_INSIDE = "not exported: each caller is proved to meet it"
+HIDDEN_INSIDE = "in no interface: each caller is proved to meet it"
 EIGHT = 'assert!(register_offset < 8, "no register has this offset");'
 
 GUARDS = {
-    "uart_spec::backend::Backend::read": Guard(OFFSET, reason=NO_BODY),
-    "uart_spec::backend::Backend::write": Guard(OFFSET, reason=NO_BODY),
+    "uart_spec::backend::Backend::read": Guard(REGISTER_OFFSET, reason=NO_BODY),
+    "uart_spec::backend::Backend::write": Guard(REGISTER_OFFSET, reason=NO_BODY),
     "uart_spec::baud::calc_frequency": Guard(
         [
             "requires baud_rate { 0 < baud_rate }",
@@ -223,6 +211,26 @@ GUARDS = {
         panics=NOT_COMPUTABLE + " No access was made then.",
         reason="before the first access; a test here would be the second",
     ),
+    "uart_16550::driver::init::Uart16550::set_up": Guard(
+        ["requires { DivisorOf config (Ok divisor) }"],
+        reason="in the crate alone: each caller is proved to meet it, and `checked_init` computes the divisor",
+    ),
+    "uart_16550::driver::setup::Uart16550::set_frame_when_idle": Guard(
+        ["requires { IsComputable config.now }"],
+        tested_by="calc_divisor",
+        panics=NOT_COMPUTABLE + " No access was made then.",
+        reason="before the first access; a test here would be the second",
+    ),
+    "uart_16550::driver::setup::Uart16550::init_with": Guard(
+        COMPUTABLE,
+        tested_by="calc_divisor",
+        panics=NOT_COMPUTABLE + " No access was made then.",
+        reason="before the first access; a test here would be the second",
+    ),
+    "uart_16550::driver::setup::Uart16550::set_up_with": Guard(
+        ["requires { DivisorOf config (Ok divisor) }"],
+        reason="in the crate alone: each caller is proved to meet it, and `checked_init_with` computes the divisor",
+    ),
     "uart_spec::dump::ConfigRegisterDump::baud_rate": Guard(
         [
             "requires frequency { 0 < config.now.frequency }",
@@ -232,9 +240,14 @@ GUARDS = {
         panics="If the divisor is not 0, and the frequency is 0 or the prescaler division factor is above 15.",
         reason="the divisor 0 is refused before",
     ),
-    "uart_16550::pio::PioBackend::port": Guard(OFFSET, test=EIGHT, reason="private, but reached by `Backend::read` and `Backend::write`"),
+    "uart_ring::queue::ByteQueue::drop_front": Guard(["requires { count ≤ length self.old.items }"], reason=INSIDE),
+    "uart_ring::queue::cell_behind": Guard(
+        ["requires cell { cell ≤ cells }", "requires count { count ≤ cells }"], reason=IN_FILE
+    ),
+    "uart_ring::queue::copy": Guard(["requires { place ≤ length slots.old }"], reason=IN_FILE),
+    "uart_16550::pio::PioBackend::port": Guard(REGISTER_OFFSET, test=EIGHT, reason="private, but reached by `Backend::read` and `Backend::write`"),
     "uart_16550::mmio::MmioBackend::address": Guard(
-        OFFSET, test=EIGHT, reason="private, but reached by `Backend::read` and `Backend::write`"
+        REGISTER_OFFSET, test=EIGHT, reason="private, but reached by `Backend::read` and `Backend::write`"
     ),
     "uart_16550::tty::Uart16550Tty::start": Guard(COMPUTABLE, tested_by="init", reason="before the first access"),
     "uart_16550::tty::Uart16550Tty::new_with_backend": Guard(
@@ -251,92 +264,192 @@ GUARDS = {
     ),
 }
 
+# The parts of the chip, which only `LiveChip` reaches.
+HIDDEN_IN = ["uart_chip"]
+HIDDEN = "Uart Transmitter Receiver Characters Modem Fifo FixedFifo Wire FixedWire Journal NoMarks fill send enter".split()
+
+OFFSET = ["requires { offset < NUM_REGISTERS }"]
+STILL = "requires still { IsStill chip.old }"
+TICKS = "requires char_ticks { char_ticks ≤ MAX_CHAR_TICKS }"
+CLAUSES = {
+    "characters::Characters::new": ["requires { Q.items queue ≡ [] }"],
+    "characters::Characters::filled": ["requires { Q.items queue ≡ [] }"],
+    "chip::Uart::new": ["requires { char_ticks ≤ MAX_CHAR_TICKS }"],
+    "chip::Uart::from_data": [
+        "requires char_ticks { saved.now.transmitter.char_ticks ≤ MAX_CHAR_TICKS }",
+        "requires room { length wire.now ≤ saved.now.transmitter.wire_capacity }",
+    ],
+    "chip::Uart::with_parts": [
+        TICKS,
+        "requires bytes { B.items bytes ≡ [] }",
+        "requires wire { W.sent wire ≡ [] }",
+        "requires characters { C.items characters ≡ [] }",
+    ],
+    "chip::Uart::from_parts": [
+        "requires char_ticks { saved.now.transmitter.char_ticks ≤ MAX_CHAR_TICKS }",
+        "requires bytes { B.items bytes ≡ [] }",
+        "requires wire { W.most wire ≡ saved.now.transmitter.wire_capacity }",
+        "requires characters { C.items characters ≡ [] }",
+        "requires journal { J.recorded journal ≡ [] }",
+    ],
+    "chip::Uart::data": [
+        "requires transmitter { length self.now.transmitter.queue ≤ FIFO_SIZE }",
+        "requires receiver { length self.now.receiver.queue ≤ FIFO_SIZE }",
+    ],
+    "chip::Uart::arrive": ["requires { self.old.receiver.arrived < length self.old.receiver.marks }"],
+    "chip::Uart::perform": [
+        "requires { self.old.receiver.arrived + arrivals (event ∷ []) ≤ length self.old.receiver.marks }"
+    ],
+    "fifo::fill": ["requires { Q.items queue.old ≡ [] }"],
+    "receiver::Receiver::new": [TICKS, "requires empty { Q.items queue ≡ [] }"],
+    "receiver::Receiver::from_data": [TICKS, "requires empty { Q.items queue ≡ [] }"],
+    "receiver::Receiver::data": ["requires { length self.now.queue ≤ FIFO_SIZE }"],
+    "receiver::Receiver::arrive": ["requires { self.old.arrived < length self.old.marks }"],
+    "transmitter::Transmitter::new": ["requires queue { Q.items queue ≡ [] }", "requires wire { W.sent wire ≡ [] }"],
+    "transmitter::Transmitter::from_data": [
+        "requires queue { Q.items queue ≡ [] }",
+        "requires wire { W.most wire ≡ saved.now.wire_capacity }",
+    ],
+    "transmitter::Transmitter::data": ["requires { length self.now.queue ≤ FIFO_SIZE }"],
+    "receiving::enter": ["requires { (is_unscheduled new.origin || R.is_scheduled) ≡ true }"],
+    "wire::send": [
+        "requires empty { W.sent wire.old ≡ [] }",
+        "requires room { length bytes.now ≤ W.most wire.old }",
+    ],
+}
+
+GUARDS |= {
+    **{f"uart_chip::{path}": Guard(clauses, reason=HIDDEN_INSIDE) for path, clauses in CLAUSES.items()},
+    "uart_live::fixed::FixedWire::new": Guard(["requires { capacity ≤ WIRE_ROOM }"], reason=HIDDEN_INSIDE),
+    "uart_chip::fifo::Fifo::push": Guard(["requires { length (items self.old) < FIFO_SIZE }"], reason=NO_BODY),
+    "uart_chip::wire::Wire::push": Guard(["requires { length (sent self.old) < most self.old }"], reason=NO_BODY),
+    "uart_chip::transmitting::TransmitterParts::put": Guard(
+        ["requires { length (state self.old).queue < FIFO_SIZE }"], reason=NO_BODY
+    ),
+    "uart_chip::receiving::replace": Guard(
+        ["requires { (is_unscheduled new.origin || R.is_scheduled) ≡ true }"], reason=INSIDE
+    ),
+    "uart_chip::receiving::ReceiverParts::put": Guard(
+        [
+            "requires room { length (state self.old).queue < FIFO_SIZE }",
+            "requires origin { (is_unscheduled new.origin || is_scheduled) ≡ true }",
+        ],
+        reason=NO_BODY,
+    ),
+    "uart_chip::receiving::ReceiverParts::set_unscheduled_lost": Guard(
+        ["requires { (not on || is_scheduled) ≡ true }"], reason=NO_BODY
+    ),
+    "uart_chip::transmitting::TransmitterParts::send": Guard(
+        ["requires { length (state self.old).wire < (state self.old).capacity }"], reason=NO_BODY
+    ),
+}
+# A byte that goes onto the wire at once.
+SENDS_AT_ONCE = "requires { sending_spec.sends_at_once self.old ≡ true }"
+GUARDS["uart_chip::sending::put_on_wire"] = Guard(["requires { spec.is_ready (T.state parts.old) ≡ true }"], reason=INSIDE)
+GUARDS["uart_chip::sending::send_at_once"] = Guard(
+    ["requires { spec.sends_at_once (P.state parts.old) ≡ true }"],
+    test='assert!(sends_at_once(parts), "the transmitter is not idle");',
+    reason="in no interface, but reached by `LiveChip::send_at_once`",
+)
+GUARDS["uart_chip::chip::Uart::send_at_once"] = Guard(
+    [SENDS_AT_ONCE], tested_by="send_at_once", reason="it does nothing else"
+)
+GUARDS["uart_live::live::LiveChip::send_at_once"] = Guard(
+    [SENDS_AT_ONCE],
+    tested_by="send_at_once",
+    panics="If [`sends_at_once`](Self::sends_at_once) returns false. Nothing changed then.",
+    reason="it does nothing else",
+)
+# Of a port, whose chip is always still.
+GUARDS["uart_virtual::port::finish_still"] = Guard(["requires { IsStill chip.now }"], reason=IN_FILE)
+GUARDS["uart_virtual::port::finish_read"] = Guard(
+    [
+        "requires takes { chip.old.transmitter.char_ticks ≡ 1 }",
+        "requires still { (offset == offsets.DATA) ≡ false → IsStill chip.old }",
+    ],
+    reason=IN_FILE,
+)
+GUARDS["uart_virtual::port::send"] = Guard(
+    [
+        "requires live { IsLive chip.old }",
+        STILL,
+        "requires sends { sends_at_once chip.old ≡ true }",
+        "requires settled { port.ignores_falls told ≡ true }",
+    ],
+    reason=IN_FILE,
+)
+GUARDS["uart_virtual::port::take"] = Guard(["requires { IsStill chip.old }"], reason=IN_FILE)
+# The access that a guest makes most often is looked for first, and needs no test.
+for access, first in (("read", "LSR"), ("write", "DATA")):
+    GUARDS[f"uart_chip::controlling::{access}_register"] = Guard(
+        OFFSET,
+        test='assert!(offset < 8, "no register has this offset");',
+        reason=f"private, but reached by `LiveChip::{access}`",
+    )
+    GUARDS[f"uart_chip::controlling::{access}"] = Guard(
+        OFFSET, tested_by=f"{access}_register", reason=f"of each offset but that of {first}"
+    )
+    GUARDS[f"uart_chip::chip::Uart::{access}"] = Guard(OFFSET, tested_by=access, reason="it does nothing else")
+    GUARDS[f"uart_live::live::LiveChip::{access}"] = Guard(
+        OFFSET, tested_by=access, panics="If the offset is 8 or more.", reason="it does nothing else"
+    )
+# Each write that is no byte for an idle transmitter is slow.
+GUARDS["uart_virtual::port::write_slowly"] = Guard(
+    ["requires offset { offset < NUM_REGISTERS }", STILL],
+    tested_by="write",
+    reason="of the offset; the chip of a port is always still",
+)
+GUARDS["uart_virtual::port::write"] = Guard(
+    ["requires offset { offset < NUM_REGISTERS }", STILL],
+    tested_by="write_slowly",
+    reason="of each offset but that of DATA; the chip of a port is always still",
+)
+for access in ("read", "write"):
+    GUARDS[f"uart_virtual::port::VirtualPort::{access}"] = Guard(
+        OFFSET, tested_by=access, panics="If the offset is 8 or more.", reason="before it changes anything"
+    )
+
 # Methods of an own trait that require something, in the implementations: the function that they call and that tests it.
 IMPLEMENTED = {
     "uart_16550::pio::PioBackend::read": "port",
     "uart_16550::pio::PioBackend::write": "port",
     "uart_16550::mmio::MmioBackend::read": "address",
     "uart_16550::mmio::MmioBackend::write": "address",
+    # of types in no interface, so nothing tests what the trait requires
+    **{f"uart_chip::device::Device16550::{name}": None for name in ("read", "write")},
+    **{f"uart_chip::{name}::push": None for name in ("fifo::HeapFifo", "wire::HeapWire")},
+    "uart_chip::characters::Characters::push": None,
+    **{f"uart_live::fixed::{name}::push": None for name in ("FixedFifo", "FixedWire")},
+    **{f"uart_chip::transmitter::Transmitter::{name}": None for name in ("put", "send")},
+    **{f"uart_chip::receiver::Receiver::{name}": None for name in ("put", "set_unscheduled_lost")},
 }
 
-# Names that a `use` changes.
-RENAMED = ["uart_spec as spec"]
+# Methods that take an allocator, and have the name of another method of Rust's: the trait of the kit that has the method.
+WITH_ALLOCATOR = {"collect": "CollectWith", "to_vec": "ToVecWith", "to_string": "ToStringWith"}
+# Types that allocate, which every Rattle module sees.
+ALLOCATED = ["Vec", "String"]
+
+# Names of a method by hand and of a trait of the emitted crates: why no call is of the wrong one.
+IN_BOTH = {"clear": "no register is a `Fifo`", "is_empty": "no register is a `Fifo`"}
 
 # What is let through. Anything else of its kind is refused.
-MACROS = ["matches", "format_args", "format_fields"]
+MACROS = ["matches", "unreachable", "format_args", "format_fields", "format", "vec", "write", "writeln"]
 ATTRIBUTES = ["inline", "default", "automatically_derived"]
-INLINES = ["inline", "inline ( always )"]
+INLINES = ["inline", "inline ( always )", "inline ( never )"]
 DERIVES = ["Clone", "Copy", "Debug", "PartialEq", "Eq", "PartialOrd", "Ord", "Hash", "Default"]
-PATHS = """
-std::alloc::Global std::cmp::Ordering std::error::Error std::fmt std::fmt::Display std::fmt::Display::fmt std::fmt::Formatter
-std::fmt::Result std::fmt::Write std::marker::Model std::mem std::num::NonZeroU8 std::num::NonZeroU64 std::num::NonZeroUsize
-""".split()
-# Paths below a module of std that a `use` names.
-BELOW = "fmt::Write fmt::Formatter fmt::Result fmt::Error fmt::Display mem::replace".split()
-# Functions by a path of a type that is not ours.
-FUNCTIONS = """
-NonZeroU8::new NonZeroU64::new NonZeroUsize::new mem::replace HeapCircularBuffer::with_capacity Display::fmt
-""".split()
-# Methods of std that mean in Rattle what they mean in Rust, given that no call panics or overflows.
-METHODS = """
-abs_diff all as_array as_bytes as_ref checked_add cmp copy_from_slice enumerate filter first_chunk get is_empty is_err is_none is_none_or
-is_ok is_power_of_two iter iter_mut len min ok_or saturating_add then unwrap unwrap_or write_char write_fmt write_str
-""".split()
-# Methods of the trait `Flags`, in flags.rs.
-FLAGS = """
-all bits complement contains difference empty flags from_bits from_bits_retain from_bits_truncate from_name insert intersection
-intersects is_all is_empty iter iter_names remove set symmetric_difference toggle union
-""".split()
-# The other functions of flags.rs: with those above and std's, names that no own item has.
-FLAGS_TOO = "clear contains_unknown_bits name names truncate value".split()
-# Methods of the queue, in queue.rs.
-QUEUE = "as_slices capacity fill_from_slice is_empty is_full len read_into truncate_front with_capacity".split()
-# Own functions that have the name of one of the above or of std (names_of_std.txt): where they may be, and why each call is of
-# the one that is meant.
-SAME_NAME = {
-    "bits": ("impl Flags for ", "implements `Flags`"),
-    "flags": ("impl Flags for ", "implements `Flags`"),
-    "from_bits_retain": ("impl Flags for ", "implements `Flags`"),
-    "from_bits": ("impl InterruptType", "`InterruptType` is no register, and has no `Flags`"),
-    "cmp": ("impl Ord for ", "implements `Ord`"),
-    "partial_cmp": ("impl PartialOrd for ", "implements `PartialOrd`"),
-    "default": ("impl Default for ", "implements `Default`"),
-    "write_str": ("impl fmt :: Write for ", "implements `fmt::Write`"),
-    "fmt": (("impl fmt :: Display for ", "impl std :: fmt :: Display for "), "implements `Display`"),
-    "new": (("impl DriverState", "impl PioBackend", "impl MmioBackend", "impl Uart16550Ring"), "is called by its path alone"),
-    "take": ("impl Uart16550Ring", "a method of a type that has no trait with this name"),
-    "read": (("trait Backend", "trait Read", "impl Backend for ", "impl Read for "), "is called on a `B: Backend` alone"),
-    "write": (("trait Backend", "trait Write", "impl Backend for ", "impl Write for "), "is called on a `B: Backend` alone"),
-    "flush": (("trait Write", "impl Write for "), "is not called"),
-}
 # Casts to `usize`, which has 64 bits in Rattle: the function, and what is cast. All are from `u8` or `u16`.
 CASTS = {
     "uart_16550::pio::PioBackend::new": ["base"],
     "uart_16550::mmio::MmioBackend::new": ["stride . get ( )"],
     "uart_16550::mmio::MmioBackend::address": ["register_offset", "self . stride . get ( )"],
+    **{f"uart_chip::controlling::{name}": ["offset"] for name in ("read_register", "write_register")},
+    "uart_chip::receiving::is_data_pending": ["characters_of ( parts . trigger ( ) )"],
+    **{f"uart_virtual::port::{name}": ["offset"] for name in ("is_look", "finish_read", "is_fast")},
 }
-# Numbers above 65,535 that are no constants of `u32` or `u64`: the file, and the numbers. They are baud rates.
-LARGE = {"uart_spec/src/config.rt": ["115_200"]}
-# Words that no emitted code has.
+# Numbers above 65,535 that are no constants of `u32` or `u64`: the file, and the numbers. They are baud rates, and the largest wire.
+LARGE = {"uart_spec/src/config.rt": ["115_200"], "uart_events/src/event.rt": ["65_536"]}
+# Words that no emitted code has: what is unsafe, what depends on the target or on how it is compiled, and what is a proof's.
 WORDS = """
-unsafe async await dyn static extern macro_rules rt alloc clone prove unreachable invariant decreases measure size_of align_of
-transmute also_owns Box Vec String thread final requires ensures ghost Model Drop drop thiserror f32 f64 char_indices cfg cycle repr
-macro yield try loop unwrap_unchecked catch_unwind panic assert assert_eq assert_ne debug_assert todo unimplemented
-addr_of include include_str env concat stringify Rc Arc Cell RefCell UnsafeCell Atomic PhantomData Pin
-""".split()
-# Words that stand before a bracket and call nothing.
-WORDS_BEFORE = "pub if match return in let while for else as mut ref move derive inline where impl".split()
-# Names that a module may not have.
-RESERVED_MODULES = CRATES + "core std alloc proved bitflags circular_buffer arrayvec thiserror flags queue embedded_io_".split()
-NAMES_OF_STD = set(
-    word
-    for line in (pathlib.Path(__file__).parent / "names_of_std.txt").read_text(encoding="ascii").splitlines()
-    if not line.startswith("#")
-    for word in line.split()
-)
-# Names of types, traits and cases that every Rust module sees.
-PRELUDE = """
-Option Some None Result Ok Err Vec String Box Clone Copy Send Sync Sized Unpin Drop Fn FnMut FnOnce AsRef AsMut Into From TryInto
-TryFrom Default Iterator IntoIterator Extend FromIterator DoubleEndedIterator ExactSizeIterator Eq PartialEq Ord PartialOrd
-ToOwned ToString Future IntoFuture Self
+unsafe async await dyn static extern macro_rules rt prove invariant decreases measure also_owns requires ensures ghost Model Drop
+thiserror cfg repr size_of align_of transmute addr_of UnsafeCell Atomic catch_unwind
 """.split()

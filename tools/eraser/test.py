@@ -1,17 +1,16 @@
 """The eraser's own tests, as tables.
 
-What it refuses, with the cause that it prints, and what its check and its second reader find.
+What it refuses, with the cause that it prints, and what its check finds.
 """
 import contextlib
 import pathlib
 import tempfile
 
 import around
-import chip
 import crate
 import deceptions
 import guards
-import second
+import packages
 import table
 import words
 
@@ -76,59 +75,24 @@ FORMS = [
     # items
     ("unsafe fn f() {}", "an item that begins with `unsafe`"),
     ("const fn f() -> u8 {\n    3\n}", "a `const fn` of the source"),
-    ("pub final fn f() -> u8 {\n    3\n}", "a `final` function"),
+    ("pub final fn f() -> u8 {\n    3\n}", "an item that begins with `final`"),
     ("static A: u8 = 1;", "an item that begins with `static`"),
     ("macro_rules! f { () => { } }", "an item that begins with `macro_rules`"),
     ('extern "C" fn f() {}', "an item that begins with `extern`"),
     ("mod a {\n    fn f() {}\n}", "a module with a body"),
     ("pub(in crate::a) fn f(x: u8) -> u8 {\n    x\n}", "the visibility"),
-    ("mod uart_ring;", "a module with the name of a crate: uart_ring"),
-    ("mod core;", "a module with the name of a crate: core"),
-    ("mod alloc;", "a module with the name of a crate: alloc"),
-    ("mod flags;", "a module with the name of a crate: flags"),
-    ("mod laws;", "uart_spec/src/backend/laws.rt: declared, and not there"),
-    ("mod replay;", "uart_spec/src/backend/replay.rt: declared, and not there"),
-    ("#[cfg(test)]\nmod more;", "tests that are not listed"),
+    ("mod uart_ring;", "`uart_ring`, the name of a crate, for something else"),
+    ("mod core;", "`core`, the name of a crate, for something else"),
+    ("mod alloc;", "`alloc`, the name of a crate, for something else"),
+    ("mod bitflags;", "`bitflags`, the name of a crate, for something else"),
+    ("mod std;", "`std`, the name of a crate, for something else"),
+    ("mod more;", "uart_spec/src/backend/more.rt: declared, and not there"),
     ("#[cfg(unix)]\nfn f(x: u8) -> u8 {\n    x\n}", "the attribute `cfg`"),
     ("#[repr(packed)]\nstruct S(u8);", "the attribute `repr`"),
-    ("#[inline(never)]\nfn f(x: u8) -> u8 {\n    x\n}", "an `inline` of another form"),
     ("#![allow(warnings)]", "an item that begins with `#`"),
     ("#[derive(Clone, Serialize)]\nstruct S(u8);", "the derive `Serialize`"),
-    ("use std::collections::HashMap;", "the path std::collections::HashMap"),
-    ("use std::fmt::{Display, Pointer};", "the path std::fmt::Pointer"),
-    ("use crate::registers::*;", "a `use` of everything"),
     ("#[allow(unused)]\nuse crate::registers::IER;", "an attribute of a `use`"),
-    ("use crate::registers::IER as Option;", "another name for something"),
-    ("use crate::backend::{Backend as Other};", "another name for something"),
-    ("enum E {\n    A = 5,\n    B = 1,\n}", "numbers of cases that do not ascend"),
     # names that Rust could take for others
-    ("pub trait T {\n    fn midpoint(self, other: u8) -> u8;\n}", "a name of std or of a library: midpoint"),
-    ("pub trait T {\n    fn count_ones(self) -> u8;\n}", "a name of std or of a library: count_ones"),
-    ("pub trait T {\n    fn clamp(self) -> u8;\n}", "a name of std or of a library: clamp"),
-    ("pub trait T {\n    fn into(self) -> u8;\n}", "a name of std or of a library: into"),
-    ("pub trait T {\n    const BITS: u8;\n}", "a name of std or of a library: BITS"),
-    ("pub trait T {\n    fn is_empty(&self) -> bool;\n}", "a name of std or of a library: is_empty"),
-    (
-        "struct S;\nimpl S {\n    fn contains(&self) -> bool {\n        true\n    }\n}",
-        "a name of std or of a library: contains",
-    ),
-    ("struct Option(u8);", "a name of the prelude: Option"),
-    ("trait Clone {}", "a name of the prelude: Clone"),
-    ("const None: u8 = 1;", "a name of the prelude: None"),
-    (
-        "pub trait T {\n    fn f(&self) -> u8;\n}\nimpl T for u8 {\n    fn f(&self) -> u8 {\n        3\n"
-        "    }\n}",
-        "an `impl` for u8, which is not ours",
-    ),
-    ("pub trait T {}\nimpl<X> T for X {}", "an `impl` for X, which is not ours"),
-    ("pub trait T {}\nimpl T for &S {}", "an `impl` for a type that is not ours"),
-    ("pub struct S;\npub trait T {}\nimpl<Config> T for Config {}", "a parameter `Config` that is no single letter"),
-    ("pub trait T {}\npub struct X;\nimpl<X> T for X {}", "an `impl` for X, which is not ours"),
-    ("pub trait T {}\npub type Config = u8;\nimpl T for Config {}", "an `impl` for Config, which is not ours"),
-    (
-        "use std::num::NonZeroU8 as Config;\npub trait T {}\nimpl T for Config {}",
-        "another name for something",
-    ),
     # lemmas and models
     (
         "struct S {\n    pub x: u8,\n    ghost in_range: { x ≤ 3 },\n}",
@@ -139,9 +103,8 @@ FORMS = [
         "S has an invariant and a field",
     ),
     ("impl Model for Other {\n    ghost view = { a };\n}", "a model of Other, which is a type of another file"),
-    ("fn more()\n    ensures { a }\n{}", "a lemma that is not listed"),
-    ("struct S;\nimpl S {\n    fn law()\n        ensures { a }\n    {}\n}", "a lemma that is not listed"),
-    ("pub trait T {\n    fn law()\n        ensures { a }\n    {}\n}", "a lemma that is not listed"),
+    ("struct S;\nimpl S {\n    fn law()\n        ensures { a }\n    {}\n}", "a lemma in an item"),
+    ("pub trait T {\n    fn law()\n        ensures { a }\n    {}\n}", "a lemma in an item"),
     ("struct S;\nimpl Model for S {\n    fn f(&self) -> u8 {\n        3\n    }\n}", "a `Model` with code"),
     # bounds
     ("fn f<B>(x: B) -> B\nwhere\n    B: Drop,\n    B: Copy,\n{\n    x\n}", "a `where` of more than `Drop`"),
@@ -154,7 +117,7 @@ FORMS = [
     ),
     (
         "struct S;\nimpl Drop for S {\n    fn drop(self) {\n        let S = self;\n    }\n}",
-        "a name of std or of a library: drop",
+        "the word `Drop`",
     ),
     # guards
     (
@@ -176,22 +139,13 @@ FORMS = [
     ),
     # code
     ("fn f(x: u8) -> u8 {\n    unsafe { x }\n}", "the word `unsafe`"),
-    ("fn f(x: &[u8]) -> usize {\n    x.iter().map(|s| s.clone()).count()\n}", "the method `map`"),
-    ("fn f(x: &u8) -> u8 {\n    x.clone()\n}", "the word `clone`"),
-    ("fn f() -> usize {\n    (250u8..).len()\n}", "a range with no end"),
-    ("fn f() {\n    for _turn in 3.. {\n        g;\n    }\n}", "a range with no end"),
-    ("fn f() {\n    let x = 3..;\n}", "a range with no end"),
-    ("fn f(x: &[u8]) -> usize {\n    x.iter().min(3..).len()\n}", "a range with no end"),
-    ("fn f() -> u8 {\n    let x = [3..];\n    3\n}", "a range with no end"),
-    ("fn f() -> u8 {\n    match 3 {\n        3.. => 1,\n        _ => 2,\n    }\n}", "a range with no end"),
-    ("fn f() -> u8 {\n    let x = return [3..];\n}", "a range with no end"),
     ('fn f() {\n    println!("x")\n}', "the macro `println`"),
     ("fn f() {\n    MACRO!(x)\n}", "the macro `MACRO`"),
-    ("fn f() {\n    assert!(true);\n}", "the word `assert`"),
+    ("fn f() {\n    assert!(true);\n}", "the macro `assert`"),
     ("fn f(rt: u8) -> u8 {\n    rt\n}", "the word `rt`"),
     ("fn f() {\n    prove!(true)\n}", "the word `prove`"),
     ("fn f() {\n    while true invariant { x } { }\n}", "the word `invariant`"),
-    ("fn f() -> usize {\n    std::mem::size_of::<u8>()\n}", "the path std::mem::size_of"),
+    ("fn f() -> usize {\n    std::mem::size_of::<u8>()\n}", "the word `size_of`"),
     ("fn f(x: &dyn T) -> u8 {\n    3\n}", "the word `dyn`"),
     ("fn f() -> usize {\n    usize::MAX\n}", "a limit of `usize`"),
     ("fn f() -> u32 {\n    usize::BITS\n}", "a limit of `usize`"),
@@ -201,26 +155,13 @@ FORMS = [
     ("fn f(x: u64) -> usize {\n    x as usize\n}", "a cast to `usize` that is not listed"),
     ("fn f(x: *const u8) -> u8 {\n    3\n}", "a raw pointer"),
     ("fn f(x: u8) -> u8 {\n    let y = &raw mut x;\n    3\n}", "a raw pointer"),
-    ("fn f(x: Option<u8>) -> u8 {\n    x.unwrap_or_default()\n}", "the method `unwrap_or_default`"),
-    ("fn f(x: &[u8]) -> bool {\n    x.iter().all(u8::is_ascii)\n}", "a function as a value: is_ascii"),
-    (
-        "fn g(x: u8) -> bool {\n    true\n}\n\nfn f(x: &[u8]) -> bool {\n    x.iter().all(g)\n}",
-        "a function as a value: g",
-    ),
-    ("fn f() -> u8 {\n    u8::from(3)\n}", "the function `u8::from`"),
-    ("fn f() -> u8 {\n    g(3)\n}", "the call `g`"),
     ("fn f() -> u8 {\n    1.5 as u8\n}", "a number that is not whole"),
     ("fn f() -> u8 {\n    fn g() -> u8 {\n        3\n    }\n    3\n}", "`fn` in a body"),
     ("fn f() -> u8 {\n    use crate::a;\n    3\n}", "`use` in a body"),
     ("fn f() -> u8 {\n    #[cfg(unix)]\n    return 4;\n    3\n}", "`#` in a body"),
     ("fn f(x: u8) -> u8 {\n    (x]\n}", "brackets that do not match"),
-    ("fn f(x: u8) -> u8 {\n    loop {\n    }\n}", "the word `loop`"),
     ("async fn f() {}", "an item that begins with `async`"),
     ("fn f() -> u8 {\n    1e3 as u8\n}", "a number that is not whole"),
-    (
-        "pub struct S {\n    x: u8,\n}\nfn f(v: &[S], i: usize) -> S {\n    S { x: 1, ..v[i] }\n}",
-        "the rest of a struct from an index",
-    ),
     ("pub struct S(pub(super) u8);", "a register without `Debug`"),
     ("#[derive(Clone)]\npub struct S(pub(super) u8);", "a register without `Debug`"),
     # documentation
@@ -257,30 +198,6 @@ SOURCES = [
         "    pub(crate) fn read_plain",
         "    pub fn read_plain",
         "read_plain can be reached",
-    ),
-    (
-        "uart_16550/src/laws.rt",
-        "\npub fn calls_leave_no_choice()",
-        "\npub fn real() -> u8 {\n    3\n}\n\npub fn calls_leave_no_choice()",
-        "a lemma that is not listed, or listed and no lemma",
-    ),
-    (
-        "uart_16550/src/laws.rt",
-        "\npub fn calls_leave_no_choice()",
-        "\npub const A: u8 = 3;\n\npub fn calls_leave_no_choice()",
-        "a file of lemmas with another item",
-    ),
-    (
-        "uart_spec/src/registers.rt",
-        "{}\n\n/// The bits of each mask.",
-        "{ 3 }\n\n/// The bits of each mask.",
-        "listed and no lemma",
-    ),
-    (
-        "uart_spec/src/registers.rt",
-        "pub fn masks_are_these()",
-        "pub fn masks_are_those()",
-        "a lemma that is not listed",
     ),
     ("uart_spec/src/lib.rt", "mod config;\n", "", "config.rt: no module declares it"),
     ("uart_spec/src/lib.rt", "mod config;\n", "mod config;\nmod extra;\n", "extra.rt: declared, and not there"),
@@ -323,193 +240,88 @@ SOURCES = [
     ),
 ]
 
-# An edit of an emitted file: a wrong erasure. Both readers find it.
-ERASURES = [
-    (
-        "uart_16550/driver/transmit.rs",
-        "self.write_byte(bytes[0]);",
-        "self.write_byte(bytes[0]); self.write_byte(bytes[0]);",
-    ),
-    ("uart_16550/driver/init.rs", "0x42", "0x43"),
-    ("uart_16550/driver/init.rs", "        self.drain();\n", ""),
-    ("uart_16550/driver/init.rs", "if !self.keeps(FIRST_PATTERN)", "if self.keeps(FIRST_PATTERN)"),
-    ("uart_16550/driver/receive.rs", "!self.read_lsr()", "self.read_lsr()"),
-    ("uart_16550/driver.rs", "LSR::LINE_ERRORS", "LSR::ERRORS"),
-    ("uart_16550/driver.rs", "self.saved_lsr.insert", "self.saved_msr.insert"),
-    ("uart_16550/driver/status.rs", "pub fn ier", "pub unsafe fn ier"),
-    ("uart_16550/driver/status.rs", "pub fn ier", "pub(crate) fn ier"),
-    ("uart_16550/mod.rs", "mod address;", "mod address; mod extra;"),
-    ("uart_16550/mod.rs", "pub mod backend;", "#[path = \"other.rs\"] pub mod backend;"),
-    ("uart_spec/errors.rs", "the device stalled\"", "the device is stalled\""),
-    ("uart_spec/baud.rs", "    16 * (", "    8 * ("),
-    ("uart_spec/baud.rs", "frequency != 0", "frequency != 1"),
-    ("uart_spec/baud.rs", "is_none_or(|factor| factor <= 15)", "is_none_or(|factor| factor <= 16)"),
-    ("uart_spec/baud.rs", "pub fn calc_divisor", "pub const fn calc_divisor"),
-    ("uart_16550/mmio.rs", "register_offset < 8", "register_offset < 9"),
-    ("uart_16550/mmio.rs", "        assert!(register_offset < 8, \"no register has this offset\");\n", ""),
-    ("uart_16550/pio.rs", "self.base + register_offset", "self.base - register_offset"),
-    ("uart_spec/registers/bits.rs", "1 << 5", "1 << 4"),
-    ("uart_spec/registers/bits.rs", "\"THR_EMPTY\"", "\"DATA_READY\""),
-    ("uart_spec/registers/bits.rs", "crate::flags::", "crate::other::"),
-    ("uart_spec/registers/line_control.rs", "pub(crate) u8", "pub u8"),
-    ("uart_spec/registers/line_control.rs", "Clone, Copy, PartialEq", "Clone, Copy, Debug, PartialEq"),
-    ("uart_spec/config.rs", "pub const fn to_integer", "pub fn to_integer"),
-    ("uart_spec/config.rs", "#[default]\n    Baud9600", "Baud9600"),
-    ("uart_spec/config.rs", "frequency != 0", "frequency == 0"),
-    ("uart_spec/registers/divisors.rs", "Divisor2 = 2,", "Divisor2,"),
-    ("uart_16550/tty.rs", "b\"\\r\\n\\0\"", "b\"\\n\\r\\0\""),
-    ("uart_16550/tty.rs", "0x08 | 0x7f", "0x08"),
-    ("uart_16550/driver/loopback.rs", "0..self", "1..self"),
-    ("uart_spec/registers/modem_status.rs", "MSR::DELTA_CTS", "MSR::DELTA_DSR"),
-    ("uart_16550/driver/transmit.rs", "#[inline(always)]\n", ""),
-    (
-        "uart_16550/backend.rs",
-        "fn load(&mut self, address: usize) -> u8;",
-        "fn load(&mut self, address: usize) -> u8\n"
-        "    ensures { step self.old (Read address result) self.new };",
-    ),
-    (
-        "uart_16550/driver/state.rs",
-        "spin_limit: self.spin_limit,\n        }\n    }",
-        "spin_limit: NonZeroU64::MIN,\n        }\n    }",
-    ),
-    ("uart_16550/embedded_io.rs", "type Error = StalledError;", "type Error = ();"),
-    ("uart_ring/ring.rs", "4096;", "4097;"),
-    ("uart_ring/ring.rs", "capacity <= MAX_CAPACITY", "capacity < MAX_CAPACITY"),
-    (
-        "uart_ring/ring/service.rs",
-        "InterruptType::ModemStatus => self.note_modem()",
-        "InterruptType::ModemStatus => self.note_line()",
-    ),
-    ("uart_ring/ring/transmit.rs", "self.transmit.len() - sent", "sent"),
-    ("uart_ring/mod.rs", "mod ring;", "pub mod ring;"),
-]
-
-# An edit of an emitted file that only the comparison of bytes finds.
+# An edit of an emitted file, which the comparison of bytes finds.
 BYTES = [
-    ("uart_spec/baud.rs", "/// not fit into 32 bits.\n", ""),
-    ("uart_spec/baud.rs", "/// # Panics", "/// # Errors"),
-    ("uart_16550/driver/init.rs", "/// Initialises the device", "/// Initializes the device"),
-    ("uart_16550/driver.rs", "// Reads LSR, and", "// Reads LSR; \rlet x = 1; //"),
-    ("uart_16550/driver.rs", "impl<B: Backend>", "impl<B:  Backend>"),
-    ("mod.rs", "pub mod uart_ring;", "pub(crate) mod uart_ring;"),
-    ("mod.rs", "#![forbid(unsafe_code)]\n", ""),
-    ("examples.rs", "(port % 8)", "(port % 9)"),
+    ("uart_16550/src/driver/init.rs", "0x42", "0x43"),
+    ("uart_spec/src/baud.rs", "/// not fit into 32 bits.\n", ""),
+    ("uart_spec/src/baud.rs", "/// # Panics", "/// # Errors"),
+    ("uart_16550/src/driver/init.rs", "/// Initialises the device", "/// Initializes the device"),
+    ("uart_16550/src/driver.rs", "// Reads LSR, and", "// Reads LSR; \rlet x = 1; //"),
+    ("uart_16550/src/driver.rs", "impl<B: Backend>", "impl<B:  Backend>"),
+    ("uart_ring/src/lib.rs", "mod ring;", "pub mod ring;"),
+    ("uart_ring/src/lib.rs", "#![forbid(unsafe_code)]\n", ""),
+    ("uart_spec/src/lib.rs", "pub mod by_hand;", "#[cfg(unix)]\npub mod by_hand;"),
+    ("uart_spec/examples.rs", "(port % 8)", "(port % 9)"),
+    ("uart_live/Cargo.toml", 'edition = "2024"', 'edition = "2021"'),
+    ("uart_live/Cargo.toml", "../../kit", "../../other"),
     ("DROPPED", "clause | uart_16550::driver::init::Uart16550::init | requires, ensures\n", ""),
     ("MANIFEST", "kit ", "kit of another day "),
 ]
 
-# An edit of a file by hand around the emitted folder, and the cause. An empty old text is a new file.
+# An edit of a file by hand around the emitted packages, and the cause. An empty old text is a new file.
+CHECKED = "rust/proved/uart_spec/src/by_hand/checked.rs"
+ERRORS = "rust/proved/uart_spec/src/by_hand/errors.rs"
+SERIAL = "rust/uart_16550_chip/src/serial.rs"
 AROUND = [
-    ("src/lib.rs", "mod proved;", "pub mod proved;", "not one plain line"),
-    ("src/lib.rs", "mod proved;", "#[path = \"other/mod.rs\"]\nmod proved;", "not one plain line"),
-    ("src/lib.rs", "mod proved;", "#[cfg(unix)]\nmod proved;", "not one plain line"),
-    ("src/lib.rs", "mod proved;", "#[cfg(unix)]\n\n// a\n\nmod proved;", "not one plain line"),
-    ("src/lib.rs", "mod proved;", "#[cfg_attr(all(), path = \"x.rs\")]\nmod proved;", "not one plain line"),
-    ("src/lib.rs", "mod proved;", "mod proved;\n#[cfg(windows)]\nmod proved;", "not one plain line"),
-    ("src/lib.rs", "mod flags;", "macro_rules! matches { () => {} }\nmod flags;", "a macro, or `extern crate`"),
-    ("src/lib.rs", "mod flags;", "extern crate std as core;\nmod flags;", "a macro, or `extern crate`"),
-    ("src/lib.rs", "mod flags;", "#[macro_use]\nmod flags;", "`macro_use`"),
-    ("src/lib.rs", "#![no_std]", "#![no_std]\n#![feature(x)]", "`feature`"),
-    ("src/lib.rs", "#![no_std]", "#![no_std]\n#![cfg_attr(all(), feature(x))]", "`feature`"),
-    ("src/lib.rs", "#![no_std]", "#![no_implicit_prelude]", "`no_implicit_prelude`"),
-    ("src/flags.rs", "macro_rules!", "#[macro_use]\nmod more {}\nmacro_rules!", "src/flags.rs: `macro_use`"),
+    (CHECKED, "impl PSD {", "macro_rules! f { () => {} }\n#[macro_use]\nmod more {}\nimpl PSD {", "`macro_use`"),
+    (CHECKED, "impl PSD {", "extern crate std as core;\nimpl PSD {", "`extern crate`"),
+    (CHECKED, "impl PSD {", "#[path = \"other.rs\"]\nmod more;\nimpl PSD {", "`path`"),
+    (CHECKED, "impl PSD {", "#[cfg(unix)]\nimpl PSD {", "`cfg`"),
+    (CHECKED, "impl PSD {", "#[cfg_attr(all(), cfg(unix))]\nimpl PSD {", "`cfg_attr`"),
+    (CHECKED, "impl PSD {", "fn f() { other_factor() }\nimpl PSD {", "`other_factor`, which requires"),
+    (ERRORS, '#[cfg(feature = "embedded-io")]', '#[cfg(not(feature = "embedded-io"))]', "`cfg`"),
+    ("rust/proved/uart_run/src/by_hand.rs", "", "impl X {}", "no emitted file declares it"),
+    ("rust/proved/uart_run/build.rs", "", "fn main() {}", "build.rs: there"),
+    ("rust/kit/build.rs", "", "fn main() {}", "build.rs: there"),
+    ("rust/uart_16550/src/access.rs", "impl ", "fn f(u: &mut U) { u.write_register(9, 1) }\nimpl ", "`write_register`, which requires"),
+    (SERIAL, "use crate::{Chip,", "use uart_chip::x;\nuse crate::{Chip,", "`uart_chip`, which is in no interface"),
+    (SERIAL, "use crate::{Chip,", "use uart_live::Uart;\nuse crate::{Chip,", "`Uart`, which is in no interface"),
+    ("rust/uart_16550_chip/src/lib.rs", "    Character, Chip,", "    Character, Uart, Chip,", "`Uart`, which is in no interface"),
+    (".cargo/config.toml", "", "[build]\nrustflags = []\n", "more than that cargo asks no index"),
+    (".cargo/config.toml", "", "[net]\nretry = 0\n", "more than that cargo asks no index"),
+    ("rust/kit/.cargo/config.toml", "", "[build]\nrustflags = []\n", "more than that cargo asks no index"),
+    ("rust/kit/Cargo.toml", 'edition = "2024"', 'edition = "2021"', 'not `edition = "2024"`'),
+    ("rust/kit/Cargo.toml", "[features]\n", '[lib]\npath = "src/other.rs"\n[features]\n', "`path` of the library"),
+    ("rust/kit/Cargo.toml", "[package]\n", '[package]\nbuild = "src/x.rs"\n', "`build` of the package"),
+    ("rust/uart_16550/Cargo.toml", "[dependencies]\n", '[dependencies]\nbitflags = "2"\n', "the dependency bitflags"),
+    ("rust/uart_16550/Cargo.toml", '"../proved/uart_ring", version = "=0.9.0"', '"../proved/uart_ring"', "the dependency uart_ring is of any version"),
+    ("rust/uart_16550/Cargo.toml", "[dependencies]\n", "[patch.crates-io]\n[dependencies]\n", "the section [patch]"),
     (
-        "src/flags.rs",
-        "macro_rules!",
-        "fn f(u: &mut U) { u.write_register(9, 1) }\nmacro_rules!",
-        "`write_register`, which requires",
-    ),
-    ("src/flags.rs", "fn toggle", "fn has_error", "`has_error`, a name that is not reserved"),
-    ("src/proved.rs", "", "pub mod uart_spec;", "src/proved.rs: there"),
-    ("build.rs", "", "fn main() {}", "build.rs: there"),
-    (".cargo/config.toml", "", "[build]\nrustflags = []\n", "more than the stand-in"),
-    (".cargo/config.toml", "", "[net]\nretry = 0\n", "more than the stand-in"),
-    ("Cargo.toml", 'edition = "2024"', 'edition = "2021"', 'not `edition = "2024"`'),
-    ("Cargo.toml", "[lib]\n", '[lib]\npath = "src/other.rs"\n', "`path` of the library"),
-    ("Cargo.toml", "[lib]\n", '[lib]\nedition = "2021"\n', "`edition` of the library"),
-    ("Cargo.toml", "[package]\n", '[package]\nbuild = "src/x.rs"\n', "`build` of the package"),
-    ("Cargo.toml", "[dependencies]\n", '[dependencies]\nbitflags = "2"\n', "the dependency bitflags"),
-    ("Cargo.toml", "[dependencies]\n", "[patch.crates-io]\n[dependencies]\n", "the section [patch]"),
-    (
-        "Cargo.toml",
-        "[dependencies]\n",
-        "[profile.release]\noverflow-checks = true\n[dependencies]\n",
-        "the section [profile]",
-    ),
-    (
-        "Cargo.toml",
+        "rust/uart_16550/Cargo.toml",
         "[dependencies]\n",
         "[target.'cfg(unix)'.dependencies]\nx = \"1\"\n[dependencies]\n",
         "the section [target]",
     ),
-    ("Cargo.toml", "[package]\n", 'cargo-features = ["x"]\n[package]\n', "the section [cargo-features]"),
-    ("Cargo.toml", "[lib]\n", "[lib\n", "cannot be read"),
+    ("rust/uart_16550/Cargo.toml", "[package]\n", 'cargo-features = ["x"]\n[package]\n', "the section [cargo-features]"),
+    ("rust/uart_16550/Cargo.toml", "[lib]\n", "[lib\n", "cannot be read"),
+    ("Cargo.toml", "[workspace]\n", "[profile.release]\noverflow-checks = true\n[workspace]\n", "`overflow-checks` of the profile release"),
+    ("Cargo.toml", "[patch.crates-io]\n", '[patch.crates-io]\nx = { path = "x" }\n', "more than the stand-in"),
 ]
 
-
-# The same for the chip: an edit of a source that is refused, a wrong erasure, an edit of a file by hand.
+# Edits of the sources of the chip, and the cause.
 CHIP_SOURCES = [
-    ("uart_live/src/lib.rt", "    Character, Chip,", "    Character, Uart, Chip,", "Uart is exported, and the table says that it is not"),
-    ("uart_live/src/live.rt", "use bitflags::Flags;", "pub use uart_chip::Uart;", "Uart is exported"),
-    ("uart_chip/src/chip.rt", "= HeapWire,", "= Vec<u8>,", "a default of a type parameter"),
-    ("uart_chip/src/chip.rt", "= HeapWire,", "= FixedWire,", "a default of a type parameter"),
-    ("uart_chip/src/fifo.rt", "pub trait Fifo<T>", "pub trait Fifo<Type>", "a parameter `Type` that is no single letter"),
     ("uart_live/src/fixed.rt", "pub struct FixedFifo<T>", "pub struct FixedFifo<T: Drop + Copy>", "a bound `Drop` of another form"),
-    ("uart_chip/src/fifo.rt", "pub struct HeapFifo<T>", "pub struct Heap<T>", "`HeapCircularBuffer`, which is left out"),
-    ("uart_chip/src/fifo.rt", "HeapCircularBuffer::with_capacity", "unsafe {}; HeapCircularBuffer::with_capacity", ""),
     ("uart_chip/src/fifo.rt", "< FIFO_SIZE }\n        ensures", "≤ FIFO_SIZE }\n        ensures", "Fifo::push requires other things"),
     ("uart_live/src/fixed.rt", "requires { capacity ≤ WIRE_ROOM }", "", "FixedWire::new requires other things"),
-    ("uart_chip/src/journal.rt", "use std::alloc::{AllocError, Global};", "use std::alloc::{AllocError, Layout};", "the path std::alloc::AllocError"),
     ("uart_chip/src/lib.rt", "mod wire;", "mod wire;\nmod extra;", "extra.rt: declared, and not there"),
     ("uart_live/src/live.rt", "requires { offset < NUM_REGISTERS }\n        ensures answers", "ensures answers", "requires other things"),
-    ("uart_spec/src/lib.rt", "pub use baud::{", "pub use config::*;\npub use baud::{", "a `use` of everything"),
     ("uart_virtual/src/port.rt", "    chip.write(offset, value);\n", "", "write_slowly does not call write"),
     ("uart_virtual/src/port.rt", "fn take(chip: &mut", "pub fn take(chip: &mut", "port::take can be reached"),
     ("uart_virtual/src/port.rt", "requires sends { sends_at_once chip.old ≡ true }", "", "port::send requires other things"),
     ("uart_chip/src/sending.rt", "requires { spec.sends_at_once", "requires { spec.is_ready", "send_at_once requires other things"),
 ]
-CHIP_ERASURES = [
-    ("uart_live/fixed.rs", "(self.start + self.len) % FIFO_SIZE", "(self.start + self.len + 1) % FIFO_SIZE"),
-    ("uart_chip/fifo.rs", "pub trait Fifo<T> {", "pub trait Fifo<T> {\n    fn more(&self);\n"),
-    ("uart_live/fixed.rs", "        self.slots[WIRE_ROOM + place] = byte;\n", ""),
-    ("uart_live/fixed.rs", "count.min(self.count)", "count"),
-    ("uart_chip/receiver.rs", "4 * char_ticks", "5 * char_ticks"),
-    ("uart_chip/receiver.rs", "self.is_overrun = on;", "self.is_overrun = !on;"),
-    ("uart_chip/transmitting.rs", "parts.set_thr_pending(false);", "parts.set_thr_pending(true);"),
-    ("uart_chip/chip.rs", "W: Wire,", "W: Wire = FixedWire,"),
-    ("uart_chip/controlling.rs", "LSR::LINE_ERRORS", "LSR::ERRORS"),
-    ("uart_chip/mod.rs", "{Wire, send};", "{Wire, HeapWire, send};"),
-    ("uart_chip/controlling.rs", "offset < 8", "offset < 9"),
-    ("uart_live/live.rs", "LSR::CHARACTER_ERRORS) != errors", "LSR::CHARACTER_ERRORS) == errors"),
-    ("uart_live/sound.rs", "wire.len() <= saved", "wire.len() < saved"),
-    ("uart_spec/mod.rs", "mod baud;", "mod baud; pub mod config;"),
-]
-CHIP_AROUND = [
-    ("src/lib.rs", "mod proved;", "pub mod proved;", "not one plain line"),
-    ("src/lib.rs", "pub use list::ArrayVec;", "pub use proved::uart_chip::{self};", "`uart_chip`, which is not exported"),
-    ("src/serial.rs", "use crate::{Chip,", "use crate::proved::{uart_live::Uart, Chip,", "`Uart`, which is not exported"),
-    ("src/flags.rs", "fn toggle", "fn room_of", "`room_of`, a name that is not reserved"),
-    ("Cargo.toml", "[features]\n", '[dependencies]\nbitflags = "2"\n[features]\n', "the dependency bitflags"),
-]
 
 
 class Tests:
-    """The sources of a table as they are, what is emitted of them, and the counts."""
+    """The sources as they are, what is emitted of them, and the counts."""
 
-    def __init__(self, allow=table):
+    def __init__(self):
         self.passed, self.failed = 0, 0
-        self.table = allow
-        found = crate.sources(ROOT, allow.CRATES)
-        self.texts = {
-            name: crate.text_of(name, crate.expanded(ROOT, name) if b"use thiserror::Error" in data else data)
-            for name, data in found.items()
-            if name not in allow.LEFT_OUT
-        }
-        self.read = {name: crate.read(name, text, allow) for name, text in self.texts.items()}
-        emitted, _ = crate.files_of(self.texts, allow)
-        self.emitted = emitted
-        self.there, _ = crate.there(ROOT / allow.OUTPUT)
+        found = crate.sources(ROOT, table.CRATES)
+        wanted = {name: data for name, data in found.items() if crate.is_read(name)}
+        self.texts = {name: crate.text_of(name, crate.expanded(ROOT, name) if is_expanded(data) else data) for name, data in wanted.items()}
+        self.read = {name: crate.read(name, text) for name, text in self.texts.items()}
+        self.there, _ = crate.there(ROOT / table.OUTPUT)
 
     def count(self, holds, what):
         self.passed += bool(holds)
@@ -520,11 +332,10 @@ class Tests:
     def refused(self, name, text):
         """The cause for which this text of a source is refused, or nothing."""
         try:
-            file = crate.read(name, text, self.table)
-            files = [file if one == name else other for one, other in self.read.items()]
-            words.check(file, crate.known_functions(files))
-            crate.check_whole(files, {**self.texts, name: text}, self.table)
-            crate.erase(crate.read(name, text, self.table))
+            file = crate.read(name, text)
+            words.check(file)
+            crate.check_whole([file if one == name else other for one, other in self.read.items()], {**self.texts, name: text})
+            crate.erase(crate.read(name, text))
         except crate.Failed as causes:
             return str(causes)
         except crate.Refused as cause:
@@ -549,31 +360,11 @@ class Tests:
             is_seen = text.count(old) == 1 and not guards.is_defined(name, text.replace(old, new))
             self.count(is_seen, f"{name}: {old!r} to {new!r}: accepted")
 
-    def widened(self):
-        for *forms, cause in deceptions.WIDENED:
-            texts = {name: f"{self.texts[name]}\n{form}\n" for name, form in forms}
-            files = [crate.read(name, texts.get(name, self.texts[name]), self.table) for name in self.read]
-            found = failure(lambda: crate.check_whole(files, {**self.texts, **texts}, self.table))
-            self.count(cause in found, f"{forms}: {found or 'accepted'}, and not: {cause}")
-
     def sources(self, edits):
         for name, old, new, cause in edits:
             text = self.texts[name]
             found = self.refused(name, text.replace(old, new, 1)) if old in text else "no such text"
             self.count(cause in found if cause else not found, f"{name}: {old!r} to {new!r}: {found or 'accepted'}, and not: {cause}")
-
-    def erasures(self, edits):
-        """Each wrong erasure is found by the comparison and by the second reader, in its file."""
-        self.count(second.differences(self.texts, self.emitted, self.table) == [], "the second reader does not agree")
-        for name, old, new in edits:
-            text = self.emitted[name]
-            changed = text.replace(old, new, 1)
-            files = {**self.emitted, name: changed}
-            sources = {one: text for one, text in self.texts.items() if crate.target_of(one) == name}
-            found = second.differences(sources, files, self.table)
-            causes = self.compared(name, changed.encode())
-            self.count(old in text and len(found) == 1 and found[0].startswith(f"{name}: "), f"second: {name}: {old!r} to {new!r}: {found}")
-            self.count(causes == [f"{name}: not what the sources give: run tools/eraser/erase emit"], f"{name}: {old!r}: {causes}")
 
     def bytes(self):
         for name, old, new in BYTES:
@@ -587,8 +378,8 @@ class Tests:
     def files(self):
         """Files more and less, and what is no plain file."""
         self.count(self.compared("uart_spec/more.rs", b"") == ["uart_spec/more.rs: not expected"], "a file more")
-        less = {name: data for name, data in self.there.items() if name != "uart_spec/baud.rs"}
-        self.count(crate.compare(self.there, less, []) == ["uart_spec/baud.rs: missing"], "a file less")
+        less = {name: data for name, data in self.there.items() if name != "uart_spec/src/baud.rs"}
+        self.count(crate.compare(self.there, less, []) == ["uart_spec/src/baud.rs: missing"], "a file less")
         with tempfile.TemporaryDirectory() as folder:
             folder = pathlib.Path(folder)
             (folder / "link.rs").symlink_to("/dev/null")
@@ -609,12 +400,28 @@ class Tests:
         self.count(failure(lambda: crate.text_of("a.rt", b"a\r\n")) == "crates/a.rt: a carriage return", "a carriage return")
         self.count("invalid" in failure(lambda: crate.text_of("a.rt", b"\xff")), "no UTF-8")
 
+    def manifests(self):
+        """Cargo.toml and the root of a crate, from a line of crates.txt."""
+        crates = packages.Crates("# one\nuart_live: uart_chip bitflags thiserror\n# two\nuart_play: uart_live arrayvec\n")
+        shipped, ours = packages.manifest("uart_live", crates), packages.manifest("uart_play", crates)
+        for text, part in (
+            (shipped, 'description = "Part of geesetrunk, and no interface: one"'),
+            (shipped, f'uart_chip = {{ package = "geesetrunk-proved-uart_chip", path = "../uart_chip", version = "={packages.VERSION}" }}'),
+            (shipped, f'geesetrunk-kit = {{ path = "../../kit", version = "={packages.VERSION}" }}'),
+            (ours, 'features = ["std"]'),
+            (ours, "publish = false"),
+        ):
+            self.count(part in text, f"{part}: not in {text}")
+        self.count("publish" not in shipped and "thiserror" not in shipped, f"more in {shipped}")
+        root = packages.root("uart_play", crates, "//! A text.\n\nmod a;\n")
+        self.count(root.startswith("//! A text.\n#![no_std]\n#![forbid(unsafe_code)]\n") and root.endswith("\n\nmod a;\n"), root)
+
     def around(self, edits):
-        by_hand = around.of((ROOT / self.table.OUTPUT).parent.parent)
-        self.count(around.causes(by_hand, self.table) == [], f"around: {around.causes(by_hand, self.table)}")
+        by_hand = around.files_of(ROOT)
+        self.count(around.causes(by_hand) == [], f"around: {around.causes(by_hand)}")
         for name, old, new, cause in edits:
             text = by_hand.get(name, "")
-            found = around.causes({**by_hand, name: text.replace(old, new, 1) if old else new}, self.table)
+            found = around.causes({**by_hand, name: text.replace(old, new, 1) if old else new})
             self.count(old in text and any(cause in one for one in found), f"{name}: {old!r} to {new!r}: {found}")
 
     def tables(self):
@@ -665,25 +472,25 @@ def failure(call):
     return ""
 
 
+def is_expanded(data):
+    return b"use thiserror::Error" in data
+
+
 def run():
     tests = Tests()
     tests.accepted()
     tests.forms(FORMS)
     tests.sources(SOURCES)
     tests.forms(deceptions.FORMS)
+    tests.forms(deceptions.OF_CHIP, "uart_chip/src/fifo.rt")
+    tests.forms(deceptions.OF_PROGRAMS, "uart_run/src/running.rt")
     tests.sources(deceptions.SOURCES)
-    tests.widened()
     tests.defined()
-    tests.erasures(ERASURES)
     tests.bytes()
     tests.files()
+    tests.sources(CHIP_SOURCES)
+    tests.manifests()
     tests.around(AROUND)
     tests.tables()
-    of_chip = Tests(chip.TABLE)
-    of_chip.sources(CHIP_SOURCES)
-    of_chip.forms(deceptions.OF_CHIP, "uart_chip/src/fifo.rt")
-    of_chip.erasures(CHIP_ERASURES)
-    of_chip.around(CHIP_AROUND)
-    passed, failed = tests.passed + of_chip.passed, tests.failed + of_chip.failed
-    print(f"{passed} passed, {failed} failed")
-    return failed == 0
+    print(f"{tests.passed} passed, {tests.failed} failed")
+    return tests.failed == 0

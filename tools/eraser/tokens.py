@@ -35,6 +35,9 @@ CODE = re.compile(r"\b(fn|pub|impl|mod|use|struct|enum|trait|unsafe|extern|macro
 LETTERS = set("≡≢≤◌∷→λ⟦⟧ℕ⊤⊥×↔𝓛⊎")
 RECORD = re.compile(r"\brecord (?:[\w.]+ )?\{[^{}]*\}")
 NAME = re.compile(r'"[A-Z_][A-Z_0-9]*"')
+# A text in a clause, which is what is printed; and the prime of a name.
+TEXT = re.compile(r'"[a-zA-Z :=]*"')
+PRIME = re.compile(r"(?<=\w)'(?!\w)")
 
 
 def closing_brace(text, start):
@@ -49,7 +52,7 @@ def closing_brace(text, start):
 
 def check_clause(text, start, ghost):
     """Refuses a clause with anything that code or a comment could be made of."""
-    inner = text
+    inner = PRIME.sub("", TEXT.sub("", text))
     if ghost:
         inner = NAME.sub("", inner)
     refuse(hiding.comment(inner), start)
@@ -93,6 +96,10 @@ def clause(text, start, word, strict=True):
         raise Refused("a ghost item of no known form", start)
     end = closing_brace(text, head.end() - 1)
     check_clause(text[head.end() : end - 1], start, True)
+    proof = re.compile(r"\s+by \{").match(text, end)
+    if proof:
+        end = closing_brace(text, proof.end() - 1)
+        check_clause(text[proof.end() : end - 1], start, True)
     if text[end : end + 1] not in (";", ","):
         raise Refused("a ghost item with no end", start)
     return Token("ghost", text[start : end + 1], start, end + 1)

@@ -1,7 +1,7 @@
 //! Runs one body of a crate over a backend of memory cells, for `measure-rust.sh` to count its
 //! instructions.
 //!
-//! `measure_rust BODY BACKEND COUNT`: the bodies are those of `crates/uart_bench`.
+//! `measure_rust BODY BACKEND COUNT`: the bodies are in `bodies.rs`, the backends in `cells.rs`.
 
 mod bodies;
 mod cells;

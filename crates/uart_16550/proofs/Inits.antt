@@ -1,5 +1,5 @@
 -- The pieces of the initialisation.
-use Rattle.std.proofs.Common.{◌≡◌, ◌∙◌, ℕ, Bool, true, false, List, [], ◌∷◌, inr, ap, subst, refl, Result}
+use Rattle.std.proofs.Common.{◌≡◌, ◌∙◌, ℕ, Bool, true, false, List, [], ◌∷◌, inr, ap, subst, refl, Result, Option}
 use Rattle.uart_spec.specs.Baud.{IsDivisorAnswer}
 use Rattle.uart_spec.specs.BaudRate.{to_integer}
 use Rattle.uart_spec.specs.declared.errors.InitError.{InitError}
@@ -12,6 +12,10 @@ use Rattle.uart_16550.specs.Grammar.{Settings, Only, Then}
 use Rattle.uart_16550.specs.Driver.{Made, Did, Plain, with_config, with_fifo}
 use Rattle.uart_16550.specs.Init.{first_pattern, second_pattern, Keeps, KeepsPatterns, ChecksPresence, SetsFifo, DrainsReceiver, Begins}
 use Rattle.uart_16550.specs.Init.{DivisorOf, Inits, frame_bits, line_writes, raised_outputs}
+use Rattle.uart_spec.specs.declared.registers.fifo_trigger_level.FifoTriggerLevel.{FifoTriggerLevel}
+use Rattle.uart_spec.specs.declared.setup.Setup.{Setup}
+use Rattle.uart_16550.specs.Frame.{frame_writes, SetsControl}
+use Rattle.uart_16550.specs.Setup.{WaitsIf, SetsUp, InitsWith}
 use Rattle.uart_16550.specs.declared.driver.Uart16550.{Uart16550}
 use Rattle.uart_16550.proofs.Making.{made_then, made_among}
 use Rattle.uart_16550.proofs.Doings.{did_then, did_made, did_set}
@@ -27,12 +31,6 @@ pub given_at : (config : Config) (result : Result ℕ InvalidDivisorError) (baud
     IsDivisorAnswer config.frequency baud config.prescaler_division_factor result → DivisorOf config result
 given_at config result baud same given =
     let A : ℕ → Type 0 = λ rate. IsDivisorAnswer config.frequency rate config.prescaler_division_factor result in subst A same given
-
--- what was done with the stored configuration was done with the given one
-pub inits_stored : {B : Type 0} {step : B → Access → B → Type 0} {stored given : Config} {a b : Uart16550 B}
-    (result : Result (Unit {0}) InitError) → stored ≡ given →
-    Did step (Inits stored result) a b → Did step (Inits given result) a b
-inits_stored {step} {a} {b} result same did = let D : Config → Type 0 = λ config. Did step (Inits config result) a b in subst D same did
 
 -- from the configuration stored to MCR written
 pub begun : {B : Type 0} {step : B → Access → B → Type 0} (config : Config) (divisor frame control : ℕ)
@@ -51,3 +49,34 @@ begun {B} {step} config divisor frame control fifo {a} {b} {c} {d} {e} {f} is_fr
     (did_then (did_made (made_then present (made_then framed on)))
     (did_then (did_set step (with_fifo fifo) d (record d { fifo_enabled = fifo }) refl refl)
     (did_then drained (did_made controlled))))
+
+-- the frame of the configuration was written
+pub frame_written : {B : Type 0} {step : B → Access → B → Type 0} (config : Config) (divisor frame : ℕ) {a b : Uart16550 B} →
+    frame ≡ frame_bits config → Made step (Only (frame_writes divisor frame)) a b →
+    Made step (Only (frame_writes divisor (frame_bits config))) a b
+frame_written config divisor frame is_frame made =
+    made_among (λ l t. record { is = t.is ∙ ap (λ (x : ℕ). frame_writes divisor x) is_frame }) made
+
+-- from the first write to MCR
+pub made_set_up : {B : Type 0} {step : B → Access → B → Type 0} (setup : Setup) (config : Config) (divisor frame : ℕ) (fifo : Bool)
+    {b c d e f : Uart16550 B} → frame ≡ frame_bits config → Made step (Only (line_writes divisor frame)) b c →
+    Made step (SetsFifo config.fifo_trigger_level fifo) c d →
+    Did step (Plain DrainsReceiver) (record d { fifo_enabled = fifo }) e → Made step (SetsControl setup.outputs.0) e f →
+    Did step (SetsUp setup config divisor fifo) b f
+made_set_up {B} {step} setup config divisor frame fifo {b} {c} {d} is_frame line on drained written =
+    let framed : Made step (Only (line_writes divisor (frame_bits config))) b c =
+    made_among (λ l t. record { is = t.is ∙ ap (line_writes divisor) is_frame }) line in
+    did_then (did_made (made_then framed on))
+    (did_then (did_set step (with_fifo fifo) d (record d { fifo_enabled = fifo }) refl refl)
+    (did_then drained (did_made written)))
+
+-- the wait that was asked for, under another name
+pub waited : {B : Type 0} {step : B → Access → B → Type 0} (asked given empty : Bool) {a b : Uart16550 B} → asked ≡ given →
+    Made step (WaitsIf asked empty) a b → Made step (WaitsIf given empty) a b
+waited {B} {step} asked given empty {a} {b} same made = let M : Bool → Type 0 = λ x. Made step (WaitsIf x empty) a b in subst M same made
+
+-- the FIFO step, for a level under another name
+pub leveled : {B : Type 0} {step : B → Access → B → Type 0} (level given : Option FifoTriggerLevel) (on : Bool) {a b : Uart16550 B} →
+    level ≡ given → Made step (SetsFifo level on) a b → Made step (SetsFifo given on) a b
+leveled {B} {step} level given on {a} {b} same made =
+    let M : Option FifoTriggerLevel → Type 0 = λ x. Made step (SetsFifo x on) a b in subst M same made

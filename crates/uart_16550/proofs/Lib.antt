@@ -8,6 +8,5 @@ pub mod Inits
 pub mod Texts
 pub mod Loopbacks
 pub mod Terminals
-pub mod Replays
 pub mod determined
 pub mod Switching

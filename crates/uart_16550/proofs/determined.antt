@@ -8,9 +8,9 @@ pub mod Doings
 pub mod Status
 pub mod Init
 pub mod Frame
+pub mod Setup
 pub mod Io
 pub mod Loopback
 pub mod Tty
 pub mod Backends
 pub mod Calls
-pub mod Replays

@@ -17,7 +17,7 @@ FindsLatch open_latch = Asks offsets.LCR LCR.DLAB.0 open_latch
 abbrev pub FindsLoopback : Bool → Language
 FindsLoopback looped = Then (FindsLatch false) (Asks offsets.MCR MCR.LOOP_BACK.0 looped)
 
--- neither is set; ISR shows whether the FIFOs are on, and the divisor latch is read
+-- DLAB and loopback are off; ISR shows whether the FIFOs are on, and the divisor latch is read
 abbrev pub FindsPort : (fifo : Bool) → (low high : ℕ) → Language
 FindsPort fifo low high =
     Then (FindsLoopback false) (Then (Asks offsets.ISR ISR.FIFOS_ENABLED.0 fifo) (ReadsDivisor low high))

@@ -10,6 +10,9 @@ use Rattle.uart_spec.specs.declared.received.Received.{Received}
 use Rattle.uart_16550.specs.Io.{Reads, got}
 use Rattle.uart_16550.specs.declared.driver.Uart16550.{Uart16550}
 
+-- That no call has a choice is stated where two lists part, and not over a stream of answers. So the next access never
+-- depends on a later answer, which a law over whole streams would allow, and no list is the beginning of another.
+
 -- the lists are the same up to a read of one register, and this read returned one value in the one list and another
 -- value in the other
 pub record PartAtRead (one other : List Access) : Type 0 where

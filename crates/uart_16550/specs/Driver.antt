@@ -44,6 +44,13 @@ pub record IsFresh {B : Type 0} (d : Uart16550 B) (given : B) (config : Config) 
   pub backend : d.backend ≡ given
   pub begins : fields d ≡ record { config = config; fifo = true; lsr = 0; msr = 0; limit = DEFAULT_SPIN_LIMIT }
 
+-- A backend's step relation is a parameter about which nothing is known. Only an access that was really made gives a
+-- step. So 'the call made a path of steps with this list' says what happened, whatever the backend returns.
+--
+-- Two records carry the contracts of all calls. `Made` is for calls that save what their reads show, and change nothing
+-- else. `Did` is for calls that change the fields, or read without saving: among them `init`, the loopback test, `lsr`
+-- and `msr`.
+
 -- the call made a list of the language along a path of the backend's steps, saved what its reads showed, and changed
 -- nothing else
 pub record Made {B : Type 0} (step : B → Access → B → Type 0) (L : Language) (old new : Uart16550 B) : Type 0 where

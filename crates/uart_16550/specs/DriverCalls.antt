@@ -6,12 +6,17 @@ use Rattle.uart_spec.specs.declared.config.Config.{Config}
 use Rattle.uart_spec.specs.declared.errors.AttachError.{AttachError}
 use Rattle.uart_spec.specs.declared.errors.ByteReceiveError.{ByteReceiveError}
 use Rattle.uart_spec.specs.declared.errors.ByteSendError.{ByteSendError}
+use Rattle.uart_spec.specs.declared.errors.FifosOffError.{FifosOffError}
+use Rattle.uart_spec.specs.declared.errors.FrameError.{FrameError}
 use Rattle.uart_spec.specs.declared.errors.InitError.{InitError}
 use Rattle.uart_spec.specs.declared.errors.InvalidDivisorError.{InvalidDivisorError}
 use Rattle.uart_spec.specs.declared.errors.LoopbackError.{LoopbackError}
 use Rattle.uart_spec.specs.declared.errors.RemoteReadyToReceiveError.{RemoteReadyToReceiveError}
 use Rattle.uart_spec.specs.declared.errors.StalledError.{StalledError}
 use Rattle.uart_spec.specs.declared.errors.Uart16550TtyError.{Uart16550TtyError}
+use Rattle.uart_spec.specs.declared.registers.fifo_trigger_level.FifoTriggerLevel.{FifoTriggerLevel}
+use Rattle.uart_spec.specs.declared.setup.FifoAction.{FifoAction}
+use Rattle.uart_spec.specs.declared.setup.Setup.{Setup}
 use Rattle.uart_spec.specs.declared.access.Access.TheVariants.{Read}
 use Rattle.uart_16550.specs.Grammar.{Language, Only}
 use Rattle.uart_16550.specs.Driver.{Doing, Sets, with_limit}
@@ -23,12 +28,17 @@ use Rattle.uart_16550.specs.Status.{Retriggers}
 use Rattle.uart_16550.specs.Init.{ChecksPresence, Inits}
 use Rattle.uart_16550.specs.Frame.{SetsFrame, ShowsIdle, SetsBreak, SetsControl, SetsOutput}
 use Rattle.uart_16550.specs.Attach.{Attaches}
+use Rattle.uart_16550.specs.Setup.{SetsTrigger, SetsFrameWhenIdle, InitsWith, Quiesces, Restores}
 use Rattle.uart_16550.specs.Loopback.{TestsLoopback}
 use Rattle.uart_16550.specs.Io.{Writes, Flushes, AnswersRead, AnswersWrite}
 use Rattle.uart_16550.specs.Expansion.{SendsText, SendsStr}
 use Rattle.uart_16550.specs.Tty.{Starts}
 use Rattle.uart_16550.specs.Choice.{ReceivesInto, ReceivesWithErrorsInto, ReceivesExactInto, ReadsInto}
 use Rattle.uart_spec.specs.declared.dump.ConfigRegisterDump.{ConfigRegisterDump}
+
+-- The calls are in a table, because a clause cannot speak of every language. `init` is in it with a computable
+-- configuration: at frequency 0 and baud rate 0 every divisor would solve the equation, so the call would have a
+-- choice.
 
 -- the calls that save what their reads clear, and change nothing else in the driver's fields
 -- -- `read_register` is `ier`, `isr`, `lcr`, `mcr`, `spr` and `peek_modem`; `set_output` is `set_rts` and `set_dtr`
@@ -107,12 +117,16 @@ SavingLists write_ready result = AnswersWrite result
 SavingLists (write_text text) result = SendsText text result
 SavingLists (write_str text) result = SendsStr text result
 
--- the other calls; `init`, `set_frame`, and `start` of a terminal, with a configuration that is computable
+-- the other calls; those that take a configuration, and `start` of a terminal, with one that is computable
 pub data ChangingCall : Type 0 where
   lsr msr config_register_dump : ChangingCall
   enable_interrupts disable_interrupts : (bits : ℕ) → ChangingCall
   set_spin_limit : (limit : ℕ) → ChangingCall
-  init start set_frame : (config : Config) → IsComputable config → ChangingCall
+  init start set_frame set_frame_when_idle : (config : Config) → IsComputable config → ChangingCall
+  init_with : (setup : Setup) (config : Config) → IsComputable config → ChangingCall
+  set_trigger_level : (level : FifoTriggerLevel) → ChangingCall
+  quiesce : (outputs : ℕ) (fifos : FifoAction) → ChangingCall
+  restore : (dump : ConfigRegisterDump) → ChangingCall
   test_loopback attach : ChangingCall
 
 -- the outcomes that a call which changes fields may have
@@ -126,6 +140,11 @@ ChangingOutcome (set_spin_limit limit) = Unit {0}
 ChangingOutcome (init config computable) = Result (Unit {0}) InitError
 ChangingOutcome (start config computable) = Result (Unit {0}) Uart16550TtyError
 ChangingOutcome (set_frame config computable) = Result (Unit {0}) InvalidDivisorError
+ChangingOutcome (set_frame_when_idle config computable) = Result (Unit {0}) FrameError
+ChangingOutcome (init_with setup config computable) = Result (Unit {0}) InitError
+ChangingOutcome (set_trigger_level level) = Result (Unit {0}) FifosOffError
+ChangingOutcome (quiesce outputs fifos) = Unit {0}
+ChangingOutcome (restore dump) = Unit {0}
 ChangingOutcome attach = Result (ℕ × ℕ) AttachError
 ChangingOutcome test_loopback = Result (Unit {0}) LoopbackError
 
@@ -140,5 +159,10 @@ ChangingDoing (set_spin_limit limit) result = Sets (with_limit limit)
 ChangingDoing (init config computable) result = Inits config result
 ChangingDoing (start config computable) result = Starts config result
 ChangingDoing (set_frame config computable) result = SetsFrame config result
+ChangingDoing (set_frame_when_idle config computable) result = SetsFrameWhenIdle config result
+ChangingDoing (init_with setup config computable) result = InitsWith setup config result
+ChangingDoing (set_trigger_level level) result = SetsTrigger level result
+ChangingDoing (quiesce outputs fifos) result = Quiesces outputs fifos
+ChangingDoing (restore dump) result = Restores dump
 ChangingDoing attach result = Attaches result
 ChangingDoing test_loopback result = TestsLoopback result

@@ -4,6 +4,10 @@ use Rattle.uart_spec.specs.Bits.{has}
 use Rattle.uart_spec.specs.declared.access.Access.{Access}
 use Rattle.uart_spec.specs.declared.access.Access.TheVariants.{Read, Write}
 
+-- A call's list is a language of whole lists, made of the few words below. It is not the call's loop written again,
+-- which could repeat the loop's fault. A language takes the call's result too, so list and result are tied to each
+-- other.
+
 -- what the lists of a call depend on: whether CTS is checked before sending, whether the FIFO is on, and the spin
 -- limit
 pub record Settings : Type 0 where
@@ -36,6 +40,8 @@ InOrder P (item ∷ items) = Then (P item) (InOrder P items)
 abbrev pub Times : ℕ → Language → Language
 Times zero P = Only []
 Times (suc n) P = Then P (Times n P)
+
+-- Misses count in a row. Progress ends a row, since the next wait is a part of its own in the list.
 
 -- fewer of them in a row than the spin limit
 abbrev pub FewMisses : Language → Language

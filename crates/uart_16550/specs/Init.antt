@@ -35,7 +35,7 @@ abbrev pub Keeps : ℕ → Bool → Language
 Keeps pattern outcome s l =
     (back : ℕ) × ((back == pattern) ≡ outcome) × (l ≡ Write offsets.SPR pattern ∷ Read offsets.SPR back ∷ [])
 
--- it keeps both patterns; or it does not keep the first; or it keeps the first and not the second
+-- the scratch register keeps both patterns; or it does not keep the first; or it keeps the first and not the second
 abbrev pub KeepsPatterns : Bool → Language
 KeepsPatterns true s l = Then (Keeps first_pattern true) (Keeps second_pattern true) s l
 KeepsPatterns false s l =

@@ -7,6 +7,7 @@ pub mod Status
 pub mod Init
 pub mod Frame
 pub mod Attach
+pub mod Setup
 pub mod Expansion
 pub mod Io
 pub mod Tty
@@ -16,4 +17,3 @@ pub mod Mmio
 pub mod Loopback
 pub mod Choice
 pub mod DriverCalls
-pub mod Replay

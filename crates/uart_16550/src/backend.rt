@@ -13,7 +13,7 @@ pub use uart_spec::backend::Backend;
 /// register.
 pub trait PortAccess {
     // This access of a port, with the byte that it reads or writes, may lead from the first state
-    // to the second.
+    // to the second. An `Access` of a port is that of a register, with the port as its offset.
     ghost step: { Self → Access → Self → Type 0 };
 
     /// Reads one byte from a port, and returns it.

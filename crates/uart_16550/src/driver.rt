@@ -14,6 +14,7 @@ mod frame;
 mod init;
 mod loopback;
 mod receive;
+mod setup;
 mod state;
 mod status;
 mod transmit;
@@ -40,10 +41,10 @@ const PIECE_SIZE: usize = 128;
 /// call, or `attach` on a port that is set up already. `test_loopback` then tests whether the chip
 /// works, and `check_connected` whether a remote is ready.
 ///
-/// No call blocks forever. `init`, `test_loopback`, `send_bytes_exact`, `receive_bytes_exact`, and
-/// the calls `read`, `write` and `flush` of the traits in [`embedded_io`](crate::embedded_io) poll
-/// LSR, and return an error after `spin_limit` unsuccessful polls in a row. The other calls do not
-/// wait.
+/// No call blocks forever. `init`, `init_with`, `test_loopback`, `set_frame_when_idle`,
+/// `send_bytes_exact`, `receive_bytes_exact`, and the calls `read`, `write` and `flush` of the
+/// traits in [`embedded_io`](crate::embedded_io) poll LSR, and return an error after `spin_limit`
+/// unsuccessful polls in a row. The other calls do not wait.
 ///
 /// A read of LSR clears its error bits in the chip, and a read of MSR its change bits. The driver
 /// saves those that its own reads clear, and the next `lsr` or `msr` returns them. So a poll loses
@@ -56,6 +57,9 @@ const PIECE_SIZE: usize = 128;
 /// uart.test_loopback()?;
 /// uart.check_connected()?;
 /// ```
+// There is no model of a driver: over a generic backend each access of a field would cost the
+// prover a rewrite. Clauses speak of the fields by words over them, such as `fields`, `settings`
+// and `backend_of`.
 #[derive(Debug, Drop)]
 pub struct Uart16550<B> {
     backend: B,
@@ -147,8 +151,9 @@ impl<B: Backend> Uart16550<B> {
         &self.config
     }
 
-    /// Returns whether the chip has a FIFO that is on, as the last `init`, `attach` or
-    /// `test_loopback` read it from ISR. Makes no access.
+    /// Returns whether the chip has a FIFO that is on, as the last call that sets the FIFO up read
+    /// it from ISR: `init`, `init_with`, `attach`, `test_loopback` or `restore`. After a `quiesce`
+    /// that disables the FIFOs it is off. Makes no access.
     ///
     /// A driver that was never initialised takes the FIFO to be on. If it is on, a send check is
     /// followed by up to 16 bytes, else by one.
@@ -195,6 +200,9 @@ impl<B: Backend> Uart16550<B> {
     {
         self.spin_limit = limit;
     }
+
+    // The five functions below make all accesses but the writes of data (`write_byte`). So what is
+    // saved is decided here and nowhere else.
 
     // Reads a register of which no bits are saved.
     pub(crate) fn read_register(&mut self, offset: usize) -> u8

@@ -11,9 +11,7 @@ ghost use Rattle.uart_16550.specs.DriverCalls.{SavingCall, SavingLists};
 ghost use Rattle.uart_16550.specs.Frame.{ChangesOnly, ChangesOutput};
 ghost use Rattle.uart_16550.specs.Mmio.{Mapped};
 ghost use Rattle.uart_16550.specs.Pio.{Ports};
-ghost use Rattle.uart_16550.specs.Replay.{Repeats, RepeatsSaving};
 ghost use Rattle.uart_16550.specs.declared.driver.TheConstants.{DEFAULT_SPIN_LIMIT};
-ghost use Rattle.uart_16550.specs.declared.replay.TheConstants.{REPLAY_ROOM};
 ghost use Rattle.uart_spec.specs.declared.registers.line_control.TheConstants.LCR;
 ghost use Rattle.uart_spec.specs.declared.registers.modem_control.TheConstants.MCR;
 
@@ -23,6 +21,8 @@ use std::num::{NonZeroU8, NonZeroUsize};
 /// The contract of each call determines what the call does: what its reads have returned so far
 /// determines the next access, and in the end the result, the contents of the slots, and the
 /// driver's fields.
+// If a call's language were too wide, the call would still be proved to keep to it, and nobody
+// would notice. This law is about the contracts alone: it is false if one of them leaves a choice.
 pub fn calls_leave_no_choice()
     ensures saving { (call : SavingCall) →
         LeavesNoChoice (λ outcome. Saving (SavingLists call outcome)) }
@@ -45,15 +45,6 @@ pub fn calls_have_one_outcome<B: Backend>()
         HasOneOutcome (ChangingDoing call) B.step }
 {}
 
-/// A call repeats another one if it starts from equal fields, over a
-/// [`Replay`](crate::replay::Replay) of what the reads of the other call returned: it has the same
-/// outcome, leaves equal fields, and makes the same accesses. So a replay is a function from fields
-/// and read bytes to the one list of accesses that the call may make.
-pub fn replays_repeat_calls<B: Backend>()
-    ensures saving { (call : SavingCall) → RepeatsSaving (SavingLists call) B.step }
-    ensures changing { (call : ChangingCall) → Repeats (ChangingDoing call) B.step }
-{}
-
 /// `set_rts`, `set_dtr` and `set_break` write their bit as asked, and the other bits of the
 /// register as they were read: DLAB and the frame stay as they are. The first two clear loopback.
 pub fn switches_change_one_bit()
@@ -67,11 +58,8 @@ pub fn default_spin_limit_is_this()
     ensures { DEFAULT_SPIN_LIMIT ≡ 1000000 }
 {}
 
-/// The number of accesses that a [`Replay`](crate::replay::Replay) keeps.
-pub fn replay_room_is_this()
-    ensures { REPLAY_ROOM ≡ 512 }
-{}
-
+// Nobody sees the fields of a backend. If two of them were exchanged in the comparison, no other
+// contract would change.
 /// Backends are compared by where the first register is, then those in memory by their stride, and
 /// last by the access object.
 pub fn backends_are_in_order<P: PartialOrd, M: PartialOrd>()

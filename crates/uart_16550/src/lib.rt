@@ -27,7 +27,6 @@ pub mod embedded_io;
 pub mod laws;
 mod mmio;
 mod pio;
-pub mod replay;
 mod tty;
 
 pub use driver::{DEFAULT_SPIN_LIMIT, DriverState, Uart16550};

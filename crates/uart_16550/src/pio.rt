@@ -33,7 +33,8 @@ impl<P> Model for PioBackend<P> {
 
 impl<P: PortAccess> PioBackend<P> {
     // Returns the backend from this port on, unless the last register would be beyond the last
-    // port.
+    // port. All constructors share this test. The model's invariant is what it found, so no sum of
+    // base and offset overflows later.
     pub(crate) fn new(base: u16, access: P) -> Result<Self, InvalidAddressError>
     where
         P: Drop,
@@ -66,6 +67,7 @@ impl<P: PortAccess> PioBackend<P> {
     ///
     /// Accesses by the caller bypass the driver: status bits that they clear are not saved, and the
     /// driver does not notice what they change.
+    // An object that counts accesses or remembers a fault is of use only if its owner can reach it.
     pub fn access_mut(&mut self) -> &mut P
         ensures* writes_back { sem 𝓛 (Lends (the_row P.row) P.row self.entry result
             (λ p. record self.old { access = p })) }

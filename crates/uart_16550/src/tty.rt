@@ -293,6 +293,8 @@ impl<B: Backend> Uart16550Tty<B> {
     pub fn write_text(&mut self, text: &str) -> Result<(), StalledError>
         ensures { TerminalMade B.step (SendsText text.now result) self.old self.new }
     {
+        // An expansion may be three times as long as its text. So its length need not fit into a
+        // `usize`, and the count of a stall ends at the largest one.
         let mut done = 0_usize;
         for &byte in text.as_bytes() {
             match self.send_expansion(byte) {
@@ -323,6 +325,7 @@ impl<B: Backend> fmt::Write for Uart16550Tty<B> {
     {
         match self.write_text(text) {
             Ok(()) => Ok(()),
+            // `fmt::Error` has no room for the count of a stall.
             Err(_) => Err(fmt::Error),
         }
     }

@@ -98,6 +98,7 @@ enum uart_status {
 #define UART_MCR_OUT_1 0x04
 #define UART_MCR_OUT_2_INT_ENABLE 0x08
 #define UART_MCR_LOOP_BACK 0x10
+#define UART_MCR_READY 0x0b /* there, ready, interrupt connected: DTR, RTS, OUT2 */
 
 /* Line status. */
 #define UART_LSR_DATA_READY 0x01

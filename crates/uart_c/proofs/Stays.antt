@@ -6,8 +6,8 @@ use Rattle.uart_c.specs.declared.codes.TheConstants.{UART_OK, UART_BAD_TICKS, UA
 use Rattle.uart_c.specs.declared.queue.TheConstants.{WIRE_ROOM}
 use Rattle.uart_chip.specs.Chip.{ChipState, fresh}
 use Rattle.uart_chip.proofs.soundness.Builds.{whole_cutting}
-use Rattle.uart_spec.specs.declared.event.BuildError.TheVariants.{BadTicks, BadWire}
-use Rattle.uart_spec.specs.declared.event.TheConstants.{MAX_CHAR_TICKS, MAX_WIRE_CAPACITY}
+use Rattle.uart_events.specs.declared.event.BuildError.TheVariants.{BadTicks, BadWire}
+use Rattle.uart_events.specs.declared.event.TheConstants.{MAX_CHAR_TICKS, MAX_WIRE_CAPACITY}
 use Rattle.uart_live.proofs.Lives.{live-arrival, live-fresh, live-hold, live-lines, live-read, live-take, live-ticks, live-write}
 use Rattle.uart_live.specs.Laws.{Read, Write, Ticks, Arrive, ArriveHolding, SetLines, TakeWire}
 use Rattle.uart_live.specs.Live.{IsLive}

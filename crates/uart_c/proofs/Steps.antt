@@ -2,7 +2,7 @@
 use Rattle.std.proofs.Common.{◌≡◌, List, subst}
 use Rattle.uart_spec.specs.declared.access.Access.{Access}
 use Rattle.uart_16550.specs.Driver.{Fields}
-use Rattle.uart_spec.specs.declared.call.Call.{Call}
+use Rattle.uart_events.specs.declared.call.Call.{Call}
 use Rattle.uart_calls.specs.Lists.{Makes}
 use Rattle.uart_calls.specs.declared.checking.Returned.{Returned}
 

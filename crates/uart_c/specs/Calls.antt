@@ -7,11 +7,11 @@ use Rattle.uart_c.specs.declared.access.UartAccess.{UartAccess}
 use Rattle.uart_c.specs.declared.answer.UartAnswer.{UartAnswer}
 use Rattle.uart_c.specs.declared.codes.TheConstants as code
 use Rattle.uart_c.specs.declared.call.UartCall.{UartCall}
-use Rattle.uart_spec.specs.declared.call.Call.{Call}
-use Rattle.uart_spec.specs.declared.call.Call.TheVariants as call
-use Rattle.uart_spec.specs.declared.call.TheConstants.{CALL_BYTES}
-use Rattle.uart_spec.specs.declared.call.Answer.{Answer}
-use Rattle.uart_spec.specs.declared.call.Answer.TheVariants as answer
+use Rattle.uart_events.specs.declared.call.Call.{Call}
+use Rattle.uart_events.specs.declared.call.Call.TheVariants as call
+use Rattle.uart_events.specs.declared.call.TheConstants.{CALL_BYTES}
+use Rattle.uart_events.specs.declared.call.Answer.{Answer}
+use Rattle.uart_events.specs.declared.call.Answer.TheVariants as answer
 use Rattle.uart_spec.specs.declared.access.Access.{Access}
 use Rattle.uart_spec.specs.declared.access.Access.TheVariants.{Read, Write}
 use Rattle.uart_spec.specs.Bits.{flag}

@@ -10,6 +10,10 @@ use Rattle.uart_c.specs.declared.transmitter.UartTransmitter.{UartTransmitter}
 use Rattle.uart_chip.specs.Receiver.{characters_of}
 use Rattle.uart_spec.specs.declared.baud.TheConstants.{FIFO_SIZE}
 
+-- What the library writes is one value for each meaning, though it reads any bytes. So a caller may compare structs
+-- field by field. Bytes behind the end of a chip's queue, and those of an empty shift register, are any: a call would
+-- pay for each that it clears.
+
 -- a flag is 0 or 1
 abbrev pub IsFlag : ℕ → Type 0
 IsFlag flag = flag ≤ 1

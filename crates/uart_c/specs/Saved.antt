@@ -7,7 +7,7 @@ use Rattle.uart_c.specs.declared.chip.UartChip.{UartChip}
 use Rattle.uart_c.specs.declared.codes.TheConstants.{UART_OK}
 use Rattle.uart_chip.specs.Chip.{ChipState, fresh}
 use Rattle.uart_spec.specs.Bits.{IsWithin}
-use Rattle.uart_spec.specs.declared.event.Chip.{Chip}
+use Rattle.uart_events.specs.declared.event.Chip.{Chip}
 use Rattle.uart_live.specs.Laws.{Act, Write, Arrive, ArriveHolding, SetLines, after}
 use Rattle.uart_live.specs.Live.{IsLive}
 use Rattle.uart_live.specs.Saved.{is_live}

@@ -6,8 +6,8 @@ use Rattle.uart_c.specs.declared.chip.UartLatches.{UartLatches}
 use Rattle.uart_c.specs.declared.modem.UartModem.{UartModem}
 use Rattle.uart_c.specs.declared.receiver.UartReceiver.{UartReceiver}
 use Rattle.uart_c.specs.declared.transmitter.UartTransmitter.{UartTransmitter}
-use Rattle.uart_spec.specs.declared.event.Chip.{Chip}
-use Rattle.uart_spec.specs.declared.event.Chip.TheVariants.{Uart16550A, Uart16450}
+use Rattle.uart_events.specs.declared.event.Chip.{Chip}
+use Rattle.uart_events.specs.declared.event.Chip.TheVariants.{Uart16550A, Uart16450}
 use Rattle.uart_chip.specs.declared.chip.ChipData.{ChipData}
 use Rattle.uart_chip.specs.declared.chip.Latches.{Latches}
 use Rattle.uart_chip.specs.declared.modem.ModemData.{ModemData}

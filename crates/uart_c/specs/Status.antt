@@ -2,7 +2,7 @@
 use Rattle.std.specs.Prelude.{ℕ, not, ◌&&◌, nat_le, nat_lt, if◌then◌else◌}
 use Rattle.uart_c.specs.declared.queue.TheConstants.{WIRE_ROOM}
 use Rattle.uart_c.specs.declared.codes.TheConstants.{UART_OK, UART_BAD_TICKS, UART_BAD_WIRE}
-use Rattle.uart_spec.specs.declared.event.TheConstants.{MAX_CHAR_TICKS}
+use Rattle.uart_events.specs.declared.event.TheConstants.{MAX_CHAR_TICKS}
 
 -- whether a chip is made: the first reason against it, or `UART_OK`
 abbrev pub new_status : (char_ticks wire_capacity : ℕ) → ℕ

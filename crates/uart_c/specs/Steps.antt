@@ -7,8 +7,8 @@ use Rattle.uart_c.specs.declared.access.UartAccess.{UartAccess}
 use Rattle.uart_c.specs.declared.answer.UartAnswer.{UartAnswer}
 use Rattle.uart_c.specs.declared.call.UartCall.{UartCall}
 use Rattle.uart_c.specs.declared.driver.UartDriver.{UartDriver}
-use Rattle.uart_spec.specs.Calls.{IsRunnable}
-use Rattle.uart_spec.specs.declared.call.Call.{Call}
+use Rattle.uart_events.specs.Calls.{IsRunnable}
+use Rattle.uart_events.specs.declared.call.Call.{Call}
 use Rattle.uart_calls.specs.Lists.{Begins, BeginsAndAsks, Makes}
 use Rattle.uart_calls.specs.declared.checking.Returned.{Returned}
 

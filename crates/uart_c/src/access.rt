@@ -7,7 +7,8 @@ use crate::queue::is_on;
 use uart_calls::{Recorded, Request};
 use uart_spec::access::Access;
 
-/// An access: what was read or written.
+/// An access: what was read or written. C cannot name the layout of the type that the driver has
+/// for one, so `Recorded` says which access each value is.
 #[repr(C)]
 #[derive(Clone, Copy)]
 pub struct UartAccess {

@@ -2,7 +2,7 @@
 ghost use Rattle.std.specs.Prelude.{◌≡◌, ℕ, Bool, List, IfSome, IfNone};
 ghost use Rattle.uart_c.specs.Calls.{IsCall, IsGiven};
 ghost use Rattle.uart_spec.specs.Bits.{flag};
-ghost use Rattle.uart_spec.specs.declared.call.Call.{Call};
+ghost use Rattle.uart_events.specs.declared.call.Call.{Call};
 
 use crate::codes::{
     UART_ATTACH, UART_CHECK_CONNECTED, UART_CHECK_PRESENT, UART_DISABLE, UART_DLL_DLM, UART_DUMP,

@@ -5,7 +5,7 @@ ghost use Rattle.uart_c.specs.Queue as queue_spec;
 ghost use Rattle.uart_c.specs.State.{chip_of, model_of};
 ghost use Rattle.uart_c.specs.declared.queue.TheConstants.{WIRE_ROOM};
 ghost use Rattle.uart_chip.specs.Chip as spec;
-ghost use Rattle.uart_spec.specs.declared.event.TheConstants.{MAX_CHAR_TICKS};
+ghost use Rattle.uart_events.specs.declared.event.TheConstants.{MAX_CHAR_TICKS};
 
 use crate::modem::UartModem;
 use crate::queue::is_on;

@@ -5,8 +5,8 @@ ghost use Rattle.std.specs.Prelude.{◌≡◌, [], ◌∷◌};
 ghost use Rattle.uart_c.specs.Saved.{MadeChipsAreSound, SoundChipsStaySound};
 ghost use Rattle.uart_c.specs.declared.codes.TheConstants as code;
 ghost use Rattle.uart_c.specs.declared.queue.TheConstants.{WIRE_ROOM};
-ghost use Rattle.uart_spec.specs.declared.call.TheConstants.{CALL_BYTES};
-ghost use Rattle.uart_spec.specs.declared.event.TheConstants.{MAX_CHAR_TICKS};
+ghost use Rattle.uart_events.specs.declared.call.TheConstants.{CALL_BYTES};
+ghost use Rattle.uart_events.specs.declared.event.TheConstants.{MAX_CHAR_TICKS};
 ghost use Rattle.uart_spec.specs.declared.baud.TheConstants.{FIFO_SIZE};
 
 /// The numbers of each enum of the header, in its order.

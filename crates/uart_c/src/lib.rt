@@ -1,7 +1,8 @@
 //! The live chip and the driver for C: a static library, with include/uart_16550.h as its header.
 //!
 //! Each struct that crosses is plain data, of which any bytes are legal. A function allocates
-//! nothing and keeps nothing.
+//! nothing and keeps nothing. It calls nothing either, so the library links into a program that has
+//! no C library. That is why bytes are copied one by one: the compiler would call `memcpy`.
 #![tactic(auto)]
 
 mod access;

@@ -3,3 +3,5 @@ pub mod Calling
 pub mod Played
 pub mod Checked
 pub mod Chains
+pub mod Replays
+pub mod Repeats

@@ -27,15 +27,15 @@ use Rattle.uart_16550.specs.Tty.{inner_of}
 use Rattle.uart_16550.specs.declared.driver.Uart16550.{Uart16550}
 use Rattle.uart_16550.specs.declared.tty.Uart16550Tty.{Uart16550Tty}
 use Rattle.uart_spec.specs.declared.received.Received.{Received}
-use Rattle.uart_spec.specs.declared.call.Call.{Call}
-use Rattle.uart_spec.specs.declared.call.Call.TheVariants as call
-use Rattle.uart_spec.specs.declared.call.Answer.{Answer}
-use Rattle.uart_spec.specs.declared.call.Answer.TheVariants.{Done, Flag, Count, Bytes, BytesWithErrors, Register}
-use Rattle.uart_spec.specs.declared.call.Answer.TheVariants.{Latch, Dump, Stalled}
-use Rattle.uart_spec.specs.declared.call.Answer.TheVariants.{ReceiveStalled, InitRefused, FrameRefused}
-use Rattle.uart_spec.specs.declared.call.Answer.TheVariants.{AttachRefused, LoopbackRefused}
-use Rattle.uart_spec.specs.declared.call.Answer.TheVariants.{NotConnected, NoData, NotSent}
-use Rattle.uart_spec.specs.declared.call.TheConstants.{CALL_BYTES}
+use Rattle.uart_events.specs.declared.call.Call.{Call}
+use Rattle.uart_events.specs.declared.call.Call.TheVariants as call
+use Rattle.uart_events.specs.declared.call.Answer.{Answer}
+use Rattle.uart_events.specs.declared.call.Answer.TheVariants.{Done, Flag, Count, Bytes, BytesWithErrors, Register}
+use Rattle.uart_events.specs.declared.call.Answer.TheVariants.{Latch, Dump, Stalled}
+use Rattle.uart_events.specs.declared.call.Answer.TheVariants.{ReceiveStalled, InitRefused, FrameRefused}
+use Rattle.uart_events.specs.declared.call.Answer.TheVariants.{AttachRefused, LoopbackRefused}
+use Rattle.uart_events.specs.declared.call.Answer.TheVariants.{NotConnected, NoData, NotSent}
+use Rattle.uart_events.specs.declared.call.TheConstants.{CALL_BYTES}
 
 -- ---- the answer for an outcome
 
@@ -120,6 +120,9 @@ abbrev pub SendsShortText : List ℕ → Result (Unit {0}) StalledError → Lang
 SendsShortText text result s l = (length text ≤ CALL_BYTES) × SendsText text result s l
 
 -- ---- the table
+
+-- What a call means is in one table, for any step relation, so `perform` makes a call over any backend. A row is a case
+-- of a type with one constructor, and not a record: the prover then computes a step as soon as the call is known.
 
 -- a row: what the driver did if this was the outcome of the call, and the answer for the outcome
 pub data Meaning : Type 1 where

@@ -1,7 +1,7 @@
 //! Makes a call of the driver, over any backend.
 ghost use Rattle.std.specs.Prelude.{◌≡◌, ◌≤◌, length};
 ghost use Rattle.uart_spec.specs.Config.{IsComputable};
-ghost use Rattle.uart_spec.specs.Calls.{IsRunnable};
+ghost use Rattle.uart_events.specs.Calls.{IsRunnable};
 ghost use Rattle.uart_calls.specs.Meaning.{Called, Performed, meaning};
 ghost use Rattle.uart_calls.specs.Meaning.{attach_answer, frame_answer, loopback_answer, connected_answer};
 ghost use Rattle.uart_calls.specs.Meaning.{receive_ready_answer, received_answer, sent_answer};
@@ -12,7 +12,7 @@ use bitflags::Flags;
 use uart_16550::backend::Backend;
 use uart_16550::embedded_io::{Read, ReadReady, Write, WriteReady};
 use uart_16550::{Uart16550, Uart16550Tty};
-use uart_spec::call::{Answer, CALL_BYTES, Call};
+use uart_events::{Answer, CALL_BYTES, Call};
 use uart_spec::{
     AttachError, ByteReceiveError, ByteSendError, Config, InitError, InvalidDivisorError,
     LoopbackError, Received, RemoteReadyToReceiveError, StalledError,

@@ -36,6 +36,10 @@ pub enum Request {
     Write(usize, u8),
 }
 
+// A tape holds whole accesses, and not only what the reads returned. Over these bytes alone a
+// driver would make some list, which would have to be compared with the recorded one, although
+// contracts do not say that two replays agree.
+
 /// A list of recorded accesses as a device.
 ///
 /// A read returns what the list has, as long as the accesses are those of the list. The first
@@ -112,6 +116,11 @@ impl<'a, R: Recorded> Tape<'a, R> {
         if self.asked.is_none() {
             self.asked = Some(request);
         }
+        // Each kind of wait ends with these answers, so a list that strays costs two polls a wait,
+        // and not the spin limit. No clause says so: it would need a lemma for each language of the
+        // driver over these answers, which no caller needs. A test makes each kind of call at the
+        // largest limit.
+        //
         // At reads of LSR alone: a drain reads DATA between them, and must see its end too.
         if request == Request::Read(offsets::LSR) {
             self.filler ^= LSR::DATA_READY.bits();

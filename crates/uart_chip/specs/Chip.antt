@@ -3,8 +3,8 @@ use Rattle.std.specs.Prelude.{ℕ, ◌+◌, ◌-◌, ◌*◌, ◌%◌, ◌^◌, 
 use Rattle.std.specs.Prelude.{length, Option, Some, None, nat_lt, if◌then◌else◌, ◌==◌, bit_and, bit_or}
 use Rattle.std.specs.List.{list_any}
 use Rattle.uart_chip.specs.declared.transmitter.Shifting.{Shifting}
-use Rattle.uart_spec.specs.declared.event.Chip.{Chip}
-use Rattle.uart_spec.specs.declared.event.Chip.TheVariants.{Uart16550A, Uart16450}
+use Rattle.uart_events.specs.declared.event.Chip.{Chip}
+use Rattle.uart_events.specs.declared.event.Chip.TheVariants.{Uart16550A, Uart16450}
 use Rattle.uart_spec.specs.Bits.{has_any, field, flag}
 use Rattle.uart_spec.specs.Fields.{trigger_code}
 use Rattle.uart_spec.specs.Fields.{interrupt_code}
@@ -32,6 +32,9 @@ use Rattle.uart_chip.specs.Receiver.{ReceiverState, take_front, front_errors, un
 use Rattle.uart_chip.specs.Receiver.{is_data_pending, is_timed_out}
 use Rattle.uart_chip.specs.Modem as modem
 use Rattle.uart_chip.specs.Modem.{ModemState, renew}
+
+-- An effect is a function on a record, with the name of the method that performs it. The method's contract is 'exactly
+-- this next state'.
 
 -- the registers that keep what is written to them, as bytes
 pub record LatchesState : Type 0 where

@@ -1,9 +1,9 @@
 -- What has been sent, what was received, and what was kept of it.
 use Rattle.std.specs.Prelude.{◌≡◌, ℕ, ◌+◌, ◌-◌, Bool, true, false, not, List, [], ◌∷◌, ◌++◌, map, filter, take, length}
-use Rattle.uart_spec.specs.declared.event.ArrivalMark.{ArrivalMark}
-use Rattle.uart_spec.specs.declared.event.ArrivalMark.TheVariants.{Dropped}
-use Rattle.uart_spec.specs.declared.event.Event.{Event}
-use Rattle.uart_spec.specs.declared.event.Event.TheVariants.{Arrive}
+use Rattle.uart_events.specs.declared.event.ArrivalMark.{ArrivalMark}
+use Rattle.uart_events.specs.declared.event.ArrivalMark.TheVariants.{Dropped}
+use Rattle.uart_events.specs.declared.event.Event.{Event}
+use Rattle.uart_events.specs.declared.event.Event.TheVariants.{Arrive}
 use Rattle.uart_chip.specs.declared.receiver.Character.{Character}
 use Rattle.uart_chip.specs.declared.receiver.Origin.{Origin}
 use Rattle.uart_chip.specs.declared.receiver.Origin.TheVariants.{Arrived, Looped, Live}
@@ -59,6 +59,9 @@ entered m n =
 -- the bytes of these that were not dropped, according to the second machine
 abbrev pub kept : MachineState → MachineState → List ℕ
 kept m n = map (λ character. character.byte) (filter (stands n.chip.receiver) (entered m n))
+
+-- A drop is final: what was taken is never dropped afterwards. So what was kept over two stretches is what was kept
+-- over each of them.
 
 -- a drop between the two machines: a character of this origin was not dropped in the first, and is dropped in the
 -- second

@@ -58,6 +58,9 @@ is_one (Some k) = k == 1
 abbrev pub is_moving : ChipState → Bool
 is_moving c = is_one (next_move (is_loopback c.latches) c.transmitter)
 
+-- The number of jumps is defined tick by tick, and not as the code jumps. That a jump of the code counts as one is then
+-- something to prove.
+
 -- how many jumps so many ticks are: each ends with a tick in which a character moves, and the last one with the last
 -- tick
 abbrev pub jumps_in : ℕ → ChipState → ℕ

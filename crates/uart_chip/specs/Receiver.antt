@@ -5,8 +5,8 @@ use Rattle.std.specs.Prelude.{◌==◌, bit_and}
 use Rattle.uart_chip.specs.declared.receiver.Character.{Character}
 use Rattle.uart_chip.specs.declared.receiver.Origin.{Origin}
 use Rattle.uart_chip.specs.declared.receiver.Origin.TheVariants.{Arrived, Looped, Live}
-use Rattle.uart_spec.specs.declared.event.ArrivalMark.{ArrivalMark}
-use Rattle.uart_spec.specs.declared.event.ArrivalMark.TheVariants.{Pending, Waiting, Read, Discarded, Dropped}
+use Rattle.uart_events.specs.declared.event.ArrivalMark.{ArrivalMark}
+use Rattle.uart_events.specs.declared.event.ArrivalMark.TheVariants.{Pending, Waiting, Read, Discarded, Dropped}
 use Rattle.uart_chip.specs.Transmitter.{room}
 use Rattle.uart_spec.specs.Bits.{has_any}
 use Rattle.uart_spec.specs.declared.registers.fifo_trigger_level.FifoTriggerLevel.{FifoTriggerLevel}
@@ -28,6 +28,9 @@ pub record ReceiverState : Type 0 where
   pub arrived : ℕ
   pub marks : List ArrivalMark
   pub is_unscheduled_lost : Bool
+
+-- That a looped character was lost is noted until the next unscheduled one is received, even if that one is lost in a
+-- full FIFO. So the note is set only while no looped character waits.
 
 -- a receiver that has received nothing, for a schedule with this number of arrivals
 abbrev pub fresh : ℕ → ℕ → ReceiverState
@@ -174,6 +177,8 @@ characters_of Fourteen = 14
 -- there are as many characters as the trigger level, or without FIFO any
 abbrev pub is_data_pending : Bool → ReceiverState → Bool
 is_data_pending fifo r = if fifo then nat_le (characters_of r.trigger) (length r.queue) else nat_lt 0 (length r.queue)
+
+-- A timeout that is due is withdrawn when a character arrives. A real chip holds it until the FIFO is read.
 
 -- there are characters in the FIFO, and none was received or read for four character times
 abbrev pub is_timed_out : Bool → ReceiverState → Bool

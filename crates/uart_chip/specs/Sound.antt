@@ -2,11 +2,11 @@
 use Rattle.std.specs.Prelude.{◌≡◌, ◌≢◌, ℕ, ◌+◌, ◌*◌, ◌<◌, ◌≤◌, Bool, true, false, List, [], ◌∷◌, length, Option, Some}
 use Rattle.std.specs.Prelude.{None}
 use Rattle.std.specs.List.{AllByRecursion}
-use Rattle.uart_spec.specs.declared.event.ArrivalMark.{ArrivalMark}
-use Rattle.uart_spec.specs.declared.event.ArrivalMark.TheVariants.{Pending, Waiting}
-use Rattle.uart_spec.specs.declared.event.Chip.TheVariants.{Uart16550A}
-use Rattle.uart_spec.specs.declared.event.Event.{Event}
-use Rattle.uart_spec.specs.declared.event.TheConstants.{MAX_CHAR_TICKS}
+use Rattle.uart_events.specs.declared.event.ArrivalMark.{ArrivalMark}
+use Rattle.uart_events.specs.declared.event.ArrivalMark.TheVariants.{Pending, Waiting}
+use Rattle.uart_events.specs.declared.event.Chip.TheVariants.{Uart16550A}
+use Rattle.uart_events.specs.declared.event.Event.{Event}
+use Rattle.uart_events.specs.declared.event.TheConstants.{MAX_CHAR_TICKS}
 use Rattle.uart_chip.specs.declared.receiver.Character.{Character}
 use Rattle.uart_chip.specs.declared.receiver.Origin.{Origin}
 use Rattle.uart_chip.specs.declared.receiver.Origin.TheVariants.{Arrived, Looped, Live}
@@ -20,7 +20,7 @@ use Rattle.uart_chip.specs.Receiver.{ReceiverState, mark_at}
 use Rattle.uart_chip.specs.Modem.{ModemState}
 use Rattle.uart_chip.specs.Chip.{LatchesState, ChipState}
 use Rattle.uart_chip.specs.Machine.{MachineState, arrivals}
-use Rattle.uart_spec.specs.Build.{IsLegal}
+use Rattle.uart_events.specs.Build.{IsLegal}
 
 -- ---- the receiver
 
@@ -116,6 +116,8 @@ pub record HoldBytes (l : LatchesState) : Type 0 where
 
 -- ---- the machine
 
+-- That only a chip with a FIFO has it on is a part of soundness, so what an `init` leaves follows from any state.
+
 -- the parts are sound, only a chip that has a FIFO has it on, and the idle limit is four character times
 pub record IsSoundChip (c : ChipState) : Type 0 where
   pub receiver : IsSoundReceiver c.fifo c.receiver
@@ -135,6 +137,9 @@ pub record IsSound (m : MachineState) : Type 0 where
   pub chip : IsSoundChip m.chip
   pub foreseen : m.chip.receiver.arrived + arrivals m.ahead ≡ length m.chip.receiver.marks
   pub legal : AllLegal m.ahead
+
+-- `IsSound` is kept by every access of the step relation, whose written values are any numbers. That latches hold bytes
+-- needs that a byte was written.
 
 -- what holds of every machine: it is sound, and its latches hold bytes
 pub record IsWhole (m : MachineState) : Type 0 where

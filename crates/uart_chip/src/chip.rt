@@ -7,8 +7,8 @@ ghost use Rattle.uart_chip.specs.Snapshot.{chip_of, unscheduled};
 ghost use Rattle.uart_chip.specs.Machine.{arrivals, perform};
 ghost use Rattle.uart_chip.specs.Jumps.{moves, jumps_in};
 ghost use Rattle.uart_chip.specs.Receiver.{is_timed_out};
-ghost use Rattle.uart_spec.specs.declared.event.ArrivalMark.TheVariants.{Pending};
-ghost use Rattle.uart_spec.specs.declared.event.TheConstants.{MAX_CHAR_TICKS};
+ghost use Rattle.uart_events.specs.declared.event.ArrivalMark.TheVariants.{Pending};
+ghost use Rattle.uart_events.specs.declared.event.TheConstants.{MAX_CHAR_TICKS};
 ghost use Rattle.uart_spec.specs.declared.baud.TheConstants.{FIFO_SIZE, NUM_REGISTERS};
 
 use crate::controlling::{
@@ -26,8 +26,8 @@ use crate::wire::{HeapWire, Wire, send};
 use bitflags::Flags;
 use std::alloc::{AllocError, Global};
 use std::marker::Model;
+use uart_events::{Chip, Event};
 use uart_spec::registers::{DLL, DLM, IER, LCR, MCR, MSR, SPR};
-use uart_spec::{Chip, Event};
 
 /// The registers that keep what is written to them.
 #[derive(Clone, Copy)]
@@ -66,6 +66,9 @@ pub struct ChipData {
 }
 
 /// A chip of either model, without a schedule. `Device16550` puts it under one.
+// The chip is written once, over queues, wires and journals of any kind: a machine allocates them
+// (the defaults), and a live chip has them in arrays. What happens in it is in `controlling`,
+// `transmitting` and `receiving`, over traits of its parts, which the structs for C have too.
 #[derive(Drop)]
 pub struct Uart<
     B: Fifo<u8> + Drop = HeapFifo<u8>,

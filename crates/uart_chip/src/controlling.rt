@@ -23,7 +23,7 @@ use crate::receiving::{
 use crate::transmitting::{TransmitterParts, count_down, load, next_move};
 use crate::{flag, receiving, transmitting};
 use bitflags::Flags;
-use uart_spec::Chip;
+use uart_events::Chip;
 use uart_spec::registers::{
     FCR, FifoTriggerLevel, IER, ISR, InterruptType, LCR, LSR, MCR, MSR, WordLength, offsets,
 };
@@ -173,7 +173,10 @@ fn trigger_level(fcr: FCR) -> FifoTriggerLevel
 }
 
 // Returns a byte as it is sent and received under a line control register: only its data bits if
-// characters are cut.
+// characters are cut. That is an option of the chip: the tests of the original driver have a model
+// that moves whole bytes, and a machine from `new` does so too. A byte is cut when it is written
+// and when it arrives. What comes back in loopback was cut already, and the divisor latch is no
+// byte of the line.
 fn cut_to(cuts: bool, lcr: LCR, byte: u8) -> u8
     ensures { result ≡ spec.cut_to cuts (spec.word_length lcr.0) byte }
 {
@@ -240,6 +243,9 @@ fn skip<P: ChipParts>(parts: &mut P, ticks: u16)
 ///
 /// A jump ends at the tick in which a character enters or leaves the shift register, or takes all
 /// ticks that are left. So its cost does not grow with the number of ticks.
+// A jump skips the ticks before that tick, and then makes it as any other tick. So the start and
+// the end of a character have no second definition. At most 17 characters move, and one jump takes
+// what is left: 18 jumps are enough for any number of ticks.
 pub fn advance<P: ChipParts>(parts: &mut P, n: u16) -> usize
     ensures after { P.state parts.new ≡ spec.ticks n (P.state parts.old) }
     ensures jumps { result ≡ jumps_in n (P.state parts.old) }
@@ -507,6 +513,7 @@ fn enable<P: ChipParts>(parts: &mut P, interrupts: IER)
     ensures canonical { P.canonical parts.old → P.canonical parts.new }
 {
     let latches = parts.latches();
+    // A chip raises the interrupt also if THR was empty before it was enabled. Not every chip does.
     if !latches.ier.intersects(IER::THR_EMPTY)
         && interrupts.intersects(IER::THR_EMPTY)
         && parts.transmitter().queue_len() == 0
@@ -543,6 +550,9 @@ fn control<P: ChipParts>(parts: &mut P, value: FCR)
     }
 }
 
+// Without the enable bit nothing but the switch is done: a chip whose FIFOs are off ignores the
+// resets. Neither the character in the shift register nor the overrun flag changes. The trigger
+// level survives when the FIFOs are switched off.
 fn set_fifo<P: ChipParts>(parts: &mut P, value: FCR)
     ensures after { P.state parts.new ≡ spec.set_fifo value.0 (P.state parts.old) }
     ensures canonical { P.canonical parts.old → P.canonical parts.new }
@@ -577,7 +587,8 @@ fn reset_transmitter<P: ChipParts>(parts: &mut P, value: FCR)
     }
 }
 
-// Switches the FIFOs on or off, which empties both.
+// Switches the FIFOs on or off, which empties both. No THR_EMPTY interrupt is raised by that, but
+// by the reset of the transmitter.
 fn switch<P: ChipParts>(parts: &mut P, on: bool)
     ensures after { P.state parts.new ≡ spec.switch on (P.state parts.old) }
     ensures canonical { P.canonical parts.old → P.canonical parts.new }

@@ -1,13 +1,13 @@
 //! The chip under a schedule.
 ghost use Rattle.std.specs.Prelude.{◌≡◌, ◌≤◌, true, length, slice_get, IfOk, IsOkUnless};
 ghost use Rattle.uart_chip.specs.Machine as spec;
-ghost use Rattle.uart_spec.specs.Build.{refusal};
+ghost use Rattle.uart_events.specs.Build.{refusal};
 ghost use Rattle.uart_chip.specs.Sound.{IsWhole};
 ghost use Rattle.uart_chip.specs.Transmitter.{held};
 ghost use Rattle.uart_chip.specs.Conserved.{waiting};
 ghost use Rattle.uart_chip.specs.Chip.{divisor, ticks};
 ghost use Rattle.uart_chip.specs.Jumps.{most_jumps, jumps_in};
-ghost use Rattle.uart_spec.specs.declared.event.BuildError.{BuildError};
+ghost use Rattle.uart_events.specs.declared.event.BuildError.{BuildError};
 
 use crate::{ArrivalMark, BuildError, Chip, Event, Uart, arrivals, refusal};
 use std::alloc::Global;
@@ -28,6 +28,8 @@ use uart_spec::backend::Backend;
 /// let mut uart = Uart16550::new_with_backend(device::chip_that_receives(rt.alloc(), 0x41)?);
 /// uart.init(Config::DEFAULT)?;
 /// ```
+// All memory is reserved by `new`, so no access, no `next` and no run is refused for memory. That
+// `new` succeeds cannot be a clause, since no contract says that there is memory. Tests show it.
 #[derive(Drop)]
 pub struct Device16550 {
     uart: Uart,
@@ -42,8 +44,12 @@ impl Model for Device16550 {
 
     ghost Value = { MachineState };
 
+    // Clauses see the events that are still to come, and not the place in the schedule.
     ghost view = { λ m. record { chip = m.uart; ahead = drop m.cursor m.schedule.items } };
 
+    // Soundness is the invariant of the machine alone, and not of its parts: one lemma for each
+    // kind of move says that it is preserved. The contracts of `wire` and `fifo_enabled` pass it
+    // on.
     ghost invariant = { λ m. (m.cursor ≤ vec_len m.schedule)
         × IsWhole (record { chip = m.uart; ahead = drop m.cursor m.schedule.items }) };
 }
@@ -164,6 +170,8 @@ impl Device16550 {
     /// ```
     /// assert_eq!(rt; uart.backend().wire(), b"AT\r".as_slice());
     /// ```
+    // The contract of this observer, which says that the machine is sound, spares callers a
+    // premise.
     pub fn wire(&self) -> &[u8]
         ensures bytes { result.now ≡ self.now.chip.transmitter.wire }
         ensures whole { IsWhole self.now }

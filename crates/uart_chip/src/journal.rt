@@ -1,14 +1,14 @@
 //! The journal of a receiver: what became of each arrival of a schedule.
 ghost use Rattle.std.specs.Prelude.{◌≡◌, List, [], length, replicate, slice_get, IfOk};
 ghost use Rattle.uart_chip.specs.Receiver as spec;
-ghost use Rattle.uart_spec.specs.declared.event.ArrivalMark.{ArrivalMark};
-ghost use Rattle.uart_spec.specs.declared.event.ArrivalMark.TheVariants.{Pending};
+ghost use Rattle.uart_events.specs.declared.event.ArrivalMark.{ArrivalMark};
+ghost use Rattle.uart_events.specs.declared.event.ArrivalMark.TheVariants.{Pending};
 
 use crate::fifo::Fifo;
 use crate::receiver::{Character, Origin};
 use std::alloc::{AllocError, Global};
 use std::marker::Model;
-use uart_spec::ArrivalMark;
+use uart_events::ArrivalMark;
 
 /// Where a receiver records what becomes of each arrival.
 pub trait Journal {
@@ -36,7 +36,7 @@ pub struct Marks {
 
 impl Model for Marks {
     ghost use Rattle.std.specs.Prelude.{List};
-    ghost use Rattle.uart_spec.specs.declared.event.ArrivalMark.{ArrivalMark};
+    ghost use Rattle.uart_events.specs.declared.event.ArrivalMark.{ArrivalMark};
 
     ghost Value = { List ArrivalMark };
 

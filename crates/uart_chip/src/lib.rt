@@ -9,6 +9,9 @@
 //! accesses.
 #![tactic(auto)]
 
+// The chip and the chip under a schedule are one crate: `rt` exports facts about every type in a
+// crate's public signatures, even types of other crates. If one of them is the chip, that takes
+// half a minute.
 mod characters;
 mod chip;
 pub mod controlling;
@@ -34,8 +37,8 @@ pub use masks::{kept_interrupts, kept_modem_control};
 pub use modem::{Modem, ModemData};
 pub use receiver::{Character, Origin, Receiver, ReceiverData, Timeout};
 pub use transmitter::{Shifting, Transmitter, TransmitterData};
-pub use uart_spec::registers::flag;
-pub use uart_spec::{
+pub use uart_events::{
     ArrivalMark, BuildError, Chip, Event, MAX_CHAR_TICKS, MAX_WIRE_CAPACITY, arrivals, refusal,
 };
+pub use uart_spec::registers::flag;
 pub use wire::{HeapWire, Wire, send};

@@ -1,4 +1,5 @@
-//! Masks of registers: what the chip keeps of a write.
+//! Masks of registers: what the chip keeps of a write. The registers themselves are those of the
+//! driver; what a chip keeps is its own.
 ghost use Rattle.std.specs.Prelude.{◌≡◌, bit_and};
 ghost use Rattle.uart_chip.specs.Masks as spec;
 

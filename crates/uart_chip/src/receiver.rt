@@ -5,7 +5,7 @@ ghost use Rattle.uart_chip.specs.Receiver as spec;
 ghost use Rattle.uart_chip.specs.Receiver.{waiting};
 ghost use Rattle.uart_chip.specs.Status.{receiver_status};
 ghost use Rattle.uart_spec.specs.declared.baud.TheConstants.{FIFO_SIZE};
-ghost use Rattle.uart_spec.specs.declared.event.TheConstants.{MAX_CHAR_TICKS};
+ghost use Rattle.uart_events.specs.declared.event.TheConstants.{MAX_CHAR_TICKS};
 
 use crate::characters::Characters;
 use crate::fifo::{Fifo, items_of};
@@ -15,8 +15,9 @@ use crate::receiving::{ReceiverParts, enter};
 use arrayvec::ArrayVec;
 use bitflags::Flags;
 use std::marker::Model;
+use uart_events::ArrivalMark;
+use uart_spec::FIFO_SIZE;
 use uart_spec::registers::{FifoTriggerLevel, LSR};
-use uart_spec::{ArrivalMark, FIFO_SIZE};
 
 /// Where a character is from.
 #[derive(Clone, Copy, Default)]
@@ -26,7 +27,8 @@ pub enum Origin {
     /// Sent by the chip itself, in loopback.
     #[default]
     Looped,
-    /// Received without a schedule.
+    /// Received without a schedule. It has neither a number nor a mark, so the proofs about
+    /// characters that come back in loopback serve for it too.
     Live,
 }
 
@@ -52,6 +54,7 @@ pub struct Timeout {
 
 /// The receiver: received characters are in its queue until DATA is read.
 #[derive(Drop)]
+// It has a model of its own, and so has the transmitter: each body is proved over its own record.
 pub struct Receiver<Q: Fifo<Character> + Drop, J: Journal + Drop> {
     queue: Characters<Q>,
     status: LSR,
@@ -87,7 +90,7 @@ impl<Q: Fifo<Character> + Drop, J: Journal + Drop> Model for Receiver<Q, J> {
     ghost use Rattle.uart_chip.specs.Status.{receiver_status};
 
     // What LSR shows of the receiver is kept, but for the errors behind the front, which the queue
-    // counts.
+    // counts. So a read costs the same whatever waits.
     ghost invariant = { λ r.
         r.status.0 ≡ receiver_status r.queue r.is_overrun r.is_front_reported };
 }

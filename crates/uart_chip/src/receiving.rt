@@ -11,8 +11,9 @@ ghost use Rattle.uart_spec.specs.declared.baud.TheConstants.{FIFO_SIZE};
 
 use crate::fifo::room_of;
 use crate::receiver::{Character, Origin, Timeout};
+use uart_events::ArrivalMark;
+use uart_spec::FIFO_SIZE;
 use uart_spec::registers::{FifoTriggerLevel, LSR};
-use uart_spec::{ArrivalMark, FIFO_SIZE};
 
 /// What a receiver is made of: a queue of characters and what is known of them, and how each is
 /// read and changed.
@@ -258,6 +259,7 @@ pub fn arrive_live<R: ReceiverParts>(
 }
 
 /// Takes the front if there is one, and returns the byte that was taken last.
+// A read of an empty receiver changes nothing, and not the ticks towards a timeout either.
 pub fn take_front<R: ReceiverParts>(parts: &mut R) -> u8
     ensures after { R.state parts.new ≡
         spec.take_front (R.state parts.old).queue (R.state parts.old) }

@@ -72,7 +72,7 @@ impl<Q: Fifo<u8> + Drop, W: Wire + Drop> Model for Transmitter<Q, W> {
     ghost use Rattle.std.specs.Prelude.{◌≡◌};
     ghost use Rattle.uart_chip.specs.Status.{transmitter_status};
 
-    // What LSR shows of the transmitter is kept.
+    // What LSR shows of the transmitter is kept, so a read costs the same whatever waits.
     ghost invariant = { λ t. t.status.0 ≡ transmitter_status (Q.items t.queue) t.shift_register };
 }
 

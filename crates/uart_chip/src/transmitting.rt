@@ -89,7 +89,8 @@ pub trait TransmitterParts {
         ensures canonical { canonical self.old → canonical self.new };
 }
 
-// Lets one tick pass in the shift register, and returns the byte that loopback returns in it.
+// Lets one tick pass in the shift register, and returns the byte that loopback returns in it. If
+// the wire is full, the byte waits in the shift register at its last tick, so none is lost.
 fn shift<T: TransmitterParts>(parts: &mut T, loopback: bool) -> Option<u8>
     ensures after { T.state parts.new ≡
         spec.shift loopback (T.state parts.old).shift_register (T.state parts.old) }
@@ -179,6 +180,7 @@ pub fn count_down<T: TransmitterParts>(parts: &mut T, ticks: u16)
 
 /// Takes a byte that is written to DATA. If there is no room, the FIFO loses it, and THR loses the
 /// byte that it held.
+// A write clears a pending THR_EMPTY interrupt even if there is no room.
 pub fn load<T: TransmitterParts>(parts: &mut T, fifo: bool, byte: u8)
     ensures after { T.state parts.new ≡ spec.load fifo byte (T.state parts.old) }
     ensures canonical { T.canonical parts.old → T.canonical parts.new }

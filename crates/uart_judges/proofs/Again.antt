@@ -7,7 +7,7 @@ use Rattle.uart_spec.specs.Bits.{has_any}
 use Rattle.uart_spec.specs.declared.registers.interrupt_status.TheConstants.ISR
 use Rattle.uart_spec.specs.declared.registers.line_status.TheConstants.LSR
 use Rattle.uart_spec.specs.declared.registers.offsets.TheConstants as offsets
-use Rattle.uart_spec.specs.declared.event.Chip.{Chip}
+use Rattle.uart_events.specs.declared.event.Chip.{Chip}
 use Rattle.uart_judges.specs.declared.replay.difference.Difference.{Difference}
 use Rattle.uart_judges.specs.declared.replay.difference.Reported.{Reported}
 use Rattle.uart_judges.specs.declared.replay.known.Known.{Known}

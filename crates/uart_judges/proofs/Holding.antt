@@ -1,6 +1,6 @@
 -- That what is known holds of a chip, and that nothing between the accesses changes it.
 use Rattle.std.proofs.Common.{◌≡◌, Bool, true, false, List, Option, Some, None, refl, if◌then◌else◌}
-use Rattle.uart_spec.specs.declared.event.Event.{Event}
+use Rattle.uart_events.specs.declared.event.Event.{Event}
 use Rattle.uart_chip.specs.Chip.{ChipState, LatchesState, is_loopback}
 use Rattle.uart_chip.specs.Machine.{before_access}
 use Rattle.uart_chip.proofs.lasting.Lasting.{LastsInEvents, chip_lasts-before}

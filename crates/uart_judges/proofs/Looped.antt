@@ -6,8 +6,8 @@ use Rattle.uart_spec.specs.declared.access.Access.TheVariants.{Read, Write}
 use Rattle.uart_spec.specs.Bits.{has_any}
 use Rattle.uart_spec.specs.declared.registers.fifo_control.TheConstants.FCR
 use Rattle.uart_spec.specs.declared.registers.offsets.TheConstants as offsets
-use Rattle.uart_spec.specs.declared.event.Chip.{Chip}
-use Rattle.uart_spec.specs.declared.event.Chip.TheVariants.{Uart16550A, Uart16450}
+use Rattle.uart_events.specs.declared.event.Chip.{Chip}
+use Rattle.uart_events.specs.declared.event.Chip.TheVariants.{Uart16550A, Uart16450}
 use Rattle.uart_chip.specs.Receiver.{clear}
 use Rattle.uart_chip.specs.Modem.{lines_under}
 use Rattle.uart_chip.specs.Chip.{ChipState, interrupt, is_dlab_set, is_thr_empty, after_read, after_write, trigger_level}

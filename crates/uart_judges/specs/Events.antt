@@ -22,6 +22,6 @@ IsHappening (Arrive byte errors) = IsWithin errors.0 LSR.CHARACTER_ERRORS.0
 IsHappening (Interrupt is_raised) = ⊤
 IsHappening (Lines inputs) = IsWithin inputs.0 MSR.LINES.0
 
--- so is what happens at this event
+-- a chip can do what happens at this event
 abbrev pub IsEvent : Event → Type 0
 IsEvent event = IsHappening event.happening

@@ -27,7 +27,7 @@ next_setup s x = record {
 abbrev pub next_sent : ℕ → Action → ℕ
 next_sent n x = if shows_room x then 0 else if sends x then capped (n + 1) else n
 
--- whether there was one since: it is forgotten by the first, and remembered by the second
+-- whether something has happened since: an action that forgets it, and one that remembers it
 abbrev pub next_since : Bool → Bool → Bool → Bool
 next_since before forgets remembers = if forgets then false else remembers || before
 

@@ -5,8 +5,8 @@ use Rattle.uart_spec.specs.declared.registers.fifo_control.TheConstants.FCR
 use Rattle.uart_spec.specs.declared.registers.interrupt_status.TheConstants.ISR
 use Rattle.uart_spec.specs.declared.registers.line_status.TheConstants.LSR
 use Rattle.uart_spec.specs.declared.registers.offsets.TheConstants as offsets
-use Rattle.uart_spec.specs.declared.event.Chip.{Chip}
-use Rattle.uart_spec.specs.declared.event.Chip.TheVariants.{Uart16550A, Uart16450}
+use Rattle.uart_events.specs.declared.event.Chip.{Chip}
+use Rattle.uart_events.specs.declared.event.Chip.TheVariants.{Uart16550A, Uart16450}
 use Rattle.uart_judges.specs.declared.replay.known.Known.{Known}
 use Rattle.uart_judges.specs.declared.replay.known.Sender.{Sender}
 use Rattle.uart_judges.specs.declared.replay.known.Sender.TheVariants.{Unknown, ThrEmpty, Idle}
@@ -59,7 +59,7 @@ waits_after None waits = false
 waits_after (Some true) waits = waits
 waits_after (Some false) waits = false
 
--- after a read that returned this value: ISR shows the FIFO, and LSR what is empty and what waits
+-- what is known after a read that returned this value: ISR shows the FIFO, and LSR what is empty and what waits
 abbrev pub after_read : ℕ → ℕ → Known → Known
 after_read offset value k =
     record k {
@@ -72,7 +72,7 @@ after_read offset value k =
           else k.waits;
     }
 
--- after a read, whatever it returned
+-- what is known after a read, whatever it returned
 abbrev pub after_asking : ℕ → Known → Known
 after_asking offset k =
     record k { waits = if offset == offsets.DATA then waits_after (dlab k.latches) k.waits else k.waits }
@@ -90,7 +90,7 @@ abbrev pub fifo_after : Chip → ℕ → Option Bool → Option Bool
 fifo_after Uart16550A fcr fifo = Some (has_any fcr FCR.FIFO_ENABLE.0)
 fifo_after Uart16450 fcr fifo = fifo
 
--- after a write of this value
+-- what is known after a write of this value
 abbrev pub after_write : ℕ → ℕ → Known → Known
 after_write offset value k =
     record k {

@@ -8,11 +8,11 @@ use Rattle.uart_judges.specs.declared.replay.known.Start.{Start}
 use Rattle.uart_judges.specs.declared.replay.known.Start.TheVariants.{Reset, InUse}
 use Rattle.uart_judges.specs.declared.replay.latches.KnownLatches.{KnownLatches}
 
--- all of them have this value
+-- the latches, all with this value
 abbrev pub all_latches : Option ℕ → KnownLatches
 all_latches each = record { ier = each; lcr = each; mcr = each; scr = each; dll = each; dlm = each }
 
--- at power-on all are clear
+-- the latches at power-on: all are clear
 abbrev pub first_latches : Start → KnownLatches
 first_latches Reset = all_latches (Some 0)
 first_latches InUse = all_latches None
@@ -46,7 +46,7 @@ shown offset l =
 
 -- ---- a read that returned this value
 
--- of offset 0, under this DLAB
+-- what is known of the latches after a read of offset 0, under this DLAB
 abbrev pub data_read : Option Bool → ℕ → KnownLatches → KnownLatches
 data_read None value l = l
 data_read (Some true) value l = record l { dll = Some value }
@@ -55,7 +55,7 @@ data_read (Some false) value l = l
 abbrev pub after_read_data : KnownLatches → ℕ → KnownLatches
 after_read_data l value = data_read (dlab l) value l
 
--- of offset 1, under this DLAB
+-- what is known of the latches after a read of offset 1, under this DLAB
 abbrev pub ier_read : Option Bool → ℕ → KnownLatches → KnownLatches
 ier_read None value l = l
 ier_read (Some true) value l = record l { dlm = Some value }
@@ -64,7 +64,7 @@ ier_read (Some false) value l = record l { ier = Some value }
 abbrev pub after_read_ier : KnownLatches → ℕ → KnownLatches
 after_read_ier l value = ier_read (dlab l) value l
 
--- of any register
+-- what is known after a read of any register
 abbrev pub after_read : ℕ → ℕ → KnownLatches → KnownLatches
 after_read offset value l =
     if offset == offsets.DATA then after_read_data l value
@@ -76,18 +76,18 @@ after_read offset value l =
 
 -- ---- a write of this value
 
--- to offset 0, under this DLAB
+-- what is known of the latches after a write of offset 0, under this DLAB
 abbrev pub data_written : Option Bool → ℕ → KnownLatches → KnownLatches
 data_written None value l = record l { dll = None }
 data_written (Some is_open) value l = data_read (Some is_open) value l
 
--- to offset 1, under this DLAB
+-- what is known of the latches after a write of offset 1, under this DLAB
 abbrev pub ier_written : Option Bool → ℕ → KnownLatches → KnownLatches
 ier_written None value l = record l { dlm = None; ier = None }
 ier_written (Some true) value l = record l { dlm = Some value }
 ier_written (Some false) value l = record l { ier = Some (bit_and value ier_bits) }
 
--- to any register: LCR and SPR keep the value as a read would return it, and MCR a part of it
+-- what is known after a write of any register: LCR and SPR keep the value, and MCR a part of it
 abbrev pub after_write : ℕ → ℕ → KnownLatches → KnownLatches
 after_write offset value l =
     if offset == offsets.DATA then data_written (dlab l) value l

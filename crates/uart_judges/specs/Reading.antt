@@ -1,7 +1,7 @@
 -- What the bytes of a trace mean, and the first fault of bytes that are no trace.
 use Rattle.std.specs.Prelude.{◌≡◌, ℕ, ◌+◌, Bool, true, false, List, [], ◌∷◌, Option, Some, None, Result, Ok, Err, ⊤}
 use Rattle.uart_spec.specs.declared.access.Access.{Access}
-use Rattle.uart_spec.specs.declared.call.Call.{Call}
+use Rattle.uart_events.specs.declared.call.Call.{Call}
 use Rattle.uart_language.specs.Sayings.{plain}
 use Rattle.uart_language.specs.Text.{lines_of}
 use Rattle.uart_judges.specs.TraceLines.{Saying, Nothing, Fresh, Calls, Makes, Returns, says}
@@ -10,6 +10,11 @@ use Rattle.uart_judges.specs.declared.traces.cause.Fault.TheVariants.{NoAnswer, 
 use Rattle.uart_judges.specs.declared.traces.cause.TraceError.{TraceError}
 use Rattle.uart_judges.specs.declared.traces.cause.TraceError.TheVariants.{NoTrace, OutOfMemory}
 use Rattle.uart_judges.specs.declared.traces.exchange.Exchange.{Exchange}
+
+-- A trace is a grammar of lines, and its first fault a function of the lines. The reader has a loop for each of the
+-- two, and neither definition is a copy of it. A law joins them: a trace has no fault. A trace may be empty: a
+-- recording of which no call was made strays nowhere. A call without an answer is a fault of its own line, although it
+-- is noticed at a later one.
 
 -- ---- the trace
 

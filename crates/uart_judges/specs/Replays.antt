@@ -4,9 +4,9 @@ use Rattle.std.specs.Prelude.{IsSome, is_some, ⊤}
 use Rattle.uart_spec.specs.Access.{Path}
 use Rattle.uart_spec.specs.declared.access.Access.{Access}
 use Rattle.uart_spec.specs.declared.access.Access.TheVariants.{Read, Write}
-use Rattle.uart_spec.specs.declared.event.Chip.{Chip}
-use Rattle.uart_spec.specs.declared.event.Event.{Event}
-use Rattle.uart_spec.specs.Build.{refusal}
+use Rattle.uart_events.specs.declared.event.Chip.{Chip}
+use Rattle.uart_events.specs.declared.event.Event.{Event}
+use Rattle.uart_events.specs.Build.{refusal}
 use Rattle.uart_chip.specs.Machine.{MachineState, MachineStep, fresh, cutting}
 use Rattle.uart_judges.specs.declared.replay.difference.Difference.{Difference}
 use Rattle.uart_judges.specs.declared.replay.difference.Reported.{Reported}
@@ -34,7 +34,7 @@ abbrev pub SeenStep : MachineState → Seen → MachineState → Type 0
 SeenStep m (Did access) n = MachineStep m access n
 SeenStep m (Asked offset) n = (value : ℕ) × MachineStep m (Read offset value) n
 
--- the accesses do, one after the other
+-- the accesses lead from a machine to a machine, one after the other
 abbrev pub SeenPath : MachineState → List Seen → MachineState → Type 0
 SeenPath m [] n = n ≡ m
 SeenPath m (access ∷ accesses) n = (mid : MachineState) × SeenStep m access mid × SeenPath mid accesses n
@@ -49,7 +49,7 @@ pub record IsBuilt (model : Chip) (m : MachineState) : Type 0 where
   pub accepted : refusal char_ticks capacity events ≡ None
   pub built : m ≡ cutting cuts (fresh model char_ticks capacity events)
 
--- such a machine after any accesses
+-- a machine of this model that was built, after any accesses
 pub record IsUsed (model : Chip) (m : MachineState) : Type 0 where
   pub first : MachineState
   pub accesses : List Access

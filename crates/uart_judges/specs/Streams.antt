@@ -63,7 +63,7 @@ IsFirst count items more =
     (lines_of (items ++ more) ≡ take count items ∷ lines_of (drop (count + 1) items ++ more))
     ⊎ ((MOST_LINE_BYTES < count) × IsTooLong (items ++ more))
 
--- so it is if it is known what follows them
+-- the same, if it is known what follows these items
 abbrev pub IsFilledWith : ℕ → List ℕ → Option (List ℕ) → Type 0
 IsFilledWith count items None = ⊤
 IsFilledWith count items (Some more) = IsFirst count items more

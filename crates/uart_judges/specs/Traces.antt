@@ -2,7 +2,7 @@
 use Rattle.std.specs.Prelude.{◌≡◌, ◌⊎◌, ℕ, List, [], ◌∷◌, if◌then◌else◌, ⊤}
 use Rattle.uart_16550.specs.Driver.{Fields, with_limit}
 use Rattle.uart_16550.specs.State.{fresh_fields}
-use Rattle.uart_spec.specs.declared.call.Answer.{Answer}
+use Rattle.uart_events.specs.declared.call.Answer.{Answer}
 use Rattle.uart_language.specs.Output.{answer_text}
 use Rattle.uart_calls.specs.Lists.{IsFollowed, IsListOf}
 use Rattle.uart_judges.specs.declared.traces.judging.Stray.{Stray}
@@ -19,11 +19,13 @@ pub record IsExchange (x : Exchange) (before after : Fields) : Type 0 where
 abbrev pub fields_before : ℕ → Exchange → Fields → Fields
 fields_before limit x fields = if x.is_first then with_limit limit fresh_fields else fields
 
--- this holds for each call in turn
+-- each call in turn is as recorded
 abbrev pub AreCalls : ℕ → Fields → List Exchange → Type 0
 AreCalls limit fields [] = ⊤
 AreCalls limit fields (x ∷ xs) =
     (after : Fields) × IsExchange x (fields_before limit x fields) after × AreCalls limit after xs
+
+-- A call leaves no choice, so the place at which a trace strays is one place.
 
 -- the call from these fields is not as recorded, and this is reported: it, the number of accesses before the first that
 -- no list of the call has, and what the driver does there instead
@@ -33,7 +35,7 @@ pub record StraysHere (before : Fields) (x : Exchange) (stray : Stray) : Type 0 
   pub first :
       IsFollowed x.call before x.accesses.items (record { kept = stray.kept; turn = stray.turn })
 
--- so it is for the first call that is not as recorded
+-- this is reported for the first call that is not as recorded
 abbrev pub IsStray : ℕ → Fields → List Exchange → Stray → Type 0
 IsStray limit fields [] stray = ⊥
 IsStray limit fields (x ∷ xs) stray =

@@ -4,6 +4,12 @@
 //! what it shows of the set-up, which errors it cleared, and where the driver did not look before
 //! it took or gave a byte, or lost what a reset discards. [`Auditor::end`] returns the findings
 //! after the last.
+//!
+//! A driver is blamed for what it did not look at, and not for what was lost, since a recording
+//! does not show the transmitter. A look that shows room allows as many bytes as the FIFO has room
+//! for, or one, and stays valid at a later look that shows none. ISR with its transmitter interrupt
+//! is a look too, and a reset is none. A data interrupt allows as many reads as the trigger level,
+//! and a timeout allows one.
 
 mod action;
 mod auditor;

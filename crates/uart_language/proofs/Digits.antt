@@ -11,7 +11,7 @@ use Rattle.std.specs.Str.{IsUtf8, is_utf8}
 use Rattle.std.proofs.lemmas.Str.{is_utf8-from_IsUtf8, IsUtf8-from_is_utf8}
 use Rattle.std.proofs.Common.{Err, inl, inr}
 use Rattle.std.proofs.lemmas.Bool.{and_parts, cases_Bool}
-use Rattle.uart_spec.specs.declared.call.TheConstants.{CALL_BYTES}
+use Rattle.uart_events.specs.declared.call.TheConstants.{CALL_BYTES}
 use Rattle.uart_language.specs.declared.cause.Cause.TheVariants.{BadText}
 use Rattle.uart_language.specs.declared.limits.TheConstants.{MOST_DIGITS}
 use Rattle.uart_language.specs.Fields.{pairs_of, bytes_in, text_in}

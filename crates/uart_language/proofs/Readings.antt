@@ -6,8 +6,8 @@ use Rattle.std.specs.List.{position_or_len}
 use Rattle.std.proofs.lemmas.Bool.{lt-ltb, le-ltb, eqb-true}
 use Rattle.std.proofs.lemmas.List.{append-nil}
 use Rattle.std.proofs.lemmas.List.Concat.{flat_map-cons}
-use Rattle.uart_spec.specs.declared.event.Event.{Event}
-use Rattle.uart_spec.specs.declared.call.Call.{Call}
+use Rattle.uart_events.specs.declared.event.Event.{Event}
+use Rattle.uart_events.specs.declared.call.Call.{Call}
 use Rattle.uart_language.specs.declared.cause.Cause.{Cause}
 use Rattle.uart_language.specs.declared.cause.Cause.TheVariants.{TooLong, Misplaced}
 use Rattle.uart_language.specs.declared.cause.ScriptError.{ScriptError}

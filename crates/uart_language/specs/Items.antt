@@ -3,10 +3,10 @@ use Rattle.std.specs.Prelude.{ℕ, false, List, length, Option, Some, None, Resu
 use Rattle.std.specs.Option.{ok_or}
 use Rattle.std.specs.Int.NonZero.{non_zero_u64_get}
 use Rattle.uart_spec.specs.declared.config.Config.{Config}
-use Rattle.uart_spec.specs.declared.event.Event.{Event}
-use Rattle.uart_spec.specs.declared.event.Event.TheVariants as event
-use Rattle.uart_spec.specs.declared.call.Call.{Call}
-use Rattle.uart_spec.specs.declared.call.Call.TheVariants as call
+use Rattle.uart_events.specs.declared.event.Event.{Event}
+use Rattle.uart_events.specs.declared.event.Event.TheVariants as event
+use Rattle.uart_events.specs.declared.call.Call.{Call}
+use Rattle.uart_events.specs.declared.call.Call.TheVariants as call
 use Rattle.uart_language.specs.declared.cause.Cause.{Cause}
 use Rattle.uart_language.specs.declared.cause.Cause.TheVariants.{BadByte, Misplaced, UnknownWord, WrongCount}
 use Rattle.uart_language.specs.declared.items.Item.{Item}

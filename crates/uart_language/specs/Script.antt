@@ -3,11 +3,11 @@ use Rattle.std.specs.Prelude.{◌≡◌, ◌↔◌, ℕ, ◌+◌, ◌<◌, ◌�
 use Rattle.std.specs.Prelude.{[], ◌∷◌, ◌++◌, length, map, Option, Some, None, Result, Ok, Err, IfOk, All, if◌then◌else◌}
 use Rattle.std.specs.Prelude.{flat_map, codes, drop}
 use Rattle.std.specs.Int.NonZero.{non_zero_u64_get}
-use Rattle.uart_spec.specs.declared.event.TheConstants.{MAX_CHAR_TICKS, MAX_WIRE_CAPACITY}
-use Rattle.uart_spec.specs.Build.{IsLegal}
-use Rattle.uart_spec.specs.declared.event.Chip.{Chip}
-use Rattle.uart_spec.specs.declared.event.Event.{Event}
-use Rattle.uart_spec.specs.declared.call.Call.{Call}
+use Rattle.uart_events.specs.declared.event.TheConstants.{MAX_CHAR_TICKS, MAX_WIRE_CAPACITY}
+use Rattle.uart_events.specs.Build.{IsLegal}
+use Rattle.uart_events.specs.declared.event.Chip.{Chip}
+use Rattle.uart_events.specs.declared.event.Event.{Event}
+use Rattle.uart_events.specs.declared.call.Call.{Call}
 use Rattle.uart_language.specs.declared.cause.Cause.{Cause}
 use Rattle.uart_language.specs.declared.cause.Cause.TheVariants.{BadByte, Misplaced, UnknownWord, WrongCount, TooLong}
 use Rattle.uart_language.specs.declared.cause.ScriptError.{ScriptError}
@@ -15,11 +15,14 @@ use Rattle.uart_language.specs.declared.cause.ScriptError.TheVariants as errors
 use Rattle.uart_language.specs.declared.limits.TheConstants.{MOST_BYTES, MOST_LINES, MOST_LIMIT, DEFAULT_LIMIT}
 use Rattle.uart_language.specs.declared.parsing.Script.{Script}
 use Rattle.uart_language.specs.declared.words.Word.{Word}
-use Rattle.uart_spec.specs.Calls.{IsRunnable}
+use Rattle.uart_events.specs.Calls.{IsRunnable}
 use Rattle.uart_language.specs.Text.{lines_of, words_of, word_at, has_bad_byte}
 use Rattle.uart_language.specs.Fields.{char_ticks_in, wire_capacity_in, chip_in}
 use Rattle.uart_language.specs.Words.{word_of, has_count, is_placed, fields_of}
 use Rattle.uart_language.specs.Sayings.{Saying, Nothing, Limit, events_said, calls_said, plain, Means}
+
+-- The definition is a relation of lines and what they say. What the parser computes is a step on the way to it, and no
+-- part of it.
 
 -- ---- the script
 

@@ -18,9 +18,9 @@ use super::numbers::number_of;
 use arrayvec::{ArrayString, ArrayVec};
 use bitflags::Flags;
 use std::num::NonZeroU64;
-use uart_spec::call::CALL_BYTES;
+use uart_events::{CALL_BYTES, Chip, MAX_CHAR_TICKS, MAX_WIRE_CAPACITY};
+use uart_spec::BaudRate;
 use uart_spec::registers::{FifoTriggerLevel, IER, LSR, WordLength};
-use uart_spec::{BaudRate, Chip, MAX_CHAR_TICKS, MAX_WIRE_CAPACITY};
 
 /// Reads a number of a script, from `least` to `most`.
 pub fn number_in(least: u64, most: u64, word: &[u8]) -> Result<u64, Cause>

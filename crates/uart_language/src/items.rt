@@ -15,8 +15,8 @@ use super::fields::{
 use super::text::{has_bad_byte, word_at, word_count};
 use super::words::{Word, has_count, is_placed, word_of};
 use std::num::NonZeroU64;
-use uart_spec::call::Call;
-use uart_spec::{Chip, Config, Event};
+use uart_events::{Call, Chip, Event};
+use uart_spec::Config;
 
 /// The meaning of a line after the first.
 #[derive(Drop)]

@@ -4,7 +4,8 @@ ghost use Rattle.std.specs.Prelude.{◌≡◌};
 /// The longest script, in bytes.
 pub const MOST_BYTES: usize = 65_536;
 
-/// The most bytes that are read of a script: one more than the longest script has.
+/// The most bytes that are read of a script: one more than the longest script has. A longer one is
+/// refused as these are.
 pub const MOST_READ: usize = MOST_BYTES + 1;
 
 /// The longest script, in lines.

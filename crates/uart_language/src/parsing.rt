@@ -15,8 +15,7 @@ use super::limits::{DEFAULT_LIMIT, MOST_BYTES, MOST_LINES};
 use super::text::first_line;
 use std::alloc::{AllocError, Global};
 use std::num::NonZeroU64;
-use uart_spec::call::Call;
-use uart_spec::{Chip, Event};
+use uart_events::{Call, Chip, Event};
 
 /// A script: a chip, what happens to it, and the calls that are made.
 #[derive(Drop)]
@@ -201,6 +200,8 @@ pub fn parse(alloc: Global, bytes: &[u8]) -> Result<Script, ScriptError>
     ensures { IsParsed bytes.now result }
 {
     let (header, rest) = first_item(bytes)?;
+    // Every line is looked at before anything is allocated. So bytes that are no script are refused
+    // as such, however little memory there is.
     check(rest)?;
     build(alloc, header, rest)
 }

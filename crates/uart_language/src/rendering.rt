@@ -14,10 +14,10 @@ ghost use Rattle.uart_language.specs.Output.{printed};
 
 use bitflags::Flags;
 use std::alloc::{AllocError, Global};
-use uart_spec::call::Answer;
+use uart_events::{Answer, ArrivalMark};
 use uart_spec::{
-    ArrivalMark, AttachError, ByteSendError, ConfigRegisterDump, InitError, InvalidDivisorError,
-    LoopbackError, Received, RemoteReadyToReceiveError,
+    AttachError, ByteSendError, ConfigRegisterDump, InitError, InvalidDivisorError, LoopbackError,
+    Received, RemoteReadyToReceiveError,
 };
 
 /// Returns a digit below 16 as text, in lower case.

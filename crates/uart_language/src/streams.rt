@@ -1,4 +1,7 @@
 //! Where a script is read from, and where its output is written to.
+//!
+//! It is in this crate so that little is left to prove in `uart_play`, the last of the longest
+//! chain of crates.
 
 ghost use Rattle.std.specs.Prelude.{◌≡◌, ◌≤◌, ◌||◌, Option, List, ℕ};
 ghost use Rattle.std.specs.Prelude.{Bool, false, length, IfOk, IfErr, OnOk, is_err};
@@ -19,6 +22,8 @@ const CHUNK: usize = 512;
 #[derive(Clone, Copy, Debug, PartialEq, Eq, Error)]
 #[error("a read or a write failed")]
 pub struct Fault;
+
+// These traits are not those of std: beside the bytes, contracts see whether a call has failed.
 
 /// A reader whose contracts state its bytes, if they are known, and whether it has failed.
 pub trait Input {

@@ -1,7 +1,7 @@
 -- A journal without marks stays one.
 use Rattle.std.proofs.Common.{◌≡◌, List, [], ◌∷◌, refl, ap, ◌∙◌}
-use Rattle.uart_spec.specs.declared.event.ArrivalMark.{ArrivalMark}
-use Rattle.uart_spec.specs.declared.event.ArrivalMark.TheVariants.{Discarded}
+use Rattle.uart_events.specs.declared.event.ArrivalMark.{ArrivalMark}
+use Rattle.uart_events.specs.declared.event.ArrivalMark.TheVariants.{Discarded}
 use Rattle.uart_chip.specs.declared.receiver.Character.{Character}
 use Rattle.uart_chip.specs.declared.receiver.Origin.{Origin}
 use Rattle.uart_chip.specs.declared.receiver.Origin.TheVariants.{Arrived, Looped, Live}

@@ -3,15 +3,15 @@ use Rattle.std.proofs.Common.{◌≡◌, ℕ, zero, suc, ◌≤◌, ◌<◌, Boo
 use Rattle.std.proofs.Common.{Option, Some, None, is_some, bit_or, drop, refl, arith, ◌∙◌, if◌then◌else◌}
 use Rattle.std.proofs.lemmas.Grind.{common_steps}
 use Rattle.std.proofs.lemmas.List.{length-drop}
-use Rattle.uart_spec.specs.declared.event.BuildError.TheVariants.{BadTicks, BadWire}
-use Rattle.uart_spec.specs.declared.event.Chip.{Chip}
-use Rattle.uart_spec.specs.declared.event.Chip.TheVariants.{Uart16550A, Uart16450}
-use Rattle.uart_spec.specs.declared.event.Event.TheVariants.{Lines}
-use Rattle.uart_spec.specs.declared.event.TheConstants.{MAX_CHAR_TICKS, MAX_WIRE_CAPACITY}
+use Rattle.uart_events.specs.declared.event.BuildError.TheVariants.{BadTicks, BadWire}
+use Rattle.uart_events.specs.declared.event.Chip.{Chip}
+use Rattle.uart_events.specs.declared.event.Chip.TheVariants.{Uart16550A, Uart16450}
+use Rattle.uart_events.specs.declared.event.Event.TheVariants.{Lines}
+use Rattle.uart_events.specs.declared.event.TheConstants.{MAX_CHAR_TICKS, MAX_WIRE_CAPACITY}
 use Rattle.uart_chip.specs.declared.receiver.Character.{Character}
 use Rattle.uart_chip.specs.declared.receiver.Origin.TheVariants.{Looped, Live}
 use Rattle.uart_chip.specs.declared.transmitter.Shifting.{Shifting}
-use Rattle.uart_spec.specs.Build.{refusal}
+use Rattle.uart_events.specs.Build.{refusal}
 use Rattle.uart_spec.specs.Bits.{IsWithin, flag, has_any}
 use Rattle.uart_chip.specs.Transmitter as transmitter
 use Rattle.uart_chip.specs.Transmitter.{TransmitterState, room, looped_byte}

@@ -87,7 +87,7 @@ abbrev pub entering : (byte errors : ℕ) → ChipState → List Character
 entering byte errors c =
     if is_loopback c.latches then [] else record { byte = cut_of c byte; errors = errors; origin = Live } ∷ []
 
--- the same of an act
+-- the character that an act brings, unless it is lost in loopback
 abbrev pub came : Act → ChipState → List Character
 came (Arrive byte errors) c = entering byte errors c
 came (ArriveHolding byte errors) c = entering byte errors c

@@ -1,8 +1,10 @@
 -- What holds of every live chip, whatever its owner and the guest did with it.
 use Rattle.std.specs.Prelude.{◌≡◌, ◌≤◌, false, [], length}
-use Rattle.uart_spec.specs.declared.event.TheConstants.{MAX_WIRE_CAPACITY}
+use Rattle.uart_events.specs.declared.event.TheConstants.{MAX_WIRE_CAPACITY}
 use Rattle.uart_chip.specs.Chip.{ChipState}
 use Rattle.uart_chip.specs.Sound.{IsWhole}
+
+-- A live chip is a machine with nothing ahead, so the lemmas of events and accesses serve both.
 
 -- the chip is sound and has nothing of a schedule: no event is to come, no arrival has a mark, none can be lost
 -- unnoticed; the wire has room for at most as much as a wire may have

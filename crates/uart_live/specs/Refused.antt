@@ -1,6 +1,6 @@
 -- Why no live chip is made.
 use Rattle.std.specs.Prelude.{ℕ, not, ◌&&◌, nat_le, nat_lt, Option, Some, None, if◌then◌else◌}
-use Rattle.uart_spec.specs.declared.event.TheConstants.{MAX_CHAR_TICKS}
+use Rattle.uart_events.specs.declared.event.TheConstants.{MAX_CHAR_TICKS}
 use Rattle.uart_live.specs.declared.fixed.TheConstants.{WIRE_ROOM}
 use Rattle.uart_live.specs.declared.errors.ChipError.{ChipError}
 use Rattle.uart_live.specs.declared.errors.ChipError.TheVariants.{BadTicks, BadWire}

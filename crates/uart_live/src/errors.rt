@@ -1,7 +1,7 @@
 //! Why a live chip refuses what its owner passes to it.
 use crate::fixed::WIRE_ROOM;
 use thiserror::Error;
-use uart_spec::MAX_CHAR_TICKS;
+use uart_events::MAX_CHAR_TICKS;
 
 /// Why a character or a change of the modem lines was refused.
 #[derive(Clone, Copy, Debug, PartialEq, Eq, Error)]

@@ -6,7 +6,8 @@ ghost use Rattle.uart_live.specs.declared.fixed.TheConstants.{WIRE_ROOM};
 
 use std::marker::Model;
 use uart_chip::{Character, Fifo, Journal, Origin, Wire};
-use uart_spec::{ArrivalMark, FIFO_SIZE};
+use uart_events::ArrivalMark;
+use uart_spec::FIFO_SIZE;
 
 /// The most bytes that a [`FixedWire`] has room for.
 pub const WIRE_ROOM: usize = 64;
@@ -14,7 +15,8 @@ pub const WIRE_ROOM: usize = 64;
 // The places of a `FixedWire`: each byte is in two of them.
 const WIRE_PLACES: usize = 2 * WIRE_ROOM;
 
-/// A queue in an array, without other memory.
+/// A queue in an array, without other memory. A push into a full one would overwrite the oldest
+/// item, so the caller of `push` must show that there is room.
 #[derive(Drop)]
 pub struct FixedFifo<T> {
     slots: [T; FIFO_SIZE],

@@ -25,10 +25,11 @@ use crate::fixed::{FixedFifo, FixedWire, NoMarks, WIRE_ROOM};
 use bitflags::Flags;
 use std::marker::Model;
 use uart_chip::{Character, Uart};
+use uart_events::{Chip, MAX_CHAR_TICKS};
 use uart_spec::registers::{LSR, MSR};
-use uart_spec::{Chip, MAX_CHAR_TICKS};
 
-// A chip all of whose memory is in arrays, without a schedule.
+// A chip all of whose memory is in arrays, without a schedule. So no call can be refused memory.
+// The wire has room for 64 bytes, as in the library for C: its owner takes them after each `ticks`.
 type LiveUart = Uart<FixedFifo<u8>, FixedWire, FixedFifo<Character>, NoMarks>;
 
 /// A serial chip in software whose owner lets time pass, passes characters to it, and takes the
@@ -80,6 +81,8 @@ fn refusal(char_ticks: u16, wire_capacity: usize) -> Option<ChipError>
     }
 }
 
+// There is no `new_cut`. An owner who wants characters cut makes a chip, sets `cuts` of its data,
+// and restores it: data are sound with either value.
 impl LiveChip {
     /// Returns a chip after power-on.
     ///
@@ -277,6 +280,8 @@ impl LiveChip {
         ensures refused { bit_and errors.0 LSR.CHARACTER_ERRORS.0 ≢ errors.0 →
             (result ≡ Err InputError.BadErrors) × (self.new ≡ self.old) }
     {
+        // The receiver's count of ticks says whether a timeout is due. So no bit has to be kept and
+        // saved for a held timeout, and every other contract is as it was.
         let is_due = self.uart.is_timed_out();
         self.arrive(byte, errors)?;
         if is_due {

@@ -1,4 +1,7 @@
 //! Whether data are those of a live chip: one test for each part of what holds of it.
+//!
+//! Data are typed (a trigger level, an optional character in the shift register, registers), so
+//! that less of them can be wrong. The wire comes beside the data: its owner has it already.
 ghost use Rattle.std.specs.Prelude.{◌≡◌, true, false};
 ghost use Rattle.std.specs.List.{list_all};
 ghost use Rattle.uart_chip.specs.Snapshot.{latches_of, chip_of};

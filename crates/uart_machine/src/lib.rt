@@ -15,7 +15,7 @@
 //! - [`laws`] has what follows from these contracts.
 //!
 //! The chip and the device are in the crate `uart_chip`, the live chip in `uart_live`, calls and
-//! answers in `uart_calls`, runs in `uart_run`, runs of the rings in `uart_ring`, the script
+//! answers in `uart_calls`, runs in `uart_run`, runs of the rings in `uart_ring_runs`, the script
 //! language in `uart_language`, and the player of scripts in `uart_play`. This crate re-exports
 //! them, and has the tests that cross them.
 #![tactic(auto)]
@@ -31,5 +31,5 @@ pub use uart_live::{
     Character, ChipData, ChipError, InputError, Latches, LiveChip, ModemData, Origin, ReceiverData,
     RestoreError, Shifting, TransmitterData, WIRE_ROOM,
 };
-pub use uart_ring::{RingAnswer, RingCall, run_ring};
+pub use uart_ring_runs::{RingAnswer, RingCall, run_ring};
 pub use uart_run::run;

@@ -124,8 +124,9 @@ fn output_for(alloc: Global, script: &Script) -> Result<Vec<u8>, AllocError>
 
 /// Reads a script, plays it, and writes its output.
 ///
-/// The whole output is built before any of it is written. What is written for a script is a
-/// function of the script ([`scripts_have_one_output`](crate::laws::scripts_have_one_output)).
+/// The whole output is built before any of it is written. So a refusal has written nothing, and
+/// after a write fault what was written is a beginning of the output. What is written for a script
+/// is a function of the script ([`scripts_have_one_output`](crate::laws::scripts_have_one_output)).
 ///
 /// # Errors
 ///

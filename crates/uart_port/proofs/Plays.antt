@@ -1,13 +1,13 @@
 -- Playing, one call after another.
 use Rattle.std.proofs.Common.{◌≡◌, ℕ, suc, ◌+◌, ◌<◌, ◌≤◌, List, [], ◌∷◌, ◌++◌, Option, Some, None, length, take, drop, get_or, refl}
 use Rattle.std.proofs.Common.{append_assoc, inl, inr, rules}
-use Rattle.std.specs.Prelude.{IsSome, is_some, false}
+use Rattle.std.specs.Prelude.{IsSome, is_some, false, option_map}
 use Rattle.std.specs.Io.KnownBytes.{Appends}
 use Rattle.std.proofs.Math.Seq.{split_at}
 use Rattle.std.proofs.lemmas.List.{take_more, take_all}
 use Rattle.std.proofs.lemmas.Grind.{flat_map-append}
-use Rattle.uart_spec.specs.declared.call.Call.{Call}
-use Rattle.uart_spec.specs.declared.call.Answer.{Answer}
+use Rattle.uart_events.specs.declared.call.Call.{Call}
+use Rattle.uart_events.specs.declared.call.Answer.{Answer}
 use Rattle.uart_language.specs.Output.{answer_lines, answer_text, line}
 use Rattle.uart_port.specs.Ports.{Attempt}
 use Rattle.uart_port.specs.Playing.{Terminal, fault_in, Makes, Answered, IsPlayed}
@@ -42,9 +42,9 @@ answered_more step s t u (c ∷ cs) (a ∷ rest) call answer h makes clear =
 pub nothing_begun : {F : Type 0} (step : F → Attempt → F → Type 0) (s : Terminal F) (old : Option (List ℕ)) → IsBegun step s [] old old s
 nothing_begun step s old = record { answers = []; made = refl; printed = appends_nothing old }
 
-pub none_from : {A : Type 0} (o : Option A) → is_some o ≡ false → o ≡ None
-none_from None h = refl
-none_from (Some x) h = cc
+pub none_mapped : {A B : Type 0} (f : A → B) (o : Option A) → is_some o ≡ false → option_map f o ≡ None
+none_mapped f None h = refl
+none_mapped f (Some x) h = cc
 
 -- the next call is answered, and its answer printed
 pub begun_more : {F : Type 0} (step : F → Attempt → F → Type 0) (s t u : Terminal F) (calls : List Call) (i : ℕ) (call : Call)

@@ -1,7 +1,3 @@
-pub mod Arguments
-pub mod Base
-pub mod Lines
 pub mod Playing
 pub mod Ports
-pub mod Status
 pub mod Trace

@@ -6,11 +6,11 @@ use Rattle.std.specs.Option.{option_and_then}
 use Rattle.uart_spec.specs.declared.baud.TheConstants.{NUM_REGISTERS}
 use Rattle.uart_spec.specs.declared.access.Access.{Access}
 use Rattle.uart_spec.specs.declared.access.Access.TheVariants.{Read, Write}
-use Rattle.uart_spec.specs.declared.call.Call.{Call}
-use Rattle.uart_spec.specs.declared.call.Call.TheVariants.{Next}
+use Rattle.uart_events.specs.declared.call.Call.{Call}
+use Rattle.uart_events.specs.declared.call.Call.TheVariants.{Next}
 use Rattle.uart_language.specs.Output.{hex_byte, line}
 use Rattle.uart_port.specs.Ports.{Attempt, Made, Failed}
-use Rattle.uart_port.specs.declared.device.DeviceFile.{DeviceFile}
+use Rattle.uart_port.specs.declared.noted.NotedPorts.{NotedPorts}
 use Rattle.uart_port.specs.declared.trace.Trace.{Trace}
 
 -- ---- the lines
@@ -60,9 +60,11 @@ abbrev pub at_register : ℕ → Access → Access
 at_register base (Read port answer) = Read (register_at base port) answer
 at_register base (Write port value) = Write (register_at base port) value
 
--- an access that was made is in the trace, as the next line; nothing is said about one that failed
-abbrev pub NotesStep : {W : Type 0} → (W → Option (List ℕ)) → DeviceFile W → Attempt → DeviceFile W → Type 0
-NotesStep contents old (Made access) new =
-    (new.base ≡ old.base)
+-- An access that was made is one that the file made, and is in the trace as the next line. Nothing is said about one
+-- that failed.
+abbrev pub NotesStep : {F W : Type 0} → (F → Attempt → F → Type 0) → (W → Option (List ℕ)) →
+    NotedPorts F W → Attempt → NotedPorts F W → Type 0
+NotesStep step contents old (Made access) new =
+    (new.base ≡ old.base) × step old.file (Made access) new.file
     × Appends (traced contents old.trace) (traced contents new.trace) (access_line (at_register old.base access))
-NotesStep contents old (Failed port cause) new = new.base ≡ old.base
+NotesStep step contents old (Failed port cause) new = new.base ≡ old.base

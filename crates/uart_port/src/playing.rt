@@ -2,9 +2,11 @@
 
 ghost use Rattle.std.specs.Prelude.{◌≡◌, All, OnOk};
 ghost use Rattle.std.specs.Io.KnownBytes.{Appends};
-ghost use Rattle.uart_spec.specs.Calls.{IsRunnable};
+ghost use Rattle.uart_events.specs.Calls.{IsRunnable};
 ghost use Rattle.uart_language.specs.Output.{answer_text, line};
-ghost use Rattle.uart_port.specs.Playing.{IsPlayed, writer_of, traced_by};
+ghost use Rattle.std.specs.Int.NonZero.{non_zero_u64_get};
+ghost use Rattle.uart_16550.specs.Pio.{IsPortBase};
+ghost use Rattle.uart_port.specs.Playing.{IsPlayed, IsTerminalAt, writer_of, traced_by};
 ghost use Rattle.uart_port.specs.Trace.{answer_line, if_driven, is_driven, traced};
 
 use crate::end::End;
@@ -12,10 +14,26 @@ use crate::ports::{GuardedPorts, PortFile};
 use crate::trace::Trace;
 use std::alloc::Global;
 use std::io::Write;
-use uart_16550::Uart16550Tty;
+use std::num::NonZeroU64;
 use uart_16550::backend::PioBackend;
+use uart_16550::{Uart16550, Uart16550Tty};
 use uart_calls::{Answer, Call, perform};
 use uart_language::push_answer;
+
+/// A driver under its terminal, at the ports of a file.
+pub type Terminal<F> = Uart16550Tty<PioBackend<GuardedPorts<F>>>;
+
+/// Returns a new driver at the ports of a file, from this one on, with this spin limit.
+pub fn terminal_at<F: PortFile + Drop>(port: u16, limit: NonZeroU64, file: F) -> Terminal<F>
+    requires { IsPortBase port }
+    ensures { IsTerminalAt port (non_zero_u64_get limit) file result }
+{
+    let Ok(mut uart) = Uart16550::new_port(port, GuardedPorts::new(file)) else {
+        unreachable!()
+    };
+    uart.set_spin_limit(limit);
+    Uart16550Tty::from_inner(uart)
+}
 
 /// Where answers are printed and, if there is one, the trace of the run.
 #[derive(Drop)]
@@ -91,7 +109,7 @@ impl<W: Write, T: Write> Journal<W, T> {
 ///
 /// If an answer cannot be printed, or the trace cannot be written. No call is made after that.
 pub fn play<F: PortFile, W: Write, T: Write>(
-    uart: &mut Uart16550Tty<PioBackend<GuardedPorts<F>>>,
+    uart: &mut Terminal<F>,
     calls: &[Call],
     lines: &[&[u8]],
     journal: &mut Journal<W, T>,

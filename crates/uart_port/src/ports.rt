@@ -1,6 +1,6 @@
 //! Access to the I/O ports of a file, which ends at the first fault.
 
-ghost use Rattle.std.specs.Prelude.{◌≡◌, None};
+ghost use Rattle.std.specs.Prelude.{◌≡◌, None, option_map};
 ghost use Rattle.uart_port.specs.Ports.{Attempt, GuardedStep, read_attempt, write_attempt};
 
 use std::io;
@@ -27,7 +27,7 @@ pub trait PortFile {
 }
 
 /// The first access that failed.
-#[derive(Clone, Copy, Debug, Drop)]
+#[derive(Debug, Drop)]
 pub struct Fault {
     /// The port.
     pub port: u16,
@@ -57,10 +57,10 @@ impl<F: PortFile> GuardedPorts<F> {
     }
 
     /// Returns the first access that failed, if any did.
-    pub fn fault(&self) -> Option<Fault>
-        ensures { result ≡ fault_of self.now }
+    pub fn fault(&self) -> Option<&Fault>
+        ensures { option_map (λ fault. fault.now) result ≡ fault_of self.now }
     {
-        self.fault
+        self.fault.as_ref()
     }
 }
 
@@ -68,7 +68,7 @@ impl<F: PortFile> PortAccess for GuardedPorts<F> {
     ghost step = { GuardedStep F.step };
 
     fn port_in(&mut self, port: u16) -> u8 {
-        if let Some(_) = self.fault {
+        if self.fault.is_some() {
             return FLOATING;
         }
         match self.file.read(port) {
@@ -81,7 +81,7 @@ impl<F: PortFile> PortAccess for GuardedPorts<F> {
     }
 
     fn port_out(&mut self, port: u16, value: u8) {
-        if let Some(_) = self.fault {
+        if self.fault.is_some() {
             return;
         }
         if let Err(cause) = self.file.write(port, value) {

@@ -3,6 +3,10 @@
 //! Standard input is the number of allocations before the first call. So if one allocation of a run
 //! is refused, as by `rt try --fail-alloc`, this number decides which allocation of the calls that
 //! is.
+//!
+//! It is a program of its own because the calls use the global allocator, which no test can
+//! replace. The kit can refuse the N-th allocation of a program, but builds anew for each N. With N
+//! fixed and this number varied, one build makes all runs.
 #![tactic(auto)]
 
 use bitflags::Flags;
@@ -12,9 +16,9 @@ use std::num::NonZeroU64;
 use std::process::ExitCode;
 use std::{fmt, io};
 use uart_16550::backend::Backend;
-use uart_16550::replay::Replay;
 use uart_16550::spec::registers::offsets;
 use uart_16550::{Config, Uart16550};
+use uart_calls::replay::Replay;
 use uart_machine::script::{PlayError, ScriptError, Std, parse, play};
 use uart_machine::{BuildError, Call, Chip, Device16550, Event};
 use uart_ring::{RingError, Uart16550Ring};

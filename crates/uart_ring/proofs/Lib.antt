@@ -1,3 +1,4 @@
+pub mod Queues
 pub mod RingDoings
 pub mod Transfers
 pub mod RegisterBits
@@ -6,11 +7,3 @@ pub mod Losses
 pub mod Arming
 pub mod Bounding
 pub mod Choices
-pub mod RingBlocks
-pub mod RingPasses
-pub mod RingTold
-pub mod RingDue
-pub mod RingArming
-pub mod RingSessions
-pub mod RingReady
-pub mod RingEdges

@@ -11,6 +11,10 @@ use Rattle.uart_spec.specs.declared.registers.modem_status.TheConstants.MSR
 use Rattle.uart_spec.specs.declared.registers.offsets.TheConstants as offsets
 use Rattle.uart_ring.specs.Ring.{RingDoing, RingFields}
 
+-- 'Armed' is a property of accesses, and not of a chip: what was written to IER, what a look showed, which interrupt a
+-- read of ISR acknowledged. So it holds over every backend that keeps IER. What a chip makes of it is a law of that
+-- chip.
+
 -- what is known of the chip's THR-empty interrupt: that it is enabled; that it is due, which means pending, or to
 -- come once the chip has sent what it holds
 pub record ThrEmpty : Type 0 where
@@ -48,22 +52,22 @@ abbrev pub IsTrueOfIer : ThrEmpty → Access → Type 0
 IsTrueOfIer known (Read offset answer) = offset ≡ offsets.IER → known.enabled ≡ true → has answer IER.THR_EMPTY.0 ≡ true
 IsTrueOfIer known (Write offset value) = ⊤
 
--- each read of IER does
+-- each read of IER shows what is known of THR_EMPTY
 abbrev pub KeepsIer : ThrEmpty → List Access → Type 0
 KeepsIer known [] = ⊤
 KeepsIer known (access ∷ accesses) = IsTrueOfIer known access × KeepsIer (known_after known access) accesses
 
--- there is nothing to send, or the THR-empty interrupt is enabled and due
+-- the rings are armed: there is nothing to send, or the THR-empty interrupt is enabled and due
 abbrev pub IsArmed : ThrEmpty → RingFields → Type 0
 IsArmed known f = (f.transmit.items ≡ []) ⊎ ((known.enabled ≡ true) × (known.due ≡ true))
 
--- after a call that does not check CTS this is so, if it was so before it and the chip keeps IER
+-- a call that does not check CTS leaves the rings armed, if they were armed before it and the chip keeps IER
 abbrev pub LeavesArmed : RingDoing
 LeavesArmed f l after =
     f.driver.config.check_cts_before_sending ≡ false → (known : ThrEmpty) → KeepsIer known l →
     IsArmed known f → IsArmed (known_after_all known l) after
 
--- after a call that does not check CTS this is so in any case
+-- a call that does not check CTS leaves the rings armed, however it found them
 abbrev pub Arms : RingDoing
 Arms f l after =
     f.driver.config.check_cts_before_sending ≡ false → (known : ThrEmpty) → IsArmed (known_after_all known l) after
@@ -75,6 +79,6 @@ ShowsCtsClear (Read offset answer ∷ accesses) =
     ((offset ≡ offsets.MSR) × (has answer MSR.CTS.0 ≡ false)) ⊎ ShowsCtsClear accesses
 ShowsCtsClear (Write offset value ∷ accesses) = ShowsCtsClear accesses
 
--- a call, whether it checks CTS or not, leaves it armed however it finds it, unless it read that CTS is clear
+-- a call, whether it checks CTS or not, leaves the rings armed, however it found them, unless it read that CTS is clear
 abbrev pub ArmsUnlessHeld : RingDoing
 ArmsUnlessHeld f l after = (known : ThrEmpty) → IsArmed (known_after_all known l) after ⊎ ShowsCtsClear l

@@ -1,3 +1,4 @@
+pub mod Queue
 pub mod Ring
 pub mod Transmit
 pub mod Receive
@@ -8,9 +9,3 @@ pub mod Lossless
 pub mod Armed
 pub mod Bounded
 pub mod Choice
-pub mod RingRun
-pub mod RingBytes
-pub mod RingStatuses
-pub mod RingArmed
-pub mod RingSession
-pub mod Edges

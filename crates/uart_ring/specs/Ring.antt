@@ -1,10 +1,10 @@
 -- The rings over a driver: their contents, and what a ring call does to them and to the backend.
 use Rattle.std.specs.Prelude.{◌≡◌, ◌≤◌, ◌==◌, ◌-◌, ℕ, zero, suc, Bool, false, List, [], ◌++◌, length, drop}
-use Rattle.circular_buffer.specs.Buffer.{Buffer, buffer}
 use Rattle.uart_spec.specs.Access.{Path}
 use Rattle.uart_spec.specs.declared.access.Access.{Access}
 use Rattle.uart_16550.specs.Driver.{Fields, Doing, Next, fields, backend_of}
 use Rattle.uart_16550.specs.declared.driver.Uart16550.{Uart16550}
+use Rattle.uart_ring.specs.Queue.{Queue, queue}
 use Rattle.uart_ring.specs.declared.ring.TheConstants.{MAX_CAPACITY}
 use Rattle.uart_ring.specs.declared.ring.Uart16550Ring.{Uart16550Ring}
 
@@ -13,20 +13,20 @@ abbrev pub IsCapacity : ℕ → Type 0
 IsCapacity capacity = (1 ≤ capacity) × (capacity ≤ MAX_CAPACITY)
 
 -- how many more bytes a ring has room for
-abbrev pub free : Buffer ℕ → ℕ
+abbrev pub free : Queue → ℕ
 free ring = ring.capacity - length ring.items
 
--- it has no more room
-abbrev pub is_full : Buffer ℕ → Bool
+-- the ring has no more room
+abbrev pub is_full : Queue → Bool
 is_full ring = length ring.items == ring.capacity
 
 -- the ring with these bytes at its end
-abbrev pub with_last : List ℕ → Buffer ℕ → Buffer ℕ
-with_last bytes ring = buffer (ring.items ++ bytes) ring.capacity
+abbrev pub with_last : List ℕ → Queue → Queue
+with_last bytes ring = queue (ring.items ++ bytes) ring.capacity
 
 -- the ring without n bytes at its front
-abbrev pub without_first : ℕ → Buffer ℕ → Buffer ℕ
-without_first count ring = buffer (drop count ring.items) ring.capacity
+abbrev pub without_first : ℕ → Queue → Queue
+without_first count ring = queue (drop count ring.items) ring.capacity
 
 -- the driver under the rings
 abbrev pub driver_of : {B : Type 0} → Uart16550Ring B → Uart16550 B
@@ -40,8 +40,8 @@ ring_backend_of r = backend_of r.uart
 -- whether receiving is paused
 pub record RingFields : Type 0 where
   pub driver : Fields
-  pub transmit : Buffer ℕ
-  pub receive : Buffer ℕ
+  pub transmit : Queue
+  pub receive : Queue
   pub line : ℕ
   pub modem : ℕ
   pub is_paused : Bool
@@ -61,8 +61,8 @@ pub record AreEmpty {B : Type 0} (r : Uart16550Ring B) (driver : Uart16550 B) (t
   pub uart : driver_of r ≡ driver
   pub begins : ring_fields r ≡ record {
     driver = fields driver;
-    transmit = buffer [] transmit;
-    receive = buffer [] receive;
+    transmit = queue [] transmit;
+    receive = queue [] receive;
     line = 0;
     modem = 0;
     is_paused = false;
@@ -113,6 +113,8 @@ abbrev pub with_paused : Bool → RingFields → RingFields
 with_paused paused f = record f { is_paused = paused }
 
 -- ---- how doings are put together
+
+-- The contracts of ring calls are made of the driver's own calls, so no access is specified twice.
 
 -- the driver does this, and of the other fields only this changes
 abbrev pub OnDriver : Doing → (RingFields → RingFields) → RingDoing

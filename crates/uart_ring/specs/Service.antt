@@ -57,7 +57,7 @@ Stops Idle = OnDriver (ShowsNone true) unchanged
 Stops Unknown = OnDriver (ShowsNone false) unchanged
 Stops Limit = Stays
 
--- exactly as many as the limit were served if this is the end, and else fewer
+-- if the limit is the end, exactly as many as the limit were served, and otherwise fewer
 abbrev pub IsWithin : (limit served : ℕ) → HandleEnd → Type 0
 IsWithin limit served Idle = served < limit
 IsWithin limit served Unknown = served < limit

@@ -1,5 +1,4 @@
-//! Laws about the ring calls, over any backend, and one over the software chip. They follow from
-//! the contracts of the calls.
+//! Laws about the ring calls, over any backend. They follow from the contracts of the calls.
 //!
 //! The contract of each function is a law that callers can cite. The functions do nothing.
 ghost use Rattle.std.specs.Prelude.{◌≡◌, ◌<◌, ⊤, ℕ, List, [], take};
@@ -17,8 +16,6 @@ ghost use Rattle.uart_ring.specs.Bounded.{most_of_handle, most_of_retrigger};
 ghost use Rattle.uart_ring.specs.declared.ring.service.Handled.{Handled};
 ghost use Rattle.uart_ring.specs.declared.ring.TheConstants.{MAX_CAPACITY};
 ghost use Rattle.uart_ring.specs.declared.ring.service.TheConstants.{MAX_INTERRUPTS};
-
-pub use crate::running::{handles_lose_no_edge, init_leaves_ready};
 
 /// No byte is lost between the rings and DATA, and nothing that reads of LSR and MSR cleared. What
 /// was written to DATA and what is left in the transmit ring is what was there and what was queued.
@@ -39,12 +36,13 @@ pub fn ring_calls_lose_nothing()
     ensures take_modem { (modem : ℕ) → Implies (TakesModem modem) (LosesNothing [] [] 0 modem) }
 {}
 
-/// If CTS is not checked, then after each ring call an interrupt is to come as long as there are
-/// bytes in the transmit ring, if this was so before it; after a `queue` that accepts a byte and
-/// after a `resume_transmit` in any case. This is as far as accesses show it, on a chip that keeps
-/// IER as it was written.
+/// Rings are armed if no byte waits in the transmit ring, or if an interrupt is still to come, as
+/// far as accesses show it on a chip that keeps IER as it was written.
 ///
-/// If CTS is checked, it is so after these two unless they read that CTS is clear.
+/// If CTS is not checked, each ring call leaves the rings armed if they were armed before it. A
+/// `queue` that accepts a byte and a `resume_transmit` leave them armed in any case.
+///
+/// If CTS is checked, these two leave the rings armed unless they read that CTS is clear.
 pub fn ring_calls_leave_armed()
     ensures queue { (bytes : List ℕ) (count : ℕ) → Implies (Queues bytes count) LeavesArmed }
     ensures queue_arms { (bytes : List ℕ) (count : ℕ) → 0 < count →

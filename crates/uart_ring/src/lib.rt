@@ -6,8 +6,7 @@
 #![tactic(auto)]
 
 pub mod laws;
+mod queue;
 mod ring;
-mod running;
 
 pub use ring::{HandleEnd, Handled, MAX_CAPACITY, MAX_INTERRUPTS, RingError, Uart16550Ring};
-pub use running::{RingAnswer, RingCall, run_ring};

@@ -10,8 +10,8 @@ mod service;
 mod status;
 mod transmit;
 
+use crate::queue::ByteQueue;
 use bitflags::Flags;
-use circular_buffer::HeapCircularBuffer;
 pub use service::{HandleEnd, Handled, MAX_INTERRUPTS};
 use std::alloc::Global;
 use thiserror::Error;
@@ -50,12 +50,15 @@ pub enum RingError {
 ///     Err((_uart, cause)) => return Err(StartError::NoRings(cause)),
 /// };
 /// ```
+// There is no model of the rings, as there is none of the driver: clauses speak of the fields
+// through `ring_fields` and `driver_of`.
 #[derive(Drop)]
 pub struct Uart16550Ring<B> {
     uart: Uart16550<B>,
-    transmit: HeapCircularBuffer<u8>,
-    receive: HeapCircularBuffer<u8>,
-    // What was noted of LSR and MSR when interrupts were served, until it is taken.
+    transmit: ByteQueue,
+    receive: ByteQueue,
+    // What was noted of LSR and MSR when interrupts were served, until it is taken. The driver's
+    // own saved bits are empty then: serving an interrupt reads LSR by `lsr`, which empties them.
     line: LSR,
     modem: MSR,
     is_paused: bool,
@@ -101,13 +104,14 @@ impl<B: Backend> Uart16550Ring<B> {
         ensures accepted { IsCapacity tx_capacity × IsCapacity rx_capacity →
             IsOkUnless result (uart, RingError.OutOfMemory) }
     {
+        // A refusal returns the driver, which may hold a device that cannot be obtained again.
         if !is_capacity(tx_capacity) || !is_capacity(rx_capacity) {
             return Err((uart, RingError::BadCapacity));
         }
-        let Ok(transmit) = HeapCircularBuffer::with_capacity(alloc, tx_capacity) else {
+        let Ok(transmit) = ByteQueue::with_capacity(alloc, tx_capacity) else {
             return Err((uart, RingError::OutOfMemory));
         };
-        let Ok(receive) = HeapCircularBuffer::with_capacity(alloc, rx_capacity) else {
+        let Ok(receive) = ByteQueue::with_capacity(alloc, rx_capacity) else {
             return Err((uart, RingError::OutOfMemory));
         };
         Ok(Uart16550Ring {

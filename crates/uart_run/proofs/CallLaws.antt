@@ -18,10 +18,10 @@ use Rattle.uart_16550.specs.Status.{TakesLsr, TakesMsr, Enables, Disables, Retri
 use Rattle.uart_16550.specs.Io.{Reads, Writes}
 use Rattle.uart_16550.specs.Expansion.{expansion, expansion_of}
 use Rattle.uart_16550.specs.Tty.{inner_of}
-use Rattle.uart_spec.specs.declared.call.Call.{Call}
-use Rattle.uart_spec.specs.declared.call.Call.TheVariants as call
-use Rattle.uart_spec.specs.declared.call.Answer.{Answer}
-use Rattle.uart_spec.specs.declared.call.Answer.TheVariants.{Done, Flag, Count, Register}
+use Rattle.uart_events.specs.declared.call.Call.{Call}
+use Rattle.uart_events.specs.declared.call.Call.TheVariants as call
+use Rattle.uart_events.specs.declared.call.Answer.{Answer}
+use Rattle.uart_events.specs.declared.call.Answer.TheVariants.{Done, Flag, Count, Register}
 use Rattle.uart_chip.specs.Machine.{MachineStep}
 use Rattle.uart_calls.specs.Meaning.{ShowsFifo, SendsShortText, CalledAs, connected_answer, receive_ready_answer}
 use Rattle.uart_calls.specs.Meaning.{received_answer, sent_answer, exact_answer, count_answer}

@@ -11,8 +11,8 @@ use Rattle.uart_spec.specs.Access.{Path}
 use Rattle.uart_spec.specs.Bits.{has_any, flag, IsWithin}
 use Rattle.uart_spec.specs.declared.access.Access.{Access}
 use Rattle.uart_spec.specs.declared.access.Access.TheVariants.{Read}
-use Rattle.uart_spec.specs.declared.event.Event.{Event}
-use Rattle.uart_spec.specs.declared.event.Event.TheVariants.{Ticks, Arrive, Access as Gate, Mark}
+use Rattle.uart_events.specs.declared.event.Event.{Event}
+use Rattle.uart_events.specs.declared.event.Event.TheVariants.{Ticks, Arrive, Access as Gate, Mark}
 use Rattle.uart_spec.specs.declared.registers.line_status.TheConstants.LSR
 use Rattle.uart_spec.specs.declared.registers.offsets.TheConstants as offsets
 use Rattle.uart_16550.specs.Grammar.{Settings, InOrder}

@@ -1,8 +1,8 @@
 -- Runs: each call of one follows what is promised of it alone, and each session in it conserves.
 use Rattle.std.proofs.Common.{List, [], ◌∷◌, sym, subst}
-use Rattle.uart_spec.specs.declared.call.Call.{Call}
-use Rattle.uart_spec.specs.declared.call.Call.TheVariants as call
-use Rattle.uart_spec.specs.declared.call.Answer.{Answer}
+use Rattle.uart_events.specs.declared.call.Call.{Call}
+use Rattle.uart_events.specs.declared.call.Call.TheVariants as call
+use Rattle.uart_events.specs.declared.call.Answer.{Answer}
 use Rattle.uart_chip.specs.Sound.{IsSound}
 use Rattle.uart_run.specs.Run.{State, machine_of, Link, Chain, CallStep, IsRun}
 use Rattle.uart_run.specs.Ready.{ComesTo}

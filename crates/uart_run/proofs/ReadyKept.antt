@@ -1,8 +1,8 @@
 -- Whatever a call answers, it leaves a ready state ready.
 use Rattle.std.proofs.Common.{[], ◌∷◌, refl}
-use Rattle.uart_spec.specs.declared.call.Call.{Call}
-use Rattle.uart_spec.specs.declared.call.Call.TheVariants as call
-use Rattle.uart_spec.specs.declared.call.Answer.{Answer}
+use Rattle.uart_events.specs.declared.call.Call.{Call}
+use Rattle.uart_events.specs.declared.call.Call.TheVariants as call
+use Rattle.uart_events.specs.declared.call.Answer.{Answer}
 use Rattle.uart_run.specs.Run.{State, machine_of, Link, CallStep}
 use Rattle.uart_run.specs.Ready.{Ready}
 use Rattle.uart_chip.specs.Sound.{IsSound}

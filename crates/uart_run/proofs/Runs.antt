@@ -1,8 +1,8 @@
 -- What one call of a run does.
 use Rattle.std.proofs.Common.{◌≢◌, refl}
-use Rattle.uart_spec.specs.declared.call.Call.{Call}
-use Rattle.uart_spec.specs.declared.call.Call.TheVariants as call
-use Rattle.uart_spec.specs.declared.call.Answer.{Answer}
+use Rattle.uart_events.specs.declared.call.Call.{Call}
+use Rattle.uart_events.specs.declared.call.Call.TheVariants as call
+use Rattle.uart_events.specs.declared.call.Answer.{Answer}
 use Rattle.uart_calls.specs.Meaning.{Performed}
 use Rattle.uart_chip.specs.Machine.{MachineStep}
 use Rattle.uart_run.specs.Run.{State, CallStep}

@@ -17,10 +17,10 @@ use Rattle.uart_spec.specs.declared.received.Received.{Received}
 use Rattle.uart_16550.specs.Io.{Reads, Flushes}
 use Rattle.uart_16550.specs.Frame.{ShowsIdle}
 use Rattle.uart_16550.specs.Tty.{inner_of}
-use Rattle.uart_spec.specs.declared.call.Call.{Call}
-use Rattle.uart_spec.specs.declared.call.Call.TheVariants as call
-use Rattle.uart_spec.specs.declared.call.Answer.{Answer}
-use Rattle.uart_spec.specs.declared.call.Answer.TheVariants.{Register, Done, Flag}
+use Rattle.uart_events.specs.declared.call.Call.{Call}
+use Rattle.uart_events.specs.declared.call.Call.TheVariants as call
+use Rattle.uart_events.specs.declared.call.Answer.{Answer}
+use Rattle.uart_events.specs.declared.call.Answer.TheVariants.{Register, Done, Flag}
 use Rattle.uart_chip.specs.declared.receiver.Character.{Character}
 use Rattle.uart_chip.specs.declared.transmitter.Shifting.{Shifting}
 use Rattle.uart_chip.specs.Transmitter.{shift_bytes}

@@ -11,7 +11,7 @@ use Rattle.uart_chip.specs.Chip.{cut_of}
 use Rattle.uart_chip.specs.Sound.{IsSound}
 use Rattle.uart_run.specs.Run.{State, machine_of, Link, Chain}
 use Rattle.uart_run.specs.Ready.{Ready}
-use Rattle.uart_spec.specs.declared.call.Call.{Call}
+use Rattle.uart_events.specs.declared.call.Call.{Call}
 use Rattle.uart_run.specs.Session.{AllCalls, reported, received, reported_by, received_by}
 use Rattle.uart_run.specs.Statuses.{AllNoLsr, AllNoMsr}
 use Rattle.uart_chip.proofs.Bits.{or_assoc}

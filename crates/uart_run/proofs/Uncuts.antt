@@ -4,10 +4,10 @@ use Rattle.std.specs.List.{filter}
 use Rattle.std.proofs.lemmas.List.{map-id}
 use Rattle.uart_spec.specs.declared.errors.LoopbackError.TheVariants.{Stalled}
 use Rattle.uart_chip.specs.declared.receiver.Character.{Character}
-use Rattle.uart_spec.specs.declared.call.Call.{Call}
-use Rattle.uart_spec.specs.declared.call.Call.TheVariants as call
-use Rattle.uart_spec.specs.declared.call.Answer.{Answer}
-use Rattle.uart_spec.specs.declared.call.Answer.TheVariants.{Done, LoopbackRefused}
+use Rattle.uart_events.specs.declared.call.Call.{Call}
+use Rattle.uart_events.specs.declared.call.Call.TheVariants as call
+use Rattle.uart_events.specs.declared.call.Answer.{Answer}
+use Rattle.uart_events.specs.declared.call.Answer.TheVariants.{Done, LoopbackRefused}
 use Rattle.uart_chip.specs.Chip.{ChipState, word_length, cut_to, cut_of}
 use Rattle.uart_chip.specs.Machine.{MachineState}
 use Rattle.uart_chip.specs.Conserved.{out, stands, arriving, cut_character, between, entered}

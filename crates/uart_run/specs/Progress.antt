@@ -6,12 +6,12 @@ use Rattle.uart_16550.specs.Driver.{fields}
 use Rattle.uart_16550.specs.Init.{DivisorOf}
 use Rattle.uart_16550.specs.Expansion.{expansion}
 use Rattle.uart_16550.specs.Tty.{inner_of}
-use Rattle.uart_spec.specs.declared.call.Call.{Call}
-use Rattle.uart_spec.specs.declared.call.Call.TheVariants as call
-use Rattle.uart_spec.specs.declared.call.Answer.{Answer}
-use Rattle.uart_spec.specs.declared.call.Answer.TheVariants.{Done, Count}
-use Rattle.uart_spec.specs.declared.event.Event.{Event}
-use Rattle.uart_spec.specs.declared.event.Event.TheVariants.{Ticks, Access as Gate, Mark}
+use Rattle.uart_events.specs.declared.call.Call.{Call}
+use Rattle.uart_events.specs.declared.call.Call.TheVariants as call
+use Rattle.uart_events.specs.declared.call.Answer.{Answer}
+use Rattle.uart_events.specs.declared.call.Answer.TheVariants.{Done, Count}
+use Rattle.uart_events.specs.declared.event.Event.{Event}
+use Rattle.uart_events.specs.declared.event.Event.TheVariants.{Ticks, Access as Gate, Mark}
 use Rattle.uart_chip.specs.declared.transmitter.Shifting.{Shifting}
 use Rattle.uart_chip.specs.Transmitter.{TransmitterState}
 use Rattle.uart_chip.specs.Machine.{MachineState}
@@ -47,6 +47,10 @@ left t = left_of t.char_ticks t.shift_register t.queue
 -- the wire has room for all that is to be sent, and for n bytes more
 abbrev pub HasRoom : ℕ → MachineState → Type 0
 HasRoom n m = length (out m) + n ≤ m.chip.transmitter.capacity
+
+-- A transmitter holds at most 17 characters of t ticks, and with a tick before each look every look finds less left.
+-- The premises can be checked against a schedule. CTS checking is left out, because a remote may never be clear to
+-- send.
 
 -- ticks come before each access, and the spin limit is at least 17 (t + 1), t being the ticks of a character
 pub record IsTimely (s : State) : Type 0 where

@@ -10,12 +10,12 @@ use Rattle.uart_16550.specs.Driver.{fields}
 use Rattle.uart_16550.specs.Init.{DivisorOf, frame_bits}
 use Rattle.uart_16550.specs.Loopback.{test_byte}
 use Rattle.uart_16550.specs.Tty.{inner_of}
-use Rattle.uart_spec.specs.declared.call.Call.{Call}
-use Rattle.uart_spec.specs.declared.call.Call.TheVariants as call
-use Rattle.uart_spec.specs.declared.call.Answer.{Answer}
-use Rattle.uart_spec.specs.declared.call.Answer.TheVariants.{Done, Latch, InitRefused, FrameRefused, LoopbackRefused}
-use Rattle.uart_spec.specs.declared.event.Chip.{Chip}
-use Rattle.uart_spec.specs.declared.event.Chip.TheVariants.{Uart16550A, Uart16450}
+use Rattle.uart_events.specs.declared.call.Call.{Call}
+use Rattle.uart_events.specs.declared.call.Call.TheVariants as call
+use Rattle.uart_events.specs.declared.call.Answer.{Answer}
+use Rattle.uart_events.specs.declared.call.Answer.TheVariants.{Done, Latch, InitRefused, FrameRefused, LoopbackRefused}
+use Rattle.uart_events.specs.declared.event.Chip.{Chip}
+use Rattle.uart_events.specs.declared.event.Chip.TheVariants.{Uart16550A, Uart16450}
 use Rattle.uart_chip.specs.Masks.{ier_bits}
 use Rattle.uart_chip.specs.Chip.{LatchesState, ChipState, word_length, is_dlab_set}
 use Rattle.uart_chip.specs.Chip.{is_loopback, is_transmitter_empty, divisor}
@@ -26,6 +26,9 @@ use Rattle.uart_run.specs.Served.{transmitter_of, IsFlushed}
 -- the latches of a state
 abbrev pub latches_of : State → LatchesState
 latches_of s = (machine_of s).chip.latches
+
+-- A session is a property of states. So it may begin after an `init` that stalled or was refused, in the middle of a
+-- list of calls, or in a later `run`.
 
 -- DLAB and loopback are off, and the chip's FIFO is on exactly if the driver takes it to be on
 pub record Ready (s : State) : Type 0 where
@@ -62,7 +65,7 @@ pub record IsInitialised (config : Config) (t : State) : Type 0 where
   pub is_empty : is_transmitter_empty (transmitter_of t).queue (transmitter_of t).shift_register ≡ true
   pub fifo : (machine_of t).chip.fifo ≡ (is_level config.fifo_trigger_level && has_fifo (machine_of t).chip.model)
 
--- it finds the device, and this is the state after it if it succeeds
+-- an `init` finds the device, and this is the state after an `init` that succeeds
 pub record Initialises (config : Config) (a : Answer) (t : State) : Type 0 where
   pub is_present : a ≢ InitRefused DeviceNotPresent
   pub leaves : a ≡ Done → IsInitialised config t
@@ -76,7 +79,7 @@ pub record IsFramed (config : Config) (s t : State) : Type 0 where
       record (latches_of s) { lcr = frame_bits config; dll = (latches_of t).dll; dlm = (latches_of t).dlm }
   pub fifo : (machine_of t).chip.fifo ≡ (machine_of s).chip.fifo
 
--- this is the state after it if it succeeds; if it fails, the machine is as before
+-- this is the state after a `set_frame` that succeeds; if it fails, the machine is as before
 pub record Frames (config : Config) (s : State) (a : Answer) (t : State) : Type 0 where
   pub leaves : a ≡ Done → IsFramed config s t
   pub refused : (e : InvalidDivisorError) → a ≡ FrameRefused e → machine_of t ≡ machine_of s
@@ -102,8 +105,8 @@ abbrev pub test_answer : (is_narrow : Bool) → Answer
 test_answer false = Done
 test_answer true = LoopbackRefused (UnexpectedLoopbackByte test_byte 2)
 
--- it has this answer or stalls; if it does not stall, the transmitter is empty, and the wire has what was to be sent
--- before it, and nothing else
+-- a loopback test has this answer or stalls; if it does not stall, the transmitter is empty, and the wire has what was
+-- to be sent before it, and nothing else
 pub record IsTested (s : State) (a : Answer) (t : State) : Type 0 where
   pub answers : (a ≡ test_answer (is_narrow (machine_of s).chip)) ⊎ (a ≡ LoopbackRefused Stalled)
   pub leaves : a ≡ test_answer (is_narrow (machine_of s).chip) → IsFlushed s t

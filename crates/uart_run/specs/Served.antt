@@ -3,10 +3,10 @@
 use Rattle.std.specs.Prelude.{◌≡◌, ◌<◌, ◌≤◌, ℕ, true, List, length, min, bit_and}
 use Rattle.uart_spec.specs.declared.registers.modem_status.TheConstants.MSR
 use Rattle.uart_spec.specs.declared.received.Received.{Received}
-use Rattle.uart_spec.specs.declared.call.Call.{Call}
-use Rattle.uart_spec.specs.declared.call.Call.TheVariants as call
-use Rattle.uart_spec.specs.declared.call.Answer.{Answer}
-use Rattle.uart_spec.specs.declared.call.Answer.TheVariants as answer
+use Rattle.uart_events.specs.declared.call.Call.{Call}
+use Rattle.uart_events.specs.declared.call.Call.TheVariants as call
+use Rattle.uart_events.specs.declared.call.Answer.{Answer}
+use Rattle.uart_events.specs.declared.call.Answer.TheVariants as answer
 use Rattle.uart_chip.specs.Transmitter.{TransmitterState}
 use Rattle.uart_chip.specs.Chip.{is_transmitter_empty}
 use Rattle.uart_chip.specs.Conserved.{out, waiting}
@@ -55,6 +55,6 @@ Serves s call.PeekModem a t =
     (status : ℕ) × (a ≡ answer.Register status) × (bit_and status MSR.LINES.0 ≡ (machine_of t).chip.modem.lines)
 Serves s other a t = Unit {0}
 
--- each of these calls
+-- each of these calls does at least what it is for
 abbrev pub AllServe : List Link → Type 0
 AllServe = EachLink Serves

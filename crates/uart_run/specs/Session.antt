@@ -2,10 +2,10 @@
 use Rattle.std.specs.Prelude.{◌≡◌, ℕ, List, [], ◌∷◌, ◌++◌, map, take}
 use Rattle.uart_16550.specs.Expansion.{expansion}
 use Rattle.uart_spec.specs.declared.received.Received.{Received}
-use Rattle.uart_spec.specs.declared.call.Call.{Call}
-use Rattle.uart_spec.specs.declared.call.Call.TheVariants as call
-use Rattle.uart_spec.specs.declared.call.Answer.{Answer}
-use Rattle.uart_spec.specs.declared.call.Answer.TheVariants as answer
+use Rattle.uart_events.specs.declared.call.Call.{Call}
+use Rattle.uart_events.specs.declared.call.Call.TheVariants as call
+use Rattle.uart_events.specs.declared.call.Answer.{Answer}
+use Rattle.uart_events.specs.declared.call.Answer.TheVariants as answer
 use Rattle.uart_chip.specs.Chip.{cut_of}
 use Rattle.uart_chip.specs.Conserved.{out, waiting, kept}
 use Rattle.uart_run.specs.Chains.{EachLink}
@@ -117,6 +117,10 @@ pub record Conserves (s : State) (links : List Link) (t : State) : Type 0 where
 
 -- ---- what each call of a run does, in a session or not
 
+-- What a call does by itself is stated beside the sessions, for every call of a run. So an `init` from a chip that was
+-- left in any state is covered. A loopback test ends one session, and the next begins after it: nothing is lost between
+-- the two except what the test discards.
+
 -- whatever its answer is, it preserves a ready state; it has an outcome that it should have; and if ticks pass, it
 -- succeeds
 pub record Follows (s : State) (call : Call) (a : Answer) (t : State) : Type 0 where
@@ -124,11 +128,13 @@ pub record Follows (s : State) (call : Call) (a : Answer) (t : State) : Type 0 w
   pub comes_to : ComesTo s call a t
   pub succeeds : IsTimely s → Succeeds s call a
 
--- each of these calls
+-- each of these calls does what is said of a call by itself
 abbrev pub AllFollow : List Link → Type 0
 AllFollow = EachLink Follows
 
 -- ---- runs
+
+-- The theorem speaks of every part of a run that is a session, so there is no clause for each position.
 
 -- these calls, with these answers, lead from s to t; each does what is promised of it alone, and each session in them
 -- conserves

@@ -3,10 +3,10 @@
 use Rattle.std.specs.Prelude.{◌≡◌, ◌⊎◌, false, ℕ, List, ◌++◌, map, filter}
 use Rattle.uart_spec.specs.declared.errors.LoopbackError.TheVariants.{Stalled}
 use Rattle.uart_chip.specs.declared.receiver.Character.{Character}
-use Rattle.uart_spec.specs.declared.call.Call.{Call}
-use Rattle.uart_spec.specs.declared.call.Call.TheVariants as call
-use Rattle.uart_spec.specs.declared.call.Answer.{Answer}
-use Rattle.uart_spec.specs.declared.call.Answer.TheVariants.{Done, LoopbackRefused}
+use Rattle.uart_events.specs.declared.call.Call.{Call}
+use Rattle.uart_events.specs.declared.call.Call.TheVariants as call
+use Rattle.uart_events.specs.declared.call.Answer.{Answer}
+use Rattle.uart_events.specs.declared.call.Answer.TheVariants.{Done, LoopbackRefused}
 use Rattle.uart_chip.specs.Machine.{MachineState}
 use Rattle.uart_chip.specs.Conserved.{out, waiting, stands, arriving, between, entered}
 use Rattle.uart_run.specs.Chains.{EachLink}
@@ -16,6 +16,9 @@ use Rattle.uart_run.specs.Statuses.{Tells}
 use Rattle.uart_run.specs.Ready.{Ready}
 use Rattle.uart_run.specs.Progress.{IsTimely, HasRoom}
 use Rattle.uart_run.specs.Session.{AllCalls, reported, received, overflows, AllFollow}
+
+-- This second form follows from the first. It is stated so that nobody has to see that `map (cut_of c) bytes` is
+-- `bytes`.
 
 -- the machine does not cut characters to the word length
 abbrev pub IsUncut : State → Type 0

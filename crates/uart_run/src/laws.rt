@@ -16,6 +16,8 @@ ghost use Rattle.uart_run.specs.ReceivedErrors.{ReceivedExactly, under_terminal}
 use uart_16550::Uart16550;
 use uart_chip::Device16550;
 
+// A law and not a clause of `idle`, because 'ready' is a word about both driver and chip.
+
 /// Ticks outside of the schedule, as by [`Device16550::idle`](uart_chip::Device16550::idle),
 /// preserve a state in which a session may begin.
 pub fn idle_keeps_ready()

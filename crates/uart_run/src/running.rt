@@ -1,6 +1,6 @@
 //! Runs of calls over the machine.
 ghost use Rattle.std.specs.Prelude.{◌≡◌, length, All};
-ghost use Rattle.uart_spec.specs.Calls.{IsRunnable};
+ghost use Rattle.uart_events.specs.Calls.{IsRunnable};
 ghost use Rattle.uart_run.specs.Session.{Ran};
 ghost use Rattle.uart_run.specs.Uncut.{IsUncut, RanUncut};
 ghost use Rattle.uart_run.specs.Run.{CallStep};
@@ -68,7 +68,8 @@ pub fn run(uart: &mut Uart16550Tty<Device16550>, calls: &[Call], answers: &mut [
     ensures ran { Ran uart.old calls.now answers.new uart.new }
     ensures uncut { IsUncut uart.old → RanUncut uart.old calls.now answers.new uart.new }
 {
-    // The contract of this call states what holds of every machine.
+    // The contract of this call states what holds of every machine, whatever was done with it
+    // before. Without the call each caller of `run` would have to bring that as a premise.
     let _fifo = uart.inner().backend().fifo_enabled();
     for i in 0..calls.len() {
         answers[i] = run_call(uart, &calls[i]);

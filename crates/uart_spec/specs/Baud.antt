@@ -46,7 +46,7 @@ abbrev pub IsNearestDivisor : (frequency baud_rate : ℕ) → Option ℕ → (di
 IsNearestDivisor frequency baud_rate factor divisor =
     IsNearestFactor frequency (16 * (prescaler factor + 1) * baud_rate) divisor
 
--- the frequencies differ by at most so many thousandths of the exact one. The baud rate that the divisor gives is to
--- the one that was asked for as the frequency is to the exact one, so it differs by as many thousandths of that
+-- the frequencies differ by at most so many thousandths of the exact one. The two baud rates have the same ratio: the
+-- one that the divisor gives, and the one that was asked for. So these differ by as many thousandths
 abbrev pub IsNear : (frequency exact per_mille : ℕ) → Type 0
 IsNear frequency exact per_mille = 1000 * distance exact frequency ≤ per_mille * exact

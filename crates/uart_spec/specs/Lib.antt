@@ -7,6 +7,4 @@ pub mod Divisors
 pub mod BaudRate
 pub mod Config
 pub mod Orders
-pub mod Build
 pub mod Dump
-pub mod Calls

@@ -103,7 +103,10 @@ pub fn calc_divisor(
 }
 
 // Returns the divisor for a baud rate, or the baud rate for a divisor: the two are factors of one
-// product.
+// product. So both errors have one relation, 'this result and no other', over one equation that is
+// a product, while the code divides.
+//
+// The ticks are computed in 64 bits: they reach 16 * 16 * (2^32 - 1).
 fn other_factor(frequency: u32, factor: u32, prescaler_division_factor: Option<u32>) -> Option<u32>
     requires factor { 0 < factor }
     requires prescaler { prescaler prescaler_division_factor ≤ 15 }

@@ -113,7 +113,7 @@ impl BaudRate {
     }
 
     // Returns 0 for a case with a name, 1 for `Custom`: the order of two rates with the same
-    // number.
+    // number. So two rates compare as equal only if they are equal.
     fn rank(self) -> u8
         ensures { result ≡ rank self }
     {

@@ -41,6 +41,22 @@ pub enum AttachError {
     Loopback,
 }
 
+/// The FIFOs are off, so they have no trigger level.
+#[derive(Clone, Copy, Debug, PartialEq, Eq, PartialOrd, Hash, Drop, Error)]
+#[error("the FIFOs are off")]
+pub struct FifosOffError;
+
+/// Why a change of the frame that waits for an empty transmitter failed.
+#[derive(Clone, Debug, PartialEq, Eq, Hash, Drop, Error)]
+pub enum FrameError {
+    /// There is no divisor for the baud rate. No access was made, and nothing changed.
+    #[error("invalid baud rate: {0}")]
+    InvalidBaudRate(InvalidDivisorError),
+    /// The transmitter did not become empty within the spin limit. Nothing was written.
+    #[error("the device stalled")]
+    Stalled,
+}
+
 /// Why the nearest divisor for a baud rate cannot be used. `OutOfRange` comes first.
 #[derive(Clone, Debug, PartialEq, Eq, PartialOrd, Hash, Drop, Error)]
 pub enum NearestDivisorError {
@@ -135,7 +151,8 @@ pub enum RemoteReadyToReceiveError {
     RemoteNotClearToSend,
 }
 
-// How each message of a [`LoopbackError`] begins.
+// How each message of a [`LoopbackError`] begins. It is a constant because `rt` takes an attribute
+// with the word `test` for that of a test.
 const LOOPBACK: &str = "loopback test failed";
 
 /// Why a loopback test failed.

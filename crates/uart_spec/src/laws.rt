@@ -1,7 +1,8 @@
 //! Laws about the types and constants: defaults, orders, values.
 //!
-//! The contract of each function is a law that callers can cite. The functions do nothing.
-ghost use Rattle.std.specs.Prelude.{◌≡◌, ℕ, [], ◌∷◌, None, Some, false};
+//! The contract of each function is a law that callers can cite. The functions do nothing. They are
+//! needed because a derive promises no default and no order by name.
+ghost use Rattle.std.specs.Prelude.{◌≡◌, ℕ, [], ◌∷◌, None, Some, true, false};
 ghost use Rattle.std.specs.Ordering.{nat_cmp, bool_cmp};
 ghost use Rattle.std.specs.declared.cmp.Ordering.TheVariants.{Less};
 ghost use Rattle.uart_spec.specs.Divisors.{divisors};
@@ -9,7 +10,6 @@ ghost use Rattle.uart_spec.specs.Orders.{IsAscending, in_turn, partial_in_turn};
 ghost use Rattle.uart_spec.specs.Orders.{interrupt_types, parities, trigger_levels, word_lengths};
 ghost use Rattle.uart_spec.specs.declared.baud.TheConstants.{CLK_FREQUENCY_HZ};
 ghost use Rattle.uart_spec.specs.declared.baud.TheConstants.{FIFO_SIZE, NUM_REGISTERS};
-ghost use Rattle.uart_spec.specs.declared.call.TheConstants.{CALL_BYTES};
 ghost use Rattle.uart_spec.specs.declared.config.BaudRate.{BaudRate};
 ghost use Rattle.uart_spec.specs.declared.config.BaudRate.TheVariants.{Baud9600};
 ghost use Rattle.uart_spec.specs.declared.config.Config.{Config};
@@ -22,7 +22,6 @@ ghost use Rattle.uart_spec.specs.declared.errors.InvalidDivisorError.TheVariants
 };
 ghost use Rattle.uart_spec.specs.declared.errors.NonIntegerBaudRateError.{NonIntegerBaudRateError};
 ghost use Rattle.uart_spec.specs.declared.errors.NonIntegerDivisorError.{NonIntegerDivisorError};
-ghost use Rattle.uart_spec.specs.declared.event.TheConstants.{MAX_CHAR_TICKS, MAX_WIRE_CAPACITY};
 ghost use Rattle.uart_spec.specs.declared.registers.divisors.Divisor.{Divisor};
 ghost use Rattle.uart_spec.specs.declared.registers.divisors.Divisor.TheVariants.{Divisor1};
 ghost use Rattle.uart_spec.specs.declared.registers.fifo_control.FCR.{FCR};
@@ -41,9 +40,12 @@ ghost use Rattle.uart_spec.specs.declared.registers.interrupt_status.ISR.{ISR};
 ghost use Rattle.uart_spec.specs.declared.registers.line_control.LCR.{LCR};
 ghost use Rattle.uart_spec.specs.declared.registers.line_status.LSR.{LSR};
 ghost use Rattle.uart_spec.specs.declared.registers.modem_control.MCR.{MCR};
+ghost use Rattle.uart_spec.specs.declared.registers.modem_control.TheConstants.MCR as mcr;
 ghost use Rattle.uart_spec.specs.declared.registers.modem_status.MSR.{MSR};
 ghost use Rattle.uart_spec.specs.declared.registers.offsets.TheConstants as offsets;
 ghost use Rattle.uart_spec.specs.declared.registers.prescaler_division.PSD.{PSD};
+ghost use Rattle.uart_spec.specs.declared.setup.TheConstants.Setup.{DEFAULT as DEFAULT_SETUP};
+ghost use Rattle.uart_spec.specs.declared.setup.TransmitterWait.TheVariants.{Last};
 
 use crate::config::{BaudRate, Config};
 use crate::dump::ConfigRegisterDump;
@@ -96,6 +98,12 @@ pub fn default_config_is_this()
     ensures checks_cts { DEFAULT.check_cts_before_sending ≡ false }
 {}
 
+/// The default setup is that of `Uart16550::init`.
+pub fn default_setup_is_this()
+    ensures { DEFAULT_SETUP ≡ record { checks_presence = true; wait = Last; outputs = mcr.READY } }
+{}
+
+// The order is stated for neighbours in a list. The orders are total, so that decides every pair.
 /// The cases of each enum, from the least on. Interrupts are in the order in which a chip reports
 /// them.
 pub fn cases_are_in_order()
@@ -183,12 +191,4 @@ pub fn constants_are_these()
         ≡ (0 ∷ 1 ∷ 2 ∷ 3 ∷ 4 ∷ 5 ∷ 6 ∷ 7 ∷ []) }
     ensures shared_offsets { (offsets.FCR ∷ offsets.DLL ∷ offsets.DLM ∷ offsets.PSD ∷ []) ≡
         (2 ∷ 0 ∷ 1 ∷ 6 ∷ []) }
-{}
-
-/// The most bytes of a call as data; the most ticks of a character, and the most bytes of a wire,
-/// of a machine that is built.
-pub fn limits_are_these()
-    ensures call { CALL_BYTES ≡ 64 }
-    ensures character { MAX_CHAR_TICKS ≡ 1000 }
-    ensures wire { MAX_WIRE_CAPACITY ≡ 65536 }
 {}

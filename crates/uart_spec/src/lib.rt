@@ -1,6 +1,6 @@
 //! Everything about a 16550 serial chip that needs no access to it: its registers with their named
 //! bits and fields, the arithmetic of its baud rate generator, its configuration, the errors of its
-//! driver, the driver's calls and their answers as data, and what happens to it from outside.
+//! driver, and the trait for the access to them.
 //!
 //! Bits are numbered from 0, the lowest, to 7. Frequencies are in hertz and baud rates in bits per
 //! second.
@@ -9,14 +9,13 @@
 pub mod access;
 pub mod backend;
 mod baud;
-pub mod call;
 mod config;
 mod dump;
 mod errors;
-mod event;
 pub mod laws;
 mod received;
 pub mod registers;
+mod setup;
 
 pub use baud::{
     CLK_FREQUENCY_HZ, FIFO_SIZE, NUM_REGISTERS, calc_baud_rate, calc_divisor, calc_frequency,
@@ -24,11 +23,10 @@ pub use baud::{
 pub use config::{BaudRate, Config};
 pub use dump::ConfigRegisterDump;
 pub use errors::{
-    AttachError, ByteReceiveError, ByteSendError, InitError, InvalidAddressError,
-    InvalidDivisorError, LoopbackError, NearestDivisorError, NonIntegerBaudRateError,
-    NonIntegerDivisorError, RemoteReadyToReceiveError, StalledError, Uart16550TtyError,
-};
-pub use event::{
-    ArrivalMark, BuildError, Chip, Event, MAX_CHAR_TICKS, MAX_WIRE_CAPACITY, arrivals, refusal,
+    AttachError, ByteReceiveError, ByteSendError, FifosOffError, FrameError, InitError,
+    InvalidAddressError, InvalidDivisorError, LoopbackError, NearestDivisorError,
+    NonIntegerBaudRateError, NonIntegerDivisorError, RemoteReadyToReceiveError, StalledError,
+    Uart16550TtyError,
 };
 pub use received::Received;
+pub use setup::{FifoAction, Setup, TransmitterWait};

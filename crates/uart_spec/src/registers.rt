@@ -4,6 +4,15 @@ ghost use Rattle.uart_spec.specs.Bits.{NamesEachByte, flag};
 
 use bitflags::Flags;
 
+// Modules are named in words (`line_status` has `LSR`): a module and a type whose names differ in
+// case alone cannot stand side by side. The named bits of all registers are in `bits`, and the
+// codes of all fields in `codes`, since each is one table of one shape.
+//
+// A register is a plain struct over a byte, without a model, so that a clause reads its bits as
+// `.0`. Code, clauses, definitions and proofs cite one constant for each bit and mask. Driver and
+// chip share these, so a mistake here would hide in both. Numbers that were written by hand guard
+// against that: the laws on constants and masks, the tables of named bits in the contracts of
+// `Flags`, and tests with accesses from the datasheet's numbers.
 mod bits;
 mod codes;
 mod divisors;
@@ -79,6 +88,7 @@ pub fn masks_are_these()
         LSR.PARITY_ERROR.0 + LSR.FRAMING_ERROR.0 + LSR.BREAK_INTERRUPT.0 }
     ensures line_errors { LSR.LINE_ERRORS.0 ≡ LSR.OVERRUN_ERROR.0 + LSR.CHARACTER_ERRORS.0 }
     ensures errors { LSR.ERRORS.0 ≡ LSR.LINE_ERRORS.0 + LSR.FIFO_DATA_ERROR.0 }
+    ensures ready { MCR.READY.0 ≡ MCR.DTR.0 + MCR.RTS.0 + MCR.OUT_2_INT_ENABLE.0 }
     ensures changes { MSR.CHANGES.0 ≡
         MSR.DELTA_CTS.0 + MSR.DELTA_DSR.0 + MSR.TRAILING_EDGE_RI.0 + MSR.DELTA_CD.0 }
     ensures lines { MSR.LINES.0 ≡ MSR.CTS.0 + MSR.DSR.0 + MSR.RI.0 + MSR.CD.0 }

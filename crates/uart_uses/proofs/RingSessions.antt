@@ -4,13 +4,13 @@ use Rattle.std.proofs.lemmas.List.{append-nil}
 use Rattle.uart_chip.specs.Conserved.{kept, waiting}
 use Rattle.uart_run.specs.Chains.{calls_of, answers_of}
 use Rattle.uart_run.specs.Ready.{Ready}
-use Rattle.uart_ring.specs.declared.running.call.RingCall.{RingCall}
-use Rattle.uart_ring.specs.declared.running.call.RingCall.TheVariants as call
-use Rattle.uart_ring.specs.declared.running.call.RingAnswer.{RingAnswer}
-use Rattle.uart_ring.specs.declared.running.call.RingAnswer.TheVariants as answer
-use Rattle.uart_ring.specs.RingBytes.{taken, taken_by, to_take}
-use Rattle.uart_ring.specs.RingRun.{RingState, RingLink, ring_machine, under}
-use Rattle.uart_ring.specs.RingSession.{RanRing, RingConserves}
+use Rattle.uart_ring_runs.specs.declared.call.RingCall.{RingCall}
+use Rattle.uart_ring_runs.specs.declared.call.RingCall.TheVariants as call
+use Rattle.uart_ring_runs.specs.declared.call.RingAnswer.{RingAnswer}
+use Rattle.uart_ring_runs.specs.declared.call.RingAnswer.TheVariants as answer
+use Rattle.uart_ring_runs.specs.RingBytes.{taken, taken_by, to_take}
+use Rattle.uart_ring_runs.specs.RingRun.{RingState, RingLink, ring_machine, under}
+use Rattle.uart_ring_runs.specs.RingSession.{RanRing, RingConserves}
 
 pub ring_conserves : (s t : RingState) (calls : List RingCall) (answers : List RingAnswer) (ran : RanRing s calls answers t) →
     Ready (under s) → RingConserves s ran.run.links t

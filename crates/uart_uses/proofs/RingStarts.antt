@@ -1,10 +1,10 @@
 -- Sessions of ring calls that begin with empty rings.
 use Rattle.std.proofs.Common.{◌≡◌, List, []}
-use Rattle.uart_ring.specs.declared.running.call.RingCall.{RingCall}
-use Rattle.uart_ring.specs.declared.running.call.RingAnswer.{RingAnswer}
-use Rattle.uart_ring.specs.RingBytes.{to_send, to_take}
-use Rattle.uart_ring.specs.RingRun.{RingState, RingLink, under}
-use Rattle.uart_ring.specs.RingSession.{RanRing, RingConserves}
+use Rattle.uart_ring_runs.specs.declared.call.RingCall.{RingCall}
+use Rattle.uart_ring_runs.specs.declared.call.RingAnswer.{RingAnswer}
+use Rattle.uart_ring_runs.specs.RingBytes.{to_send, to_take}
+use Rattle.uart_ring_runs.specs.RingRun.{RingState, RingLink, under}
+use Rattle.uart_ring_runs.specs.RingSession.{RanRing, RingConserves}
 use Rattle.uart_run.specs.Chains.{calls_of, answers_of}
 use Rattle.uart_run.specs.Ready.{Ready}
 use Rattle.uart_uses.proofs.RingSessions.{ring_conserves}

@@ -4,10 +4,10 @@ use Rattle.std.specs.Prelude.{All}
 use Rattle.std.proofs.lemmas.List.Elements.{All-head, All-tail}
 use Rattle.std.proofs.lemmas.List.{append-nil}
 use Rattle.uart_spec.specs.declared.config.Config.{Config}
-use Rattle.uart_spec.specs.declared.call.Call.{Call}
-use Rattle.uart_spec.specs.declared.call.Call.TheVariants as call
-use Rattle.uart_spec.specs.declared.call.Answer.{Answer}
-use Rattle.uart_spec.specs.declared.call.Answer.TheVariants.{Done}
+use Rattle.uart_events.specs.declared.call.Call.{Call}
+use Rattle.uart_events.specs.declared.call.Call.TheVariants as call
+use Rattle.uart_events.specs.declared.call.Answer.{Answer}
+use Rattle.uart_events.specs.declared.call.Answer.TheVariants.{Done}
 use Rattle.uart_run.specs.Ready.{Ready, ComesTo}
 use Rattle.uart_run.specs.Chains.{calls_of, answers_of}
 use Rattle.uart_run.specs.Run.{State, Link, Chain}

@@ -1,6 +1,6 @@
 //! A caller of `uart_calls`.
 ghost use Rattle.uart_calls.specs.Meaning.{Performed};
-ghost use Rattle.uart_spec.specs.declared.call.Call.TheVariants as call;
+ghost use Rattle.uart_events.specs.declared.call.Call.TheVariants as call;
 
 use uart_16550::Uart16550Tty;
 use uart_16550::backend::Backend;

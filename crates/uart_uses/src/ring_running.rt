@@ -1,8 +1,8 @@
 //! A caller of `run_ring`.
 ghost use Rattle.std.specs.Prelude.{◌≡◌, ◌++◌};
 ghost use Rattle.uart_chip.specs.Conserved.{kept, waiting};
-ghost use Rattle.uart_ring.specs.RingBytes.{to_take};
-ghost use Rattle.uart_ring.specs.RingRun.{ring_machine, under};
+ghost use Rattle.uart_ring_runs.specs.RingBytes.{to_take};
+ghost use Rattle.uart_ring_runs.specs.RingRun.{ring_machine, under};
 ghost use Rattle.uart_run.specs.Ready.{Ready};
 ghost use Rattle.uart_run.specs.Session.{overflows};
 
@@ -10,7 +10,8 @@ use arrayvec::ArrayVec;
 use std::mem;
 use uart_calls::CALL_BYTES;
 use uart_chip::Device16550;
-use uart_ring::{RingAnswer, RingCall, Uart16550Ring, run_ring};
+use uart_ring::Uart16550Ring;
+use uart_ring_runs::{RingAnswer, RingCall, run_ring};
 
 /// Goes on to the next mark of the schedule, serves the interrupts there, and returns up to
 /// `CALL_BYTES` received bytes.

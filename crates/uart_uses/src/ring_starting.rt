@@ -1,8 +1,8 @@
 //! Callers of `run_ring` that begin a session.
 ghost use Rattle.std.specs.Prelude.{◌≡◌, List, [], All, IfOk, length};
-ghost use Rattle.uart_ring.specs.RingBytes.{to_send, to_take};
-ghost use Rattle.uart_ring.specs.RingRun.{IsRingRunnable, RingLink, RingState, under};
-ghost use Rattle.uart_ring.specs.RingSession.{RingConserves};
+ghost use Rattle.uart_ring_runs.specs.RingBytes.{to_send, to_take};
+ghost use Rattle.uart_ring_runs.specs.RingRun.{IsRingRunnable, RingLink, RingState, under};
+ghost use Rattle.uart_ring_runs.specs.RingSession.{RingConserves};
 ghost use Rattle.uart_run.specs.Chains.{answers_of, calls_of};
 ghost use Rattle.uart_run.specs.Ready.{Ready};
 ghost use Rattle.uart_spec.specs.Config.{IsComputable};
@@ -10,8 +10,9 @@ ghost use Rattle.uart_spec.specs.Config.{IsComputable};
 use std::alloc::Global;
 use uart_16550::{Config, InitError, Uart16550, Uart16550Tty};
 use uart_chip::Device16550;
-use uart_ring::laws::init_leaves_ready;
-use uart_ring::{RingAnswer, RingCall, RingError, Uart16550Ring, run_ring};
+use uart_ring::{RingError, Uart16550Ring};
+use uart_ring_runs::laws::init_leaves_ready;
+use uart_ring_runs::{RingAnswer, RingCall, run_ring};
 
 /// The capacity of each ring.
 const CAPACITY: usize = 256;

@@ -1,6 +1,6 @@
 //! A caller of `uart_run`.
 ghost use Rattle.std.specs.Prelude.{◌≡◌, true, All, length};
-ghost use Rattle.uart_spec.specs.Calls.{IsRunnable};
+ghost use Rattle.uart_events.specs.Calls.{IsRunnable};
 ghost use Rattle.uart_run.specs.Ready.{Ready};
 ghost use Rattle.uart_run.specs.Session.{IsWithinSession, overflows};
 ghost use Rattle.uart_spec.specs.Config.{IsComputable};

@@ -3,8 +3,8 @@ ghost use Rattle.std.specs.Prelude.{◌≡◌, true, false};
 ghost use Rattle.uart_16550.specs.Driver.{Fields};
 ghost use Rattle.uart_16550.specs.State.{fresh_fields};
 ghost use Rattle.uart_calls.specs.Lists.{IsListOf};
-ghost use Rattle.uart_spec.specs.declared.call.Answer.{Answer};
-ghost use Rattle.uart_spec.specs.declared.call.Call.TheVariants as call;
+ghost use Rattle.uart_events.specs.declared.call.Answer.{Answer};
+ghost use Rattle.uart_events.specs.declared.call.Call.TheVariants as call;
 
 use uart_16550::DriverState;
 use uart_calls::{Call, check};

@@ -32,7 +32,7 @@ some_told tells (call ∷ calls) p = tells (todo call p) || some_told tells call
 abbrev pub LevelIsTold : Type 0
 LevelIsTold = (call : PortCall) (p : PortState) → (todo call p).level ≡ is_up (after call p).chip
 
--- what a port keeps of what it told is so after any calls, if it is so before them
+-- what a port remembers of what it told stays true: if it is true before some calls, it is true after them
 abbrev pub ToldStays : Type 0
 ToldStays = (calls : List PortCall) (p : PortState) → IsTold p → IsTold (after_all calls p)
 

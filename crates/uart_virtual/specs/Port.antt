@@ -6,10 +6,13 @@ use Rattle.uart_chip.specs.Chip.{ChipState, interrupt, ticks, arrive_live, take_
 use Rattle.uart_chip.specs.Chip.{change_lines, after_read, after_write, is_loopback, receive_room}
 use Rattle.uart_chip.specs.Jumps.{next_move}
 use Rattle.uart_chip.specs.Transmitter.{held}
-use Rattle.uart_spec.specs.declared.event.Chip.{Chip}
+use Rattle.uart_events.specs.declared.event.Chip.{Chip}
 use Rattle.uart_spec.specs.declared.registers.offsets.TheConstants as offsets
 use Rattle.uart_virtual.specs.declared.told.Told.{Told}
 use Rattle.uart_virtual.specs.declared.told.Todo.{Todo}
+
+-- What a monitor has to do after a call is plain data. So the port knows no eventfd and no interrupt controller, and
+-- edges and levels have the same port.
 
 -- the chip, and what the monitor was told
 pub record PortState : Type 0 where
@@ -131,7 +134,7 @@ todo call p =
     let c = happen call p.chip in
     todo_of (brings call p.chip) (looks call) (puts_off call p) (is_up c) (settle c) p.told
 
--- what was told is so: the level is that of the line, and if input is put off, there is no room
+-- what the monitor was told is true: the level is that of the line, and if input is put off, there is no room
 pub record IsTold (p : PortState) : Type 0 where
   pub line : p.told.line ≡ is_up p.chip
   pub waits : p.told.is_put_off ≡ true → has_room p.chip ≡ false

@@ -25,7 +25,8 @@ use uart_spec::registers::{LSR, MSR, offsets};
 const CHAR_TICKS: u16 = 1;
 
 // The ticks that pass in each call: 17 for what the transmitter holds, 4 until a reception timeout
-// is due, and one.
+// is due, and one. So time between calls would change nothing, and no guest waits for a clock that
+// its monitor does not have.
 const SETTLE_TICKS: u16 = 22;
 
 /// A serial port of a virtual machine.
@@ -48,6 +49,8 @@ const SETTLE_TICKS: u16 = 22;
 /// ```
 #[derive(Drop)]
 pub struct VirtualPort {
+    // The output that the host has not taken is the chip's wire. A second queue would have to be
+    // emptied into it, and a full one would have to hold the guest back as the full wire does.
     chip: LiveChip,
     told: Told,
 }
@@ -123,6 +126,10 @@ fn decide(chip: &LiveChip, was_up: bool, told: Told, kind: Kind) -> (Told, Todo)
     ensures todo { result.1 ≡ todo_of kind.brings kind.looks kind.puts_off was_up chip.now told }
 {
     let level = chip.is_interrupting();
+    // A rise of the line is not enough. If the host adds to a FIFO while the line is up, or if the
+    // line falls and rises in one call, a handler that has already left would not be called again.
+    // So input is always signalled. A fall within a call is signalled once the guest has looked
+    // since the last signal: without this condition a burst of 16 bytes would be 16 signals.
     let is_answered = kind.looks || !told.is_unanswered;
     let signal = level && (!told.line || (kind.brings || (!was_up && is_answered)));
     let has_room = kind.puts_off && chip.receive_room() != 0;
@@ -315,7 +322,8 @@ impl VirtualPort {
         ensures { result ≡ port.fresh chip }
     {
         // A chip with this time and this wire is never refused: the contract of `LiveChip::new`
-        // says so, and the check proves it here.
+        // says so, and the check proves it here. A `Result` would give each caller an error that
+        // never comes.
         let mut chip = LiveChip::new(chip, CHAR_TICKS, WIRE_ROOM).unwrap();
         let none = Told {
             line: false,

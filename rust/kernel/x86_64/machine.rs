@@ -1,4 +1,6 @@
-//! What the kernel needs of a PC beside its console: the end of the machine, interrupts, and values that their handler shares.
+//! What the kernels need of a PC beside its console: the end of the machine, interrupts, and values that their handler shares. Each
+//! kernel needs a part.
+#![allow(dead_code)]
 
 use core::arch::asm;
 use core::cell::UnsafeCell;
@@ -56,6 +58,36 @@ pub fn end_of_interrupt() {
 /// Lets no interrupt in any more.
 pub fn mask_interrupts() {
     write_port(PRIMARY + 1, 0xff);
+}
+
+/// Lets interrupts in from now on.
+pub fn let_interrupts_in() {
+    // SAFETY: what the handler shares is used in `without_interrupts` alone.
+    unsafe { asm!("sti") }
+}
+
+/// Calls the function with interrupts off, and leaves them as they were.
+pub fn without_interrupts<R>(call: impl FnOnce() -> R) -> R {
+    let flags: u64;
+    // SAFETY: the stack is as before, and the function is called between the two.
+    unsafe { asm!("pushfq", "pop {}", "cli", out(reg) flags) };
+    let result = call();
+    // SAFETY: the flags are those that were found.
+    unsafe { asm!("push {}", "popfq", in(reg) flags) };
+    result
+}
+
+/// Sleeps until an interrupt was served, unless the function returns true. Interrupts are off during the call, and on afterwards.
+pub fn sleep_unless(is_awake: impl FnOnce() -> bool) {
+    // SAFETY: the two instructions behind the look are one step, so that no interrupt comes between the look and the sleep.
+    unsafe {
+        asm!("cli");
+        if is_awake() {
+            asm!("sti");
+        } else {
+            asm!("sti", "hlt");
+        }
+    }
 }
 
 unsafe extern "C" {

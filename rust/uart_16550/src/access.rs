@@ -1,19 +1,20 @@
 //! The accesses to a device: ports of x86 by `in` and `out`, and memory by volatile loads and stores,
 //! with barriers where the architecture needs them.
 //!
-//! This is the one file with `unsafe`, and no proof covers it. An access object has its base and
+//! This and `shared/exclusive.rs` are the files with `unsafe`, and no proof covers them. An access object has its base and
 //! its stride in itself, tested when it is made, so safe code can make it access nothing else.
 #![allow(unsafe_code)]
 
-use crate::proved::uart_spec::InvalidAddressError;
-use crate::proved::uart_spec::backend::Backend;
-use crate::proved::uart_spec::registers::offsets;
+use crate::layout::{ByteOrder, InvalidLayoutError, RegisterLayout, RegisterWidth};
 #[cfg(any(target_arch = "x86", target_arch = "x86_64"))]
 use core::cell::Cell;
 #[cfg(any(target_arch = "x86", target_arch = "x86_64"))]
 use core::marker::PhantomData;
 use core::num::{NonZeroU8, NonZeroUsize};
 use core::ptr::NonNull;
+use uart_spec::InvalidAddressError;
+use uart_spec::backend::Backend;
+use uart_spec::registers::offsets;
 
 /// The eight I/O ports of a device, accessed by the instructions `in` and `out`.
 ///
@@ -62,6 +63,7 @@ impl X86Ports {
     /// - Nothing else may access these ports: no other object, no other thread, no handler of
     ///   interrupts. If several of them need the device, they share this object by a lock, and
     ///   a handler must not wait for a lock that it has interrupted.
+    /// - Do not name the object by a `const`: each use of the name makes another object.
     pub const unsafe fn new(base_port: u16) -> Result<Self, InvalidAddressError> {
         match check_ports(base_port) {
             Ok(()) => Ok(X86Ports {
@@ -161,8 +163,8 @@ impl VolatileMemory {
         Ok(VolatileMemory { base, stride })
     }
 
-    /// Does the same as [`new`](Self::new) for an address that is a number. Can be used in
-    /// constants.
+    /// Does the same as [`new`](Self::new) for an address that is a number. Can be called where a
+    /// constant is computed, as for the object of a `static`.
     ///
     /// # Errors
     ///
@@ -171,7 +173,8 @@ impl VolatileMemory {
     /// # Safety
     ///
     /// That of [`new`](Self::new). If the bytes are in an allocation of Rust, a pointer to it must
-    /// have been exposed (see [`core::ptr::with_exposed_provenance_mut`]).
+    /// have been exposed (see [`core::ptr::with_exposed_provenance_mut`]). Do not name the object by
+    /// a `const`: each use of the name makes another object.
     pub const unsafe fn from_address(
         base: NonZeroUsize,
         stride: u8,
@@ -213,6 +216,201 @@ impl Backend for VolatileMemory {
     }
 }
 
+/// Eight registers in memory, each of 8, 16 or 32 bits, accessed by volatile loads and stores of that
+/// width.
+///
+/// Many boards have such a chip. A register's eight bits are in its lowest byte: a read leaves the
+/// others aside, and a write sets them to 0. Each access is one load or one store, and accesses are made
+/// in the order that [`VolatileMemory`] has. With a width of 8 bits it does what `VolatileMemory` does;
+/// that one does not have to look which width it has.
+///
+/// It can be sent to another thread, but neither shared nor cloned: one object is the one way to
+/// its registers.
+///
+/// # Panics
+///
+/// `read` and `write` panic if the register offset is 8 or more. The driver passes none of these.
+///
+/// # Examples
+///
+/// A console of a board whose chip has registers of 32 bits and a clock of 24 MHz, which gives 115,200
+/// baud to 0.16 percent:
+///
+/// ```no_run
+/// use core::num::NonZeroUsize;
+/// use uart_16550::native::backend::{RegisterLayout, WideMemory};
+/// use uart_16550::native::{BaudRate, Config, Uart16550};
+///
+/// let base = NonZeroUsize::new(0xff1a_0000).unwrap();
+/// // SAFETY: a 16550 is there, with registers of 32 bits, and nothing else accesses it.
+/// let registers = unsafe { WideMemory::from_address(base, RegisterLayout::WORDS) }?;
+/// let mut uart = Uart16550::new_with_backend(registers);
+/// let config = Config {
+///     frequency: 24_000_000,
+///     baud_rate: BaudRate::Baud115200,
+///     ..Config::DEFAULT
+/// };
+/// uart.init(config.nearest(20)?)?;
+/// uart.send_bytes_exact(b"hello\r\n")?;
+/// # Ok::<(), Box<dyn std::error::Error>>(())
+/// ```
+#[derive(Debug)]
+pub struct WideMemory {
+    // A pointer is neither sent nor shared, unless it is said below.
+    base: NonNull<u8>,
+    stride: NonZeroU8,
+    width: RegisterWidth,
+    byte_order: ByteOrder,
+}
+
+// SAFETY: the pointer belongs to no thread, and the caller of the constructor promised that the
+// registers may be accessed on each thread to which the object is sent.
+unsafe impl Send for WideMemory {}
+
+impl WideMemory {
+    /// Returns the access to eight registers that lie as `layout` says, from `base` on. Makes no
+    /// access.
+    ///
+    /// # Errors
+    ///
+    /// - `InvalidAddress`, with the cause, if [`VolatileMemory::new`] refuses the base or the stride.
+    /// - Otherwise `StrideTooSmall` if the stride is less than the width.
+    /// - Otherwise `MisalignedBase` if the base is not a multiple of the width.
+    ///
+    /// # Safety
+    ///
+    /// That of [`VolatileMemory::new`], where each of the eight registers has as many bytes as the width
+    /// says, and they must be valid for volatile loads and stores of that width.
+    pub unsafe fn new(
+        base: NonNull<u8>,
+        layout: RegisterLayout,
+    ) -> Result<Self, InvalidLayoutError> {
+        let stride = check_layout(base.addr().get(), layout)?;
+        Ok(WideMemory::over(base, stride, layout))
+    }
+
+    /// Does the same as [`new`](Self::new) for an address that is a number. Can be called where a
+    /// constant is computed, as for the object of a `static`.
+    ///
+    /// # Errors
+    ///
+    /// Those of [`new`](Self::new).
+    ///
+    /// # Safety
+    ///
+    /// That of [`new`](Self::new). If the bytes are in an allocation of Rust, a pointer to it must
+    /// have been exposed (see [`core::ptr::with_exposed_provenance_mut`]). Do not name the object by
+    /// a `const`: each use of the name makes another object.
+    pub const unsafe fn from_address(
+        base: NonZeroUsize,
+        layout: RegisterLayout,
+    ) -> Result<Self, InvalidLayoutError> {
+        match check_layout(base.get(), layout) {
+            Ok(stride) => Ok(WideMemory::over(pointer_to(base), stride, layout)),
+            Err(cause) => Err(cause),
+        }
+    }
+
+    // Returns the access, for a base and a layout that were checked.
+    const fn over(base: NonNull<u8>, stride: NonZeroU8, layout: RegisterLayout) -> Self {
+        WideMemory {
+            base,
+            stride,
+            width: layout.width,
+            byte_order: layout.byte_order,
+        }
+    }
+
+    /// Returns the address of the first register.
+    #[must_use]
+    pub const fn base(&self) -> NonNull<u8> {
+        self.base
+    }
+
+    /// Returns how the registers lie in memory.
+    #[must_use]
+    pub const fn layout(&self) -> RegisterLayout {
+        RegisterLayout {
+            stride: self.stride.get(),
+            width: self.width,
+            byte_order: self.byte_order,
+        }
+    }
+}
+
+impl Backend for WideMemory {
+    #[inline]
+    fn read(&mut self, register_offset: u8) -> u8 {
+        let address = address_of(self.base, self.stride, register_offset);
+        // SAFETY: the constructor has tested base and layout, and its caller promised that these eight
+        // registers are valid for accesses of their width.
+        unsafe { load_register(address, self.width, self.byte_order) }
+    }
+
+    #[inline]
+    fn write(&mut self, register_offset: u8, value: u8) {
+        let address = address_of(self.base, self.stride, register_offset);
+        // SAFETY: as for `read`.
+        unsafe { store_register(address, self.width, self.byte_order, value) }
+    }
+}
+
+/// Loads the register at an address, and returns its lowest byte. This is one access, in the order that
+/// [`VolatileMemory`] has. For a backend of your own, as one that keeps a register which the chip has
+/// not.
+///
+/// # Safety
+///
+/// The address must be a multiple of the width, and as many bytes from it on must be valid for a volatile
+/// load of that width. Nothing else may access them at the same time.
+#[inline]
+pub unsafe fn load_register(address: *const u8, width: RegisterWidth, byte_order: ByteOrder) -> u8 {
+    // SAFETY: by the promise of the caller.
+    unsafe {
+        match (width, byte_order) {
+            (RegisterWidth::Bits8, _) => load(address),
+            (RegisterWidth::Bits16, ByteOrder::Little) => u16::from_le(load(address.cast())) as u8,
+            (RegisterWidth::Bits16, ByteOrder::Big) => u16::from_be(load(address.cast())) as u8,
+            (RegisterWidth::Bits32, ByteOrder::Little) => u32::from_le(load(address.cast())) as u8,
+            (RegisterWidth::Bits32, ByteOrder::Big) => u32::from_be(load(address.cast())) as u8,
+        }
+    }
+}
+
+/// Stores a byte to the register at an address, and sets the other bits of the register to 0. Otherwise as
+/// [`load_register`].
+///
+/// # Safety
+///
+/// The address must be a multiple of the width, and as many bytes from it on must be valid for a volatile
+/// store of that width. Nothing else may access them at the same time.
+#[inline]
+pub unsafe fn store_register(
+    address: *mut u8,
+    width: RegisterWidth,
+    byte_order: ByteOrder,
+    value: u8,
+) {
+    // SAFETY: by the promise of the caller.
+    unsafe {
+        match (width, byte_order) {
+            (RegisterWidth::Bits8, _) => store(address, value),
+            (RegisterWidth::Bits16, ByteOrder::Little) => {
+                store(address.cast(), u16::from(value).to_le());
+            }
+            (RegisterWidth::Bits16, ByteOrder::Big) => {
+                store(address.cast(), u16::from(value).to_be());
+            }
+            (RegisterWidth::Bits32, ByteOrder::Little) => {
+                store(address.cast(), u32::from(value).to_le());
+            }
+            (RegisterWidth::Bits32, ByteOrder::Big) => {
+                store(address.cast(), u32::from(value).to_be());
+            }
+        }
+    }
+}
+
 // Checks that eight ports from this one on exist.
 #[cfg(any(target_arch = "x86", target_arch = "x86_64"))]
 const fn check_ports(base: u16) -> Result<(), InvalidAddressError> {
@@ -233,6 +431,21 @@ const fn check_memory(base: usize, stride: u8) -> Result<NonZeroU8, InvalidAddre
     match base.checked_add(offsets::SPR * stride as usize) {
         Some(_) => Ok(distance),
         None => Err(InvalidAddressError::InvalidBaseAddress(base)),
+    }
+}
+
+// Checks the same for a layout, and that no two registers overlap and each is aligned.
+const fn check_layout(
+    base: usize,
+    layout: RegisterLayout,
+) -> Result<NonZeroU8, InvalidLayoutError> {
+    let stride = match check_memory(base, layout.stride) {
+        Ok(stride) => stride,
+        Err(cause) => return Err(InvalidLayoutError::InvalidAddress(cause)),
+    };
+    match layout.check(base) {
+        Ok(()) => Ok(stride),
+        Err(cause) => Err(cause),
     }
 }
 
@@ -297,24 +510,24 @@ unsafe fn port_out(port: u16, value: u8) {
     }
 }
 
-// Loads a byte of a device, after all accesses before it and before all after it. It must be valid for
-// that.
+// Loads a word of a device. All accesses before this one are made before the load, and all others after
+// it. The word must be valid for a volatile load.
 #[inline]
-unsafe fn load(address: *const u8) -> u8 {
+unsafe fn load<W: Word>(address: *const W) -> W {
     barrier();
     // SAFETY: by the promise of the caller.
-    let value = unsafe { load_byte(address) };
+    let value = unsafe { W::load(address) };
     barrier();
     value
 }
 
-// Stores a byte to a device, after all accesses before it and before all after it. It must be valid for
-// that.
+// Stores a word to a device. All accesses before this one are made before the store, and all others
+// after it. The word must be valid for a volatile store.
 #[inline]
-unsafe fn store(address: *mut u8, value: u8) {
+unsafe fn store<W: Word>(address: *mut W, value: W) {
     barrier();
     // SAFETY: by the promise of the caller.
-    unsafe { store_byte(address, value) }
+    unsafe { W::store(address, value) }
     barrier();
 }
 
@@ -357,86 +570,88 @@ fn barrier() {
     core::sync::atomic::fence(core::sync::atomic::Ordering::SeqCst);
 }
 
-// Loads a byte of a device. It must be valid for that.
+// What one access loads or stores: 8, 16 or 32 bits.
+trait Word: Copy {
+    // Loads a word of a device. The word must be valid for a volatile load.
+    unsafe fn load(address: *const Self) -> Self;
+    // Stores a word to a device. The word must be valid for a volatile store.
+    unsafe fn store(address: *mut Self, value: Self);
+}
+
 #[cfg(any(not(any(target_arch = "arm", target_arch = "aarch64")), miri))]
-#[inline]
-unsafe fn load_byte(address: *const u8) -> u8 {
-    // SAFETY: by the promise of the caller.
-    unsafe { address.read_volatile() }
+macro_rules! word {
+    ($Word:ty, $load:literal, $store:literal) => {
+        impl Word for $Word {
+            #[inline]
+            unsafe fn load(address: *const Self) -> Self {
+                // SAFETY: by the promise of the caller.
+                unsafe { address.read_volatile() }
+            }
+
+            #[inline]
+            unsafe fn store(address: *mut Self, value: Self) {
+                // SAFETY: by the promise of the caller.
+                unsafe { address.write_volatile(value) }
+            }
+        }
+    };
 }
 
-// Stores a byte to a device. It must be valid for that.
-#[cfg(any(not(any(target_arch = "arm", target_arch = "aarch64")), miri))]
-#[inline]
-unsafe fn store_byte(address: *mut u8, value: u8) {
-    // SAFETY: by the promise of the caller.
-    unsafe { address.write_volatile(value) }
+// The same, by an instruction that a hypervisor can emulate: one that changes no address register.
+// A volatile load may be compiled to another instruction. On 64 bits a register has a name of its own for its
+// lower half.
+#[cfg(all(any(target_arch = "arm", target_arch = "aarch64"), not(miri)))]
+macro_rules! word {
+    ($Word:ty, $load:literal, $store:literal) => {
+        impl Word for $Word {
+            #[inline]
+            unsafe fn load(address: *const Self) -> Self {
+                let value: u32;
+                // SAFETY: by the promise of the caller.
+                unsafe {
+                    core::arch::asm!(
+                        instruction!($load),
+                        address = in(reg) address,
+                        value = lateout(reg) value,
+                        options(nostack, preserves_flags),
+                    );
+                }
+                value as $Word
+            }
+
+            #[inline]
+            unsafe fn store(address: *mut Self, value: Self) {
+                // SAFETY: by the promise of the caller.
+                unsafe {
+                    core::arch::asm!(
+                        instruction!($store),
+                        address = in(reg) address,
+                        value = in(reg) u32::from(value),
+                        options(nostack, preserves_flags),
+                    );
+                }
+            }
+        }
+    };
 }
 
-// The same, by an instruction that hypervisors can emulate: one that changes no address register.
-// A volatile load may be compiled to another one.
 #[cfg(all(target_arch = "aarch64", not(miri)))]
-#[inline]
-unsafe fn load_byte(address: *const u8) -> u8 {
-    let value: u32;
-    // SAFETY: by the promise of the caller.
-    unsafe {
-        core::arch::asm!(
-            "ldrb {value:w}, [{address}]",
-            address = in(reg) address,
-            value = lateout(reg) value,
-            options(nostack, preserves_flags),
-        );
-    }
-    value as u8
+macro_rules! instruction {
+    ($name:literal) => {
+        concat!($name, " {value:w}, [{address}]")
+    };
 }
 
-// The same for a store.
-#[cfg(all(target_arch = "aarch64", not(miri)))]
-#[inline]
-unsafe fn store_byte(address: *mut u8, value: u8) {
-    // SAFETY: by the promise of the caller.
-    unsafe {
-        core::arch::asm!(
-            "strb {value:w}, [{address}]",
-            address = in(reg) address,
-            value = in(reg) u32::from(value),
-            options(nostack, preserves_flags),
-        );
-    }
-}
-
-// The same on 32-bit Arm, where a load may be compiled to one that changes its address register too.
 #[cfg(all(target_arch = "arm", not(miri)))]
-#[inline]
-unsafe fn load_byte(address: *const u8) -> u8 {
-    let value: u32;
-    // SAFETY: by the promise of the caller.
-    unsafe {
-        core::arch::asm!(
-            "ldrb {value}, [{address}]",
-            address = in(reg) address,
-            value = lateout(reg) value,
-            options(nostack, preserves_flags),
-        );
-    }
-    value as u8
+macro_rules! instruction {
+    ($name:literal) => {
+        concat!($name, " {value}, [{address}]")
+    };
 }
 
-// The same for a store.
-#[cfg(all(target_arch = "arm", not(miri)))]
-#[inline]
-unsafe fn store_byte(address: *mut u8, value: u8) {
-    // SAFETY: by the promise of the caller.
-    unsafe {
-        core::arch::asm!(
-            "strb {value}, [{address}]",
-            address = in(reg) address,
-            value = in(reg) u32::from(value),
-            options(nostack, preserves_flags),
-        );
-    }
-}
+word!(u8, "ldrb", "strb");
+word!(u16, "ldrh", "strh");
+word!(u32, "ldr", "str");
 
 /// What the interface of the original crate needs in `unsafe` code: its backends, its constructors,
 /// and the ways between its types and the driver's.

@@ -5,22 +5,21 @@
 #![deny(missing_docs)]
 
 mod access;
-mod checked;
 #[cfg(feature = "compat")]
 pub mod compat;
-mod errors;
-mod flags;
-#[cfg(feature = "embedded-io")]
+pub mod emergency;
+#[cfg(all(feature = "compat", feature = "embedded-io"))]
 mod io;
+mod layout;
 pub mod native;
-mod proved;
-mod queue;
 pub mod ring;
+#[cfg(target_has_atomic = "8")]
+pub mod shared;
 
 #[cfg(feature = "compat")]
 #[doc(inline)]
 pub use compat::*;
-pub use flags::{Bits, Flag, Flags};
+pub use geesetrunk_kit::{Bits, Flag, Flags};
 // For links of the documentation.
 #[cfg(feature = "compat")]
 #[allow(unused_imports)]

@@ -4,13 +4,16 @@
 //! crate should name them by this module: then it also builds if another crate of the same program
 //! turns `compat` on.
 
-pub use crate::proved::uart_16550::{
+pub use uart_driver::{
     BaudRate, ByteReceiveError, ByteSendError, Config, ConfigRegisterDump, DEFAULT_SPIN_LIMIT,
     DriverState, InitError, InvalidAddressError, InvalidDivisorError, LoopbackError,
     NonIntegerBaudRateError, NonIntegerDivisorError, Received, RemoteReadyToReceiveError,
     StalledError, Uart16550, Uart16550Tty, Uart16550TtyError, embedded_io,
 };
-pub use crate::proved::uart_spec::{AttachError, NearestDivisorError};
+pub use uart_spec::{
+    AttachError, FifoAction, FifosOffError, FrameError, NearestDivisorError, Setup,
+    TransmitterWait,
+};
 
 pub mod backend {
     //! How the driver reads and writes the registers of its device.
@@ -18,22 +21,23 @@ pub mod backend {
     //! | backend | for | `unsafe` |
     //! |---|---|---|
     //! | `X86Ports` | a device at I/O ports of x86 | its constructor |
-    //! | [`VolatileMemory`] | a device in memory | its constructors |
+    //! | [`VolatileMemory`] | a device in memory, with registers of one byte | its constructors |
+    //! | [`WideMemory`] | a device in memory, with registers of 8, 16 or 32 bits | its constructors |
     //! | [`PioBackend`] | ports that code of yours accesses: [`PortAccess`] | |
     //! | [`MmioBackend`] | memory that code of yours accesses: [`ByteAccess`] | |
     //! | your own | anything with eight registers: implement [`Backend`] | |
     //!
     //! The driver passes offsets of 0 to 7. Other code that gets hold of a backend may pass any, so a
-    //! backend that is unsafe inside tests its offset, as the two first do.
+    //! backend that is unsafe inside tests its offset, as the first three do.
     //!
     #![doc = include_str!("../BACKENDS.md")]
 
     pub use crate::access::VolatileMemory;
     #[cfg(any(target_arch = "x86", target_arch = "x86_64"))]
     pub use crate::access::X86Ports;
-    pub use crate::proved::uart_16550::backend::{
-        Backend, ByteAccess, MmioBackend, PioBackend, PortAccess,
-    };
+    pub use crate::access::{WideMemory, load_register, store_register};
+    pub use crate::layout::{ByteOrder, InvalidLayoutError, RegisterLayout, RegisterWidth};
+    pub use uart_driver::backend::{Backend, ByteAccess, MmioBackend, PioBackend, PortAccess};
 }
 
 /// Everything about a 16550 that needs no access to it: its registers with their named bits and
@@ -43,8 +47,8 @@ pub mod backend {
 /// second. The functions `calc_..` panic for arguments that mean nothing, as a divisor of 0. Each
 /// has a form `checked_..` that does not.
 pub mod spec {
-    pub use crate::checked::{checked_baud_rate, checked_divisor, checked_frequency};
-    pub use crate::proved::uart_spec::{
+    pub use uart_spec::by_hand::checked::{checked_baud_rate, checked_divisor, checked_frequency};
+    pub use uart_spec::{
         CLK_FREQUENCY_HZ, FIFO_SIZE, InvalidDivisorError, NUM_REGISTERS, NonIntegerBaudRateError,
         NonIntegerDivisorError, calc_baud_rate, calc_divisor, calc_frequency, registers,
     };

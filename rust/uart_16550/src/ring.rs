@@ -45,7 +45,7 @@
 //!
 #![doc = include_str!("../HANDLERS.md")]
 
-pub use crate::proved::uart_ring::{
+pub use uart_ring::{
     HandleEnd, Handled, MAX_CAPACITY, MAX_INTERRUPTS, RingError, Uart16550Ring,
 };
-pub use crate::queue::{Global, Memory};
+pub use geesetrunk_kit_of_rings::alloc::{Global, Memory};

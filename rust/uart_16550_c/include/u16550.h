@@ -10,8 +10,9 @@
  * misuse, which made no access and changed nothing, or a positive one, which is the error of the call. What a call reports
  * through a pointer is written only if it returns U16550_OK, unless the function says otherwise.
  *
- * Pointers must point to what they say, or be null, which is refused if nothing else is said. An array of length 0 may be
- * null. Arrays and structs of one call must not overlap, and nobody else changes them until the call has returned.
+ * A pointer must point to what its type says, or be null. Null is refused, unless the function says otherwise. An array of
+ * length 0 may be null. Arrays and structs of one call must not overlap, and nobody else changes them until the call has
+ * returned.
  */
 #ifndef U16550_H
 #define U16550_H
@@ -36,7 +37,7 @@ enum u16550_misuse {
     U16550_MISALIGNED = -2,
     U16550_NOT_MADE = -3,         /* there is no driver in this memory */
     U16550_BUSY = -4,             /* a call over this driver is not done: the caller is a callback or an interrupt handler */
-    U16550_BAD_LENGTH = -5,       /* no array is so long: it would be larger than half of all memory, or have the last address */
+    U16550_BAD_LENGTH = -5,       /* no array is so long: it is larger than half of all memory, or holds the last address */
     U16550_BAD_CODE = -6,         /* a number in a configuration or a state stands for nothing */
     U16550_NOT_COMPUTABLE = -7,   /* frequency or baud rate 0, or a prescaler division factor above 15 */
     U16550_ZERO_LIMIT = -8,       /* a spin limit of 0 */
@@ -47,8 +48,11 @@ enum u16550_misuse {
 
 /* Why the registers cannot be there. */
 enum u16550_address_error {
-    U16550_BAD_BASE = 10,         /* the base is null, or the last register is behind the end */
-    U16550_BAD_STRIDE = 11        /* the stride is no power of two */
+    U16550_BAD_BASE = 10,         /* the last register is above the last address or port, or the base is 0 in memory */
+    U16550_BAD_STRIDE = 11,       /* the stride is no power of two */
+    U16550_BAD_WIDTH = 12,        /* a register has not 8, 16 or 32 bits */
+    U16550_STRIDE_TOO_SMALL = 13, /* the registers would overlap: the stride is less than their width */
+    U16550_MISALIGNED_BASE = 14   /* the base is no multiple of the width */
 };
 
 /* Why an initialisation failed. */
@@ -93,10 +97,11 @@ enum u16550_ring_error {
     U16550_RING_OUT_OF_MEMORY = 91 /* the memory is smaller than both capacities together */
 };
 
-/* Why no frame was set. No access was made. */
+/* Why no frame was set. */
 enum u16550_frame_error {
-    U16550_FRAME_NON_INTEGER_DIVISOR = 100, /* no whole divisor gives the baud rate */
-    U16550_FRAME_DIVISOR_OUT_OF_RANGE = 101 /* it is above 65535 */
+    U16550_FRAME_NON_INTEGER_DIVISOR = 100, /* no whole divisor gives the baud rate; no access was made */
+    U16550_FRAME_DIVISOR_OUT_OF_RANGE = 101, /* it is above 65535; no access was made */
+    U16550_FRAME_STALLED = 102    /* the transmitter did not become empty within the spin limit; nothing was written */
 };
 
 /* Why the nearest divisor for a baud rate cannot be used. */
@@ -110,6 +115,8 @@ enum u16550_attach_error {
     U16550_ATTACH_DIVISOR_LATCH_OPEN = 120, /* DLAB is set */
     U16550_ATTACH_LOOPBACK = 121
 };
+
+enum u16550_fifos_error { U16550_FIFOS_OFF = 130 }; /* the FIFOs are off, so they have no trigger level */
 
 /* Returns a text for what a function returned, for a log. Never null. */
 const char *u16550_text(int status);
@@ -131,6 +138,20 @@ struct u16550_io {
     void *context;
     uint8_t (*read)(void *context, uintptr_t address);
     void (*write)(void *context, uintptr_t address, uint8_t value);
+};
+
+/* Which byte of a register of several bytes is the first in memory. The chip's eight bits are in the lowest byte. */
+enum u16550_byte_order {
+    U16550_NATIVE_ENDIAN = 0,     /* that of the processor: no byte is moved */
+    U16550_LITTLE_ENDIAN = 1,     /* the lowest */
+    U16550_BIG_ENDIAN = 2         /* the highest */
+};
+
+/* How the registers of a device lie in memory, from the first one on. */
+struct u16550_layout {
+    uint8_t stride;               /* the distance between two registers in bytes: a power of two, and at least the width */
+    uint8_t width;                /* how many bits each access has: 8, 16 or 32 */
+    uint8_t byte_order;           /* an enum u16550_byte_order; it means nothing if the width is 8 */
 };
 
 /*
@@ -180,6 +201,27 @@ struct u16550_dump {
     uint8_t ier, isr, lcr, mcr, lsr, msr, spr, dll, dlm;
 };
 
+/* When an initialisation waits until the transmitter is empty. */
+enum u16550_transmitter_wait {
+    U16550_WAIT_FIRST = 0,        /* before divisor and frame are written: no character is broken that is going out */
+    U16550_WAIT_LAST = 1,         /* after everything but the interrupts is written, as u16550_init does */
+    U16550_WAIT_NEVER = 2
+};
+
+/* What u16550_init_with does beside writing the configuration. u16550_init does { 1, U16550_WAIT_LAST, 0x0b }. */
+struct u16550_setup {
+    uint8_t checks_presence;            /* 1: the scratch register is tested first; 0 for a chip without one */
+    uint8_t wait;                       /* an enum u16550_transmitter_wait */
+    uint8_t outputs;                    /* bits of MCR that are set, others are clear; loopback is left out */
+};
+
+/* What becomes of the FIFOs of a port that is left. */
+enum u16550_fifo_action {
+    U16550_FIFOS_KEEP = 0,
+    U16550_FIFOS_RESET = 1,       /* they are emptied, and stay on if they are on */
+    U16550_FIFOS_DISABLE = 2      /* they are emptied and turned off */
+};
+
 /* What came back in a loopback test. What does not belong to the error is 0. */
 struct u16550_loopback_failure {
     uint8_t expected, actual;
@@ -207,6 +249,7 @@ struct u16550_handled {
 
 U16550_ASSERT(sizeof(struct u16550) == 224, "struct u16550");
 U16550_ASSERT(sizeof(struct u16550_io) == 3 * sizeof(void *), "struct u16550_io");
+U16550_ASSERT(sizeof(struct u16550_layout) == 3, "struct u16550_layout");
 U16550_ASSERT(sizeof(struct u16550_config) == 20, "struct u16550_config");
 U16550_ASSERT(offsetof(struct u16550_config, has_prescaler) == 12, "struct u16550_config");
 U16550_ASSERT(offsetof(struct u16550_config, check_cts_before_sending) == 18, "struct u16550_config");
@@ -214,6 +257,7 @@ U16550_ASSERT(sizeof(struct u16550_state) == 32, "struct u16550_state");
 U16550_ASSERT(offsetof(struct u16550_state, config) == 8, "struct u16550_state");
 U16550_ASSERT(offsetof(struct u16550_state, saved_msr) == 30, "struct u16550_state");
 U16550_ASSERT(sizeof(struct u16550_dump) == 9, "struct u16550_dump");
+U16550_ASSERT(sizeof(struct u16550_setup) == 3, "struct u16550_setup");
 U16550_ASSERT(sizeof(struct u16550_loopback_failure) == 34, "struct u16550_loopback_failure");
 U16550_ASSERT(sizeof(struct u16550_received) == 2, "struct u16550_received");
 U16550_ASSERT(offsetof(struct u16550_received, errors) == 1, "struct u16550_received");
@@ -239,10 +283,21 @@ int u16550_new_port(struct u16550 *uart, const struct u16550_io *io, uint16_t ba
  */
 int u16550_new_mmio(struct u16550 *uart, const struct u16550_io *io, uintptr_t base, uint8_t stride);
 
+/*
+ * A driver for registers in memory that the library accesses itself, by functions of its own, which u16550_get_io returns.
+ * Each access is one load or store of the width of the layout, in order: with a barrier before and behind it on architectures that need
+ * one. A read gives the lowest eight bits of a register, and a write sets the others to 0. Refused by U16550_BAD_WIDTH, by
+ * U16550_BAD_CODE if the byte order is none, else as u16550_new_mmio, else by U16550_STRIDE_TOO_SMALL or U16550_MISALIGNED_BASE.
+ */
+int u16550_new_mmio_wide(struct u16550 *uart, uintptr_t base, const struct u16550_layout *layout);
+
 /* A driver in this state, whose functions get offsets. */
 int u16550_from_state(struct u16550 *uart, const struct u16550_io *io, const struct u16550_state *state);
 
-/* Ends a driver: the memory is the caller's again, and so is that of its rings. */
+/*
+ * Ends a driver: the memory is the caller's again, and so is that of its rings. If a call over the driver is not done, this
+ * returns U16550_BUSY, and the driver stays.
+ */
 int u16550_end(struct u16550 *uart);
 
 /* --------------------------------------------------------------- what a driver keeps; none of these makes an access */
@@ -275,6 +330,12 @@ int u16550_check_present(struct u16550 *uart, uint8_t *present);
 int u16550_init(struct u16550 *uart, const struct u16550_config *config);
 
 /*
+ * Does the same otherwise: without the test of the scratch register, with the wait for the transmitter first or not at all,
+ * with other outputs. If the wait that comes first ends by U16550_INIT_STALLED, nothing was written but the scratch register.
+ */
+int u16550_init_with(struct u16550 *uart, const struct u16550_config *config, const struct u16550_setup *setup);
+
+/*
  * Tests the chip in loopback. Returns an enum u16550_loopback_error if it fails; *failure then has what came back. failure
  * may be null.
  */
@@ -291,6 +352,27 @@ int u16550_check_connected(struct u16550 *uart);
  */
 int u16550_set_frame(struct u16550 *uart, const struct u16550_config *config);
 
+/* Waits until all that was sent is on the line, within the spin limit, and then does the same. */
+int u16550_set_frame_when_idle(struct u16550 *uart, const struct u16550_config *config);
+
+/*
+ * Sets the trigger level of the receiver FIFO to 1, 4, 8 or 14 characters, without a reset: what is in the FIFOs stays. Returns
+ * U16550_FIFOS_OFF, without an access, if the FIFOs are off.
+ */
+int u16550_set_trigger_level(struct u16550 *uart, uint8_t characters);
+
+/*
+ * Leaves the port so that the chip interrupts nobody: writes 0 to IER, then the outputs to MCR without loopback, and does with
+ * the FIFOs what an enum u16550_fifo_action says. Does not wait.
+ */
+int u16550_quiesce(struct u16550 *uart, uint8_t outputs, uint8_t fifos);
+
+/*
+ * Writes what a dump shows back to the chip, for example after it was without power: divisor and frame without DLAB, FCR, MCR
+ * without loopback, SPR, and IER in the end. Both FIFOs are emptied; if they were on, they get the configured trigger level.
+ */
+int u16550_restore(struct u16550 *uart, const struct u16550_dump *dump);
+
 /*
  * Takes a port as it was set up, for example by firmware: finds out whether the FIFO is on, and gives the divisor. It reads
  * LCR, MCR, ISR and the divisor latch, for which it sets DLAB and then writes LCR back; nothing else is written. The read of ISR
@@ -298,6 +380,21 @@ int u16550_set_frame(struct u16550 *uart, const struct u16550_config *config);
  * an enum u16550_attach_error if the port is not one to be taken.
  */
 int u16550_attach(struct u16550 *uart, uint8_t *dll, uint8_t *dlm);
+
+/*
+ * For last words, in a panic. The call that the panic came into is never done, and every function over its driver returns
+ * U16550_BUSY from then on. So make a driver for the same device in other memory, by u16550_new, u16550_new_port or
+ * u16550_new_mmio, give it a spin limit, and call this over it. It takes the device over, whatever state that is in, so that text
+ * goes out: it clears DLAB and the break, writes 0 to IER, and clears loopback and flow control in MCR, with DTR and RTS set. FIFOs,
+ * baud rate and frame stay as they are. If the panic may have come into u16550_init or u16550_set_frame, call u16550_flush and
+ * u16550_set_frame next. Then send: one byte at a time goes out, and each wait ends after the spin limit.
+ *
+ * Whoever accessed the device before must not go on: mask the interrupts, and stop the other processors before.
+ *
+ * Returns U16550_ATTACH_DIVISOR_LATCH_OPEN if DLAB or the break stays set after as many writes as the spin limit, as where no
+ * device is, and U16550_ATTACH_LOOPBACK if the chip stays in loopback. Refused by U16550_HAS_RINGS if the driver has rings.
+ */
+int u16550_emergency(struct u16550 *uart);
 
 /* --------------------------------------------------------------- outputs
  *

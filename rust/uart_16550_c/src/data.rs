@@ -3,8 +3,12 @@
 use crate::status::Failure;
 use core::mem::{offset_of, size_of};
 use core::num::NonZeroU64;
-use uart_16550::native::spec::registers::{FifoTriggerLevel, IER, LSR, MSR, Parity, WordLength};
-use uart_16550::native::{BaudRate, Config, ConfigRegisterDump, DriverState, Received};
+use uart_16550::native::spec::registers::{
+    FifoTriggerLevel, IER, ISR, LCR, LSR, MCR, MSR, Parity, WordLength,
+};
+use uart_16550::native::{
+    BaudRate, Config, ConfigRegisterDump, DriverState, FifoAction, Received, Setup, TransmitterWait,
+};
 use uart_16550::ring::{HandleEnd, Handled};
 
 // The largest prescaler division factor of which a divisor can be computed.
@@ -49,7 +53,8 @@ pub fn flag(byte: u8) -> Result<bool, Failure> {
     }
 }
 
-fn level(characters: u8) -> Result<Option<FifoTriggerLevel>, Failure> {
+/// Returns the trigger level of so many characters, or none for 0.
+pub fn level(characters: u8) -> Result<Option<FifoTriggerLevel>, Failure> {
     Ok(Some(match characters {
         NO_FIFO => return Ok(None),
         1 => FifoTriggerLevel::One,
@@ -237,6 +242,21 @@ impl From<&ConfigRegisterDump> for CDump {
 }
 
 impl CDump {
+    /// Returns the dump, each register with the bits that it has here.
+    pub fn registers(&self) -> ConfigRegisterDump {
+        ConfigRegisterDump {
+            ier: IER::from_bits_retain(self.ier),
+            isr: ISR::from_bits_retain(self.isr),
+            lcr: LCR::from_bits_retain(self.lcr),
+            mcr: MCR::from_bits_retain(self.mcr),
+            lsr: LSR::from_bits_retain(self.lsr),
+            msr: MSR::from_bits_retain(self.msr),
+            spr: self.spr,
+            dll: self.dll,
+            dlm: self.dlm,
+        }
+    }
+
     /// Returns the dump. Which bits the other registers have does not count for the divisor and the baud rate.
     pub fn latch(&self) -> ConfigRegisterDump {
         ConfigRegisterDump {
@@ -244,6 +264,43 @@ impl CDump {
             dlm: self.dlm,
             ..ConfigRegisterDump::default()
         }
+    }
+}
+
+/// The header's `struct u16550_setup`.
+#[repr(C)]
+#[derive(Clone, Copy)]
+pub struct CSetup {
+    checks_presence: u8,
+    wait: u8,
+    outputs: u8,
+}
+
+const _: () = assert!(size_of::<CSetup>() == 3);
+
+impl CSetup {
+    /// Returns the setup.
+    pub fn decoded(&self) -> Result<Setup, Failure> {
+        Ok(Setup {
+            checks_presence: flag(self.checks_presence)?,
+            wait: match self.wait {
+                0 => TransmitterWait::First,
+                1 => TransmitterWait::Last,
+                2 => TransmitterWait::Never,
+                _ => return Err(Failure::BadCode),
+            },
+            outputs: MCR::from_bits_retain(self.outputs),
+        })
+    }
+}
+
+/// Returns what the header's `enum u16550_fifo_action` asks for.
+pub fn fifo_action(code: u8) -> Result<FifoAction, Failure> {
+    match code {
+        0 => Ok(FifoAction::Keep),
+        1 => Ok(FifoAction::Reset),
+        2 => Ok(FifoAction::Disable),
+        _ => Err(Failure::BadCode),
     }
 }
 

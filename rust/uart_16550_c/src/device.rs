@@ -2,10 +2,13 @@
 
 use crate::status::Failure;
 use core::ffi::c_void;
+use core::ptr;
 use uart_16550::native::backend::{Backend, ByteAccess, PortAccess};
 
-type ReadFunction = unsafe extern "C" fn(*mut c_void, usize) -> u8;
-type WriteFunction = unsafe extern "C" fn(*mut c_void, usize, u8);
+/// How the register at an address is read.
+pub type ReadFunction = unsafe extern "C" fn(*mut c_void, usize) -> u8;
+/// How the register at an address is written.
+pub type WriteFunction = unsafe extern "C" fn(*mut c_void, usize, u8);
 
 /// The header's `struct u16550_io`.
 #[repr(C)]
@@ -16,7 +19,21 @@ pub struct Io {
     write: Option<WriteFunction>,
 }
 
+impl Io {
+    /// Returns these functions, which need no context.
+    pub fn over(read: ReadFunction, write: WriteFunction) -> Self {
+        Self {
+            context: ptr::null_mut(),
+            read: Some(read),
+            write: Some(write),
+        }
+    }
+}
+
 /// Where the registers are: the first address, and how far apart they are.
+///
+/// The functions of C get addresses and not offsets, if the driver was made for ports or memory: the proved constructors
+/// check these addresses.
 #[derive(Clone, Copy)]
 pub struct Place {
     pub base: usize,
@@ -39,7 +56,11 @@ pub struct Device {
 
 impl Device {
     /// Returns a device, if both functions are there.
-    pub fn new(io: &Io, place: Place) -> Result<Self, Failure> {
+    ///
+    /// # Safety
+    ///
+    /// As long as the device is used, the functions may be called with the context and an address of the place.
+    pub unsafe fn new(io: &Io, place: Place) -> Result<Self, Failure> {
         let (Some(read), Some(write)) = (io.read, io.write) else {
             return Err(Failure::NullPointer);
         };
@@ -52,8 +73,13 @@ impl Device {
     }
 
     /// Returns the same device, reached by other functions.
-    pub fn reached_by(&self, io: &Io) -> Result<Self, Failure> {
-        Self::new(io, self.place)
+    ///
+    /// # Safety
+    ///
+    /// That of [`new`](Self::new).
+    pub unsafe fn reached_by(&self, io: &Io) -> Result<Self, Failure> {
+        // SAFETY: the caller promises it.
+        unsafe { Self::new(io, self.place) }
     }
 
     /// Returns the functions.
@@ -74,12 +100,12 @@ impl Device {
 
 impl Backend for Device {
     fn read(&mut self, offset: u8) -> u8 {
-        // SAFETY: who made the driver promised that the functions may be called with this context.
+        // SAFETY: the caller of `new` promised it.
         unsafe { (self.read)(self.context, self.address(offset)) }
     }
 
     fn write(&mut self, offset: u8, value: u8) {
-        // SAFETY: who made the driver promised that the functions may be called with this context.
+        // SAFETY: the caller of `new` promised it.
         unsafe { (self.write)(self.context, self.address(offset), value) }
     }
 }

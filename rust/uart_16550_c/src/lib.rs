@@ -9,6 +9,7 @@
 mod bytes;
 mod data;
 mod device;
+mod emergency;
 mod make;
 mod memory;
 mod registers;
@@ -16,6 +17,7 @@ mod rings;
 mod settings;
 mod status;
 mod unwinding;
+mod wide;
 
 unsafe extern "C" {
     /// What happens in a panic: the program that is linked with the library defines it.

@@ -27,9 +27,9 @@ fn in_memory(base: usize, stride: u8) -> Result<Place, Failure> {
 // Puts a new driver into the memory.
 unsafe fn new(uart: *mut Memory, io: *const Io, place: Result<Place, Failure>) -> c_int {
     let driver = || {
-        // SAFETY: the caller promises that pointers are null or valid.
-        let io = unsafe { given(io) }?;
-        Ok(Uart16550::new_with_backend(Device::new(io, place?)?))
+        // SAFETY: the caller promises that pointers are null or valid, and that the functions may be called.
+        let device = unsafe { Device::new(given(io)?, place?) }?;
+        Ok(Uart16550::new_with_backend(device))
     };
     // SAFETY: the same.
     status(unsafe { make(uart, driver) })
@@ -65,9 +65,10 @@ pub unsafe extern "C" fn u16550_from_state(
     state: *const CState,
 ) -> c_int {
     let driver = || {
-        // SAFETY: the caller promises that pointers are null or valid.
+        // SAFETY: the caller promises that pointers are null or valid, and that the functions may be called.
         let (io, state) = unsafe { (given(io)?, given(state)?) };
-        let device = Device::new(io, Place::OFFSETS)?;
+        // SAFETY: the same.
+        let device = unsafe { Device::new(io, Place::OFFSETS) }?;
         Ok(Uart16550::from_state(device, &state.decoded()?))
     };
     // SAFETY: the same.

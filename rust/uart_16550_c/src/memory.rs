@@ -11,7 +11,7 @@ use uart_16550::ring::Uart16550Ring;
 /// A driver over functions of C.
 pub type Driver = Uart16550<Device>;
 
-/// What the memory holds: a driver, with rings or without.
+/// What the memory holds: a driver, with rings or without. One struct for both, so that there is one kind of memory to give.
 pub enum Held {
     Plain(Driver),
     WithRings(Uart16550Ring<Device>),
@@ -126,16 +126,21 @@ pub unsafe fn slots<'a, T>(at: *mut T, len: usize) -> Result<&'a mut [T], Failur
     Ok(unsafe { slice::from_raw_parts_mut(at, len) })
 }
 
-// Returns whether the memory has both words of a driver with a call that is not done.
+// Returns whether the memory has the mark.
+//
+// The caller promises that there is memory.
+unsafe fn is_made(made: *const Made) -> bool {
+    // SAFETY: there is memory. A read by volatile takes what is there, whoever wrote it.
+    unsafe { (&raw const (*made).mark).read_volatile() == MARK }
+}
+
+// Returns whether the memory has the sign of a call that is not done, or of a driver that is being made. A driver that a handler
+// has ended has no mark, and a driver that is being made has none yet: so the sign alone counts.
+//
+// The caller promises that there is memory.
 unsafe fn is_in_call(made: *const Made) -> bool {
-    // SAFETY: the caller promises that there is memory. A read by volatile takes what is there, whoever wrote it.
-    let (mark, is_busy) = unsafe {
-        (
-            (&raw const (*made).mark).read_volatile(),
-            (&raw const (*made).is_busy).cast::<u32>().read_volatile(),
-        )
-    };
-    mark == MARK && is_busy == BUSY
+    // SAFETY: as above.
+    unsafe { (&raw const (*made).is_busy).cast::<u32>().read_volatile() == BUSY }
 }
 
 /// Puts a new driver into the memory, whatever is in it, unless a call over a driver there is not done.
@@ -148,10 +153,10 @@ pub unsafe fn make(
     driver: impl FnOnce() -> Result<Driver, Failure>,
 ) -> Result<(), Failure> {
     let made = usable(at)?.cast::<Made>();
-    // A call that is not done borrows what would be replaced here. It has set both words, and only this library writes
-    // them meanwhile: so no such call is overlooked, and that is what safety needs. The words prove nothing the other way
-    // round, since bytes that were left in the memory may look like them. Then the caller gets a refusal and no harm is
-    // done; and the header keeps this away, too, by asking for zeros in memory whose bytes are unknown.
+    // A call that is not done borrows what would be replaced here. It has set the sign, and only this library writes the sign
+    // meanwhile: so no such call is overlooked, and that is what safety needs. The sign proves nothing the other way round,
+    // since bytes that were left in the memory may look like it. Then the caller gets a refusal and no harm is done; and the
+    // header keeps this away, too, by asking for zeros in memory whose bytes are unknown.
     // SAFETY: there is memory.
     if unsafe { is_in_call(made) } {
         return Err(Failure::Busy);
@@ -183,8 +188,8 @@ pub unsafe fn with<R>(
     call: impl FnOnce(&mut Held) -> Result<R, Failure>,
 ) -> Result<R, Failure> {
     let made = usable(at)?.cast::<Made>();
-    // SAFETY: there is memory. A read by volatile takes what is there, whoever wrote it.
-    if unsafe { (&raw const (*made).mark).read_volatile() } != MARK {
+    // SAFETY: there is memory.
+    if !unsafe { is_made(made) } {
         return Err(Failure::NotMade);
     }
     // SAFETY: a driver was made. A call that is not done borrows `held` alone.
@@ -195,8 +200,14 @@ pub unsafe fn with<R>(
     // An interrupt handler of the same processor sees the sign in between, so loads and stores alone are enough.
     is_busy.store(BUSY, Ordering::Relaxed);
     compiler_fence(Ordering::SeqCst);
-    // SAFETY: no other call borrows it.
-    let result = call(unsafe { &mut (*made).held });
+    // A handler that came before the sign was set may have ended the driver, and the memory of its rings is the caller's then.
+    // SAFETY: there is memory.
+    let result = if unsafe { is_made(made) } {
+        // SAFETY: a driver was made, and no other call borrows it.
+        call(unsafe { &mut (*made).held })
+    } else {
+        Err(Failure::NotMade)
+    };
     compiler_fence(Ordering::SeqCst);
     is_busy.store(FREE, Ordering::Relaxed);
     result

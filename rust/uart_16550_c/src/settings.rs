@@ -1,6 +1,8 @@
 //! What the driver keeps, its initialisation, and its tests.
 
-use crate::data::{CConfig, CLoopbackFailure, CState, flag, spin_limit};
+use crate::data::{
+    CConfig, CDump, CLoopbackFailure, CSetup, CState, fifo_action, flag, level, spin_limit,
+};
 use crate::device::Io;
 use crate::memory::{Driver, Memory, given, usable, with};
 use crate::status::{Failure, status};
@@ -81,9 +83,8 @@ pub unsafe extern "C" fn u16550_get_io(uart: *mut Memory, io: *mut Io) -> c_int 
 #[unsafe(no_mangle)]
 pub unsafe extern "C" fn u16550_set_io(uart: *mut Memory, io: *const Io) -> c_int {
     let set = |driver: &mut Driver| {
-        // SAFETY: the caller promises that the pointer is null or valid.
-        let io = unsafe { given(io) }?;
-        *driver.backend_mut() = driver.backend().reached_by(io)?;
+        // SAFETY: the caller promises that the pointer is null or valid, and that the functions may be called.
+        *driver.backend_mut() = unsafe { driver.backend().reached_by(given(io)?) }?;
         Ok(())
     };
     // SAFETY: the same.
@@ -150,6 +151,68 @@ pub unsafe extern "C" fn u16550_set_frame(uart: *mut Memory, config: *const CCon
     };
     // SAFETY: the same.
     unsafe { perform(uart, set) }
+}
+
+#[unsafe(no_mangle)]
+pub unsafe extern "C" fn u16550_init_with(
+    uart: *mut Memory,
+    config: *const CConfig,
+    setup: *const CSetup,
+) -> c_int {
+    let init = |driver: &mut Driver| {
+        // SAFETY: the caller promises that pointers are null or valid.
+        let config = unsafe { given(config) }?.computable()?;
+        // SAFETY: the same.
+        let setup = unsafe { given(setup) }?.decoded()?;
+        Ok(driver.init_with(config, &setup)?)
+    };
+    // SAFETY: the same.
+    unsafe { perform(uart, init) }
+}
+
+#[unsafe(no_mangle)]
+pub unsafe extern "C" fn u16550_set_frame_when_idle(
+    uart: *mut Memory,
+    config: *const CConfig,
+) -> c_int {
+    let set = |driver: &mut Driver| {
+        // SAFETY: the caller promises that the pointer is null or valid.
+        let config = unsafe { given(config) }?.computable()?;
+        Ok(driver.set_frame_when_idle(&config)?)
+    };
+    // SAFETY: the same.
+    unsafe { perform(uart, set) }
+}
+
+#[unsafe(no_mangle)]
+pub unsafe extern "C" fn u16550_set_trigger_level(uart: *mut Memory, characters: u8) -> c_int {
+    let set = |driver: &mut Driver| {
+        let level = level(characters)?.ok_or(Failure::BadCode)?;
+        Ok(driver.set_trigger_level(level)?)
+    };
+    // SAFETY: the caller promises that the pointer is null or valid.
+    unsafe { perform(uart, set) }
+}
+
+#[unsafe(no_mangle)]
+pub unsafe extern "C" fn u16550_quiesce(uart: *mut Memory, outputs: u8, fifos: u8) -> c_int {
+    let leave = |driver: &mut Driver| {
+        driver.quiesce(MCR::from_bits_retain(outputs), fifo_action(fifos)?);
+        Ok(())
+    };
+    // SAFETY: the caller promises that the pointer is null or valid.
+    unsafe { perform(uart, leave) }
+}
+
+#[unsafe(no_mangle)]
+pub unsafe extern "C" fn u16550_restore(uart: *mut Memory, dump: *const CDump) -> c_int {
+    let restore = |driver: &mut Driver| {
+        // SAFETY: the caller promises that the pointer is null or valid.
+        driver.restore(&unsafe { given(dump) }?.registers());
+        Ok(())
+    };
+    // SAFETY: the same.
+    unsafe { perform(uart, restore) }
 }
 
 #[unsafe(no_mangle)]

@@ -1,8 +1,9 @@
 //! What the functions return: one number for each error of the driver, and for each misuse of a function.
 
 use core::ffi::{CStr, c_char, c_int};
+use uart_16550::native::backend::InvalidLayoutError;
 use uart_16550::native::{
-    AttachError, ByteReceiveError, ByteSendError, InitError, InvalidAddressError,
+    AttachError, ByteReceiveError, ByteSendError, FifosOffError, FrameError, InitError, InvalidAddressError,
     InvalidDivisorError, LoopbackError, NearestDivisorError, NonIntegerBaudRateError,
     RemoteReadyToReceiveError, StalledError,
 };
@@ -25,6 +26,9 @@ pub enum Failure {
     HasRings = -11,
     BadBase = 10,
     BadStride = 11,
+    BadWidth = 12,
+    StrideTooSmall = 13,
+    MisalignedBase = 14,
     InitDeviceNotPresent = 20,
     InitNonIntegerDivisor = 21,
     InitDivisorOutOfRange = 22,
@@ -46,14 +50,16 @@ pub enum Failure {
     RingOutOfMemory = 91,
     FrameNonIntegerDivisor = 100,
     FrameDivisorOutOfRange = 101,
+    FrameStalled = 102,
     NearestTooFar = 110,
     NearestOutOfRange = 111,
     AttachDivisorLatchOpen = 120,
     AttachLoopback = 121,
+    FifosOff = 130,
 }
 
 impl Failure {
-    const ALL: [Self; 38] = [
+    const ALL: [Self; 43] = [
         Self::NullPointer,
         Self::Misaligned,
         Self::NotMade,
@@ -67,6 +73,9 @@ impl Failure {
         Self::HasRings,
         Self::BadBase,
         Self::BadStride,
+        Self::BadWidth,
+        Self::StrideTooSmall,
+        Self::MisalignedBase,
         Self::InitDeviceNotPresent,
         Self::InitNonIntegerDivisor,
         Self::InitDivisorOutOfRange,
@@ -88,10 +97,12 @@ impl Failure {
         Self::RingOutOfMemory,
         Self::FrameNonIntegerDivisor,
         Self::FrameDivisorOutOfRange,
+        Self::FrameStalled,
         Self::NearestTooFar,
         Self::NearestOutOfRange,
         Self::AttachDivisorLatchOpen,
         Self::AttachLoopback,
+        Self::FifosOff,
     ];
 
     const fn text(self) -> &'static CStr {
@@ -109,6 +120,9 @@ impl Failure {
             Self::HasRings => c"the driver has rings already",
             Self::BadBase => c"the registers do not fit behind the base address",
             Self::BadStride => c"the stride is not a power of two",
+            Self::BadWidth => c"a register has 8, 16 or 32 bits",
+            Self::StrideTooSmall => c"the registers overlap: the stride is less than their width",
+            Self::MisalignedBase => c"the base address is not aligned for the registers",
             Self::InitDeviceNotPresent => c"there is no device",
             Self::InitNonIntegerDivisor => c"no whole divisor gives the baud rate",
             Self::InitDivisorOutOfRange => c"the divisor for the baud rate does not fit",
@@ -130,10 +144,12 @@ impl Failure {
             Self::RingOutOfMemory => c"the memory is too small for the rings",
             Self::FrameNonIntegerDivisor => c"frame: no whole divisor gives the baud rate",
             Self::FrameDivisorOutOfRange => c"frame: the divisor for the baud rate does not fit",
+            Self::FrameStalled => c"frame: the transmitter did not become empty",
             Self::NearestTooFar => c"the nearest divisor is not near enough",
             Self::NearestOutOfRange => c"the nearest divisor does not fit",
             Self::AttachDivisorLatchOpen => c"attach: the divisor latch was left open",
             Self::AttachLoopback => c"attach: the chip was left in loopback",
+            Self::FifosOff => c"the FIFOs are off",
         }
     }
 }
@@ -143,6 +159,16 @@ impl From<InvalidAddressError> for Failure {
         match error {
             InvalidAddressError::InvalidBaseAddress(_) => Self::BadBase,
             InvalidAddressError::InvalidStride(_) => Self::BadStride,
+        }
+    }
+}
+
+impl From<InvalidLayoutError> for Failure {
+    fn from(error: InvalidLayoutError) -> Self {
+        match error {
+            InvalidLayoutError::InvalidAddress(cause) => cause.into(),
+            InvalidLayoutError::StrideTooSmall { .. } => Self::StrideTooSmall,
+            InvalidLayoutError::MisalignedBase { .. } => Self::MisalignedBase,
         }
     }
 }
@@ -228,6 +254,21 @@ impl From<NearestDivisorError> for Failure {
             NearestDivisorError::TooFar { .. } => Self::NearestTooFar,
             NearestDivisorError::OutOfRange { .. } => Self::NearestOutOfRange,
         }
+    }
+}
+
+impl From<FrameError> for Failure {
+    fn from(error: FrameError) -> Self {
+        match error {
+            FrameError::InvalidBaudRate(cause) => cause.into(),
+            FrameError::Stalled => Self::FrameStalled,
+        }
+    }
+}
+
+impl From<FifosOffError> for Failure {
+    fn from(_: FifosOffError) -> Self {
+        Self::FifosOff
     }
 }
 

@@ -2,6 +2,7 @@
  * Every call of the library and every number that it can return, over a small device. Prints each comparison that fails, and
  * their number. The expected values are those of the driver's specification and of the header.
  */
+#include <setjmp.h>
 #include <stdint.h>
 #include <stdio.h>
 #include <stdlib.h>
@@ -71,6 +72,9 @@ static void sizes(void)
     IS(sizeof(struct u16550_io), 3 * sizeof(void *));
     IS(offsetof(struct u16550_io, read), sizeof(void *));
     IS(offsetof(struct u16550_io, write), 2 * sizeof(void *));
+    IS(sizeof(struct u16550_layout), 3);
+    IS(offsetof(struct u16550_layout, width), 1);
+    IS(offsetof(struct u16550_layout, byte_order), 2);
     IS(sizeof(struct u16550_config), 20);
     IS(offsetof(struct u16550_config, baud_rate), 4);
     IS(offsetof(struct u16550_config, prescaler_division_factor), 8);
@@ -157,6 +161,104 @@ static void making(void)
     none.write = NULL;
     MISUSE(u16550_new(&uart, &none), U16550_NULL_POINTER);
     MISUSE(u16550_set_io(&uart, &none), U16550_NULL_POINTER);
+}
+
+/* The byte of a register that the library is to access, from the first one in memory. */
+static unsigned lowest_of(const struct u16550_layout *layout)
+{
+    static const uint16_t one = 1;
+    int is_little = layout->byte_order == U16550_LITTLE_ENDIAN
+        || (layout->byte_order == U16550_NATIVE_ENDIAN && *(const uint8_t *)&one == 1);
+    return is_little ? 0 : layout->width / 8u - 1;
+}
+
+/* A driver over registers in real memory, of each layout: its accesses, and what they leave alone. */
+static void wide_accesses(const struct u16550_layout *layout)
+{
+    enum { SIZE = 8 * 128 };
+    static uint32_t words[SIZE / 4];
+    uint8_t *cells = (uint8_t *)words, expected[SIZE], lsr;
+    struct u16550_io io;
+    unsigned bytes = layout->width / 8u, lowest = lowest_of(layout);
+    memset(cells, 0xee, SIZE);
+    cells[LSR * layout->stride + lowest] = U16550_LSR_THR_EMPTY | U16550_LSR_TRANSMITTER_EMPTY;
+    memcpy(expected, cells, SIZE);
+    OK(u16550_new_mmio_wide(&uart, (uintptr_t)words, layout));
+    OK(u16550_lsr(&uart, &lsr));
+    IS(lsr, U16550_LSR_THR_EMPTY | U16550_LSR_TRANSMITTER_EMPTY);
+    OK(u16550_try_send_byte(&uart, 'w'));
+    memset(expected + DATA * layout->stride, 0, bytes);
+    expected[DATA * layout->stride + lowest] = 'w';
+    IS(memcmp(cells, expected, SIZE), 0);
+    /* The functions are some as a program could have them, and get addresses of registers. */
+    OK(u16550_get_io(&uart, &io));
+    IS(io.read(io.context, (uintptr_t)cells + LSR * layout->stride), lsr);
+    io.write(io.context, (uintptr_t)cells + SPR * layout->stride, 0x5a);
+    memset(expected + SPR * layout->stride, 0, bytes);
+    expected[SPR * layout->stride + lowest] = 0x5a;
+    IS(memcmp(cells, expected, SIZE), 0);
+    OK(u16550_set_io(&uart, &io));
+    OK(u16550_spr(&uart, &lsr));
+    IS(lsr, 0x5a);
+}
+
+static void wide(void)
+{
+    static const uint8_t widths[] = { 8, 16, 32 };
+    struct u16550_layout layout, bad;
+    unsigned i, stride, order;
+    static uint32_t words[8];
+    uintptr_t base = (uintptr_t)words;
+    for (i = 0; i < 3; i++)
+        for (order = U16550_NATIVE_ENDIAN; order <= U16550_BIG_ENDIAN; order++)
+            for (stride = 1; stride <= 128; stride *= 2) {
+                layout.stride = (uint8_t)stride;
+                layout.width = widths[i];
+                layout.byte_order = (uint8_t)order;
+                if (stride >= widths[i] / 8u)
+                    wide_accesses(&layout);
+                else
+                    IS(u16550_new_mmio_wide(&uart, base, &layout), U16550_STRIDE_TOO_SMALL);
+            }
+    anew();
+    layout.stride = 4;
+    layout.width = 32;
+    layout.byte_order = U16550_NATIVE_ENDIAN;
+    for (i = 0; i < 256; i++) {
+        bad = layout;
+        bad.width = (uint8_t)i;
+        if (i != 8 && i != 16 && i != 32)
+            IS(u16550_new_mmio_wide(&uart, base, &bad), U16550_BAD_WIDTH);
+        bad = layout;
+        bad.byte_order = (uint8_t)i;
+        if (i > U16550_BIG_ENDIAN)
+            MISUSE(u16550_new_mmio_wide(&uart, base, &bad), U16550_BAD_CODE);
+        bad = layout;
+        bad.stride = (uint8_t)i;
+        if (i == 0 || (i & (i - 1)) != 0)
+            IS(u16550_new_mmio_wide(&uart, base, &bad), U16550_BAD_STRIDE);
+    }
+    for (i = 1; i < 4; i++)
+        IS(u16550_new_mmio_wide(&uart, base + i, &layout), U16550_MISALIGNED_BASE);
+    layout.width = 16;
+    IS(u16550_new_mmio_wide(&uart, base + 1, &layout), U16550_MISALIGNED_BASE);
+    OK(u16550_new_mmio_wide(&uart, base + 2, &layout));
+    layout.width = 32;
+    IS(u16550_new_mmio_wide(&uart, 0, &layout), U16550_BAD_BASE);
+    IS(u16550_new_mmio_wide(&uart, UINTPTR_MAX - 27, &layout), U16550_BAD_BASE);
+    OK(u16550_new_mmio_wide(&uart, UINTPTR_MAX - 31, &layout));
+    MISUSE(u16550_new_mmio_wide(&uart, base, NULL), U16550_NULL_POINTER);
+    MISUSE(u16550_new_mmio_wide(NULL, base, &layout), U16550_NULL_POINTER);
+    /* The whole way, with a clock of 24 MHz, which no baud rate divides. */
+    words[LSR] = U16550_LSR_THR_EMPTY | U16550_LSR_TRANSMITTER_EMPTY;
+    OK(u16550_new_mmio_wide(&uart, base, &layout));
+    OK(u16550_default_config(&config));
+    config.frequency = 24000000;
+    config.baud_rate = 115200;
+    OK(u16550_nearest(&config, 20, &config));
+    OK(u16550_init(&uart, &config));
+    OK(u16550_send_bytes_exact(&uart, (const uint8_t *)"hello", 5, NULL));
+    IS(words[DATA], 'o');
 }
 
 static void settings(void)
@@ -419,6 +521,82 @@ static void frame(void)
 }
 
 /* A port that firmware has set up. */
+/* An initialisation otherwise, the trigger level, a frame that waits, and a port that is left and taken up again. */
+static void setup(void)
+{
+    struct u16550_setup unchecked = { 0, U16550_WAIT_LAST, U16550_MCR_OUT_1 | U16550_MCR_LOOP_BACK };
+    struct u16550_config off;
+    struct u16550_dump dump;
+    uint8_t enabled;
+    anew();
+    OK(u16550_init_with(&uart, &config, &unchecked));
+    IS(d.registers[MCR], U16550_MCR_OUT_1);
+    IS(d.dll, 12);
+    anew();
+    d.is_stuck = 1;
+    unchecked.wait = U16550_WAIT_FIRST;
+    IS(u16550_init_with(&uart, &config, &unchecked), U16550_INIT_STALLED);
+    IS(d.dll, 0);
+    unchecked.wait = U16550_WAIT_LAST;
+    IS(u16550_init_with(&uart, &config, &unchecked), U16550_INIT_STALLED);
+    IS(d.dll, 12);
+    unchecked.wait = U16550_WAIT_NEVER;
+    OK(u16550_init_with(&uart, &config, &unchecked));
+    unchecked.wait = 3;
+    accesses = d.accesses;
+    MISUSE(u16550_init_with(&uart, &config, &unchecked), U16550_BAD_CODE);
+    unchecked.wait = U16550_WAIT_NEVER;
+    unchecked.checks_presence = 2;
+    MISUSE(u16550_init_with(&uart, &config, &unchecked), U16550_BAD_CODE);
+    MISUSE(u16550_init_with(&uart, &config, NULL), U16550_NULL_POINTER);
+    MISUSE(u16550_init_with(&uart, NULL, &unchecked), U16550_NULL_POINTER);
+
+    ready();
+    OK(u16550_set_trigger_level(&uart, 4));
+    accesses = d.accesses;
+    MISUSE(u16550_set_trigger_level(&uart, 0), U16550_BAD_CODE);
+    MISUSE(u16550_set_trigger_level(&uart, 5), U16550_BAD_CODE);
+    config.baud_rate = 115200;
+    OK(u16550_set_frame_when_idle(&uart, &config));
+    IS(d.dll, 1);
+    d.is_stuck = 1;
+    IS(u16550_set_frame_when_idle(&uart, &config), U16550_FRAME_STALLED);
+    d.is_stuck = 0;
+    config.baud_rate = 110;
+    accesses = d.accesses;
+    MISUSE(u16550_set_frame_when_idle(&uart, &config), U16550_FRAME_NON_INTEGER_DIVISOR);
+    MISUSE(u16550_set_frame_when_idle(&uart, NULL), U16550_NULL_POINTER);
+
+    ready();
+    off = config;
+    off.fifo_trigger_level = 0;
+    OK(u16550_init(&uart, &off));
+    accesses = d.accesses;
+    MISUSE(u16550_set_trigger_level(&uart, 4), U16550_FIFOS_OFF);
+
+    ready();
+    OK(u16550_enable_interrupts(&uart, U16550_IER_DATA_READY));
+    OK(u16550_config_register_dump(&uart, &dump));
+    OK(u16550_quiesce(&uart, U16550_MCR_OUT_1 | U16550_MCR_LOOP_BACK, U16550_FIFOS_KEEP));
+    IS(d.registers[MCR], U16550_MCR_OUT_1);
+    IS(d.registers[IER], 0);
+    OK(u16550_quiesce(&uart, 0, U16550_FIFOS_RESET));
+    OK(u16550_fifo_enabled(&uart, &enabled));
+    IS(enabled, 1);
+    OK(u16550_quiesce(&uart, 0, U16550_FIFOS_DISABLE));
+    OK(u16550_fifo_enabled(&uart, &enabled));
+    IS(enabled, 0);
+    accesses = d.accesses;
+    MISUSE(u16550_quiesce(&uart, 0, 3), U16550_BAD_CODE);
+    d.dll = 0;
+    OK(u16550_restore(&uart, &dump));
+    IS(d.dll, 12);
+    IS(d.registers[MCR], 0x0b);
+    IS(d.registers[IER], U16550_IER_DATA_READY);
+    accesses = d.accesses;
+    MISUSE(u16550_restore(&uart, NULL), U16550_NULL_POINTER);
+}
+
 static void attach(void)
 {
     uint8_t dll = 1, dlm = 1, enabled;
@@ -871,6 +1049,7 @@ static void refused(struct u16550 *u, int wanted)
     struct u16550_dump dump;
     struct u16550_received received;
     struct u16550_handled handled;
+    struct u16550_setup setup = { 1, U16550_WAIT_LAST, 0 };
     uint8_t byte;
     uint64_t limit;
     size_t count;
@@ -886,7 +1065,13 @@ static void refused(struct u16550 *u, int wanted)
     MISUSE(u16550_init(u, &config), wanted);
     MISUSE(u16550_test_loopback(u, NULL), wanted);
     MISUSE(u16550_check_connected(u), wanted);
+    MISUSE(u16550_emergency(u), wanted);
     MISUSE(u16550_set_frame(u, &config), wanted);
+    MISUSE(u16550_init_with(u, &config, &setup), wanted);
+    MISUSE(u16550_set_frame_when_idle(u, &config), wanted);
+    MISUSE(u16550_set_trigger_level(u, 4), wanted);
+    MISUSE(u16550_quiesce(u, 0, U16550_FIFOS_KEEP), wanted);
+    MISUSE(u16550_restore(u, &dump), wanted);
     MISUSE(u16550_attach(u, &byte, &byte), wanted);
     MISUSE(u16550_set_modem_control(u, 0), wanted);
     MISUSE(u16550_set_rts(u, 1), wanted);
@@ -1047,6 +1232,7 @@ static void not_made(struct u16550 *u, int wanted)
     MISUSE(u16550_new_port(u, &io, UINT16_MAX), wanted);
     MISUSE(u16550_new_mmio(u, &io, 1, 1), wanted);
     MISUSE(u16550_new_mmio(u, &io, 0, 0), wanted);
+    MISUSE(u16550_new_mmio_wide(u, 0, NULL), wanted);
     MISUSE(u16550_from_state(u, &io, &state), wanted);
 }
 
@@ -1126,6 +1312,91 @@ static void left_calls(void)
     BYTES(d.sent, "z");
 }
 
+/* ---- last words, after a call that stopped at any of its accesses and is never done */
+
+enum { SET_BREAK = 0x40 };
+
+static jmp_buf stopped;
+static unsigned accesses_left;
+
+static void stop_here(struct device *device)
+{
+    (void)device;
+    if (accesses_left-- == 0)
+        longjmp(stopped, 1);
+}
+
+static void send_all(void)
+{
+    size_t count;
+    u16550_send_bytes(&uart, (const uint8_t *)"sent", 4, &count);
+}
+static void init_again(void) { u16550_init(&uart, &config); }
+static void other_frame(void)
+{
+    struct u16550_config other = config;
+    other.baud_rate = 38400;
+    u16550_set_frame(&uart, &other);
+}
+static void look_at_latch(void)
+{
+    uint8_t dll, dlm;
+    u16550_dll_dlm(&uart, &dll, &dlm);
+}
+static void loop_back(void) { u16550_test_loopback(&uart, NULL); }
+
+/* Stops the call behind this access. Returns 0 if it makes no more accesses. */
+static int stops_at(void (*call)(void), unsigned access)
+{
+    ready();
+    OK(u16550_set_break(&uart, access % 2));
+    accesses_left = access;
+    d.meanwhile = stop_here;
+    if (setjmp(stopped) == 0) {
+        call();
+        d.meanwhile = NULL;
+        return 0;
+    }
+    d.meanwhile = NULL;
+    return 1;
+}
+
+static void emergency(void)
+{
+    static void (*const calls[])(void) = { send_all, init_again, other_frame, look_at_latch, loop_back };
+    static struct u16550 last;
+    struct u16550_io io;
+    uint8_t value;
+    size_t count;
+    unsigned i, access;
+    for (i = 0; i < sizeof calls / sizeof calls[0]; i++)
+        for (access = 0; stops_at(calls[i], access); access++) {
+            IS(u16550_ier(&uart, &value), U16550_BUSY);
+            io = device_io(&d);
+            OK(u16550_new(&last, &io));
+            OK(u16550_set_spin_limit(&last, 3));
+            OK(u16550_emergency(&last));
+            IS(d.registers[LCR] & (DLAB | SET_BREAK), 0);
+            IS(d.registers[IER], 0);
+            IS(d.registers[MCR] & LOOP_BACK, 0);
+            OK(u16550_flush(&last));
+            OK(u16550_set_frame(&last, &config));
+            IS(d.dll + 256 * d.dlm, 12);
+            d.sent_len = 0;
+            OK(u16550_write_text(&last, "no memory\n", 10, NULL));
+            IS(d.sent_len, 11);
+            BYTES(d.sent, "no memory\r\n");
+        }
+    ready();
+    d.is_stuck = 1;
+    OK(u16550_emergency(&uart));
+    IS(u16550_send_bytes_exact(&uart, (const uint8_t *)"x", 1, &count), U16550_STALLED);
+    ready();
+    OK(u16550_ring_new(&uart, memory, sizeof memory, 1, 1));
+    accesses = d.accesses;
+    MISUSE(u16550_emergency(&uart), U16550_HAS_RINGS);
+}
+
 /* A driver that is copied to another place. */
 static void moves(void)
 {
@@ -1140,7 +1411,7 @@ static void moves(void)
 static void texts(void)
 {
     static const int known[] = {
-        0, -1, -2, -3, -4, -5, -6, -7, -8, -9, -10, -11, 10, 11, 20, 21, 22, 23, 30, 31, 32, 33, 34, 40, 41, 42, 50, 51,
+        0, -1, -2, -3, -4, -5, -6, -7, -8, -9, -10, -11, 10, 11, 12, 13, 14, 20, 21, 22, 23, 30, 31, 32, 33, 34, 40, 41, 42, 50, 51,
         60, 70, 80, 90, 91, 100, 101, 110, 111, 120, 121,
     };
     size_t count = sizeof known / sizeof known[0], i, j;
@@ -1158,6 +1429,7 @@ int main(void)
 {
     sizes();
     making();
+    wide();
     settings();
     init();
     init_errors();
@@ -1166,6 +1438,7 @@ int main(void)
     remote();
     nearest();
     frame();
+    setup();
     attach();
     outputs();
     bytes();
@@ -1181,6 +1454,7 @@ int main(void)
     nulls();
     reentry();
     left_calls();
+    emergency();
     moves();
     texts();
     printf("%d compared, %d failed\n", compared, failed);

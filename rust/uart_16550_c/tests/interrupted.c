@@ -212,11 +212,93 @@ static void replacing(void)
     OK(u16550_ring_end(&uart));
 }
 
+/* ---- a handler that acts once, at each instruction of a call in turn */
+
+/* The step in which it acts, the step that comes, and what it got. */
+static struct {
+    unsigned at, step, accesses, looks, mixed;
+    int status;
+} once;
+
+/* Ends the driver. */
+static void end_once(int signal)
+{
+    (void)signal;
+    if (once.step++ == once.at) {
+        once.status = u16550_end(&uart);
+        once.accesses = d.accesses;
+    }
+}
+
+/* A call of whose driver the end came before makes no access: whoever ended it may use the memory of its rings. */
+static void ending(void)
+{
+    uint8_t value;
+    int status;
+    interrupt_by(end_once);
+    for (memset(&once, 0, sizeof once);; once.at++) {
+        unsigned before;
+        ready();
+        before = d.accesses;
+        once.step = 0;
+        steps_on();
+        status = made(u16550_lsr(&uart, &value));
+        if (once.step <= once.at)
+            break;
+        IS(once.status == U16550_OK || once.status == U16550_BUSY, 1);
+        if (once.status == U16550_OK)
+            IS(d.accesses, once.accesses);
+        IS(status, d.accesses == before ? U16550_NOT_MADE : U16550_OK);
+    }
+    IS(once.at > 0, 1);
+}
+
+static struct device other;
+
+static void write_other(void *context, uintptr_t address, uint8_t value)
+{
+    device_write(context, address, value);
+}
+
+/* Makes a driver over the other device, and from then on looks at what is there. */
+static void make_once(int signal)
+{
+    struct u16550_io io = device_io(&other);
+    (void)signal;
+    io.write = write_other;
+    if (once.step++ == once.at) {
+        once.status = u16550_new(&uart, &io);
+    } else if (once.step > once.at && u16550_get_io(&uart, &io) == U16550_OK) {
+        once.looks++;
+        once.mixed += (io.context == &other) != (io.write == write_other);
+    }
+}
+
+/* Where two drivers are made in one memory, there is always one of them, and never a part of each. */
+static void making_two(void)
+{
+    struct u16550_io io = device_io(&d);
+    interrupt_by(make_once);
+    for (memset(&once, 0, sizeof once);; once.at++) {
+        memset(&uart, 0, sizeof uart);
+        once.step = 0;
+        steps_on();
+        OK(made(u16550_new(&uart, &io)));
+        if (once.step <= once.at)
+            break;
+        IS(once.status == U16550_OK || once.status == U16550_BUSY, 1);
+    }
+    IS(once.looks > 0, 1);
+    IS(once.mixed, 0);
+}
+
 int main(void)
 {
     interrupt_by(handle);
     making();
     calls();
+    ending();
+    making_two();
     interrupt_by(replace);
     replacing();
     printf("%d compared, %d failed\n", compared, failed);

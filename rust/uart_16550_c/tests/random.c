@@ -9,7 +9,7 @@
 
 #include "u16550.h"
 
-enum { CALLS = 40000, NESTED_IN = 16, ROOM = 64, LAST = 61 };
+enum { CALLS = 40000, NESTED_IN = 16, ROOM = 64, LAST = 67 };
 
 void u16550_panic(void)
 {
@@ -71,6 +71,22 @@ static void choose(struct u16550_config *config)
     config->check_cts_before_sending = (uint8_t)below(2);
     if (below(50) == 0)
         config->data_bits = (uint8_t)below(256);
+}
+
+/* A driver over memory that keeps what is written, of a layout that stands for something, or seldom for nothing. */
+static int new_wide(struct u16550 *u)
+{
+    static uint32_t words[8 * 128 / 4 + 1];
+    static const uint8_t widths[] = { 8, 16, 32, 0 };
+    struct u16550_layout layout;
+    uint8_t *cells = (uint8_t *)words;
+    size_t i;
+    for (i = 0; i < sizeof words; i++)
+        cells[i] = (uint8_t)below(256);
+    layout.stride = below(20) ? (uint8_t)(1u << below(8)) : (uint8_t)below(256);
+    layout.width = widths[below(4)];
+    layout.byte_order = (uint8_t)below(4);
+    return u16550_new_mmio_wide(u, (uintptr_t)words + (below(2) ? 0 : below(4)), &layout);
 }
 
 /* Rings in memory of just their size, in place of those that are there. */
@@ -161,6 +177,15 @@ static int make(struct u16550 *u, unsigned which, struct room *r)
     case 58: return u16550_ring_retrigger(u);
     case 59: return u16550_ring_service(u, &r->count);
     case 60: return u16550_ring_take_line(u, &r->value);
+    case 61: return new_wide(u);
+    case 62: {
+        struct u16550_setup setup = { (uint8_t)below(2), (uint8_t)below(4), (uint8_t)below(256) };
+        return u16550_init_with(u, &r->config, &setup);
+    }
+    case 63: return u16550_set_frame_when_idle(u, &r->config);
+    case 64: return u16550_set_trigger_level(u, (uint8_t)below(16));
+    case 65: return u16550_quiesce(u, (uint8_t)below(256), (uint8_t)below(4));
+    case 66: return u16550_restore(u, &r->dump);
     default: return u16550_ring_take_modem(u, &r->value);
     }
 }

@@ -7,21 +7,16 @@
 #![forbid(unsafe_code)]
 #![deny(missing_docs)]
 
-mod data;
-mod flags;
-mod list;
-mod proved;
 pub mod serial;
 
-pub use flags::{Bits, Flag, Flags};
-pub use list::ArrayVec;
+pub use geesetrunk_kit::{ArrayVec, Bits, Flag, Flags};
 #[doc(inline)]
-pub use proved::uart_live::{
+pub use uart_live::{
     Character, Chip, ChipData, ChipError, InputError, Latches, LiveChip, ModemData, Origin,
     ReceiverData, RestoreError, Shifting, TransmitterData, WIRE_ROOM,
 };
-pub use proved::uart_spec::registers;
+pub use uart_spec::registers;
 #[doc(inline)]
-pub use proved::uart_virtual::{Answer, Received, Todo, VirtualPort};
+pub use uart_virtual::{Answer, Received, Todo, VirtualPort};
 #[doc(inline)]
 pub use serial::{NoEvents, Output, Serial, SerialEvents, SerialState, Trigger};

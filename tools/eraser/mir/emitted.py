@@ -64,9 +64,20 @@ class Emitted:
         self.begun = 0
         for file in sorted(folder.rglob("*.rs")):
             parts = [one for one in file.relative_to(folder).with_suffix("").parts if one != "mod"]
-            if parts and parts != ["examples"]:
+            if parts and "by_hand" not in parts:
                 self.modules[file] = "::".join(parts)
                 self.read(file, "::".join(parts))
+
+    def leave_out(self, patterns):
+        """Forgets what has one of these patterns in its path: it is not compared."""
+        def is_left(one):
+            return not any(re.search(pattern, f"{one.module}::{getattr(one, 'owner', '')} {one.name}") for pattern in patterns)
+
+        for name in ("types", "functions"):
+            declared = getattr(self, name)
+            left = [one for one in declared if is_left(one)]
+            self.begun -= len(declared) - len(left)
+            setattr(self, name, left)
 
     def missing(self):
         """How many functions, types and constants were not read."""
@@ -132,7 +143,7 @@ def named(fields, is_tuple):
 def read_type(found, text, file, module):
     close = closing(text, found.end() - 1)
     body = re.sub(r"#\[[^\]]*\]", "", text[found.end() : close])
-    parameters = [one for one in split(found[4][1:-1])] if found[4] else []
+    parameters = [re.sub(r"\s+=\s.*", "", one, flags=re.DOTALL) for one in split(found[4][1:-1])] if found[4] else []
     if found[2] == "struct":
         variants = [("", named(body, found[5] == "("))]
     else:

@@ -6,7 +6,16 @@ An entry that is not needed is a failure, so that none outlives its reason.
 # The packages: the crates of each, which have the MIR, and the features that are compiled.
 PACKAGES = {
     "uart_16550": (["uart_spec", "uart_16550", "uart_ring"], ["alloc"]),
-    "uart_16550_chip": (["uart_spec", "uart_chip", "uart_live", "uart_virtual"], []),
+    "uart_16550_chip": (["uart_spec", "uart_events", "uart_chip", "uart_live", "uart_virtual"], []),
+}
+# What is not compared: a pattern of the name, and why.
+UNDER_A_SCHEDULE = "of a chip under a schedule, which allocates: scripts that are played by both sides compare it"
+UNCOMPARED = {
+    r"^uart_chip::device::": UNDER_A_SCHEDULE,
+    r"HeapFifo|HeapWire|\bMarks": UNDER_A_SCHEDULE,
+    r"^uart_events::call::": "calls as data, which scripts are made of: scripts that are played by both sides compare it",
+    r"^\w+::laws::": "a law, which does nothing",
+    r"^uart_spec::registers::(every_byte_is_a_value|masks_are_these)$": "a lemma, which does nothing",
 }
 # The crates of the kit whose MIR they reach.
 OF_KIT = ["core", "std_heap", "std_alloc", "bitflags", "arrayvec", "circular_buffer"]
@@ -14,15 +23,16 @@ OF_KIT = ["core", "std_heap", "std_alloc", "bitflags", "arrayvec", "circular_buf
 # Functions that differ: a pattern of the name, and why.
 SHOWS_REGISTER = "shows a register, of which `Debug` is by hand"
 DIFFER = {
-    r"::registers::\w+::[A-Z]{3}Debug::fmt": "`Debug` of a register shows the names of its bits: by hand, in flags.rs",
+    r"::registers::\w+::[A-Z]{3}Debug::fmt": "`Debug` of a register shows the names of its bits: by hand, in registers/by_hand.rs",
     r"^uart_spec::received::ReceivedDebug::fmt": SHOWS_REGISTER,
+    r"^uart_spec::setup::SetupDebug::fmt": SHOWS_REGISTER,
     r"::state::DriverStateDebug::fmt": SHOWS_REGISTER,
     r"::config::ConfigDebug::fmt": SHOWS_REGISTER,
     r"::dump::ConfigRegisterDumpDebug::fmt": SHOWS_REGISTER,
 }
 
 # Emitted functions that no case compares or reaches: a pattern of the name and of the cause that the program gives, and why.
-SCHEDULED = "of a chip under a schedule: no emitted code calls it"
+SCHEDULED = "of a chip under a schedule: nothing that is compared calls it"
 SKIPPED = {
     r"^uart_chip::chip::Uart::(fifo|tick|arrive|expire_timeout|perform): generic": SCHEDULED,
     r"^uart_chip::receiver::Receiver::(arrive|waiting_at|arrivals): generic": SCHEDULED,
@@ -36,7 +46,6 @@ NOT_IN_MIR = {}
 # Functions of the MIR that are not emitted: a pattern of the name, and why.
 NOT_EMITTED = {
     r"::fn::": "a closure: of the function that has it",
-    r"FnOnce::call_once$": "a case of an enum as a function",
     r"Hash::hash$": "derived in both: the MIR has no hasher of Rust's std",
     r"^uart_16550::.*Debug::fmt$": "derived, and prints a backend",
     r"^uart_chip::fifo::Fifo::is_empty\+decl$": "the declaration of a method that has a body",
@@ -75,6 +84,8 @@ CONTRACTS = {
     "uart_spec::registers::prescaler_division::PSD::set_pdf": "a1 > 15",
     "uart_16550::driver::init::Uart16550::init": NOT_COMPUTABLE.format("a1"),
     "uart_16550::driver::frame::Uart16550::set_frame": NOT_COMPUTABLE.format("a1"),
+    "uart_16550::driver::setup::Uart16550::set_frame_when_idle": NOT_COMPUTABLE.format("a1"),
+    "uart_16550::driver::setup::Uart16550::init_with": NOT_COMPUTABLE.format("a1"),
     "uart_16550::tty::Uart16550Tty::start": NOT_COMPUTABLE.format("a1"),
     "uart_16550::tty::Uart16550Tty::new_with_backend": NOT_COMPUTABLE.format("a1"),
     "uart_16550::tty::Uart16550Tty::new_port": f"{NOT_COMPUTABLE.format('a2')} && Uart16550::new_port(a0, a1).is_ok()",

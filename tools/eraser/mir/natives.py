@@ -42,6 +42,11 @@ def free(translation, types):
     return ["P", "P", "u64", "u64"], "()", ""
 
 
+def grow(translation, types):
+    result, _ = ok(translation, "Ptr", NO_MEMORY, "a1")
+    return ["P", "P", "u64", "u64", "u64"], result, 'panic!("no list that is compared grows")'
+
+
 def clone(translation, types):
     device = translation.rust(DEVICE)
     result, done = ok(translation, DEVICE, NO_MEMORY, f"{device} {{ }}")
@@ -71,6 +76,7 @@ TRAITS = {
 NATIVES = {
     ("std_heap::GlobalAllocator", 0): allocate,
     ("std_heap::GlobalAllocator", 1): free,
+    ("std_heap::GlobalAllocator", 2): grow,
     **{(f"of a device: {trait}", order): one for trait, methods in TRAITS.items() for order, one in enumerate(methods)},
 }
 

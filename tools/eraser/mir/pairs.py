@@ -117,7 +117,7 @@ class Pairs:
             mine, theirs = (f"{slot}: ::std::vec::Vec<{one}> = choices.list({least});" for one in (slice_of[2], item))
             return Argument(mine, theirs, f"&{'mut ' if is_changed else ''}{name}[..]", pass_to, is_changed)
         if text.startswith("Global"):
-            lent = "let memory = crate::queue::Memory::new(crate::run::lent(crate::run::memory_of(choices)));"
+            lent = "let memory = crate::kit_of_rings::alloc::Memory::new(crate::run::lent(crate::run::memory_of(choices)));"
             zeroed = f"crate::run::memory_of(choices); {slot}: {self.translation.rust_outside(of)} = core::mem::zeroed();"
             return Argument(lent, zeroed, "memory.global()", name)
         reference = re.fullmatch(r"&(mut )?(.*)", text, re.DOTALL)

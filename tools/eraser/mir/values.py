@@ -8,7 +8,7 @@ MAKE = f"fn make(choices: &mut {CHOICES}) -> Self"
 ONE = f"{VALUE}::make(choices)"
 
 # Types whose values are made by hand, in run/behind and below: not each combination of their fields is a value.
-BY_HAND = {"ArrayVec", "FixedFifo", "FixedWire", "HeapCircularBuffer"}
+BY_HAND = {"ArrayVec", "ByteQueue", "FixedFifo", "FixedWire"}
 
 
 def of_emitted(one):
@@ -42,11 +42,12 @@ def of_emitted(one):
 
 # The types by hand of the MIR: how a value is shown, and how it is made.
 OF_MIR = {
-    "circular_buffer::ring::Ring": (
-        "out.extend([self.f1, self.f2]); unsafe { for at in 0..self.f2 { "
-        "out.push(*self.f0.f0.add(((self.f3 + at) % self.f1) as usize) as u64); } }",
+    "uart_ring::queue::ByteQueue": (
+        "let cells = self.f0.f2; out.extend([cells, self.f2]); unsafe { for at in 0..self.f2 { "
+        "out.push(*self.f0.f0.add(((self.f1 + at) % cells) as usize) as u64); } }",
         "let (capacity, front, bytes) = crate::run::queue(choices); unsafe { let mut made: Self = zeroed(); "
-        "made.f0.f0 = crate::run::memory(capacity as u64); made.f1 = capacity as u64; made.f2 = bytes.len() as u64; made.f3 = front as u64; "
+        "made.f0.f0 = crate::run::memory(capacity as u64); made.f0.f1 = capacity as u64; made.f0.f2 = capacity as u64; "
+        "made.f1 = front as u64; made.f2 = bytes.len() as u64; "
         "for (at, byte) in bytes.iter().enumerate() { *made.f0.f0.add((front + at) % capacity) = *byte; } made }",
     ),
     "arrayvec::array_vec::ArrayVec": (

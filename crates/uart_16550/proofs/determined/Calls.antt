@@ -23,6 +23,8 @@ use Rattle.uart_16550.proofs.determined.Status.{enables_determined, disables_det
 use Rattle.uart_16550.proofs.determined.Status.{retriggers_determined}
 use Rattle.uart_16550.proofs.determined.Init.{presence_determined, inits_determined}
 use Rattle.uart_16550.proofs.determined.Loopback.{tests_loopback_determined}
+use Rattle.uart_16550.proofs.determined.Setup.{sets_trigger_determined, sets_frame_when_idle_determined, inits_with_determined}
+use Rattle.uart_16550.proofs.determined.Setup.{quiesces_determined, restores_determined}
 use Rattle.uart_16550.proofs.determined.Tty.{starts_determined}
 
 lists_determined : (call : SavingCall) (s : Settings) (a b : SavingOutcome call) →
@@ -67,5 +69,11 @@ changing_leaves_no_choice (ChangingCall.set_spin_limit limit) = no_choice (λ f 
 changing_leaves_no_choice (ChangingCall.init config computable) = no_choice (inits_determined config computable)
 changing_leaves_no_choice (ChangingCall.start config computable) = no_choice (starts_determined config computable)
 changing_leaves_no_choice (ChangingCall.set_frame config computable) = no_choice (sets_frame_determined config computable)
+changing_leaves_no_choice (ChangingCall.set_frame_when_idle config computable) =
+    no_choice (sets_frame_when_idle_determined config computable)
+changing_leaves_no_choice (ChangingCall.init_with setup config computable) = no_choice (inits_with_determined setup config computable)
+changing_leaves_no_choice (ChangingCall.set_trigger_level level) = no_choice (sets_trigger_determined level)
+changing_leaves_no_choice (ChangingCall.quiesce outputs fifos) = no_choice (quiesces_determined outputs fifos)
+changing_leaves_no_choice (ChangingCall.restore dump) = no_choice (restores_determined dump)
 changing_leaves_no_choice ChangingCall.attach = no_choice attaches_determined
 changing_leaves_no_choice ChangingCall.test_loopback = no_choice tests_loopback_determined

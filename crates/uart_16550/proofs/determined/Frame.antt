@@ -74,7 +74,7 @@ port_determined s a b x y =
     (λ t. determined_then (asks_determined offsets.ISR ISR.FIFOS_ENABLED.0 a b)
     (λ same. determined_so (λ latch. (same, latch)) (divisor_determined s x y)))
 
-sets_fifo : (a b : Bool) (f : Fields) → a ≡ b → Does (Unit {0}) f (Sets (with_fifo a)) (Sets (with_fifo b))
+pub sets_fifo : (a b : Bool) (f : Fields) → a ≡ b → Does (Unit {0}) f (Sets (with_fifo a)) (Sets (with_fifo b))
 sets_fifo a b f same = record { at = λ l m c d p q. inl ((tt, p.1 ∙ ap (λ (x : Bool). with_fifo x f) same ∙ sym q.1), p.0 ∙ sym q.0) }
 
 attached_latch : (f : Fields) (a b : Bool) (x y : ℕ × ℕ) →

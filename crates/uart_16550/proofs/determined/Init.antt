@@ -88,7 +88,7 @@ discards s =
       apart = determined_front (asks_apart offsets.LSR LSR.DATA_READY.0);
     }
 
-drains_same : (s : Settings) → Determined (Unit {0}) (DrainsReceiver s) (DrainsReceiver s)
+pub drains_same : (s : Settings) → Determined (Unit {0}) (DrainsReceiver s) (DrainsReceiver s)
 drains_same s = record { at = at }
   where
     at : (l m : List Access) → DrainsReceiver s l → DrainsReceiver s m → SameOrPart (Unit {0}) l m
@@ -148,7 +148,7 @@ absent_same f config =
     (determined_so (λ t. tt) (presence_determined (settings_of g) false false)))
 
 -- the wait and the end
-ends_same : (f : Fields) (config : Config) → Does (Unit {0}) f (Ends config) (Ends config)
+pub ends_same : (f : Fields) (config : Config) → Does (Unit {0}) f (Ends config) (Ends config)
 ends_same f config =
     let L = Then (ReadsRegister offsets.LSR) (Then (ReadsRegister offsets.ISR) (ReadsRegister offsets.MSR)) in
     let W = Only (Write offsets.IER config.interrupts.0 ∷ []) in

@@ -1,4 +1,8 @@
 -- Lists that part at a read, and languages whose lists part only so.
+--
+-- One relation of two languages carries the proof that no call has a choice: two lists of theirs are equal, and then a fact holds,
+-- or they part at a read. The fact is that the results are equal; or nothing; or, for two languages that cannot begin alike,
+-- something that is never true. So sequences, waits and items in turn need one lemma each.
 use Rattle.std.proofs.Common.{◌≡◌, ℕ, Bool, true, false, List, [], ◌∷◌, ◌++◌, refl, sym, ◌∙◌, ap, subst, append_assoc, append-nil, inl, inr}
 use Rattle.std.proofs.Common.{◌⊎◌, MatchBool}
 use Rattle.std.proofs.Math.Decide.{ℕ_discrete}

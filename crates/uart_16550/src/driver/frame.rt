@@ -2,10 +2,10 @@
 ghost use Rattle.std.specs.Prelude.{◌≡◌};
 ghost use Rattle.uart_spec.specs.Config.{IsComputable};
 ghost use Rattle.uart_16550.specs.Grammar.{Only};
-ghost use Rattle.uart_16550.specs.Frame.{frame_writes, SetsFrame, ShowsIdle, SetsBreak};
+ghost use Rattle.uart_16550.specs.Frame.{frame_writes, with_frame, SetsFrame, ShowsIdle, SetsBreak};
 ghost use Rattle.uart_16550.specs.Frame.{SetsControl, SetsOutput, switched};
 ghost use Rattle.uart_16550.specs.Attach.{Attaches};
-ghost use Rattle.uart_16550.specs.Driver.{Made, Did};
+ghost use Rattle.uart_16550.specs.Driver.{Made, Did, Sets};
 
 use super::Uart16550;
 use super::init::frame_of;
@@ -77,19 +77,26 @@ impl<B: Backend> Uart16550<B> {
             Ok(divisor) => divisor,
             Err(cause) => return Err(cause),
         };
-        let frame = frame_of(config);
+        self.store_frame(config);
+        self.write_frame(divisor, frame_of(config));
+        Ok(())
+    }
+
+    // Stores the clock, the baud rate and the frame. The other fields of the configuration are for
+    // registers that a change of the frame does not write.
+    pub(super) fn store_frame(&mut self, config: &Config)
+        ensures { Did B.step (Sets (with_frame config.now)) self.old self.new }
+    {
         self.config.frequency = config.frequency;
-        self.config.prescaler_division_factor = prescaler;
+        self.config.prescaler_division_factor = config.prescaler_division_factor;
         self.config.baud_rate = config.baud_rate;
         self.config.data_bits = config.data_bits;
         self.config.extra_stop_bits = config.extra_stop_bits;
         self.config.parity = config.parity;
-        self.write_frame(divisor, frame);
-        Ok(())
     }
 
     // Sets the divisor and the frame.
-    fn write_frame(&mut self, divisor: u16, frame: LCR)
+    pub(super) fn write_frame(&mut self, divisor: u16, frame: LCR)
         ensures { Made B.step (Only (frame_writes divisor frame.0)) self.old self.new }
     {
         // The frame goes in together with DLAB, so that LCR never has a third one in between.

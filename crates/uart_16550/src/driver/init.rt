@@ -1,20 +1,20 @@
 //! The presence check and the initialisation.
-ghost use Rattle.std.specs.Prelude.{◌≡◌, ◌<◌};
+ghost use Rattle.std.specs.Prelude.{◌≡◌, ◌<◌, Ok};
 ghost use Rattle.uart_spec.specs.Config.{IsComputable};
 ghost use Rattle.uart_16550.specs.Grammar.{Only};
 ghost use Rattle.uart_16550.specs.Init.{Keeps, KeepsPatterns, ChecksPresence, frame_bits};
 ghost use Rattle.uart_16550.specs.Init.{line_writes, fifo_bits, SetsFifo, DrainsReceiver};
-ghost use Rattle.uart_16550.specs.Init.{Ends, Inits};
+ghost use Rattle.uart_16550.specs.Init.{DivisorOf, Ends, Inits};
 ghost use Rattle.uart_16550.specs.Driver.{Made, Did, Plain, fields};
 
 use super::Uart16550;
 use crate::backend::Backend;
 use bitflags::Flags;
-use std::mem;
 use uart_spec::registers::{FCR, FifoTriggerLevel, ISR, LCR, LSR, MCR, MSR, offsets};
 use uart_spec::{Config, FIFO_SIZE, InitError, calc_divisor};
 
-// The patterns that are written to the scratch register.
+// The patterns that are written to the scratch register. Where no chip is, a read returns something
+// too, often 0xff. A place that always returns the first pattern fails the second.
 const FIRST_PATTERN: u8 = 0x42;
 
 const SECOND_PATTERN: u8 = 0x73;
@@ -36,10 +36,12 @@ pub(super) fn frame_of(config: &Config) -> LCR
 }
 
 // Returns FCR for a trigger level.
-fn fifo_control_of(level: Option<FifoTriggerLevel>) -> FCR
+pub(super) fn fifo_control_of(level: Option<FifoTriggerLevel>) -> FCR
     ensures { result.0 ≡ fifo_bits level }
 {
     let resets = FCR::RX_FIFO_RESET.union(FCR::TX_FIFO_RESET);
+    // Without a level the enable bit is clear. That turns the FIFOs off, and so empties them. If
+    // they were off already, a chip ignores the reset bits.
     match level {
         None => resets,
         Some(level) => resets.union(FCR::FIFO_ENABLE).set_fifo_trigger_level(level),
@@ -85,11 +87,16 @@ impl<B: Backend> Uart16550<B> {
         present
     }
 
-    // Turns interrupts off, and sets the divisor and the frame.
-    fn set_line(&mut self, divisor: u16, frame: LCR)
+    // Turns interrupts off, and sets the divisor and the frame. A character that is going out has
+    // the new ones from then on, so the remote gets it corrupted. No wait of `init` prevents that:
+    // call `flush` before, if it matters.
+    pub(super) fn set_line(&mut self, divisor: u16, frame: LCR)
         ensures { Made B.step (Only (line_writes divisor frame.0)) self.old self.new }
     {
+        // DLAB may still be set from before. Then the write of IER would go to the divisor.
         self.write_register(offsets::LCR, 0);
+        // Interrupts are off from here on, until the last write of `init`. A handler would find a
+        // chip that is half set up, and while DLAB is set it could reach neither data nor IER.
         self.write_register(offsets::IER, 0);
         self.write_register(offsets::LCR, LCR::DLAB.bits());
         self.write_register(offsets::DLL, (divisor % 256) as u8);
@@ -103,14 +110,18 @@ impl<B: Backend> Uart16550<B> {
         ensures { Made B.step (SetsFifo level result) self.old self.new }
     {
         self.write_register(offsets::FCR, fifo_control_of(level).bits());
+        // A chip without FIFOs ignores FCR. Only ISR tells whether 16 bytes may follow a look, or
+        // one. The other bytes of a burst would be lost on such a chip.
         match level {
             Some(_) => self.isr().fifo_enabled(),
             None => false,
         }
     }
 
-    // Discards received bytes until none is available, or as many as the receiver can hold.
-    fn drain(&mut self)
+    // Discards received bytes until none is available, or as many as the receiver can hold. More
+    // are not discarded: a remote that never stops sending must not hold `init` for ever. What the
+    // reads clear is not saved, since those errors are of bytes that nobody gets.
+    pub(super) fn drain(&mut self)
         ensures { Did B.step (Plain DrainsReceiver) self.old self.new }
     {
         for _turn in 0..MOST_WAITING {
@@ -123,9 +134,13 @@ impl<B: Backend> Uart16550<B> {
     }
 
     // Reads the statuses without saving them, and enables the configured interrupts.
-    fn finish_init(&mut self)
+    pub(super) fn finish_init(&mut self)
         ensures { Did B.step (Ends (fields self.old).config) self.old self.new }
     {
+        // These reads come last, just before the interrupts are enabled: errors, changes of modem
+        // lines and a pending THR_EMPTY that were left over would interrupt at once. Some arise in
+        // `init` itself: the write of MCR may have ended a loopback, and that changes modem lines.
+        // The read of ISR matters on a chip that shows THR_EMPTY while IER is 0.
         self.read_plain(offsets::LSR);
         self.read_plain(offsets::ISR);
         self.read_plain(offsets::MSR);
@@ -183,18 +198,25 @@ impl<B: Backend> Uart16550<B> {
         requires { IsComputable config }
         ensures { Did B.step (Inits config result) self.old self.new }
     {
+        // The divisor comes before the first access, so that a configuration which cannot be had
+        // changes nothing.
+        let baud_rate = config.baud_rate.to_integer();
+        let prescaler = config.prescaler_division_factor;
+        match calc_divisor(config.frequency, baud_rate, prescaler) {
+            Ok(divisor) => self.set_up(config, divisor),
+            Err(cause) => Err(InitError::InvalidBaudRate(cause)),
+        }
+    }
+
+    // Initialises the device with this configuration, whose divisor this is. This is a function of
+    // its own for callers that have tested the configuration already, and so have its divisor.
+    pub(crate) fn set_up(&mut self, config: Config, divisor: u16) -> Result<(), InitError>
+        requires { DivisorOf config (Ok divisor) }
+        ensures { Did B.step (Inits config result) self.old self.new }
+    {
         // The configuration is stored first and then read in place. So it is copied once, and as a
-        // whole.
-        let before = mem::replace(&mut self.config, config);
-        let baud_rate = self.config.baud_rate.to_integer();
-        let prescaler = self.config.prescaler_division_factor;
-        let divisor = match calc_divisor(self.config.frequency, baud_rate, prescaler) {
-            Ok(divisor) => divisor,
-            Err(cause) => {
-                self.config = before;
-                return Err(InitError::InvalidBaudRate(cause));
-            }
-        };
+        // whole. A copy that is read before it is stored is copied field by field.
+        self.config = config;
         let frame = frame_of(&self.config);
         let level = self.config.fifo_trigger_level;
         if !self.check_present() {
@@ -202,9 +224,19 @@ impl<B: Backend> Uart16550<B> {
         }
         self.set_line(divisor, frame);
         self.fifo_enabled = self.set_fifo(level);
+        // FCR has emptied a FIFO. Without FIFO its reset does nothing, and an old byte would be the
+        // first of the new session. The old bytes must be gone before MCR is written: DTR and RTS
+        // tell the remote that we are ready, and what the remote sends then is not to be discarded.
         self.drain();
+        // On a PC the gate of the interrupt line is open while OUT2 is set.
         let modem_control = MCR::DTR.union(MCR::RTS).union(MCR::OUT_2_INT_ENABLE);
         self.write_register(offsets::MCR, modem_control.bits());
+        // FCR does not stop the character in the shift register, and without FIFO another may be
+        // behind it. After the wait no old byte goes out among those of the new session. At 110
+        // baud a character takes a tenth of a second.
+        //
+        // If the wait stalls, what its polls have cleared stays saved. The drain saved nothing, and
+        // the saved bits are reset only at the end.
         if !self.wait_for(LSR::TRANSMITTER_EMPTY) {
             return Err(InitError::Stalled);
         }

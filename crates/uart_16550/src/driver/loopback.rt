@@ -17,8 +17,9 @@ const TEST_BYTE: u8 = 0x42;
 const TEST_MESSAGE: [u8; 16] = *b"hello world!1337";
 
 impl<B: Backend> Uart16550<B> {
-    // Discards received bytes until none is available. Returns false after as many bytes as the
-    // spin limit.
+    // Discards received bytes until none is available: a byte from before the test would be taken
+    // for the first that returns. Returns false after as many bytes as the spin limit, right after
+    // the last of them. So with a limit of 1 one byte is too many, even if none is behind it.
     fn drain_received(&mut self) -> bool
         ensures { Made B.step (DrainsLoopback result) self.old self.new }
     {
@@ -49,7 +50,8 @@ impl<B: Backend> Uart16550<B> {
         })
     }
 
-    // Sends a byte, and waits for the byte that returns.
+    // Sends a byte, and waits for the byte that returns. On a real chip it returns after the time
+    // of a character, and not at once.
     fn echo(&mut self, byte: u8) -> Option<u8>
         ensures { Made B.step (HasEchoed byte result) self.old self.new }
     {
@@ -57,7 +59,7 @@ impl<B: Backend> Uart16550<B> {
         self.receive_one()
     }
 
-    // Sends the whole test message, and then receives it.
+    // Sends the whole test message, and then receives it. A FIFO has room for all of it.
     fn echo_whole(&mut self) -> Option<[u8; 16]>
         ensures made { Made B.step (HasEchoedWhole test_message result) self.old self.new }
         ensures length { IfSome result (λ actual. length actual ≡ length test_message) }
@@ -72,7 +74,8 @@ impl<B: Backend> Uart16550<B> {
         Some(actual)
     }
 
-    // Sends the test message byte by byte, and waits for each to return.
+    // Sends the test message byte by byte, and waits for each to return. Without FIFO the receiver
+    // has room for one character, and the next would replace it.
     fn echo_each(&mut self) -> Option<[u8; 16]>
         ensures made { Made B.step (HasEchoedEach test_message result) self.old self.new }
         ensures length { IfSome result (λ actual. length actual ≡ length test_message) }
@@ -126,9 +129,12 @@ impl<B: Backend> Uart16550<B> {
     fn enter_loopback(&mut self) -> MSR
         ensures { Did B.step (Enters result.0 (fields self.new).fifo) self.old self.new }
     {
+        // Loopback connects the modem's inputs to the outputs. So the lines are read before.
         let before = self.read_msr();
+        // A handler would take the bytes that come back.
         self.write_register(offsets::IER, 0);
         self.write_register(offsets::MCR, MCR::LOOP_BACK.bits());
+        // Bytes that were received before are gone after the reset.
         self.fifo_enabled = self.set_fifo(self.config.fifo_trigger_level);
         before
     }
@@ -138,11 +144,18 @@ impl<B: Backend> Uart16550<B> {
     fn leave_loopback(&mut self, mcr: MCR, ier: IER, before: MSR, noted: LSR)
         ensures { Did B.step (Leaves mcr.0 ier.0 before.0 noted.0) self.old self.new }
     {
+        // The inputs are the modem's lines again. Those that are set change by that, which is a
+        // modem status interrupt. OUT2 stays clear until the read of MSR has cleared it, and IER is
+        // still 0. Otherwise the interrupt line would rise for a moment, and a controller that
+        // detects edges would call the handler for nothing.
         self.write_register(offsets::MCR, mcr.difference(MCR::OUT_2_INT_ENABLE).bits());
+        // The change bits that this read clears tell what the test did. What happened to the lines
+        // is found by comparing them with those before.
         let now = MSR::from_bits_retain(self.read_plain(offsets::MSR));
         self.write_register(offsets::MCR, mcr.bits());
         self.write_register(offsets::IER, ier.bits());
         self.saved_msr.insert(now.changes_since(before));
+        // Errors in loopback are those of the test's bytes, or of bytes that it has discarded.
         self.saved_lsr = noted;
     }
 
@@ -187,6 +200,8 @@ impl<B: Backend> Uart16550<B> {
     {
         let mcr = self.mcr();
         let ier = self.ier();
+        // A byte that is still to go out would come back among those of the test, and would never
+        // reach the remote.
         if !self.wait_for(LSR::TRANSMITTER_EMPTY) {
             return Err(LoopbackError::Stalled);
         }

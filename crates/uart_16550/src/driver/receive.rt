@@ -76,6 +76,8 @@ impl<B: Backend> Uart16550<B> {
         ensures count { result ≤ length buffer.old }
         ensures rest { drop result buffer.new ≡ drop result buffer.old }
     {
+        // No copy here, unlike in `receive_piece`: the loop is short, and a copy of a length that
+        // the compiler does not know costs a call.
         for (count, slot) in buffer.iter_mut().enumerate() {
             match self.try_receive_byte() {
                 Ok(byte) => *slot = byte,
@@ -103,6 +105,7 @@ impl<B: Backend> Uart16550<B> {
     pub fn try_receive_with_errors(&mut self) -> Result<Received, ByteReceiveError>
         ensures { Made B.step (TryReceiveWithErrors result) self.old self.new }
     {
+        // LSR shows the errors of the character that is the next to be read. So it is read first.
         let lsr = self.read_lsr();
         if !lsr.contains(LSR::DATA_READY) {
             return Err(ByteReceiveError);
@@ -161,7 +164,8 @@ impl<B: Backend> Uart16550<B> {
         None
     }
 
-    // Waits for one byte. The first poll is separate, since it mostly finds one.
+    // Waits for one byte. The first poll is separate, since it mostly finds one: then the limit is
+    // never read.
     pub(crate) fn receive_one(&mut self) -> Option<u8>
         ensures { Made B.step (Awaits result) self.old self.new }
     {
@@ -192,6 +196,13 @@ impl<B: Backend> Uart16550<B> {
     }
 
     // Receives into the slots of one piece: a whole piece is received into a copy.
+    //
+    // As far as the compiler knows, a slice may overlap the driver. So at each access of the slots
+    // it would have to store the slot and load the backend's fields again, in order. No access can
+    // reach a copy on the stack, so the compiler keeps these fields in registers.
+    //
+    // The slots are copied in as well as out. So the copy begins as the slots do, and after a stall
+    // the slots that got no byte are as they were.
     #[inline(always)]
     fn receive_piece(&mut self, slots: &mut [u8]) -> Result<(), StalledError>
         ensures made { Made B.step (ReceivesExact (length slots.old) (filled result slots.new)

@@ -16,7 +16,8 @@ use uart_spec::registers::{LSR, MCR, MSR, offsets};
 use uart_spec::{ByteSendError, FIFO_SIZE, StalledError};
 
 impl<B: Backend> Uart16550<B> {
-    // Returns whether the modem lines allow sending. In loopback they do not matter.
+    // Returns whether the modem lines allow sending. In loopback they do not matter: CTS is then
+    // connected to RTS inside the chip, and says nothing about the remote.
     fn is_clear_to_send(&mut self) -> bool
         ensures { Made B.step (LinesAllow result) self.old self.new }
     {
@@ -49,6 +50,7 @@ impl<B: Backend> Uart16550<B> {
         if !self.read_lsr().contains(LSR::THR_EMPTY) {
             return Err(ByteSendError::NoCapacity);
         }
+        // Many cables never assert CTS, so it counts only if the configuration says so.
         if !self.config.check_cts_before_sending {
             return Ok(());
         }
@@ -74,8 +76,11 @@ impl<B: Backend> Uart16550<B> {
         }
     }
 
-    // Writes one burst from the front to DATA, and returns its length. A whole burst is written
-    // from a copy.
+    // Writes one burst from the front to DATA, and returns its length: as many bytes as certainly
+    // fit. LSR shows whether the FIFO is empty, and no register shows how full it is. One byte more
+    // could be lost, and nothing would tell.
+    //
+    // A whole burst is written from a copy, for the reason at `PIECE_SIZE`.
     fn write_burst(&mut self, bytes: &[u8]) -> usize
         requires { 0 < length bytes.now }
         ensures made { Made B.step (Only (data_writes (take result bytes.now))) self.old self.new }
@@ -148,7 +153,9 @@ impl<B: Backend> Uart16550<B> {
         Ok(())
     }
 
-    // Waits until bytes may be written. The first check is separate, since it mostly succeeds.
+    // Waits until bytes may be written. The first check is separate, since it mostly succeeds: then
+    // the limit is never read. Waiting and writing are two functions, and this one is inlined, so
+    // that each loop that sends holds one copy of the wait.
     #[inline(always)]
     fn wait_to_send(&mut self) -> bool
         ensures { Made B.step (WaitsToSend result) self.old self.new }
@@ -262,6 +269,8 @@ impl<B: Backend> Uart16550<B> {
         ensures made { Made B.step (SendsExact bytes.now result) self.old self.new }
         ensures done { IfErr result (λ e. e.done < length bytes.now) }
     {
+        // Without FIFO each burst is one byte. The loop over bursts would serve too, but asks each
+        // time how many bytes a burst has room for.
         if self.fifo_enabled {
             self.send_bursts(bytes)
         } else {
@@ -269,7 +278,8 @@ impl<B: Backend> Uart16550<B> {
         }
     }
 
-    // Polls LSR until it shows these bits.
+    // Polls LSR until it shows these bits, or until the limit. Each wait has a loop of its own over
+    // the limit, so the polls that count are those in a row: progress begins a new count.
     pub(crate) fn wait_for(&mut self, bits: LSR) -> bool
         ensures { Made B.step (WaitsFor bits.0 result) self.old self.new }
     {

@@ -1,7 +1,7 @@
 //! Devices for tests.
 ghost use Rattle.std.specs.Prelude.{◌≡◌, ℕ};
 ghost use Rattle.uart_spec.specs.declared.access.Access.TheVariants.{Read as read_access};
-ghost use Rattle.uart_16550.specs.Replay.{AnswersInTurn};
+ghost use Rattle.uart_calls.specs.Replay.{AnswersInTurn};
 ghost use Rattle.uart_calls.specs.Devices.{AnswersAlways, FileStep, file_of, is_latch};
 
 use crate::tests::lists::Access::{Read, Write};

@@ -1,6 +1,7 @@
 //! The rows of tables: how a driver is set up, the call that it makes, what that returns, and each
 //! of its accesses.
 use super::assert_equal;
+use crate::replay::Replay;
 use crate::tests::devices::impatient;
 use crate::tests::lists::{Accesses, last_write};
 use crate::{Answer, CALL_BYTES, Call, perform};
@@ -10,7 +11,6 @@ use std::fmt;
 use std::num::NonZeroU64;
 use std::process::Abort;
 use uart_16550::backend::Backend;
-use uart_16550::replay::Replay;
 use uart_16550::{ConfigRegisterDump, Uart16550, Uart16550Tty};
 use uart_spec::registers::{FifoTriggerLevel, IER, ISR, LCR, LSR, MCR, MSR, offsets};
 use uart_spec::{BaudRate, Config, Received};

@@ -1,6 +1,6 @@
 //! Lists of accesses, as they are recorded, and as tables write them.
+use crate::replay::REPLAY_ROOM;
 use arrayvec::ArrayVec;
-use uart_16550::replay::REPLAY_ROOM;
 pub use uart_spec::access::Access;
 use uart_spec::registers::offsets;
 

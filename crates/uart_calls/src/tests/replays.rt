@@ -1,13 +1,13 @@
 //! Calls over a replay, and what the replay then shows: a list of the call, whose reads returned
 //! the bytes of the replay in turn. So over any other backend too the accesses of a call are known
 //! from the driver's fields and what its reads return.
-#![tactic(auto, using(uart_16550::proofs::Replays::made_replay))]
+#![tactic(auto, using(crate::proofs::Replays::made_replay))]
 
-ghost use Rattle.uart_spec.specs.Calls.{IsRunnable};
+ghost use Rattle.uart_events.specs.Calls.{IsRunnable};
 ghost use Rattle.uart_calls.specs.Meaning.{meaning};
 ghost use Rattle.uart_16550.specs.Driver.{Saving};
 ghost use Rattle.uart_16550.specs.Expansion.{SendsStr};
-ghost use Rattle.uart_16550.specs.Replay.{Replayed};
+ghost use Rattle.uart_calls.specs.Replay.{Replayed};
 ghost use Rattle.uart_16550.specs.Tty.{inner_of};
 ghost use Rattle.uart_calls.specs.Replays.{CallReplayed};
 
@@ -22,12 +22,12 @@ use crate::Call::{
     Send, SendExact, TestLoopback, TryReceive, TrySend, Write, WriteReady,
 };
 use crate::perform;
+use crate::replay::Replay;
 use crate::tests::driving::{Replaying, bytes, dump, text, with_errors};
 use bitflags::Flags;
 use std::fmt;
 use std::num::NonZeroU64;
 use std::process::Abort;
-use uart_16550::replay::Replay;
 use uart_16550::{Uart16550, Uart16550Tty};
 use uart_spec::InitError::DeviceNotPresent;
 use uart_spec::RemoteReadyToReceiveError::RemoteNotClearToSend;

@@ -1,8 +1,8 @@
 //! What a driver keeps beside its backend, saved and taken up again.
 use super::assert_equal;
+use crate::replay::Replay;
 use bitflags::Flags;
 use std::num::NonZeroU64;
-use uart_16550::replay::Replay;
 use uart_16550::{DriverState, Uart16550};
 use uart_spec::registers::IER;
 

@@ -1,4 +1,7 @@
 -- The accesses of a session in blocks, and what each block writes to the data register and reads from it.
+--
+-- The laws are proved by blocks, and not by calls. There is a handful of kinds of blocks. Each kind is shown once over the
+-- machine, and one induction composes them. A call then needs one lemma about lists, without a machine in it.
 use Rattle.std.specs.Prelude.{◌≡◌, ℕ, ◌≤◌, Bool, true, ◌||◌, ◌==◌, List, [], ◌∷◌, ◌++◌, length, map, bit_or}
 use Rattle.std.specs.List.{AllByRecursion}
 use Rattle.uart_spec.specs.declared.access.Access.{Access}

@@ -1,7 +1,7 @@
 -- What a stretch of a session does to the machine: the events up to an access or a mark, and accesses with them.
 use Rattle.std.proofs.Common.{◌≡◌, ℕ, ◌+◌, ◌≤◌, false, List, [], ◌∷◌, ◌++◌, length, append_assoc, refl, arith, sym, ◌∙◌, ap}
-use Rattle.uart_spec.specs.declared.event.Event.{Event}
-use Rattle.uart_spec.specs.declared.event.Event.TheVariants.{Arrive, Access as Gate, Mark}
+use Rattle.uart_events.specs.declared.event.Event.{Event}
+use Rattle.uart_events.specs.declared.event.Event.TheVariants.{Arrive, Access as Gate, Mark}
 use Rattle.uart_chip.specs.declared.receiver.Character.{Character}
 use Rattle.uart_spec.specs.declared.access.Access.{Access}
 use Rattle.uart_chip.specs.Chip.{ChipState, tick}

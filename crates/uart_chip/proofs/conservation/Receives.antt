@@ -2,8 +2,8 @@
 use Rattle.std.proofs.Common.{◌≡◌, ◌≢◌, ℕ, ◌+◌, ◌≤◌, Bool, true, false, not, ◌||◌, ◌⊎◌, inl, inr, List, [], ◌++◌, length, length-append}
 use Rattle.std.proofs.Common.{append-nil, refl, arith, sym, ◌∙◌, bit_or}
 use Rattle.std.specs.List.{filter}
-use Rattle.uart_spec.specs.declared.event.ArrivalMark.{ArrivalMark}
-use Rattle.uart_spec.specs.declared.event.ArrivalMark.TheVariants.{Pending, Waiting, Read, Discarded, Dropped}
+use Rattle.uart_events.specs.declared.event.ArrivalMark.{ArrivalMark}
+use Rattle.uart_events.specs.declared.event.ArrivalMark.TheVariants.{Pending, Waiting, Read, Discarded, Dropped}
 use Rattle.uart_chip.specs.declared.receiver.Character.{Character}
 use Rattle.uart_chip.specs.declared.receiver.Origin.{Origin}
 use Rattle.uart_chip.specs.declared.receiver.Origin.TheVariants.{Arrived, Looped}

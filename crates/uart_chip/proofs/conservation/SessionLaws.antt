@@ -4,7 +4,7 @@ use Rattle.std.specs.List.{filter}
 use Rattle.std.proofs.Math.Seq.{take-append_seam}
 use Rattle.std.proofs.lemmas.List.{map-append}
 use lib.Bits.{or_zero_r}
-use Rattle.uart_spec.specs.declared.event.Event.{Event}
+use Rattle.uart_events.specs.declared.event.Event.{Event}
 use Rattle.uart_chip.specs.declared.receiver.Character.{Character}
 use Rattle.uart_spec.specs.Access.{saved_lsr, saved_msr}
 use Rattle.uart_spec.specs.declared.access.Access.{Access}

@@ -1,9 +1,13 @@
 -- What a stretch of a session does to the chip.
+--
+-- A stretch is one record. Two stretches, one after the other, are again a stretch, so calls, `next` and whole sessions
+-- have the same record. Its parameter is the list of accesses. What was seen is computed from the list, so no call has to
+-- prove anything about saved bits.
 use Rattle.std.proofs.Common.{◌≡◌, ℕ, zero, suc, ◌+◌, ◌≤◌, ◌<◌, Bool, false, List, [], ◌∷◌, ◌++◌, length, map, refl, arith, sym, ◌∙◌, ap}
 use Rattle.std.proofs.Common.{subst, inl, bit_or}
 use Rattle.std.proofs.lemmas.List.{map-append}
-use Rattle.uart_spec.specs.declared.event.Event.{Event}
-use Rattle.uart_spec.specs.declared.event.Event.TheVariants.{Ticks, Arrive, Lines}
+use Rattle.uart_events.specs.declared.event.Event.{Event}
+use Rattle.uart_events.specs.declared.event.Event.TheVariants.{Ticks, Arrive, Lines}
 use Rattle.uart_chip.specs.declared.receiver.Character.{Character}
 use Rattle.uart_chip.specs.declared.receiver.Origin.TheVariants.{Arrived}
 use Rattle.uart_spec.specs.Access.{saved, saved_of, saved_lsr, saved_msr}

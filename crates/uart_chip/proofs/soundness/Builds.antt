@@ -6,20 +6,20 @@ use Rattle.std.specs.Option.{option_map, option_or}
 use Rattle.std.proofs.lemmas.Grind.{common_steps}
 use Rattle.std.proofs.lemmas.List.{length-replicate, get_or-replicate}
 use Rattle.std.proofs.lemmas.List.Recursion.{is_count_by}
-use Rattle.uart_spec.specs.declared.event.ArrivalMark.{ArrivalMark}
-use Rattle.uart_spec.specs.declared.event.ArrivalMark.TheVariants.{Pending, Waiting}
-use Rattle.uart_spec.specs.declared.event.BuildError.TheVariants.{BadTicks, BadWire, BadErrors, BadLines}
-use Rattle.uart_spec.specs.declared.event.Chip.{Chip}
-use Rattle.uart_spec.specs.declared.event.TheConstants.{MAX_CHAR_TICKS, MAX_WIRE_CAPACITY}
-use Rattle.uart_spec.specs.declared.event.Event.{Event}
-use Rattle.uart_spec.specs.declared.event.Event.TheVariants.{Arrive, Lines}
+use Rattle.uart_events.specs.declared.event.ArrivalMark.{ArrivalMark}
+use Rattle.uart_events.specs.declared.event.ArrivalMark.TheVariants.{Pending, Waiting}
+use Rattle.uart_events.specs.declared.event.BuildError.TheVariants.{BadTicks, BadWire, BadErrors, BadLines}
+use Rattle.uart_events.specs.declared.event.Chip.{Chip}
+use Rattle.uart_events.specs.declared.event.TheConstants.{MAX_CHAR_TICKS, MAX_WIRE_CAPACITY}
+use Rattle.uart_events.specs.declared.event.Event.{Event}
+use Rattle.uart_events.specs.declared.event.Event.TheVariants.{Arrive, Lines}
 use Rattle.uart_spec.specs.declared.registers.line_status.TheConstants.LSR
 use Rattle.uart_spec.specs.declared.registers.modem_status.TheConstants.MSR
 use Rattle.uart_chip.specs.Receiver.{mark_at}
 use Rattle.uart_chip.specs.Chip as chip
 use Rattle.uart_chip.specs.Chip.{ChipState}
 use Rattle.uart_chip.specs.Machine.{MachineState, arrivals, fresh, cutting}
-use Rattle.uart_spec.specs.Build.{is_arrival, has_bad_errors, has_bad_lines, refusal}
+use Rattle.uart_events.specs.Build.{is_arrival, has_bad_errors, has_bad_lines, refusal}
 use Rattle.uart_chip.specs.Sound.{AllLegal, IsWhole}
 
 pub arrivals-count : (events : List Event) → arrivals events ≡ count_by is_arrival events

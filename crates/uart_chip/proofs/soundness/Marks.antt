@@ -3,8 +3,8 @@ use Rattle.std.proofs.Common.{◌≡◌, ◌≢◌, ℕ, ◌+◌, ◌≤◌, ◌
 use Rattle.std.proofs.Common.{◌∙◌, slice_set, get_or-set_same, get_or-set_other}
 use Rattle.std.proofs.lemmas.List.{length-set}
 use Rattle.std.proofs.lemmas.Grind.{common_steps}
-use Rattle.uart_spec.specs.declared.event.ArrivalMark.{ArrivalMark}
-use Rattle.uart_spec.specs.declared.event.ArrivalMark.TheVariants.{Pending, Waiting}
+use Rattle.uart_events.specs.declared.event.ArrivalMark.{ArrivalMark}
+use Rattle.uart_events.specs.declared.event.ArrivalMark.TheVariants.{Pending, Waiting}
 use Rattle.uart_chip.specs.declared.receiver.Character.{Character}
 use Rattle.uart_chip.specs.declared.receiver.Origin.{Origin}
 use Rattle.uart_chip.specs.declared.receiver.Origin.TheVariants.{Arrived}

@@ -1,8 +1,8 @@
 -- The next event of a schedule is performed.
 use Rattle.std.proofs.Common.{◌≡◌, ◌≢◌, ℕ, suc, ◌+◌, ◌<◌, ◌≤◌, List, ◌∷◌, length, drop, slice_index_or, refl, sym, ◌∙◌, ap, add-one}
 use Rattle.std.proofs.Common.{drop-cons, arith}
-use Rattle.uart_spec.specs.declared.event.Event.{Event}
-use Rattle.uart_spec.specs.declared.event.Event.TheVariants.{Access as Gate, Mark}
+use Rattle.uart_events.specs.declared.event.Event.{Event}
+use Rattle.uart_events.specs.declared.event.Event.TheVariants.{Access as Gate, Mark}
 use Rattle.uart_chip.specs.Chip.{ChipState}
 use Rattle.uart_chip.specs.Machine.{MachineState, perform, at_access, at_mark}
 use Rattle.uart_chip.specs.Sound.{IsWhole}

@@ -2,10 +2,10 @@
 use Rattle.std.proofs.Common.{◌≡◌, ℕ, zero, suc, ◌+◌, ◌*◌, ◌<◌, Bool, true, false, ◌==◌, nat_lt, List, [], ◌∷◌, length, Option, Some, None}
 use Rattle.std.proofs.Common.{refl, arith, sym, ◌∙◌, ap, bit_and, if◌then◌else◌}
 use Rattle.std.proofs.lemmas.Grind.{common_steps}
-use Rattle.uart_spec.specs.declared.event.Chip.{Chip}
-use Rattle.uart_spec.specs.declared.event.Chip.TheVariants.{Uart16550A, Uart16450}
-use Rattle.uart_spec.specs.declared.event.Event.{Event}
-use Rattle.uart_spec.specs.declared.event.Event.TheVariants.{Ticks, Arrive, Lines, Access as Gate, Mark}
+use Rattle.uart_events.specs.declared.event.Chip.{Chip}
+use Rattle.uart_events.specs.declared.event.Chip.TheVariants.{Uart16550A, Uart16450}
+use Rattle.uart_events.specs.declared.event.Event.{Event}
+use Rattle.uart_events.specs.declared.event.Event.TheVariants.{Ticks, Arrive, Lines, Access as Gate, Mark}
 use Rattle.uart_spec.specs.Access.{Path}
 use Rattle.uart_spec.specs.declared.access.Access.{Access}
 use Rattle.uart_spec.specs.declared.access.Access.TheVariants.{Read, Write}

@@ -92,7 +92,8 @@ fn discards(a: &Auditor, fcr: FCR) -> bool
     empties(FCR::RX_FIFO_RESET, a.setup.has_fifo, fcr)
 }
 
-// Returns whether the latch is taken for DATA by a write.
+// Returns whether the latch is taken for DATA by a write: LSR was read since the latch was opened,
+// or its low byte was written already. No driver polls while it sets the divisor.
 fn is_forgotten(a: &Auditor) -> bool
     ensures { result ≡ spec.is_latch_forgotten a.now }
 {
@@ -119,7 +120,8 @@ pub(crate) fn loss(a: &Auditor, action: Action) -> Option<Finding>
     }
 }
 
-// Returns whether LCR is known to have had another value, DLAB apart.
+// Returns whether LCR is known to have had another value, DLAB apart. To write the same frame again
+// while bytes go out is no fault.
 fn is_other_frame(old: Option<LCR>, new: LCR) -> bool
     ensures { result ≡ spec.is_other_frame old new }
 {

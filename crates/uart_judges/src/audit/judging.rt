@@ -212,7 +212,8 @@ fn due_after(due: Due, interrupts: Option<IER>, action: Action) -> Due
     }
 }
 
-// Returns the set-up at the latest transfer of a byte.
+// Returns the set-up at the latest transfer of a byte: there it matters, and it is not told while
+// it is being written.
 fn told_after(told: Option<Setup>, setup: Setup, action: Action) -> Option<Setup>
     ensures { result ≡ next_told told setup action }
 {

@@ -1,4 +1,5 @@
-//! A read that is made again and again.
+//! A read that is made again and again. Equal reads in turn are one event: from the third on no
+//! judge learns more, but for bytes that wait.
 ghost use Rattle.std.specs.Prelude.{◌≡◌, ◌++◌, List, replicate};
 ghost use Rattle.uart_judges.specs.Findings.{findings};
 ghost use Rattle.uart_judges.specs.History.{actions, known};

@@ -111,7 +111,8 @@ impl Setup {
         after
     }
 
-    // Returns whether two set-ups are the same, the THR_EMPTY interrupt apart.
+    // Returns whether two set-ups are the same, the THR_EMPTY interrupt apart, which drivers turn
+    // on and off as they send.
     pub(crate) fn is_same(self, other: Setup) -> bool
         ensures { result ≡ same_setup self other }
     {

@@ -12,7 +12,7 @@ use std::io::{ErrorKind, Read};
 use thiserror::Error;
 
 /// Why a recording could not be read any farther.
-#[derive(Clone, Copy, Debug, Drop, Error)]
+#[derive(Debug, Drop, Error)]
 pub enum RecordingError {
     /// A line is no line of a recording: its number, counted from 1, and what is wrong with it.
     #[error("line {line}: {fault}")]

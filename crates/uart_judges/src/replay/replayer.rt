@@ -1,6 +1,6 @@
 //! Whether a chip answers as the chip that is defined could, read for read.
 ghost use Rattle.std.specs.Prelude.{◌≡◌, List, IsSome, is_some};
-ghost use Rattle.uart_spec.specs.declared.event.Chip.{Chip};
+ghost use Rattle.uart_events.specs.declared.event.Chip.{Chip};
 ghost use Rattle.uart_judges.specs.declared.replay.known.Start.{Start};
 ghost use Rattle.uart_judges.specs.Known as spec;
 ghost use Rattle.uart_judges.specs.Replays.{AreSound, NoneReturns, Seen, difference, differences, each_of, known_after};
@@ -52,6 +52,8 @@ impl Replayer {
                 None
             }
             Some(rule) => {
+                // If the value were kept, no machine would explain the recording from here on, and
+                // any further report would be right.
                 self.known = self.known.after_asking(offset);
                 Some(Difference {
                     offset,

@@ -1,4 +1,8 @@
 //! What holds of a value that is read, whatever the time that passed.
+//!
+//! A rule judges a read by what was known before it, and unknown means any state. So a first `r 2
+//! 0c` is not reported, though it contradicts itself: bits 6 and 7 show that the FIFOs are off, and
+//! without them there is no timeout. The next such read is reported.
 ghost use Rattle.std.specs.Prelude.{◌≡◌};
 ghost use Rattle.uart_chip.specs.Modem.{looped_lines};
 ghost use Rattle.uart_judges.specs.Rules as spec;

@@ -25,7 +25,7 @@ pub struct Stray<'a> {
     pub turn: Turn,
 }
 
-// Returns whether an answer is printed as this text.
+// Returns whether an answer is printed as this text. A trace has no more of an answer than that.
 fn is_printed(alloc: Global, answer: &Answer, text: &[u8]) -> Result<bool, AllocError>
     ensures { IfOk result (λ is. is ≡ true ↔ answer_text answer.now ≡ text.now) }
 {

@@ -9,7 +9,8 @@ use uart_spec::FIFO_SIZE;
 use uart_spec::registers::IER;
 
 impl<B: Backend> Uart16550Ring<B> {
-    // Pauses receiving if the receive ring is full.
+    // Pauses receiving if the receive ring is full. The data interrupt does not end until the data
+    // are read, so the handler would be called without end.
     fn pause_if_full(&mut self)
         ensures { RingDid B.step PausesIfFull self.old self.new }
     {

@@ -9,6 +9,7 @@ use uart_16550::backend::Backend;
 use uart_spec::registers::InterruptType;
 
 /// The most interrupts that one call of `service` serves.
+// A broken chip can show interrupts without end, and no call may wait.
 pub const MAX_INTERRUPTS: usize = 8;
 
 /// Why a call of `handle` ended.
@@ -105,6 +106,9 @@ impl<B: Backend> Uart16550Ring<B> {
         ensures did { RingDid B.step (Services result) self.old self.new }
         ensures count { result ≤ MAX_INTERRUPTS }
     {
+        // The number does not tell whether an interrupt without a name is left, and if the line
+        // stays high no edge comes. So this call is for programs that poll, and `handle` for
+        // handlers.
         self.serve_up_to(MAX_INTERRUPTS).served
     }
 
@@ -163,7 +167,11 @@ impl<B: Backend> Uart16550Ring<B> {
     {
         let handled = self.serve_up_to(limit);
         match handled.end {
+            // ISR has shown that none is pending, so the line has been low.
             HandleEnd::Idle => {}
+            // The line may still be high, and a controller that detects edges would never call the
+            // handler again. At such a controller a broken chip has the handler called without end,
+            // so a handler counts these rounds, and then disables the chip's interrupts.
             HandleEnd::Unknown | HandleEnd::Limit => self.retrigger(),
         }
         handled

@@ -1,38 +1,31 @@
 //! From the transmit ring to the chip.
-ghost use Rattle.std.specs.Prelude.{◌≡◌, ◌≤◌, length, take, min};
+ghost use Rattle.std.specs.Prelude.{◌≡◌, length, min};
 ghost use Rattle.uart_ring.specs.Ring.{RingDid, free, ring_fields};
 ghost use Rattle.uart_ring.specs.Transmit.{Pumps, Queues, ResumesTransmit};
 
 use super::Uart16550Ring;
-use circular_buffer::HeapCircularBuffer;
 use uart_16550::backend::Backend;
 use uart_spec::FIFO_SIZE;
 use uart_spec::registers::IER;
 
-// Copies the first bytes of a ring, as many as a FIFO holds, and returns how many.
-fn copy_front(ring: &HeapCircularBuffer<u8>, copy: &mut [u8; FIFO_SIZE]) -> usize
-    ensures count { result ≤ FIFO_SIZE }
-    ensures bytes { take result copy.new ≡ take FIFO_SIZE ring.now.items }
-{
-    let (front, back) = ring.as_slices();
-    let from_front = front.len().min(FIFO_SIZE);
-    let from_back = back.len().min(FIFO_SIZE - from_front);
-    let count = from_front + from_back;
-    copy[..from_front].copy_from_slice(&front[..from_front]);
-    copy[from_front..count].copy_from_slice(&back[..from_back]);
-    count
-}
-
 impl<B: Backend> Uart16550Ring<B> {
     // Sends bytes of the transmit ring if the chip has room. Then enables THR_EMPTY if bytes are
     // left, else disables it.
+    //
+    // The bytes are sent first, because not every chip interrupts when THR_EMPTY is enabled on an
+    // empty transmitter. If bytes are left, the chip was found full or has just been filled, so it
+    // still has to report that it is empty.
+    //
+    // IER is read and written each time, even if it need not change: only the chip knows what IER
+    // holds, and a caller may have changed it.
     pub(super) fn pump(&mut self)
         ensures { RingDid B.step Pumps self.old self.new }
     {
+        // In the ring the bytes may be in two pieces, and `send_bytes` takes one slice.
         let mut burst = [0; FIFO_SIZE];
-        let count = copy_front(&self.transmit, &mut burst);
+        let count = self.transmit.copy_front(&mut burst);
         let sent = self.uart.send_bytes(&burst[..count]);
-        self.transmit.truncate_front(self.transmit.len() - sent);
+        self.transmit.drop_front(sent);
         if self.transmit.is_empty() {
             self.uart.disable_interrupts(IER::THR_EMPTY);
         } else {
@@ -91,6 +84,7 @@ impl<B: Backend> Uart16550Ring<B> {
     pub fn resume_transmit(&mut self)
         ensures { RingDid B.step ResumesTransmit self.old self.new }
     {
+        // A pump, and not THR_EMPTY switched off and on: some devices raise no interrupt for that.
         if !self.transmit.is_empty() {
             self.pump();
         }

@@ -11,8 +11,8 @@ use Rattle.uart_spec.specs.declared.access.Access.{Access}
 use Rattle.uart_spec.specs.declared.access.Access.TheVariants.{Read, Write}
 use Rattle.uart_16550.specs.Grammar.{Settings, Only, Asks}
 use Rattle.uart_16550.specs.Init.{fifo_bits, SetsFifo}
-use Rattle.uart_spec.specs.declared.event.Chip.{Chip}
-use Rattle.uart_spec.specs.declared.event.Chip.TheVariants.{Uart16550A, Uart16450}
+use Rattle.uart_events.specs.declared.event.Chip.{Chip}
+use Rattle.uart_events.specs.declared.event.Chip.TheVariants.{Uart16550A, Uart16450}
 use Rattle.uart_spec.specs.declared.registers.fifo_control.TheConstants.FCR
 use Rattle.uart_chip.specs.Machine.{MachineState, MachineStep}
 use Rattle.uart_run.specs.Ready.{has_fifo, is_level}

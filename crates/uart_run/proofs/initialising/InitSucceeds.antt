@@ -22,9 +22,9 @@ use Rattle.uart_16550.specs.Driver.{Fields, fields, settings_of, Doing, Saving, 
 use Rattle.uart_16550.specs.Init.{raised_outputs, ChecksPresence, frame_bits, line_writes}
 use Rattle.uart_16550.specs.Init.{SetsFifo, DrainsReceiver, Begins, DivisorOf, Inits}
 use Rattle.uart_16550.specs.Tty.{inner_of}
-use Rattle.uart_spec.specs.declared.call.Call.TheVariants as call
-use Rattle.uart_spec.specs.declared.call.Answer.{Answer}
-use Rattle.uart_spec.specs.declared.call.Answer.TheVariants.{Done, InitRefused}
+use Rattle.uart_events.specs.declared.call.Call.TheVariants as call
+use Rattle.uart_events.specs.declared.call.Answer.{Answer}
+use Rattle.uart_events.specs.declared.call.Answer.TheVariants.{Done, InitRefused}
 use Rattle.uart_spec.specs.Bits.{has_any}
 use Rattle.uart_chip.specs.Chip.{is_dlab_set}
 use Rattle.uart_chip.specs.Machine.{MachineState, MachineStep, at_access}

@@ -15,8 +15,8 @@ use Rattle.uart_16550.specs.Driver.{Fields, fields, settings_of, Saving, Sets, N
 use Rattle.uart_16550.specs.Transmit.{WaitsFor}
 use Rattle.uart_16550.specs.Init.{raised_outputs, ChecksPresence, Begins, Ends, DivisorOf, Inits}
 use Rattle.uart_16550.specs.Tty.{inner_of}
-use Rattle.uart_spec.specs.declared.call.Call.TheVariants as call
-use Rattle.uart_spec.specs.declared.call.Answer.{Answer}
+use Rattle.uart_events.specs.declared.call.Call.TheVariants as call
+use Rattle.uart_events.specs.declared.call.Answer.{Answer}
 use Rattle.uart_chip.specs.Masks.{ier_bits}
 use Rattle.uart_chip.specs.Chip.{is_dlab_set, is_loopback, divisor}
 use Rattle.uart_chip.specs.Machine.{MachineState, MachineStep}

@@ -16,9 +16,9 @@ use Rattle.uart_16550.specs.Loopback.{test_byte, test_message, DrainsLoopback, S
 use Rattle.uart_16550.specs.Loopback.{Echo, EchoFails, WholeFails, EachFails, HasEchoedAll, ExchangesMessage}
 use Rattle.uart_16550.specs.Loopback.{Exchanges, Enters, Leaves, BeginsTest, Tests, TestsLoopback}
 use Rattle.uart_16550.specs.Tty.{inner_of}
-use Rattle.uart_spec.specs.declared.call.Call.TheVariants as call
-use Rattle.uart_spec.specs.declared.call.Answer.{Answer}
-use Rattle.uart_spec.specs.declared.call.Answer.TheVariants.{LoopbackRefused}
+use Rattle.uart_events.specs.declared.call.Call.TheVariants as call
+use Rattle.uart_events.specs.declared.call.Answer.{Answer}
+use Rattle.uart_events.specs.declared.call.Answer.TheVariants.{LoopbackRefused}
 use Rattle.uart_chip.specs.Transmitter.{room, out}
 use Rattle.uart_chip.specs.Machine.{MachineState, MachineStep}
 use Rattle.uart_chip.specs.Sound.{IsSound}

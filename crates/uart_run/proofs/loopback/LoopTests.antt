@@ -20,9 +20,9 @@ use Rattle.uart_16550.specs.Init.{SetsFifo}
 use Rattle.uart_spec.specs.Lines.{line_changes}
 use Rattle.uart_16550.specs.Loopback.{Exchanges, Enters, Leaves, BeginsTest, Tests, IsStalled, TestsLoopback, with_changes}
 use Rattle.uart_16550.specs.Tty.{inner_of}
-use Rattle.uart_spec.specs.declared.call.Call.TheVariants as call
-use Rattle.uart_spec.specs.declared.call.Answer.{Answer}
-use Rattle.uart_spec.specs.declared.call.Answer.TheVariants.{LoopbackRefused}
+use Rattle.uart_events.specs.declared.call.Call.TheVariants as call
+use Rattle.uart_events.specs.declared.call.Answer.{Answer}
+use Rattle.uart_events.specs.declared.call.Answer.TheVariants.{LoopbackRefused}
 use Rattle.uart_spec.specs.Bits.{has_any}
 use Rattle.uart_chip.specs.Transmitter.{out}
 use Rattle.uart_chip.specs.Chip.{ChipState, cut_to, cut_of, is_dlab_set}

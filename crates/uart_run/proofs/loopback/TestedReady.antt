@@ -14,8 +14,8 @@ use Rattle.uart_16550.specs.Transmit.{WaitsFor}
 use Rattle.uart_16550.specs.Init.{SetsFifo}
 use Rattle.uart_16550.specs.Loopback.{Exchanges, Enters, Leaves, BeginsTest, Tests, TestsLoopback}
 use Rattle.uart_16550.specs.Tty.{inner_of}
-use Rattle.uart_spec.specs.declared.call.Call.TheVariants as call
-use Rattle.uart_spec.specs.declared.call.Answer.{Answer}
+use Rattle.uart_events.specs.declared.call.Call.TheVariants as call
+use Rattle.uart_events.specs.declared.call.Answer.{Answer}
 use Rattle.uart_spec.specs.Bits.{has_any}
 use Rattle.uart_chip.specs.Masks.{ier_bits, mcr_bits}
 use Rattle.uart_chip.specs.Chip.{is_dlab_set}

@@ -13,8 +13,8 @@ use Rattle.uart_16550.specs.Transmit.{SendMiss, Round, SendsExact}
 use Rattle.uart_16550.specs.Expansion.{expansion, SendsEach, SendsText}
 use Rattle.uart_16550.specs.Io.{Writes, Flushes}
 use Rattle.uart_16550.specs.Tty.{inner_of}
-use Rattle.uart_spec.specs.declared.call.Answer.{Answer}
-use Rattle.uart_spec.specs.declared.call.Answer.TheVariants.{Done, Count}
+use Rattle.uart_events.specs.declared.call.Answer.{Answer}
+use Rattle.uart_events.specs.declared.call.Answer.TheVariants.{Done, Count}
 use Rattle.uart_chip.specs.Machine.{MachineState, MachineStep}
 use Rattle.uart_chip.specs.Sound.{IsSound}
 use Rattle.uart_chip.specs.Conserved.{out}

@@ -403,6 +403,9 @@ impl MCR {
     /// Nothing goes out on the line.
     pub const LOOP_BACK: MCR = MCR(1 << 4);
 
+    /// This side is there and ready, and its interrupt line is connected: DTR, RTS and OUT2.
+    pub const READY: MCR = MCR(MCR::DTR.0 | MCR::RTS.0 | MCR::OUT_2_INT_ENABLE.0);
+
     /// No function on a 16550.
     pub const _RESERVED0: MCR = MCR(1 << 5);
 

@@ -4,6 +4,7 @@ ghost use Rattle.uart_spec.specs.Divisors.{IsDivisor, number};
 ghost use Rattle.uart_spec.specs.declared.registers.divisors.Divisor.{Divisor};
 
 /// A divisor that gives a whole baud rate at the usual clock of 1,843,200 Hz without a prescaler.
+// Each discriminant is the divisor, so `number` needs no second table.
 #[derive(Clone, Copy, Debug, PartialEq, Eq, PartialOrd, Ord, Hash, Default)]
 pub enum Divisor {
     /// 115200 baud.

@@ -1,7 +1,7 @@
-//! What the crate's chip answers, in the bytes of the proved program `uart_bench`.
+//! What the crate's chip answers to an operation, and what can be seen of the chip.
 
 use crate::operation::{Kind, Operation};
-use uart_16550_chip::registers::{IER, LSR, MCR, MSR};
+use uart_16550_chip::registers::{FifoTriggerLevel, IER, LSR, MCR, MSR};
 use uart_16550_chip::{Chip, ChipData, LiveChip, Origin};
 
 /// A chip, and what it answers.
@@ -10,6 +10,7 @@ pub struct Answers {
     printed: Vec<u8>,
 }
 
+/// Returns the data with one field changed, so that they may be those of no chip.
 fn changed(mut saved: ChipData, field: u8, value: u8) -> ChipData {
     match field {
         1 => saved.latches.ier = IER::from_bits_retain(value),
@@ -27,6 +28,16 @@ fn changed(mut saved: ChipData, field: u8, value: u8) -> ChipData {
         _ => {}
     }
     saved
+}
+
+/// Returns the trigger level as a number of characters.
+fn characters_of(trigger: FifoTriggerLevel) -> u8 {
+    match trigger {
+        FifoTriggerLevel::One => 1,
+        FifoTriggerLevel::Four => 4,
+        FifoTriggerLevel::Eight => 8,
+        FifoTriggerLevel::Fourteen => 14,
+    }
 }
 
 /// Returns each field of the data.
@@ -56,9 +67,8 @@ fn data_bytes(saved: &ChipData) -> Vec<u8> {
     let receiver = &saved.receiver;
     for character in receiver.queue.as_slice() {
         let origin = match character.origin {
-            Origin::Looped => 0,
-            Origin::Live => 1,
-            Origin::Arrived(_) => 2,
+            Origin::Looped => 1,
+            Origin::Live | Origin::Arrived(_) => 0,
         };
         bytes.extend([character.byte, character.errors, origin]);
     }
@@ -67,14 +77,14 @@ fn data_bytes(saved: &ChipData) -> Vec<u8> {
         receiver.is_overrun.into(),
         receiver.is_front_reported.into(),
         receiver.last_byte,
-        receiver.trigger.to_raw_bits(),
+        characters_of(receiver.trigger),
     ]);
     bytes.extend(receiver.timeout_ticks.to_be_bytes());
     bytes.extend([
         saved.modem.inputs.bits(),
         saved.modem.lines.bits(),
         saved.modem.deltas.bits(),
-        saved.model as u8,
+        (saved.model == Chip::Uart16550A).into(),
         saved.fifo.into(),
         saved.cuts.into(),
     ]);
@@ -82,7 +92,7 @@ fn data_bytes(saved: &ChipData) -> Vec<u8> {
 }
 
 impl Answers {
-    /// Returns the chip with which the proved program begins.
+    /// Returns the chip with which each run begins.
     pub fn new() -> Self {
         Answers {
             chip: LiveChip::new(Chip::Uart16550A, 1, 64).unwrap(),
@@ -118,15 +128,13 @@ impl Answers {
                 self.chip.write(first, second);
                 0
             }
-            Kind::Ticks => self.chip.ticks(u16::from_be_bytes([first, second])) as u16,
+            Kind::Ticks => {
+                self.chip.ticks(u16::from_be_bytes([first, second]));
+                0
+            }
             Kind::Arrive => {
                 let errors = LSR::from_bits_retain(second);
                 self.chip.arrive(first, errors).is_ok().into()
-            }
-            Kind::ArriveHoldingTimeout => {
-                let errors = LSR::from_bits_retain(second);
-                let outcome = self.chip.arrive_holding_timeout(first, errors);
-                outcome.is_ok().into()
             }
             Kind::SetLines => {
                 let inputs = MSR::from_bits_retain(first);
@@ -148,7 +156,7 @@ impl Answers {
         }
     }
 
-    /// Makes an operation, and returns what the proved program is to print for it.
+    /// Makes an operation. Returns what it answers, and what can be seen of the chip after it.
     pub fn answer(&mut self, operation: Operation) -> Vec<u8> {
         let answer = self.make(operation);
         self.printed.extend(answer.to_be_bytes());

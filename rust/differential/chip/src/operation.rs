@@ -1,10 +1,7 @@
-//! Operations on a chip, as the three bytes that the proved program reads.
+//! Operations on a chip.
 
 use crate::random::Random;
 use std::fmt;
-
-/// How many bytes an operation has.
-pub const BYTES: usize = 3;
 
 /// What an operation does. Its two operands are bytes.
 #[derive(Clone, Copy, Debug, PartialEq, Eq)]
@@ -20,8 +17,6 @@ pub enum Kind {
     Ticks,
     /// A character arrives: its byte, its errors.
     Arrive,
-    /// A character arrives, and a timeout that is due stays due.
-    ArriveHoldingTimeout,
     /// The modem lines become the first operand.
     SetLines,
     /// So many bytes are taken from the wire, which is printed first.
@@ -67,11 +62,6 @@ impl Operation {
         }
     }
 
-    /// Returns the operation as the proved program reads it.
-    pub fn bytes(self) -> [u8; BYTES] {
-        [self.kind as u8, self.first, self.second]
-    }
-
     /// Returns a new chip: mostly of a few ticks, with a large wire.
     pub fn new_chip(random: &mut Random) -> Self {
         let model = u8::from(random.is_among(32));
@@ -107,12 +97,7 @@ impl Operation {
             1..8 => random.pick(&ERRORS),
             _ => 0,
         };
-        let kind = if random.is_among(64) {
-            Kind::ArriveHoldingTimeout
-        } else {
-            Kind::Arrive
-        };
-        Operation::of(kind, byte, errors)
+        Operation::of(Kind::Arrive, byte, errors)
     }
 
     fn ticks(random: &mut Random) -> Self {
@@ -131,6 +116,8 @@ impl Operation {
     }
 
     fn restore(random: &mut Random) -> Self {
+        const CHAR_TICKS: u8 = 6;
+        const WIRE_CAPACITY: u8 = 7;
         let field = if random.is_among(128) {
             random.below(13) as u8
         } else {
@@ -142,6 +129,9 @@ impl Operation {
         } else {
             any & 0x0f
         };
+        // The time of a character and the room of the wire stay: in the struct of C something follows from each, which would have to be
+        // changed with it.
+        let field = if matches!(field, CHAR_TICKS | WIRE_CAPACITY) { 0 } else { field };
         Operation::of(Kind::Restore, field, value)
     }
 

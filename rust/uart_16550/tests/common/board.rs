@@ -136,6 +136,15 @@ mod board {
         }
     }
 
+    /// Sleeps until an interrupt, unless the function returns true: meanwhile somebody types.
+    pub fn sleep_unless(is_awake: impl FnOnce() -> bool) {
+        let were_masked = mask_interrupts();
+        if !is_awake() {
+            chip().received.extend(b"typed while it slept\x04");
+        }
+        restore_interrupts(were_masked);
+    }
+
     pub fn end_of_interrupt() {}
     pub fn stop_other_processors() {}
 

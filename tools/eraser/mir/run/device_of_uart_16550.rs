@@ -1,5 +1,5 @@
 
-impl crate::native::backend::Backend for Device {
+impl crate::proved::uart_spec::backend::Backend for Device {
     fn read(&mut self, offset: u8) -> u8 {
         read(u64::from(offset), REGISTERS)
     }
@@ -8,7 +8,7 @@ impl crate::native::backend::Backend for Device {
     }
 }
 
-impl crate::native::backend::PortAccess for Device {
+impl crate::proved::uart_16550::backend::PortAccess for Device {
     fn port_in(&mut self, port: u16) -> u8 {
         read(u64::from(port), PORTS)
     }
@@ -17,7 +17,7 @@ impl crate::native::backend::PortAccess for Device {
     }
 }
 
-impl crate::native::backend::ByteAccess for Device {
+impl crate::proved::uart_16550::backend::ByteAccess for Device {
     fn load(&mut self, address: usize) -> u8 {
         read(address as u64, MEMORY)
     }

@@ -1,5 +1,5 @@
 use Rattle.std.proofs.Common.{arith}
-use Rattle.uart_spec.specs.declared.call.TheConstants.{CALL_BYTES}
+use Rattle.uart_events.specs.declared.call.TheConstants.{CALL_BYTES}
 use Rattle.uart_c.proofs.Copies.{all_copied, one_copied}
 use Rattle.uart_c.proofs.answer.padded.Goals as goal
 use Rattle.uart_c.proofs.answer.padded.Goals.{then-place-lt-CALL_BYTES, else-place-lt-CALL_BYTES}

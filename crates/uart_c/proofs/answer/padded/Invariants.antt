@@ -1,5 +1,5 @@
 use Rattle.std.proofs.Common.{◌≡◌, ◌++◌, ◌-◌, take, length, replicate}
-use Rattle.uart_spec.specs.declared.call.TheConstants.{CALL_BYTES}
+use Rattle.uart_events.specs.declared.call.TheConstants.{CALL_BYTES}
 use Rattle.uart_c.proofs.answer.padded.Given as goal
 
 abbrev pub invariant-loop-place : goal.invariant-loop-place

@@ -1,7 +1,7 @@
 use Rattle.std.proofs.Common.{rules, tests, ◌≡◌, List, length, IfOk, arith, subst, slice_get}
 use Rattle.std.proofs.lemmas.Iterator.{YieldsList-from_range, items_from_collect}
 use Rattle.std.proofs.lemmas.Iterator.Consumers.{YieldsList-from_filter_map}
-use Rattle.uart_spec.specs.declared.event.ArrivalMark.{ArrivalMark}
+use Rattle.uart_events.specs.declared.event.ArrivalMark.{ArrivalMark}
 use Rattle.uart_play.proofs.Picked.{picks_all}
 use Rattle.uart_play.proofs.playing.marks_of.Goals as goal
 

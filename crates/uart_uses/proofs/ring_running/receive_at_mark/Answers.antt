@@ -1,6 +1,6 @@
 use Rattle.std.proofs.Common.{ap, sym, ◌∙◌}
-use Rattle.uart_ring.specs.RingBytes.{taken_by}
-use Rattle.uart_ring.specs.declared.running.call.RingCall.TheVariants as call
+use Rattle.uart_ring_runs.specs.RingBytes.{taken_by}
+use Rattle.uart_ring_runs.specs.declared.call.RingCall.TheVariants as call
 use Rattle.uart_uses.proofs.RingSessions.{ring_conserves, received, none_taken}
 use Rattle.uart_uses.proofs.ring_running.receive_at_mark.Goals as goal
 

@@ -2,7 +2,7 @@ use Rattle.std.proofs.Common.{List, map, sym, subst, ◌∙◌}
 use Rattle.uart_spec.specs.declared.access.Access.{Access}
 use Rattle.uart_16550.specs.Driver.{Fields}
 use Rattle.uart_16550.specs.State.{fresh_fields}
-use Rattle.uart_spec.specs.declared.call.Call.TheVariants as call
+use Rattle.uart_events.specs.declared.call.Call.TheVariants as call
 use Rattle.uart_calls.specs.Lists.{IsListOf}
 use Rattle.uart_calls.proofs.Checked.{same_accesses}
 use Rattle.uart_uses.proofs.tracing.is_flush.Goals as goal

@@ -9,8 +9,8 @@ use super::lists::{
 use bitflags::Flags;
 use std::num::NonZeroU64;
 use std::test::Fail;
-use uart_16550::replay::Replay;
 use uart_16550::{Received, Uart16550};
+use uart_calls::replay::Replay;
 use uart_ring::{HandleEnd, Handled, MAX_CAPACITY, MAX_INTERRUPTS, RingError, Uart16550Ring};
 use uart_spec::registers::offsets::{IER, ISR, LCR, LSR, MCR, MSR};
 use uart_spec::registers::{self, LSR as LineStatus, MSR as ModemStatus};

@@ -9,8 +9,8 @@ use std::alloc::Global;
 use std::test::Fail;
 use thiserror::Error;
 use uart_16550::backend::Backend;
-use uart_16550::replay::Replay;
 use uart_16550::{Config, InitError, Uart16550};
+use uart_calls::replay::Replay;
 use uart_ring::{HandleEnd, MAX_INTERRUPTS, RingError, Uart16550Ring};
 use uart_spec::registers::{IER, LSR, MSR, offsets};
 

@@ -3,7 +3,7 @@ use super::assert_equal;
 use std::process::Abort;
 use std::test::Fail;
 use uart_16550::Uart16550;
-use uart_16550::replay::Replay;
+use uart_calls::replay::Replay;
 use uart_ring::{RingError, Uart16550Ring};
 use uart_spec::access::Access::{Read, Write};
 use uart_spec::registers::offsets;

@@ -1,5 +1,5 @@
 use Rattle.std.proofs.Common.{◌≡◌, replicate}
-use Rattle.uart_spec.specs.declared.event.ArrivalMark.TheVariants.{Pending}
+use Rattle.uart_events.specs.declared.event.ArrivalMark.TheVariants.{Pending}
 use Rattle.uart_chip.proofs.journal.Marks.new.Given as goal
 
 abbrev pub invariant-loop : goal.invariant-loop

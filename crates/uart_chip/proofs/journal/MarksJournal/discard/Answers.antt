@@ -1,6 +1,6 @@
 use Rattle.std.proofs.Common.{rules, ◌≡◌, ◌+◌, suc, Some, slice_get, drop, ap, ◌∙◌, arith}
 use Rattle.uart_chip.specs.Receiver.{discard, set_mark}
-use Rattle.uart_spec.specs.declared.event.ArrivalMark.TheVariants.{Discarded}
+use Rattle.uart_events.specs.declared.event.ArrivalMark.TheVariants.{Discarded}
 use Rattle.uart_chip.proofs.Errors.{discard_next}
 use Rattle.uart_chip.proofs.journal.MarksJournal.discard.Goals as goal
 

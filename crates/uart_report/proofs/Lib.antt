@@ -1,4 +1,0 @@
-mod EndedLines
-mod Recordings
-mod Refusals
-mod Traces

@@ -1,7 +1,0 @@
-use Rattle.uart_ring.proofs.RingReady.{init_ready}
-use Rattle.uart_ring.proofs.running.laws.init_leaves_ready.Goals as goal
-
-pub returns : goal.returns
-returns c =
-    let whole = rw c.backend.ensures at c.fifo_enabled-fifo.ensures.whole in
-    λ config after ring did same. init_ready _ after config ring whole.sound did same

@@ -1,0 +1,290 @@
+-- The THR-empty interrupt of the chip: what accesses tell of it holds.
+use Rattle.std.proofs.Common.{◌≡◌, ℕ, ◌-◌, ◌<◌, ◌==◌, ◌⊎◌, ◌||◌, ◌&&◌, Bool, true, false, not, nat_lt, inl, inr, List, [], ◌∷◌}
+use Rattle.std.proofs.Common.{◌++◌, length, length-append, Option, Some, None, refl, sym, ◌∙◌, ap, arith, bit_and, bit_or, if◌then◌else◌}
+use Rattle.std.proofs.lemmas.Bool.{false≢true}
+use Rattle.std.proofs.lemmas.Bool.Decides.{nat_tests}
+use Rattle.uart_spec.specs.Access.{Path}
+use Rattle.uart_spec.specs.declared.access.Access.{Access}
+use Rattle.uart_spec.specs.declared.access.Access.TheVariants.{Read, Write}
+use Rattle.uart_spec.specs.Bits.{has, has_any, flag}
+use Rattle.uart_spec.specs.declared.registers.interrupt_enable.TheConstants.IER
+use Rattle.uart_spec.specs.declared.registers.interrupt_status.TheConstants.ISR
+use Rattle.uart_spec.specs.declared.registers.interrupt_type.InterruptType.{InterruptType}
+use Rattle.uart_spec.specs.declared.registers.interrupt_type.InterruptType.TheVariants as interrupts
+use Rattle.uart_spec.specs.declared.registers.line_control.TheConstants.LCR
+use Rattle.uart_spec.specs.declared.registers.line_status.TheConstants.LSR
+use Rattle.uart_spec.specs.declared.registers.offsets.TheConstants as offsets
+use Rattle.uart_events.specs.declared.event.Chip.{Chip}
+use Rattle.uart_events.specs.declared.event.Chip.TheVariants.{Uart16550A, Uart16450}
+use Rattle.uart_chip.specs.declared.transmitter.Shifting.{Shifting}
+use Rattle.uart_chip.specs.Masks.{ier_bits}
+use Rattle.uart_chip.specs.Receiver.{report}
+use Rattle.uart_chip.specs.Transmitter as transmitter
+use Rattle.uart_chip.specs.Transmitter.{TransmitterState, shift, refill, load, room}
+use Rattle.uart_chip.specs.Chip.{ChipState, cut_of, is_dlab_set, interrupt, identification, is_thr_empty}
+use Rattle.uart_chip.specs.Chip.{after_read, enable, with_thr_pending}
+use Rattle.uart_chip.specs.Machine.{MachineState, MachineStep, at_access, at_mark}
+use Rattle.uart_chip.proofs.Bits.{has_one, has_and}
+use Rattle.uart_chip.proofs.conservation.BlockLaws.{look_room}
+use Rattle.uart_chip.proofs.lasting.Lasting.{either, lasts-before, lasts-before_mark}
+use Rattle.uart_run.proofs.Latches.{Kept, keep_control, keep_write, kept_in, kept_access, kept_step, kept-before_mark}
+use Rattle.uart_ring.specs.Armed.{ThrEmpty, shows_thr_empty, due_after_read, known_after, known_after_all, IsTrueOfIer, KeepsIer}
+use Rattle.uart_ring_runs.specs.RingArmed.{is_due, thr_empty_of}
+use Rattle.uart_ring_runs.proofs.RingBlocks.{LeavesLcr, AllLeaveLcr}
+
+-- ---- the transmitter
+
+-- as a sum: the transmit queue is not empty, or that it became empty is still to be told
+abbrev IsDue : TransmitterState → Type 0
+IsDue t = (0 < length t.queue) ⊎ (t.is_thr_pending ≡ true)
+
+or_true : (b : Bool) → (b || true) ≡ true
+or_true true = refl
+or_true false = refl
+
+due_says : (t : TransmitterState) → is_due t ≡ true → IsDue t
+due_says t h = go (length t.queue == 0) refl h
+  where
+    go : (none : Bool) → (length t.queue == 0) ≡ none → (not none || t.is_thr_pending) ≡ true → IsDue t
+    go true e h = inr h
+    go false e h = inl (grind (arith, nat_tests))
+
+says_due : (t : TransmitterState) → IsDue t → is_due t ≡ true
+says_due t (inr pending) = rw pending (or_true (not (length t.queue == 0)))
+says_due t (inl some) =
+    let none : (length t.queue == 0) ≡ false = grind (arith, nat_tests) in
+    rw none refl
+
+either_due : (t u : TransmitterState) (b : Bool) → IsDue t → IsDue u → IsDue (if b then t else u)
+either_due t u true h k = h
+either_due t u false h k = k
+
+due-shift : (loopback : Bool) (place : Option Shifting) (t : TransmitterState) → IsDue t → IsDue (shift loopback place t)
+due-shift loopback None t h = h
+due-shift loopback (Some s) t h =
+    either_due (record t { shift_register = Some (record { byte = s.byte; ticks_left = s.ticks_left - 1 }) }) _ (nat_lt 1 s.ticks_left) h
+    (either_due (record t { shift_register = None }) _ loopback h
+    (either_due (record t { shift_register = None; wire = t.wire ++ s.byte ∷ [] }) t (nat_lt (length t.wire) t.capacity) h h))
+
+-- the refill that empties the queue makes it pending
+due-refill : (place : Option Shifting) (queue : List ℕ) (t : TransmitterState) → IsDue t → IsDue (refill place queue t)
+due-refill (Some s) queue t h = h
+due-refill None [] t h = h
+due-refill None (x ∷ []) t h = inr refl
+due-refill None (x ∷ y ∷ xs) t h = inl (omega arith)
+
+due-tick : (loopback : Bool) (t : TransmitterState) → IsDue t → IsDue (transmitter.tick loopback t)
+due-tick loopback t h =
+    let u : TransmitterState = shift loopback t.shift_register t in
+    due-refill u.shift_register u.queue u (due-shift loopback t.shift_register t h)
+
+-- a byte that is written is held
+due-load : (fifo : Bool) (byte : ℕ) (t : TransmitterState) → IsDue (load fifo byte t)
+due-load fifo byte t = go (nat_lt (length t.queue) (room fifo)) refl
+  where
+    full : (b : Bool) → nat_lt (length t.queue) (room b) ≡ false → 0 < length (if b then t.queue else byte ∷ [])
+    full true e = grind (arith, nat_tests)
+    full false e = omega arith
+
+    go : (fits : Bool) → nat_lt (length t.queue) (room fifo) ≡ fits → IsDue (load fifo byte t)
+    go true e = rw e (inl (omega (arith, length-append t.queue (byte ∷ []))))
+    go false e = rw e (inl (full fifo e))
+
+-- ---- accesses
+
+-- a read withdraws it only if it is of ISR, and shows it
+due-read : (offset : ℕ) (c : ChipState) → ((offset == offsets.ISR) ≡ true → is_thr_empty (interrupt c) ≡ false) → IsDue c.transmitter →
+    IsDue (after_read offset c).transmitter
+due-read offset c other h =
+    either IsDue _ _ (offset == offsets.DATA) (either IsDue _ _ (is_dlab_set c.latches) h h) (isr (offset == offsets.ISR) refl)
+  where
+    rest : IsDue (if offset == offsets.LSR then record c { receiver = report c.receiver }
+        else if offset == offsets.MSR then record c { modem = record c.modem { deltas = 0 } } else c).transmitter
+    rest = either IsDue _ _ (offset == offsets.LSR) h (either IsDue _ _ (offset == offsets.MSR) h h)
+
+    isr : (b : Bool) → (offset == offsets.ISR) ≡ b →
+        IsDue (if b then (if is_thr_empty (interrupt c) then with_thr_pending false c else c)
+        else if offset == offsets.LSR then record c { receiver = report c.receiver }
+        else if offset == offsets.MSR then record c { modem = record c.modem { deltas = 0 } } else c).transmitter
+    isr true e = rw (other e) h
+    isr false e = rest
+
+due-enable : (value : ℕ) (c : ChipState) → IsDue c.transmitter → IsDue (enable value c).transmitter
+due-enable value c (inl some) = inl some
+due-enable value c (inr pending) =
+    inr (go (not (has_any c.latches.ier IER.THR_EMPTY.0) && (has_any value IER.THR_EMPTY.0 && (length c.transmitter.queue == 0))))
+  where
+    go : (b : Bool) → (if b then true else c.transmitter.is_thr_pending) ≡ true
+    go true = refl
+    go false = pending
+
+-- ISR shows it if it is the interrupt of the chip
+silent : (i : Option InterruptType) (fifo : Bool) →
+    shows_thr_empty (bit_or (identification i) (flag fifo ISR.FIFOS_ENABLED.0)) ≡ false → is_thr_empty i ≡ false
+silent None fifo h = refl
+silent (Some interrupts.ReceiverLineStatus) fifo h = refl
+silent (Some interrupts.ReceivedDataReady) fifo h = refl
+silent (Some interrupts.ReceptionTimeout) fifo h = refl
+silent (Some interrupts.TransmitterHoldingRegisterEmpty) true h = h
+silent (Some interrupts.TransmitterHoldingRegisterEmpty) false h = h
+silent (Some interrupts.ModemStatus) fifo h = refl
+silent (Some interrupts.DmaReceptionEndOfTransfer) fifo h = refl
+silent (Some interrupts.DmaTransmissionEndOfTransfer) fifo h = refl
+
+-- ---- what is known
+
+-- it holds of the machine
+abbrev pub Holds : ThrEmpty → MachineState → Type 0
+Holds known m =
+    (known.enabled ≡ true → (thr_empty_of m).enabled ≡ true) × (known.due ≡ true → (thr_empty_of m).due ≡ true)
+
+abbrev pub IsDlabOff : MachineState → Type 0
+IsDlabOff m = is_dlab_set m.chip.latches ≡ false
+
+pub off_access : (m : MachineState) → IsDlabOff m → IsDlabOff (at_access m)
+off_access m off = ap (λ (k : Kept). is_dlab_set k.latches) (kept_access m) ∙ off
+
+not_true : (b : Bool) → not b ≡ true → b ≡ false
+not_true true h = absurd (false≢true h)
+not_true false h = refl
+
+and_left : (a b : Bool) → (a && b) ≡ true → a ≡ true
+and_left true b h = refl
+and_left false b h = absurd (false≢true h)
+
+and_right : (a b : Bool) → (a && b) ≡ true → b ≡ true
+and_right true b h = h
+and_right false b h = absurd (false≢true h)
+
+either_true : (a b : Bool) → (a || b) ≡ true → (a ≡ true) ⊎ (b ≡ true)
+either_true true b h = inl refl
+either_true false b h = inr h
+
+-- what is due after a read is
+read_due : (offset value : ℕ) (due : Bool) (m n : MachineState) → (due ≡ true → is_due m.chip.transmitter ≡ true) →
+    MachineStep m (Read offset value) n → due_after_read offset value due ≡ true → is_due n.chip.transmitter ≡ true
+read_due offset value due m n was s h = go (offset == offsets.LSR) (offset == offsets.ISR) refl refl h
+  where
+    lasts : ((offset == offsets.ISR) ≡ true → is_thr_empty (interrupt (at_access m).chip) ≡ false) → due ≡ true →
+        is_due n.chip.transmitter ≡ true
+    lasts other is =
+        says_due n.chip.transmitter (rw s.0 (due-read offset (at_access m).chip other
+        (lasts-before IsDue due-tick m.ahead m.chip (due_says m.chip.transmitter (was is)))))
+
+    room_shown : (offset == offsets.LSR) ≡ true → has value LSR.THR_EMPTY.0 ≡ false → is_due n.chip.transmitter ≡ true
+    room_shown e none =
+        let at : offset ≡ offsets.LSR = grind (arith, nat_tests) in
+        let step : MachineStep m (Read offsets.LSR value) n = rw at at s in
+        let some : (length n.chip.transmitter.queue == 0) ≡ false = sym (look_room m n value step) ∙ (sym (has_one 5 value) ∙ none) in
+        rw some refl
+
+    look : (offset == offsets.LSR) ≡ true → (not (has value LSR.THR_EMPTY.0) ≡ true) ⊎ (due ≡ true) → is_due n.chip.transmitter ≡ true
+    look e (inl none) = room_shown e (not_true (has value LSR.THR_EMPTY.0) none)
+    look e (inr is) = lasts (λ isr. let at : offset ≡ offsets.LSR = grind (arith, nat_tests) in absurd (false≢true (rw at at isr))) is
+
+    go : (lsr isr : Bool) → (offset == offsets.LSR) ≡ lsr → (offset == offsets.ISR) ≡ isr →
+        (if lsr then not (has value LSR.THR_EMPTY.0) || due else if isr then not (shows_thr_empty value) && due else due) ≡ true →
+        is_due n.chip.transmitter ≡ true
+    go true isr e f h = look e (either_true (not (has value LSR.THR_EMPTY.0)) due h)
+    go false true e f h =
+        let at : offset ≡ offsets.ISR = grind (arith, nat_tests) in
+        let step : MachineStep m (Read offsets.ISR value) n = rw at at s in
+        let c = (at_access m).chip in
+        let hidden : shows_thr_empty value ≡ false = not_true (shows_thr_empty value) (and_left (not (shows_thr_empty value)) due h) in
+        lasts (λ isr. silent (interrupt c) c.fifo (rw step.1 at hidden)) (and_right (not (shows_thr_empty value)) due h)
+    go false false e f h = lasts (λ isr. absurd (false≢true (sym f ∙ isr))) h
+
+-- what is kept of IER by a read, and by writes with DLAB off
+ier_read : (offset value : ℕ) (m n : MachineState) → MachineStep m (Read offset value) n → n.chip.latches.ier ≡ m.chip.latches.ier
+ier_read offset value m n s = ap (λ (k : Kept). k.latches.ier) (kept_step (Read offset value) m n s)
+
+ier_answer : (value : ℕ) (m n : MachineState) → IsDlabOff m → MachineStep m (Read offsets.IER value) n → value ≡ m.chip.latches.ier
+ier_answer value m n off s =
+    let there = off_access m off in
+    (rw there at s.1) ∙ ap (λ (k : Kept). k.latches.ier) (kept_access m)
+
+-- DLAB stays off where LCR is not written
+lcr_if : (b : Bool) (x y k : Kept) → x.latches.lcr ≡ k.latches.lcr → y.latches.lcr ≡ k.latches.lcr →
+    (if b then x else y).latches.lcr ≡ k.latches.lcr
+lcr_if true x y k p q = p
+lcr_if false x y k p q = q
+
+lcr_control : (model : Chip) (value : ℕ) (k : Kept) → (keep_control model value k).latches.lcr ≡ k.latches.lcr
+lcr_control Uart16450 value k = refl
+lcr_control Uart16550A value k = refl
+
+lcr_write : (offset value : ℕ) (k : Kept) → (offset == offsets.LCR) ≡ false → (keep_write offset value k).latches.lcr ≡ k.latches.lcr
+lcr_write offset value k other =
+    rw other (lcr_if (offset == offsets.DATA) _ _ k (lcr_if (is_dlab_set k.latches) _ _ k refl refl)
+    (lcr_if (offset == offsets.IER) _ _ k (lcr_if (is_dlab_set k.latches) _ _ k refl refl)
+    (lcr_if (offset == offsets.FCR) _ _ k (lcr_control k.model value k)
+    (lcr_if (offset == offsets.MCR) _ _ k refl
+    (lcr_if (offset == offsets.SPR) _ _ k refl refl)))))
+
+pub off_step : (access : Access) (m n : MachineState) → LeavesLcr access → IsDlabOff m → MachineStep m access n → IsDlabOff n
+off_step (Read offset value) m n leaves off s = ap (λ (k : Kept). is_dlab_set k.latches) (kept_step (Read offset value) m n s) ∙ off
+off_step (Write offset value) m n leaves off s =
+    let kept : n.chip.latches.lcr ≡ m.chip.latches.lcr =
+    ap (λ (k : Kept). k.latches.lcr) (kept_step (Write offset value) m n s) ∙ lcr_write offset value (kept_in m.chip) leaves in
+    ap (λ lcr. has_any lcr LCR.DLAB.0) kept ∙ off
+
+-- ---- a write
+
+write_data_holds : (known : ThrEmpty) (value : ℕ) (m n : MachineState) → IsDlabOff m → Holds known m →
+    MachineStep m (Write offsets.DATA value) n → Holds (record { enabled = known.enabled; due = true }) n
+write_data_holds known value m n off was s =
+    let there = off_access m off in
+    let c = (at_access m).chip in
+    let step = kept_step (Write offsets.DATA value) m n s in
+    let same : n.chip.latches.ier ≡ m.chip.latches.ier = ap (λ (k : Kept). k.latches.ier) (rw off at step) in
+    (λ e. rw same (was.0 e), λ e. says_due n.chip.transmitter (rw (s, there) (due-load c.fifo (cut_of c value) c.transmitter)))
+
+write_ier_holds : (known : ThrEmpty) (value : ℕ) (m n : MachineState) → IsDlabOff m → Holds known m →
+    MachineStep m (Write offsets.IER value) n → Holds (record { enabled = has value IER.THR_EMPTY.0; due = known.due }) n
+write_ier_holds known value m n off was s =
+    let there = off_access m off in
+    let step = kept_step (Write offsets.IER value) m n s in
+    let kept : n.chip.latches.ier ≡ bit_and value ier_bits = ap (λ (k : Kept). k.latches.ier) (rw off at step) in
+    let bit : has (bit_and value ier_bits) IER.THR_EMPTY.0 ≡ has value IER.THR_EMPTY.0 =
+    has_one 1 (bit_and value ier_bits) ∙ (has_and 1 value ier_bits refl ∙ sym (has_one 1 value)) in (
+      λ e. rw kept (bit ∙ e),
+      λ e. says_due n.chip.transmitter (rw (s, there) (due-enable value (at_access m).chip
+          (lasts-before IsDue due-tick m.ahead m.chip (due_says m.chip.transmitter (was.1 e))))),
+    )
+
+-- ---- one access, and some
+
+-- a read of IER is true of what was known, and what is known after an access holds
+step_holds : (known : ThrEmpty) (access : Access) (m n : MachineState) → LeavesLcr access → IsDlabOff m → Holds known m →
+    MachineStep m access n → IsTrueOfIer known access × Holds (known_after known access) n
+step_holds known (Read offset value) m n leaves off was s =
+    (ier, (λ e. rw (ier_read offset value m n s) (was.0 e), read_due offset value known.due m n was.1 s))
+  where
+    ier : offset ≡ offsets.IER → known.enabled ≡ true → has value IER.THR_EMPTY.0 ≡ true
+    ier at enabled = rw (ier_answer value m n off (rw at at s)) (was.0 enabled)
+step_holds known (Write offset value) m n leaves off was s = (tt, go (offset == offsets.DATA) (offset == offsets.IER) refl refl)
+  where
+    go : (sends ier : Bool) → (offset == offsets.DATA) ≡ sends → (offset == offsets.IER) ≡ ier →
+        Holds (if sends then record { enabled = known.enabled; due = true }
+        else if ier then record { enabled = has value IER.THR_EMPTY.0; due = known.due }
+        else record { enabled = false; due = false }) n
+    go true ier e f =
+        let at : offset ≡ offsets.DATA = grind (arith, nat_tests) in write_data_holds known value m n off was (rw at at s)
+    go false true e f =
+        let at : offset ≡ offsets.IER = grind (arith, nat_tests) in write_ier_holds known value m n off was (rw at at s)
+    go false false e f = (λ h. absurd (false≢true h), λ h. absurd (false≢true h))
+
+pub path_holds : (known : ThrEmpty) (l : List Access) (m n : MachineState) → AllLeaveLcr l → IsDlabOff m → Holds known m →
+    Path MachineStep m l n → KeepsIer known l × Holds (known_after_all known l) n
+path_holds known [] m n leaves off was p = (tt, rw p was)
+path_holds known (access ∷ l) m n leaves off was p =
+    let first = step_holds known access m p.0 leaves.0 off was p.1 in
+    let rest = path_holds (known_after known access) l p.0 n leaves.1 (off_step access m p.0 leaves.0 off p.1) first.1 p.2 in
+    ((first.0, rest.0), rest.1)
+
+-- the events up to a mark
+pub mark_holds : (known : ThrEmpty) (m : MachineState) → Holds known m → Holds known (at_mark m)
+mark_holds known m was = (
+  λ e. rw (ap (λ (k : Kept). k.latches.ier) (kept-before_mark m.ahead m.chip)) (was.0 e),
+  λ e. says_due (at_mark m).chip.transmitter (lasts-before_mark IsDue due-tick m.ahead m.chip (due_says m.chip.transmitter (was.1 e))),
+)

@@ -1,0 +1,206 @@
+-- That `handle` and `retrigger` lose no edge of the interrupt line.
+use Rattle.std.proofs.Common.{◌≡◌, ◌⊎◌, ℕ, Bool, true, false, List, [], ◌∷◌, ◌++◌, inl, inr, refl, sym, ◌∙◌, ap, subst, bit_or}
+use Rattle.std.proofs.Common.{Option, Some, None}
+use Rattle.std.specs.Prelude.{is_some}
+use Rattle.std.proofs.lemmas.Bool.{false≢true}
+use Rattle.uart_spec.specs.Access.{Path}
+use Rattle.uart_spec.specs.declared.access.Access.{Access}
+use Rattle.uart_spec.specs.declared.access.Access.TheVariants.{Read}
+use Rattle.uart_spec.specs.Bits.{has, flag}
+use Rattle.uart_spec.specs.declared.registers.interrupt_status.TheConstants.ISR
+use Rattle.uart_spec.specs.declared.registers.interrupt_type.InterruptType.{InterruptType}
+use Rattle.uart_spec.specs.declared.registers.interrupt_type.InterruptType.TheVariants as interrupts
+use Rattle.uart_spec.specs.declared.registers.offsets.TheConstants as offsets
+use Rattle.uart_16550.specs.Status as status
+use Rattle.uart_chip.specs.Chip.{ChipState, interrupt, identification, enable}
+use Rattle.uart_chip.specs.Machine.{MachineState, MachineStep, at_access}
+use Rattle.uart_ring.specs.Ring.{RingDoing, RingDid, RingFields, RingNext, RingTimes}
+use Rattle.uart_ring.specs.Service.{ServesOne, Stops}
+use Rattle.uart_ring.specs.Handle.{Retriggers, RetriggersUnlessIdle, Handles}
+use Rattle.uart_ring_runs.specs.Edges.{is_line_up, IsDownDuring, RisesDuring, LosesNoEdge, RisesInCalls}
+use Rattle.uart_ring.specs.declared.ring.service.HandleEnd.{HandleEnd}
+use Rattle.uart_ring.specs.declared.ring.service.HandleEnd.TheVariants.{Idle, Unknown, Limit}
+use Rattle.uart_ring.specs.declared.ring.service.Handled.{Handled}
+use Rattle.uart_ring_runs.specs.RingRun.{RingState, ring_machine, RingLink, RingChain}
+use Rattle.uart_chip.proofs.conservation.BlockLaws.{path_as}
+use Rattle.uart_ring_runs.proofs.RingBlocks.{AllLeaveLcr, times_make}
+use Rattle.uart_ring.proofs.RingDoings.{then_later}
+use Rattle.uart_ring_runs.proofs.RingDue.{IsDlabOff, off_access, off_step}
+
+-- ---- low, and then high
+
+up_after : (l : List Access) (m n : MachineState) (p : Path MachineStep m l n) → is_line_up m ≡ false → is_line_up n ≡ true →
+    RisesDuring l m n p
+up_after [] m n p down up = absurd (false≢true (sym down ∙ (ap is_line_up (sym p) ∙ up)))
+up_after (access ∷ l) m n p down up = go (is_line_up p.0) refl (λ still. up_after l p.0 n p.2 still up)
+  where
+    go : (b : Bool) → is_line_up p.0 ≡ b → (is_line_up p.0 ≡ false → RisesDuring l p.0 n p.2) → RisesDuring (access ∷ l) m n p
+    go true e later = inl (down, e)
+    go false e later = inr (later e)
+
+rises : (l : List Access) (m n : MachineState) (p : Path MachineStep m l n) → IsDownDuring l m n p → is_line_up n ≡ true →
+    RisesDuring l m n p
+rises [] m n p down up = absurd (false≢true (sym down ∙ up))
+rises (access ∷ l) m n p (inl down) up = up_after (access ∷ l) m n p down up
+rises (access ∷ l) m n p (inr later) up = inr (rises l p.0 n p.2 later up)
+
+-- ---- parts of a list
+
+-- the line was low during the last of two lists
+down_later : (l k : List Access) (m n : MachineState) (p : Path MachineStep m (l ++ k) n) → AllLeaveLcr l → IsDlabOff m →
+    ((o : MachineState) (q : Path MachineStep o k n) → IsDlabOff o → IsDownDuring k o n q) → IsDownDuring (l ++ k) m n p
+down_later [] k m n p leaves off h = h m p off
+down_later (access ∷ l) k m n p leaves off h =
+    inr (down_later l k p.0 n p.2 leaves.1 (off_step access m p.0 leaves.0 off p.1) h)
+
+-- whatever the path
+abbrev AlwaysDown : List Access → Type 0
+AlwaysDown l = (m n : MachineState) (p : Path MachineStep m l n) → IsDlabOff m → IsDownDuring l m n p
+
+always_later : (l k : List Access) → AllLeaveLcr l → AlwaysDown k → AlwaysDown (l ++ k)
+always_later l k leaves h m n p off = down_later l k m n p leaves off (λ o q. h o n q)
+
+-- ---- what makes the line low
+
+-- IER is 0
+enabled_none : (c : ChipState) → is_some (interrupt (enable 0 c)) ≡ false
+enabled_none c = refl
+
+retriggers_down : (ier : ℕ) → AlwaysDown (status.retrigger_accesses ier)
+retriggers_down ier m n p off =
+    let read = off_step (Read offsets.IER ier) m p.0 tt off p.1 in
+    let at = off_access p.0 read in
+    let down : is_line_up p.2.0 ≡ false = rw (p.2.1, at) (enabled_none (at_access p.0).chip) in
+    inr (inr (inl down))
+
+-- ISR showed that no interrupt is pending
+idle_none : (i : Option InterruptType) (fifo : Bool) →
+    has (bit_or (identification i) (flag fifo ISR.FIFOS_ENABLED.0)) ISR.INTERRUPT_STATUS.0 ≡ true → i ≡ None
+idle_none None fifo h = refl
+idle_none (Some interrupts.ReceiverLineStatus) true h = absurd (false≢true h)
+idle_none (Some interrupts.ReceiverLineStatus) false h = absurd (false≢true h)
+idle_none (Some interrupts.ReceivedDataReady) true h = absurd (false≢true h)
+idle_none (Some interrupts.ReceivedDataReady) false h = absurd (false≢true h)
+idle_none (Some interrupts.ReceptionTimeout) true h = absurd (false≢true h)
+idle_none (Some interrupts.ReceptionTimeout) false h = absurd (false≢true h)
+idle_none (Some interrupts.TransmitterHoldingRegisterEmpty) true h = absurd (false≢true h)
+idle_none (Some interrupts.TransmitterHoldingRegisterEmpty) false h = absurd (false≢true h)
+idle_none (Some interrupts.ModemStatus) true h = absurd (false≢true h)
+idle_none (Some interrupts.ModemStatus) false h = absurd (false≢true h)
+idle_none (Some interrupts.DmaReceptionEndOfTransfer) true h = absurd (false≢true h)
+idle_none (Some interrupts.DmaReceptionEndOfTransfer) false h = absurd (false≢true h)
+idle_none (Some interrupts.DmaTransmissionEndOfTransfer) true h = absurd (false≢true h)
+idle_none (Some interrupts.DmaTransmissionEndOfTransfer) false h = absurd (false≢true h)
+
+idle_read : (isr : ℕ) (m n : MachineState) → has isr ISR.INTERRUPT_STATUS.0 ≡ true → MachineStep m (Read offsets.ISR isr) n →
+    is_line_up n ≡ false
+idle_read isr m n idle s =
+    let c = (at_access m).chip in
+    let none : interrupt c ≡ None = idle_none (interrupt c) c.fifo (rw s.1 at idle) in
+    rw (s.0, none) (ap is_some none)
+
+idle_down : (isr : ℕ) → has isr ISR.INTERRUPT_STATUS.0 ≡ true → AlwaysDown (Read offsets.ISR isr ∷ [])
+idle_down isr idle m n p off =
+    let down : is_line_up p.0 ≡ false = idle_read isr m p.0 idle p.1 in
+    inr (ap is_line_up p.2 ∙ down)
+
+-- the last access left the line low
+down_last : (l k : List Access) (m n : MachineState) → Path MachineStep m (l ++ k) n →
+    ((o : MachineState) → Path MachineStep o k n → is_line_up n ≡ false) → is_line_up n ≡ false
+down_last [] k m n p h = h m p
+down_last (access ∷ l) k m n p h = down_last l k p.0 n p.2 h
+
+-- ---- the calls
+
+pub retrigger_down : (f : RingFields) (l : List Access) (after : RingFields) → Retriggers f l after → AlwaysDown l
+retrigger_down f l after (((ier, is), saved), same) = subst AlwaysDown (sym is) (retriggers_down ier)
+
+-- how a `handle` ends, after what it served
+abbrev Ends : HandleEnd → RingDoing
+Ends end = RingNext (Stops end) (RetriggersUnlessIdle end)
+
+handled_later : (limit : ℕ) (handled : Handled) (f : RingFields) (l : List Access) (after : RingFields) → Handles limit handled f l after →
+    RingNext (RingTimes handled.served ServesOne) (Ends handled.end) f l after
+handled_later limit handled f l after t =
+    then_later (RingTimes handled.served ServesOne) (Stops handled.end) (RetriggersUnlessIdle handled.end) f l after
+    (record { front = t.front; back = t.back; mid = t.mid; whole = t.whole; first = t.first.1; second = t.second })
+
+-- one read of ISR, which showed that no interrupt is pending
+idle_list : (f : RingFields) (l : List Access) (after : RingFields) → Ends Idle f l after →
+    (isr : ℕ) × (has isr ISR.INTERRUPT_STATUS.0 ≡ true) × (l ≡ Read offsets.ISR isr ∷ [])
+idle_list f l after t =
+    let shown = t.first.0 in
+    (shown.0, shown.2, rw (shown.3.0.is, t.second.0) at t.whole)
+
+ends_down : (end : HandleEnd) (f : RingFields) (l : List Access) (after : RingFields) → Ends end f l after → AlwaysDown l
+ends_down Idle f l after t = let read = idle_list f l after t in subst AlwaysDown (sym read.2) (idle_down read.0 read.1)
+ends_down Unknown f l after t =
+    let leaves : AllLeaveLcr t.front = rw t.first.0.3.0.is (tt, tt) in
+    subst AlwaysDown (sym t.whole) (always_later t.front t.back leaves (retrigger_down t.mid t.back after t.second))
+ends_down Limit f l after t =
+    let none : AllLeaveLcr t.front = rw t.first.0 tt in
+    subst AlwaysDown (sym t.whole) (always_later t.front t.back none (retrigger_down t.mid t.back after t.second))
+
+pub handles_down : (limit : ℕ) (handled : Handled) (f : RingFields) (l : List Access) (after : RingFields) →
+    Handles limit handled f l after → AlwaysDown l
+handles_down limit handled f l after t =
+    let u = handled_later limit handled f l after t in
+    let leaves : AllLeaveLcr u.front = (times_make handled.served f u.front u.mid u.first).lcr in
+    subst AlwaysDown (sym u.whole)
+    (always_later u.front u.back leaves (ends_down handled.end u.mid u.back after u.second))
+
+-- ---- calls after it
+
+rises_in_calls : (t u : RingState) (later : List RingLink) → RingChain t later u → is_line_up (ring_machine t) ≡ false →
+    is_line_up (ring_machine u) ≡ true → RisesInCalls later
+rises_in_calls t u [] h down up = absurd (false≢true (sym down ∙ (ap (λ (v : RingState). is_line_up (ring_machine v)) (sym h) ∙ up)))
+rises_in_calls t u (link ∷ links) h down up =
+    go (is_line_up (ring_machine link.after)) refl (λ still. rises_in_calls link.after u links h.2 still up)
+  where
+    go : (b : Bool) → is_line_up (ring_machine link.after) ≡ b → (is_line_up (ring_machine link.after) ≡ false → RisesInCalls links) →
+        RisesInCalls (link ∷ links)
+    go true e rest = inl (ap (λ (v : RingState). is_line_up (ring_machine v)) h.0 ∙ down, e)
+    go false e rest = inr (rest e)
+
+-- the call was made so, and the line was low meanwhile
+no_edge_lost : (l : List Access) (s t : RingState) (p : Path MachineStep (ring_machine s) l (ring_machine t)) →
+    IsDownDuring l (ring_machine s) (ring_machine t) p → LosesNoEdge l s t p
+no_edge_lost l s t p down = record {
+  was_down = down;
+  has_risen = λ calls u chain up. go calls u chain up (is_line_up (ring_machine t)) refl;
+}
+  where
+    go : (calls : List RingLink) (u : RingState) → RingChain t calls u → is_line_up (ring_machine u) ≡ true → (b : Bool) →
+        is_line_up (ring_machine t) ≡ b → RisesDuring l (ring_machine s) (ring_machine t) p ⊎ RisesInCalls calls
+    go calls u chain up true e = inl (rises l (ring_machine s) (ring_machine t) p down e)
+    go calls u chain up false e = inr (rises_in_calls t u calls chain e up)
+
+-- ---- the law
+
+pub retrigger_loses_no_edge : (s t : RingState) → IsDlabOff (ring_machine s) → (did : RingDid MachineStep Retriggers s t) →
+    LosesNoEdge did.list s t did.path
+retrigger_loses_no_edge s t off did =
+    no_edge_lost did.list s t did.path (retrigger_down _ did.list _ did.does (ring_machine s) (ring_machine t) did.path off)
+
+pub handle_loses_no_edge : (limit : ℕ) (handled : Handled) (s t : RingState) → IsDlabOff (ring_machine s) →
+    (did : RingDid MachineStep (Handles limit handled) s t) → LosesNoEdge did.list s t did.path
+handle_loses_no_edge limit handled s t off did =
+    no_edge_lost did.list s t did.path
+    (handles_down limit handled _ did.list _ did.does (ring_machine s) (ring_machine t) did.path off)
+
+idle_last : (end : HandleEnd) → end ≡ Idle → (f : RingFields) (l : List Access) (after : RingFields) → Ends end f l after →
+    (m n : MachineState) → Path MachineStep m l n → is_line_up n ≡ false
+idle_last Idle e f l after t m n p =
+    let read = idle_list f l after t in
+    let q : Path MachineStep m (Read offsets.ISR read.0 ∷ []) n = path_as m n l (Read offsets.ISR read.0 ∷ []) read.2 p in
+    ap is_line_up q.2 ∙ idle_read read.0 m q.0 read.1 q.1
+idle_last Unknown e f l after t m n p = absurd (cc)
+idle_last Limit e f l after t m n p = absurd (cc)
+
+pub idle_is_down : (limit : ℕ) (handled : Handled) (s t : RingState) → handled.end ≡ Idle →
+    RingDid MachineStep (Handles limit handled) s t → is_line_up (ring_machine t) ≡ false
+idle_is_down limit handled s t idle did =
+    let served = handled_later limit handled _ did.list _ did.does in
+    down_last served.front served.back (ring_machine s) (ring_machine t)
+    (path_as (ring_machine s) (ring_machine t) did.list (served.front ++ served.back) served.whole did.path)
+    (λ o q. idle_last handled.end idle served.mid served.back _ served.second o (ring_machine t) q)

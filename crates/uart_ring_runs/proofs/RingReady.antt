@@ -1,0 +1,24 @@
+-- After an `init` a session of ring calls may begin.
+use Rattle.std.proofs.Common.{◌≡◌, Ok, refl, sym, subst}
+use Rattle.uart_spec.specs.declared.config.Config.{Config}
+use Rattle.uart_16550.specs.Driver.{Did, backend_of}
+use Rattle.uart_16550.specs.Init.{Inits}
+use Rattle.uart_16550.specs.declared.driver.Uart16550.{Uart16550}
+use Rattle.uart_events.specs.declared.call.Call.TheVariants as call
+use Rattle.uart_events.specs.declared.call.Answer.TheVariants.{Done}
+use Rattle.uart_chip.specs.Machine.{MachineState, MachineStep}
+use Rattle.uart_chip.specs.Sound.{IsSound}
+use Rattle.uart_ring.specs.Ring.{driver_of}
+use Rattle.uart_ring_runs.specs.RingRun.{RingState, under}
+use Rattle.uart_run.specs.Ready.{Ready}
+use Rattle.uart_run.specs.Run.{State, CallStep}
+use Rattle.uart_run.proofs.initialising.Initialised.{initialises}
+
+pub init_ready : (before after : Uart16550 MachineState) (config : Config) (ring : RingState) → IsSound (backend_of before) →
+    Did MachineStep (Inits {T = Unit {0}} config (Ok tt)) before after → driver_of ring ≡ after → Ready (under ring)
+init_ready before after config ring sound did same =
+    let s : State = record { inner = before } in
+    let t : State = record { inner = after } in
+    let step : CallStep s (call.Init config) Done t = record { outcome = Ok tt; answered = refl; did = did } in
+    let R : Uart16550 MachineState → Type 0 = λ d. Ready (record { inner = d }) in
+    subst R (sym same) ((initialises s t config Done sound step).leaves refl).ready

@@ -1,0 +1,113 @@
+-- What a session of ring calls conserves, and runs of them.
+use Rattle.std.proofs.Common.{◌≡◌, ℕ, ◌≤◌, List, ◌++◌, length, take, map, sym, ◌∙◌, ap, append_assoc}
+use Rattle.std.specs.List.{filter}
+use Rattle.std.proofs.lemmas.List.{map-id, map-append}
+use Rattle.uart_chip.specs.declared.receiver.Character.{Character}
+use Rattle.uart_chip.specs.Chip.{cut_of}
+use Rattle.uart_chip.specs.Sound.{IsSound}
+use Rattle.uart_chip.specs.Conserved.{out, waiting, kept, stands}
+use Rattle.uart_chip.proofs.conservation.Went.{Modes, dlab-in, loopback-in}
+use Rattle.uart_chip.proofs.conservation.SessionLaws.{received_kept}
+use Rattle.uart_16550.specs.Grammar.{Settings}
+use Rattle.uart_run.specs.Chains.{RunOf}
+use Rattle.uart_run.specs.Uncut.{IsUncut}
+use Rattle.uart_run.proofs.Chains.{chain_keeps, run_whole}
+use Rattle.uart_run.proofs.CallLaws.{InSession}
+use Rattle.uart_run.proofs.SessionCalls.{modes_of, in_session}
+use Rattle.uart_run.proofs.Sessions.{lasts_sound}
+use Rattle.uart_run.proofs.Uncuts.{whole_cut, entered_whole}
+use Rattle.uart_ring.specs.Lossless.{data_written, data_read}
+use Rattle.uart_ring_runs.specs.declared.call.RingCall.{RingCall}
+use Rattle.uart_ring_runs.specs.declared.call.RingCall.TheVariants as call
+use Rattle.uart_ring_runs.specs.declared.call.RingAnswer.{RingAnswer}
+use Rattle.uart_ring_runs.specs.RingRun.{RingState, under, ring_machine, RingCallStep, RingLink, RingChain}
+use Rattle.uart_ring_runs.specs.RingBytes.{to_send, to_take, queued, taken}
+use Rattle.uart_ring_runs.specs.RingSession.{ConservesBytesUncut, RingConserves, RanRing}
+use Rattle.uart_ring_runs.proofs.RingPasses.{ring_passes_chain}
+use Rattle.uart_ring_runs.proofs.RingTold.{ring_tells}
+use Rattle.uart_ring_runs.proofs.RingArming.{chain_leaves}
+
+-- ---- soundness
+
+ring_sound_call : (s t : RingState) (call : RingCall) (a : RingAnswer) → IsSound (ring_machine s) → RingCallStep s call a t →
+    IsSound (ring_machine t)
+ring_sound_call s t call.Next a w h = rw h.machine (lasts_sound.mark (ring_machine s) w)
+ring_sound_call s t (call.Queue bytes) a w h = lasts_sound.path h.did.list (ring_machine s) (ring_machine t) w h.did.path
+ring_sound_call s t call.ResumeTransmit a w h = lasts_sound.path h.did.list (ring_machine s) (ring_machine t) w h.did.path
+ring_sound_call s t (call.Take slots) a w h = lasts_sound.path h.did.list (ring_machine s) (ring_machine t) w h.did.path
+ring_sound_call s t call.Service a w h = lasts_sound.path h.did.list (ring_machine s) (ring_machine t) w h.did.path
+ring_sound_call s t (call.Handle limit) a w h = lasts_sound.path h.did.list (ring_machine s) (ring_machine t) w h.did.path
+ring_sound_call s t call.Retrigger a w h = lasts_sound.path h.did.list (ring_machine s) (ring_machine t) w h.did.path
+ring_sound_call s t call.TakeLine a w h = lasts_sound.path h.did.list (ring_machine s) (ring_machine t) w h.did.path
+ring_sound_call s t call.TakeModem a w h = lasts_sound.path h.did.list (ring_machine s) (ring_machine t) w h.did.path
+
+ring_sound_chain : (s t : RingState) (links : List RingLink) → IsSound (ring_machine s) → RingChain s links t → IsSound (ring_machine t)
+ring_sound_chain = chain_keeps RingCallStep (λ s. IsSound (ring_machine s)) ring_sound_call
+
+-- ---- what is conserved
+
+-- what was written and is left was there or was queued; the same of the bytes cut
+cut_sent : (cut : ℕ → ℕ) (written left before more : List ℕ) → written ++ left ≡ before ++ more →
+    map cut written ++ map cut left ≡ map cut before ++ map cut more
+cut_sent cut written left before more e = sym (map-append cut written left) ∙ (ap (map cut) e ∙ map-append cut before more)
+
+-- nothing is cut
+bytes_uncut : (s t : RingState) (links : List RingLink) → IsUncut (under s) →
+    out (ring_machine t) ++ map (cut_of (ring_machine s).chip) (to_send t) ≡ out (ring_machine s)
+    ++ (map (cut_of (ring_machine s).chip) (to_send s) ++ map (cut_of (ring_machine s).chip) (queued links)) →
+    taken links ++ (to_take t ++ waiting (ring_machine t)) ≡ to_take s ++ kept (ring_machine s) (ring_machine t) →
+    ConservesBytesUncut s links t
+bytes_uncut s t links e sent got =
+    let m = ring_machine s in
+    let n = ring_machine t in
+    let byte : Character → ℕ = λ character. character.byte in
+    record {
+      sent = (λ i. out n ++ sym (map-id (to_send t)) i) ∙ ((rw (whole_cut m.chip e) at sent)
+          ∙ (λ i. out m ++ (map-id (to_send s) i ++ map-id (queued links) i)));
+      kept = got ∙ ap (λ (characters : List Character). to_take s ++ map byte (filter (stands n.chip.receiver) characters))
+          (entered_whole m n e);
+    }
+
+ring_conserves : (x : Modes) (s t : RingState) (links : List RingLink) → InSession x (under s) → RingChain s links t →
+    RingConserves s links t
+ring_conserves x s t links w chain =
+    let p = ring_passes_chain x s t links w chain in
+    let went = p.passed.passed.went in
+    let m = ring_machine s in
+    let n = ring_machine t in
+    let cut = λ (bytes : List ℕ). map (cut_of m.chip) bytes in
+    let written = data_written p.made in
+    let grows : out n ≡ out m ++ cut written = went.sends.grows ∙ sym (ap (λ (f : ℕ → ℕ). out m ++ map f written) w.stands.modes.cut) in
+    let sent : out n ++ cut (to_send t) ≡ out m ++ (cut (to_send s) ++ cut (queued links)) =
+    ap (λ zs. zs ++ cut (to_send t)) grows ∙ (append_assoc (out m) (cut written) (cut (to_send t)) ∙
+    ap (λ zs. out m ++ zs) (cut_sent (cut_of m.chip) written (to_send t) (to_send s) (queued links) p.sent)) in
+    let got : taken links ++ (to_take t ++ waiting n) ≡ to_take s ++ kept m n =
+    sym (append_assoc (taken links) (to_take t) (waiting n)) ∙ (ap (λ zs. zs ++ waiting n) p.received ∙
+    (append_assoc (to_take s) (data_read p.made) (waiting n) ∙
+    ap (λ zs. to_take s ++ zs) (received_kept x m n p.made written (data_read p.made) w.stands.modes.cut p.passed))) in
+    record {
+      ready = record {
+        dlab = dlab-in x n.chip went.modes ∙ w.open_modes.dlab;
+        loopback = loopback-in x n.chip went.modes ∙ w.open_modes.loopback;
+        fifo = went.modes.fifo ∙ (sym w.fifo ∙ sym (ap (λ (settings : Settings). settings.fifo) p.settings));
+      };
+      sent = sent;
+      no_overflow = went.sends.same_overflows;
+      kept = got;
+      uncut = λ e. bytes_uncut s t links e sent got;
+      tells = ring_tells x s t links w chain;
+      armed = chain_leaves x s t links w chain;
+    }
+
+-- ---- runs
+
+-- a run of all calls, from a sound machine
+pub ran_ring : (s t : RingState) (calls : List RingCall) (answers : List RingAnswer) (i : ℕ) → length calls ≤ i → length answers ≤ i →
+    IsSound (ring_machine s) → RunOf RingCallStep s (take i calls) (take i answers) t → RanRing s calls answers t
+ran_ring s t calls answers i all slots sound run =
+    let r = run_whole RingCallStep s t calls answers i all slots run in
+    record {
+      run = r;
+      sessions = λ front session rest a b parts before within after ready.
+          ring_conserves (modes_of (under a)) a b session (in_session (under a) ready (ring_sound_chain s a front sound before)) within;
+    }

@@ -1,0 +1,7 @@
+use Rattle.uart_ring_runs.proofs.RingReady.{init_ready}
+use Rattle.uart_ring_runs.proofs.laws.init_leaves_ready.Goals as goal
+
+pub returns : goal.returns
+returns c =
+    let whole = rw c.backend.ensures at c.fifo_enabled-fifo.ensures.whole in
+    λ config after ring did same. init_ready _ after config ring whole.sound did same

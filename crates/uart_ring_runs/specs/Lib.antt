@@ -1,0 +1,6 @@
+pub mod RingRun
+pub mod RingBytes
+pub mod RingStatuses
+pub mod RingArmed
+pub mod RingSession
+pub mod Edges

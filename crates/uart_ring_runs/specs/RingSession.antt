@@ -1,0 +1,43 @@
+-- Sessions of ring calls, and what holds in each.
+use Rattle.std.specs.Prelude.{◌≡◌, List, ◌++◌, map}
+use Rattle.uart_chip.specs.Chip.{cut_of}
+use Rattle.uart_chip.specs.Conserved.{out, waiting, kept}
+use Rattle.uart_run.specs.Chains.{RunOf}
+use Rattle.uart_run.specs.Ready.{Ready}
+use Rattle.uart_run.specs.Session.{overflows}
+use Rattle.uart_run.specs.Progress.{IsUnchecked}
+use Rattle.uart_run.specs.Uncut.{IsUncut, kept_uncut}
+use Rattle.uart_ring_runs.specs.declared.call.RingCall.{RingCall}
+use Rattle.uart_ring_runs.specs.declared.call.RingAnswer.{RingAnswer}
+use Rattle.uart_ring_runs.specs.RingRun.{RingState, under, ring_machine, RingCallStep, RingLink, RingChain}
+use Rattle.uart_ring_runs.specs.RingBytes.{to_send, to_take, queued, taken}
+use Rattle.uart_ring_runs.specs.RingStatuses.{RingTells}
+use Rattle.uart_ring_runs.specs.RingArmed.{AllLeaveRingArmed}
+
+-- what has been sent or is still to be sent, and then the transmit ring, grew by what was queued; what was taken,
+-- then the receive ring, then what is in the receiver, is what was in the receive ring and what was kept since
+pub record ConservesBytesUncut (s : RingState) (links : List RingLink) (t : RingState) : Type 0 where
+  pub sent : out (ring_machine t) ++ to_send t ≡ out (ring_machine s) ++ (to_send s ++ queued links)
+  pub kept : taken links ++ (to_take t ++ waiting (ring_machine t)) ≡
+      to_take s ++ kept_uncut (ring_machine s) (ring_machine t)
+
+-- a session of ring calls: the bytes that were queued, with characters cut, are conserved, and those that arrived; no
+-- data write met a full transmitter; a `take_line` or `take_modem` at the end reports drops, line errors and changes;
+-- and there are never bytes to send with no interrupt to come
+pub record RingConserves (s : RingState) (links : List RingLink) (t : RingState) : Type 0 where
+  pub ready : Ready (under t)
+  pub sent : let cut = map (cut_of (ring_machine s).chip) in
+      out (ring_machine t) ++ cut (to_send t) ≡ out (ring_machine s) ++ (cut (to_send s) ++ cut (queued links))
+  pub no_overflow : overflows (under t) ≡ overflows (under s)
+  pub kept : taken links ++ (to_take t ++ waiting (ring_machine t)) ≡
+      to_take s ++ kept (ring_machine s) (ring_machine t)
+  pub uncut : IsUncut (under s) → ConservesBytesUncut s links t
+  pub tells : RingTells s links t
+  pub armed : IsUnchecked (under s) → AllLeaveRingArmed links
+
+-- these calls, with these answers, lead from s to t; and each session in them conserves, which is each part that
+-- begins in a ready state: no ring call ends a session
+pub record RanRing (s : RingState) (calls : List RingCall) (answers : List RingAnswer) (t : RingState) : Type 0 where
+  pub run : RunOf RingCallStep s calls answers t
+  pub sessions : (front session rest : List RingLink) (a b : RingState) → run.links ≡ front ++ (session ++ rest) →
+      RingChain s front a → RingChain a session b → RingChain b rest t → Ready (under a) → RingConserves a session b

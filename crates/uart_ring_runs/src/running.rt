@@ -1,0 +1,83 @@
+//! Runs of ring calls over the machine, and what is proved of rings, driver and chip together.
+ghost use Rattle.std.specs.Prelude.{◌≡◌, ◌≤◌, length, All};
+ghost use Rattle.uart_ring_runs.specs.RingRun.{IsRingRunnable, RingCallStep, TakesInto};
+ghost use Rattle.uart_ring_runs.specs.RingSession.{RanRing};
+
+use crate::call::{RingAnswer, RingCall};
+use arrayvec::ArrayVec;
+use uart_calls::CALL_BYTES;
+use uart_chip::Device16550;
+use uart_ring::Uart16550Ring;
+
+// Takes into these slots.
+fn take(ring: &mut Uart16550Ring<Device16550>, slots: &mut [u8]) -> RingAnswer
+    requires { length slots.old ≤ CALL_BYTES }
+    ensures { TakesInto (length slots.old) result ring.old ring.new }
+{
+    let count = ring.take(slots);
+    let mut bytes = ArrayVec::new();
+    let _ = bytes.try_extend_from_slice(&slots[..count]);
+    RingAnswer::Bytes(bytes)
+}
+
+// Makes one call of a run.
+fn run_ring_call(ring: &mut Uart16550Ring<Device16550>, call: &RingCall) -> RingAnswer
+    requires { IsRingRunnable call.now }
+    ensures { RingCallStep ring.old call.now result ring.new }
+{
+    match call {
+        RingCall::Queue(bytes) => RingAnswer::Count(ring.queue(bytes.as_slice())),
+        RingCall::ResumeTransmit => {
+            ring.resume_transmit();
+            RingAnswer::Done
+        }
+        RingCall::Take(slots) => take(ring, &mut [0; CALL_BYTES][..*slots]),
+        RingCall::Service => RingAnswer::Count(ring.service()),
+        RingCall::Handle(limit) => RingAnswer::Handled(ring.handle(*limit)),
+        RingCall::Retrigger => {
+            ring.retrigger();
+            RingAnswer::Done
+        }
+        RingCall::TakeLine => RingAnswer::Line(ring.take_line()),
+        RingCall::TakeModem => RingAnswer::Modem(ring.take_modem()),
+        RingCall::Next => {
+            ring.inner_mut().backend_mut().next();
+            RingAnswer::Done
+        }
+    }
+}
+
+/// Makes the calls in turn, and stores the answer of each in its slot. Never fails, and allocates
+/// no memory.
+///
+/// A *session* begins in a ready state: DLAB and loopback are off, and the driver knows whether the
+/// FIFO is on. The rings may hold anything then. In each session
+///
+/// - what has been sent, what is in the transmitter, and then the transmit ring have grown by
+///   exactly the bytes that were queued, and no data write meets a full transmitter;
+/// - the bytes taken, then the receive ring, then those in the chip's receiver are those of the
+///   receive ring at the start, those that were in the receiver, and those that arrived, in order,
+///   without those that were dropped;
+/// - `TakeLine` reports drops and line errors, and `TakeModem` changes of the modem lines, also
+///   those that were read when interrupts were served;
+/// - if CTS is not checked, there are never bytes in the transmit ring with no interrupt to come,
+///   unless there were at the start and no byte was queued and sending not resumed since;
+/// - each call preserves a ready state.
+///
+/// On a machine that cuts characters to the word length ([`Device16550::new_cut`]) the first holds
+/// of bytes that are cut, and the second of arrivals that are cut.
+pub fn run_ring(
+    ring: &mut Uart16550Ring<Device16550>,
+    calls: &[RingCall],
+    answers: &mut [RingAnswer],
+)
+    requires runnable { All IsRingRunnable calls.now }
+    requires slots { length calls.now ≡ length answers.old }
+    ensures { RanRing ring.old calls.now answers.new ring.new }
+{
+    // The contract of this call states what holds of every machine.
+    let _fifo = ring.inner().backend().fifo_enabled();
+    for i in 0..calls.len() {
+        answers[i] = run_ring_call(ring, &calls[i]);
+    }
+}

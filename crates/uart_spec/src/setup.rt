@@ -1,0 +1,58 @@
+//! How a device is initialised, beside its configuration, and how it is left.
+use crate::registers::MCR;
+
+/// When an initialisation waits until the transmitter is empty.
+#[derive(Clone, Copy, Debug, PartialEq, Eq, Hash)]
+pub enum TransmitterWait {
+    /// Before the divisor and the frame are written. So no character is broken that is going out.
+    /// A chip that ignores LCR while it is busy, as those of DesignWare, needs this.
+    First,
+    /// After everything but the interrupts is written, as `Uart16550::init` does. A character that
+    /// is going out meanwhile gets the new divisor and frame in its middle.
+    Last,
+    /// Not at all. What is still going out stays in the transmitter, and may be broken.
+    Never,
+}
+
+/// What an initialisation does beside writing the configuration, for `Uart16550::init_with`.
+///
+/// # Examples
+///
+/// ```
+/// // A chip without a scratch register, whose remote is not to be told yet that we are ready.
+/// let setup = Setup {
+///     checks_presence: false,
+///     outputs: MCR::OUT_2_INT_ENABLE,
+///     ..Setup::DEFAULT
+/// };
+/// ```
+#[derive(Clone, Copy, Debug, PartialEq, Eq, Hash)]
+pub struct Setup {
+    /// Whether the scratch register is tested first. A chip without one does not pass the test.
+    pub checks_presence: bool,
+    /// When to wait until the transmitter is empty.
+    pub wait: TransmitterWait,
+    /// The outputs to the modem that are asserted; the others are clear. `LOOP_BACK` is left out.
+    pub outputs: MCR,
+}
+
+impl Setup {
+    /// As `Uart16550::init` does: the scratch register is tested, the wait comes last, and DTR, RTS
+    /// and OUT2 are asserted.
+    pub const DEFAULT: Setup = Setup {
+        checks_presence: true,
+        wait: TransmitterWait::Last,
+        outputs: MCR::READY,
+    };
+}
+
+/// What becomes of the FIFOs when a port is left, for `Uart16550::quiesce`.
+#[derive(Clone, Copy, Debug, PartialEq, Eq, Hash)]
+pub enum FifoAction {
+    /// They stay as they are: what waits in the transmitter goes out, and what was received waits.
+    Keep,
+    /// Both are emptied, and stay on if they are on.
+    Reset,
+    /// Both are emptied and turned off.
+    Disable,
+}

@@ -1,0 +1,4 @@
+mod EndedLines
+mod Telling
+mod Traces
+mod Written

@@ -1,0 +1,206 @@
+//! The lines of the script language, explained for people.
+//!
+//! Only `parse` of the language decides which lines are accepted. This is the table of what is said
+//! of a line that it refuses.
+
+use uart_language::fields::{
+    byte_in, bytes_in, char_ticks_in, chip_in, count_in, cts_in, cut_in, errors_in, interrupts_in,
+    level_in, limit_in, lines_in, rate_in, text_in, ticks_in, wire_capacity_in, word_length_in,
+};
+
+/// A field of a line.
+#[derive(Clone, Copy, Debug, PartialEq, Eq)]
+pub enum Field {
+    /// The model of the chip.
+    Chip,
+    /// The ticks of a character.
+    CharTicks,
+    /// The room on the wire.
+    WireRoom,
+    /// The option that cuts characters to the word length.
+    Cut,
+    /// The spin limit.
+    Limit,
+    /// The ticks of an event.
+    Ticks,
+    /// A byte.
+    Byte,
+    /// The errors of an arrival.
+    Errors,
+    /// The modem lines.
+    Lines,
+    /// The trigger level.
+    Level,
+    /// The baud rate.
+    Rate,
+    /// Whether CTS is checked before sending.
+    Cts,
+    /// The interrupts.
+    Interrupts,
+    /// The data bits of a character.
+    DataBits,
+    /// The number of slots of a call.
+    Count,
+    /// The bytes of a call.
+    Bytes,
+    /// The text of a call.
+    Text,
+}
+
+impl Field {
+    /// Returns what the field accepts, for people.
+    pub fn wants(self) -> &'static str {
+        match self {
+            Field::Chip => "a chip: 16550a or 16450",
+            Field::CharTicks => "how many ticks a character takes: a number from 1 to 1000",
+            Field::WireRoom => "how many bytes the wire has room for: a number from 0 to 65536",
+            Field::Cut => "cut, or nothing",
+            Field::Limit => "the polls that end a wait: a number from 1 to 1000000",
+            Field::Ticks => "how many ticks pass: a number from 0 to 65535",
+            Field::Byte => "a byte: two hexadecimal digits",
+            Field::Errors => "what is wrong with the byte: p, f, b, pf, pb, fb or pfb",
+            Field::Lines => {
+                "the modem lines: one hexadecimal digit, the sum of 1 CTS, 2 DSR, 4 RI and 8 CD"
+            }
+            Field::Level => "a trigger level: 1, 4, 8, 14 or off",
+            Field::Rate => "a baud rate: a number from 1 to 4294967295",
+            Field::Cts => "cts or nocts",
+            Field::Interrupts => "interrupts: two hexadecimal digits",
+            Field::DataBits => "data bits: a number from 5 to 8",
+            Field::Count => "how many bytes there is room for: a number from 0 to 64",
+            Field::Bytes => "at most 64 bytes: pairs of hexadecimal digits, or -",
+            Field::Text => "a text of at most 64 bytes of UTF-8: pairs of hexadecimal digits, or -",
+        }
+    }
+
+    /// Returns whether the field accepts this word.
+    pub fn accepts(self, word: &[u8]) -> bool {
+        match self {
+            Field::Chip => chip_in(word).is_ok(),
+            Field::CharTicks => char_ticks_in(word).is_ok(),
+            Field::WireRoom => wire_capacity_in(word).is_ok(),
+            Field::Cut => cut_in(word).is_ok(),
+            Field::Limit => limit_in(word).is_ok(),
+            Field::Ticks => ticks_in(word).is_ok(),
+            Field::Byte => byte_in(word).is_ok(),
+            Field::Errors => errors_in(word).is_ok(),
+            Field::Lines => lines_in(word).is_ok(),
+            Field::Level => level_in(word).is_ok(),
+            Field::Rate => rate_in(word).is_ok(),
+            Field::Cts => cts_in(word).is_ok(),
+            Field::Interrupts => interrupts_in(word).is_ok(),
+            Field::DataBits => word_length_in(word).is_ok(),
+            Field::Count => count_in(word).is_ok(),
+            Field::Bytes => bytes_in(word).is_ok(),
+            Field::Text => text_in(word).is_ok(),
+        }
+    }
+}
+
+/// A kind of line that has fields.
+#[derive(Debug)]
+pub struct Form {
+    /// How such a line is written.
+    pub usage: &'static str,
+    /// The fields that may follow its first word.
+    pub fields: &'static [Field],
+}
+
+// The first word of a usage is that of the line.
+const FORMS: [Form; 16] = [
+    Form {
+        usage: "chip 16550a|16450 T W [cut]",
+        fields: &[Field::Chip, Field::CharTicks, Field::WireRoom, Field::Cut],
+    },
+    Form {
+        usage: "limit N",
+        fields: &[Field::Limit],
+    },
+    Form {
+        usage: "tick N",
+        fields: &[Field::Ticks],
+    },
+    Form {
+        usage: "arrive HH [E]",
+        fields: &[Field::Byte, Field::Errors],
+    },
+    Form {
+        usage: "lines H",
+        fields: &[Field::Lines],
+    },
+    Form {
+        usage: "init F BAUD cts|nocts HH BITS",
+        fields: &[
+            Field::Level,
+            Field::Rate,
+            Field::Cts,
+            Field::Interrupts,
+            Field::DataBits,
+        ],
+    },
+    Form {
+        usage: "try-send HH",
+        fields: &[Field::Byte],
+    },
+    Form {
+        usage: "enable HH",
+        fields: &[Field::Interrupts],
+    },
+    Form {
+        usage: "disable HH",
+        fields: &[Field::Interrupts],
+    },
+    Form {
+        usage: "receive N",
+        fields: &[Field::Count],
+    },
+    Form {
+        usage: "receive-exact N",
+        fields: &[Field::Count],
+    },
+    Form {
+        usage: "read N",
+        fields: &[Field::Count],
+    },
+    Form {
+        usage: "send HEX",
+        fields: &[Field::Bytes],
+    },
+    Form {
+        usage: "send-exact HEX",
+        fields: &[Field::Bytes],
+    },
+    Form {
+        usage: "write HEX",
+        fields: &[Field::Bytes],
+    },
+    Form {
+        usage: "text HEX",
+        fields: &[Field::Text],
+    },
+];
+
+/// Returns the form of the lines with this first word, or `None` if they have no fields.
+pub fn form_of(word: &[u8]) -> Option<&'static Form> {
+    FORMS
+        .iter()
+        .find(|form| form.usage.split(' ').next().map(str::as_bytes) == Some(word))
+}
+
+/// Returns the fields that may follow this first word.
+pub fn fields_after(word: &[u8]) -> &'static [Field] {
+    form_of(word).map_or(&[], |form| form.fields)
+}
+
+#[cfg(test)]
+mod tests {
+    use super::*;
+
+    #[test]
+    fn a_word_with_fields_has_its_form() {
+        assert_eq!(form_of(b"tick").map(|form| form.usage), Some("tick N"));
+        assert_eq!(fields_after(b"arrive"), [Field::Byte, Field::Errors]);
+        assert!(form_of(b"lsr").is_none());
+        assert!(form_of(b"").is_none());
+    }
+}

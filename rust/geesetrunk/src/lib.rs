@@ -1,0 +1,37 @@
+//! What the programs `geesetrunk`, `uart_script` and `uart_port` are made of.
+//!
+//! What is promised comes from the proved crates: how scripts are read and played, and the judges of
+//! traces and recordings. Here is what people look at: tables, pictures, faults explained, command
+//! lines, and how the programs end.
+#![forbid(unsafe_code)]
+#![deny(missing_docs)]
+
+pub mod boxes;
+pub mod command_line;
+pub mod commands;
+pub mod end;
+pub mod excerpt;
+pub mod fault;
+pub mod findings;
+pub mod grammar;
+pub mod history;
+pub mod json;
+pub mod moments;
+pub mod observing;
+pub mod picture;
+pub mod port;
+pub mod repeats;
+pub mod script;
+pub mod streams;
+pub mod table;
+pub mod terminal;
+pub mod text;
+pub mod trace;
+
+use geesetrunk_kit::alloc::Global;
+
+/// Returns the allocator of the program, which the proved crates are given.
+#[must_use]
+pub const fn heap() -> Global {
+    Global::heap()
+}

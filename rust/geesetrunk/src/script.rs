@@ -1,0 +1,115 @@
+//! What is done with a script: it is played, checked, traced or drawn.
+
+use crate::end::{End, Status};
+use crate::excerpt::Form;
+use crate::fault::Explanation;
+use crate::heap;
+use crate::history::History;
+use crate::picture::picture;
+use crate::streams::{Output, bytes_of, print, standard_output};
+use crate::table::write_table;
+use crate::terminal::Style;
+use crate::text::file_name;
+use crate::trace::write_trace;
+use std::fs::File;
+use std::io::{self, Write};
+use uart_chip::Chip;
+use uart_language::{Script, ScriptError, parse};
+use uart_play::{PlayError, Std, play};
+use uart_trace::{MOST_READ, plain};
+
+/// What to do with a script.
+#[derive(Clone, Copy, Debug, PartialEq, Eq)]
+pub enum Task {
+    /// Print its output.
+    Play,
+    /// Find its first fault.
+    Check,
+    /// Print its register accesses.
+    Trace,
+    /// Print its timeline.
+    Timeline(Form),
+}
+
+// Returns the title of a timeline: the file by its name, without the folders that it lies in.
+fn title(file: &str, script: &Script) -> String {
+    let name = file_name(file);
+    let chip = match script.chip() {
+        Chip::Uart16550A => "16550A",
+        Chip::Uart16450 => "16450",
+    };
+    format!("{name}: {chip}, {} ticks a character", script.ticks())
+}
+
+// Returns how the program ends if a script that is accepted is not played to its end. If the output
+// failed, it has the cause.
+fn unplayed(error: PlayError) -> End {
+    match error {
+        PlayError::OutOfMemory => End::out_of_memory(),
+        _ => End::new(Status::Failed, error.to_string()),
+    }
+}
+
+// Writes what is requested of a script that is accepted.
+fn write_output(
+    task: Task,
+    file: &str,
+    script: &Script,
+    text: &[u8],
+    out: &mut Output<File>,
+) -> Result<(), End> {
+    if task == Task::Play {
+        return play(heap(), &mut Std::new(text), &mut Std::new(out)).map_err(unplayed);
+    }
+    let mut printed = Vec::new();
+    play(heap(), &mut Std::new(text), &mut Std::new(&mut printed)).map_err(unplayed)?;
+    let history = || History::new(text, &printed);
+    match task {
+        Task::Play | Task::Check => Ok(()),
+        Task::Trace => write_trace(script, text, &printed, Std::new(out)).map_err(unplayed),
+        Task::Timeline(Form::Table) => write_table(script, text, &history(), out),
+        Task::Timeline(Form::Picture) => {
+            let picture = picture(script, text, &history(), &title(file, script))?;
+            out.write_all(picture.as_bytes()).map_err(End::unwritten)
+        }
+    }
+}
+
+// Prints why a script is refused. `play` prints the line of `uart_script` to standard output too.
+fn refused(task: Task, explanation: &Explanation<'_>, error: ScriptError) -> Result<(), End> {
+    if task == Task::Play {
+        print(format!("{error}\n").as_bytes())?;
+    }
+    let mut text = String::new();
+    let style = Style::of(&io::stderr());
+    if explanation.write(&mut text, style).is_ok() {
+        // If standard error cannot be written, the exit status still says that there is a fault.
+        let _ = io::stderr().write_all(text.as_bytes());
+    }
+    Err(End::told(Status::Refused))
+}
+
+/// Does what is requested with the script of this name, and prints it.
+///
+/// # Errors
+///
+/// How the program ends: the file cannot be read, the script is refused, or the output cannot be
+/// written.
+pub fn report(task: Task, file: &str) -> Result<(), End> {
+    let bytes = bytes_of(file, MOST_READ)?;
+    let text = plain(heap(), &bytes)?;
+    match parse(heap(), &text) {
+        Ok(script) => {
+            let out = standard_output().map_err(End::unwritten)?;
+            let mut out = Output::new(out);
+            let outcome = write_output(task, file, &script, &text, &mut out);
+            // If the output cannot be written, that is why nothing else worked.
+            out.finish().map_err(End::unwritten)?;
+            outcome
+        }
+        Err(error @ ScriptError::Refused { line, cause }) => {
+            refused(task, &Explanation::new(file, &bytes, line, cause), error)
+        }
+        Err(ScriptError::OutOfMemory) => Err(End::out_of_memory()),
+    }
+}

@@ -1,0 +1,325 @@
+//! Command lines: what they request, and what is said of wrong ones.
+
+mod common;
+
+use common::{DOCS, GEESETRUNK, UART_PORT, parts, run};
+use std::fs;
+use std::path::Path;
+
+// Fails unless a program ends with this status, and prints on standard error what begins so.
+#[track_caller]
+fn assert_ends(program: &str, line: &str, status: i32, errors: &str) {
+    let words: Vec<&str> = line.split(' ').filter(|word| !word.is_empty()).collect();
+    let (found, _, printed) = parts(&run(program, &words, b""));
+    assert_eq!(found, status, "{line}: {printed}");
+    assert!(printed.starts_with(errors), "{line}: {printed}");
+}
+
+#[test]
+fn wrong_command_lines_of_geesetrunk() {
+    let rows = [
+        ("", "Plays scripts for a serial chip"),
+        (
+            "sing",
+            "error: unrecognized subcommand 'sing'\n\nUsage: geesetrunk <COMMAND>\n",
+        ),
+        ("help sing", "error: unrecognized subcommand 'sing'\n"),
+        (
+            "--sing",
+            "error: unexpected argument '--sing' found\n\nUsage: geesetrunk <COMMAND>\n",
+        ),
+        (
+            "play a b",
+            "error: unexpected argument 'b' found\n\nUsage: geesetrunk play [FILE]\n",
+        ),
+        ("play --sing", "error: unexpected argument '--sing' found\n"),
+        ("play -s", "error: unexpected argument '-s' found\n"),
+        (
+            "verify --limit",
+            "error: a value is required for '--limit <N>' but none was supplied\n",
+        ),
+        (
+            "verify --limit 1 --limit 2",
+            "error: the argument '--limit <N>' cannot be used multiple",
+        ),
+        (
+            "timeline --text=3",
+            "error: unexpected value '3' for '--text' found",
+        ),
+        (
+            "completions",
+            "error: the following required arguments were not provided:\n  <SHELL>\n",
+        ),
+        ("completions sh", "the shell must be bash, fish or zsh\n"),
+        (
+            "verify --limit 0 a",
+            "the limit must be a number from 1 to 18446744073709551615\n",
+        ),
+        (
+            "timeline --line +1 a",
+            "the line must be a number from 1 to 18446744073709551615\n",
+        ),
+        (
+            "timeline --last 10001 a",
+            "the number of events must be from 1 to 10000\n",
+        ),
+    ];
+    for (line, errors) in rows {
+        assert_ends(GEESETRUNK, line, 2, errors);
+    }
+}
+
+#[test]
+fn wrong_command_lines_of_uart_port() {
+    let usage = "\n\nUsage: uart_port [OPTIONS] <PORT> [SCRIPT]\n";
+    let missing =
+        format!("error: the following required arguments were not provided:\n  <PORT>{usage}");
+    assert_ends(UART_PORT, "", 2, &missing);
+    assert_ends(
+        UART_PORT,
+        "3f8 a b",
+        2,
+        &format!("error: unexpected argument 'b' found{usage}"),
+    );
+    assert_ends(
+        UART_PORT,
+        "com1",
+        2,
+        "PORT must be a hexadecimal number up to fff8, such as 3f8\n",
+    );
+    assert_ends(
+        UART_PORT,
+        "fff9",
+        2,
+        "port fff9 is too high: a chip has eight ports",
+    );
+}
+
+#[test]
+fn the_version_is_that_of_the_package() {
+    let (status, text, _) = parts(&run(GEESETRUNK, &["--version"], b""));
+    assert_eq!(
+        (status, text),
+        (0, format!("geesetrunk {}\n", env!("CARGO_PKG_VERSION")))
+    );
+}
+
+#[test]
+fn each_command_has_its_help() {
+    let (_, help, _) = parts(&run(GEESETRUNK, &["help"], b""));
+    let commands = help
+        .split("\nCommands:\n")
+        .nth(1)
+        .unwrap()
+        .split("\n\n")
+        .next()
+        .unwrap();
+    for line in commands.lines() {
+        let (command, about) = line.trim().split_once(' ').unwrap();
+        if command != "help" {
+            let (status, help, _) = parts(&run(GEESETRUNK, &[command, "--help"], b""));
+            assert_eq!(status, 0);
+            assert!(help.starts_with(about.trim()), "{help}");
+            assert_eq!(parts(&run(GEESETRUNK, &["help", command], b"")).1, help);
+        }
+    }
+}
+
+#[test]
+fn several_files_are_judged_in_turn() {
+    let files = [
+        "recordings/wrong-latch.recording",
+        "nowhere",
+        "recordings/uboot-x86.recording",
+    ];
+    let one_by_one: String = files
+        .iter()
+        .map(|file| parts(&run(GEESETRUNK, &["replay", file], b"")).1)
+        .collect();
+    let words = [&["replay"][..], &files].concat();
+    let (status, text, errors) = parts(&run(GEESETRUNK, &words, b""));
+    // The status is that of the file with the worst end.
+    assert_eq!(status, 2);
+    assert_eq!(text, one_by_one);
+    assert_eq!(
+        errors,
+        "nowhere cannot be read: No such file or directory (os error 2)\n"
+    );
+}
+
+#[test]
+fn findings_of_several_traces_have_the_name_of_the_file() {
+    let words = [
+        "verify",
+        "traces/no-call.trace",
+        "traces/forgets-an-overrun.trace",
+        "send.script",
+    ];
+    let (status, text, errors) = parts(&run(GEESETRUNK, &words, b""));
+    assert_eq!((status, text.as_str()), (2, ""));
+    assert_eq!(
+        errors,
+        "traces/forgets-an-overrun.trace: line 7: '= ok 60' strays: the driver returns '= ok 62'\n\
+         send.script: line 1: misplaced\n"
+    );
+}
+
+#[test]
+fn checks_of_several_scripts() {
+    let words = [
+        "check",
+        "send.script",
+        "refused-no-digit.script",
+        "refused-tab.script",
+    ];
+    let (status, text, errors) = parts(&run(GEESETRUNK, &words, b""));
+    assert_eq!((status, text.as_str()), (1, ""));
+    let places: Vec<&str> = errors
+        .lines()
+        .filter(|line| line.starts_with("refused-"))
+        .collect();
+    assert_eq!(places.len(), 2, "{errors}");
+}
+
+#[test]
+fn findings_as_json() {
+    let words = ["replay", "--json", "recordings/wrong-latch.recording"];
+    let (status, text, errors) = parts(&run(GEESETRUNK, &words, b""));
+    assert_eq!((status, errors.as_str()), (1, ""));
+    let wanted: String = [
+        (
+            5,
+            "SCR reads 00: the register keeps what is written to it, 5a",
+        ),
+        (
+            6,
+            "LCR reads 13: the register keeps what is written to it, 03",
+        ),
+        (
+            9,
+            "ISR reads 41: bits 6 and 7 are both set while the FIFOs are on, and else clear",
+        ),
+    ]
+    .iter()
+    .map(|(line, text)| {
+        let file = r#"{"file":"recordings/wrong-latch.recording""#;
+        format!(
+            "{file},\"line\":{line},\"kind\":\"difference\",\"text\":\"{text}\",\"times\":1}}\n"
+        )
+    })
+    .collect();
+    assert_eq!(text, wanted);
+    let words = ["verify", "--json", "traces/forgets-an-overrun.trace"];
+    let (status, text, errors) = parts(&run(GEESETRUNK, &words, b""));
+    assert_eq!((status, errors.as_str()), (1, ""));
+    let stray = "'= ok 60' strays: the driver returns '= ok 62'";
+    let file = r#"{"file":"traces/forgets-an-overrun.trace""#;
+    assert_eq!(
+        text,
+        format!("{file},\"line\":7,\"kind\":\"stray\",\"text\":\"{stray}\",\"times\":1}}\n")
+    );
+}
+
+// Each line for people is an object, with the same parts.
+#[test]
+fn json_has_what_the_lines_have() {
+    for (command, count) in [("audit", 5), ("replay", 0)] {
+        let file = "recordings/wrong-driver.recording";
+        let (_, lines, _) = parts(&run(GEESETRUNK, &[command, file], b""));
+        let (_, objects, _) = parts(&run(GEESETRUNK, &[command, "--json", file], b""));
+        let mut objects = objects.lines();
+        for line in lines.lines().filter(|line| !line.contains(" lines, ")) {
+            let object = objects.next().unwrap();
+            let (number, text) = line.split_once(": ").unwrap();
+            let number = number.rsplit(':').next().unwrap();
+            let (kind, text) = text.split_once(": ").unwrap();
+            for part in [
+                format!("\"line\":{number},"),
+                format!("\"kind\":\"{kind}\""),
+                format!("\"text\":\"{text}\""),
+            ] {
+                assert!(object.contains(&part), "{part} in {object}");
+            }
+        }
+        assert_eq!(objects.next(), None);
+        assert!(lines.matches(": warning: ").count() == count, "{lines}");
+    }
+}
+
+#[test]
+fn equal_findings_in_turn_are_counted() {
+    let recording = b"w 3 80\nr 0 00\nr 5 60\nr 0 00\nx 4\n";
+    let (_, lines, _) = parts(&run(GEESETRUNK, &["audit", "-"], recording));
+    let (_, objects, _) = parts(&run(GEESETRUNK, &["audit", "--json", "-"], recording));
+    assert!(
+        lines.contains("-:5: warning: ") && lines.contains(" (4 times)\n"),
+        "{lines}"
+    );
+    assert!(
+        objects.contains("\"line\":5,") && objects.contains(",\"times\":4}\n"),
+        "{objects}"
+    );
+    assert!(!objects.contains("times)"), "{objects}");
+}
+
+#[test]
+fn no_colours_go_into_a_pipe() {
+    for words in [
+        &["audit", "recordings/wrong-driver.recording"][..],
+        &["check", "refused-tab.script"],
+    ] {
+        let output = run(GEESETRUNK, words, b"");
+        assert!(![output.stdout, output.stderr].concat().contains(&b'\x1b'));
+    }
+}
+
+#[test]
+fn completions_name_each_command_and_flag() {
+    for shell in ["bash", "fish", "zsh"] {
+        let (status, text, _) = parts(&run(GEESETRUNK, &["completions", shell], b""));
+        assert_eq!(status, 0);
+        for word in ["play", "verify", "manual", "recording", "json", "limit"] {
+            assert!(text.contains(word), "{word} in {text}");
+        }
+    }
+}
+
+// Bash itself completes, if it is there.
+#[test]
+fn bash_completes_words() {
+    let (_, script, _) = parts(&run(GEESETRUNK, &["completions", "bash"], b""));
+    for (words, place, completed) in [
+        ("geesetrunk ver", 1, "verify"),
+        ("geesetrunk verify --li", 2, "--limit"),
+        ("geesetrunk verify a --j", 3, "--json"),
+    ] {
+        let test = format!(
+            "{script}\nCOMP_WORDS=({words})\nCOMP_CWORD={place}\n_geesetrunk\necho \"${{COMPREPLY[*]}}\"\n"
+        );
+        let Ok(output) = std::process::Command::new("bash")
+            .args(["-c", &test])
+            .output()
+        else {
+            eprintln!("skipped: there is no bash");
+            return;
+        };
+        let (_, text, errors) = parts(&output);
+        assert_eq!(
+            (text.trim_end(), errors.as_str()),
+            (completed, ""),
+            "{words}"
+        );
+    }
+}
+
+#[test]
+fn the_manual_page_is_what_is_stored() {
+    let stored = Path::new(DOCS).join("geesetrunk.1");
+    let (status, page, _) = parts(&run(GEESETRUNK, &["manual"], b""));
+    assert_eq!(status, 0);
+    let stored = fs::read_to_string(stored).unwrap();
+    assert!(
+        page == stored,
+        "docs/geesetrunk.1 is not what `geesetrunk manual` prints:\n{page}"
+    );
+}

@@ -1,0 +1,64 @@
+//! What the proved crates use of Rattle's std, and of the libraries `bitflags`, `arrayvec` and `circular_buffer`, under the
+//! names that they have there.
+//!
+//! Written by hand, and trusted: the proofs are about the types of the kit for Rattle that have these names and methods. An emitted crate
+//! takes this one for each of the four: it begins with `extern crate geesetrunk_kit as std`, and so on. So its paths stay as they are in
+//! the proved source, and what is not here does not compile.
+//!
+//! Memory comes from the program's allocator, and a request that is refused is an error. A function that allocates takes a
+//! [`Global`](alloc::Global). Without the feature `alloc` nobody has one, so nothing is allocated, and what allocates is still compiled.
+#![no_std]
+#![forbid(unsafe_code)]
+#![deny(missing_docs)]
+
+#[cfg(feature = "alloc")]
+extern crate alloc as heap;
+#[cfg(any(feature = "std", test))]
+extern crate std;
+
+#[cfg(not(feature = "alloc"))]
+mod absent;
+pub mod alloc;
+mod array;
+mod bits;
+#[cfg(feature = "std")]
+pub mod io;
+mod list;
+#[cfg(feature = "std")]
+pub mod path;
+mod queue;
+mod text;
+
+pub use array::{ArrayString, ArrayVec, CapacityError};
+pub use bits::{Bits, Flag, Flags, Iter, IterNames, Names};
+pub use core::{cmp, convert, error, fmt, mem, num};
+pub use list::{CollectWith, ToVecWith, Vec, filled, of_array};
+pub use queue::HeapCircularBuffer;
+pub use text::{String, ToStringWith, formatted};
+
+/// `format!(in alloc; ..)`: a text, or the refusal of its memory.
+#[macro_export]
+macro_rules! format {
+    (in $alloc:expr; $($rest:tt)*) => {
+        $crate::formatted($alloc, ::core::format_args!($($rest)*))
+    };
+}
+
+/// `vec![in alloc; ..]`: a list, or the refusal of its memory.
+#[macro_export]
+macro_rules! vec {
+    (in $alloc:expr; $value:expr; $count:expr) => {
+        $crate::filled($alloc, $value, $count)
+    };
+    (in $alloc:expr; $($value:expr),*) => {
+        $crate::of_array($alloc, [$($value),*])
+    };
+}
+
+/// `format_args!`, as the texts of errors name it.
+#[macro_export]
+macro_rules! format_fields {
+    ($($rest:tt)*) => {
+        ::core::format_args!($($rest)*)
+    };
+}

@@ -1,0 +1,102 @@
+//! Constructors of drivers for devices at I/O ports and in memory.
+
+use crate::backend::{ByteAccess, MmioBackend, PioBackend, PortAccess};
+use crate::driver::Uart16550;
+use std::num::NonZeroUsize;
+use uart_spec::{Config, InvalidAddressError};
+
+impl<P: PortAccess> Uart16550<PioBackend<P>> {
+    /// Returns a driver for the device whose registers are at eight consecutive I/O ports, from
+    /// `base_port` on.
+    ///
+    /// Makes no access: call `init` before any other call. The configuration is `Config::DEFAULT`
+    /// until then. Port 0 is accepted.
+    ///
+    /// # Errors
+    ///
+    /// `InvalidBaseAddress`, with the base port, if the last register would be beyond port 65535.
+    /// The access object is dropped then.
+    ///
+    /// # Examples
+    ///
+    /// ```
+    /// # include!(concat!(env!("CARGO_MANIFEST_DIR"), "/examples.rs"));
+    /// # fn main() {}
+    /// # fn example(ports: Device) -> Outcome<()> {
+    /// let mut uart = Uart16550::new_port(0x3f8, ports)?;
+    /// uart.init(Config::DEFAULT)?;
+    /// uart.send_bytes_exact(b"hello")?;
+    /// # Ok(()) }
+    /// ```
+    pub fn new_port(base_port: u16, access: P) -> Result<Self, InvalidAddressError> {
+        Ok(Uart16550::new_with_backend(PioBackend::new(base_port, access)?))
+    }
+}
+
+impl<M: ByteAccess> Uart16550<MmioBackend<M>> {
+    /// Returns a driver for the device whose registers are in memory, from `base_address` on. The
+    /// registers are `stride` bytes apart, and each is one byte wide.
+    ///
+    /// Makes no access: call `init` before any other call. The configuration is `Config::DEFAULT`
+    /// until then.
+    ///
+    /// # Errors
+    ///
+    /// - `InvalidStride`, with the stride, if it is zero or not a power of two.
+    /// - Otherwise `InvalidBaseAddress`, with the base address, if the last register would be
+    ///   beyond the last address.
+    ///
+    /// The access object is dropped then.
+    ///
+    /// # Examples
+    ///
+    /// ```
+    /// # include!(concat!(env!("CARGO_MANIFEST_DIR"), "/examples.rs"));
+    /// # fn main() {}
+    /// # struct Memory(Device);
+    /// # impl ByteAccess for Memory {
+    /// #     fn load(&mut self, address: usize) -> u8 { self.0.load(address) }
+    /// #     fn store(&mut self, address: usize, value: u8) { self.0.store(address, value) }
+    /// # }
+    /// # fn example(cells: Device) -> Outcome<()> {
+    /// let base = NonZeroUsize::new(0x1000).unwrap();
+    /// let mut uart = Uart16550::new_mmio(base, 4, Memory(cells))?;
+    /// # Ok(()) }
+    /// ```
+    pub fn new_mmio(
+        base_address: NonZeroUsize,
+        stride: u8,
+        access: M,
+    ) -> Result<Self, InvalidAddressError> {
+        Ok(Uart16550::new_with_backend(MmioBackend::new(base_address, stride, access)?))
+    }
+
+    /// Does the same as `new_mmio`. Both take the base address as a number, not as a pointer.
+    ///
+    /// # Errors
+    ///
+    /// Those of `new_mmio`.
+    ///
+    /// # Examples
+    ///
+    /// ```
+    /// # include!(concat!(env!("CARGO_MANIFEST_DIR"), "/examples.rs"));
+    /// # fn main() {}
+    /// # struct Memory(Device);
+    /// # impl ByteAccess for Memory {
+    /// #     fn load(&mut self, address: usize) -> u8 { self.0.load(address) }
+    /// #     fn store(&mut self, address: usize, value: u8) { self.0.store(address, value) }
+    /// # }
+    /// # fn example(cells: Device) -> Outcome<()> {
+    /// let base = NonZeroUsize::new(0x1000).ok_or("base 0")?;
+    /// let mut uart = Uart16550::new_mmio_from_address(base, 4, Memory(cells))?;
+    /// # Ok(()) }
+    /// ```
+    pub fn new_mmio_from_address(
+        base_address: NonZeroUsize,
+        stride: u8,
+        access: M,
+    ) -> Result<Self, InvalidAddressError> {
+        Self::new_mmio(base_address, stride, access)
+    }
+}

@@ -1,0 +1,6 @@
+//! What is by hand in this crate, since it is of the driver's own type: forms of calls that return an error where the proved call panics,
+//! and the traits of the crate `embedded-io`.
+
+mod checked;
+#[cfg(feature = "embedded-io")]
+mod io;

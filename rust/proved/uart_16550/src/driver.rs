@@ -1,0 +1,249 @@
+//! The driver: its fields, its constructor, and one function for each kind of register access.
+
+mod frame;
+mod init;
+mod loopback;
+mod receive;
+mod setup;
+mod state;
+mod status;
+mod transmit;
+
+use crate::backend::Backend;
+use bitflags::Flags;
+pub use state::DriverState;
+use std::num::NonZeroU64;
+use uart_spec::Config;
+use uart_spec::registers::{LSR, MSR, offsets};
+
+/// The spin limit of a new driver: how many unsuccessful polls in a row a wait makes before it
+/// returns an error.
+pub const DEFAULT_SPIN_LIMIT: u64 = 1_000_000;
+
+// Slices are sent and received in pieces of this size, each in a copy. No access can change the
+// copy, so the compiler may keep a backend's fields in registers during the loop. It cannot assume
+// that of the slice itself.
+const PIECE_SIZE: usize = 128;
+
+/// A driver for one serial chip of the 16550 family, over any backend.
+///
+/// Construct it with `new_port`, `new_mmio` or `new_with_backend`, and call `init` before any other
+/// call, or `attach` on a port that is set up already. `test_loopback` then tests whether the chip
+/// works, and `check_connected` whether a remote is ready.
+///
+/// No call blocks forever. `init`, `init_with`, `test_loopback`, `set_frame_when_idle`,
+/// `send_bytes_exact`, `receive_bytes_exact`, and the calls `read`, `write` and `flush` of the
+/// traits in [`embedded_io`](crate::embedded_io) poll LSR, and return an error after `spin_limit`
+/// unsuccessful polls in a row. The other calls do not wait.
+///
+/// A read of LSR clears its error bits in the chip, and a read of MSR its change bits. The driver
+/// saves those that its own reads clear, and the next `lsr` or `msr` returns them. So a poll loses
+/// no error and no change. `init` and the loopback test discard some.
+///
+/// # Examples
+///
+/// ```
+/// # include!(concat!(env!("CARGO_MANIFEST_DIR"), "/examples.rs"));
+/// # fn main() {}
+/// # fn example(uart: &mut Uart16550<Device>) -> Outcome<()> {
+/// uart.init(Config::DEFAULT)?;
+/// uart.test_loopback()?;
+/// uart.check_connected()?;
+/// # Ok(()) }
+/// ```
+// There is no model of a driver: over a generic backend each access of a field would cost the
+// prover a rewrite. Clauses speak of the fields by words over them, such as `fields`, `settings`
+// and `backend_of`.
+#[derive(Debug)]
+pub struct Uart16550<B> {
+    backend: B,
+    config: Config,
+    fifo_enabled: bool,
+    saved_lsr: LSR,
+    saved_msr: MSR,
+    spin_limit: NonZeroU64,
+}
+
+impl<B: Backend> Uart16550<B> {
+    /// Returns a driver over this backend.
+    ///
+    /// Makes no access: call `init` before any other call, or `attach`. Until then the
+    /// configuration is `Config::DEFAULT`, no status bits are saved, and the FIFO is taken to be
+    /// on. So a send before may write 16 bytes into a chip without a FIFO, which keeps one of them.
+    ///
+    /// # Examples
+    ///
+    /// ```
+    /// # include!(concat!(env!("CARGO_MANIFEST_DIR"), "/examples.rs"));
+    /// # fn main() {}
+    /// # struct Console { shown: ArrayVec }
+    /// # struct ArrayVec;
+    /// # impl ArrayVec { fn new() -> Self { ArrayVec } }
+    /// # impl Backend for Console {
+    /// #     fn read(&mut self, _: u8) -> u8 { 0 }
+    /// #     fn write(&mut self, _: u8, _: u8) {}
+    /// # }
+    /// # fn example() -> Outcome<()> {
+    /// let mut uart = Uart16550::new_with_backend(Console {
+    ///     shown: ArrayVec::new(),
+    /// });
+    /// # Ok(()) }
+    /// ```
+    pub const fn new_with_backend(backend: B) -> Self {
+        Uart16550 {
+            backend,
+            config: Config::DEFAULT,
+            fifo_enabled: true,
+            saved_lsr: LSR::from_bits_retain(0),
+            saved_msr: MSR::from_bits_retain(0),
+            spin_limit: NonZeroU64::new(DEFAULT_SPIN_LIMIT).unwrap(),
+        }
+    }
+
+    /// Returns the backend, to read its state. Makes no access.
+    ///
+    /// # Examples
+    ///
+    /// ```
+    /// # include!(concat!(env!("CARGO_MANIFEST_DIR"), "/examples.rs"));
+    /// # fn main() {}
+    /// # fn example(uart: &mut Uart16550<Device>) -> Outcome<()> {
+    /// assert_eq!(uart.backend().shown.as_slice(), b"hello".as_slice());
+    /// # Ok(()) }
+    /// ```
+    pub const fn backend(&self) -> &B {
+        &self.backend
+    }
+
+    /// Returns the backend, for raw accesses by the caller. Makes no access itself.
+    ///
+    /// Raw accesses bypass the driver: status bits that they clear are not saved, and the driver
+    /// does not notice what they change. After raw accesses that changed the setup of the chip,
+    /// call `init` again with a configuration that matches.
+    ///
+    /// # Examples
+    ///
+    /// ```
+    /// # include!(concat!(env!("CARGO_MANIFEST_DIR"), "/examples.rs"));
+    /// # fn main() {}
+    /// # fn example(uart: &mut Uart16550<Device>) -> Outcome<()> {
+    /// uart.backend_mut().write(offsets::SPR as u8, 0x5a);
+    /// # Ok(()) }
+    /// ```
+    pub const fn backend_mut(&mut self) -> &mut B {
+        &mut self.backend
+    }
+
+    /// Returns the configuration of the last `init`, with the interrupts as they were enabled and
+    /// disabled since, and with the clock, the baud rate and the frame of the last `set_frame`
+    /// since. Makes no access.
+    ///
+    /// If that `init` failed with `InvalidBaudRate`, it is the configuration before it. If it
+    /// failed with `DeviceNotPresent` or `Stalled`, it is the new one.
+    ///
+    /// # Examples
+    ///
+    /// ```
+    /// # include!(concat!(env!("CARGO_MANIFEST_DIR"), "/examples.rs"));
+    /// # fn main() {}
+    /// # fn example(uart: &mut Uart16550<Device>) -> Outcome<()> {
+    /// uart.enable_interrupts(IER::THR_EMPTY);
+    /// assert_eq!(
+    ///     uart.config().interrupts,
+    ///     IER::DATA_READY.union(IER::THR_EMPTY)
+    /// );
+    /// # Ok(()) }
+    /// ```
+    pub const fn config(&self) -> &Config {
+        &self.config
+    }
+
+    /// Returns whether the chip has a FIFO that is on, as the last call that sets the FIFO up read
+    /// it from ISR: `init`, `init_with`, `attach`, `test_loopback` or `restore`. After a `quiesce`
+    /// that disables the FIFOs it is off. Makes no access.
+    ///
+    /// A driver that was never initialised takes the FIFO to be on. If it is on, a send check is
+    /// followed by up to 16 bytes, else by one.
+    ///
+    /// # Examples
+    ///
+    /// ```
+    /// # include!(concat!(env!("CARGO_MANIFEST_DIR"), "/examples.rs"));
+    /// # fn main() {}
+    /// # fn example(uart: &mut Uart16550<Device>) -> Outcome<()> {
+    /// assert_eq!(uart.fifo_enabled(), true);
+    /// # Ok(()) }
+    /// ```
+    pub const fn fifo_enabled(&self) -> bool {
+        self.fifo_enabled
+    }
+
+    /// Returns how many unsuccessful polls in a row a wait makes before it returns an error. Makes
+    /// no access.
+    ///
+    /// # Examples
+    ///
+    /// ```
+    /// # include!(concat!(env!("CARGO_MANIFEST_DIR"), "/examples.rs"));
+    /// # fn main() {}
+    /// # fn example(uart: &mut Uart16550<Device>) -> Outcome<bool> {
+    /// # Ok({
+    /// uart.spin_limit().get() == 7
+    /// # }) }
+    /// ```
+    pub const fn spin_limit(&self) -> NonZeroU64 {
+        self.spin_limit
+    }
+
+    /// Sets how many unsuccessful polls in a row a wait makes before it returns an error. Makes no
+    /// access, and changes nothing else.
+    ///
+    /// Choose it by the time of one poll: at 9,600 baud a full FIFO and shift register hold 17
+    /// characters of 10 bits, which take about 17.7 ms to send. A limit near 2^64 is a wait without
+    /// end in practice: at a microsecond a poll it takes more than half a million years.
+    ///
+    /// # Examples
+    ///
+    /// ```
+    /// # include!(concat!(env!("CARGO_MANIFEST_DIR"), "/examples.rs"));
+    /// # fn main() {}
+    /// # fn example(uart: &mut Uart16550<Device>) -> Outcome<()> {
+    /// uart.set_spin_limit(NonZeroU64::new(200).unwrap());
+    /// # Ok(()) }
+    /// ```
+    pub const fn set_spin_limit(&mut self, limit: NonZeroU64) {
+        self.spin_limit = limit;
+    }
+
+    // The five functions below make all accesses but the writes of data (`write_byte`). So what is
+    // saved is decided here and nowhere else.
+
+    // Reads a register of which no bits are saved.
+    pub(crate) fn read_register(&mut self, offset: usize) -> u8 {
+        self.backend.read(offset as u8)
+    }
+
+    // Reads LSR, and saves the errors that the read clears in the chip.
+    pub(crate) fn read_lsr(&mut self) -> LSR {
+        let lsr = LSR::from_bits_retain(self.backend.read(offsets::LSR as u8));
+        self.saved_lsr.insert(lsr.intersection(LSR::LINE_ERRORS));
+        lsr
+    }
+
+    // Reads MSR, and saves the changes that the read clears in the chip.
+    pub(crate) fn read_msr(&mut self) -> MSR {
+        let msr = MSR::from_bits_retain(self.backend.read(offsets::MSR as u8));
+        self.saved_msr.insert(msr.intersection(MSR::CHANGES));
+        msr
+    }
+
+    // Reads a register, and saves none of its bits.
+    pub(crate) fn read_plain(&mut self, offset: usize) -> u8 {
+        self.backend.read(offset as u8)
+    }
+
+    // Writes a register.
+    pub(crate) fn write_register(&mut self, offset: usize, value: u8) {
+        self.backend.write(offset as u8, value);
+    }
+}

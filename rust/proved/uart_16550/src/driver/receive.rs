@@ -1,0 +1,243 @@
+//! Receiving.
+
+use super::{PIECE_SIZE, Uart16550};
+use crate::backend::Backend;
+use bitflags::Flags;
+use uart_spec::registers::{LSR, offsets};
+use uart_spec::{ByteReceiveError, Received, StalledError};
+
+impl<B: Backend> Uart16550<B> {
+    /// Checks whether a received byte is available: whether LSR shows `DATA_READY`.
+    ///
+    /// Does not wait: reads LSR once. The error bits that this clears are saved for the next `lsr`.
+    ///
+    /// # Errors
+    ///
+    /// `ByteReceiveError` if no byte is available.
+    ///
+    /// # Examples
+    ///
+    /// ```
+    /// # include!(concat!(env!("CARGO_MANIFEST_DIR"), "/examples.rs"));
+    /// # fn main() {}
+    /// # fn example(uart: &mut Uart16550<Device>) -> Outcome<()> {
+    /// assert!(uart.ready_to_receive().is_err());
+    /// # Ok(()) }
+    /// ```
+    pub fn ready_to_receive(&mut self) -> Result<(), ByteReceiveError> {
+        if !self.read_lsr().contains(LSR::DATA_READY) {
+            return Err(ByteReceiveError);
+        }
+        Ok(())
+    }
+
+    /// Receives one byte if one is available: reads LSR, and if it shows `DATA_READY`, RBR.
+    ///
+    /// Does not wait. The error bits that the read of LSR clears are saved for the next `lsr`; they
+    /// belong to the byte that is then received, except for an overrun.
+    ///
+    /// # Errors
+    ///
+    /// `ByteReceiveError` if no byte is available. RBR was not read then.
+    ///
+    /// # Examples
+    ///
+    /// ```
+    /// # include!(concat!(env!("CARGO_MANIFEST_DIR"), "/examples.rs"));
+    /// # fn main() {}
+    /// # fn example(uart: &mut Uart16550<Device>) -> Outcome<Option<u8>> {
+    /// # Ok({
+    /// uart.try_receive_byte().ok()
+    /// # }) }
+    /// ```
+    pub fn try_receive_byte(&mut self) -> Result<u8, ByteReceiveError> {
+        self.ready_to_receive()?;
+        Ok(self.read_register(offsets::DATA))
+    }
+
+    /// Receives bytes while some are available and there are free slots. Returns how many, and
+    /// leaves the slots beyond them unchanged.
+    ///
+    /// Does not wait: reads LSR before each byte, and ends when it shows none. Call it again with
+    /// the rest of the slice to receive more. An empty slice makes no access. Error bits are saved
+    /// for the next `lsr`, and do not end the call.
+    ///
+    /// # Examples
+    ///
+    /// ```
+    /// # include!(concat!(env!("CARGO_MANIFEST_DIR"), "/examples.rs"));
+    /// # fn main() {}
+    /// # fn example(uart: &mut Uart16550<Device>) -> Outcome<()> {
+    /// let mut slots = [0xee; 4];
+    /// assert_eq!(uart.receive_bytes(&mut slots), 2);
+    /// assert_eq!(slots, [0x41, 0x42, 0xee, 0xee]);
+    /// # Ok(()) }
+    /// ```
+    pub fn receive_bytes(&mut self, buffer: &mut [u8]) -> usize {
+        // No copy here, unlike in `receive_piece`: the loop is short, and a copy of a length that
+        // the compiler does not know costs a call.
+        for (count, slot) in buffer.iter_mut().enumerate() {
+            match self.try_receive_byte() {
+                Ok(byte) => *slot = byte,
+                Err(_) => return count,
+            }
+        }
+        buffer.len()
+    }
+
+    /// Receives one byte if one is available, with the errors that LSR showed with it: reads LSR,
+    /// and if it shows `DATA_READY`, RBR.
+    ///
+    /// Does not wait. The error bits are saved for the next `lsr` too. `receive_with_errors` says
+    /// when an error is not shown.
+    ///
+    /// # Errors
+    ///
+    /// `ByteReceiveError` if no byte is available. RBR was not read then.
+    ///
+    /// # Examples
+    ///
+    /// ```
+    /// # include!(concat!(env!("CARGO_MANIFEST_DIR"), "/examples.rs"));
+    /// # fn main() {}
+    /// # fn example(uart: &mut Uart16550<Device>) -> Outcome<Option<Received>> {
+    /// # Ok({
+    /// uart.try_receive_with_errors().ok()
+    /// # }) }
+    /// ```
+    pub fn try_receive_with_errors(&mut self) -> Result<Received, ByteReceiveError> {
+        // LSR shows the errors of the character that is the next to be read. So it is read first.
+        let lsr = self.read_lsr();
+        if !lsr.contains(LSR::DATA_READY) {
+            return Err(ByteReceiveError);
+        }
+        let byte = self.read_register(offsets::DATA);
+        let errors = lsr.intersection(LSR::LINE_ERRORS);
+        Ok(Received { byte, errors })
+    }
+
+    /// Receives bytes with their errors while some are available and there are free slots. Returns
+    /// how many, and leaves the slots beyond them unchanged.
+    ///
+    /// The chip shows the errors of the character that is the next to be read, once: if an earlier
+    /// call has already looked at the first byte, its errors are missing here, and are in the next
+    /// `lsr`. Without a FIFO a byte that arrives between the two reads replaces the one that LSR
+    /// described, and the next look shows an overrun.
+    ///
+    /// Does not wait: reads LSR before each byte, and ends when it shows none. An empty slice makes
+    /// no access. The error bits are saved for the next `lsr` too, and do not end the call.
+    ///
+    /// # Examples
+    ///
+    /// ```
+    /// # include!(concat!(env!("CARGO_MANIFEST_DIR"), "/examples.rs"));
+    /// # fn main() {}
+    /// # fn example(uart: &mut Uart16550<Device>, mut slots: [Received; 4]) -> Outcome<()> {
+    /// let count = uart.receive_with_errors(&mut slots);
+    /// # Ok(()) }
+    /// ```
+    pub fn receive_with_errors(&mut self, slots: &mut [Received]) -> usize {
+        for (taken, slot) in slots.iter_mut().enumerate() {
+            match self.try_receive_with_errors() {
+                Ok(received) => *slot = received,
+                Err(_) => return taken,
+            }
+        }
+        slots.len()
+    }
+
+    // Waits until some bytes were received, and returns how many.
+    pub(crate) fn receive_some(&mut self, buffer: &mut [u8]) -> Option<usize> {
+        for _turn in 0..self.spin_limit.get() {
+            let count = self.receive_bytes(buffer);
+            if count > 0 {
+                return Some(count);
+            }
+        }
+        None
+    }
+
+    // Waits for one byte. The first poll is separate, since it mostly finds one: then the limit is
+    // never read.
+    pub(crate) fn receive_one(&mut self) -> Option<u8> {
+        if let Ok(byte) = self.try_receive_byte() {
+            return Some(byte);
+        }
+        for _turn in 1..self.spin_limit.get() {
+            if let Ok(byte) = self.try_receive_byte() {
+                return Some(byte);
+            }
+        }
+        None
+    }
+
+    // Receives a byte into each slot, and waits for each.
+    fn receive_each(&mut self, slots: &mut [u8]) -> Result<(), StalledError> {
+        for (done, slot) in slots.iter_mut().enumerate() {
+            match self.receive_one() {
+                Some(byte) => *slot = byte,
+                None => return Err(StalledError { done }),
+            }
+        }
+        Ok(())
+    }
+
+    // Receives into the slots of one piece: a whole piece is received into a copy.
+    //
+    // As far as the compiler knows, a slice may overlap the driver. So at each access of the slots
+    // it would have to store the slot and load the backend's fields again, in order. No access can
+    // reach a copy on the stack, so the compiler keeps these fields in registers.
+    //
+    // The slots are copied in as well as out. So the copy begins as the slots do, and after a stall
+    // the slots that got no byte are as they were.
+    #[inline(always)]
+    fn receive_piece(&mut self, slots: &mut [u8]) -> Result<(), StalledError> {
+        if slots.len() != PIECE_SIZE {
+            return self.receive_each(slots);
+        }
+        let mut copy = [0; PIECE_SIZE];
+        copy.copy_from_slice(slots);
+        let result = self.receive_each(&mut copy);
+        slots.copy_from_slice(&copy);
+        result
+    }
+
+    /// Receives a byte into each slot, and waits for each.
+    ///
+    /// Each wait makes at most `spin_limit` polls of LSR. Error bits are saved for the next `lsr`,
+    /// and do not end the call. An empty slice makes no access.
+    ///
+    /// # Errors
+    ///
+    /// `StalledError` after `spin_limit` unsuccessful polls in a row: the remote sent nothing for
+    /// so long. The first `done` slots have the bytes that were received, and the other slots are
+    /// unchanged.
+    ///
+    /// # Examples
+    ///
+    /// ```
+    /// # include!(concat!(env!("CARGO_MANIFEST_DIR"), "/examples.rs"));
+    /// # fn main() {}
+    /// # enum PortError { NoAnswer { received: usize } }
+    /// # fn example(uart: &mut Uart16550<Device>, answer: &mut [u8]) -> Result<(), PortError> {
+    /// if let Err(stall) = uart.receive_bytes_exact(answer) {
+    ///     return Err(PortError::NoAnswer {
+    ///         received: stall.done,
+    ///     });
+    /// }
+    /// # Ok(()) }
+    /// ```
+    pub fn receive_bytes_exact(&mut self, buffer: &mut [u8]) -> Result<(), StalledError> {
+        let mut done = 0;
+        while done < buffer.len() {
+            let end = buffer.len().min(done + PIECE_SIZE);
+            if let Err(stall) = self.receive_piece(&mut buffer[done..end]) {
+                return Err(StalledError {
+                    done: done + stall.done,
+                });
+            }
+            done = end;
+        }
+        Ok(())
+    }
+}

@@ -1,0 +1,261 @@
+//! Sending.
+
+use super::{PIECE_SIZE, Uart16550};
+use crate::backend::Backend;
+use bitflags::Flags;
+use uart_spec::registers::{LSR, MCR, MSR, offsets};
+use uart_spec::{ByteSendError, FIFO_SIZE, StalledError};
+
+impl<B: Backend> Uart16550<B> {
+    // Returns whether the modem lines allow sending. In loopback they do not matter: CTS is then
+    // connected to RTS inside the chip, and says nothing about the remote.
+    fn is_clear_to_send(&mut self) -> bool {
+        if MCR::from_bits_retain(self.read_register(offsets::MCR)).contains(MCR::LOOP_BACK) {
+            return true;
+        }
+        self.read_msr().contains(MSR::CTS)
+    }
+
+    /// Checks whether a byte can be sent now: whether LSR shows `THR_EMPTY` and, if the
+    /// configuration checks CTS, the remote is clear to send.
+    ///
+    /// Does not wait: reads LSR once. If the configuration checks CTS and THR is empty, it also
+    /// reads MCR and, unless that shows loopback, MSR. The errors and changes that these reads
+    /// clear are saved for the next `lsr` and `msr`.
+    ///
+    /// # Errors
+    ///
+    /// - `NoCapacity` if THR, or the transmitter FIFO, is not empty.
+    /// - `RemoteNotClearToSend` if it is empty, but the remote does not assert CTS.
+    ///
+    /// # Examples
+    ///
+    /// ```
+    /// # include!(concat!(env!("CARGO_MANIFEST_DIR"), "/examples.rs"));
+    /// # fn main() {}
+    /// # fn example(uart: &mut Uart16550<Device>) -> Outcome<()> {
+    /// assert_eq!(uart.ready_to_send(), Ok(()));
+    /// # Ok(()) }
+    /// ```
+    pub fn ready_to_send(&mut self) -> Result<(), ByteSendError> {
+        if !self.read_lsr().contains(LSR::THR_EMPTY) {
+            return Err(ByteSendError::NoCapacity);
+        }
+        // Many cables never assert CTS, so it counts only if the configuration says so.
+        if !self.config.check_cts_before_sending {
+            return Ok(());
+        }
+        if !self.is_clear_to_send() {
+            return Err(ByteSendError::RemoteNotClearToSend);
+        }
+        Ok(())
+    }
+
+    // Writes a byte to DATA.
+    fn write_byte(&mut self, byte: u8) {
+        self.backend.write(offsets::DATA as u8, byte);
+    }
+
+    // Writes the bytes to DATA in order.
+    fn write_data(&mut self, bytes: &[u8]) {
+        for &byte in bytes {
+            self.write_byte(byte);
+        }
+    }
+
+    // Writes one burst from the front to DATA, and returns its length: as many bytes as certainly
+    // fit. LSR shows whether the FIFO is empty, and no register shows how full it is. One byte more
+    // could be lost, and nothing would tell.
+    //
+    // A whole burst is written from a copy, for the reason at `PIECE_SIZE`.
+    fn write_burst(&mut self, bytes: &[u8]) -> usize {
+        if !self.fifo_enabled {
+            self.write_byte(bytes[0]);
+            return 1;
+        }
+        match bytes.first_chunk::<FIFO_SIZE>() {
+            Some(burst) => {
+                let copy = *burst;
+                self.write_data(&copy);
+                FIFO_SIZE
+            }
+            None => {
+                self.write_data(bytes);
+                bytes.len()
+            }
+        }
+    }
+
+    /// Sends bytes from the front of the slice if there is room, and returns how many: up to 16 if
+    /// the FIFO is on, else one; 0 if `ready_to_send` fails.
+    ///
+    /// Does not wait: makes one check as `ready_to_send`, and one burst of writes to THR. The chip
+    /// reports only an empty FIFO, not how full it is, so nothing is sent until the last burst has
+    /// left the FIFO. Call it again with the rest of the slice to send more. An empty slice makes
+    /// no access.
+    ///
+    /// # Examples
+    ///
+    /// ```
+    /// # include!(concat!(env!("CARGO_MANIFEST_DIR"), "/examples.rs"));
+    /// # fn main() {}
+    /// # fn example(uart: &mut Uart16550<Device>, bytes: &[u8]) -> Outcome<()> {
+    /// let sent = uart.send_bytes(bytes);
+    /// let rest = &bytes[sent..];
+    /// # Ok(()) }
+    /// ```
+    pub fn send_bytes(&mut self, buffer: &[u8]) -> usize {
+        if buffer.is_empty() {
+            return 0;
+        }
+        let Ok(()) = self.ready_to_send() else {
+            return 0;
+        };
+        self.write_burst(buffer)
+    }
+
+    /// Sends one byte if there is room: makes one check as `ready_to_send`, and one write to THR.
+    ///
+    /// Does not wait.
+    ///
+    /// # Errors
+    ///
+    /// `NoCapacity` if the byte was not sent, whatever the cause: also if the remote is not clear
+    /// to send.
+    ///
+    /// # Examples
+    ///
+    /// ```
+    /// # include!(concat!(env!("CARGO_MANIFEST_DIR"), "/examples.rs"));
+    /// # fn main() {}
+    /// # fn example(uart: &mut Uart16550<Device>) -> Outcome<()> {
+    /// assert_eq!(uart.try_send_byte(b'h'), Ok(()));
+    /// # Ok(()) }
+    /// ```
+    pub fn try_send_byte(&mut self, byte: u8) -> Result<(), ByteSendError> {
+        if self.send_bytes(&[byte]) == 0 {
+            return Err(ByteSendError::NoCapacity);
+        }
+        Ok(())
+    }
+
+    // Waits until bytes may be written. The first check is separate, since it mostly succeeds: then
+    // the limit is never read. Waiting and writing are two functions, and this one is inlined, so
+    // that each loop that sends holds one copy of the wait.
+    #[inline(always)]
+    fn wait_to_send(&mut self) -> bool {
+        if let Ok(()) = self.ready_to_send() {
+            return true;
+        }
+        for _turn in 1..self.spin_limit.get() {
+            if let Ok(()) = self.ready_to_send() {
+                return true;
+            }
+        }
+        false
+    }
+
+    // Waits until a burst was sent, and returns its length.
+    pub(crate) fn send_some(&mut self, bytes: &[u8]) -> Option<usize> {
+        if !self.wait_to_send() {
+            return None;
+        }
+        Some(self.write_burst(bytes))
+    }
+
+    // Sends the bytes one by one, and waits for room before each.
+    #[inline(always)]
+    pub(crate) fn send_singly(&mut self, bytes: &[u8]) -> Result<(), StalledError> {
+        for (done, &byte) in bytes.iter().enumerate() {
+            if !self.wait_to_send() {
+                return Err(StalledError { done });
+            }
+            self.write_byte(byte);
+        }
+        Ok(())
+    }
+
+    // Sends the bytes of one piece: a whole piece is sent from a copy.
+    #[inline(always)]
+    fn send_piece(&mut self, bytes: &[u8]) -> Result<(), StalledError> {
+        if bytes.len() != PIECE_SIZE {
+            return self.send_singly(bytes);
+        }
+        let mut copy = [0; PIECE_SIZE];
+        copy.copy_from_slice(bytes);
+        self.send_singly(&copy)
+    }
+
+    // Sends the bytes piece by piece.
+    fn send_pieces(&mut self, bytes: &[u8]) -> Result<(), StalledError> {
+        let mut done = 0;
+        while done < bytes.len() {
+            let end = bytes.len().min(done + PIECE_SIZE);
+            if let Err(stall) = self.send_piece(&bytes[done..end]) {
+                return Err(StalledError {
+                    done: done + stall.done,
+                });
+            }
+            done = end;
+        }
+        Ok(())
+    }
+
+    // Sends the bytes burst by burst, and waits for room before each burst.
+    fn send_bursts(&mut self, bytes: &[u8]) -> Result<(), StalledError> {
+        let mut done = 0;
+        while done < bytes.len() {
+            let Some(count) = self.send_some(&bytes[done..]) else {
+                return Err(StalledError { done });
+            };
+            done += count;
+        }
+        Ok(())
+    }
+
+    /// Sends all of the bytes, and waits for room before each burst: of up to 16 bytes if the FIFO
+    /// is on, else of one.
+    ///
+    /// Each wait makes at most `spin_limit` checks as `ready_to_send`. It returns when the last
+    /// burst is in THR or the FIFO; `flush` of [`embedded_io`](crate::embedded_io) waits until all
+    /// of it has left the chip. An empty slice makes no access.
+    ///
+    /// # Errors
+    ///
+    /// `StalledError` after `spin_limit` unsuccessful checks in a row: the chip is slower than the
+    /// limit allows, or CTS is checked and the remote is not clear to send. The first `done` bytes
+    /// were written to the chip.
+    ///
+    /// # Examples
+    ///
+    /// ```
+    /// # include!(concat!(env!("CARGO_MANIFEST_DIR"), "/examples.rs"));
+    /// # fn main() {}
+    /// # enum PortError { NotSent { sent: usize } }
+    /// # fn example(uart: &mut Uart16550<Device>, question: &[u8]) -> Result<(), PortError> {
+    /// if let Err(stall) = uart.send_bytes_exact(question) {
+    ///     return Err(PortError::NotSent { sent: stall.done });
+    /// }
+    /// # Ok(()) }
+    /// ```
+    pub fn send_bytes_exact(&mut self, bytes: &[u8]) -> Result<(), StalledError> {
+        // Without FIFO each burst is one byte. The loop over bursts would serve too, but asks each
+        // time how many bytes a burst has room for.
+        if self.fifo_enabled {
+            self.send_bursts(bytes)
+        } else {
+            self.send_pieces(bytes)
+        }
+    }
+
+    // Polls LSR until it shows these bits, or until the limit. Each wait has a loop of its own over
+    // the limit, so the polls that count are those in a row: progress begins a new count.
+    pub(crate) fn wait_for(&mut self, bits: LSR) -> bool {
+        for _turn in 0..self.spin_limit.get() {
+            if self.read_lsr().contains(bits) {
+                return true;
+            }
+        }
+        false
+    }
+}

@@ -1,0 +1,82 @@
+//! The backend for a device in memory.
+
+use crate::backend::{Backend, ByteAccess};
+use std::num::{NonZeroU8, NonZeroUsize};
+use uart_spec::InvalidAddressError;
+use uart_spec::registers::offsets;
+
+/// A device whose eight registers are in memory, at equal distances: the stride.
+///
+/// An access to a register is one access to the byte at `base + offset * stride`, and to no other
+/// byte.
+#[derive(Clone, Debug, PartialEq, Eq, PartialOrd, Hash)]
+pub struct MmioBackend<M> {
+    base: NonZeroUsize,
+    stride: NonZeroU8,
+    access: M,
+}
+
+impl<M: ByteAccess> MmioBackend<M> {
+    // Returns the backend from this address on with this stride, unless the stride is not a power
+    // of two or the last register would be beyond the last address.
+    pub(crate) fn new(
+        base: NonZeroUsize,
+        stride: u8,
+        access: M,
+    ) -> Result<Self, InvalidAddressError> {
+        let stride = NonZeroU8::new(stride)
+            .filter(|stride| stride.is_power_of_two())
+            .ok_or(InvalidAddressError::InvalidStride(stride))?;
+        let last = offsets::SPR * stride.get() as usize;
+        if base.get().checked_add(last).is_none() {
+            return Err(InvalidAddressError::InvalidBaseAddress(base.get()));
+        }
+        Ok(MmioBackend {
+            base,
+            stride,
+            access,
+        })
+    }
+
+    /// Returns the address of the first register.
+    pub const fn base(&self) -> NonZeroUsize {
+        self.base
+    }
+
+    /// Returns the distance between two registers in bytes: a power of two.
+    pub const fn stride(&self) -> NonZeroU8 {
+        self.stride
+    }
+
+    /// Returns the access object, to read its state. Makes no access.
+    pub fn access(&self) -> &M {
+        &self.access
+    }
+
+    /// Returns the access object, for what it can do besides the accesses, such as reporting a
+    /// fault. Makes no access itself.
+    ///
+    /// Accesses by the caller bypass the driver: status bits that they clear are not saved, and the
+    /// driver does not notice what they change.
+    pub fn access_mut(&mut self) -> &mut M {
+        &mut self.access
+    }
+
+    // Returns the address of a register.
+    fn address(&self, register_offset: u8) -> usize {
+        assert!(register_offset < 8, "no register has this offset");
+        self.base.get() + register_offset as usize * self.stride.get() as usize
+    }
+}
+
+impl<M: ByteAccess> Backend for MmioBackend<M> {
+    fn read(&mut self, register_offset: u8) -> u8 {
+        let address = self.address(register_offset);
+        self.access.load(address)
+    }
+
+    fn write(&mut self, register_offset: u8, value: u8) {
+        let address = self.address(register_offset);
+        self.access.store(address, value);
+    }
+}

@@ -1,0 +1,213 @@
+//! Makes a call of the driver, over any backend.
+
+use arrayvec::ArrayVec;
+use bitflags::Flags;
+use uart_16550::backend::Backend;
+use uart_16550::embedded_io::{Read, ReadReady, Write, WriteReady};
+use uart_16550::{Uart16550, Uart16550Tty};
+use uart_events::{Answer, CALL_BYTES, Call};
+use uart_spec::{
+    AttachError, ByteReceiveError, ByteSendError, Config, InitError, InvalidDivisorError,
+    LoopbackError, Received, RemoteReadyToReceiveError, StalledError,
+};
+
+/// Makes one call of the driver, over any backend, and returns its answer. Allocates no memory.
+///
+/// Returns [`Answer::Done`] if the call succeeded and returned nothing, and else what it returned
+/// or received, or why it failed. Waits as the driver's call does.
+///
+/// For [`Call::Next`] this makes no access and returns `Done`, since a real chip has no schedule.
+/// If the device has one, the caller must make that call itself.
+///
+/// # Examples
+///
+/// ```text
+/// perform(uart, &Call::CheckPresent)
+/// ```
+pub fn perform<B: Backend>(uart: &mut Uart16550Tty<B>, call: &Call) -> Answer {
+    match call {
+        Call::Next => Answer::Done,
+        Call::Init(config) => init(uart.inner_mut(), config),
+        Call::SetFrame(config) => framed(uart.inner_mut().set_frame(config)),
+        Call::Attach => attached(uart.inner_mut().attach()),
+        Call::SetBreak(on) => {
+            uart.inner_mut().set_break(*on);
+            Answer::Done
+        }
+        Call::SetModemControl(outputs) => {
+            uart.inner_mut().set_modem_control(*outputs);
+            Answer::Done
+        }
+        Call::SetRts(on) => {
+            uart.inner_mut().set_rts(*on);
+            Answer::Done
+        }
+        Call::SetDtr(on) => {
+            uart.inner_mut().set_dtr(*on);
+            Answer::Done
+        }
+        Call::TestLoopback => tested(uart.inner_mut().test_loopback()),
+        Call::CheckPresent => Answer::Flag(uart.inner_mut().check_present()),
+        Call::CheckConnected => connected(uart.inner_mut().check_connected()),
+        Call::ReadyToReceive => receive_ready(uart.inner_mut().ready_to_receive()),
+        Call::ReadyToSend => sent(uart.inner_mut().ready_to_send()),
+        Call::TryReceive => received(uart.inner_mut().try_receive_byte()),
+        Call::Flush => exact(uart.inner_mut().flush()),
+        Call::ReadReady => ready(uart.inner_mut().read_ready()),
+        Call::WriteReady => ready(uart.inner_mut().write_ready()),
+        Call::Ier => Answer::Register(uart.inner_mut().ier().bits()),
+        Call::Isr => Answer::Register(uart.inner_mut().isr().bits()),
+        Call::Lcr => Answer::Register(uart.inner_mut().lcr().bits()),
+        Call::Mcr => Answer::Register(uart.inner_mut().mcr().bits()),
+        Call::Lsr => Answer::Register(uart.inner_mut().lsr().bits()),
+        Call::Msr => Answer::Register(uart.inner_mut().msr().bits()),
+        Call::PeekModem => Answer::Register(uart.inner_mut().peek_modem().bits()),
+        Call::IsIdle => Answer::Flag(uart.inner_mut().is_idle()),
+        Call::Spr => Answer::Register(uart.inner_mut().spr()),
+        Call::DllDlm => {
+            let (dll, dlm) = uart.inner_mut().dll_dlm();
+            Answer::Latch(dll, dlm)
+        }
+        Call::FifoEnabled => Answer::Flag(uart.inner().fifo_enabled()),
+        Call::Dump => Answer::Dump(uart.inner_mut().config_register_dump()),
+        Call::TrySend(byte) => sent(uart.inner_mut().try_send_byte(*byte)),
+        Call::Enable(interrupts) => {
+            uart.inner_mut().enable_interrupts(*interrupts);
+            Answer::Done
+        }
+        Call::Disable(interrupts) => {
+            uart.inner_mut().disable_interrupts(*interrupts);
+            Answer::Done
+        }
+        Call::RetriggerInterrupts => {
+            uart.inner_mut().retrigger_interrupts();
+            Answer::Done
+        }
+        Call::Receive(slots) => receive(uart.inner_mut(), &mut [0; CALL_BYTES][..*slots]),
+        Call::ReceiveExact(slots) => receive_exact(
+            uart.inner_mut(),
+            &mut [0; CALL_BYTES][..*slots],
+        ),
+        Call::ReceiveWithErrors(slots) => receive_with_errors(
+            uart.inner_mut(),
+            &mut [Received::default(); CALL_BYTES][..*slots],
+        ),
+        Call::Read(slots) => read(uart.inner_mut(), &mut [0; CALL_BYTES][..*slots]),
+        Call::Send(bytes) => Answer::Count(uart.inner_mut().send_bytes(bytes.as_slice())),
+        Call::SendExact(bytes) => exact(uart.inner_mut().send_bytes_exact(bytes.as_slice())),
+        Call::Write(bytes) => counted(uart.inner_mut().write(bytes.as_slice())),
+        Call::Text(text) => exact(uart.write_text(text.as_str())),
+    }
+}
+
+// Returns a copy of these items, for an answer. Copies one by one, because a copy of the whole
+// would call `memcpy`, and the library for C calls nothing.
+fn copied<T: Copy + Default>(items: &[T]) -> ArrayVec<T, CALL_BYTES> {
+    let mut copy = ArrayVec::new();
+    for item in items {
+        let _ = copy.try_push(*item);
+    }
+    copy
+}
+
+fn init<B: Backend>(uart: &mut Uart16550<B>, config: &Config) -> Answer {
+    match uart.init(Config { ..*config }) {
+        Ok(()) => Answer::Done,
+        Err(error) => Answer::InitRefused(error),
+    }
+}
+
+// Calls that receive into slots.
+fn receive<B: Backend>(uart: &mut Uart16550<B>, slots: &mut [u8]) -> Answer {
+    let count = uart.receive_bytes(slots);
+    Answer::Bytes(copied(&slots[..count]))
+}
+
+fn receive_exact<B: Backend>(uart: &mut Uart16550<B>, slots: &mut [u8]) -> Answer {
+    match uart.receive_bytes_exact(slots) {
+        Ok(()) => Answer::Bytes(copied(slots)),
+        Err(stall) => Answer::ReceiveStalled(copied(&slots[..stall.done])),
+    }
+}
+
+fn receive_with_errors<B: Backend>(uart: &mut Uart16550<B>, slots: &mut [Received]) -> Answer {
+    let count = uart.receive_with_errors(slots);
+    Answer::BytesWithErrors(copied(&slots[..count]))
+}
+
+fn read<B: Backend>(uart: &mut Uart16550<B>, slots: &mut [u8]) -> Answer {
+    match uart.read(slots) {
+        Ok(count) => Answer::Bytes(copied(&slots[..count])),
+        Err(stall) => Answer::Stalled(stall.done),
+    }
+}
+
+fn framed(outcome: Result<(), InvalidDivisorError>) -> Answer {
+    match outcome {
+        Ok(()) => Answer::Done,
+        Err(error) => Answer::FrameRefused(error),
+    }
+}
+
+fn attached(outcome: Result<(u8, u8), AttachError>) -> Answer {
+    match outcome {
+        Ok((dll, dlm)) => Answer::Latch(dll, dlm),
+        Err(error) => Answer::AttachRefused(error),
+    }
+}
+
+fn tested(outcome: Result<(), LoopbackError>) -> Answer {
+    match outcome {
+        Ok(()) => Answer::Done,
+        Err(error) => Answer::LoopbackRefused(error),
+    }
+}
+
+fn connected(outcome: Result<(), RemoteReadyToReceiveError>) -> Answer {
+    match outcome {
+        Ok(()) => Answer::Done,
+        Err(error) => Answer::NotConnected(error),
+    }
+}
+
+fn receive_ready(outcome: Result<(), ByteReceiveError>) -> Answer {
+    match outcome {
+        Ok(()) => Answer::Done,
+        Err(_) => Answer::NoData,
+    }
+}
+
+fn received(outcome: Result<u8, ByteReceiveError>) -> Answer {
+    match outcome {
+        Ok(byte) => Answer::Register(byte),
+        Err(_) => Answer::NoData,
+    }
+}
+
+fn sent(outcome: Result<(), ByteSendError>) -> Answer {
+    match outcome {
+        Ok(()) => Answer::Done,
+        Err(error) => Answer::NotSent(error),
+    }
+}
+
+fn exact(outcome: Result<(), StalledError>) -> Answer {
+    match outcome {
+        Ok(()) => Answer::Done,
+        Err(stall) => Answer::Stalled(stall.done),
+    }
+}
+
+fn counted(outcome: Result<usize, StalledError>) -> Answer {
+    match outcome {
+        Ok(count) => Answer::Count(count),
+        Err(stall) => Answer::Stalled(stall.done),
+    }
+}
+
+fn ready(outcome: Result<bool, StalledError>) -> Answer {
+    match outcome {
+        Ok(ready) => Answer::Flag(ready),
+        Err(stall) => Answer::Stalled(stall.done),
+    }
+}

@@ -1,0 +1,90 @@
+//! The queues of the chip. A clause sees a queue as the list of its items, from the front.
+
+use arrayvec::ArrayVec;
+use circular_buffer::HeapCircularBuffer;
+use std::alloc::{AllocError, Global};
+use uart_spec::FIFO_SIZE;
+
+/// Returns the number of characters that a queue has room for. Without FIFO that is one, although
+/// it could hold more.
+pub fn room_of(fifo: bool) -> usize {
+    if fifo { FIFO_SIZE } else { 1 }
+}
+
+/// A queue that has room for each character of a FIFO, wherever its items are.
+pub trait Fifo<T> {
+    /// Returns the number of items.
+    fn len(&self) -> usize;
+
+    /// Returns whether there is no item.
+    fn is_empty(&self) -> bool {
+        self.len() == 0
+    }
+
+    /// Returns the item with this index, from the front.
+    fn get(&self, i: usize) -> Option<T>;
+
+    /// Appends an item. The caller must show that there is room.
+    fn push(&mut self, item: T);
+
+    /// Removes the front, and returns it.
+    fn pop(&mut self) -> Option<T>;
+
+    /// Removes all items.
+    fn clear(&mut self);
+}
+
+/// Appends items to an empty queue.
+pub fn fill<T: Copy, Q: Fifo<T>>(queue: &mut Q, items: &ArrayVec<T, FIFO_SIZE>) {
+    for item in items.as_slice() {
+        queue.push(*item);
+    }
+}
+
+/// Returns the items of a queue, from the front.
+pub fn items_of<T: Copy + Default, Q: Fifo<T>>(queue: &Q) -> ArrayVec<T, FIFO_SIZE> {
+    let mut items = ArrayVec::new();
+    for i in 0..queue.len() {
+        items.push(queue.get(i).unwrap());
+    }
+    items
+}
+
+/// A queue in memory that is allocated once.
+pub struct HeapFifo<T> {
+    ring: HeapCircularBuffer<T>,
+}
+
+impl<T> HeapFifo<T> {
+    /// Returns an empty queue. Allocates its memory.
+    ///
+    /// # Errors
+    ///
+    /// `AllocError` if memory could not be allocated.
+    pub fn new(alloc: Global) -> Result<Self, AllocError> {
+        let ring = HeapCircularBuffer::with_capacity(alloc, FIFO_SIZE)?;
+        Ok(HeapFifo { ring })
+    }
+}
+
+impl<T: Copy> Fifo<T> for HeapFifo<T> {
+    fn len(&self) -> usize {
+        self.ring.len()
+    }
+
+    fn get(&self, i: usize) -> Option<T> {
+        self.ring.get(i).copied()
+    }
+
+    fn push(&mut self, item: T) {
+        self.ring.push_back(item);
+    }
+
+    fn pop(&mut self) -> Option<T> {
+        self.ring.pop_front()
+    }
+
+    fn clear(&mut self) {
+        self.ring.clear();
+    }
+}

@@ -1,0 +1,21 @@
+//! What a recording or a trace says about its driver and its chip.
+//!
+//! [`traces`] reads the recorded calls of a driver, and checks that it makes them. [`recording`]
+//! reads what was seen at a chip's port; of that, [`audit`] judges the driver and [`replay`] the
+//! chip. [`findings`] prints what they find, and where a trace strays.
+#![no_std]
+#![forbid(unsafe_code)]
+#![allow(unused_imports, unused_labels, unused_parens, unused_braces, dead_code, clippy::all, clippy::pedantic)]
+#![allow(rustdoc::broken_intra_doc_links)]
+
+const _: () = assert!(usize::BITS == 64, "what is not for users is for targets of 64 bits");
+
+#[macro_use]
+extern crate geesetrunk_kit as std;
+extern crate geesetrunk_kit as bitflags;
+
+pub mod audit;
+pub mod findings;
+pub mod recording;
+pub mod replay;
+pub mod traces;

@@ -1,0 +1,94 @@
+//! Whether each call of a trace made one of its lists.
+
+use std::{Vec};
+
+use crate::traces::exchange::Exchange;
+use std::alloc::{AllocError, Global};
+use std::num::NonZeroU64;
+use uart_16550::DriverState;
+use uart_calls::{Answer, Turn, check, follow};
+use uart_language::push_answer;
+
+/// The place at which a trace differs from what the driver does.
+#[derive(Debug)]
+pub struct Stray<'a> {
+    /// The call that made another list, or returned something else.
+    pub exchange: &'a Exchange,
+    /// The number of its accesses, from the first on, that the driver makes.
+    pub kept: usize,
+    /// What the driver does then.
+    pub turn: Turn,
+}
+
+// Returns whether an answer is printed as this text. A trace has no more of an answer than that.
+fn is_printed(alloc: Global, answer: &Answer, text: &[u8]) -> Result<bool, AllocError> {
+    let mut printed = Vec::new(alloc);
+    push_answer(alloc, &mut printed, answer)?;
+    Ok(printed.as_slice() == text)
+}
+
+// Returns the state of the driver before a call: the one after the call before it, or that of a new
+// driver with this limit.
+fn state_before(exchange: &Exchange, state: DriverState, limit: NonZeroU64) -> DriverState {
+    if exchange.is_first {
+        DriverState {
+            spin_limit: limit,
+            ..DriverState::new()
+        }
+    } else {
+        state
+    }
+}
+
+// Returns the state of the driver after a call, if it makes this list and returns this answer.
+fn after(
+    alloc: Global,
+    exchange: &Exchange,
+    state: &DriverState,
+) -> Result<Option<DriverState>, AllocError> {
+    let Some(returned) = check(&exchange.accesses, state, &exchange.call) else {
+        return Ok(None);
+    };
+    if is_printed(alloc, &returned.answer, &exchange.answer)? {
+        Ok(Some(returned.state))
+    } else {
+        Ok(None)
+    }
+}
+
+// Returns what the driver does instead of what a trace has.
+fn stray_at<'a>(exchange: &'a Exchange, state: &DriverState) -> Stray<'a> {
+    let followed = follow(&exchange.accesses, state, &exchange.call);
+    Stray {
+        exchange,
+        kept: followed.kept,
+        turn: followed.turn,
+    }
+}
+
+/// Checks whether each list of a trace is one of its call, with the recorded answer. Returns `None`
+/// if so. Else returns the first call for which it is not, with its first access that no list of
+/// the call has, and what the driver does there.
+///
+/// The first call is of a new driver with this limit, and so is each call after a `fresh`.
+///
+/// # Errors
+///
+/// `AllocError` if out of memory.
+pub fn judge<'a>(
+    alloc: Global,
+    trace: &'a [Exchange],
+    limit: NonZeroU64,
+) -> Result<Option<Stray<'a>>, AllocError> {
+    let mut state = DriverState::new();
+    let mut left = trace;
+    while let Some((exchange, rest)) = left.split_first() {
+        let before = state_before(exchange, state, limit);
+        match after(alloc, exchange, &before)? {
+            Some(next) => state = next,
+            None => return Ok(Some(stray_at(exchange, &before))),
+        }
+        left = rest;
+    }
+    Ok(None)
+}

@@ -1,0 +1,104 @@
+//! The meaning of a whole trace.
+
+use std::{ToVecWith as _, Vec};
+
+use crate::traces::cause::{Fault, TraceError};
+use crate::traces::exchange::Exchange;
+use crate::traces::lines::{Line, line_in};
+use std::alloc::Global;
+use uart_calls::Call;
+use uart_language::first_line;
+
+fn fault(line: usize, fault: Fault) -> TraceError {
+    TraceError::NoTrace { line, fault }
+}
+
+// Returns the meaning of the first of some lines, which has this number, and the bytes after it.
+fn next_line(number: usize, bytes: &[u8]) -> Result<(Line<'_>, &[u8]), TraceError> {
+    let (line, rest) = first_line(bytes);
+    match line_in(line) {
+        Ok(line) => Ok((line, rest)),
+        Err(cause) => Err(fault(number, cause)),
+    }
+}
+
+// Reads what follows a call, whose line has this number. Returns it with the call, and the bytes
+// after its answer.
+fn read_exchange(
+    alloc: Global,
+    is_first: bool,
+    call: Call,
+    call_line: usize,
+    bytes: &[u8],
+) -> Result<(Exchange, &[u8]), TraceError> {
+    let unanswered = fault(call_line, Fault::NoAnswer);
+    let mut accesses = Vec::new(alloc);
+    let mut access_lines = Vec::new(alloc);
+    let mut number = call_line;
+    let mut rest = bytes;
+    while !rest.is_empty() {
+        number += 1;
+        let (line, left) = next_line(number, rest)?;
+        rest = left;
+        match line {
+            Line::Blank => {}
+            Line::Access(access) => {
+                accesses.push(access)?;
+                access_lines.push(number)?;
+            }
+            Line::Answer(text) => {
+                let exchange = Exchange {
+                    is_first,
+                    call,
+                    accesses,
+                    access_lines,
+                    answer: text.to_vec_with(alloc)?,
+                    answer_line: number,
+                };
+                return Ok((exchange, left));
+            }
+            Line::Fresh => return Err(unanswered),
+            Line::Call(_) => return Err(unanswered),
+        }
+    }
+    Err(unanswered)
+}
+
+// Returns the calls of some bytes.
+fn read_trace(alloc: Global, bytes: &[u8]) -> Result<Vec<Exchange>, TraceError> {
+    let mut exchanges = Vec::new(alloc);
+    let mut is_first = true;
+    let mut number = 0;
+    let mut rest = bytes;
+    while !rest.is_empty() {
+        number += 1;
+        let misplaced = fault(number, Fault::NoCallBefore);
+        let (line, left) = next_line(number, rest)?;
+        rest = left;
+        match line {
+            Line::Blank => {}
+            Line::Fresh => is_first = true,
+            Line::Call(call) => {
+                let (exchange, after) = read_exchange(alloc, is_first, call, number, rest)?;
+                number = exchange.answer_line;
+                rest = after;
+                is_first = false;
+                exchanges.push(exchange)?;
+            }
+            Line::Access(_) => return Err(misplaced),
+            Line::Answer(_) => return Err(misplaced),
+        }
+    }
+    Ok(exchanges)
+}
+
+/// Returns the calls of a trace.
+///
+/// # Errors
+///
+/// - `NoTrace`, with the first fault: the number of the line, and what is wrong with it. A call
+///   without an answer is a fault of its own line.
+/// - `OutOfMemory` if memory could not be allocated.
+pub fn parse(alloc: Global, bytes: &[u8]) -> Result<Vec<Exchange>, TraceError> {
+    read_trace(alloc, bytes)
+}

@@ -1,0 +1,40 @@
+//! The script language: the meaning of the bytes of a script, what is printed for a script that was
+//! run, and where both are read from and written to.
+//!
+//! [`parse`] reads a [`Script`]: a chip, the events of its schedule, and the calls to be made on
+//! it. Bytes that are not a script are refused with the first faulty line and its [`Cause`]. The
+//! language is defined in `specs/Script`. Nothing is run here; to play a script, use
+//! `uart_machine::script::play`.
+#![no_std]
+#![forbid(unsafe_code)]
+#![allow(unused_imports, unused_labels, unused_parens, unused_braces, dead_code, clippy::all, clippy::pedantic)]
+#![allow(rustdoc::broken_intra_doc_links)]
+
+const _: () = assert!(usize::BITS == 64, "what is not for users is for targets of 64 bits");
+
+#[macro_use]
+extern crate geesetrunk_kit as std;
+extern crate geesetrunk_kit as bitflags;
+extern crate geesetrunk_kit as arrayvec;
+
+mod cause;
+pub mod fields;
+mod items;
+pub mod limits;
+mod numbers;
+mod parsing;
+mod play_error;
+mod rendering;
+mod streams;
+mod text;
+mod words;
+
+pub use cause::{Cause, ScriptError};
+pub use fields::byte_in;
+pub use items::{Item, item_at};
+pub use numbers::number_of;
+pub use parsing::{Script, parse};
+pub use play_error::PlayError;
+pub use rendering::{hex_digit, push_answer, render};
+pub use streams::{Fault, Input, Output, Std, read_all, write_all};
+pub use text::{first_line, has_bad_byte, word_at, word_count};

@@ -1,0 +1,127 @@
+//! What a live chip keeps in arrays, without other memory: its queues and its wire. It has no
+//! schedule, so its journal records nothing.
+
+use uart_chip::{Character, Fifo, Journal, Origin, Wire};
+use uart_events::ArrivalMark;
+use uart_spec::FIFO_SIZE;
+
+/// The most bytes that a [`FixedWire`] has room for.
+pub const WIRE_ROOM: usize = 64;
+
+// The places of a `FixedWire`: each byte is in two of them.
+const WIRE_PLACES: usize = 2 * WIRE_ROOM;
+
+/// A queue in an array, without other memory. A push into a full one would overwrite the oldest
+/// item, so the caller of `push` must show that there is room.
+pub struct FixedFifo<T> {
+    slots: [T; FIFO_SIZE],
+    start: usize,
+    len: usize,
+}
+
+impl<T: Copy> FixedFifo<T> {
+    /// Returns an empty queue, whose unused places hold `item`.
+    pub fn new(item: T) -> Self {
+        FixedFifo {
+            slots: [item; FIFO_SIZE],
+            start: 0,
+            len: 0,
+        }
+    }
+}
+
+impl<T: Copy> Fifo<T> for FixedFifo<T> {
+    fn len(&self) -> usize {
+        self.len
+    }
+
+    fn get(&self, i: usize) -> Option<T> {
+        if i < self.len {
+            Some(self.slots[(self.start + i) % FIFO_SIZE])
+        } else {
+            None
+        }
+    }
+
+    fn push(&mut self, item: T) {
+        self.slots[(self.start + self.len) % FIFO_SIZE] = item;
+        self.len += 1;
+    }
+
+    fn pop(&mut self) -> Option<T> {
+        if self.len == 0 {
+            return None;
+        }
+        let front = self.slots[self.start % FIFO_SIZE];
+        self.start = (self.start + 1) % FIFO_SIZE;
+        self.len -= 1;
+        Some(front)
+    }
+
+    fn clear(&mut self) {
+        self.len = 0;
+    }
+}
+
+/// A wire in an array, without other memory.
+///
+/// Each byte is in the array twice, [`WIRE_ROOM`] places apart. So the bytes are one slice wherever
+/// the first of them is, and to send or to take a byte costs the same whatever waits.
+pub struct FixedWire {
+    slots: [u8; WIRE_PLACES],
+    start: usize,
+    count: usize,
+    limit: usize,
+}
+
+impl FixedWire {
+    /// Returns an empty wire with room for `capacity` bytes.
+    pub fn new(capacity: usize) -> Self {
+        FixedWire {
+            slots: [0; WIRE_PLACES],
+            start: 0,
+            count: 0,
+            limit: capacity,
+        }
+    }
+}
+
+impl Wire for FixedWire {
+    fn room(&self) -> usize {
+        self.limit - self.count
+    }
+
+    fn capacity(&self) -> usize {
+        self.limit
+    }
+
+    fn as_slice(&self) -> &[u8] {
+        &self.slots[self.start..][..self.count]
+    }
+
+    fn push(&mut self, byte: u8) {
+        let place = (self.start + self.count) % WIRE_ROOM;
+        self.slots[place] = byte;
+        self.slots[WIRE_ROOM + place] = byte;
+        self.count += 1;
+    }
+
+    fn take(&mut self, count: usize) {
+        let count = count.min(self.count);
+        self.start = (self.start + count) % WIRE_ROOM;
+        self.count -= count;
+    }
+}
+
+/// The journal of a receiver without a schedule: it records nothing.
+pub struct NoMarks;
+
+impl Journal for NoMarks {
+    fn len(&self) -> usize {
+        0
+    }
+
+    fn set_mark(&mut self, _origin: Origin, _mark: ArrivalMark) {}
+
+    fn discard<Q: Fifo<Character>>(&mut self, _characters: &Q) {}
+}

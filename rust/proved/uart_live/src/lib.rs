@@ -1,0 +1,28 @@
+//! A live chip: the chip of [`uart_chip`] in the hands of its owner, without a schedule.
+//!
+//! The owner, for example a virtual machine monitor, makes the guest's accesses, takes the bytes
+//! that are sent, passes characters and modem lines when they arrive, lets time pass, and reads the
+//! level of the interrupt line. Each call does what the definitions of the chip say.
+#![no_std]
+#![forbid(unsafe_code)]
+#![allow(unused_imports, unused_labels, unused_parens, unused_braces, dead_code, clippy::all, clippy::pedantic)]
+#![allow(rustdoc::broken_intra_doc_links)]
+
+#[macro_use]
+extern crate geesetrunk_kit as std;
+extern crate geesetrunk_kit as bitflags;
+extern crate geesetrunk_kit as arrayvec;
+
+mod errors;
+mod fixed;
+mod live;
+mod sound;
+
+pub use errors::{ChipError, InputError, RestoreError};
+pub use fixed::WIRE_ROOM;
+pub use live::LiveChip;
+pub use uart_chip::{
+    Character, Chip, ChipData, Latches, ModemData, Origin, ReceiverData, Shifting, TransmitterData,
+};
+
+mod by_hand;

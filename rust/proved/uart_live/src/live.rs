@@ -1,0 +1,396 @@
+//! The live chip.
+
+mod snapshot;
+
+use crate::errors::{ChipError, InputError};
+use crate::fixed::{FixedFifo, FixedWire, NoMarks, WIRE_ROOM};
+use bitflags::Flags;
+use uart_chip::{Character, Uart};
+use uart_events::{Chip, MAX_CHAR_TICKS};
+use uart_spec::registers::{LSR, MSR};
+
+// A chip all of whose memory is in arrays, without a schedule. So no call can be refused memory.
+// The wire has room for 64 bytes, as in the library for C: its owner takes them after each `ticks`.
+type LiveUart = Uart<FixedFifo<u8>, FixedWire, FixedFifo<Character>, NoMarks>;
+
+/// A serial chip in software whose owner lets time pass, passes characters to it, and takes the
+/// bytes that it sends.
+///
+/// For each access of the guest call `read` or `write`. As the clock goes on, call `ticks`, and
+/// take what was sent with `wire` and `take_wire`. When a character or a change of the modem lines
+/// arrives, call `arrive` or `set_lines`. After each of these calls set the guest's interrupt line
+/// to `is_interrupting`.
+///
+/// No call allocates memory, and none blocks. The chip keeps no record of what was sent and
+/// received, so it can run without end.
+///
+/// # Examples
+///
+/// ```
+/// # include!(concat!(env!("CARGO_MANIFEST_DIR"), "/examples.rs"));
+/// # fn main() {}
+/// # fn example(chip: &mut LiveChip, offset: u8, value: u8, elapsed: u16, sink: &mut [u8]) -> Outcome<()> {
+/// chip.write(offset, value);
+/// chip.ticks(elapsed);
+/// let sent = chip.wire().len().min(sink.len());
+/// sink[..sent].copy_from_slice(&chip.wire()[..sent]);
+/// chip.take_wire(sent);
+/// # Ok(()) }
+/// ```
+pub struct LiveChip {
+    uart: LiveUart,
+}
+
+// Returns why no chip is made.
+fn refusal(char_ticks: u16, wire_capacity: usize) -> Option<ChipError> {
+    if char_ticks == 0 || char_ticks > MAX_CHAR_TICKS {
+        Some(ChipError::BadTicks)
+    } else if wire_capacity > WIRE_ROOM {
+        Some(ChipError::BadWire)
+    } else {
+        None
+    }
+}
+
+// There is no `new_cut`. An owner who wants characters cut makes a chip, sets `cuts` of its data,
+// and restores it: data are sound with either value.
+impl LiveChip {
+    /// Returns a chip after power-on.
+    ///
+    /// A character takes `char_ticks` ticks in the shift register, and the wire has room for
+    /// `wire_capacity` bytes until they are taken. If it is full, the transmitter keeps what it
+    /// holds.
+    ///
+    /// # Errors
+    ///
+    /// The first of these:
+    ///
+    /// - `BadTicks` if `char_ticks` is 0 or more than 1000.
+    /// - `BadWire` if `wire_capacity` is more than 64.
+    ///
+    /// # Examples
+    ///
+    /// ```
+    /// # include!(concat!(env!("CARGO_MANIFEST_DIR"), "/examples.rs"));
+    /// # fn main() {}
+    /// # fn example() -> Result<LiveChip, ChipError> {
+    /// LiveChip::new(Chip::Uart16550A, 4, 64)
+    /// # }
+    /// ```
+    pub fn new(chip: Chip, char_ticks: u16, wire_capacity: usize) -> Result<Self, ChipError> {
+        if let Some(reason) = refusal(char_ticks, wire_capacity) {
+            return Err(reason);
+        }
+        let uart = Uart::with_parts(
+            FixedFifo::new(0),
+            FixedWire::new(wire_capacity),
+            FixedFifo::new(Character::default()),
+            NoMarks,
+            chip,
+            char_ticks,
+            false,
+        );
+        Ok(Self { uart })
+    }
+
+    /// Reads the register at this offset for the guest, and returns its value. No time passes.
+    ///
+    /// A read can change the chip: of DATA it takes a received byte, of LSR and MSR it clears the
+    /// errors and changes, and of ISR it may acknowledge an interrupt. So check `is_interrupting`
+    /// after it.
+    ///
+    /// # Panics
+    ///
+    /// If the offset is 8 or more.
+    ///
+    /// # Examples
+    ///
+    /// ```
+    /// # include!(concat!(env!("CARGO_MANIFEST_DIR"), "/examples.rs"));
+    /// # fn main() {}
+    /// # fn example(chip: &mut LiveChip, offset: u8) -> Outcome<()> {
+    /// let value = chip.read(offset);
+    /// let line = chip.is_interrupting();
+    /// # Ok(()) }
+    /// ```
+    pub fn read(&mut self, offset: u8) -> u8 {
+        self.uart.read(offset)
+    }
+
+    /// Writes a value to the register at this offset for the guest. No time passes.
+    ///
+    /// Never fails: a byte that is written to DATA is sent by later `ticks`. If the transmitter has
+    /// no room, a byte is lost, and `overflows` counts it. Check `is_interrupting` after it.
+    ///
+    /// # Panics
+    ///
+    /// If the offset is 8 or more.
+    ///
+    /// # Examples
+    ///
+    /// ```
+    /// # include!(concat!(env!("CARGO_MANIFEST_DIR"), "/examples.rs"));
+    /// # fn main() {}
+    /// # fn example(chip: &mut LiveChip, offset: u8, value: u8, elapsed: u16) -> Outcome<()> {
+    /// chip.write(offset, value);
+    /// chip.ticks(elapsed);
+    /// # Ok(()) }
+    /// ```
+    pub fn write(&mut self, offset: u8, value: u8) {
+        self.uart.write(offset, value);
+    }
+
+    /// Returns whether a byte that the guest writes to DATA can go onto the wire at once: outside
+    /// of loopback, with nothing in the transmitter and with room on the wire. Under DLAB, where
+    /// DATA is the divisor latch, it cannot.
+    ///
+    /// # Examples
+    ///
+    /// ```
+    /// # include!(concat!(env!("CARGO_MANIFEST_DIR"), "/examples.rs"));
+    /// # fn main() {}
+    /// # fn example(chip: &mut LiveChip, value: u8) -> Outcome<()> {
+    /// if chip.sends_at_once() {
+    ///     chip.send_at_once(value);
+    /// } else {
+    ///     chip.write(offsets::DATA as u8, value);
+    /// }
+    /// # Ok(()) }
+    /// ```
+    pub fn sends_at_once(&self) -> bool {
+        self.uart.sends_at_once()
+    }
+
+    /// Puts a byte that the guest writes to DATA onto the wire. The caller must have asked
+    /// `sends_at_once`.
+    ///
+    /// If a character takes one tick, the transmitter is as after a write of DATA and two ticks or
+    /// more. But no time passes: a reception timeout is as near as before.
+    ///
+    /// # Panics
+    ///
+    /// If [`sends_at_once`](Self::sends_at_once) returns false. Nothing changed then.
+    ///
+    /// # Examples
+    ///
+    /// ```
+    /// # include!(concat!(env!("CARGO_MANIFEST_DIR"), "/examples.rs"));
+    /// # fn main() {}
+    /// # fn example(chip: &mut LiveChip, value: u8) -> Outcome<()> {
+    /// if chip.sends_at_once() {
+    ///     chip.send_at_once(value);
+    /// } else {
+    ///     chip.write(offsets::DATA as u8, value);
+    /// }
+    /// # Ok(()) }
+    /// ```
+    pub fn send_at_once(&mut self, value: u8) {
+        self.uart.send_at_once(value);
+    }
+
+    /// Lets `count` ticks pass. Returns the number of jumps that this took, which is at most 18,
+    /// whatever `count` is.
+    ///
+    /// A jump ends at the tick in which a character enters or leaves the shift register, or takes
+    /// all ticks that are left.
+    ///
+    /// What was sent in this time is on the `wire`. Check `is_interrupting` after it.
+    ///
+    /// # Examples
+    ///
+    /// ```
+    /// # include!(concat!(env!("CARGO_MANIFEST_DIR"), "/examples.rs"));
+    /// # fn main() {}
+    /// # fn example(chip: &mut LiveChip, elapsed: u16) -> Outcome<()> {
+    /// chip.ticks(elapsed);
+    /// # Ok(()) }
+    /// ```
+    pub fn ticks(&mut self, count: u16) -> usize {
+        self.uart.ticks(count)
+    }
+
+    /// Receives a character from the remote, with these errors: parity, framing and break, as bits
+    /// of LSR.
+    ///
+    /// In loopback the character is lost. If the FIFO is full, the character is dropped; without
+    /// FIFO it replaces the one that was received before, which is dropped. The guest sees a drop
+    /// as the overrun flag. To lose none, check `receive_room` first. Check `is_interrupting` after
+    /// it.
+    ///
+    /// # Errors
+    ///
+    /// `BadErrors` if `errors` has any other bit. Nothing changes then.
+    ///
+    /// # Examples
+    ///
+    /// ```
+    /// # include!(concat!(env!("CARGO_MANIFEST_DIR"), "/examples.rs"));
+    /// # fn main() {}
+    /// # fn example(chip: &mut LiveChip, byte: u8) -> Outcome<()> {
+    /// if chip.receive_room() > 0 {
+    ///     chip.arrive(byte, LSR::empty())?;
+    /// }
+    /// # Ok(()) }
+    /// ```
+    pub fn arrive(&mut self, byte: u8, errors: LSR) -> Result<(), InputError> {
+        if errors.intersection(LSR::CHARACTER_ERRORS) != errors {
+            return Err(InputError::BadErrors);
+        }
+        self.uart.arrive_live(byte, errors.bits());
+        Ok(())
+    }
+
+    /// Receives a character as [`LiveChip::arrive`] does, but a reception timeout that is due stays
+    /// due.
+    ///
+    /// It then stays due until the guest reads DATA, or writes FCR so that the FIFO is emptied, or
+    /// a character comes back in loopback. Only ISR and `is_interrupting` show the difference.
+    ///
+    /// # Errors
+    ///
+    /// `BadErrors` if `errors` has a bit other than parity, framing and break. Nothing changes
+    /// then.
+    ///
+    /// # Examples
+    ///
+    /// ```
+    /// # include!(concat!(env!("CARGO_MANIFEST_DIR"), "/examples.rs"));
+    /// # fn main() {}
+    /// # fn example(chip: &mut LiveChip, byte: u8) -> Outcome<()> {
+    /// if chip.receive_room() > 0 {
+    ///     chip.arrive_holding_timeout(byte, LSR::empty())?;
+    /// }
+    /// # Ok(()) }
+    /// ```
+    pub fn arrive_holding_timeout(&mut self, byte: u8, errors: LSR) -> Result<(), InputError> {
+        // The receiver's count of ticks says whether a timeout is due. So no bit has to be kept and
+        // saved for a held timeout, and every other contract is as it was.
+        let is_due = self.uart.is_timed_out();
+        self.arrive(byte, errors)?;
+        if is_due {
+            self.uart.expire_timeout();
+        }
+        Ok(())
+    }
+
+    /// Sets the inputs of the modem: CTS, DSR, RI and CD, as bits of MSR. Check `is_interrupting`
+    /// after it.
+    ///
+    /// # Errors
+    ///
+    /// `BadLines` if `inputs` has any other bit. Nothing changes then.
+    ///
+    /// # Examples
+    ///
+    /// ```
+    /// # include!(concat!(env!("CARGO_MANIFEST_DIR"), "/examples.rs"));
+    /// # fn main() {}
+    /// # fn example(chip: &mut LiveChip) -> Outcome<()> {
+    /// chip.set_lines(MSR::CTS.union(MSR::DSR))?;
+    /// # Ok(()) }
+    /// ```
+    pub fn set_lines(&mut self, inputs: MSR) -> Result<(), InputError> {
+        if inputs.intersection(MSR::LINES) != inputs {
+            return Err(InputError::BadLines);
+        }
+        self.uart.change_lines(inputs.bits());
+        Ok(())
+    }
+
+    /// Returns the level of the interrupt line: whether a read of ISR would show an interrupt.
+    /// Changes nothing.
+    ///
+    /// # Examples
+    ///
+    /// ```
+    /// # include!(concat!(env!("CARGO_MANIFEST_DIR"), "/examples.rs"));
+    /// # fn main() {}
+    /// # mod monitor {
+    /// # pub struct Outcome { pub sent: usize, pub is_interrupting: bool }
+    /// # }
+    /// # fn example(chip: &mut LiveChip, sent: usize) -> monitor::Outcome {
+    /// # use monitor::Outcome;
+    /// Outcome {
+    ///     sent,
+    ///     is_interrupting: chip.is_interrupting(),
+    /// }
+    /// # }
+    /// ```
+    pub fn is_interrupting(&self) -> bool {
+        self.uart.is_interrupting()
+    }
+
+    /// Returns the bytes that were sent and have not been taken, in order.
+    ///
+    /// # Examples
+    ///
+    /// ```
+    /// # include!(concat!(env!("CARGO_MANIFEST_DIR"), "/examples.rs"));
+    /// # fn main() {}
+    /// # fn example(chip: &mut LiveChip, sink: &mut [u8]) -> Outcome<()> {
+    /// let sent = chip.wire().len().min(sink.len());
+    /// sink[..sent].copy_from_slice(&chip.wire()[..sent]);
+    /// # Ok(()) }
+    /// ```
+    pub fn wire(&self) -> &[u8] {
+        self.uart.transmitter().wire()
+    }
+
+    /// Removes this number of bytes from the front of the wire, or all if there are fewer. The wire
+    /// has room for more then.
+    ///
+    /// # Examples
+    ///
+    /// ```
+    /// # include!(concat!(env!("CARGO_MANIFEST_DIR"), "/examples.rs"));
+    /// # fn main() {}
+    /// # fn example(chip: &mut LiveChip, sent: usize) -> Outcome<()> {
+    /// chip.take_wire(sent);
+    /// # Ok(()) }
+    /// ```
+    pub fn take_wire(&mut self, count: usize) {
+        self.uart.take_wire(count);
+    }
+
+    /// Returns how many more bytes the wire has room for.
+    pub fn wire_room(&self) -> usize {
+        self.uart.transmitter().wire_room()
+    }
+
+    /// Returns how many characters can be received before one is lost. In loopback that is 0.
+    ///
+    /// # Examples
+    ///
+    /// ```
+    /// # include!(concat!(env!("CARGO_MANIFEST_DIR"), "/examples.rs"));
+    /// # fn main() {}
+    /// # fn example(chip: &mut LiveChip, byte: u8) -> Outcome<()> {
+    /// if chip.receive_room() > 0 {
+    ///     chip.arrive(byte, LSR::empty())?;
+    /// }
+    /// # Ok(()) }
+    /// ```
+    pub fn receive_room(&self) -> usize {
+        self.uart.receive_room()
+    }
+
+    /// Returns the number of received characters that the guest has not read.
+    pub fn waiting_len(&self) -> usize {
+        self.uart.receiver().waiting_len()
+    }
+
+    /// Returns the number of bytes in the transmitter, which are still to be sent.
+    pub fn held_len(&self) -> usize {
+        self.uart.transmitter().held_len()
+    }
+
+    /// Returns the divisor in the divisor latch, from which the baud rate follows.
+    pub fn divisor(&self) -> u16 {
+        self.uart.divisor()
+    }
+
+    /// Returns how many writes of DATA found no room in the transmitter, up to `u64::MAX`.
+    pub fn overflows(&self) -> u64 {
+        self.uart.transmitter().overflows()
+    }
+}

@@ -1,0 +1,96 @@
+//! Whether data are those of a live chip: one test for each part of what holds of it.
+//!
+//! Data are typed (a trigger level, an optional character in the shift register, registers), so
+//! that less of them can be wrong. The wire comes beside the data: its owner has it already.
+
+use bitflags::Flags;
+use uart_chip::{
+    Character, Chip, ChipData, Latches, MAX_CHAR_TICKS, MAX_WIRE_CAPACITY, ModemData, Origin,
+    ReceiverData, Shifting, TransmitterData, kept_interrupts, kept_modem_control,
+};
+use uart_spec::FIFO_SIZE;
+use uart_spec::registers::{LSR, MSR};
+
+/// The number of character times after which a reception timeout is due, if no character comes or
+/// is read.
+pub const TIMEOUT_CHARACTERS: u32 = 4;
+
+// Returns the number of characters that a queue has room for.
+fn room_of(fifo: bool) -> usize {
+    if fifo { FIFO_SIZE } else { 1 }
+}
+
+// It is not an arrival of a schedule, and has only errors of a character.
+fn is_live_character(character: &Character) -> bool {
+    let errors = LSR::from_bits_retain(character.errors);
+    let is_unscheduled = match character.origin {
+        Origin::Looped | Origin::Live => true,
+        Origin::Arrived(_) => false,
+    };
+    is_unscheduled && errors.intersection(LSR::CHARACTER_ERRORS) == errors
+}
+
+fn are_live(characters: &[Character]) -> bool {
+    characters
+        .iter()
+        .all(|character| is_live_character(character))
+}
+
+fn is_sound_receiver(saved: &ReceiverData, fifo: bool, char_ticks: u16) -> bool {
+    saved.queue.as_slice().len() <= room_of(fifo)
+        && are_live(saved.queue.as_slice())
+        && saved.timeout_ticks as u32 <= TIMEOUT_CHARACTERS * char_ticks as u32
+}
+
+// It has at least one tick left, and at most its whole time.
+fn is_ticking(char_ticks: u16, place: Option<Shifting>) -> bool {
+    match place {
+        None => true,
+        Some(shifting) => 1 <= shifting.ticks_left && shifting.ticks_left <= char_ticks,
+    }
+}
+
+fn is_char_time(char_ticks: u16) -> bool {
+    1 <= char_ticks && char_ticks <= MAX_CHAR_TICKS
+}
+
+fn is_sound_transmitter(saved: &TransmitterData, fifo: bool, wire: &[u8]) -> bool {
+    is_char_time(saved.char_ticks)
+        && is_ticking(saved.char_ticks, saved.shift_register)
+        && saved.queue.as_slice().len() <= room_of(fifo)
+        && wire.len() <= saved.wire_capacity
+        && saved.wire_capacity <= MAX_WIRE_CAPACITY
+}
+
+fn is_sound_modem(saved: ModemData) -> bool {
+    saved.inputs.intersection(MSR::LINES) == saved.inputs
+        && saved.lines.intersection(MSR::LINES) == saved.lines
+        && saved.deltas.intersection(MSR::CHANGES) == saved.deltas
+}
+
+// The two latches that keep only some bits have no others.
+fn is_sound_latches(latches: Latches) -> bool {
+    kept_interrupts(latches.ier) == latches.ier && kept_modem_control(latches.mcr) == latches.mcr
+}
+
+// Only a chip that has a FIFO has it on.
+fn is_implemented(model: Chip, fifo: bool) -> bool {
+    match model {
+        Chip::Uart16550A => true,
+        Chip::Uart16450 => !fifo,
+    }
+}
+
+// Every part is sound.
+fn are_sound(saved: &ChipData, wire: &[u8]) -> bool {
+    is_sound_latches(saved.latches)
+        && is_implemented(saved.model, saved.fifo)
+        && is_sound_modem(saved.modem)
+        && is_sound_receiver(&saved.receiver, saved.fifo, saved.transmitter.char_ticks)
+        && is_sound_transmitter(&saved.transmitter, saved.fifo, wire)
+}
+
+/// Returns whether the data, and these bytes on the wire, are those of a live chip.
+pub fn is_live(saved: &ChipData, wire: &[u8]) -> bool {
+    are_sound(saved, wire)
+}

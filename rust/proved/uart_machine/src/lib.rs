@@ -1,0 +1,42 @@
+//! A 16550 in software, runs of the driver over it, and scripts of such runs.
+//!
+//! - [`Device16550`] is a 16550A or 16450 under a schedule of ticks, arrivals and modem lines, as a
+//!   backend of the driver. Each register access first performs the scheduled events before it, and
+//!   then has the effect that the datasheet specifies.
+//! - [`perform`] makes one [`Call`] of the driver over any backend, and returns its [`Answer`].
+//! - [`run`] makes a list of calls over such a device. Its contract has the theorems about driver
+//!   and chip together.
+//! - [`run_ring`] makes a list of calls of the rings over such a device, and returns a
+//!   [`RingAnswer`] for each [`RingCall`]. Its contract has the theorem about rings, driver and
+//!   chip together.
+//! - [`LiveChip`] is the same chip without a schedule, driven by its owner, and can be saved
+//!   and restored.
+//! - [`script`] plays a script from a reader to a writer.
+//! - [`laws`] has what follows from these contracts.
+//!
+//! The chip and the device are in the crate `uart_chip`, the live chip in `uart_live`, calls and
+//! answers in `uart_calls`, runs in `uart_run`, runs of the rings in `uart_ring_runs`, the script
+//! language in `uart_language`, and the player of scripts in `uart_play`. This crate re-exports
+//! them, and has the tests that cross them.
+#![no_std]
+#![forbid(unsafe_code)]
+#![allow(unused_imports, unused_labels, unused_parens, unused_braces, dead_code, clippy::all, clippy::pedantic)]
+#![allow(rustdoc::broken_intra_doc_links)]
+
+const _: () = assert!(usize::BITS == 64, "what is not for users is for targets of 64 bits");
+
+#[macro_use]
+extern crate geesetrunk_kit as std;
+extern crate geesetrunk_kit as bitflags;
+extern crate geesetrunk_kit as arrayvec;
+
+pub mod script;
+
+pub use uart_calls::{Answer, CALL_BYTES, Call, perform};
+pub use uart_chip::{ArrivalMark, BuildError, Chip, Device16550, Event};
+pub use uart_live::{
+    Character, ChipData, ChipError, InputError, Latches, LiveChip, ModemData, Origin, ReceiverData,
+    RestoreError, Shifting, TransmitterData, WIRE_ROOM,
+};
+pub use uart_ring_runs::{RingAnswer, RingCall, run_ring};
+pub use uart_run::run;

@@ -1,0 +1,20 @@
+//! Plays scripts: [`play`] reads one, runs its calls over a new device, and writes the answers and
+//! the last state of the device.
+//!
+//! The meaning of a script, and what is printed for it, are defined in `uart_language`.
+#![no_std]
+#![forbid(unsafe_code)]
+#![allow(unused_imports, unused_labels, unused_parens, unused_braces, dead_code, clippy::all, clippy::pedantic)]
+#![allow(rustdoc::broken_intra_doc_links)]
+
+const _: () = assert!(usize::BITS == 64, "what is not for users is for targets of 64 bits");
+
+#[macro_use]
+extern crate geesetrunk_kit as std;
+extern crate geesetrunk_kit as bitflags;
+extern crate geesetrunk_kit as arrayvec;
+
+mod playing;
+
+pub use playing::play;
+pub use uart_language::{Fault, Input, Output, PlayError, Std};

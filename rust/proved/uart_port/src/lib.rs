@@ -1,0 +1,22 @@
+//! The calls of a script over I/O ports that may fail, as those of Linux's file of ports.
+#![no_std]
+#![forbid(unsafe_code)]
+#![allow(unused_imports, unused_labels, unused_parens, unused_braces, dead_code, clippy::all, clippy::pedantic)]
+#![allow(rustdoc::broken_intra_doc_links)]
+
+const _: () = assert!(usize::BITS == 64, "what is not for users is for targets of 64 bits");
+
+#[macro_use]
+extern crate geesetrunk_kit as std;
+
+mod end;
+mod noted;
+mod playing;
+mod ports;
+mod trace;
+
+pub use end::End;
+pub use noted::NotedPorts;
+pub use playing::{Journal, Terminal, play, terminal_at};
+pub use ports::{FLOATING, Fault, GuardedPorts, PortFile};
+pub use trace::Trace;

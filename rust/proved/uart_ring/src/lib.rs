@@ -1,0 +1,18 @@
+//! Transmit and receive rings over the serial driver, for use with interrupts.
+//!
+//! A [`Uart16550Ring`] keeps bytes until the chip has room for them, and received bytes until the
+//! caller takes them. Call [`Uart16550Ring::handle`] when the chip raises its interrupt. No call
+//! waits, and only [`Uart16550Ring::new`] allocates memory.
+#![no_std]
+#![forbid(unsafe_code)]
+#![allow(unused_imports, unused_labels, unused_parens, unused_braces, dead_code, clippy::all, clippy::pedantic)]
+#![allow(rustdoc::broken_intra_doc_links)]
+
+#[macro_use]
+extern crate geesetrunk_kit_of_rings as std;
+extern crate geesetrunk_kit as bitflags;
+
+mod queue;
+mod ring;
+
+pub use ring::{HandleEnd, Handled, MAX_CAPACITY, MAX_INTERRUPTS, RingError, Uart16550Ring};

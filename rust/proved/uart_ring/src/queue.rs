@@ -1,0 +1,122 @@
+//! The queues of the rings: bytes in order, in cells whose number is fixed.
+
+use std::{Vec};
+
+use std::alloc::{AllocError, Global};
+
+/// Bytes in order, at most as many as there are cells.
+pub struct ByteQueue {
+    // They are allocated once. Where there is no allocator, they are memory that the caller gives.
+    cells: Vec<u8>,
+    // The cell of the first byte. The other bytes are in the cells behind it, which go on at the
+    // first cell after the last one.
+    front: usize,
+    len: usize,
+}
+
+// The functions are `inline` because the calls of the rings are compiled in the crate that uses
+// them: they are generic over the backend.
+impl ByteQueue {
+    /// Returns an empty queue with room for this number of bytes.
+    pub fn with_capacity(alloc: Global, capacity: usize) -> Result<Self, AllocError> {
+        Ok(ByteQueue {
+            cells: vec![in alloc; 0; capacity]?,
+            front: 0,
+            len: 0,
+        })
+    }
+
+    /// Returns the number of bytes.
+    #[inline]
+    pub fn len(&self) -> usize {
+        self.len
+    }
+
+    /// Returns the largest number of bytes.
+    #[inline]
+    pub fn capacity(&self) -> usize {
+        self.cells.as_slice().len()
+    }
+
+    /// Returns whether there is no byte.
+    #[inline]
+    pub fn is_empty(&self) -> bool {
+        self.len() == 0
+    }
+
+    /// Returns whether there is no room for another byte.
+    #[inline]
+    pub fn is_full(&self) -> bool {
+        self.len() == self.capacity()
+    }
+
+    // Returns the bytes in order, as two slices.
+    #[inline]
+    fn as_slices(&self) -> (&[u8], &[u8]) {
+        let cells = self.cells.as_slice();
+        let end = &cells[self.front..];
+        let first = self.len.min(end.len());
+        (&end[..first], &cells[..self.len - first])
+    }
+
+    /// Appends bytes from the front of the slice, as many as there is room for, and returns how
+    /// many.
+    #[inline]
+    pub fn fill_from_slice(&mut self, bytes: &[u8]) -> usize {
+        let bytes = &bytes[..bytes.len().min(self.capacity() - self.len)];
+        let behind = cell_behind(self.front, self.len, self.capacity());
+        let cells = self.cells.as_mut_slice();
+        let before = copy(bytes, cells, behind);
+        let count = before + copy(&bytes[before..], cells, 0);
+        self.len += count;
+        count
+    }
+
+    /// Copies bytes from the front, as many as there are slots, and returns how many. Leaves the
+    /// other slots unchanged.
+    #[inline]
+    pub fn copy_front(&self, slots: &mut [u8]) -> usize {
+        let (first, second) = self.as_slices();
+        let before = copy(first, slots, 0);
+        before + copy(second, &mut slots[before..], 0)
+    }
+
+    /// Drops this number of bytes from the front.
+    #[inline]
+    pub(crate) fn drop_front(&mut self, count: usize) {
+        self.front = cell_behind(self.front, count, self.capacity());
+        self.len -= count;
+    }
+
+    /// Takes bytes from the front, as many as there are slots, and returns how many. Leaves the
+    /// other slots unchanged.
+    #[inline]
+    pub fn read_into(&mut self, slots: &mut [u8]) -> usize {
+        let count = self.copy_front(slots);
+        self.drop_front(count);
+        count
+    }
+}
+
+// Returns the cell that is `count` behind `cell`, of so many cells.
+#[inline]
+fn cell_behind(cell: usize, count: usize, cells: usize) -> usize {
+    // A `usize` need not hold the sum of both.
+    let to_end = cells - cell;
+    if count < to_end {
+        cell + count
+    } else {
+        count - to_end
+    }
+}
+
+// Copies bytes to the slots from `place` on, as many as both have, and returns how many.
+#[inline]
+fn copy(bytes: &[u8], slots: &mut [u8], place: usize) -> usize {
+    let count = bytes.len().min(slots.len() - place);
+    // Mostly all bytes are in one piece. The second copy would be a call for nothing.
+    if count > 0 {
+        slots[place..place + count].copy_from_slice(&bytes[..count]);
+    }
+    count
+}

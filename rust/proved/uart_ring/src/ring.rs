@@ -1,0 +1,255 @@
+//! The rings over a driver: their fields, the constructor, and the calls that read their state.
+
+mod receive;
+mod service;
+mod status;
+mod transmit;
+
+use crate::queue::ByteQueue;
+use bitflags::Flags;
+pub use service::{HandleEnd, Handled, MAX_INTERRUPTS};
+use std::alloc::Global;
+use uart_16550::Uart16550;
+use uart_16550::backend::Backend;
+use uart_spec::registers::{LSR, MSR};
+
+/// The largest capacity of a ring, in bytes.
+pub const MAX_CAPACITY: usize = 4096;
+
+/// Why no rings were made: the first reason in this order.
+#[derive(Clone, Copy, Debug, PartialEq, Eq)]
+pub enum RingError {
+    /// A capacity is 0 or more than [`MAX_CAPACITY`].
+    BadCapacity,
+    /// Memory for the rings could not be allocated.
+    OutOfMemory,
+}
+
+#[automatically_derived]
+impl std::fmt::Display for RingError {
+    fn fmt(&self, f: &mut std::fmt::Formatter<'_>) -> std::fmt::Result {
+        match self {
+            Self::BadCapacity => {
+                ({ (f.write_fmt(format_args!("a ring has room for 1 to 4096 bytes"))) })
+            }
+            Self::OutOfMemory => { ({ (f.write_fmt(format_args!("out of memory"))) }) }
+        }
+    }
+}
+
+#[automatically_derived]
+impl std::error::Error for RingError {}
+
+/// A driver with a ring for bytes that are to be sent, and a ring for received bytes.
+///
+/// Initialise the driver through `inner_mut`, with `DATA_READY`, `RECEIVER_LINE_STATUS` and
+/// `MODEM_STATUS` enabled and without `THR_EMPTY`, which the rings enable as long as there are
+/// bytes to send. Call `handle` in the interrupt handler. Mask the interrupt during all other
+/// calls, since the handler must not run in the middle of one.
+///
+/// No call waits, so none returns a stall.
+///
+/// # Examples
+///
+/// ```
+/// # include!(concat!(env!("CARGO_MANIFEST_DIR"), "/examples.rs"));
+/// # fn main() {}
+/// # use facade::ring::*;
+/// # enum StartError { NoRings(RingError) }
+/// # fn example(alloc: Global, uart: Uart16550<Device>) -> Result<(), StartError> {
+/// let mut ring = match Uart16550Ring::new(alloc, uart, 1024, 256) {
+///     Ok(ring) => ring,
+///     Err((_uart, cause)) => return Err(StartError::NoRings(cause)),
+/// };
+/// # Ok(()) }
+/// ```
+// There is no model of the rings, as there is none of the driver: clauses speak of the fields
+// through `ring_fields` and `driver_of`.
+pub struct Uart16550Ring<B> {
+    uart: Uart16550<B>,
+    transmit: ByteQueue,
+    receive: ByteQueue,
+    // What was noted of LSR and MSR when interrupts were served, until it is taken. The driver's
+    // own saved bits are empty then: serving an interrupt reads LSR by `lsr`, which empties them.
+    line: LSR,
+    modem: MSR,
+    is_paused: bool,
+}
+
+// Returns whether a ring can have this capacity.
+fn is_capacity(capacity: usize) -> bool {
+    1 <= capacity && capacity <= MAX_CAPACITY
+}
+
+impl<B: Backend> Uart16550Ring<B> {
+    /// Returns empty rings over this driver, for `tx_capacity` bytes that are to be sent and
+    /// `rx_capacity` received bytes.
+    ///
+    /// Makes no access. Allocates all memory of the rings; no later call allocates.
+    ///
+    /// # Errors
+    ///
+    /// - `BadCapacity` if a capacity is 0 or more than [`MAX_CAPACITY`].
+    /// - `OutOfMemory` if memory could not be allocated.
+    ///
+    /// The driver is returned with the error, unchanged.
+    ///
+    /// # Examples
+    ///
+    /// ```
+    /// # include!(concat!(env!("CARGO_MANIFEST_DIR"), "/examples.rs"));
+    /// # fn main() {}
+    /// # use facade::ring::*;
+    /// # enum StartError { NoRings(RingError) }
+    /// # fn example(alloc: Global, uart: Uart16550<Device>) -> Result<(), StartError> {
+    /// let mut ring = match Uart16550Ring::new(alloc, uart, 1024, 256) {
+    ///     Ok(ring) => ring,
+    ///     Err((_uart, cause)) => return Err(StartError::NoRings(cause)),
+    /// };
+    /// # Ok(()) }
+    /// ```
+    pub fn new(
+        alloc: Global,
+        uart: Uart16550<B>,
+        tx_capacity: usize,
+        rx_capacity: usize,
+    ) -> Result<Self, (Uart16550<B>, RingError)> {
+        // A refusal returns the driver, which may hold a device that cannot be obtained again.
+        if !is_capacity(tx_capacity) || !is_capacity(rx_capacity) {
+            return Err((uart, RingError::BadCapacity));
+        }
+        let Ok(transmit) = ByteQueue::with_capacity(alloc, tx_capacity) else {
+            return Err((uart, RingError::OutOfMemory));
+        };
+        let Ok(receive) = ByteQueue::with_capacity(alloc, rx_capacity) else {
+            return Err((uart, RingError::OutOfMemory));
+        };
+        Ok(Uart16550Ring {
+            uart,
+            transmit,
+            receive,
+            line: LSR::from_bits_retain(0),
+            modem: MSR::from_bits_retain(0),
+            is_paused: false,
+        })
+    }
+
+    /// Returns the number of bytes in the transmit ring: those that are queued and not yet written
+    /// to the chip. Makes no access.
+    ///
+    /// # Examples
+    ///
+    /// ```
+    /// # include!(concat!(env!("CARGO_MANIFEST_DIR"), "/examples.rs"));
+    /// # fn main() {}
+    /// # use facade::ring;
+    /// # fn example(ring: &mut ring::Uart16550Ring<Device>) -> Outcome<()> {
+    /// assert_eq!(ring.transmit_len(), 0);
+    /// # Ok(()) }
+    /// ```
+    pub fn transmit_len(&self) -> usize {
+        self.transmit.len()
+    }
+
+    /// Returns the number of bytes in the receive ring: those that were received and not yet taken.
+    /// Makes no access.
+    ///
+    /// # Examples
+    ///
+    /// ```
+    /// # include!(concat!(env!("CARGO_MANIFEST_DIR"), "/examples.rs"));
+    /// # fn main() {}
+    /// # use facade::ring;
+    /// # fn example(ring: &mut ring::Uart16550Ring<Device>) -> Outcome<()> {
+    /// assert_eq!(ring.receive_len(), 2);
+    /// # Ok(()) }
+    /// ```
+    pub fn receive_len(&self) -> usize {
+        self.receive.len()
+    }
+
+    /// Returns whether receiving is paused because the receive ring was full. Makes no access.
+    ///
+    /// During a pause `DATA_READY` is disabled and received bytes stay in the chip, which loses
+    /// some if there are more than it has room for. The next `take` of at least one byte ends the
+    /// pause.
+    ///
+    /// # Examples
+    ///
+    /// ```
+    /// # include!(concat!(env!("CARGO_MANIFEST_DIR"), "/examples.rs"));
+    /// # fn main() {}
+    /// # use facade::ring;
+    /// # fn example(ring: &mut ring::Uart16550Ring<Device>) -> Outcome<()> {
+    /// assert!(ring.is_paused());
+    /// # Ok(()) }
+    /// ```
+    pub fn is_paused(&self) -> bool {
+        self.is_paused
+    }
+
+    /// Returns the driver. Makes no access.
+    ///
+    /// # Examples
+    ///
+    /// ```
+    /// # include!(concat!(env!("CARGO_MANIFEST_DIR"), "/examples.rs"));
+    /// # fn main() {}
+    /// # use facade::ring;
+    /// # trait Mark { fn mark(&self, _: u8) -> u8 { 0 } }
+    /// # impl Mark for Device {}
+    /// # fn example(ring: &mut ring::Uart16550Ring<Device>, arrival: u8) -> u8 {
+    /// ring.inner().backend().mark(arrival)
+    /// # }
+    /// ```
+    pub fn inner(&self) -> &Uart16550<B> {
+        &self.uart
+    }
+
+    /// Returns the driver, for calls that the rings do not have, such as `init` and
+    /// `enable_interrupts`. Makes no access itself.
+    ///
+    /// Bytes that such a call sends or receives bypass the rings. The rings change two bits of IER:
+    /// `THR_EMPTY`, and `DATA_READY` while receiving is paused. Do not change these two. After an
+    /// `init` while bytes wait in the transmit ring, call `resume_transmit`.
+    ///
+    /// # Examples
+    ///
+    /// ```
+    /// # include!(concat!(env!("CARGO_MANIFEST_DIR"), "/examples.rs"));
+    /// # fn main() {}
+    /// # use facade::ring::*;
+    /// # enum StartError { NoDevice(InitError) }
+    /// # struct Port { ring: Uart16550Ring<Device>, overruns: u32, bad_characters: u32 }
+    /// # fn example(mut ring: Uart16550Ring<Device>, config: Config) -> Result<Port, StartError> {
+    /// match ring.inner_mut().init(config) {
+    ///     Ok(()) => Ok(Port {
+    ///         ring,
+    ///         overruns: 0,
+    ///         bad_characters: 0,
+    ///     }),
+    ///     Err(cause) => Err(StartError::NoDevice(cause)),
+    /// }
+    /// # }
+    /// ```
+    pub fn inner_mut(&mut self) -> &mut Uart16550<B> {
+        &mut self.uart
+    }
+
+    /// Returns the driver. Drops the rings with their bytes, and what was noted of LSR and MSR.
+    /// Makes no access.
+    ///
+    /// # Examples
+    ///
+    /// ```
+    /// # include!(concat!(env!("CARGO_MANIFEST_DIR"), "/examples.rs"));
+    /// # fn main() {}
+    /// # use facade::ring;
+    /// # fn example(ring: ring::Uart16550Ring<Device>) -> Outcome<()> {
+    /// let uart = ring.into_inner();
+    /// # Ok(()) }
+    /// ```
+    pub fn into_inner(self) -> Uart16550<B> {
+        self.uart
+    }
+}

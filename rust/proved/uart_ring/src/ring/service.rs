@@ -1,0 +1,181 @@
+//! Serving interrupts.
+
+use super::Uart16550Ring;
+use uart_16550::backend::Backend;
+use uart_spec::registers::InterruptType;
+
+/// The most interrupts that one call of `service` serves.
+// A broken chip can show interrupts without end, and no call may wait.
+pub const MAX_INTERRUPTS: usize = 8;
+
+/// Why a call of `handle` ended.
+#[derive(Clone, Copy, Debug, PartialEq, Eq)]
+pub enum HandleEnd {
+    /// ISR showed that no interrupt is pending.
+    Idle,
+    /// ISR showed an interrupt that has no name, which cannot be served. The interrupts were
+    /// triggered again.
+    Unknown,
+    /// As many interrupts as the limit were served, and the interrupts were triggered again.
+    Limit,
+}
+
+/// What a call of `handle` did.
+#[derive(Clone, Copy, Debug, PartialEq, Eq)]
+pub struct Handled {
+    /// How many interrupts were served.
+    pub served: usize,
+    /// Why the call ended.
+    pub end: HandleEnd,
+}
+
+impl<B: Backend> Uart16550Ring<B> {
+    // Serves one interrupt.
+    fn serve(&mut self, interrupt: InterruptType) {
+        match interrupt {
+            InterruptType::ReceiverLineStatus => self.note_line(),
+            InterruptType::ReceivedDataReady | InterruptType::ReceptionTimeout => {
+                self.fill_receive_ring()
+            }
+            InterruptType::TransmitterHoldingRegisterEmpty => self.pump(),
+            InterruptType::ModemStatus => self.note_modem(),
+            InterruptType::DmaReceptionEndOfTransfer
+            | InterruptType::DmaTransmissionEndOfTransfer => {}
+        }
+    }
+
+    // Serves the interrupts that ISR identifies, at most `limit`. Returns how many, and why it
+    // serves no more.
+    fn serve_up_to(&mut self, limit: usize) -> Handled {
+        for served in 0..limit {
+            let isr = self.uart.isr();
+            let Some(interrupt) = isr.interrupt_type() else {
+                let end = if isr.has_pending_interrupt() {
+                    HandleEnd::Unknown
+                } else {
+                    HandleEnd::Idle
+                };
+                return Handled { served, end };
+            };
+            self.serve(interrupt);
+        }
+        // ISR is not read once more to see whether another is pending: a read that shows THR_EMPTY
+        // acknowledges it, and an interrupt that is acknowledged and not served never comes again.
+        Handled {
+            served: limit,
+            end: HandleEnd::Limit,
+        }
+    }
+
+    /// Serves the interrupts that ISR identifies, until it identifies none or [`MAX_INTERRUPTS`]
+    /// were served. Returns how many.
+    ///
+    /// This is for a program that polls, or that has several chips on one line and looks at each in
+    /// turn. A handler calls `handle`, which also leaves the interrupt line so that the next
+    /// interrupt is noticed. `service` does not write IER for that, and its count alone does not
+    /// tell whether an interrupt is left: one that has no name may be.
+    ///
+    /// Does not wait. What it does depends on the interrupt:
+    ///
+    /// - Received data, or a reception timeout: bytes are moved to the receive ring. If that is
+    ///   full then, receiving is paused: `DATA_READY` is disabled, and bytes stay in the chip until
+    ///   a `take` makes room.
+    /// - `THR_EMPTY`: bytes of the transmit ring are sent, up to 16 if the FIFO is on, else one. If
+    ///   bytes are left in the ring, `THR_EMPTY` stays enabled, else it is disabled.
+    /// - Line status: the errors are noted for `take_line`.
+    /// - Modem status: the changes are noted for `take_modem`.
+    /// - End of DMA: nothing.
+    ///
+    /// With CTS checking no byte is sent while CTS is clear, and no `THR_EMPTY` interrupt is raised
+    /// when CTS returns. After such a change, which `take_modem` reports, call `resume_transmit`.
+    ///
+    /// # Examples
+    ///
+    /// ```
+    /// # include!(concat!(env!("CARGO_MANIFEST_DIR"), "/examples.rs"));
+    /// # fn main() {}
+    /// # use facade::ring;
+    /// # fn example(ring: &mut ring::Uart16550Ring<Device>) -> Outcome<()> {
+    /// let served = ring.service();
+    /// # Ok(()) }
+    /// ```
+    pub fn service(&mut self) -> usize {
+        // The number does not tell whether an interrupt without a name is left, and if the line
+        // stays high no edge comes. So this call is for programs that poll, and `handle` for
+        // handlers.
+        self.serve_up_to(MAX_INTERRUPTS).served
+    }
+
+    /// Makes the chip's interrupt line fall, and rise again if an interrupt is enabled and pending:
+    /// reads IER, writes 0, and writes back what it read.
+    ///
+    /// An interrupt controller that detects edges sees no new edge while the line stays high, so
+    /// it would not call the handler again. `handle` retriggers where that is needed. Call this
+    /// yourself
+    ///
+    /// - at the end of a handler of your own that returns before ISR has shown that no interrupt is
+    ///   pending;
+    /// - after the interrupt was unmasked at a controller that forgets the edges that come while it
+    ///   is masked, as an I/O APIC does.
+    ///
+    /// If `THR_EMPTY` is enabled and the transmitter is empty, the chip raises that interrupt
+    /// again.
+    ///
+    /// Does not wait: makes three accesses.
+    ///
+    /// # Examples
+    ///
+    /// ```
+    /// # include!(concat!(env!("CARGO_MANIFEST_DIR"), "/examples.rs"));
+    /// # fn main() {}
+    /// # use facade::ring;
+    /// # fn example(ring: &mut ring::Uart16550Ring<Device>) -> Outcome<()> {
+    /// ring.retrigger();
+    /// # Ok(()) }
+    /// ```
+    pub fn retrigger(&mut self) {
+        self.uart.retrigger_interrupts();
+    }
+
+    /// Handles the chip's interrupt: serves what is pending, as `service` does, but at most `limit`
+    /// interrupts. Returns how many it served, and why it ended.
+    ///
+    /// Call it once each time the interrupt handler runs, whether the interrupt controller detects
+    /// levels or edges:
+    ///
+    /// - If the end is `Idle`, no interrupt is pending, and the line is low. The next interrupt
+    ///   makes the line rise.
+    /// - Otherwise an interrupt may be left, and `handle` makes the line fall and rise again, as
+    ///   `retrigger` does. So the controller calls the handler again.
+    ///
+    /// A broken chip may show interrupts for ever, and the controller then calls the handler for
+    /// ever. So count the calls in a row that do not end with `Idle`, and after a number of them
+    /// disable the chip's interrupts.
+    ///
+    /// Does not wait: makes at most 35 accesses for each interrupt of the limit, and 3 more.
+    ///
+    /// # Examples
+    ///
+    /// ```
+    /// # include!(concat!(env!("CARGO_MANIFEST_DIR"), "/examples.rs"));
+    /// # fn main() {}
+    /// # use facade::ring::{self, *};
+    /// # struct Port { ring: Uart16550Ring<Device>, overruns: u32 }
+    /// # impl Port {
+    /// # fn example(&mut self) {
+    /// let handled = self.ring.handle(4 * MAX_INTERRUPTS);
+    /// # } }
+    /// ```
+    pub fn handle(&mut self, limit: usize) -> Handled {
+        let handled = self.serve_up_to(limit);
+        match handled.end {
+            // ISR has shown that none is pending, so the line has been low.
+            HandleEnd::Idle => {}
+            // The line may still be high, and a controller that detects edges would never call the
+            // handler again. At such a controller a broken chip has the handler called without end,
+            // so a handler counts these rounds, and then disables the chip's interrupts.
+            HandleEnd::Unknown | HandleEnd::Limit => self.retrigger(),
+        }
+        handled
+    }
+}

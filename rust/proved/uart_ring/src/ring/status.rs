@@ -1,0 +1,67 @@
+//! Line errors and changes of the modem lines: noted when their interrupts are served, and taken by
+//! the caller.
+
+use super::Uart16550Ring;
+use bitflags::Flags;
+use uart_16550::backend::Backend;
+use uart_spec::registers::{LSR, MSR};
+
+impl<B: Backend> Uart16550Ring<B> {
+    // Notes the errors that LSR shows, and those that the driver has saved.
+    pub(super) fn note_line(&mut self) {
+        let status = self.uart.lsr();
+        self.line.insert(status.intersection(LSR::LINE_ERRORS));
+    }
+
+    // Notes the changes that MSR shows, and those that the driver has saved.
+    pub(super) fn note_modem(&mut self) {
+        let status = self.uart.msr();
+        self.modem.insert(status.intersection(MSR::CHANGES));
+    }
+
+    /// Reads LSR once. Returns it joined with the errors that were noted when interrupts were
+    /// served, and with those that the driver has saved. Both are then forgotten.
+    ///
+    /// # Examples
+    ///
+    /// ```
+    /// # include!(concat!(env!("CARGO_MANIFEST_DIR"), "/examples.rs"));
+    /// # fn main() {}
+    /// # use facade::ring::{self, *};
+    /// # struct Port { ring: Uart16550Ring<Device>, overruns: u32 }
+    /// # impl Port {
+    /// # fn example(&mut self) {
+    /// let line = self.ring.take_line();
+    /// if line.contains(LSR::OVERRUN_ERROR) {
+    ///     self.overruns = self.overruns.saturating_add(1);
+    /// }
+    /// # } }
+    /// ```
+    pub fn take_line(&mut self) -> LSR {
+        let line = self.uart.lsr().union(self.line);
+        self.line = LSR::from_bits_retain(0);
+        line
+    }
+
+    /// Reads MSR once. Returns it joined with the changes that were noted when interrupts were
+    /// served, and with those that the driver has saved. Both are then forgotten.
+    ///
+    /// # Examples
+    ///
+    /// ```
+    /// # include!(concat!(env!("CARGO_MANIFEST_DIR"), "/examples.rs"));
+    /// # fn main() {}
+    /// # use facade::ring::{self, *};
+    /// # struct Port { ring: Uart16550Ring<Device>, overruns: u32 }
+    /// # impl Port {
+    /// # fn example(&mut self) {
+    /// let modem = self.ring.take_modem();
+    /// let came_back = modem.contains(MSR::DELTA_CTS.union(MSR::CTS));
+    /// # } }
+    /// ```
+    pub fn take_modem(&mut self) -> MSR {
+        let modem = self.uart.msr().union(self.modem);
+        self.modem = MSR::from_bits_retain(0);
+        modem
+    }
+}

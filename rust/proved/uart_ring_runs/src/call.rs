@@ -1,0 +1,59 @@
+//! Calls of the rings, and their answers, as data.
+
+use arrayvec::ArrayVec;
+use uart_calls::CALL_BYTES;
+use uart_ring::Handled;
+use uart_spec::registers::{LSR, MSR};
+
+/// A call of the rings as data.
+///
+/// Each case is the call of that name, except for `Next`, which is a call of the device.
+#[derive(Debug, PartialEq)]
+pub enum RingCall {
+    /// `queue` of these bytes.
+    Queue(ArrayVec<u8, CALL_BYTES>),
+    /// `resume_transmit`.
+    ResumeTransmit,
+    /// `take` into this number of slots, at most [`CALL_BYTES`].
+    Take(usize),
+    /// `service`.
+    Service,
+    /// `handle` of at most this number of interrupts.
+    Handle(usize),
+    /// `retrigger`.
+    Retrigger,
+    /// `take_line`.
+    TakeLine,
+    /// `take_modem`.
+    TakeModem,
+    /// `Device16550::next`: goes on to the next mark of the schedule.
+    Next,
+}
+
+impl RingCall {
+    /// Returns whether the call can be made: there are at most [`CALL_BYTES`] slots.
+    pub fn is_runnable(&self) -> bool {
+        match self {
+            RingCall::Take(slots) => *slots <= CALL_BYTES,
+            _ => true,
+        }
+    }
+}
+
+/// The answer of a call of the rings.
+#[derive(Debug, PartialEq)]
+pub enum RingAnswer {
+    /// The number of bytes that were queued, or of interrupts that were served.
+    Count(usize),
+    /// The bytes that were taken.
+    Bytes(ArrayVec<u8, CALL_BYTES>),
+    /// What `handle` returned.
+    Handled(Handled),
+    /// What `take_line` returned.
+    Line(LSR),
+    /// What `take_modem` returned.
+    Modem(MSR),
+    /// The call returned nothing: sending was resumed, interrupts were triggered again, or the
+    /// schedule went on.
+    Done,
+}

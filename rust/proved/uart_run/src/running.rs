@@ -1,0 +1,64 @@
+//! Runs of calls over the machine.
+
+use uart_16550::Uart16550Tty;
+use uart_calls::{Answer, Call, perform};
+use uart_chip::Device16550;
+
+// Makes one call of a run.
+fn run_call(uart: &mut Uart16550Tty<Device16550>, call: &Call) -> Answer {
+    match call {
+        Call::Next => {
+            uart.inner_mut().backend_mut().next();
+            Answer::Done
+        }
+        _ => perform(uart, call),
+    }
+}
+
+/// Makes the calls in turn, and stores the answer of each in its slot. Never fails, and allocates
+/// no memory.
+///
+/// A *session* begins in a ready state: DLAB and loopback are off, and the driver knows whether the
+/// FIFO is on. It goes on up to the next `Init`, `Attach` or `TestLoopback`, or a call that
+/// writes MCR or the frame. In each session
+///
+/// - the wire and the transmitter grow by exactly the bytes that sends reported;
+/// - no data write meets a full transmitter;
+/// - the bytes received, and then those in the receiver, are those that were in the receiver at the
+///   start and those that arrived, in order, without those that were dropped.
+///
+/// On a machine that cuts characters to the word length ([`Device16550::new_cut`]) this holds with
+/// the bytes that sends reported and those that arrived cut in this way. The clause `uncut` states
+/// it without cutting, for every other machine. There a session goes on through a `SetFrame`.
+///
+/// A `SetFrame` that succeeds leaves LCR and the divisor latch as configured, and the other latches
+/// and the FIFO as they were. An `Attach` that succeeds leaves a ready state, whatever the machine
+/// was before, and changes no latch. An `IsIdle` that is true found the transmitter empty, and
+/// all that was in it on the wire. With the FIFO on, each byte of a `ReceiveWithErrors` comes with
+/// exactly the errors that it arrived with, unless an earlier look has shown those of the first.
+///
+/// An `Init` finds the device. If it succeeds, the state after it is ready, whatever the machine
+/// was before. A `TestLoopback` in a ready state succeeds or stalls, and if it succeeds, nothing of
+/// it went to the wire. With characters of 5 or 6 bits it reports an unexpected byte instead of
+/// success. Every call preserves a ready state, whatever its answer is.
+///
+/// If each access of the schedule has a tick before it, the spin limit is at least 17 (t + 1) for a
+/// character of t ticks, and the wire has room for all that is to be sent, then an `Init` with a
+/// divisor succeeds, and in a ready state so do `TestLoopback`, `Flush` and, without CTS checking,
+/// `SendExact`, `Write` and `Text`.
+///
+/// # Examples
+///
+/// ```text
+/// let mut answers = [Answer::Done];
+/// run(uart, &[Call::Init(config)], &mut answers);
+/// matches!(&answers[0], Answer::Done)
+/// ```
+pub fn run(uart: &mut Uart16550Tty<Device16550>, calls: &[Call], answers: &mut [Answer]) {
+    // The contract of this call states what holds of every machine, whatever was done with it
+    // before. Without the call each caller of `run` would have to bring that as a premise.
+    let _fifo = uart.inner().backend().fifo_enabled();
+    for i in 0..calls.len() {
+        answers[i] = run_call(uart, &calls[i]);
+    }
+}

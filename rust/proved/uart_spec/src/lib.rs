@@ -1,0 +1,40 @@
+//! Everything about a 16550 serial chip that needs no access to it: its registers with their named
+//! bits and fields, the arithmetic of its baud rate generator, its configuration, the errors of its
+//! driver, and the trait for the access to them.
+//!
+//! Bits are numbered from 0, the lowest, to 7. Frequencies are in hertz and baud rates in bits per
+//! second.
+#![no_std]
+#![forbid(unsafe_code)]
+#![allow(unused_imports, unused_labels, unused_parens, unused_braces, dead_code, clippy::all, clippy::pedantic)]
+#![allow(rustdoc::broken_intra_doc_links)]
+
+#[macro_use]
+extern crate geesetrunk_kit as std;
+extern crate geesetrunk_kit as bitflags;
+
+pub mod access;
+pub mod backend;
+mod baud;
+mod config;
+mod dump;
+mod errors;
+mod received;
+pub mod registers;
+mod setup;
+
+pub use baud::{
+    CLK_FREQUENCY_HZ, FIFO_SIZE, NUM_REGISTERS, calc_baud_rate, calc_divisor, calc_frequency,
+};
+pub use config::{BaudRate, Config};
+pub use dump::ConfigRegisterDump;
+pub use errors::{
+    AttachError, ByteReceiveError, ByteSendError, FifosOffError, FrameError, InitError,
+    InvalidAddressError, InvalidDivisorError, LoopbackError, NearestDivisorError,
+    NonIntegerBaudRateError, NonIntegerDivisorError, RemoteReadyToReceiveError, StalledError,
+    Uart16550TtyError,
+};
+pub use received::Received;
+pub use setup::{FifoAction, Setup, TransmitterWait};
+
+pub mod by_hand;

@@ -1,0 +1,14 @@
+//! A received byte with its errors.
+use crate::registers::LSR;
+
+/// A received byte, and the line errors that LSR showed with it.
+///
+/// The default value is the byte 0 without an error, for slots that are not filled yet.
+#[derive(Clone, Copy, Debug, Default, PartialEq, Eq, Hash)]
+pub struct Received {
+    /// The byte, as the chip returned it. For a break it is 0.
+    pub byte: u8,
+    /// Of `PARITY_ERROR`, `FRAMING_ERROR` and `BREAK_INTERRUPT` those of this byte; and
+    /// `OVERRUN_ERROR` if the look before this byte reported that others were lost.
+    pub errors: LSR,
+}

@@ -1,0 +1,74 @@
+//! The codes of the fields of FCR and LCR.
+
+use crate::registers::{FifoTriggerLevel, Parity, WordLength};
+
+impl FifoTriggerLevel {
+    /// Returns the trigger level with this code, which is in the low two bits. Higher bits are
+    /// ignored.
+    pub const fn from_raw_bits(bits: u8) -> Self {
+        match bits & 0b11 {
+            0b00 => FifoTriggerLevel::One,
+            0b01 => FifoTriggerLevel::Four,
+            0b10 => FifoTriggerLevel::Eight,
+            _ => FifoTriggerLevel::Fourteen,
+        }
+    }
+
+    /// Returns the code of this trigger level, in the low two bits.
+    pub const fn to_raw_bits(self) -> u8 {
+        match self {
+            FifoTriggerLevel::One => 0b00,
+            FifoTriggerLevel::Four => 0b01,
+            FifoTriggerLevel::Eight => 0b10,
+            FifoTriggerLevel::Fourteen => 0b11,
+        }
+    }
+}
+
+impl WordLength {
+    /// Returns the word length with this code, which is in the low two bits. Higher bits are
+    /// ignored.
+    pub const fn from_raw_bits(bits: u8) -> Self {
+        match bits & 0b11 {
+            0b00 => WordLength::FiveBits,
+            0b01 => WordLength::SixBits,
+            0b10 => WordLength::SevenBits,
+            _ => WordLength::EightBits,
+        }
+    }
+
+    /// Returns the code of this word length, in the low two bits.
+    pub const fn to_raw_bits(self) -> u8 {
+        match self {
+            WordLength::FiveBits => 0b00,
+            WordLength::SixBits => 0b01,
+            WordLength::SevenBits => 0b10,
+            WordLength::EightBits => 0b11,
+        }
+    }
+}
+
+impl Parity {
+    /// Returns the parity with this code, which is in the low three bits. Higher bits are ignored,
+    /// and each code whose lowest bit is clear is `Disabled`.
+    pub const fn from_raw_bits(bits: u8) -> Self {
+        match bits & 0b111 {
+            0b001 => Parity::Odd,
+            0b011 => Parity::Even,
+            0b101 => Parity::Forced1,
+            0b111 => Parity::Forced0,
+            _ => Parity::Disabled,
+        }
+    }
+
+    /// Returns the code of this parity, in the low three bits.
+    pub const fn to_raw_bits(self) -> u8 {
+        match self {
+            Parity::Disabled => 0b000,
+            Parity::Odd => 0b001,
+            Parity::Even => 0b011,
+            Parity::Forced1 => 0b101,
+            Parity::Forced0 => 0b111,
+        }
+    }
+}

@@ -1,0 +1,7 @@
+//! Made by `tools/eraser/erase emit` from the tests in `crates/`. Do not edit.
+#![allow(warnings)]
+
+mod uart_calls;
+mod uart_machine;
+mod uart_uses;
+mod uart_virtual;

@@ -1,0 +1,256 @@
+#[allow(unused_imports)]
+use crate::runtime::{AllocGlobal, HostRuntime, assert, assert_eq, assert_ne};
+#[allow(unused_imports)]
+use geesetrunk_kit::{CollectWith as _, String, ToStringWith as _, ToVecWith as _, Vec, format, vec};
+// The calls that look once, and those that read and write single registers: each with its whole
+// list of accesses.
+use super::assert_equal;
+use uart_calls::Answer::{self, Done, Flag, Latch, NoData, NotConnected, NotSent, Register};
+use uart_calls::Call::{
+    self, CheckConnected, CheckPresent, DllDlm, Dump, ReadReady, ReadyToReceive, ReadyToSend,
+    WriteReady,
+};
+use crate::erased::uart_calls::driving::Start::{Checking, New};
+use crate::erased::uart_calls::driving::{dump, row, then, with_errors};
+use crate::erased::uart_calls::lists::list;
+use geesetrunk_kit::Flags;
+use uart_spec::ByteSendError::{NoCapacity, RemoteNotClearToSend};
+use uart_spec::RemoteReadyToReceiveError::{
+    NoRemoteConnectedNoDSR as NoDsr, RemoteNotClearToSend as NoCts,
+};
+use uart_spec::registers::{IER, MCR, WordLength, offsets};
+use uart_spec::{AttachError, BaudRate, Config};
+
+#[test]
+fn presence() {
+    let rt = HostRuntime;
+    let begun = || list().read(offsets::SPR, 0xa5).write(offsets::SPR, 0x42);
+    let second = begun().read(offsets::SPR, 0x42).write(offsets::SPR, 0x73);
+    let second_lost = second.read(offsets::SPR, 0x72).write(offsets::SPR, 0xa5);
+    let first_lost = begun().read(offsets::SPR, 0x73).write(offsets::SPR, 0xa5);
+    row(&rt, New, CheckPresent, Flag(true), &list().present(0xa5));
+    row(&rt, New, CheckPresent, Flag(false), &second_lost);
+    row(&rt, New, CheckPresent, Flag(false), &first_lost);
+}
+
+#[test]
+fn connection() {
+    let rt = HostRuntime;
+    for (lines, answer) in [
+        (0x30, Done),
+        (0x20, NotConnected(NoCts)),
+        (0xdf, NotConnected(NoDsr)),
+        (0x00, NotConnected(NoDsr)),
+    ] {
+        let looked = list().read(offsets::MSR, lines);
+        row(&rt, New, CheckConnected, answer, &looked);
+    }
+}
+
+#[test]
+fn looks_for_data_and_for_room() {
+    let rt = HostRuntime;
+    for (call, lsr, answer) in [
+        (ReadyToReceive, 0x01, Done),
+        (ReadyToReceive, 0xfe, NoData),
+        (ReadReady, 0x01, Flag(true)),
+        (ReadReady, 0xfe, Flag(false)),
+        (ReadyToSend, 0x20, Done),
+        (ReadyToSend, 0xdf, NotSent(NoCapacity)),
+        (WriteReady, 0x20, Flag(true)),
+        (WriteReady, 0xdf, Flag(false)),
+    ] {
+        row(&rt, New, call, answer, &list().look(lsr));
+    }
+}
+
+#[test]
+fn looks_for_room_that_check_cts() {
+    let rt = HostRuntime;
+    for (accesses, sent, ready) in [
+        (list().check(0xef, 0x10), Done, true),
+        (
+            list().check(0xef, 0xef),
+            NotSent(RemoteNotClearToSend),
+            false,
+        ),
+        // In loopback the lines mean nothing.
+        (list().look(0x20).read(offsets::MCR, 0x10), Done, true),
+        // Without room they are not looked at.
+        (list().look(0xdf), NotSent(NoCapacity), false),
+    ] {
+        row(&rt, Checking, ReadyToSend, sent, &accesses);
+        row(&rt, Checking, WriteReady, Flag(ready), &accesses);
+    }
+}
+
+#[test]
+fn interrupts() {
+    let rt = HostRuntime;
+    for (call, ier, left) in [
+        (Call::Enable(IER::THR_EMPTY), 0xf1, 0xf3),
+        (Call::Disable(IER::DATA_READY), 0xf3, 0xf2),
+    ] {
+        let changed = list().read(offsets::IER, ier).write(offsets::IER, left);
+        let terminal = row(&rt, New, call, Done, &changed);
+        assert_equal(&rt, terminal.inner().config().interrupts.bits(), left);
+    }
+}
+
+#[test]
+fn registers() {
+    let rt = HostRuntime;
+    for (call, offset) in [
+        (Call::Ier, 1),
+        (Call::Isr, 2),
+        (Call::Lcr, 3),
+        (Call::Mcr, 4),
+        (Call::Lsr, 5),
+        (Call::Msr, 6),
+        (Call::Spr, 7),
+    ] {
+        row(&rt, New, call, Register(0xa6), &list().read(offset, 0xa6));
+    }
+    let latch = list().latch(0x1b, 0x9b, 0x80, 0x01);
+    row(&rt, New, DllDlm, Latch(0x80, 0x01), &latch);
+}
+
+#[test]
+fn statuses_are_joined_with_what_was_saved() {
+    let rt = HostRuntime;
+    let (looked, shown) = (list().look(0xfe), list().look(0x60));
+    let mut terminal = row(&rt, New, ReadyToReceive, NoData, &looked);
+    then(&rt, &mut terminal, Call::Lsr, Register(0x7e), &shown);
+    then(&rt, &mut terminal, Call::Lsr, Register(0x60), &shown);
+    let looked = list().read(offsets::MSR, 0xff);
+    let shown = list().read(offsets::MSR, 0x30);
+    let mut terminal = row(&rt, New, CheckConnected, Done, &looked);
+    then(&rt, &mut terminal, Call::Msr, Register(0x3f), &shown);
+    then(&rt, &mut terminal, Call::Msr, Register(0x30), &shown);
+}
+
+#[test]
+fn a_dump_shows_what_was_saved_and_keeps_it() {
+    let rt = HostRuntime;
+    let looked = list().look(0xfe);
+    let mut terminal = row(&rt, New, ReadyToReceive, NoData, &looked);
+    let dumped = list()
+        .latch(0x03, 0x83, 0x0c, 0x01)
+        .registers([0x05, 0xc1, 0x03, 0x0b, 0x60, 0x31, 0xa5]);
+    let shown = dump([0x05, 0xc1, 0x03, 0x0b, 0x7e, 0x31, 0xa5], 0x0c, 0x01);
+    then(&rt, &mut terminal, Dump, Answer::Dump(shown), &dumped);
+    let (line, modem) = (list().look(0x60), list().read(offsets::MSR, 0x30));
+    then(&rt, &mut terminal, Call::Lsr, Register(0x7e), &line);
+    then(&rt, &mut terminal, Call::Msr, Register(0x31), &modem);
+}
+
+#[test]
+fn calls_that_change_the_line() {
+    let rt = HostRuntime;
+    let frame = Config {
+        baud_rate: BaudRate::Baud38400,
+        data_bits: WordLength::SevenBits,
+        ..Config::DEFAULT
+    };
+    let lines = list().write(3, 0x82).write(0, 3).write(1, 0).write(3, 0x02);
+    let terminal = row(&rt, New, Call::SetFrame(frame), Done, &lines);
+    assert_equal(
+        &rt,
+        terminal.inner().config().data_bits,
+        WordLength::SevenBits,
+    );
+    let near = Config {
+        frequency: 24_000_000,
+        baud_rate: BaudRate::Baud115200,
+        ..Config::DEFAULT
+    };
+    let lines = list()
+        .write(3, 0x83)
+        .write(0, 13)
+        .write(1, 0)
+        .write(3, 0x03);
+    if let Ok(near) = near.nearest(2) {
+        row(&rt, New, Call::SetFrame(near), Done, &lines);
+    }
+    for (call, read, written) in [
+        (Call::SetBreak(true), 0x03, 0x43),
+        (Call::SetBreak(false), 0x43, 0x03),
+    ] {
+        row(
+            &rt,
+            New,
+            call,
+            Done,
+            &list().read(3, read).write(3, written),
+        );
+    }
+    for (call, read, written) in [
+        (Call::SetRts(true), 0x19, 0x0b),
+        (Call::SetRts(false), 0x0b, 0x09),
+        (Call::SetDtr(false), 0x0b, 0x0a),
+    ] {
+        row(
+            &rt,
+            New,
+            call,
+            Done,
+            &list().read(4, read).write(4, written),
+        );
+    }
+    row(
+        &rt,
+        New,
+        Call::SetModemControl(MCR::LOOP_BACK.union(MCR::DTR)),
+        Done,
+        &list().write(4, 0x01),
+    );
+    row(&rt, New, Call::IsIdle, Flag(true), &list().look(0x40));
+    row(&rt, New, Call::IsIdle, Flag(false), &list().look(0xbf));
+    let (look, shown) = (list().read(6, 0xff), list().read(6, 0x30));
+    let mut terminal = row(&rt, New, Call::PeekModem, Register(0xff), &look);
+    then(&rt, &mut terminal, Call::PeekModem, Register(0x30), &shown);
+    then(&rt, &mut terminal, Call::Msr, Register(0x3f), &shown);
+}
+
+#[test]
+fn ports_that_are_attached() {
+    let rt = HostRuntime;
+    let taken = list()
+        .read(3, 0x03)
+        .read(4, 0x0b)
+        .read(2, 0x01)
+        .latch(0x03, 0x83, 12, 0);
+    let terminal = row(&rt, New, Call::Attach, Latch(12, 0), &taken);
+    assert_equal(&rt, terminal.inner().fifo_enabled(), false);
+    let opened = Answer::AttachRefused(AttachError::DivisorLatchOpen);
+    row(&rt, New, Call::Attach, opened, &list().read(3, 0x83));
+    let looped = Answer::AttachRefused(AttachError::Loopback);
+    row(
+        &rt,
+        New,
+        Call::Attach,
+        looped,
+        &list().read(3, 0x03).read(4, 0x10),
+    );
+}
+
+#[test]
+fn bytes_come_with_their_errors() {
+    let rt = HostRuntime;
+    // A parity error, a framing error, and a miss that shows an overrun.
+    let looked = list()
+        .look(0x05)
+        .read(offsets::DATA, 0x41)
+        .look(0x09)
+        .read(offsets::DATA, 0x42)
+        .look(0x62);
+    let answer = Answer::BytesWithErrors(with_errors(&[(0x41, 0x04), (0x42, 0x08)]));
+    let mut terminal = row(&rt, New, Call::ReceiveWithErrors(3), answer, &looked);
+    then(
+        &rt,
+        &mut terminal,
+        Call::Lsr,
+        Register(0x6e),
+        &list().look(0x60),
+    );
+}

@@ -1,0 +1,153 @@
+#[allow(unused_imports)]
+use crate::runtime::{AllocGlobal, HostRuntime, assert, assert_eq, assert_ne};
+#[allow(unused_imports)]
+use geesetrunk_kit::{CollectWith as _, String, ToStringWith as _, ToVecWith as _, Vec, format, vec};
+// Calls over a replay, and what the replay then shows: a list of the call, whose reads returned
+// the bytes of the replay in turn. So over any other backend too the accesses of a call are known
+// from the driver's fields and what its reads return.
+
+use super::assert_equal;
+use uart_calls::Answer::{
+    self, Bytes, BytesWithErrors, Count, Done, Flag, InitRefused, Latch, LoopbackRefused, NoData,
+    NotConnected, ReceiveStalled, Register, Stalled,
+};
+use uart_calls::Call::{
+    self, CheckConnected, CheckPresent, Disable, DllDlm, Dump, Enable, Flush, Init, ReadReady,
+    ReadyToReceive, ReadyToSend, Receive, ReceiveExact, ReceiveWithErrors, RetriggerInterrupts,
+    Send, SendExact, TestLoopback, TryReceive, TrySend, Write, WriteReady,
+};
+use uart_calls::perform;
+use uart_calls::replay::Replay;
+use crate::erased::uart_calls::driving::{Replaying, bytes, dump, text, with_errors};
+use geesetrunk_kit::Flags;
+use std::fmt;
+use std::num::NonZeroU64;
+use crate::runtime::Abort;
+use uart_16550::{Uart16550, Uart16550Tty};
+use uart_spec::InitError::DeviceNotPresent;
+use uart_spec::RemoteReadyToReceiveError::RemoteNotClearToSend;
+use uart_spec::access::Access;
+use uart_spec::registers::{IER, offsets};
+use uart_spec::{Config, LoopbackError};
+
+fn replayed(terminal: &mut Replaying<'_>, call: &Call) -> Answer
+
+{
+    perform(terminal, call)
+}
+
+fn write_str(terminal: &mut Replaying<'_>, text: &str) -> fmt::Result
+
+{
+    fmt::Write::write_str(terminal, text)
+}
+
+// Returns the number of accesses, if all of them were kept.
+fn kept(terminal: &Replaying<'_>) -> Option<usize> {
+    let accesses = terminal.inner().backend().accesses()?;
+    Some(accesses.len())
+}
+
+// Asserts that the call returns this answer, and that this number of accesses was made.
+fn shows(rt: &impl Abort, terminal: &mut Replaying<'_>, call: Call, answer: Answer, count: usize) {
+    assert!(rt; call.is_runnable());
+    assert_eq!(rt; replayed(terminal, &call), answer, "{call:?}");
+    assert_eq!(rt; kept(terminal), Some(count), "{call:?}");
+}
+
+// Returns a new driver over a replay of these bytes, with this spin limit.
+fn replay(answers: &[u8], limit: u64) -> Replaying<'_> {
+    let mut uart = Uart16550::new_with_backend(Replay::new(answers));
+    if let Some(limit) = NonZeroU64::new(limit) {
+        uart.set_spin_limit(limit);
+    }
+    Uart16550Tty::from_inner(uart)
+}
+
+#[test]
+fn a_replay_shows_what_a_call_does() {
+    let rt = HostRuntime;
+    let mut terminal = replay(&[0x00, 0x20], 3);
+    shows(&rt, &mut terminal, SendExact(bytes(b"hi")), Done, 4);
+    let accesses = [
+        Access::Read(offsets::LSR, 0x00),
+        Access::Read(offsets::LSR, 0x20),
+        Access::Write(offsets::DATA, b'h'),
+        Access::Write(offsets::DATA, b'i'),
+    ];
+    assert_equal(
+        &rt,
+        terminal.inner().backend().accesses(),
+        Some(accesses.as_slice()),
+    );
+}
+
+#[test]
+fn a_replay_says_that_it_is_full() {
+    let rt = HostRuntime;
+    let mut terminal = replay(&[], 512);
+    shows(&rt, &mut terminal, Flush, Stalled(0), 512);
+    assert_equal(&rt, replayed(&mut terminal, &ReadReady), Flag(false));
+    assert_equal(&rt, kept(&terminal), None);
+}
+
+#[test]
+fn looks_and_registers_over_a_replay() {
+    let rt = HostRuntime;
+    // Each read returns 60: there is room, and no data.
+    let mut terminal = replay(&[0x60; 64], 3);
+    for (call, answer, count) in [
+        (CheckPresent, Flag(false), 4),
+        (CheckConnected, NotConnected(RemoteNotClearToSend), 5),
+        (ReadyToReceive, NoData, 6),
+        (ReadyToSend, Done, 7),
+        (ReadReady, Flag(false), 8),
+        (WriteReady, Flag(true), 9),
+        (Enable(IER::empty()), Done, 11),
+        (Disable(IER::empty()), Done, 13),
+        (Call::Ier, Register(0x60), 14),
+        (Call::Isr, Register(0x60), 15),
+        (Call::Lcr, Register(0x60), 16),
+        (Call::Mcr, Register(0x60), 17),
+        (Call::Lsr, Register(0x60), 18),
+        (Call::Msr, Register(0x60), 19),
+        (Call::Spr, Register(0x60), 20),
+        (DllDlm, Latch(0x60, 0x60), 25),
+        (Dump, Answer::Dump(dump([0x60; 7], 0x60, 0x60)), 37),
+        (RetriggerInterrupts, Done, 40),
+        (Call::PeekModem, Register(0x60), 41),
+        (Call::IsIdle, Flag(true), 42),
+        (Call::SetBreak(true), Done, 44),
+        (Call::SetRts(true), Done, 46),
+        (Call::SetDtr(false), Done, 48),
+        (Call::Attach, Latch(0x60, 0x60), 56),
+    ] {
+        shows(&rt, &mut terminal, call, answer, count);
+    }
+}
+
+#[test]
+fn bytes_over_a_replay() {
+    let rt = HostRuntime;
+    let mut terminal = replay(&[0x60; 64], 3);
+    for (call, answer, count) in [
+        (TryReceive, NoData, 1),
+        (TrySend(b'a'), Done, 3),
+        (Receive(2), Bytes(bytes(b"")), 4),
+        (Send(bytes(b"hi")), Count(2), 7),
+        (ReceiveExact(2), ReceiveStalled(bytes(b"")), 10),
+        (SendExact(bytes(b"hi")), Done, 13),
+        (Call::Read(2), Stalled(0), 16),
+        (Write(bytes(b"hi")), Count(2), 19),
+        (Flush, Done, 20),
+        (Init(Config::DEFAULT), InitRefused(DeviceNotPresent), 24),
+        // The transmitter is empty, the FIFO off, the byte sent, and none returns.
+        (TestLoopback, LoopbackRefused(LoopbackError::Stalled), 42),
+        (text("a"), Done, 44),
+        (ReceiveWithErrors(2), BytesWithErrors(with_errors(&[])), 45),
+    ] {
+        shows(&rt, &mut terminal, call, answer, count);
+    }
+    assert_equal(&rt, write_str(&mut terminal, "a"), Ok(()));
+    assert_equal(&rt, kept(&terminal), Some(47));
+}

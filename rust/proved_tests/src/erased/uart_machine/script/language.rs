@@ -1,0 +1,158 @@
+#[allow(unused_imports)]
+use crate::runtime::{AllocGlobal, HostRuntime, assert, assert_eq, assert_ne};
+#[allow(unused_imports)]
+use geesetrunk_kit::{CollectWith as _, String, ToStringWith as _, ToVecWith as _, Vec, format, vec};
+use super::super::assert_equal;
+use super::{HEADER, assert_told};
+use uart_machine::script::parse;
+use crate::erased::uart_machine::BARE_CALLS;
+use geesetrunk_kit::{ArrayString, ArrayVec};
+use geesetrunk_kit::Flags;
+use crate::runtime::Fail;
+use uart_calls::Call;
+use uart_chip::{Chip, Event};
+use uart_spec::registers::{FifoTriggerLevel, IER, WordLength};
+use uart_spec::{BaudRate, Config};
+
+const FAULTS: &[(&str, &str)] = &[
+    ("chip 16450 4 64", "line 2: misplaced"),
+    ("lsr\nlsr 1\nwait", "line 3: wrong count"),
+    ("init 014 9600 nocts 00 8", "line 2: bad word"),
+    ("init 14 9600 maybe 0 9", "line 2: bad word"),
+    ("init 14 9600 cts 0 9", "line 2: bad hex"),
+    ("LSR", "line 2: unknown word"),
+    ("lsr ", "line 2: wrong count"),
+    ("send ", "line 2: bad hex"),
+    ("tick +4", "line 2: bad number"),
+];
+
+const FAULTS_OF_THE_FIRST_LINE: &[(&str, &str)] = &[
+    ("\nchip 16450 4 64", "line 1: misplaced"),
+    ("lsr", "line 1: misplaced"),
+    (" ", "line 1: misplaced"),
+    ("limit 5", "line 1: misplaced"),
+    ("lsr\t", "line 1: bad byte"),
+    ("chip 8250 0 64", "line 1: bad word"),
+    ("chip 16450 4 64", "a script"),
+    ("chip 16450 4 64\n", "a script"),
+    ("chip 16450 4 64\n\n\n", "a script"),
+];
+
+#[test]
+fn faults_are_told() -> Result<(), Fail> {
+    let rt = HostRuntime;
+    assert_told(&rt, HEADER, FAULTS)?;
+    assert_told(&rt, "", FAULTS_OF_THE_FIRST_LINE)
+}
+
+const EVERY_WORD: &[u8] = b"chip 16550a 3 7
+limit 0000000005
+tick 65535
+arrive 4a
+arrive Ff pfb
+
+lines F
+access
+next
+init 8 9600 cts 0f 05
+loopback
+present
+connected
+ready-receive
+ready-send
+try-receive
+flush
+read-ready
+write-ready
+ier
+isr
+lcr
+mcr
+lsr
+msr
+spr
+dll-dlm
+fifo
+dump
+try-send 7F
+enable 02
+disable 01
+receive 0
+receive-exact 64
+read 1
+send -
+send-exact 00fF
+write 41
+text c3a9";
+
+// One line of each kind.
+#[test]
+fn every_word_means_its_event_or_call() -> Result<(), Fail> {
+    let rt = HostRuntime;
+    let script = parse(rt.alloc(), EVERY_WORD).ok().ok_or("refused")?;
+    assert_equal(&rt, script.chip(), Chip::Uart16550A);
+    assert_equal(
+        &rt,
+        (script.ticks(), script.wire_capacity(), script.limit().get()),
+        (3, 7, 5),
+    );
+    assert_equal(
+        &rt,
+        script.events(),
+        [
+            Event::Ticks(65535),
+            Event::Arrive {
+                byte: 0x4a,
+                errors: 0,
+            },
+            Event::Arrive {
+                byte: 0xff,
+                errors: 0x1c,
+            },
+            Event::Lines(0xf0),
+            Event::Access,
+            Event::Mark,
+        ]
+        .as_slice(),
+    );
+    let calls = script.calls();
+    assert_eq!(rt; calls.len(), 31);
+    assert_equal(
+        &rt,
+        &calls[1],
+        &Call::Init(Config {
+            interrupts: IER::from_bits_retain(0x0f),
+            fifo_trigger_level: Some(FifoTriggerLevel::Eight),
+            baud_rate: BaudRate::Baud9600,
+            data_bits: WordLength::FiveBits,
+            check_cts_before_sending: true,
+            ..Config::DEFAULT
+        }),
+    );
+    assert_equal(&rt, &calls[2..21], &BARE_CALLS[..]);
+    assert_equal(
+        &rt,
+        &calls[21..],
+        &[
+            Call::TrySend(0x7f),
+            Call::Enable(IER::THR_EMPTY),
+            Call::Disable(IER::DATA_READY),
+            Call::Receive(0),
+            Call::ReceiveExact(64),
+            Call::Read(1),
+            Call::Send(ArrayVec::new()),
+            Call::SendExact(
+                ArrayVec::try_from([0x00, 0xff].as_slice())
+                    .ok()
+                    .ok_or("too many")?,
+            ),
+            Call::Write(
+                ArrayVec::try_from([0x41].as_slice())
+                    .ok()
+                    .ok_or("too many")?,
+            ),
+            Call::Text(ArrayString::try_from("\u{e9}").ok().ok_or("too many")?),
+        ][..],
+    );
+    Ok(())
+}

@@ -1,0 +1,172 @@
+#[allow(unused_imports)]
+use crate::runtime::{AllocGlobal, HostRuntime, assert, assert_eq, assert_ne};
+#[allow(unused_imports)]
+use geesetrunk_kit::{CollectWith as _, String, ToStringWith as _, ToVecWith as _, Vec, format, vec};
+use super::super::{assert_equal, assert_equal_at};
+use geesetrunk_kit::ArrayVec;
+use geesetrunk_kit::Flags;
+use crate::runtime::Fail;
+use uart_16550::ConfigRegisterDump;
+use uart_calls::{Answer, CALL_BYTES};
+use uart_chip::ArrivalMark;
+use uart_language::render;
+use uart_spec::registers::{IER, ISR, LCR, LSR, MCR, MSR};
+use uart_spec::{
+    AttachError, ByteSendError, InitError, InvalidDivisorError, LoopbackError,
+    NonIntegerDivisorError, Received, RemoteReadyToReceiveError,
+};
+
+fn bytes(values: &[u8]) -> ArrayVec<u8, CALL_BYTES> {
+    let mut bytes = ArrayVec::new();
+    for value in values {
+        if !bytes.is_full() {
+            bytes.push(*value);
+        }
+    }
+    bytes
+}
+
+fn with_errors(items: &[(u8, LSR)]) -> ArrayVec<Received, CALL_BYTES> {
+    let mut received = ArrayVec::new();
+    for (byte, errors) in items {
+        if !received.is_full() {
+            received.push(Received {
+                byte: *byte,
+                errors: *errors,
+            });
+        }
+    }
+    received
+}
+
+fn dump() -> ConfigRegisterDump {
+    ConfigRegisterDump {
+        ier: IER::empty(),
+        isr: ISR::from_bits_retain(0xc1),
+        lcr: LCR::from_bits_retain(0x03),
+        mcr: MCR::from_bits_retain(0x0b),
+        lsr: LSR::from_bits_retain(0x60),
+        msr: MSR::empty(),
+        spr: 0,
+        dll: 0x0c,
+        dlm: 0x01,
+    }
+}
+
+#[test]
+fn each_answer_has_its_line() -> Result<(), Fail> {
+    let rt = HostRuntime;
+    let not_whole = NonIntegerDivisorError::default();
+    for (answer, want) in [
+        (Answer::Done, "ok"),
+        (Answer::Flag(true), "ok true"),
+        (Answer::Flag(false), "ok false"),
+        (Answer::Count(16), "ok 16"),
+        (Answer::Bytes(bytes(&[])), "ok -"),
+        (Answer::Bytes(bytes(&[0x01, 0x0a, 0xff])), "ok 010aff"),
+        (Answer::BytesWithErrors(with_errors(&[])), "ok -"),
+        (
+            Answer::BytesWithErrors(with_errors(&[
+                (0x41, LSR::empty()),
+                (0x00, LSR::FRAMING_ERROR.union(LSR::BREAK_INTERRUPT)),
+            ])),
+            "ok 41/00 00/18",
+        ),
+        (
+            Answer::AttachRefused(AttachError::DivisorLatchOpen),
+            "err DivisorLatchOpen",
+        ),
+        (Answer::Register(0x62), "ok 62"),
+        (Answer::Latch(0x0c, 0x00), "ok 0c 00"),
+        (
+            Answer::Dump(dump()),
+            "ok ier 00 isr c1 lcr 03 mcr 0b lsr 60 msr 00 spr 00 divisor 268",
+        ),
+        (Answer::Stalled(4), "stalled 4"),
+        (Answer::ReceiveStalled(bytes(&[])), "stalled 0 -"),
+        (Answer::ReceiveStalled(bytes(&[0x41])), "stalled 1 41"),
+        (
+            Answer::InitRefused(InitError::DeviceNotPresent),
+            "err DeviceNotPresent",
+        ),
+        (Answer::InitRefused(InitError::Stalled), "err Stalled"),
+        (
+            Answer::InitRefused(InitError::InvalidBaudRate(InvalidDivisorError::NonInteger(
+                not_whole,
+            ))),
+            "err InvalidBaudRate NonInteger",
+        ),
+        (
+            Answer::InitRefused(InitError::InvalidBaudRate(InvalidDivisorError::OutOfRange {
+                divisor: 115_200,
+            })),
+            "err InvalidBaudRate OutOfRange 115200",
+        ),
+        (
+            Answer::LoopbackRefused(LoopbackError::SendError(ByteSendError::NoCapacity)),
+            "err SendError NoCapacity",
+        ),
+        (
+            Answer::LoopbackRefused(LoopbackError::UnexpectedLoopbackByte {
+                expected: 0x42,
+                actual: 0x02,
+            }),
+            "err UnexpectedLoopbackByte expected 66 actual 2",
+        ),
+        (
+            Answer::LoopbackRefused(LoopbackError::UnexpectedLoopbackMsg {
+                expected: [0; 16],
+                actual: [0xa5; 16],
+            }),
+            "err UnexpectedLoopbackMsg a5a5a5a5a5a5a5a5a5a5a5a5a5a5a5a5",
+        ),
+        (
+            Answer::LoopbackRefused(LoopbackError::Stalled),
+            "err Stalled",
+        ),
+        (
+            Answer::NotConnected(RemoteReadyToReceiveError::NoRemoteConnectedNoDSR),
+            "err NoRemoteConnectedNoDSR",
+        ),
+        (
+            Answer::NotConnected(RemoteReadyToReceiveError::RemoteNotClearToSend),
+            "err RemoteNotClearToSend",
+        ),
+        (Answer::NoData, "err ByteReceiveError"),
+        (Answer::NotSent(ByteSendError::NoCapacity), "err NoCapacity"),
+        (
+            Answer::NotSent(ByteSendError::RemoteNotClearToSend),
+            "err RemoteNotClearToSend",
+        ),
+    ] {
+        let text = render(rt.alloc(), &[answer], &[], &[], &[], &[])?;
+        let mut wanted = want.to_string_with(rt.alloc())?;
+        wanted.push_str("\nwire -\nheld -\nwaiting -\nmarks -\n")?;
+        assert_equal_at(
+            &rt,
+            text.as_slice(),
+            wanted.as_bytes(),
+            format_args!("at {want}"),
+        );
+    }
+    Ok(())
+}
+
+#[test]
+fn what_is_left_has_four_lines() -> Result<(), Fail> {
+    let rt = HostRuntime;
+    let marks = [
+        ArrivalMark::Pending,
+        ArrivalMark::Waiting,
+        ArrivalMark::Read,
+        ArrivalMark::Discarded,
+        ArrivalMark::Dropped,
+    ];
+    let text = render(rt.alloc(), &[], &[1, 2, 3], &[0x48], &[0x41, 0xff], &marks)?;
+    assert_equal(
+        &rt,
+        text.as_slice(),
+        b"wire 010203\nheld 48\nwaiting 41ff\nmarks pwrdx\n".as_slice(),
+    );
+    Ok(())
+}

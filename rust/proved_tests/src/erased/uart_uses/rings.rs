@@ -1,0 +1,18 @@
+#[allow(unused_imports)]
+use crate::runtime::{AllocGlobal, HostRuntime, assert, assert_eq, assert_ne};
+#[allow(unused_imports)]
+use geesetrunk_kit::{CollectWith as _, String, ToStringWith as _, ToVecWith as _, Vec, format, vec};
+// Tests of what no contract says: worked examples from outside, the refusals' texts, and the
+// interrupt handler of the documentation.
+
+mod calls;
+mod handler;
+mod lists;
+
+use std::fmt::Debug;
+use crate::runtime::Abort;
+
+// Asserts that two values are equal. A function, since what a macro writes is proved at each use.
+pub fn assert_equal<T: PartialEq + Debug>(rt: &impl Abort, left: T, right: T) {
+    assert_eq!(rt; left, right);
+}

@@ -1,0 +1,200 @@
+#[allow(unused_imports)]
+use crate::runtime::{AllocGlobal, HostRuntime, assert, assert_eq, assert_ne};
+#[allow(unused_imports)]
+use geesetrunk_kit::{CollectWith as _, String, ToStringWith as _, ToVecWith as _, Vec, format, vec};
+// The port in the hands of guests and monitors.
+use uart_virtual::{Todo, VirtualPort};
+use geesetrunk_kit::Flags;
+use crate::runtime::Abort;
+use crate::runtime::Fail;
+use uart_live::{Chip, InputError};
+use uart_spec::registers::{LSR, MSR};
+
+const DATA: u8 = 0;
+
+const IER: u8 = 1;
+
+const ISR: u8 = 2;
+
+const FCR: u8 = 2;
+
+const MCR: u8 = 4;
+
+const LINE: u8 = 5;
+
+const MODEM: u8 = 6;
+
+// Room that comes by a write of FCR, and by the end of loopback, is told.
+#[test]
+fn room_is_told_whichever_call_gives_it() -> Result<(), Fail> {
+    let rt = HostRuntime;
+    let mut port = VirtualPort::new(Chip::Uart16550A);
+    let received = port.receive(b"ab");
+    assert!(rt; received.count == 1 && !received.todo.has_room);
+    assert!(rt; !port.read(LINE).todo.has_room);
+    assert!(rt; port.write(FCR, 0x07).has_room);
+    assert!(rt; !port.write(FCR, 0x07).has_room);
+    assert!(rt; port.receive(b"0123456789abcdefg").count == 16);
+    assert!(rt; port.read(DATA).todo.has_room);
+    assert!(rt; !port.write(MCR, 0x18).has_room);
+    let received = port.receive(b"x");
+    assert!(rt; received.count == 0 && !received.todo.has_room);
+    assert!(rt; port.write(MCR, 0x08).has_room);
+    Ok(())
+}
+
+// A burst is one signal, and another after the guest looked.
+#[test]
+fn a_burst_is_one_signal() -> Result<(), Fail> {
+    let rt = HostRuntime;
+    let mut port = VirtualPort::new(Chip::Uart16550A);
+    assert!(rt; !port.write(FCR, 0x07).signal);
+    assert!(rt; port.write(IER, 0x02).signal);
+    assert!(rt; port.read(ISR).value == 0xc2);
+    let mut signals = 0;
+    for _ in 0..16 {
+        if port.write(DATA, 0x41).signal && signals < 100 {
+            signals += 1;
+        }
+    }
+    assert!(rt; signals == 1);
+    assert!(rt; port.output().len() == 16);
+    assert!(rt; port.read(ISR).value == 0xc2);
+    assert!(rt; port.write(DATA, 0x41).signal);
+    Ok(())
+}
+
+// The guest reads 8 of 12 at trigger 8, and returns.
+#[test]
+fn a_handler_that_reads_its_trigger_level_comes_again() -> Result<(), Fail> {
+    let rt = HostRuntime;
+    let mut port = VirtualPort::new(Chip::Uart16550A);
+    port.write(FCR, 0x87);
+    port.write(IER, 0x01);
+    assert!(rt; port.receive(b"0123456789ab").todo.signal);
+    assert!(rt; port.read(ISR).value == 0xc4);
+    let mut signals = 0;
+    for _ in 0..8 {
+        if port.read(DATA).todo.signal && signals < 100 {
+            signals += 1;
+        }
+    }
+    assert!(rt; signals == 1);
+    assert!(rt; port.read(ISR).value == 0xcc);
+    Ok(())
+}
+
+// Input while the line is up is signalled, once a call.
+#[test]
+fn a_top_up_is_signalled() -> Result<(), Fail> {
+    let rt = HostRuntime;
+    let mut port = VirtualPort::new(Chip::Uart16550A);
+    port.write(FCR, 0x87);
+    port.write(IER, 0x01);
+    assert!(rt; port.receive(b"0123456789abcdef").todo.signal);
+    assert!(rt; !port.read(LINE).todo.signal);
+    assert!(rt; !port.read(DATA).todo.signal);
+    let todo = port.receive(b"g").todo;
+    assert!(rt; todo.signal && todo.level);
+    assert!(rt; !port.receive(b"g").todo.signal);
+    Ok(())
+}
+
+// A full output shows a transmitter that is not empty, and what the host takes lets it go on.
+#[test]
+fn a_full_output_holds_the_guest_back() -> Result<(), Fail> {
+    let rt = HostRuntime;
+    let mut port = VirtualPort::new(Chip::Uart16550A);
+    port.write(FCR, 0x07);
+    port.write(IER, 0x02);
+    let mut written = 0;
+    for byte in 0..200 {
+        if port.read(LINE).value & 0x20 != 0 && written < 1000 {
+            port.write(DATA, byte);
+            written += 1;
+        }
+    }
+    assert!(rt; written == 66 && port.output().len() == 64);
+    assert!(rt; port.read(LINE).value == 0x00);
+    assert!(rt; !port.level());
+    let todo = port.take_output(60);
+    assert!(rt; todo.signal && todo.ready == 6);
+    assert!(rt; port.output() == [60, 61, 62, 63, 64, 65].as_slice());
+    assert!(rt; port.read(LINE).value == 0x60);
+    Ok(())
+}
+
+// A break is received as such, and the character after it overruns.
+#[test]
+fn breaks_and_overruns() -> Result<(), Fail> {
+    let rt = HostRuntime;
+    let mut port = VirtualPort::new(Chip::Uart16550A);
+    port.write(IER, 0x05);
+    let todo = port.receive_one(0, LSR::BREAK_INTERRUPT)?;
+    assert!(rt; todo.signal);
+    assert!(rt; port.read(ISR).value == 0x06);
+    assert!(rt; port.read(LINE).value == 0x71);
+    port.receive_one(0x68, LSR::empty())?;
+    assert!(rt; port.read(LINE).value == 0x63);
+    assert!(rt; port.read(DATA).value == 0x68);
+    port.set_lines(MSR::CTS)?;
+    assert!(rt; port.read(MODEM).value == 0x11);
+    assert!(rt;
+        port.read(IER).todo
+            == Todo {
+                signal: false,
+                level: false,
+                has_room: false,
+                ready: 0
+            }
+    );
+    Ok(())
+}
+
+#[test]
+fn a_new_port_has_nothing_to_do() -> Result<(), Fail> {
+    let rt = HostRuntime;
+    for (chip, isr) in [(Chip::Uart16550A, 0x01), (Chip::Uart16450, 0x01)] {
+        let mut port = VirtualPort::new(chip);
+        assert!(rt; !port.level() && port.output().is_empty());
+        assert!(rt; port.read(LINE).value == 0x60);
+        assert!(rt; port.read(ISR).value == isr);
+    }
+    Ok(())
+}
+
+#[test]
+fn other_bits_are_refused() -> Result<(), Fail> {
+    let rt = HostRuntime;
+    let mut port = VirtualPort::new(Chip::Uart16550A);
+    assert!(rt; port.receive_one(0x41, LSR::OVERRUN_ERROR) == Err(InputError::BadErrors));
+    assert!(rt; port.set_lines(MSR::DELTA_CTS) == Err(InputError::BadLines));
+    assert!(rt; port.read(LINE).value == 0x60 && port.read(MODEM).value == 0x00);
+    Ok(())
+}
+
+// What is not promised: a guest that fills the FIFO, and looks at nothing before it writes again,
+// is signalled once for all of that.
+#[test]
+fn a_guest_that_never_looks_is_signalled_once() -> Result<(), Fail> {
+    let rt = HostRuntime;
+    let mut port = VirtualPort::new(Chip::Uart16550A);
+    port.write(FCR, 0x07);
+    assert!(rt; port.write(IER, 0x02).signal);
+    assert!(rt; !port.write(DATA, 0x41).signal);
+    assert!(rt; !port.write(DATA, 0x41).signal);
+    assert!(rt; port.level());
+    Ok(())
+}
+
+// Output is taken while the line is up and nothing is held: that is no news for the guest.
+#[test]
+fn taken_output_is_no_signal_unless_bytes_were_held() -> Result<(), Fail> {
+    let rt = HostRuntime;
+    let mut port = VirtualPort::new(Chip::Uart16550A);
+    assert!(rt; port.write(IER, 0x02).signal);
+    assert!(rt; port.write(DATA, 0x41).ready == 1);
+    let todo = port.take_output(7);
+    assert!(rt; !todo.signal && todo.level && todo.ready == 0);
+    Ok(())
+}

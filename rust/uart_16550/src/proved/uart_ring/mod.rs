@@ -1,9 +1,0 @@
-//! Transmit and receive rings over the serial driver, for use with interrupts.
-//!
-//! A [`Uart16550Ring`] keeps bytes until the chip has room for them, and received bytes until the
-//! caller takes them. Call [`Uart16550Ring::handle`] when the chip raises its interrupt. No call
-//! waits, and only [`Uart16550Ring::new`] allocates memory.
-
-mod ring;
-
-pub use ring::{HandleEnd, Handled, MAX_CAPACITY, MAX_INTERRUPTS, RingError, Uart16550Ring};

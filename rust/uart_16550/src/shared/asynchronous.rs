@@ -1,0 +1,240 @@
+//! Shared rings for tasks: futures that the handler wakes.
+
+use super::{Awaited, CriticalSection, Port, Shared, SharedError};
+use crate::native::backend::Backend;
+use crate::ring::Uart16550Ring;
+use core::future::poll_fn;
+use core::mem;
+use core::task::{Context, Poll, Waker};
+
+/// The rings' two ends, each of which one task waits at.
+#[derive(Clone, Copy)]
+pub(super) enum Side {
+    Receive,
+    Transmit,
+}
+
+impl Side {
+    pub(super) const COUNT: usize = 2;
+}
+
+impl Awaited {
+    const fn side(self) -> Side {
+        match self {
+            Self::ReceivedByte => Side::Receive,
+            Self::TransmitRoom | Self::EmptyTransmitRing => Side::Transmit,
+        }
+    }
+}
+
+/// A task that waits.
+pub(super) struct Waiter {
+    waker: Waker,
+    awaited: Awaited,
+}
+
+impl Waiter {
+    pub(super) fn wake(self) {
+        self.waker.wake();
+    }
+}
+
+impl<B: Backend> Port<B> {
+    // Takes the waiters whose turn it is: what they wait for is there, or never comes, since there are no rings.
+    pub(super) fn due(&mut self) -> [Option<Waiter>; Side::COUNT] {
+        let rings = self.rings.as_ref();
+        self.waiters.each_mut().map(|waiter| {
+            waiter.take_if(|waiter| rings.is_none_or(|rings| rings.has(waiter.awaited)))
+        })
+    }
+}
+
+impl<S: CriticalSection, B: Backend> Shared<S, B> {
+    /// Takes received bytes, at least one, as [`take`](Uart16550Ring::take) does, and returns how many. Waits until one is there. Of
+    /// no slots it returns 0 at once.
+    ///
+    /// A future that is dropped before it is ready has taken nothing.
+    ///
+    /// One task reads at a time. If several do, each gets some of the bytes, and they wake each other until one comes.
+    ///
+    /// # Errors
+    ///
+    /// - `NoRings` if there are none, or none any more.
+    /// - `InUse` if the future is polled in the middle of a call.
+    ///
+    /// # Examples
+    ///
+    /// ```
+    /// # include!(concat!(env!("CARGO_MANIFEST_DIR"), "/tests/common/shared.rs"));
+    /// # use uart_16550::shared::SharedError;
+    /// async fn echo() -> Result<(), SharedError> {
+    ///     let mut slots = [0; 64];
+    ///     let count = PORT.read(&mut slots).await?;
+    ///     let mut rest = &slots[..count];
+    ///     while !rest.is_empty() {
+    ///         rest = &rest[PORT.write(rest).await?..];
+    ///     }
+    ///     PORT.flush().await
+    /// }
+    /// # fn main() {
+    /// # start();
+    /// # board::chip().received.extend(b"hello");
+    /// # board::raise();
+    /// # assert_eq!(block_on(echo()), Ok(()));
+    /// # assert_eq!(board::chip().sent, b"hello");
+    /// # }
+    /// ```
+    pub async fn read(&self, slots: &mut [u8]) -> Result<usize, SharedError> {
+        poll_fn(|context| self.poll_read(context, slots)).await
+    }
+
+    /// Queues bytes from the front, at least one, as [`queue`](Uart16550Ring::queue) does, and returns how many. Waits until there
+    /// is room. Of no bytes it returns 0 at once.
+    ///
+    /// A future that is dropped before it is ready has queued nothing.
+    ///
+    /// One task writes at a time, or waits for [`flush`](Self::flush). If several do, they wake each other until one goes on.
+    ///
+    /// # Errors
+    ///
+    /// - `NoRings` if there are none, or none any more.
+    /// - `InUse` if the future is polled in the middle of a call.
+    ///
+    /// # Examples
+    ///
+    /// ```
+    /// # include!(concat!(env!("CARGO_MANIFEST_DIR"), "/tests/common/shared.rs"));
+    /// # fn main() {
+    /// # start();
+    /// # let done = block_on(async {
+    /// let count = PORT.write(b"hello").await?;
+    /// # assert_eq!(count, 5);
+    /// # Ok::<_, uart_16550::shared::SharedError>(()) });
+    /// # assert_eq!(done, Ok(()));
+    /// # }
+    /// ```
+    pub async fn write(&self, bytes: &[u8]) -> Result<usize, SharedError> {
+        poll_fn(|context| self.poll_write(context, bytes)).await
+    }
+
+    /// Waits until the transmit ring is empty, and then until the chip is: all that was written is on the line.
+    ///
+    /// No interrupt tells that the chip is empty. So this is polled: at most as many times as the driver's spin limit the task is
+    /// woken at once, and looks again. That takes as long as 17 characters. Do not flush where nobody needs to know.
+    ///
+    /// # Errors
+    ///
+    /// - `GaveUp` after that many looks at the chip.
+    /// - `NoRings` if there are none, or none any more.
+    /// - `InUse` if the future is polled in the middle of a call.
+    ///
+    /// # Examples
+    ///
+    /// ```
+    /// # include!(concat!(env!("CARGO_MANIFEST_DIR"), "/tests/common/shared.rs"));
+    /// # fn main() {
+    /// # start();
+    /// # let done = block_on(async {
+    /// PORT.write(b"bye").await?;
+    /// PORT.flush().await?;
+    /// # Ok::<_, uart_16550::shared::SharedError>(()) });
+    /// # assert_eq!(done, Ok(()));
+    /// # }
+    /// ```
+    pub async fn flush(&self) -> Result<(), SharedError> {
+        poll_fn(|context| {
+            self.poll_for(context, Awaited::EmptyTransmitRing, |ring| {
+                (ring.transmit_len() == 0).then_some(())
+            })
+        })
+        .await?;
+        let limit = self.with(|ring| ring.inner().spin_limit())?;
+        for _look in 0..limit.get() {
+            if self.is_sent()? {
+                return Ok(());
+            }
+            let_others_run().await;
+        }
+        Err(SharedError::GaveUp)
+    }
+
+    /// Does what [`read`](Self::read) does, for a future by hand.
+    ///
+    /// # Errors
+    ///
+    /// Those of [`read`](Self::read).
+    pub fn poll_read(
+        &self,
+        context: &mut Context<'_>,
+        slots: &mut [u8],
+    ) -> Poll<Result<usize, SharedError>> {
+        let is_empty = slots.is_empty();
+        self.poll_for(context, Awaited::ReceivedByte, |ring| {
+            let count = ring.take(slots);
+            (count > 0 || is_empty).then_some(count)
+        })
+    }
+
+    /// Does what [`write`](Self::write) does, for a future by hand.
+    ///
+    /// # Errors
+    ///
+    /// Those of [`write`](Self::write).
+    pub fn poll_write(
+        &self,
+        context: &mut Context<'_>,
+        bytes: &[u8],
+    ) -> Poll<Result<usize, SharedError>> {
+        self.poll_for(context, Awaited::TransmitRoom, |ring| {
+            let count = ring.queue(bytes);
+            (count > 0 || bytes.is_empty()).then_some(count)
+        })
+    }
+
+    // Looks, and registers the task if it does not find.
+    fn poll_for<R>(
+        &self,
+        context: &mut Context<'_>,
+        awaited: Awaited,
+        look: impl FnOnce(&mut Uart16550Ring<B>) -> Option<R>,
+    ) -> Poll<Result<R, SharedError>> {
+        match self.with(look) {
+            Ok(None) => {}
+            Ok(Some(found)) => return Poll::Ready(Ok(found)),
+            Err(error) => return Poll::Ready(Err(error)),
+        }
+        // Cloned, woken and dropped outside of the section, since all of it is the executor's code. In it two waiters change their
+        // places. Then `in_section` looks for what is awaited, with the task registered, and the handler does not come in between. So
+        // what came since the look above wakes the task at once, and what comes later wakes it then.
+        let mut waiter = Some(Waiter {
+            waker: context.waker().clone(),
+            awaited,
+        });
+        let registered = self.in_section(|port| {
+            mem::swap(&mut port.waiters[awaited.side() as usize], &mut waiter);
+            Ok(())
+        });
+        if let Err(error) = registered {
+            return Poll::Ready(Err(error));
+        }
+        // There is one place, so another task that was there looks again, and takes the place in its turn.
+        if let Some(other) = waiter.filter(|other| !other.waker.will_wake(context.waker())) {
+            other.wake();
+        }
+        Poll::Pending
+    }
+}
+
+// Lets the executor run other tasks, and then this one again.
+async fn let_others_run() {
+    let mut did_run = false;
+    poll_fn(|context| {
+        if did_run {
+            return Poll::Ready(());
+        }
+        did_run = true;
+        context.waker().wake_by_ref();
+        Poll::Pending
+    })
+    .await;
+}

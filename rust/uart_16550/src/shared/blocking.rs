@@ -1,0 +1,277 @@
+//! Shared rings for threads that wait.
+
+use super::{Awaited, CriticalSection, Shared, SharedError};
+use crate::native::backend::Backend;
+use crate::native::embedded_io::{ErrorType, Read, ReadReady, Write, WriteReady};
+use crate::ring::Uart16550Ring;
+use core::fmt;
+
+/// How a thread of the kernel waits, and for how long.
+///
+/// # Examples
+///
+/// A thread that lets others run, at most so many times in all:
+///
+/// ```
+/// use uart_16550::shared::Wait;
+/// # mod kernel { pub fn let_others_run() {} }
+///
+/// struct Turns(u32);
+///
+/// impl Wait for Turns {
+///     fn wait(&mut self, _is_there: impl FnMut() -> bool) -> bool {
+///         kernel::let_others_run();
+///         self.0 = self.0.saturating_sub(1);
+///         self.0 > 0
+///     }
+/// }
+/// # let mut turns = Turns(2);
+/// # assert_eq!([turns.wait(|| true), turns.wait(|| true)], [true, false]);
+/// ```
+///
+/// A processor with nothing else to do, which sleeps until an interrupt was served:
+///
+/// ```
+/// use uart_16550::shared::Wait;
+/// # mod arch {
+/// #     pub fn mask_interrupts() {}
+/// #     pub fn unmask_interrupts() {}
+/// #     pub fn unmask_interrupts_and_sleep() {}
+/// # }
+///
+/// struct Sleep;
+///
+/// impl Wait for Sleep {
+///     fn wait(&mut self, mut is_there: impl FnMut() -> bool) -> bool {
+///         // Between the look and the sleep no interrupt is served. One that comes there ends the sleep.
+///         arch::mask_interrupts();
+///         if is_there() {
+///             arch::unmask_interrupts();
+///         } else {
+///             arch::unmask_interrupts_and_sleep();
+///         }
+///         true
+///     }
+/// }
+/// # assert!(Sleep.wait(|| true) && Sleep.wait(|| false));
+/// ```
+pub trait Wait {
+    /// Waits until what is awaited may be there, and returns whether to go on: whoever called looks again, and may call this again.
+    ///
+    /// An implementation may look by the function, and need not. It may return early. It must not sleep if the function returns
+    /// true, and if it sleeps, then so that an interrupt after the look ends the sleep.
+    ///
+    /// It is not called in the kernel's section, so interrupts are as the thread has them.
+    fn wait(&mut self, is_there: impl FnMut() -> bool) -> bool;
+}
+
+/// Why not all bytes were sent or received, and how many were.
+#[derive(Clone, Copy, Debug, PartialEq, Eq)]
+pub struct Unfinished {
+    /// How many bytes were, from the front.
+    pub done: usize,
+    /// Why no more.
+    pub cause: SharedError,
+}
+
+impl fmt::Display for Unfinished {
+    fn fmt(&self, f: &mut fmt::Formatter<'_>) -> fmt::Result {
+        write!(f, "{} after {} bytes", self.cause, self.done)
+    }
+}
+
+impl core::error::Error for Unfinished {}
+
+/// Shared rings for one thread, whose calls wait. Returned by [`Shared::blocking`].
+///
+/// It has the traits of [`embedded_io`](crate::native::embedded_io), and with the feature `embedded-io` those of the crate of this
+/// name. `flush` waits until the transmit ring is empty, and then until the chip is. For the chip no interrupt comes, so the wait
+/// function gets a function that returns true, at most as many times as the driver's spin limit.
+///
+/// # Errors
+///
+/// - `GaveUp` if the wait function returned false, or after those looks at the chip. Bytes that came meanwhile are in the rings.
+/// - `NoRings` or `InUse` if the call over the rings was refused.
+///
+/// A call that fails took, or queued, no byte.
+///
+/// # Examples
+///
+/// ```
+/// # include!(concat!(env!("CARGO_MANIFEST_DIR"), "/tests/common/shared.rs"));
+/// use uart_16550::native::embedded_io::{Read, Write};
+/// # use uart_16550::shared::SharedError;
+/// # fn main() -> Result<(), SharedError> {
+/// # start();
+/// // `Turns` is how a thread of the kernel waits.
+/// let mut port = PORT.blocking(Turns(1000));
+/// port.write(b"name? ")?;
+/// port.flush()?;
+/// # board::chip().received.extend(b"me\r");
+/// # board::raise();
+/// let mut slots = [0; 80];
+/// let count = port.read(&mut slots)?;
+/// # assert_eq!(&slots[..count], b"me\r");
+/// # Ok(()) }
+/// ```
+pub struct Blocking<'a, S, B, W> {
+    shared: &'a Shared<S, B>,
+    wait: W,
+}
+
+impl<S: CriticalSection, B: Backend> Shared<S, B> {
+    /// Returns these rings for a thread that waits so. Makes no access.
+    ///
+    /// # Examples
+    ///
+    /// ```
+    /// # include!(concat!(env!("CARGO_MANIFEST_DIR"), "/tests/common/shared.rs"));
+    /// # fn main() {
+    /// # start();
+    /// let mut port = PORT.blocking(Turns(1000));
+    /// assert_eq!(port.send_bytes_exact(&[b'x'; 5000]), Ok(()));
+    /// # assert_eq!(board::chip().sent, [b'x'; 5000]);
+    /// # }
+    /// ```
+    pub const fn blocking<W: Wait>(&self, wait: W) -> Blocking<'_, S, B, W> {
+        Blocking { shared: self, wait }
+    }
+}
+
+impl<S: CriticalSection, B: Backend, W: Wait> Blocking<'_, S, B, W> {
+    /// Queues all of the bytes, and waits for room.
+    ///
+    /// # Errors
+    ///
+    /// Those of the type, with how many bytes were queued.
+    ///
+    /// # Examples
+    ///
+    /// ```
+    /// # include!(concat!(env!("CARGO_MANIFEST_DIR"), "/tests/common/shared.rs"));
+    /// # fn main() {
+    /// # start();
+    /// let mut port = PORT.blocking(Turns(1000));
+    /// if let Err(unfinished) = port.send_bytes_exact(b"hello") {
+    ///     panic!("only {} bytes: {}", unfinished.done, unfinished.cause);
+    /// }
+    /// # }
+    /// ```
+    pub fn send_bytes_exact(&mut self, bytes: &[u8]) -> Result<(), Unfinished> {
+        let mut done = 0;
+        while let Some(rest @ [_, ..]) = bytes.get(done..) {
+            done += self
+                .write(rest)
+                .map_err(|cause| Unfinished { done, cause })?;
+        }
+        Ok(())
+    }
+
+    /// Takes a received byte into each slot, and waits for each.
+    ///
+    /// # Errors
+    ///
+    /// Those of the type, with how many bytes were taken.
+    ///
+    /// # Examples
+    ///
+    /// ```
+    /// # include!(concat!(env!("CARGO_MANIFEST_DIR"), "/tests/common/shared.rs"));
+    /// # use uart_16550::shared::{SharedError, Unfinished};
+    /// # fn main() {
+    /// # start();
+    /// # board::chip().received.extend(b"abc");
+    /// # board::raise();
+    /// let mut slots = [0; 4];
+    /// let taken = PORT.blocking(Turns(1000)).receive_bytes_exact(&mut slots);
+    /// assert_eq!(taken, Err(Unfinished { done: 3, cause: SharedError::GaveUp }));
+    /// assert_eq!(&slots[..3], b"abc");
+    /// # }
+    /// ```
+    pub fn receive_bytes_exact(&mut self, slots: &mut [u8]) -> Result<(), Unfinished> {
+        let mut done = 0;
+        while let Some(rest @ [_, ..]) = slots.get_mut(done..) {
+            done += self
+                .read(rest)
+                .map_err(|cause| Unfinished { done, cause })?;
+        }
+        Ok(())
+    }
+
+    // Looks, and waits, until it is found.
+    fn wait_for<R>(
+        &mut self,
+        awaited: Awaited,
+        mut look: impl FnMut(&mut Uart16550Ring<B>) -> Option<R>,
+    ) -> Result<R, SharedError> {
+        let shared = self.shared;
+        loop {
+            if let Some(found) = shared.with(&mut look)? {
+                return Ok(found);
+            }
+            self.wait_once(|| shared.has(awaited))?;
+        }
+    }
+
+    fn wait_once(&mut self, is_there: impl FnMut() -> bool) -> Result<(), SharedError> {
+        if self.wait.wait(is_there) {
+            Ok(())
+        } else {
+            Err(SharedError::GaveUp)
+        }
+    }
+}
+
+impl<S, B, W> ErrorType for Blocking<'_, S, B, W> {
+    type Error = SharedError;
+}
+
+impl<S: CriticalSection, B: Backend, W: Wait> Read for Blocking<'_, S, B, W> {
+    fn read(&mut self, buf: &mut [u8]) -> Result<usize, SharedError> {
+        if buf.is_empty() {
+            return Ok(0);
+        }
+        self.wait_for(Awaited::ReceivedByte, |ring| {
+            Some(ring.take(buf)).filter(|count| *count > 0)
+        })
+    }
+}
+
+impl<S: CriticalSection, B: Backend, W: Wait> Write for Blocking<'_, S, B, W> {
+    fn write(&mut self, buf: &[u8]) -> Result<usize, SharedError> {
+        if buf.is_empty() {
+            return Ok(0);
+        }
+        self.wait_for(Awaited::TransmitRoom, |ring| {
+            Some(ring.queue(buf)).filter(|count| *count > 0)
+        })
+    }
+
+    fn flush(&mut self) -> Result<(), SharedError> {
+        self.wait_for(Awaited::EmptyTransmitRing, |ring| {
+            (ring.transmit_len() == 0).then_some(())
+        })?;
+        let limit = self.shared.with(|ring| ring.inner().spin_limit())?;
+        for _look in 0..limit.get() {
+            if self.shared.is_sent()? {
+                return Ok(());
+            }
+            // No interrupt comes when the chip is empty, so there is nothing to sleep for.
+            self.wait_once(|| true)?;
+        }
+        Err(SharedError::GaveUp)
+    }
+}
+
+impl<S: CriticalSection, B: Backend, W> ReadReady for Blocking<'_, S, B, W> {
+    fn read_ready(&mut self) -> Result<bool, SharedError> {
+        self.shared.with(|ring| ring.receive_len() > 0)
+    }
+}
+
+impl<S: CriticalSection, B: Backend, W> WriteReady for Blocking<'_, S, B, W> {
+    fn write_ready(&mut self) -> Result<bool, SharedError> {
+        self.shared.with(|_ring| ())?;
+        Ok(self.shared.has(Awaited::TransmitRoom))
+    }
+}

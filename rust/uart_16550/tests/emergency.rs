@@ -1,0 +1,370 @@
+//! Last words, after a driver that stopped at each access of each of its calls, on chips that are stuck, and where none is.
+
+use std::collections::VecDeque;
+use std::fmt::Write;
+use std::num::NonZeroU64;
+use std::panic::{AssertUnwindSafe, catch_unwind, resume_unwind};
+use std::sync::{Arc, Mutex, MutexGuard};
+use uart_16550::emergency::EmergencyConsole;
+use uart_16550::native::backend::Backend;
+use uart_16550::native::{AttachError, BaudRate, Config, StalledError, Uart16550};
+use uart_16550::spec::registers::{IER, LCR, LSR, MCR, offsets};
+
+// After how many accesses a character has left the transmitter.
+const ACCESSES_FOR_A_CHARACTER: usize = 4;
+
+const PATIENCE: NonZeroU64 = NonZeroU64::new(200).unwrap();
+
+const CONFIG: Config = Config {
+    baud_rate: BaudRate::Baud38400,
+    interrupts: IER::DATA_READY,
+    ..Config::DEFAULT
+};
+const DIVISOR: u16 = 3;
+
+// What is in the transmitter when a call begins.
+const BEFORE: &[u8] = b"before, ";
+
+/// A character on the line, with the divisor and the frame with which it was sent.
+type Sent = (u8, u16, u8);
+
+#[derive(Default)]
+struct Chip {
+    cells: [u8; 8],
+    latch: [u8; 2],
+    transmit: VecDeque<u8>,
+    received: VecDeque<u8>,
+    line: Vec<Sent>,
+    accesses: usize,
+    /// The accesses after which its user stops.
+    stops_after: Option<usize>,
+    is_stuck: bool,
+    /// It ignores writes to LCR as long as it sends.
+    is_busy_while_sending: bool,
+}
+
+impl Chip {
+    fn is_in_loopback(&self) -> bool {
+        self.cells[offsets::MCR] & MCR::LOOP_BACK.bits() != 0
+    }
+
+    fn lcr(&self) -> LCR {
+        LCR::from_bits_retain(self.cells[offsets::LCR])
+    }
+
+    // An access takes time.
+    fn pass(&mut self) {
+        self.accesses += 1;
+        let holds = self.is_stuck || self.latch == [0, 0];
+        if holds || self.accesses % ACCESSES_FOR_A_CHARACTER != 0 {
+            return;
+        }
+        let Some(byte) = self.transmit.pop_front() else {
+            return;
+        };
+        if self.is_in_loopback() {
+            self.received.push_back(byte);
+        } else if !self.lcr().contains(LCR::SET_BREAK) {
+            let frame = self.lcr().difference(LCR::DLAB).bits();
+            self.line
+                .push((byte, u16::from_le_bytes(self.latch), frame));
+        }
+    }
+
+    fn read(&mut self, offset: usize) -> u8 {
+        self.pass();
+        let is_latched = self.lcr().contains(LCR::DLAB);
+        match offset {
+            offsets::DATA | offsets::IER if is_latched => self.latch[offset],
+            offsets::DATA => self.received.pop_front().unwrap_or(0),
+            offsets::ISR => 0xc1,
+            offsets::LSR => {
+                let mut lsr = LSR::empty();
+                lsr.set(LSR::DATA_READY, !self.received.is_empty());
+                lsr.set(
+                    LSR::THR_EMPTY | LSR::TRANSMITTER_EMPTY,
+                    self.transmit.is_empty(),
+                );
+                lsr.bits()
+            }
+            offset => self.cells[offset],
+        }
+    }
+
+    fn write(&mut self, offset: usize, value: u8) {
+        self.pass();
+        let is_latched = self.lcr().contains(LCR::DLAB);
+        let is_busy = self.is_busy_while_sending && !self.transmit.is_empty();
+        match offset {
+            offsets::DATA | offsets::IER if is_latched => self.latch[offset] = value,
+            offsets::DATA => self.transmit.push_back(value),
+            offsets::FCR => {}
+            offsets::LCR if is_busy => {}
+            offset => self.cells[offset] = value,
+        }
+    }
+
+    /// What was sent with the right divisor and eight data bits, as bytes.
+    fn text(&self) -> Vec<u8> {
+        let right = LCR::from_bits_retain(0x03).bits();
+        let is_right = |sent: &&Sent| sent.1 == DIVISOR && sent.2 == right;
+        self.line
+            .iter()
+            .filter(is_right)
+            .map(|sent| sent.0)
+            .collect()
+    }
+}
+
+/// The way to a chip. Its user stops as if it had panicked, and never goes on.
+#[derive(Clone, Default)]
+struct Cable(Arc<Mutex<Chip>>);
+
+struct Stopped;
+
+impl Cable {
+    fn chip(&self) -> MutexGuard<'_, Chip> {
+        self.0.lock().unwrap()
+    }
+
+    fn stop_if_due(&self) {
+        let is_due = {
+            let chip = self.chip();
+            chip.stops_after.is_some_and(|limit| chip.accesses >= limit)
+        };
+        if is_due {
+            resume_unwind(Box::new(Stopped));
+        }
+    }
+}
+
+impl Backend for Cable {
+    fn read(&mut self, register_offset: u8) -> u8 {
+        self.stop_if_due();
+        self.chip().read(register_offset.into())
+    }
+
+    fn write(&mut self, register_offset: u8, value: u8) {
+        self.stop_if_due();
+        self.chip().write(register_offset.into(), value);
+    }
+}
+
+fn take_over(cable: &Cable) -> Result<EmergencyConsole<Cable>, AttachError> {
+    // SAFETY: the driver before has stopped.
+    unsafe { EmergencyConsole::take_over(cable.clone(), PATIENCE) }
+}
+
+type Call = fn(&mut Uart16550<Cable>);
+
+const CALLS: [(&str, Call); 6] = [
+    ("send_bytes", |uart| {
+        uart.send_bytes(b"sent before");
+    }),
+    ("send_bytes_exact", |uart| {
+        let _ = uart.send_bytes_exact(b"sent before, and longer");
+    }),
+    ("init", |uart| {
+        let _ = uart.init(CONFIG);
+    }),
+    ("set_frame", |uart| {
+        let other = Config {
+            baud_rate: BaudRate::Baud9600,
+            ..CONFIG
+        };
+        let _ = uart.set_frame(&other);
+    }),
+    ("dll_dlm", |uart| {
+        uart.dll_dlm();
+    }),
+    ("test_loopback", |uart| {
+        let _ = uart.test_loopback();
+    }),
+];
+
+/// Stops the call at this access. Returns the chip, or nothing if the call makes no more accesses.
+fn stopped_at(call: Call, access: usize, is_busy_while_sending: bool) -> Option<Cable> {
+    let cable = Cable::default();
+    cable.chip().is_busy_while_sending = is_busy_while_sending;
+    let mut uart = Uart16550::new_with_backend(cable.clone());
+    uart.init(CONFIG).unwrap();
+    if is_busy_while_sending {
+        uart.send_bytes(BEFORE);
+    }
+    let stops_after = cable.chip().accesses + access;
+    cable.chip().stops_after = Some(stops_after);
+    let ended = catch_unwind(AssertUnwindSafe(|| call(&mut uart)));
+    cable.chip().stops_after = None;
+    match ended {
+        Ok(()) => None,
+        Err(cause) if cause.is::<Stopped>() => Some(cable),
+        Err(cause) => resume_unwind(cause),
+    }
+}
+
+/// Calls the function with a chip for each access of each call.
+fn each_stop(is_busy_while_sending: bool, check: impl Fn(&str, usize, &Cable)) {
+    for (name, call) in CALLS {
+        let mut access = 0;
+        while let Some(cable) = stopped_at(call, access, is_busy_while_sending) {
+            check(name, access, &cable);
+            access += 1;
+            assert!(access < 10_000, "{name} has no end");
+        }
+        assert!(access > 0, "{name} was not stopped");
+    }
+}
+
+#[test]
+fn the_text_arrives_after_a_stop_at_each_access_of_each_call() {
+    for is_busy_while_sending in [false, true] {
+        each_stop(is_busy_while_sending, |name, access, cable| {
+            let before = cable.chip().accesses;
+            let mut console = take_over(cable).unwrap();
+            assert_eq!(console.set_frame(&CONFIG), Ok(()));
+            let what = "memory";
+            assert!(writeln!(console, "no {what}").is_ok());
+            assert_eq!(console.send_bytes(b"\xff"), Ok(()));
+            assert_eq!(console.flush(), Ok(()));
+            let chip = cable.chip();
+            let text = chip.text();
+            assert!(
+                text.ends_with(b"no memory\r\n\xff"),
+                "{name} stopped at {access}: {:?}",
+                chip.line
+            );
+            assert_eq!(chip.cells[offsets::IER], 0);
+            assert!(chip.accesses - before < 500);
+        });
+    }
+}
+
+#[test]
+fn a_port_that_ran_keeps_its_frame_and_what_it_sent() {
+    each_stop(false, |name, access, cable| {
+        if ["init", "set_frame"].contains(&name) {
+            return;
+        }
+        let mut console = take_over(cable).unwrap();
+        assert!(console.write_str("last").is_ok());
+        assert_eq!(console.flush(), Ok(()));
+        let text = cable.chip().text();
+        assert!(text.ends_with(b"last"), "{name} stopped at {access}");
+        if name.starts_with("send") {
+            let sent = &text[..text.len() - 4];
+            assert!(
+                b"sent before, and longer".starts_with(sent),
+                "{name} stopped at {access}"
+            );
+        }
+    });
+}
+
+#[test]
+fn a_break_ends_as_soon_as_the_chip_lets_it() {
+    let cable = Cable::default();
+    cable.chip().is_busy_while_sending = true;
+    let mut uart = Uart16550::new_with_backend(cable.clone());
+    uart.init(CONFIG).unwrap();
+    uart.set_break(true);
+    // What is sent in a break is lost, and LCR cannot be written until it is.
+    uart.send_bytes(BEFORE);
+    let mut console = take_over(&cable).unwrap();
+    assert_eq!(console.send_bytes(b"after"), Ok(()));
+    assert_eq!(console.flush(), Ok(()));
+    assert_eq!(cable.chip().text(), b"after");
+}
+
+#[test]
+fn what_was_sent_before_keeps_its_frame() {
+    let cable = Cable::default();
+    let mut uart = Uart16550::new_with_backend(cable.clone());
+    uart.init(CONFIG).unwrap();
+    uart.send_bytes(BEFORE);
+    let slower = Config {
+        baud_rate: BaudRate::Baud9600,
+        ..CONFIG
+    };
+    let mut console = take_over(&cable).unwrap();
+    assert_eq!(console.set_frame(&slower), Ok(()));
+    assert_eq!(console.send_bytes(b"after"), Ok(()));
+    assert_eq!(console.flush(), Ok(()));
+    assert_eq!(cable.chip().text(), BEFORE);
+    assert_eq!(cable.chip().line.len(), BEFORE.len() + 5);
+}
+
+#[test]
+fn a_chip_that_is_stuck_ends_the_text_and_not_the_machine() {
+    let cable = Cable::default();
+    let mut uart = Uart16550::new_with_backend(cable.clone());
+    uart.init(CONFIG).unwrap();
+    uart.send_bytes(b"x");
+    cable.chip().is_stuck = true;
+    let mut console = take_over(&cable).unwrap();
+    let before = cable.chip().accesses;
+    for _line in 0..100 {
+        assert!(writeln!(console, "a long text that nobody gets").is_err());
+    }
+    let accesses = cable.chip().accesses - before;
+    assert!(accesses < 600, "{accesses} accesses");
+    assert_eq!(console.send_bytes(b"abc"), Err(StalledError { done: 0 }));
+    cable.chip().is_stuck = false;
+    while !cable.chip().transmit.is_empty() {
+        cable.chip().pass();
+    }
+    // The first byte finds room, and the second one waits no longer.
+    assert_eq!(console.send_bytes(b"a"), Ok(()));
+    assert_eq!(console.send_bytes(b"bc"), Ok(()));
+    assert_eq!(console.flush(), Ok(()));
+    assert_eq!(cable.chip().text(), b"xabc");
+}
+
+/// What is at an address where nothing is.
+struct Nothing;
+
+impl Backend for Nothing {
+    fn read(&mut self, _register_offset: u8) -> u8 {
+        0xff
+    }
+
+    fn write(&mut self, _register_offset: u8, _value: u8) {}
+}
+
+/// A chip whose MCR does not change.
+struct LoopedForEver;
+
+impl Backend for LoopedForEver {
+    fn read(&mut self, register_offset: u8) -> u8 {
+        if usize::from(register_offset) == offsets::MCR {
+            0x10
+        } else {
+            0
+        }
+    }
+
+    fn write(&mut self, _register_offset: u8, _value: u8) {}
+}
+
+#[test]
+fn what_is_no_device_is_refused() {
+    // SAFETY: nobody else has them.
+    let (nothing, looped) = unsafe {
+        (
+            EmergencyConsole::take_over(Nothing, PATIENCE).err(),
+            EmergencyConsole::take_over(LoopedForEver, PATIENCE).err(),
+        )
+    };
+    assert_eq!(nothing, Some(AttachError::DivisorLatchOpen));
+    assert_eq!(looped, Some(AttachError::Loopback));
+    let not_computable = Config {
+        frequency: 0,
+        ..CONFIG
+    };
+    let cable = Cable::default();
+    assert!(
+        take_over(&cable)
+            .unwrap()
+            .set_frame(&not_computable)
+            .is_err()
+    );
+}

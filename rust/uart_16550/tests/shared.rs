@@ -1,0 +1,709 @@
+//! Rings that are shared: who is refused, what a wait returns, and that no wake is lost, wherever an interrupt comes.
+
+#[path = "sharing/chip.rs"]
+mod chip;
+
+use chip::Cable;
+use std::future::Future;
+use std::hint::spin_loop;
+use std::pin::pin;
+use std::sync::atomic::{AtomicBool, AtomicUsize, Ordering};
+use std::sync::{Arc, Mutex, OnceLock};
+use std::task::{Context, Poll, Wake, Waker};
+use std::thread;
+use std::time::{Duration, Instant};
+use uart_16550::native::embedded_io::{Read, ReadReady, Write, WriteReady};
+use uart_16550::native::{Config, Uart16550};
+use uart_16550::ring::{MAX_INTERRUPTS, Memory, RingError};
+use uart_16550::shared::{
+    Blocking, CriticalSection, Shared, SharedError, StartError, Unfinished, Wait,
+};
+use uart_16550::spec::registers::IER;
+
+const CAPACITY: usize = 32;
+
+fn memory() -> Memory {
+    Memory::new(vec![0; 2 * CAPACITY].leak())
+}
+
+/// Starts a port over this cable.
+fn start<S: CriticalSection>(port: &Shared<S, Cable>, cable: &Cable) {
+    let uart = Uart16550::new_with_backend(cable.clone());
+    let started = port.start(memory().global(), uart, CAPACITY, CAPACITY);
+    started.map_err(|(_uart, cause)| cause).unwrap();
+    let config = Config {
+        interrupts: IER::DATA_READY | IER::RECEIVER_LINE_STATUS,
+        ..Config::DEFAULT
+    };
+    port.with(|ring| ring.inner_mut().init(config))
+        .unwrap()
+        .unwrap();
+}
+
+/// The handler, if the chip's line is high.
+fn handle<S: CriticalSection>(port: &Shared<S, Cable>, cable: &Cable) {
+    if cable.chip().is_interrupting() {
+        port.with(|ring| ring.handle(MAX_INTERRUPTS)).unwrap();
+    }
+}
+
+/// A section that keeps nobody out, since nobody else is there.
+struct Alone;
+
+impl CriticalSection for Alone {
+    fn run<R>(&self, call: impl FnOnce() -> R) -> R {
+        call()
+    }
+}
+
+/// A lock of several processors, each of which knows that it is the owner.
+struct ProcessorLock {
+    owner: AtomicUsize,
+}
+
+const NOBODY: usize = 0;
+
+thread_local! {
+    // An address for each thread, which is no other thread's and not 0.
+    static PROCESSOR: u8 = const { 0 };
+}
+
+fn this_processor() -> usize {
+    PROCESSOR.with(|place| std::ptr::from_ref(place).addr())
+}
+
+impl ProcessorLock {
+    const fn new() -> Self {
+        Self {
+            owner: AtomicUsize::new(NOBODY),
+        }
+    }
+}
+
+impl CriticalSection for ProcessorLock {
+    fn run<R>(&self, call: impl FnOnce() -> R) -> R {
+        let this = this_processor();
+        if self.owner.load(Ordering::Relaxed) == this {
+            return call();
+        }
+        while self
+            .owner
+            .compare_exchange(NOBODY, this, Ordering::Acquire, Ordering::Relaxed)
+            .is_err()
+        {
+            thread::yield_now();
+        }
+        let result = call();
+        self.owner.store(NOBODY, Ordering::Release);
+        thread::yield_now();
+        result
+    }
+}
+
+// ---- who is refused
+
+#[test]
+fn rings_come_and_go() {
+    let (port, cable) = (Shared::new(Alone), Cable::default());
+    assert_eq!(port.with(|_ring| ()), Err(SharedError::NoRings));
+    assert_eq!(port.stop().err(), Some(SharedError::NoRings));
+    let uart = Uart16550::new_with_backend(cable.clone());
+    let refused = port.start(memory().global(), uart, 0, 1).unwrap_err();
+    assert_eq!(refused.1, StartError::NoRings(RingError::BadCapacity));
+    start(&port, &cable);
+    let uart = Uart16550::new_with_backend(cable.clone());
+    let (uart, cause) = port.start(memory().global(), uart, 1, 1).unwrap_err();
+    assert_eq!(cause, StartError::Started);
+    let within = port
+        .with(|_ring| port.start(memory().global(), uart, 1, 1))
+        .unwrap();
+    assert_eq!(within.unwrap_err().1, StartError::InUse);
+    assert_eq!(port.with(|ring| ring.queue(b"abc")), Ok(3));
+    assert_eq!(port.stop().unwrap().transmit_len(), 0);
+    assert_eq!(port.with(|_ring| ()), Err(SharedError::NoRings));
+    cable.chip().send_all();
+    start(&port, &cable);
+}
+
+#[test]
+fn a_call_in_a_call_is_refused_and_the_outer_one_goes_on() {
+    let (port, cable) = (Shared::new(ProcessorLock::new()), Cable::default());
+    start(&port, &cable);
+    let within = port.with(|ring| {
+        assert_eq!(
+            port.with(|ring| ring.queue(b"inner")),
+            Err(SharedError::InUse)
+        );
+        assert_eq!(port.stop().err(), Some(SharedError::InUse));
+        assert_eq!(port.blocking(Turns(9)).write(b"x"), Err(SharedError::InUse));
+        let mut context = Context::from_waker(Waker::noop());
+        let polled = pin!(port.read(&mut [0])).poll(&mut context);
+        assert_eq!(polled, Poll::Ready(Err(SharedError::InUse)));
+        ring.queue(b"outer")
+    });
+    assert_eq!(within, Ok(5));
+    cable.chip().send_all();
+    assert_eq!(cable.chip().wire, b"outer");
+}
+
+#[test]
+fn a_call_that_unwinds_leaves_the_rings_to_others() {
+    let (port, cable) = (Shared::new(Alone), Cable::default());
+    start(&port, &cable);
+    let call = std::panic::AssertUnwindSafe(|| port.with(|_ring| panic!("on purpose")));
+    assert!(std::panic::catch_unwind(call).is_err());
+    assert_eq!(port.with(|ring| ring.queue(b"x")), Ok(1));
+}
+
+#[test]
+fn a_section_that_keeps_nobody_out_makes_refusals_and_no_races() {
+    static PORT: Shared<Alone, Cable> = Shared::new(Alone);
+    static INSIDE: AtomicUsize = AtomicUsize::new(0);
+    start(&PORT, &Cable::default());
+    let refused = thread::scope(|scope| {
+        let threads = [(); 2].map(|()| {
+            scope.spawn(|| {
+                let calls = (0..10_000).map(|_call| {
+                    PORT.with(|_ring| {
+                        assert_eq!(INSIDE.fetch_add(1, Ordering::SeqCst), 0);
+                        spin_loop();
+                        INSIDE.fetch_sub(1, Ordering::SeqCst);
+                    })
+                });
+                calls
+                    .filter(|call| *call == Err(SharedError::InUse))
+                    .count()
+            })
+        });
+        threads.map(|thread| thread.join().unwrap())
+    });
+    assert!(refused.iter().all(|count| *count <= 10_000));
+}
+
+// ---- threads that wait
+
+/// A thread that waits so many times.
+struct Turns(u32);
+
+impl Wait for Turns {
+    fn wait(&mut self, _is_there: impl FnMut() -> bool) -> bool {
+        self.0 = self.0.saturating_sub(1);
+        self.0 > 0
+    }
+}
+
+/// A thread that waits until the function returns true, at most so many looks, and lets time pass for the chip.
+struct Looks<'a> {
+    port: &'a Shared<Alone, Cable>,
+    cable: &'a Cable,
+    left: u32,
+}
+
+impl Wait for Looks<'_> {
+    fn wait(&mut self, mut is_there: impl FnMut() -> bool) -> bool {
+        while self.left > 0 && !is_there() {
+            self.left -= 1;
+            self.cable.chip().send_all();
+            handle(self.port, self.cable);
+        }
+        self.left > 0
+    }
+}
+
+fn waiting<'a>(
+    port: &'a Shared<Alone, Cable>,
+    cable: &'a Cable,
+) -> Blocking<'a, Alone, Cable, Looks<'a>> {
+    let left = 1000;
+    port.blocking(Looks { port, cable, left })
+}
+
+#[test]
+fn a_thread_waits_for_room_and_for_the_end() {
+    let (port, cable) = (Shared::new(Alone), Cable::default());
+    start(&port, &cable);
+    let text: Vec<u8> = (0..=255).collect();
+    let mut blocking = waiting(&port, &cable);
+    assert_eq!(blocking.send_bytes_exact(&text), Ok(()));
+    assert!(cable.chip().wire.len() < text.len());
+    // The looks of `flush` for the chip let no time pass, so they end.
+    cable.chip().send_all();
+    assert_eq!(blocking.write(&[]), Ok(0));
+    while port.with(|ring| ring.transmit_len()) != Ok(0) {
+        cable.chip().send_all();
+        handle(&port, &cable);
+    }
+    cable.chip().send_all();
+    assert_eq!(blocking.flush(), Ok(()));
+    assert_eq!(cable.chip().wire, text);
+}
+
+#[test]
+fn a_wait_that_is_given_up_loses_nothing() {
+    let (port, cable) = (Shared::new(Alone), Cable::default());
+    start(&port, &cable);
+    let text = [b'x'; 100];
+    let unfinished = port.blocking(Turns(3)).send_bytes_exact(&text).unwrap_err();
+    // 16 bytes are in the chip, and the ring is full.
+    let done = 16 + CAPACITY;
+    let cause = SharedError::GaveUp;
+    assert_eq!(unfinished, Unfinished { done, cause });
+    assert_eq!(port.blocking(Turns(3)).write_ready(), Ok(false));
+    assert_eq!(port.blocking(Turns(3)).flush(), Err(cause));
+    assert_eq!(
+        waiting(&port, &cable).send_bytes_exact(&text[done..]),
+        Ok(())
+    );
+    assert_eq!(port.blocking(Turns(3)).read_ready(), Ok(false));
+    assert_eq!(port.blocking(Turns(3)).read(&mut [0]), Err(cause));
+    cable.chip().received.extend(b"abc");
+    handle(&port, &cable);
+    let mut slots = [0; 4];
+    let unfinished = port
+        .blocking(Turns(3))
+        .receive_bytes_exact(&mut slots)
+        .unwrap_err();
+    assert_eq!(
+        (unfinished, &slots),
+        (Unfinished { done: 3, cause }, b"abc\0")
+    );
+    assert_eq!(unfinished.to_string(), "waiting was given up after 3 bytes");
+    assert_eq!(port.blocking(Turns(3)).read(&mut []), Ok(0));
+}
+
+#[test]
+fn a_flush_ends_when_the_chip_never_empties() {
+    let (port, cable) = (Shared::new(Alone), Cable::default());
+    start(&port, &cable);
+    let limit = 5.try_into().unwrap();
+    port.with(|ring| ring.inner_mut().set_spin_limit(limit))
+        .unwrap();
+    port.with(|ring| ring.queue(b"x")).unwrap();
+    assert_eq!(waiting(&port, &cable).flush(), Err(SharedError::GaveUp));
+    let mut context = Context::from_waker(Waker::noop());
+    let mut flush = pin!(port.flush());
+    for _look in 0..5 {
+        assert!(flush.as_mut().poll(&mut context).is_pending());
+    }
+    assert_eq!(
+        flush.poll(&mut context),
+        Poll::Ready(Err(SharedError::GaveUp))
+    );
+}
+
+// ---- no wake is lost
+
+/// What happens at the other end of the cable.
+#[derive(Clone, Copy)]
+enum Event {
+    Arrival(u8),
+    Sent,
+}
+
+/// A processor whose interrupts come at given moments: around each section, and around each poll, clone and wake.
+struct World {
+    cable: Cable,
+    is_masked: AtomicBool,
+    moments: AtomicUsize,
+    events: Mutex<Vec<(usize, Event)>>,
+    is_woken: AtomicBool,
+    port: OnceLock<Shared<Interrupted, Cable>>,
+}
+
+struct Interrupted(Arc<World>);
+
+impl CriticalSection for Interrupted {
+    fn run<R>(&self, call: impl FnOnce() -> R) -> R {
+        self.0.pass();
+        let was_masked = self.0.is_masked.swap(true, Ordering::SeqCst);
+        let result = call();
+        self.0.is_masked.store(was_masked, Ordering::SeqCst);
+        self.0.pass();
+        result
+    }
+}
+
+impl Wake for World {
+    fn wake(self: Arc<Self>) {
+        self.pass();
+        // Outside of the section: so a waker may come back here.
+        assert_ne!(self.port().with(|_ring| ()), Err(SharedError::InUse));
+        self.is_woken.store(true, Ordering::SeqCst);
+        self.pass();
+    }
+}
+
+impl World {
+    fn new(events: Vec<(usize, Event)>) -> Arc<Self> {
+        let world = Arc::new(Self {
+            cable: Cable::default(),
+            is_masked: AtomicBool::new(false),
+            moments: AtomicUsize::new(0),
+            events: Mutex::new(Vec::new()),
+            is_woken: AtomicBool::new(false),
+            port: OnceLock::new(),
+        });
+        let port = Shared::new(Interrupted(world.clone()));
+        start(&port, &world.cable);
+        assert!(world.port.set(port).is_ok());
+        world.moments.store(0, Ordering::SeqCst);
+        *world.events.lock().unwrap() = events;
+        world
+    }
+
+    fn port(&self) -> &Shared<Interrupted, Cable> {
+        self.port.get().unwrap()
+    }
+
+    /// A moment: what is to happen now happens, and the handler runs if it may.
+    fn pass(&self) {
+        let now = self.moments.fetch_add(1, Ordering::SeqCst);
+        let due = {
+            let mut events = self.events.lock().unwrap();
+            let is_due = |(moment, _): &(usize, Event)| *moment <= now;
+            let (due, rest): (Vec<_>, _) = events.iter().copied().partition(is_due);
+            *events = rest;
+            due
+        };
+        due.into_iter().for_each(|(_, event)| self.happen(event));
+        self.interrupt();
+    }
+
+    fn happen(&self, event: Event) {
+        match event {
+            Event::Arrival(byte) => self.cable.chip().received.push_back(byte),
+            Event::Sent => self.cable.chip().send_all(),
+        }
+    }
+
+    fn interrupt(&self) {
+        if self.port.get().is_none() {
+            return;
+        }
+        if self.cable.chip().is_interrupting() && !self.is_masked.swap(true, Ordering::SeqCst) {
+            handle(self.port(), &self.cable);
+            self.is_masked.store(false, Ordering::SeqCst);
+        }
+    }
+
+    /// Sleeps until the next event. Returns false if there is none.
+    fn sleep(&self) -> bool {
+        let next = {
+            let mut events = self.events.lock().unwrap();
+            (!events.is_empty()).then(|| events.remove(0))
+        };
+        let is_some = next.is_some();
+        next.into_iter().for_each(|(_, event)| self.happen(event));
+        self.interrupt();
+        is_some
+    }
+}
+
+/// Runs a task. It fails if the task sleeps, and nothing is to come that would wake it.
+fn block_on<F: Future>(world: &Arc<World>, task: F) -> F::Output {
+    let waker = Waker::from(world.clone());
+    let mut context = Context::from_waker(&waker);
+    let mut task = pin!(task);
+    for _turn in 0..1000 {
+        world.is_woken.store(false, Ordering::SeqCst);
+        world.pass();
+        if let Poll::Ready(output) = task.as_mut().poll(&mut context) {
+            return output;
+        }
+        world.pass();
+        while !world.is_woken.load(Ordering::SeqCst) {
+            assert!(world.sleep(), "a wake is lost");
+        }
+    }
+    panic!("the task is woken again and again")
+}
+
+// More moments than a task comes through that finds nothing at first.
+const MOMENTS: usize = 24;
+
+/// Calls the function with each pair of moments.
+fn each_two_moments(call: impl Fn(usize, usize)) {
+    for first in 0..MOMENTS {
+        for second in first..MOMENTS {
+            call(first, second);
+        }
+    }
+}
+
+#[test]
+fn a_reader_is_woken_wherever_a_byte_arrives() {
+    each_two_moments(|first, second| {
+        let events = vec![
+            (first, Event::Arrival(b'a')),
+            (second, Event::Arrival(b'b')),
+        ];
+        let world = World::new(events);
+        let got = block_on(&world, async {
+            let (mut got, mut slots) = (Vec::<u8>::new(), [0; 4]);
+            while got.len() < 2 {
+                let count = world.port().read(&mut slots).await.unwrap();
+                got.extend(&slots[..count]);
+            }
+            got
+        });
+        assert_eq!(
+            got, b"ab",
+            "bytes arrive at the moments {first} and {second}"
+        );
+    });
+}
+
+#[test]
+fn a_writer_is_woken_wherever_the_chip_empties() {
+    let text: Vec<u8> = (0..70).collect();
+    each_two_moments(|first, second| {
+        let later = (0..9).map(|_event| (usize::MAX, Event::Sent));
+        let events = [(first, Event::Sent), (second, Event::Sent)]
+            .into_iter()
+            .chain(later);
+        let world = World::new(events.collect());
+        block_on(&world, async {
+            let mut rest = &text[..];
+            while !rest.is_empty() {
+                rest = &rest[world.port().write(rest).await.unwrap()..];
+            }
+        });
+        block_on(&world, async {
+            let mut flush = pin!(world.port().flush());
+            // Time passes at each look.
+            std::future::poll_fn(|context| {
+                world.cable.chip().send_all();
+                world.interrupt();
+                flush.as_mut().poll(context)
+            })
+            .await
+            .unwrap();
+        });
+        assert_eq!(
+            world.cable.chip().wire,
+            text,
+            "sent at the moments {first} and {second}"
+        );
+    });
+}
+
+#[test]
+fn a_flush_is_woken_wherever_the_ring_empties() {
+    each_two_moments(|first, second| {
+        let later = (0..9).map(|_event| (usize::MAX, Event::Sent));
+        let events = [(first, Event::Sent), (second, Event::Sent)]
+            .into_iter()
+            .chain(later);
+        let world = World::new(events.collect());
+        let limit = 3.try_into().unwrap();
+        world
+            .port()
+            .with(|ring| ring.inner_mut().set_spin_limit(limit))
+            .unwrap();
+        assert_eq!(world.port().with(|ring| ring.queue(&[1; 30])), Ok(30));
+        // The last bytes may be in the chip still, for which no interrupt comes.
+        let flushed = block_on(&world, world.port().flush());
+        assert!(matches!(flushed, Ok(()) | Err(SharedError::GaveUp)));
+        assert_eq!(world.port().with(|ring| ring.transmit_len()), Ok(0));
+    });
+}
+
+#[test]
+fn a_task_that_is_cancelled_loses_nothing() {
+    let world = World::new(Vec::new());
+    let waker = Waker::from(world.clone());
+    let mut context = Context::from_waker(&waker);
+    let mut slots = [0; 4];
+    {
+        let mut read = pin!(world.port().read(&mut slots));
+        assert!(read.as_mut().poll(&mut context).is_pending());
+        world.happen(Event::Arrival(b'a'));
+        world.interrupt();
+        assert!(world.is_woken.swap(false, Ordering::SeqCst));
+        // It is dropped here, after it was woken.
+    }
+    assert_eq!(block_on(&world, world.port().read(&mut slots)), Ok(1));
+    assert_eq!(slots, *b"a\0\0\0");
+    // 16 of them are in the chip, and one more than the ring holds is left.
+    assert_eq!(block_on(&world, world.port().write(&[b'x'; 16])), Ok(16));
+    assert_eq!(
+        block_on(&world, world.port().write(&[b'x'; CAPACITY])),
+        Ok(CAPACITY)
+    );
+    assert!(
+        pin!(world.port().write(b"y"))
+            .poll(&mut context)
+            .is_pending()
+    );
+    for _sent in 0..9 {
+        world.happen(Event::Sent);
+        world.interrupt();
+    }
+    assert_eq!(world.cable.chip().wire, [b'x'; 16 + CAPACITY]);
+}
+
+#[test]
+fn a_task_that_waits_when_the_rings_go_is_told() {
+    let world = World::new(Vec::new());
+    let waker = Waker::from(world.clone());
+    let mut context = Context::from_waker(&waker);
+    let mut slots = [0];
+    let mut read = pin!(world.port().read(&mut slots));
+    assert!(read.as_mut().poll(&mut context).is_pending());
+    assert!(world.port().stop().is_ok());
+    assert!(world.is_woken.load(Ordering::SeqCst));
+    assert_eq!(
+        read.poll(&mut context),
+        Poll::Ready(Err(SharedError::NoRings))
+    );
+}
+
+/// A waker that counts.
+#[derive(Default)]
+struct Count(AtomicUsize);
+
+impl Wake for Count {
+    fn wake(self: Arc<Self>) {
+        self.0.fetch_add(1, Ordering::SeqCst);
+    }
+}
+
+#[test]
+fn of_two_tasks_that_wait_for_the_same_none_is_forgotten() {
+    let (port, cable) = (Shared::new(Alone), Cable::default());
+    start(&port, &cable);
+    let counts = [(); 2].map(|()| Arc::new(Count::default()));
+    let wakers = counts.clone().map(Waker::from);
+    let poll = |task: usize| {
+        let mut slots = [0];
+        let read = pin!(port.read(&mut slots));
+        read.poll(&mut Context::from_waker(&wakers[task]))
+    };
+    let woken = || {
+        counts
+            .clone()
+            .map(|count| count.0.swap(0, Ordering::SeqCst))
+    };
+    assert!(poll(0).is_pending());
+    assert!(poll(0).is_pending());
+    assert_eq!(woken(), [0, 0]);
+    // The second one takes the place, so the first one looks again, and takes the place in its turn.
+    assert!(poll(1).is_pending());
+    assert_eq!(woken(), [1, 0]);
+    assert!(poll(0).is_pending());
+    assert_eq!(woken(), [0, 1]);
+    cable.chip().received.extend(b"a");
+    handle(&port, &cable);
+    assert_eq!(woken(), [1, 0]);
+    assert_eq!(poll(0), Poll::Ready(Ok(1)));
+}
+
+#[test]
+fn a_reader_and_a_writer_do_not_wake_each_other() {
+    let (port, cable) = (Shared::new(Alone), Cable::default());
+    start(&port, &cable);
+    let counts = [(); 2].map(|()| Arc::new(Count::default()));
+    let [reader, writer] = counts.clone().map(Waker::from);
+    let woken = || {
+        counts
+            .clone()
+            .map(|count| count.0.swap(0, Ordering::SeqCst))
+    };
+    assert_eq!(port.with(|ring| ring.queue(&[0; 16])), Ok(16));
+    assert_eq!(port.with(|ring| ring.queue(&[0; CAPACITY])), Ok(CAPACITY));
+    let mut slots = [0];
+    assert!(
+        port.poll_read(&mut Context::from_waker(&reader), &mut slots)
+            .is_pending()
+    );
+    assert!(
+        port.poll_write(&mut Context::from_waker(&writer), b"x")
+            .is_pending()
+    );
+    assert_eq!(woken(), [0, 0]);
+    cable.chip().received.extend(b"a");
+    handle(&port, &cable);
+    assert_eq!(woken(), [1, 0]);
+    cable.chip().send_all();
+    handle(&port, &cable);
+    assert_eq!(woken(), [0, 1]);
+}
+
+// ---- tasks on threads
+
+// In which a test has to come to its end.
+const TURNS: usize = 10_000_000;
+
+// How long a thread sleeps at most, where a wake is due in microseconds.
+const PATIENCE: Duration = Duration::from_secs(20);
+
+/// A thread that sleeps until it is woken.
+struct Parked(thread::Thread);
+
+impl Wake for Parked {
+    fn wake(self: Arc<Self>) {
+        self.0.unpark();
+    }
+}
+
+fn park_on<F: Future>(task: F) -> F::Output {
+    let waker = Waker::from(Arc::new(Parked(thread::current())));
+    let mut task = pin!(task);
+    for _turn in 0..TURNS {
+        if let Poll::Ready(output) = task.as_mut().poll(&mut Context::from_waker(&waker)) {
+            return output;
+        }
+        let begun = Instant::now();
+        thread::park_timeout(PATIENCE);
+        assert!(begun.elapsed() < PATIENCE, "a wake is lost");
+    }
+    panic!("the task is woken again and again")
+}
+
+async fn write_all(port: &Shared<ProcessorLock, Cable>, mut bytes: &[u8]) {
+    while !bytes.is_empty() {
+        bytes = &bytes[port.write(bytes).await.unwrap()..];
+    }
+}
+
+#[test]
+fn two_threads_of_tasks_and_a_handler_lose_no_byte() {
+    static PORT: Shared<ProcessorLock, Cable> = Shared::new(ProcessorLock::new());
+    const COUNT: usize = 10_000;
+    let cable = Cable::default();
+    start(&PORT, &cable);
+    let text: Vec<u8> = (0..COUNT).map(|index| (index % 251) as u8).collect();
+    let is_over = AtomicBool::new(false);
+    thread::scope(|scope| {
+        // The handler, and the other end, which sends back what comes.
+        scope.spawn(|| {
+            for _turn in 0..TURNS {
+                if is_over.load(Ordering::SeqCst) {
+                    break;
+                }
+                {
+                    let mut chip = cable.chip();
+                    chip.send_all();
+                    let back: Vec<u8> = std::mem::take(&mut chip.wire);
+                    chip.received.extend(back);
+                }
+                handle(&PORT, &cable);
+                thread::yield_now();
+            }
+        });
+        scope.spawn(|| park_on(write_all(&PORT, &text)));
+        let read = scope.spawn(|| {
+            park_on(async {
+                let (mut got, mut slots) = (Vec::<u8>::new(), [0; 7]);
+                while got.len() < COUNT {
+                    let count = PORT.read(&mut slots).await.unwrap();
+                    got.extend_from_slice(&slots[..count]);
+                }
+                got
+            })
+        });
+        let got = read.join();
+        is_over.store(true, Ordering::SeqCst);
+        assert!(got.unwrap() == text);
+    });
+}

@@ -1,0 +1,83 @@
+"""The package of each emitted crate: its Cargo.toml, and what its root begins with."""
+import re
+
+import examples
+import table
+
+VERSION = "0.9.0"
+# What shipped code needs of Rust, and what the programs do.
+RUST = {True: "1.85", False: "1.87"}
+KIT, KIT_OF_RINGS = "geesetrunk-kit", "geesetrunk-kit-of-rings"
+FOLDERS = {KIT: "../../kit", KIT_OF_RINGS: "../../kit_of_rings"}
+ALLOWED = "unused_imports, unused_labels, unused_parens, unused_braces, dead_code, clippy::all, clippy::pedantic"
+
+
+class Crates:
+    """What crates.txt says: which crates each one uses, and what it is."""
+
+    def __init__(self, text):
+        self.uses, self.about, about = {}, {}, ""
+        for line in text.splitlines():
+            if line.startswith("#"):
+                about = line[1:].strip()
+            elif ":" in line:
+                head, used = line.split(":")
+                self.uses[head.split()[0]], self.about[head.split()[0]] = used.split(), about
+
+
+def package(crate):
+    return f"geesetrunk-proved-{crate}"
+
+
+def libraries(crate, uses):
+    """The libraries that a crate uses, each with the package that has it."""
+    for name in ["std", *(one for one in table.LIBRARIES if one in uses)]:
+        yield name, KIT_OF_RINGS if crate == table.OF_RINGS and name == "std" else KIT
+
+
+def dependency(name, **entries):
+    inside = ", ".join(f"{key} = {value}" for key, value in entries.items())
+    return f"{name} = {{ {inside} }}\n"
+
+
+def quoted(text):
+    return f'"{text}"'
+
+
+def manifest(crate, crates):
+    """Cargo.toml of a crate."""
+    uses, ships = crates.uses[crate], crate in table.SHIPS
+    has_io = crate in table.EMBEDDED_IO
+    text = "# Made by `tools/eraser/erase emit` from crates.txt. Do not edit.\n\n[package]\n"
+    text += f'name = "{package(crate)}"\nversion = "{VERSION}"\nedition = "2024"\nrust-version = "{RUST[ships]}"\n'
+    text += f'description = "Part of geesetrunk, and no interface: {crates.about[crate]}"\nlicense = "MIT OR Apache-2.0"\n'
+    text += "" if ships else "publish = false\n"
+    text += f'\n[lib]\nname = "proved_{crate}"\n'
+    if has_io:
+        below = [quoted(f"{one}/embedded-io") for one in uses if one in table.EMBEDDED_IO]
+        text += f"\n[features]\nembedded-io = [{', '.join([quoted('dep:embedded-io'), *below])}]\n"
+    text += "\n[dependencies]\n"
+    for name in dict.fromkeys(one for _, one in libraries(crate, uses)):
+        features = {} if ships else {"features": '["std"]'}
+        text += dependency(name, path=quoted(FOLDERS[name]), version=quoted(f"={VERSION}"), **features)
+    for name in uses:
+        if name in table.CRATES:
+            text += dependency(name, package=quoted(package(name)), path=quoted(f"../{name}"), version=quoted(f"={VERSION}"))
+    if has_io:
+        text += dependency("embedded-io", version=quoted("0.7"), optional="true")
+    if crate in examples.SHARED:
+        facade, name, _ = examples.SHARED[crate]
+        text += "\n# For the examples of the documentation, which name the package that users name.\n[dev-dependencies]\n"
+        text += dependency(name, package=quoted(f"geesetrunk-{facade}"), path=quoted(f"../../{facade}"))
+    return text
+
+
+def root(crate, crates, text):
+    """The root of a crate, of which the eraser left this: attributes and libraries stand behind its documentation."""
+    found = re.match(r"(?://![^\n]*\n)*", text)
+    lines = ["#![no_std]", "#![forbid(unsafe_code)]", f"#![allow({ALLOWED})]", "#![allow(rustdoc::broken_intra_doc_links)]", ""]
+    if crate not in table.SHIPS:
+        lines += ['const _: () = assert!(usize::BITS == 64, "what is not for users is for targets of 64 bits");', ""]
+    for name, of in libraries(crate, crates.uses[crate]):
+        lines += ["#[macro_use]"] * (name == "std") + [f"extern crate {of.replace('-', '_')} as {name};"]
+    return found[0] + "\n".join(lines) + "\n\n" + text[found.end() :].lstrip("\n")
