@@ -35,13 +35,18 @@ def files_of(root):
         paths += [root / folder / "Cargo.toml", root / folder / "build.rs", *(root / folder / ".cargo").rglob("*")]
         paths += (root / folder / "src").rglob("*")
     emitted = root / table.OUTPUT
-    paths += [path for path in emitted.rglob("*") if names.is_by_hand(path.relative_to(emitted)) or path.name in ("build.rs", ".cargo")]
+    paths += [path for path in emitted.rglob("*") if is_around(path.relative_to(emitted))]
     for path in sorted(paths):
         if path.is_symlink():
             files[str(path.relative_to(root))] = None
         elif path.is_file():
             files[str(path.relative_to(root))] = path.read_text(encoding="utf-8")
     return files
+
+
+def is_around(path):
+    """Whether a file below the emitted folder is by hand and could change what a package means. A test cannot."""
+    return path.name in ("build.rs", ".cargo") or names.is_by_hand(path) and not names.is_test(path)
 
 
 def causes(files):

@@ -306,7 +306,7 @@ def there(folder):
     """The files of a folder by name, with their bytes, and what is no plain file. What is by hand is left out."""
     found, odd = {}, []
     for path in sorted(folder.rglob("*")):
-        if names.is_by_hand(path.relative_to(folder)):
+        if names.is_by_hand(path.relative_to(folder)) or names.is_test(path.relative_to(folder)):
             continue
         name = str(path.relative_to(folder))
         if path.is_symlink() or not (path.is_dir() or path.is_file()):

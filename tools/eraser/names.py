@@ -59,7 +59,8 @@ def methods_by_hand(allow, types, root=ROOT):
     """The functions that files by hand put into these types, or by a macro into any, by name, with their file."""
     found = {}
     for path in sorted((root / allow.OUTPUT).rglob("*.rs")):
-        if not is_by_hand(path.relative_to(root / allow.OUTPUT)):
+        name = path.relative_to(root / allow.OUTPUT)
+        if is_test(name) or not is_by_hand(name):
             continue
         text = re.sub(r"(?m)//.*$", "", path.read_text(encoding="utf-8"))
         for block in re.finditer(r"(?m)^( *)impl\b(?:<[^{]*?>)? +([$\w:]+)([^{]*)\{.*?^\1\}", text, re.DOTALL):
@@ -71,5 +72,11 @@ def methods_by_hand(allow, types, root=ROOT):
 
 
 def is_by_hand(path):
-    """Whether a file below the emitted folder is by hand: `by_hand.rs`, or one in a folder of that name."""
+    """Whether a file below the emitted folder is by hand, in an emitted crate: `by_hand.rs`, or one in a folder of that name."""
     return path.name == "by_hand.rs" or "by_hand" in path.parts
+
+
+def is_test(path):
+    """Whether a file below the emitted folder is a test by hand, as `uart_ring/tests/calls.rs`. For cargo each is a crate of its own, which
+    sees what the package exports and changes nothing in it."""
+    return len(path.parts) > 2 and path.parts[1] == "tests"

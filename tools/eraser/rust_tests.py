@@ -12,8 +12,8 @@ OUTPUT = "rust/proved_tests/src/erased"
 
 # The crates with tests. Of the last one only these are compiled: the others are of callers, which are proved.
 CRATES = ["uart_calls", "uart_machine", "uart_uses", "uart_virtual"]
-OF_USES = ["audit", "findings", "recording", "replay", "rings"]
-USES = "//! The tests of the judges and of the rings.\n\n" + "".join(f"mod {name};\n" for name in OF_USES)
+OF_USES = ["rings"]
+USES = "//! The tests of the rings.\n\n" + "".join(f"mod {name};\n" for name in OF_USES)
 
 # Heads of paths. A file of tests of the rings takes the allocator of the rings.
 KIT, KIT_OF_RINGS = "geesetrunk_kit", "geesetrunk_kit_of_rings"

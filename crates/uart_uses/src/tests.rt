@@ -1,12 +1,7 @@
-//! Each caller is run once, with what its contract says about the run. In modules are the tests of
-//! `uart_judges` and `uart_ring`: a crate with tests is proved once more for them, and those two
-//! take long.
+//! Each caller is run once, with what its contract says about the run. In modules are a monitor and
+//! the tests of the rings, with the handler of the documentation.
 
-mod audit;
-mod findings;
 mod monitor;
-mod recording;
-mod replay;
 mod rings;
 
 use crate::{

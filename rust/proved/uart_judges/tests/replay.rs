@@ -1,11 +1,10 @@
 //! Small recordings, and the rule that the last read of each breaks.
-use std::process::Abort;
-use std::test::Fail;
+
+use proved_uart_judges::replay::{Difference, Replayer, Rule, Start};
 use uart_chip::Chip;
-use uart_judges::replay::{Difference, Replayer, Rule, Start};
 use uart_spec::registers::offsets::{DATA, FCR, IER, ISR, LCR, LSR, MCR, MSR, SPR};
 
-// An access to a register, and the value that was read or written.
+/// An access to a register, and the value that was read or written.
 #[derive(Clone, Copy, Debug)]
 enum Step {
     Read(usize, u8),
@@ -18,7 +17,7 @@ use Rule::{
 };
 use Step::{Read, Write};
 
-// Returns what is reported for the last access.
+/// Returns what is reported for the last access.
 fn last(model: Chip, start: Start, steps: &[Step]) -> Option<Rule> {
     let mut replayer = Replayer::new(model, start);
     let mut reported = None;
@@ -34,23 +33,23 @@ fn last(model: Chip, start: Start, steps: &[Step]) -> Option<Rule> {
     reported.map(|difference| difference.rule)
 }
 
-// Accesses, and the rule that the last of them breaks.
+/// Accesses, and the rule that the last of them breaks.
 type Case<'a> = (&'a [Step], Option<Rule>);
 
-// Asserts what is reported for the last access of each list.
-fn assert_last(rt: &impl Abort, model: Chip, start: Start, cases: &[Case<'_>]) {
+/// Asserts what is reported for the last access of each list.
+fn assert_last(model: Chip, start: Start, cases: &[Case<'_>]) {
     for &(steps, want) in cases {
-        assert_eq!(rt; last(model, start, steps), want, "after {steps:?}");
+        assert_eq!(last(model, start, steps), want, "after {steps:?}");
     }
 }
 
-// A divisor, while the latch that it is written to is open.
+/// A divisor, while the latch that it is written to is open.
 const LATCHED: [Step; 3] = [Write(LCR, 0x83), Write(DATA, 0x0c), Write(IER, 0x01)];
 
 #[test]
-fn latches(rt: HostRuntime) {
+fn latches() {
     let [lcr, dll, dlm] = LATCHED;
-    let at_reset: [Case<'_>; 5] = [
+    let at_reset: &[Case<'_>] = &[
         (&[Read(MCR, 0x08)], Some(Keeps(0))),
         (&[Write(IER, 0xff), Read(IER, 0xff)], Some(Keeps(0x0f))),
         (&[Write(MCR, 0xff), Read(MCR, 0x1f)], None),
@@ -58,20 +57,20 @@ fn latches(rt: HostRuntime) {
         // A value that was reported is left out of what follows.
         (&[Read(LCR, 0x03), Read(LCR, 0x00)], None),
     ];
-    assert_last(&rt, Chip::Uart16550A, Start::Reset, &at_reset);
-    let in_use: [Case<'_>; 5] = [
+    assert_last(Chip::Uart16550A, Start::Reset, at_reset);
+    let in_use: &[Case<'_>] = &[
         (&[Read(MCR, 0x08)], None),
         (&[Write(SPR, 0x5a), Read(SPR, 0xff)], Some(Keeps(0x5a))),
         (&[Read(SPR, 0x11), Read(SPR, 0x10)], Some(Keeps(0x11))),
         (&[lcr, dll, dlm, Read(DATA, 0x0c)], None),
         (&[lcr, dll, dlm, Read(IER, 0x00)], Some(Keeps(0x01))),
     ];
-    assert_last(&rt, Chip::Uart16550A, Start::InUse, &in_use);
+    assert_last(Chip::Uart16550A, Start::InUse, in_use);
 }
 
 #[test]
-fn interrupts(rt: HostRuntime) {
-    let at_reset: [Case<'_>; 6] = [
+fn interrupts() {
+    let at_reset: &[Case<'_>] = &[
         (&[Write(FCR, 0x07), Read(ISR, 0xc1)], None),
         (&[Write(FCR, 0x07), Read(ISR, 0x01)], Some(FifoBits)),
         (&[Write(FCR, 0x07), Read(ISR, 0x81)], Some(FifoBits)),
@@ -79,29 +78,30 @@ fn interrupts(rt: HostRuntime) {
         (&[Write(IER, 0x02), Read(ISR, 0x04)], Some(Interrupt)),
         (&[Write(IER, 0x0f), Read(ISR, 0x08)], Some(Interrupt)),
     ];
-    assert_last(&rt, Chip::Uart16550A, Start::Reset, &at_reset);
-    let of_16450: [Case<'_>; 2] = [
+    assert_last(Chip::Uart16550A, Start::Reset, at_reset);
+    let of_16450: &[Case<'_>] = &[
         (&[Write(FCR, 0x07), Read(ISR, 0xc1)], Some(FifoBits)),
         (&[Read(ISR, 0x0c)], Some(Interrupt)),
     ];
-    assert_last(&rt, Chip::Uart16450, Start::InUse, &of_16450);
+    assert_last(Chip::Uart16450, Start::InUse, of_16450);
 }
 
 #[test]
-fn line_status(rt: HostRuntime) {
-    let at_reset: [Case<'_>; 6] = [
+fn line_status() {
+    let at_reset: &[Case<'_>] = &[
         (&[Read(LSR, 0xe9)], Some(FifoError)),
         (&[Read(LSR, 0x61), Read(DATA, 0x41), Read(LSR, 0x60)], None),
         (&[Read(LSR, 0x61), Write(FCR, 0x07), Read(LSR, 0x60)], None),
         (&[Read(LSR, 0x00)], Some(StaysIdle)),
         (&[Write(DATA, 0x41), Read(LSR, 0x00)], None),
+        // A byte that went into the divisor latch is not sent.
         (
             &[Write(LCR, 0x80), Write(DATA, 1), Read(LSR, 0x00)],
             Some(StaysIdle),
         ),
     ];
-    assert_last(&rt, Chip::Uart16550A, Start::Reset, &at_reset);
-    let in_use: [Case<'_>; 8] = [
+    assert_last(Chip::Uart16550A, Start::Reset, at_reset);
+    let in_use: &[Case<'_>] = &[
         (&[Read(LSR, 0x40)], Some(EmptyBits)),
         (&[Read(LSR, 0x68)], Some(ErrorAlone)),
         (&[Read(LSR, 0xe9)], None),
@@ -113,29 +113,25 @@ fn line_status(rt: HostRuntime) {
         (&[Write(MCR, 0x1a), Read(MSR, 0x9b)], None),
         (&[Write(MCR, 0x1a), Read(MSR, 0xb0)], Some(LoopedLines)),
     ];
-    assert_last(&rt, Chip::Uart16550A, Start::InUse, &in_use);
+    assert_last(Chip::Uart16550A, Start::InUse, in_use);
 }
 
 #[test]
-fn texts(rt: HostRuntime) -> Result<(), Fail> {
-    let alloc = rt.alloc();
+fn texts() {
     let text = |offset, recorded, rule| {
         let difference = Difference {
             offset,
             recorded,
             rule,
         };
-        format!(in alloc; "{difference}")
+        difference.to_string()
     };
-    let latch = text(MCR, 0x08, Rule::Keeps(0))?;
-    assert_eq!(rt;
-        latch.as_str(),
+    assert_eq!(
+        text(MCR, 0x08, Keeps(0)),
         "MCR reads 08: the register keeps what is written to it, 00"
     );
-    let status = text(LSR, 0x40, Rule::EmptyBits)?;
-    assert_eq!(rt;
-        status.as_str(),
+    assert_eq!(
+        text(LSR, 0x40, EmptyBits),
         "LSR reads 40: bit 6 is set only with bit 5"
     );
-    Ok(())
 }

@@ -1,37 +1,11 @@
 //! What is printed for each finding and each difference, and where a recording ends early.
-use std::alloc::Global;
-use std::io;
-use std::io::{Read, Write};
-use std::process::Abort;
-use std::test::Fail;
-use uart_judges::findings::{Stop, audit, replay};
-use uart_judges::recording::RecordingError;
 
-// The judges of recordings.
-#[derive(Clone, Copy)]
-enum Judge {
-    Audit,
-    Replay,
-}
+use geesetrunk_kit::alloc::Global;
+use proved_uart_judges::findings::{Stop, audit, replay};
+use proved_uart_judges::recording::RecordingError;
+use std::io::{self, Read, Write};
 
-use Judge::{Audit, Replay};
-
-impl Judge {
-    // Prints what is found in a recording and returns how much that is.
-    fn judge<R: Read + Drop, W: Write>(
-        self,
-        alloc: Global,
-        reader: R,
-        out: &mut W,
-    ) -> Result<u64, Stop> {
-        match self {
-            Audit => audit(alloc, "f", reader, out),
-            Replay => replay(alloc, "f", reader, out),
-        }
-    }
-}
-
-// A recording, what is printed of it, and the number that is returned.
+/// A recording, what is printed of it, and the number that is returned.
 type Case = (&'static str, &'static str, u64);
 
 const AUDITED: [Case; 14] = [
@@ -190,48 +164,50 @@ const REPLAYED: [Case; 3] = [
     ("", "f: 0 lines, 0 differences\n", 0),
 ];
 
-// Asserts of each recording what the judge prints, and what it returns.
-fn assert_judged(rt: &(impl AllocGlobal + Abort), judge: Judge, cases: &[Case]) {
+/// Asserts of each recording what a judge prints, and what it returns.
+fn assert_judged(judge: impl Fn(&[u8], &mut Vec<u8>) -> Result<u64, Stop>, cases: &[Case]) {
     for &(recording, printed, count) in cases {
-        let mut out = Vec::new(rt.alloc());
-        let found = judge.judge(rt.alloc(), recording.as_bytes(), &mut out);
-        assert_eq!(rt; str::from_utf8(&out), Ok(printed), "of {recording}");
-        assert_eq!(rt; found.ok(), Some(count), "of {recording}");
+        let mut out = Vec::new();
+        let found = judge(recording.as_bytes(), &mut out);
+        assert_eq!(str::from_utf8(&out), Ok(printed), "of {recording}");
+        assert_eq!(found.ok(), Some(count), "of {recording}");
     }
 }
 
 #[test]
-fn findings(rt: HostRuntime) {
-    assert_judged(&rt, Audit, &AUDITED);
+fn findings() {
+    assert_judged(
+        |recording, out| audit(Global::heap(), "f", recording, out),
+        &AUDITED,
+    );
 }
 
 #[test]
-fn differences(rt: HostRuntime) {
-    assert_judged(&rt, Replay, &REPLAYED);
+fn differences() {
+    assert_judged(
+        |recording, out| replay(Global::heap(), "f", recording, out),
+        &REPLAYED,
+    );
 }
 
-// A reader that fails after its bytes.
-#[derive(Drop)]
-struct Failing<'a> {
-    bytes: &'a [u8],
-}
+/// A reader that fails after its bytes.
+struct Failing<'a>(&'a [u8]);
 
 impl Read for Failing<'_> {
     fn read(&mut self, buf: &mut [u8]) -> io::Result<usize> {
-        match self.bytes.read(buf) {
-            Ok(0) => Err(io::Error::from(io::ErrorKind::BrokenPipe)),
+        match self.0.read(buf) {
+            Ok(0) => Err(io::ErrorKind::BrokenPipe.into()),
             read => read,
         }
     }
 }
 
-// A writer that takes nothing.
-#[derive(Drop)]
+/// A writer that takes nothing.
 struct Full;
 
 impl Write for Full {
-    fn write(&mut self, _buf: &[u8]) -> io::Result<usize> {
-        Err(io::Error::from(io::ErrorKind::StorageFull))
+    fn write(&mut self, _: &[u8]) -> io::Result<usize> {
+        Err(io::ErrorKind::StorageFull.into())
     }
 
     fn flush(&mut self) -> io::Result<()> {
@@ -240,23 +216,21 @@ impl Write for Full {
 }
 
 #[test]
-fn a_recording_that_ends_early(rt: HostRuntime) {
-    let mut out = Vec::new(rt.alloc());
-    let faulty = audit(rt.alloc(), "f", b"r 5 60\nr 8 00\n".as_slice(), &mut out);
-    assert!(rt;
-        matches!(
-            faulty,
-            Err(Stop::Recording(RecordingError::Faulty { line: 2, .. }))
-        )
-    );
-    let reader = Failing {
-        bytes: b"r 5 60\nr 5",
-    };
-    let unread = replay(rt.alloc(), "f", reader, &mut out);
-    assert!(rt; matches!(unread, Err(Stop::Recording(RecordingError::Unread(_)))));
-    assert!(rt; out.is_empty());
-    let unprinted = audit(rt.alloc(), "f", b"r 5 60\n".as_slice(), &mut Full);
-    assert!(rt; matches!(unprinted, Err(Stop::Output(_))));
-    let unprinted = replay(rt.alloc(), "f", b"r 5 40\n".as_slice(), &mut Full);
-    assert!(rt; matches!(unprinted, Err(Stop::Output(_))));
+fn a_recording_that_ends_early() {
+    let alloc = Global::heap();
+    let mut out = Vec::new();
+    let faulty = b"r 5 60\nr 8 00\n".as_slice();
+    assert!(matches!(
+        audit(alloc, "f", faulty, &mut out),
+        Err(Stop::Recording(RecordingError::Faulty { line: 2, .. }))
+    ));
+    assert!(matches!(
+        replay(alloc, "f", Failing(b"r 5 60\nr 5"), &mut out),
+        Err(Stop::Recording(RecordingError::Unread(_)))
+    ));
+    assert!(out.is_empty());
+    let unprinted = audit(alloc, "f", b"r 5 60\n".as_slice(), &mut Full);
+    assert!(matches!(unprinted, Err(Stop::Output(_))));
+    let unprinted = replay(alloc, "f", b"r 5 40\n".as_slice(), &mut Full);
+    assert!(matches!(unprinted, Err(Stop::Output(_))));
 }
