@@ -1,7 +1,3 @@
-//! The tests of the judges and of the rings.
+//! The tests of the rings.
 
-mod audit;
-mod findings;
-mod recording;
-mod replay;
 mod rings;
