@@ -65,11 +65,21 @@ def manifest(crate, crates):
             text += dependency(name, package=quoted(package(name)), path=quoted(f"../{name}"), version=quoted(f"={VERSION}"))
     if has_io:
         text += dependency("embedded-io", version=quoted("0.7"), optional="true")
+    return text + for_tests(crate)
+
+
+def for_tests(crate):
+    """What the examples and the tests of a crate are compiled with. Without a version, cargo leaves it out of what is published."""
+    found = []
     if crate in examples.SHARED:
         facade, name, _ = examples.SHARED[crate]
-        text += "\n# For the examples of the documentation, which name the package that users name.\n[dev-dependencies]\n"
-        text += dependency(name, package=quoted(f"geesetrunk-{facade}"), path=quoted(f"../../{facade}"))
-    return text
+        found.append(dependency(name, package=quoted(f"geesetrunk-{facade}"), path=quoted(f"../../{facade}")))
+    for name in table.OF_TESTS.get(crate, []):
+        found.append(dependency(name, package=quoted(package(name)), path=quoted(f"../{name}")))
+    if crate == table.OF_RINGS:
+        found.append(dependency(KIT_OF_RINGS, path=quoted(FOLDERS[KIT_OF_RINGS]), features='["alloc"]'))
+    head = "\n# For the examples of the documentation, which name the package that users name, and for the tests.\n[dev-dependencies]\n"
+    return head + "".join(found) if found else ""
 
 
 def root(crate, crates, text):

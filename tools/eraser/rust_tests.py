@@ -1,4 +1,4 @@
-"""The tests of the proved crates as Rust tests: rust/proved_tests/src/erased.
+"""The tests that are in Rattle as Rust tests: rust/proved_tests/src/erased.
 
 Tests are not trusted, so this works on text: clauses and ghost items are taken out, and the words of REPLACED become others. A word that
 nothing replaces is an error of rustc.
@@ -10,17 +10,16 @@ import tokens
 
 OUTPUT = "rust/proved_tests/src/erased"
 
-# The crates with tests. Of the last one only these are compiled: the others are of callers, which are proved.
+# The crates with tests. Of `uart_uses` only these are compiled: the others are of callers, which are proved.
 CRATES = ["uart_calls", "uart_machine", "uart_uses", "uart_virtual"]
 OF_USES = ["rings"]
-USES = "//! The tests of the rings.\n\n" + "".join(f"mod {name};\n" for name in OF_USES)
+USES = "//! The interrupt handler of the documentation, and its tests.\n\n" + "".join(f"mod {name};\n" for name in OF_USES)
 
 # Heads of paths. A file of tests of the rings takes the allocator of the rings.
 KIT, KIT_OF_RINGS = "geesetrunk_kit", "geesetrunk_kit_of_rings"
 HEADS = {
     "bitflags": KIT,
     "arrayvec": KIT,
-    "circular_buffer": KIT,
     "std::test": "crate::runtime",
     "std::process": "crate::runtime",
     "std::alloc::AllocGlobal": "crate::runtime::AllocGlobal",
@@ -30,20 +29,12 @@ HEADS = {
 REPLACED = [
     (r"(?m)^ *#!?\[tactic\(.*\)\]\n", ""),
     (r"(?m)^(?:use std::marker::Model;|use thiserror::Error;)\n", ""),
-    (r"\bimpl<('?\w+)> Model for [^{]*\{\s*\}\n", ""),
     (r"(?<=[(])Drop, |, Drop(?=[,)])", ""),
     (r", Error(?=[,)]\]?)(?=[^\n]*\)\]\n)|#\[derive\(Drop\)\]\n| *#\[error\([^\n]*\)\]\n", ""),
     (r" \+ Drop\b|: Drop\b", ""),
-    (r"\bwhere\s*(?=[{;])", ""),
-    (r"fn (\w+)<W: fmt::Write>\(&self, f: &mut fmt::Formatter<W>\)", r"fn \1(&self, f: &mut fmt::Formatter<'_>)"),
     (r"(fn \w+)\(rt: HostRuntime\)([^{]*)\{", r"\1()\2{\n    let rt = HostRuntime;"),
     (r"impl AllocGlobal \+ Abort", "HostRuntime"),
-    (r"\bclone\(\)\?", "clone()"),
     (r"\.(collect|to_vec|to_string)\((?=(?:alloc|rt\.alloc\(\)))", r".\1_with("),
-    (r"HashSet::new\(rt\.alloc\(\)\)", "HashSet::new()"),
-    (r"seen\.insert\((.*)\)\?;", r"seen.insert(\1);"),
-    # `Debug` of a register is not the derived one
-    (r"\b(IER|LSR|MSR)\(0\)", r"\1(0x0)"),
 ]
 # What a derive of the sources writes, behind the file.
 START_ERROR = """
@@ -59,7 +50,7 @@ impl std::fmt::Display for StartError {
 impl std::error::Error for StartError {}
 """
 PRELUDE = """#[allow(unused_imports)]
-use crate::runtime::{AllocGlobal, HostRuntime, assert, assert_eq, assert_ne};
+use crate::runtime::{AllocGlobal, HostRuntime, assert, assert_eq};
 #[allow(unused_imports)]
 use geesetrunk_kit::{CollectWith as _, String, ToStringWith as _, ToVecWith as _, Vec, format, vec};
 """

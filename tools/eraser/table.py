@@ -41,6 +41,12 @@ OUTPUT = "rust/proved"
 LIBRARIES = "bitflags arrayvec circular_buffer".split()
 OF_RINGS = "uart_ring"
 
+# The crates that the tests by hand of a package use beside those that the package itself uses.
+OF_TESTS = {
+    "uart_16550": ["uart_calls", "uart_chip"],
+    "uart_ring": ["uart_calls"],
+}
+
 # Files that end with a module by hand, which is not emitted: what has to be in a type's own crate.
 BY_HAND = {
     "uart_spec/src/lib.rt": "pub mod by_hand;",

@@ -1,6 +1,5 @@
 //! Worked examples on raw accesses, and what no contract says: that machines are built, and texts.
 
-mod counts;
 mod cut;
 mod driver;
 mod idle;
@@ -9,7 +8,6 @@ mod paths;
 mod rings;
 mod schedules;
 mod script;
-mod steps;
 mod unpromised;
 
 use crate::{ArrivalMark, BuildError, Call, Chip, Event};

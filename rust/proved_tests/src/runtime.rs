@@ -54,7 +54,4 @@ macro_rules! assert_with_handle {
 macro_rules! assert_eq_with_handle {
     ($rt:expr; $($rest:tt)*) => {{ let _ = &$rt; ::std::assert_eq!($($rest)*) }};
 }
-macro_rules! assert_ne_with_handle {
-    ($rt:expr; $($rest:tt)*) => {{ let _ = &$rt; ::std::assert_ne!($($rest)*) }};
-}
-pub(crate) use {assert_eq_with_handle as assert_eq, assert_ne_with_handle as assert_ne, assert_with_handle as assert};
+pub(crate) use {assert_eq_with_handle as assert_eq, assert_with_handle as assert};

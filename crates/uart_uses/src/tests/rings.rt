@@ -1,7 +1,5 @@
-//! Tests of what no contract says: worked examples from outside, the refusals' texts, and the
-//! interrupt handler of the documentation.
+//! The interrupt handler of the documentation, which is quoted there, and its tests.
 
-mod calls;
 mod handler;
 mod lists;
 

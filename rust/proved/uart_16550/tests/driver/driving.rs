@@ -1,37 +1,38 @@
 //! The rows of tables: how a driver is set up, the call that it makes, what that returns, and each
 //! of its accesses.
-use super::assert_equal;
-use crate::replay::Replay;
-use crate::tests::devices::impatient;
-use crate::tests::lists::{Accesses, last_write};
-use crate::{Answer, CALL_BYTES, Call, perform};
-use arrayvec::{ArrayString, ArrayVec};
-use bitflags::Flags;
-use std::fmt;
+
+use crate::devices::impatient;
+use crate::lists::{Accesses, last_write};
+use geesetrunk_kit::{ArrayString, ArrayVec};
+use proved_uart_16550::backend::Backend;
+use proved_uart_16550::{ConfigRegisterDump, Uart16550, Uart16550Tty};
+use std::fmt::{self, Write as _};
 use std::num::NonZeroU64;
-use std::process::Abort;
-use uart_16550::backend::Backend;
-use uart_16550::{ConfigRegisterDump, Uart16550, Uart16550Tty};
+use uart_calls::replay::Replay;
+use uart_calls::{Answer, CALL_BYTES, Call, perform};
+use uart_spec::access::Access;
 use uart_spec::registers::{FifoTriggerLevel, IER, ISR, LCR, LSR, MCR, MSR, offsets};
 use uart_spec::{BaudRate, Config, Received};
 
 /// A driver under a terminal, over a device whose reads return listed bytes.
 pub type Replaying<'a> = Uart16550Tty<Replay<'a>>;
 
-/// Returns these bytes, for a call or an answer; none if there are too many.
+/// Returns these bytes, for a call or an answer.
 pub fn bytes(slice: &[u8]) -> ArrayVec<u8, CALL_BYTES> {
     let mut bytes = ArrayVec::new();
-    let _ = bytes.try_extend_from_slice(slice);
+    bytes
+        .try_extend_from_slice(slice)
+        .expect("no more than fit");
     bytes
 }
 
-/// Returns these bytes with their errors, for an answer; none of those that are too many.
+/// Returns these bytes with their errors, for an answer.
 pub fn with_errors(items: &[(u8, u8)]) -> ArrayVec<Received, CALL_BYTES> {
     let mut received = ArrayVec::new();
-    for (byte, errors) in items {
-        let _ = received.try_push(Received {
-            byte: *byte,
-            errors: LSR::from_bits_retain(*errors),
+    for &(byte, errors) in items {
+        received.push(Received {
+            byte,
+            errors: LSR::from_bits_retain(errors),
         });
     }
     received
@@ -40,7 +41,7 @@ pub fn with_errors(items: &[(u8, u8)]) -> ArrayVec<Received, CALL_BYTES> {
 /// Returns `write_text` of this text.
 pub fn text(text: &str) -> Call {
     let mut copy = ArrayString::new();
-    let _ = copy.try_push_str(text);
+    copy.try_push_str(text).expect("no more than fits");
     Call::Text(copy)
 }
 
@@ -83,8 +84,8 @@ pub enum Start {
 }
 
 impl Start {
-    // Returns the configuration, and what the reads of its initialisation return before zeros;
-    // `None` if there is none.
+    /// Returns the configuration, and what the reads of its initialisation return before zeros;
+    /// `None` if there is none.
     fn setup(self) -> Option<(Config, &'static [u8])> {
         let (fifo_trigger_level, check_cts_before_sending) = match self {
             Start::New => return None,
@@ -105,106 +106,70 @@ impl Start {
     }
 }
 
-// Returns a driver that was initialised like this over a device with these answers, and is now over
-// one with others.
-fn prepared<'a>(
-    rt: &impl Abort,
-    setup: Option<(Config, &'a [u8])>,
-    answers: &'a [u8],
-) -> Replaying<'a> {
+/// Returns a driver that is set up like this, over a device whose reads return these bytes and then
+/// zeros.
+pub fn started(start: Start, answers: &[u8]) -> Replaying<'_> {
     let mut uart = Uart16550::new_with_backend(Replay::new(answers));
     uart.set_spin_limit(NonZeroU64::new(3).unwrap());
-    if let Some((config, first)) = setup {
+    if let Some((config, first)) = start.setup() {
         *uart.backend_mut() = Replay::new(first);
-        assert!(rt; config.is_computable());
-        assert_equal(rt, uart.init(config), Ok(()));
+        assert_eq!(uart.init(config), Ok(()));
         *uart.backend_mut() = Replay::new(answers);
     }
     Uart16550Tty::from_inner(uart)
 }
 
-/// Returns a driver that is set up like this, over a device whose reads return these bytes and then
-/// zeros.
-pub fn started<'a>(rt: &impl Abort, start: Start, answers: &'a [u8]) -> Replaying<'a> {
-    prepared(rt, start.setup(), answers)
+/// Makes the call.
+fn make<B: Backend>(terminal: &mut Uart16550Tty<B>, call: &Call) -> Answer {
+    assert!(call.is_runnable());
+    perform(terminal, call)
 }
 
-/// Makes the call.
-fn make<B: Backend>(rt: &impl Abort, terminal: &mut Uart16550Tty<B>, call: &Call) -> Answer {
-    assert!(rt; call.is_runnable());
-    perform(terminal, call)
+/// Returns the accesses of the last call.
+pub fn made<'a>(terminal: &'a Replaying<'_>) -> &'a [Access] {
+    let accesses = terminal.inner().backend().accesses();
+    accesses.expect("a replay keeps all of them")
 }
 
 /// Makes one row: a driver that is set up like this makes a call, over a device whose reads return
 /// what the list has. The call returns this answer, and these are its accesses. Returns the driver
 /// after the call.
-pub fn row<'a>(
-    rt: &impl Abort,
-    start: Start,
-    call: Call,
-    answer: Answer,
-    list: &'a Accesses,
-) -> Replaying<'a> {
-    let mut terminal = started(rt, start, list.answers());
-    then(rt, &mut terminal, call, answer, list);
+pub fn row(start: Start, call: Call, answer: Answer, list: &Accesses) -> Replaying<'_> {
+    let mut terminal = started(start, list.answers());
+    then(&mut terminal, call, answer, list);
     terminal
 }
 
 /// Makes the next call of the same driver.
-pub fn then<'a>(
-    rt: &impl Abort,
-    terminal: &mut Replaying<'a>,
-    call: Call,
-    answer: Answer,
-    list: &'a Accesses,
-) {
+pub fn then<'a>(terminal: &mut Replaying<'a>, call: Call, answer: Answer, list: &'a Accesses) {
     *terminal.inner_mut().backend_mut() = Replay::new(list.answers());
-    assert_eq!(rt; make(rt, terminal, &call), answer, "{call:?}");
-    assert_eq!(rt;
-        terminal.inner().backend().accesses(),
-        list.entries(),
-        "{call:?}"
-    );
+    assert_eq!(make(terminal, &call), answer, "{call:?}");
+    assert_eq!(made(terminal), list.entries(), "{call:?}");
 }
 
 /// Makes a row of `write_str`.
 pub fn writing<'a>(
-    rt: &impl Abort,
     start: Start,
     text: &str,
     came: fmt::Result,
     list: &'a Accesses,
 ) -> Replaying<'a> {
-    let mut terminal = started(rt, start, list.answers());
-    assert_eq!(rt;
-        fmt::Write::write_str(&mut terminal, text),
-        came,
-        "{text:?}"
-    );
-    assert_eq!(rt;
-        terminal.inner().backend().accesses(),
-        list.entries(),
-        "{text:?}"
-    );
+    let mut terminal = started(start, list.answers());
+    assert_eq!(terminal.write_str(text), came, "{text:?}");
+    assert_eq!(made(&terminal), list.entries(), "{text:?}");
     terminal
 }
 
 /// Makes a row over any other device: a new driver makes the call.
-pub fn over<D: Backend + Drop>(
-    rt: &impl Abort,
-    device: D,
-    call: Call,
-    answer: Answer,
-    list: Accesses,
-) {
+pub fn over<D: Backend>(device: D, call: Call, answer: Answer, list: Accesses) {
     let mut terminal = Uart16550Tty::from_inner(impatient(device));
-    assert_eq!(rt; make(rt, &mut terminal, &call), answer, "{call:?}");
+    assert_eq!(make(&mut terminal, &call), answer, "{call:?}");
     let log = &terminal.inner().backend().log;
-    assert_eq!(rt; log.entries(), list.entries(), "{call:?}");
+    assert_eq!(log.entries(), list.entries(), "{call:?}");
 }
 
 /// What a call left: the driver's fields, and the last write to each register.
-#[derive(Debug, PartialEq, Drop)]
+#[derive(Debug, PartialEq)]
 pub struct Left {
     /// The configured baud rate.
     pub baud_rate: BaudRate,
@@ -248,10 +213,9 @@ pub const NOTHING: Left = Left {
 /// Returns what the last call left. The saved bits are those that `lsr` and `msr` return over a
 /// device that shows none, as the listed device does after its last answer.
 pub fn read_back(mut terminal: Replaying<'_>) -> Left {
-    let uart = terminal.inner_mut();
-    let accesses = uart.backend().accesses().unwrap_or(&[]);
     let written = [offsets::IER, offsets::FCR, offsets::LCR, offsets::MCR];
-    let [ier, fcr, lcr, mcr] = written.map(|offset| last_write(accesses, offset));
+    let [ier, fcr, lcr, mcr] = written.map(|offset| last_write(made(&terminal), offset));
+    let uart = terminal.inner_mut();
     Left {
         baud_rate: uart.config().baud_rate,
         interrupts: uart.config().interrupts.bits(),

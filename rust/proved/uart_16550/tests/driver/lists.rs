@@ -1,44 +1,28 @@
 //! Lists of accesses, as they are recorded, and as tables write them.
-use crate::replay::REPLAY_ROOM;
-use arrayvec::ArrayVec;
+
+use std::iter::repeat_n;
 pub use uart_spec::access::Access;
 use uart_spec::registers::offsets;
 
-/// A list of accesses, what its reads returned, and whether it had room for all of them.
-#[derive(Debug, PartialEq, Drop)]
+/// A list of accesses, and what its reads returned.
+#[derive(Clone, Debug, Default, PartialEq)]
 pub struct Accesses {
-    entries: ArrayVec<Access, REPLAY_ROOM>,
-    answers: ArrayVec<u8, REPLAY_ROOM>,
-    is_whole: bool,
+    entries: Vec<Access>,
+    answers: Vec<u8>,
 }
 
 impl Accesses {
-    /// Returns the list without accesses.
-    pub fn new() -> Self {
-        Accesses {
-            entries: ArrayVec::new(),
-            answers: ArrayVec::new(),
-            is_whole: true,
-        }
-    }
-
-    /// Appends an access, if there is room.
+    /// Appends an access.
     pub fn push(&mut self, access: Access) {
         if let Access::Read(_, answer) = access {
-            let _ = self.answers.try_push(answer);
+            self.answers.push(answer);
         }
-        if self.entries.try_push(access).is_err() {
-            self.is_whole = false;
-        }
+        self.entries.push(access);
     }
 
-    /// Returns the accesses; `None` if there was no room for all of them.
-    pub fn entries(&self) -> Option<&[Access]> {
-        if self.is_whole {
-            Some(self.entries.as_slice())
-        } else {
-            None
-        }
+    /// Returns the accesses.
+    pub fn entries(&self) -> &[Access] {
+        &self.entries
     }
 
     /// Returns the number of accesses.
@@ -48,19 +32,23 @@ impl Accesses {
 
     /// Returns what the reads returned, in turn.
     pub fn answers(&self) -> &[u8] {
-        self.answers.as_slice()
+        &self.answers
+    }
+
+    /// Appends these accesses.
+    fn with(mut self, accesses: impl IntoIterator<Item = Access>) -> Self {
+        accesses.into_iter().for_each(|access| self.push(access));
+        self
     }
 
     /// Appends one read.
-    pub fn read(mut self, offset: usize, answer: u8) -> Self {
-        self.push(Access::Read(offset, answer));
-        self
+    pub fn read(self, offset: usize, answer: u8) -> Self {
+        self.with([Access::Read(offset, answer)])
     }
 
     /// Appends one write.
-    pub fn write(mut self, offset: usize, value: u8) -> Self {
-        self.push(Access::Write(offset, value));
-        self
+    pub fn write(self, offset: usize, value: u8) -> Self {
+        self.with([Access::Write(offset, value)])
     }
 
     /// Appends one read of LSR.
@@ -69,11 +57,8 @@ impl Accesses {
     }
 
     /// Appends `count` reads of LSR, each with this value.
-    pub fn looks(mut self, count: usize, lsr: u8) -> Self {
-        for _turn in 0..count {
-            self.push(Access::Read(offsets::LSR, lsr));
-        }
-        self
+    pub fn looks(self, count: usize, lsr: u8) -> Self {
+        self.with(repeat_n(Access::Read(offsets::LSR, lsr), count))
     }
 
     /// Appends a read of LSR that shows data, and a read of the byte.
@@ -82,51 +67,28 @@ impl Accesses {
     }
 
     /// Appends for each of the bytes a read of LSR that shows data, and a read of it.
-    pub fn hits(mut self, bytes: &[u8]) -> Self {
-        for &byte in bytes {
-            self.push(Access::Read(offsets::LSR, 0x01));
-            self.push(Access::Read(offsets::DATA, byte));
-        }
-        self
+    pub fn hits(self, bytes: &[u8]) -> Self {
+        bytes.iter().fold(self, |list, &byte| list.hit(byte))
     }
 
     /// Appends a write of each byte to DATA.
-    pub fn data(mut self, bytes: &[u8]) -> Self {
-        for &byte in bytes {
-            self.push(Access::Write(offsets::DATA, byte));
-        }
-        self
+    pub fn data(self, bytes: &[u8]) -> Self {
+        self.with(bytes.iter().map(|&byte| Access::Write(offsets::DATA, byte)))
     }
 
     /// Returns the accesses as they are made at ports or addresses: from a base on, with this
     /// distance between two registers.
     pub fn placed(&self, base: usize, stride: usize) -> Self {
-        let mut placed = Accesses::new();
-        for access in self.entries.as_slice() {
-            match *access {
-                Access::Read(offset, answer) => {
-                    placed.push(Access::Read(
-                        base.wrapping_add(offset.wrapping_mul(stride)),
-                        answer,
-                    ));
-                }
-                Access::Write(offset, value) => {
-                    placed.push(Access::Write(
-                        base.wrapping_add(offset.wrapping_mul(stride)),
-                        value,
-                    ));
-                }
-            }
-        }
-        placed
+        let place = |offset| base + offset * stride;
+        list().with(self.entries.iter().map(|access| match *access {
+            Access::Read(offset, answer) => Access::Read(place(offset), answer),
+            Access::Write(offset, value) => Access::Write(place(offset), value),
+        }))
     }
 
     /// Appends the accesses of another list.
-    pub fn then(mut self, others: &Accesses) -> Self {
-        for &access in others.entries.as_slice() {
-            self.push(access);
-        }
-        self
+    pub fn then(self, others: &Accesses) -> Self {
+        self.with(others.entries.iter().copied())
     }
 
     /// Appends a send check that finds THR empty, and then reads MCR and MSR.
@@ -142,19 +104,15 @@ impl Accesses {
     }
 
     /// Appends each byte sent by itself, and another one received for it.
-    pub fn echoes(mut self, sent: &[u8], back: u8) -> Self {
-        for &byte in sent {
-            self = self.burst(&[byte]).hit(back);
-        }
-        self
+    pub fn echoes(self, sent: &[u8], back: u8) -> Self {
+        let echo = |list: Self, &byte| list.burst(&[byte]).hit(back);
+        sent.iter().fold(self, echo)
     }
 
     /// Appends each byte sent by itself, and received.
-    pub fn same_echoes(mut self, bytes: &[u8]) -> Self {
-        for &byte in bytes {
-            self = self.burst(&[byte]).hit(byte);
-        }
-        self
+    pub fn same_echoes(self, bytes: &[u8]) -> Self {
+        let echo = |list: Self, &byte| list.burst(&[byte]).hit(byte);
+        bytes.iter().fold(self, echo)
     }
 
     /// Appends reads of the divisor latch, while LCR shows this without DLAB and that with it.
@@ -167,11 +125,12 @@ impl Accesses {
     }
 
     /// Appends a read of each of the seven registers from IER to SPR.
-    pub fn registers(mut self, answers: [u8; 7]) -> Self {
-        for place in 0..7 {
-            self.push(Access::Read(offsets::IER + place, answers[place]));
-        }
-        self
+    pub fn registers(self, answers: [u8; 7]) -> Self {
+        self.with(
+            (offsets::IER..)
+                .zip(answers)
+                .map(|(offset, answer)| Access::Read(offset, answer)),
+        )
     }
 
     /// Appends a presence check that finds a device, whose scratch register held this.
@@ -249,7 +208,7 @@ impl Accesses {
 
 /// Returns the list without accesses.
 pub fn list() -> Accesses {
-    Accesses::new()
+    Accesses::default()
 }
 
 /// Returns the last byte that was written to a register. While DLAB is set, the first two are the

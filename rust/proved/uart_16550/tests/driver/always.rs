@@ -1,22 +1,20 @@
 //! Every call over a device whose reads always return FF, over one whose reads always return 00,
 //! and over the register file: each on a new driver, with its whole list of accesses.
-use super::assert_equal;
-use crate::Answer::{
+
+use crate::devices::{Constant, RegisterFile, driver};
+use crate::driving::Start::New;
+use crate::driving::{bytes, dump, init, over, row, text, then, with_errors, writing};
+use crate::lists::{Accesses, list};
+use std::fmt;
+use uart_calls::Answer::{
     self, Bytes, BytesWithErrors, Count, Done, Flag, InitRefused, Latch, LoopbackRefused, NoData,
     NotConnected, NotSent, ReceiveStalled, Register, Stalled,
 };
-use crate::Call::{
+use uart_calls::Call::{
     self, CheckConnected, CheckPresent, Disable, DllDlm, Dump, Enable, Flush, ReadReady,
     ReadyToReceive, ReadyToSend, Receive, ReceiveExact, ReceiveWithErrors, RetriggerInterrupts,
     Send, SendExact, TestLoopback, TryReceive, TrySend, Write, WriteReady,
 };
-use crate::tests::devices::{Constant, RegisterFile, driver};
-use crate::tests::driving::Start::New;
-use crate::tests::driving::{bytes, dump, init, over, row, text, then, with_errors, writing};
-use crate::tests::lists::{Accesses, list};
-use bitflags::Flags;
-use std::fmt;
-use std::process::Abort;
 use uart_spec::BaudRate::Baud9600;
 use uart_spec::ByteSendError::NoCapacity;
 use uart_spec::InitError::DeviceNotPresent;
@@ -28,14 +26,14 @@ fn default_init() -> Call {
     init(Some(FifoTriggerLevel::Fourteen), Baud9600)
 }
 
-// Makes a call over the register file.
-fn filed(rt: &impl Abort, call: Call, answer: Answer, accesses: Accesses) {
-    over(rt, RegisterFile::new(true), call, answer, accesses);
+/// Makes a call over the register file.
+fn filed(call: Call, answer: Answer, accesses: Accesses) {
+    over(RegisterFile::new(true), call, answer, accesses);
 }
 
-// Makes the calls that make one check, over a device whose reads always return this byte: each of
-// its lines and flags is on, or each is off.
-fn looks_at(rt: &impl Abort, byte: u8, ready: bool, [enabled, disabled]: [u8; 2], under_dlab: u8) {
+/// Makes the calls that make one check, over a device whose reads always return this byte: each of
+/// its lines and flags is on, or each is off.
+fn looks_at(byte: u8, ready: bool, [enabled, disabled]: [u8; 2], under_dlab: u8) {
     let unless = |refusal| if ready { Done } else { refusal };
     let connected = unless(NotConnected(NoRemoteConnectedNoDSR));
     let received = unless(NoData);
@@ -68,12 +66,12 @@ fn looks_at(rt: &impl Abort, byte: u8, ready: bool, [enabled, disabled]: [u8; 2]
         (DllDlm, Latch(byte, byte), latch()),
         (Dump, Answer::Dump(shown), latch().registers([byte; 7])),
     ] {
-        over(rt, Constant(byte), call, answer, accesses);
+        over(Constant(byte), call, answer, accesses);
     }
 }
 
-// Makes the calls that read one register, over a device whose reads always return this byte.
-fn registers_at(rt: &impl Abort, byte: u8) {
+/// Makes the calls that read one register, over a device whose reads always return this byte.
+fn registers_at(byte: u8) {
     for (call, offset) in [
         (Call::Ier, offsets::IER),
         (Call::Isr, offsets::ISR),
@@ -84,7 +82,6 @@ fn registers_at(rt: &impl Abort, byte: u8) {
         (Call::Spr, offsets::SPR),
     ] {
         over(
-            rt,
             Constant(byte),
             call,
             Register(byte),
@@ -94,15 +91,15 @@ fn registers_at(rt: &impl Abort, byte: u8) {
 }
 
 #[test]
-fn looks_at_ff_and_00(rt: HostRuntime) {
-    looks_at(&rt, 0xff, true, [0xff, 0xfd], 0xff);
-    looks_at(&rt, 0x00, false, [0x02, 0x00], 0x80);
-    registers_at(&rt, 0xff);
-    registers_at(&rt, 0x00);
+fn looks_at_ff_and_00() {
+    looks_at(0xff, true, [0xff, 0xfd], 0xff);
+    looks_at(0x00, false, [0x02, 0x00], 0x80);
+    registers_at(0xff);
+    registers_at(0x00);
 }
 
 #[test]
-fn bytes_over_ff(rt: HostRuntime) {
+fn bytes_over_ff() {
     let byte = list().look(0xff).read(offsets::DATA, 0xff);
     let three = || list().then(&byte).then(&byte).then(&byte);
     let burst = || list().look(0xff).data(b"hello, world! 12");
@@ -130,26 +127,26 @@ fn bytes_over_ff(rt: HostRuntime) {
             list().absent(0xff),
         ),
     ] {
-        over(&rt, Constant(0xff), call, answer, accesses);
+        over(Constant(0xff), call, answer, accesses);
     }
-    writing(&rt, New, "\n", Ok(()), &line());
+    writing(New, "\n", Ok(()), &line());
 }
 
 #[test]
-fn what_ff_showed_is_saved(rt: HostRuntime) {
+fn what_ff_showed_is_saved() {
     // Three bytes in six accesses; then `lsr` returns FF, also if LSR itself shows nothing any
     // more.
     let byte = list().look(0xff).read(offsets::DATA, 0xff);
     let three = list().then(&byte).then(&byte).then(&byte);
     for (shown, lsr) in [(0xff, 0xff), (0x00, 0x1e)] {
         let looked = list().look(shown);
-        let mut terminal = row(&rt, New, Receive(3), Bytes(bytes(&[0xff; 3])), &three);
-        then(&rt, &mut terminal, Call::Lsr, Register(lsr), &looked);
+        let mut terminal = row(New, Receive(3), Bytes(bytes(&[0xff; 3])), &three);
+        then(&mut terminal, Call::Lsr, Register(lsr), &looked);
     }
 }
 
 #[test]
-fn bytes_over_00(rt: HostRuntime) {
+fn bytes_over_00() {
     let stalled = || list().looks(3, 0x00);
     let none = || bytes(b"");
     let begun = list().read(offsets::MCR, 0x00).read(offsets::IER, 0x00);
@@ -180,13 +177,13 @@ fn bytes_over_00(rt: HostRuntime) {
             begun.looks(3, 0x00),
         ),
     ] {
-        over(&rt, Constant(0x00), call, answer, accesses);
+        over(Constant(0x00), call, answer, accesses);
     }
-    writing(&rt, New, "\n", Err(fmt::Error), &stalled());
+    writing(New, "\n", Err(fmt::Error), &stalled());
 }
 
 #[test]
-fn calls_over_the_register_file(rt: HostRuntime) {
+fn calls_over_the_register_file() {
     let hello = || list().look(0x60).data(b"hello");
     let lines = list().read(offsets::MSR, 0x00);
     for (call, answer, accesses) in [
@@ -205,24 +202,19 @@ fn calls_over_the_register_file(rt: HostRuntime) {
         ),
         (Flush, Done, list().look(0x60)),
     ] {
-        filed(&rt, call, answer, accesses);
+        filed(call, answer, accesses);
     }
     let begun = list().look(0x60).data(b"a").look(0x60).data(b"\r");
-    filed(&rt, text("a\n"), Done, begun.look(0x60).data(b"\n"));
+    filed(text("a\n"), Done, begun.look(0x60).data(b"\n"));
     // FCR shows in ISR; there is no loopback, so the byte does not return.
     let entered = list().enter(0x00, 0x00, 0x60, 0x00).fifo(0xc7, 0xc1);
     let awaited = entered.look(0x60).look(0x60).data(b"B").looks(3, 0x60);
     let all = awaited.leave(0x00, 0x00, 0x00, 0x00);
-    filed(
-        &rt,
-        TestLoopback,
-        LoopbackRefused(LoopbackError::Stalled),
-        all,
-    );
+    filed(TestLoopback, LoopbackRefused(LoopbackError::Stalled), all);
 }
 
 #[test]
-fn small_calls_over_the_register_file(rt: HostRuntime) {
+fn small_calls_over_the_register_file() {
     // The number of accesses of each. DLAB is set only for the divisor latch.
     let ier = || list().read(offsets::IER, 0x00).write(offsets::IER, 0x00);
     let latch = list().latch(0x00, 0x80, 0x00, 0x00);
@@ -233,10 +225,10 @@ fn small_calls_over_the_register_file(rt: HostRuntime) {
         (Disable(IER::empty()), Done, ier(), 2),
         (Call::Lsr, Register(0x60), list().look(0x60), 1),
     ] {
-        assert_eq!(rt; accesses.count(), count, "{call:?}");
-        filed(&rt, call, answer, accesses);
+        assert_eq!(accesses.count(), count, "{call:?}");
+        filed(call, answer, accesses);
     }
     let mut uart = driver(RegisterFile::new(true));
     uart.config_register_dump();
-    assert_equal(&rt, uart.backend().log.count(), 12);
+    assert_eq!(uart.backend().log.count(), 12);
 }

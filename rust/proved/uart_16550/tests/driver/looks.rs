@@ -1,15 +1,14 @@
 //! The calls that look once, and those that read and write single registers: each with its whole
 //! list of accesses.
-use super::assert_equal;
-use crate::Answer::{self, Done, Flag, Latch, NoData, NotConnected, NotSent, Register};
-use crate::Call::{
+
+use crate::driving::Start::{Checking, New};
+use crate::driving::{dump, row, then, with_errors};
+use crate::lists::list;
+use uart_calls::Answer::{self, Done, Flag, Latch, NoData, NotConnected, NotSent, Register};
+use uart_calls::Call::{
     self, CheckConnected, CheckPresent, DllDlm, Dump, ReadReady, ReadyToReceive, ReadyToSend,
     WriteReady,
 };
-use crate::tests::driving::Start::{Checking, New};
-use crate::tests::driving::{dump, row, then, with_errors};
-use crate::tests::lists::list;
-use bitflags::Flags;
 use uart_spec::ByteSendError::{NoCapacity, RemoteNotClearToSend};
 use uart_spec::RemoteReadyToReceiveError::{
     NoRemoteConnectedNoDSR as NoDsr, RemoteNotClearToSend as NoCts,
@@ -18,18 +17,18 @@ use uart_spec::registers::{IER, MCR, WordLength, offsets};
 use uart_spec::{AttachError, BaudRate, Config};
 
 #[test]
-fn presence(rt: HostRuntime) {
+fn presence() {
     let begun = || list().read(offsets::SPR, 0xa5).write(offsets::SPR, 0x42);
     let second = begun().read(offsets::SPR, 0x42).write(offsets::SPR, 0x73);
     let second_lost = second.read(offsets::SPR, 0x72).write(offsets::SPR, 0xa5);
     let first_lost = begun().read(offsets::SPR, 0x73).write(offsets::SPR, 0xa5);
-    row(&rt, New, CheckPresent, Flag(true), &list().present(0xa5));
-    row(&rt, New, CheckPresent, Flag(false), &second_lost);
-    row(&rt, New, CheckPresent, Flag(false), &first_lost);
+    row(New, CheckPresent, Flag(true), &list().present(0xa5));
+    row(New, CheckPresent, Flag(false), &second_lost);
+    row(New, CheckPresent, Flag(false), &first_lost);
 }
 
 #[test]
-fn connection(rt: HostRuntime) {
+fn connection() {
     for (lines, answer) in [
         (0x30, Done),
         (0x20, NotConnected(NoCts)),
@@ -37,12 +36,12 @@ fn connection(rt: HostRuntime) {
         (0x00, NotConnected(NoDsr)),
     ] {
         let looked = list().read(offsets::MSR, lines);
-        row(&rt, New, CheckConnected, answer, &looked);
+        row(New, CheckConnected, answer, &looked);
     }
 }
 
 #[test]
-fn looks_for_data_and_for_room(rt: HostRuntime) {
+fn looks_for_data_and_for_room() {
     for (call, lsr, answer) in [
         (ReadyToReceive, 0x01, Done),
         (ReadyToReceive, 0xfe, NoData),
@@ -53,12 +52,12 @@ fn looks_for_data_and_for_room(rt: HostRuntime) {
         (WriteReady, 0x20, Flag(true)),
         (WriteReady, 0xdf, Flag(false)),
     ] {
-        row(&rt, New, call, answer, &list().look(lsr));
+        row(New, call, answer, &list().look(lsr));
     }
 }
 
 #[test]
-fn looks_for_room_that_check_cts(rt: HostRuntime) {
+fn looks_for_room_that_check_cts() {
     for (accesses, sent, ready) in [
         (list().check(0xef, 0x10), Done, true),
         (
@@ -71,25 +70,25 @@ fn looks_for_room_that_check_cts(rt: HostRuntime) {
         // Without room they are not looked at.
         (list().look(0xdf), NotSent(NoCapacity), false),
     ] {
-        row(&rt, Checking, ReadyToSend, sent, &accesses);
-        row(&rt, Checking, WriteReady, Flag(ready), &accesses);
+        row(Checking, ReadyToSend, sent, &accesses);
+        row(Checking, WriteReady, Flag(ready), &accesses);
     }
 }
 
 #[test]
-fn interrupts(rt: HostRuntime) {
+fn interrupts() {
     for (call, ier, left) in [
         (Call::Enable(IER::THR_EMPTY), 0xf1, 0xf3),
         (Call::Disable(IER::DATA_READY), 0xf3, 0xf2),
     ] {
         let changed = list().read(offsets::IER, ier).write(offsets::IER, left);
-        let terminal = row(&rt, New, call, Done, &changed);
-        assert_equal(&rt, terminal.inner().config().interrupts.bits(), left);
+        let terminal = row(New, call, Done, &changed);
+        assert_eq!(terminal.inner().config().interrupts.bits(), left);
     }
 }
 
 #[test]
-fn registers(rt: HostRuntime) {
+fn registers() {
     for (call, offset) in [
         (Call::Ier, 1),
         (Call::Isr, 2),
@@ -99,53 +98,49 @@ fn registers(rt: HostRuntime) {
         (Call::Msr, 6),
         (Call::Spr, 7),
     ] {
-        row(&rt, New, call, Register(0xa6), &list().read(offset, 0xa6));
+        row(New, call, Register(0xa6), &list().read(offset, 0xa6));
     }
     let latch = list().latch(0x1b, 0x9b, 0x80, 0x01);
-    row(&rt, New, DllDlm, Latch(0x80, 0x01), &latch);
+    row(New, DllDlm, Latch(0x80, 0x01), &latch);
 }
 
 #[test]
-fn statuses_are_joined_with_what_was_saved(rt: HostRuntime) {
+fn statuses_are_joined_with_what_was_saved() {
     let (looked, shown) = (list().look(0xfe), list().look(0x60));
-    let mut terminal = row(&rt, New, ReadyToReceive, NoData, &looked);
-    then(&rt, &mut terminal, Call::Lsr, Register(0x7e), &shown);
-    then(&rt, &mut terminal, Call::Lsr, Register(0x60), &shown);
+    let mut terminal = row(New, ReadyToReceive, NoData, &looked);
+    then(&mut terminal, Call::Lsr, Register(0x7e), &shown);
+    then(&mut terminal, Call::Lsr, Register(0x60), &shown);
     let looked = list().read(offsets::MSR, 0xff);
     let shown = list().read(offsets::MSR, 0x30);
-    let mut terminal = row(&rt, New, CheckConnected, Done, &looked);
-    then(&rt, &mut terminal, Call::Msr, Register(0x3f), &shown);
-    then(&rt, &mut terminal, Call::Msr, Register(0x30), &shown);
+    let mut terminal = row(New, CheckConnected, Done, &looked);
+    then(&mut terminal, Call::Msr, Register(0x3f), &shown);
+    then(&mut terminal, Call::Msr, Register(0x30), &shown);
 }
 
 #[test]
-fn a_dump_shows_what_was_saved_and_keeps_it(rt: HostRuntime) {
+fn a_dump_shows_what_was_saved_and_keeps_it() {
     let looked = list().look(0xfe);
-    let mut terminal = row(&rt, New, ReadyToReceive, NoData, &looked);
+    let mut terminal = row(New, ReadyToReceive, NoData, &looked);
     let dumped = list()
         .latch(0x03, 0x83, 0x0c, 0x01)
         .registers([0x05, 0xc1, 0x03, 0x0b, 0x60, 0x31, 0xa5]);
     let shown = dump([0x05, 0xc1, 0x03, 0x0b, 0x7e, 0x31, 0xa5], 0x0c, 0x01);
-    then(&rt, &mut terminal, Dump, Answer::Dump(shown), &dumped);
+    then(&mut terminal, Dump, Answer::Dump(shown), &dumped);
     let (line, modem) = (list().look(0x60), list().read(offsets::MSR, 0x30));
-    then(&rt, &mut terminal, Call::Lsr, Register(0x7e), &line);
-    then(&rt, &mut terminal, Call::Msr, Register(0x31), &modem);
+    then(&mut terminal, Call::Lsr, Register(0x7e), &line);
+    then(&mut terminal, Call::Msr, Register(0x31), &modem);
 }
 
 #[test]
-fn calls_that_change_the_line(rt: HostRuntime) {
+fn calls_that_change_the_line() {
     let frame = Config {
         baud_rate: BaudRate::Baud38400,
         data_bits: WordLength::SevenBits,
         ..Config::DEFAULT
     };
     let lines = list().write(3, 0x82).write(0, 3).write(1, 0).write(3, 0x02);
-    let terminal = row(&rt, New, Call::SetFrame(frame), Done, &lines);
-    assert_equal(
-        &rt,
-        terminal.inner().config().data_bits,
-        WordLength::SevenBits,
-    );
+    let terminal = row(New, Call::SetFrame(frame), Done, &lines);
+    assert_eq!(terminal.inner().config().data_bits, WordLength::SevenBits);
     let near = Config {
         frequency: 24_000_000,
         baud_rate: BaudRate::Baud115200,
@@ -157,62 +152,48 @@ fn calls_that_change_the_line(rt: HostRuntime) {
         .write(1, 0)
         .write(3, 0x03);
     if let Ok(near) = near.nearest(2) {
-        row(&rt, New, Call::SetFrame(near), Done, &lines);
+        row(New, Call::SetFrame(near), Done, &lines);
     }
     for (call, read, written) in [
         (Call::SetBreak(true), 0x03, 0x43),
         (Call::SetBreak(false), 0x43, 0x03),
     ] {
-        row(
-            &rt,
-            New,
-            call,
-            Done,
-            &list().read(3, read).write(3, written),
-        );
+        row(New, call, Done, &list().read(3, read).write(3, written));
     }
     for (call, read, written) in [
         (Call::SetRts(true), 0x19, 0x0b),
         (Call::SetRts(false), 0x0b, 0x09),
         (Call::SetDtr(false), 0x0b, 0x0a),
     ] {
-        row(
-            &rt,
-            New,
-            call,
-            Done,
-            &list().read(4, read).write(4, written),
-        );
+        row(New, call, Done, &list().read(4, read).write(4, written));
     }
     row(
-        &rt,
         New,
-        Call::SetModemControl(MCR::LOOP_BACK.union(MCR::DTR)),
+        Call::SetModemControl(MCR::LOOP_BACK | MCR::DTR),
         Done,
         &list().write(4, 0x01),
     );
-    row(&rt, New, Call::IsIdle, Flag(true), &list().look(0x40));
-    row(&rt, New, Call::IsIdle, Flag(false), &list().look(0xbf));
+    row(New, Call::IsIdle, Flag(true), &list().look(0x40));
+    row(New, Call::IsIdle, Flag(false), &list().look(0xbf));
     let (look, shown) = (list().read(6, 0xff), list().read(6, 0x30));
-    let mut terminal = row(&rt, New, Call::PeekModem, Register(0xff), &look);
-    then(&rt, &mut terminal, Call::PeekModem, Register(0x30), &shown);
-    then(&rt, &mut terminal, Call::Msr, Register(0x3f), &shown);
+    let mut terminal = row(New, Call::PeekModem, Register(0xff), &look);
+    then(&mut terminal, Call::PeekModem, Register(0x30), &shown);
+    then(&mut terminal, Call::Msr, Register(0x3f), &shown);
 }
 
 #[test]
-fn ports_that_are_attached(rt: HostRuntime) {
+fn ports_that_are_attached() {
     let taken = list()
         .read(3, 0x03)
         .read(4, 0x0b)
         .read(2, 0x01)
         .latch(0x03, 0x83, 12, 0);
-    let terminal = row(&rt, New, Call::Attach, Latch(12, 0), &taken);
-    assert_equal(&rt, terminal.inner().fifo_enabled(), false);
+    let terminal = row(New, Call::Attach, Latch(12, 0), &taken);
+    assert_eq!(terminal.inner().fifo_enabled(), false);
     let opened = Answer::AttachRefused(AttachError::DivisorLatchOpen);
-    row(&rt, New, Call::Attach, opened, &list().read(3, 0x83));
+    row(New, Call::Attach, opened, &list().read(3, 0x83));
     let looped = Answer::AttachRefused(AttachError::Loopback);
     row(
-        &rt,
         New,
         Call::Attach,
         looped,
@@ -221,7 +202,7 @@ fn ports_that_are_attached(rt: HostRuntime) {
 }
 
 #[test]
-fn bytes_come_with_their_errors(rt: HostRuntime) {
+fn bytes_come_with_their_errors() {
     // A parity error, a framing error, and a miss that shows an overrun.
     let looked = list()
         .look(0x05)
@@ -230,12 +211,6 @@ fn bytes_come_with_their_errors(rt: HostRuntime) {
         .read(offsets::DATA, 0x42)
         .look(0x62);
     let answer = Answer::BytesWithErrors(with_errors(&[(0x41, 0x04), (0x42, 0x08)]));
-    let mut terminal = row(&rt, New, Call::ReceiveWithErrors(3), answer, &looked);
-    then(
-        &rt,
-        &mut terminal,
-        Call::Lsr,
-        Register(0x6e),
-        &list().look(0x60),
-    );
+    let mut terminal = row(New, Call::ReceiveWithErrors(3), answer, &looked);
+    then(&mut terminal, Call::Lsr, Register(0x6e), &list().look(0x60));
 }

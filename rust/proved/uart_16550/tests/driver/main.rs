@@ -1,0 +1,19 @@
+//! Tests of the driver: what no contract states, as examples from outside.
+//!
+//! Rows of calls, with their answers and whole lists of accesses, are tables in the terms of
+//! [`driving`].
+
+mod address;
+mod always;
+mod bytes;
+mod calls;
+mod counts;
+mod devices;
+mod driving;
+mod init;
+mod lists;
+mod looks;
+mod loopback;
+mod setup;
+mod states;
+mod terminal;
