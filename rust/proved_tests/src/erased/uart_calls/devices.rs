@@ -1,77 +1,14 @@
 #[allow(unused_imports)]
-use crate::runtime::{AllocGlobal, HostRuntime, assert, assert_eq, assert_ne};
+use crate::runtime::{AllocGlobal, HostRuntime, assert, assert_eq};
 #[allow(unused_imports)]
 use geesetrunk_kit::{CollectWith as _, String, ToStringWith as _, ToVecWith as _, Vec, format, vec};
 // Devices for tests.
 
-use crate::erased::uart_calls::lists::Access::{Read, Write};
-use crate::erased::uart_calls::lists::Accesses;
 use geesetrunk_kit::ArrayVec;
-use std::num::NonZeroU64;
-use uart_16550::Uart16550;
-use uart_16550::backend::{Backend, ByteAccess, PortAccess};
+use uart_16550::backend::Backend;
 use uart_spec::registers::offsets;
 
-// A device whose accesses are recorded.
-pub struct Recorder<D> {
-    // The device.
-    pub device: D,
-    // Its accesses.
-    pub log: Accesses,
-}
-
-impl<D> Recorder<D> {
-    // Returns the device with no access recorded.
-    pub fn new(device: D) -> Self {
-        Recorder {
-            device,
-            log: Accesses::new(),
-        }
-    }
-}
-
-impl<D: Backend> Backend for Recorder<D> {
-
-    fn read(&mut self, register_offset: u8) -> u8 {
-        let answer = self.device.read(register_offset);
-        self.log.push(Read(register_offset as usize, answer));
-        answer
-    }
-
-    fn write(&mut self, register_offset: u8, value: u8) {
-        self.device.write(register_offset, value);
-        self.log.push(Write(register_offset as usize, value));
-    }
-}
-
-impl<D: ByteAccess> ByteAccess for Recorder<D> {
-
-    fn load(&mut self, address: usize) -> u8 {
-        let answer = self.device.load(address);
-        self.log.push(Read(address, answer));
-        answer
-    }
-
-    fn store(&mut self, address: usize, value: u8) {
-        self.device.store(address, value);
-        self.log.push(Write(address, value));
-    }
-}
-
-// A port is a place, as an address is.
-impl<D: ByteAccess> PortAccess for Recorder<D> {
-
-    fn port_in(&mut self, port: u16) -> u8 {
-        self.load(port as usize)
-    }
-
-    fn port_out(&mut self, port: u16, value: u8) {
-        self.store(port as usize, value);
-    }
-}
-
 // A device whose reads all return this byte.
-#[derive(Clone, Debug, PartialEq, Eq, PartialOrd, Hash)]
 pub struct Constant(pub u8);
 
 impl Backend for Constant {
@@ -81,60 +18,6 @@ impl Backend for Constant {
     }
 
     fn write(&mut self, _register_offset: u8, _value: u8) {}
-}
-
-impl PortAccess for Constant {
-
-    fn port_in(&mut self, _port: u16) -> u8 {
-        self.0
-    }
-
-    fn port_out(&mut self, _port: u16, _value: u8) {}
-}
-
-impl ByteAccess for Constant {
-
-    fn load(&mut self, _address: usize) -> u8 {
-        self.0
-    }
-
-    fn store(&mut self, _address: usize, _value: u8) {}
-}
-
-// A device whose reads return the bytes of a list in turn, and then 0.
-pub struct Listed(pub &'static [u8]);
-
-impl Listed {
-    // Returns the byte of the next read.
-    fn next(&mut self) -> u8
-
-    {
-        match self.0 {
-            [first, rest @ ..] => {
-                self.0 = rest;
-                *first
-            }
-            [] => 0,
-        }
-    }
-}
-
-impl Backend for Listed {
-
-    fn read(&mut self, _register_offset: u8) -> u8 {
-        self.next()
-    }
-
-    fn write(&mut self, _register_offset: u8, _value: u8) {}
-}
-
-impl ByteAccess for Listed {
-
-    fn load(&mut self, _address: usize) -> u8 {
-        self.next()
-    }
-
-    fn store(&mut self, _address: usize, _value: u8) {}
 }
 
 // A device whose registers keep what is written to them, and whose transmitter is always idle.
@@ -196,16 +79,4 @@ impl Backend for RegisterFile {
             _ => self.registers[offset] = value,
         }
     }
-}
-
-// Returns a driver for a device whose accesses are recorded.
-pub fn driver<D: Backend>(device: D) -> Uart16550<Recorder<D>> {
-    Uart16550::new_with_backend(Recorder::new(device))
-}
-
-// Returns a driver for a device whose accesses are recorded, with a spin limit of 3.
-pub fn impatient<D: Backend>(device: D) -> Uart16550<Recorder<D>> {
-    let mut uart = driver(device);
-    uart.set_spin_limit(NonZeroU64::new(3).unwrap());
-    uart
 }

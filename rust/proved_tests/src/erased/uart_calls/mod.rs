@@ -1,29 +1,15 @@
 #[allow(unused_imports)]
-use crate::runtime::{AllocGlobal, HostRuntime, assert, assert_eq, assert_ne};
+use crate::runtime::{AllocGlobal, HostRuntime, assert, assert_eq};
 #[allow(unused_imports)]
 use geesetrunk_kit::{CollectWith as _, String, ToStringWith as _, ToVecWith as _, Vec, format, vec};
-// Tests of the driver: what no contract states, as examples from outside.
-//
-// Rows of calls, with their answers and whole lists of accesses, are tables in the terms of
-// [`driving`].
+// What a contract says of tests: generic code over a writer, calls over a replay, and examples of
+// devices with what each access of them is. The other tests of the driver promise nothing, and are
+// plain Rust, in the package that is erased from it.
 
-mod address;
-mod always;
-mod bytes;
-mod calls;
 mod devices;
-mod driving;
 mod examples;
 mod generic;
-mod init;
-mod lists;
-mod looks;
-mod loopback;
 mod replays;
-mod setup;
-mod spec;
-mod states;
-mod terminal;
 
 use std::fmt::Debug;
 use crate::runtime::Abort;

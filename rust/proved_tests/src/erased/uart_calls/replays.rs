@@ -1,5 +1,5 @@
 #[allow(unused_imports)]
-use crate::runtime::{AllocGlobal, HostRuntime, assert, assert_eq, assert_ne};
+use crate::runtime::{AllocGlobal, HostRuntime, assert, assert_eq};
 #[allow(unused_imports)]
 use geesetrunk_kit::{CollectWith as _, String, ToStringWith as _, ToVecWith as _, Vec, format, vec};
 // Calls over a replay, and what the replay then shows: a list of the call, whose reads returned
@@ -16,19 +16,22 @@ use uart_calls::Call::{
     ReadyToReceive, ReadyToSend, Receive, ReceiveExact, ReceiveWithErrors, RetriggerInterrupts,
     Send, SendExact, TestLoopback, TryReceive, TrySend, Write, WriteReady,
 };
-use uart_calls::perform;
 use uart_calls::replay::Replay;
-use crate::erased::uart_calls::driving::{Replaying, bytes, dump, text, with_errors};
+use uart_calls::{CALL_BYTES, perform};
+use geesetrunk_kit::{ArrayString, ArrayVec};
 use geesetrunk_kit::Flags;
 use std::fmt;
 use std::num::NonZeroU64;
 use crate::runtime::Abort;
-use uart_16550::{Uart16550, Uart16550Tty};
+use uart_16550::{ConfigRegisterDump, Uart16550, Uart16550Tty};
 use uart_spec::InitError::DeviceNotPresent;
 use uart_spec::RemoteReadyToReceiveError::RemoteNotClearToSend;
 use uart_spec::access::Access;
-use uart_spec::registers::{IER, offsets};
-use uart_spec::{Config, LoopbackError};
+use uart_spec::registers::{IER, ISR, LCR, LSR, MCR, MSR, offsets};
+use uart_spec::{Config, LoopbackError, Received};
+
+// A driver under a terminal, over a device whose reads return listed bytes.
+type Replaying<'a> = Uart16550Tty<Replay<'a>>;
 
 fn replayed(terminal: &mut Replaying<'_>, call: &Call) -> Answer
 
@@ -40,6 +43,48 @@ fn write_str(terminal: &mut Replaying<'_>, text: &str) -> fmt::Result
 
 {
     fmt::Write::write_str(terminal, text)
+}
+
+// Returns these bytes, for a call or an answer; none if there are too many.
+fn bytes(slice: &[u8]) -> ArrayVec<u8, CALL_BYTES> {
+    let mut bytes = ArrayVec::new();
+    let _ = bytes.try_extend_from_slice(slice);
+    bytes
+}
+
+// Returns these bytes with their errors, for an answer; none of those that are too many.
+fn with_errors(items: &[(u8, u8)]) -> ArrayVec<Received, CALL_BYTES> {
+    let mut received = ArrayVec::new();
+    for (byte, errors) in items {
+        let _ = received.try_push(Received {
+            byte: *byte,
+            errors: LSR::from_bits_retain(*errors),
+        });
+    }
+    received
+}
+
+// Returns `write_text` of this text.
+fn text(text: &str) -> Call {
+    let mut copy = ArrayString::new();
+    let _ = copy.try_push_str(text);
+    Call::Text(copy)
+}
+
+// Returns a dump that shows these registers, from IER to SPR, and this divisor latch.
+fn dump(registers: [u8; 7], dll: u8, dlm: u8) -> ConfigRegisterDump {
+    let [ier, isr, lcr, mcr, lsr, msr, spr] = registers;
+    ConfigRegisterDump {
+        ier: IER::from_bits_retain(ier),
+        isr: ISR::from_bits_retain(isr),
+        lcr: LCR::from_bits_retain(lcr),
+        mcr: MCR::from_bits_retain(mcr),
+        lsr: LSR::from_bits_retain(lsr),
+        msr: MSR::from_bits_retain(msr),
+        spr,
+        dll,
+        dlm,
+    }
 }
 
 // Returns the number of accesses, if all of them were kept.

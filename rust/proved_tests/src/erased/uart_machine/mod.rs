@@ -1,10 +1,9 @@
 #[allow(unused_imports)]
-use crate::runtime::{AllocGlobal, HostRuntime, assert, assert_eq, assert_ne};
+use crate::runtime::{AllocGlobal, HostRuntime, assert, assert_eq};
 #[allow(unused_imports)]
 use geesetrunk_kit::{CollectWith as _, String, ToStringWith as _, ToVecWith as _, Vec, format, vec};
 // Worked examples on raw accesses, and what no contract says: that machines are built, and texts.
 
-mod counts;
 mod cut;
 mod driver;
 mod idle;
@@ -13,7 +12,6 @@ mod paths;
 mod rings;
 mod schedules;
 mod script;
-mod steps;
 mod unpromised;
 
 use uart_machine::{ArrivalMark, BuildError, Call, Chip, Event};

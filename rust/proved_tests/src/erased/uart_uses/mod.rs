@@ -1,3 +1,3 @@
-//! The tests of the rings.
+//! The interrupt handler of the documentation, and its tests.
 
 mod rings;

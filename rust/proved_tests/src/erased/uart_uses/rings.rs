@@ -1,11 +1,9 @@
 #[allow(unused_imports)]
-use crate::runtime::{AllocGlobal, HostRuntime, assert, assert_eq, assert_ne};
+use crate::runtime::{AllocGlobal, HostRuntime, assert, assert_eq};
 #[allow(unused_imports)]
 use geesetrunk_kit::{CollectWith as _, String, ToStringWith as _, ToVecWith as _, Vec, format, vec};
-// Tests of what no contract says: worked examples from outside, the refusals' texts, and the
-// interrupt handler of the documentation.
+// The interrupt handler of the documentation, which is quoted there, and its tests.
 
-mod calls;
 mod handler;
 mod lists;
 

@@ -1,22 +1,17 @@
 #[allow(unused_imports)]
-use crate::runtime::{AllocGlobal, HostRuntime, assert, assert_eq, assert_ne};
+use crate::runtime::{AllocGlobal, HostRuntime, assert, assert_eq};
 #[allow(unused_imports)]
 use geesetrunk_kit::{CollectWith as _, String, ToStringWith as _, ToVecWith as _, Vec, format, vec};
-// Rings over a replay, what the reads of a chip return, and lists of accesses as tests write them.
+// What the reads of a chip return, and lists of accesses as tests write them.
 use super::assert_equal;
 use crate::runtime::Abort;
 use crate::runtime::Fail;
-use uart_16550::Uart16550;
 use uart_calls::replay::Replay;
-use uart_ring::{RingError, Uart16550Ring};
 use uart_spec::access::Access::{Read, Write};
 use uart_spec::registers::offsets;
 
 // LSR: the transmitter is empty.
 pub const EMPTY: u8 = 0x60;
-
-// LSR: the transmitter has no room.
-pub const FULL: u8 = 0x00;
 
 // LSR: the transmitter is empty, and a character waits to be read.
 pub const WAITS: u8 = 0x61;
@@ -30,20 +25,8 @@ pub const LINE_STATUS: u8 = 0xc6;
 // ISR: received data is ready.
 pub const DATA_READY: u8 = 0xc4;
 
-// ISR: a reception timeout.
-pub const TIMEOUT: u8 = 0xcc;
-
-// ISR: THR is empty.
-pub const THR_EMPTY: u8 = 0xc2;
-
 // ISR: a modem status interrupt.
 pub const MODEM_STATUS: u8 = 0xc0;
-
-// ISR: the end of a DMA reception.
-pub const DMA_RECEPTION: u8 = 0xce;
-
-// ISR: the end of a DMA transmission.
-pub const DMA_TRANSMISSION: u8 = 0xca;
 
 // ISR: an interrupt is pending whose code has no name.
 pub const UNKNOWN: u8 = 0xc8;
@@ -65,33 +48,6 @@ pub enum Step {
     Received(&'static [u8]),
 }
 
-// A call of the rings, with what it returns.
-#[derive(Clone, Copy)]
-pub enum Call {
-    // `queue` of these bytes accepts this number of them.
-    Queue(&'static [u8], usize),
-    // How many bytes wait in the transmit ring.
-    Left(usize),
-    // `resume_transmit`.
-    Resume,
-    // `service` serves this number of interrupts.
-    Service(usize),
-}
-
-// Returns rings over a new driver, whose reads return these bytes in turn.
-pub fn rings<'a>(
-    rt: &impl AllocGlobal,
-    answers: &'a [u8],
-    tx_capacity: usize,
-    rx_capacity: usize,
-) -> Result<Uart16550Ring<Replay<'a>>, RingError> {
-    let uart = Uart16550::new_with_backend(Replay::new(answers));
-    match Uart16550Ring::new(rt.alloc(), uart, tx_capacity, rx_capacity) {
-        Ok(ring) => Ok(ring),
-        Err((_uart, cause)) => Err(cause),
-    }
-}
-
 // Returns what the reads among these accesses return.
 pub fn answers_in(rt: &impl AllocGlobal, steps: &[Step]) -> Result<Vec<u8>, Fail> {
     let mut answers = Vec::new(rt.alloc());
@@ -109,27 +65,6 @@ pub fn answers_in(rt: &impl AllocGlobal, steps: &[Step]) -> Result<Vec<u8>, Fail
         }
     }
     Ok(answers)
-}
-
-// Asserts that new rings return this from these calls, which make these accesses and no others.
-pub fn play(
-    rt: &(HostRuntime),
-    tx_capacity: usize,
-    calls: &[Call],
-    steps: &[Step],
-) -> Result<(), Fail> {
-    let answers = answers_in(rt, steps)?;
-    let mut ring = rings(rt, &answers, tx_capacity, 4)?;
-    for call in calls {
-        match *call {
-            Call::Queue(bytes, accepted) => assert_equal(rt, ring.queue(bytes), accepted),
-            Call::Left(count) => assert_equal(rt, ring.transmit_len(), count),
-            Call::Resume => ring.resume_transmit(),
-            Call::Service(count) => assert_equal(rt, ring.service(), count),
-        }
-    }
-    made(rt, ring.inner().backend(), steps);
-    Ok(())
 }
 
 // Asserts that these accesses were made, and no others.
