@@ -54,8 +54,8 @@ fn calls_with_words() -> [Call; 12] {
         Call::Receive(3),
         Call::ReceiveExact(3),
         Call::Read(3),
-        Call::Send(bytes.clone()),
-        Call::SendExact(bytes.clone()),
+        Call::Send(bytes),
+        Call::SendExact(bytes),
         Call::Write(bytes),
         Call::Text(text),
     ]

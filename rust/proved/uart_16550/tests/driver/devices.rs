@@ -7,7 +7,7 @@ use proved_uart_16550::backend::{Backend, ByteAccess, PortAccess};
 use std::num::NonZeroU64;
 use uart_spec::registers::offsets;
 
-//// A device whose accesses are recorded.
+/// A device whose accesses are recorded.
 pub struct Recorder<D> {
     /// The device.
     pub device: D,
@@ -96,7 +96,11 @@ pub struct Listed(pub &'static [u8]);
 impl Listed {
     /// Returns the byte of the next read.
     fn next(&mut self) -> u8 {
-        self.0.split_off_first().copied().unwrap_or(0)
+        let Some((&first, rest)) = self.0.split_first() else {
+            return 0;
+        };
+        self.0 = rest;
+        first
     }
 }
 

@@ -90,13 +90,13 @@ fn interrupts() {
 #[test]
 fn registers() {
     for (call, offset) in [
-        (Call::Ier, 1),
-        (Call::Isr, 2),
-        (Call::Lcr, 3),
-        (Call::Mcr, 4),
-        (Call::Lsr, 5),
-        (Call::Msr, 6),
-        (Call::Spr, 7),
+        (Call::Ier, offsets::IER),
+        (Call::Isr, offsets::ISR),
+        (Call::Lcr, offsets::LCR),
+        (Call::Mcr, offsets::MCR),
+        (Call::Lsr, offsets::LSR),
+        (Call::Msr, offsets::MSR),
+        (Call::Spr, offsets::SPR),
     ] {
         row(New, call, Register(0xa6), &list().read(offset, 0xa6));
     }
@@ -138,7 +138,11 @@ fn calls_that_change_the_line() {
         data_bits: WordLength::SevenBits,
         ..Config::DEFAULT
     };
-    let lines = list().write(3, 0x82).write(0, 3).write(1, 0).write(3, 0x02);
+    let lines = list()
+        .write(offsets::LCR, 0x82)
+        .write(offsets::DLL, 3)
+        .write(offsets::DLM, 0)
+        .write(offsets::LCR, 0x02);
     let terminal = row(New, Call::SetFrame(frame), Done, &lines);
     assert_eq!(terminal.inner().config().data_bits, WordLength::SevenBits);
     let near = Config {
@@ -147,35 +151,34 @@ fn calls_that_change_the_line() {
         ..Config::DEFAULT
     };
     let lines = list()
-        .write(3, 0x83)
-        .write(0, 13)
-        .write(1, 0)
-        .write(3, 0x03);
-    if let Ok(near) = near.nearest(2) {
-        row(New, Call::SetFrame(near), Done, &lines);
-    }
+        .write(offsets::LCR, 0x83)
+        .write(offsets::DLL, 13)
+        .write(offsets::DLM, 0)
+        .write(offsets::LCR, 0x03);
+    let near = near.nearest(2).expect("the divisor 13 is near enough");
+    row(New, Call::SetFrame(near), Done, &lines);
     for (call, read, written) in [
         (Call::SetBreak(true), 0x03, 0x43),
         (Call::SetBreak(false), 0x43, 0x03),
     ] {
-        row(New, call, Done, &list().read(3, read).write(3, written));
+        let changed = list().read(offsets::LCR, read);
+        row(New, call, Done, &changed.write(offsets::LCR, written));
     }
     for (call, read, written) in [
         (Call::SetRts(true), 0x19, 0x0b),
         (Call::SetRts(false), 0x0b, 0x09),
         (Call::SetDtr(false), 0x0b, 0x0a),
     ] {
-        row(New, call, Done, &list().read(4, read).write(4, written));
+        let changed = list().read(offsets::MCR, read);
+        row(New, call, Done, &changed.write(offsets::MCR, written));
     }
-    row(
-        New,
-        Call::SetModemControl(MCR::LOOP_BACK | MCR::DTR),
-        Done,
-        &list().write(4, 0x01),
-    );
+    // A loopback is never entered.
+    let outputs = Call::SetModemControl(MCR::LOOP_BACK | MCR::DTR);
+    row(New, outputs, Done, &list().write(offsets::MCR, 0x01));
     row(New, Call::IsIdle, Flag(true), &list().look(0x40));
     row(New, Call::IsIdle, Flag(false), &list().look(0xbf));
-    let (look, shown) = (list().read(6, 0xff), list().read(6, 0x30));
+    let look = list().read(offsets::MSR, 0xff);
+    let shown = list().read(offsets::MSR, 0x30);
     let mut terminal = row(New, Call::PeekModem, Register(0xff), &look);
     then(&mut terminal, Call::PeekModem, Register(0x30), &shown);
     then(&mut terminal, Call::Msr, Register(0x3f), &shown);
@@ -184,21 +187,17 @@ fn calls_that_change_the_line() {
 #[test]
 fn ports_that_are_attached() {
     let taken = list()
-        .read(3, 0x03)
-        .read(4, 0x0b)
-        .read(2, 0x01)
+        .read(offsets::LCR, 0x03)
+        .read(offsets::MCR, 0x0b)
+        .read(offsets::ISR, 0x01)
         .latch(0x03, 0x83, 12, 0);
     let terminal = row(New, Call::Attach, Latch(12, 0), &taken);
-    assert_eq!(terminal.inner().fifo_enabled(), false);
+    assert!(!terminal.inner().fifo_enabled());
     let opened = Answer::AttachRefused(AttachError::DivisorLatchOpen);
-    row(New, Call::Attach, opened, &list().read(3, 0x83));
+    row(New, Call::Attach, opened, &list().read(offsets::LCR, 0x83));
     let looped = Answer::AttachRefused(AttachError::Loopback);
-    row(
-        New,
-        Call::Attach,
-        looped,
-        &list().read(3, 0x03).read(4, 0x10),
-    );
+    let shown = list().read(offsets::LCR, 0x03).read(offsets::MCR, 0x10);
+    row(New, Call::Attach, looped, &shown);
 }
 
 #[test]
