@@ -4,5 +4,4 @@
 #![cfg(test)]
 
 mod erased;
-mod guards;
 mod runtime;

@@ -1,10 +1,10 @@
 //! What a Rust caller may break, and how the crate answers: at each limit, and one beyond it.
-use uart_16550::backend::{Backend, ByteAccess, MmioBackend, PioBackend, PortAccess};
-use uart_16550::{BaudRate, Config, ConfigRegisterDump, Uart16550, Uart16550Tty};
-use uart_spec::registers::PSD;
-use uart_spec::{calc_baud_rate, calc_divisor, calc_frequency};
+use proved_uart_16550::backend::{Backend, ByteAccess, MmioBackend, PioBackend, PortAccess};
+use proved_uart_16550::{BaudRate, Config, ConfigRegisterDump, Uart16550, Uart16550Tty};
 use std::num::NonZeroUsize;
 use std::panic::{AssertUnwindSafe, catch_unwind};
+use uart_spec::registers::PSD;
+use uart_spec::{calc_baud_rate, calc_divisor, calc_frequency};
 
 /// Counts accesses. Each read returns 0.
 #[derive(Default)]
@@ -46,7 +46,11 @@ impl ByteAccess for Counting {
 /// The text of the panic of a call, or nothing if it returns.
 fn panics<T>(call: impl FnOnce() -> T) -> Option<String> {
     let cause = catch_unwind(AssertUnwindSafe(call)).err()?;
-    Some(cause.downcast_ref::<&str>().map_or("another".into(), |text| (*text).into()))
+    Some(
+        cause
+            .downcast_ref::<&str>()
+            .map_or("another".into(), |text| (*text).into()),
+    )
 }
 
 fn config(frequency: u32, baud_rate: u32, prescaler_division_factor: Option<u32>) -> Config {
@@ -58,9 +62,11 @@ fn config(frequency: u32, baud_rate: u32, prescaler_division_factor: Option<u32>
     }
 }
 
-const NOT_COMPUTABLE: &str = "a frequency or baud rate of 0, or a prescaler division factor above 15";
+const NOT_COMPUTABLE: &str =
+    "a frequency or baud rate of 0, or a prescaler division factor above 15";
 const NO_RATE: &str = "a frequency or divisor of 0, or a prescaler division factor above 15";
-const NO_FREQUENCY: &str = "a baud rate or divisor of 0, a prescaler division factor above 15, or too high a frequency";
+const NO_FREQUENCY: &str =
+    "a baud rate or divisor of 0, a prescaler division factor above 15, or too high a frequency";
 const NO_REGISTER: &str = "no register has this offset";
 
 /// A frequency or a rate, another factor, the prescaler, and whether the arithmetic accepts them.
@@ -80,9 +86,21 @@ fn arithmetic() {
     for (first, second, prescaler, accepted) in FACTORS {
         let text = |text: &str| (!accepted).then(|| text.to_string());
         let row = (first, second, prescaler);
-        assert_eq!(panics(|| calc_divisor(first, second, prescaler)), text(NOT_COMPUTABLE), "{row:?}");
-        assert_eq!(panics(|| calc_baud_rate(first, second, prescaler)), text(NO_RATE), "{row:?}");
-        assert_eq!(config(first, second, prescaler).is_computable(), accepted, "{row:?}");
+        assert_eq!(
+            panics(|| calc_divisor(first, second, prescaler)),
+            text(NOT_COMPUTABLE),
+            "{row:?}"
+        );
+        assert_eq!(
+            panics(|| calc_baud_rate(first, second, prescaler)),
+            text(NO_RATE),
+            "{row:?}"
+        );
+        assert_eq!(
+            config(first, second, prescaler).is_computable(),
+            accepted,
+            "{row:?}"
+        );
     }
     for (baud_rate, divisor, prescaler, frequency) in [
         (1, 1, None, Some(16)),
@@ -100,7 +118,10 @@ fn arithmetic() {
         let made = catch_unwind(|| calc_frequency(baud_rate, divisor, prescaler)).ok();
         assert_eq!(made, frequency, "{baud_rate} {divisor} {prescaler:?}");
     }
-    assert_eq!(panics(|| calc_frequency(0, 1, None)).as_deref(), Some(NO_FREQUENCY));
+    assert_eq!(
+        panics(|| calc_frequency(0, 1, None)).as_deref(),
+        Some(NO_FREQUENCY)
+    );
 }
 
 #[test]
@@ -108,7 +129,10 @@ fn prescaler_division() {
     assert_eq!(panics(|| PSD::from_bits_retain(0xf0).set_pdf(15)), None);
     for factor in [16, u8::MAX] {
         let text = panics(|| PSD::from_bits_retain(0).set_pdf(factor));
-        assert_eq!(text.as_deref(), Some("a prescaler division factor above 15"));
+        assert_eq!(
+            text.as_deref(),
+            Some("a prescaler division factor above 15")
+        );
     }
 }
 
@@ -119,20 +143,38 @@ fn configurations() {
         let text = (!accepted).then(|| NOT_COMPUTABLE.to_string());
         let mut uart = Uart16550::new_with_backend(Counting::default());
         assert_eq!(panics(|| uart.init(config())), text);
-        assert!(accepted || uart.backend().0 == 0, "an access before the panic");
-        assert_eq!(panics(|| Uart16550Tty::new_with_backend(Counting::default(), config())), text);
-        assert_eq!(panics(|| Uart16550Tty::new_port(0, Counting::default(), config())), text);
+        assert!(
+            accepted || uart.backend().0 == 0,
+            "an access before the panic"
+        );
+        assert_eq!(
+            panics(|| Uart16550Tty::new_with_backend(Counting::default(), config())),
+            text
+        );
+        assert_eq!(
+            panics(|| Uart16550Tty::new_port(0, Counting::default(), config())),
+            text
+        );
         let base = NonZeroUsize::MIN;
-        assert_eq!(panics(|| Uart16550Tty::new_mmio(base, 1, Counting::default(), config())), text);
-        let terminal = || Uart16550Tty::new_mmio_from_address(base, 1, Counting::default(), config());
+        assert_eq!(
+            panics(|| Uart16550Tty::new_mmio(base, 1, Counting::default(), config())),
+            text
+        );
+        let terminal =
+            || Uart16550Tty::new_mmio_from_address(base, 1, Counting::default(), config());
         assert_eq!(panics(terminal), text);
     }
 }
 
 #[test]
 fn dumps() {
-    let dump = |dll| ConfigRegisterDump { dll, ..ConfigRegisterDump::default() };
-    for (frequency, prescaler, accepted) in [(1, Some(15), true), (0, None, false), (1, Some(16), false)] {
+    let dump = |dll| ConfigRegisterDump {
+        dll,
+        ..ConfigRegisterDump::default()
+    };
+    for (frequency, prescaler, accepted) in
+        [(1, Some(15), true), (0, None, false), (1, Some(16), false)]
+    {
         let config = config(frequency, 0, prescaler);
         let text = (!accepted).then(|| NO_RATE.to_string());
         assert_eq!(panics(|| dump(1).baud_rate(&config)), text);
@@ -147,8 +189,14 @@ fn registers<B: Backend>(backend: &mut B, accesses: impl Fn(&B) -> u32) {
     }
     assert_eq!(accesses(backend), 4);
     for offset in [8, 200, u8::MAX] {
-        assert_eq!(panics(|| backend.read(offset)).as_deref(), Some(NO_REGISTER));
-        assert_eq!(panics(|| backend.write(offset, 1)).as_deref(), Some(NO_REGISTER));
+        assert_eq!(
+            panics(|| backend.read(offset)).as_deref(),
+            Some(NO_REGISTER)
+        );
+        assert_eq!(
+            panics(|| backend.write(offset, 1)).as_deref(),
+            Some(NO_REGISTER)
+        );
     }
     assert_eq!(accesses(backend), 4);
 }
@@ -156,8 +204,12 @@ fn registers<B: Backend>(backend: &mut B, accesses: impl Fn(&B) -> u32) {
 #[test]
 fn offsets() {
     let mut ports = Uart16550::new_port(0x3f8, Counting::default()).unwrap();
-    registers(ports.backend_mut(), |backend: &PioBackend<Counting>| backend.access().0);
+    registers(ports.backend_mut(), |backend: &PioBackend<Counting>| {
+        backend.access().0
+    });
     let base = NonZeroUsize::new(usize::MAX - 7 * 128).unwrap();
     let mut memory = Uart16550::new_mmio(base, 128, Counting::default()).unwrap();
-    registers(memory.backend_mut(), |backend: &MmioBackend<Counting>| backend.access().0);
+    registers(memory.backend_mut(), |backend: &MmioBackend<Counting>| {
+        backend.access().0
+    });
 }
