@@ -413,10 +413,21 @@ class Tests:
         ):
             self.count(part in text, f"{part}: not in {text}")
         self.count("publish" not in shipped and "thiserror" not in shipped, f"more in {shipped}")
+        rings = packages.manifest("uart_ring", packages.Crates("# three\nuart_ring: uart_16550\n"))
+        for_tests = 'uart_calls = { package = "geesetrunk-proved-uart_calls", path = "../uart_calls" }\n'
+        self.count(for_tests in rings.partition("[dev-dependencies]")[2], f"{for_tests}: not in {rings}")
         root = packages.root("uart_play", crates, "//! A text.\n\nmod a;\n")
         self.count(root.startswith("//! A text.\n#![no_std]\n#![forbid(unsafe_code)]\n") and root.endswith("\n\nmod a;\n"), root)
 
     def around(self, edits):
+        for name, is_checked in (
+            ("uart_ring/src/by_hand.rs", True),
+            ("uart_ring/tests/calls.rs", False),
+            ("uart_ring/tests/by_hand.rs", False),
+            ("uart_ring/tests/build.rs", True),
+            ("uart_ring/src/tests/by_hand.rs", True),
+        ):
+            self.count(around.is_around(pathlib.Path(name)) == is_checked, f"{name}: {not is_checked}")
         by_hand = around.files_of(ROOT)
         self.count(around.causes(by_hand) == [], f"around: {around.causes(by_hand)}")
         for name, old, new, cause in edits:
