@@ -17,8 +17,11 @@
 #ifndef U16550_H
 #define U16550_H
 
+/* A kernel without these headers defines U16550_HAS_TYPES, and has size_t, offsetof, uintptr_t and uint8_t to uint64_t itself. */
+#ifndef U16550_HAS_TYPES
 #include <stddef.h>
 #include <stdint.h>
+#endif
 
 #if defined(__cplusplus)
 #define U16550_ASSERT(condition, text) static_assert(condition, text)
