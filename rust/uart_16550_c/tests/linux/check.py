@@ -1,0 +1,446 @@
+#!/usr/bin/env python3
+"""Tries u16550_tty in a guest, and beside Linux's own driver on the same port: check.py [--whole] WORK KERNEL INITRAMFS LINES.so
+
+Without --whole it makes the checks that take a minute together. Prints a line for each check, and what the two drivers came to. The last
+line is 'N passed, M failed', and the status is 0 if nothing failed.
+
+The guest's ports are: one whose other end is here; two that are joined; one with modem lines, which lines.c gives it; and one for the
+guest's shell, which is a PCI card, since a PC has four others. Linux's own driver keeps this and one of the two that are joined.
+"""
+import argparse
+import mmap
+import os
+import re
+import struct
+import sys
+import time
+import tty
+
+from guest import RECEIVED, SENT, Guest, Line, Task, Unexpected, stream
+
+OWN, HERE, JOINED, OTHER, MODEM = "ttyS1", "ttyP0", "ttyP1", "ttyS3", "ttyP2"
+PORTS = "ports=0x2f8,0x3e8,0x3f8 irqs=3,5,4"
+TAKEN = ("0x2f8", "0x3e8", "0x3f8")  # Linux's own driver has these at first
+RTS, DTR, CTS, CARRIER, DSR = 4, 2, 0x20, 0x40, 0x100
+CONNECTED = CTS | CARRIER | DSR
+# How much worse than Linux's own driver one may be.
+MOST = 1.1
+
+
+class Modem:
+    """The modem lines of a port, and the pseudo terminal at its other end."""
+
+    def __init__(self, work):
+        path = f"{work}/lines"
+        with open(path, "wb") as file:
+            file.write(bytes(mmap.PAGESIZE))
+        with open(path, "r+b") as file:
+            self.shared = mmap.mmap(file.fileno(), mmap.PAGESIZE)
+        self.environment = {"LINES": path}
+        self.end, other = os.openpty()
+        tty.setraw(other)
+        os.set_blocking(self.end, False)
+        self.name = os.ttyname(other)
+        self.put(CONNECTED)
+
+    def put(self, lines):
+        self.shared[0:4] = struct.pack("<i", lines)
+
+    def outputs(self):
+        return struct.unpack_from("<i", self.shared, 4)[0]
+
+    def breaks(self):
+        return struct.unpack_from("<i", self.shared, 8)[0]
+
+    def receive(self, seconds):
+        """What comes until nothing has come for so long."""
+        came, last = bytearray(), time.monotonic()
+        while time.monotonic() - last < seconds:
+            try:
+                came += os.read(self.end, 4096)
+                last = time.monotonic()
+            except BlockingIOError:
+                time.sleep(0.01)
+        return bytes(came)
+
+
+class Bench:
+    """The guest with its ports, and what was found."""
+
+    def __init__(self, work, kernel, initramfs, lines, whole):
+        self.whole, self.passed, self.failed = whole, 0, 0
+        self.modem = Modem(work)
+        self.trace = f"{work}/trace"
+        ports = []
+        for name, chardev, base, interrupt in (
+                ("here", f"socket,path={work}/here,server=on,wait=off", 0x2F8, 3),
+                ("joined", f"socket,path={work}/joined,server=on,wait=off", 0x3E8, 5),
+                ("other", f"socket,path={work}/joined,server=off", 0x2E8, 7),
+                ("modem", f"serial,path={self.modem.name}", 0x3F8, 4)):
+            ports += ["-chardev", f"{chardev},id={name}", "-device", f"isa-serial,chardev={name},iobase={base:#x},irq={interrupt}"]
+        self.guest = Guest(work, kernel, initramfs, [*ports, "-D", self.trace], append=f"console={HERE},115200",
+                           processors=2, environment={**os.environ, **self.modem.environment, "LD_PRELOAD": lines})
+        self.here = Line(f"{work}/here")
+        self.run = self.guest.run
+        self.devices = {base: self.find(base) for base in TAKEN}
+
+    def find(self, base):
+        """The device to which Linux's own driver is bound."""
+        found = self.run(f"grep -l {base} /sys/bus/pnp/drivers/serial/*/resources")
+        return re.search(r"serial/(00:\w+)/resources", found)[1]
+
+    def judge(self, name, good, told=""):
+        """Counts a check."""
+        print(f"{name}: {'ok' if good else 'failed'}", flush=True)
+        if good:
+            self.passed += 1
+        else:
+            self.failed += 1
+            print("".join(f"    {line}\n" for line in str(told).splitlines()[-20:]), end="", flush=True)
+
+    def own_driver(self, way):
+        """Lets Linux's own driver have these ports, or not: bind or unbind."""
+        for device in self.devices.values():
+            self.run(f"echo {device} > /sys/bus/pnp/drivers/serial/{way}")
+
+    def insert(self, more=""):
+        return self.run(f"insmod /modules/u16550_tty.ko {PORTS} {more}; dmesg | tail -20")
+
+    def task(self, command):
+        return Task(self.guest, command)
+
+    def transfer(self, device, send, receive, seconds=60):
+        """So many bytes each way at once. Returns whether all came at both ends, and what the guest says."""
+        self.here.drain(0.2)
+        task = self.task(f"terminal transfer /dev/{device} {send} {receive} 1").ready()
+        came = self.here.exchange(stream(receive, RECEIVED), send, 10)
+        told = task.result(seconds)
+        good = came == stream(send, SENT) and f"received {receive} of {receive}, wrong 0, overruns 0" in told
+        return good and "lost in the tty layer 0" in told, f"{told}here came {len(came)}, right: {came == stream(send, SENT)}"
+
+
+# ---- the checks: each is given the bench, and says what it found
+
+def takes_no_port_of_another(bench):
+    told = bench.insert()
+    bench.judge("a port that another driver has is left alone", told.count("belong to another driver") == 3, told)
+    bench.run("rmmod u16550_tty")
+
+
+def finds_chips(bench):
+    bench.own_driver("unbind")
+    told = bench.insert()
+    bench.judge("three chips are found, and pass the loopback test", told.count("has passed the loopback test") == 3, told)
+
+
+def moves_bytes(bench):
+    size = 5_000_000 if bench.whole else 200_000
+    good, told = bench.transfer(HERE, size, size, 600)
+    bench.judge(f"{size} bytes each way at once, compared at both ends", good, told)
+
+
+def sets_rates(bench):
+    told = bench.run(f"terminal rates /dev/{HERE}")
+    wanted = "50:50 110:110 134:134 300:300 9600:9600 31250:28800 38400:38400 57600:57600 74880:57600 100000:115200 115200:115200"
+    bench.judge("a rate that the chip does not have becomes the nearest, and is read back", wanted in told, told)
+
+
+def opens_and_closes(bench):
+    told = bench.run(f"terminal cycles /dev/{HERE} 100", 120)
+    bench.judge("opened and closed 100 times, with a byte each time", "cycles: 100, wrong 0" in told, told)
+    came = bench.here.drain(1)
+    bench.judge("each of these bytes came", came == b"x" * 100, came)
+
+
+def changes_speed(bench):
+    for waits, name in (0, "at once"), (1, "behind what was sent"):
+        bench.here.drain(0.3)
+        task = bench.task(f"terminal change /dev/{HERE} 40 {waits}").ready()
+        came = bench.here.exchange(b"", 40 * 256, 5)
+        told = task.result()
+        bench.judge(f"the speed changes after each 256 bytes, {name}: all come", came == stream(40 * 256, SENT), f"{told}{len(came)} came")
+
+
+def changes_speed_while_receiving(bench):
+    task = bench.task(f"terminal transfer /dev/{HERE} 0 40000 0").ready()
+    bench.run(f"for n in $(seq 1 100); do stty -F /dev/{HERE} 57600; stty -F /dev/{HERE} 115200; done > /dev/null 2>&1 &")
+    out = stream(40_000, RECEIVED)
+    for at in range(0, len(out), 100):
+        bench.here.send(out[at:at + 100])
+        time.sleep(0.004)
+    told = task.result()
+    bench.judge("200 changes of speed while 40,000 bytes come: none is lost", "received 40000 of 40000, wrong 0" in told, told)
+
+
+def has_modem_lines(bench):
+    bench.modem.put(0)
+    off = bench.run(f"terminal lines /dev/{MODEM} +rts +dtr")
+    raised = bench.modem.outputs()
+    bench.modem.put(CONNECTED)
+    on = bench.run(f"terminal lines /dev/{MODEM} +dtr -dtr +rts")
+    good = ("+dtr: rts 1 dtr 1 cts 0 dsr 0 cd 0" in off and raised & (RTS | DTR) == RTS | DTR and
+            "-dtr: rts 1 dtr 0 cts 1 dsr 1 cd 1" in on)
+    bench.judge("modem lines go out and come in", good, f"{off}{on}{raised}")
+
+
+def waits_for_cts(bench):
+    bench.modem.put(CARRIER | DSR)
+    bench.modem.receive(0.2)
+    task = bench.task(f"terminal flow /dev/{MODEM} 5000").ready()
+    held = bench.modem.receive(0.5)
+    bench.modem.put(CONNECTED)
+    came = bench.modem.receive(1.5)
+    told = task.result()
+    bench.judge("without CTS nothing is sent, and all when CTS comes", not held and came == stream(5000, SENT),
+                f"{told}{len(held)} before, {len(came)} after")
+
+
+def sends_breaks(bench):
+    before = bench.modem.breaks()
+    bench.run(f"terminal break /dev/{MODEM} 20")
+    bench.judge("a break is sent", bench.modem.breaks() > before)
+
+
+def send_with_breaks(bench, pieces):
+    """Sends these, with a break behind each but the last. Each goes another way into the emulator, so each waits for the one before."""
+    for piece in pieces[:-1]:
+        bench.here.send(piece)
+        time.sleep(0.2)
+        bench.guest.tell_monitor("chardev-send-break here")
+    bench.here.send(pieces[-1])
+
+
+def marks_breaks(bench):
+    pieces = b"ab", b"cd", b"", b"ef"
+    # PARMRK without IGNBRK and BRKINT: a break is 377, 0, 0.
+    for iflag, name, wanted in (
+            (0o10, "breaks among bytes are marked where they came", "61 62 ff 00 00 63 64 ff 00 00 ff 00 00 65 66"),
+            (0, "without PARMRK a break is a zero", "61 62 00 63 64 00 00 65 66"),
+            (0o1, "with IGNBRK there is none", "61 62 63 64 65 66")):
+        task = bench.task(f"terminal marks /dev/{HERE} 2 {iflag:o} 60").ready()
+        send_with_breaks(bench, pieces)
+        told = task.result()
+        bench.judge(name, f"marks: {wanted}, overruns 0, parity 0, frame 0, breaks 3" in told, told)
+
+
+def obeys_xoff(bench):
+    text = b"0123456789\n" * 9000
+    bench.here.drain(0.2)
+    task = bench.task(f"stty -F /dev/{HERE} raw -echo ixon -crtscts 115200; sleep 1000 < /dev/{HERE} & echo ready; "
+                      f"yes 0123456789 | head -c {len(text)} > /dev/{HERE}; kill $!").ready()
+    before = bench.here.exchange(b"", 2000, 10)
+    bench.here.send(b"\x13")
+    # What is under way when XOFF comes.
+    late = bench.here.drain(0.5)
+    held = bench.here.drain(0.7)
+    bench.here.send(b"\x11")
+    rest = bench.here.exchange(b"", len(text) - len(before) - len(late) - len(held), 5)
+    task.result()
+    bench.judge("XOFF stops what is sent, XON goes on, and nothing is lost", not held and before + late + rest == text,
+                f"{len(before)}, {len(late)}, held {len(held)}, {len(rest)}")
+
+
+def sends_xoff(bench):
+    task = bench.task(f"stty -F /dev/{HERE} raw -echo ixoff -crtscts 115200; (echo ready; sleep 5; cat) < /dev/{HERE} > /tmp/slow &"
+                      f" sleep 2; cat /tmp/slow | head -1; sleep 15; killall cat").ready()
+    out = stream(60_000, 0).translate(bytes(0x71 if byte in (0x11, 0x13) else byte for byte in range(256)))
+    time.sleep(1)
+    sent, said, stopped, end = 0, b"", False, time.monotonic() + 15
+    while sent < len(out) and time.monotonic() < end:
+        news = bench.here.take(0.02)
+        said += news
+        if news:
+            stopped = news[-1:] == b"\x13"
+        if not stopped:
+            bench.here.send(out[sent:sent + 256])
+            sent += 256
+    task.result(60)
+    length = int(bench.run("wc -c < /tmp/slow").split()[0]) - len("ready\n")
+    bench.judge("a slow reader sends XOFF and XON, and loses nothing", b"\x13" in said and b"\x11" in said and length == len(out),
+                f"sent {sent}, said {said}, the reader has {length}")
+
+
+def hangs_up(bench):
+    bench.run(f"stty -F /dev/{MODEM} -clocal -crtscts")
+    task = bench.task(f"cat /dev/{MODEM}")
+    time.sleep(0.5)
+    bench.modem.put(CTS | DSR)
+    told = task.wait_for("ended", 10)
+    bench.judge("without a carrier the terminal is hung up", "ended" in told, told)
+    bench.modem.put(CONNECTED)
+    bench.run(f"stty -F /dev/{MODEM} clocal")
+
+
+def logs_in(bench):
+    bench.run(f"setsid getty -L {HERE} 115200 vt100 > /dev/null 2>&1 &")
+    came = bench.here.until(b"login: ", 20)
+    bench.here.send(b"root\n")
+    came += bench.here.until(b"# ", 20)
+    bench.here.send(b"tty; seq 1 300 | md5sum\n")
+    came += bench.here.until(b"  -", 10)
+    bench.here.send(b"cat /dev/zero\n")
+    time.sleep(0.5)
+    bench.here.send(b"\x03")
+    bench.here.drain(1)
+    bench.here.send(b"echo still $((40+2))\n")
+    after = bench.here.until(b"still 42", 10)
+    bench.here.send(b"exit\n")
+    bench.here.drain(0.5)
+    bench.run("killall getty sh 2> /dev/null")
+    bench.judge("login, a command, and a command that is interrupted by ^C",
+                b"/dev/ttyP0" in came and b"bf4fa7116e26846bba3502a134f9bcba" in came and b"still 42" in after, came + after)
+
+
+def moves_files(bench):
+    if bench.run("which rz sz").count("/") < 2:
+        print("skipped lrzsz: its package cannot be had")
+        return
+    bench.run("head -c 200000 /dev/urandom > /tmp/file; mkdir -p /tmp/in")
+    bench.run(f"for port in {JOINED} {OTHER}; do stty -F /dev/$port raw -echo 115200; done")
+    for sender, receiver in (JOINED, OTHER), (OTHER, JOINED):
+        task = bench.task(f"cd /tmp/in; (rz -b -q < /dev/{receiver} > /dev/{receiver} 2> /dev/null &); sleep 0.5; "
+                          f"sz -b -q /tmp/file < /dev/{sender} > /dev/{sender} 2> /dev/null; sleep 1; cmp /tmp/file /tmp/in/file; "
+                          "echo compared $?; rm /tmp/in/file")
+        told = task.result(120)
+        bench.judge(f"zmodem from {sender} to {receiver}", "compared 0" in told, told)
+
+
+def carries_ip(bench):
+    if not bench.run("which pppd"):
+        print("skipped pppd: its package cannot be had")
+        return
+    bench.run("for m in slhc crc-ccitt ppp_generic ppp_async; do insmod /modules/$m.ko; done; mknod /dev/ppp c 108 0")
+    options = "115200 nodetach local noauth nocrtscts"
+    task = bench.task(f"(unshare -n pppd /dev/{OTHER} {options} 10.0.0.2:10.0.0.1 > /tmp/far 2>&1 &); "
+                      f"(pppd /dev/{JOINED} {options} 10.0.0.1:10.0.0.2 > /tmp/near 2>&1 &); "
+                      "n=0; until ifconfig ppp0 2> /dev/null | grep -q 10.0.0.2 || [ $n = 30 ]; do n=$((n+1)); sleep 1; done; "
+                      "ping -c 5 -s 1000 10.0.0.2; cat /tmp/near; killall pppd; sleep 2")
+    told = task.result(120)
+    bench.judge("pppd, and five packets there and back", "5 packets transmitted, 5 packets received" in told, told)
+
+
+def compares(bench):
+    """The same transfers with Linux's own driver and with this one, on one port."""
+    size = 2_000_000 if bench.whole else 100_000
+    bench.run("rmmod u16550_tty")
+    bench.own_driver("bind")
+    own = measure(bench, OWN, size)
+    bench.own_driver("unbind")
+    bench.insert()
+    this = measure(bench, HERE, size)
+    for what, theirs in own.items():
+        print(f"  {what:<45} {theirs:>8.3f} {this[what]:>8.3f}", flush=True)
+    for what, theirs in own.items():
+        bench.judge(f"{what}: at most a tenth more than Linux's own driver", this[what] <= MOST * theirs,
+                    f"{this[what]:.3f} and {theirs:.3f}")
+
+
+def measure(bench, device, size):
+    """Accesses and interrupts a byte, and bytes that are lost."""
+    found = {}
+    for name, send, receive in ("sent", 1 << 16, 0), ("received", 0, 1 << 16):
+        open(bench.trace, "w").close()
+        for event in "serial_read", "serial_write":
+            bench.guest.tell_monitor(f"trace-event {event} on")
+        good, told = bench.transfer(device, send, receive)
+        for event in "serial_read", "serial_write":
+            bench.guest.tell_monitor(f"trace-event {event} off")
+        with open(bench.trace, encoding="utf-8", errors="replace") as trace:
+            found[f"accesses for a byte {name}"] = sum("serial_" in line for line in trace) / (1 << 16)
+        bench.judge(f"{device}: 65,536 bytes {name}", good, told)
+    before = bench.guest.interrupts(3)
+    good, told = bench.transfer(device, size, size, 600)
+    bench.judge(f"{device}: {size} bytes each way at once", good, told)
+    found["interrupts for a thousand bytes each way"] = 1000 * (bench.guest.interrupts(3) - before) / (2 * size)
+    return found
+
+
+def is_a_console(bench):
+    bench.run("rmmod u16550_tty")
+    bench.here.drain(0.2)
+    bench.insert("console=1")
+    bench.here.drain(1)
+    task = bench.task(f"echo 7 > /proc/sys/kernel/printk; stty -F /dev/{HERE} raw -echo 115200; (yes abcdefgh | head -c 30000 > "
+                      f"/dev/{HERE}) & for n in $(seq 1 50); do echo line $n > /dev/kmsg; done; wait; echo 3 > /proc/sys/kernel/printk")
+    came = bench.here.drain(3)
+    task.result()
+    lines = re.findall(rb"\[ *\d+\.\d+\] line (\d+)\r\n", came)
+    rest = re.sub(rb"\[ *\d+\.\d+\] [^\n]*\n", b"", came)
+    bench.judge("the kernel's lines come whole while a program sends, and all of the program's bytes too",
+                lines == [b"%d" % n for n in range(1, 51)] and rest == (b"abcdefgh\n" * 4000)[:30_000],
+                f"{len(lines)} lines, {len(rest)} bytes: {came[-3000:]}")
+
+
+def gives_up_a_broken_chip(bench):
+    task = bench.task(f"terminal marks /dev/{HERE} 3 0 60").ready()
+    bench.run("insmod /modules/faults.ko fault=stuck")
+    bench.here.send(b"a")
+    time.sleep(0.5)
+    told = bench.run("rmmod faults; dmesg | tail -3")
+    alive = bench.run("echo alive")
+    task.result()
+    bench.judge("a chip that interrupts without end is given up, and the kernel's log says so",
+                f"{HERE}: the chip interrupts without end, with ISR 0x08: its interrupts are off" in told and "alive" in alive, told)
+    good, told = bench.transfer(HERE, 1000, 1000)
+    bench.judge("opened again, the port works", good, told)
+
+
+def is_removed_while_busy(bench):
+    task = bench.task(f"terminal transfer /dev/{HERE} 10000000 0 0").ready()
+    bench.here.exchange(b"", 50_000, 5)
+    told = bench.run("rmmod u16550_tty; lsmod")
+    bench.here.drain(0.3)
+    ended = task.result()
+    bench.judge("removed while a program sends: it is hung up", "u16550_tty" not in told and "hangup" in ended, told + ended)
+    told = bench.run("dmesg | grep -E 'WARNING|BUG|Oops|Unknown symbol|u16550_tty: ttyP.: [a-z_]+:'")
+    bench.judge("the kernel and the driver have found nothing wrong until here", not told.strip(), told)
+
+
+def writes_in_a_panic(bench):
+    """Ends the guest, and comes last."""
+    bench.insert("console=1")
+    bench.here.drain(0.5)
+    # The first access comes when the port is opened, in `init`. The guest then stops, and does not start again.
+    bench.run(f"echo 0 > /proc/sys/kernel/panic; insmod /modules/faults.ko fault=panic; (sleep 0.5; : > /dev/{HERE}) &")
+    came = bench.here.until(b"---[ end Kernel panic - not syncing: in the middle of a call ]---", 30)
+    bench.judge("the text of a panic in the middle of a call arrives, with a stack trace through the library",
+                came.count(b"in the middle of a call") == 2 and b" u16550_init_with+" in came and b" startup+" in came, came)
+
+
+QUICK = (takes_no_port_of_another, finds_chips, moves_bytes, sets_rates, changes_speed, has_modem_lines, waits_for_cts, sends_breaks,
+         marks_breaks, obeys_xoff, logs_in, gives_up_a_broken_chip, is_a_console, is_removed_while_busy, writes_in_a_panic)
+WHOLE = (takes_no_port_of_another, finds_chips, moves_bytes, sets_rates, opens_and_closes, changes_speed, changes_speed_while_receiving,
+         has_modem_lines, waits_for_cts, sends_breaks, marks_breaks, obeys_xoff, sends_xoff, hangs_up, logs_in, moves_files, carries_ip,
+         compares, gives_up_a_broken_chip, is_a_console, is_removed_while_busy, writes_in_a_panic)
+
+
+def main():
+    parser = argparse.ArgumentParser()
+    parser.add_argument("--whole", action="store_true")
+    parser.add_argument("--only", help="the names of checks, with commas")
+    for name in "work", "kernel", "initramfs", "lines":
+        parser.add_argument(name)
+    given = parser.parse_args()
+    os.makedirs(given.work, exist_ok=True)
+    bench = Bench(given.work, given.kernel, given.initramfs, given.lines, given.whole)
+    checks = WHOLE if given.whole else QUICK
+    if given.only:
+        checks = [globals()[name] for name in given.only.split(",")]
+    try:
+        for check in checks:
+            start = time.monotonic()
+            try:
+                check(bench)
+            except (Unexpected, OSError, TypeError) as wrong:
+                bench.judge(check.__name__, False, wrong)
+                if bench.guest.process.poll() is not None:
+                    break
+            print(f"  ({check.__name__}: {time.monotonic() - start:.1f} s)", file=sys.stderr, flush=True)
+    finally:
+        bench.guest.end()
+    print(f"{bench.passed} passed, {bench.failed} failed")
+    return bench.failed > 0
+
+
+if __name__ == "__main__":
+    sys.exit(main())

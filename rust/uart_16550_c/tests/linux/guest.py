@@ -1,0 +1,177 @@
+"""Linux in an emulator, the other ends of its serial ports, and what runs in it."""
+import os
+import re
+import select
+import socket
+import subprocess
+import threading
+import time
+
+SENT, RECEIVED = 3, 9  # the streams of terminal.c
+PIECE = 4096
+BOOT = 180  # seconds, on a machine that does much else
+
+
+def stream(count, seed):
+    """The bytes that terminal.c sends and expects."""
+    return bytes((n * 167 + (n >> 8) * 13 + (n >> 16) * 7 + seed) & 0xFF for n in range(count))
+
+
+class Unexpected(Exception):
+    """What the guest did otherwise."""
+
+
+class Line:
+    """The other end of a serial port. It reads whatever comes at once: a guest that sends byte by byte soon fills a socket."""
+
+    def __init__(self, path):
+        end = time.monotonic() + 20
+        while True:
+            self.socket = socket.socket(socket.AF_UNIX)
+            try:
+                self.socket.connect(path)
+                break
+            except OSError:
+                if time.monotonic() > end:
+                    raise
+                time.sleep(0.05)
+        self.found, self.news = bytearray(), threading.Condition()
+        threading.Thread(target=self.read, daemon=True).start()
+
+    def read(self):
+        try:
+            while piece := self.socket.recv(1 << 16):
+                with self.news:
+                    self.found += piece
+                    self.news.notify()
+        except OSError:
+            pass  # the guest has ended; who waits for more sees that
+
+    def take(self, seconds):
+        """What has come. Waits so long for something."""
+        with self.news:
+            if not self.found:
+                self.news.wait(seconds)
+            came, self.found = bytes(self.found), bytearray()
+        return came
+
+    def exchange(self, out, wanted, idle):
+        """Sends, and receives so many bytes at once. Ends when nothing has moved for so many seconds. Returns what came."""
+        came, sent, last = bytearray(), 0, time.monotonic()
+        while (sent < len(out) or len(came) < wanted) and time.monotonic() - last < idle:
+            piece = self.take(0 if sent < len(out) else 0.05)
+            came += piece
+            moved = len(piece)
+            if sent < len(out) and select.select([], [self.socket], [], 0.01)[1]:
+                moved = self.socket.send(out[sent:sent + PIECE], socket.MSG_DONTWAIT)
+                sent += moved
+            if moved:
+                last = time.monotonic()
+        return bytes(came)
+
+    def send(self, out):
+        """Sends, and leaves what comes."""
+        self.socket.sendall(out)
+
+    def drain(self, seconds):
+        """What comes until nothing has come for so long."""
+        return self.exchange(b"", 1 << 40, seconds)
+
+    def until(self, wanted, seconds):
+        """What comes, up to these bytes."""
+        came, end = b"", time.monotonic() + seconds
+        while wanted not in came and time.monotonic() < end:
+            came += self.take(0.2)
+        return came
+
+
+class Task:
+    """A command that runs in the guest beside others. What it prints is in a file there."""
+
+    def __init__(self, guest, command):
+        guest.tasks += 1
+        self.guest, self.file = guest, f"/tmp/task{guest.tasks}"
+        guest.run(f"({command}; echo ended $?) > {self.file} 2>&1 &")
+
+    def text(self):
+        return self.guest.run(f"cat {self.file}")
+
+    def wait_for(self, word, seconds):
+        """Waits until a line begins with this, and returns what was printed until then."""
+        tries = f"n=0; until grep -q '^{word}' {self.file} || [ $n = {int(seconds * 10)} ]; do n=$((n+1)); usleep 100000; done"
+        return self.guest.run(f"{tries}; cat {self.file}", seconds * 3 + 30)
+
+    def ready(self):
+        """Waits until the port is open and set up."""
+        self.wait_for("ready", 30)
+        return self
+
+    def result(self, seconds=60):
+        text = self.wait_for("ended", seconds)
+        if "\nended " not in text and not text.startswith("ended "):
+            raise Unexpected(f"not ended after {seconds} seconds: {text}")
+        return text
+
+
+class Guest:
+    """A guest. The serial port of a PCI card, its fifth, is that of a shell, which runs one line after the other."""
+
+    def __init__(self, work, kernel, initramfs, more, append="", processors=1, environment=None):
+        self.work, self.tasks, self.count, self.found, self.monitor = work, 0, 0, b"", None
+        with open(f"{work}/qemu.log", "wb") as log:
+            self.process = subprocess.Popen(
+                ["qemu-system-x86_64", "-accel", "tcg", "-cpu", "max", "-smp", str(processors), "-m", "512", "-display", "none",
+                 "-nodefaults", "-no-reboot", "-kernel", kernel, "-initrd", initramfs, "-append", f"console=ttyS4 8250.nr_uarts=8 panic=-1 quiet {append}",
+                 "-chardev", f"socket,id=shell,path={work}/shell,server=on,wait=on",
+                 "-device", "pci-serial,chardev=shell",
+                 "-monitor", f"unix:{work}/monitor,server=on,wait=off", *more],
+                stdin=subprocess.DEVNULL, stderr=log, env=environment)
+        self.shell = Line(f"{work}/shell")
+        self.read_until(rb"shell: ready\r?\n", BOOT)
+
+    def read_until(self, pattern, seconds):
+        """What the shell prints before this."""
+        end = time.monotonic() + seconds
+        while not (match := re.search(pattern, self.found)):
+            if self.process.poll() is not None or time.monotonic() > end:
+                raise Unexpected(f"the guest's shell: no {pattern}: {self.found[-1500:].decode(errors='replace')}")
+            self.found += self.shell.take(0.2)
+        before, self.found = self.found[:match.start()], self.found[match.end():]
+        self.last = match
+        return before.decode(errors="replace").replace("\r", "")
+
+    def run(self, command, seconds=60):
+        """Runs a command, and returns what it prints."""
+        self.count += 1
+        self.shell.send(f"{command}\n".encode())
+        text = self.read_until(rb"shell: done %d (\d+)\r?\n" % self.count, seconds)
+        self.status = int(self.last[1])
+        return text
+
+    def tell_monitor(self, command):
+        """Runs a command of the emulator."""
+        if not self.monitor:
+            self.monitor = socket.socket(socket.AF_UNIX)
+            self.monitor.settimeout(20)
+            self.monitor.connect(f"{self.work}/monitor")
+            self.monitor_text()
+        self.monitor.sendall(command.encode() + b"\n")
+        return self.monitor_text()
+
+    def monitor_text(self):
+        text = b""
+        while not text.endswith(b"(qemu) "):
+            text += self.monitor.recv(PIECE)
+        return text.decode(errors="replace")
+
+    def interrupts(self, number):
+        """How many interrupts there were."""
+        for row in self.run("cat /proc/interrupts").splitlines():
+            words = row.split()
+            if words and words[0] == f"{number}:":
+                return sum(int(word) for word in words[1:] if word.isdigit())
+        return 0
+
+    def end(self):
+        self.process.terminate()
+        self.process.wait()

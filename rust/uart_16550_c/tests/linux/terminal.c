@@ -1,0 +1,279 @@
+/*
+ * What uses a terminal in the guest, beside busybox: terminal COMMAND DEVICE [ARGUMENT..]
+ *
+ * transfer DEVICE SEND RECEIVE CRTSCTS   sends and receives so many bytes at once, at 115,200 baud, and compares what comes
+ * marks DEVICE SECONDS IFLAG CFLAG       prints what comes, in hexadecimal; the flags are octal, CFLAG beside CREAD and CLOCAL
+ * cycles DEVICE COUNT                    opens, sends one byte and closes, so many times
+ * change DEVICE COUNT WAITS              sends 256 bytes and changes the rate, so many times; WAITS is 1 for TCSADRAIN
+ * rates DEVICE                           sets rates, and prints what each has become
+ * lines DEVICE CHANGE..                  changes outputs, as +rts or -dtr, and prints all lines after each
+ * break DEVICE MILLISECONDS              sends a break
+ * flow DEVICE BYTES                      sends with CRTSCTS until all is sent
+ *
+ * A transfer ends when nothing has moved for ten seconds. Each command says `ready` when the port is open, and prints one line at its end.
+ */
+#define _GNU_SOURCE
+#include <asm/ioctls.h>
+#include <asm/termbits.h>
+#include <fcntl.h>
+#include <linux/serial.h>
+#include <poll.h>
+#include <stdint.h>
+#include <stdio.h>
+#include <stdlib.h>
+#include <string.h>
+#include <sys/ioctl.h>
+#include <time.h>
+#include <unistd.h>
+
+enum { SENT = 3, RECEIVED = 9, PATIENCE = 10, RATE = 115200 };
+
+/* Byte n of a stream: no short period, so that a byte that is missing or doubled shows. guest.py has the same. */
+static uint8_t byte_of(uint32_t n, uint32_t seed)
+{
+    return (uint8_t)(n * 167 + (n >> 8) * 13 + (n >> 16) * 7 + seed);
+}
+
+static double now(void)
+{
+    struct timespec time;
+    clock_gettime(CLOCK_MONOTONIC, &time);
+    return time.tv_sec + time.tv_nsec / 1e9;
+}
+
+static void fail(const char *what)
+{
+    perror(what);
+    exit(2);
+}
+
+static int open_port(const char *device, int more)
+{
+    int port = open(device, O_RDWR | O_NOCTTY | more);
+    if (port < 0)
+        fail(device);
+    return port;
+}
+
+static void set_rate(int port, unsigned long request, unsigned rate, unsigned iflag, unsigned cflag)
+{
+    struct termios2 termios = { 0 };
+    if (ioctl(port, TCGETS2, &termios))
+        fail("TCGETS2");
+    termios.c_iflag = iflag;
+    termios.c_oflag = termios.c_lflag = 0;
+    termios.c_cflag = CREAD | CLOCAL | BOTHER | cflag;
+    termios.c_ispeed = termios.c_ospeed = rate;
+    termios.c_cc[VMIN] = termios.c_cc[VTIME] = 0;
+    termios.c_cc[VSTART] = 17;
+    termios.c_cc[VSTOP] = 19;
+    if (ioctl(port, request, &termios))
+        fail("TCSETS2");
+}
+
+static struct serial_icounter_struct before;
+
+static void ready(int port)
+{
+    if (ioctl(port, TIOCGICOUNT, &before))
+        fail("TIOCGICOUNT");
+    puts("ready");
+    fflush(stdout);
+}
+
+/* What the driver has counted since then. After a hangup nobody knows. */
+static void print_counts(int port)
+{
+    struct serial_icounter_struct counts;
+    if (ioctl(port, TIOCGICOUNT, &counts))
+        puts("");
+    else
+        printf(", overruns %d, parity %d, frame %d, breaks %d, lost in the tty layer %d\n", counts.overrun - before.overrun,
+               counts.parity - before.parity, counts.frame - before.frame, counts.brk - before.brk,
+               counts.buf_overrun - before.buf_overrun);
+}
+
+static void transfer(int port, uint32_t send, uint32_t receive, int crtscts)
+{
+    static uint8_t out[4096], in[65536];
+    uint32_t sent = 0, received = 0, wrong = 0, i;
+    double last;
+
+    set_rate(port, TCSETS2, RATE, 0, CS8 | (crtscts ? CRTSCTS : 0));
+    ioctl(port, TCFLSH, 2);
+    ready(port);
+    for (last = now(); (sent < send || received < receive) && now() - last < PATIENCE;) {
+        struct pollfd events = { port, (sent < send ? POLLOUT : 0) | (received < receive ? POLLIN : 0), 0 };
+        ssize_t count;
+
+        poll(&events, 1, 200);
+        if (events.revents & POLLHUP) {
+            printf("hangup, ");
+            break;
+        }
+        if (events.revents & POLLIN && (count = read(port, in, sizeof in)) > 0) {
+            for (i = 0; i < count; i++, received++)
+                wrong += in[i] != byte_of(received, RECEIVED);
+            last = now();
+        }
+        if (events.revents & POLLOUT) {
+            uint32_t len = send - sent < sizeof out ? send - sent : sizeof out;
+            for (i = 0; i < len; i++)
+                out[i] = byte_of(sent + i, SENT);
+            if ((count = write(port, out, len)) > 0) {
+                sent += count;
+                last = now();
+            }
+        }
+    }
+    if (sent == send)
+        ioctl(port, TCSBRK, 1);
+    printf("transfer: sent %u of %u, received %u of %u, wrong %u", sent, send, received, receive, wrong);
+    print_counts(port);
+}
+
+static void marks(int port, double seconds, unsigned iflag, unsigned cflag)
+{
+    uint8_t bytes[256];
+    double end = now() + seconds;
+
+    set_rate(port, TCSETS2, RATE, iflag, cflag);
+    ready(port);
+    printf("marks:");
+    while (now() < end) {
+        struct pollfd events = { port, POLLIN, 0 };
+        ssize_t count, i;
+
+        poll(&events, 1, 50);
+        count = read(port, bytes, sizeof bytes);
+        for (i = 0; i < count; i++)
+            printf(" %02x", bytes[i]);
+    }
+    print_counts(port);
+}
+
+static void cycles(const char *device, int count)
+{
+    int i, wrong = 0;
+
+    for (i = 0; i < count; i++) {
+        int port = open_port(device, O_NONBLOCK);
+        set_rate(port, TCSETS2, i & 1 ? 9600 : RATE, 0, CS8);
+        wrong += write(port, "x", 1) != 1;
+        close(port);
+    }
+    printf("cycles: %d, wrong %d\n", count, wrong);
+}
+
+static void change(int port, int count, int waits)
+{
+    uint8_t out[256];
+    uint32_t sent = 0;
+    int round;
+
+    set_rate(port, TCSETS2, RATE, 0, CS8);
+    ready(port);
+    for (round = 0; round < count; round++) {
+        uint32_t i;
+        ssize_t len;
+        for (i = 0; i < sizeof out; i++)
+            out[i] = byte_of(sent + i, SENT);
+        len = write(port, out, sizeof out);
+        if (len < 0)
+            fail("write");
+        sent += len;
+        set_rate(port, waits ? TCSETSW2 : TCSETS2, round & 1 ? RATE : RATE / 2, 0, CS8);
+    }
+    ioctl(port, TCSBRK, 1);
+    printf("change: sent %u", sent);
+    print_counts(port);
+}
+
+static void rates(int port)
+{
+    static const unsigned wanted[] = { 50, 110, 134, 300, 9600, 31250, 38400, 57600, 74880, 100000, 115200, 230400 };
+    size_t i;
+
+    ready(port);
+    printf("rates:");
+    for (i = 0; i < sizeof wanted / sizeof *wanted; i++) {
+        struct termios2 termios = { 0 };
+        set_rate(port, TCSETS2, wanted[i], 0, CS8);
+        ioctl(port, TCGETS2, &termios);
+        printf(" %u:%u", wanted[i], termios.c_ospeed);
+    }
+    puts("");
+}
+
+static void lines(int port, int count, char **changes)
+{
+    int i, all = 0;
+
+    set_rate(port, TCSETS2, RATE, 0, CS8);
+    ready(port);
+    for (i = 0; i < count; i++) {
+        int bits = strstr(changes[i], "rts") ? TIOCM_RTS : TIOCM_DTR;
+        if (ioctl(port, changes[i][0] == '+' ? TIOCMBIS : TIOCMBIC, &bits) || ioctl(port, TIOCMGET, &all))
+            fail("TIOCM");
+        printf("%s: rts %d dtr %d cts %d dsr %d cd %d\n", changes[i], !!(all & TIOCM_RTS), !!(all & TIOCM_DTR), !!(all & TIOCM_CTS),
+               !!(all & TIOCM_DSR), !!(all & TIOCM_CAR));
+    }
+}
+
+static void send_break(int port, int milliseconds)
+{
+    set_rate(port, TCSETS2, RATE, 0, CS8);
+    ready(port);
+    ioctl(port, TIOCSBRK);
+    usleep(milliseconds * 1000);
+    ioctl(port, TIOCCBRK);
+    puts("break: done");
+}
+
+static void flow(int port, uint32_t bytes)
+{
+    uint8_t out[256];
+    uint32_t sent = 0, i;
+
+    set_rate(port, TCSETS2, RATE, 0, CS8 | CRTSCTS);
+    ready(port);
+    while (sent < bytes) {
+        ssize_t count;
+        for (i = 0; i < sizeof out; i++)
+            out[i] = byte_of(sent + i, SENT);
+        count = write(port, out, bytes - sent < sizeof out ? bytes - sent : sizeof out);
+        if (count < 0)
+            fail("write");
+        sent += count;
+    }
+    ioctl(port, TCSBRK, 1);
+    printf("flow: sent %u\n", sent);
+}
+
+int main(int count, char **words)
+{
+    const char *command = count > 2 ? words[1] : "";
+    char **more = words + 3;
+
+    if (!strcmp(command, "transfer") && count == 6)
+        transfer(open_port(words[2], O_NONBLOCK), atoi(more[0]), atoi(more[1]), atoi(more[2]));
+    else if (!strcmp(command, "marks") && count == 6)
+        marks(open_port(words[2], O_NONBLOCK), atof(more[0]), strtoul(more[1], 0, 8), strtoul(more[2], 0, 8));
+    else if (!strcmp(command, "cycles") && count == 4)
+        cycles(words[2], atoi(more[0]));
+    else if (!strcmp(command, "change") && count == 5)
+        change(open_port(words[2], 0), atoi(more[0]), atoi(more[1]));
+    else if (!strcmp(command, "rates") && count == 3)
+        rates(open_port(words[2], O_NONBLOCK));
+    else if (!strcmp(command, "lines") && count > 3)
+        lines(open_port(words[2], O_NONBLOCK), count - 3, more);
+    else if (!strcmp(command, "break") && count == 4)
+        send_break(open_port(words[2], O_NONBLOCK), atoi(more[0]));
+    else if (!strcmp(command, "flow") && count == 4)
+        flow(open_port(words[2], 0), atoi(more[0]));
+    else {
+        fprintf(stderr, "terminal: no such command\n");
+        return 1;
+    }
+    return 0;
+}
