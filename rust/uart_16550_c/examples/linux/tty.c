@@ -25,6 +25,7 @@
 #include <linux/sysrq.h>
 #include <linux/tty.h>
 #include <linux/tty_flip.h>
+#include <linux/workqueue.h>
 
 #define U16550_HAS_TYPES		/* linux/types.h */
 #include "u16550.h"
@@ -34,9 +35,10 @@
 #define FIFO_SIZE 16
 #define TRIGGER_LEVEL 8			/* the other half takes what arrives until the handler comes */
 #define REGISTERS 8
+#define LAST_PORT 0xffff
 
 /* How many interrupts one run of the handler serves, and how many characters it takes for one of them. */
-#define MOST_INTERRUPTS 64
+#define MOST_INTERRUPTS 256
 #define MOST_CHARACTERS 256
 
 /* How many runs in a row may leave an interrupt pending and do nothing. No sound chip comes to that. */
@@ -66,6 +68,8 @@ struct line {
 	u8 interrupts;			/* those that are enabled */
 	u8 shown;			/* the errors that LSR has shown of the character that is the next to be read */
 	u8 errors;			/* those of the character that was read last */
+	struct work_struct report;	/* says what is wrong */
+	const char *trouble, *detail;
 	unsigned int vain_runs;
 	bool is_broken;			/* the chip interrupts without end, so it may not */
 	bool is_taken_over;		/* last_words has the chip */
@@ -118,11 +122,31 @@ void u16550_panic(void)
 	panic("%s: the library panicked", KBUILD_MODNAME);
 }
 
-/* Says what a call has failed with. Returns whether it has. */
+static void report(struct work_struct *work)
+{
+	struct line *line = container_of(work, struct line, report);
+
+	pr_err_ratelimited("%s: %s: %s\n", line->name, line->trouble, line->detail);
+}
+
+/*
+ * Has the kernel's log told what is wrong, but later: the log may go to this port, whose lock is taken now. Whoever is the second before
+ * that is left out.
+ */
+static void report_later(struct line *line, const char *trouble, const char *detail)
+{
+	if (work_pending(&line->report))
+		return;
+	line->trouble = trouble;
+	line->detail = detail;
+	schedule_work(&line->report);
+}
+
+/* Whether a call has failed. None of those that are asked about here does, unless this driver is wrong. */
 static bool failed(struct line *line, const char *call, int status)
 {
 	if (status != U16550_OK)
-		pr_err_ratelimited("%s: %s: %s\n", line->name, call, u16550_text(status));
+		report_later(line, call, u16550_text(status));
 	return status != U16550_OK;
 }
 
@@ -352,40 +376,77 @@ static bool serve(struct line *line, u8 isr)
 	return false;
 }
 
+static const char *name_of(u8 isr)
+{
+	switch (isr & 0x0f) {
+	case UART_IIR_RLSI:
+		return "line status";
+	case UART_IIR_RDI:
+		return "data";
+	case UART_IIR_RX_TIMEOUT:
+		return "data that waits";
+	case UART_IIR_THRI:
+		return "transmitter empty";
+	case UART_IIR_MSI:
+		return "modem status";
+	}
+	return "an interrupt without a name";
+}
+
 /* A chip that shows an interrupt for ever would keep this processor for ever. */
 static void give_up(struct line *line, u8 isr)
 {
 	line->is_broken = true;
 	disable(line, 0x0f);
-	pr_err("%s: the chip interrupts without end, with ISR %#04x: its interrupts are off until the port is opened again\n",
-	       line->name, isr);
+	report_later(line, "the chip interrupts without end, and may not until the port is opened or set again", name_of(isr));
+}
+
+enum outcome { IDLE, DONE, VAIN };
+
+/* Serves what ISR shows, with the lock for that alone: meanwhile another processor may bring more to be sent. */
+static enum outcome serve_next(struct line *line, u8 *isr)
+{
+	enum outcome outcome = IDLE;
+	unsigned long flags;
+
+	spin_lock_irqsave(&line->port.lock, flags);
+	if (!failed(line, "isr", u16550_isr(&line->uart, isr)) && !(*isr & UART_IIR_NO_INT))
+		outcome = serve(line, *isr) ? DONE : VAIN;
+	else
+		line->vain_runs = 0;
+	uart_unlock_and_check_sysrq_irqrestore(&line->port, flags);
+	return outcome;
+}
+
+/* Ends a run that leaves an interrupt pending. A controller that detects edges would never call again if the chip's line stayed high. */
+static void leave(struct line *line, bool was_vain, u8 isr)
+{
+	unsigned long flags;
+
+	spin_lock_irqsave(&line->port.lock, flags);
+	failed(line, "retrigger", u16550_retrigger_interrupts(&line->uart));
+	line->vain_runs = was_vain ? line->vain_runs + 1 : 0;
+	if (line->vain_runs == MOST_VAIN_RUNS)
+		give_up(line, isr);
+	spin_unlock_irqrestore(&line->port.lock, flags);
 }
 
 static irqreturn_t handle(int irq, void *context)
 {
 	struct line *line = context;
-	bool is_idle = false, was_vain = true;
+	bool was_vain = true;
 	unsigned int served;
-	unsigned long flags;
 	u8 isr = 0;
 
-	spin_lock_irqsave(&line->port.lock, flags);
 	for (served = 0; served < MOST_INTERRUPTS; served++) {
-		if (failed(line, "isr", u16550_isr(&line->uart, &isr)))
-			break;
-		is_idle = isr & UART_IIR_NO_INT;
-		if (is_idle)
-			break;
-		was_vain &= !serve(line, isr);
+		enum outcome outcome = serve_next(line, &isr);
+
+		if (outcome == IDLE)
+			return IRQ_RETVAL(served);
+		was_vain &= outcome == VAIN;
 	}
-	/* An interrupt controller that detects edges would never call again, if the chip's line stayed high. */
-	if (!is_idle)
-		failed(line, "retrigger", u16550_retrigger_interrupts(&line->uart));
-	line->vain_runs = !is_idle && was_vain ? line->vain_runs + 1 : 0;
-	if (line->vain_runs == MOST_VAIN_RUNS)
-		give_up(line, isr);
-	uart_unlock_and_check_sysrq_irqrestore(&line->port, flags);
-	return IRQ_RETVAL(served);
+	leave(line, was_vain, isr);
+	return IRQ_HANDLED;
 }
 
 /* ------------------------------------------------------------------ opening and closing */
@@ -410,8 +471,10 @@ static int startup(struct uart_port *port)
 	port->mctrl |= TIOCM_OUT2;	/* on a PC the interrupt is connected by it */
 	status = set_up(line);
 	spin_unlock_irqrestore(&port->lock, flags);
-	if (failed(line, "init", status))
+	if (status != U16550_OK) {
+		pr_err("%s: init: %s\n", line->name, u16550_text(status));
 		return -EIO;
+	}
 	error = request_irq(port->irq, handle, 0, line->name, line);
 	if (error)
 		return error;
@@ -492,6 +555,17 @@ static unsigned int set_frame(struct line *line, const struct ktermios *termios,
 	return DIV_ROUND_CLOSEST(line->port.uartclk, config.frequency / baud);
 }
 
+/* Lets a chip interrupt again that was given up. The port of a console is not closed, so to open it again would not help. */
+static void start_again(struct line *line)
+{
+	if (!line->is_broken)
+		return;
+	line->is_broken = false;
+	line->vain_runs = 0;
+	enable(line, U16550_IER_DATA_READY | U16550_IER_RECEIVER_LINE_STATUS);
+	send(line);
+}
+
 static void set_termios(struct uart_port *port, struct ktermios *new, const struct ktermios *old)
 {
 	struct line *line = line_of(port);
@@ -504,6 +578,7 @@ static void set_termios(struct uart_port *port, struct ktermios *new, const stru
 	u16550_set_spin_limit(&line->uart, patience(baud));
 	uart_update_timeout(port, new->c_cflag, baud);
 	set_masks(port, new);
+	start_again(line);
 	if (line->interrupts && UART_ENABLE_MS(port, new->c_cflag))
 		enable(line, U16550_IER_MODEM_STATUS);
 	else
@@ -570,7 +645,8 @@ static void config_port(struct uart_port *port, int what)
 	spin_lock_irqsave(&port->lock, flags);
 	status = find_chip(line);
 	spin_unlock_irqrestore(&port->lock, flags);
-	if (failed(line, "no chip", status)) {
+	if (status != U16550_OK) {
+		pr_err("%s: no chip at %#lx: %s\n", line->name, port->iobase, u16550_text(status));
 		release_port(port);
 		return;
 	}
@@ -714,6 +790,7 @@ static int add_line(int index)
 		return -ENOMEM;
 	snprintf(line->name, sizeof(line->name), "%s%d", driver.dev_name, index);
 	spin_lock_init(&line->port.lock);
+	INIT_WORK(&line->report, report);
 	line->port.ops = &operations;
 	line->port.line = index;
 	line->port.iotype = UPIO_PORT;
@@ -741,6 +818,7 @@ static void remove_lines(void)
 		if (!lines[index])
 			continue;
 		uart_remove_one_port(&driver, &lines[index]->port);
+		flush_work(&lines[index]->report);
 		kfree(lines[index]);
 		lines[index] = NULL;
 	}
@@ -753,6 +831,12 @@ static int __init begin(void)
 	if (port_count != irq_count) {
 		pr_err("there are %d ports and %d interrupts\n", port_count, irq_count);
 		return -EINVAL;
+	}
+	for (index = 0; index < port_count; index++) {
+		if (ports[index] > LAST_PORT - (REGISTERS - 1)) {
+			pr_err("there is no port %#x\n", ports[index]);
+			return -EINVAL;
+		}
 	}
 	device = platform_device_register_simple(KBUILD_MODNAME, PLATFORM_DEVID_NONE, NULL, 0);
 	if (IS_ERR(device))

@@ -1,0 +1,10 @@
+/* The header where there is neither <stddef.h> nor <stdint.h>, as in a kernel: it includes nothing. */
+#define U16550_HAS_TYPES
+#define offsetof(type, member) __builtin_offsetof(type, member)
+typedef __SIZE_TYPE__ size_t;
+typedef __UINTPTR_TYPE__ uintptr_t;
+typedef __UINT8_TYPE__ uint8_t;
+typedef __UINT16_TYPE__ uint16_t;
+typedef __UINT32_TYPE__ uint32_t;
+typedef __UINT64_TYPE__ uint64_t;
+#include "u16550.h"
