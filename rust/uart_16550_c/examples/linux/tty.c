@@ -71,6 +71,7 @@ struct line {
 	struct work_struct report;	/* says what is wrong */
 	const char *trouble, *detail;
 	unsigned int vain_runs;
+	bool is_open;			/* startup was called, and shutdown not yet */
 	bool is_broken;			/* the chip interrupts without end, so it may not */
 	bool is_taken_over;		/* last_words has the chip */
 	bool is_stalled;		/* the rest of a console's text is left out */
@@ -480,6 +481,7 @@ static int startup(struct uart_port *port)
 		return error;
 	/* Not before: an I/O APIC forgets an edge that comes while nobody has asked for the interrupt. */
 	spin_lock_irqsave(&port->lock, flags);
+	line->is_open = true;
 	enable(line, U16550_IER_DATA_READY | U16550_IER_RECEIVER_LINE_STATUS);
 	spin_unlock_irqrestore(&port->lock, flags);
 	return 0;
@@ -492,6 +494,7 @@ static void shutdown(struct uart_port *port)
 
 	spin_lock_irqsave(&port->lock, flags);
 	port->mctrl &= ~TIOCM_OUT2;
+	line->is_open = false;
 	line->interrupts = 0;
 	failed(line, "set_break", u16550_set_break(&line->uart, 0));
 	failed(line, "quiesce", u16550_quiesce(&line->uart, outputs_of(port->mctrl), U16550_FIFOS_DISABLE));
@@ -529,11 +532,12 @@ static void set_masks(struct uart_port *port, const struct ktermios *termios)
 
 /*
  * How many polls a console waits for room: eight times as long as the FIFO takes with the longest frame of 12 bits, if a poll takes a
- * microsecond. An access to a port takes about that.
+ * microsecond. An access to a port takes about that. But not less than a fifth of a second: behind an emulated chip is a program, which
+ * may have to wait for a processor.
  */
 static u64 patience(unsigned int baud)
 {
-	return 8 * FIFO_SIZE * 12 * 1000000u / baud;
+	return max(8 * FIFO_SIZE * 12 * 1000000u / baud, 200000u);
 }
 
 /* Sets the nearest rate that the chip has, and the frame. Returns the rate. */
@@ -818,6 +822,9 @@ static void remove_lines(void)
 		if (!lines[index])
 			continue;
 		uart_remove_one_port(&driver, &lines[index]->port);
+		/* Nobody closes the port of a console. */
+		if (lines[index]->is_open)
+			shutdown(&lines[index]->port);
 		flush_work(&lines[index]->report);
 		kfree(lines[index]);
 		lines[index] = NULL;

@@ -16,6 +16,8 @@ import sys
 import time
 import tty
 
+sys.dont_write_bytecode = True
+
 from guest import RECEIVED, SENT, Guest, Line, Task, Unexpected, stream
 
 OWN, HERE, JOINED, OTHER, MODEM = "ttyS1", "ttyP0", "ttyP1", "ttyS3", "ttyP2"
@@ -218,7 +220,7 @@ def marks_breaks(bench):
             (0o10, "breaks among bytes are marked where they came", "61 62 ff 00 00 63 64 ff 00 00 ff 00 00 65 66"),
             (0, "without PARMRK a break is a zero", "61 62 00 63 64 00 00 65 66"),
             (0o1, "with IGNBRK there is none", "61 62 63 64 65 66")):
-        task = bench.task(f"terminal marks /dev/{HERE} 2 {iflag:o} 60").ready()
+        task = bench.task(f"terminal marks /dev/{HERE} {len(wanted.split())} {iflag:o}").ready()
         send_with_breaks(bench, pieces)
         told = task.result()
         bench.judge(name, f"marks: {wanted}, overruns 0, parity 0, frame 0, breaks 3" in told, told)
@@ -227,18 +229,22 @@ def marks_breaks(bench):
 def obeys_xoff(bench):
     text = b"0123456789\n" * 9000
     bench.here.drain(0.2)
-    task = bench.task(f"stty -F /dev/{HERE} raw -echo ixon -crtscts 115200; sleep 1000 < /dev/{HERE} & echo ready; "
+    task = bench.task(f"stty -F /dev/{HERE} raw -echo ixon ixoff -crtscts 115200; sleep 1000 < /dev/{HERE} & echo ready; "
                       f"yes 0123456789 | head -c {len(text)} > /dev/{HERE}; kill $!").ready()
     before = bench.here.exchange(b"", 2000, 10)
     bench.here.send(b"\x13")
     # What is under way when XOFF comes.
     late = bench.here.drain(0.5)
     held = bench.here.drain(0.7)
+    # Nobody reads. So XOFF has to go out, before all that waits, and while this end has stopped what is sent.
+    bench.here.send(b"z" * 4000)
+    answer = bench.here.drain(1)
     bench.here.send(b"\x11")
     rest = bench.here.exchange(b"", len(text) - len(before) - len(late) - len(held), 5)
     task.result()
-    bench.judge("XOFF stops what is sent, XON goes on, and nothing is lost", not held and before + late + rest == text,
-                f"{len(before)}, {len(late)}, held {len(held)}, {len(rest)}")
+    told = f"{len(before)}, {len(late)}, held {len(held)}, {answer}, {len(rest)}"
+    bench.judge("XOFF stops what is sent, XON goes on, and nothing is lost", not held and before + late + rest == text, told)
+    bench.judge("XOFF goes out while what is sent is stopped", answer == b"\x13", told)
 
 
 def sends_xoff(bench):
@@ -393,11 +399,14 @@ def is_a_console(bench):
     bench.judge("the kernel's lines come whole while a program sends, and all of the program's bytes too",
                 lines == [b"%d" % n for n in range(1, 51)] and rest == (b"abcdefgh\n" * 4000)[:30_000],
                 f"{len(rest)} bytes, and these lines: {b' '.join(lines).decode()}")
+    told = bench.run("rmmod u16550_tty; grep ttyP /proc/interrupts")
+    bench.judge("removed while it is a console, it leaves no handler behind", not told.strip(), told)
+    bench.insert("console=1")
 
 
 def gives_up_a_broken_chip(bench):
     """On the port to which the kernel's log goes."""
-    task = bench.task(f"terminal marks /dev/{HERE} 3 0 60").ready()
+    task = bench.task(f"(echo ready; sleep 3) < /dev/{HERE}").ready()
     bench.run("insmod /modules/faults.ko fault=stuck; echo 7 > /proc/sys/kernel/printk")
     bench.here.send(b"a")
     time.sleep(1)

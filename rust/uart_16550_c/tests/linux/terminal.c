@@ -2,7 +2,7 @@
  * What uses a terminal in the guest, beside busybox: terminal COMMAND DEVICE [ARGUMENT..]
  *
  * transfer DEVICE SEND RECEIVE CRTSCTS   sends and receives so many bytes at once, at 115,200 baud, and compares what comes
- * marks DEVICE SECONDS IFLAG CFLAG       prints what comes, in hexadecimal; the flags are octal, CFLAG beside CREAD and CLOCAL
+ * marks DEVICE COUNT IFLAG               prints so many bytes that come, in hexadecimal, and those that come soon after; IFLAG is octal
  * cycles DEVICE COUNT                    opens, sends one byte and closes, so many times
  * change DEVICE COUNT WAITS              sends 256 bytes and changes the rate, so many times; WAITS is 1 for TCSADRAIN
  * rates DEVICE                           sets rates, and prints what each has become
@@ -132,12 +132,12 @@ static void transfer(int port, uint32_t send, uint32_t receive, int crtscts)
     print_counts(port);
 }
 
-static void marks(int port, double seconds, unsigned iflag, unsigned cflag)
+static void marks(int port, int wanted, unsigned iflag)
 {
     uint8_t bytes[256];
-    double end = now() + seconds;
+    double end = now() + PATIENCE;
 
-    set_rate(port, TCSETS2, RATE, iflag, cflag);
+    set_rate(port, TCSETS2, RATE, iflag, CS8);
     ready(port);
     printf("marks:");
     while (now() < end) {
@@ -146,8 +146,11 @@ static void marks(int port, double seconds, unsigned iflag, unsigned cflag)
 
         poll(&events, 1, 50);
         count = read(port, bytes, sizeof bytes);
-        for (i = 0; i < count; i++)
+        for (i = 0; i < count; i++) {
             printf(" %02x", bytes[i]);
+            if (--wanted == 0)
+                end = now() + 0.2;
+        }
     }
     print_counts(port);
 }
@@ -257,8 +260,8 @@ int main(int count, char **words)
 
     if (!strcmp(command, "transfer") && count == 6)
         transfer(open_port(words[2], O_NONBLOCK), atoi(more[0]), atoi(more[1]), atoi(more[2]));
-    else if (!strcmp(command, "marks") && count == 6)
-        marks(open_port(words[2], O_NONBLOCK), atof(more[0]), strtoul(more[1], 0, 8), strtoul(more[2], 0, 8));
+    else if (!strcmp(command, "marks") && count == 5)
+        marks(open_port(words[2], O_NONBLOCK), atoi(more[0]), strtoul(more[1], 0, 8));
     else if (!strcmp(command, "cycles") && count == 4)
         cycles(words[2], atoi(more[0]));
     else if (!strcmp(command, "change") && count == 5)
