@@ -462,6 +462,21 @@ static int set_up(struct line *line)
 	return u16550_init_with(&line->uart, &line->config, &setup);
 }
 
+/* Leaves the chip so that it interrupts nobody. */
+static void silence(struct uart_port *port)
+{
+	struct line *line = line_of(port);
+	unsigned long flags;
+
+	spin_lock_irqsave(&port->lock, flags);
+	port->mctrl &= ~TIOCM_OUT2;
+	line->is_open = false;
+	line->interrupts = 0;
+	failed(line, "set_break", u16550_set_break(&line->uart, 0));
+	failed(line, "quiesce", u16550_quiesce(&line->uart, outputs_of(port->mctrl), U16550_FIFOS_DISABLE));
+	spin_unlock_irqrestore(&port->lock, flags);
+}
+
 static int startup(struct uart_port *port)
 {
 	struct line *line = line_of(port);
@@ -477,8 +492,11 @@ static int startup(struct uart_port *port)
 		return -EIO;
 	}
 	error = request_irq(port->irq, handle, 0, line->name, line);
-	if (error)
+	if (error) {
+		pr_err("%s: interrupt %u cannot be had: error %d\n", line->name, port->irq, error);
+		silence(port);
 		return error;
+	}
 	/* Not before: an I/O APIC forgets an edge that comes while nobody has asked for the interrupt. */
 	spin_lock_irqsave(&port->lock, flags);
 	line->is_open = true;
@@ -489,17 +507,8 @@ static int startup(struct uart_port *port)
 
 static void shutdown(struct uart_port *port)
 {
-	struct line *line = line_of(port);
-	unsigned long flags;
-
-	spin_lock_irqsave(&port->lock, flags);
-	port->mctrl &= ~TIOCM_OUT2;
-	line->is_open = false;
-	line->interrupts = 0;
-	failed(line, "set_break", u16550_set_break(&line->uart, 0));
-	failed(line, "quiesce", u16550_quiesce(&line->uart, outputs_of(port->mctrl), U16550_FIFOS_DISABLE));
-	spin_unlock_irqrestore(&port->lock, flags);
-	free_irq(port->irq, line);
+	silence(port);
+	free_irq(port->irq, line_of(port));
 }
 
 /* ------------------------------------------------------------------ baud rate, frame, and what the tty layer wants to know */

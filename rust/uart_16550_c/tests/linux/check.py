@@ -136,6 +136,19 @@ def finds_chips(bench):
     bench.judge("three chips are found, and pass the loopback test", told.count("has passed the loopback test") == 3, told)
 
 
+def shares_no_interrupt(bench):
+    """An interrupt that another port has."""
+    bench.run("rmmod u16550_tty; insmod /modules/u16550_tty.ko ports=0x2f8,0x3e8 irqs=3,3; sleep 3 < /dev/ttyP0 &")
+    time.sleep(0.5)
+    # Whoever may set a port up may open it also if it does not work.
+    told = bench.run("echo a 2>&1 > /dev/ttyP1; dmesg | tail -2")
+    bench.judge("a port whose interrupt another has does not work, and the kernel's log says why",
+                "Input/output error" in told and "ttyP1: interrupt 3 cannot be had: error -16" in told, told)
+    time.sleep(3)
+    bench.run("rmmod u16550_tty")
+    bench.insert()
+
+
 def moves_bytes(bench):
     size = 5_000_000 if bench.whole else 200_000
     good, told = bench.transfer(HERE, size, size, 600)
@@ -444,11 +457,12 @@ def writes_in_a_panic(bench):
                 came.count(b"in the middle of a call") == 2 and b" u16550_init_with+" in came and b" startup+" in came, came)
 
 
-QUICK = (takes_no_port_of_another, finds_chips, moves_bytes, sets_rates, changes_speed, has_modem_lines, waits_for_cts, sends_breaks,
-         marks_breaks, obeys_xoff, logs_in, is_a_console, gives_up_a_broken_chip, is_removed_while_busy, writes_in_a_panic)
-WHOLE = (takes_no_port_of_another, finds_chips, moves_bytes, sets_rates, opens_and_closes, changes_speed, changes_speed_while_receiving,
-         has_modem_lines, waits_for_cts, sends_breaks, marks_breaks, obeys_xoff, sends_xoff, hangs_up, logs_in, moves_files, carries_ip,
-         compares, is_a_console, gives_up_a_broken_chip, is_removed_while_busy, writes_in_a_panic)
+QUICK = (takes_no_port_of_another, finds_chips, shares_no_interrupt, moves_bytes, sets_rates, changes_speed, has_modem_lines,
+         waits_for_cts, sends_breaks, marks_breaks, obeys_xoff, logs_in, is_a_console, gives_up_a_broken_chip, is_removed_while_busy,
+         writes_in_a_panic)
+WHOLE = (takes_no_port_of_another, finds_chips, shares_no_interrupt, moves_bytes, sets_rates, opens_and_closes, changes_speed,
+         changes_speed_while_receiving, has_modem_lines, waits_for_cts, sends_breaks, marks_breaks, obeys_xoff, sends_xoff, hangs_up,
+         logs_in, moves_files, carries_ip, compares, is_a_console, gives_up_a_broken_chip, is_removed_while_busy, writes_in_a_panic)
 
 
 def main():
