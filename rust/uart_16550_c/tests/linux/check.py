@@ -242,8 +242,9 @@ def marks_breaks(bench):
 def obeys_xoff(bench):
     text = b"0123456789\n" * 9000
     bench.here.drain(0.2)
-    task = bench.task(f"stty -F /dev/{HERE} raw -echo ixon ixoff -crtscts 115200; sleep 1000 < /dev/{HERE} & echo ready; "
-                      f"yes 0123456789 | head -c {len(text)} > /dev/{HERE}; kill $!").ready()
+    # This keeps the port open until all has come: a last close by somebody who was killed drops what waits.
+    bench.run(f"stty -F /dev/{HERE} raw -echo ixon ixoff -crtscts 115200; sleep 1000 < /dev/{HERE} & echo $! > /tmp/keeper")
+    task = bench.task(f"echo ready; yes 0123456789 | head -c {len(text)} > /dev/{HERE}").ready()
     before = bench.here.exchange(b"", 2000, 10)
     bench.here.send(b"\x13")
     # What is under way when XOFF comes.
@@ -255,6 +256,7 @@ def obeys_xoff(bench):
     bench.here.send(b"\x11")
     rest = bench.here.exchange(b"", len(text) - len(before) - len(late) - len(held), 5)
     task.result()
+    bench.run("kill $(cat /tmp/keeper)")
     told = f"{len(before)}, {len(late)}, held {len(held)}, {answer}, {len(rest)}"
     bench.judge("XOFF stops what is sent, XON goes on, and nothing is lost", not held and before + late + rest == text, told)
     bench.judge("XOFF goes out while what is sent is stopped", answer == b"\x13", told)
