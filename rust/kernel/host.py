@@ -6,8 +6,8 @@ Starts a machine whose serial port is at standard input and output. Waits for th
 last one. Then the machine has to end. Prints how long it took.
 
 The environment says more: STATUS is the status with which the machine has to end, FIRST what is typed behind the banner and
-does not come back, COUNT another number of bytes, and BURSTS=1 that they are typed in bursts with pauses. A machine that sends
-nothing for a while is stopped.
+does not come back, COUNT another number of bytes, BURSTS=1 that they are typed in bursts with pauses, and LAST what is typed in place
+of bytes before the last line, and does not come back either. A machine that sends nothing for a while is stopped.
 """
 import os
 import random
@@ -33,9 +33,11 @@ def main():
     try:
         expect(machine, lines[0].encode() + b"\r\n", "the banner")
         type_in(machine, [os.environ.get("FIRST", "").encode()])
-        for line in lines[1:]:
+        for number, line in enumerate(lines[1:], 2):
             typed = numbers.randbytes(COUNT)
             pieces = bursts(typed) if os.environ.get("BURSTS") else [typed]
+            if number == len(lines) and "LAST" in os.environ:
+                typed, pieces = b"", [os.environ["LAST"].encode()]
             threading.Thread(target=type_in, args=(machine, pieces), daemon=True).start()
             expect(machine, typed, "the echo")
             expect(machine, b"\r\n" + line.encode() + b"\r\n", "the line behind the echo")

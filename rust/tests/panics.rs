@@ -8,18 +8,18 @@ use core::num::{NonZeroU64, NonZeroUsize};
 use uart_16550::Flags;
 use uart_16550::native::backend::{
     Backend, ByteAccess, ByteOrder, InvalidLayoutError, MmioBackend, PioBackend, PortAccess,
-    RegisterLayout, RegisterWidth, VolatileMemory, WideMemory,
+    DesignWare, DesignWareFault, DesignWareMemory, DesignWareRegisters, RegisterLayout, RegisterWidth, VolatileMemory, WideMemory,
 };
 use uart_16550::native::embedded_io::{Read, ReadReady, Write, WriteReady};
 use uart_16550::native::{
     AttachError, BaudRate, ByteReceiveError, ByteSendError, Config, ConfigRegisterDump,
-    FifoAction, FifosOffError, FrameError, Setup, DriverState, InitError, InvalidAddressError, InvalidDivisorError, LoopbackError,
+    ConfigurationError, FifoAction, FifoSize, FifosOffError, FrameError, Setup, DriverState, InitError, InvalidAddressError, InvalidDivisorError, LoopbackError,
     NearestDivisorError, NonIntegerBaudRateError, NonIntegerDivisorError, Received,
     RemoteReadyToReceiveError, StalledError, Uart16550, Uart16550Tty, Uart16550TtyError,
 };
 use core::task::{Context, Poll};
 use uart_16550::emergency::EmergencyConsole;
-use uart_16550::ring::{Global, Handled, Memory, RingError, Uart16550Ring};
+use uart_16550::ring::{Global, Handled, Memory, RingError, StuckError, Uart16550Ring};
 use uart_16550::shared::{CriticalSection, Shared, SharedError, StartError, Unfinished, Wait};
 use uart_16550::spec::registers::{
     DLL, DLM, FCR, FifoTriggerLevel, IER, ISR, InterruptType, LCR, LSR, MCR, MSR, PSD, Parity, SPR,
@@ -126,6 +126,8 @@ calls! {
     uart_set_trigger_level(uart: &mut Uart, level: FifoTriggerLevel) -> Result<(), FifosOffError> { uart.set_trigger_level(level) }
     uart_quiesce(uart: &mut Uart, outputs: MCR, fifos: FifoAction) { uart.quiesce(outputs, fifos) }
     uart_restore(uart: &mut Uart, dump: &ConfigRegisterDump) { uart.restore(dump) }
+    size_characters(size: FifoSize) -> usize { size.characters() }
+    uart_check_configured(uart: &mut Uart, outputs: MCR) -> Result<(), ConfigurationError> { uart.check_configured(outputs) }
     uart_attach(uart: &mut Uart) -> Result<(DLL, DLM), AttachError> { uart.attach() }
     uart_is_idle(uart: &mut Uart) -> bool { uart.is_idle() }
     uart_set_break(uart: &mut Uart, on: bool) { uart.set_break(on) }
@@ -142,6 +144,7 @@ calls! {
     uart_receive_with_errors(uart: &mut Uart, slots: &mut [Received]) -> usize { uart.receive_with_errors(slots) }
     uart_receive_bytes(uart: &mut Uart, buffer: &mut [u8]) -> usize { uart.receive_bytes(buffer) }
     uart_send_bytes(uart: &mut Uart, buffer: &[u8]) -> usize { uart.send_bytes(buffer) }
+    uart_send_burst(uart: &mut Uart, buffer: &[u8], size: FifoSize) -> usize { uart.send_burst(buffer, size) }
     uart_receive_bytes_exact(uart: &mut Uart, buffer: &mut [u8]) -> Result<(), StalledError> { uart.receive_bytes_exact(buffer) }
     uart_send_bytes_exact(uart: &mut Uart, bytes: &[u8]) -> Result<(), StalledError> { uart.send_bytes_exact(bytes) }
     uart_enable_interrupts(uart: &mut Uart, interrupts: IER) { uart.enable_interrupts(interrupts) }
@@ -198,6 +201,14 @@ calls! {
     volatile_receive_bytes_exact(uart: &mut Uart16550<VolatileMemory>, buffer: &mut [u8]) -> Result<(), StalledError> { uart.receive_bytes_exact(buffer) }
     wide_new(base: core::ptr::NonNull<u8>, layout: RegisterLayout) -> Result<WideMemory, InvalidLayoutError> { unsafe { WideMemory::new(base, layout) } }
     wide_from_address(base: NonZeroUsize, layout: RegisterLayout) -> Result<WideMemory, InvalidLayoutError> { unsafe { WideMemory::from_address(base, layout) } }
+    design_ware_new(base: core::ptr::NonNull<u8>, layout: RegisterLayout, patience: NonZeroU64) -> Result<DesignWare<DesignWareMemory>, InvalidLayoutError> { Ok(DesignWare::new(unsafe { DesignWareMemory::new(base, layout) }?, patience)) }
+    design_ware_from_address(base: NonZeroUsize, layout: RegisterLayout) -> Result<DesignWareMemory, InvalidLayoutError> { unsafe { DesignWareMemory::from_address(base, layout) } }
+    design_ware_read(backend: &mut DesignWare<DesignWareMemory>, offset: u8) -> u8 { backend.read(offset) }
+    design_ware_write(backend: &mut DesignWare<DesignWareMemory>, offset: u8, value: u8) { backend.write(offset, value) }
+    design_ware_read_usr(registers: &mut DesignWareMemory) -> u8 { registers.read_usr() }
+    design_ware_fault(backend: &DesignWare<DesignWareMemory>) -> Option<DesignWareFault> { backend.fault() }
+    design_ware_registers_mut(backend: &mut DesignWare<DesignWareMemory>) -> &mut DesignWareMemory { backend.registers_mut() }
+    design_ware_init(uart: &mut Uart16550<DesignWare<DesignWareMemory>>, config: Config) -> Result<(), InitError> { uart.checked_init(config) }
     wide_read(backend: &mut WideMemory, offset: u8) -> u8 { backend.read(offset) }
     wide_write(backend: &mut WideMemory, offset: u8, value: u8) { backend.write(offset, value) }
     wide_base(backend: &WideMemory) -> core::ptr::NonNull<u8> { backend.base() }
@@ -216,6 +227,19 @@ calls! {
     ring_transmit_len(ring: &Ring) -> usize { ring.transmit_len() }
     ring_receive_len(ring: &Ring) -> usize { ring.receive_len() }
     ring_is_paused(ring: &Ring) -> bool { ring.is_paused() }
+    ring_transmit_room(ring: &Ring) -> usize { ring.transmit_room() }
+    ring_urgent(ring: &Ring) -> Option<u8> { ring.urgent() }
+    ring_is_held(ring: &Ring) -> bool { ring.is_held() }
+    ring_stuck(ring: &Ring) -> Option<StuckError> { ring.stuck() }
+    ring_hold_transmit(ring: &mut Ring) { ring.hold_transmit() }
+    ring_release_transmit(ring: &mut Ring) { ring.release_transmit() }
+    ring_queue_urgent(ring: &mut Ring, byte: u8) -> Option<u8> { ring.queue_urgent(byte) }
+    ring_clear_transmit(ring: &mut Ring) -> usize { ring.clear_transmit() }
+    ring_clear_receive(ring: &mut Ring) -> usize { ring.clear_receive() }
+    ring_set_low_mark(ring: &mut Ring, mark: usize) { ring.set_low_mark(mark) }
+    ring_take_low(ring: &mut Ring) -> bool { ring.take_low() }
+    ring_try_handle(ring: &mut Ring, limit: usize, rounds: u32) -> Result<Handled, StuckError> { ring.try_handle(limit, rounds) }
+    ring_restart(ring: &mut Ring, interrupts: IER) { ring.restart(interrupts) }
     ring_inner(ring: &Ring) -> &Uart { ring.inner() }
     ring_inner_mut(ring: &mut Ring) -> &mut Uart { ring.inner_mut() }
     ring_into_inner(ring: Ring) -> Uart { ring.into_inner() }
@@ -341,6 +365,8 @@ texts! {
     text_of_loopback: LoopbackError;
     text_of_stalled: StalledError;
     text_of_attach: AttachError;
+    text_of_configuration: ConfigurationError;
+    text_of_design_ware: DesignWareFault;
     text_of_fifos_off: FifosOffError;
     text_of_frame: FrameError;
     text_of_nearest: NearestDivisorError;

@@ -5,10 +5,10 @@
 
 use core::fmt::{self, Write as _};
 use uart_16550_chip::registers::{LSR, MSR};
-use uart_16550_chip::serial::{Error, FromStateError};
+use uart_16550_chip::serial::{BadState, Error, FromStateError, TriggerError};
 use uart_16550_chip::{
     Answer, ArrayVec, Character, Chip, ChipData, ChipError, InputError, LiveChip, NoEvents, Output,
-    Received, RestoreError, Serial, SerialState, Todo, Trigger, VirtualPort,
+    Received, Restored, RestoreError, Serial, SerialState, Todo, Trigger, VirtualPort,
 };
 
 unsafe extern "Rust" {
@@ -38,10 +38,10 @@ impl Trigger for Device {
 impl Output for Device {
     type Error = Fault;
 
-    fn write_bytes(&mut self, bytes: &[u8]) -> Result<(), Fault> {
+    fn write_bytes(&mut self, bytes: &[u8]) -> Result<usize, Fault> {
         bytes.iter().for_each(|byte| device_write(0, *byte));
         if device_read(1) == 0 {
-            Ok(())
+            Ok(device_read(2) as usize)
         } else {
             Err(Fault)
         }
@@ -75,6 +75,11 @@ calls! {
     chip_receive_room(chip: &LiveChip) -> usize { chip.receive_room() }
     chip_waiting_len(chip: &LiveChip) -> usize { chip.waiting_len() }
     chip_held_len(chip: &LiveChip) -> usize { chip.held_len() }
+    chip_is_loopback(chip: &LiveChip) -> bool { chip.is_loopback() }
+    chip_is_dlab_set(chip: &LiveChip) -> bool { chip.is_dlab_set() }
+    chip_has_fifo_on(chip: &LiveChip) -> bool { chip.has_fifo_on() }
+    chip_expire_timeout(chip: &mut LiveChip) { chip.expire_timeout() }
+    chip_settle(chip: &mut LiveChip) -> usize { uart_16550_chip::settle(chip) }
     chip_divisor(chip: &LiveChip) -> u16 { chip.divisor() }
     chip_overflows(chip: &LiveChip) -> u64 { chip.overflows() }
     chip_data(chip: &LiveChip) -> ChipData { chip.data() }
@@ -93,12 +98,26 @@ calls! {
     port_output(port: &VirtualPort) -> &[u8] { port.output() }
     port_take_output(port: &mut VirtualPort, count: usize) -> Todo { port.take_output(count) }
     port_level(port: &VirtualPort) -> bool { port.level() }
+    port_receive_room(port: &VirtualPort) -> usize { port.receive_room() }
+    port_chip(port: &VirtualPort) -> &LiveChip { port.chip() }
+    port_data(port: &VirtualPort) -> ChipData { port.data() }
+    port_from_data(data: &ChipData, output: &[u8]) -> Result<Restored, RestoreError> { VirtualPort::from_data(data, output) }
 
     serial_new() -> Console { Serial::new(Device, Device) }
     serial_with_events() -> Console { Serial::with_events(Device, NoEvents, Device) }
-    serial_from_state(state: &SerialState) -> Result<Console, FromStateError<Fault>> { Serial::from_state(state, Device, NoEvents, Device) }
+    serial_from_state(state: &SerialState) -> Result<Console, FromStateError<Device, NoEvents, Device>> { Serial::from_state(state, Device, NoEvents, Device) }
     serial_state(serial: &Console) -> SerialState { serial.state() }
-    serial_chip(serial: &Console) -> &LiveChip { serial.chip() }
+    serial_default_state() -> SerialState { SerialState::default() }
+    state_to_bytes(state: &SerialState) -> [u8; SerialState::LEN] { state.to_bytes() }
+    state_from_bytes(bytes: &[u8]) -> Result<SerialState, BadState> { SerialState::from_bytes(bytes) }
+    serial_into_parts(serial: Console) -> (Device, NoEvents, Device) { serial.into_parts() }
+    serial_output(serial: &Console) -> &[u8] { serial.output() }
+    serial_level(serial: &Console) -> bool { serial.level() }
+    serial_overflows(serial: &Console) -> u64 { serial.overflows() }
+    serial_write_output(serial: &mut Console) -> Result<usize, Failed> { serial.write_output() }
+    serial_resample(serial: &mut Console) -> Result<(), Failed> { serial.resample() }
+    serial_enqueue_with_errors(serial: &mut Console, byte: u8, errors: LSR) -> Result<(), Failed> { serial.enqueue_with_errors(byte, errors) }
+    serial_enqueue_break(serial: &mut Console) -> Result<(), Failed> { serial.enqueue_break() }
     serial_interrupt_evt(serial: &Console) -> &Device { serial.interrupt_evt() }
     serial_events(serial: &Console) -> &NoEvents { serial.events() }
     serial_writer(serial: &Console) -> &Device { serial.writer() }
@@ -132,5 +151,7 @@ texts! {
     text_of_input: InputError;
     text_of_restore: RestoreError;
     text_of_serial: Error<InputError, InputError>;
-    text_of_from_state: FromStateError<InputError>;
+    text_of_from_state: FromStateError<Device, NoEvents, Device>;
+    text_of_bad_state: BadState;
+    text_of_trigger: TriggerError<InputError>;
 }

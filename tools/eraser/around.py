@@ -18,10 +18,11 @@ name version edition rust-version description keywords categories license readme
 metadata
 """.split()
 SECTIONS = ["package", "lib", "features", "dependencies", "dev-dependencies"]
-# The workspace: stand-ins for two libraries, and profiles that change how fast a program is, and not what it does.
+# The workspace: stand-ins for three libraries, and profiles that change how fast a program is, and not what it does.
 WORKSPACE = ["workspace", "patch", "profile"]
 PROFILE = ["codegen-units", "debug", "incremental", "lto", "opt-level", "panic", "strip"]
 STAND_INS = {name: {"path": f"rust/uart_16550/tests/{name}"} for name in ("embedded-io", "embedded-io-async")}
+STAND_INS["serde"] = {"path": "rust/uart_16550_chip/tests/serde"}
 # In .cargo/config.toml: that cargo asks no index.
 OFFLINE = {"net": {"offline": True}}
 
@@ -111,6 +112,11 @@ def read(text):
         return None
 
 
+def is_optional(wanted):
+    """Whether a dependency is there only if a feature asks for it."""
+    return set(wanted) - {"default-features"} == {"version", "optional"} and wanted["optional"] is True
+
+
 def cargo(name, text):
     """What is wrong with Cargo.toml of a package by hand."""
     entries = read(text)
@@ -127,7 +133,7 @@ def cargo(name, text):
         if isinstance(wanted, dict) and "path" in wanted:
             if wanted.get("version") != f"={package.get('version')}":
                 found.append(f"{name}: the dependency {one} is of any version")
-        elif one not in STAND_INS or set(wanted) != {"version", "optional"} or wanted["optional"] is not True:
+        elif one not in STAND_INS or not is_optional(wanted):
             found.append(f"{name}: the dependency {one}")
     return found
 

@@ -120,6 +120,7 @@ EXAMPLES = {
     "uart_16550::driver::frame::Uart16550::set_rts": compiles(UART),
     "uart_16550::driver::frame::Uart16550::set_dtr": compiles(UART),
     "uart_16550::driver::frame::Uart16550::attach": compiles("ports: Device"),
+    "uart_16550::driver::configured::Uart16550::check_configured": compiles(UART),
     "uart_16550::driver::setup::Uart16550::set_trigger_level": compiles(UART),
     "uart_16550::driver::setup::Uart16550::set_frame_when_idle": compiles(UART),
     "uart_16550::driver::setup::Uart16550::init_with": compiles(UART),
@@ -157,6 +158,7 @@ EXAMPLES = {
     "uart_16550::driver::status::Uart16550::config_register_dump": compiles(UART),
     "uart_16550::driver::transmit::Uart16550::ready_to_send": compiles(UART),
     "uart_16550::driver::transmit::Uart16550::send_bytes": compiles(UART + ", bytes: &[u8]"),
+    "uart_16550::driver::burst::Uart16550::send_burst": compiles(UART + ", bytes: &[u8]"),
     "uart_16550::driver::transmit::Uart16550::try_send_byte": compiles(UART),
     "uart_16550::driver::transmit::Uart16550::send_bytes_exact": (
         INCLUDE
@@ -206,10 +208,21 @@ EXAMPLES = {
     "uart_spec::config::Config::is_computable": runs(SPEC, "let config = Config::DEFAULT;"),
     "uart_spec::config::Config::nearest": compiles(UART),
     "uart_spec::setup::Setup": runs(SPEC, "use uart_16550::spec::registers::MCR;"),
+    "uart_spec::setup::FifoSize": runs(SPEC),
     "uart_ring::ring::receive::Uart16550Ring::take": compiles(RING + ", mut slots: [u8; 2]", items=["use facade::ring;"]),
     "uart_ring::ring::service::Uart16550Ring::service": compiles(RING, items=["use facade::ring;"]),
     "uart_ring::ring::service::Uart16550Ring::retrigger": compiles(RING, items=["use facade::ring;"]),
     "uart_ring::ring::service::Uart16550Ring::handle": in_port(),
+    "uart_ring::ring::storm::Uart16550Ring::try_handle": (
+        INCLUDE
+        + [f"# {line}" for line in PORT]
+        + ["# fn report(&mut self, _: StuckError) {}", "# fn example(&mut self) {", "# const MAX_UNFINISHED_ROUNDS: u32 = 100;"],
+        ["# } }"],
+    ),
+    "uart_ring::ring::transmit::Uart16550Ring::queue_urgent": compiles(RING, items=["use facade::ring;", "const XOFF: u8 = 0x13;"]),
+    "uart_ring::ring::transmit::Uart16550Ring::take_low": compiles(
+        RING + ", writers: &mut Writers", items=["use facade::ring;", "struct Writers;", "impl Writers { fn wake(&mut self) {} }"]
+    ),
     "uart_ring::ring::status::Uart16550Ring::take_line": in_port(),
     "uart_ring::ring::status::Uart16550Ring::take_modem": in_port(),
     "uart_ring::ring::transmit::Uart16550Ring::resume_transmit": in_port(),
@@ -250,6 +263,16 @@ for path, like in {
     "uart_ring::ring::Uart16550Ring::new": "uart_ring::ring::Uart16550Ring",
     "uart_ring::ring::Uart16550Ring::receive_len": "uart_ring::ring::Uart16550Ring::transmit_len",
     "uart_ring::ring::Uart16550Ring::is_paused": "uart_ring::ring::Uart16550Ring::transmit_len",
+    "uart_ring::ring::Uart16550Ring::transmit_room": "uart_ring::ring::Uart16550Ring::transmit_len",
+    "uart_ring::ring::Uart16550Ring::urgent": "uart_ring::ring::Uart16550Ring::transmit_len",
+    "uart_ring::ring::Uart16550Ring::is_held": "uart_ring::ring::Uart16550Ring::transmit_len",
+    "uart_ring::ring::Uart16550Ring::stuck": "uart_ring::ring::Uart16550Ring::transmit_len",
+    "uart_ring::ring::receive::Uart16550Ring::clear_receive": "uart_ring::ring::Uart16550Ring::transmit_len",
+    "uart_ring::ring::transmit::Uart16550Ring::hold_transmit": "uart_ring::ring::Uart16550Ring::transmit_len",
+    "uart_ring::ring::transmit::Uart16550Ring::release_transmit": "uart_ring::ring::Uart16550Ring::transmit_len",
+    "uart_ring::ring::transmit::Uart16550Ring::clear_transmit": "uart_ring::ring::Uart16550Ring::transmit_len",
+    "uart_ring::ring::transmit::Uart16550Ring::set_low_mark": "uart_ring::ring::Uart16550Ring::transmit_len",
+    "uart_ring::ring::storm::Uart16550Ring::restart": "uart_ring::ring::Uart16550Ring::transmit_len",
 }.items():
     EXAMPLES[path] = EXAMPLES[like]
 for register in ("lcr", "mcr", "lsr", "msr", "spr"):
@@ -333,6 +356,8 @@ EXAMPLES |= {
     "uart_virtual::port::VirtualPort::output": in_monitor(f"{PORT_OF_GUEST}, {HOST}"),
     "uart_virtual::port::VirtualPort::take_output": in_monitor(f"{PORT_OF_GUEST}, {HOST}, taken: usize"),
     "uart_virtual::port::VirtualPort::level": in_monitor(f"{PORT_OF_GUEST}, {HOST}"),
+    "uart_virtual::port::snapshot::VirtualPort::data": compiles(f"{PORT_OF_GUEST}, {HOST}"),
+    "uart_virtual::port::snapshot::VirtualPort::from_data": compiles(f"{PORT_OF_GUEST}, {HOST}"),
     "uart_live::live::snapshot::LiveChip::data": compiles(CHIP),
     "uart_live::live::snapshot::LiveChip::from_data": compiles(f"{CHIP}, saved: &ChipData"),
 }

@@ -36,9 +36,14 @@ MEANINGS = {
     "IsStill": (
         "Rattle.uart_virtual.specs.Port",
         "uart_virtual/specs/Port.antt",
-        "pub record IsStill (c : ChipState) : Type 0 where pub takes : c.transmitter.char_ticks ≡ 1 "
-        "pub unmoved : next_move (is_loopback c.latches) c.transmitter ≡ None "
+        "pub record IsStill (c : ChipState) : Type 0 where pub paced : IsPaced c pub unmoved : IsUnmoved c "
         "pub due : c.receiver.timeout_ticks ≡ c.receiver.timeout_limit",
+    ),
+    "IsTold": (
+        "Rattle.uart_virtual.specs.Port",
+        "uart_virtual/specs/Port.antt",
+        "pub record IsTold (p : PortState) : Type 0 where pub line : p.told.line ≡ is_up p.chip "
+        "pub room : p.told.has_room ≡ has_room p.chip",
     ),
     "NUM_REGISTERS": (
         "Rattle.uart_spec.specs.declared.baud.TheConstants",

@@ -44,7 +44,7 @@ OF_RINGS = "uart_ring"
 # The crates that the tests by hand of a package use beside those that the package itself uses.
 OF_TESTS = {
     "uart_16550": ["uart_calls", "uart_chip"],
-    "uart_ring": ["uart_calls"],
+    "uart_ring": ["uart_calls", "uart_live"],
 }
 
 # Files that end with a module by hand, which is not emitted: what has to be in a type's own crate.
@@ -251,6 +251,13 @@ GUARDS = {
         ["requires cell { cell ≤ cells }", "requires count { count ≤ cells }"], reason=IN_FILE
     ),
     "uart_ring::queue::copy": Guard(["requires { place ≤ length slots.old }"], reason=IN_FILE),
+    "uart_ring::ring::transmit::Uart16550Ring::copy_sendable": Guard(["requires { 0 < length slots.old }"], reason=IN_FILE),
+    "uart_ring::ring::transmit::Uart16550Ring::drop_queued": Guard(
+        ["requires { count ≤ length self.old.transmit.items }"], reason=IN_FILE
+    ),
+    "uart_ring::ring::transmit::Uart16550Ring::drop_sent": Guard(
+        ["requires { count ≤ length (sendable (ring_fields self.old)) }"], reason=IN_FILE
+    ),
     "uart_16550::pio::PioBackend::port": Guard(REGISTER_OFFSET, test=EIGHT, reason="private, but reached by `Backend::read` and `Backend::write`"),
     "uart_16550::mmio::MmioBackend::address": Guard(
         REGISTER_OFFSET, test=EIGHT, reason="private, but reached by `Backend::read` and `Backend::write`"
@@ -367,24 +374,29 @@ GUARDS["uart_live::live::LiveChip::send_at_once"] = Guard(
     reason="it does nothing else",
 )
 # Of a port, whose chip is always still.
-GUARDS["uart_virtual::port::finish_still"] = Guard(["requires { IsStill chip.now }"], reason=IN_FILE)
-GUARDS["uart_virtual::port::finish_read"] = Guard(
-    [
-        "requires takes { chip.old.transmitter.char_ticks ≡ 1 }",
-        "requires still { (offset == offsets.DATA) ≡ false → IsStill chip.old }",
-    ],
-    reason=IN_FILE,
+GUARDS["uart_virtual::port::decide"] = Guard(["requires { IsPaced chip.now }"], reason=IN_FILE)
+GUARDS["uart_virtual::port::finish"] = Guard(
+    ["requires live { IsLive chip.old }", "requires paced { IsPaced chip.old }"], reason=IN_FILE
 )
+GUARDS["uart_virtual::port::nothing_new"] = Guard(
+    ["requires told { IsTold (record { chip = chip.now; told = told }) }", "requires paced { IsPaced chip.now }"], reason=IN_FILE
+)
+for name in ("finish_unmoved", "finish_read"):
+    GUARDS[f"uart_virtual::port::{name}"] = Guard(
+        ["requires paced { IsPaced chip.old }", "requires unmoved { IsUnmoved chip.old }"], reason=IN_FILE
+    )
 GUARDS["uart_virtual::port::send"] = Guard(
     [
         "requires live { IsLive chip.old }",
         STILL,
         "requires sends { sends_at_once chip.old ≡ true }",
-        "requires settled { port.ignores_falls told ≡ true }",
+        "requires settled { port.ignores_falls told.old ≡ true }",
     ],
     reason=IN_FILE,
 )
-GUARDS["uart_virtual::port::take"] = Guard(["requires { IsStill chip.old }"], reason=IN_FILE)
+GUARDS["uart_virtual::port::take"] = Guard(
+    ["requires told { IsTold (record { chip = chip.old; told = told.old }) }", STILL], reason=IN_FILE
+)
 # The access that a guest makes most often is looked for first, and needs no test.
 for access, first in (("read", "LSR"), ("write", "DATA")):
     GUARDS[f"uart_chip::controlling::{access}_register"] = Guard(
@@ -409,6 +421,15 @@ GUARDS["uart_virtual::port::write"] = Guard(
     ["requires offset { offset < NUM_REGISTERS }", STILL],
     tested_by="write_slowly",
     reason="of each offset but that of DATA; the chip of a port is always still",
+)
+GUARDS["uart_virtual::port::read"] = Guard(
+    [
+        "requires offset { offset < NUM_REGISTERS }",
+        "requires told { IsTold (record { chip = chip.old; told = told.old }) }",
+        STILL,
+    ],
+    tested_by="read",
+    reason="of the offset; what holds of a port always does",
 )
 for access in ("read", "write"):
     GUARDS[f"uart_virtual::port::VirtualPort::{access}"] = Guard(
@@ -450,7 +471,7 @@ CASTS = {
     "uart_16550::mmio::MmioBackend::address": ["register_offset", "self . stride . get ( )"],
     **{f"uart_chip::controlling::{name}": ["offset"] for name in ("read_register", "write_register")},
     "uart_chip::receiving::is_data_pending": ["characters_of ( parts . trigger ( ) )"],
-    **{f"uart_virtual::port::{name}": ["offset"] for name in ("is_look", "finish_read", "is_fast")},
+    **{f"uart_virtual::port::{name}": ["offset"] for name in ("kind_of_read", "kind_of_write", "is_quiet", "is_fast")},
 }
 # Numbers above 65,535 that are no constants of `u32` or `u64`: the file, and the numbers. They are baud rates, and the largest wire.
 LARGE = {"uart_spec/src/config.rt": ["115_200"], "uart_events/src/event.rt": ["65_536"]}

@@ -27,6 +27,7 @@ LISTED = {
     "uart_spec/src/dump.rt": {"256 * self": U16},
     "uart_spec/src/registers/fifo_control.rt": {") << 6": "of u8"},
     "uart_spec/src/registers/line_control.rt": {") << 3": "of u8"},
+    "uart_16550/src/driver/configured.rt": {"256 * dlm": U16},
     "uart_16550/src/mmio.rt": {
         "SPR * stride": OF_ADDRESSES,
         ") . checked_add": OF_ADDRESSES,
@@ -39,8 +40,10 @@ LISTED = {
     "uart_chip/src/receiving.rt": {"ticks . saturating_add": U32, ") . saturating_sub": AT_MOST},
     "uart_chip/src/transmitter.rt": {"overflows . saturating_add": U64},
     "uart_chip/src/wire.rt": {"limit . saturating_sub": AT_MOST},
+    "uart_ring/src/ring/storm.rt": {"rounds . saturating_sub": U32},
     "uart_live/src/fixed.rt": {"2 * WIRE_ROOM": "128"},
-    "uart_live/src/sound.rt": {"TIMEOUT_CHARACTERS * char_ticks": U32},
+    "uart_live/src/sound.rt": {"u32 * char_ticks": U32},
+    "uart_virtual/src/port.rt": {"spare . saturating_sub": "of u8"},
 }
 CALLS = re.compile(r"(checked|saturating|wrapping|overflowing)_\w+|pow|abs_diff|isqrt|next_multiple_of|div_ceil|midpoint|rotate_\w+")
 # Functions of slices, queues and iterators that give a `usize`.

@@ -10,3 +10,4 @@ pub mod Loopbacks
 pub mod Terminals
 pub mod determined
 pub mod Switching
+pub mod Checks

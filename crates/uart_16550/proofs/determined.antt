@@ -9,6 +9,7 @@ pub mod Status
 pub mod Init
 pub mod Frame
 pub mod Setup
+pub mod Configured
 pub mod Io
 pub mod Loopback
 pub mod Tty

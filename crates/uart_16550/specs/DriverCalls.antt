@@ -6,6 +6,7 @@ use Rattle.uart_spec.specs.declared.config.Config.{Config}
 use Rattle.uart_spec.specs.declared.errors.AttachError.{AttachError}
 use Rattle.uart_spec.specs.declared.errors.ByteReceiveError.{ByteReceiveError}
 use Rattle.uart_spec.specs.declared.errors.ByteSendError.{ByteSendError}
+use Rattle.uart_spec.specs.declared.errors.ConfigurationError.{ConfigurationError}
 use Rattle.uart_spec.specs.declared.errors.FifosOffError.{FifosOffError}
 use Rattle.uart_spec.specs.declared.errors.FrameError.{FrameError}
 use Rattle.uart_spec.specs.declared.errors.InitError.{InitError}
@@ -16,6 +17,7 @@ use Rattle.uart_spec.specs.declared.errors.StalledError.{StalledError}
 use Rattle.uart_spec.specs.declared.errors.Uart16550TtyError.{Uart16550TtyError}
 use Rattle.uart_spec.specs.declared.registers.fifo_trigger_level.FifoTriggerLevel.{FifoTriggerLevel}
 use Rattle.uart_spec.specs.declared.setup.FifoAction.{FifoAction}
+use Rattle.uart_spec.specs.declared.setup.FifoSize.{FifoSize}
 use Rattle.uart_spec.specs.declared.setup.Setup.{Setup}
 use Rattle.uart_spec.specs.declared.access.Access.TheVariants.{Read}
 use Rattle.uart_16550.specs.Grammar.{Language, Only}
@@ -23,6 +25,8 @@ use Rattle.uart_16550.specs.Driver.{Doing, Sets, with_limit}
 use Rattle.uart_16550.specs.Receive.{ReadyToReceive, TryReceive, TryReceiveWithErrors}
 use Rattle.uart_spec.specs.declared.received.Received.{Received}
 use Rattle.uart_16550.specs.Transmit.{ReadyToSend, Sends, TrySends, SendsExact}
+use Rattle.uart_16550.specs.Bursts.{SendsBurst}
+use Rattle.uart_16550.specs.Configured.{ChecksConfigured}
 use Rattle.uart_16550.specs.Status.{TakesLsr, TakesMsr, Connects, ReadsDivisor, Enables, Disables, Dumps}
 use Rattle.uart_16550.specs.Status.{Retriggers}
 use Rattle.uart_16550.specs.Init.{ChecksPresence, Inits}
@@ -45,6 +49,7 @@ use Rattle.uart_spec.specs.declared.dump.ConfigRegisterDump.{ConfigRegisterDump}
 pub data SavingCall : Type 0 where
   read_register : (register : ℕ) → SavingCall
   check_connected dll_dlm check_present is_idle retrigger_interrupts : SavingCall
+  check_configured : (config : Config) (outputs : ℕ) → SavingCall
   set_break : (on : Bool) → SavingCall
   set_modem_control : (bits : ℕ) → SavingCall
   set_output : (output : ℕ) (on : Bool) → SavingCall
@@ -53,6 +58,7 @@ pub data SavingCall : Type 0 where
   receive_bytes receive_bytes_exact : (slots : List ℕ) → SavingCall
   try_send_byte : (byte : ℕ) → SavingCall
   send_bytes send_bytes_exact : (bytes : List ℕ) → SavingCall
+  send_burst : (size : FifoSize) (bytes : List ℕ) → SavingCall
   read : (slots : List ℕ) → SavingCall
   write : (bytes : List ℕ) → SavingCall
   flush read_ready write_ready : SavingCall
@@ -66,6 +72,7 @@ SavingOutcome check_connected = Result (Unit {0}) RemoteReadyToReceiveError
 SavingOutcome dll_dlm = ℕ × ℕ
 SavingOutcome check_present = Bool
 SavingOutcome is_idle = Bool
+SavingOutcome (check_configured config outputs) = Result (Unit {0}) ConfigurationError
 SavingOutcome (set_break on) = Unit {0}
 SavingOutcome (set_modem_control bits) = Unit {0}
 SavingOutcome (set_output output on) = Unit {0}
@@ -79,6 +86,7 @@ SavingOutcome (receive_bytes slots) = ℕ × List ℕ
 SavingOutcome (receive_bytes_exact slots) = Result (Unit {0}) StalledError × List ℕ
 SavingOutcome (try_send_byte byte) = Result (Unit {0}) ByteSendError
 SavingOutcome (send_bytes bytes) = ℕ
+SavingOutcome (send_burst size bytes) = ℕ
 SavingOutcome (send_bytes_exact bytes) = Result (Unit {0}) StalledError
 SavingOutcome (read slots) = Result ℕ StalledError × List ℕ
 SavingOutcome (write bytes) = Result ℕ StalledError
@@ -95,6 +103,7 @@ SavingLists check_connected result = Connects result
 SavingLists dll_dlm divisor = ReadsDivisor divisor.0 divisor.1
 SavingLists check_present present = ChecksPresence present
 SavingLists is_idle idle = ShowsIdle idle
+SavingLists (check_configured config outputs) result = ChecksConfigured config outputs result
 SavingLists (set_break on) result = SetsBreak on
 SavingLists (set_modem_control bits) result = SetsControl bits
 SavingLists (set_output output on) result = SetsOutput output on
@@ -108,6 +117,7 @@ SavingLists (receive_bytes slots) end = ReceivesInto slots end.1 end.0
 SavingLists (receive_bytes_exact slots) end = ReceivesExactInto slots end.1 end.0
 SavingLists (try_send_byte byte) result = TrySends byte result
 SavingLists (send_bytes bytes) count = Sends bytes count
+SavingLists (send_burst size bytes) count = SendsBurst size bytes count
 SavingLists (send_bytes_exact bytes) result = SendsExact bytes result
 SavingLists (read slots) end = ReadsInto slots end.1 end.0
 SavingLists (write bytes) result = Writes bytes result

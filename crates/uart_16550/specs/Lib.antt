@@ -1,6 +1,7 @@
 pub mod Grammar
 pub mod Receive
 pub mod Transmit
+pub mod Bursts
 pub mod Driver
 pub mod State
 pub mod Status
@@ -8,6 +9,7 @@ pub mod Init
 pub mod Frame
 pub mod Attach
 pub mod Setup
+pub mod Configured
 pub mod Expansion
 pub mod Io
 pub mod Tty

@@ -10,6 +10,8 @@ ghost use Rattle.uart_16550.specs.Driver.{Made, Did, Plain, Sets, IsFresh};
 ghost use Rattle.uart_16550.specs.Driver.{backend_of, fields, with_limit};
 ghost use Rattle.uart_16550.specs.contracts.driver.Uart16550.{the_row};
 
+mod burst;
+mod configured;
 mod frame;
 mod init;
 mod loopback;

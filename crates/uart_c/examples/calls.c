@@ -9,7 +9,7 @@
 #include <stdlib.h>
 #include <string.h>
 
-enum { CALLS = UART_RECEIVE_WITH_ERRORS + 1, ANSWERS = UART_ANSWER_BYTES_WITH_ERRORS + 1 };
+enum { CALLS = UART_RESTORE + 1, ANSWERS = UART_ANSWER_FIFOS_OFF + 1 };
 enum { SPIN_LIMIT = 3, TAPE_ROOM = 256 };
 
 /* How the driver is before a call, beside what a new one is. */
@@ -33,6 +33,10 @@ struct row {
 #define BYTE(kind_, byte_) {.kind = kind_, .byte = byte_}
 #define SLOTS(kind_, len_) {.kind = kind_, .len = len_}
 #define BYTES(kind_, text) {.kind = kind_, .len = sizeof text - 1, .bytes = text}
+#define SETUP(checks, wait_, outputs_) \
+    {.kind = UART_INIT_WITH, .config = CONFIG(9600, 14), .setup = {.checks_presence = checks, .wait = wait_, .outputs = outputs_}}
+#define FRAME(rate) \
+    {.kind = UART_SET_FRAME_WHEN_IDLE, .config = {.frequency = 1843200, .baud_rate = rate, .data_bits = 7}}
 
 #define VALUE(kind_, value_) {.kind = kind_, .value = value_}
 #define COUNT(kind_, count_) {.kind = kind_, .count = count_}
@@ -139,6 +143,27 @@ static const struct row rows[] = {
     {"receive_with_errors", NEW, SLOTS(UART_RECEIVE_WITH_ERRORS, 3), "r5=05 r0=61 r5=9b r0=00 r5=60 ",
      {.kind = UART_ANSWER_BYTES_WITH_ERRORS, .count = 2, .bytes = "a\0", .errors = {0x04, 0x1a}}},
     {"receive_with_errors, no data", NEW, SLOTS(UART_RECEIVE_WITH_ERRORS, 3), "r5=60 ", PLAIN(UART_ANSWER_BYTES_WITH_ERRORS)},
+    {"init_with as init", NEW, SETUP(1, UART_WAIT_LAST, 0x0b), STARTED "r5=40 r5=00 r2=c1 r6=00 w1=05 ", DONE},
+    {"init_with, no check, wait first", NEW, SETUP(0, UART_WAIT_FIRST, 0x18),
+     "r5=20 r5=40 " LINE "w2=c7 r2=c1 r5=00 w4=08 r5=00 r2=c1 r6=00 w1=05 ", DONE},
+    {"init_with, no wait", NEW, SETUP(1, UART_WAIT_NEVER, 0x00),
+     PRESENT LINE "w2=c7 r2=c1 r5=00 w4=00 r5=00 r2=c1 r6=00 w1=05 ", DONE},
+    {"init_with that stalls first", NEW, SETUP(0, UART_WAIT_FIRST, 0x0b), THREE_MISSES,
+     VALUE(UART_ANSWER_INIT_REFUSED, UART_INIT_STALLED)},
+    {"set_frame_when_idle", NEW, FRAME(38400), "r5=20 r5=60 w3=82 w0=03 w1=00 w3=02 ", DONE},
+    {"set_frame_when_idle at a rate without divisor", NEW, FRAME(7211), "",
+     VALUE(UART_ANSWER_FRAME_WHEN_IDLE_REFUSED, UART_FRAME_NO_WHOLE_DIVISOR)},
+    {"set_frame_when_idle that stalls", NEW, FRAME(38400), THREE_MISSES,
+     VALUE(UART_ANSWER_FRAME_WHEN_IDLE_REFUSED, UART_FRAME_STALLED)},
+    {"set_trigger_level", NEW, BYTE(UART_SET_TRIGGER_LEVEL, 8), "w2=81 ", DONE},
+    {"set_trigger_level, no FIFO", NO_FIFO, BYTE(UART_SET_TRIGGER_LEVEL, 8), "", PLAIN(UART_ANSWER_FIFOS_OFF)},
+    {"quiesce", NEW, {.kind = UART_QUIESCE, .byte = 0x18, .fifos = UART_FIFOS_KEEP}, "w1=00 w4=08 ", DONE},
+    {"quiesce, FIFOs emptied", NEW, {.kind = UART_QUIESCE, .byte = 0x00, .fifos = UART_FIFOS_RESET}, "w1=00 w4=00 w2=c7 ", DONE},
+    {"quiesce, FIFOs off", NEW, {.kind = UART_QUIESCE, .byte = 0x01, .fifos = UART_FIFOS_DISABLE}, "w1=00 w4=01 w2=06 ", DONE},
+    {"restore", NEW, BYTES(UART_RESTORE, "\x05\xc1\x9b\x1b\x60\xb0\xa5\x80\x01"),
+     "w3=00 w1=00 w3=80 w0=80 w1=01 w3=00 w3=1b w2=c7 r2=c1 w4=0b w7=a5 w1=05 ", DONE},
+    {"restore, no FIFO", NEW, BYTES(UART_RESTORE, "\x05\x01\x1b\x0b\x60\xb0\xa5\x80\x01"),
+     "w3=00 w1=00 w3=80 w0=80 w1=01 w3=00 w3=1b w2=06 w4=0b w7=a5 w1=05 ", DONE},
 };
 
 /* What is left of a row's list. */
@@ -219,6 +244,17 @@ static void refuse(void)
         call.kind = switches[i];
         printf("neither on nor off: step %" PRIu32 "\n", uart_step(&driver, &call, &stray, 1, &access, &answer));
     }
+    call.kind = UART_SET_TRIGGER_LEVEL;
+    printf("no level: step %" PRIu32 "\n", uart_step(&driver, &call, &stray, 1, &access, &answer));
+    call.kind = UART_INIT_WITH;
+    call.setup.wait = UART_WAIT_NEVER + 1;
+    printf("no wait: step %" PRIu32 "\n", uart_step(&driver, &call, &stray, 1, &access, &answer));
+    call.kind = UART_QUIESCE;
+    call.fifos = UART_FIFOS_DISABLE + 1;
+    printf("nothing for the FIFOs: step %" PRIu32 "\n", uart_step(&driver, &call, &stray, 1, &access, &answer));
+    call.kind = UART_RESTORE;
+    call.len = 8;
+    printf("eight registers: step %" PRIu32 "\n", uart_step(&driver, &call, &stray, 1, &access, &answer));
 }
 
 int main(void)

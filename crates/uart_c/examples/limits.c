@@ -69,7 +69,8 @@ int main(void)
                              .byte = 1, .len = 3, .bytes = "abc"};
 
     alarm(MOST_SECONDS);
-    for (call.kind = UART_INIT; call.kind <= UART_RECEIVE_WITH_ERRORS; call.kind++)
+    for (call.kind = UART_INIT; call.kind <= UART_RESTORE; call.kind++) {
+        call.len = call.kind == UART_RESTORE ? 9 : 3;
         for (int flags = 0; flags < 4; flags++)
             for (size_t i = 0; i < sizeof devices / sizeof *devices; i++) {
                 struct uart_driver driver;
@@ -78,6 +79,7 @@ int main(void)
                 driver.fifo_enabled = (flags & 2) != 0;
                 stray_at_each_place(driver, &call, devices[i]);
             }
+    }
     printf("each step returned\n");
     return EXIT_SUCCESS;
 }

@@ -378,7 +378,33 @@ enum uart_call_kind {
     UART_PEEK_MODEM = 35,       /* MSR as it is now; the changes that this clears are kept for the next UART_MSR */
     UART_IS_IDLE = 36,          /* whether the transmitter is empty: the FIFO and the shift register */
     UART_RETRIGGER_INTERRUPTS = 37, /* clears IER and writes it back: the interrupt line falls, and may rise again */
-    UART_RECEIVE_WITH_ERRORS = 38 /* len: how many bytes at most; does not wait */
+    UART_RECEIVE_WITH_ERRORS = 38, /* len: how many bytes at most; does not wait */
+    UART_INIT_WITH = 39,        /* config and setup: otherwise than UART_INIT does it */
+    UART_SET_FRAME_WHEN_IDLE = 40, /* as UART_SET_FRAME, once all that was sent is on the line */
+    UART_SET_TRIGGER_LEVEL = 41, /* byte: 1, 4, 8 or 14; what is in the FIFOs stays */
+    UART_QUIESCE = 42,          /* byte: as in MCR, without loopback; fifos. Disables all interrupts */
+    UART_RESTORE = 43           /* bytes and len, which is 9: as an answer to UART_DUMP has them; empties the FIFOs */
+};
+
+/* When an initialisation waits until the transmitter is empty. */
+enum uart_wait {
+    UART_WAIT_FIRST = 0,        /* before the divisor and the frame are written: no character is broken that is going out */
+    UART_WAIT_LAST = 1,         /* after all but the interrupts is written, as UART_INIT does */
+    UART_WAIT_NEVER = 2
+};
+
+/* What becomes of the FIFOs when a port is left. */
+enum uart_fifos {
+    UART_FIFOS_KEEP = 0,        /* what is in them stays */
+    UART_FIFOS_RESET = 1,       /* both are emptied, and stay on if they are on */
+    UART_FIFOS_DISABLE = 2      /* both are emptied and turned off */
+};
+
+/* How UART_INIT_WITH is done. UART_INIT is 1, UART_WAIT_LAST, and DTR, RTS and OUT2. */
+struct uart_setup {
+    uint8_t checks_presence;    /* 1 tests the scratch register first, 0 does not */
+    uint8_t wait;               /* an enum uart_wait */
+    uint8_t outputs;            /* as in MCR; UART_MCR_LOOP_BACK is cleared whatever the byte has */
 };
 
 /* A call. Which fields count depends on its kind. */
@@ -388,6 +414,8 @@ struct uart_call {
     uint8_t byte;
     uint8_t len;                /* at most UART_CALL_BYTES */
     uint8_t bytes[UART_CALL_BYTES];
+    struct uart_setup setup;
+    uint8_t fifos;              /* an enum uart_fifos */
 };
 
 /* One access: value is what was written, or what the read was answered. */
@@ -414,7 +442,9 @@ enum uart_answer_kind {
     UART_ANSWER_NOT_SENT = 13,       /* value: an enum uart_send_error */
     UART_ANSWER_FRAME_REFUSED = 14,  /* value: an enum uart_frame_error */
     UART_ANSWER_ATTACH_REFUSED = 15, /* value: an enum uart_attach_error */
-    UART_ANSWER_BYTES_WITH_ERRORS = 16 /* bytes, errors and count: each byte, and its errors in the same place */
+    UART_ANSWER_BYTES_WITH_ERRORS = 16, /* bytes, errors and count: each byte, and its errors in the same place */
+    UART_ANSWER_FRAME_WHEN_IDLE_REFUSED = 17, /* value: an enum uart_frame_error */
+    UART_ANSWER_FIFOS_OFF = 18       /* a trigger level was not set: the FIFOs are off */
 };
 
 /* Why an initialisation failed. */
@@ -424,10 +454,11 @@ enum uart_init_error {
     UART_INIT_STALLED = 2            /* the transmitter did not become empty within the limit */
 };
 
-/* Why a frame cannot be set. No access was made, and nothing changed. */
+/* Why a frame cannot be set. Nothing was written; without a divisor no access was made. */
 enum uart_frame_error {
     UART_FRAME_NO_WHOLE_DIVISOR = 0, /* no whole divisor gives the baud rate */
-    UART_FRAME_DIVISOR_OUT_OF_RANGE = 1 /* the divisor does not fit into the 16 bits of the divisor latch */
+    UART_FRAME_DIVISOR_OUT_OF_RANGE = 1, /* the divisor does not fit into the 16 bits of the divisor latch */
+    UART_FRAME_STALLED = 2           /* of UART_SET_FRAME_WHEN_IDLE: the transmitter did not become empty within the limit */
 };
 
 /* Why a port cannot be taken as it is. Nothing was written. */

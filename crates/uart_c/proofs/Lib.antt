@@ -4,6 +4,7 @@ pub mod Lengths
 pub mod Levels
 pub mod Marks
 pub mod Queues
+pub mod Runnable
 pub mod Saved
 pub mod Stays
 pub mod Steps

@@ -1,33 +1,21 @@
 -- The data of C beside those of a live chip.
 use Rattle.std.proofs.Common.{◌≡◌, ◌==◌, ◌*◌, ◌&&◌, ℕ, Bool, true, false, List, [], ◌∷◌, map, take, length, refl, sym, ap, ◌∙◌}
-use Rattle.std.proofs.Common.{subst, arith, if◌then◌else◌}
+use Rattle.std.proofs.Common.{subst, arith}
 use Rattle.std.specs.List.{list_all}
 use Rattle.std.proofs.lemmas.Grind.{common_steps}
 use Rattle.std.proofs.lemmas.List.{take_min, length-take, length-map}
-use Rattle.uart_c.specs.Queue.{is_on, character_of, wire_of}
+use Rattle.uart_c.specs.Queue.{wire_of}
 use Rattle.uart_c.specs.Saved.{is_sound}
 use Rattle.uart_c.specs.State.{chip_data, chip_of, latches_of}
 use Rattle.uart_c.specs.declared.chip.UartChip.{UartChip}
-use Rattle.uart_c.specs.declared.queue.UartCharacter.{UartCharacter}
-use Rattle.uart_c.specs.declared.receiver.TheConstants.{TIMEOUT_CHARACTERS}
 use Rattle.uart_chip.specs.Chip.{ChipState}
-use Rattle.uart_chip.specs.Receiver.{is_unscheduled}
 use Rattle.uart_chip.specs.Snapshot as snapshot
 use Rattle.uart_chip.specs.declared.receiver.Character.{Character}
-use Rattle.uart_chip.specs.declared.receiver.Origin.TheVariants.{Looped, Live}
 use Rattle.uart_chip.specs.Sound.{HoldBytes}
 use Rattle.uart_live.proofs.Saves.{live_of, of_live}
 use Rattle.uart_live.specs.Live.{IsLive}
-use Rattle.uart_live.specs.Saved.{is_within, is_live, is_live_character}
-use Rattle.uart_spec.specs.declared.registers.line_status.TheConstants.LSR
-
-no_arrival : (looped within : Bool) → within ≡ (is_unscheduled (if looped then Looped else Live) && within)
-no_arrival true within = refl
-no_arrival false within = refl
-
--- a character of C is no arrival of a schedule
-pub live_character : (c : UartCharacter) → is_within c.errors LSR.CHARACTER_ERRORS.0 ≡ is_live_character (character_of c)
-live_character c = no_arrival (is_on c.is_looped) (is_within c.errors LSR.CHARACTER_ERRORS.0)
+use Rattle.uart_live.specs.Saved.{is_live}
+use Rattle.uart_live.specs.declared.sound.TheConstants.{TIMEOUT_CHARACTERS}
 
 all_map : {X Y : Type 0} (p : Y → Bool) (f : X → Y) (xs : List X) → list_all (λ x. p (f x)) xs ≡ list_all p (map f xs)
 all_map p f [] = refl

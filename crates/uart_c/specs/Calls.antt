@@ -3,10 +3,12 @@ use Rattle.std.specs.Prelude.{◌≡◌, ℕ, List, [], ◌∷◌, ◌++◌, ◌
 use Rattle.uart_spec.specs.declared.dump.ConfigRegisterDump.{ConfigRegisterDump}
 use Rattle.uart_c.specs.Driver.{config_of}
 use Rattle.uart_c.specs.Queue.{is_on}
+use Rattle.uart_chip.specs.Receiver.{characters_of}
 use Rattle.uart_c.specs.declared.access.UartAccess.{UartAccess}
 use Rattle.uart_c.specs.declared.answer.UartAnswer.{UartAnswer}
 use Rattle.uart_c.specs.declared.codes.TheConstants as code
 use Rattle.uart_c.specs.declared.call.UartCall.{UartCall}
+use Rattle.uart_c.specs.declared.call.UartSetup.{UartSetup}
 use Rattle.uart_events.specs.declared.call.Call.{Call}
 use Rattle.uart_events.specs.declared.call.Call.TheVariants as call
 use Rattle.uart_events.specs.declared.call.TheConstants.{CALL_BYTES}
@@ -19,6 +21,8 @@ use Rattle.uart_spec.specs.declared.errors.AttachError.{AttachError}
 use Rattle.uart_spec.specs.declared.errors.AttachError.TheVariants as attach_error
 use Rattle.uart_spec.specs.declared.errors.ByteSendError.{ByteSendError}
 use Rattle.uart_spec.specs.declared.errors.ByteSendError.TheVariants as send_error
+use Rattle.uart_spec.specs.declared.errors.FrameError.{FrameError}
+use Rattle.uart_spec.specs.declared.errors.FrameError.TheVariants as idle_error
 use Rattle.uart_spec.specs.declared.errors.InitError.{InitError}
 use Rattle.uart_spec.specs.declared.errors.InitError.TheVariants as init_error
 use Rattle.uart_spec.specs.declared.errors.InvalidDivisorError.{InvalidDivisorError}
@@ -28,6 +32,11 @@ use Rattle.uart_spec.specs.declared.errors.LoopbackError.TheVariants as loopback
 use Rattle.uart_spec.specs.declared.errors.RemoteReadyToReceiveError.{RemoteReadyToReceiveError}
 use Rattle.uart_spec.specs.declared.errors.RemoteReadyToReceiveError.TheVariants as remote_error
 use Rattle.uart_spec.specs.declared.received.Received.{Received}
+use Rattle.uart_spec.specs.declared.setup.FifoAction.{FifoAction}
+use Rattle.uart_spec.specs.declared.setup.FifoAction.TheVariants.{Keep, Reset, Disable}
+use Rattle.uart_spec.specs.declared.setup.Setup.{Setup}
+use Rattle.uart_spec.specs.declared.setup.TransmitterWait.{TransmitterWait}
+use Rattle.uart_spec.specs.declared.setup.TransmitterWait.TheVariants.{First, Last, Never as NoWait}
 use Rattle.uart_calls.specs.declared.tape.Request.{Request}
 use Rattle.uart_calls.specs.declared.tape.Request.TheVariants as request
 
@@ -42,6 +51,27 @@ request_of a = if is_on a.is_write then request.Write a.offset a.value else requ
 -- the bytes that are given with a call
 abbrev pub IsGiven : UartCall → List ℕ → Type 0
 IsGiven c bytes = (length bytes ≡ c.len) × (bytes ≡ take c.len c.bytes)
+
+-- the registers of a dump, in the order in which they are listed
+abbrev pub registers_of : ConfigRegisterDump → List ℕ
+registers_of d =
+    d.ier.0 ∷ d.isr.0 ∷ d.lcr.0 ∷ d.mcr.0 ∷ d.lsr.0 ∷ d.msr.0 ∷ d.spr ∷ d.dll ∷ d.dlm ∷ []
+
+-- the number of a wait in the header, and of what becomes of the FIFOs
+abbrev pub wait_code : TransmitterWait → ℕ
+wait_code First = code.UART_WAIT_FIRST
+wait_code Last = code.UART_WAIT_LAST
+wait_code NoWait = code.UART_WAIT_NEVER
+
+abbrev pub fifos_code : FifoAction → ℕ
+fifos_code Keep = code.UART_FIFOS_KEEP
+fifos_code Reset = code.UART_FIFOS_RESET
+fifos_code Disable = code.UART_FIFOS_DISABLE
+
+-- the data of C are this setup
+abbrev pub IsSetup : UartSetup → Setup → Type 0
+IsSetup c setup =
+    (c.checks_presence ≡ flag setup.checks_presence 1) × (c.wait ≡ wait_code setup.wait) × (c.outputs ≡ setup.outputs.0)
 
 -- the data of C are this call
 abbrev pub IsCall : UartCall → Call → Type 0
@@ -84,6 +114,13 @@ IsCall c call.PeekModem = c.kind ≡ code.UART_PEEK_MODEM
 IsCall c call.IsIdle = c.kind ≡ code.UART_IS_IDLE
 IsCall c call.RetriggerInterrupts = c.kind ≡ code.UART_RETRIGGER_INTERRUPTS
 IsCall c (call.ReceiveWithErrors count) = (c.kind ≡ code.UART_RECEIVE_WITH_ERRORS) × (count ≡ c.len)
+IsCall c (call.InitWith config setup) =
+    (c.kind ≡ code.UART_INIT_WITH) × (config ≡ config_of c.config) × IsSetup c.setup setup
+IsCall c (call.SetFrameWhenIdle config) = (c.kind ≡ code.UART_SET_FRAME_WHEN_IDLE) × (config ≡ config_of c.config)
+IsCall c (call.SetTriggerLevel level) = (c.kind ≡ code.UART_SET_TRIGGER_LEVEL) × (c.byte ≡ characters_of level)
+IsCall c (call.Quiesce outputs fifos) =
+    (c.kind ≡ code.UART_QUIESCE) × (outputs.0 ≡ c.byte) × (c.fifos ≡ fifos_code fifos)
+IsCall c (call.Restore dump) = (c.kind ≡ code.UART_RESTORE) × IsGiven c (registers_of dump)
 IsCall c call.Next = ⊥
 IsCall c (call.Text text) = ⊥
 
@@ -132,11 +169,6 @@ of_received received =
     record (of_bytes code.UART_ANSWER_BYTES_WITH_ERRORS (map byte_of received))
     { errors = padded (map errors_of received) }
 
--- the registers of a dump, in the order in which they are listed
-abbrev pub registers_of : ConfigRegisterDump → List ℕ
-registers_of d =
-    d.ier.0 ∷ d.isr.0 ∷ d.lcr.0 ∷ d.mcr.0 ∷ d.lsr.0 ∷ d.msr.0 ∷ d.spr ∷ d.dll ∷ d.dlm ∷ []
-
 -- the number of each reason for a refusal in the header
 abbrev pub init_code : InitError → ℕ
 init_code init_error.DeviceNotPresent = code.UART_INIT_DEVICE_NOT_PRESENT
@@ -146,6 +178,10 @@ init_code init_error.Stalled = code.UART_INIT_STALLED
 abbrev pub frame_code : InvalidDivisorError → ℕ
 frame_code (frame_error.NonInteger error) = code.UART_FRAME_NO_WHOLE_DIVISOR
 frame_code (frame_error.OutOfRange divisor) = code.UART_FRAME_DIVISOR_OUT_OF_RANGE
+
+abbrev pub frame_when_idle_code : FrameError → ℕ
+frame_when_idle_code (idle_error.InvalidBaudRate error) = frame_code error
+frame_when_idle_code idle_error.Stalled = code.UART_FRAME_STALLED
 
 abbrev pub attach_code : AttachError → ℕ
 attach_code attach_error.DivisorLatchOpen = code.UART_ATTACH_DIVISOR_LATCH_OPEN
@@ -187,5 +223,8 @@ shown (answer.NotConnected error) = of_value code.UART_ANSWER_NOT_CONNECTED (rem
 shown answer.NoData = of_kind code.UART_ANSWER_NO_DATA
 shown (answer.NotSent error) = of_value code.UART_ANSWER_NOT_SENT (send_code error) 0
 shown (answer.FrameRefused error) = of_value code.UART_ANSWER_FRAME_REFUSED (frame_code error) 0
+shown (answer.FrameWhenIdleRefused error) =
+    of_value code.UART_ANSWER_FRAME_WHEN_IDLE_REFUSED (frame_when_idle_code error) 0
+shown answer.FifosOff = of_kind code.UART_ANSWER_FIFOS_OFF
 shown (answer.AttachRefused error) = of_value code.UART_ANSWER_ATTACH_REFUSED (attach_code error) 0
 shown (answer.BytesWithErrors received) = of_received received.items

@@ -2,16 +2,18 @@
 ghost use Rattle.std.specs.Prelude.{◌≡◌, ◌≤◌, length, map};
 ghost use Rattle.uart_c.specs.Calls as spec;
 ghost use Rattle.uart_c.specs.Calls.{attach_code, byte_of, errors_of, frame_code, init_code};
+ghost use Rattle.uart_c.specs.Calls.{frame_when_idle_code};
 ghost use Rattle.uart_c.specs.Calls.{registers_of, remote_code, send_code};
 
 use crate::codes::{
     UART_ANSWER_ATTACH_REFUSED, UART_ANSWER_BYTES, UART_ANSWER_BYTES_WITH_ERRORS,
-    UART_ANSWER_COUNT, UART_ANSWER_DONE, UART_ANSWER_DUMP, UART_ANSWER_FLAG,
-    UART_ANSWER_FRAME_REFUSED, UART_ANSWER_INIT_REFUSED, UART_ANSWER_LATCH,
-    UART_ANSWER_LOOPBACK_REFUSED, UART_ANSWER_NO_DATA, UART_ANSWER_NOT_CONNECTED,
-    UART_ANSWER_NOT_SENT, UART_ANSWER_RECEIVE_STALLED, UART_ANSWER_REGISTER, UART_ANSWER_STALLED,
-    UART_ATTACH_DIVISOR_LATCH_OPEN, UART_ATTACH_LOOPBACK, UART_FRAME_DIVISOR_OUT_OF_RANGE,
-    UART_FRAME_NO_WHOLE_DIVISOR, UART_INIT_DEVICE_NOT_PRESENT, UART_INIT_INVALID_BAUD_RATE,
+    UART_ANSWER_COUNT, UART_ANSWER_DONE, UART_ANSWER_DUMP, UART_ANSWER_FIFOS_OFF, UART_ANSWER_FLAG,
+    UART_ANSWER_FRAME_REFUSED, UART_ANSWER_FRAME_WHEN_IDLE_REFUSED, UART_ANSWER_INIT_REFUSED,
+    UART_ANSWER_LATCH, UART_ANSWER_LOOPBACK_REFUSED, UART_ANSWER_NO_DATA,
+    UART_ANSWER_NOT_CONNECTED, UART_ANSWER_NOT_SENT, UART_ANSWER_RECEIVE_STALLED,
+    UART_ANSWER_REGISTER, UART_ANSWER_STALLED, UART_ATTACH_DIVISOR_LATCH_OPEN,
+    UART_ATTACH_LOOPBACK, UART_FRAME_DIVISOR_OUT_OF_RANGE, UART_FRAME_NO_WHOLE_DIVISOR,
+    UART_FRAME_STALLED, UART_INIT_DEVICE_NOT_PRESENT, UART_INIT_INVALID_BAUD_RATE,
     UART_INIT_STALLED, UART_LOOPBACK_SEND_ERROR, UART_LOOPBACK_STALLED,
     UART_LOOPBACK_UNEXPECTED_BYTE, UART_LOOPBACK_UNEXPECTED_MSG, UART_REMOTE_NO_CD,
     UART_REMOTE_NO_DSR, UART_REMOTE_NOT_CLEAR_TO_SEND, UART_SEND_NO_CAPACITY,
@@ -22,8 +24,8 @@ use bitflags::Flags;
 use uart_16550::ConfigRegisterDump;
 use uart_calls::{Answer, CALL_BYTES};
 use uart_spec::{
-    AttachError, ByteSendError, InitError, InvalidDivisorError, LoopbackError, Received,
-    RemoteReadyToReceiveError,
+    AttachError, ByteSendError, FrameError, InitError, InvalidDivisorError, LoopbackError,
+    Received, RemoteReadyToReceiveError,
 };
 
 /// What a call returned. Which of the other fields count depends on its kind.
@@ -183,6 +185,15 @@ fn frame_error(error: &InvalidDivisorError) -> u8
     }
 }
 
+fn frame_when_idle_error(error: &FrameError) -> u8
+    ensures { result ≡ frame_when_idle_code error.now }
+{
+    match error {
+        FrameError::InvalidBaudRate(cause) => frame_error(cause),
+        FrameError::Stalled => UART_FRAME_STALLED,
+    }
+}
+
 fn attach_error(error: AttachError) -> u8
     ensures { result ≡ attach_code error }
 {
@@ -248,6 +259,11 @@ pub fn shown(answer: &Answer) -> UartAnswer
         Answer::NoData => of_kind(UART_ANSWER_NO_DATA),
         Answer::NotSent(error) => of_value(UART_ANSWER_NOT_SENT, send_error(error), 0),
         Answer::FrameRefused(error) => of_value(UART_ANSWER_FRAME_REFUSED, frame_error(error), 0),
+        Answer::FrameWhenIdleRefused(error) => {
+            let kind = UART_ANSWER_FRAME_WHEN_IDLE_REFUSED;
+            of_value(kind, frame_when_idle_error(error), 0)
+        }
+        Answer::FifosOff => of_kind(UART_ANSWER_FIFOS_OFF),
         Answer::AttachRefused(error) => {
             of_value(UART_ANSWER_ATTACH_REFUSED, attach_error(*error), 0)
         }

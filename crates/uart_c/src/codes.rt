@@ -99,6 +99,32 @@ pub const UART_RETRIGGER_INTERRUPTS: u8 = 37;
 
 pub const UART_RECEIVE_WITH_ERRORS: u8 = 38;
 
+pub const UART_INIT_WITH: u8 = 39;
+
+pub const UART_SET_FRAME_WHEN_IDLE: u8 = 40;
+
+pub const UART_SET_TRIGGER_LEVEL: u8 = 41;
+
+pub const UART_QUIESCE: u8 = 42;
+
+pub const UART_RESTORE: u8 = 43;
+
+// When an initialisation waits until the transmitter is empty: `enum uart_wait`.
+
+pub const UART_WAIT_FIRST: u8 = 0;
+
+pub const UART_WAIT_LAST: u8 = 1;
+
+pub const UART_WAIT_NEVER: u8 = 2;
+
+// What becomes of the FIFOs: `enum uart_fifos`.
+
+pub const UART_FIFOS_KEEP: u8 = 0;
+
+pub const UART_FIFOS_RESET: u8 = 1;
+
+pub const UART_FIFOS_DISABLE: u8 = 2;
+
 // Parities: `enum uart_parity`.
 
 pub const UART_PARITY_NONE: u8 = 0;
@@ -147,6 +173,10 @@ pub const UART_ANSWER_ATTACH_REFUSED: u8 = 15;
 
 pub const UART_ANSWER_BYTES_WITH_ERRORS: u8 = 16;
 
+pub const UART_ANSWER_FRAME_WHEN_IDLE_REFUSED: u8 = 17;
+
+pub const UART_ANSWER_FIFOS_OFF: u8 = 18;
+
 // Why an initialisation failed: `enum uart_init_error`.
 
 pub const UART_INIT_DEVICE_NOT_PRESENT: u8 = 0;
@@ -160,6 +190,8 @@ pub const UART_INIT_STALLED: u8 = 2;
 pub const UART_FRAME_NO_WHOLE_DIVISOR: u8 = 0;
 
 pub const UART_FRAME_DIVISOR_OUT_OF_RANGE: u8 = 1;
+
+pub const UART_FRAME_STALLED: u8 = 2;
 
 // Why a port cannot be taken as it is: `enum uart_attach_error`.
 

@@ -28,23 +28,32 @@ pub fn codes_are_these()
         ∷ code.UART_DUMP ∷ code.UART_SET_FRAME ∷ code.UART_ATTACH ∷ code.UART_SET_BREAK
         ∷ code.UART_SET_MODEM_CONTROL ∷ code.UART_SET_RTS ∷ code.UART_SET_DTR
         ∷ code.UART_PEEK_MODEM ∷ code.UART_IS_IDLE ∷ code.UART_RETRIGGER_INTERRUPTS
-        ∷ code.UART_RECEIVE_WITH_ERRORS ∷ [])
+        ∷ code.UART_RECEIVE_WITH_ERRORS ∷ code.UART_INIT_WITH ∷ code.UART_SET_FRAME_WHEN_IDLE
+        ∷ code.UART_SET_TRIGGER_LEVEL ∷ code.UART_QUIESCE ∷ code.UART_RESTORE ∷ [])
         ≡ (0 ∷ 1 ∷ 2 ∷ 3 ∷ 4 ∷ 5 ∷ 6 ∷ 7 ∷ 8 ∷ 9 ∷ 10 ∷ 11 ∷ 12 ∷ 13 ∷ 14
         ∷ 15 ∷ 16 ∷ 17 ∷ 18 ∷ 19 ∷ 20 ∷ 21 ∷ 22 ∷ 23 ∷ 24 ∷ 25 ∷ 26 ∷ 27 ∷ 28
-        ∷ 29 ∷ 30 ∷ 31 ∷ 32 ∷ 33 ∷ 34 ∷ 35 ∷ 36 ∷ 37 ∷ 38 ∷ []) }
+        ∷ 29 ∷ 30 ∷ 31 ∷ 32 ∷ 33 ∷ 34 ∷ 35 ∷ 36 ∷ 37 ∷ 38 ∷ 39 ∷ 40 ∷ 41 ∷ 42
+        ∷ 43 ∷ []) }
+    ensures waits { (code.UART_WAIT_FIRST ∷ code.UART_WAIT_LAST ∷ code.UART_WAIT_NEVER ∷ [])
+        ≡ (0 ∷ 1 ∷ 2 ∷ []) }
+    ensures fifos { (code.UART_FIFOS_KEEP ∷ code.UART_FIFOS_RESET ∷ code.UART_FIFOS_DISABLE ∷ [])
+        ≡ (0 ∷ 1 ∷ 2 ∷ []) }
     ensures answers { (code.UART_ANSWER_DONE ∷ code.UART_ANSWER_FLAG ∷ code.UART_ANSWER_COUNT
         ∷ code.UART_ANSWER_BYTES ∷ code.UART_ANSWER_REGISTER ∷ code.UART_ANSWER_LATCH
         ∷ code.UART_ANSWER_DUMP ∷ code.UART_ANSWER_STALLED ∷ code.UART_ANSWER_RECEIVE_STALLED
         ∷ code.UART_ANSWER_INIT_REFUSED ∷ code.UART_ANSWER_LOOPBACK_REFUSED
         ∷ code.UART_ANSWER_NOT_CONNECTED ∷ code.UART_ANSWER_NO_DATA ∷ code.UART_ANSWER_NOT_SENT
         ∷ code.UART_ANSWER_FRAME_REFUSED ∷ code.UART_ANSWER_ATTACH_REFUSED
-        ∷ code.UART_ANSWER_BYTES_WITH_ERRORS ∷ [])
-        ≡ (0 ∷ 1 ∷ 2 ∷ 3 ∷ 4 ∷ 5 ∷ 6 ∷ 7 ∷ 8 ∷ 9 ∷ 10 ∷ 11 ∷ 12 ∷ 13 ∷ 14 ∷ 15 ∷ 16 ∷ []) }
+        ∷ code.UART_ANSWER_BYTES_WITH_ERRORS ∷ code.UART_ANSWER_FRAME_WHEN_IDLE_REFUSED
+        ∷ code.UART_ANSWER_FIFOS_OFF ∷ [])
+        ≡ (0 ∷ 1 ∷ 2 ∷ 3 ∷ 4 ∷ 5 ∷ 6 ∷ 7 ∷ 8 ∷ 9 ∷ 10 ∷ 11 ∷ 12 ∷ 13 ∷ 14 ∷ 15 ∷ 16 ∷ 17
+        ∷ 18 ∷ []) }
     ensures init { (code.UART_INIT_DEVICE_NOT_PRESENT ∷ code.UART_INIT_INVALID_BAUD_RATE
         ∷ code.UART_INIT_STALLED ∷ [])
         ≡ (0 ∷ 1 ∷ 2 ∷ []) }
-    ensures frame { (code.UART_FRAME_NO_WHOLE_DIVISOR ∷ code.UART_FRAME_DIVISOR_OUT_OF_RANGE ∷ [])
-        ≡ (0 ∷ 1 ∷ []) }
+    ensures frame { (code.UART_FRAME_NO_WHOLE_DIVISOR ∷ code.UART_FRAME_DIVISOR_OUT_OF_RANGE
+        ∷ code.UART_FRAME_STALLED ∷ [])
+        ≡ (0 ∷ 1 ∷ 2 ∷ []) }
     ensures attach { (code.UART_ATTACH_DIVISOR_LATCH_OPEN ∷ code.UART_ATTACH_LOOPBACK ∷ [])
         ≡ (0 ∷ 1 ∷ []) }
     ensures loopback { (code.UART_LOOPBACK_SEND_ERROR ∷ code.UART_LOOPBACK_UNEXPECTED_BYTE

@@ -1,6 +1,6 @@
 //! The modem lines as plain data.
 ghost use Rattle.std.specs.Prelude.{◌≡◌, ◌==◌, not, bit_or};
-ghost use Rattle.uart_c.specs.State.{modem_of};
+ghost use Rattle.uart_c.specs.State.{modem_data, modem_of};
 ghost use Rattle.uart_chip.specs.Modem.{renew};
 
 use bitflags::Flags;
@@ -21,11 +21,7 @@ pub struct UartModem {
 fn restored(saved: UartModem) -> Modem
     ensures { result ≡ modem_of saved }
 {
-    Modem::from_data(ModemData {
-        inputs: MSR::from_bits_retain(saved.inputs),
-        lines: MSR::from_bits_retain(saved.lines),
-        deltas: MSR::from_bits_retain(saved.deltas),
-    })
+    Modem::from_data(saved.data())
 }
 
 // The lines as C keeps them.
@@ -41,6 +37,17 @@ fn saved(modem: &Modem) -> UartModem
 }
 
 impl UartModem {
+    /// The lines as a live chip saves them.
+    pub fn data(self) -> ModemData
+        ensures { result ≡ modem_data self }
+    {
+        ModemData {
+            inputs: MSR::from_bits_retain(self.inputs),
+            lines: MSR::from_bits_retain(self.lines),
+            deltas: MSR::from_bits_retain(self.deltas),
+        }
+    }
+
     /// Renews the lines under this modem control register.
     pub fn renew(&mut self, mcr: MCR)
         ensures { modem_of self.new ≡ renew mcr.0 (modem_of self.old) }

@@ -12,6 +12,8 @@ use uart_chip::{Character, Origin};
 use uart_spec::FIFO_SIZE;
 
 /// How many bytes a wire has room for, at most.
+// The layout of a struct of C rests on it, so this is not the number of `uart_live`, which may
+// change.
 pub const WIRE_ROOM: usize = 64;
 
 /// A flag of C: any number but 0 is true.

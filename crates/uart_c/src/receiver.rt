@@ -12,11 +12,9 @@ use crate::queue::{UartCharacter, UartCharacters, count, is_on, pop_front, push}
 use bitflags::Flags;
 use uart_chip::receiving::{ReceiverParts, characters_of};
 use uart_chip::{ArrivalMark, Character, Origin, Timeout, flag};
+use uart_live::sound::TIMEOUT_CHARACTERS;
 use uart_spec::FIFO_SIZE;
 use uart_spec::registers::{FifoTriggerLevel, LSR};
-
-/// The number of character times after which a reception timeout is due.
-pub const TIMEOUT_CHARACTERS: u16 = 4;
 
 /// What receives: characters wait in the queue for a read of the data register.
 #[repr(C)]

@@ -49,12 +49,17 @@ text_one text f a b l m after after' p q =
 pub meaning_leaves_no_choice : (call : Call) → IsRunnable call → LeavesNoChoice (doing_of (meaning call))
 meaning_leaves_no_choice call.Next ok = no_access_one
 meaning_leaves_no_choice (call.Init config) ok = changing_leaves_no_choice (ChangingCall.init config ok)
+meaning_leaves_no_choice (call.InitWith config setup) ok = changing_leaves_no_choice (ChangingCall.init_with setup config ok)
 meaning_leaves_no_choice (call.SetFrame config) ok = changing_leaves_no_choice (ChangingCall.set_frame config ok)
+meaning_leaves_no_choice (call.SetFrameWhenIdle config) ok = changing_leaves_no_choice (ChangingCall.set_frame_when_idle config ok)
+meaning_leaves_no_choice (call.SetTriggerLevel level) ok = changing_leaves_no_choice (ChangingCall.set_trigger_level level)
 meaning_leaves_no_choice call.Attach ok = changing_leaves_no_choice ChangingCall.attach
 meaning_leaves_no_choice (call.SetBreak on) ok = saving_leaves_no_choice (SavingCall.set_break on)
 meaning_leaves_no_choice (call.SetModemControl outputs) ok = saving_leaves_no_choice (SavingCall.set_modem_control outputs.0)
 meaning_leaves_no_choice (call.SetRts on) ok = saving_leaves_no_choice (SavingCall.set_output MCR.RTS.0 on)
 meaning_leaves_no_choice (call.SetDtr on) ok = saving_leaves_no_choice (SavingCall.set_output MCR.DTR.0 on)
+meaning_leaves_no_choice (call.Quiesce outputs fifos) ok = changing_leaves_no_choice (ChangingCall.quiesce outputs.0 fifos)
+meaning_leaves_no_choice (call.Restore dump) ok = changing_leaves_no_choice (ChangingCall.restore dump)
 meaning_leaves_no_choice call.TestLoopback ok = changing_leaves_no_choice ChangingCall.test_loopback
 meaning_leaves_no_choice call.CheckPresent ok = saving_leaves_no_choice SavingCall.check_present
 meaning_leaves_no_choice call.CheckConnected ok = saving_leaves_no_choice SavingCall.check_connected

@@ -6,7 +6,7 @@ use Rattle.uart_16550.specs.Choice.{PartAtRead, LeavesNoChoice, answers}
 use Rattle.uart_16550.specs.Grammar.{Language}
 use Rattle.uart_16550.specs.Driver.{Doing, Fields, Saving, fields}
 use Rattle.uart_calls.specs.Replay.{AnswersInTurn, FedBy, Repeats, RepeatsSaving}
-use Rattle.uart_calls.proofs.Replays.{fed_path, tapes_show}
+use Rattle.uart_calls.proofs.Replays.{fed_path, replays_show}
 use Rattle.uart_16550.proofs.determined.Repeated.{same_first}
 use Rattle.uart_16550.proofs.determined.Backends.{answers_append, saved}
 
@@ -54,7 +54,7 @@ repeat {R} {B} {G} {step} law a b old new before after p q same on_tape =
     same_call fed (inl (outcome, list, left)) = (
       outcome,
       left,
-      λ whole. (tapes_show before.backend after.backend q.list q.path whole).made ∙
+      λ whole. (replays_show before.backend after.backend q.list q.path whole).made ∙
           ap (λ l. before.backend.made ++ l) (sym list),
     )
     same_call fed (inr part) = absurd (never_part p.list q.list after.backend.answers fed part)

@@ -2,6 +2,8 @@
 use Rattle.std.specs.Prelude.{◌≡◌, ◌≤◌, ℕ, Bool, List, [], ◌∷◌, Result, Ok, Err, length}
 use Rattle.uart_spec.specs.declared.errors.ByteReceiveError.{ByteReceiveError}
 use Rattle.uart_spec.specs.declared.errors.ByteSendError.{ByteSendError}
+use Rattle.uart_spec.specs.declared.errors.FifosOffError.{FifosOffError}
+use Rattle.uart_spec.specs.declared.errors.FrameError.{FrameError}
 use Rattle.uart_spec.specs.declared.errors.InitError.{InitError}
 use Rattle.uart_spec.specs.declared.errors.InvalidDivisorError.{InvalidDivisorError}
 use Rattle.uart_spec.specs.declared.errors.LoopbackError.{LoopbackError}
@@ -16,6 +18,7 @@ use Rattle.uart_16550.specs.Receive.{ReadyToReceive, TryReceive, Receives, Recei
 use Rattle.uart_16550.specs.Transmit.{ReadyToSend, TrySends, Sends, SendsExact}
 use Rattle.uart_16550.specs.Init.{ChecksPresence, Inits}
 use Rattle.uart_16550.specs.Frame.{SetsFrame, ShowsIdle, SetsBreak, SetsControl, SetsOutput}
+use Rattle.uart_16550.specs.Setup.{InitsWith, SetsFrameWhenIdle, SetsTrigger, Quiesces, Restores}
 use Rattle.uart_16550.specs.Attach.{Attaches}
 use Rattle.uart_spec.specs.declared.errors.AttachError.{AttachError}
 use Rattle.uart_spec.specs.declared.registers.modem_control.TheConstants.MCR
@@ -33,6 +36,7 @@ use Rattle.uart_events.specs.declared.call.Answer.{Answer}
 use Rattle.uart_events.specs.declared.call.Answer.TheVariants.{Done, Flag, Count, Bytes, BytesWithErrors, Register}
 use Rattle.uart_events.specs.declared.call.Answer.TheVariants.{Latch, Dump, Stalled}
 use Rattle.uart_events.specs.declared.call.Answer.TheVariants.{ReceiveStalled, InitRefused, FrameRefused}
+use Rattle.uart_events.specs.declared.call.Answer.TheVariants.{FrameWhenIdleRefused, FifosOff}
 use Rattle.uart_events.specs.declared.call.Answer.TheVariants.{AttachRefused, LoopbackRefused}
 use Rattle.uart_events.specs.declared.call.Answer.TheVariants.{NotConnected, NoData, NotSent}
 use Rattle.uart_events.specs.declared.call.TheConstants.{CALL_BYTES}
@@ -53,6 +57,14 @@ init_answer (Err e) = InitRefused e
 abbrev pub frame_answer : Result (Unit {0}) InvalidDivisorError → Answer
 frame_answer (Ok x) = Done
 frame_answer (Err e) = FrameRefused e
+
+abbrev pub frame_when_idle_answer : Result (Unit {0}) FrameError → Answer
+frame_when_idle_answer (Ok x) = Done
+frame_when_idle_answer (Err e) = FrameWhenIdleRefused e
+
+abbrev pub trigger_answer : Result (Unit {0}) FifosOffError → Answer
+trigger_answer (Ok x) = Done
+trigger_answer (Err e) = FifosOff
 
 abbrev pub attach_answer : Result (ℕ × ℕ) AttachError → Answer
 attach_answer (Ok latch) = Latch latch.0 latch.1
@@ -147,12 +159,17 @@ tells_nothing doing = means {Outcome = Unit {0}} (λ outcome. doing) (λ outcome
 abbrev pub meaning : Call → Meaning
 meaning call.Next = tells_nothing MakesNoAccess
 meaning (call.Init config) = means (Inits config) init_answer
+meaning (call.InitWith config setup) = means (InitsWith setup config) init_answer
 meaning (call.SetFrame config) = means (SetsFrame config) frame_answer
+meaning (call.SetFrameWhenIdle config) = means (SetsFrameWhenIdle config) frame_when_idle_answer
+meaning (call.SetTriggerLevel level) = means (SetsTrigger level) trigger_answer
 meaning call.Attach = means Attaches attach_answer
 meaning (call.SetBreak on) = tells_nothing (Saving (SetsBreak on))
 meaning (call.SetModemControl outputs) = tells_nothing (Saving (SetsControl outputs.0))
 meaning (call.SetRts on) = tells_nothing (Saving (SetsOutput MCR.RTS.0 on))
 meaning (call.SetDtr on) = tells_nothing (Saving (SetsOutput MCR.DTR.0 on))
+meaning (call.Quiesce outputs fifos) = tells_nothing (Quiesces outputs.0 fifos)
+meaning (call.Restore dump) = tells_nothing (Restores dump)
 meaning call.TestLoopback = means TestsLoopback loopback_answer
 meaning call.CheckPresent = saves ChecksPresence Flag
 meaning call.CheckConnected = saves Connects connected_answer

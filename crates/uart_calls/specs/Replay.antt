@@ -10,7 +10,7 @@ use Rattle.uart_16550.specs.declared.driver.Uart16550.{Uart16550}
 use Rattle.uart_calls.specs.declared.replay.TheConstants.{REPLAY_ROOM}
 
 -- the answers that are left, the accesses that were made, and whether all of them were kept
-pub record Tape : Type 0 where
+pub record Replay : Type 0 where
   pub answers : List ℕ
   pub made : List Access
   pub whole : Bool
@@ -22,7 +22,7 @@ AnswersInTurn (byte ∷ bytes) (Read offset answer) left = (answer ≡ byte) × 
 AnswersInTurn bytes (Write offset value) left = left ≡ bytes
 
 -- a read returns the next answer, or 0 if none is left; and the access is kept, as long as there is room
-pub record Plays (old : Tape) (access : Access) (new : Tape) : Type 0 where
+pub record ReplayStep (old : Replay) (access : Access) (new : Replay) : Type 0 where
   pub answers : AnswersInTurn old.answers access new.answers
   pub whole : new.whole ≡ (old.whole && nat_lt (length old.made) REPLAY_ROOM)
   pub made : new.whole ≡ true → new.made ≡ old.made ++ access ∷ []
@@ -33,40 +33,40 @@ FedBy answers [] left = left ≡ answers
 FedBy answers (access ∷ accesses) left =
     (between : List ℕ) × AnswersInTurn answers access between × FedBy between accesses left
 
--- these accesses were added to the tape, and their reads returned its answers
-pub record Shows (old : Tape) (list : List Access) (new : Tape) : Type 0 where
+-- these accesses were added, and their reads returned the answers in turn
+pub record Shows (old : Replay) (list : List Access) (new : Replay) : Type 0 where
   pub made : new.made ≡ old.made ++ list
   pub fed : FedBy old.answers list new.answers
 
--- a tape that is whole shows the accesses that led to it
-abbrev pub TapesShow : Type 0
-TapesShow =
-    (old new : Tape) (list : List Access) → Path Plays old list new → new.whole ≡ true → Shows old list new
+-- a replay that is whole shows the accesses that led to it
+abbrev pub ReplaysShow : Type 0
+ReplaysShow =
+    (old new : Replay) (list : List Access) → Path ReplayStep old list new → new.whole ≡ true → Shows old list new
 
--- if the tape is whole after a call, what it shows is a list of the call
-abbrev pub Replayed : Doing → Uart16550 Tape → Uart16550 Tape → Type 0
+-- if the replay is whole after a call, what it shows is a list of the call
+abbrev pub Replayed : Doing → Uart16550 Replay → Uart16550 Replay → Type 0
 Replayed G old new =
     new.backend.whole ≡ true →
     (list : List Access) × G (fields old) list (fields new) × Shows old.backend list new.backend
 
--- a call with outcome b over a tape repeats one with outcome a and this list, if it starts from equal fields, over a
--- tape with what the reads of that list returned: the outcomes and the fields after it are equal, and the tape, if it
--- is whole, shows the list
+-- a call with outcome b over a replay repeats one with outcome a and this list, if it starts from equal fields, over a
+-- replay with what the reads of that list returned: the outcomes and the fields after it are equal, and the replay, if
+-- it is whole, shows the list
 abbrev pub IsRepeated : {R B : Type 0} → (a b : R) → List Access → (old new : Uart16550 B) →
-    (before after : Uart16550 Tape) → Type 0
+    (before after : Uart16550 Replay) → Type 0
 IsRepeated a b list old new before after =
     fields old ≡ fields before → before.backend.answers ≡ answers list →
     (a ≡ b) × (fields new ≡ fields after)
     × (after.backend.whole ≡ true → after.backend.made ≡ before.backend.made ++ list)
 
--- two calls, the second over a tape
+-- two calls, the second over a replay
 abbrev pub Repeats : {R B : Type 0} → (R → Doing) → (B → Access → B → Type 0) → Type 0
 Repeats {R} {B} G step =
-    (a b : R) (old new : Uart16550 B) (before after : Uart16550 Tape) → (p : Did step (G a) old new) →
-    Did Plays (G b) before after → IsRepeated a b p.list old new before after
+    (a b : R) (old new : Uart16550 B) (before after : Uart16550 Replay) → (p : Did step (G a) old new) →
+    Did ReplayStep (G b) before after → IsRepeated a b p.list old new before after
 
 -- a replay that is fed by a call which saves what its reads clear, and changes nothing else, repeats it
 abbrev pub RepeatsSaving : {R B : Type 0} → (R → Language) → (B → Access → B → Type 0) → Type 0
 RepeatsSaving {R} {B} L step =
-    (a b : R) (old new : Uart16550 B) (before after : Uart16550 Tape) → (p : Made step (L a) old new) →
-    Made Plays (L b) before after → IsRepeated a b p.list old new before after
+    (a b : R) (old new : Uart16550 B) (before after : Uart16550 Replay) → (p : Made step (L a) old new) →
+    Made ReplayStep (L b) before after → IsRepeated a b p.list old new before after

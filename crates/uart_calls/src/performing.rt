@@ -4,6 +4,7 @@ ghost use Rattle.uart_spec.specs.Config.{IsComputable};
 ghost use Rattle.uart_events.specs.Calls.{IsRunnable};
 ghost use Rattle.uart_calls.specs.Meaning.{Called, Performed, meaning};
 ghost use Rattle.uart_calls.specs.Meaning.{attach_answer, frame_answer, loopback_answer, connected_answer};
+ghost use Rattle.uart_calls.specs.Meaning.{frame_when_idle_answer, trigger_answer};
 ghost use Rattle.uart_calls.specs.Meaning.{receive_ready_answer, received_answer, sent_answer};
 ghost use Rattle.uart_calls.specs.Meaning.{exact_answer, count_answer, ready_answer};
 
@@ -14,8 +15,8 @@ use uart_16550::embedded_io::{Read, ReadReady, Write, WriteReady};
 use uart_16550::{Uart16550, Uart16550Tty};
 use uart_events::{Answer, CALL_BYTES, Call};
 use uart_spec::{
-    AttachError, ByteReceiveError, ByteSendError, Config, InitError, InvalidDivisorError,
-    LoopbackError, Received, RemoteReadyToReceiveError, StalledError,
+    AttachError, ByteReceiveError, ByteSendError, Config, FifosOffError, FrameError, InitError,
+    InvalidDivisorError, LoopbackError, Received, RemoteReadyToReceiveError, Setup, StalledError,
 };
 
 /// Makes one call of the driver, over any backend, and returns its answer. Allocates no memory.
@@ -38,7 +39,12 @@ pub fn perform<B: Backend>(uart: &mut Uart16550Tty<B>, call: &Call) -> Answer
     match call {
         Call::Next => Answer::Done,
         Call::Init(config) => init(uart.inner_mut(), config),
+        Call::InitWith(config, setup) => init_with(uart.inner_mut(), config, setup),
         Call::SetFrame(config) => framed(uart.inner_mut().set_frame(config)),
+        Call::SetFrameWhenIdle(config) => {
+            framed_when_idle(uart.inner_mut().set_frame_when_idle(config))
+        }
+        Call::SetTriggerLevel(level) => levelled(uart.inner_mut().set_trigger_level(*level)),
         Call::Attach => attached(uart.inner_mut().attach()),
         Call::SetBreak(on) => {
             uart.inner_mut().set_break(*on);
@@ -54,6 +60,14 @@ pub fn perform<B: Backend>(uart: &mut Uart16550Tty<B>, call: &Call) -> Answer
         }
         Call::SetDtr(on) => {
             uart.inner_mut().set_dtr(*on);
+            Answer::Done
+        }
+        Call::Quiesce(outputs, fifos) => {
+            uart.inner_mut().quiesce(*outputs, *fifos);
+            Answer::Done
+        }
+        Call::Restore(dump) => {
+            uart.inner_mut().restore(dump);
             Answer::Done
         }
         Call::TestLoopback => tested(uart.inner_mut().test_loopback()),
@@ -133,6 +147,17 @@ fn init<B: Backend>(uart: &mut Uart16550<B>, config: &Config) -> Answer
     }
 }
 
+fn init_with<B: Backend>(uart: &mut Uart16550<B>, config: &Config, setup: &Setup) -> Answer
+    requires { IsComputable config.now }
+    ensures { Called B.step (meaning (Call.InitWith config.now setup.now)) result
+        uart.old uart.new }
+{
+    match uart.init_with(Config { ..*config }, setup) {
+        Ok(()) => Answer::Done,
+        Err(error) => Answer::InitRefused(error),
+    }
+}
+
 // Calls that receive into slots.
 fn receive<B: Backend>(uart: &mut Uart16550<B>, slots: &mut [u8]) -> Answer
     requires { length slots.old ≤ CALL_BYTES }
@@ -178,6 +203,24 @@ fn framed(outcome: Result<(), InvalidDivisorError>) -> Answer
     match outcome {
         Ok(()) => Answer::Done,
         Err(error) => Answer::FrameRefused(error),
+    }
+}
+
+fn framed_when_idle(outcome: Result<(), FrameError>) -> Answer
+    ensures { result ≡ frame_when_idle_answer outcome }
+{
+    match outcome {
+        Ok(()) => Answer::Done,
+        Err(error) => Answer::FrameWhenIdleRefused(error),
+    }
+}
+
+fn levelled(outcome: Result<(), FifosOffError>) -> Answer
+    ensures { result ≡ trigger_answer outcome }
+{
+    match outcome {
+        Ok(()) => Answer::Done,
+        Err(_) => Answer::FifosOff,
     }
 }
 

@@ -7,7 +7,7 @@
 //! second program is needed that computes a call's list.
 ghost use Rattle.std.specs.Prelude.{◌≡◌, true, false, ◌&&◌, [], ◌∷◌, ◌++◌};
 ghost use Rattle.std.specs.Prelude.{nat_lt, length, IfSome, IsNone};
-ghost use Rattle.uart_calls.specs.Replay.{Plays, TapesShow};
+ghost use Rattle.uart_calls.specs.Replay.{ReplayStep, ReplaysShow};
 
 use arrayvec::ArrayVec;
 use std::marker::Model;
@@ -28,9 +28,9 @@ pub struct Replay<'a> {
 }
 
 impl<'a> Model for Replay<'a> {
-    ghost use Rattle.uart_calls.specs.Replay.{Tape};
+    ghost use Rattle.uart_calls.specs.Replay.{Replay};
 
-    ghost Value = { Tape };
+    ghost Value = { Replay };
 
     ghost view = { λ r. record {
       answers = r.answers.now;
@@ -85,7 +85,7 @@ impl<'a> Replay<'a> {
 }
 
 impl Backend for Replay<'_> {
-    ghost step = { Plays };
+    ghost step = { ReplayStep };
 
     fn read(&mut self, register_offset: u8) -> u8 {
         let answer = match self.answers {
@@ -108,7 +108,7 @@ impl Backend for Replay<'_> {
 /// bytes in turn.
 ///
 /// This is a law that callers can cite. The function does nothing.
-#[tactic(auto, using(crate::proofs::Replays::tapes_show))]
+#[tactic(auto, using(crate::proofs::Replays::replays_show))]
 pub fn replays_show_their_accesses()
-    ensures { TapesShow }
+    ensures { ReplaysShow }
 {}

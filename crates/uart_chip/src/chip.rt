@@ -12,8 +12,8 @@ ghost use Rattle.uart_events.specs.declared.event.TheConstants.{MAX_CHAR_TICKS};
 ghost use Rattle.uart_spec.specs.declared.baud.TheConstants.{FIFO_SIZE, NUM_REGISTERS};
 
 use crate::controlling::{
-    ChipParts, advance, arrive_live, change_lines, cut, divisor, is_interrupting, is_loopback,
-    read, receive_room, tick, write,
+    ChipParts, advance, arrive_live, change_lines, cut, divisor, is_dlab_set, is_interrupting,
+    is_loopback, read, receive_room, tick, write,
 };
 use crate::fifo::{Fifo, HeapFifo};
 use crate::journal::{Journal, Marks};
@@ -213,6 +213,20 @@ impl<B: Fifo<u8> + Drop, W: Wire + Drop, C: Fifo<Character> + Drop, J: Journal +
         self.fifo
     }
 
+    /// Returns whether what is sent comes back to the receiver.
+    pub fn is_loopback(&self) -> bool
+        ensures { result ≡ spec.is_loopback self.now.latches }
+    {
+        is_loopback(self)
+    }
+
+    /// Returns whether DATA and IER are the divisor latch.
+    pub fn is_dlab_set(&self) -> bool
+        ensures { result ≡ spec.is_dlab_set self.now.latches }
+    {
+        is_dlab_set(self)
+    }
+
     /// Returns the divisor in the divisor latch.
     pub fn divisor(&self) -> u16
         ensures { result ≡ spec.divisor self.now.latches }
@@ -318,6 +332,7 @@ impl<B: Fifo<u8> + Drop, W: Wire + Drop, C: Fifo<Character> + Drop, J: Journal +
 
     /// Reads the register at this offset: returns its value, and has the effect of the read on the
     /// chip.
+    #[inline]
     pub fn read(&mut self, offset: u8) -> u8
         requires { offset < NUM_REGISTERS }
         ensures answers { result ≡ spec.answer offset self.old }

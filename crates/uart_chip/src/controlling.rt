@@ -30,6 +30,10 @@ use uart_spec::registers::{
 
 /// What a chip is made of: its model, the registers that keep what is written to them, a
 /// transmitter, a receiver and the modem lines, and how each is read and changed.
+// Two types have such parts: `Uart`, and the struct of the library for C. Of the struct any bytes
+// are legal, so its flags are bytes and its lengths may be beyond their arrays: it can be no
+// `Uart`. A `Uart` that is filled from it in each call would more than double what a read of LSR
+// costs.
 pub trait ChipParts {
     /// The transmitter.
     type Transmitter: TransmitterParts;
@@ -206,7 +210,8 @@ pub fn divisor<P: ChipParts>(parts: &P) -> u16
     latches.dlm as u16 * 256 + latches.dll as u16
 }
 
-fn is_dlab_set<P: ChipParts>(parts: &P) -> bool
+/// Returns whether DATA and IER are the divisor latch.
+pub fn is_dlab_set<P: ChipParts>(parts: &P) -> bool
     ensures { result ≡ spec.is_dlab_set (P.state parts.now).latches }
 {
     parts.lcr().intersects(LCR::DLAB)

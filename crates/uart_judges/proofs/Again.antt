@@ -126,6 +126,26 @@ waits_asked_twice : (b : Bool) (d : Option Bool) (waits : Bool) →
 waits_asked_twice true d waits = waits_twice d waits
 waits_asked_twice false d waits = refl
 
+-- whether LSR was read since
+looked_read : (b c looked : Bool) →
+    let once = if b then false else if c then true else looked in
+    (if b then false else if c then true else once) ≡ once
+looked_read true c looked = refl
+looked_read false true looked = refl
+looked_read false false looked = refl
+
+looked_asked : (b c looked : Bool) →
+    let once = if b then false else if c then true else looked in
+    (if b then false else once) ≡ once
+looked_asked true c looked = refl
+looked_asked false c looked = refl
+
+looked_asked_twice : (b looked : Bool) →
+    let once = if b then false else looked in
+    (if b then false else once) ≡ once
+looked_asked_twice true looked = refl
+looked_asked_twice false looked = refl
+
 -- ---- all that is known
 
 read_twice : (offset value : ℕ) (k : Known) → after_read offset value (after_read offset value k) ≡ after_read offset value k
@@ -136,6 +156,7 @@ read_twice offset value k = λ i. record (after_read offset value k) {
   waits =
       waits_read (offset == offsets.DATA) (offset == offsets.LSR) value k.latches (other_read offset value k.latches)
       (has_any value LSR.DATA_READY.0) k.waits i;
+  is_looked = looked_read (offset == offsets.DATA) (offset == offsets.LSR) k.is_looked i;
 }
 
 read_asked : (offset value : ℕ) (k : Known) → after_asking offset (after_read offset value k) ≡ after_read offset value k
@@ -143,17 +164,24 @@ read_asked offset value k = λ i. record (after_read offset value k) {
   waits =
       waits_asked (offset == offsets.DATA) (offset == offsets.LSR) value k.latches (other_read offset value k.latches)
       (has_any value LSR.DATA_READY.0) k.waits i;
+  is_looked = looked_asked (offset == offsets.DATA) (offset == offsets.LSR) k.is_looked i;
 }
 
 asked_twice : (offset : ℕ) (k : Known) → after_asking offset (after_asking offset k) ≡ after_asking offset k
-asked_twice offset k = λ i. record k { waits = waits_asked_twice (offset == offsets.DATA) (dlab k.latches) k.waits i }
+asked_twice offset k = λ i. record k {
+  waits = waits_asked_twice (offset == offsets.DATA) (dlab k.latches) k.waits i;
+  is_looked = looked_asked_twice (offset == offsets.DATA) k.is_looked i;
+}
 
 -- a read whose value is left out changes nothing that a rule for it is about
 broken_asked : (offset value : ℕ) (k : Known) → broken offset value (after_asking offset k) ≡ broken offset value k
 broken_asked offset value k = go (offset == offsets.DATA) refl
   where
     asked : Bool → Known
-    asked b = record k { waits = if b then waits_after (dlab k.latches) k.waits else k.waits }
+    asked b = record k {
+      waits = if b then waits_after (dlab k.latches) k.waits else k.waits;
+      is_looked = if b then false else k.is_looked;
+    }
 
     go : (b : Bool) → (offset == offsets.DATA) ≡ b → broken offset value (asked (offset == offsets.DATA)) ≡ broken offset value k
     go false e = ap (λ (b : Bool). broken offset value (asked b)) e

@@ -54,7 +54,15 @@ holds_built model m b = rw b.built (record {
 
 -- nothing is known but the model
 abbrev only_model : Chip → Known
-only_model model = record { model = model; latches = first_latches InUse; fifo = None; sender = Unknown; waits = false }
+only_model model =
+    record {
+      model = model;
+      latches = first_latches InUse;
+      fifo = None;
+      sender = Unknown;
+      waits = false;
+      is_looked = false;
+    }
 
 holds_model : (c : ChipState) → Holds (only_model c.model) c
 holds_model c = record {

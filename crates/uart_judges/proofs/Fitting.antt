@@ -217,7 +217,9 @@ module _ (k : Known) (c : ChipState) (h : Holds k c) where
   still_waits true w = rw (status_data c, w refl) refl
 
   receiver_kept : broken_receiver (line_status c) k ≡ None
-  receiver_kept = quiet _ _ _ (alone c c.receiver.queue refl) (fifo_quiet k.fifo h.fifo) (still_waits k.waits h.waits)
+  receiver_kept =
+      quiet _ _ _ (second_false k.is_looked _ (alone c c.receiver.queue refl)) (fifo_quiet k.fifo h.fifo)
+      (still_waits k.waits h.waits)
     where
       quiet : (a b d : Bool) → a ≡ false → b ≡ false → d ≡ false →
           (if a then Some ErrorAlone else if b then Some FifoError else if d then Some StillWaits else None) ≡ None

@@ -4,9 +4,6 @@ pub mod Read
 pub mod Filled
 pub mod Steps
 pub mod Shown
-pub mod Known
-pub mod Settled
-pub mod Repeated
 pub mod Between
 pub mod Holding
 pub mod LatchesHold
@@ -15,4 +12,5 @@ pub mod Looped
 pub mod Fitting
 pub mod Explaining
 pub mod Again
+pub mod Audited
 mod Printed

@@ -37,6 +37,7 @@ first_known model start =
       fifo = first_fifo model start;
       sender = first_sender start;
       waits = false;
+      is_looked = false;
     }
 
 -- this, or if it is not known the other
@@ -70,12 +71,16 @@ after_read offset value k =
           if offset == offsets.DATA then waits_after (dlab k.latches) k.waits
           else if offset == offsets.LSR then has_any value LSR.DATA_READY.0
           else k.waits;
+      is_looked = if offset == offsets.DATA then false else if offset == offsets.LSR then true else k.is_looked;
     }
 
 -- what is known after a read, whatever it returned
 abbrev pub after_asking : ℕ → Known → Known
 after_asking offset k =
-    record k { waits = if offset == offsets.DATA then waits_after (dlab k.latches) k.waits else k.waits }
+    record k {
+      waits = if offset == offsets.DATA then waits_after (dlab k.latches) k.waits else k.waits;
+      is_looked = if offset == offsets.DATA then false else k.is_looked;
+    }
 
 -- ---- a write
 
@@ -98,4 +103,5 @@ after_write offset value k =
       fifo = if offset == offsets.FCR then fifo_after k.model value k.fifo else k.fifo;
       sender = if offset == offsets.DATA then sender_after (dlab k.latches) k.sender else k.sender;
       waits = if offset == offsets.FCR then false else k.waits;
+      is_looked = if offset == offsets.FCR then false else k.is_looked;
     }

@@ -13,9 +13,10 @@ pub mod Actions
 pub mod Shows
 pub mod History
 pub mod Findings
-pub mod Judging
+pub mod Setups
+pub mod Steps
+pub mod Unread
 pub mod Severities
-pub mod Reads
 pub mod Latches
 pub mod Known
 pub mod Rules

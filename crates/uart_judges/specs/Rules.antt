@@ -86,10 +86,15 @@ broken_isr value k =
 abbrev pub character_bits : ℕ
 character_bits = LSR.CHARACTER_ERRORS.0 + LSR.FIFO_DATA_ERROR.0
 
--- the first rule that the receiver's bits break
+-- an error of a character is shown, and none waits
+abbrev pub has_error_alone : ℕ → Bool
+has_error_alone lsr = not (has_any lsr LSR.DATA_READY.0) && has_any lsr character_bits
+
+-- the first rule that the receiver's bits break: of a chip whose errors LSR has cleared, none is set while no character
+-- waits
 abbrev pub broken_receiver : ℕ → Known → Option Rule
 broken_receiver lsr k =
-    if not (has_any lsr LSR.DATA_READY.0) && has_any lsr character_bits then Some ErrorAlone
+    if k.is_looked && has_error_alone lsr then Some ErrorAlone
     else if has_any lsr LSR.FIFO_DATA_ERROR.0 && not (known_or k.fifo true) then Some FifoError
     else if k.waits && not (has_any lsr LSR.DATA_READY.0) then Some StillWaits
     else None

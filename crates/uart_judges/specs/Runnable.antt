@@ -6,6 +6,7 @@ use Rattle.uart_events.specs.declared.call.Call.TheVariants as call
 
 pub runnable_is_one : (call : Call) → IsProp (IsRunnable call)
 runnable_is_one (call.Init config) = hlevel props
+runnable_is_one (call.InitWith config setup) = hlevel props
 runnable_is_one (call.Receive count) = hlevel props
 runnable_is_one (call.ReceiveExact count) = hlevel props
 runnable_is_one (call.ReceiveWithErrors count) = hlevel props

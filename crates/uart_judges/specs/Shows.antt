@@ -27,12 +27,11 @@ use Rattle.uart_spec.specs.declared.registers.line_status.TheConstants.LSR as ls
 use Rattle.uart_spec.specs.declared.registers.modem_control.MCR.{MCR}
 use Rattle.uart_spec.specs.declared.registers.modem_status.TheConstants.MSR as msr_bits
 use Rattle.uart_judges.specs.declared.audit.action.Action.{Action}
-use Rattle.uart_judges.specs.declared.audit.action.Action.TheVariants.{Receives, Sends, SetsDivisorLow}
+use Rattle.uart_judges.specs.declared.audit.action.Action.TheVariants.{Receives, Sends, ReadsDivisor, SetsDivisorLow}
 use Rattle.uart_judges.specs.declared.audit.action.Action.TheVariants.{SetsDivisorHigh, EnablesInterrupts}
-use Rattle.uart_judges.specs.declared.audit.action.Action.TheVariants.{IdentifiesInterrupt}
+use Rattle.uart_judges.specs.declared.audit.action.Action.TheVariants.{ShowsInterrupts, IdentifiesInterrupt}
 use Rattle.uart_judges.specs.declared.audit.action.Action.TheVariants.{ControlsFifo, ReadsLine, SetsLine, ReadsModem}
-use Rattle.uart_judges.specs.declared.audit.action.Action.TheVariants.{SetsModem}
-use Rattle.uart_judges.specs.declared.audit.action.Action.TheVariants.{LooksAtLine, LooksAtModem}
+use Rattle.uart_judges.specs.declared.audit.action.Action.TheVariants.{SetsModem, LooksAtLine, LooksAtModem, Arrives}
 
 -- the interrupt that a value of ISR identifies, if one is pending
 abbrev pub identified : ISR → Option InterruptType
@@ -57,7 +56,7 @@ sends _ = false
 
 -- a byte is taken from the receiver
 abbrev pub receives : Action → Bool
-receives Receives = true
+receives (Receives byte) = true
 receives _ = false
 
 -- LSR is read
@@ -65,36 +64,62 @@ abbrev pub looks_at_line : Action → Bool
 looks_at_line (LooksAtLine lsr) = true
 looks_at_line _ = false
 
--- nothing is going out
-abbrev pub shows_idle : Action → Bool
-shows_idle (LooksAtLine lsr) = has lsr.0 lsr_bits.TRANSMITTER_EMPTY.0
-shows_idle _ = false
-
--- whether a look at LSR shows a received byte
-abbrev pub ready_of : Action → Option Bool
-ready_of (LooksAtLine lsr) = Some (has lsr.0 lsr_bits.DATA_READY.0)
-ready_of _ = None
-
 -- MSR is read
 abbrev pub looks_at_modem : Action → Bool
 looks_at_modem (LooksAtModem msr) = true
 looks_at_modem _ = false
 
--- ISR is read
-abbrev pub identifies : Action → Bool
-identifies (IdentifiesInterrupt isr) = true
-identifies _ = false
+-- a character arrives
+abbrev pub arrives : Action → Bool
+arrives (Arrives byte errors) = true
+arrives _ = false
+
+-- FCR is written
+abbrev pub controls_fifo : Action → Bool
+controls_fifo (ControlsFifo fcr) = true
+controls_fifo _ = false
+
+-- MCR is written
+abbrev pub sets_modem : Action → Bool
+sets_modem (SetsModem mcr) = true
+sets_modem _ = false
+
+-- IER, FCR, LCR or MCR is written
+abbrev pub configures : Action → Bool
+configures (EnablesInterrupts ier) = true
+configures (ControlsFifo fcr) = true
+configures (SetsLine lcr) = true
+configures (SetsModem mcr) = true
+configures _ = false
+
+-- the interrupt that is identified, if ISR is read
+abbrev pub identified_by : Action → Option InterruptType
+identified_by (IdentifiesInterrupt isr) = identified isr
+identified_by _ = None
+
+-- ISR shows that no interrupt is pending
+abbrev pub shows_none : Action → Bool
+shows_none (IdentifiesInterrupt isr) = has isr.0 isr_bits.INTERRUPT_STATUS.0
+shows_none _ = false
 
 -- the interrupt is that the transmitter is empty
 abbrev pub is_thr_empty : Option InterruptType → Bool
 is_thr_empty (Some TransmitterHoldingRegisterEmpty) = true
 is_thr_empty _ = false
 
--- the transmitter has room: LSR shows THR_EMPTY, or ISR that interrupt
-abbrev pub shows_room : Action → Bool
-shows_room (LooksAtLine lsr) = has lsr.0 lsr_bits.THR_EMPTY.0
-shows_room (IdentifiesInterrupt isr) = is_thr_empty (identified isr)
-shows_room _ = false
+-- ISR identifies that the transmitter is empty
+abbrev pub identifies_thr_empty : Action → Bool
+identifies_thr_empty x = is_thr_empty (identified_by x)
+
+-- THR is shown to be empty: LSR has THR_EMPTY, or ISR identifies that interrupt
+abbrev pub shows_thr_empty : Action → Bool
+shows_thr_empty (LooksAtLine lsr) = has lsr.0 lsr_bits.THR_EMPTY.0
+shows_thr_empty x = identifies_thr_empty x
+
+-- nothing is going out: LSR has TRANSMITTER_EMPTY
+abbrev pub shows_idle : Action → Bool
+shows_idle (LooksAtLine lsr) = has lsr.0 lsr_bits.TRANSMITTER_EMPTY.0
+shows_idle _ = false
 
 -- whether the FIFOs are on: a write of FCR sets it, and a read of ISR shows it
 abbrev pub fifo_of : Action → Option Bool
@@ -128,15 +153,26 @@ abbrev pub sets_low : Action → Bool
 sets_low (SetsDivisorLow value) = true
 sets_low _ = false
 
+-- the high byte of the divisor is written
+abbrev pub sets_high : Action → Bool
+sets_high (SetsDivisorHigh value) = true
+sets_high _ = false
+
+-- the latch is opened, or a byte of the divisor is read
+abbrev pub begins_divisor : Action → Bool
+begins_divisor ReadsDivisor = true
+begins_divisor x = opens x
+
 -- the value of MCR that is written or read
 abbrev pub modem_of : Action → Option MCR
 modem_of (SetsModem mcr) = Some mcr
 modem_of (ReadsModem mcr) = Some mcr
 modem_of _ = None
 
--- the value of IER that is written
+-- the value of IER that is written or read
 abbrev pub interrupts_of : Action → Option IER
 interrupts_of (EnablesInterrupts ier) = Some ier
+interrupts_of (ShowsInterrupts ier) = Some ier
 interrupts_of _ = None
 
 -- a write of IER without this bit
@@ -148,27 +184,3 @@ disables bit _ = false
 abbrev pub trigger_of : Action → Option FifoTriggerLevel
 trigger_of (ControlsFifo fcr) = if has fcr.0 fcr_bits.FIFO_ENABLE.0 then Some (level_of fcr) else None
 trigger_of _ = None
-
--- the receiver FIFO is reset
-abbrev pub resets_receiver : Action → Bool
-resets_receiver (ControlsFifo fcr) = has fcr.0 fcr_bits.RX_FIFO_RESET.0
-resets_receiver _ = false
-
--- what an interrupt asks for is done, or the interrupt is disabled
-abbrev pub serves : InterruptType → Action → Bool
-serves ReceiverLineStatus x = looks_at_line x || disables ier_bits.RECEIVER_LINE_STATUS.0 x
-serves ReceivedDataReady x = receives x || (resets_receiver x || disables ier_bits.DATA_READY.0 x)
-serves ReceptionTimeout x = receives x || (resets_receiver x || disables ier_bits.DATA_READY.0 x)
-serves TransmitterHoldingRegisterEmpty x = sends x || disables ier_bits.THR_EMPTY.0 x
-serves ModemStatus x = looks_at_modem x || disables ier_bits.MODEM_STATUS.0 x
-serves DmaReceptionEndOfTransfer x = true
-serves DmaTransmissionEndOfTransfer x = true
-
--- whether this is a reason for an interrupt with that bit of IER
-abbrev pub is_reason : Action → ℕ → Bool
-is_reason (LooksAtLine lsr) bit =
-    (has lsr.0 lsr_bits.DATA_READY.0 && (bit == ier_bits.DATA_READY.0))
-    || ((has lsr.0 lsr_bits.THR_EMPTY.0 && (bit == ier_bits.THR_EMPTY.0))
-    || (has_any lsr.0 lsr_bits.LINE_ERRORS.0 && (bit == ier_bits.RECEIVER_LINE_STATUS.0)))
-is_reason (LooksAtModem msr) bit = has_any msr.0 msr_bits.CHANGES.0 && (bit == ier_bits.MODEM_STATUS.0)
-is_reason _ bit = false

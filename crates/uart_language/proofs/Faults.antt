@@ -1,6 +1,6 @@
 -- The parser reports the fault of a line according to the definition of the language.
-use Rattle.std.proofs.Common.{◌≡◌, ℕ, suc, ◌≤◌, Bool, true, false, not, cond, eqb, ◌&&◌, List, [], ◌∷◌, length, drop, Option, Some, None}
-use Rattle.std.proofs.Common.{Result, Ok, Err, refl, sym, ap, subst, ◌∙◌, arith}
+use Rattle.std.proofs.Common.{◌≡◌, ℕ, suc, ◌≤◌, Bool, true, false, not, cond, eqb, ◌&&◌, List, [], ◌∷◌, ◌++◌, length, drop, Option, Some}
+use Rattle.std.proofs.Common.{None, Result, Ok, Err, refl, sym, ap, subst, ◌∙◌, arith}
 use Rattle.std.specs.Prelude.{codes, bytes_eq}
 use Rattle.std.proofs.lemmas.Slice.Eq.{bytes_eq-Decides}
 use Rattle.std.proofs.lemmas.Bool.{eqb-true, le-ltb}
@@ -17,10 +17,12 @@ use Rattle.uart_language.specs.declared.words.Word.TheVariants as word
 use Rattle.uart_language.specs.Text.{words_of, word_at, has_bad_byte}
 use Rattle.uart_language.specs.Fields.{◌>>=◌, count_in, limit_in, ticks_in, char_ticks_in, wire_capacity_in, byte_in, lines_in, bytes_in}
 use Rattle.uart_language.specs.Fields.{text_in, errors_in, chip_in, cut_in, level_in, rate_in, cts_in, interrupts_in, word_length_in}
+use Rattle.uart_language.specs.Fields.{check_in, wait_in, outputs_in, trigger_in, switch_in, fifos_in, dump_in}
 use Rattle.uart_language.specs.Words.{name_of, word_of, fault_of, fields_of, has_count, is_placed}
-use Rattle.uart_language.specs.Sayings.{Nothing, Limit, Calls, Happens, configured, array_of, text_of}
+use Rattle.uart_language.specs.Sayings.{Nothing, Limit, Calls, Happens, configured, framed, arranged, array_of, text_of}
 use Rattle.uart_language.specs.Script.{IsHeader, option_words, fault_where, first_of, field_faults, word_faults, fault_at}
-use Rattle.uart_language.specs.Items.{config_in, arrival_in, call_of, item_of, placed_word, starts_with, item_at, header_in, header_at}
+use Rattle.uart_language.specs.Items.{config_in, setup_in, arrival_in, call_of, item_of, placed_word, starts_with}
+use Rattle.uart_language.specs.Items.{item_at, header_in, header_at}
 use Rattle.uart_language.proofs.Meanings.{not_first, neither, name_is}
 
 -- ---- the fields of a line
@@ -107,6 +109,50 @@ config_fault name (F ∷ BAUD ∷ C ∷ HH ∷ BITS ∷ []) c =
     ∙ five_fault (level_in F) (rate_in BAUD) (cts_in C) (interrupts_in HH) (word_length_in BITS) configured
 config_fault name (F ∷ BAUD ∷ C ∷ HH ∷ BITS ∷ X ∷ rest) c = absurd (omega (arith, eqb-true _ _ c))
 
+-- faults in two parts
+first_parts : (xs ys : List (Option Cause)) → first_of (first_of xs ∷ first_of ys ∷ []) ≡ first_of (xs ++ ys)
+first_parts [] ys = alone (first_of ys)
+first_parts (None ∷ xs) ys = first_parts xs ys
+first_parts (Some c ∷ xs) ys = refl
+
+set_up_fault : (name : List ℕ) (rest : List (List ℕ)) → has_count word.InitWith (suc (length rest)) ≡ true
+    → fault_of (item_of word.InitWith (name ∷ rest)) ≡ first_of (field_faults (fields_of word.InitWith) rest)
+unfolding item_of call_of config_in setup_in
+set_up_fault name [] c = absurd cc
+set_up_fault name (F ∷ []) c = absurd cc
+set_up_fault name (F ∷ BAUD ∷ []) c = absurd cc
+set_up_fault name (F ∷ BAUD ∷ C ∷ []) c = absurd cc
+set_up_fault name (F ∷ BAUD ∷ C ∷ HH ∷ []) c = absurd cc
+set_up_fault name (F ∷ BAUD ∷ C ∷ HH ∷ BITS ∷ []) c = absurd cc
+set_up_fault name (F ∷ BAUD ∷ C ∷ HH ∷ BITS ∷ P ∷ []) c = absurd cc
+set_up_fault name (F ∷ BAUD ∷ C ∷ HH ∷ BITS ∷ P ∷ W ∷ []) c = absurd cc
+set_up_fault name (F ∷ BAUD ∷ C ∷ HH ∷ BITS ∷ P ∷ W ∷ OUT ∷ []) c =
+    let config = level_in F >>= (λ level. rate_in BAUD
+    >>= (λ rate. cts_in C >>= (λ cts. interrupts_in HH >>= (λ i. word_length_in BITS >>= (λ l. Ok (configured level rate cts i l)))))) in
+    let setup = check_in P >>= (λ checks. wait_in W >>= (λ wait. outputs_in OUT >>= (λ outputs. Ok (arranged checks wait outputs)))) in
+    let five = fault_of (level_in F) ∷ fault_of (rate_in BAUD) ∷ fault_of (cts_in C) ∷ fault_of (interrupts_in HH)
+    ∷ fault_of (word_length_in BITS) ∷ [] in
+    let three = fault_of (check_in P) ∷ fault_of (wait_in W) ∷ fault_of (outputs_in OUT) ∷ [] in
+    made_fault (config >>= (λ x. setup >>= (λ y. Ok (call.InitWith x y)))) Calls
+    ∙ (two_fault config setup call.InitWith
+    ∙ (ap (λ fault. first_of (fault ∷ fault_of setup ∷ []))
+    (five_fault (level_in F) (rate_in BAUD) (cts_in C) (interrupts_in HH) (word_length_in BITS) configured)
+    ∙ (ap (λ fault. first_of (first_of five ∷ fault ∷ [])) (three_fault (check_in P) (wait_in W) (outputs_in OUT) arranged)
+    ∙ first_parts five three)))
+set_up_fault name (F ∷ BAUD ∷ C ∷ HH ∷ BITS ∷ P ∷ W ∷ OUT ∷ X ∷ rest) c = absurd (omega (arith, eqb-true _ _ c))
+
+-- a word that two fields follow
+call_fields_fault : {A B : Type 0} (first : List ℕ → Result A Cause) (second : List ℕ → Result B Cause) (make : A → B → Call)
+    (name : List ℕ) (rest : List (List ℕ)) → eqb (suc (length rest)) 3 ≡ true
+    → fault_of (first (word_at 1 (name ∷ rest)) >>= (λ x. second (word_at 2 (name ∷ rest)) >>= (λ y. Ok (make x y)))
+    >>= (λ c. Ok (Calls c)))
+    ≡ first_of (field_faults ((λ w. fault_of (first w)) ∷ (λ w. fault_of (second w)) ∷ []) rest)
+call_fields_fault first second make name [] c = absurd cc
+call_fields_fault first second make name (V ∷ []) c = absurd cc
+call_fields_fault first second make name (V ∷ W ∷ []) c =
+    made_fault (first V >>= (λ x. second W >>= (λ y. Ok (make x y)))) Calls ∙ two_fault (first V) (second W) make
+call_fields_fault first second make name (V ∷ W ∷ X ∷ rest) c = absurd (omega (arith, eqb-true _ _ c))
+
 item_fault : (w : Word) (name : List ℕ) (rest : List (List ℕ)) → has_count w (suc (length rest)) ≡ true → (w ≡ word.Chip → ⊥)
     → fault_of (item_of w (name ∷ rest)) ≡ first_of (field_faults (fields_of w) rest)
 unfolding item_of call_of
@@ -116,6 +162,19 @@ item_fault word.Arrive name rest c other = arrival_fault name rest c
 item_fault word.Limit name rest c other = field_fault limit_in (λ k. Limit k) name rest c
 item_fault word.Tick name rest c other = field_fault ticks_in (λ k. Happens (event.Ticks k)) name rest c
 item_fault word.Lines name rest c other = field_fault (lines_in) (λ v. Happens (event.Lines v)) name rest c
+item_fault word.InitWith name rest c other = set_up_fault name rest c
+item_fault word.SetFrame name rest c other =
+    call_fields_fault rate_in word_length_in (λ rate length. call.SetFrame (framed rate length)) name rest c
+item_fault word.SetFrameWhenIdle name rest c other =
+    call_fields_fault rate_in word_length_in (λ rate length. call.SetFrameWhenIdle (framed rate length)) name rest c
+item_fault word.SetTriggerLevel name rest c other = call_field_fault (trigger_in) (call.SetTriggerLevel) name rest c
+item_fault word.SetBreak name rest c other = call_field_fault (switch_in) (call.SetBreak) name rest c
+item_fault word.SetModemControl name rest c other = call_field_fault (outputs_in) (call.SetModemControl) name rest c
+item_fault word.SetRts name rest c other = call_field_fault (switch_in) (call.SetRts) name rest c
+item_fault word.SetDtr name rest c other = call_field_fault (switch_in) (call.SetDtr) name rest c
+item_fault word.Quiesce name rest c other = call_fields_fault outputs_in fifos_in call.Quiesce name rest c
+item_fault word.Restore name rest c other = call_field_fault (dump_in) (call.Restore) name rest c
+item_fault word.ReceiveWithErrors name rest c other = call_field_fault count_in (call.ReceiveWithErrors) name rest c
 item_fault word.TrySend name rest c other = call_field_fault (byte_in) (call.TrySend) name rest c
 item_fault word.Enable name rest c other = call_field_fault (interrupts_in) (call.Enable) name rest c
 item_fault word.Disable name rest c other = call_field_fault (interrupts_in) (call.Disable) name rest c

@@ -10,6 +10,8 @@ use Rattle.uart_spec.specs.declared.config.BaudRate.{BaudRate}
 use Rattle.uart_spec.specs.declared.registers.fifo_trigger_level.FifoTriggerLevel.{FifoTriggerLevel}
 use Rattle.uart_spec.specs.declared.registers.frame.WordLength.{WordLength}
 use Rattle.uart_spec.specs.declared.registers.interrupt_enable.IER.{IER}
+use Rattle.uart_spec.specs.declared.registers.modem_control.MCR.{MCR}
+use Rattle.uart_spec.specs.declared.setup.TransmitterWait.{TransmitterWait}
 use Rattle.uart_events.specs.declared.event.Event.TheVariants as event
 use Rattle.uart_events.specs.declared.call.Call.{Call}
 use Rattle.uart_events.specs.declared.call.Call.TheVariants as call
@@ -19,12 +21,14 @@ use Rattle.uart_language.specs.declared.words.Word.{Word}
 use Rattle.uart_language.specs.declared.words.Word.TheVariants as word
 use Rattle.uart_language.specs.Text.{words_of, word_at, has_bad_byte}
 use Rattle.uart_language.specs.Fields.{◌>>=◌, count_in, limit_in, ticks_in, byte_in, lines_in, bytes_in, text_in, errors_in, level_in}
-use Rattle.uart_language.specs.Fields.{rate_in, cts_in, interrupts_in, word_length_in}
+use Rattle.uart_language.specs.Fields.{rate_in, cts_in, interrupts_in, word_length_in, check_in, wait_in, outputs_in, trigger_in}
+use Rattle.uart_language.specs.Fields.{switch_in, fifos_in, dump_in}
 use Rattle.uart_language.specs.Words.{name_of, words, word_of, has_count, is_placed}
-use Rattle.uart_language.specs.Sayings.{Saying, Nothing, Limit, Happens, Calls, Marks, configured, array_of, text_of, bare_call, Means}
+use Rattle.uart_language.specs.Sayings.{Saying, Nothing, Limit, Happens, Calls, Marks, configured, framed, arranged, array_of, text_of}
+use Rattle.uart_language.specs.Sayings.{bare_call, Means}
 use Rattle.uart_language.specs.Sayings as row
 use Rattle.uart_language.specs.Script.{Says, blank, printable}
-use Rattle.uart_language.specs.Items.{config_in, arrival_in, call_of, item_of, placed_word, starts_with, item_at}
+use Rattle.uart_language.specs.Items.{config_in, setup_in, arrival_in, call_of, item_of, placed_word, starts_with, item_at}
 use Rattle.uart_language.proofs.Results.{read, bind_ok, made_twice}
 
 -- ---- what the words mean is what is read
@@ -42,7 +46,7 @@ bare_is_read number word.Limit c le e = absurd cc
 bare_is_read number w c le e = rw (not_first number le) cc
 
 pub is_read : {number : ℕ} {ws : List (List ℕ)} {said : Saying} → 2 ≤ number → Means number ws said → read_of number ws ≡ Ok said
-unfolding word_of item_of call_of config_in arrival_in
+unfolding word_of item_of call_of config_in setup_in arrival_in
 is_read {number = number} le (row.limit e h) = rw (e, h) refl
 is_read {number = number} le (row.tick h) = rw (not_first number le, h) refl
 is_read {number = number} le (row.arrive h) = rw (not_first number le, h) refl
@@ -51,12 +55,23 @@ is_read {number = number} le (row.lines h) = rw (not_first number le, h) refl
 is_read {number = number} le row.access = rw (not_first number le) refl
 is_read {number = number} le row.next = rw (not_first number le) refl
 is_read {number = number} le (row.init f b c h l) = rw (not_first number le, f, b, c, h, l) refl
+is_read {number = number} le (row.init_with f b c h l p w o) = rw (not_first number le, f, b, c, h, l, p, w, o) refl
+is_read {number = number} le (row.set_frame b l) = rw (not_first number le, b, l) refl
+is_read {number = number} le (row.set_frame_when_idle b l) = rw (not_first number le, b, l) refl
+is_read {number = number} le (row.set_trigger_level h) = rw (not_first number le, h) refl
+is_read {number = number} le (row.set_break h) = rw (not_first number le, h) refl
+is_read {number = number} le (row.set_modem_control h) = rw (not_first number le, h) refl
+is_read {number = number} le (row.set_rts h) = rw (not_first number le, h) refl
+is_read {number = number} le (row.set_dtr h) = rw (not_first number le, h) refl
+is_read {number = number} le (row.quiesce h a) = rw (not_first number le, h, a) refl
+is_read {number = number} le (row.restore h) = rw (not_first number le, h) refl
 is_read {number = number} le (row.bare w {c = c} e) = bare_is_read number w c le e
 is_read {number = number} le (row.try_send h) = rw (not_first number le, h) refl
 is_read {number = number} le (row.enable h) = rw (not_first number le, h) refl
 is_read {number = number} le (row.disable h) = rw (not_first number le, h) refl
 is_read {number = number} le (row.receive h) = rw (not_first number le, h) refl
 is_read {number = number} le (row.receive_exact h) = rw (not_first number le, h) refl
+is_read {number = number} le (row.receive_with_errors h) = rw (not_first number le, h) refl
 is_read {number = number} le (row.read h) = rw (not_first number le, h) refl
 is_read {number = number} le (row.send h) = rw (not_first number le, h) refl
 is_read {number = number} le (row.send_exact h) = rw (not_first number le, h) refl
@@ -94,6 +109,25 @@ module _ (number : ℕ) (name : List ℕ) where
       → Means number (name ∷ rest) s
   call_field reader make rest s c e m =
       field reader (λ x. Calls (make x)) rest s c (made_twice (reader (word_at 1 (name ∷ rest))) make Calls s e) m
+
+  two_meant : {A B : Type 0} (V W : List ℕ) (make : A → B → Call) (a : Result A Cause) (b : Result B Cause) (s : Saying)
+      → ((a >>= (λ x. b >>= (λ y. Ok (make x y)))) >>= (λ c. Ok (Calls c))) ≡ Ok s
+      → ((x : A) (y : B) → a ≡ Ok x → b ≡ Ok y → Means number (name ∷ V ∷ W ∷ []) (Calls (make x y)))
+      → Means number (name ∷ V ∷ W ∷ []) s
+  two_meant V W make (Ok x) (Ok y) s e m = subst (λ z. Means number (name ∷ V ∷ W ∷ []) z) (ok_is e) (m x y refl refl)
+  two_meant V W make (Ok x) (Err d) s e m = absurd cc
+  two_meant V W make (Err d) b s e m = absurd cc
+
+  call_fields : {A B : Type 0} (first : List ℕ → Result A Cause) (second : List ℕ → Result B Cause) (make : A → B → Call)
+      (rest : List (List ℕ)) (s : Saying) → eqb (suc (length rest)) 3 ≡ true
+      → ((first (word_at 1 (name ∷ rest)) >>= (λ x. second (word_at 2 (name ∷ rest)) >>= (λ y. Ok (make x y))))
+      >>= (λ c. Ok (Calls c))) ≡ Ok s
+      → ((V W : List ℕ) (x : A) (y : B) → first V ≡ Ok x → second W ≡ Ok y → Means number (name ∷ V ∷ W ∷ []) (Calls (make x y)))
+      → Means number (name ∷ rest) s
+  call_fields first second make [] s c e m = absurd cc
+  call_fields first second make (V ∷ []) s c e m = absurd cc
+  call_fields first second make (V ∷ W ∷ []) s c e m = two_meant V W make (first V) (second W) s e (λ x y h k. m V W x y h k)
+  call_fields first second make (V ∷ W ∷ X ∷ rest) s c e m = absurd (omega (arith, eqb-true _ _ c))
 
 -- a number is neither of two that are below it
 pub neither : (n a b : ℕ) → a < n → b < n → (eqb n a || eqb n b) ≡ true → ⊥
@@ -150,6 +184,46 @@ config number (F ∷ BAUD ∷ C ∷ HH ∷ BITS ∷ []) s c e =
     s refl refl refl refl refl e
 config number (F ∷ BAUD ∷ C ∷ HH ∷ BITS ∷ X ∷ rest) s c e = absurd (omega (arith, eqb-true _ _ c))
 
+-- init-with F BAUD C HH BITS P W HH, from the eight fields
+init_with_meant : (number : ℕ) (F BAUD C HH BITS P W OUT : List ℕ) (f : Result (Option FifoTriggerLevel) Cause) (b : Result BaudRate Cause)
+    (t : Result Bool Cause) (h : Result IER Cause) (l : Result WordLength Cause) (p : Result Bool Cause) (w : Result TransmitterWait Cause)
+    (o : Result MCR Cause) (s : Saying)
+    → level_in F ≡ f → rate_in BAUD ≡ b → cts_in C ≡ t → interrupts_in HH ≡ h → word_length_in BITS ≡ l → check_in P ≡ p → wait_in W ≡ w
+    → outputs_in OUT ≡ o
+    → ((f >>= (λ level. b >>= (λ rate. t >>= (λ cts. h >>= (λ i. l >>= (λ v. read (configured level rate cts i v)))))))
+    >>= (λ x. (p >>= (λ checks. w >>= (λ wait. o >>= (λ outputs. read (arranged checks wait outputs)))))
+    >>= (λ y. read (call.InitWith x y))) >>= (λ x. Ok (Calls x))) ≡ Ok s
+    → Means number (codes "init-with" ∷ F ∷ BAUD ∷ C ∷ HH ∷ BITS ∷ P ∷ W ∷ OUT ∷ []) s
+init_with_meant number F BAUD C HH BITS P W OUT (Ok level) (Ok rate) (Ok cts) (Ok i) (Ok v) (Ok checks) (Ok wait) (Ok outputs) s
+    f b t h l p w o e =
+    subst (λ x. Means number (codes "init-with" ∷ F ∷ BAUD ∷ C ∷ HH ∷ BITS ∷ P ∷ W ∷ OUT ∷ []) x) (ok_is e) (row.init_with f b t h l p w o)
+init_with_meant number F BAUD C HH BITS P W OUT (Err x) br tr hr lr pr wr or s f b t h l p w o e = absurd cc
+init_with_meant number F BAUD C HH BITS P W OUT (Ok level) (Err x) tr hr lr pr wr or s f b t h l p w o e = absurd cc
+init_with_meant number F BAUD C HH BITS P W OUT (Ok level) (Ok rate) (Err x) hr lr pr wr or s f b t h l p w o e = absurd cc
+init_with_meant number F BAUD C HH BITS P W OUT (Ok level) (Ok rate) (Ok cts) (Err x) lr pr wr or s f b t h l p w o e = absurd cc
+init_with_meant number F BAUD C HH BITS P W OUT (Ok level) (Ok rate) (Ok cts) (Ok i) (Err x) pr wr or s f b t h l p w o e = absurd cc
+init_with_meant number F BAUD C HH BITS P W OUT (Ok level) (Ok rate) (Ok cts) (Ok i) (Ok v) (Err x) wr or s f b t h l p w o e = absurd cc
+init_with_meant number F BAUD C HH BITS P W OUT (Ok level) (Ok rate) (Ok cts) (Ok i) (Ok v) (Ok checks) (Err x) or s f b t h l p w o e =
+    absurd cc
+init_with_meant number F BAUD C HH BITS P W OUT (Ok level) (Ok rate) (Ok cts) (Ok i) (Ok v) (Ok checks) (Ok wait) (Err x) s
+    f b t h l p w o e = absurd cc
+
+set_up : (number : ℕ) (rest : List (List ℕ)) (s : Saying) → has_count word.InitWith (suc (length rest)) ≡ true
+    → item_of word.InitWith (codes "init-with" ∷ rest) ≡ Ok s → Means number (codes "init-with" ∷ rest) s
+unfolding item_of call_of config_in setup_in
+set_up number [] s c e = absurd cc
+set_up number (F ∷ []) s c e = absurd cc
+set_up number (F ∷ BAUD ∷ []) s c e = absurd cc
+set_up number (F ∷ BAUD ∷ C ∷ []) s c e = absurd cc
+set_up number (F ∷ BAUD ∷ C ∷ HH ∷ []) s c e = absurd cc
+set_up number (F ∷ BAUD ∷ C ∷ HH ∷ BITS ∷ []) s c e = absurd cc
+set_up number (F ∷ BAUD ∷ C ∷ HH ∷ BITS ∷ P ∷ []) s c e = absurd cc
+set_up number (F ∷ BAUD ∷ C ∷ HH ∷ BITS ∷ P ∷ W ∷ []) s c e = absurd cc
+set_up number (F ∷ BAUD ∷ C ∷ HH ∷ BITS ∷ P ∷ W ∷ OUT ∷ []) s c e =
+    init_with_meant number F BAUD C HH BITS P W OUT (level_in F) (rate_in BAUD) (cts_in C) (interrupts_in HH) (word_length_in BITS)
+    (check_in P) (wait_in W) (outputs_in OUT) s refl refl refl refl refl refl refl refl e
+set_up number (F ∷ BAUD ∷ C ∷ HH ∷ BITS ∷ P ∷ W ∷ OUT ∷ X ∷ rest) s c e = absurd (omega (arith, eqb-true _ _ c))
+
 -- a line that begins with a word and says something means that
 pub is_meant : (number : ℕ) (w : Word) (rest : List (List ℕ)) (s : Saying) → 2 ≤ number → is_placed number (Some w) ≡ true
     → has_count w (suc (length rest)) ≡ true
@@ -159,6 +233,25 @@ is_meant number word.Chip rest s le p c e = absurd (omega (arith, eqb-true _ _ p
 is_meant number word.Limit rest s le p c e = field number _ limit_in (λ k. Limit k) rest s c e (λ W x h. row.limit (eqb-true _ _ p) h)
 is_meant number word.Arrive rest s le p c e = arrival number rest s c e
 is_meant number word.Init rest s le p c e = config number rest s c e
+is_meant number word.InitWith rest s le p c e = set_up number rest s c e
+is_meant number word.SetFrame rest s le p c e =
+    call_fields number _ rate_in word_length_in (λ rate length. call.SetFrame (framed rate length)) rest s c e
+    (λ V W x y h k. row.set_frame h k)
+is_meant number word.SetFrameWhenIdle rest s le p c e =
+    call_fields number _ rate_in word_length_in (λ rate length. call.SetFrameWhenIdle (framed rate length)) rest s c e
+    (λ V W x y h k. row.set_frame_when_idle h k)
+is_meant number word.SetTriggerLevel rest s le p c e =
+    call_field number _ (trigger_in) (call.SetTriggerLevel) rest s c e (λ W x h. row.set_trigger_level h)
+is_meant number word.SetBreak rest s le p c e = call_field number _ (switch_in) (call.SetBreak) rest s c e (λ W x h. row.set_break h)
+is_meant number word.SetModemControl rest s le p c e =
+    call_field number _ (outputs_in) (call.SetModemControl) rest s c e (λ W x h. row.set_modem_control h)
+is_meant number word.SetRts rest s le p c e = call_field number _ (switch_in) (call.SetRts) rest s c e (λ W x h. row.set_rts h)
+is_meant number word.SetDtr rest s le p c e = call_field number _ (switch_in) (call.SetDtr) rest s c e (λ W x h. row.set_dtr h)
+is_meant number word.Quiesce rest s le p c e =
+    call_fields number _ outputs_in fifos_in call.Quiesce rest s c e (λ V W x y h k. row.quiesce h k)
+is_meant number word.Restore rest s le p c e = call_field number _ (dump_in) (call.Restore) rest s c e (λ W x h. row.restore h)
+is_meant number word.ReceiveWithErrors rest s le p c e =
+    call_field number _ count_in (call.ReceiveWithErrors) rest s c e (λ W x h. row.receive_with_errors h)
 is_meant number word.Access rest s le p c e = bare number _ rest s (Happens event.Access) c e row.access
 is_meant number word.Next rest s le p c e = bare number _ rest s (Marks) c e row.next
 is_meant number word.Tick rest s le p c e = field number _ ticks_in (λ k. Happens (event.Ticks k)) rest s c e (λ W x h. row.tick h)

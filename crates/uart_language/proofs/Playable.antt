@@ -136,6 +136,22 @@ means_good (row.init {BAUD = BAUD} f b c h l) = record {
   baud_rate = rate_read BAUD _ b;
   prescaler_division_factor = omega arith;
 }
+means_good (row.init_with {BAUD = BAUD} f b c h l p w o) = record {
+  frequency = omega arith;
+  baud_rate = rate_read BAUD _ b;
+  prescaler_division_factor = omega arith;
+}
+means_good (row.set_frame {BAUD = BAUD} b l) = record {
+  frequency = omega arith;
+  baud_rate = rate_read BAUD _ b;
+  prescaler_division_factor = omega arith;
+}
+means_good (row.set_frame_when_idle {BAUD = BAUD} b l) = record {
+  frequency = omega arith;
+  baud_rate = rate_read BAUD _ b;
+  prescaler_division_factor = omega arith;
+}
+means_good (row.receive_with_errors {N = N} h) = (number_range 0 CALL_BYTES N _ h).1
 means_good (row.receive {N = N} h) = (number_range 0 CALL_BYTES N _ h).1
 means_good (row.receive_exact {N = N} h) = (number_range 0 CALL_BYTES N _ h).1
 means_good (row.read {N = N} h) = (number_range 0 CALL_BYTES N _ h).1

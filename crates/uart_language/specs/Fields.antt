@@ -14,6 +14,12 @@ use Rattle.uart_spec.specs.declared.registers.fifo_trigger_level.FifoTriggerLeve
 use Rattle.uart_spec.specs.declared.registers.fifo_trigger_level.FifoTriggerLevel.TheVariants.{Fourteen}
 use Rattle.uart_spec.specs.declared.registers.interrupt_enable.IER.{IER}
 use Rattle.uart_spec.specs.declared.registers.line_status.TheConstants.LSR
+use Rattle.uart_spec.specs.declared.registers.modem_control.MCR.{MCR}
+use Rattle.uart_spec.specs.declared.dump.ConfigRegisterDump.{ConfigRegisterDump}
+use Rattle.uart_spec.specs.declared.setup.FifoAction.{FifoAction}
+use Rattle.uart_spec.specs.declared.setup.FifoAction.TheVariants.{Keep, Reset, Disable}
+use Rattle.uart_spec.specs.declared.setup.TransmitterWait.{TransmitterWait}
+use Rattle.uart_spec.specs.declared.setup.TransmitterWait.TheVariants.{First, Last, Never as NoWait}
 use Rattle.uart_events.specs.declared.event.TheConstants.{MAX_CHAR_TICKS, MAX_WIRE_CAPACITY}
 use Rattle.uart_events.specs.declared.call.TheConstants.{CALL_BYTES}
 use Rattle.uart_events.specs.declared.event.Chip.{Chip}
@@ -153,6 +159,52 @@ unfoldable pub interrupts_in : List ℕ → Result IER Cause
 interrupts_in word = do
   bits ← byte_in word
   Ok (record { 0 = bits })
+
+-- HH of outputs: the bits of MCR
+unfoldable pub outputs_in : List ℕ → Result MCR Cause
+outputs_in word = do
+  bits ← byte_in word
+  Ok (record { 0 = bits })
+
+-- F of a trigger level: the FIFOs are on, so there is no `off`
+unfoldable pub trigger_in : List ℕ → Result FifoTriggerLevel Cause
+trigger_in word = among (
+    (codes "1", One) ∷ (codes "4", Four) ∷ (codes "8", Eight) ∷ (codes "14", Fourteen) ∷ []) word
+
+-- S: whether a break or an output is on
+unfoldable pub switch_in : List ℕ → Result Bool Cause
+switch_in word = among ((codes "on", true) ∷ (codes "off", false) ∷ []) word
+
+-- P: whether the scratch register is tested
+unfoldable pub check_in : List ℕ → Result Bool Cause
+check_in word = among ((codes "check", true) ∷ (codes "nocheck", false) ∷ []) word
+
+-- W: when to wait until the transmitter is empty
+unfoldable pub wait_in : List ℕ → Result TransmitterWait Cause
+wait_in word = among ((codes "first", First) ∷ (codes "last", Last) ∷ (codes "never", NoWait) ∷ []) word
+
+-- A: what becomes of the FIFOs
+unfoldable pub fifos_in : List ℕ → Result FifoAction Cause
+fifos_in word = among ((codes "keep", Keep) ∷ (codes "reset", Reset) ∷ (codes "disable", Disable) ∷ []) word
+
+-- the registers in the order in which `dump` prints them, with DLL and DLM at the end
+abbrev pub registers_of : List ℕ → Result ConfigRegisterDump Cause
+registers_of (ier ∷ isr ∷ lcr ∷ mcr ∷ lsr ∷ msr ∷ spr ∷ dll ∷ dlm ∷ []) = Ok (record {
+  ier = record { 0 = ier };
+  isr = record { 0 = isr };
+  lcr = record { 0 = lcr };
+  mcr = record { 0 = mcr };
+  lsr = record { 0 = lsr };
+  msr = record { 0 = msr };
+  spr = spr;
+  dll = dll;
+  dlm = dlm;
+})
+registers_of bytes = Err BadHex
+
+-- HEX of a dump: nine bytes
+unfoldable pub dump_in : List ℕ → Result ConfigRegisterDump Cause
+dump_in word = bytes_in word >>= registers_of
 
 -- the word length of five to eight bits
 abbrev pub word_length_of : ℕ → WordLength

@@ -3,6 +3,7 @@ use Rattle.std.specs.Prelude.{ℕ, false, List, length, Option, Some, None, Resu
 use Rattle.std.specs.Option.{ok_or}
 use Rattle.std.specs.Int.NonZero.{non_zero_u64_get}
 use Rattle.uart_spec.specs.declared.config.Config.{Config}
+use Rattle.uart_spec.specs.declared.setup.Setup.{Setup}
 use Rattle.uart_events.specs.declared.event.Event.{Event}
 use Rattle.uart_events.specs.declared.event.Event.TheVariants as event
 use Rattle.uart_events.specs.declared.call.Call.{Call}
@@ -17,10 +18,11 @@ use Rattle.uart_language.specs.declared.words.Word.TheVariants as word
 use Rattle.uart_language.specs.Text.{words_of, word_at, has_bad_byte}
 use Rattle.uart_language.specs.Fields.{◌>>=◌, count_in, limit_in, ticks_in, char_ticks_in, wire_capacity_in, byte_in}
 use Rattle.uart_language.specs.Fields.{lines_in, bytes_in, text_in, errors_in, chip_in, cut_in, level_in, rate_in}
-use Rattle.uart_language.specs.Fields.{cts_in, interrupts_in, word_length_in}
+use Rattle.uart_language.specs.Fields.{cts_in, interrupts_in, word_length_in, check_in, wait_in, outputs_in, trigger_in}
+use Rattle.uart_language.specs.Fields.{switch_in, fifos_in, dump_in}
 use Rattle.uart_language.specs.Words.{word_of, has_count, is_placed}
 use Rattle.uart_language.specs.Sayings.{Saying, Nothing, Limit, Happens, Calls, Marks, configured, array_of, text_of}
-use Rattle.uart_language.specs.Sayings.{plain, bare_call}
+use Rattle.uart_language.specs.Sayings.{framed, arranged, plain, bare_call}
 
 -- a value made of what was read
 abbrev pub read_as : {A B : Type 0} → Result A Cause → (A → B) → Result B Cause
@@ -36,6 +38,14 @@ config_in ws = do
   word_length ← word_length_in (word_at 5 ws)
   Ok (configured level rate cts interrupts word_length)
 
+-- P W HH, the last words of an init-with
+unfoldable pub setup_in : List (List ℕ) → Result Setup Cause
+setup_in ws = do
+  checks ← check_in (word_at 6 ws)
+  wait ← wait_in (word_at 7 ws)
+  outputs ← outputs_in (word_at 8 ws)
+  Ok (arranged checks wait outputs)
+
 -- arrive HH, or arrive HH E
 unfoldable pub arrival_in : List (List ℕ) → Result Event Cause
 arrival_in ws = do
@@ -43,14 +53,33 @@ arrival_in ws = do
   errors ← if length ws == 3 then errors_in (word_at 2 ws) else Ok 0
   Ok (event.Arrive byte errors)
 
+-- a value made of two that were read
+abbrev pub both_read_as : {A B C : Type 0} → Result A Cause → Result B Cause → (A → B → C) → Result C Cause
+both_read_as first second make = first >>= (λ x. read_as second (make x))
+
 -- the call of a line
 unfoldable pub call_of : Word → List (List ℕ) → Result Call Cause
 call_of word.Init ws = read_as (config_in ws) call.Init
+call_of word.InitWith ws = both_read_as (config_in ws) (setup_in ws) call.InitWith
+call_of word.SetFrame ws =
+    both_read_as (rate_in (word_at 1 ws)) (word_length_in (word_at 2 ws))
+    (λ rate length. call.SetFrame (framed rate length))
+call_of word.SetFrameWhenIdle ws =
+    both_read_as (rate_in (word_at 1 ws)) (word_length_in (word_at 2 ws))
+    (λ rate length. call.SetFrameWhenIdle (framed rate length))
+call_of word.SetTriggerLevel ws = read_as (trigger_in (word_at 1 ws)) call.SetTriggerLevel
+call_of word.SetBreak ws = read_as (switch_in (word_at 1 ws)) call.SetBreak
+call_of word.SetModemControl ws = read_as (outputs_in (word_at 1 ws)) call.SetModemControl
+call_of word.SetRts ws = read_as (switch_in (word_at 1 ws)) call.SetRts
+call_of word.SetDtr ws = read_as (switch_in (word_at 1 ws)) call.SetDtr
+call_of word.Quiesce ws = both_read_as (outputs_in (word_at 1 ws)) (fifos_in (word_at 2 ws)) call.Quiesce
+call_of word.Restore ws = read_as (dump_in (word_at 1 ws)) call.Restore
 call_of word.TrySend ws = read_as (byte_in (word_at 1 ws)) call.TrySend
 call_of word.Enable ws = read_as (interrupts_in (word_at 1 ws)) call.Enable
 call_of word.Disable ws = read_as (interrupts_in (word_at 1 ws)) call.Disable
 call_of word.Receive ws = read_as (count_in (word_at 1 ws)) call.Receive
 call_of word.ReceiveExact ws = read_as (count_in (word_at 1 ws)) call.ReceiveExact
+call_of word.ReceiveWithErrors ws = read_as (count_in (word_at 1 ws)) call.ReceiveWithErrors
 call_of word.Read ws = read_as (count_in (word_at 1 ws)) call.Read
 call_of word.Send ws = read_as (bytes_in (word_at 1 ws)) (λ bytes. call.Send (array_of bytes))
 call_of word.SendExact ws = read_as (bytes_in (word_at 1 ws)) (λ bytes. call.SendExact (array_of bytes))

@@ -6,6 +6,8 @@ use Rattle.std.specs.Char.{digit_char}
 use Rattle.std.specs.Fmt.{decimal}
 use Rattle.uart_spec.specs.declared.errors.AttachError.{AttachError}
 use Rattle.uart_spec.specs.declared.errors.AttachError.TheVariants as attach
+use Rattle.uart_spec.specs.declared.errors.FrameError.{FrameError}
+use Rattle.uart_spec.specs.declared.errors.FrameError.TheVariants as frame
 use Rattle.uart_spec.specs.declared.errors.InvalidDivisorError.{InvalidDivisorError}
 use Rattle.uart_spec.specs.declared.errors.InvalidDivisorError.TheVariants as divisor
 use Rattle.uart_spec.specs.declared.errors.InitError.{InitError}
@@ -70,6 +72,10 @@ abbrev pub divisor_error_text : InvalidDivisorError → List ℕ
 divisor_error_text (divisor.NonInteger e) = codes "InvalidBaudRate NonInteger"
 divisor_error_text (divisor.OutOfRange d) = codes "InvalidBaudRate OutOfRange " ++ decimal d
 
+abbrev pub frame_error_text : FrameError → List ℕ
+frame_error_text (frame.InvalidBaudRate e) = divisor_error_text e
+frame_error_text frame.Stalled = codes "Stalled"
+
 abbrev pub attach_error_name : AttachError → List ℕ
 attach_error_name attach.DivisorLatchOpen = codes "DivisorLatchOpen"
 attach_error_name attach.Loopback = codes "Loopback"
@@ -113,6 +119,8 @@ answer_text (answer.ReceiveStalled bytes) =
     codes "stalled " ++ decimal (length bytes.items) ++ codes " " ++ hex bytes.items
 answer_text (answer.InitRefused e) = codes "err " ++ init_error_text e
 answer_text (answer.FrameRefused e) = codes "err " ++ divisor_error_text e
+answer_text (answer.FrameWhenIdleRefused e) = codes "err " ++ frame_error_text e
+answer_text answer.FifosOff = codes "err FifosOffError"
 answer_text (answer.AttachRefused e) = codes "err " ++ attach_error_name e
 answer_text (answer.LoopbackRefused e) = codes "err " ++ loopback_error_text e
 answer_text (answer.NotConnected e) = codes "err " ++ remote_error_name e

@@ -8,6 +8,11 @@ use Rattle.uart_spec.specs.declared.config.BaudRate.{BaudRate}
 use Rattle.uart_spec.specs.declared.registers.frame.WordLength.{WordLength}
 use Rattle.uart_spec.specs.declared.registers.fifo_trigger_level.FifoTriggerLevel.{FifoTriggerLevel}
 use Rattle.uart_spec.specs.declared.registers.interrupt_enable.IER.{IER}
+use Rattle.uart_spec.specs.declared.registers.modem_control.MCR.{MCR}
+use Rattle.uart_spec.specs.declared.dump.ConfigRegisterDump.{ConfigRegisterDump}
+use Rattle.uart_spec.specs.declared.setup.FifoAction.{FifoAction}
+use Rattle.uart_spec.specs.declared.setup.Setup.{Setup}
+use Rattle.uart_spec.specs.declared.setup.TransmitterWait.{TransmitterWait}
 use Rattle.uart_events.specs.declared.event.Event.{Event}
 use Rattle.uart_events.specs.declared.event.Event.TheVariants as event
 use Rattle.uart_events.specs.declared.call.Call.{Call}
@@ -16,7 +21,8 @@ use Rattle.uart_language.specs.declared.words.Word.{Word}
 use Rattle.uart_language.specs.declared.words.Word.TheVariants as word
 use Rattle.uart_language.specs.Words.{name_of}
 use Rattle.uart_language.specs.Fields.{count_in, limit_in, ticks_in, byte_in, lines_in, bytes_in, text_in, errors_in}
-use Rattle.uart_language.specs.Fields.{level_in, rate_in, cts_in, interrupts_in, word_length_in}
+use Rattle.uart_language.specs.Fields.{level_in, rate_in, cts_in, interrupts_in, word_length_in, check_in, wait_in}
+use Rattle.uart_language.specs.Fields.{outputs_in, trigger_in, switch_in, fifos_in, dump_in}
 
 -- what one line adds to a script: nothing, the limit, an event, a call, or a mark, which is an event and the call
 -- `Next`
@@ -47,6 +53,14 @@ configured level rate cts interrupts word_length = record DEFAULT {
   data_bits = word_length;
   check_cts_before_sending = cts;
 }
+
+-- a configuration for a change of the frame: the fields of the line, and the rest as in the default one
+abbrev pub framed : BaudRate → WordLength → Config
+framed rate word_length = record DEFAULT { baud_rate = rate; data_bits = word_length }
+
+-- a setup with the last fields of an `init-with` line
+abbrev pub arranged : Bool → TransmitterWait → MCR → Setup
+arranged checks wait outputs = record { checks_presence = checks; wait = wait; outputs = outputs }
 
 -- bytes as a call holds them
 abbrev pub array_of : List ℕ → ArrayVec ℕ
@@ -82,6 +96,10 @@ bare_call word.Spr = Some call.Spr
 bare_call word.DllDlm = Some call.DllDlm
 bare_call word.Fifo = Some call.FifoEnabled
 bare_call word.Dump = Some call.Dump
+bare_call word.Attach = Some call.Attach
+bare_call word.PeekModem = Some call.PeekModem
+bare_call word.IsIdle = Some call.IsIdle
+bare_call word.RetriggerInterrupts = Some call.RetriggerInterrupts
 bare_call other = None
 
 -- what the words of a line after the first mean, one case for each kind of line
@@ -102,6 +120,34 @@ pub data Means (number : ℕ) : List (List ℕ) → Saying → Type 0 where
       → word_length_in BITS ≡ Ok word_length
       → Means number (codes "init" ∷ F ∷ BAUD ∷ C ∷ HH ∷ BITS ∷ [])
       (Calls (call.Init (configured level rate cts interrupts word_length)))
+  init_with : {F BAUD C HH BITS P W OUT : List ℕ} {level : Option FifoTriggerLevel} {rate : BaudRate} {cts : Bool}
+      {interrupts : IER} {word_length : WordLength} {checks : Bool} {wait : TransmitterWait} {outputs : MCR}
+      → level_in F ≡ Ok level → rate_in BAUD ≡ Ok rate → cts_in C ≡ Ok cts → interrupts_in HH ≡ Ok interrupts
+      → word_length_in BITS ≡ Ok word_length → check_in P ≡ Ok checks → wait_in W ≡ Ok wait
+      → outputs_in OUT ≡ Ok outputs
+      → Means number (codes "init-with" ∷ F ∷ BAUD ∷ C ∷ HH ∷ BITS ∷ P ∷ W ∷ OUT ∷ [])
+      (Calls (call.InitWith (configured level rate cts interrupts word_length) (arranged checks wait outputs)))
+  set_frame : {BAUD BITS : List ℕ} {rate : BaudRate} {word_length : WordLength}
+      → rate_in BAUD ≡ Ok rate → word_length_in BITS ≡ Ok word_length
+      → Means number (codes "set-frame" ∷ BAUD ∷ BITS ∷ []) (Calls (call.SetFrame (framed rate word_length)))
+  set_frame_when_idle : {BAUD BITS : List ℕ} {rate : BaudRate} {word_length : WordLength}
+      → rate_in BAUD ≡ Ok rate → word_length_in BITS ≡ Ok word_length
+      → Means number (codes "set-frame-when-idle" ∷ BAUD ∷ BITS ∷ [])
+      (Calls (call.SetFrameWhenIdle (framed rate word_length)))
+  set_trigger_level : {F : List ℕ} {level : FifoTriggerLevel} → trigger_in F ≡ Ok level
+      → Means number (codes "set-trigger-level" ∷ F ∷ []) (Calls (call.SetTriggerLevel level))
+  set_break : {S : List ℕ} {on : Bool} → switch_in S ≡ Ok on
+      → Means number (codes "set-break" ∷ S ∷ []) (Calls (call.SetBreak on))
+  set_modem_control : {HH : List ℕ} {outputs : MCR} → outputs_in HH ≡ Ok outputs
+      → Means number (codes "set-modem-control" ∷ HH ∷ []) (Calls (call.SetModemControl outputs))
+  set_rts : {S : List ℕ} {on : Bool} → switch_in S ≡ Ok on
+      → Means number (codes "set-rts" ∷ S ∷ []) (Calls (call.SetRts on))
+  set_dtr : {S : List ℕ} {on : Bool} → switch_in S ≡ Ok on
+      → Means number (codes "set-dtr" ∷ S ∷ []) (Calls (call.SetDtr on))
+  quiesce : {HH A : List ℕ} {outputs : MCR} {fifos : FifoAction} → outputs_in HH ≡ Ok outputs → fifos_in A ≡ Ok fifos
+      → Means number (codes "quiesce" ∷ HH ∷ A ∷ []) (Calls (call.Quiesce outputs fifos))
+  restore : {HEX : List ℕ} {dump : ConfigRegisterDump} → dump_in HEX ≡ Ok dump
+      → Means number (codes "restore" ∷ HEX ∷ []) (Calls (call.Restore dump))
   bare : (w : Word) {c : Call} → bare_call w ≡ Some c → Means number (name_of w ∷ []) (Calls c)
   try_send : {HH : List ℕ} {byte : ℕ} → byte_in HH ≡ Ok byte
       → Means number (codes "try-send" ∷ HH ∷ []) (Calls (call.TrySend byte))
@@ -112,6 +158,8 @@ pub data Means (number : ℕ) : List (List ℕ) → Saying → Type 0 where
   receive : {N : List ℕ} {n : ℕ} → count_in N ≡ Ok n → Means number (codes "receive" ∷ N ∷ []) (Calls (call.Receive n))
   receive_exact : {N : List ℕ} {n : ℕ} → count_in N ≡ Ok n
       → Means number (codes "receive-exact" ∷ N ∷ []) (Calls (call.ReceiveExact n))
+  receive_with_errors : {N : List ℕ} {n : ℕ} → count_in N ≡ Ok n
+      → Means number (codes "receive-with-errors" ∷ N ∷ []) (Calls (call.ReceiveWithErrors n))
   read : {N : List ℕ} {n : ℕ} → count_in N ≡ Ok n → Means number (codes "read" ∷ N ∷ []) (Calls (call.Read n))
   send : {HEX bytes : List ℕ} → bytes_in HEX ≡ Ok bytes
       → Means number (codes "send" ∷ HEX ∷ []) (Calls (call.Send (array_of bytes)))

@@ -6,7 +6,8 @@ use Rattle.uart_language.specs.declared.words.Word.{Word}
 use Rattle.uart_language.specs.declared.words.Word.TheVariants as word
 use Rattle.uart_language.specs.Fields.{count_in, limit_in, ticks_in, char_ticks_in, wire_capacity_in, byte_in, lines_in}
 use Rattle.uart_language.specs.Fields.{bytes_in, text_in, errors_in, chip_in, cut_in, level_in, rate_in, cts_in}
-use Rattle.uart_language.specs.Fields.{interrupts_in, word_length_in}
+use Rattle.uart_language.specs.Fields.{interrupts_in, word_length_in, check_in, wait_in, outputs_in, trigger_in}
+use Rattle.uart_language.specs.Fields.{switch_in, fifos_in, dump_in}
 
 -- a word as it is written in a script
 abbrev pub name_of : Word → List ℕ
@@ -47,6 +48,21 @@ name_of word.Send = codes "send"
 name_of word.SendExact = codes "send-exact"
 name_of word.Write = codes "write"
 name_of word.Text = codes "text"
+name_of word.InitWith = codes "init-with"
+name_of word.SetFrame = codes "set-frame"
+name_of word.SetFrameWhenIdle = codes "set-frame-when-idle"
+name_of word.SetTriggerLevel = codes "set-trigger-level"
+name_of word.Attach = codes "attach"
+name_of word.SetBreak = codes "set-break"
+name_of word.SetModemControl = codes "set-modem-control"
+name_of word.SetRts = codes "set-rts"
+name_of word.SetDtr = codes "set-dtr"
+name_of word.Quiesce = codes "quiesce"
+name_of word.Restore = codes "restore"
+name_of word.PeekModem = codes "peek-modem"
+name_of word.IsIdle = codes "is-idle"
+name_of word.RetriggerInterrupts = codes "retrigger-interrupts"
+name_of word.ReceiveWithErrors = codes "receive-with-errors"
 
 -- all words of the language
 abbrev pub words : List Word
@@ -55,7 +71,10 @@ words =
     ∷ word.Present ∷ word.Connected ∷ word.ReadyReceive ∷ word.ReadySend ∷ word.TryReceive ∷ word.Flush ∷ word.ReadReady
     ∷ word.WriteReady ∷ word.Ier ∷ word.Isr ∷ word.Lcr ∷ word.Mcr ∷ word.Lsr ∷ word.Msr ∷ word.Spr ∷ word.DllDlm
     ∷ word.Fifo ∷ word.Dump ∷ word.TrySend ∷ word.Enable ∷ word.Disable ∷ word.Receive ∷ word.ReceiveExact ∷ word.Read
-    ∷ word.Send ∷ word.SendExact ∷ word.Write ∷ word.Text ∷ []
+    ∷ word.Send ∷ word.SendExact ∷ word.Write ∷ word.Text ∷ word.InitWith ∷ word.SetFrame ∷ word.SetFrameWhenIdle
+    ∷ word.SetTriggerLevel ∷ word.Attach ∷ word.SetBreak ∷ word.SetModemControl ∷ word.SetRts ∷ word.SetDtr
+    ∷ word.Quiesce ∷ word.Restore ∷ word.PeekModem ∷ word.IsIdle ∷ word.RetriggerInterrupts ∷ word.ReceiveWithErrors
+    ∷ []
 
 -- the word that is written like this
 unfoldable pub word_of : List ℕ → Option Word
@@ -79,11 +98,24 @@ fields_of word.Arrive = faulty byte_in ∷ faulty errors_in ∷ []
 fields_of word.Lines = faulty lines_in ∷ []
 fields_of word.Init =
     faulty level_in ∷ faulty rate_in ∷ faulty cts_in ∷ faulty interrupts_in ∷ faulty word_length_in ∷ []
+fields_of word.InitWith =
+    faulty level_in ∷ faulty rate_in ∷ faulty cts_in ∷ faulty interrupts_in ∷ faulty word_length_in ∷ faulty check_in
+    ∷ faulty wait_in ∷ faulty outputs_in ∷ []
+fields_of word.SetFrame = faulty rate_in ∷ faulty word_length_in ∷ []
+fields_of word.SetFrameWhenIdle = faulty rate_in ∷ faulty word_length_in ∷ []
+fields_of word.SetTriggerLevel = faulty trigger_in ∷ []
+fields_of word.SetBreak = faulty switch_in ∷ []
+fields_of word.SetModemControl = faulty outputs_in ∷ []
+fields_of word.SetRts = faulty switch_in ∷ []
+fields_of word.SetDtr = faulty switch_in ∷ []
+fields_of word.Quiesce = faulty outputs_in ∷ faulty fifos_in ∷ []
+fields_of word.Restore = faulty dump_in ∷ []
 fields_of word.TrySend = faulty byte_in ∷ []
 fields_of word.Enable = faulty interrupts_in ∷ []
 fields_of word.Disable = faulty interrupts_in ∷ []
 fields_of word.Receive = faulty count_in ∷ []
 fields_of word.ReceiveExact = faulty count_in ∷ []
+fields_of word.ReceiveWithErrors = faulty count_in ∷ []
 fields_of word.Read = faulty count_in ∷ []
 fields_of word.Send = faulty bytes_in ∷ []
 fields_of word.SendExact = faulty bytes_in ∷ []

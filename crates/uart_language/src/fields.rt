@@ -10,6 +10,8 @@ ghost use Rattle.uart_language.specs.Fields.{char_ticks_in, wire_capacity_in, by
 ghost use Rattle.uart_language.specs.Fields.{lines_in, bytes_in, text_in, errors_in};
 ghost use Rattle.uart_language.specs.Fields.{chip_in, cut_in, level_in, rate_in, cts_in};
 ghost use Rattle.uart_language.specs.Fields.{interrupts_in, word_length_in};
+ghost use Rattle.uart_language.specs.Fields.{outputs_in, trigger_in, switch_in, check_in};
+ghost use Rattle.uart_language.specs.Fields.{wait_in, fifos_in, registers_of, dump_in};
 ghost use Rattle.uart_language.specs.Fields.{pairs_of, is_pairs, seen};
 
 use super::cause::Cause;
@@ -19,8 +21,8 @@ use arrayvec::{ArrayString, ArrayVec};
 use bitflags::Flags;
 use std::num::NonZeroU64;
 use uart_events::{CALL_BYTES, Chip, MAX_CHAR_TICKS, MAX_WIRE_CAPACITY};
-use uart_spec::BaudRate;
-use uart_spec::registers::{FifoTriggerLevel, IER, LSR, WordLength};
+use uart_spec::registers::{FifoTriggerLevel, IER, ISR, LCR, LSR, MCR, MSR, WordLength};
+use uart_spec::{BaudRate, ConfigRegisterDump, FifoAction, TransmitterWait};
 
 /// Reads a number of a script, from `least` to `most`.
 pub fn number_in(least: u64, most: u64, word: &[u8]) -> Result<u64, Cause>
@@ -31,7 +33,7 @@ pub fn number_in(least: u64, most: u64, word: &[u8]) -> Result<u64, Cause>
 }
 
 /// Returns the value of a hexadecimal digit.
-fn hex_digit(digit: u8) -> u8
+fn digit_value(digit: u8) -> u8
     requires { IsTrue (is_ascii_hexdigit digit) }
     ensures value { result ≡ digit_value digit }
     ensures small { result < 16 }
@@ -50,7 +52,7 @@ pub fn byte_in(word: &[u8]) -> Result<u8, Cause>
 {
     match word {
         [high, low] if high.is_ascii_hexdigit() && low.is_ascii_hexdigit() => {
-            Ok(16 * hex_digit(*high) + hex_digit(*low))
+            Ok(16 * digit_value(*high) + digit_value(*low))
         }
         _ => Err(Cause::BadHex),
     }
@@ -62,7 +64,7 @@ pub fn lines_in(word: &[u8]) -> Result<u8, Cause>
     ensures { result ≡ lines_in word.now }
 {
     match word {
-        [digit] if digit.is_ascii_hexdigit() => Ok(16 * hex_digit(*digit)),
+        [digit] if digit.is_ascii_hexdigit() => Ok(16 * digit_value(*digit)),
         _ => Err(Cause::BadHex),
     }
 }
@@ -89,7 +91,7 @@ fn pairs_of(word: &[u8]) -> ArrayVec<u8, CALL_BYTES>
     let mut bytes = ArrayVec::new();
     let mut rest = word;
     while let [high, low, after @ ..] = rest {
-        bytes.push(16 * hex_digit(*high) + hex_digit(*low));
+        bytes.push(16 * digit_value(*high) + digit_value(*low));
         rest = after;
     }
     bytes
@@ -264,4 +266,109 @@ pub fn word_length_in(word: &[u8]) -> Result<WordLength, Cause>
 {
     let bits = number_in(5, 8, word)?;
     Ok(WordLength::from_integer(bits as u8))
+}
+
+/// Reads the bits of MCR.
+#[tactic(auto, unfolding(crate::specs::Fields::outputs_in))]
+pub fn outputs_in(word: &[u8]) -> Result<MCR, Cause>
+    ensures { result ≡ outputs_in word.now }
+{
+    Ok(MCR::from_bits_retain(byte_in(word)?))
+}
+
+/// Reads a trigger level of FIFOs that are on.
+#[tactic(auto, unfolding(crate::specs::Fields::trigger_in))]
+pub fn trigger_in(word: &[u8]) -> Result<FifoTriggerLevel, Cause>
+    ensures { result ≡ trigger_in word.now }
+{
+    match word {
+        b"1" => Ok(FifoTriggerLevel::One),
+        b"4" => Ok(FifoTriggerLevel::Four),
+        b"8" => Ok(FifoTriggerLevel::Eight),
+        b"14" => Ok(FifoTriggerLevel::Fourteen),
+        _ => Err(Cause::BadWord),
+    }
+}
+
+/// Reads whether a break or an output is on.
+#[tactic(auto, unfolding(crate::specs::Fields::switch_in))]
+pub fn switch_in(word: &[u8]) -> Result<bool, Cause>
+    ensures { result ≡ switch_in word.now }
+{
+    match word {
+        b"on" => Ok(true),
+        b"off" => Ok(false),
+        _ => Err(Cause::BadWord),
+    }
+}
+
+/// Reads whether the scratch register is tested.
+#[tactic(auto, unfolding(crate::specs::Fields::check_in))]
+pub fn check_in(word: &[u8]) -> Result<bool, Cause>
+    ensures { result ≡ check_in word.now }
+{
+    if word == b"check".as_slice() {
+        Ok(true)
+    } else if word == b"nocheck".as_slice() {
+        Ok(false)
+    } else {
+        Err(Cause::BadWord)
+    }
+}
+
+/// Reads when to wait until the transmitter is empty.
+#[tactic(auto, unfolding(crate::specs::Fields::wait_in))]
+pub fn wait_in(word: &[u8]) -> Result<TransmitterWait, Cause>
+    ensures { result ≡ wait_in word.now }
+{
+    match word {
+        b"first" => Ok(TransmitterWait::First),
+        b"last" => Ok(TransmitterWait::Last),
+        b"never" => Ok(TransmitterWait::Never),
+        _ => Err(Cause::BadWord),
+    }
+}
+
+/// Reads what becomes of the FIFOs.
+#[tactic(auto, unfolding(crate::specs::Fields::fifos_in))]
+pub fn fifos_in(word: &[u8]) -> Result<FifoAction, Cause>
+    ensures { result ≡ fifos_in word.now }
+{
+    if word == b"keep".as_slice() {
+        Ok(FifoAction::Keep)
+    } else if word == b"reset".as_slice() {
+        Ok(FifoAction::Reset)
+    } else if word == b"disable".as_slice() {
+        Ok(FifoAction::Disable)
+    } else {
+        Err(Cause::BadWord)
+    }
+}
+
+// Returns the registers in the order in which `dump` prints them, with DLL and DLM at the end.
+fn registers_of(bytes: &[u8]) -> Result<ConfigRegisterDump, Cause>
+    ensures { result ≡ registers_of bytes.now }
+{
+    match bytes {
+        [ier, isr, lcr, mcr, lsr, msr, spr, dll, dlm] => Ok(ConfigRegisterDump {
+            ier: IER::from_bits_retain(*ier),
+            isr: ISR::from_bits_retain(*isr),
+            lcr: LCR::from_bits_retain(*lcr),
+            mcr: MCR::from_bits_retain(*mcr),
+            lsr: LSR::from_bits_retain(*lsr),
+            msr: MSR::from_bits_retain(*msr),
+            spr: *spr,
+            dll: *dll,
+            dlm: *dlm,
+        }),
+        _ => Err(Cause::BadHex),
+    }
+}
+
+/// Reads the registers of a dump, which are nine bytes.
+#[tactic(auto, unfolding(crate::specs::Fields::dump_in))]
+pub fn dump_in(word: &[u8]) -> Result<ConfigRegisterDump, Cause>
+    ensures { result ≡ dump_in word.now }
+{
+    registers_of(bytes_in(word)?.as_slice())
 }

@@ -5,18 +5,21 @@ ghost use Rattle.uart_language.specs.Text.{words_of};
 ghost use Rattle.uart_language.specs.Fields.{seen};
 ghost use Rattle.uart_language.specs.Items.{config_in, arrival_in, call_of, item_of, starts_with};
 ghost use Rattle.uart_language.specs.Items.{item_at, header_in, header_at, saying_of};
-ghost use Rattle.uart_language.specs.Sayings.{plain};
+ghost use Rattle.uart_language.specs.Items.{setup_in};
+ghost use Rattle.uart_language.specs.Sayings.{framed, plain};
 
 use super::cause::Cause;
 use super::fields::{
-    byte_in, bytes_in, char_ticks_in, chip_in, count_in, cts_in, cut_in, errors_in, interrupts_in,
-    level_in, limit_in, lines_in, rate_in, text_in, ticks_in, wire_capacity_in, word_length_in,
+    byte_in, bytes_in, char_ticks_in, check_in, chip_in, count_in, cts_in, cut_in, dump_in,
+    errors_in, fifos_in, interrupts_in, level_in, limit_in, lines_in, outputs_in, rate_in,
+    switch_in, text_in, ticks_in, trigger_in, wait_in, wire_capacity_in, word_length_in,
 };
 use super::text::{has_bad_byte, word_at, word_count};
 use super::words::{Word, has_count, is_placed, word_of};
 use std::num::NonZeroU64;
 use uart_events::{Call, Chip, Event};
-use uart_spec::Config;
+use uart_spec::registers::WordLength;
+use uart_spec::{BaudRate, Config, Setup};
 
 /// The meaning of a line after the first.
 #[derive(Drop)]
@@ -60,6 +63,27 @@ fn config_in(line: &[u8]) -> Result<Config, Cause>
     })
 }
 
+#[tactic(auto, unfolding(crate::specs::Items::setup_in))]
+fn setup_in(line: &[u8]) -> Result<Setup, Cause>
+    ensures { result ≡ setup_in (words_of line.now) }
+{
+    Ok(Setup {
+        checks_presence: check_in(word_at(line, 6))?,
+        wait: wait_in(word_at(line, 7))?,
+        outputs: outputs_in(word_at(line, 8))?,
+    })
+}
+
+fn framed(baud_rate: BaudRate, data_bits: WordLength) -> Config
+    ensures { result ≡ framed baud_rate data_bits }
+{
+    Config {
+        baud_rate,
+        data_bits,
+        ..Config::DEFAULT
+    }
+}
+
 #[tactic(auto, unfolding(crate::specs::Items::arrival_in))]
 fn arrival_in(line: &[u8]) -> Result<Event, Cause>
     ensures { result ≡ arrival_in (words_of line.now) }
@@ -80,6 +104,29 @@ fn call_of(word: Word, line: &[u8]) -> Result<Call, Cause>
 {
     Ok(match word {
         Word::Init => Call::Init(config_in(line)?),
+        Word::InitWith => Call::InitWith(config_in(line)?, setup_in(line)?),
+        Word::SetFrame => Call::SetFrame(framed(
+            rate_in(word_at(line, 1))?,
+            word_length_in(word_at(line, 2))?,
+        )),
+        Word::SetFrameWhenIdle => Call::SetFrameWhenIdle(framed(
+            rate_in(word_at(line, 1))?,
+            word_length_in(word_at(line, 2))?,
+        )),
+        Word::SetTriggerLevel => Call::SetTriggerLevel(trigger_in(word_at(line, 1))?),
+        Word::Attach => Call::Attach,
+        Word::SetBreak => Call::SetBreak(switch_in(word_at(line, 1))?),
+        Word::SetModemControl => Call::SetModemControl(outputs_in(word_at(line, 1))?),
+        Word::SetRts => Call::SetRts(switch_in(word_at(line, 1))?),
+        Word::SetDtr => Call::SetDtr(switch_in(word_at(line, 1))?),
+        Word::Quiesce => {
+            let outputs = outputs_in(word_at(line, 1))?;
+            Call::Quiesce(outputs, fifos_in(word_at(line, 2))?)
+        }
+        Word::Restore => Call::Restore(dump_in(word_at(line, 1))?),
+        Word::PeekModem => Call::PeekModem,
+        Word::IsIdle => Call::IsIdle,
+        Word::RetriggerInterrupts => Call::RetriggerInterrupts,
         Word::Loopback => Call::TestLoopback,
         Word::Present => Call::CheckPresent,
         Word::Connected => Call::CheckConnected,
@@ -104,6 +151,7 @@ fn call_of(word: Word, line: &[u8]) -> Result<Call, Cause>
         Word::Disable => Call::Disable(interrupts_in(word_at(line, 1))?),
         Word::Receive => Call::Receive(count_in(word_at(line, 1))?),
         Word::ReceiveExact => Call::ReceiveExact(count_in(word_at(line, 1))?),
+        Word::ReceiveWithErrors => Call::ReceiveWithErrors(count_in(word_at(line, 1))?),
         Word::Read => Call::Read(count_in(word_at(line, 1))?),
         Word::Send => Call::Send(bytes_in(word_at(line, 1))?),
         Word::SendExact => Call::SendExact(bytes_in(word_at(line, 1))?),

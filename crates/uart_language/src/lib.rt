@@ -26,5 +26,5 @@ pub use numbers::number_of;
 pub use parsing::{Script, parse};
 pub use play_error::PlayError;
 pub use rendering::{hex_digit, push_answer, render};
-pub use streams::{Fault, Input, Output, Std, read_all, write_all};
+pub use streams::{Input, Output, Std, StreamFault, read_all, write_all};
 pub use text::{first_line, has_bad_byte, word_at, word_count};

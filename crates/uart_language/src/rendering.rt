@@ -6,7 +6,7 @@ ghost use Rattle.std.specs.Char.{digit_char};
 ghost use Rattle.std.specs.Fmt.{decimal};
 ghost use Rattle.uart_language.specs.Output.{hex_byte, hex, send_error_name, remote_error_name};
 ghost use Rattle.uart_language.specs.Output.{init_error_text, divisor_error_text, attach_error_name};
-ghost use Rattle.uart_language.specs.Output.{loopback_error_text};
+ghost use Rattle.uart_language.specs.Output.{frame_error_text, loopback_error_text};
 ghost use Rattle.uart_language.specs.Output.{setup_text, status_text, answer_text, line};
 ghost use Rattle.uart_language.specs.Output.{received_text, all_received_text};
 ghost use Rattle.uart_language.specs.Output.{answer_lines, mark_letter, marks_text};
@@ -16,8 +16,8 @@ use bitflags::Flags;
 use std::alloc::{AllocError, Global};
 use uart_events::{Answer, ArrivalMark};
 use uart_spec::{
-    AttachError, ByteSendError, ConfigRegisterDump, InitError, InvalidDivisorError, LoopbackError,
-    Received, RemoteReadyToReceiveError,
+    AttachError, ByteSendError, ConfigRegisterDump, FrameError, InitError, InvalidDivisorError,
+    LoopbackError, Received, RemoteReadyToReceiveError,
 };
 
 /// Returns a digit below 16 as text, in lower case.
@@ -90,6 +90,15 @@ fn push_divisor_error(
             out.extend_from_slice(b"InvalidBaudRate OutOfRange ")?;
             push_number(alloc, out, *divisor as usize)
         }
+    }
+}
+
+fn push_frame_error(alloc: Global, out: &mut Vec<u8>, error: &FrameError) -> Result<(), AllocError>
+    ensures { OnOk result (out.new.items ≡ out.old.items ++ frame_error_text error.now) }
+{
+    match error {
+        FrameError::InvalidBaudRate(cause) => push_divisor_error(alloc, out, cause),
+        FrameError::Stalled => out.extend_from_slice(b"Stalled"),
     }
 }
 
@@ -258,6 +267,11 @@ pub fn push_answer(alloc: Global, out: &mut Vec<u8>, answer: &Answer) -> Result<
             out.extend_from_slice(b"err ")?;
             push_divisor_error(alloc, out, error)
         }
+        Answer::FrameWhenIdleRefused(error) => {
+            out.extend_from_slice(b"err ")?;
+            push_frame_error(alloc, out, error)
+        }
+        Answer::FifosOff => out.extend_from_slice(b"err FifosOffError"),
         Answer::AttachRefused(error) => {
             out.extend_from_slice(b"err ")?;
             out.extend_from_slice(attach_error_name(error))

@@ -21,7 +21,7 @@ const CHUNK: usize = 512;
 /// The error of a read or a write.
 #[derive(Clone, Copy, Debug, PartialEq, Eq, Error)]
 #[error("a read or a write failed")]
-pub struct Fault;
+pub struct StreamFault;
 
 // These traits are not those of std: beside the bytes, contracts see whether a call has failed.
 
@@ -36,7 +36,7 @@ pub trait Input {
     /// Fills the front of the buffer, and returns how many bytes that are.
     ///
     /// `Ok(0)` for a buffer that is not empty is the end of the input.
-    fn read(&mut self, buf: &mut [u8]) -> Result<usize, Fault>
+    fn read(&mut self, buf: &mut [u8]) -> Result<usize, StreamFault>
         ensures bound { IfOk result (λ n. n ≤ length buf.new) }
         ensures bytes { ReadConsumes (remaining self.old) (remaining self.new) result buf.new }
         ensures fault { has_failed self.new ≡ (has_failed self.old || is_err result) };
@@ -51,7 +51,7 @@ pub trait Output {
     ghost has_failed: { Self → Bool };
 
     /// Writes bytes from the front, and returns how many. If it fails, nothing is written.
-    fn write(&mut self, bytes: &[u8]) -> Result<usize, Fault>
+    fn write(&mut self, bytes: &[u8]) -> Result<usize, StreamFault>
         ensures bound { IfOk result (λ n. n ≤ length bytes.now) }
         ensures bytes { WriteAppends (contents self.old) (contents self.new) result bytes.now }
         ensures fault { has_failed self.new ≡
@@ -87,12 +87,12 @@ impl<T: Read> Input for Std<T> {
 
     ghost has_failed = { λ s. std_has_failed s };
 
-    fn read(&mut self, buf: &mut [u8]) -> Result<usize, Fault> {
+    fn read(&mut self, buf: &mut [u8]) -> Result<usize, StreamFault> {
         match self.inner.read(buf) {
             Ok(count) => Ok(count),
             Err(_) => {
                 self.failed = true;
-                Err(Fault)
+                Err(StreamFault)
             }
         }
     }
@@ -105,7 +105,7 @@ impl<T: Write> Output for Std<T> {
 
     ghost has_failed = { λ s. std_has_failed s };
 
-    fn write(&mut self, bytes: &[u8]) -> Result<usize, Fault> {
+    fn write(&mut self, bytes: &[u8]) -> Result<usize, StreamFault> {
         match self.inner.write(bytes) {
             Ok(count) => {
                 if count == 0 && !bytes.is_empty() {
@@ -115,7 +115,7 @@ impl<T: Write> Output for Std<T> {
             }
             Err(_) => {
                 self.failed = true;
-                Err(Fault)
+                Err(StreamFault)
             }
         }
     }
@@ -155,8 +155,9 @@ pub fn read_all<R: Input>(alloc: Global, reader: &mut R) -> Result<Vec<u8>, Play
 ///
 /// # Errors
 ///
-/// [`Fault`] if the writer failed, or accepted no byte; a beginning of the bytes may be written.
-pub fn write_all<W: Output>(writer: &mut W, bytes: &[u8]) -> Result<(), Fault>
+/// [`StreamFault`] if the writer failed, or accepted no byte; a beginning of the bytes may be
+/// written.
+pub fn write_all<W: Output>(writer: &mut W, bytes: &[u8]) -> Result<(), StreamFault>
     ensures all { OnOk result (Appends (W.contents writer.old) (W.contents writer.new) bytes.now) }
     ensures front { WritesFront (W.contents writer.old) (W.contents writer.new) bytes.now }
     ensures fault { W.has_failed writer.new ≡ (W.has_failed writer.old || is_err result) }
@@ -164,8 +165,8 @@ pub fn write_all<W: Output>(writer: &mut W, bytes: &[u8]) -> Result<(), Fault>
     let mut done = 0;
     while done < bytes.len() {
         match writer.write(&bytes[done..]) {
-            Err(_) => return Err(Fault),
-            Ok(0) => return Err(Fault),
+            Err(_) => return Err(StreamFault),
+            Ok(0) => return Err(StreamFault),
             Ok(count) => done += count,
         }
     }

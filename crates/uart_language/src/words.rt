@@ -80,9 +80,39 @@ pub enum Word {
     Write,
     /// `text`: the `write_text` of the terminal.
     Text,
+    /// `init-with`: the driver's `init_with`.
+    InitWith,
+    /// `set-frame`: the driver's `set_frame`.
+    SetFrame,
+    /// `set-frame-when-idle`: the driver's `set_frame_when_idle`.
+    SetFrameWhenIdle,
+    /// `set-trigger-level`: the driver's `set_trigger_level`.
+    SetTriggerLevel,
+    /// `attach`: the driver's `attach`.
+    Attach,
+    /// `set-break`: the driver's `set_break`.
+    SetBreak,
+    /// `set-modem-control`: the driver's `set_modem_control`.
+    SetModemControl,
+    /// `set-rts`: the driver's `set_rts`.
+    SetRts,
+    /// `set-dtr`: the driver's `set_dtr`.
+    SetDtr,
+    /// `quiesce`: the driver's `quiesce`.
+    Quiesce,
+    /// `restore`: the driver's `restore`.
+    Restore,
+    /// `peek-modem`: the driver's `peek_modem`.
+    PeekModem,
+    /// `is-idle`: the driver's `is_idle`.
+    IsIdle,
+    /// `retrigger-interrupts`: the driver's `retrigger_interrupts`.
+    RetriggerInterrupts,
+    /// `receive-with-errors`: the driver's `receive_with_errors`.
+    ReceiveWithErrors,
 }
 
-const WORDS: [Word; 37] = [
+const WORDS: [Word; 52] = [
     Word::Chip,
     Word::Limit,
     Word::Tick,
@@ -120,6 +150,21 @@ const WORDS: [Word; 37] = [
     Word::SendExact,
     Word::Write,
     Word::Text,
+    Word::InitWith,
+    Word::SetFrame,
+    Word::SetFrameWhenIdle,
+    Word::SetTriggerLevel,
+    Word::Attach,
+    Word::SetBreak,
+    Word::SetModemControl,
+    Word::SetRts,
+    Word::SetDtr,
+    Word::Quiesce,
+    Word::Restore,
+    Word::PeekModem,
+    Word::IsIdle,
+    Word::RetriggerInterrupts,
+    Word::ReceiveWithErrors,
 ];
 
 impl Word {
@@ -165,6 +210,21 @@ impl Word {
             Word::SendExact => b"send-exact",
             Word::Write => b"write",
             Word::Text => b"text",
+            Word::InitWith => b"init-with",
+            Word::SetFrame => b"set-frame",
+            Word::SetFrameWhenIdle => b"set-frame-when-idle",
+            Word::SetTriggerLevel => b"set-trigger-level",
+            Word::Attach => b"attach",
+            Word::SetBreak => b"set-break",
+            Word::SetModemControl => b"set-modem-control",
+            Word::SetRts => b"set-rts",
+            Word::SetDtr => b"set-dtr",
+            Word::Quiesce => b"quiesce",
+            Word::Restore => b"restore",
+            Word::PeekModem => b"peek-modem",
+            Word::IsIdle => b"is-idle",
+            Word::RetriggerInterrupts => b"retrigger-interrupts",
+            Word::ReceiveWithErrors => b"receive-with-errors",
         }
     }
 }
@@ -196,6 +256,8 @@ pub fn has_count(word: Word, count: usize) -> bool
     match word {
         Word::Chip => count == 4 || count == 5,
         Word::Init => count == 6,
+        Word::InitWith => count == 9,
+        Word::SetFrame | Word::SetFrameWhenIdle | Word::Quiesce => count == 3,
         Word::Arrive => count == 2 || count == 3,
         Word::Limit
         | Word::Tick
@@ -209,7 +271,14 @@ pub fn has_count(word: Word, count: usize) -> bool
         | Word::Send
         | Word::SendExact
         | Word::Write
-        | Word::Text => count == 2,
+        | Word::Text
+        | Word::SetTriggerLevel
+        | Word::SetBreak
+        | Word::SetModemControl
+        | Word::SetRts
+        | Word::SetDtr
+        | Word::Restore
+        | Word::ReceiveWithErrors => count == 2,
         _ => count == 1,
     }
 }

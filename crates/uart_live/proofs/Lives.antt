@@ -192,7 +192,7 @@ live-arrival byte errors c l w =
     (safe_bring loopback c.fifo c.receiver (cut_of c byte) errors w.whole.sound.chip.receiver l)) refl
     (none_lost-arrival loopback c.fifo (cut_of c byte) errors c.receiver w.none_lost, w.room)
 
-live-expire : (c : ChipState) → IsLive c → IsLive (expire c)
+pub live-expire : (c : ChipState) → IsLive c → IsLive (expire c)
 live-expire c w =
     let r = w.whole.sound.chip.receiver in
     live-part c (expire c) w

@@ -9,7 +9,7 @@ use uart_chip::{Character, Fifo, Journal, Origin, Wire};
 use uart_events::ArrivalMark;
 use uart_spec::FIFO_SIZE;
 
-/// The most bytes that a [`FixedWire`] has room for.
+/// The most bytes that the wire of a live chip has room for.
 pub const WIRE_ROOM: usize = 64;
 
 // The places of a `FixedWire`: each byte is in two of them.

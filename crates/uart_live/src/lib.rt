@@ -9,7 +9,7 @@ mod errors;
 mod fixed;
 pub mod laws;
 mod live;
-mod sound;
+pub mod sound;
 
 pub use errors::{ChipError, InputError, RestoreError};
 pub use fixed::WIRE_ROOM;

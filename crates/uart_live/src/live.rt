@@ -10,7 +10,7 @@ ghost use Rattle.uart_chip.specs.Transmitter.{held};
 ghost use Rattle.uart_live.specs.declared.errors.ChipError.{ChipError};
 ghost use Rattle.uart_live.specs.declared.errors.InputError.{InputError};
 ghost use Rattle.uart_live.specs.Live.{IsLive};
-ghost use Rattle.uart_live.specs.Held.{arrive_holding};
+ghost use Rattle.uart_live.specs.Held.{arrive_holding, expire};
 ghost use Rattle.uart_live.specs.Refused.{refusal};
 ghost use Rattle.uart_spec.specs.declared.baud.TheConstants.{NUM_REGISTERS};
 ghost use Rattle.uart_spec.specs.declared.registers.interrupt_status.TheConstants.ISR;
@@ -135,6 +135,7 @@ impl LiveChip {
     /// let value = chip.read(offset);
     /// let line = chip.is_interrupting();
     /// ```
+    #[inline]
     pub fn read(&mut self, offset: u8) -> u8
         requires { offset < NUM_REGISTERS }
         ensures answers { result ≡ spec.answer offset self.old }
@@ -174,6 +175,7 @@ impl LiveChip {
     ///     chip.write(offsets::DATA as u8, value);
     /// }
     /// ```
+    #[inline]
     pub fn sends_at_once(&self) -> bool
         ensures sends { result ≡ sending_spec.sends_at_once self.now }
         ensures live { IsLive self.now }
@@ -196,6 +198,7 @@ impl LiveChip {
     ///     chip.write(offsets::DATA as u8, value);
     /// }
     /// ```
+    #[inline]
     pub fn send_at_once(&mut self, value: u8)
         requires { sending_spec.sends_at_once self.old ≡ true }
         ensures { self.new ≡ sending_spec.send_at_once value self.old }
@@ -243,6 +246,7 @@ impl LiveChip {
     ///     chip.arrive(byte, LSR::empty())?;
     /// }
     /// ```
+    #[inline]
     pub fn arrive(&mut self, byte: u8, errors: LSR) -> Result<(), InputError>
         ensures accepted { IsWithin errors.0 LSR.CHARACTER_ERRORS.0 →
             IsOk result × (self.new ≡ spec.arrive_live byte errors.0 self.old) }
@@ -357,6 +361,7 @@ impl LiveChip {
     /// ```
     /// chip.take_wire(sent);
     /// ```
+    #[inline]
     pub fn take_wire(&mut self, count: usize)
         ensures { self.new ≡ spec.take_wire count self.old }
     {
@@ -364,10 +369,43 @@ impl LiveChip {
     }
 
     /// Returns how many more bytes the wire has room for.
+    #[inline]
     pub fn wire_room(&self) -> usize
-        ensures { result ≡ self.now.transmitter.capacity - length self.now.transmitter.wire }
+        ensures room { result ≡ self.now.transmitter.capacity - length self.now.transmitter.wire }
+        ensures live { IsLive self.now }
     {
         self.uart.transmitter().wire_room()
+    }
+
+    /// Returns whether what the guest sends comes back to its receiver.
+    pub fn is_loopback(&self) -> bool
+        ensures { result ≡ spec.is_loopback self.now.latches }
+    {
+        self.uart.is_loopback()
+    }
+
+    /// Returns whether the guest has DLAB set: then DATA and IER are the divisor latch.
+    pub fn is_dlab_set(&self) -> bool
+        ensures { result ≡ spec.is_dlab_set self.now.latches }
+    {
+        self.uart.is_dlab_set()
+    }
+
+    /// Returns whether the guest has the FIFOs on.
+    pub fn has_fifo_on(&self) -> bool
+        ensures { result ≡ self.now.fifo }
+    {
+        self.uart.fifo()
+    }
+
+    /// Makes a reception timeout due now, if the FIFO is on and a character waits in it.
+    ///
+    /// For an owner who lets no time pass between a character and its timeout. While nothing moves
+    /// in the transmitter, this is what four character times do. Check `is_interrupting` after it.
+    pub fn expire_timeout(&mut self)
+        ensures { self.new ≡ expire self.old }
+    {
+        self.uart.expire_timeout();
     }
 
     /// Returns how many characters can be received before one is lost. In loopback that is 0.

@@ -7,5 +7,5 @@
 pub mod laws;
 mod playing;
 
-pub use playing::play;
-pub use uart_language::{Fault, Input, Output, PlayError, Std};
+pub use playing::{machine_for, play};
+pub use uart_language::{Input, Output, PlayError, Std, StreamFault};

@@ -10,9 +10,9 @@ use Rattle.uart_events.specs.declared.call.Call.{Call}
 use Rattle.uart_events.specs.declared.call.Answer.{Answer}
 use Rattle.uart_calls.specs.Meaning.{Performed}
 use Rattle.uart_language.specs.Output.{answer_lines}
-use Rattle.uart_port.specs.declared.ports.Fault.{Fault}
+use Rattle.uart_port.specs.declared.ports.PortFault.{PortFault}
 use Rattle.uart_port.specs.declared.ports.GuardedPorts.{GuardedPorts}
-use Rattle.uart_port.specs.declared.playing.Journal.{Journal}
+use Rattle.uart_port.specs.declared.playing.Report.{Report}
 use Rattle.uart_port.specs.Ports.{Attempt, GuardedStep, file_of, fault_of}
 use Rattle.uart_port.specs.Trace.{traced}
 
@@ -21,7 +21,7 @@ abbrev pub Terminal : Type 0 → Type 0
 Terminal F = Uart16550Tty (Ports (GuardedPorts F))
 
 -- the first fault of the ports
-abbrev pub fault_in : {F : Type 0} → Terminal F → Option Fault
+abbrev pub fault_in : {F : Type 0} → Terminal F → Option PortFault
 fault_in s = fault_of (backend_of (inner_of s)).access
 
 -- the driver made this call over the ports, and this is its answer
@@ -57,13 +57,13 @@ pub record IsPlayed {F : Type 0} (step : F → Attempt → F → Type 0) (s : Te
   pub made : Answered step s calls answers t ⊎ IsStopped step s calls answers t
   pub printed : Appends old new (answer_lines answers)
 
--- the writer to which a journal prints
-abbrev pub writer_of : {W T : Type 0} → Journal W T → W
-writer_of journal = journal.writer
+-- the writer to which a report prints
+abbrev pub writer_of : {W T : Type 0} → Report W T → W
+writer_of report = report.writer
 
 -- the bytes of its trace, if there is one and they are known
-abbrev pub traced_by : {W T : Type 0} → (T → Option (List ℕ)) → Journal W T → Option (List ℕ)
-traced_by contents journal = traced contents journal.trace
+abbrev pub traced_by : {W T : Type 0} → (T → Option (List ℕ)) → Report W T → Option (List ℕ)
+traced_by contents report = traced contents report.trace
 
 -- a driver that has made no access, with this limit, at eight ports of this file, none of which has failed
 pub record IsTerminalAt {F : Type 0} (port limit : ℕ) (given : F) (terminal : Terminal F) : Type 0 where

@@ -4,7 +4,7 @@ use Rattle.std.specs.declared.io.Error.{Error}
 use Rattle.uart_spec.specs.declared.access.Access.{Access}
 use Rattle.uart_spec.specs.declared.access.Access.TheVariants.{Read, Write}
 use Rattle.uart_port.specs.declared.ports.TheConstants.{FLOATING}
-use Rattle.uart_port.specs.declared.ports.Fault.{Fault}
+use Rattle.uart_port.specs.declared.ports.PortFault.{PortFault}
 use Rattle.uart_port.specs.declared.ports.GuardedPorts.{GuardedPorts}
 
 -- an access to a port that was made, with its answer or its value, or one that failed for a cause
@@ -25,7 +25,7 @@ write_attempt port value (Err cause) = Failed port cause
 abbrev pub file_of : {F : Type 0} → GuardedPorts F → F
 file_of ports = ports.file
 
-abbrev pub fault_of : {F : Type 0} → GuardedPorts F → Option Fault
+abbrev pub fault_of : {F : Type 0} → GuardedPorts F → Option PortFault
 fault_of ports = ports.fault
 
 -- which port an access goes to
@@ -47,7 +47,7 @@ pub record IsMade {F : Type 0} (step : F → Attempt → F → Type 0) (old : Gu
 -- the file failed at the access, which is the first fault, with its cause
 pub record IsFailed {F : Type 0} (step : F → Attempt → F → Type 0) (old : GuardedPorts F) (access : Access)
     (new : GuardedPorts F) : Type 0 where
-  pub first : Fault
+  pub first : PortFault
   pub failed : step (file_of old) (Failed (port_of access) first.cause) (file_of new)
   pub fault : fault_of new ≡ Some first
   pub port : first.port ≡ port_of access

@@ -9,8 +9,8 @@ ghost use Rattle.uart_16550.specs.Pio.{IsPortBase};
 ghost use Rattle.uart_port.specs.Playing.{IsPlayed, IsTerminalAt, writer_of, traced_by};
 ghost use Rattle.uart_port.specs.Trace.{answer_line, if_driven, is_driven, traced};
 
-use crate::end::End;
 use crate::ports::{GuardedPorts, PortFile};
+use crate::report_error::ReportError;
 use crate::trace::Trace;
 use std::alloc::Global;
 use std::io::Write;
@@ -37,7 +37,7 @@ pub fn terminal_at<F: PortFile + Drop>(port: u16, limit: NonZeroU64, file: F) ->
 
 /// Where answers are printed and, if there is one, the trace of the run.
 #[derive(Drop)]
-pub struct Journal<W, T> {
+pub struct Report<W, T> {
     alloc: Global,
     writer: W,
     trace: Option<Trace<T>>,
@@ -50,8 +50,8 @@ fn is_driven(call: &Call) -> bool
     !matches!(call, Call::Next)
 }
 
-impl<W: Write, T: Write> Journal<W, T> {
-    /// Returns a journal that prints to this writer, and writes this trace.
+impl<W: Write, T: Write> Report<W, T> {
+    /// Returns a report that prints to this writer, and writes this trace.
     pub fn new(alloc: Global, writer: W, trace: Option<Trace<T>>) -> Self
     where
         W: Drop,
@@ -59,7 +59,7 @@ impl<W: Write, T: Write> Journal<W, T> {
         ensures writer { writer_of result ≡ writer }
         ensures trace { traced_by T.contents result ≡ traced T.contents trace }
     {
-        Journal {
+        Report {
             alloc,
             writer,
             trace,
@@ -67,20 +67,20 @@ impl<W: Write, T: Write> Journal<W, T> {
     }
 
     // Writes that this call is made, as its line of the script.
-    fn call(&mut self, call: &Call, text: &[u8]) -> Result<(), End>
+    fn call(&mut self, call: &Call, text: &[u8]) -> Result<(), ReportError>
         ensures writer { writer_of self.new ≡ writer_of self.old }
         ensures trace { OnOk result
             (Appends (traced_by T.contents self.old) (traced_by T.contents self.new)
             (if_driven call.now (line text.now))) }
     {
         match &mut self.trace {
-            Some(trace) if is_driven(call) => trace.call(text).map_err(End::Trace),
+            Some(trace) if is_driven(call) => trace.call(text).map_err(ReportError::Trace),
             _ => Ok(()),
         }
     }
 
     // Prints the answer of this call, which has returned.
-    fn answer(&mut self, call: &Call, answer: &Answer) -> Result<(), End>
+    fn answer(&mut self, call: &Call, answer: &Answer) -> Result<(), ReportError>
         ensures printed { OnOk result
             (Appends (W.contents (writer_of self.old)) (W.contents (writer_of self.new))
             (line (answer_text answer.now))) }
@@ -91,11 +91,11 @@ impl<W: Write, T: Write> Journal<W, T> {
         let mut text = Vec::new(self.alloc);
         push_answer(self.alloc, &mut text, answer)?;
         match &mut self.trace {
-            Some(trace) if is_driven(call) => trace.answer(&text).map_err(End::Trace)?,
+            Some(trace) if is_driven(call) => trace.answer(&text).map_err(ReportError::Trace)?,
             _ => {}
         }
         text.extend_from_slice(b"\n")?;
-        self.writer.write_all(&text).map_err(End::Output)
+        self.writer.write_all(&text).map_err(ReportError::Output)
     }
 }
 
@@ -112,21 +112,21 @@ pub fn play<F: PortFile, W: Write, T: Write>(
     uart: &mut Terminal<F>,
     calls: &[Call],
     lines: &[&[u8]],
-    journal: &mut Journal<W, T>,
-) -> Result<(), End>
+    report: &mut Report<W, T>,
+) -> Result<(), ReportError>
     requires { All IsRunnable calls.now }
     ensures { OnOk result
-        (IsPlayed F.step uart.old calls.now (W.contents (writer_of journal.old))
-        (W.contents (writer_of journal.new)) uart.new) }
+        (IsPlayed F.step uart.old calls.now (W.contents (writer_of report.old))
+        (W.contents (writer_of report.new)) uart.new) }
 {
     for i in 0..calls.len() {
         let call = &calls[i];
-        journal.call(call, lines.get(i).copied().unwrap_or(&[]))?;
+        report.call(call, lines.get(i).copied().unwrap_or(&[]))?;
         let answer = perform(uart, call);
         if uart.inner().backend().access().fault().is_some() {
             return Ok(());
         }
-        journal.answer(call, &answer)?;
+        report.answer(call, &answer)?;
     }
     Ok(())
 }

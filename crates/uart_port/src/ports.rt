@@ -28,7 +28,7 @@ pub trait PortFile {
 
 /// The first access that failed.
 #[derive(Debug, Drop)]
-pub struct Fault {
+pub struct PortFault {
     /// The port.
     pub port: u16,
     /// The error of the file.
@@ -42,7 +42,7 @@ pub struct Fault {
 #[derive(Drop)]
 pub struct GuardedPorts<F> {
     file: F,
-    fault: Option<Fault>,
+    fault: Option<PortFault>,
 }
 
 impl<F: PortFile> GuardedPorts<F> {
@@ -57,7 +57,7 @@ impl<F: PortFile> GuardedPorts<F> {
     }
 
     /// Returns the first access that failed, if any did.
-    pub fn fault(&self) -> Option<&Fault>
+    pub fn fault(&self) -> Option<&PortFault>
         ensures { option_map (λ fault. fault.now) result ≡ fault_of self.now }
     {
         self.fault.as_ref()
@@ -74,7 +74,7 @@ impl<F: PortFile> PortAccess for GuardedPorts<F> {
         match self.file.read(port) {
             Ok(value) => value,
             Err(cause) => {
-                self.fault = Some(Fault { port, cause });
+                self.fault = Some(PortFault { port, cause });
                 FLOATING
             }
         }
@@ -85,7 +85,7 @@ impl<F: PortFile> PortAccess for GuardedPorts<F> {
             return;
         }
         if let Err(cause) = self.file.write(port, value) {
-            self.fault = Some(Fault { port, cause });
+            self.fault = Some(PortFault { port, cause });
         }
     }
 }

@@ -1,8 +1,8 @@
 -- That ring calls leave the THR-empty interrupt armed.
 use Rattle.std.proofs.Common.{◌≡◌, ◌<◌, ◌==◌, ◌||◌, ◌&&◌, ◌⊎◌, ℕ, zero, suc, Bool, true, false, not, List}
-use Rattle.std.proofs.Common.{[], ◌∷◌, ◌++◌, length, take, drop, length-take, length-drop, append-nil, refl, arith, ◌∙◌, ap, inl, inr}
-use Rattle.std.proofs.Common.{Option, Some, None, bit_and, bit_or, if◌then◌else◌, MatchBool}
-use Rattle.std.specs.Prelude.{⊤}
+use Rattle.std.proofs.Common.{[], ◌∷◌, ◌++◌, length, take, length-take, append-nil, refl, arith, ◌∙◌, ap, inl, inr}
+use Rattle.std.proofs.Common.{Option, Some, None, Result, bit_and, bit_or, if◌then◌else◌, MatchBool, nat_lt}
+use Rattle.std.specs.Prelude.{⊤, MatchOption}
 use Rattle.std.proofs.lemmas.Bool.Decides.{nat_tests}
 use lib.Bits.{or_zero_r}
 use Rattle.bitflags.specs.Sets.{without}
@@ -26,9 +26,14 @@ use Rattle.uart_16550.specs.Receive.{Receives, Hit}
 use Rattle.uart_16550.specs.Transmit.{Sends, SendMiss, LinesAllow, Burst, burst_limit, burst_size, data_writes}
 use Rattle.uart_16550.specs.Status.{Enables}
 use Rattle.uart_ring.specs.Ring.{RingFields, OnDriver, Stays, RingNext, RingTimes, IfAny, with_queued, without_taken}
-use Rattle.uart_ring.specs.Ring.{unchanged, is_full}
-use Rattle.uart_ring.specs.Transmit.{ArmsIfLeft, Pumps, Queues, ResumesTransmit}
-use Rattle.uart_ring.specs.Receive.{PausesIfFull, FillsReceiveRing, EndsPause, TakesBytes}
+use Rattle.uart_ring.specs.Ring.{unchanged, is_full, waiting, sendable, allowed, RingSets, with_urgent, with_hold, with_low_mark, with_low}
+use Rattle.uart_ring.specs.Ring.{with_rounds, cleared, without_sent}
+use Rattle.uart_ring.specs.Transmit.{ArmsIfLeft, Pumps, Queues, ResumesTransmit, Holds, Releases, QueuesUrgent, ClearsTransmit}
+use Rattle.uart_ring.specs.Transmit.{SetsLowMark, TakesLow}
+use Rattle.uart_ring.specs.Receive.{PausesIfFull, FillsReceiveRing, EndsPause, TakesBytes, ClearsReceive}
+use Rattle.uart_ring.specs.Storm.{LooksOnceMore, CountsUnfinished, CountsRound, HandlesRound, StaysStuck, TriesToHandle, Restarts}
+use Rattle.uart_ring.specs.Storm.{not_paused}
+use Rattle.uart_ring.specs.declared.ring.storm.StuckError.{StuckError}
 use Rattle.uart_ring.specs.Status.{NotesLine, NotesModem, TakesLine, TakesModem}
 use Rattle.uart_ring.specs.Service.{ShowsInterrupt, ServesInterrupt, ServesOne, Stops, ServesUpTo, Services}
 use Rattle.uart_ring.specs.Handle.{Retriggers, RetriggersUnlessIdle, Handles}
@@ -43,7 +48,8 @@ use Rattle.uart_ring.specs.Armed.{Arms, ShowsCtsClear, ArmsUnlessHeld}
 use Rattle.uart_ring.proofs.RegisterBits.{and_or, and_assoc, or_and}
 use Rattle.uart_ring.proofs.Pausing.{ChangesIer, Pausing, joined_with, rid_of}
 use Rattle.uart_ring.proofs.Losses.{Carries, received_carries, shows_carry, serves_one_carries, times_carry, shows_none}
-use Rattle.uart_ring.proofs.Losses.{serves_up_to_carries}
+use Rattle.uart_ring.proofs.Losses.{serves_up_to_carries, handles_carry, enables_carry}
+use Rattle.uart_ring.proofs.Sending.{fewer_sendable, none_stuck, none_waiting, hold_none, clear_none}
 
 -- ---- bits of IER
 
@@ -214,8 +220,8 @@ leaves_then f mid after l m c first second = λ off known keeps armed.
 leaves_stays : Implies Stays LeavesArmed
 leaves_stays f l after (is, same) = λ off known keeps armed. rw (is, same) armed
 
--- the same waits to be sent, and what was live is live
-leaves_live : (f : RingFields) (l : List Access) (after : RingFields) → after.transmit.items ≡ f.transmit.items →
+-- the same may be sent, and what was live is live
+leaves_live : (f : RingFields) (l : List Access) (after : RingFields) → sendable after ≡ sendable f →
     ((known : ThrEmpty) → KeepsIer known l → IsLive known → IsLive (known_after_all known l)) → LeavesArmed f l after
 leaves_live f l after items live = λ off known keeps armed. go known keeps armed
   where
@@ -223,18 +229,18 @@ leaves_live f l after items live = λ off known keeps armed. go known keeps arme
     go known keeps (inl none) = inl (items ∙ none)
     go known keeps (inr is) = inr (live known keeps is)
 
-leaves_others : (f : RingFields) (l : List Access) (after : RingFields) → after.transmit.items ≡ f.transmit.items → AllOtherReads l →
+leaves_others : (f : RingFields) (l : List Access) (after : RingFields) → sendable after ≡ sendable f → AllOtherReads l →
     LeavesArmed f l after
 leaves_others f l after items others = leaves_live f l after items (λ known keeps live. live_others known l others live)
 
 -- a pump whose send leaves the interrupt due arms, or else this holds
 pumped_arms : (H : Type 0) (f : RingFields) (l : List Access) (after : RingFields) (p : Pumps f l after) (known : ThrEmpty) →
-    (0 < length (take FIFO_SIZE f.transmit.items) → ((known_after_all known p.1.0.front).due ≡ true) ⊎ H) →
+    (0 < length (take FIFO_SIZE (sendable f)) → ((known_after_all known p.1.0.front).due ≡ true) ⊎ H) →
     IsArmed (known_after_all known l) after ⊎ H
-pumped_arms H f l after (sent, (t, same)) known due = go (drop sent f.transmit.items) refl t.second
+pumped_arms H f l after (sent, (t, same)) known due = go (sendable (without_sent sent f)) refl t.second
   where
-    items : after.transmit.items ≡ drop sent f.transmit.items
-    items = ap (λ (g : RingFields). g.transmit.items) same
+    left : sendable after ≡ sendable (without_sent sent f)
+    left = ap sendable same
 
     enabled : (byte : ℕ) (bytes : List ℕ) → ArmsIfLeft (byte ∷ bytes) t.mid t.back after.driver →
         ((known_after_all known t.front).due ≡ true) ⊎ H → IsArmed (known_after_all known l) after ⊎ H
@@ -242,16 +248,16 @@ pumped_arms H f l after (sent, (t, same)) known due = go (drop sent f.transmit.i
     enabled byte bytes arms (inl is) = inl (inr (rw (t.whole, after-append known t.front t.back)
         (enabled_live (known_after_all known t.front) t.mid t.back after.driver arms is)))
 
-    go : (left : List ℕ) → drop sent f.transmit.items ≡ left → ArmsIfLeft left t.mid t.back after.driver →
+    go : (rest : List ℕ) → sendable (without_sent sent f) ≡ rest → ArmsIfLeft rest t.mid t.back after.driver →
         IsArmed (known_after_all known l) after ⊎ H
-    go [] e arms = inl (inl (items ∙ e))
+    go [] e arms = inl (inl (left ∙ e))
     go (byte ∷ bytes) e arms =
-        let long : 0 < length (drop sent f.transmit.items) = rw e (omega arith) in
-        let some : 0 < length (take FIFO_SIZE f.transmit.items) = omega (
+        let long : 0 < length (sendable (without_sent sent f)) = rw e (omega arith) in
+        let some : 0 < length (take FIFO_SIZE (sendable f)) = omega (
           arith,
           long,
-          length-drop sent f.transmit.items,
-          length-take FIFO_SIZE f.transmit.items,
+          fewer_sendable f sent,
+          length-take FIFO_SIZE (sendable f),
         ) in
         enabled byte bytes arms (due some)
 
@@ -262,14 +268,14 @@ surely (inr none) = absurd none
 -- a pump arms
 pub pumps_arm : Implies Pumps Arms
 pumps_arm f l after p = λ off known. surely (pumped_arms ⊥ f l after p known
-    (λ some. inl (sent_due known (settings_of f.driver) (take FIFO_SIZE f.transmit.items) p.0 p.1.0.front off p.1.0.first.0 some)))
+    (λ some. inl (sent_due known (settings_of f.driver) (take FIFO_SIZE (sendable f)) p.0 p.1.0.front off p.1.0.first.0 some)))
 
 -- also with CTS checking, unless CTS is clear
 pumps_arm_unless_held : Implies Pumps ArmsUnlessHeld
 pumps_arm_unless_held f l after p = λ known.
     let t = p.1.0 in
     pumped_arms (ShowsCtsClear l) f l after p known (λ some. in_whole t.front t.back l t.whole
-    (sent_or_held known (settings_of f.driver) (take FIFO_SIZE f.transmit.items) p.0 t.front t.first.0 some))
+    (sent_or_held known (settings_of f.driver) (take FIFO_SIZE (sendable f)) p.0 t.front t.first.0 some))
   where
     in_whole : {T : Type 0} → (front back whole : List Access) → whole ≡ front ++ back → T ⊎ ShowsCtsClear front → T ⊎ ShowsCtsClear whole
     in_whole front back whole is (inl h) = inl h
@@ -279,7 +285,7 @@ pumps_leave : Implies Pumps LeavesArmed
 pumps_leave f l after t = λ off known keeps armed. pumps_arm f l after t off known
 
 pausing_leaves : (change : ℕ → ℕ) (paused when : Bool) → LeavesThrEmpty change → Implies (Pausing change paused when) LeavesArmed
-pausing_leaves change paused true kept f l after t = leaves_live f l after (ap (λ (g : RingFields). g.transmit.items) t.1)
+pausing_leaves change paused true kept f l after t = leaves_live f l after (ap sendable t.1)
     (λ known keeps live. changed_live change kept known f.driver l after.driver t.0 keeps live)
 pausing_leaves change paused false kept f l after t = leaves_stays f l after t
 
@@ -291,18 +297,18 @@ ends_pause_leaves f l after t = pausing_leaves (joined_with IER.DATA_READY.0) fa
 
 fills_leave : Implies FillsReceiveRing LeavesArmed
 fills_leave f l after (bytes, t) =
-    let items : t.mid.transmit.items ≡ f.transmit.items = ap (λ (g : RingFields). g.transmit.items) t.first.1 in
+    let items : sendable t.mid ≡ sendable f = ap sendable t.first.1 in
     let first = leaves_others f t.front t.mid items (receives_others _ bytes (settings_of f.driver) t.front t.first.0.0) in
     rw t.whole (leaves_then f t.mid after t.front t.back (received_carries _ bytes f t.front t.mid t.first) first
     (pauses_leave t.mid t.back after t.second))
 
 notes_line_leave : Implies NotesLine LeavesArmed
 notes_line_leave f l after (status, ((read, is, shown, changed), same)) =
-    leaves_others f l after (ap (λ (g : RingFields). g.transmit.items) same) (rw is (refl, tt))
+    leaves_others f l after (ap sendable same) (rw is (refl, tt))
 
 notes_modem_leave : Implies NotesModem LeavesArmed
 notes_modem_leave f l after (status, ((read, is, shown, changed), same)) =
-    leaves_others f l after (ap (λ (g : RingFields). g.transmit.items) same) (rw is (refl, tt))
+    leaves_others f l after (ap sendable same) (rw is (refl, tt))
 
 -- ---- service
 
@@ -322,7 +328,7 @@ isr_leaves : (interrupt : Option InterruptType) (f : RingFields) (l : List Acces
     (interrupt ≡ Some TransmitterHoldingRegisterEmpty → ⊥) →
     OnDriver (ShowsInterrupt interrupt) unchanged f l after → LeavesArmed f l after
 isr_leaves interrupt f l after other ((isr, shown, t), same) =
-    leaves_live f l after (ap (λ (g : RingFields). g.transmit.items) same) live
+    leaves_live f l after (ap sendable same) live
   where
     silent : shows_thr_empty isr ≡ false
     silent = not_thr_empty isr (λ h. other ((shown TransmitterHoldingRegisterEmpty).1 h))
@@ -376,7 +382,7 @@ services_leave count f l after (end, t) =
 -- IER is as it was
 pub retriggers_leave : Implies Retriggers LeavesArmed
 retriggers_leave f l after (((ier, is), saved), same) =
-    leaves_live f l after (ap (λ (g : RingFields). g.transmit.items) same) live
+    leaves_live f l after (ap sendable same) live
   where
     live : (known : ThrEmpty) → KeepsIer known l → IsLive known → IsLive (known_after_all known l)
     live known keeps was =
@@ -401,7 +407,8 @@ any_pumps_arm (suc n) f l after some t = pumps_arm f l after t
 -- nothing is queued, or what is queued is pumped
 pub queues_leave : (bytes : List ℕ) (count : ℕ) → Implies (Queues bytes count) LeavesArmed
 queues_leave bytes zero f l after (is, (none, same)) =
-    leaves_live f l after (ap (λ (g : RingFields). g.transmit.items) same ∙ append-nil f.transmit.items) (λ known keeps live. rw none live)
+    leaves_live f l after (ap sendable same ∙ ap (λ xs. allowed f.stuck f.is_held f.urgent xs) (append-nil f.transmit.items))
+    (λ known keeps live. rw none live)
 queues_leave bytes (suc n) f l after (is, t) = λ off known keeps armed. pumps_arm (with_queued (take (suc n) bytes) f) l after t off known
 
 pub queues_arm : (bytes : List ℕ) (count : ℕ) → 0 < count → Implies (Queues bytes count) Arms
@@ -416,28 +423,61 @@ pub queues_arm_unless_held : (bytes : List ℕ) (count : ℕ) → 0 < count → 
 queues_arm_unless_held bytes count some f l after (is, t) =
     any_pumps_arm_unless_held count (with_queued (take count bytes) f) l after some t
 
--- there is nothing to send, or a pump
+-- there is nothing that may be sent, or a pump
 resumes_by : (f : RingFields) (l : List Access) (after : RingFields) → ResumesTransmit f l after →
-    (after.transmit.items ≡ []) ⊎ Pumps f l after
-resumes_by f l after t = go f.transmit.items refl t
+    (sendable after ≡ []) ⊎ Pumps f l after
+resumes_by f l after t = go (waiting f) refl t
   where
-    go : (items : List ℕ) → f.transmit.items ≡ items → IfAny (length items) Pumps f l after → (after.transmit.items ≡ []) ⊎ Pumps f l after
-    go [] e t = inl (ap (λ (g : RingFields). g.transmit.items) t.1 ∙ e)
+    go : (bytes : List ℕ) → waiting f ≡ bytes → IfAny (length bytes) Pumps f l after → (sendable after ≡ []) ⊎ Pumps f l after
+    go [] e t = inl (ap sendable t.1 ∙ none_waiting f e)
     go (byte ∷ bytes) e t = inr t
 
 pub resumes_arm : Implies ResumesTransmit Arms
 resumes_arm f l after t = go (resumes_by f l after t)
   where
-    go : (after.transmit.items ≡ []) ⊎ Pumps f l after → Arms f l after
+    go : (sendable after ≡ []) ⊎ Pumps f l after → Arms f l after
     go (inl none) = λ off known. inl none
     go (inr p) = pumps_arm f l after p
 
 pub resumes_arm_unless_held : Implies ResumesTransmit ArmsUnlessHeld
 resumes_arm_unless_held f l after t = go (resumes_by f l after t)
   where
-    go : (after.transmit.items ≡ []) ⊎ Pumps f l after → ArmsUnlessHeld f l after
+    go : (sendable after ≡ []) ⊎ Pumps f l after → ArmsUnlessHeld f l after
     go (inl none) = λ known. inl (inl none)
     go (inr p) = pumps_arm_unless_held f l after p
+
+-- the fields change, and what may be sent
+leaves_sets : (change : RingFields → RingFields) (f : RingFields) (l : List Access) (after : RingFields) → RingSets change f l after →
+    (sendable f ≡ [] → sendable (change f) ≡ []) → LeavesArmed f l after
+leaves_sets change f l after (is, changed) none = λ off known keeps armed. rw (is, changed) (go known armed)
+  where
+    go : (known : ThrEmpty) → IsArmed known f → IsArmed known (change f)
+    go known (inl empty) = inl (none empty)
+    go known (inr live) = inr live
+
+pub holds_leave : Implies Holds LeavesArmed
+holds_leave f l after t = leaves_sets (with_hold true) f l after t (hold_none f)
+
+pub releases_arm : Implies Releases Arms
+releases_arm f l after t = resumes_arm (with_hold false f) l after t
+
+pub releases_arm_unless_held : Implies Releases ArmsUnlessHeld
+releases_arm_unless_held f l after t = resumes_arm_unless_held (with_hold false f) l after t
+
+pub queues_urgent_arm : (byte : ℕ) (replaced : Option ℕ) → Implies (QueuesUrgent byte replaced) Arms
+queues_urgent_arm byte replaced f l after t = pumps_arm (with_urgent (Some byte) f) l after t.1
+
+pub queues_urgent_arm_unless_held : (byte : ℕ) (replaced : Option ℕ) → Implies (QueuesUrgent byte replaced) ArmsUnlessHeld
+queues_urgent_arm_unless_held byte replaced f l after t = pumps_arm_unless_held (with_urgent (Some byte) f) l after t.1
+
+pub clears_transmit_leave : (count : ℕ) → Implies (ClearsTransmit count) LeavesArmed
+clears_transmit_leave count f l after t = leaves_sets cleared f l after t.1 (clear_none f)
+
+pub sets_low_mark_leave : (mark : ℕ) → Implies (SetsLowMark mark) LeavesArmed
+sets_low_mark_leave mark f l after t = leaves_sets (with_low_mark mark) f l after t (λ e. e)
+
+pub takes_low_leave : (low : Bool) → Implies (TakesLow low) LeavesArmed
+takes_low_leave low f l after t = leaves_sets (with_low false) f l after t.1 (λ e. e)
 
 any_ends_pause_leaves : (count : ℕ) → Implies (IfAny count EndsPause) LeavesArmed
 any_ends_pause_leaves zero f l after t = leaves_stays f l after t
@@ -448,8 +488,59 @@ takes_leave slots bytes f l after (is, t) = any_ends_pause_leaves (length bytes)
 
 pub takes_line_leave : (line : ℕ) → Implies (TakesLine line) LeavesArmed
 takes_line_leave line f l after (status, told, ((read, is, shown, changed), same)) =
-    leaves_others f l after (ap (λ (g : RingFields). g.transmit.items) same) (rw is (refl, tt))
+    leaves_others f l after (ap sendable same) (rw is (refl, tt))
 
 pub takes_modem_leave : (modem : ℕ) → Implies (TakesModem modem) LeavesArmed
 takes_modem_leave modem f l after (status, told, ((read, is, shown, changed), same)) =
-    leaves_others f l after (ap (λ (g : RingFields). g.transmit.items) same) (rw is (refl, tt))
+    leaves_others f l after (ap sendable same) (rw is (refl, tt))
+
+pub clears_receive_leave : (count : ℕ) → Implies (ClearsReceive count) LeavesArmed
+clears_receive_leave count f l after (is, t) = any_ends_pause_leaves count (without_taken count f) l after t
+
+-- ---- storms
+
+-- the chip is stuck, so nothing may be sent
+leaves_stuck : (f : RingFields) (l : List Access) (after : RingFields) → sendable after ≡ [] → LeavesArmed f l after
+leaves_stuck f l after none = λ off known keeps armed. inl none
+
+looks_leave : (found : Option StuckError) → Implies (LooksOnceMore found) LeavesArmed
+looks_leave None f l after ((isr, shown, idle, t), same) =
+    leaves_live f l after (ap sendable same) live
+  where
+    silent : shows_thr_empty isr ≡ false
+    silent = not_thr_empty isr (λ h. cc ((shown TransmitterHoldingRegisterEmpty).1 h))
+
+    live : (known : ThrEmpty) → KeepsIer known l → IsLive known → IsLive (known_after_all known l)
+    live known keeps is = rw (t.0.is, silent) is
+looks_leave (Some error) f l after t =
+    leaves_stuck f l after (ap sendable t.second.1)
+
+counts_unfinished_leave : (rounds : ℕ) (found : Option StuckError) → Implies (CountsUnfinished rounds found) LeavesArmed
+counts_unfinished_leave rounds found f l after t = go (nat_lt (suc f.rounds) rounds) t
+  where
+    go : (more : Bool) → MatchBool more ((found ≡ None) × RingSets (with_rounds (suc f.rounds)) f l after) (LooksOnceMore found f l after) →
+        LeavesArmed f l after
+    go true t = leaves_sets (with_rounds (suc f.rounds)) f l after t.1 (λ e. e)
+    go false t = looks_leave found f l after t
+
+counts_leave : (rounds : ℕ) (end : HandleEnd) (found : Option StuckError) → Implies (CountsRound rounds end found) LeavesArmed
+counts_leave rounds Idle found f l after t = leaves_sets (with_rounds 0) f l after t.1 (λ e. e)
+counts_leave rounds Unknown found f l after t = counts_unfinished_leave rounds found f l after t
+counts_leave rounds Limit found f l after t = counts_unfinished_leave rounds found f l after t
+
+pub tries_leave : (limit rounds : ℕ) (result : Result Handled StuckError) → Implies (TriesToHandle limit rounds result) LeavesArmed
+tries_leave limit rounds result f l after t = go f.stuck refl t
+  where
+    go : (was : Option StuckError) → f.stuck ≡ was → MatchOption was (HandlesRound limit rounds result f l after)
+        (λ error. StaysStuck result error f l after) → LeavesArmed f l after
+    go None e (handled, found, is, t) =
+        rw t.whole (leaves_then f t.mid after t.front t.back (handles_carry limit handled f t.front t.mid t.first)
+        (handles_leave limit handled f t.front t.mid t.first) (counts_leave rounds handled.end found t.mid t.back after t.second))
+    go (Some error) e t = leaves_stuck f l after (ap sendable t.1.1 ∙ none_stuck f error e)
+
+pub restarts_arm : (bits : ℕ) → Implies (Restarts bits) Arms
+restarts_arm bits f l after t = λ off known.
+    rw (t.whole, after-append known t.front t.back)
+    (resumes_arm t.mid t.back after t.second
+    (unchecked f t.front t.mid (enables_carry (not_paused f.is_paused bits) f t.front t.mid t.first) off)
+    (known_after_all known t.front))

@@ -1,7 +1,7 @@
 -- That ring calls make few accesses.
 use Rattle.std.proofs.Common.{◌≡◌, ◌≤◌, ◌+◌, ◌-◌, ◌*◌, ℕ, zero, suc, Bool, true, false, min, MatchBool, List, [], ◌∷◌, ◌++◌, length, take}
-use Rattle.std.proofs.Common.{drop}
-use Rattle.std.proofs.Common.{length-append, length-take, refl, arith, ap, inl, inr}
+use Rattle.std.proofs.Common.{length-append, length-take, refl, arith, ap, inl, inr, nat_lt, Option, Some, None, Result}
+use Rattle.std.specs.Prelude.{MatchOption}
 use Rattle.uart_spec.specs.declared.access.Access.{Access}
 use Rattle.uart_spec.specs.declared.baud.TheConstants.{FIFO_SIZE}
 use Rattle.uart_spec.specs.declared.errors.ByteSendError.TheVariants.{NoCapacity, RemoteNotClearToSend}
@@ -18,9 +18,14 @@ use Rattle.uart_16550.specs.Driver.{Fields, settings_of}
 use Rattle.uart_16550.specs.Receive.{Receives, Hit}
 use Rattle.uart_16550.specs.Transmit.{Sends, SendHit, SendMiss, LinesAllow, data_writes}
 use Rattle.uart_ring.specs.Ring.{RingTimes, IfAny, with_queued, without_taken}
-use Rattle.uart_ring.specs.Ring.{free, is_full}
-use Rattle.uart_ring.specs.Transmit.{ArmsIfLeft, Pumps, Queues, ResumesTransmit}
-use Rattle.uart_ring.specs.Receive.{PausesIfFull, FillsReceiveRing, EndsPause, TakesBytes}
+use Rattle.uart_ring.specs.Ring.{free, is_full, waiting, sendable, without_sent, with_hold, with_urgent, with_rounds, RingSets}
+use Rattle.uart_ring.specs.Transmit.{ArmsIfLeft, Pumps, Queues, ResumesTransmit, Holds, Releases, QueuesUrgent, ClearsTransmit}
+use Rattle.uart_ring.specs.Transmit.{SetsLowMark, TakesLow}
+use Rattle.uart_ring.specs.Receive.{PausesIfFull, FillsReceiveRing, EndsPause, TakesBytes, ClearsReceive}
+use Rattle.uart_ring.specs.Storm.{every_bit, LooksOnceMore, CountsUnfinished, CountsRound, HandlesRound, StaysStuck, TriesToHandle}
+use Rattle.uart_ring.specs.Storm.{Restarts}
+use Rattle.uart_ring.specs.Storm.{not_paused}
+use Rattle.uart_ring.specs.declared.ring.storm.StuckError.{StuckError}
 use Rattle.uart_ring.specs.Status.{TakesLine, TakesModem}
 use Rattle.uart_ring.specs.Service.{ServesInterrupt, ServesOne, Stops, IsWithin, ServesUpTo, Services}
 use Rattle.uart_ring.specs.Handle.{Retriggers, RetriggersUnlessIdle, Handles}
@@ -31,7 +36,7 @@ use Rattle.uart_ring.specs.declared.ring.service.Handled.{Handled}
 use Rattle.uart_ring.specs.Lossless.{Implies}
 use Rattle.uart_ring.proofs.Pausing.{ChangesIer, Pausing, joined_with, rid_of}
 use Rattle.uart_ring.specs.Bounded.{MakesAtMost, most_of_change, most_of_pump, most_of_receiving, most_of_service}
-use Rattle.uart_ring.specs.Bounded.{most_of_retrigger, most_of_handle}
+use Rattle.uart_ring.specs.Bounded.{most_of_retrigger, most_of_handle, most_of_try_handle, most_of_restart}
 
 -- two lists in turn
 both : (l m k : List Access) (x y : ℕ) → l ≡ m ++ k → length m ≤ x → length k ≤ y → length l ≤ x + y
@@ -117,10 +122,10 @@ arms_size (byte ∷ bytes) f l after t = changes_size (joined_with IER.THR_EMPTY
 
 pumps_size : Implies Pumps (MakesAtMost most_of_pump)
 pumps_size f l after (sent, (t, same)) =
-    let burst = take FIFO_SIZE f.transmit.items in
-    let few : length burst ≤ FIFO_SIZE = omega (arith, length-take FIFO_SIZE f.transmit.items) in
+    let burst = take FIFO_SIZE (sendable f) in
+    let few : length burst ≤ FIFO_SIZE = omega (arith, length-take FIFO_SIZE (sendable f)) in
     both l t.front t.back (3 + FIFO_SIZE) most_of_change t.whole (sends_size burst sent (settings_of f.driver) t.front few t.first.0)
-    (arms_size (drop sent f.transmit.items) t.mid t.back after.driver t.second)
+    (arms_size (sendable (without_sent sent f)) t.mid t.back after.driver t.second)
 
 pausing_size : (change : ℕ → ℕ) (paused when : Bool) → Implies (Pausing change paused when) (MakesAtMost most_of_change)
 pausing_size change paused true f l after t = changes_size change f.driver l after.driver t.0
@@ -214,7 +219,25 @@ pub queues_size : (bytes : List ℕ) (count : ℕ) → Implies (Queues bytes cou
 queues_size bytes count f l after (is, t) = any_pumps_size count (with_queued (take count bytes) f) l after t
 
 pub resumes_size : Implies ResumesTransmit (MakesAtMost most_of_pump)
-resumes_size f l after t = any_pumps_size (length f.transmit.items) f l after t
+resumes_size f l after t = any_pumps_size (length (waiting f)) f l after t
+
+pub releases_size : Implies Releases (MakesAtMost most_of_pump)
+releases_size f l after t = resumes_size (with_hold false f) l after t
+
+pub queues_urgent_size : (byte : ℕ) (replaced : Option ℕ) → Implies (QueuesUrgent byte replaced) (MakesAtMost most_of_pump)
+queues_urgent_size byte replaced f l after t = pumps_size (with_urgent (Some byte) f) l after t.1
+
+pub holds_size : Implies Holds (MakesAtMost 0)
+holds_size f l after t = omega (arith, ap length t.0)
+
+pub clears_transmit_size : (count : ℕ) → Implies (ClearsTransmit count) (MakesAtMost 0)
+clears_transmit_size count f l after t = omega (arith, ap length t.1.0)
+
+pub sets_low_mark_size : (mark : ℕ) → Implies (SetsLowMark mark) (MakesAtMost 0)
+sets_low_mark_size mark f l after t = omega (arith, ap length t.0)
+
+pub takes_low_size : (low : Bool) → Implies (TakesLow low) (MakesAtMost 0)
+takes_low_size low f l after t = omega (arith, ap length t.1.0)
 
 any_ends_pause_size : (count : ℕ) → Implies (IfAny count EndsPause) (MakesAtMost most_of_change)
 any_ends_pause_size zero f l after t = omega (arith, ap length t.0)
@@ -228,3 +251,46 @@ takes_line_size line f l after (status, told, ((read, is, shown, changed), same)
 
 pub takes_modem_size : (modem : ℕ) → Implies (TakesModem modem) (MakesAtMost 1)
 takes_modem_size modem f l after (status, told, ((read, is, shown, changed), same)) = omega (arith, ap length is)
+
+pub clears_receive_size : (count : ℕ) → Implies (ClearsReceive count) (MakesAtMost most_of_change)
+clears_receive_size count f l after (is, t) = any_ends_pause_size count (without_taken count f) l after t
+
+-- ---- storms
+
+looks_size : (found : Option StuckError) → Implies (LooksOnceMore found) (MakesAtMost (1 + most_of_change))
+looks_size None f l after ((isr, shown, idle, t), same) = omega (arith, ap length t.0.is)
+looks_size (Some error) f l after t =
+    let read : length t.front ≤ 1 = omega (arith, ap length t.first.0.2.0.is) in
+    both l t.front t.back 1 most_of_change t.whole read (changes_size (rid_of every_bit) t.mid.driver t.back after.driver t.second.0)
+
+counts_unfinished_size : (rounds : ℕ) (found : Option StuckError) →
+    Implies (CountsUnfinished rounds found) (MakesAtMost (1 + most_of_change))
+counts_unfinished_size rounds found f l after t = go (nat_lt (suc f.rounds) rounds) t
+  where
+    go : (more : Bool) → MatchBool more ((found ≡ None) × RingSets (with_rounds (suc f.rounds)) f l after) (LooksOnceMore found f l after) →
+        length l ≤ 1 + most_of_change
+    go true t = omega (arith, ap length t.1.0)
+    go false t = looks_size found f l after t
+
+counts_size : (rounds : ℕ) (end : HandleEnd) (found : Option StuckError) →
+    Implies (CountsRound rounds end found) (MakesAtMost (1 + most_of_change))
+counts_size rounds Idle found f l after t = omega (arith, ap length t.1.0)
+counts_size rounds Unknown found f l after t = counts_unfinished_size rounds found f l after t
+counts_size rounds Limit found f l after t = counts_unfinished_size rounds found f l after t
+
+pub tries_size : (limit rounds : ℕ) (result : Result Handled StuckError) →
+    Implies (TriesToHandle limit rounds result) (MakesAtMost (most_of_try_handle limit))
+tries_size limit rounds result f l after t = go f.stuck t
+  where
+    go : (was : Option StuckError) → MatchOption was (HandlesRound limit rounds result f l after)
+        (λ error. StaysStuck result error f l after) → length l ≤ most_of_try_handle limit
+    go None (handled, found, is, t) =
+        both l t.front t.back (most_of_handle limit) (1 + most_of_change) t.whole (handles_size limit handled f t.front t.mid t.first)
+        (counts_size rounds handled.end found t.mid t.back after t.second)
+    go (Some error) t = omega (arith, changes_size (rid_of every_bit) f.driver l after.driver t.1.0)
+
+pub restarts_size : (bits : ℕ) → Implies (Restarts bits) (MakesAtMost most_of_restart)
+restarts_size bits f l after t =
+    both l t.front t.back most_of_change most_of_pump t.whole
+    (changes_size (joined_with (not_paused f.is_paused bits)) f.driver t.front t.mid.driver t.first.0)
+    (resumes_size t.mid t.back after t.second)

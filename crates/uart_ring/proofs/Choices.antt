@@ -1,8 +1,10 @@
 -- That ring calls leave no choice.
-use Rattle.std.proofs.Common.{◌≡◌, ◌<◌, ℕ, zero, suc, Bool, true, false, min, List, [], ◌∷◌, ◌++◌, length, take, drop}
+use Rattle.std.proofs.Common.{◌≡◌, ◌<◌, ℕ, zero, suc, Bool, true, false, min, List, [], ◌∷◌, ◌++◌, length, take}
 use Rattle.std.proofs.Common.{refl, arith}
 use Rattle.std.specs.Prelude.{⊤}
-use Rattle.std.proofs.Common.{sym, ◌∙◌, ap, subst, inl, inr, ◌⊎◌, Option, Some, None, bit_and, bit_or}
+use Rattle.std.proofs.Common.{sym, ◌∙◌, ap, subst, inl, inr, ◌⊎◌, Option, Some, None, Result, bit_and, bit_or, nat_lt, MatchBool}
+use Rattle.std.specs.Prelude.{MatchOption}
+use Rattle.std.proofs.lemmas.Bool.{false≢true}
 use Rattle.uart_spec.specs.declared.access.Access.{Access}
 use Rattle.uart_spec.specs.declared.access.Access.TheVariants.{Read}
 use Rattle.uart_spec.specs.Bits.{IsOnlyIfAny}
@@ -21,7 +23,7 @@ use Rattle.uart_16550.specs.Choice.{PartAtRead}
 use Rattle.uart_16550.specs.Grammar.{Only}
 use Rattle.uart_16550.specs.Driver.{Doing, Fields, Next, Saving, settings_of}
 use Rattle.uart_16550.specs.Receive.{Receives}
-use Rattle.uart_16550.specs.Status.{TakesLsr, TakesMsr}
+use Rattle.uart_16550.specs.Status.{TakesLsr, TakesMsr, Enables}
 use Rattle.uart_16550.specs.Transmit.{Sends}
 use Rattle.uart_16550.proofs.determined.Parting.{SameOrPart, read_determined, so, so_front, so_sym, so_then}
 use Rattle.uart_16550.proofs.determined.Doings.{Does, does_next, does_saving, does_so}
@@ -31,8 +33,15 @@ use Rattle.uart_16550.proofs.determined.Transmit.{sends_determined}
 use Rattle.uart_ring.specs.Ring.{RingDoing, RingFields, OnDriver, Stays, RingNext, RingTimes, IfAny, unchanged, with_driver, with_queued}
 use Rattle.uart_ring.specs.Ring.{with_received, with_paused, with_line, with_modem, without_sent, without_taken, free, is_full}
 use Rattle.uart_ring.proofs.Pausing.{ChangesIer, Pausing, joined_with, rid_of}
-use Rattle.uart_ring.specs.Transmit.{ArmsIfLeft, Pumps, Queues, ResumesTransmit}
-use Rattle.uart_ring.specs.Receive.{EndsPause, FillsReceiveRing, PausesIfFull, TakesBytes}
+use Rattle.uart_ring.specs.Ring.{sendable, waiting, RingSets, with_hold, with_low_mark, with_low, with_urgent, with_rounds, with_stuck}
+use Rattle.uart_ring.specs.Ring.{restarted, cleared}
+use Rattle.uart_ring.specs.Transmit.{ArmsIfLeft, Pumps, Queues, ResumesTransmit, Holds, Releases, QueuesUrgent, ClearsTransmit}
+use Rattle.uart_ring.specs.Transmit.{SetsLowMark, TakesLow}
+use Rattle.uart_ring.specs.Receive.{EndsPause, FillsReceiveRing, PausesIfFull, TakesBytes, ClearsReceive}
+use Rattle.uart_ring.specs.Storm.{every_bit, TurnsOff, ShowsReason, ShowsStuck, LooksOnceMore, CountsUnfinished, CountsRound, HandlesRound}
+use Rattle.uart_ring.specs.Storm.{StaysStuck, TriesToHandle, Restarts, not_paused, unless_stuck}
+use Rattle.uart_ring.specs.declared.ring.storm.StuckError.{StuckError}
+use Rattle.uart_ring.specs.declared.ring.storm.StuckError.TheVariants as stuck
 use Rattle.uart_ring.specs.Status.{TakesLine, TakesModem}
 use Rattle.uart_ring.specs.Service.{ServesInterrupt, ServesOne, ShowsInterrupt, ShowsNone, ServesUpTo, Services}
 use Rattle.uart_ring.specs.Choice.{LeavesNoRingChoice}
@@ -105,14 +114,14 @@ pumps_same f = record {
       (λ e. ap (λ n. without_sent n f) e)).at l m a b p.1 q.1);
 }
   where
-    sends : (j k : ℕ) → Does (j ≡ k) f.driver (Next (Saving (Sends (take FIFO_SIZE f.transmit.items) j))
-        (ArmsIfLeft (drop j f.transmit.items)))
-        (Next (Saving (Sends (take FIFO_SIZE f.transmit.items) k)) (ArmsIfLeft (drop k f.transmit.items)))
+    sends : (j k : ℕ) → Does (j ≡ k) f.driver
+        (Next (Saving (Sends (take FIFO_SIZE (sendable f)) j)) (ArmsIfLeft (sendable (without_sent j f))))
+        (Next (Saving (Sends (take FIFO_SIZE (sendable f)) k)) (ArmsIfLeft (sendable (without_sent k f))))
     sends j k =
-        does_next (does_saving f.driver (Sends (take FIFO_SIZE f.transmit.items) j) (Sends (take FIFO_SIZE f.transmit.items) k)
-        (sends_determined (settings_of f.driver) (take FIFO_SIZE f.transmit.items) j k))
-        (λ e mid. does_so (λ t. e) (arms_alike (drop j f.transmit.items) (drop k f.transmit.items)
-        (ap (λ n. drop n f.transmit.items) e) mid))
+        does_next (does_saving f.driver (Sends (take FIFO_SIZE (sendable f)) j) (Sends (take FIFO_SIZE (sendable f)) k)
+        (sends_determined (settings_of f.driver) (take FIFO_SIZE (sendable f)) j k))
+        (λ e mid. does_so (λ t. e) (arms_alike (sendable (without_sent j f)) (sendable (without_sent k f))
+        (ap (λ n. sendable (without_sent n f)) e) mid))
 
 pausing_same : (change : ℕ → ℕ) (paused when : Bool) (f : RingFields) → Does (Unit {0}) f.driver (ChangesIer change) (ChangesIer change) →
     RingDoes (Unit {0}) f (Pausing change paused when) (Pausing change paused when)
@@ -380,11 +389,55 @@ queues_leave_no_choice bytes = no_choice (λ f x y. record { at = λ l m a b p q
         let P : ℕ → Type 0 = λ n. IfAny n Pumps (with_queued (take n bytes) f) m b in
         so (λ r. (e, r.1)) ((any_same x Pumps g (pumps_same g)).at l m a b p (subst P (sym e) q))
 
+resumes_same : (f : RingFields) → RingDoes (Unit {0}) f ResumesTransmit ResumesTransmit
+resumes_same f = record { at = (any_same (length (waiting f)) Pumps f (pumps_same f)).at }
+
+-- a call that returns nothing
+returns_none : {G : RingDoing} → ((f : RingFields) → RingDoes (Unit {0}) f G G) → LeavesNoRingChoice (λ (_ : ⊤). G)
+returns_none h = no_choice (λ f x y. record { at = λ l m a b p q. so (λ r. (refl, r.1)) ((h f).at l m a b p q) })
+
 pub resumes_leave_no_choice : LeavesNoRingChoice (λ (_ : ⊤). ResumesTransmit)
-resumes_leave_no_choice =
+resumes_leave_no_choice = returns_none resumes_same
+
+pub releases_leave_no_choice : LeavesNoRingChoice (λ (_ : ⊤). Releases)
+releases_leave_no_choice = returns_none (λ f. record { at = (resumes_same (with_hold false f)).at })
+
+sets_same : (change : RingFields → RingFields) (f : RingFields) → RingDoes (Unit {0}) f (RingSets change) (RingSets change)
+sets_same change f = record { at = λ l m a b p q. inl ((tt, p.1 ∙ sym q.1), p.0 ∙ sym q.0) }
+
+pub holds_leave_no_choice : LeavesNoRingChoice (λ (_ : ⊤). Holds)
+holds_leave_no_choice = returns_none (sets_same (with_hold true))
+
+pub sets_low_mark_leaves_no_choice : (mark : ℕ) → LeavesNoRingChoice (λ (_ : ⊤). SetsLowMark mark)
+sets_low_mark_leaves_no_choice mark = returns_none (sets_same (with_low_mark mark))
+
+pub takes_low_leaves_no_choice : LeavesNoRingChoice TakesLow
+takes_low_leaves_no_choice =
     no_choice (λ f x y. record {
-      at = λ l m a b p q. so (λ r. (refl, r.1)) ((any_same (length f.transmit.items) Pumps f (pumps_same f)).at l m a b p q);
+      at = λ l m a b p q. so (λ r. (p.0 ∙ sym q.0, r.1)) ((sets_same (with_low false) f).at l m a b p.1 q.1);
     })
+
+pub clears_transmit_leaves_no_choice : LeavesNoRingChoice ClearsTransmit
+clears_transmit_leaves_no_choice =
+    no_choice (λ f x y. record {
+      at = λ l m a b p q. so (λ r. (p.0 ∙ sym q.0, r.1)) ((sets_same cleared f).at l m a b p.1 q.1);
+    })
+
+pub queues_urgent_leaves_no_choice : (byte : ℕ) → LeavesNoRingChoice (QueuesUrgent byte)
+queues_urgent_leaves_no_choice byte =
+    no_choice (λ f x y. record {
+      at = λ l m a b p q. so (λ r. (p.0 ∙ sym q.0, r.1)) ((pumps_same (with_urgent (Some byte) f)).at l m a b p.1 q.1);
+    })
+
+pub clears_receive_leaves_no_choice : LeavesNoRingChoice ClearsReceive
+clears_receive_leaves_no_choice = no_choice (λ f x y. record { at = λ l m a b p q. at f x y l m a b (p.0 ∙ sym q.0) p.1 q.1 })
+  where
+    at : (f : RingFields) (x y : ℕ) (l m : List Access) (a b : RingFields) → x ≡ y → IfAny x EndsPause (without_taken x f) l a →
+        IfAny y EndsPause (without_taken y f) m b → SameOrPart ((x ≡ y) × (a ≡ b)) l m
+    at f x y l m a b e p q =
+        let g = without_taken x f in
+        let P : ℕ → Type 0 = λ n. IfAny n EndsPause (without_taken n f) m b in
+        so (λ r. (e, r.1)) ((any_same x EndsPause g (ends_pause_same g)).at l m a b p (subst P (sym e) q))
 
 pub takes_leave_no_choice : (slots : ℕ) → LeavesNoRingChoice (TakesBytes slots)
 takes_leave_no_choice slots = no_choice (λ f x y. record { at = λ l m a b p q. at f x y l m a b (p.0 ∙ sym q.0) p.1 q.1 })
@@ -408,3 +461,113 @@ takes_modem_leaves_no_choice = no_choice (λ f x y. record {
   at = λ l m a b p q. so (λ r. (p.1 ∙ (ap (λ n. bit_or n f.modem) r.0 ∙ sym q.1), r.1))
       ((on_driver {f = f} (with_modem 0) (with_modem 0) (takes_msr_determined f.driver p.0 q.0) (λ e. refl)).at l m a b p.2 q.2);
 })
+
+-- ---- storms
+
+turns_off_same : (f : Fields) → Does (Unit {0}) f TurnsOff TurnsOff
+turns_off_same f = does_so (λ r. tt) (disables_determined every_bit f tt tt)
+
+-- one value of ISR shows one reason
+reason_same : (isr : ℕ) (x y : StuckError) → ShowsReason x isr → ShowsReason y isr → x ≡ y
+reason_same isr (stuck.Unknown v) (stuck.Unknown w) p q = λ i. stuck.Unknown (record { 0 = (p.0 ∙ sym q.0) i })
+reason_same isr (stuck.Unknown v) (stuck.Pending j) p q = absurd (let e = shown_same isr None (Some j) p.1 q in cc)
+reason_same isr (stuck.Pending i) (stuck.Unknown w) p q = absurd (let e = shown_same isr (Some i) None p q.1 in cc)
+reason_same isr (stuck.Pending i) (stuck.Pending j) p q = ap stuck.Pending (inside i j (shown_same isr (Some i) (Some j) p q))
+
+stuck_same : (x y : StuckError) (f : Fields) → Does (x ≡ y) f (ShowsStuck x) (ShowsStuck y)
+stuck_same x y f = record {
+  at = λ l m a b p q. so (λ r. (shown p.0 q.0 r.0 p.1 q.1, r.1)) ((does_saving f (Only (Read offsets.ISR p.0 ∷ []))
+      (Only (Read offsets.ISR q.0 ∷ [])) (read_determined offsets.ISR p.0 q.0)).at l m a b p.2 q.2);
+}
+  where
+    shown : (i j : ℕ) → i ≡ j → ShowsReason x i → ShowsReason y j → x ≡ y
+    shown i j e p q = let P : ℕ → Type 0 = λ n. ShowsReason y n in reason_same i x y p (subst P (sym e) q)
+
+-- no interrupt is pending, or the chip is stuck
+idle_or_stuck : (isr : ℕ) (error : StuckError) → IsOnlyIfAny (Identifies isr) None → has isr ISR.INTERRUPT_STATUS.0 ≡ true →
+    ShowsReason error isr → ⊥
+idle_or_stuck isr (stuck.Unknown v) none idle q = false≢true (sym q.2 ∙ idle)
+idle_or_stuck isr (stuck.Pending i) none idle q = let e = shown_same isr (Some i) None q none in cc
+
+stuck_apart : (error : StuckError) (f : Fields) → Does ⊥ f (ShowsStuck error) (ShowsNone true)
+stuck_apart error f = record {
+  at = λ l m a b p q. so (λ r. (clash p.0 q.0 r.0 p.1 q.1 q.2, r.1)) ((does_saving f (Only (Read offsets.ISR p.0 ∷ []))
+      (Only (Read offsets.ISR q.0 ∷ [])) (read_determined offsets.ISR p.0 q.0)).at l m a b p.2 q.3);
+}
+  where
+    clash : (i j : ℕ) → i ≡ j → ShowsReason error i → IsOnlyIfAny (Identifies j) None → has j ISR.INTERRUPT_STATUS.0 ≡ true → ⊥
+    clash i j e p none idle =
+        let P : ℕ → Type 0 = λ n. ShowsReason error n in
+        idle_or_stuck j error none idle (subst P e p)
+
+idle_same : (f : Fields) → Does (Unit {0}) f (ShowsNone true) (ShowsNone true)
+idle_same f = record {
+  at = λ l m a b p q. so (λ r. (tt, r.1)) ((does_saving f (Only (Read offsets.ISR p.0 ∷ [])) (Only (Read offsets.ISR q.0 ∷ []))
+      (read_determined offsets.ISR p.0 q.0)).at l m a b p.3 q.3);
+}
+
+stuck_first : {D : Type 0} (error : StuckError) (f : RingFields) → RingDoes D f (LooksOnceMore (Some error)) (LooksOnceMore None)
+stuck_first error f =
+    ring_front (on_driver {f = f} unchanged (with_rounds 0) (stuck_apart error f.driver) (λ r. absurd r))
+
+looks_same : (x y : Option StuckError) (f : RingFields) → RingDoes (x ≡ y) f (LooksOnceMore x) (LooksOnceMore y)
+looks_same None None f = ring_so (λ r. refl) (on_driver {f = f} (with_rounds 0) (with_rounds 0) (idle_same f.driver) (λ r. refl))
+looks_same (Some x) None f = stuck_first x f
+looks_same None (Some y) f = ring_sym (stuck_first y f)
+looks_same (Some x) (Some y) f =
+    ring_so (ap Some) (ring_next (on_driver {f = f} unchanged unchanged (stuck_same x y f.driver) (λ e. refl))
+    (λ e mid. ring_so (λ r. e) (on_driver {f = mid} (with_stuck x) (with_stuck y) (turns_off_same mid.driver)
+    (λ r. ap (λ z. with_stuck z mid) e))))
+
+unfinished_same : (rounds : ℕ) (x y : Option StuckError) (f : RingFields) →
+    RingDoes (x ≡ y) f (CountsUnfinished rounds x) (CountsUnfinished rounds y)
+unfinished_same rounds x y f = record { at = λ l m a b p q. at l m a b (nat_lt (suc f.rounds) rounds) p q }
+  where
+    at : (l m : List Access) (a b : RingFields) (more : Bool) →
+        MatchBool more ((x ≡ None) × RingSets (with_rounds (suc f.rounds)) f l a) (LooksOnceMore x f l a) →
+        MatchBool more ((y ≡ None) × RingSets (with_rounds (suc f.rounds)) f m b) (LooksOnceMore y f m b) →
+        SameOrPart ((x ≡ y) × (a ≡ b)) l m
+    at l m a b true p q = inl ((p.0 ∙ sym q.0, p.1.1 ∙ sym q.1.1), p.1.0 ∙ sym q.1.0)
+    at l m a b false p q = (looks_same x y f).at l m a b p q
+
+counts_same : (rounds : ℕ) (end : HandleEnd) (x y : Option StuckError) (f : RingFields) →
+    RingDoes (x ≡ y) f (CountsRound rounds end x) (CountsRound rounds end y)
+counts_same rounds Idle x y f =
+    record { at = λ l m a b p q. inl ((p.0 ∙ sym q.0, p.1.1 ∙ sym q.1.1), p.1.0 ∙ sym q.1.0) }
+counts_same rounds Unknown x y f = record { at = (unfinished_same rounds x y f).at }
+counts_same rounds Limit x y f = record { at = (unfinished_same rounds x y f).at }
+
+counts_alike : (rounds : ℕ) (h k : HandleEnd) → h ≡ k → (x y : Option StuckError) (f : RingFields) →
+    RingDoes (x ≡ y) f (CountsRound rounds h x) (CountsRound rounds k y)
+counts_alike rounds h k e x y f =
+    let P : HandleEnd → Type 0 = λ end. RingDoes (x ≡ y) f (CountsRound rounds h x) (CountsRound rounds end y) in
+    subst P e (counts_same rounds h x y f)
+
+pub tries_leave_no_choice : (limit rounds : ℕ) → LeavesNoRingChoice (TriesToHandle limit rounds)
+tries_leave_no_choice limit rounds = no_choice (λ f x y. record { at = λ l m a b p q. at f x y l m a b f.stuck p q })
+  where
+    handled : (f : RingFields) (x y : Result Handled StuckError) (l m : List Access) (a b : RingFields) →
+        HandlesRound limit rounds x f l a → HandlesRound limit rounds y f m b → SameOrPart ((x ≡ y) × (a ≡ b)) l m
+    handled f x y l m a b (h, found, is, p) (k, found', is', q) =
+        let both : RingDoes ((h ≡ k) × (found ≡ found')) f (RingNext (Handles limit h) (CountsRound rounds h.end found))
+        (RingNext (Handles limit k) (CountsRound rounds k.end found')) =
+        ring_next (handles_same limit f h k)
+        (λ e mid. ring_so (λ t. (e, t)) (counts_alike rounds h.end k.end (ap (λ (z : Handled). z.end) e) found found' mid)) in
+        so (λ r. (is ∙ ((λ i. unless_stuck (r.0.0 i) (r.0.1 i)) ∙ sym is'), r.1)) (both.at l m a b p q)
+
+    at : (f : RingFields) (x y : Result Handled StuckError) (l m : List Access) (a b : RingFields) (was : Option StuckError) →
+        MatchOption was (HandlesRound limit rounds x f l a) (λ error. StaysStuck x error f l a) →
+        MatchOption was (HandlesRound limit rounds y f m b) (λ error. StaysStuck y error f m b) →
+        SameOrPart ((x ≡ y) × (a ≡ b)) l m
+    at f x y l m a b None p q = handled f x y l m a b p q
+    at f x y l m a b (Some error) p q =
+        so (λ r. (p.0 ∙ sym q.0, r.1)) ((on_driver {f = f} unchanged unchanged (turns_off_same f.driver) (λ r. refl)).at l m a b p.1 q.1)
+
+pub restarts_leave_no_choice : (bits : ℕ) → LeavesNoRingChoice (λ (_ : ⊤). Restarts bits)
+restarts_leave_no_choice bits = returns_none (λ f. record { at = (both f).at })
+  where
+    both : (f : RingFields) → RingDoes (Unit {0}) f (RingNext (OnDriver (Enables (not_paused f.is_paused bits)) restarted) ResumesTransmit)
+        (RingNext (OnDriver (Enables (not_paused f.is_paused bits)) restarted) ResumesTransmit)
+    both f =
+        ring_next (on_driver {f = f} restarted restarted (enables_determined (not_paused f.is_paused bits) f.driver tt tt) (λ r. refl))
+        (λ e mid. resumes_same mid)

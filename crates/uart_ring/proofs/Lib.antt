@@ -1,4 +1,5 @@
 pub mod Queues
+pub mod Sending
 pub mod RingDoings
 pub mod Transfers
 pub mod RegisterBits
@@ -7,3 +8,4 @@ pub mod Losses
 pub mod Arming
 pub mod Bounding
 pub mod Choices
+pub mod Storms

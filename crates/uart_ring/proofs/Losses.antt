@@ -1,8 +1,10 @@
 -- That ring calls lose no bytes, line errors or changes of the modem lines.
 use Rattle.std.proofs.Common.{◌≡◌, ◌≤◌, ◌==◌, ℕ, zero, suc, Bool, true, false, min, MatchBool, List, [], ◌∷◌, ◌++◌, length, take}
 use Rattle.std.proofs.Common.{drop, append_assoc, append-nil, take-append-drop, length-take, refl, arith, sym, ◌∙◌, ap, inl, inr}
-use Rattle.std.proofs.Common.{Option, None, bit_and, bit_or}
-use Rattle.std.proofs.lemmas.List.{take-take, drop_min}
+use Rattle.std.proofs.Common.{Option, Some, None, Result, bit_and, bit_or, nat_lt}
+use Rattle.std.specs.Prelude.{MatchOption}
+use Rattle.std.proofs.lemmas.List.{take-take, drop_min, drop_all}
+use Rattle.std.specs.Prelude.{option_to_list}
 use lib.Bits.{or_zero_r}
 use Rattle.uart_spec.specs.Access.{saved_lsr, saved_msr}
 use Rattle.uart_spec.specs.declared.access.Access.{Access}
@@ -22,11 +24,18 @@ use Rattle.uart_16550.specs.Grammar.{Settings, Then, Asks, InOrder}
 use Rattle.uart_16550.specs.Driver.{Fields, Saving, saving, settings_of}
 use Rattle.uart_16550.specs.Receive.{Receives, Hit}
 use Rattle.uart_16550.specs.Transmit.{Sends, SendHit, SendMiss, LinesAllow, data_writes}
+use Rattle.uart_16550.specs.Status.{Enables}
 use Rattle.uart_16550.proofs.Paths.{or_assoc}
 use Rattle.uart_ring.specs.Ring.{RingFields, OnDriver, Stays, RingTimes, IfAny, with_driver, with_queued, with_received}
-use Rattle.uart_ring.specs.Ring.{with_paused, without_sent, without_taken, unchanged, is_full}
-use Rattle.uart_ring.specs.Transmit.{ArmsIfLeft, Pumps, Queues, ResumesTransmit}
-use Rattle.uart_ring.specs.Receive.{PausesIfFull, FillsReceiveRing, EndsPause, TakesBytes}
+use Rattle.uart_ring.specs.Ring.{with_paused, without_sent, without_taken, unchanged, is_full, waiting, sendable, RingSets, with_urgent}
+use Rattle.uart_ring.specs.Ring.{with_hold, with_low_mark, with_low, with_rounds, with_stuck, restarted}
+use Rattle.uart_ring.specs.Transmit.{ArmsIfLeft, Pumps, Queues, ResumesTransmit, Holds, Releases, QueuesUrgent, ClearsTransmit}
+use Rattle.uart_ring.specs.Transmit.{SetsLowMark, TakesLow}
+use Rattle.uart_ring.specs.Receive.{PausesIfFull, FillsReceiveRing, EndsPause, TakesBytes, ClearsReceive}
+use Rattle.uart_ring.specs.Storm.{every_bit, TurnsOff, ShowsStuck, LooksOnceMore, CountsUnfinished, CountsRound, HandlesRound}
+use Rattle.uart_ring.specs.Storm.{StaysStuck, TriesToHandle, Restarts, not_paused}
+use Rattle.uart_ring.specs.declared.ring.storm.StuckError.{StuckError}
+use Rattle.uart_ring.proofs.Sending.{waiting_sent, cleared_left}
 use Rattle.uart_ring.specs.Status.{NotesLine, NotesModem, TakesLine, TakesModem}
 use Rattle.uart_ring.specs.Service.{ShowsInterrupt, ShowsNone, ServesInterrupt, ServesOne, Stops, ServesUpTo, Services}
 use Rattle.uart_ring.specs.Handle.{Retriggers, RetriggersUnlessIdle, Handles}
@@ -37,7 +46,8 @@ use Rattle.uart_ring.specs.declared.ring.service.Handled.{Handled}
 use Rattle.uart_ring.proofs.RegisterBits.{more_saved, now_noted, now_told, saved_lsr-append, saved_msr-append, saved_lsr-within}
 use Rattle.uart_ring.proofs.RegisterBits.{saved_msr-within}
 use Rattle.uart_ring.proofs.Pausing.{ChangesIer, Pausing, joined_with, rid_of}
-use Rattle.uart_ring.specs.Lossless.{data_written, data_read, untold_line, untold_modem, LosesNothing, Implies}
+use Rattle.uart_ring.specs.Lossless.{data_written, data_read, untold_line, untold_modem, LosesOnly, LosesNothing, Implies}
+use Rattle.uart_ring.specs.Lossless.{overtaken_by, without_dropped}
 
 -- ---- lists of accesses
 
@@ -166,7 +176,7 @@ arms_saves (byte ∷ bytes) f l after t = changes_saves (joined_with IER.THR_EMP
 
 -- what was to be sent was written or is still to be sent, what was read is to be taken, and what was seen is to be returned
 pub record Carries (f : RingFields) (l : List Access) (after : RingFields) : Type 0 where
-  pub sent : f.transmit.items ≡ data_written l ++ after.transmit.items
+  pub sent : waiting f ≡ data_written l ++ waiting after
   pub received : after.receive.items ≡ f.receive.items ++ data_read l
   pub line : untold_line after ≡ bit_or (untold_line f) (saved_lsr l)
   pub modem : untold_modem after ≡ bit_or (untold_modem f) (saved_msr l)
@@ -175,8 +185,8 @@ pub record Carries (f : RingFields) (l : List Access) (after : RingFields) : Typ
 
 carries-then : (f mid after : RingFields) (l m : List Access) → Carries f l mid → Carries mid m after → Carries f (l ++ m) after
 carries-then f mid after l m a b = record {
-  sent = a.sent ∙ (ap (λ xs. data_written l ++ xs) b.sent ∙ (sym (append_assoc (data_written l) (data_written m) after.transmit.items)
-      ∙ ap (λ xs. xs ++ after.transmit.items) (sym (data_written-append l m))));
+  sent = a.sent ∙ (ap (λ xs. data_written l ++ xs) b.sent ∙ (sym (append_assoc (data_written l) (data_written m) (waiting after))
+      ∙ ap (λ xs. xs ++ waiting after) (sym (data_written-append l m))));
   received = b.received ∙ (ap (λ xs. xs ++ data_read m) a.received ∙ (append_assoc f.receive.items (data_read l) (data_read m)
       ∙ ap (λ xs. f.receive.items ++ xs) (sym (data_read-append l m))));
   line = b.line ∙ (ap (λ n. bit_or n (saved_lsr m)) a.line ∙ (or_assoc (untold_line f) (saved_lsr l) (saved_lsr m)
@@ -200,10 +210,10 @@ stays_carries f l after (is, same) = rw (is, same) (record {
 -- the driver did so, and the other fields became these
 carries_driver : (f e : RingFields) (l : List Access) (after : RingFields) (written read : List ℕ) →
     Saves written read f.driver l after.driver → after ≡ with_driver after.driver e →
-    f.transmit.items ≡ written ++ e.transmit.items → e.receive.items ≡ f.receive.items ++ read → e.line ≡ f.line → e.modem ≡ f.modem →
+    waiting f ≡ written ++ waiting e → e.receive.items ≡ f.receive.items ++ read → e.line ≡ f.line → e.modem ≡ f.modem →
     e.transmit.capacity ≡ f.transmit.capacity → e.receive.capacity ≡ f.receive.capacity → Carries f l after
 carries_driver f e l after written read s same sent received line modem tx_room rx_room = record {
-  sent = sent ∙ (λ i. sym s.moves.written_is i ++ (same' i).transmit.items);
+  sent = sent ∙ (λ i. sym s.moves.written_is i ++ waiting (same' i));
   received = ap (λ (g : RingFields). g.receive.items) same ∙ (received ∙ ap (λ xs. f.receive.items ++ xs) (sym s.moves.read_is));
   line = ap (λ n. bit_and (bit_or n after.driver.lsr) LSR.LINE_ERRORS.0) (ap (λ (g : RingFields). g.line) same ∙ line)
       ∙ (ap (λ n. bit_and (bit_or f.line n) LSR.LINE_ERRORS.0) s.lsr ∙ more_saved f.line f.driver.lsr (saved_lsr l) LSR.LINE_ERRORS.0
@@ -221,9 +231,9 @@ carries_driver f e l after written read s same sent received line modem tx_room 
 -- the same if nothing moves in the rings
 carries_still : (f e : RingFields) (l : List Access) (after : RingFields) → Saves [] [] f.driver l after.driver →
     after ≡ with_driver after.driver e →
-    e.transmit ≡ f.transmit → e.receive ≡ f.receive → e.line ≡ f.line → e.modem ≡ f.modem → Carries f l after
-carries_still f e l after s same transmit receive line modem =
-    carries_driver f e l after [] [] s same (ap (λ b. b.items) (sym transmit))
+    e.urgent ≡ f.urgent → e.transmit ≡ f.transmit → e.receive ≡ f.receive → e.line ≡ f.line → e.modem ≡ f.modem → Carries f l after
+carries_still f e l after s same urgent transmit receive line modem =
+    carries_driver f e l after [] [] s same (λ i. option_to_list (sym urgent i) ++ (sym transmit i).items)
     (ap (λ b. b.items) receive ∙ sym (append-nil f.receive.items)) line modem (ap (λ b. b.capacity) transmit)
     (ap (λ b. b.capacity) receive)
 
@@ -236,23 +246,24 @@ sent_within bytes sent s l (inr (inr t)) = omega (arith, t.1)
 
 pumps_carry : Implies Pumps Carries
 pumps_carry f l after (sent, (t, same)) =
-    let bytes = f.transmit.items in
+    let bytes = sendable f in
     let s = settings_of f.driver in
     let few : sent ≤ length (take FIFO_SIZE bytes) = sent_within (take FIFO_SIZE bytes) sent s t.front t.first.0 in
+    let within : sent ≤ length bytes = omega (arith, few, length-take FIFO_SIZE bytes) in
     let front : take sent (take FIFO_SIZE bytes) ≡ take sent bytes = take-take sent FIFO_SIZE bytes
     (omega (arith, few, length-take FIFO_SIZE bytes)) in
     let first = saving_saves _ _ f.driver t.front t.mid (sends_move (take FIFO_SIZE bytes) sent s t.front t.first.0) t.first.1 in
     let both = saves-then f.driver t.mid after.driver t.front t.back _ _ _ _ first
-    (arms_saves (drop sent bytes) t.mid t.back after.driver t.second) in
-    let split : bytes ≡ (take sent (take FIFO_SIZE bytes) ++ []) ++ drop sent bytes =
-    sym (take-append-drop sent bytes) ∙ ap (λ xs. xs ++ drop sent bytes) (sym front
+    (arms_saves (sendable (without_sent sent f)) t.mid t.back after.driver t.second) in
+    let split : waiting f ≡ (take sent (take FIFO_SIZE bytes) ++ []) ++ waiting (without_sent sent f) =
+    sym (waiting_sent f sent within) ∙ ap (λ xs. xs ++ waiting (without_sent sent f)) (sym front
     ∙ sym (append-nil (take sent (take FIFO_SIZE bytes)))) in
     rw t.whole (carries_driver f (without_sent sent f) (t.front ++ t.back) after _ _ both same split
     (sym (append-nil f.receive.items)) refl refl refl refl)
 
 pausing_carries : (change : ℕ → ℕ) (paused when : Bool) → Implies (Pausing change paused when) Carries
 pausing_carries change paused true f l after t =
-    carries_still f (with_paused paused f) l after (changes_saves change f.driver l after.driver t.0) t.1 refl refl refl refl
+    carries_still f (with_paused paused f) l after (changes_saves change f.driver l after.driver t.0) t.1 refl refl refl refl refl
 pausing_carries change paused false f l after t = stays_carries f l after t
 
 pauses_carry : Implies PausesIfFull Carries
@@ -273,11 +284,12 @@ fills_carry f l after (bytes, t) =
     (pauses_carry t.mid t.back after t.second))
 
 -- a status was read, and no byte moved
-read_carries : (f : RingFields) (l : List Access) (after : RingFields) → after.transmit ≡ f.transmit → after.receive ≡ f.receive →
+read_carries : (f : RingFields) (l : List Access) (after : RingFields) → after.urgent ≡ f.urgent → after.transmit ≡ f.transmit →
+    after.receive ≡ f.receive →
     Moves [] [] l → settings_of after.driver ≡ settings_of f.driver → untold_line after ≡ bit_or (untold_line f) (saved_lsr l) →
     untold_modem after ≡ bit_or (untold_modem f) (saved_msr l) → Carries f l after
-read_carries f l after transmit receive moves settings line modem = record {
-  sent = rw moves.written_is (ap (λ b. b.items) (sym transmit));
+read_carries f l after urgent transmit receive moves settings line modem = record {
+  sent = rw moves.written_is (λ i. option_to_list (sym urgent i) ++ (sym transmit i).items);
   received = rw moves.read_is (ap (λ b. b.items) receive ∙ sym (append-nil f.receive.items));
   line = line;
   modem = modem;
@@ -287,7 +299,8 @@ read_carries f l after transmit receive moves settings line modem = record {
 
 notes_line_carries : Implies NotesLine Carries
 notes_line_carries f l after (status, ((read, is, shown, changed), same)) =
-    rw is (read_carries f _ after (ap (λ (g : RingFields). g.transmit) same) (ap (λ (g : RingFields). g.receive) same)
+    rw is (read_carries f _ after (ap (λ (g : RingFields). g.urgent) same) (ap (λ (g : RingFields). g.transmit) same)
+    (ap (λ (g : RingFields). g.receive) same)
     (record { written_is = refl; read_is = refl }) (ap settings_of changed)
     (rw (ap (λ (g : RingFields). g.line) same, ap (λ (g : Fields). g.lsr) changed, shown)
     (now_noted f.line f.driver.lsr read LSR.LINE_ERRORS.0))
@@ -295,7 +308,8 @@ notes_line_carries f l after (status, ((read, is, shown, changed), same)) =
 
 notes_modem_carries : Implies NotesModem Carries
 notes_modem_carries f l after (status, ((read, is, shown, changed), same)) =
-    rw is (read_carries f _ after (ap (λ (g : RingFields). g.transmit) same) (ap (λ (g : RingFields). g.receive) same)
+    rw is (read_carries f _ after (ap (λ (g : RingFields). g.urgent) same) (ap (λ (g : RingFields). g.transmit) same)
+    (ap (λ (g : RingFields). g.receive) same)
     (record { written_is = refl; read_is = refl }) (ap settings_of changed)
     (rw (ap (λ (g : RingFields). g.line) same, ap (λ (g : Fields). g.lsr) changed) (sym (or_zero_r (untold_line f))))
     (rw (ap (λ (g : RingFields). g.modem) same, ap (λ (g : Fields). g.msr) changed, shown)
@@ -313,7 +327,7 @@ serves_carry DmaTransmissionEndOfTransfer f l after t = stays_carries f l after 
 pub shows_carry : (interrupt : Option InterruptType) → Implies (OnDriver (ShowsInterrupt interrupt) unchanged) Carries
 shows_carry interrupt f l after ((isr, shown, t), same) =
     let moves : Moves [] [] l = rw t.0.is (record { written_is = refl; read_is = refl }) in
-    carries_still f f l after (saving_saves [] [] f.driver l after.driver moves t.1) same refl refl refl refl
+    carries_still f f l after (saving_saves [] [] f.driver l after.driver moves t.1) same refl refl refl refl refl
 
 pub serves_one_carries : Implies ServesOne Carries
 serves_one_carries f l after (interrupt, t) =
@@ -333,7 +347,7 @@ shows_none idle f l after ((isr, shown, bit, t), same) = ((isr, shown, t), same)
 pub retriggers_carry : Implies Retriggers Carries
 retriggers_carry f l after (((ier, is), saved), same) =
     let moves : Moves [] [] l = rw is (record { written_is = refl; read_is = refl }) in
-    carries_still f f l after (saving_saves [] [] f.driver l after.driver moves saved) same refl refl refl refl
+    carries_still f f l after (saving_saves [] [] f.driver l after.driver moves saved) same refl refl refl refl refl
 
 stops_carry : (end : HandleEnd) → Implies (Stops end) Carries
 stops_carry Idle f l after t = shows_carry None f l after (shows_none true f l after t)
@@ -355,7 +369,7 @@ unless_idle_carry Limit f l after t = retriggers_carry f l after t
 -- a call that accepts no bytes, returns no bytes and no status
 carried : Implies Carries (LosesNothing [] [] 0 0)
 carried f l after c = record {
-  sent = sym c.sent ∙ sym (append-nil f.transmit.items);
+  sent = sym c.sent ∙ sym (append-nil (waiting f));
   received = c.received;
   line_told = c.line;
   modem_told = c.modem;
@@ -370,10 +384,13 @@ services_lose_nothing count f l after (end, t) =
 pub retriggers_lose_nothing : Implies Retriggers (LosesNothing [] [] 0 0)
 retriggers_lose_nothing f l after t = carried f l after (retriggers_carry f l after t)
 
+pub handles_carry : (limit : ℕ) (handled : Handled) → Implies (Handles limit handled) Carries
+handles_carry limit handled f l after t =
+    rw t.whole (carries-then f t.mid after t.front t.back (serves_up_to_carries limit handled f t.front t.mid t.first)
+    (unless_idle_carry handled.end t.mid t.back after t.second))
+
 pub handles_lose_nothing : (limit : ℕ) (handled : Handled) → Implies (Handles limit handled) (LosesNothing [] [] 0 0)
-handles_lose_nothing limit handled f l after t =
-    carried f l after (rw t.whole (carries-then f t.mid after t.front t.back (serves_up_to_carries limit handled f t.front t.mid t.first)
-    (unless_idle_carry handled.end t.mid t.back after t.second)))
+handles_lose_nothing limit handled f l after t = carried f l after (handles_carry limit handled f l after t)
 
 any_pumps_carry : (count : ℕ) → Implies (IfAny count Pumps) Carries
 any_pumps_carry zero f l after t = stays_carries f l after t
@@ -383,7 +400,7 @@ pub queues_lose_nothing : (bytes : List ℕ) (count : ℕ) → Implies (Queues b
 queues_lose_nothing bytes count f l after (is, t) =
     let c = any_pumps_carry count (with_queued (take count bytes) f) l after t in
     record {
-      sent = sym c.sent;
+      sent = sym c.sent ∙ sym (append_assoc (option_to_list f.urgent) f.transmit.items (take count bytes));
       received = c.received;
       line_told = c.line;
       modem_told = c.modem;
@@ -395,8 +412,80 @@ any_ends_pause_carries : (count : ℕ) → Implies (IfAny count EndsPause) Carri
 any_ends_pause_carries zero f l after t = stays_carries f l after t
 any_ends_pause_carries (suc n) f l after t = ends_pause_carries f l after t
 
+pub resumes_carry : Implies ResumesTransmit Carries
+resumes_carry f l after t = any_pumps_carry (length (waiting f)) f l after t
+
 pub resumes_lose_nothing : Implies ResumesTransmit (LosesNothing [] [] 0 0)
-resumes_lose_nothing f l after t = carried f l after (any_pumps_carry (length f.transmit.items) f l after t)
+resumes_lose_nothing f l after t = carried f l after (resumes_carry f l after t)
+
+-- what changes fields that no byte and no status is in
+sets_carry : (change : RingFields → RingFields) (f : RingFields) (l : List Access) (after : RingFields) → RingSets change f l after →
+    waiting (change f) ≡ waiting f → (change f).receive ≡ f.receive → (change f).line ≡ f.line → (change f).modem ≡ f.modem →
+    (change f).transmit.capacity ≡ f.transmit.capacity → (change f).driver ≡ f.driver → Carries f l after
+sets_carry change f l after (is, changed) waits receive line modem capacity driver = rw (is, changed) (record {
+  sent = sym waits;
+  received = ap (λ b. b.items) receive ∙ sym (append-nil f.receive.items);
+  line = (λ i. bit_and (bit_or (line i) (driver i).lsr) LSR.LINE_ERRORS.0) ∙ sym (or_zero_r (untold_line f));
+  modem = (λ i. bit_and (bit_or (modem i) (driver i).msr) MSR.CHANGES.0) ∙ sym (or_zero_r (untold_modem f));
+  rooms = (capacity, ap (λ b. b.capacity) receive);
+  settings = ap settings_of driver;
+})
+
+-- what is carried from other fields, with the same bytes and statuses
+from_same : (f g : RingFields) (l : List Access) (after : RingFields) → waiting g ≡ waiting f → g.receive ≡ f.receive → g.line ≡ f.line →
+    g.modem ≡ f.modem → g.transmit.capacity ≡ f.transmit.capacity → g.driver ≡ f.driver → Carries g l after → Carries f l after
+from_same f g l after waits receive line modem capacity driver c = record {
+  sent = sym waits ∙ c.sent;
+  received = c.received ∙ ap (λ b. b.items ++ data_read l) receive;
+  line = c.line ∙ (λ i. bit_or (bit_and (bit_or (line i) (driver i).lsr) LSR.LINE_ERRORS.0) (saved_lsr l));
+  modem = c.modem ∙ (λ i. bit_or (bit_and (bit_or (modem i) (driver i).msr) MSR.CHANGES.0) (saved_msr l));
+  rooms = (c.rooms.0 ∙ capacity, c.rooms.1 ∙ ap (λ b. b.capacity) receive);
+  settings = c.settings ∙ ap settings_of driver;
+}
+
+pub holds_lose_nothing : Implies Holds (LosesNothing [] [] 0 0)
+holds_lose_nothing f l after t = carried f l after (sets_carry (with_hold true) f l after t refl refl refl refl refl refl)
+
+pub releases_carry : Implies Releases Carries
+releases_carry f l after t =
+    from_same f (with_hold false f) l after refl refl refl refl refl refl (resumes_carry (with_hold false f) l after t)
+
+pub releases_lose_nothing : Implies Releases (LosesNothing [] [] 0 0)
+releases_lose_nothing f l after t = carried f l after (releases_carry f l after t)
+
+pub sets_low_mark_loses_nothing : (mark : ℕ) → Implies (SetsLowMark mark) (LosesNothing [] [] 0 0)
+sets_low_mark_loses_nothing mark f l after t = carried f l after (sets_carry (with_low_mark mark) f l after t refl refl refl refl refl refl)
+
+pub takes_low_loses_nothing : (low : Bool) → Implies (TakesLow low) (LosesNothing [] [] 0 0)
+takes_low_loses_nothing low f l after (told, t) = carried f l after (sets_carry (with_low false) f l after t refl refl refl refl refl refl)
+
+-- the urgent byte goes before all that waits, and the one that it replaces was there
+after_urgent : (urgent : Option ℕ) (items : List ℕ) → items ≡ drop (length (option_to_list urgent)) (option_to_list urgent ++ items)
+after_urgent None items = refl
+after_urgent (Some byte) items = refl
+
+pub queues_urgent_loses_only : (byte : ℕ) (replaced : Option ℕ) →
+    Implies (QueuesUrgent byte replaced) (LosesOnly (overtaken_by byte replaced) [] 0 0)
+queues_urgent_loses_only byte replaced f l after (was, t) =
+    let c = pumps_carry (with_urgent (Some byte) f) l after t in
+    record {
+      sent = sym c.sent ∙ ap (λ xs. byte ∷ xs) (rw was (after_urgent f.urgent f.transmit.items));
+      received = c.received;
+      line_told = c.line;
+      modem_told = c.modem;
+      rooms = c.rooms;
+      settings = c.settings;
+    }
+
+pub clears_transmit_loses_only : (count : ℕ) → Implies (ClearsTransmit count) (LosesOnly (without_dropped count) [] 0 0)
+clears_transmit_loses_only count f l after (is_count, (is, changed)) = rw (is, changed) (record {
+  sent = rw is_count (cleared_left f.urgent f.transmit.items);
+  received = sym (append-nil f.receive.items);
+  line_told = sym (or_zero_r (untold_line f));
+  modem_told = sym (or_zero_r (untold_modem f));
+  rooms = (refl, refl);
+  settings = refl;
+})
 
 -- the first of a list, and what is left without as many
 taken_first : (slots : ℕ) (items bytes : List ℕ) → bytes ≡ take slots items → bytes ++ drop (length bytes) items ≡ items
@@ -410,7 +499,7 @@ takes_lose_nothing slots bytes f l after (is, t) =
     let c = any_ends_pause_carries (length bytes) (without_taken (length bytes) f) l after t in
     let items = f.receive.items in
     record {
-      sent = sym c.sent ∙ sym (append-nil f.transmit.items);
+      sent = sym c.sent ∙ sym (append-nil (waiting f));
       received = ap (λ xs. bytes ++ xs) c.received ∙ (sym (append_assoc bytes (drop (length bytes) items) (data_read l))
           ∙ ap (λ xs. xs ++ data_read l) (taken_first slots items bytes is));
       line_told = c.line;
@@ -421,7 +510,7 @@ takes_lose_nothing slots bytes f l after (is, t) =
 
 pub takes_line_loses_nothing : (line : ℕ) → Implies (TakesLine line) (LosesNothing [] [] line 0)
 takes_line_loses_nothing line f l after (status, told, ((read, is, shown, changed), same)) = record {
-  sent = rw is (ap (λ (g : RingFields). g.transmit.items) same ∙ sym (append-nil f.transmit.items));
+  sent = rw is (ap waiting same ∙ sym (append-nil (waiting f)));
   received = rw is (ap (λ (g : RingFields). g.receive.items) same ∙ sym (append-nil f.receive.items));
   line_told =
       rw (told, shown, ap (λ (g : RingFields). g.line) same, ap (λ (g : Fields). g.lsr) changed, is)
@@ -433,7 +522,7 @@ takes_line_loses_nothing line f l after (status, told, ((read, is, shown, change
 
 pub takes_modem_loses_nothing : (modem : ℕ) → Implies (TakesModem modem) (LosesNothing [] [] 0 modem)
 takes_modem_loses_nothing modem f l after (status, told, ((read, is, shown, changed), same)) = record {
-  sent = rw is (ap (λ (g : RingFields). g.transmit.items) same ∙ sym (append-nil f.transmit.items));
+  sent = rw is (ap waiting same ∙ sym (append-nil (waiting f)));
   received = rw is (ap (λ (g : RingFields). g.receive.items) same ∙ sym (append-nil f.receive.items));
   line_told = rw (ap (λ (g : RingFields). g.line) same, ap (λ (g : Fields). g.lsr) changed, is) (sym (or_zero_r (untold_line f)));
   modem_told =
@@ -442,3 +531,78 @@ takes_modem_loses_nothing modem f l after (status, told, ((read, is, shown, chan
   rooms = (ap (λ (g : RingFields). g.transmit.capacity) same, ap (λ (g : RingFields). g.receive.capacity) same);
   settings = ap settings_of changed;
 }
+
+-- what was in the receive ring is dropped
+pub clears_receive_loses_nothing : (f : RingFields) (count : ℕ) (l : List Access) (after : RingFields) → ClearsReceive count f l after →
+    LosesNothing [] f.receive.items 0 0 f l after
+clears_receive_loses_nothing f count l after (is, t) =
+    let c = any_ends_pause_carries count (without_taken count f) l after t in
+    let items = f.receive.items in
+    let none : drop count items ≡ [] = drop_all count items (omega (arith, is)) in
+    record {
+      sent = sym c.sent ∙ sym (append-nil (waiting f));
+      received = ap (λ xs. items ++ xs) (c.received ∙ ap (λ xs. xs ++ data_read l) none);
+      line_told = c.line;
+      modem_told = c.modem;
+      rooms = c.rooms;
+      settings = c.settings;
+    }
+
+-- ---- storms
+
+turns_off_saves : (f : Fields) (l : List Access) (after : Fields) → TurnsOff f l after → Saves [] [] f l after
+turns_off_saves f l after t = changes_saves (rid_of every_bit) f l after t
+
+shows_stuck_carries : (error : StuckError) → Implies (OnDriver (ShowsStuck error) unchanged) Carries
+shows_stuck_carries error f l after ((isr, shown, t), same) =
+    let moves : Moves [] [] l = rw t.0.is (record { written_is = refl; read_is = refl }) in
+    carries_still f f l after (saving_saves [] [] f.driver l after.driver moves t.1) same refl refl refl refl refl
+
+looks_carry : (found : Option StuckError) → Implies (LooksOnceMore found) Carries
+looks_carry None f l after ((isr, shown, idle, t), same) =
+    let moves : Moves [] [] l = rw t.0.is (record { written_is = refl; read_is = refl }) in
+    carries_still f (with_rounds 0 f) l after (saving_saves [] [] f.driver l after.driver moves t.1) same refl refl refl refl refl
+looks_carry (Some error) f l after t =
+    rw t.whole (carries-then f t.mid after t.front t.back (shows_stuck_carries error f t.front t.mid t.first)
+    (carries_still t.mid (with_stuck error t.mid) t.back after (turns_off_saves t.mid.driver t.back after.driver t.second.0) t.second.1
+    refl refl refl refl refl))
+
+counts_unfinished_carry : (rounds : ℕ) (found : Option StuckError) → Implies (CountsUnfinished rounds found) Carries
+counts_unfinished_carry rounds found f l after t = go (nat_lt (suc f.rounds) rounds) t
+  where
+    go : (more : Bool) → MatchBool more ((found ≡ None) × RingSets (with_rounds (suc f.rounds)) f l after) (LooksOnceMore found f l after) →
+        Carries f l after
+    go true t = sets_carry (with_rounds (suc f.rounds)) f l after t.1 refl refl refl refl refl refl
+    go false t = looks_carry found f l after t
+
+pub counts_carry : (rounds : ℕ) (end : HandleEnd) (found : Option StuckError) → Implies (CountsRound rounds end found) Carries
+counts_carry rounds Idle found f l after t = sets_carry (with_rounds 0) f l after t.1 refl refl refl refl refl refl
+counts_carry rounds Unknown found f l after t = counts_unfinished_carry rounds found f l after t
+counts_carry rounds Limit found f l after t = counts_unfinished_carry rounds found f l after t
+
+pub stays_stuck_carries : (error : StuckError) (result : Result Handled StuckError) → Implies (StaysStuck result error) Carries
+stays_stuck_carries error result f l after (is, t) =
+    carries_still f f l after (turns_off_saves f.driver l after.driver t.0) t.1 refl refl refl refl refl
+
+pub tries_carry : (limit rounds : ℕ) (result : Result Handled StuckError) → Implies (TriesToHandle limit rounds result) Carries
+tries_carry limit rounds result f l after t = go f.stuck t
+  where
+    go : (was : Option StuckError) → MatchOption was (HandlesRound limit rounds result f l after)
+        (λ error. StaysStuck result error f l after) → Carries f l after
+    go None (handled, found, is, t) =
+        rw t.whole (carries-then f t.mid after t.front t.back (handles_carry limit handled f t.front t.mid t.first)
+        (counts_carry rounds handled.end found t.mid t.back after t.second))
+    go (Some error) t = stays_stuck_carries error result f l after t
+
+pub tries_lose_nothing : (limit rounds : ℕ) (result : Result Handled StuckError) →
+    Implies (TriesToHandle limit rounds result) (LosesNothing [] [] 0 0)
+tries_lose_nothing limit rounds result f l after t = carried f l after (tries_carry limit rounds result f l after t)
+
+pub enables_carry : (bits : ℕ) → Implies (OnDriver (Enables bits) restarted) Carries
+enables_carry bits f l after t =
+    carries_still f (restarted f) l after (changes_saves (joined_with bits) f.driver l after.driver t.0) t.1 refl refl refl refl refl
+
+pub restarts_lose_nothing : (bits : ℕ) → Implies (Restarts bits) (LosesNothing [] [] 0 0)
+restarts_lose_nothing bits f l after t =
+    carried f l after (rw t.whole (carries-then f t.mid after t.front t.back
+    (enables_carry (not_paused f.is_paused bits) f t.front t.mid t.first) (resumes_carry t.mid t.back after t.second)))

@@ -1,8 +1,10 @@
 -- Bits of registers under masks, and bits of LSR and MSR that are saved, noted and returned.
-use Rattle.std.proofs.Common.{◌≡◌, ℕ, Bool, true, false, ◌==◌, List, [], ◌∷◌, ◌++◌, sym, ◌∙◌, ap, arith, bit_and, bit_or, if◌then◌else◌}
+use Rattle.std.proofs.Common.{◌≡◌, ℕ, Bool, true, false, ◌==◌, List, [], ◌∷◌, ◌++◌, sym, ◌∙◌, ap, arith, bit_and, bit_or, refl}
+use Rattle.std.proofs.Common.{if◌then◌else◌}
 use Rattle.std.proofs.lemmas.Nat.Bits.{same_from_bits, bit_at_or, bit_at_and}
 use Rattle.std.specs.Int.Bits.{and_zero_l}
 use lib.Bits.{or_zero_r}
+use Rattle.bitflags.specs.Sets.{known_bits, known_from}
 use Rattle.uart_spec.specs.Access.{saved, saved_of, saved_lsr, saved_msr}
 use Rattle.uart_spec.specs.declared.access.Access.{Access}
 use Rattle.uart_spec.specs.declared.access.Access.TheVariants.{Read, Write}
@@ -71,3 +73,9 @@ pub now_told : (noted kept status mask : ℕ) →
     bit_and (bit_or (bit_or status kept) noted) mask
     ≡ bit_or (bit_and (bit_or noted kept) mask) (bit_or (bit_and status mask) 0)
 now_told noted kept status mask = same_from_bits _ _ (λ i. simp (or_zero_r, bit_at_and, bit_at_or) (omega arith))
+
+-- eight names, one for each bit, have all bits
+pub eight_bits : (a b c d e f g h : List ℕ) →
+    known_bits ((a, 1) ∷ (b, 2) ∷ (c, 4) ∷ (d, 8) ∷ (e, 16) ∷ (f, 32) ∷ (g, 64) ∷ (h, 128) ∷ []) ≡ 255
+unfolding known_from
+eight_bits a b c d e f g h = refl

@@ -1,9 +1,11 @@
 -- What the rings do, one after another.
 use Rattle.std.proofs.Common.{◌≡◌, ◌+◌, ℕ, zero, suc, List, [], ◌++◌, refl, sym, subst, add-one, append_assoc, append-nil}
+use Rattle.uart_spec.specs.Access.{Path}
 use Rattle.uart_spec.specs.declared.access.Access.{Access}
 use Rattle.uart_16550.specs.Driver.{Did, Doing, fields}
 use Rattle.uart_16550.proofs.Paths.{path_then}
-use Rattle.uart_ring.specs.Ring.{RingFields, RingDoing, RingDid, ring_fields, ring_backend_of, OnDriver, Stays, RingNext, RingTimes}
+use Rattle.uart_ring.specs.Ring.{RingFields, RingDoing, RingDid, ring_fields, ring_backend_of, OnDriver, Stays, RingSets, RingNext}
+use Rattle.uart_ring.specs.Ring.{RingTimes}
 use Rattle.uart_ring.specs.Ring.{with_driver}
 use Rattle.uart_ring.specs.declared.ring.Uart16550Ring.{Uart16550Ring}
 
@@ -30,6 +32,22 @@ ring_among h p = record { list = p.list; path = p.path; does = h p.list p.does }
 -- nothing at all
 pub ring_none : {B : Type 0} {step : B → Access → B → Type 0} {a : Uart16550Ring B} → RingDid step Stays a a
 ring_none = record { list = []; path = refl; does = (refl, refl) }
+
+-- the fields are changed
+pub ring_set : {B : Type 0} {step : B → Access → B → Type 0} (change : RingFields → RingFields) (a b : Uart16550Ring B) →
+    ring_backend_of b ≡ ring_backend_of a → ring_fields b ≡ change (ring_fields a) → RingDid step (RingSets change) a b
+ring_set change a b same set = record { list = []; path = same; does = (refl, set) }
+
+-- what is done by rings whose fields were changed before
+pub ring_from : {B : Type 0} {step : B → Access → B → Type 0} {G H : RingDoing} {a c : Uart16550Ring B} (b : Uart16550Ring B) →
+    ring_backend_of a ≡ ring_backend_of b →
+    ((l : List Access) → G (ring_fields b) l (ring_fields c) → H (ring_fields a) l (ring_fields c)) → RingDid step G b c →
+    RingDid step H a c
+ring_from {B} {step} {a} {c} b same h p = record {
+  list = p.list;
+  path = let P : B → Type 0 = λ x. Path step x p.list (ring_backend_of c) in subst P (sym same) p.path;
+  does = h p.list p.does;
+}
 
 -- one time more
 times_more : (n : ℕ) (G : RingDoing) (f g h : RingFields) (l m : List Access) → RingTimes n G f l g → G g m h →

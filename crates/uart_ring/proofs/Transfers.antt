@@ -1,6 +1,6 @@
 -- Bytes between the rings and the driver.
 use Rattle.std.proofs.Common.{◌≡◌, ◌≤◌, ℕ, true, false, ◌==◌, List, [], ◌∷◌, ◌++◌, sym, ◌∙◌, ap, subst, arith}
-use Rattle.std.proofs.Common.{length, take, drop, min}
+use Rattle.std.proofs.Common.{length, take, drop, min, not, refl, length-take}
 use Rattle.std.proofs.lemmas.Bool.{false≢true}
 use Rattle.std.proofs.lemmas.Bool.Decides.{nat_tests}
 use Rattle.std.proofs.lemmas.List.{take-append-le, length-take-le, take_all, take_at, take_min}
@@ -12,68 +12,64 @@ use Rattle.uart_16550.specs.Receive.{Receives}
 use Rattle.uart_16550.specs.Transmit.{Sends}
 use Rattle.uart_16550.specs.Status.{Enables, Disables}
 use Rattle.uart_16550.specs.declared.driver.Uart16550.{Uart16550}
-use Rattle.uart_16550.proofs.Doings.{did_made, did_among}
+use Rattle.uart_16550.proofs.Doings.{did_made, did_among, did_then}
 use Rattle.uart_ring.specs.Queue.{Queue, queue}
-use Rattle.uart_ring.specs.Ring.{RingDid, free, without_sent, with_received}
+use Rattle.uart_ring.specs.Ring.{RingDid, ring_fields, free, sendable, without_sent, without_sent_bytes, with_received, with_driver}
+use Rattle.uart_ring.specs.Ring.{IfAny, without_taken}
 use Rattle.uart_ring.specs.Transmit.{Pumps, ArmsIfLeft}
-use Rattle.uart_ring.specs.Receive.{PausesIfFull, FillsReceiveRing}
+use Rattle.uart_ring.specs.Receive.{PausesIfFull, FillsReceiveRing, EndsPause, TakesBytes}
 use Rattle.uart_ring.specs.declared.ring.Uart16550Ring.{Uart16550Ring}
-use Rattle.uart_ring.proofs.RingDoings.{ring_did, ring_then, ring_among}
+use Rattle.uart_ring.proofs.RingDoings.{ring_did, ring_then, ring_among, ring_from}
 
 -- ---- from the transmit ring
 
--- the first bytes of the ring, once they were copied
-pub first_copied : (bytes slots old : List ℕ) (count : ℕ) → count ≡ min FIFO_SIZE (length bytes) →
+-- the first of some bytes, once they were copied into so many slots
+pub first_copied : (size : ℕ) (bytes slots old : List ℕ) (count : ℕ) → count ≡ min size (length bytes) →
     slots ≡ take count bytes ++ drop count old →
-    take count slots ≡ take FIFO_SIZE bytes
-first_copied bytes slots old count is_count is_slots =
-    let size : length (take count bytes) ≡ count = length-take-le count bytes (omega (arith, is_count)) in
-    ap (λ xs. take count xs) is_slots ∙ (take_at (take count bytes) (drop count old) count size ∙
-    (ap (λ n. take n bytes) is_count ∙ take_min FIFO_SIZE bytes))
+    take count slots ≡ take size bytes
+first_copied size bytes slots old count is_count is_slots =
+    let long : length (take count bytes) ≡ count = length-take-le count bytes (omega (arith, is_count)) in
+    ap (λ xs. take count xs) is_slots ∙ (take_at (take count bytes) (drop count old) count long ∙
+    (ap (λ n. take n bytes) is_count ∙ take_min size bytes))
 
--- nothing is left to be sent, or something is
-pub arms_none : (left : List ℕ) → true ≡ (length left == 0) → (f : Fields) (l : List Access) (after : Fields) →
+-- nothing that may be sent is left, or something is
+pub arms_none : (left : List ℕ) → false ≡ not (length left == 0) → (f : Fields) (l : List Access) (after : Fields) →
     Disables IER.THR_EMPTY.0 f l after → ArmsIfLeft left f l after
 arms_none [] e f l after does = does
 arms_none (byte ∷ bytes) e f l after does =
     let some : (length (byte ∷ bytes) == 0) ≡ false = grind (arith, nat_tests) in
-    absurd (false≢true (sym some ∙ sym e))
+    absurd (false≢true (e ∙ ap not some))
 
-pub arms_some : (left : List ℕ) → false ≡ (length left == 0) → (f : Fields) (l : List Access) (after : Fields) →
+pub arms_some : (left : List ℕ) → true ≡ not (length left == 0) → (f : Fields) (l : List Access) (after : Fields) →
     Enables IER.THR_EMPTY.0 f l after → ArmsIfLeft left f l after
-arms_some [] e f l after does = absurd (false≢true e)
+arms_some [] e f l after does = absurd (false≢true (sym e))
 arms_some (byte ∷ bytes) e f l after does = does
 
--- a pump: some of the burst were sent, the ring keeps the others, and THR_EMPTY is enabled if there are any
-pub pumped : {B : Type 0} {step : B → Access → B → Type 0} (G : Doing) (sent : ℕ) (burst : List ℕ) (a : Uart16550Ring B)
-    (u : Uart16550 B) (left : Queue) →
-    burst ≡ take FIFO_SIZE a.transmit.items →
-    left ≡ queue (drop sent a.transmit.items) a.transmit.capacity →
-    ((f : Fields) (l : List Access) (after : Fields) → G f l after → ArmsIfLeft left.items f l after) →
-    Did step (Next (Saving (Sends burst sent)) G) a.uart u → RingDid step Pumps a (record a { uart = u; transmit = left })
-pumped G sent burst a u left front gone arms p =
-    let bytes = a.transmit.items in
-    let items : left.items ≡ drop sent bytes = ap (λ (b : Queue). b.items) gone in
+-- a pump: some of the burst were sent, the others still wait, and THR_EMPTY is enabled if they may be sent
+pub pumped : {B : Type 0} {step : B → Access → B → Type 0} (G : Doing) (sent : ℕ) (burst : List ℕ) (a mid : Uart16550Ring B)
+    (v u : Uart16550 B) →
+    burst ≡ take FIFO_SIZE (sendable (ring_fields a)) →
+    mid ≡ without_sent_bytes sent (record a { uart = v }) →
+    ((f : Fields) (l : List Access) (after : Fields) → G f l after → ArmsIfLeft (sendable (ring_fields mid)) f l after) →
+    Did step (Saving (Sends burst sent)) a.uart v → Did step G mid.uart u → RingDid step Pumps a (record mid { uart = u })
+pumped {B} {step} G sent burst a mid v u front gone arms sends changes =
+    let D : Uart16550 B → Type 0 = λ x. Did step G x u in
+    let p = did_then sends (subst D (ap (λ (r : Uart16550Ring B). r.uart) gone) changes) in
+    let bytes = sendable (ring_fields a) in
+    let left = sendable (without_sent sent (ring_fields a)) in
+    let is_left : sendable (ring_fields mid) ≡ left = ap (λ (r : Uart16550Ring B). sendable (ring_fields r)) gone in
     ring_among (λ l t. (sent, t))
-    (ring_did {G = Next (Saving (Sends (take FIFO_SIZE bytes) sent)) (ArmsIfLeft (drop sent bytes))} (without_sent sent) a
-    (record a { uart = u; transmit = left })
+    (ring_did {G = Next (Saving (Sends (take FIFO_SIZE bytes) sent)) (ArmsIfLeft left)} (without_sent sent) a
+    (record mid { uart = u })
     (did_among (λ f l after t. record {
       front = t.front;
       back = t.back;
       mid = t.mid;
       whole = t.whole;
       first = rw front at t.first;
-      second = let A : List ℕ → Type 0 = λ xs. ArmsIfLeft xs t.mid t.back after in subst A items (arms t.mid t.back after t.second);
+      second = let A : List ℕ → Type 0 = λ xs. ArmsIfLeft xs t.mid t.back after in subst A is_left (arms t.mid t.back after t.second);
     }) p)
-    (ap (λ (b : Queue). record {
-      driver = fields u;
-      transmit = b;
-      receive = a.receive;
-      line = a.line.0;
-      modem = a.modem.0;
-      is_paused =
-          a.is_paused;
-    }) gone))
+    (ap (λ (r : Uart16550Ring B). ring_fields (record r { uart = u })) gone))
 
 -- ---- to the receive ring
 
@@ -105,12 +101,20 @@ filled room count appended empty slots rest a u more b long is_room same few is_
     ring_among (λ l t. (take count slots, t))
     (ring_then (ring_did (with_received (take count slots)) a (record a { uart = u; receive = more })
     (did_made (rw (size, is_room) at made))
-    (ap (λ (r : Queue). record {
-      driver = fields u;
-      transmit = a.transmit;
-      receive = r;
-      line = a.line.0;
-      modem = a.modem.0;
-      is_paused =
-          a.is_paused;
-    }) all)) pauses)
+    (ap (λ (r : Queue). with_driver (fields u) (record (ring_fields a) { receive = r })) all)) pauses)
+
+-- ---- from the receive ring
+
+-- bytes were taken from it into slots, and a pause ends
+pub took : {B : Type 0} {step : B → Access → B → Type 0} (size count : ℕ) (slots old : List ℕ) (a : Uart16550Ring B) (left : Queue)
+    (b : Uart16550Ring B) → count ≡ min size (length a.receive.items) → slots ≡ take count a.receive.items ++ drop count old →
+    left ≡ queue (drop count a.receive.items) a.receive.capacity → RingDid step (IfAny count EndsPause) (record a { receive = left }) b →
+    RingDid step (TakesBytes size (take count slots)) a b
+took {B} {step} size count slots old a left b is_count is_slots is_left p =
+    let items = a.receive.items in
+    let bytes : take count slots ≡ take size items = first_copied size items slots old count is_count is_slots in
+    let long : length (take count slots) ≡ count = ap length bytes ∙ (length-take size items ∙ sym is_count) in
+    ring_from (record a { receive = left }) refl (λ l t.
+    let F : Queue → Type 0 = λ q. IfAny count EndsPause (record (ring_fields a) { receive = q }) l (ring_fields b) in
+    let N : ℕ → Type 0 = λ n. IfAny n EndsPause (without_taken n (ring_fields a)) l (ring_fields b) in
+    (bytes, subst N (sym long) (subst F is_left t))) p

@@ -9,7 +9,7 @@ use Rattle.uart_spec.specs.declared.registers.interrupt_type.InterruptType.TheVa
 use Rattle.uart_spec.specs.declared.registers.line_status.TheConstants.LSR
 use Rattle.uart_spec.specs.declared.registers.modem_status.TheConstants.MSR
 use Rattle.uart_spec.specs.declared.registers.offsets.TheConstants as offsets
-use Rattle.uart_ring.specs.Ring.{RingDoing, RingFields}
+use Rattle.uart_ring.specs.Ring.{RingDoing, RingFields, sendable}
 
 -- 'Armed' is a property of accesses, and not of a chip: what was written to IER, what a look showed, which interrupt a
 -- read of ISR acknowledged. So it holds over every backend that keeps IER. What a chip makes of it is a law of that
@@ -57,9 +57,9 @@ abbrev pub KeepsIer : ThrEmpty → List Access → Type 0
 KeepsIer known [] = ⊤
 KeepsIer known (access ∷ accesses) = IsTrueOfIer known access × KeepsIer (known_after known access) accesses
 
--- the rings are armed: there is nothing to send, or the THR-empty interrupt is enabled and due
+-- the rings are armed: there is nothing that may be sent, or the THR-empty interrupt is enabled and due
 abbrev pub IsArmed : ThrEmpty → RingFields → Type 0
-IsArmed known f = (f.transmit.items ≡ []) ⊎ ((known.enabled ≡ true) × (known.due ≡ true))
+IsArmed known f = (sendable f ≡ []) ⊎ ((known.enabled ≡ true) × (known.due ≡ true))
 
 -- a call that does not check CTS leaves the rings armed, if they were armed before it and the chip keeps IER
 abbrev pub LeavesArmed : RingDoing

@@ -31,3 +31,11 @@ most_of_retrigger = 3
 -- `handle`: the same for each interrupt as `service`, and a `retrigger`
 abbrev pub most_of_handle : (limit : ℕ) → ℕ
 most_of_handle limit = limit * (1 + most_of_receiving) + most_of_retrigger
+
+-- `try_handle`: a `handle`, one more read of ISR, and a change of IER
+abbrev pub most_of_try_handle : (limit : ℕ) → ℕ
+most_of_try_handle limit = most_of_handle limit + (1 + most_of_change)
+
+-- `restart`: a change of IER, and a pump
+abbrev pub most_of_restart : ℕ
+most_of_restart = most_of_change + most_of_pump

@@ -5,6 +5,7 @@ pub mod Receive
 pub mod Status
 pub mod Service
 pub mod Handle
+pub mod Storm
 pub mod Lossless
 pub mod Armed
 pub mod Bounded

@@ -30,3 +30,8 @@ EndsPause f l after =
 abbrev pub TakesBytes : ℕ → List ℕ → RingDoing
 TakesBytes slots bytes f l after =
     (bytes ≡ take slots f.receive.items) × IfAny (length bytes) EndsPause (without_taken (length bytes) f) l after
+
+-- `clear_receive`: the receive ring is emptied of so many bytes; if there are any, a pause ends
+abbrev pub ClearsReceive : ℕ → RingDoing
+ClearsReceive count f l after =
+    (count ≡ length f.receive.items) × IfAny count EndsPause (without_taken count f) l after

@@ -1,23 +1,25 @@
 -- From the transmit ring to the chip.
-use Rattle.std.specs.Prelude.{◌≡◌, ℕ, List, [], ◌∷◌, length, take, drop, min}
+use Rattle.std.specs.Prelude.{◌≡◌, ℕ, Bool, true, false, List, [], ◌∷◌, length, take, min, Option, Some}
 use Rattle.uart_spec.specs.declared.baud.TheConstants.{FIFO_SIZE}
 use Rattle.uart_spec.specs.declared.registers.interrupt_enable.TheConstants.IER
 use Rattle.uart_16550.specs.Driver.{Doing, Saving, Next}
 use Rattle.uart_16550.specs.Transmit.{Sends}
 use Rattle.uart_16550.specs.Status.{Enables, Disables}
-use Rattle.uart_ring.specs.Ring.{RingDoing, OnDriver, IfAny, free, with_queued, without_sent}
+use Rattle.uart_ring.specs.Ring.{RingDoing, OnDriver, RingSets, IfAny, free, waiting, sendable, with_queued}
+use Rattle.uart_ring.specs.Ring.{without_sent}
+use Rattle.uart_ring.specs.Ring.{cleared, with_urgent, with_hold, with_low_mark, with_low}
 
 -- THR_EMPTY is enabled if bytes are left to be sent, else disabled
 abbrev pub ArmsIfLeft : List ℕ → Doing
 ArmsIfLeft [] = Disables IER.THR_EMPTY.0
 ArmsIfLeft (byte ∷ bytes) = Enables IER.THR_EMPTY.0
 
--- a pump: `send_bytes` of the first 16 bytes of the transmit ring, and those that were sent leave the ring; then
--- THR_EMPTY is enabled or disabled
+-- a pump: `send_bytes` of the first 16 bytes that may be sent, and those that were sent no longer wait; then THR_EMPTY
+-- is enabled or disabled. Without an urgent byte, a hold or a stuck chip these are the bytes of the transmit ring
 abbrev pub Pumps : RingDoing
 Pumps f l after =
     (sent : ℕ)
-    × OnDriver (Next (Saving (Sends (take FIFO_SIZE f.transmit.items) sent)) (ArmsIfLeft (drop sent f.transmit.items)))
+    × OnDriver (Next (Saving (Sends (take FIFO_SIZE (sendable f)) sent)) (ArmsIfLeft (sendable (without_sent sent f))))
     (without_sent sent) f l after
 
 -- `queue`: bytes from the front of the input are added at the end of the transmit ring, as many as it has room for; if
@@ -26,6 +28,30 @@ abbrev pub Queues : List ℕ → ℕ → RingDoing
 Queues bytes count f l after =
     (count ≡ min (length bytes) (free f.transmit)) × IfAny count Pumps (with_queued (take count bytes) f) l after
 
--- `resume_transmit`: if bytes wait in the transmit ring, a pump
+-- `resume_transmit`: if bytes wait, a pump
 abbrev pub ResumesTransmit : RingDoing
-ResumesTransmit f l after = IfAny (length f.transmit.items) Pumps f l after
+ResumesTransmit f l after = IfAny (length (waiting f)) Pumps f l after
+
+-- `hold_transmit`: the ring is held, and no access is made
+abbrev pub Holds : RingDoing
+Holds = RingSets (with_hold true)
+
+-- `release_transmit`: the ring is no longer held, and sending resumes
+abbrev pub Releases : RingDoing
+Releases f l after = ResumesTransmit (with_hold false f) l after
+
+-- `queue_urgent`: the byte is the urgent one, in place of one that waited, which is returned; and a pump
+abbrev pub QueuesUrgent : ℕ → Option ℕ → RingDoing
+QueuesUrgent byte replaced f l after = (replaced ≡ f.urgent) × Pumps (with_urgent (Some byte) f) l after
+
+-- `clear_transmit`: the transmit ring is emptied of so many bytes
+abbrev pub ClearsTransmit : ℕ → RingDoing
+ClearsTransmit count f l after = (count ≡ length f.transmit.items) × RingSets cleared f l after
+
+-- `set_low_mark`
+abbrev pub SetsLowMark : ℕ → RingDoing
+SetsLowMark mark = RingSets (with_low_mark mark)
+
+-- `take_low`: whether a fall to the low mark was noted, which is then forgotten
+abbrev pub TakesLow : Bool → RingDoing
+TakesLow low f l after = (low ≡ f.is_low) × RingSets (with_low false) f l after

@@ -1,19 +1,27 @@
 //! Laws about the ring calls, over any backend. They follow from the contracts of the calls.
 //!
 //! The contract of each function is a law that callers can cite. The functions do nothing.
-ghost use Rattle.std.specs.Prelude.{◌≡◌, ◌<◌, ⊤, ℕ, List, [], take};
+ghost use Rattle.std.specs.Prelude.{◌≡◌, ◌<◌, ⊤, ℕ, Bool, List, [], Option, Result, Ok, Err, take};
+ghost use Rattle.uart_spec.specs.declared.access.Access.{Access};
+ghost use Rattle.uart_ring.specs.Ring.{RingFields};
 ghost use Rattle.uart_ring.specs.Transmit.{Queues, ResumesTransmit};
-ghost use Rattle.uart_ring.specs.Receive.{TakesBytes};
+ghost use Rattle.uart_ring.specs.Transmit.{Holds, Releases, QueuesUrgent, ClearsTransmit};
+ghost use Rattle.uart_ring.specs.Transmit.{SetsLowMark, TakesLow};
+ghost use Rattle.uart_ring.specs.Receive.{TakesBytes, ClearsReceive};
+ghost use Rattle.uart_ring.specs.Storm.{TriesToHandle, Restarts, LeavesOff, CountsOrIsIdle};
 ghost use Rattle.uart_ring.specs.Status.{TakesLine, TakesModem};
 ghost use Rattle.uart_ring.specs.Service.{Services};
 ghost use Rattle.uart_ring.specs.Handle.{Handles, Retriggers};
-ghost use Rattle.uart_ring.specs.Lossless.{LosesNothing, Implies};
+ghost use Rattle.uart_ring.specs.Lossless.{LosesNothing, LosesOnly, Implies};
+ghost use Rattle.uart_ring.specs.Lossless.{overtaken_by, without_dropped};
 ghost use Rattle.uart_ring.specs.Armed.{Arms, ArmsUnlessHeld, LeavesArmed};
 ghost use Rattle.uart_ring.specs.Choice.{LeavesNoRingChoice};
 ghost use Rattle.uart_ring.specs.Bounded.{MakesAtMost, most_of_change};
 ghost use Rattle.uart_ring.specs.Bounded.{most_of_pump, most_of_service};
 ghost use Rattle.uart_ring.specs.Bounded.{most_of_handle, most_of_retrigger};
+ghost use Rattle.uart_ring.specs.Bounded.{most_of_try_handle, most_of_restart};
 ghost use Rattle.uart_ring.specs.declared.ring.service.Handled.{Handled};
+ghost use Rattle.uart_ring.specs.declared.ring.storm.StuckError.{StuckError};
 ghost use Rattle.uart_ring.specs.declared.ring.TheConstants.{MAX_CAPACITY};
 ghost use Rattle.uart_ring.specs.declared.ring.service.TheConstants.{MAX_INTERRUPTS};
 
@@ -22,6 +30,10 @@ ghost use Rattle.uart_ring.specs.declared.ring.service.TheConstants.{MAX_INTERRU
 /// What was taken and what is left in the receive ring is what was there and what was read from
 /// DATA. Line errors and changes of the modem lines are kept until `take_line` and `take_modem`
 /// return them.
+///
+/// An urgent byte goes before all bytes that wait, in place of one that `queue_urgent` returns.
+/// What `clear_transmit` drops are as many bytes as it returns, from the end of those that wait:
+/// all of the ring. What `clear_receive` drops is all that was in the receive ring.
 pub fn ring_calls_lose_nothing()
     ensures queue { (bytes : List ℕ) (count : ℕ) →
         Implies (Queues bytes count) (LosesNothing (take count bytes) [] 0 0) }
@@ -34,15 +46,31 @@ pub fn ring_calls_lose_nothing()
     ensures retrigger { Implies Retriggers (LosesNothing [] [] 0 0) }
     ensures take_line { (line : ℕ) → Implies (TakesLine line) (LosesNothing [] [] line 0) }
     ensures take_modem { (modem : ℕ) → Implies (TakesModem modem) (LosesNothing [] [] 0 modem) }
+    ensures hold_transmit { Implies Holds (LosesNothing [] [] 0 0) }
+    ensures release_transmit { Implies Releases (LosesNothing [] [] 0 0) }
+    ensures queue_urgent { (byte : ℕ) (replaced : Option ℕ) →
+        Implies (QueuesUrgent byte replaced) (LosesOnly (overtaken_by byte replaced) [] 0 0) }
+    ensures clear_transmit { (count : ℕ) →
+        Implies (ClearsTransmit count) (LosesOnly (without_dropped count) [] 0 0) }
+    ensures clear_receive { (f : RingFields) (count : ℕ) (l : List Access) (after : RingFields) →
+        ClearsReceive count f l after → LosesNothing [] f.receive.items 0 0 f l after }
+    ensures set_low_mark { (mark : ℕ) → Implies (SetsLowMark mark) (LosesNothing [] [] 0 0) }
+    ensures take_low { (low : Bool) → Implies (TakesLow low) (LosesNothing [] [] 0 0) }
+    ensures try_handle { (limit rounds : ℕ) (result : Result Handled StuckError) →
+        Implies (TriesToHandle limit rounds result) (LosesNothing [] [] 0 0) }
+    ensures restart { (bits : ℕ) → Implies (Restarts bits) (LosesNothing [] [] 0 0) }
 {}
 
-/// Rings are armed if no byte waits in the transmit ring, or if an interrupt is still to come, as
-/// far as accesses show it on a chip that keeps IER as it was written.
+/// Rings are armed if no byte waits that may be sent, or if an interrupt is still to come, as far
+/// as accesses show it on a chip that keeps IER as it was written. While the chip is stuck no byte
+/// may be sent, and while the transmit ring is held only the urgent byte.
 ///
 /// If CTS is not checked, each ring call leaves the rings armed if they were armed before it. A
-/// `queue` that accepts a byte and a `resume_transmit` leave them armed in any case.
+/// `queue` that accepts a byte, a `resume_transmit`, a `release_transmit`, a `queue_urgent` and a
+/// `restart` leave them armed in any case.
 ///
-/// If CTS is checked, these two leave the rings armed unless they read that CTS is clear.
+/// If CTS is checked, the first four of these leave the rings armed unless they read that CTS is
+/// clear.
 pub fn ring_calls_leave_armed()
     ensures queue { (bytes : List ℕ) (count : ℕ) → Implies (Queues bytes count) LeavesArmed }
     ensures queue_arms { (bytes : List ℕ) (count : ℕ) → 0 < count →
@@ -58,6 +86,20 @@ pub fn ring_calls_leave_armed()
     ensures retrigger { Implies Retriggers LeavesArmed }
     ensures take_line { (line : ℕ) → Implies (TakesLine line) LeavesArmed }
     ensures take_modem { (modem : ℕ) → Implies (TakesModem modem) LeavesArmed }
+    ensures hold_transmit { Implies Holds LeavesArmed }
+    ensures release_transmit { Implies Releases Arms }
+    ensures release_transmit_unless_held { Implies Releases ArmsUnlessHeld }
+    ensures queue_urgent { (byte : ℕ) (replaced : Option ℕ) →
+        Implies (QueuesUrgent byte replaced) Arms }
+    ensures queue_urgent_unless_held { (byte : ℕ) (replaced : Option ℕ) →
+        Implies (QueuesUrgent byte replaced) ArmsUnlessHeld }
+    ensures clear_transmit { (count : ℕ) → Implies (ClearsTransmit count) LeavesArmed }
+    ensures clear_receive { (count : ℕ) → Implies (ClearsReceive count) LeavesArmed }
+    ensures set_low_mark { (mark : ℕ) → Implies (SetsLowMark mark) LeavesArmed }
+    ensures take_low { (low : Bool) → Implies (TakesLow low) LeavesArmed }
+    ensures try_handle { (limit rounds : ℕ) (result : Result Handled StuckError) →
+        Implies (TriesToHandle limit rounds result) LeavesArmed }
+    ensures restart { (bits : ℕ) → Implies (Restarts bits) Arms }
 {}
 
 /// No ring call waits: each makes at most this number of accesses, whatever they return.
@@ -73,6 +115,18 @@ pub fn ring_calls_are_bounded()
     ensures retrigger { Implies Retriggers (MakesAtMost most_of_retrigger) }
     ensures take_line { (line : ℕ) → Implies (TakesLine line) (MakesAtMost 1) }
     ensures take_modem { (modem : ℕ) → Implies (TakesModem modem) (MakesAtMost 1) }
+    ensures hold_transmit { Implies Holds (MakesAtMost 0) }
+    ensures release_transmit { Implies Releases (MakesAtMost most_of_pump) }
+    ensures queue_urgent { (byte : ℕ) (replaced : Option ℕ) →
+        Implies (QueuesUrgent byte replaced) (MakesAtMost most_of_pump) }
+    ensures clear_transmit { (count : ℕ) → Implies (ClearsTransmit count) (MakesAtMost 0) }
+    ensures clear_receive { (count : ℕ) →
+        Implies (ClearsReceive count) (MakesAtMost most_of_change) }
+    ensures set_low_mark { (mark : ℕ) → Implies (SetsLowMark mark) (MakesAtMost 0) }
+    ensures take_low { (low : Bool) → Implies (TakesLow low) (MakesAtMost 0) }
+    ensures try_handle { (limit rounds : ℕ) (result : Result Handled StuckError) →
+        Implies (TriesToHandle limit rounds result) (MakesAtMost (most_of_try_handle limit)) }
+    ensures restart { (bits : ℕ) → Implies (Restarts bits) (MakesAtMost most_of_restart) }
 {}
 
 /// The contract of each ring call determines what the call does: what its reads have returned so
@@ -87,6 +141,29 @@ pub fn ring_calls_leave_no_choice()
     ensures retrigger { LeavesNoRingChoice (λ (_ : ⊤). Retriggers) }
     ensures take_line { LeavesNoRingChoice TakesLine }
     ensures take_modem { LeavesNoRingChoice TakesModem }
+    ensures hold_transmit { LeavesNoRingChoice (λ (_ : ⊤). Holds) }
+    ensures release_transmit { LeavesNoRingChoice (λ (_ : ⊤). Releases) }
+    ensures queue_urgent { (byte : ℕ) → LeavesNoRingChoice (QueuesUrgent byte) }
+    ensures clear_transmit { LeavesNoRingChoice ClearsTransmit }
+    ensures clear_receive { LeavesNoRingChoice ClearsReceive }
+    ensures set_low_mark { (mark : ℕ) → LeavesNoRingChoice (λ (_ : ⊤). SetsLowMark mark) }
+    ensures take_low { LeavesNoRingChoice TakesLow }
+    ensures try_handle { (limit rounds : ℕ) →
+        LeavesNoRingChoice (TriesToHandle limit rounds) }
+    ensures restart { (bits : ℕ) → LeavesNoRingChoice (λ (_ : ⊤). Restarts bits) }
+{}
+
+/// `try_handle` ends a storm. If it returns that the chip is stuck, its last access writes 0 to
+/// IER. If it returns anything else, it has counted one more unfinished round in a row, and more
+/// are allowed, or its last access read ISR, which showed that no interrupt is pending.
+///
+/// So of as many calls in a row as there may be rounds, one finds the chip stuck, unless an access
+/// showed that no interrupt is pending.
+pub fn storms_end()
+    ensures off { (limit rounds : ℕ) (error : StuckError) →
+        Implies (TriesToHandle limit rounds (Err error)) (LeavesOff error) }
+    ensures counted { (limit rounds : ℕ) (handled : Handled) →
+        Implies (TriesToHandle limit rounds (Ok handled)) (CountsOrIsIdle rounds) }
 {}
 
 /// The values of the limits.

@@ -9,4 +9,6 @@ pub mod laws;
 mod queue;
 mod ring;
 
-pub use ring::{HandleEnd, Handled, MAX_CAPACITY, MAX_INTERRUPTS, RingError, Uart16550Ring};
+pub use ring::{
+    HandleEnd, Handled, MAX_CAPACITY, MAX_INTERRUPTS, RingError, StuckError, Uart16550Ring,
+};

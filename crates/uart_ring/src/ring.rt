@@ -3,17 +3,19 @@ ghost use Rattle.std.specs.Prelude.{◌≡◌, ◌↔◌, length, IsTrue, IfOk, 
 ghost use Rattle.std.specs.Borrow.{Lends, sem};
 ghost use Rattle.uart_16550.specs.contracts.driver.Uart16550.{the_row as driver_row};
 ghost use Rattle.uart_ring.specs.contracts.ring.Uart16550Ring.{the_row};
-ghost use Rattle.uart_ring.specs.Ring.{IsCapacity, AreEmpty, driver_of, ring_fields};
+ghost use Rattle.uart_ring.specs.Ring.{IsCapacity, AreEmpty, driver_of, free, ring_fields};
 
 mod receive;
 mod service;
 mod status;
+mod storm;
 mod transmit;
 
 use crate::queue::ByteQueue;
 use bitflags::Flags;
 pub use service::{HandleEnd, Handled, MAX_INTERRUPTS};
 use std::alloc::Global;
+pub use storm::StuckError;
 use thiserror::Error;
 use uart_16550::Uart16550;
 use uart_16550::backend::Backend;
@@ -37,8 +39,8 @@ pub enum RingError {
 ///
 /// Initialise the driver through `inner_mut`, with `DATA_READY`, `RECEIVER_LINE_STATUS` and
 /// `MODEM_STATUS` enabled and without `THR_EMPTY`, which the rings enable as long as there are
-/// bytes to send. Call `handle` in the interrupt handler. Mask the interrupt during all other
-/// calls, since the handler must not run in the middle of one.
+/// bytes to send. Call `handle` or `try_handle` in the interrupt handler. Mask the interrupt during
+/// all other calls, since the handler must not run in the middle of one.
 ///
 /// No call waits, so none returns a stall.
 ///
@@ -62,6 +64,17 @@ pub struct Uart16550Ring<B> {
     line: LSR,
     modem: MSR,
     is_paused: bool,
+    // It overtakes the transmit ring. A terminal's flow control has at most one to send: a newer
+    // XON or XOFF makes an older one that still waits pointless.
+    urgent: Option<u8>,
+    is_held: bool,
+    low_mark: usize,
+    // The transmit ring fell to the low mark since this was taken.
+    is_low: bool,
+    // Calls of `try_handle` in a row, up to the last one, that did not end with `Idle`.
+    rounds: u32,
+    // Why the interrupts are off, until a `restart`.
+    stuck: Option<StuckError>,
 }
 
 // Returns whether a ring can have this capacity.
@@ -121,6 +134,12 @@ impl<B: Backend> Uart16550Ring<B> {
             line: LSR::from_bits_retain(0),
             modem: MSR::from_bits_retain(0),
             is_paused: false,
+            urgent: None,
+            is_held: false,
+            low_mark: 0,
+            is_low: false,
+            rounds: 0,
+            stuck: None,
         })
     }
 
@@ -136,6 +155,59 @@ impl<B: Backend> Uart16550Ring<B> {
         ensures { result ≡ length (ring_fields self.now).transmit.items }
     {
         self.transmit.len()
+    }
+
+    /// Returns how many more bytes the transmit ring has room for. Makes no access.
+    ///
+    /// # Examples
+    ///
+    /// ```
+    /// assert_eq!(rt; ring.transmit_room(), 1024);
+    /// ```
+    pub fn transmit_room(&self) -> usize
+        ensures { result ≡ free (ring_fields self.now).transmit }
+    {
+        self.transmit.capacity() - self.transmit.len()
+    }
+
+    /// Returns the urgent byte that still waits to be sent. Makes no access.
+    ///
+    /// # Examples
+    ///
+    /// ```
+    /// assert_eq!(rt; ring.urgent(), None);
+    /// ```
+    pub fn urgent(&self) -> Option<u8>
+        ensures { result ≡ (ring_fields self.now).urgent }
+    {
+        self.urgent
+    }
+
+    /// Returns whether the transmit ring is held. Makes no access.
+    ///
+    /// # Examples
+    ///
+    /// ```
+    /// assert!(rt; ring.is_held());
+    /// ```
+    pub fn is_held(&self) -> bool
+        ensures { result ≡ (ring_fields self.now).is_held }
+    {
+        self.is_held
+    }
+
+    /// Returns why the chip is stuck, or `None` if it is not: `try_handle` has disabled its
+    /// interrupts since the last `restart`. Makes no access.
+    ///
+    /// # Examples
+    ///
+    /// ```
+    /// assert_eq!(rt; ring.stuck(), None);
+    /// ```
+    pub fn stuck(&self) -> Option<StuckError>
+        ensures { result ≡ (ring_fields self.now).stuck }
+    {
+        self.stuck
     }
 
     /// Returns the number of bytes in the receive ring: those that were received and not yet taken.

@@ -4,5 +4,6 @@ pub mod RingTold
 pub mod RingDue
 pub mod RingArming
 pub mod RingSessions
+pub mod RingPlain
 pub mod RingReady
 pub mod RingEdges

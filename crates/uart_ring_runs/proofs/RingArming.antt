@@ -8,7 +8,8 @@ use Rattle.uart_run.proofs.CallLaws.{InSession}
 use Rattle.uart_ring.specs.Ring.{RingDoing, RingDid, RingFields, ring_fields}
 use Rattle.uart_ring.specs.Armed.{ThrEmpty, known_after_all, IsArmed, LeavesArmed, Arms}
 use Rattle.uart_ring.proofs.Arming.{queues_leave, queues_arm, resumes_arm, takes_leave, services_leave, takes_line_leave, takes_modem_leave}
-use Rattle.uart_ring.proofs.Arming.{handles_leave, retriggers_leave}
+use Rattle.uart_ring.proofs.Arming.{handles_leave, retriggers_leave, holds_leave, releases_arm, queues_urgent_arm, clears_transmit_leave}
+use Rattle.uart_ring.proofs.Arming.{clears_receive_leave, sets_low_mark_leave, takes_low_leave, tries_leave, restarts_arm}
 use Rattle.uart_ring_runs.specs.declared.call.RingCall.{RingCall}
 use Rattle.uart_ring_runs.specs.declared.call.RingCall.TheVariants as call
 use Rattle.uart_ring_runs.specs.declared.call.RingAnswer.{RingAnswer}
@@ -16,6 +17,8 @@ use Rattle.uart_ring_runs.specs.RingRun.{RingState, under, ring_machine, RingCal
 use Rattle.uart_ring_runs.specs.RingArmed.{thr_empty_of, IsRingArmed, RearmsRing, AllLeaveRingArmed}
 use Rattle.uart_ring_runs.proofs.RingBlocks.{MakesRingBlocks, queues_make, resumes_make, takes_make, services_make}
 use Rattle.uart_ring_runs.proofs.RingBlocks.{takes_line_makes, takes_modem_makes, handles_make, retriggers_make}
+use Rattle.uart_ring_runs.proofs.RingBlocks.{holds_make, releases_make, queues_urgent_make, clears_transmit_make, clears_receive_make}
+use Rattle.uart_ring_runs.proofs.RingBlocks.{sets_low_mark_make, takes_low_make, tries_make, restarts_make}
 use Rattle.uart_ring_runs.proofs.RingPasses.{ring_passes_call, ring_in_session-after}
 use Rattle.uart_ring_runs.proofs.RingDue.{Holds, IsDlabOff, path_holds, mark_holds}
 
@@ -63,7 +66,9 @@ call_leaves s t (call.Queue bytes) a unchecked off h armed =
         did_arms _ s t unchecked off h.did makes
         (queues_arm bytes.items h.outcome (omega (arith, some, length-take h.outcome bytes.items)) _ _ _ h.did.does)
 call_leaves s t call.ResumeTransmit a unchecked off h armed =
-    did_arms _ s t unchecked off h.did (resumes_make _ _ _ h.did.does) (resumes_arm _ _ _ h.did.does)
+    did_arms _ s t unchecked off h.did
+    (resumes_make (ring_fields s) h.did.list (ring_fields t) h.did.does)
+    (resumes_arm (ring_fields s) h.did.list (ring_fields t) h.did.does)
 call_leaves s t (call.Take slots) a unchecked off h armed =
     did_leaves _ s t unchecked off h.did (takes_make slots h.outcome _ _ _ h.did.does) (takes_leave slots h.outcome _ _ _ h.did.does)
     (none_accepted armed)
@@ -82,6 +87,36 @@ call_leaves s t call.TakeLine a unchecked off h armed =
 call_leaves s t call.TakeModem a unchecked off h armed =
     did_leaves _ s t unchecked off h.did (takes_modem_makes h.outcome _ _ _ h.did.does) (takes_modem_leave h.outcome _ _ _ h.did.does)
     (none_accepted armed)
+call_leaves s t call.HoldTransmit a unchecked off h armed =
+    did_leaves _ s t unchecked off h.did
+    (holds_make (ring_fields s) h.did.list (ring_fields t) h.did.does)
+    (holds_leave (ring_fields s) h.did.list (ring_fields t) h.did.does) (none_accepted armed)
+call_leaves s t call.ReleaseTransmit a unchecked off h armed =
+    did_arms _ s t unchecked off h.did
+    (releases_make (ring_fields s) h.did.list (ring_fields t) h.did.does)
+    (releases_arm (ring_fields s) h.did.list (ring_fields t) h.did.does)
+call_leaves s t (call.QueueUrgent byte) a unchecked off h armed =
+    did_arms _ s t unchecked off h.did (queues_urgent_make byte h.outcome _ _ _ h.did.does)
+    (queues_urgent_arm byte h.outcome _ _ _ h.did.does)
+call_leaves s t call.ClearTransmit a unchecked off h armed =
+    did_leaves _ s t unchecked off h.did (clears_transmit_make h.outcome _ _ _ h.did.does)
+    (clears_transmit_leave h.outcome _ _ _ h.did.does) (none_accepted armed)
+call_leaves s t call.ClearReceive a unchecked off h armed =
+    did_leaves _ s t unchecked off h.did (clears_receive_make h.outcome _ _ _ h.did.does)
+    (clears_receive_leave h.outcome _ _ _ h.did.does) (none_accepted armed)
+call_leaves s t (call.SetLowMark mark) a unchecked off h armed =
+    did_leaves _ s t unchecked off h.did
+    (sets_low_mark_make mark (ring_fields s) h.did.list (ring_fields t) h.did.does)
+    (sets_low_mark_leave mark (ring_fields s) h.did.list (ring_fields t) h.did.does)
+    (none_accepted armed)
+call_leaves s t call.TakeLow a unchecked off h armed =
+    did_leaves _ s t unchecked off h.did (takes_low_make h.outcome _ _ _ h.did.does) (takes_low_leave h.outcome _ _ _ h.did.does)
+    (none_accepted armed)
+call_leaves s t (call.TryHandle limit rounds) a unchecked off h armed =
+    did_leaves _ s t unchecked off h.did (tries_make limit rounds h.outcome _ _ _ h.did.does)
+    (tries_leave limit rounds h.outcome _ _ _ h.did.does) (none_accepted armed)
+call_leaves s t (call.Restart interrupts) a unchecked off h armed =
+    did_arms _ s t unchecked off h.did (restarts_make interrupts.0 _ _ _ h.did.does) (restarts_arm interrupts.0 _ _ _ h.did.does)
 call_leaves s t call.Next a unchecked off h armed =
     let known = thr_empty_of (ring_machine s) in
     let F : RingFields → Type 0 = λ f. IsArmed (thr_empty_of (ring_machine t)) f in
@@ -101,6 +136,6 @@ chain_leaves x s t (link ∷ links) w h unchecked =
     let m = ring_machine link.before in
     let off : IsDlabOff m = dlab-in x m.chip begins.stands.modes ∙ begins.open_modes.dlab in
     let p = ring_passes_call x link.before link.after link.call link.answer begins h.1 in
-    let goes = ring_in_session-after x _ _ link.before link.after _ _ begins p in
+    let goes = ring_in_session-after x _ _ _ link.before link.after _ begins p in
     let later : IsUnchecked (under link.after) = ap (λ (settings : Settings). settings.checks) p.settings ∙ free in
     (call_leaves link.before link.after link.call link.answer free off h.1, chain_leaves x link.after t links goes h.2 later)

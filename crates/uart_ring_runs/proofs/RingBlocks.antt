@@ -2,8 +2,8 @@
 --
 -- This is all that is shown anew over the chip. That nothing is lost between the rings and DATA is the law over any
 -- backend, and what the chip does with DATA is the law of blocks.
-use Rattle.std.proofs.Common.{◌≡◌, ◌==◌, ℕ, zero, suc, Bool, true, false, inl, inr, MatchBool, List, [], ◌∷◌, ◌++◌, length, take, drop}
-use Rattle.std.proofs.Common.{min, refl, ◌∙◌, ap, subst, Option, None}
+use Rattle.std.proofs.Common.{◌≡◌, ◌==◌, ℕ, zero, suc, Bool, true, false, inl, inr, MatchBool, List, [], ◌∷◌, ◌++◌, length, take}
+use Rattle.std.proofs.Common.{min, refl, ◌∙◌, ap, subst, Option, Some, None}
 use Rattle.std.specs.List.{AllByRecursion}
 use Rattle.uart_spec.specs.declared.access.Access.{Access}
 use Rattle.uart_spec.specs.declared.access.Access.TheVariants.{Read, Write}
@@ -23,6 +23,14 @@ use Rattle.uart_ring.specs.Ring.{RingDoing, RingFields, OnDriver, Stays, RingTim
 use Rattle.uart_ring.specs.Ring.{with_paused, without_taken}
 use Rattle.uart_ring.specs.Transmit.{ArmsIfLeft, Pumps, Queues, ResumesTransmit}
 use Rattle.uart_ring.specs.Receive.{PausesIfFull, FillsReceiveRing, EndsPause, TakesBytes}
+use Rattle.uart_ring.specs.Ring.{waiting, sendable, without_sent, RingSets, with_hold, with_urgent, with_low_mark, with_low, with_rounds}
+use Rattle.uart_ring.specs.Ring.{cleared}
+use Rattle.uart_ring.specs.Transmit.{Holds, Releases, QueuesUrgent, ClearsTransmit, SetsLowMark, TakesLow}
+use Rattle.uart_ring.specs.Receive.{ClearsReceive}
+use Rattle.uart_ring.specs.Storm.{every_bit, LooksOnceMore, CountsUnfinished, CountsRound, HandlesRound, StaysStuck, TriesToHandle}
+use Rattle.uart_ring.specs.Storm.{Restarts, not_paused}
+use Rattle.uart_ring.specs.declared.ring.storm.StuckError.{StuckError}
+use Rattle.std.specs.Prelude.{MatchOption, Result, nat_lt}
 use Rattle.uart_ring.specs.Status.{TakesLine, TakesModem}
 use Rattle.uart_ring.specs.Service.{ShowsInterrupt, ServesInterrupt, ServesOne, Stops, ServesUpTo, Services}
 use Rattle.uart_ring.specs.Handle.{Retriggers, RetriggersUnlessIdle, Handles}
@@ -158,11 +166,15 @@ msr_makes result f l after t =
     let k = takes_msr_keeps result f after l t in
     makes_kept f after l [] [] k.blocks (rw t.1 (record { written_is = refl; read_is = refl })) (rw t.1 (tt, tt)) k.fifo
 
-isr_makes : (interrupt : Option InterruptType) (f : Fields) (l : List Access) (after : Fields) → ShowsInterrupt interrupt f l after →
+isr_read_makes : (isr : ℕ) (f : Fields) (l : List Access) (after : Fields) → Saving (Only (Read offsets.ISR isr ∷ [])) f l after →
     MakesBlocks f l after
-isr_makes interrupt f l after (isr, shown, t) =
+isr_read_makes isr f l after t =
     let k = saving_keeps (Only (Read offsets.ISR isr ∷ [])) f after l [] [] (plain_blocks (settings_of f) offsets.ISR isr refl) t in
     makes_kept f after l [] [] k.blocks (rw t.0.is (record { written_is = refl; read_is = refl })) (rw t.0.is (tt, tt)) k.fifo
+
+isr_makes : (interrupt : Option InterruptType) (f : Fields) (l : List Access) (after : Fields) → ShowsInterrupt interrupt f l after →
+    MakesBlocks f l after
+isr_makes interrupt f l after (isr, shown, t) = isr_read_makes isr f l after t
 
 -- ---- what the rings do
 
@@ -177,8 +189,8 @@ stays_make f l after (is, same) =
 pumps_make : Implies Pumps MakesRingBlocks
 pumps_make f l after (sent, (t, same)) =
     rw t.whole (makes-then f.driver t.mid after.driver t.front t.back
-    (sends_make (take FIFO_SIZE f.transmit.items) sent f.driver t.front t.mid t.first)
-    (arms_make (drop sent f.transmit.items) t.mid t.back after.driver t.second))
+    (sends_make (take FIFO_SIZE (sendable f)) sent f.driver t.front t.mid t.first)
+    (arms_make (sendable (without_sent sent f)) t.mid t.back after.driver t.second))
 
 -- something if a flag is set, and else nothing
 flagged_make : (flag : Bool) (G : RingDoing) → Implies G MakesRingBlocks → (f : RingFields) (l : List Access) (after : RingFields) →
@@ -260,7 +272,34 @@ pub queues_make : (bytes : List ℕ) (count : ℕ) → Implies (Queues bytes cou
 queues_make bytes count f l after (is, t) = any_make count pumps_make (with_queued (take count bytes) f) l after t
 
 pub resumes_make : Implies ResumesTransmit MakesRingBlocks
-resumes_make f l after t = any_make (length f.transmit.items) pumps_make f l after t
+resumes_make f l after t = any_make (length (waiting f)) pumps_make f l after t
+
+-- fields of the rings are changed, and the driver does nothing
+sets_make : (change : RingFields → RingFields) (f : RingFields) (l : List Access) (after : RingFields) → (change f).driver ≡ f.driver →
+    RingSets change f l after → MakesRingBlocks f l after
+sets_make change f l after same (is, changed) =
+    rw (is, changed) (record { blocks = blocks_none f.driver.fifo; lcr = tt; fifo = ap (λ (g : Fields). g.fifo) same })
+
+pub holds_make : Implies Holds MakesRingBlocks
+holds_make f l after t = sets_make (with_hold true) f l after refl t
+
+pub releases_make : Implies Releases MakesRingBlocks
+releases_make f l after t = resumes_make (with_hold false f) l after t
+
+pub queues_urgent_make : (byte : ℕ) (replaced : Option ℕ) → Implies (QueuesUrgent byte replaced) MakesRingBlocks
+queues_urgent_make byte replaced f l after t = pumps_make (with_urgent (Some byte) f) l after t.1
+
+pub clears_transmit_make : (count : ℕ) → Implies (ClearsTransmit count) MakesRingBlocks
+clears_transmit_make count f l after t = sets_make cleared f l after refl t.1
+
+pub clears_receive_make : (count : ℕ) → Implies (ClearsReceive count) MakesRingBlocks
+clears_receive_make count f l after t = any_make count ends_pause_makes (without_taken count f) l after t.1
+
+pub sets_low_mark_make : (mark : ℕ) → Implies (SetsLowMark mark) MakesRingBlocks
+sets_low_mark_make mark f l after t = sets_make (with_low_mark mark) f l after refl t
+
+pub takes_low_make : (low : Bool) → Implies (TakesLow low) MakesRingBlocks
+takes_low_make low f l after t = sets_make (with_low false) f l after refl t.1
 
 pub takes_make : (slots : ℕ) (bytes : List ℕ) → Implies (TakesBytes slots bytes) MakesRingBlocks
 takes_make slots bytes f l after (is, t) = any_make (length bytes) ends_pause_makes (without_taken (length bytes) f) l after t
@@ -270,3 +309,40 @@ takes_line_makes line f l after (status, told, (t, same)) = lsr_makes status f.d
 
 pub takes_modem_makes : (modem : ℕ) → Implies (TakesModem modem) MakesRingBlocks
 takes_modem_makes modem f l after (status, told, (t, same)) = msr_makes status f.driver l after.driver t
+
+-- ---- storms
+
+looks_make : (found : Option StuckError) → Implies (LooksOnceMore found) MakesRingBlocks
+looks_make None f l after ((isr, shown, idle, t), same) = isr_read_makes isr f.driver l after.driver t
+looks_make (Some error) f l after t =
+    rw t.whole (makes-then f.driver t.mid.driver after.driver t.front t.back
+    (isr_read_makes t.first.0.0 f.driver t.front t.mid.driver t.first.0.2)
+    (disables_make every_bit t.mid.driver t.back after.driver t.second.0))
+
+counts_unfinished_make : (rounds : ℕ) (found : Option StuckError) → Implies (CountsUnfinished rounds found) MakesRingBlocks
+counts_unfinished_make rounds found f l after t = go (nat_lt (suc f.rounds) rounds) t
+  where
+    go : (more : Bool) → MatchBool more ((found ≡ None) × RingSets (with_rounds (suc f.rounds)) f l after) (LooksOnceMore found f l after) →
+        MakesRingBlocks f l after
+    go true t = sets_make (with_rounds (suc f.rounds)) f l after refl t.1
+    go false t = looks_make found f l after t
+
+counts_make : (rounds : ℕ) (end : HandleEnd) (found : Option StuckError) → Implies (CountsRound rounds end found) MakesRingBlocks
+counts_make rounds Idle found f l after t = sets_make (with_rounds 0) f l after refl t.1
+counts_make rounds Unknown found f l after t = counts_unfinished_make rounds found f l after t
+counts_make rounds Limit found f l after t = counts_unfinished_make rounds found f l after t
+
+pub tries_make : (limit rounds : ℕ) (result : Result Handled StuckError) → Implies (TriesToHandle limit rounds result) MakesRingBlocks
+tries_make limit rounds result f l after t = go f.stuck t
+  where
+    go : (was : Option StuckError) → MatchOption was (HandlesRound limit rounds result f l after)
+        (λ error. StaysStuck result error f l after) → MakesRingBlocks f l after
+    go None (handled, found, is, t) =
+        rw t.whole (makes-then f.driver t.mid.driver after.driver t.front t.back (handles_make limit handled f t.front t.mid t.first)
+        (counts_make rounds handled.end found t.mid t.back after t.second))
+    go (Some error) t = disables_make every_bit f.driver l after.driver t.1.0
+
+pub restarts_make : (bits : ℕ) → Implies (Restarts bits) MakesRingBlocks
+restarts_make bits f l after t =
+    rw t.whole (makes-then f.driver t.mid.driver after.driver t.front t.back
+    (enables_make (not_paused f.is_paused bits) f.driver t.front t.mid.driver t.first.0) (resumes_make t.mid t.back after t.second))

@@ -1,20 +1,25 @@
 -- That `handle` and `retrigger` lose no edge of the interrupt line.
 use Rattle.std.proofs.Common.{◌≡◌, ◌⊎◌, ℕ, Bool, true, false, List, [], ◌∷◌, ◌++◌, inl, inr, refl, sym, ◌∙◌, ap, subst, bit_or}
-use Rattle.std.proofs.Common.{Option, Some, None}
-use Rattle.std.specs.Prelude.{is_some}
+use Rattle.std.proofs.Common.{Option, Some, None, Result, Ok, Err, MatchBool, suc, nat_lt}
+use Rattle.std.specs.Prelude.{is_some, MatchOption}
+use lib.Bits.{and_zero_r}
 use Rattle.std.proofs.lemmas.Bool.{false≢true}
 use Rattle.uart_spec.specs.Access.{Path}
 use Rattle.uart_spec.specs.declared.access.Access.{Access}
-use Rattle.uart_spec.specs.declared.access.Access.TheVariants.{Read}
+use Rattle.uart_spec.specs.declared.access.Access.TheVariants.{Read, Write}
 use Rattle.uart_spec.specs.Bits.{has, flag}
 use Rattle.uart_spec.specs.declared.registers.interrupt_status.TheConstants.ISR
 use Rattle.uart_spec.specs.declared.registers.interrupt_type.InterruptType.{InterruptType}
 use Rattle.uart_spec.specs.declared.registers.interrupt_type.InterruptType.TheVariants as interrupts
 use Rattle.uart_spec.specs.declared.registers.offsets.TheConstants as offsets
 use Rattle.uart_16550.specs.Status as status
+use Rattle.uart_16550.specs.Driver.{Fields}
 use Rattle.uart_chip.specs.Chip.{ChipState, interrupt, identification, enable}
 use Rattle.uart_chip.specs.Machine.{MachineState, MachineStep, at_access}
-use Rattle.uart_ring.specs.Ring.{RingDoing, RingDid, RingFields, RingNext, RingTimes}
+use Rattle.uart_ring.specs.Ring.{RingDoing, RingDid, RingFields, RingNext, RingTimes, RingSets, with_rounds}
+use Rattle.uart_ring.specs.Storm.{every_bit, TurnsOff, LooksOnceMore, CountsUnfinished, CountsRound, HandlesRound, StaysStuck}
+use Rattle.uart_ring.specs.Storm.{TriesToHandle, unless_stuck}
+use Rattle.uart_ring.specs.declared.ring.storm.StuckError.{StuckError}
 use Rattle.uart_ring.specs.Service.{ServesOne, Stops}
 use Rattle.uart_ring.specs.Handle.{Retriggers, RetriggersUnlessIdle, Handles}
 use Rattle.uart_ring_runs.specs.Edges.{is_line_up, IsDownDuring, RisesDuring, LosesNoEdge, RisesInCalls}
@@ -23,7 +28,8 @@ use Rattle.uart_ring.specs.declared.ring.service.HandleEnd.TheVariants.{Idle, Un
 use Rattle.uart_ring.specs.declared.ring.service.Handled.{Handled}
 use Rattle.uart_ring_runs.specs.RingRun.{RingState, ring_machine, RingLink, RingChain}
 use Rattle.uart_chip.proofs.conservation.BlockLaws.{path_as}
-use Rattle.uart_ring_runs.proofs.RingBlocks.{AllLeaveLcr, times_make}
+use Rattle.uart_ring_runs.proofs.RingBlocks.{AllLeaveLcr, times_make, handles_make}
+use Rattle.uart_ring.proofs.Pausing.{rid_of}
 use Rattle.uart_ring.proofs.RingDoings.{then_later}
 use Rattle.uart_ring_runs.proofs.RingDue.{IsDlabOff, off_access, off_step}
 
@@ -204,3 +210,115 @@ idle_is_down limit handled s t idle did =
     down_last served.front served.back (ring_machine s) (ring_machine t)
     (path_as (ring_machine s) (ring_machine t) did.list (served.front ++ served.back) served.whole did.path)
     (λ o q. idle_last handled.end idle served.mid served.back _ served.second o (ring_machine t) q)
+
+-- ---- storms
+
+-- the path of the first of two lists
+abbrev front_path : (l k : List Access) (m n : MachineState) → Path MachineStep m (l ++ k) n →
+    (o : MachineState) × Path MachineStep m l o
+front_path [] k m n p = (m, refl)
+front_path (access ∷ l) k m n p =
+    let rest = front_path l k p.0 n p.2 in
+    (rest.0, (p.0, p.1, rest.1))
+
+down_first : (k : List Access) (m n : MachineState) (p : Path MachineStep m k n) → is_line_up m ≡ false → IsDownDuring k m n p
+down_first [] m n p down = ap is_line_up p ∙ down
+down_first (access ∷ k) m n p down = inl down
+
+down_front : (l k : List Access) (m n : MachineState) (p : Path MachineStep m (l ++ k) n) →
+    IsDownDuring l m (front_path l k m n p).0 (front_path l k m n p).1 → IsDownDuring (l ++ k) m n p
+down_front [] k m n p h = down_first k m n p h
+down_front (access ∷ l) k m n p (inl h) = inl h
+down_front (access ∷ l) k m n p (inr h) = inr (down_front l k p.0 n p.2 h)
+
+always_first : (l k : List Access) → AlwaysDown l → AlwaysDown (l ++ k)
+always_first l k h m n p off = down_front l k m n p (h m (front_path l k m n p).0 (front_path l k m n p).1 off)
+
+-- IER is written with none of its bits, last of all
+off_last : (ier : ℕ) (m n : MachineState) → Path MachineStep m (Read offsets.IER ier ∷ Write offsets.IER (rid_of every_bit ier) ∷ []) n →
+    IsDlabOff m → is_line_up n ≡ false
+off_last ier m n p off =
+    let read = off_step (Read offsets.IER ier) m p.0 tt off p.1 in
+    let at = off_access p.0 read in
+    let zero : rid_of every_bit ier ≡ 0 = and_zero_r ier in
+    let down : is_line_up p.2.0 ≡ false = rw (p.2.1, at, zero) (enabled_none (at_access p.0).chip) in
+    ap is_line_up p.2.2 ∙ down
+
+-- whatever the path, the line is low in the end
+abbrev LastDown : List Access → Type 0
+LastDown l = (m n : MachineState) → Path MachineStep m l n → IsDlabOff m → is_line_up n ≡ false
+
+last_later : (l k : List Access) → AllLeaveLcr l → LastDown k → LastDown (l ++ k)
+last_later [] k leaves h m n p off = h m n p off
+last_later (access ∷ l) k leaves h m n p off =
+    last_later l k leaves.1 h p.0 n p.2 (off_step access m p.0 leaves.0 off p.1)
+
+last_always : (l : List Access) → LastDown l → AlwaysDown l
+last_always l h m n p off = go l m n p (h m n p off)
+  where
+    go : (l : List Access) (m n : MachineState) (p : Path MachineStep m l n) → is_line_up n ≡ false → IsDownDuring l m n p
+    go [] m n p down = down
+    go (access ∷ l) m n p down = inr (go l p.0 n p.2 down)
+
+turns_off_last : (f : Fields) (l : List Access) (after : Fields) → TurnsOff f l after → LastDown l
+turns_off_last f l after (ier, is, changed) = subst LastDown (sym is) (off_last ier)
+
+-- the chip was found stuck
+looks_last : (error : StuckError) (f : RingFields) (l : List Access) (after : RingFields) → LooksOnceMore (Some error) f l after →
+    LastDown l
+looks_last error f l after t =
+    let leaves : AllLeaveLcr t.front = rw t.first.0.2.0.is (tt, tt) in
+    subst LastDown (sym t.whole) (last_later t.front t.back leaves (turns_off_last t.mid.driver t.back after.driver t.second.0))
+
+unfinished_last : (rounds : ℕ) (error : StuckError) (f : RingFields) (l : List Access) (after : RingFields) →
+    CountsUnfinished rounds (Some error) f l after → LastDown l
+unfinished_last rounds error f l after t = go (nat_lt (suc f.rounds) rounds) t
+  where
+    go : (more : Bool) → MatchBool more ((Some error ≡ None) × RingSets (with_rounds (suc f.rounds)) f l after)
+        (LooksOnceMore (Some error) f l after) → LastDown l
+    go true t = absurd (let e = t.0 in cc)
+    go false t = looks_last error f l after t
+
+counts_last : (rounds : ℕ) (end : HandleEnd) (error : StuckError) (f : RingFields) (l : List Access) (after : RingFields) →
+    CountsRound rounds end (Some error) f l after → LastDown l
+counts_last rounds Idle error f l after t = absurd (let e = t.0 in cc)
+counts_last rounds Unknown error f l after t = unfinished_last rounds error f l after t
+counts_last rounds Limit error f l after t = unfinished_last rounds error f l after t
+
+tries_last : (limit rounds : ℕ) (result : Result Handled StuckError) (error : StuckError) → result ≡ Err error →
+    (f : RingFields) (l : List Access) (after : RingFields) → TriesToHandle limit rounds result f l after → LastDown l
+tries_last limit rounds result error e f l after t = go f.stuck t
+  where
+    found_is : (handled : Handled) (found : Option StuckError) → result ≡ unless_stuck handled found → found ≡ Some error
+    found_is handled None is = absurd (let both : Ok handled ≡ Err error = sym is ∙ e in cc)
+    found_is handled (Some other) is = let both : Err other ≡ Err error = sym is ∙ e in cc
+
+    go : (was : Option StuckError) → MatchOption was (HandlesRound limit rounds result f l after)
+        (λ error. StaysStuck result error f l after) → LastDown l
+    go None (handled, found, is, t) =
+        let leaves : AllLeaveLcr t.front = (handles_make limit handled f t.front t.mid t.first).lcr in
+        let F : Option StuckError → Type 0 = λ o. CountsRound rounds handled.end o t.mid t.back after in
+        subst LastDown (sym t.whole) (last_later t.front t.back leaves
+        (counts_last rounds handled.end error t.mid t.back after (subst F (found_is handled found is) t.second)))
+    go (Some other) t = turns_off_last f.driver l after.driver t.1.0
+
+pub tries_down : (limit rounds : ℕ) (result : Result Handled StuckError) (f : RingFields) (l : List Access) (after : RingFields) →
+    TriesToHandle limit rounds result f l after → AlwaysDown l
+tries_down limit rounds result f l after t = go f.stuck t
+  where
+    go : (was : Option StuckError) → MatchOption was (HandlesRound limit rounds result f l after)
+        (λ error. StaysStuck result error f l after) → AlwaysDown l
+    go None (handled, found, is, t) =
+        subst AlwaysDown (sym t.whole) (always_first t.front t.back (handles_down limit handled f t.front t.mid t.first))
+    go (Some other) t = last_always l (turns_off_last f.driver l after.driver t.1.0)
+
+pub try_handle_loses_no_edge : (limit rounds : ℕ) (result : Result Handled StuckError) (s t : RingState) → IsDlabOff (ring_machine s) →
+    (did : RingDid MachineStep (TriesToHandle limit rounds result) s t) → LosesNoEdge did.list s t did.path
+try_handle_loses_no_edge limit rounds result s t off did =
+    no_edge_lost did.list s t did.path
+    (tries_down limit rounds result _ did.list _ did.does (ring_machine s) (ring_machine t) did.path off)
+
+pub stuck_is_down : (limit rounds : ℕ) (error : StuckError) (s t : RingState) → IsDlabOff (ring_machine s) →
+    RingDid MachineStep (TriesToHandle limit rounds (Err error)) s t → is_line_up (ring_machine t) ≡ false
+stuck_is_down limit rounds error s t off did =
+    tries_last limit rounds (Err error) error refl _ did.list _ did.does (ring_machine s) (ring_machine t) did.path off

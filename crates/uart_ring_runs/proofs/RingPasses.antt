@@ -1,5 +1,6 @@
 -- What the ring calls of a session do.
-use Rattle.std.proofs.Common.{◌≡◌, ◌≢◌, ℕ, Bool, List, [], ◌∷◌, ◌++◌, append_assoc, append-nil, refl, sym, ◌∙◌, ap, subst, bit_and, bit_or}
+use Rattle.std.proofs.Common.{◌≡◌, ◌≢◌, ℕ, Bool, List, [], ◌∷◌, ◌++◌, append_assoc, append-nil, take, refl, sym, ◌∙◌, ap, subst}
+use Rattle.std.proofs.Common.{bit_and, bit_or}
 use lib.Bits.{or_zero_r}
 use Rattle.uart_spec.specs.Access.{saved_lsr, saved_msr}
 use Rattle.uart_spec.specs.declared.access.Access.{Access}
@@ -16,18 +17,25 @@ use Rattle.uart_run.specs.Chains.{NoneIs}
 use Rattle.uart_run.proofs.CallBlocks.{InBlocks, passed_in_blocks}
 use Rattle.uart_run.proofs.CallLaws.{InSession}
 use Rattle.uart_ring.specs.Ring.{RingDoing, RingDid, RingFields, ring_fields}
-use Rattle.uart_ring.specs.Lossless.{data_written, data_read, untold_line, untold_modem, LosesNothing}
+use Rattle.uart_ring.specs.Ring.{waiting}
+use Rattle.uart_ring.specs.Lossless.{data_written, data_read, untold_line, untold_modem, LosesOnly, with_accepted, overtaken_by}
+use Rattle.uart_ring.specs.Lossless.{without_dropped}
 use Rattle.uart_ring.proofs.RegisterBits.{saved_lsr-append, saved_msr-append}
 use Rattle.uart_ring.proofs.Losses.{data_written-append, data_read-append, queues_lose_nothing, takes_lose_nothing, services_lose_nothing}
 use Rattle.uart_ring.proofs.Losses.{resumes_lose_nothing, takes_line_loses_nothing, takes_modem_loses_nothing}
-use Rattle.uart_ring.proofs.Losses.{handles_lose_nothing, retriggers_lose_nothing}
+use Rattle.uart_ring.proofs.Losses.{handles_lose_nothing, retriggers_lose_nothing, holds_lose_nothing, releases_lose_nothing}
+use Rattle.uart_ring.proofs.Losses.{queues_urgent_loses_only, clears_transmit_loses_only, clears_receive_loses_nothing}
+use Rattle.uart_ring.proofs.Losses.{sets_low_mark_loses_nothing, takes_low_loses_nothing, tries_lose_nothing, restarts_lose_nothing}
 use Rattle.uart_ring_runs.specs.declared.call.RingCall.{RingCall}
 use Rattle.uart_ring_runs.specs.declared.call.RingCall.TheVariants as call
 use Rattle.uart_ring_runs.specs.declared.call.RingAnswer.{RingAnswer}
 use Rattle.uart_ring_runs.specs.RingRun.{RingState, under, ring_machine, RingCallStep, RingLink, RingChain}
-use Rattle.uart_ring_runs.specs.RingBytes.{to_send, to_take, queued_by, taken_by, queued, taken}
+use Rattle.uart_ring_runs.specs.RingBytes.{to_send, to_take, queued_by, taken_by, queued, taken, gone_in, gone_by, gone, to_send_with}
+use Rattle.uart_ring_runs.specs.RingBytes.{KeepsOrder, AllKeepOrder}
 use Rattle.uart_ring_runs.proofs.RingBlocks.{MakesRingBlocks, queues_make, resumes_make, takes_make, services_make}
 use Rattle.uart_ring_runs.proofs.RingBlocks.{takes_line_makes, takes_modem_makes, handles_make, retriggers_make}
+use Rattle.uart_ring_runs.proofs.RingBlocks.{holds_make, releases_make, queues_urgent_make, clears_transmit_make, clears_receive_make}
+use Rattle.uart_ring_runs.proofs.RingBlocks.{sets_low_mark_make, takes_low_make, tries_make, restarts_make}
 
 -- what is still to be told of LSR and MSR
 abbrev pub untold_line_of : RingState → ℕ
@@ -36,24 +44,33 @@ untold_line_of s = untold_line (ring_fields s)
 abbrev pub untold_modem_of : RingState → ℕ
 untold_modem_of s = untold_modem (ring_fields s)
 
--- from s to t these accesses were made: what they wrote to DATA and what is left was there or was queued, what was taken and
--- what is left was there or was read from DATA; the driver has the same settings; and what the statuses showed is still to be told,
--- unless it was told
-pub record RingPasses (x : Modes) (NoLine NoModem : Type 0) (s t : RingState) (queued taken : List ℕ) : Type 0 where
+-- from s to t these accesses were made: this holds of what they wrote to DATA, and then of what waits; what was taken or dropped
+-- and what is left was there or was read from DATA; the driver has the same settings; and what the statuses showed is still to be
+-- told, unless it was told
+pub record RingPasses (x : Modes) (Sent : List ℕ → Type 0) (NoLine NoModem : Type 0) (s t : RingState) (left : List ℕ) : Type 0 where
   pub made : List Access
   pub passed : PassedBlocks x (ring_machine s) (ring_machine t) made (data_written made) (data_read made)
   pub settings : settings_of (ring_fields t).driver ≡ settings_of (ring_fields s).driver
-  pub sent : data_written made ++ to_send t ≡ to_send s ++ queued
-  pub received : taken ++ to_take t ≡ to_take s ++ data_read made
+  pub sent : Sent (data_written made ++ to_send t)
+  pub received : left ++ to_take t ≡ to_take s ++ data_read made
   pub line : NoLine → untold_line_of t ≡ bit_or (untold_line_of s) (saved_lsr made)
   pub modem : NoModem → untold_modem_of t ≡ bit_or (untold_modem_of s) (saved_msr made)
 
+-- what waited, as the call changes it; and if no call overtakes or drops, what waited and what was queued
+abbrev pub InLine : RingCall → RingAnswer → RingState → List ℕ → Type 0
+InLine c a s bytes = bytes ≡ to_send_with c a (to_send s)
+
+abbrev pub Ordered : Type 0 → (queued : List ℕ) → RingState → List ℕ → Type 0
+Ordered Order queued s bytes = Order → bytes ≡ to_send s ++ queued
+
 -- ---- a call
 
-ring_passes_did : (x : Modes) (N M : Type 0) (G : RingDoing) (q u : List ℕ) (line modem : ℕ) (s t : RingState) → InSession x (under s) →
+ring_passes_did : (x : Modes) (N M : Type 0) (G : RingDoing) (change : List ℕ → List ℕ) (u : List ℕ) (line modem : ℕ) (s t : RingState) →
+    InSession x (under s) →
     (did : RingDid MachineStep G s t) → MakesRingBlocks (ring_fields s) did.list (ring_fields t) →
-    LosesNothing q u line modem (ring_fields s) did.list (ring_fields t) → (N → line ≡ 0) → (M → modem ≡ 0) → RingPasses x N M s t q u
-ring_passes_did x N M G q u line modem s t w did makes loses no_line no_modem =
+    LosesOnly change u line modem (ring_fields s) did.list (ring_fields t) → (N → line ≡ 0) → (M → modem ≡ 0) →
+    RingPasses x (λ bytes. bytes ≡ change (to_send s)) N M s t u
+ring_passes_did x N M G change u line modem s t w did makes loses no_line no_modem =
     let B : Bool → Type 0 = λ fifo. InBlocks fifo did.list (data_written did.list) (data_read did.list) in
     record {
       made = did.list;
@@ -68,12 +85,12 @@ ring_passes_did x N M G q u line modem s t w did makes loses no_line no_modem =
 
 -- no access is made, and the fields stay
 ring_passes_still : (x : Modes) (N M : Type 0) (s t : RingState) → PassedBlocks x (ring_machine s) (ring_machine t) [] [] [] →
-    ring_fields t ≡ ring_fields s → RingPasses x N M s t [] []
+    ring_fields t ≡ ring_fields s → RingPasses x (λ bytes. bytes ≡ to_send s ++ []) N M s t []
 ring_passes_still x N M s t p same = record {
   made = [];
   passed = p;
   settings = ap (λ (f : RingFields). settings_of f.driver) same;
-  sent = ap (λ (f : RingFields). f.transmit.items) same ∙ sym (append-nil (to_send s));
+  sent = ap waiting same ∙ sym (append-nil (to_send s));
   received = ap (λ (f : RingFields). f.receive.items) same ∙ sym (append-nil (to_take s));
   line = λ n. ap untold_line same ∙ sym (or_zero_r (untold_line_of s));
   modem = λ m. ap untold_modem same ∙ sym (or_zero_r (untold_modem_of s));
@@ -81,38 +98,75 @@ ring_passes_still x N M s t p same = record {
 
 -- each call
 pub ring_passes_call : (x : Modes) (s t : RingState) (c : RingCall) (a : RingAnswer) → InSession x (under s) → RingCallStep s c a t →
-    RingPasses x (c ≢ call.TakeLine) (c ≢ call.TakeModem) s t (queued_by c a) (taken_by c a)
+    RingPasses x (InLine c a s) (c ≢ call.TakeLine) (c ≢ call.TakeModem) s t (gone_in c a (to_take s))
 ring_passes_call x s t (call.Queue bytes) a w h =
-    rw h.answered (ring_passes_did x _ _ _ _ _ 0 0 s t w h.did (queues_make bytes.items h.outcome _ _ _ h.did.does)
+    rw h.answered (ring_passes_did x _ _ _ (with_accepted (take h.outcome bytes.items)) _ 0 0 s t w h.did
+    (queues_make bytes.items h.outcome _ _ _ h.did.does)
     (queues_lose_nothing bytes.items h.outcome _ _ _ h.did.does) (λ n. refl) (λ m. refl))
 ring_passes_call x s t call.ResumeTransmit a w h =
-    ring_passes_did x _ _ _ _ _ 0 0 s t w h.did (resumes_make _ _ _ h.did.does) (resumes_lose_nothing _ _ _ h.did.does)
+    ring_passes_did x _ _ _ (with_accepted []) _ 0 0 s t w h.did
+    (resumes_make (ring_fields s) h.did.list (ring_fields t) h.did.does)
+    (resumes_lose_nothing (ring_fields s) h.did.list (ring_fields t) h.did.does)
     (λ n. refl) (λ m. refl)
 ring_passes_call x s t (call.Take slots) a w h =
-    rw h.answered (ring_passes_did x _ _ _ _ _ 0 0 s t w h.did (takes_make slots h.outcome _ _ _ h.did.does)
+    rw h.answered (ring_passes_did x _ _ _ (with_accepted []) _ 0 0 s t w h.did (takes_make slots h.outcome _ _ _ h.did.does)
     (takes_lose_nothing slots h.outcome _ _ _ h.did.does) (λ n. refl) (λ m. refl))
 ring_passes_call x s t call.Service a w h =
-    ring_passes_did x _ _ _ _ _ 0 0 s t w h.did (services_make h.outcome _ _ _ h.did.does)
+    ring_passes_did x _ _ _ (with_accepted []) _ 0 0 s t w h.did (services_make h.outcome _ _ _ h.did.does)
     (services_lose_nothing h.outcome _ _ _ h.did.does) (λ n. refl) (λ m. refl)
 ring_passes_call x s t (call.Handle limit) a w h =
-    ring_passes_did x _ _ _ _ _ 0 0 s t w h.did (handles_make limit h.outcome _ _ _ h.did.does)
+    ring_passes_did x _ _ _ (with_accepted []) _ 0 0 s t w h.did (handles_make limit h.outcome _ _ _ h.did.does)
     (handles_lose_nothing limit h.outcome _ _ _ h.did.does) (λ n. refl) (λ m. refl)
 ring_passes_call x s t call.Retrigger a w h =
-    ring_passes_did x _ _ _ _ _ 0 0 s t w h.did (retriggers_make _ _ _ h.did.does) (retriggers_lose_nothing _ _ _ h.did.does)
+    ring_passes_did x _ _ _ (with_accepted []) _ 0 0 s t w h.did (retriggers_make _ _ _ h.did.does)
+    (retriggers_lose_nothing _ _ _ h.did.does)
     (λ n. refl) (λ m. refl)
 ring_passes_call x s t call.TakeLine a w h =
-    ring_passes_did x _ _ _ _ _ h.outcome 0 s t w h.did (takes_line_makes h.outcome _ _ _ h.did.does)
+    ring_passes_did x _ _ _ (with_accepted []) _ h.outcome 0 s t w h.did (takes_line_makes h.outcome _ _ _ h.did.does)
     (takes_line_loses_nothing h.outcome _ _ _ h.did.does) (λ n. absurd (n refl)) (λ m. refl)
 ring_passes_call x s t call.TakeModem a w h =
-    ring_passes_did x _ _ _ _ _ 0 h.outcome s t w h.did (takes_modem_makes h.outcome _ _ _ h.did.does)
+    ring_passes_did x _ _ _ (with_accepted []) _ 0 h.outcome s t w h.did (takes_modem_makes h.outcome _ _ _ h.did.does)
     (takes_modem_loses_nothing h.outcome _ _ _ h.did.does) (λ n. refl) (λ m. absurd (m refl))
+ring_passes_call x s t call.HoldTransmit a w h =
+    ring_passes_did x _ _ _ (with_accepted []) _ 0 0 s t w h.did
+    (holds_make (ring_fields s) h.did.list (ring_fields t) h.did.does)
+    (holds_lose_nothing (ring_fields s) h.did.list (ring_fields t) h.did.does)
+    (λ n. refl) (λ m. refl)
+ring_passes_call x s t call.ReleaseTransmit a w h =
+    ring_passes_did x _ _ _ (with_accepted []) _ 0 0 s t w h.did
+    (releases_make (ring_fields s) h.did.list (ring_fields t) h.did.does)
+    (releases_lose_nothing (ring_fields s) h.did.list (ring_fields t) h.did.does)
+    (λ n. refl) (λ m. refl)
+ring_passes_call x s t (call.QueueUrgent byte) a w h =
+    rw h.answered (ring_passes_did x _ _ _ (overtaken_by byte h.outcome) _ 0 0 s t w h.did
+    (queues_urgent_make byte h.outcome _ _ _ h.did.does)
+    (queues_urgent_loses_only byte h.outcome _ _ _ h.did.does) (λ n. refl) (λ m. refl))
+ring_passes_call x s t call.ClearTransmit a w h =
+    rw h.answered (ring_passes_did x _ _ _ (without_dropped h.outcome) _ 0 0 s t w h.did (clears_transmit_make h.outcome _ _ _ h.did.does)
+    (clears_transmit_loses_only h.outcome _ _ _ h.did.does) (λ n. refl) (λ m. refl))
+ring_passes_call x s t call.ClearReceive a w h =
+    ring_passes_did x _ _ _ (with_accepted []) _ 0 0 s t w h.did (clears_receive_make h.outcome _ _ _ h.did.does)
+    (clears_receive_loses_nothing (ring_fields s) h.outcome _ _ h.did.does) (λ n. refl) (λ m. refl)
+ring_passes_call x s t (call.SetLowMark mark) a w h =
+    ring_passes_did x _ _ _ (with_accepted []) _ 0 0 s t w h.did
+    (sets_low_mark_make mark (ring_fields s) h.did.list (ring_fields t) h.did.does)
+    (sets_low_mark_loses_nothing mark (ring_fields s) h.did.list (ring_fields t) h.did.does) (λ n. refl) (λ m. refl)
+ring_passes_call x s t call.TakeLow a w h =
+    ring_passes_did x _ _ _ (with_accepted []) _ 0 0 s t w h.did (takes_low_make h.outcome _ _ _ h.did.does)
+    (takes_low_loses_nothing h.outcome _ _ _ h.did.does) (λ n. refl) (λ m. refl)
+ring_passes_call x s t (call.TryHandle limit rounds) a w h =
+    ring_passes_did x _ _ _ (with_accepted []) _ 0 0 s t w h.did (tries_make limit rounds h.outcome _ _ _ h.did.does)
+    (tries_lose_nothing limit rounds h.outcome _ _ _ h.did.does) (λ n. refl) (λ m. refl)
+ring_passes_call x s t (call.Restart interrupts) a w h =
+    ring_passes_did x _ _ _ (with_accepted []) _ 0 0 s t w h.did (restarts_make interrupts.0 _ _ _ h.did.does)
+    (restarts_lose_nothing interrupts.0 _ _ _ h.did.does) (λ n. refl) (λ m. refl)
 ring_passes_call x s t call.Next a w h =
     let p = passed-mark x (ring_machine s) w.open_modes.loopback w.stands.sound w.stands.modes in
     ring_passes_still x _ _ s t (record { takes = []; bytes = refl; passed = rw h.machine p }) h.rings
 
-pub ring_in_session-after : (x : Modes) (N M : Type 0) (s t : RingState) (q u : List ℕ) → InSession x (under s) →
-    RingPasses x N M s t q u → InSession x (under t)
-ring_in_session-after x N M s t q u w p = record {
+pub ring_in_session-after : (x : Modes) (Sent : List ℕ → Type 0) (N M : Type 0) (s t : RingState) (u : List ℕ) → InSession x (under s) →
+    RingPasses x Sent N M s t u → InSession x (under t)
+ring_in_session-after x Sent N M s t u w p = record {
   open_modes = w.open_modes;
   stands = stands-after x (ring_machine s) (ring_machine t) _ _ _ p.passed.passed;
   fifo = ap (λ (settings : Settings). settings.fifo) p.settings ∙ w.fifo;
@@ -120,16 +174,32 @@ ring_in_session-after x N M s t q u w p = record {
 
 -- ---- calls in turn
 
-ring_passes-trans : (x : Modes) (N M O P : Type 0) (s t u : RingState) (q p e f : List ℕ) → RingPasses x N M s t q e →
-    RingPasses x O P t u p f → RingPasses x (N × O) (M × P) s u (q ++ p) (e ++ f)
-ring_passes-trans x N M O P s t u q p e f a b = record {
+-- a call that does not overtake or drop adds what it queues to what waits
+in_order : (c : RingCall) (a : RingAnswer) (bytes : List ℕ) → KeepsOrder c → to_send_with c a bytes ≡ bytes ++ queued_by c a
+in_order (call.QueueUrgent byte) a bytes o = absurd o
+in_order call.ClearTransmit a bytes o = absurd o
+in_order other a bytes o = refl
+
+-- only a call that clears the receive ring drops what was received
+all_returned : (c : RingCall) (a : RingAnswer) (there : List ℕ) → c ≢ call.ClearReceive → gone_in c a there ≡ taken_by c a
+all_returned call.ClearReceive a there other = absurd (other refl)
+all_returned c a there other = refl
+
+pub gone_taken : (links : List RingLink) → NoneIs call.ClearReceive links → gone links ≡ taken links
+gone_taken [] none = refl
+gone_taken (link ∷ links) none =
+    λ i. all_returned link.call link.answer (to_take link.before) none.0 i ++ gone_taken links none.1 i
+
+ring_passes-trans : (x : Modes) (A B N M O P : Type 0) (s t u : RingState) (q p e f : List ℕ) → RingPasses x (Ordered A q s) N M s t e →
+    RingPasses x (Ordered B p t) O P t u f → RingPasses x (Ordered (A × B) (q ++ p) s) (N × O) (M × P) s u (e ++ f)
+ring_passes-trans x A B N M O P s t u q p e f a b = record {
   made = a.made ++ b.made;
   passed = rw (data_written-append a.made b.made, data_read-append a.made b.made)
       (passed_blocks-trans x (ring_machine s) (ring_machine t) (ring_machine u) a.made b.made _ _ _ _ a.passed b.passed);
   settings = b.settings ∙ a.settings;
-  sent = ap (λ zs. zs ++ to_send u) (data_written-append a.made b.made) ∙
-      (append_assoc (data_written a.made) (data_written b.made) (to_send u) ∙ (ap (λ zs. data_written a.made ++ zs) b.sent ∙
-      (sym (append_assoc (data_written a.made) (to_send t) p) ∙ (ap (λ zs. zs ++ p) a.sent ∙ append_assoc (to_send s) q p))));
+  sent = λ o. ap (λ zs. zs ++ to_send u) (data_written-append a.made b.made) ∙
+      (append_assoc (data_written a.made) (data_written b.made) (to_send u) ∙ (ap (λ zs. data_written a.made ++ zs) (b.sent o.1) ∙
+      (sym (append_assoc (data_written a.made) (to_send t) p) ∙ (ap (λ zs. zs ++ p) (a.sent o.0) ∙ append_assoc (to_send s) q p))));
   received = append_assoc e f (to_take u) ∙ (ap (λ zs. e ++ zs) b.received ∙ (sym (append_assoc e (to_take t) (data_read b.made)) ∙
       (ap (λ zs. zs ++ data_read b.made) a.received ∙ (append_assoc (to_take s) (data_read a.made) (data_read b.made) ∙
       ap (λ zs. to_take s ++ zs) (sym (data_read-append a.made b.made))))));
@@ -141,17 +211,42 @@ ring_passes-trans x N M O P s t u q p e f a b = record {
       ap (bit_or (untold_modem_of s)) (sym (saved_msr-append a.made b.made))));
 }
 
+-- a call, if it keeps the order
+ordered_call : (x : Modes) (N M : Type 0) (s t : RingState) (c : RingCall) (a : RingAnswer) (u : List ℕ) →
+    RingPasses x (InLine c a s) N M s t u → RingPasses x (Ordered (KeepsOrder c) (queued_by c a) s) N M s t u
+ordered_call x N M s t c a u p = record {
+  made = p.made;
+  passed = p.passed;
+  settings = p.settings;
+  sent = λ o. p.sent ∙ in_order c a (to_send s) o;
+  received = p.received;
+  line = p.line;
+  modem = p.modem;
+}
+
 pub ring_passes_chain : (x : Modes) (s t : RingState) (links : List RingLink) → InSession x (under s) → RingChain s links t →
-    RingPasses x (NoneIs call.TakeLine links) (NoneIs call.TakeModem links) s t (queued links) (taken links)
+    RingPasses x (Ordered (AllKeepOrder links) (queued links) s) (NoneIs call.TakeLine links) (NoneIs call.TakeModem links) s t
+    (gone links)
 ring_passes_chain x s t [] w h =
     let p = passed-refl x (ring_machine s) w.stands.sound w.stands.modes in
-    rw h (ring_passes_still x _ _ s s (record { takes = []; bytes = refl; passed = p }) refl)
+    let none : List RingLink = [] in
+    let still = ring_passes_still x (NoneIs call.TakeLine none) (NoneIs call.TakeModem none) s s
+    (record { takes = []; bytes = refl; passed = p }) refl in
+    rw h (record {
+      made = still.made;
+      passed = still.passed;
+      settings = still.settings;
+      sent = λ o. still.sent;
+      received = still.received;
+      line = still.line;
+      modem = still.modem;
+    })
 ring_passes_chain x s t (link ∷ links) w h =
     let W : RingState → Type 0 = λ v. InSession x (under v) in
     let begins = subst W (sym h.0) w in
     let first = ring_passes_call x link.before link.after link.call link.answer begins h.1 in
-    let rest = ring_passes_chain x link.after t links (ring_in_session-after x _ _ link.before link.after _ _ begins first) h.2 in
-    let P : RingState → Type 0 = λ v. RingPasses x (NoneIs call.TakeLine (link ∷ links)) (NoneIs call.TakeModem (link ∷ links)) v t
-    (queued (link ∷ links)) (taken (link ∷ links)) in
-    subst P h.0 (ring_passes-trans x _ _ _ _ link.before link.after t (queued_by link.call link.answer) (queued links)
-    (taken_by link.call link.answer) (taken links) first rest)
+    let rest = ring_passes_chain x link.after t links (ring_in_session-after x _ _ _ link.before link.after _ begins first) h.2 in
+    let P : RingState → Type 0 = λ v. RingPasses x (Ordered (AllKeepOrder (link ∷ links)) (queued (link ∷ links)) v)
+    (NoneIs call.TakeLine (link ∷ links)) (NoneIs call.TakeModem (link ∷ links)) v t (gone (link ∷ links)) in
+    subst P h.0 (ring_passes-trans x _ _ _ _ _ _ link.before link.after t (queued_by link.call link.answer) (queued links)
+    (gone_by link) (gone links) (ordered_call x _ _ link.before link.after link.call link.answer _ first) rest)

@@ -1,5 +1,5 @@
 -- What a session of ring calls conserves, and runs of them.
-use Rattle.std.proofs.Common.{◌≡◌, ℕ, ◌≤◌, List, ◌++◌, length, take, map, sym, ◌∙◌, ap, append_assoc}
+use Rattle.std.proofs.Common.{◌≡◌, ℕ, ◌≤◌, List, [], ◌∷◌, ◌++◌, length, take, map, sym, ◌∙◌, ap, subst, append_assoc}
 use Rattle.std.specs.List.{filter}
 use Rattle.std.proofs.lemmas.List.{map-id, map-append}
 use Rattle.uart_chip.specs.declared.receiver.Character.{Character}
@@ -21,9 +21,9 @@ use Rattle.uart_ring_runs.specs.declared.call.RingCall.{RingCall}
 use Rattle.uart_ring_runs.specs.declared.call.RingCall.TheVariants as call
 use Rattle.uart_ring_runs.specs.declared.call.RingAnswer.{RingAnswer}
 use Rattle.uart_ring_runs.specs.RingRun.{RingState, under, ring_machine, RingCallStep, RingLink, RingChain}
-use Rattle.uart_ring_runs.specs.RingBytes.{to_send, to_take, queued, taken}
-use Rattle.uart_ring_runs.specs.RingSession.{ConservesBytesUncut, RingConserves, RanRing}
-use Rattle.uart_ring_runs.proofs.RingPasses.{ring_passes_chain}
+use Rattle.uart_ring_runs.specs.RingBytes.{to_send, to_take, queued, gone, to_send_with, AllKeepOrder}
+use Rattle.uart_ring_runs.specs.RingSession.{ConservesBytesUncut, RingConserves, RanRing, AllSendInLine}
+use Rattle.uart_ring_runs.proofs.RingPasses.{RingPasses, InLine, ring_passes_call, ring_in_session-after, ring_passes_chain, gone_taken}
 use Rattle.uart_ring_runs.proofs.RingTold.{ring_tells}
 use Rattle.uart_ring_runs.proofs.RingArming.{chain_leaves}
 
@@ -40,6 +40,15 @@ ring_sound_call s t (call.Handle limit) a w h = lasts_sound.path h.did.list (rin
 ring_sound_call s t call.Retrigger a w h = lasts_sound.path h.did.list (ring_machine s) (ring_machine t) w h.did.path
 ring_sound_call s t call.TakeLine a w h = lasts_sound.path h.did.list (ring_machine s) (ring_machine t) w h.did.path
 ring_sound_call s t call.TakeModem a w h = lasts_sound.path h.did.list (ring_machine s) (ring_machine t) w h.did.path
+ring_sound_call s t call.HoldTransmit a w h = lasts_sound.path h.did.list (ring_machine s) (ring_machine t) w h.did.path
+ring_sound_call s t call.ReleaseTransmit a w h = lasts_sound.path h.did.list (ring_machine s) (ring_machine t) w h.did.path
+ring_sound_call s t (call.QueueUrgent byte) a w h = lasts_sound.path h.did.list (ring_machine s) (ring_machine t) w h.did.path
+ring_sound_call s t call.ClearTransmit a w h = lasts_sound.path h.did.list (ring_machine s) (ring_machine t) w h.did.path
+ring_sound_call s t call.ClearReceive a w h = lasts_sound.path h.did.list (ring_machine s) (ring_machine t) w h.did.path
+ring_sound_call s t (call.SetLowMark mark) a w h = lasts_sound.path h.did.list (ring_machine s) (ring_machine t) w h.did.path
+ring_sound_call s t call.TakeLow a w h = lasts_sound.path h.did.list (ring_machine s) (ring_machine t) w h.did.path
+ring_sound_call s t (call.TryHandle limit rounds) a w h = lasts_sound.path h.did.list (ring_machine s) (ring_machine t) w h.did.path
+ring_sound_call s t (call.Restart interrupts) a w h = lasts_sound.path h.did.list (ring_machine s) (ring_machine t) w h.did.path
 
 ring_sound_chain : (s t : RingState) (links : List RingLink) → IsSound (ring_machine s) → RingChain s links t → IsSound (ring_machine t)
 ring_sound_chain = chain_keeps RingCallStep (λ s. IsSound (ring_machine s)) ring_sound_call
@@ -53,20 +62,43 @@ cut_sent cut written left before more e = sym (map-append cut written left) ∙ 
 
 -- nothing is cut
 bytes_uncut : (s t : RingState) (links : List RingLink) → IsUncut (under s) →
-    out (ring_machine t) ++ map (cut_of (ring_machine s).chip) (to_send t) ≡ out (ring_machine s)
-    ++ (map (cut_of (ring_machine s).chip) (to_send s) ++ map (cut_of (ring_machine s).chip) (queued links)) →
-    taken links ++ (to_take t ++ waiting (ring_machine t)) ≡ to_take s ++ kept (ring_machine s) (ring_machine t) →
+    (AllKeepOrder links → out (ring_machine t) ++ map (cut_of (ring_machine s).chip) (to_send t) ≡ out (ring_machine s)
+    ++ (map (cut_of (ring_machine s).chip) (to_send s) ++ map (cut_of (ring_machine s).chip) (queued links))) →
+    gone links ++ (to_take t ++ waiting (ring_machine t)) ≡ to_take s ++ kept (ring_machine s) (ring_machine t) →
     ConservesBytesUncut s links t
 bytes_uncut s t links e sent got =
     let m = ring_machine s in
     let n = ring_machine t in
     let byte : Character → ℕ = λ character. character.byte in
     record {
-      sent = (λ i. out n ++ sym (map-id (to_send t)) i) ∙ ((rw (whole_cut m.chip e) at sent)
+      sent = λ o. let ordered = sent o in (λ i. out n ++ sym (map-id (to_send t)) i) ∙ ((rw (whole_cut m.chip e) at ordered)
           ∙ (λ i. out m ++ (map-id (to_send s) i ++ map-id (queued links) i)));
       kept = got ∙ ap (λ (characters : List Character). to_take s ++ map byte (filter (stands n.chip.receiver) characters))
           (entered_whole m n e);
     }
+
+-- what a call sent and what waits after it, cut
+in_line_call : (x : Modes) (N M : Type 0) (s t : RingState) (c : RingCall) (a : RingAnswer) (u : List ℕ) → InSession x (under s) →
+    (p : RingPasses x (InLine c a s) N M s t u) →
+    out (ring_machine t) ++ map (cut_of (ring_machine s).chip) (to_send t) ≡
+    out (ring_machine s) ++ map (cut_of (ring_machine s).chip) (to_send_with c a (to_send s))
+in_line_call x N M s t c a u w p =
+    let m = ring_machine s in
+    let cut = λ (bytes : List ℕ). map (cut_of m.chip) bytes in
+    let written = data_written p.made in
+    let grows : out (ring_machine t) ≡ out m ++ cut written =
+    p.passed.passed.went.sends.grows ∙ sym (ap (λ (f : ℕ → ℕ). out m ++ map f written) w.stands.modes.cut) in
+    ap (λ zs. zs ++ cut (to_send t)) grows ∙ (append_assoc (out m) (cut written) (cut (to_send t)) ∙
+    ap (λ zs. out m ++ zs) (sym (map-append (cut_of m.chip) written (to_send t)) ∙ ap cut p.sent))
+
+chain_in_line : (x : Modes) (s t : RingState) (links : List RingLink) → InSession x (under s) → RingChain s links t → AllSendInLine links
+chain_in_line x s t [] w h = tt
+chain_in_line x s t (link ∷ links) w h =
+    let W : RingState → Type 0 = λ v. InSession x (under v) in
+    let begins = subst W (sym h.0) w in
+    let p = ring_passes_call x link.before link.after link.call link.answer begins h.1 in
+    let goes = ring_in_session-after x _ _ _ link.before link.after _ begins p in
+    (in_line_call x _ _ link.before link.after link.call link.answer _ begins p, chain_in_line x link.after t links goes h.2)
 
 ring_conserves : (x : Modes) (s t : RingState) (links : List RingLink) → InSession x (under s) → RingChain s links t →
     RingConserves s links t
@@ -78,11 +110,11 @@ ring_conserves x s t links w chain =
     let cut = λ (bytes : List ℕ). map (cut_of m.chip) bytes in
     let written = data_written p.made in
     let grows : out n ≡ out m ++ cut written = went.sends.grows ∙ sym (ap (λ (f : ℕ → ℕ). out m ++ map f written) w.stands.modes.cut) in
-    let sent : out n ++ cut (to_send t) ≡ out m ++ (cut (to_send s) ++ cut (queued links)) =
-    ap (λ zs. zs ++ cut (to_send t)) grows ∙ (append_assoc (out m) (cut written) (cut (to_send t)) ∙
-    ap (λ zs. out m ++ zs) (cut_sent (cut_of m.chip) written (to_send t) (to_send s) (queued links) p.sent)) in
-    let got : taken links ++ (to_take t ++ waiting n) ≡ to_take s ++ kept m n =
-    sym (append_assoc (taken links) (to_take t) (waiting n)) ∙ (ap (λ zs. zs ++ waiting n) p.received ∙
+    let sent : AllKeepOrder links → out n ++ cut (to_send t) ≡ out m ++ (cut (to_send s) ++ cut (queued links)) =
+    λ o. ap (λ zs. zs ++ cut (to_send t)) grows ∙ (append_assoc (out m) (cut written) (cut (to_send t)) ∙
+    ap (λ zs. out m ++ zs) (cut_sent (cut_of m.chip) written (to_send t) (to_send s) (queued links) (p.sent o))) in
+    let got : gone links ++ (to_take t ++ waiting n) ≡ to_take s ++ kept m n =
+    sym (append_assoc (gone links) (to_take t) (waiting n)) ∙ (ap (λ zs. zs ++ waiting n) p.received ∙
     (append_assoc (to_take s) (data_read p.made) (waiting n) ∙
     ap (λ zs. to_take s ++ zs) (received_kept x m n p.made written (data_read p.made) w.stands.modes.cut p.passed))) in
     record {
@@ -92,6 +124,8 @@ ring_conserves x s t links w chain =
         fifo = went.modes.fifo ∙ (sym w.fifo ∙ sym (ap (λ (settings : Settings). settings.fifo) p.settings));
       };
       sent = sent;
+      in_line = chain_in_line x s t links w chain;
+      all_taken = gone_taken links;
       no_overflow = went.sends.same_overflows;
       kept = got;
       uncut = λ e. bytes_uncut s t links e sent got;

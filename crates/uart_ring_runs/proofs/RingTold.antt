@@ -29,9 +29,9 @@ use Rattle.uart_ring_runs.specs.declared.call.RingAnswer.{RingAnswer}
 use Rattle.uart_ring_runs.specs.declared.call.RingAnswer.TheVariants.{Line, Modem}
 use Rattle.uart_ring_runs.specs.RingRun.{RingState, under, ring_machine, RingCalled, RingCallStep, RingLink, RingChain}
 use Rattle.uart_ring_runs.specs.RingRun.{line_answer, modem_answer}
-use Rattle.uart_ring_runs.specs.RingBytes.{queued, taken}
+use Rattle.uart_ring_runs.specs.RingBytes.{queued, gone, AllKeepOrder}
 use Rattle.uart_ring_runs.specs.RingStatuses.{RingTells}
-use Rattle.uart_ring_runs.proofs.RingPasses.{RingPasses, ring_passes_call, ring_passes_chain, ring_in_session-after}
+use Rattle.uart_ring_runs.proofs.RingPasses.{RingPasses, Ordered, ring_passes_call, ring_passes_chain, ring_in_session-after}
 
 -- ---- bits
 
@@ -145,7 +145,8 @@ record IsRingStatus (x : Modes) (r : StatusRegister)
     (answer_of : ℕ → RingAnswer) : Type 0 where
   pub took : (s t : RingState) (a : RingAnswer) → RingCallStep s c a t → RingTook r s a t
   pub tells : (s n t : RingState) (links : List RingLink) → InSession x (under s) → NoneIs c links →
-      (p : RingPasses x (NoneIs call.TakeLine links) (NoneIs call.TakeModem links) s n (queued links) (taken links)) (status : ℕ) →
+      (p : RingPasses x (Ordered (AllKeepOrder links) (queued links) s) (NoneIs call.TakeLine links) (NoneIs call.TakeModem links) s n
+      (gone links)) (status : ℕ) →
       Path MachineStep (ring_machine n) (Read r.offset status ∷ []) (ring_machine t) →
       T (ring_machine s) (ring_machine t) (p.made ++ Read r.offset status ∷ []) (data_written p.made) p.passed.takes (untold r s)
       (bit_or status (untold r n))
@@ -190,7 +191,7 @@ after_first : (x : Modes) (s : RingState) (first : RingLink) → InSession x (un
 after_first x s first w is step =
     let W : RingState → Type 0 = λ v. InSession x (under v) in
     let begins = subst W (sym is) w in
-    ring_in_session-after x _ _ first.before first.after _ _ begins
+    ring_in_session-after x _ _ _ first.before first.after _ begins
     (ring_passes_call x first.before first.after first.call first.answer begins step)
 
 module _ {x : Modes} {r : StatusRegister} {T : MachineState → MachineState → List Access → List ℕ → List Character → ℕ → ℕ → Type 0}

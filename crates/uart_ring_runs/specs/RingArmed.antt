@@ -1,4 +1,4 @@
--- Why there are never bytes in the transmit ring with no interrupt to come: what holds of the chip's THR-empty
+-- Why there are never bytes that may be sent with no interrupt to come: what holds of the chip's THR-empty
 -- interrupt.
 use Rattle.std.specs.Prelude.{◌⊎◌, ◌<◌, ⊤, Bool, not, ◌||◌, ◌==◌, List, [], ◌∷◌, length}
 use Rattle.uart_spec.specs.Bits.{has}
@@ -22,7 +22,7 @@ is_due t = not (length t.queue == 0) || t.is_thr_pending
 abbrev pub thr_empty_of : MachineState → ThrEmpty
 thr_empty_of m = record { enabled = has m.chip.latches.ier IER.THR_EMPTY.0; due = is_due m.chip.transmitter }
 
--- the transmit ring is empty, or that interrupt is enabled and due
+-- no byte waits that may be sent, or that interrupt is enabled and due
 abbrev pub IsRingArmed : RingState → Type 0
 IsRingArmed s = IsArmed (thr_empty_of (ring_machine s)) (ring_fields s)
 
@@ -31,6 +31,9 @@ IsRingArmed s = IsArmed (thr_empty_of (ring_machine s)) (ring_fields s)
 -- the call arms the rings, however it finds them: it resumes sending, or accepts a byte
 abbrev pub RearmsRing : RingCall → RingAnswer → Type 0
 RearmsRing call.ResumeTransmit answer = ⊤
+RearmsRing call.ReleaseTransmit answer = ⊤
+RearmsRing (call.QueueUrgent byte) answer = ⊤
+RearmsRing (call.Restart interrupts) answer = ⊤
 RearmsRing other answer = 0 < length (queued_by other answer)
 
 -- a call that finds the rings armed, or that arms them in any case, leaves them armed

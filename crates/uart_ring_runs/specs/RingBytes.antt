@@ -1,15 +1,16 @@
 -- The bytes that ring calls accept and return, and those that the rings hold.
-use Rattle.std.specs.Prelude.{ℕ, List, [], take, flat_map}
-use Rattle.uart_ring.specs.Ring.{ring_fields}
+use Rattle.std.specs.Prelude.{⊤, ℕ, List, [], ◌∷◌, take, flat_map}
+use Rattle.uart_ring.specs.Ring.{ring_fields, waiting}
+use Rattle.uart_ring.specs.Lossless.{with_accepted, overtaken_by, without_dropped}
 use Rattle.uart_ring_runs.specs.declared.call.RingCall.{RingCall}
 use Rattle.uart_ring_runs.specs.declared.call.RingCall.TheVariants as call
 use Rattle.uart_ring_runs.specs.declared.call.RingAnswer.{RingAnswer}
 use Rattle.uart_ring_runs.specs.declared.call.RingAnswer.TheVariants as answer
 use Rattle.uart_ring_runs.specs.RingRun.{RingState, RingLink}
 
--- the bytes in the transmit ring, and those in the receive ring
+-- the bytes that wait to be sent, which are an urgent one and then the transmit ring; those in the receive ring
 abbrev pub to_send : RingState → List ℕ
-to_send s = (ring_fields s).transmit.items
+to_send s = waiting (ring_fields s)
 
 abbrev pub to_take : RingState → List ℕ
 to_take s = (ring_fields s).receive.items
@@ -24,9 +25,38 @@ abbrev pub taken_by : RingCall → RingAnswer → List ℕ
 taken_by (call.Take slots) (answer.Bytes bytes) = bytes.items
 taken_by other a = []
 
--- the bytes that ring calls in turn queued, and those that they took
+-- what a call makes of the bytes that wait, before it sends any: an urgent byte overtakes them, those that are dropped
+-- are the last ones, and those that are accepted come last
+abbrev pub to_send_with : RingCall → RingAnswer → List ℕ → List ℕ
+to_send_with (call.QueueUrgent byte) (answer.Replaced replaced) bytes = overtaken_by byte replaced bytes
+to_send_with call.ClearTransmit (answer.Count count) bytes = without_dropped count bytes
+to_send_with other a bytes = with_accepted (queued_by other a) bytes
+
+-- the call overtakes and drops no byte that waits to be sent; nor does any of these
+abbrev pub KeepsOrder : RingCall → Type 0
+KeepsOrder (call.QueueUrgent byte) = ⊥
+KeepsOrder call.ClearTransmit = ⊥
+KeepsOrder other = ⊤
+
+abbrev pub AllKeepOrder : List RingLink → Type 0
+AllKeepOrder [] = Unit {0}
+AllKeepOrder (link ∷ links) = KeepsOrder link.call × AllKeepOrder links
+
+-- the bytes that left the receive ring in a call: those that it returned; or, if it clears the ring, all that were
+-- there, which it dropped
+abbrev pub gone_in : RingCall → RingAnswer → (there : List ℕ) → List ℕ
+gone_in call.ClearReceive a there = there
+gone_in other a there = taken_by other a
+
+abbrev pub gone_by : RingLink → List ℕ
+gone_by link = gone_in link.call link.answer (to_take link.before)
+
+-- the bytes that ring calls in turn queued, those that they took, and those that left the receive ring
 abbrev pub queued : List RingLink → List ℕ
 queued links = flat_map (λ link. queued_by link.call link.answer) links
 
 abbrev pub taken : List RingLink → List ℕ
 taken links = flat_map (λ link. taken_by link.call link.answer) links
+
+abbrev pub gone : List RingLink → List ℕ
+gone links = flat_map gone_by links

@@ -5,8 +5,10 @@ use Rattle.uart_chip.specs.Machine.{MachineState, MachineStep, at_mark}
 use Rattle.uart_run.specs.Chains.{LinkOf, ChainOf}
 use Rattle.uart_run.specs.Run.{State, machine_of}
 use Rattle.uart_ring.specs.Ring.{RingDoing, RingDid, ring_fields, driver_of}
-use Rattle.uart_ring.specs.Transmit.{Queues, ResumesTransmit}
-use Rattle.uart_ring.specs.Receive.{TakesBytes}
+use Rattle.uart_ring.specs.Transmit.{Queues, ResumesTransmit, Holds, Releases, QueuesUrgent, ClearsTransmit}
+use Rattle.uart_ring.specs.Transmit.{SetsLowMark, TakesLow}
+use Rattle.uart_ring.specs.Receive.{TakesBytes, ClearsReceive}
+use Rattle.uart_ring.specs.Storm.{TriesToHandle, Restarts}
 use Rattle.uart_ring.specs.Service.{Services}
 use Rattle.uart_ring.specs.Handle.{Retriggers, Handles}
 use Rattle.uart_ring.specs.Status.{TakesLine, TakesModem}
@@ -73,6 +75,17 @@ RingCallStep s (call.Handle limit) answer t = RingCalled (Handles limit) answers
 RingCallStep s call.Retrigger answer t = RingCalled (λ (_ : ⊤). Retriggers) (λ _. Done) answer s t
 RingCallStep s call.TakeLine answer t = RingCalled TakesLine line_answer answer s t
 RingCallStep s call.TakeModem answer t = RingCalled TakesModem modem_answer answer s t
+RingCallStep s call.HoldTransmit answer t = RingCalled (λ (_ : ⊤). Holds) (λ _. Done) answer s t
+RingCallStep s call.ReleaseTransmit answer t = RingCalled (λ (_ : ⊤). Releases) (λ _. Done) answer s t
+RingCallStep s (call.QueueUrgent byte) answer t = RingCalled (QueuesUrgent byte) answers.Replaced answer s t
+RingCallStep s call.ClearTransmit answer t = RingCalled ClearsTransmit Count answer s t
+RingCallStep s call.ClearReceive answer t = RingCalled ClearsReceive Count answer s t
+RingCallStep s (call.SetLowMark mark) answer t = RingCalled (λ (_ : ⊤). SetsLowMark mark) (λ _. Done) answer s t
+RingCallStep s call.TakeLow answer t = RingCalled TakesLow answers.Low answer s t
+RingCallStep s (call.TryHandle limit rounds) answer t =
+    RingCalled (TriesToHandle limit rounds) answers.Tried answer s t
+RingCallStep s (call.Restart interrupts) answer t =
+    RingCalled (λ (_ : ⊤). Restarts interrupts.0) (λ _. Done) answer s t
 RingCallStep s call.Next answer t = RingGoesOn answer s t
 
 -- ---- lists of calls

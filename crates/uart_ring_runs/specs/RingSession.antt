@@ -1,5 +1,7 @@
 -- Sessions of ring calls, and what holds in each.
-use Rattle.std.specs.Prelude.{◌≡◌, List, ◌++◌, map}
+use Rattle.std.specs.Prelude.{◌≡◌, List, [], ◌∷◌, ◌++◌, map}
+use Rattle.uart_run.specs.Chains.{NoneIs}
+use Rattle.uart_ring_runs.specs.declared.call.RingCall.TheVariants as call
 use Rattle.uart_chip.specs.Chip.{cut_of}
 use Rattle.uart_chip.specs.Conserved.{out, waiting, kept}
 use Rattle.uart_run.specs.Chains.{RunOf}
@@ -10,26 +12,42 @@ use Rattle.uart_run.specs.Uncut.{IsUncut, kept_uncut}
 use Rattle.uart_ring_runs.specs.declared.call.RingCall.{RingCall}
 use Rattle.uart_ring_runs.specs.declared.call.RingAnswer.{RingAnswer}
 use Rattle.uart_ring_runs.specs.RingRun.{RingState, under, ring_machine, RingCallStep, RingLink, RingChain}
-use Rattle.uart_ring_runs.specs.RingBytes.{to_send, to_take, queued, taken}
+use Rattle.uart_ring_runs.specs.RingBytes.{to_send, to_take, queued, taken, gone, to_send_with, AllKeepOrder}
 use Rattle.uart_ring_runs.specs.RingStatuses.{RingTells}
 use Rattle.uart_ring_runs.specs.RingArmed.{AllLeaveRingArmed}
 
--- what has been sent or is still to be sent, and then the transmit ring, grew by what was queued; what was taken,
--- then the receive ring, then what is in the receiver, is what was in the receive ring and what was kept since
+-- what has been sent or is in the transmitter, and then what waits, grew by what was queued, if no call overtakes or
+-- drops; what was taken or dropped, then the receive ring, then what is in the receiver, is what was in the receive
+-- ring and what was kept since
 pub record ConservesBytesUncut (s : RingState) (links : List RingLink) (t : RingState) : Type 0 where
-  pub sent : out (ring_machine t) ++ to_send t ≡ out (ring_machine s) ++ (to_send s ++ queued links)
-  pub kept : taken links ++ (to_take t ++ waiting (ring_machine t)) ≡
+  pub sent : AllKeepOrder links →
+      out (ring_machine t) ++ to_send t ≡ out (ring_machine s) ++ (to_send s ++ queued links)
+  pub kept : gone links ++ (to_take t ++ waiting (ring_machine t)) ≡
       to_take s ++ kept_uncut (ring_machine s) (ring_machine t)
+
+-- a call: what has been sent or is in the transmitter, and then what waits, is what was there, as the call changes what
+-- waits: an urgent byte overtakes all of it, what is dropped is at its end, and what is queued comes last
+abbrev pub SendsInLine : RingLink → Type 0
+SendsInLine link =
+    let cut = map (cut_of (ring_machine link.before).chip) in
+    out (ring_machine link.after) ++ cut (to_send link.after) ≡
+    out (ring_machine link.before) ++ cut (to_send_with link.call link.answer (to_send link.before))
+
+abbrev pub AllSendInLine : List RingLink → Type 0
+AllSendInLine [] = Unit {0}
+AllSendInLine (link ∷ links) = SendsInLine link × AllSendInLine links
 
 -- a session of ring calls: the bytes that were queued, with characters cut, are conserved, and those that arrived; no
 -- data write met a full transmitter; a `take_line` or `take_modem` at the end reports drops, line errors and changes;
--- and there are never bytes to send with no interrupt to come
+-- and there are never bytes that may be sent with no interrupt to come
 pub record RingConserves (s : RingState) (links : List RingLink) (t : RingState) : Type 0 where
   pub ready : Ready (under t)
-  pub sent : let cut = map (cut_of (ring_machine s).chip) in
+  pub sent : AllKeepOrder links → let cut = map (cut_of (ring_machine s).chip) in
       out (ring_machine t) ++ cut (to_send t) ≡ out (ring_machine s) ++ (cut (to_send s) ++ cut (queued links))
+  pub in_line : AllSendInLine links
   pub no_overflow : overflows (under t) ≡ overflows (under s)
-  pub kept : taken links ++ (to_take t ++ waiting (ring_machine t)) ≡
+  pub all_taken : NoneIs call.ClearReceive links → gone links ≡ taken links
+  pub kept : gone links ++ (to_take t ++ waiting (ring_machine t)) ≡
       to_take s ++ kept (ring_machine s) (ring_machine t)
   pub uncut : IsUncut (under s) → ConservesBytesUncut s links t
   pub tells : RingTells s links t

@@ -1,20 +1,25 @@
 -- What each call of a session does to the machine.
-use Rattle.std.proofs.Common.{◌≡◌, ◌≢◌, ℕ, ◌≤◌, ◌*◌, Bool, List, [], ◌∷◌, Result, Ok, Err, refl}
+use Rattle.std.proofs.Common.{◌≡◌, ◌≢◌, ℕ, ◌≤◌, ◌*◌, Bool, List, [], ◌∷◌, ◌++◌, Result, Ok, Err, refl}
 use Rattle.std.proofs.Common.{sym, ◌∙◌, ap, subst, take, length, arith, length-append, bit_or}
 use Rattle.std.proofs.lemmas.Grind.{common_steps}
 use lib.Bits.{or_zero_r}
 use Rattle.uart_spec.specs.declared.errors.ByteSendError.{ByteSendError}
 use Rattle.uart_spec.specs.declared.errors.ByteReceiveError.{ByteReceiveError}
+use Rattle.uart_spec.specs.declared.errors.FifosOffError.{FifosOffError}
 use Rattle.uart_spec.specs.declared.errors.StalledError.{StalledError}
+use Rattle.uart_spec.specs.declared.registers.fifo_trigger_level.FifoTriggerLevel.{FifoTriggerLevel}
+use Rattle.uart_spec.specs.declared.registers.fifo_trigger_level.FifoTriggerLevel.TheVariants.{One, Four, Eight, Fourteen}
 use Rattle.uart_spec.specs.declared.registers.offsets.TheConstants as offsets
 use Rattle.uart_spec.specs.declared.registers.line_status.TheConstants.LSR
-use Rattle.uart_spec.specs.Access.{saved_lsr, saved_msr}
+use Rattle.uart_spec.specs.Access.{Path, saved, saved_lsr, saved_msr}
 use Rattle.uart_spec.specs.declared.access.Access.{Access}
+use Rattle.uart_spec.specs.declared.access.Access.TheVariants.{Write}
 use Rattle.uart_16550.specs.Grammar.{Language, Settings}
 use Rattle.uart_16550.specs.Driver.{Doing, Did, Saving, Fields, fields, settings_of}
 use Rattle.uart_16550.specs.Receive.{TryReceive, ReceivesExact}
 use Rattle.uart_16550.specs.Transmit.{SendsExact, TrySends}
 use Rattle.uart_16550.specs.Status.{TakesLsr, TakesMsr, Enables, Disables, Retriggers, Dumps}
+use Rattle.uart_16550.specs.Setup.{SetsTrigger, level_bits}
 use Rattle.uart_16550.specs.Io.{Reads, Writes}
 use Rattle.uart_16550.specs.Expansion.{expansion, expansion_of}
 use Rattle.uart_16550.specs.Tty.{inner_of}
@@ -28,9 +33,11 @@ use Rattle.uart_calls.specs.Meaning.{received_answer, sent_answer, exact_answer,
 use Rattle.uart_calls.specs.Meaning.{ready_answer, latch_answer, bytes_answer, with_errors_answer, receive_exact_answer, read_answer}
 use Rattle.uart_run.specs.Run.{State, machine_of, CallStep}
 use Rattle.uart_run.specs.Session.{count_of, sent_of, sent_byte_of, byte_of, bytes_of, reported_by, received_by}
-use Rattle.uart_chip.proofs.conservation.Went.{Modes}
+use Rattle.uart_chip.proofs.Bits.{or_assoc}
+use Rattle.uart_chip.proofs.conservation.Effects.{IsLevel}
+use Rattle.uart_chip.proofs.conservation.Went.{Modes, saved-append}
 use Rattle.uart_chip.proofs.conservation.Passed.{passed-refl, passed-mark}
-use Rattle.uart_chip.proofs.conservation.BlockLaws.{IsOpen, Stands, PassedBlocks}
+use Rattle.uart_chip.proofs.conservation.BlockLaws.{IsOpen, Stands, PassedBlocks, nothing_taken, path_as, passed_level}
 use Rattle.uart_run.proofs.CallBlocks.{no_bytes, InBlocks, Makes, makes_look, passed_in_blocks, ready_to_send_blocks}
 use Rattle.uart_run.proofs.CallBlocks.{ready_to_receive_blocks, sends_blocks, sends_exact_blocks, try_sends_blocks}
 use Rattle.uart_run.proofs.CallBlocks.{try_receive_blocks, receives_blocks, receives_exact_blocks, receives_with_blocks}
@@ -47,6 +54,12 @@ pub record Passes (x : Modes) (NoLsr NoMsr : Type 0) (s t : State) (written read
   pub fifo : (fields (inner_of t)).fifo ≡ (fields (inner_of s)).fifo
   pub lsr : NoLsr → (fields (inner_of t)).lsr ≡ bit_or (fields (inner_of s)).lsr (saved_lsr made)
   pub msr : NoMsr → (fields (inner_of t)).msr ≡ bit_or (fields (inner_of s)).msr (saved_msr made)
+
+-- what two lists save is what their whole saves
+pub saved_both : (register mask before : ℕ) (xs ys : List Access) →
+    bit_or (bit_or before (saved register mask xs)) (saved register mask ys) ≡ bit_or before (saved register mask (xs ++ ys))
+saved_both register mask before xs ys =
+    or_assoc before (saved register mask xs) (saved register mask ys) ∙ ap (bit_or before) (sym (saved-append register mask xs ys))
 
 -- a session's state, in its modes
 pub record InSession (x : Modes) (s : State) : Type 0 where
@@ -154,15 +167,52 @@ pub passes_none : (x : Modes) (N M : Type 0) (s : State) → InSession x s → P
 passes_none x N M s w =
     passes_quietly x N M s s (record { takes = []; bytes = refl; passed = passed-refl x (machine_of s) w.stands.sound w.stands.modes }) refl
 
+-- ---- the trigger level
+
+pub level_bits_keep : (level : FifoTriggerLevel) → IsLevel (level_bits level)
+level_bits_keep One = record { on = refl; keeps_received = refl; keeps_queued = refl }
+level_bits_keep Four = record { on = refl; keeps_received = refl; keeps_queued = refl }
+level_bits_keep Eight = record { on = refl; keeps_received = refl; keeps_queued = refl }
+level_bits_keep Fourteen = record { on = refl; keeps_received = refl; keeps_queued = refl }
+
+passes_level : (x : Modes) (N M : Type 0) (s t : State) (level : FifoTriggerLevel) (result : Result (Unit {0}) FifosOffError)
+    (l : List Access) → InSession x s → SetsTrigger level result (fields (inner_of s)) l (fields (inner_of t)) →
+    Path MachineStep (machine_of s) l (machine_of t) → Passes x N M s t [] []
+passes_level x N M s t level (Ok u) l w (on, d) path =
+    let f = fields (inner_of s) in
+    let made : List Access = Write offsets.FCR (level_bits level) ∷ [] in
+    let is : l ≡ made = d.whole ∙ (ap (λ zs. zs ++ d.back) d.first.0 ∙ d.second.0.is) in
+    let p = path_as (machine_of s) (machine_of t) l made is path in
+    let passed = passed_level x (machine_of s) p.0 (level_bits level) w.open_modes (sym w.fifo ∙ on) (level_bits_keep level) w.stands p.1 in
+    record {
+      made = made;
+      passed = nothing_taken x (machine_of s) (machine_of t) made [] (rw p.2 passed);
+      fifo = ap (λ (g : Fields). g.fifo) d.second.1 ∙ ap (λ (g : Fields). g.fifo) d.first.1;
+      lsr = λ n. ap (λ (g : Fields). g.lsr) d.second.1 ∙ (ap (λ (g : Fields). bit_or g.lsr (saved_lsr d.back)) d.first.1
+          ∙ ap (λ zs. bit_or f.lsr (saved_lsr zs)) d.second.0.is);
+      msr = λ n. ap (λ (g : Fields). g.msr) d.second.1 ∙ (ap (λ (g : Fields). bit_or g.msr (saved_msr d.back)) d.first.1
+          ∙ ap (λ zs. bit_or f.msr (saved_msr zs)) d.second.0.is);
+    }
+passes_level x N M s t level (Err e) l w (off, is, same) path =
+    let still : machine_of t ≡ machine_of s = path_as (machine_of s) (machine_of t) l [] is path in
+    passes_quietly x N M s t
+    (record { takes = []; bytes = refl; passed = rw still (passed-refl x (machine_of s) w.stands.sound w.stands.modes) }) same
+
+-- ---- a call in a session
+
 -- the call changes no mode
 abbrev pub IsSteady : Call → Type 0
 IsSteady (call.Init config) = ⊥
+IsSteady (call.InitWith config setup) = ⊥
 IsSteady (call.SetFrame config) = ⊥
+IsSteady (call.SetFrameWhenIdle config) = ⊥
 IsSteady call.Attach = ⊥
 IsSteady (call.SetBreak on) = ⊥
 IsSteady (call.SetModemControl outputs) = ⊥
 IsSteady (call.SetRts on) = ⊥
 IsSteady (call.SetDtr on) = ⊥
+IsSteady (call.Quiesce outputs fifos) = ⊥
+IsSteady (call.Restore dump) = ⊥
 IsSteady call.TestLoopback = ⊥
 IsSteady other = Unit {0}
 
@@ -172,12 +222,17 @@ passes_call x s t call.Next a w i h =
     let p = passed-mark x (machine_of s) w.open_modes.loopback w.stands.sound w.stands.modes in
     passes_quietly x _ _ s t (record { takes = []; bytes = refl; passed = rw h.machine p }) h.driver
 passes_call x s t (call.Init config) a w i h = absurd i
+passes_call x s t (call.InitWith config setup) a w i h = absurd i
 passes_call x s t (call.SetFrame config) a w i h = absurd i
+passes_call x s t (call.SetFrameWhenIdle config) a w i h = absurd i
+passes_call x s t (call.SetTriggerLevel level) a w i h = passes_level x _ _ s t level h.outcome h.did.list w h.did.does h.did.path
 passes_call x s t call.Attach a w i h = absurd i
 passes_call x s t (call.SetBreak on) a w i h = absurd i
 passes_call x s t (call.SetModemControl outputs) a w i h = absurd i
 passes_call x s t (call.SetRts on) a w i h = absurd i
 passes_call x s t (call.SetDtr on) a w i h = absurd i
+passes_call x s t (call.Quiesce outputs fifos) a w i h = absurd i
+passes_call x s t (call.Restore dump) a w i h = absurd i
 passes_call x s t call.TestLoopback a w i h = absurd i
 passes_call x s t call.CheckPresent a w i h = passes_silent x _ _ _ Flag s t a w (λ v r. checks_presence_blocks v r) h
 passes_call x s t call.CheckConnected a w i h = passes_silent x _ _ _ connected_answer s t a w (λ v r. connects_blocks v r) h

@@ -1,21 +1,27 @@
 -- An empty transmitter: while no byte is written it stays empty, in loopback or not, and the wire stays as it is.
-use Rattle.std.proofs.Common.{◌≡◌, ℕ, Bool, true, List, [], ◌∷◌, ◌++◌, append-nil, Option, Some, None, refl, sym, ◌∙◌, ap}
+use Rattle.std.proofs.Common.{◌≡◌, ℕ, ◌%◌, ◌/◌, Bool, true, List, [], ◌∷◌, ◌++◌, append-nil, Option, Some, None, refl, sym, ◌∙◌, ap}
+use Rattle.std.proofs.Common.{bit_or, arith}
+use Rattle.std.proofs.lemmas.Grind.{common_steps}
+use Rattle.uart_spec.specs.declared.registers.line_control.TheConstants.LCR
 use Rattle.uart_spec.specs.declared.registers.offsets.TheConstants as offsets
 use Rattle.uart_spec.specs.declared.registers.line_status.TheConstants.LSR
 use Rattle.uart_spec.specs.Access.{Path}
 use Rattle.uart_spec.specs.declared.access.Access.{Access}
-use Rattle.uart_spec.specs.declared.access.Access.TheVariants.{Read}
+use Rattle.uart_spec.specs.declared.access.Access.TheVariants.{Read, Write}
 use Rattle.uart_16550.specs.Grammar.{Settings, Asks}
+use Rattle.uart_16550.specs.Frame.{frame_writes}
+use Rattle.uart_16550.specs.Init.{line_writes}
 use Rattle.uart_16550.specs.Transmit.{WaitsFor}
 use Rattle.uart_chip.specs.declared.transmitter.Shifting.{Shifting}
 use Rattle.uart_spec.specs.Bits.{has_any}
 use Rattle.uart_chip.specs.Transmitter.{TransmitterState, shift, refill, tick, out}
-use Rattle.uart_chip.specs.Chip.{line_status, is_transmitter_empty}
+use Rattle.uart_chip.specs.Chip.{line_status, is_transmitter_empty, is_dlab_set}
 use Rattle.uart_chip.specs.Machine.{MachineState, MachineStep, at_access}
-use Rattle.uart_chip.proofs.Bits.{has_one}
+use Rattle.uart_chip.proofs.Bits.{has_one, has_or}
 use Rattle.uart_chip.proofs.statuses.Status.{status_empty}
-use Rattle.uart_chip.proofs.lasting.Lasting.{Lasts, AllSendNothing, lasts-path}
+use Rattle.uart_chip.proofs.lasting.Lasting.{Lasts, AllSendNothing, lasts-path, lasts-latch, lasts-before}
 use Rattle.uart_chip.proofs.conservation.BlockLaws.{path_as, path_split}
+use Rattle.uart_run.proofs.Latches.{Kept, kept_access}
 
 -- nothing is left to send
 abbrev pub IsEmpty : TransmitterState → Type 0
@@ -73,12 +79,46 @@ pub sent_path : (gone : List ℕ) (accesses : List Access) (m n : MachineState) 
     Path MachineStep m accesses n → IsSent gone n.chip.transmitter
 sent_path gone accesses m n silent s path = lasts-path (IsSent gone) (sent_lasts gone) accesses m n silent s path
 
+-- under DLAB the divisor latch is written in place of the data
+pub sent_latch : (gone : List ℕ) (value : ℕ) (m n : MachineState) → is_dlab_set m.chip.latches ≡ true → IsSent gone m.chip.transmitter →
+    MachineStep m (Write offsets.DLL value) n → IsSent gone n.chip.transmitter
+sent_latch gone value m n on s step =
+    let lasts = sent_lasts gone in
+    let under : is_dlab_set (at_access m).chip.latches ≡ true = ap (λ (k : Kept). is_dlab_set k.latches) (kept_access m) ∙ on in
+    rw step (lasts-latch (IsSent gone) lasts.in_accesses value (at_access m).chip under
+    (lasts-before (IsSent gone) lasts.in_tick m.ahead m.chip s))
+
 -- an empty one stays so
 pub empty_path : (accesses : List Access) (m n : MachineState) → AllSendNothing accesses → Path MachineStep m accesses n →
     IsEmpty m.chip.transmitter → IsEmpty n.chip.transmitter
 empty_path accesses m n silent path e =
     let gone = out m.chip.transmitter in
     shown_sent gone n.chip.transmitter (sent_path gone accesses m n silent (sent_shown m.chip.transmitter e) path)
+
+-- ---- the divisor latch, written under DLAB
+
+-- with the interrupts disabled, as at the beginning of an initialisation
+pub empty_lined : (divisor frame : ℕ) (m n : MachineState) → Path MachineStep m (line_writes divisor frame) n → IsEmpty m.chip.transmitter →
+    IsEmpty n.chip.transmitter
+empty_lined divisor frame m n (m₁, s₁, (m₂, s₂, (m₃, under, (m₄, latch, rest)))) e =
+    let gone = out m.chip.transmitter in
+    let a = sent_path gone (Write offsets.LCR 0 ∷ Write offsets.IER 0 ∷ Write offsets.LCR LCR.DLAB.0 ∷ []) m m₃ (refl, (refl, (refl, tt)))
+    (sent_shown m.chip.transmitter e) (m₁, s₁, (m₂, s₂, (m₃, under, refl))) in
+    let on : is_dlab_set m₃.chip.latches ≡ true = ap (λ (o : MachineState). is_dlab_set o.chip.latches) under in
+    let b = sent_latch gone (divisor % 256) m₃ m₄ on a latch in
+    shown_sent gone n.chip.transmitter
+    (sent_path gone (Write offsets.DLM (divisor / 256) ∷ Write offsets.LCR 0 ∷ Write offsets.LCR frame ∷ []) m₄ n
+    (refl, (refl, (refl, tt))) b rest)
+
+-- as by a change of the frame
+pub sent_framed : (gone : List ℕ) (divisor frame : ℕ) (m n : MachineState) → Path MachineStep m (frame_writes divisor frame) n →
+    IsSent gone m.chip.transmitter → IsSent gone n.chip.transmitter
+sent_framed gone divisor frame m n (m₁, under, (m₂, latch, rest)) s =
+    let a = sent_path gone (Write offsets.LCR (bit_or frame LCR.DLAB.0) ∷ []) m m₁ (refl, tt) s (m₁, under, refl) in
+    let on : is_dlab_set m₁.chip.latches ≡ true = ap (λ (o : MachineState). is_dlab_set o.chip.latches) under
+    ∙ (has_or 7 frame 128 ∙ grind (arith, common_steps)) in
+    sent_path gone (Write offsets.DLM (divisor / 256) ∷ Write offsets.LCR frame ∷ []) m₂ n (refl, (refl, tt))
+    (sent_latch gone (divisor % 256) m₁ m₂ on a latch) rest
 
 -- ---- looks that show it
 

@@ -10,6 +10,8 @@ use Rattle.uart_run.specs.Progress.{IsTimely, Succeeds}
 use Rattle.uart_run.specs.Session.{Follows, AllFollow, Ran}
 use Rattle.uart_run.proofs.Sessions.{session_conserves, sound_call, sound_chain}
 use Rattle.uart_run.proofs.FrameLaws.{frames, attach_takes}
+use Rattle.uart_run.proofs.SetupLaws.{frames_when_idle, levels, quiets, restores}
+use Rattle.uart_run.proofs.initialising.SetUp.{arranges}
 use Rattle.uart_run.proofs.initialising.Initialised.{initialises}
 use Rattle.uart_run.proofs.loopback.LoopTests.{tested}
 use Rattle.uart_run.proofs.ReadyKept.{follows_ready}
@@ -20,8 +22,13 @@ use Rattle.uart_run.proofs.loopback.LoopSucceeds.{test_succeeds}
 -- what a call comes to
 comes_to : (s t : State) (call : Call) (a : Answer) → IsSound (machine_of s) → CallStep s call a t → ComesTo s call a t
 comes_to s t (call.Init config) a w h = initialises s t config a w h
+comes_to s t (call.InitWith config setup) a w h = arranges s t config setup a w h
 comes_to s t call.Attach a w h = attach_takes s t a h
 comes_to s t (call.SetFrame config) a w h = frames s t config a h
+comes_to s t (call.SetFrameWhenIdle config) a w h = frames_when_idle s t config a h
+comes_to s t (call.SetTriggerLevel level) a w h = levels s t level a w h
+comes_to s t (call.Quiesce outputs fifos) a w h = quiets s t outputs.0 fifos h.did.list w h.did.does h.did.path
+comes_to s t (call.Restore dump) a w h = restores s t dump h.did.list w h.did.does h.did.path
 comes_to s t call.TestLoopback a w h = λ ready. tested s t a w ready h
 comes_to s t other a w h = tt
 

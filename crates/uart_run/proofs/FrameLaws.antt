@@ -11,6 +11,8 @@ use Rattle.uart_spec.specs.declared.access.Access.{Access}
 use Rattle.uart_spec.specs.declared.access.Access.TheVariants.{Read, Write}
 use Rattle.uart_spec.specs.Bits.{has, has_any}
 use Rattle.uart_spec.specs.declared.config.Config.{Config}
+use Rattle.uart_spec.specs.declared.errors.FrameError.{FrameError}
+use Rattle.uart_spec.specs.declared.errors.FrameError.TheVariants.{InvalidBaudRate, Stalled}
 use Rattle.uart_spec.specs.declared.errors.InvalidDivisorError.{InvalidDivisorError}
 use Rattle.uart_spec.specs.declared.registers.line_control.TheConstants.LCR
 use Rattle.uart_spec.specs.declared.registers.offsets.TheConstants as offsets
@@ -22,12 +24,16 @@ use Rattle.uart_16550.specs.Grammar.{Settings, Only, Then, Asks}
 use Rattle.uart_16550.specs.Driver.{Fields, fields, settings_of, saving, Sets, Saving, Next, with_fifo}
 use Rattle.uart_16550.specs.Init.{DivisorOf, frame_bits}
 use Rattle.uart_16550.specs.Frame.{frame_writes, with_frame, SetsFrame, switched, unlooped, SetsBreak, SetsControl, SetsOutput}
+use Rattle.uart_16550.specs.Setup.{SetsFrameWhenIdle}
+use Rattle.uart_16550.specs.Transmit.{WaitsFor}
 use Rattle.uart_16550.specs.Attach.{FindsLatch, FindsLoopback, FindsPort, Attaches}
 use Rattle.uart_16550.specs.Status.{ReadsDivisor, divisor_accesses}
 use Rattle.uart_spec.specs.declared.errors.AttachError.{AttachError}
 use Rattle.uart_spec.specs.declared.errors.AttachError.TheVariants.{DivisorLatchOpen, Loopback}
 use Rattle.uart_spec.specs.declared.registers.interrupt_status.TheConstants.ISR
+use Rattle.uart_spec.specs.declared.registers.line_status.TheConstants.LSR
 use Rattle.uart_spec.specs.declared.registers.modem_control.TheConstants.MCR
+use Rattle.uart_spec.specs.declared.registers.modem_status.TheConstants.MSR
 use Rattle.uart_chip.specs.Masks.{mcr_bits}
 use Rattle.uart_16550.specs.Tty.{inner_of}
 use Rattle.uart_calls.specs.Meaning.{frame_answer, attach_answer}
@@ -45,7 +51,8 @@ use Rattle.uart_run.specs.Uncut.{IsWithinUncut}
 use Rattle.uart_run.proofs.Latches.{Kept, kept_in, keep, kept_after, kept_step, kept_path, kept_list, kept_access}
 use Rattle.uart_run.proofs.Pieces.{then_parts, next_stages}
 use Rattle.uart_run.proofs.initialising.FifoShown.{fifo_shown}
-use Rattle.uart_run.proofs.CallLaws.{Passes, InSession, passes_call, passes_quietly}
+use Rattle.uart_run.proofs.CallBlocks.{InBlocks, passed_in_blocks, waits_blocks}
+use Rattle.uart_run.proofs.CallLaws.{Passes, InSession, passes_call, passes_quietly, saved_both}
 use Rattle.uart_run.proofs.initialising.Inits.{frame-dlab}
 use Rattle.uart_run.proofs.initialising.Initialised.{ready_by}
 
@@ -89,13 +96,13 @@ passed_onwards x y m n o xs ys ws vs rs qs same a b =
 -- ---- `set_frame`
 
 -- the list that it made, and the driver's fields, which have nothing more saved
-record Framed (d : ℕ) (config : Config) (f : Fields) (l : List Access) (after : Fields) : Type 0 where
+pub record Framed (d : ℕ) (config : Config) (f : Fields) (l : List Access) (after : Fields) : Type 0 where
   pub is : l ≡ frame_writes d (frame_bits config)
   pub fifo : after.fifo ≡ f.fifo
   pub lsr : after.lsr ≡ bit_or f.lsr (saved_lsr (frame_writes d (frame_bits config)))
   pub msr : after.msr ≡ bit_or f.msr (saved_msr (frame_writes d (frame_bits config)))
 
-framed_by : (d : ℕ) (config : Config) (f after : Fields) (l : List Access) →
+pub framed_by : (d : ℕ) (config : Config) (f after : Fields) (l : List Access) →
     Next (Sets (with_frame config)) (Saving (Only (frame_writes d (frame_bits config)))) f l after → Framed d config f l after
 framed_by d config f after l t = record {
   is = t.whole ∙ (ap (λ zs. zs ++ t.back) t.first.0 ∙ t.second.0.is);
@@ -132,6 +139,61 @@ goes_framed x N M s t config (Err e) l w whole d path =
     goes_still x N M s t [] [] w
     (passes_quietly x N M s t
     (record { takes = []; bytes = refl; passed = rw still (passed-refl x (machine_of s) w.stands.sound w.stands.modes) }) d.2)
+
+-- ---- `set_frame_when_idle`
+
+-- the wait, whatever it ends with
+pub waited : (x : Modes) (s : State) (empty : Bool) (l : List Access) (n : MachineState) → InSession x s →
+    WaitsFor LSR.TRANSMITTER_EMPTY.0 empty (settings_of (fields (inner_of s))) l → Path MachineStep (machine_of s) l n →
+    PassedBlocks x (machine_of s) n l [] []
+waited x s empty l n w h path =
+    let B : Bool → Type 0 = λ fifo. InBlocks fifo l [] [] in
+    passed_in_blocks x (machine_of s) n l [] [] w.open_modes w.stands
+    (subst B w.fifo (waits_blocks (settings_of (fields (inner_of s))) LSR.TRANSMITTER_EMPTY.0 empty l h)) path
+
+goes_framed_when_idle : (x : Modes) (N M : Type 0) (s t : State) (config : Config) (result : Result (Unit {0}) FrameError)
+    (l : List Access) → InSession x s → x.cut ≡ (λ (byte : ℕ). byte) →
+    SetsFrameWhenIdle config result (fields (inner_of s)) l (fields (inner_of t)) →
+    Path MachineStep (machine_of s) l (machine_of t) → Goes x N M s t [] []
+goes_framed_when_idle x N M s t config (Ok u) l w whole d path =
+    let f = fields (inner_of s) in
+    let frame = frame_writes d.0 (frame_bits config) in
+    let z : Modes = record x { lcr = frame_bits config } in
+    let a = next_stages (Saving (WaitsFor LSR.TRANSMITTER_EMPTY.0 true)) (Next (Sets (with_frame config)) (Saving (Only frame))) f
+    (fields (inner_of t)) l (machine_of s) (machine_of t) d.2 path in
+    let n = a.parts.between in
+    let first = waited x s true a.parts.front n w a.parts.first.0 a.parts.before in
+    let k = framed_by d.0 config a.mid (fields (inner_of t)) a.parts.back a.parts.second in
+    let p = passed_frame x n (machine_of t) (d.0 % 256) (d.0 / 256) (frame_bits config) w.open_modes
+    (stands-after x (machine_of s) n _ _ _ first.passed) whole (path_as n (machine_of t) a.parts.back frame k.is a.parts.after) in
+    record {
+      modes = z;
+      same = refl;
+      open_modes = record { dlab = frame-dlab config; loopback = w.open_modes.loopback };
+      passes = record {
+        made = a.parts.front ++ frame;
+        passed = passed_onwards x z (machine_of s) n (machine_of t) a.parts.front frame [] [] [] [] refl first
+            (nothing_taken z n (machine_of t) _ [] p);
+        fifo = k.fifo ∙ ap (λ (g : Fields). g.fifo) a.parts.first.1;
+        lsr = λ no. k.lsr ∙ (ap (λ (g : Fields). bit_or g.lsr (saved_lsr frame)) a.parts.first.1
+            ∙ saved_both offsets.LSR LSR.LINE_ERRORS.0 f.lsr a.parts.front frame);
+        msr = λ no. k.msr ∙ (ap (λ (g : Fields). bit_or g.msr (saved_msr frame)) a.parts.first.1
+            ∙ saved_both offsets.MSR MSR.CHANGES.0 f.msr a.parts.front frame);
+      };
+    }
+goes_framed_when_idle x N M s t config (Err (InvalidBaudRate e)) l w whole d path =
+    let still : machine_of t ≡ machine_of s = path_as (machine_of s) (machine_of t) l [] d.1 path in
+    goes_still x N M s t [] [] w
+    (passes_quietly x N M s t
+    (record { takes = []; bytes = refl; passed = rw still (passed-refl x (machine_of s) w.stands.sound w.stands.modes) }) d.2)
+goes_framed_when_idle x N M s t config (Err Stalled) l w whole d path =
+    goes_still x N M s t [] [] w (record {
+      made = l;
+      passed = waited x s false l (machine_of t) w d.2.0 path;
+      fifo = ap (λ (g : Fields). g.fifo) d.2.1;
+      lsr = λ no. ap (λ (g : Fields). g.lsr) d.2.1;
+      msr = λ no. ap (λ (g : Fields). g.msr) d.2.1;
+    })
 
 -- ---- `set_break`
 
@@ -182,11 +244,15 @@ pub record GoOn (Within : Call → Type 0) (cut : ℕ → ℕ) : Type 0 where
 go_call : (cut : ℕ → ℕ) (x : Modes) (s t : State) (c : Call) (a : Answer) → x.cut ≡ cut → InSession x s → IsWithinSession c →
     CallStep s c a t → Goes x (c ≢ call.Lsr) (c ≢ call.Msr) s t (reported_by c a) (received_by c a)
 go_call cut x s t (call.Init config) a same w i h = absurd i
+go_call cut x s t (call.InitWith config setup) a same w i h = absurd i
 go_call cut x s t (call.SetFrame config) a same w i h = absurd i
+go_call cut x s t (call.SetFrameWhenIdle config) a same w i h = absurd i
 go_call cut x s t call.Attach a same w i h = absurd i
 go_call cut x s t (call.SetModemControl outputs) a same w i h = absurd i
 go_call cut x s t (call.SetRts on) a same w i h = absurd i
 go_call cut x s t (call.SetDtr on) a same w i h = absurd i
+go_call cut x s t (call.Quiesce outputs fifos) a same w i h = absurd i
+go_call cut x s t (call.Restore dump) a same w i h = absurd i
 go_call cut x s t call.TestLoopback a same w i h = absurd i
 go_call cut x s t (call.SetBreak on) a same w i h = goes_break x _ _ s t on h.did.list w h.did.does h.did.path
 go_call cut x s t other a same w i h = goes_still x _ _ s t _ _ w (passes_call x s t other a w tt h)
@@ -197,12 +263,17 @@ go_within cut = record { go = go_call cut }
 go_uncut : (x : Modes) (s t : State) (c : Call) (a : Answer) → x.cut ≡ (λ (byte : ℕ). byte) → InSession x s → IsWithinUncut c →
     CallStep s c a t → Goes x (c ≢ call.Lsr) (c ≢ call.Msr) s t (reported_by c a) (received_by c a)
 go_uncut x s t (call.Init config) a whole w i h = absurd i
+go_uncut x s t (call.InitWith config setup) a whole w i h = absurd i
 go_uncut x s t call.Attach a whole w i h = absurd i
 go_uncut x s t (call.SetModemControl outputs) a whole w i h = absurd i
 go_uncut x s t (call.SetRts on) a whole w i h = absurd i
 go_uncut x s t (call.SetDtr on) a whole w i h = absurd i
+go_uncut x s t (call.Quiesce outputs fifos) a whole w i h = absurd i
+go_uncut x s t (call.Restore dump) a whole w i h = absurd i
 go_uncut x s t call.TestLoopback a whole w i h = absurd i
 go_uncut x s t (call.SetFrame config) a whole w i h = goes_framed x _ _ s t config h.outcome h.did.list w whole h.did.does h.did.path
+go_uncut x s t (call.SetFrameWhenIdle config) a whole w i h =
+    goes_framed_when_idle x _ _ s t config h.outcome h.did.list w whole h.did.does h.did.path
 go_uncut x s t other a whole w i h = go_call (λ (byte : ℕ). byte) x s t other a whole w tt h
 
 pub go_within_uncut : GoOn IsWithinUncut (λ (byte : ℕ). byte)
@@ -228,22 +299,22 @@ kept_framed d frame k =
     ap (kept_after (Write offsets.DLM (d / 256) ∷ Write offsets.LCR frame ∷ [])) (kept_low (d % 256) shown on)
     ∙ ap (kept_after (Write offsets.LCR frame ∷ [])) (kept_high (d / 256) half on)
 
-framed_kept : (d : ℕ) (config : Config) (s t : State) (l : List Access) →
-    Framed d config (fields (inner_of s)) l (fields (inner_of t)) → Path MachineStep (machine_of s) l (machine_of t) →
-    kept_in (machine_of t).chip ≡ record (kept_in (machine_of s).chip) {
-      latches = record (latches_of s) { lcr = frame_bits config; dll = d % 256; dlm = d / 256 };
+pub framed_kept : (d : ℕ) (config : Config) (m n : MachineState) (f after : Fields) (l : List Access) → Framed d config f l after →
+    Path MachineStep m l n →
+    kept_in n.chip ≡ record (kept_in m.chip) {
+      latches = record m.chip.latches { lcr = frame_bits config; dll = d % 256; dlm = d / 256 };
     }
-framed_kept d config s t l f path =
-    kept_path (frame_writes d (frame_bits config)) (machine_of s) (machine_of t)
-    (path_as (machine_of s) (machine_of t) l (frame_writes d (frame_bits config)) f.is path)
-    ∙ kept_framed d (frame_bits config) (kept_in (machine_of s).chip)
+framed_kept d config m n f after l k path =
+    kept_path (frame_writes d (frame_bits config)) m n (path_as m n l (frame_writes d (frame_bits config)) k.is path)
+    ∙ kept_framed d (frame_bits config) (kept_in m.chip)
 
 ready_framed : (s t : State) (config : Config) (result : Result (Unit {0}) InvalidDivisorError) (l : List Access) →
     SetsFrame config result (fields (inner_of s)) l (fields (inner_of t)) → Path MachineStep (machine_of s) l (machine_of t) →
     Ready s → Ready t
 ready_framed s t config (Ok u) l d path ready =
     let f = framed_by d.0 config (fields (inner_of s)) (fields (inner_of t)) l d.2 in
-    ready_by t _ (framed_kept d.0 config s t l f path) (frame-dlab config) ready.loopback (f.fifo ∙ sym ready.fifo)
+    ready_by t _ (framed_kept d.0 config (machine_of s) (machine_of t) _ _ l f path) (frame-dlab config) ready.loopback
+    (f.fifo ∙ sym ready.fifo)
 ready_framed s t config (Err e) l d path ready =
     let still : machine_of t ≡ machine_of s = path_as (machine_of s) (machine_of t) l [] d.1 path in
     ready_by t (kept_in (machine_of s).chip) (ap (λ (m : MachineState). kept_in m.chip) still) ready.dlab ready.loopback
@@ -257,7 +328,7 @@ frames_by : (s t : State) (config : Config) (a : Answer) (result : Result (Unit 
     Path MachineStep (machine_of s) l (machine_of t) → Frames config s a t
 frames_by s t config a (Ok u) l e d path =
     let f = framed_by d.0 config (fields (inner_of s)) (fields (inner_of t)) l d.2 in
-    let kept = framed_kept d.0 config s t l f path in
+    let kept = framed_kept d.0 config (machine_of s) (machine_of t) _ _ l f path in
     let latches = ap (λ (k : Kept). k.latches) kept in
     record {
       leaves = λ done. record {

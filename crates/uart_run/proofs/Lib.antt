@@ -16,6 +16,7 @@ pub mod Sessions
 pub mod progress
 pub mod initialising
 pub mod loopback
+pub mod SetupLaws
 pub mod ReadyKept
 pub mod Follows
 pub mod Uncuts

@@ -4,18 +4,23 @@ use Rattle.std.proofs.Common.{append_assoc, append-nil, Result, Ok, Err, Option,
 use Rattle.std.proofs.lemmas.Grind.{common_steps}
 use Rattle.std.proofs.lemmas.List.{length-map}
 use Rattle.uart_spec.specs.declared.errors.ByteReceiveError.{ByteReceiveError}
+use Rattle.uart_spec.specs.declared.config.Config.{Config}
+use Rattle.uart_spec.specs.declared.errors.FrameError.{FrameError}
 use Rattle.uart_spec.specs.declared.errors.StalledError.{StalledError}
 use Rattle.uart_spec.specs.declared.registers.offsets.TheConstants as offsets
 use Rattle.uart_spec.specs.declared.registers.line_status.TheConstants.LSR
 use Rattle.uart_spec.specs.Access.{Path}
 use Rattle.uart_spec.specs.declared.access.Access.{Access}
 use Rattle.uart_spec.specs.declared.access.Access.TheVariants.{Read}
-use Rattle.uart_16550.specs.Grammar.{Language, Settings, Times}
-use Rattle.uart_16550.specs.Driver.{fields, settings_of}
+use Rattle.uart_16550.specs.Grammar.{Language, Settings, Times, Only}
+use Rattle.uart_16550.specs.Driver.{fields, settings_of, Saving, Sets, Next}
 use Rattle.uart_16550.specs.Receive.{Miss, TryReceive, Receives, ReceivesExact, ReceivesWithErrors}
 use Rattle.uart_spec.specs.declared.received.Received.{Received}
 use Rattle.uart_16550.specs.Io.{Reads, Flushes}
-use Rattle.uart_16550.specs.Frame.{ShowsIdle}
+use Rattle.uart_16550.specs.Frame.{ShowsIdle, frame_writes, with_frame}
+use Rattle.uart_16550.specs.Init.{frame_bits}
+use Rattle.uart_16550.specs.Setup.{SetsFrameWhenIdle}
+use Rattle.uart_16550.specs.Transmit.{WaitsFor}
 use Rattle.uart_16550.specs.Tty.{inner_of}
 use Rattle.uart_events.specs.declared.call.Call.{Call}
 use Rattle.uart_events.specs.declared.call.Call.TheVariants as call
@@ -34,18 +39,20 @@ use Rattle.std.proofs.lemmas.Nat.Bits.{same_from_bits, bit_at_or, bit_at_and, bi
 use Rattle.std.specs.Int.{bit_at}
 use Rattle.uart_chip.specs.Conserved.{out}
 use Rattle.uart_calls.specs.Meaning.{received_answer, read_answer, with_errors_answer, receive_exact_answer, exact_answer}
+use Rattle.uart_calls.specs.Meaning.{frame_when_idle_answer}
 use Rattle.uart_run.specs.Run.{State, machine_of, CallStep, Link, Chain}
 use Rattle.uart_run.specs.Session.{AllCalls, only_bytes}
 use Rattle.uart_run.specs.Served.{HoldsAtLeast, waiting_len, ServesWithErrors, transmitter_of, IsFlushed, Serves, AllServe}
 use Rattle.uart_chip.proofs.Bits.{has_one}
 use Rattle.uart_chip.proofs.conservation.Went.{Modes}
-use Rattle.uart_run.proofs.EmptyTransmitter.{wait_empties, empty_shown}
+use Rattle.uart_run.proofs.EmptyTransmitter.{wait_empties, empty_shown, sent_shown, shown_sent, sent_framed}
+use Rattle.uart_run.proofs.Pieces.{next_stages}
 use Rattle.uart_chip.proofs.conservation.BlockLaws.{PassedBlocks, path_as, path_split, look_data}
 use Rattle.uart_run.proofs.CallBlocks.{InBlocks, Makes, makes_look, passed_in_blocks}
 use Rattle.uart_run.proofs.CallBlocks.{try_receive_blocks, receives_blocks, receives_exact_blocks, receives_with_blocks}
 use Rattle.uart_run.proofs.CallKeeps.{reads_blocks, flushes_blocks}
 use Rattle.uart_run.proofs.CallLaws.{InSession}
-use Rattle.uart_run.proofs.FrameLaws.{GoOn, in_session-gone, same_cut}
+use Rattle.uart_run.proofs.FrameLaws.{GoOn, in_session-gone, same_cut, waited, framed_by}
 use Rattle.uart_run.proofs.ExactErrors.{exactly_received}
 
 -- ---- lists that end with a miss
@@ -233,6 +240,25 @@ flush_serves x s t a l (Ok done) w e h path f =
     }
 flush_serves x s t a l (Err stall) w e h path f = absurd (cc)
 
+-- a `set_frame_when_idle` waits as a `flush` does, and its writes send nothing
+framed_serves : (x : Modes) (s t : State) (config : Config) (a : Answer) (l : List Access) (result : Result (Unit {0}) FrameError) →
+    InSession x s → a ≡ frame_when_idle_answer result → SetsFrameWhenIdle config result (fields (inner_of s)) l (fields (inner_of t)) →
+    Path MachineStep (machine_of s) l (machine_of t) → a ≡ Done → IsFlushed s t
+framed_serves x s t config a l (Ok u) w e (d, of, does) path f =
+    let frame = frame_bits config in
+    let b = next_stages (Saving (WaitsFor LSR.TRANSMITTER_EMPTY.0 true))
+    (Next (Sets (with_frame config)) (Saving (Only (frame_writes d frame)))) (fields (inner_of s)) (fields (inner_of t)) l (machine_of s)
+    (machine_of t) does path in
+    let m = b.parts.between in
+    let p = waited x s true b.parts.front m w b.parts.first.0 b.parts.before in
+    let empty = wait_empties (settings_at s) b.parts.front (machine_of s) m b.parts.first.0 b.parts.before in
+    let gone : out m ≡ out (machine_of s) = p.passed.went.sends.grows ∙ append-nil (out (machine_of s)) in
+    let k = framed_by d config b.mid (fields (inner_of t)) b.parts.back b.parts.second in
+    let sent = sent_framed (out m) d frame m (machine_of t)
+    (path_as m (machine_of t) b.parts.back (frame_writes d frame) k.is b.parts.after) (sent_shown m.chip.transmitter empty) in
+    record { is_empty = shown_sent (out m) (transmitter_of t) sent; wire = sent.wire ∙ gone }
+framed_serves x s t config a l (Err error) w e does path f = absurd (cc)
+
 -- `is_idle`
 idle_serves : (x : Modes) (s t : State) (a : Answer) (l : List Access) (idle : Bool) → InSession x s → a ≡ Flag idle →
     ShowsIdle idle (settings_at s) l → Path MachineStep (machine_of s) l (machine_of t) → a ≡ Flag true → IsFlushed s t
@@ -289,6 +315,8 @@ serves_call x s t (call.ReceiveExact slots) a w h =
 serves_call x s t (call.ReceiveWithErrors slots) a w h =
     with_errors_serves x s t slots a h.outcome h.did.list w h.answered h.did.does.0 h.did.path
 serves_call x s t call.Flush a w h = flush_serves x s t a h.did.list h.outcome w h.answered h.did.does.0 h.did.path
+serves_call x s t (call.SetFrameWhenIdle config) a w h =
+    framed_serves x s t config a h.did.list h.outcome w h.answered h.did.does h.did.path
 serves_call x s t call.PeekModem a w h = peek_serves x s t a h.did.list h.outcome w h.answered h.did.does.0.is h.did.path
 serves_call x s t call.IsIdle a w h = idle_serves x s t a h.did.list h.outcome w h.answered h.did.does.0 h.did.path
 serves_call x s t other a w h = tt

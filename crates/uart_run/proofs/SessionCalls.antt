@@ -3,8 +3,7 @@ use Rattle.std.proofs.Common.{◌≡◌, ℕ, List, [], ◌∷◌, ◌++◌, ref
 use Rattle.uart_spec.specs.declared.registers.offsets.TheConstants as offsets
 use Rattle.uart_spec.specs.declared.registers.line_status.TheConstants.LSR
 use Rattle.uart_spec.specs.declared.registers.modem_status.TheConstants.MSR
-use Rattle.uart_spec.specs.Access.{saved, saved_lsr, saved_msr}
-use Rattle.uart_spec.specs.declared.access.Access.{Access}
+use Rattle.uart_spec.specs.Access.{saved_lsr, saved_msr}
 use Rattle.uart_16550.specs.Driver.{fields}
 use Rattle.uart_16550.specs.Tty.{inner_of}
 use Rattle.uart_chip.specs.Chip.{cut_of}
@@ -14,10 +13,9 @@ use Rattle.uart_run.specs.Ready.{Ready}
 use Rattle.uart_events.specs.declared.call.Call.{Call}
 use Rattle.uart_run.specs.Session.{AllCalls, reported, received, reported_by, received_by}
 use Rattle.uart_run.specs.Statuses.{AllNoLsr, AllNoMsr}
-use Rattle.uart_chip.proofs.Bits.{or_assoc}
-use Rattle.uart_chip.proofs.conservation.Went.{Modes, fixed, saved-append}
+use Rattle.uart_chip.proofs.conservation.Went.{Modes, fixed}
 use Rattle.uart_chip.proofs.conservation.BlockLaws.{stands-after}
-use Rattle.uart_run.proofs.CallLaws.{Passes, InSession, passes_none}
+use Rattle.uart_run.proofs.CallLaws.{Passes, InSession, passes_none, saved_both}
 use Rattle.uart_run.proofs.FrameLaws.{Goes, GoOn, goes_still, in_session-gone, passed_onwards, same_cut}
 
 -- the modes in which a session runs are those in which it begins
@@ -63,11 +61,6 @@ passes-trans x y N M O P s t u ws vs rs qs same p q = record {
       λ n. q.msr n.1
       ∙ (ap (λ v. bit_or v (saved_msr q.made)) (p.msr n.0) ∙ saved_both offsets.MSR MSR.CHANGES.0 (fields (inner_of s)).msr p.made q.made);
 }
-  where
-    saved_both : (register mask before : ℕ) (xs ys : List Access) →
-        bit_or (bit_or before (saved register mask xs)) (saved register mask ys) ≡ bit_or before (saved register mask (xs ++ ys))
-    saved_both register mask before xs ys =
-        or_assoc before (saved register mask xs) (saved register mask ys) ∙ ap (bit_or before) (sym (saved-append register mask xs ys))
 
 goes-trans : (x : Modes) (N M O P : Type 0) (s t u : State) (ws vs rs qs : List ℕ) → (p : Goes x N M s t ws rs) →
     Goes p.modes O P t u vs qs → Goes x (N × O) (M × P) s u (ws ++ vs) (rs ++ qs)

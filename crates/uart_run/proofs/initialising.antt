@@ -1,7 +1,8 @@
--- What an `init` comes to, and when it must succeed.
+-- What an `init` and an `init_with` come to, and when an `init` must succeed.
 pub mod Presence
 pub mod FifoShown
 pub mod FifoSteps
 pub mod Inits
 pub mod Initialised
 pub mod InitSucceeds
+pub mod SetUp

@@ -1,12 +1,24 @@
 -- States in which a session may begin, and the outcomes of an `init` and a loopback test over the machine.
 use Rattle.std.specs.Prelude.{◌≡◌, ◌≢◌, ◌⊎◌, ◌+◌, ◌*◌, ℕ, Bool, true, false}
 use Rattle.std.specs.Prelude.{◌&&◌, nat_lt, Option, Some, None, Ok, bit_and}
+use Rattle.bitflags.specs.Sets.{without}
+use Rattle.uart_spec.specs.Bits.{has}
+use Rattle.uart_spec.specs.Dump.{divisor_of}
 use Rattle.uart_spec.specs.declared.config.Config.{Config}
+use Rattle.uart_spec.specs.declared.dump.ConfigRegisterDump.{ConfigRegisterDump}
+use Rattle.uart_spec.specs.declared.errors.FrameError.TheVariants.{InvalidBaudRate}
 use Rattle.uart_spec.specs.declared.errors.InitError.TheVariants.{DeviceNotPresent}
 use Rattle.uart_spec.specs.declared.errors.InvalidDivisorError.{InvalidDivisorError}
 use Rattle.uart_spec.specs.declared.errors.LoopbackError.TheVariants.{Stalled, UnexpectedLoopbackByte}
 use Rattle.uart_spec.specs.declared.registers.fifo_trigger_level.FifoTriggerLevel.{FifoTriggerLevel}
+use Rattle.uart_spec.specs.declared.registers.interrupt_status.TheConstants.ISR
+use Rattle.uart_spec.specs.declared.registers.line_control.TheConstants.LCR
+use Rattle.uart_spec.specs.declared.setup.FifoAction.{FifoAction}
+use Rattle.uart_spec.specs.declared.setup.Setup.{Setup}
+use Rattle.uart_spec.specs.declared.setup.TransmitterWait.TheVariants.{Never as NoWait}
 use Rattle.uart_16550.specs.Driver.{fields}
+use Rattle.uart_16550.specs.Frame.{unlooped}
+use Rattle.uart_16550.specs.Setup.{stays_on}
 use Rattle.uart_16550.specs.Init.{DivisorOf, frame_bits}
 use Rattle.uart_16550.specs.Loopback.{test_byte}
 use Rattle.uart_16550.specs.Tty.{inner_of}
@@ -14,11 +26,12 @@ use Rattle.uart_events.specs.declared.call.Call.{Call}
 use Rattle.uart_events.specs.declared.call.Call.TheVariants as call
 use Rattle.uart_events.specs.declared.call.Answer.{Answer}
 use Rattle.uart_events.specs.declared.call.Answer.TheVariants.{Done, Latch, InitRefused, FrameRefused, LoopbackRefused}
+use Rattle.uart_events.specs.declared.call.Answer.TheVariants.{FrameWhenIdleRefused, FifosOff}
 use Rattle.uart_events.specs.declared.event.Chip.{Chip}
 use Rattle.uart_events.specs.declared.event.Chip.TheVariants.{Uart16550A, Uart16450}
-use Rattle.uart_chip.specs.Masks.{ier_bits}
+use Rattle.uart_chip.specs.Masks.{ier_bits, mcr_bits}
 use Rattle.uart_chip.specs.Chip.{LatchesState, ChipState, word_length, is_dlab_set}
-use Rattle.uart_chip.specs.Chip.{is_loopback, is_transmitter_empty, divisor}
+use Rattle.uart_chip.specs.Chip.{is_loopback, is_transmitter_empty, divisor, interrupt}
 use Rattle.uart_chip.specs.Machine.{MachineState}
 use Rattle.uart_run.specs.Run.{State, machine_of}
 use Rattle.uart_run.specs.Served.{transmitter_of, IsFlushed}
@@ -84,6 +97,62 @@ pub record Frames (config : Config) (s : State) (a : Answer) (t : State) : Type 
   pub leaves : a ≡ Done → IsFramed config s t
   pub refused : (e : InvalidDivisorError) → a ≡ FrameRefused e → machine_of t ≡ machine_of s
 
+-- ---- after an `init_with`
+
+-- the state after an `init_with` that is done, whatever the machine was before it: as after an `init`, but MCR has the
+-- outputs that were asked for, and the transmitter is empty if there was a wait
+pub record IsSetUp (setup : Setup) (config : Config) (t : State) : Type 0 where
+  pub ready : Ready t
+  pub divisor_latch : DivisorOf config (Ok (divisor (latches_of t)))
+  pub lcr : (latches_of t).lcr ≡ frame_bits config
+  pub mcr : (latches_of t).mcr ≡ bit_and (unlooped setup.outputs.0) mcr_bits
+  pub ier : (latches_of t).ier ≡ bit_and config.interrupts.0 ier_bits
+  pub is_empty : setup.wait ≢ NoWait →
+      is_transmitter_empty (transmitter_of t).queue (transmitter_of t).shift_register ≡ true
+  pub fifo : (machine_of t).chip.fifo ≡ (is_level config.fifo_trigger_level && has_fifo (machine_of t).chip.model)
+
+-- an `init_with` finds the device, and this is the state after one that succeeds
+pub record Arranges (setup : Setup) (config : Config) (a : Answer) (t : State) : Type 0 where
+  pub is_present : a ≢ InitRefused DeviceNotPresent
+  pub leaves : a ≡ Done → IsSetUp setup config t
+
+-- ---- after a `set_frame_when_idle`
+
+-- this is the state after one that succeeds; if there is no divisor, the machine is as before
+pub record FramesWhenIdle (config : Config) (s : State) (a : Answer) (t : State) : Type 0 where
+  pub leaves : a ≡ Done → IsFramed config s t
+  pub refused : (e : InvalidDivisorError) → a ≡ FrameWhenIdleRefused (InvalidBaudRate e) → machine_of t ≡ machine_of s
+
+-- ---- after a `set_trigger_level`
+
+-- one that succeeds in a ready state sets the trigger level of the receiver; with the FIFOs off the machine is as
+-- before
+pub record Levels (level : FifoTriggerLevel) (s : State) (a : Answer) (t : State) : Type 0 where
+  pub leaves : Ready s → a ≡ Done → (machine_of t).chip.receiver.trigger ≡ level
+  pub refused : a ≡ FifosOff → machine_of t ≡ machine_of s
+
+-- ---- after a `quiesce`
+
+-- the state after a `quiesce` in a ready state: no interrupt is enabled, so none is raised; MCR has the outputs that
+-- were asked for, and the FIFO stays as it is or is off
+pub record IsQuiet (outputs : ℕ) (action : FifoAction) (s t : State) : Type 0 where
+  pub latches : latches_of t ≡ record (latches_of s) { ier = 0; mcr = bit_and (unlooped outputs) mcr_bits }
+  pub fifo : (machine_of t).chip.fifo ≡ stays_on action (machine_of s).chip.fifo
+  pub silent : interrupt (machine_of t).chip ≡ None
+
+-- ---- after a `restore`
+
+-- the state after a `restore`, whatever the machine was before it: it is ready, the registers are as the dump shows,
+-- without DLAB and loopback, and the FIFO is on exactly if the dump shows it and the chip has one
+pub record IsRestored (dump : ConfigRegisterDump) (t : State) : Type 0 where
+  pub ready : Ready t
+  pub divisor_latch : divisor (latches_of t) ≡ divisor_of dump
+  pub lcr : (latches_of t).lcr ≡ without 8 dump.lcr.0 LCR.DLAB.0
+  pub mcr : (latches_of t).mcr ≡ bit_and (unlooped dump.mcr.0) mcr_bits
+  pub ier : (latches_of t).ier ≡ bit_and dump.ier.0 ier_bits
+  pub spr : (latches_of t).scr ≡ dump.spr
+  pub fifo : (machine_of t).chip.fifo ≡ (has dump.isr.0 ISR.FIFOS_ENABLED.0 && has_fifo (machine_of t).chip.model)
+
 -- ---- after an `attach`
 
 -- the state after an `attach` that returned this divisor latch, whatever the machine was before: it is ready, all
@@ -113,11 +182,17 @@ pub record IsTested (s : State) (a : Answer) (t : State) : Type 0 where
 
 -- ---- each call
 
--- the outcome of a call: an `init` initialises, a `set_frame` sets the frame, an `attach` that succeeds
--- leaves a ready state, whatever it was before, and a loopback test in a ready state tests
+-- the outcome of a call: an `init` initialises, and so does an `init_with`; a `set_frame` sets the frame, a
+-- `set_trigger_level` the level; a `restore`, and an `attach` that succeeds, leave a ready state, whatever it was
+-- before; and in a ready state a `quiesce` leaves a quiet chip, and a loopback test tests
 abbrev pub ComesTo : State → Call → Answer → State → Type 0
 ComesTo s (call.Init config) a t = Initialises config a t
+ComesTo s (call.InitWith config setup) a t = Arranges setup config a t
 ComesTo s (call.SetFrame config) a t = Frames config s a t
+ComesTo s (call.SetFrameWhenIdle config) a t = FramesWhenIdle config s a t
+ComesTo s (call.SetTriggerLevel level) a t = Levels level s a t
+ComesTo s (call.Quiesce outputs fifos) a t = Ready s → IsQuiet outputs.0 fifos s t
+ComesTo s (call.Restore dump) a t = IsRestored dump t
 ComesTo s call.Attach a t = (low high : ℕ) → a ≡ Latch low high → IsAttached low high s t
 ComesTo s call.TestLoopback a t = Ready s → IsTested s a t
 ComesTo s other a t = Unit {0}

@@ -41,8 +41,9 @@ pub record IsFlushed (s t : State) : Type 0 where
   pub wire : (transmitter_of t).wire ≡ out (machine_of s)
 
 -- if there is a received byte, a `try_receive_byte` returns one; calls into slots take as many of the received bytes
--- as fit, an exact one does not stall if there are as many; a `flush` that succeeds has emptied the transmitter, an
--- `is_idle` that is true found it empty; and a `peek_modem` shows the modem lines as they are
+-- as fit, an exact one does not stall if there are as many; a `flush` that succeeds has emptied the transmitter, and so
+-- has a `set_frame_when_idle`, an `is_idle` that is true found it empty; and a `peek_modem` shows the modem lines as
+-- they are
 abbrev pub Serves : State → Call → Answer → State → Type 0
 Serves s call.TryReceive a t = 0 < waiting_len s → (byte : ℕ) × (a ≡ answer.Register byte)
 Serves s (call.Receive slots) a t = 0 < waiting_len s → HoldsAtLeast (min slots (waiting_len s)) a
@@ -50,6 +51,7 @@ Serves s (call.Read slots) a t = 0 < waiting_len s → HoldsAtLeast (min slots (
 Serves s (call.ReceiveExact slots) a t = slots ≤ waiting_len s → HoldsAtLeast slots a
 Serves s (call.ReceiveWithErrors slots) a t = ServesWithErrors s slots a t
 Serves s call.Flush a t = a ≡ answer.Done → IsFlushed s t
+Serves s (call.SetFrameWhenIdle config) a t = a ≡ answer.Done → IsFlushed s t
 Serves s call.IsIdle a t = a ≡ answer.Flag true → IsFlushed s t
 Serves s call.PeekModem a t =
     (status : ℕ) × (a ≡ answer.Register status) × (bit_and status MSR.LINES.0 ≡ (machine_of t).chip.modem.lines)

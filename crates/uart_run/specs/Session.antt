@@ -15,15 +15,20 @@ use Rattle.uart_run.specs.Served.{AllServe}
 use Rattle.uart_run.specs.Ready.{Ready, ComesTo}
 use Rattle.uart_run.specs.Progress.{IsTimely, Succeeds}
 
--- the call is no `init` and no loopback test, which end a session, and no `attach`; it writes no MCR, by which modem
--- lines may change; and it is no `set_frame`, after which a machine may cut characters in another way
+-- the call is no `init`, `init_with`, `restore`, `quiesce` and no loopback test, which end a session, and no `attach`;
+-- it writes no MCR, by which modem lines may change; and it sets no frame, after which a machine may cut characters in
+-- another way
 abbrev pub IsWithinSession : Call → Type 0
 IsWithinSession (call.Init config) = ⊥
+IsWithinSession (call.InitWith config setup) = ⊥
 IsWithinSession (call.SetFrame config) = ⊥
+IsWithinSession (call.SetFrameWhenIdle config) = ⊥
 IsWithinSession call.Attach = ⊥
 IsWithinSession (call.SetModemControl outputs) = ⊥
 IsWithinSession (call.SetRts on) = ⊥
 IsWithinSession (call.SetDtr on) = ⊥
+IsWithinSession (call.Quiesce outputs fifos) = ⊥
+IsWithinSession (call.Restore dump) = ⊥
 IsWithinSession call.TestLoopback = ⊥
 IsWithinSession other = Unit {0}
 

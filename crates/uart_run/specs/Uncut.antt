@@ -28,14 +28,17 @@ IsUncut s = (machine_of s).chip.cuts ≡ false
 abbrev pub entered_uncut : MachineState → MachineState → List Character
 entered_uncut m n = m.chip.receiver.queue ++ arriving m.chip.receiver.arrived (between m n)
 
--- a session: it begins in a ready state, and no call in it is an `init`, a loopback test or an `attach`, or writes MCR.
--- A `set_frame` may be
+-- a session: it begins in a ready state, and no call in it is an `init`, an `init_with`, a `restore`, a `quiesce`, a
+-- loopback test or an `attach`, or writes MCR. A `set_frame` may be, and a `set_frame_when_idle`
 abbrev pub IsWithinUncut : Call → Type 0
 IsWithinUncut (call.Init config) = ⊥
+IsWithinUncut (call.InitWith config setup) = ⊥
 IsWithinUncut call.Attach = ⊥
 IsWithinUncut (call.SetModemControl outputs) = ⊥
 IsWithinUncut (call.SetRts on) = ⊥
 IsWithinUncut (call.SetDtr on) = ⊥
+IsWithinUncut (call.Quiesce outputs fifos) = ⊥
+IsWithinUncut (call.Restore dump) = ⊥
 IsWithinUncut call.TestLoopback = ⊥
 IsWithinUncut other = Unit {0}
 

@@ -27,8 +27,8 @@ fn run_call(uart: &mut Uart16550Tty<Device16550>, call: &Call) -> Answer
 /// no memory.
 ///
 /// A *session* begins in a ready state: DLAB and loopback are off, and the driver knows whether the
-/// FIFO is on. It goes on up to the next `Init`, `Attach` or `TestLoopback`, or a call that
-/// writes MCR or the frame. In each session
+/// FIFO is on. It goes on up to the next `Init`, `InitWith`, `Quiesce`, `Restore`, `Attach` or
+/// `TestLoopback`, or a call that writes MCR or the frame. In each session
 ///
 /// - the wire and the transmitter grow by exactly the bytes that sends reported;
 /// - no data write meets a full transmitter;
@@ -37,18 +37,23 @@ fn run_call(uart: &mut Uart16550Tty<Device16550>, call: &Call) -> Answer
 ///
 /// On a machine that cuts characters to the word length ([`Device16550::new_cut`]) this holds with
 /// the bytes that sends reported and those that arrived cut in this way. The clause `uncut` states
-/// it without cutting, for every other machine. There a session goes on through a `SetFrame`.
+/// it without cutting, for every other machine. There a session goes on through a `SetFrame` and a
+/// `SetFrameWhenIdle`.
 ///
-/// A `SetFrame` that succeeds leaves LCR and the divisor latch as configured, and the other latches
-/// and the FIFO as they were. An `Attach` that succeeds leaves a ready state, whatever the machine
-/// was before, and changes no latch. An `IsIdle` that is true found the transmitter empty, and
-/// all that was in it on the wire. With the FIFO on, each byte of a `ReceiveWithErrors` comes with
-/// exactly the errors that it arrived with, unless an earlier look has shown those of the first.
+/// A `SetFrame` or a `SetFrameWhenIdle` that succeeds leaves LCR and the divisor latch as
+/// configured, and the other latches and the FIFO as they were. A `SetTriggerLevel` that succeeds
+/// in a ready state sets the level of the receiver. An `Attach` that succeeds leaves a ready state,
+/// whatever the machine was before, and changes no latch. A `Restore` leaves one too, with the
+/// registers as in the dump. After a `Quiesce` in a ready state the chip raises no interrupt. An
+/// `IsIdle` that is true found the transmitter empty, and all that was in it on the wire, and so
+/// did a `SetFrameWhenIdle` that succeeds. With the FIFO on, each byte of a `ReceiveWithErrors`
+/// comes with exactly the errors that it arrived with, unless an earlier look has shown those of
+/// the first.
 ///
-/// An `Init` finds the device. If it succeeds, the state after it is ready, whatever the machine
-/// was before. A `TestLoopback` in a ready state succeeds or stalls, and if it succeeds, nothing of
-/// it went to the wire. With characters of 5 or 6 bits it reports an unexpected byte instead of
-/// success. Every call preserves a ready state, whatever its answer is.
+/// An `Init` or an `InitWith` finds the device. If it succeeds, the state after it is ready,
+/// whatever the machine was before. A `TestLoopback` in a ready state succeeds or stalls, and if it
+/// succeeds, nothing of it went to the wire. With characters of 5 or 6 bits it reports an
+/// unexpected byte instead of success. Every call preserves a ready state, whatever its answer is.
 ///
 /// If each access of the schedule has a tick before it, the spin limit is at least 17 (t + 1) for a
 /// character of t ticks, and the wire has room for all that is to be sent, then an `Init` with a

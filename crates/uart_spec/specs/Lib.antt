@@ -8,3 +8,4 @@ pub mod BaudRate
 pub mod Config
 pub mod Orders
 pub mod Dump
+pub mod FifoSize

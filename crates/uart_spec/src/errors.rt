@@ -1,4 +1,5 @@
 //! The errors of the baud rate arithmetic and of the driver.
+use crate::registers::{IER, LCR, MCR};
 use std::fmt;
 use thiserror::Error;
 
@@ -55,6 +56,57 @@ pub enum FrameError {
     /// The transmitter did not become empty within the spin limit. Nothing was written.
     #[error("the device stalled")]
     Stalled,
+}
+
+/// What a chip shows in place of what was written to it. The first difference is told, in the order
+/// of the cases.
+#[derive(Clone, Copy, Debug, PartialEq, Eq, Hash, Drop, Error)]
+pub enum ConfigurationError {
+    /// The configuration of the driver has no divisor, so no chip can be set up so. No access was
+    /// made.
+    #[error("there is no divisor for the baud rate")]
+    NoDivisor,
+    /// LCR shows another frame; or DLAB, which is set to reach the divisor latch, was not set or
+    /// not cleared. A DesignWare UART ignores LCR while it is busy.
+    #[error("LCR shows {shown:?}, and not {expected:?}")]
+    LineControl {
+        /// What was written to LCR.
+        expected: LCR,
+        /// What LCR shows.
+        shown: LCR,
+    },
+    /// MCR shows other outputs, or loopback.
+    #[error("MCR shows {shown:?}, and not {expected:?}")]
+    ModemControl {
+        /// What was written to MCR.
+        expected: MCR,
+        /// What MCR shows.
+        shown: MCR,
+    },
+    /// IER shows other interrupts.
+    #[error("IER shows {shown:?}, and not {expected:?}")]
+    Interrupts {
+        /// The interrupts that were enabled.
+        expected: IER,
+        /// What IER shows.
+        shown: IER,
+    },
+    /// The divisor latch has another divisor.
+    #[error("the divisor latch shows {shown}, and not {expected}")]
+    Divisor {
+        /// The divisor for the baud rate.
+        expected: u16,
+        /// What the divisor latch shows.
+        shown: u16,
+    },
+    /// ISR shows FIFOs that are on where the driver takes them to be off, or the other way round.
+    #[error("the FIFOs are on: ISR shows {shown}, and not {expected}")]
+    Fifos {
+        /// Whether the driver takes the FIFOs to be on.
+        expected: bool,
+        /// Whether ISR shows that they are on.
+        shown: bool,
+    },
 }
 
 /// Why the nearest divisor for a baud rate cannot be used. `OutOfRange` comes first.

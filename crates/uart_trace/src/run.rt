@@ -3,7 +3,6 @@ ghost use Rattle.std.specs.Prelude.{◌≡◌, ℕ, All, Err, IfOk};
 ghost use Rattle.uart_language.specs.Script.{IsFaulty, IsPlayable, IsScript, Plan, plan_of};
 ghost use Rattle.uart_language.specs.declared.cause.Cause.{Cause};
 ghost use Rattle.uart_language.specs.declared.cause.ScriptError.TheVariants.{Refused};
-ghost use Rattle.uart_play.specs.ScriptOutput.{first_machine};
 ghost use Rattle.uart_events.specs.Calls.{IsRunnable};
 ghost use Rattle.uart_trace.specs.Told.{Begins, IsToldRun, Makes, Tells, TellsInTurn};
 
@@ -14,27 +13,10 @@ use uart_16550::{Uart16550, Uart16550Tty};
 use uart_calls::{Call, perform};
 use uart_chip::Device16550;
 use uart_language::{Script, ScriptError, parse};
+use uart_play::machine_for;
 
 // A driver under its terminal, over the machine of a script and a recorder.
 type Terminal<L> = Uart16550Tty<Recorder<Device16550, L>>;
-
-// Returns the machine of the script.
-fn machine_for(alloc: Global, script: &Script) -> Result<Device16550, AllocError>
-    requires { IsPlayable (plan_of script.now) }
-    ensures { IfOk result (λ machine. machine ≡ first_machine (plan_of script.now)) }
-{
-    let schedule = script.events().to_vec(alloc)?;
-    let (chip, ticks, capacity) = (script.chip(), script.ticks(), script.wire_capacity());
-    let machine = if script.cut() {
-        Device16550::new_cut(alloc, chip, ticks, capacity, schedule)
-    } else {
-        Device16550::new(alloc, chip, ticks, capacity, schedule)
-    };
-    match machine {
-        Ok(machine) => Ok(machine),
-        Err(_) => Err(AllocError),
-    }
-}
 
 // Returns a new driver with the limit of the script, over its machine and a recorder.
 fn terminal_for<L: Listener + Drop>(

@@ -2,7 +2,7 @@
 use Rattle.std.proofs.Common.{◌≡◌, ℕ, List, [], ◌∷◌, ◌++◌, get_or, refl, sym, ap, ◌∙◌}
 use Rattle.std.proofs.lemmas.List.{append-nil}
 use Rattle.uart_chip.specs.Conserved.{kept, waiting}
-use Rattle.uart_run.specs.Chains.{calls_of, answers_of}
+use Rattle.uart_run.specs.Chains.{NoneIs, calls_of, answers_of}
 use Rattle.uart_run.specs.Ready.{Ready}
 use Rattle.uart_ring_runs.specs.declared.call.RingCall.{RingCall}
 use Rattle.uart_ring_runs.specs.declared.call.RingCall.TheVariants as call
@@ -32,15 +32,33 @@ last_took n answers other (a ∷ b ∷ c ∷ []) calls same =
     ap (λ x. taken_by x c.answer) take ∙ ap (λ all. taken_by (call.Take n) (get_or all 2 other)) same
 last_took n answers other (a ∷ b ∷ c ∷ d ∷ links) calls same = absurd (cc (calls))
 
+no_clear : (n : ℕ) (links : List RingLink) → calls_of links ≡ call.Next ∷ call.Service ∷ call.Take n ∷ [] →
+    NoneIs call.ClearReceive links
+no_clear n [] calls = absurd (cc (calls))
+no_clear n (a ∷ []) calls = absurd (cc (calls))
+no_clear n (a ∷ b ∷ []) calls = absurd (cc (calls))
+no_clear n (a ∷ b ∷ c ∷ []) calls =
+    let next : a.call ≡ call.Next = cc (calls) in
+    let service : b.call ≡ call.Service = cc (calls) in
+    let take : c.call ≡ call.Take n = cc (calls) in (
+      λ e. let clash : call.Next ≡ call.ClearReceive = sym next ∙ e in cc,
+      (
+        λ e. let clash : call.Service ≡ call.ClearReceive = sym service ∙ e in cc,
+        (λ e. let clash : call.Take n ≡ call.ClearReceive = sym take ∙ e in cc, tt),
+      ),
+    )
+no_clear n (a ∷ b ∷ c ∷ d ∷ links) calls = absurd (cc (calls))
+
 -- on to a mark, a service, and a `take`: its bytes are those taken
 pub received : (s t : RingState) (n : ℕ) (answers : List RingAnswer) (other : RingAnswer) (bytes : List ℕ) →
     RanRing s (call.Next ∷ call.Service ∷ call.Take n ∷ []) answers t → Ready (under s) →
     bytes ≡ taken_by (call.Take n) (get_or answers 2 other) →
     bytes ++ (to_take t ++ waiting (ring_machine t)) ≡ to_take s ++ kept (ring_machine s) (ring_machine t)
 received s t n answers other bytes ran ready is =
+    let c = ring_conserves s t _ answers ran ready in
     ap (λ xs. xs ++ (to_take t ++ waiting (ring_machine t)))
-    (is ∙ sym (last_took n answers other ran.run.links ran.run.calls_same ran.run.answers_same)) ∙
-    (ring_conserves s t _ answers ran ready).kept
+    (is ∙ (sym (last_took n answers other ran.run.links ran.run.calls_same ran.run.answers_same) ∙
+    sym (c.all_taken (no_clear n ran.run.links ran.run.calls_same)))) ∙ c.kept
 
 -- no other answer has bytes
 pub none_taken : (n : ℕ) (a : RingAnswer) → ((bytes : _) → a ≡ answer.Bytes bytes → ⊥) → [] ≡ taken_by (call.Take n) a
@@ -49,4 +67,7 @@ none_taken n (answer.Bytes bytes) isnt = absurd (isnt bytes refl)
 none_taken n (answer.Handled handled) isnt = refl
 none_taken n (answer.Line line) isnt = refl
 none_taken n (answer.Modem modem) isnt = refl
+none_taken n (answer.Replaced replaced) isnt = refl
+none_taken n (answer.Low low) isnt = refl
+none_taken n (answer.Tried tried) isnt = refl
 none_taken n answer.Done isnt = refl

@@ -3,3 +3,4 @@ pub mod Times
 pub mod Sends
 pub mod Waits
 pub mod Stays
+mod Quiet

@@ -1,6 +1,6 @@
 -- A byte that the guest writes while the transmitter is idle is on the output after the time of the call.
 use Rattle.std.proofs.Common.{◌≡◌, ℕ, ◌+◌, Bool, true, false, not, ◌&&◌}
-use Rattle.std.proofs.Common.{◌||◌, ◌==◌, min, nat_lt, List, [], ◌∷◌}
+use Rattle.std.proofs.Common.{◌||◌, ◌==◌, ◌⊎◌, inl, inr, min, nat_lt, List, [], ◌∷◌}
 use Rattle.std.proofs.Common.{length, Option, Some, None, is_some, refl, ap, sym, ◌∙◌, subst, arith}
 use Rattle.std.proofs.lemmas.Grind.{common_steps}
 use Rattle.uart_spec.specs.declared.registers.offsets.TheConstants as offsets
@@ -15,8 +15,9 @@ use Rattle.uart_chip.specs.Sound.{IsSoundChip}
 use Rattle.uart_chip.proofs.Jumps.{ticks-add}
 use Rattle.uart_chip.proofs.soundness.Sounds.{steady_ticks, steady_write}
 use Rattle.uart_live.proofs.Sends.{Sends, sends}
+use Rattle.uart_virtual.specs.declared.told.Kind.{Kind}
 use Rattle.uart_virtual.specs.declared.told.Told.{Told}
-use Rattle.uart_virtual.specs.Port.{settle, settle_ticks, IsStill, tell, todo_of, is_up}
+use Rattle.uart_virtual.specs.Port.{settle, settle_ticks, IsStill, tell, todo_of, is_up, spare_after, ignores_falls}
 use Rattle.uart_virtual.proofs.Times.{still_ticks, tick-shifted, last_tick}
 
 -- nothing in the queue and in the shift register
@@ -95,14 +96,14 @@ two_ticks value c still s =
     tick-outside (record c { transmitter = queued byte t }) (shifted byte t) s.outside still.due (first-tick byte t) in
     let second : tick (record c { transmitter = shifted byte t }) ≡ record c { transmitter = put_on_wire byte (idle t) } =
     tick-outside (record c { transmitter = shifted byte t }) (put_on_wire byte (idle t)) s.outside still.due
-    (second-tick byte t still.takes s.room) in
+    (second-tick byte t still.paced.takes s.room) in
     ap (λ (d : ChipState). tick (tick d)) written ∙
     (ap tick first ∙ (second ∙ ap (λ (u : TransmitterState). record c { transmitter = put_on_wire byte u }) idle_is))
 
 -- it is still then
 still_sent : (value : ℕ) (c : ChipState) → IsStill c → Sends c → IsStill (send_at_once value c)
 still_sent value c still s = record {
-  takes = still.takes;
+  paced = record { takes = still.paced.takes; room = still.paced.room };
   unmoved = rw (nothing c.transmitter.queue s.empty, nowhere c.transmitter.shift_register s.free) refl;
   due = still.due;
 }
@@ -131,25 +132,37 @@ settle-sent value c w still e = (
 
 -- ---- what is told
 
--- if the line was down, or a signal is unanswered, whether the line was up before time passed is the same
-same_rise : (up line unanswered v w : Bool) → (not line || unanswered) ≡ true →
-    (up && (not line || (not v && not unanswered))) ≡ (up && (not line || (not w && not unanswered)))
-same_rise up false unanswered v w e = refl
-same_rise up true false v w e = absurd (cc)
-same_rise up true true true true e = refl
-same_rise up true true true false e = refl
-same_rise up true true false true e = refl
-same_rise up true true false false e = refl
+-- if the line was down, or a signal covers it, whether the line was up all the time is the same
+same_rise : (up line covered brings v w : Bool) → (not line || not covered) ≡ true →
+    (up && (not line || (brings || (not v && covered)))) ≡ (up && (not line || (brings || (not w && covered))))
+same_rise up false covered brings v w e = refl
+same_rise up true true brings v w e = absurd (cc)
+same_rise up true false brings true true e = refl
+same_rise up true false brings true false e = refl
+same_rise up true false brings false true e = refl
+same_rise up true false brings false false e = refl
 
-pub same_told : (puts_off v w : Bool) (ended : ChipState) (told : Told) → (not told.line || told.is_unanswered) ≡ true →
-    tell false false puts_off v ended told ≡ tell false false puts_off w ended told
-same_told puts_off v w ended told e =
-    ap (λ (rise : Bool). record (tell false false puts_off w ended told) {
-      is_unanswered = rise || (is_up ended && (told.is_unanswered && true));
-    }) (same_rise (is_up ended) told.line told.is_unanswered v w e)
+pub same_told : (kind : Kind) (v w : Bool) (ended : ChipState) (told : Told) → ignores_falls told ≡ true →
+    tell kind v ended told ≡ tell kind w ended told
+same_told kind v w ended told e =
+    ap (λ (signal : Bool). record (tell kind w ended told) {
+      has_looked = kind.looks || (told.has_looked && not signal);
+      spare = spare_after kind signal ended.fifo told;
+    }) (same_rise (is_up ended) told.line (told.spare == 0) kind.brings v w e)
 
-pub same_todo : (puts_off v w : Bool) (ended : ChipState) (told : Told) → (not told.line || told.is_unanswered) ≡ true →
-    todo_of false false puts_off v ended told ≡ todo_of false false puts_off w ended told
-same_todo puts_off v w ended told e =
-    ap (λ (rise : Bool). record (todo_of false false puts_off w ended told) { signal = rise })
-    (same_rise (is_up ended) told.line told.is_unanswered v w e)
+pub same_todo : (kind : Kind) (v w : Bool) (ended : ChipState) (told : Told) → ignores_falls told ≡ true →
+    todo_of kind v ended told ≡ todo_of kind w ended told
+same_todo kind v w ended told e =
+    ap (λ (signal : Bool). record (todo_of kind w ended told) { signal = signal })
+    (same_rise (is_up ended) told.line (told.spare == 0) kind.brings v w e)
+
+-- the same, or the line was down before
+pub told_alike : (kind : Kind) (v w : Bool) (ended : ChipState) (told : Told) → ((told.line ≡ false) ⊎ (v ≡ w)) →
+    tell kind v ended told ≡ tell kind w ended told
+told_alike kind v w ended told (inl e) = same_told kind v w ended told (rw e refl)
+told_alike kind v w ended told (inr e) = ap (λ (up : Bool). tell kind up ended told) e
+
+pub todo_alike : (kind : Kind) (v w : Bool) (ended : ChipState) (told : Told) → ((told.line ≡ false) ⊎ (v ≡ w)) →
+    todo_of kind v ended told ≡ todo_of kind w ended told
+todo_alike kind v w ended told (inl e) = same_todo kind v w ended told (rw e refl)
+todo_alike kind v w ended told (inr e) = ap (λ (up : Bool). todo_of kind up ended told) e

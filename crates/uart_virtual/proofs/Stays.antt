@@ -1,6 +1,7 @@
--- While time passes the interrupt line does not fall, outside of loopback.
+-- When the interrupt line stays as it is: while time passes, outside of loopback and while no character can move; and at a
+-- read of LSR that shows no error.
 use Rattle.std.proofs.Common.{◌≡◌, ℕ, zero, suc, ◌+◌, Bool, true, false, not, ◌&&◌, ◌||◌, ◌==◌, min, nat_lt, List, [], ◌∷◌, length}
-use Rattle.std.proofs.Common.{Option, Some, None, is_some, bit_and, bit_or, refl, ap, sym, ◌∙◌, subst, arith, if◌then◌else◌}
+use Rattle.std.proofs.Common.{Option, Some, None, is_some, take, bit_and, bit_or, refl, ap, sym, ◌∙◌, subst, arith, if◌then◌else◌}
 use Rattle.std.proofs.lemmas.Grind.{common_steps}
 use Rattle.uart_spec.specs.Bits.{has_any, flag}
 use Rattle.uart_spec.specs.declared.registers.interrupt_enable.TheConstants.IER
@@ -14,13 +15,20 @@ use Rattle.uart_chip.specs.Transmitter as transmitter
 use Rattle.uart_chip.specs.Transmitter.{TransmitterState, looped_byte, shift, refill}
 use Rattle.uart_chip.specs.Receiver as receiver
 use Rattle.std.specs.List.{list_any}
-use Rattle.uart_chip.specs.Receiver.{is_data_pending, is_timed_out, front_errors, unreported, has_errors}
+use Rattle.uart_chip.specs.declared.receiver.Character.{Character}
+use Rattle.uart_chip.specs.Receiver.{ReceiverState, is_data_pending, is_timed_out, front_errors, unreported, has_errors, report}
 use Rattle.uart_chip.specs.Chip.{ChipState, tick, ticks, is_loopback, line_status, is_transmitter_empty}
+use Rattle.uart_chip.specs.Chip.{after_read, after_write, arrive_live, change_lines, take_wire}
+use Rattle.uart_chip.specs.Jumps.{timeout_after, count_down}
+use Rattle.uart_chip.proofs.Jumps.{StillFor, ticks_skip}
 use Rattle.uart_chip.proofs.Bits.{and_or}
 use Rattle.uart_chip.proofs.soundness.Sounds.{latches-ticks}
 use Rattle.uart_live.proofs.Lives.{both_if}
-use Rattle.uart_virtual.specs.Port.{is_up}
-use Rattle.uart_virtual.specs.Laws.{LineStays}
+use Rattle.uart_live.proofs.Sends.{each, unset}
+use Rattle.uart_virtual.specs.Port.{PortCall, Read, Write, Receive, ReceiveOne, SetLines, TakeOutput}
+use Rattle.uart_virtual.specs.Port.{is_up, stays_up, happen, settle, brings, accepted, arrive_all, IsStill, IsUnmoved}
+use Rattle.uart_virtual.specs.Laws.{LineStays, EachDipIsSignalled}
+use Rattle.uart_virtual.proofs.Times.{unmoved-read, unmoved-all}
 
 -- ---- a pending THR-empty interrupt stays
 
@@ -118,6 +126,27 @@ causes c =
     up_is (errors c) (ready c) (timeout c) (empty c) (lines c) ReceiverLineStatus ReceivedDataReady ReceptionTimeout
     TransmitterHoldingRegisterEmpty ModemStatus
 
+-- the causes that time can bring stay, so the line stays up
+stays-part : (c : ChipState) (t : TransmitterState) (i : ℕ) →
+    (c.transmitter.is_thr_pending ≡ true → t.is_thr_pending ≡ true) →
+    ((c.receiver.timeout_ticks == c.receiver.timeout_limit) ≡ true → (i == c.receiver.timeout_limit) ≡ true) →
+    is_up c ≡ true → is_up (record c { transmitter = t; receiver = record c.receiver { timeout_ticks = i } }) ≡ true
+stays-part c t i pends due up =
+    let d : ChipState = record c { transmitter = t; receiver = record c.receiver { timeout_ticks = i } } in
+    let same : errors d ≡ errors c =
+    ap (λ (b : Bool). has_any c.latches.ier IER.RECEIVER_LINE_STATUS.0 && b) (same_errors c t i) in
+    let before : (errors c || (ready c || (timeout c || (empty c || lines c)))) ≡ true = sym (causes c) ∙ up in
+    let after : (errors c || (ready c || (timeout d || (empty d || lines c)))) ≡ true =
+    grows (errors c) (ready c) (timeout c) (empty c) (lines c) (timeout d) (empty d)
+    (and-grows (has_any c.latches.ier IER.DATA_READY.0) (is_timed_out c.fifo c.receiver) (is_timed_out d.fifo d.receiver)
+    (and-grows c.fifo (nat_lt 0 (length c.receiver.queue) && (c.receiver.timeout_ticks == c.receiver.timeout_limit))
+    (nat_lt 0 (length c.receiver.queue) && (i == c.receiver.timeout_limit))
+    (and-grows (nat_lt 0 (length c.receiver.queue)) (c.receiver.timeout_ticks == c.receiver.timeout_limit)
+    (i == c.receiver.timeout_limit) due)))
+    (and-grows (has_any c.latches.ier IER.THR_EMPTY.0) c.transmitter.is_thr_pending t.is_thr_pending pends)
+    before in
+    causes d ∙ (ap (λ (b : Bool). b || (ready c || (timeout d || (empty d || lines c)))) same ∙ after)
+
 stays-tick : (c : ChipState) → is_loopback c.latches ≡ false → is_up c ≡ true → is_up (tick c) ≡ true
 stays-tick c outside up =
     let t : TransmitterState = transmitter.tick false c.transmitter in
@@ -128,24 +157,118 @@ stays-tick c outside up =
       transmitter = transmitter.tick b c.transmitter;
       receiver = receiver.tick c.fifo (looped_byte b c.transmitter.shift_register) c.receiver;
     }) outside in
-    let same : errors d ≡ errors c =
-    ap (λ (b : Bool). has_any c.latches.ier IER.RECEIVER_LINE_STATUS.0 && b) (same_errors c t i) in
-    let before : (errors c || (ready c || (timeout c || (empty c || lines c)))) ≡ true = sym (causes c) ∙ up in
-    let after : (errors c || (ready c || (timeout d || (empty d || lines c)))) ≡ true =
-    grows (errors c) (ready c) (timeout c) (empty c) (lines c) (timeout d) (empty d)
-    (and-grows (has_any c.latches.ier IER.DATA_READY.0) (is_timed_out c.fifo c.receiver) (is_timed_out d.fifo d.receiver)
-    (and-grows c.fifo (nat_lt 0 (length c.receiver.queue) && (c.receiver.timeout_ticks == c.receiver.timeout_limit))
-    (nat_lt 0 (length c.receiver.queue) && (i == c.receiver.timeout_limit))
-    (and-grows (nat_lt 0 (length c.receiver.queue)) (c.receiver.timeout_ticks == c.receiver.timeout_limit)
-    (i == c.receiver.timeout_limit)
-    (at_limit c.receiver.timeout_ticks c.receiver.timeout_limit))))
-    (and-grows (has_any c.latches.ier IER.THR_EMPTY.0) c.transmitter.is_thr_pending t.is_thr_pending (pends-tick c.transmitter))
-    before in
-    let now : is_up d ≡ true =
-    causes d ∙ (ap (λ (b : Bool). b || (ready c || (timeout d || (empty d || lines c)))) same ∙ after) in
-    subst (λ (x : ChipState). is_up x ≡ true) (sym ticked) now
+    subst (λ (x : ChipState). is_up x ≡ true) (sym ticked)
+    (stays-part c t i (pends-tick c.transmitter) (at_limit c.receiver.timeout_ticks c.receiver.timeout_limit) up)
 
 pub line_stays : LineStays
 line_stays zero c outside up = up
 line_stays (suc n) c outside up =
     stays-tick (ticks n c) (ap (λ l. is_loopback l) (latches-ticks n c) ∙ outside) (line_stays n c outside up)
+
+-- ---- while no character can move, the line stays up in loopback too
+
+at_limit_after : (n i limit : ℕ) → (i == limit) ≡ true → (timeout_after n i limit == limit) ≡ true
+at_limit_after zero i limit h = h
+at_limit_after (suc n) i limit h = grind (arith, common_steps)
+
+unmoved_stays : (n : ℕ) (c : ChipState) → IsUnmoved c → is_up c ≡ true → is_up (ticks n c) ≡ true
+unmoved_stays n c u up =
+    let i : ℕ = timeout_after n c.receiver.timeout_ticks c.receiver.timeout_limit in
+    subst (λ (x : ChipState). is_up x ≡ true) (sym (ticks_skip n c (subst (λ move. StillFor n move) (sym u) tt)))
+    (stays-part c (count_down n c.transmitter) i (λ h. h)
+    (at_limit_after n c.receiver.timeout_ticks c.receiver.timeout_limit) up)
+
+-- ---- a line that is up right after what happens in a call, and not written to in loopback, was up all the time
+
+unmoved-take : (count : ℕ) (c : ChipState) → is_loopback c.latches ≡ true → IsUnmoved c → IsUnmoved (take_wire count c)
+unmoved-take count c l u = rw l (rw l at u)
+
+either_place : (d : ChipState) (n : ℕ) → (is_loopback d.latches ≡ true → IsUnmoved d) → is_up d ≡ true → is_up (ticks n d) ≡ true
+either_place d n inside up = go (is_loopback d.latches) refl
+  where
+    go : (b : Bool) → is_loopback d.latches ≡ b → is_up (ticks n d) ≡ true
+    go true e = unmoved_stays n d (inside e) up
+    go false e = line_stays n d e up
+
+pub stays-up : (call : PortCall) (c : ChipState) (n : ℕ) → IsStill c → stays_up call (happen call c) ≡ true →
+    is_up (ticks n (happen call c)) ≡ true
+stays-up (Write offset value) c n s e =
+    let d : ChipState = after_write offset value c in
+    let both = each (is_up d) (not (is_loopback d.latches)) e in
+    line_stays n d (unset (is_loopback d.latches) both.1) both.0
+stays-up (Read offset) c n s e = either_place (after_read offset c) n (λ l. unmoved-read offset c s.unmoved) e
+stays-up (Receive bytes) c n s e =
+    either_place (arrive_all (take (accepted bytes c) bytes) c) n (λ l. unmoved-all (take (accepted bytes c) bytes) c s.unmoved) e
+stays-up (ReceiveOne byte errors) c n s e = either_place (arrive_live byte errors c) n (λ l. s.unmoved) e
+stays-up (SetLines inputs) c n s e = either_place (change_lines inputs c) n (λ l. s.unmoved) e
+stays-up (TakeOutput count) c n s e = either_place (take_wire count c) n (λ l. unmoved-take count c l s.unmoved) e
+
+signals_dip : (up line brings was covered : Bool) → up ≡ true → was ≡ false → covered ≡ true →
+    (up && (not line || (brings || (not was && covered)))) ≡ true
+signals_dip true false brings false true u w h = refl
+signals_dip true true true false true u w h = refl
+signals_dip true true false false true u w h = refl
+signals_dip false line brings was covered u w h = absurd (cc)
+signals_dip true line brings true covered u w h = absurd (cc)
+signals_dip true line brings false false u w h = absurd (cc)
+
+pub dip_signalled : EachDipIsSignalled
+dip_signalled call p n h down up free =
+    signals_dip (is_up (settle (happen call p.chip))) p.told.line (brings call p.chip) (stays_up call (happen call p.chip))
+    (p.told.spare == 0) up (fell (stays_up call (happen call p.chip)) refl) (none p.told.spare free)
+  where
+    fell : (b : Bool) → stays_up call (happen call p.chip) ≡ b → b ≡ false
+    fell false e = refl
+    fell true e = let up_then : is_up (ticks n (happen call p.chip)) ≡ true = stays-up call p.chip n h.still e in absurd (cc)
+
+    none : (n : ℕ) → n ≡ 0 → (n == 0) ≡ true
+    none n e = grind (arith, common_steps)
+
+-- ---- a read that is quiet leaves the line as it is
+
+reported : (r q t f : Bool) →
+    bit_and (bit_or (bit_or (bit_or (flag r LSR.DATA_READY.0) (flag false LSR.OVERRUN_ERROR.0)) (bit_or 0 (flag q LSR.THR_EMPTY.0)))
+    (bit_or (flag t LSR.TRANSMITTER_EMPTY.0) (flag f LSR.FIFO_DATA_ERROR.0))) LSR.LINE_ERRORS.0 ≡ 0
+reported true true true true = refl
+reported true true true false = refl
+reported true true false true = refl
+reported true true false false = refl
+reported true false true true = refl
+reported true false true false = refl
+reported true false false true = refl
+reported true false false false = refl
+reported false true true true = refl
+reported false true true false = refl
+reported false true false true = refl
+reported false true false false = refl
+reported false false true true = refl
+reported false false true false = refl
+reported false false false true = refl
+reported false false false false = refl
+
+none_unreported : (queue : List Character) (was : Bool) → front_errors queue (if length queue == 0 then was else true) ≡ 0
+none_unreported [] was = refl
+none_unreported (x ∷ xs) was = let some : (length (x ∷ xs) == 0) ≡ false = grind (arith, common_steps) in rw some refl
+
+-- after a read of LSR it shows no error
+no_errors : (c : ChipState) → has_any (line_status (record c { receiver = report c.receiver })) LSR.LINE_ERRORS.0 ≡ false
+no_errors c =
+    let d : ChipState = record c { receiver = report c.receiver } in
+    let r : ReceiverState = d.receiver in
+    let t : TransmitterState = c.transmitter in
+    let f : Bool = c.fifo && list_any has_errors (unreported r.queue r.is_front_reported) in
+    ap (λ (e : ℕ). not (bit_and (bit_or (bit_or (bit_or (flag (nat_lt 0 (length r.queue)) LSR.DATA_READY.0)
+    (flag false LSR.OVERRUN_ERROR.0)) (bit_or e (flag (length t.queue == 0) LSR.THR_EMPTY.0)))
+    (bit_or (flag (is_transmitter_empty t.queue t.shift_register) LSR.TRANSMITTER_EMPTY.0) (flag f LSR.FIFO_DATA_ERROR.0)))
+    LSR.LINE_ERRORS.0 == 0)) (none_unreported c.receiver.queue c.receiver.is_front_reported) ∙
+    ap (λ (v : ℕ). not (v == 0))
+    (reported (nat_lt 0 (length r.queue)) (length t.queue == 0) (is_transmitter_empty t.queue t.shift_register) f)
+
+-- a read of LSR that shows no error leaves the line as it is
+pub quiet_status : (c : ChipState) → has_any (line_status c) LSR.LINE_ERRORS.0 ≡ false →
+    is_up (record c { receiver = report c.receiver }) ≡ is_up c
+quiet_status c none =
+    let d : ChipState = record c { receiver = report c.receiver } in
+    let same : errors d ≡ errors c =
+    ap (λ (b : Bool). has_any c.latches.ier IER.RECEIVER_LINE_STATUS.0 && b) (no_errors c ∙ sym none) in
+    causes d ∙ (ap (λ (b : Bool). b || (ready c || (timeout c || (empty c || lines c)))) same ∙ sym (causes c))

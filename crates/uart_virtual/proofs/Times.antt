@@ -1,5 +1,5 @@
 -- After the time of a call nothing is left to happen.
-use Rattle.std.proofs.Common.{◌≡◌, ℕ, zero, suc, ◌+◌, ◌≤◌, Bool, true, false, ◌==◌, ◌⊎◌, inl, inr, min, nat_lt}
+use Rattle.std.proofs.Common.{◌≡◌, ℕ, zero, suc, ◌+◌, ◌*◌, ◌≤◌, Bool, true, false, ◌==◌, ◌⊎◌, inl, inr, min, nat_lt}
 use Rattle.std.proofs.Common.{List, [], ◌∷◌, ◌++◌, length, take, drop, Option, Some, None, refl, ap, sym, ◌∙◌, subst, arith, if◌then◌else◌}
 use Rattle.std.proofs.lemmas.Bool.{cases_lt}
 use Rattle.std.proofs.lemmas.Grind.{common_steps}
@@ -10,52 +10,102 @@ use Rattle.uart_chip.specs.Transmitter.{TransmitterState, room, looped_byte, shi
 use Rattle.uart_chip.specs.Receiver as receiver
 use Rattle.uart_chip.specs.Receiver.{ReceiverState, grow_timeout}
 use Rattle.uart_chip.specs.Chip.{ChipState, tick, ticks, is_loopback, is_dlab_set, interrupt}
-use Rattle.uart_chip.specs.Chip.{is_thr_empty, after_read, after_write, take_wire}
+use Rattle.uart_chip.specs.Chip.{is_thr_empty, after_read, after_write, take_wire, arrive_live}
 use Rattle.uart_chip.specs.Jumps.{next_move_of, next_move, left_after, place_after, timeout_after, moves}
 use Rattle.uart_chip.specs.Sound.{IsSoundChip, IsTicking}
 use Rattle.uart_chip.proofs.Jumps.{StillFor, ticks_skip}
 use Rattle.uart_chip.proofs.soundness.Idle.{moves-most}
 use Rattle.uart_chip.proofs.lasting.Lasting.{LastsInAccesses, lasts-read, lasts-write}
 use Rattle.uart_chip.proofs.soundness.Sounds.{char_ticks-tick, steady_ticks}
+use Rattle.uart_live.specs.Held.{expire}
+use Rattle.uart_live.specs.declared.fixed.TheConstants.{WIRE_ROOM}
 use Rattle.uart_live.proofs.Lives.{both_if}
 use Rattle.uart_virtual.specs.Port.{PortCall, Read, Write, Receive, happen, settle, settle_ticks}
-use Rattle.uart_virtual.specs.Port.{accepted, arrive_all, IsStill}
+use Rattle.uart_virtual.specs.Port.{accepted, arrive_all, IsStill, IsPaced, IsUnmoved}
 
--- ---- the ticks of a character stay the same
+-- ---- the ticks of a character stay the same, and the room of the wire
 
-abbrev Takes : ℕ → TransmitterState → Type 0
-Takes k t = t.char_ticks ≡ k
+abbrev Pace : TransmitterState → Type 0
+Pace t = (t.char_ticks ≡ 1) × (t.capacity ≡ WIRE_ROOM)
+
+pace_lasts : LastsInAccesses Pace
+pace_lasts = record { pending = λ t pending h. h; cleared = λ t pending h. h }
 
 -- of a chip
-abbrev pub CharTakes : ℕ → ChipState → Type 0
+abbrev CharTakes : ℕ → ChipState → Type 0
 CharTakes k c = c.transmitter.char_ticks ≡ k
 
-takes_lasts : (k : ℕ) → LastsInAccesses (Takes k)
-takes_lasts k = record { pending = λ t pending h. h; cleared = λ t pending h. h }
-
-pub takes-ticks : (k n : ℕ) (c : ChipState) → CharTakes k c → CharTakes k (ticks n c)
+takes-ticks : (k n : ℕ) (c : ChipState) → CharTakes k c → CharTakes k (ticks n c)
 takes-ticks k zero c h = h
 takes-ticks k (suc n) c h =
     let d : ChipState = ticks n c in char_ticks-tick (is_loopback d.latches) d.transmitter ∙ takes-ticks k n c h
 
-takes-write : (k offset value : ℕ) (c : ChipState) → CharTakes k c → CharTakes k (after_write offset value c)
-takes-write k offset value c h = go (offset == offsets.DATA) refl
+abbrev SameRoom : TransmitterState → TransmitterState → Type 0
+SameRoom t u = u.capacity ≡ t.capacity
+
+room-shift : (loopback : Bool) (place : Option Shifting) (t : TransmitterState) → SameRoom t (shift loopback place t)
+room-shift loopback None t = refl
+room-shift loopback (Some s) t =
+    both_if (SameRoom t) _ _ (nat_lt 1 s.ticks_left) refl
+    (both_if (SameRoom t) _ _ loopback refl (both_if (SameRoom t) _ _ (nat_lt (length t.wire) t.capacity) refl refl))
+
+room-refill : (place : Option Shifting) (queue : List ℕ) (t : TransmitterState) → SameRoom t (refill place queue t)
+room-refill (Some s) queue t = refl
+room-refill None [] t = refl
+room-refill None (x ∷ []) t = refl
+room-refill None (x ∷ y ∷ xs) t = refl
+
+room-ticks : (n : ℕ) (c : ChipState) → SameRoom c.transmitter (ticks n c).transmitter
+room-ticks zero c = refl
+room-ticks (suc n) c =
+    let d : ChipState = ticks n c in
+    let loopback : Bool = is_loopback d.latches in
+    let u : TransmitterState = shift loopback d.transmitter.shift_register d.transmitter in
+    room-refill u.shift_register u.queue u ∙ (room-shift loopback d.transmitter.shift_register d.transmitter ∙ room-ticks n c)
+
+pub paced-ticks : (n : ℕ) (c : ChipState) → IsPaced c → IsPaced (ticks n c)
+paced-ticks n c h = record { takes = takes-ticks 1 n c h.takes; room = room-ticks n c ∙ h.room }
+
+pace-write : (offset value : ℕ) (c : ChipState) → Pace c.transmitter → Pace (after_write offset value c).transmitter
+pace-write offset value c h = go (offset == offsets.DATA) refl
   where
-    go : (b : Bool) → (offset == offsets.DATA) ≡ b → CharTakes k (after_write offset value c)
-    go false e = lasts-write (Takes k) (takes_lasts k) offset value c e h
+    go : (b : Bool) → (offset == offsets.DATA) ≡ b → Pace (after_write offset value c).transmitter
+    go false e = lasts-write Pace pace_lasts offset value c e h
     go true e =
-        rw e (both_if (CharTakes k) _ _ (is_dlab_set c.latches) h
-        (both_if (Takes k) _ _ (nat_lt (length c.transmitter.queue) (room c.fifo)) h h))
+        rw e (both_if (λ (d : ChipState). Pace d.transmitter) _ _ (is_dlab_set c.latches) h
+        (both_if Pace _ _ (nat_lt (length c.transmitter.queue) (room c.fifo)) h h))
 
-pub takes-all : (k : ℕ) (bytes : List ℕ) (c : ChipState) → CharTakes k c → CharTakes k (arrive_all bytes c)
-takes-all k [] c h = h
-takes-all k (byte ∷ bytes) c h = takes-all k bytes _ h
+pace-all : (bytes : List ℕ) (c : ChipState) → Pace c.transmitter → Pace (arrive_all bytes c).transmitter
+pace-all [] c h = h
+pace-all (byte ∷ bytes) c h = pace-all bytes _ h
 
-pub takes-happen : (k : ℕ) (call : PortCall) (c : ChipState) → CharTakes k c → CharTakes k (happen call c)
-takes-happen k (Read offset) c h = lasts-read (Takes k) (takes_lasts k) offset c h
-takes-happen k (Write offset value) c h = takes-write k offset value c h
-takes-happen k (Receive bytes) c h = takes-all k (take (accepted bytes c) bytes) c h
-takes-happen k _ c h = h
+pace-happen : (call : PortCall) (c : ChipState) → Pace c.transmitter → Pace (happen call c).transmitter
+pace-happen (Read offset) c h = lasts-read Pace pace_lasts offset c h
+pace-happen (Write offset value) c h = pace-write offset value c h
+pace-happen (Receive bytes) c h = pace-all (take (accepted bytes c) bytes) c h
+pace-happen _ c h = h
+
+pub paced-happen : (call : PortCall) (c : ChipState) → IsPaced c → IsPaced (happen call c)
+paced-happen call c h =
+    let after : Pace (happen call c).transmitter = pace-happen call c (h.takes, h.room) in
+    record { takes = after.0; room = after.1 }
+
+pub paced-all : (bytes : List ℕ) (c : ChipState) → IsPaced c → IsPaced (arrive_all bytes c)
+paced-all bytes c h =
+    let after : Pace (arrive_all bytes c).transmitter = pace-all bytes c (h.takes, h.room) in
+    record { takes = after.0; room = after.1 }
+
+-- ---- no character can move after what leaves the transmitter alone
+
+pub unmoved-read : (offset : ℕ) (c : ChipState) → IsUnmoved c → IsUnmoved (after_read offset c)
+unmoved-read offset c u =
+    both_if IsUnmoved _ _ (offset == offsets.DATA) (both_if IsUnmoved _ _ (is_dlab_set c.latches) u u)
+    (both_if IsUnmoved _ _ (offset == offsets.ISR) (both_if IsUnmoved _ _ (is_thr_empty (interrupt c)) u u)
+    (both_if IsUnmoved _ _ (offset == offsets.LSR) u (both_if IsUnmoved _ _ (offset == offsets.MSR) u u)))
+
+pub unmoved-all : (bytes : List ℕ) (c : ChipState) → IsUnmoved c → IsUnmoved (arrive_all bytes c)
+unmoved-all [] c u = u
+unmoved-all (byte ∷ bytes) c u = unmoved-all bytes (arrive_live byte 0 c) u
 
 -- ---- a tick moves a character, or nothing in the transmitter changes any more
 
@@ -155,15 +205,15 @@ nearer (suc n) c w k =
     ]
 
 -- nothing is left to happen after 22 ticks
-still_after : (n : ℕ) (c : ChipState) → 22 ≤ n → IsSoundChip c → CharTakes 1 c → IsStill (ticks n c)
+still_after : (n : ℕ) (c : ChipState) → 22 ≤ n → IsSoundChip c → IsPaced c → IsStill (ticks n c)
 still_after n c many w k =
     let d : ChipState = ticks n c in
     let sound = (steady_ticks n c w).sound in
-    let one : d.transmitter.char_ticks ≡ 1 = takes-ticks 1 n c k in
-    elim (nearer n c w k) [
+    let one : d.transmitter.char_ticks ≡ 1 = takes-ticks 1 n c k.takes in
+    elim (nearer n c w k.takes) [
       | inl more ↦ absurd (omega (arith, more, many))
       | inr stops ↦ record {
-        takes = one;
+        paced = paced-ticks n c k;
         unmoved = stops.stuck.none;
         due = elim stops.nears [
           | inl h ↦ omega (arith, h, many, one, sound.limit, sound.receiver.idle)
@@ -172,7 +222,7 @@ still_after n c many w k =
       }
     ]
 
-pub still_settle : (c : ChipState) → IsSoundChip c → CharTakes 1 c → IsStill (settle c)
+pub still_settle : (c : ChipState) → IsSoundChip c → IsPaced c → IsStill (settle c)
 unfolding settle_ticks
 still_settle c w k = still_after settle_ticks c (omega arith) w k
 
@@ -193,7 +243,7 @@ timeout-still (suc n) ticks limit e = omega (arith, e)
 pub still_ticks : (n : ℕ) (c : ChipState) → IsSoundChip c → IsStill c → ticks n c ≡ c
 still_ticks n c w s =
     let ticking : IsTicking 1 c.transmitter.shift_register =
-    subst (λ m. IsTicking m c.transmitter.shift_register) s.takes w.transmitter.ticking in
+    subst (λ m. IsTicking m c.transmitter.shift_register) s.paced.takes w.transmitter.ticking in
     ticks_skip n c (subst (λ move. StillFor n move) (sym s.unmoved) tt) ∙
     (ap (λ (place : Option Shifting). record c {
       transmitter = record c.transmitter { shift_register = place };
@@ -202,19 +252,56 @@ still_ticks n c w s =
     ap (λ (i : ℕ). record c { receiver = record c.receiver { timeout_ticks = i } })
     (timeout-still n c.receiver.timeout_ticks c.receiver.timeout_limit s.due))
 
+-- ---- while no character can move, time brings a reception timeout and nothing else
+
+timeout-over : (n ticks limit : ℕ) → limit ≤ suc n → timeout_after (suc n) ticks limit ≡ limit
+timeout-over n ticks limit h = omega (arith, h)
+
+pub settle-unmoved : (c : ChipState) → IsSoundChip (expire c) → IsPaced c → IsUnmoved c → settle c ≡ expire c
+unfolding settle_ticks
+settle-unmoved c w k u =
+    let t : TransmitterState = c.transmitter in
+    let r : ReceiverState = c.receiver in
+    let limit : r.timeout_limit ≡ 4 * t.char_ticks = w.limit in
+    let held : IsTicking t.char_ticks t.shift_register = w.transmitter.ticking in
+    let ticking : IsTicking 1 t.shift_register = subst (λ m. IsTicking m t.shift_register) k.takes held in
+    let soon : r.timeout_limit ≤ 22 = omega (arith, limit, k.takes) in
+    ticks_skip 22 c (subst (λ move. StillFor 22 move) (sym u) tt) ∙
+    (ap (λ (place : Option Shifting). record c {
+      transmitter = record t { shift_register = place };
+      receiver = record r { timeout_ticks = timeout_after 22 r.timeout_ticks r.timeout_limit };
+    }) (place-still 22 t.shift_register ticking) ∙
+    ap (λ (i : ℕ). record c { receiver = record r { timeout_ticks = i } })
+    (timeout-over 21 r.timeout_ticks r.timeout_limit soon))
+
+pub still-expire : (c : ChipState) → IsPaced c → IsUnmoved c → IsStill (expire c)
+still-expire c k u = record { paced = record { takes = k.takes; room = k.room }; unmoved = u; due = refl }
+
 -- a read of another register than DATA leaves it still
 pub still_read : (offset : ℕ) (c : ChipState) → (offset == offsets.DATA) ≡ false → IsStill c → IsStill (after_read offset c)
 still_read offset c other s =
     rw other
     (both_if IsStill _ _ (offset == offsets.ISR)
-    (both_if IsStill _ _ (is_thr_empty (interrupt c)) (record { takes = s.takes; unmoved = s.unmoved; due = s.due }) s)
-    (both_if IsStill _ _ (offset == offsets.LSR) (record { takes = s.takes; unmoved = s.unmoved; due = s.due })
-    (both_if IsStill _ _ (offset == offsets.MSR) (record { takes = s.takes; unmoved = s.unmoved; due = s.due }) s)))
+    (both_if IsStill _ _ (is_thr_empty (interrupt c)) (record {
+      paced = record { takes = s.paced.takes; room = s.paced.room };
+      unmoved = s.unmoved;
+      due = s.due;
+    }) s)
+    (both_if IsStill _ _ (offset == offsets.LSR) (record {
+      paced = record { takes = s.paced.takes; room = s.paced.room };
+      unmoved = s.unmoved;
+      due = s.due;
+    })
+    (both_if IsStill _ _ (offset == offsets.MSR) (record {
+      paced = record { takes = s.paced.takes; room = s.paced.room };
+      unmoved = s.unmoved;
+      due = s.due;
+    }) s)))
 
 -- what the host takes of the output leaves a chip still whose transmitter holds nothing
 pub still_take : (count : ℕ) (c : ChipState) → length (held c.transmitter) ≡ 0 → IsStill c → IsStill (take_wire count c)
 still_take count c none s = record {
-  takes = s.takes;
+  paced = record { takes = s.paced.takes; room = s.paced.room };
   unmoved = go c.transmitter.shift_register c.transmitter.queue none;
   due = s.due;
 }

@@ -1,8 +1,8 @@
 -- What a monitor expects of a port: it is told of each rise of the line and of room, no byte is lost, and no guest
 -- waits for time to pass.
-use Rattle.std.specs.Prelude.{◌≡◌, ◌≢◌, ℕ, Bool, true, false, ◌||◌, List, []}
-use Rattle.std.specs.Prelude.{◌∷◌, ◌++◌, map, take, ◌⊎◌, length, ◌<◌, nat_lt}
-use Rattle.uart_chip.specs.Chip.{ChipState, receive_room, is_loopback, line_status, ticks}
+use Rattle.std.specs.Prelude.{◌≡◌, ◌≢◌, ℕ, ◌+◌, ◌-◌, Bool, true, false, not, ◌&&◌, ◌||◌, List, [], if◌then◌else◌}
+use Rattle.std.specs.Prelude.{◌∷◌, ◌++◌, map, take, ◌⊎◌, length, ◌<◌, ◌≤◌, nat_lt}
+use Rattle.uart_chip.specs.Chip.{ChipState, receive_room, is_loopback, line_status, ticks, after_write}
 use Rattle.uart_chip.specs.Transmitter.{out, held}
 use Rattle.uart_spec.specs.Bits.{has_any}
 use Rattle.uart_spec.specs.declared.registers.interrupt_enable.TheConstants.IER
@@ -10,11 +10,12 @@ use Rattle.uart_spec.specs.declared.registers.line_status.TheConstants.LSR
 use Rattle.uart_spec.specs.declared.registers.offsets.TheConstants as offsets
 use Rattle.uart_live.specs.Laws as live
 use Rattle.uart_live.specs.Laws.{Act, Ticks, Arrive, TakeWire, in_turn, AllInTurn, sent, taken, IsCareful}
+use Rattle.uart_live.specs.declared.fixed.TheConstants.{WIRE_ROOM}
 use Rattle.uart_virtual.specs.declared.told.Todo.{Todo}
 use Rattle.uart_virtual.specs.Port.{PortState, PortCall, Read, Write, Receive, ReceiveOne}
-use Rattle.uart_virtual.specs.Port.{SetLines, TakeOutput, after, todo}
-use Rattle.uart_virtual.specs.Port.{happen, brings, looks, settle_ticks, is_up}
-use Rattle.uart_virtual.specs.Port.{has_room, accepted, IsTold, IsStill}
+use Rattle.uart_virtual.specs.Port.{SetLines, TakeOutput, after, todo, todo_of, idle, untold}
+use Rattle.uart_virtual.specs.Port.{happen, brings, looks, moves_data, settle_ticks, is_up}
+use Rattle.uart_virtual.specs.Port.{has_room, accepted, IsTold, IsStill, IsPort}
 
 -- the port after these calls in turn
 abbrev pub after_all : List PortCall → PortState → PortState
@@ -47,18 +48,44 @@ EachRiseIsSignalled =
     (calls : List PortCall) (p : PortState) → IsTold p → is_up p.chip ≡ false → is_up (after_all calls p).chip ≡ true →
     some_told (λ (t : Todo). t.signal) calls p ≡ true
 
--- a line that is down right after what happens in a call, and up when the call ends, is signalled, unless the guest has
--- not looked since the last signal
+-- a line that was down at any moment of a call, and is up when the call ends, is signalled, unless an earlier signal
+-- covers that
 abbrev pub EachDipIsSignalled : Type 0
 EachDipIsSignalled =
-    (call : PortCall) (p : PortState) → is_up (happen call p.chip) ≡ false → is_up (after call p).chip ≡ true →
-    ((looks call ≡ true) ⊎ (p.told.is_unanswered ≡ false)) → (todo call p).signal ≡ true
+    (call : PortCall) (p : PortState) (n : ℕ) → IsPort p → is_up (ticks n (happen call p.chip)) ≡ false →
+    is_up (after call p).chip ≡ true → p.told.spare ≡ 0 → (todo call p).signal ≡ true
 
--- a signal is unanswered only if the call gave it, or if it was unanswered before and the guest does not look
-abbrev pub UnansweredWasSignalled : Type 0
-UnansweredWasSignalled =
-    (call : PortCall) (p : PortState) → (after call p).told.is_unanswered ≡ true →
-    ((todo call p).signal ≡ true) ⊎ ((p.told.is_unanswered ≡ true) × (looks call ≡ false))
+-- the call signals, and this covers 15 accesses of DATA more: the guest moves data, and has looked since the last
+-- signal
+abbrev pub IsCovering : PortCall → PortState → Type 0
+IsCovering call p =
+    ((todo call p).signal ≡ true) × ((moves_data call ≡ true) × ((p.told.has_looked ≡ true) ×
+    ((after call p).told.spare ≡ 15)))
+
+-- the call does not signal, an earlier signal still covers it, and an access of DATA is one of those that it covers
+abbrev pub IsCovered : PortCall → PortState → Type 0
+IsCovered call p =
+    ((todo call p).signal ≡ false) × ((p.told.spare ≢ 0) ×
+    ((after call p).told.spare ≡ (if moves_data call then p.told.spare - 1 else p.told.spare)))
+
+-- a signal covers others only if it was given since the guest last read ISR, while the guest was moving data, and it
+-- covers at most 15 accesses of DATA more
+abbrev pub ASignalCovers : Type 0
+ASignalCovers =
+    (call : PortCall) (p : PortState) → (after call p).told.spare ≢ 0 →
+    (looks call ≡ false) × (IsCovering call p ⊎ IsCovered call p)
+
+-- none of these calls is a look of the guest
+abbrev pub none_looks : List PortCall → Bool
+none_looks [] = true
+none_looks (call ∷ calls) = not (looks call) && none_looks calls
+
+-- nothing is covered while the guest does not look: a guest that never reads ISR is signalled each time that the line
+-- falls and rises
+abbrev pub NoLookCoversNothing : Type 0
+NoLookCoversNothing =
+    (calls : List PortCall) (p : PortState) → none_looks calls ≡ true → p.told.has_looked ≡ false → p.told.spare ≡ 0 →
+    ((after_all calls p).told.has_looked ≡ false) × ((after_all calls p).told.spare ≡ 0)
 
 -- whatever the host brings is signalled, if the line is up when the call ends
 abbrev pub EachInputIsSignalled : Type 0
@@ -68,18 +95,24 @@ EachInputIsSignalled =
 
 -- ---- room
 
--- if input is put off and there is room later, a call in between told of room
+-- if there is no room between two calls and there is room later, a call in between told of it, whichever call made it
 abbrev pub RoomIsTold : Type 0
 RoomIsTold =
-    (calls : List PortCall) (p : PortState) → IsTold p → p.told.is_put_off ≡ true →
+    (calls : List PortCall) (p : PortState) → IsTold p → has_room p.chip ≡ false →
     has_room (after_all calls p).chip ≡ true →
     some_told (λ (t : Todo). t.has_room) calls p ≡ true
 
--- input is put off after a call that received fewer bytes than it was offered, unless the call itself told of room
-abbrev pub FewerWait : Type 0
-FewerWait =
+-- a call that receives fewer bytes than it was offered leaves no room
+abbrev pub RefusalLeavesNoRoom : Type 0
+RefusalLeavesNoRoom =
     (bytes : List ℕ) (p : PortState) → receive_room p.chip < length bytes →
-    ((after (Receive bytes) p).told.is_put_off ≡ true) ⊎ ((todo (Receive bytes) p).has_room ≡ true)
+    has_room (after (Receive bytes) p).chip ≡ false
+
+-- a restored port tells of the room that it has, and signals if its line is up
+abbrev pub RestoredIsTold : Type 0
+RestoredIsTold =
+    (c : ChipState) →
+    ((todo_of idle true c untold).has_room ≡ has_room c) × ((todo_of idle true c untold).signal ≡ is_up c)
 
 -- ---- output
 
@@ -111,6 +144,20 @@ abbrev pub EmptyThrTakesAByte : Type 0
 EmptyThrTakesAByte =
     (value : ℕ) (c : ChipState) → has_any (line_status c) LSR.THR_EMPTY.0 ≡ true →
     IsCareful (live.Write offsets.DATA value) c
+
+-- a write of FCR discards nothing, if the transmitter's queue is empty: so it is also while the output is not full
+abbrev pub FcrKeepsTheOutput : Type 0
+FcrKeepsTheOutput =
+    (value : ℕ) (c : ChipState) → c.transmitter.queue ≡ [] →
+    out (after_write offsets.FCR value c).transmitter ≡ out c.transmitter
+
+-- what the host does not take comes back to the guest: if more bytes are to go out than the output has room for, LSR
+-- shows a transmitter that is not empty, and with one more a THR that is not empty
+abbrev pub ASlowHostShows : Type 0
+ASlowHostShows =
+    (p : PortState) → length p.chip.transmitter.wire ≤ WIRE_ROOM →
+    (WIRE_ROOM < length (out p.chip.transmitter) → has_any (line_status p.chip) LSR.TRANSMITTER_EMPTY.0 ≡ false) ×
+    (WIRE_ROOM + 1 < length (out p.chip.transmitter) → has_any (line_status p.chip) LSR.THR_EMPTY.0 ≡ false)
 
 -- ---- no guest waits for time that never passes
 

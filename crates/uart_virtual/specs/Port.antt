@@ -1,15 +1,24 @@
 -- The port: a live chip, what its monitor was told last, and what each call makes of both.
-use Rattle.std.specs.Prelude.{◌≡◌, ℕ, Bool, true, false, not, ◌&&◌, ◌||◌, ◌==◌, List}
-use Rattle.std.specs.Prelude.{[], ◌∷◌, length, take, min, is_some, nat_lt, None}
+use Rattle.std.specs.Prelude.{◌≡◌, ℕ, Bool, true, false, not, ◌&&◌, ◌||◌, ◌==◌, ◌-◌, List}
+use Rattle.std.specs.Prelude.{[], ◌∷◌, length, take, min, is_some, nat_lt, nat_le, None, if◌then◌else◌}
+use Rattle.uart_chip.specs.declared.chip.ChipData.{ChipData}
 use Rattle.uart_chip.specs.Chip as chip
 use Rattle.uart_chip.specs.Chip.{ChipState, interrupt, ticks, arrive_live, take_wire}
 use Rattle.uart_chip.specs.Chip.{change_lines, after_read, after_write, is_loopback, receive_room}
 use Rattle.uart_chip.specs.Jumps.{next_move}
+use Rattle.uart_chip.specs.Snapshot.{chip_of}
 use Rattle.uart_chip.specs.Transmitter.{held}
+use Rattle.uart_chip.specs.declared.transmitter.TransmitterData.{TransmitterData}
 use Rattle.uart_events.specs.declared.event.Chip.{Chip}
+use Rattle.uart_live.specs.Live.{IsLive}
+use Rattle.uart_live.specs.declared.fixed.TheConstants.{WIRE_ROOM}
+use Rattle.uart_spec.specs.Bits.{has_any}
+use Rattle.uart_spec.specs.declared.registers.line_status.TheConstants.LSR
 use Rattle.uart_spec.specs.declared.registers.offsets.TheConstants as offsets
+use Rattle.uart_virtual.specs.declared.told.Kind.{Kind}
 use Rattle.uart_virtual.specs.declared.told.Told.{Told}
 use Rattle.uart_virtual.specs.declared.told.Todo.{Todo}
+use Rattle.uart_virtual.specs.declared.told.TheConstants.{REST_OF_A_FIFO}
 
 -- What a monitor has to do after a call is plain data. So the port knows no eventfd and no interrupt controller, and
 -- edges and levels have the same port.
@@ -75,75 +84,117 @@ brings (ReceiveOne byte errors) c = true
 brings (SetLines inputs) c = true
 brings (TakeOutput count) c = not (length (held c.transmitter) == 0)
 
--- the guest looks at what may have interrupted it: this choice decides how often it is signalled
+-- the guest looks at what interrupted it
 abbrev pub looks : PortCall → Bool
-looks (Read offset) = offset == offsets.ISR || (offset == offsets.LSR || offset == offsets.MSR)
+looks (Read offset) = offset == offsets.ISR
 looks _ = false
 
--- input is put off until there is room
-abbrev pub puts_off : PortCall → PortState → Bool
-puts_off (Receive bytes) p = p.told.is_put_off || nat_lt (receive_room p.chip) (length bytes)
-puts_off _ p = p.told.is_put_off
+-- the guest reads or writes DATA
+abbrev pub moves_data : PortCall → Bool
+moves_data (Read offset) = offset == offsets.DATA
+moves_data (Write offset value) = offset == offsets.DATA
+moves_data _ = false
+
+-- what the call is, as far as signals are concerned
+abbrev pub kind_of : PortCall → ChipState → Kind
+kind_of call c = record { brings = brings call c; looks = looks call; moves_data = moves_data call }
+
+-- of the chip right after what happens in a call: the line is up and stays up while time passes. What the guest sends
+-- in loopback comes back while time passes, and that can take the line down for a moment
+abbrev pub stays_up : PortCall → ChipState → Bool
+stays_up (Write offset value) c = is_up c && not (is_loopback c.latches)
+stays_up _ c = is_up c
 
 -- ---- what the monitor is told
 
 -- the guest's interrupt is signalled: the line is up when the call ends, and it was down before; or the host brings
--- something; or what happened took it down, and the guest looked since the last signal
-abbrev pub is_signalled : (brings looks was_up : Bool) → (ended : ChipState) → Told → Bool
-is_signalled brings looks was_up ended told =
-    is_up ended && (not told.line || (brings || (not was_up && (looks || not told.is_unanswered))))
+-- something; or the line was down within the call, and no earlier signal covers that
+abbrev pub is_signalled : Kind → (was_up : Bool) → (ended : ChipState) → Told → Bool
+is_signalled kind was_up ended told =
+    is_up ended && (not told.line || (kind.brings || (not was_up && (told.spare == 0))))
 
--- what the monitor was told after a call, of which it is known whether the line was up before time passed
-abbrev pub tell : (brings looks puts_off was_up : Bool) → (ended : ChipState) → Told → Told
-tell brings looks puts_off was_up ended told =
+-- how many more accesses of DATA a signal covers. One that is given when the guest has looked, and now moves data,
+-- covers what is left of a FIFO: the guest is in its handler, and this one signal calls the handler again. Any other
+-- signal covers nothing. A look ends what is covered
+abbrev pub spare_after : Kind → (signal fifo : Bool) → Told → ℕ
+spare_after kind signal fifo told =
+    if kind.looks then 0
+    else if signal then (if kind.moves_data && (told.has_looked && fifo) then REST_OF_A_FIFO else 0)
+    else if kind.moves_data then told.spare - 1
+    else told.spare
+
+-- what the monitor was told after a call, of which it is known whether the line was up all the time
+abbrev pub tell : Kind → (was_up : Bool) → (ended : ChipState) → Told → Told
+tell kind was_up ended told =
+    let signal = is_signalled kind was_up ended told in
     record {
       line = is_up ended;
-      is_unanswered = is_signalled brings looks was_up ended told || (is_up ended && (told.is_unanswered && not looks));
-      is_put_off = puts_off && not (has_room ended);
+      has_room = has_room ended;
+      has_looked = kind.looks || (told.has_looked && not signal);
+      spare = spare_after kind signal ended.fifo told;
     }
 
+-- the levels are not the same
+abbrev pub differ : (before now : Bool) → Bool
+differ before now = if now then not before else before
+
 -- what the monitor has to do after it
-abbrev pub todo_of : (brings looks puts_off was_up : Bool) → (ended : ChipState) → Told → Todo
-todo_of brings looks puts_off was_up ended told =
+abbrev pub todo_of : Kind → (was_up : Bool) → (ended : ChipState) → Told → Todo
+todo_of kind was_up ended told =
     record {
-      signal = is_signalled brings looks was_up ended told;
+      signal = is_signalled kind was_up ended told;
       level = is_up ended;
-      has_room = puts_off && has_room ended;
+      has_moved = differ told.line (is_up ended);
+      has_room = has_room ended && not told.has_room;
       ready = length ended.transmitter.wire;
     }
 
--- a port after power-on: the time of a call passed, no signal was given before, and no input is put off
+-- a call that is nothing but time
+abbrev pub idle : Kind
+idle = record { brings = false; looks = false; moves_data = false }
+
+-- nothing was told yet
+abbrev pub untold : Told
+untold = record { line = false; has_room = false; has_looked = false; spare = 0 }
+
+-- a port whose monitor was told of this chip, and of nothing before
+abbrev pub begun : ChipState → PortState
+begun c = record { chip = c; told = tell idle true c untold }
+
+-- a port after power-on: the time of a call passed
 abbrev pub fresh : Chip → PortState
-fresh model =
-    let c = chip.fresh model 1 64 0 in
-    let none : Told = record { line = false; is_unanswered = false; is_put_off = false } in
-    record { chip = settle c; told = tell false false false (is_up c) (settle c) none }
+fresh model = begun (settle (chip.fresh model 1 WIRE_ROOM 0))
 
 -- the port after a call
 abbrev pub after : PortCall → PortState → PortState
 after call p =
     let c = happen call p.chip in
-    record {
-      chip = settle c;
-      told = tell (brings call p.chip) (looks call) (puts_off call p) (is_up c) (settle c) p.told;
-    }
+    record { chip = settle c; told = tell (kind_of call p.chip) (stays_up call c) (settle c) p.told }
 
 -- what the call returns to the monitor
 abbrev pub todo : PortCall → PortState → Todo
 todo call p =
-    let c = happen call p.chip in
-    todo_of (brings call p.chip) (looks call) (puts_off call p) (is_up c) (settle c) p.told
+    let c = happen call p.chip in todo_of (kind_of call p.chip) (stays_up call c) (settle c) p.told
 
--- what the monitor was told is true: the level is that of the line, and if input is put off, there is no room
+-- what the monitor was told is true: the level of the line, and whether there is room
 pub record IsTold (p : PortState) : Type 0 where
   pub line : p.told.line ≡ is_up p.chip
-  pub waits : p.told.is_put_off ≡ true → has_room p.chip ≡ false
+  pub room : p.told.has_room ≡ has_room p.chip
 
--- nothing is left to happen, however much time passes: a character takes one tick, none can leave or enter the shift
--- register, and a reception timeout is due if characters wait in the FIFO
-pub record IsStill (c : ChipState) : Type 0 where
+-- a character takes one tick, and the wire has the room of a port's output
+pub record IsPaced (c : ChipState) : Type 0 where
   pub takes : c.transmitter.char_ticks ≡ 1
-  pub unmoved : next_move (is_loopback c.latches) c.transmitter ≡ None
+  pub room : c.transmitter.capacity ≡ WIRE_ROOM
+
+-- no character can leave or enter the shift register
+abbrev pub IsUnmoved : ChipState → Type 0
+IsUnmoved c = next_move (is_loopback c.latches) c.transmitter ≡ None
+
+-- nothing is left to happen, however much time passes: no character can move, and a reception timeout is due if
+-- characters wait in the FIFO
+pub record IsStill (c : ChipState) : Type 0 where
+  pub paced : IsPaced c
+  pub unmoved : IsUnmoved c
   pub due : c.receiver.timeout_ticks ≡ c.receiver.timeout_limit
 
 -- what is true of every port
@@ -151,7 +202,26 @@ pub record IsPort (p : PortState) : Type 0 where
   pub told : IsTold p
   pub still : IsStill p.chip
 
--- whether the line fell in a call in which the guest does not look makes no difference to what is told: the line was
--- down before the call, or a signal is unanswered
+-- a fall of the line within a call makes no difference to what is told: the line was down before, or a signal covers it
 abbrev pub ignores_falls : Told → Bool
-ignores_falls told = not told.line || told.is_unanswered
+ignores_falls told = not told.line || not (told.spare == 0)
+
+-- a read that returns this value is no look, and changes neither the line nor the room: LSR shows no error, or the
+-- register has no side effects
+abbrev pub is_quiet : (offset value : ℕ) → Bool
+is_quiet offset value =
+    if offset == offsets.LSR then not (has_any value LSR.LINE_ERRORS.0)
+    else not (offset == offsets.DATA) && (not (offset == offsets.ISR) && not (offset == offsets.MSR))
+
+-- ---- snapshots
+
+-- no character of this transmitter can move: it is empty, or holds bytes only because the output is full
+abbrev pub is_unmoved : TransmitterData → (loopback : Bool) → (output : List ℕ) → Bool
+is_unmoved t loopback output =
+    if is_some t.shift_register then not loopback && nat_le t.wire_capacity (length output)
+    else length t.queue.items == 0
+
+-- these data, and these bytes of output, are those of a port: the chip is live, and nothing is left to happen
+pub record IsSaved (saved : ChipData) (output : List ℕ) : Type 0 where
+  pub live : IsLive (chip_of saved output)
+  pub still : IsStill (chip_of saved output)

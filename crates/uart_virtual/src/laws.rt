@@ -3,9 +3,10 @@
 //! The contract of each function is a law that callers can cite. The functions do nothing.
 ghost use Rattle.uart_virtual.specs.Laws.{LevelIsTold, ToldStays, SignalsAreUp, LineStays};
 ghost use Rattle.uart_virtual.specs.Laws.{EachRiseIsSignalled, EachDipIsSignalled};
-ghost use Rattle.uart_virtual.specs.Laws.{UnansweredWasSignalled, EachInputIsSignalled};
-ghost use Rattle.uart_virtual.specs.Laws.{RoomIsTold, FewerWait, BytesGoOut, EmptyThrTakesAByte};
-ghost use Rattle.uart_virtual.specs.Laws.{HeldOnlyIfFull, WaitingInterrupts};
+ghost use Rattle.uart_virtual.specs.Laws.{EachInputIsSignalled, ASignalCovers, NoLookCoversNothing};
+ghost use Rattle.uart_virtual.specs.Laws.{RoomIsTold, RefusalLeavesNoRoom, RestoredIsTold};
+ghost use Rattle.uart_virtual.specs.Laws.{BytesGoOut, EmptyThrTakesAByte, FcrKeepsTheOutput};
+ghost use Rattle.uart_virtual.specs.Laws.{ASlowHostShows, HeldOnlyIfFull, WaitingInterrupts};
 
 /// The level that each call tells is that of the line, and what a port keeps of what it told stays
 /// so.
@@ -17,29 +18,35 @@ pub fn level_is_told()
 /// Each rise of the line is signalled, and each input while the line is up. A signal is given only
 /// while the line is up.
 ///
-/// A fall and a rise in one call are signalled too, unless the guest has not looked since the last
-/// signal. Outside of loopback the line does not fall while time passes: so no other moment of a
-/// call has to be considered.
+/// A line that was down at any moment of a call, and is up at its end, is signalled too, unless an
+/// earlier signal covers that. A signal covers others only if it was given since the guest last
+/// read ISR, and at most 15 accesses of DATA. A guest that never reads ISR has none covered.
 pub fn rises_are_signalled()
     ensures rise { EachRiseIsSignalled }
     ensures dip { EachDipIsSignalled }
-    ensures unanswered { UnansweredWasSignalled }
+    ensures covers { ASignalCovers }
+    ensures blind { NoLookCoversNothing }
     ensures input { EachInputIsSignalled }
     ensures up { SignalsAreUp }
     ensures stays { LineStays }
 {}
 
-/// The monitor is told of room for input that was put off, whichever call makes the room.
+/// The monitor is told of room for input after there was none, whichever call makes it, a restored
+/// port too. A call that refuses input leaves no room.
 pub fn room_is_told()
     ensures room { RoomIsTold }
-    ensures fewer { FewerWait }
+    ensures refusal { RefusalLeavesNoRoom }
+    ensures restored { RestoredIsTold }
 {}
 
 /// No byte that the guest writes is lost, and the order is kept, if the guest writes only to an
-/// empty transmitter, outside of loopback, and does not write FCR.
+/// empty transmitter, outside of loopback, and does not write FCR. A write of FCR discards nothing
+/// as long as the transmitter's queue is empty. A host that takes nothing shows in LSR.
 pub fn bytes_go_out()
     ensures out { BytesGoOut }
     ensures taken { EmptyThrTakesAByte }
+    ensures fcr { FcrKeepsTheOutput }
+    ensures slow { ASlowHostShows }
 {}
 
 /// Nothing waits for time to pass: bytes are held back only while the output is full, and a

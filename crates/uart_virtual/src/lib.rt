@@ -1,8 +1,8 @@
 //! A serial port of a virtual machine: a live chip, and what its monitor has to do.
 //!
 //! Each call returns as plain data whether to signal the guest's interrupt, the level of the line,
-//! whether input that was put off has room now, and how many bytes of output are ready. Time passes
-//! in the calls alone.
+//! whether there is room for input again, and how many bytes of output are ready. Time passes in
+//! the calls alone.
 #![tactic(auto)]
 
 pub mod laws;
@@ -11,5 +11,5 @@ mod port;
 mod tests;
 mod told;
 
-pub use port::{Answer, Received, VirtualPort};
+pub use port::{Answer, Received, Restored, VirtualPort, settle};
 pub use told::Todo;

@@ -3,8 +3,8 @@
 use crate::random::Random;
 use std::fmt;
 use uart_16550::spec::CLK_FREQUENCY_HZ;
-use uart_16550::spec::registers::{FifoTriggerLevel, IER, Parity, WordLength};
-use uart_16550::{BaudRate, Config};
+use uart_16550::spec::registers::{FifoTriggerLevel, IER, MCR, Parity, WordLength};
+use uart_16550::{BaudRate, Config, FifoAction, Setup, TransmitterWait};
 
 /// The most bytes that a call sends or receives.
 pub const CALL_BYTES: usize = 64;
@@ -52,6 +52,11 @@ pub enum Kind {
     IsIdle,
     RetriggerInterrupts,
     ReceiveWithErrors,
+    InitWith,
+    SetFrameWhenIdle,
+    SetTriggerLevel,
+    Quiesce,
+    Restore,
     Text,
 }
 
@@ -59,15 +64,20 @@ pub enum Kind {
 #[derive(Clone, Copy, PartialEq, Eq)]
 enum Given {
     Nothing,
-    Setup,
+    Config,
+    ConfigAndSetup,
+    Frame,
+    Level,
     Byte,
+    OutputsAndFifos,
     Flag,
     Slots,
     Bytes,
+    Registers,
 }
 
-const KINDS: [(Kind, &str, Given); 40] = [
-    (Kind::Init, "init", Given::Setup),
+const KINDS: [(Kind, &str, Given); 45] = [
+    (Kind::Init, "init", Given::Config),
     (Kind::TestLoopback, "loopback", Given::Nothing),
     (Kind::CheckPresent, "present", Given::Nothing),
     (Kind::CheckConnected, "connected", Given::Nothing),
@@ -96,7 +106,7 @@ const KINDS: [(Kind, &str, Given); 40] = [
     (Kind::SendExact, "send-exact", Given::Bytes),
     (Kind::Write, "write", Given::Bytes),
     (Kind::Dump, "dump", Given::Nothing),
-    (Kind::SetFrame, "set-frame", Given::Setup),
+    (Kind::SetFrame, "set-frame", Given::Frame),
     (Kind::Attach, "attach", Given::Nothing),
     (Kind::SetBreak, "set-break", Given::Flag),
     (Kind::SetModemControl, "set-modem-control", Given::Byte),
@@ -110,14 +120,24 @@ const KINDS: [(Kind, &str, Given); 40] = [
         Given::Nothing,
     ),
     (Kind::ReceiveWithErrors, "receive-with-errors", Given::Slots),
+    (Kind::InitWith, "init-with", Given::ConfigAndSetup),
+    (Kind::SetFrameWhenIdle, "set-frame-when-idle", Given::Frame),
+    (Kind::SetTriggerLevel, "set-trigger-level", Given::Level),
+    (Kind::Quiesce, "quiesce", Given::OutputsAndFifos),
+    (Kind::Restore, "restore", Given::Registers),
     (Kind::Text, "text", Given::Bytes),
 ];
+
+/// The registers of a dump: IER, ISR, LCR, MCR, LSR, MSR, SPR, DLL and DLM.
+pub const REGISTERS: usize = 9;
 
 /// A call. Which of the other fields count depends on its kind.
 #[derive(Clone, Debug)]
 pub struct Call {
     pub kind: Kind,
     pub config: Config,
+    pub setup: Setup,
+    pub fifos: FifoAction,
     pub byte: u8,
     pub slots: usize,
     pub bytes: Vec<u8>,
@@ -128,6 +148,8 @@ impl Call {
         Call {
             kind,
             config: Config::DEFAULT,
+            setup: Setup::DEFAULT,
+            fifos: FifoAction::Keep,
             byte: 0,
             slots: 0,
             bytes: Vec::new(),
@@ -147,11 +169,28 @@ impl Call {
         let mut call = Call::of_kind(kind);
         match given {
             Given::Nothing => {}
-            Given::Setup => call.config = config_of(&mut words)?,
-            Given::Byte => call.byte = u8::from_str_radix(words.next()?, 16).ok()?,
-            Given::Flag => call.byte = words.next()?.parse().ok().filter(|flag| *flag <= 1)?,
+            Given::Config => call.config = config_of(&mut words)?,
+            Given::ConfigAndSetup => {
+                call.config = config_of(&mut words)?;
+                call.setup = setup_of(&mut words)?;
+            }
+            Given::Frame => call.config = frame_of(&mut words)?,
+            Given::Level => {
+                call.byte = words.next()?.parse().ok()?;
+                numbered(&LEVELS, call.byte)?;
+            }
+            Given::Byte => call.byte = byte_of(words.next()?)?,
+            Given::OutputsAndFifos => {
+                call.byte = byte_of(words.next()?)?;
+                call.fifos = among(&FIFOS, words.next()?)?;
+            }
+            Given::Flag => call.byte = among(&SWITCHES, words.next()?)?,
             Given::Slots => call.slots = words.next()?.parse().ok()?,
             Given::Bytes => call.bytes = bytes_of(words.next()?)?,
+            Given::Registers => {
+                call.bytes = bytes_of(words.next()?)?;
+                (call.bytes.len() == REGISTERS).then_some(())?;
+            }
         }
         let is_utf8 = kind != Kind::Text || str::from_utf8(&call.bytes).is_ok();
         (is_utf8 && words.next().is_none()).then_some(call)
@@ -163,8 +202,18 @@ impl Call {
         let mut call = Call::of_kind(kind);
         match given {
             Given::Nothing => {}
-            Given::Setup => call.config = random_config(random),
+            Given::Config | Given::Frame => call.config = random_config(random),
+            Given::ConfigAndSetup => {
+                call.config = random_config(random);
+                call.setup = random_setup(random);
+            }
+            Given::Level => call.byte = random.pick(&LEVELS).1,
             Given::Byte => call.byte = random.byte(),
+            Given::OutputsAndFifos => {
+                call.byte = random.byte();
+                call.fifos = random.pick(&FIFOS).1;
+            }
+            Given::Registers => call.bytes = random.bytes(REGISTERS),
             Given::Flag => call.byte = random.is_among(128).into(),
             Given::Slots => call.slots = random_len(random),
             Given::Bytes if kind == Kind::Text => call.bytes = random_text(random).into_bytes(),
@@ -182,11 +231,14 @@ impl fmt::Display for Call {
         let (_, word, given) = KINDS[self.kind as usize];
         match given {
             Given::Nothing => f.write_str(word),
-            Given::Setup => write!(f, "{word} {:?}", self.config),
+            Given::Config | Given::Frame => write!(f, "{word} {:?}", self.config),
+            Given::ConfigAndSetup => write!(f, "{word} {:?} {:?}", self.config, self.setup),
+            Given::OutputsAndFifos => write!(f, "{word} {:02x} {:?}", self.byte, self.fifos),
+            Given::Level => write!(f, "{word} {}", self.byte),
             Given::Byte => write!(f, "{word} {:02x}", self.byte),
             Given::Flag => write!(f, "{word} {}", self.byte),
             Given::Slots => write!(f, "{word} {}", self.slots),
-            Given::Bytes => write!(f, "{word} {}", digits_of(&self.bytes)),
+            Given::Bytes | Given::Registers => write!(f, "{word} {}", digits_of(&self.bytes)),
         }
     }
 }
@@ -206,6 +258,56 @@ fn bytes_of(digits: &str) -> Option<Vec<u8>> {
     let pairs = digits.as_bytes().chunks(2);
     let bytes = pairs.map(|pair| u8::from_str_radix(str::from_utf8(pair).ok()?, 16).ok());
     bytes.collect()
+}
+
+fn byte_of(digits: &str) -> Option<u8> {
+    u8::from_str_radix(digits, 16).ok()
+}
+
+// ---- words
+
+/// A break or an output, as a byte of the library for C.
+const SWITCHES: [(&str, u8); 2] = [("on", 1), ("off", 0)];
+
+/// What becomes of the FIFOs.
+const FIFOS: [(&str, FifoAction); 3] = [
+    ("keep", FifoAction::Keep),
+    ("reset", FifoAction::Reset),
+    ("disable", FifoAction::Disable),
+];
+
+/// When to wait until the transmitter is empty.
+const WAITS: [(&str, TransmitterWait); 3] = [
+    ("first", TransmitterWait::First),
+    ("last", TransmitterWait::Last),
+    ("never", TransmitterWait::Never),
+];
+
+/// Whether the scratch register is tested.
+const CHECKS: [(&str, bool); 2] = [("check", true), ("nocheck", false)];
+
+/// Returns what a word of a table names.
+fn among<T: Copy>(table: &[(&str, T)], word: &str) -> Option<T> {
+    let row = table.iter().find(|(name, _)| *name == word)?;
+    Some(row.1)
+}
+
+/// Returns the setup that the last words of an `init-with` name.
+fn setup_of<'a>(words: &mut impl Iterator<Item = &'a str>) -> Option<Setup> {
+    Some(Setup {
+        checks_presence: among(&CHECKS, words.next()?)?,
+        wait: among(&WAITS, words.next()?)?,
+        outputs: MCR::from_bits_retain(byte_of(words.next()?)?),
+    })
+}
+
+/// Returns a random setup.
+fn random_setup(random: &mut Random) -> Setup {
+    Setup {
+        checks_presence: random.is_among(128),
+        wait: random.pick(&WAITS).1,
+        outputs: MCR::from_bits_retain(random.byte()),
+    }
 }
 
 // ---- configurations
@@ -263,7 +365,7 @@ fn config_of<'a>(words: &mut impl Iterator<Item = &'a str>) -> Option<Config> {
         "nocts" => false,
         _ => return None,
     };
-    let interrupts = IER::from_bits_retain(u8::from_str_radix(words.next()?, 16).ok()?);
+    let interrupts = IER::from_bits_retain(byte_of(words.next()?)?);
     let data_bits = numbered(&LENGTHS, words.next()?.parse().ok()?)?;
     Some(Config {
         fifo_trigger_level,
@@ -271,6 +373,15 @@ fn config_of<'a>(words: &mut impl Iterator<Item = &'a str>) -> Option<Config> {
         check_cts_before_sending,
         interrupts,
         data_bits,
+        ..Config::DEFAULT
+    })
+}
+
+/// Returns the configuration that the words of a `set-frame` name.
+fn frame_of<'a>(words: &mut impl Iterator<Item = &'a str>) -> Option<Config> {
+    Some(Config {
+        baud_rate: BaudRate::from_integer(words.next()?.parse().ok()?),
+        data_bits: numbered(&LENGTHS, words.next()?.parse().ok()?)?,
         ..Config::DEFAULT
     })
 }

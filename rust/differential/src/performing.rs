@@ -1,11 +1,13 @@
 //! Makes a call of the crate's driver.
 
-use crate::call::{CALL_BYTES, Call, Kind, digits_of};
+use crate::call::{CALL_BYTES, Call, Kind, LEVELS, digits_of};
 use uart_16550::backend::Backend;
 use uart_16550::embedded_io::{Read, ReadReady, Write, WriteReady};
-use uart_16550::spec::registers::{LSR, MCR};
-use uart_16550::{ConfigRegisterDump, InitError, InvalidDivisorError, LoopbackError, StalledError};
-use uart_16550::{Received, Uart16550, Uart16550Tty};
+use uart_16550::spec::registers::{IER, ISR, LCR, LSR, MCR, MSR};
+use uart_16550::{
+    ConfigRegisterDump, FrameError, InitError, InvalidDivisorError, LoopbackError, Received,
+    StalledError, Uart16550, Uart16550Tty,
+};
 
 /// Makes one call, and returns its answer in the words of traces.
 pub fn perform<B: Backend>(terminal: &mut Uart16550Tty<B>, call: &Call) -> String {
@@ -30,18 +32,42 @@ pub fn perform<B: Backend>(terminal: &mut Uart16550Tty<B>, call: &Call) -> Strin
         Kind::FifoEnabled => format!("ok {}", uart.fifo_enabled()),
         Kind::TrySend => named(uart.try_send_byte(call.byte), |error| format!("{error:?}")),
         Kind::Enable => {
-            uart.enable_interrupts(uart_16550::spec::registers::IER::from_bits_retain(
+            uart.enable_interrupts(IER::from_bits_retain(
                 call.byte,
             ));
             "ok".into()
         }
         Kind::Disable => {
-            uart.disable_interrupts(uart_16550::spec::registers::IER::from_bits_retain(
+            uart.disable_interrupts(IER::from_bits_retain(
                 call.byte,
             ));
             "ok".into()
         }
-        Kind::SetFrame => named(uart.set_frame(&call.config), frame_error),
+        Kind::InitWith => {
+            let outcome = uart.init_with(call.config.clone(), &call.setup);
+            named(outcome, init_error)
+        }
+        Kind::SetFrame => named(uart.set_frame(&call.config), divisor_error),
+        Kind::SetFrameWhenIdle => named(
+            uart.set_frame_when_idle(&call.config),
+            |error| match error {
+                FrameError::InvalidBaudRate(cause) => divisor_error(cause),
+                FrameError::Stalled => "Stalled".into(),
+            },
+        ),
+        Kind::SetTriggerLevel => {
+            let level = LEVELS.iter().find(|(_, number)| *number == call.byte);
+            let (level, _) = level.expect("a level is 1, 4, 8 or 14");
+            named(uart.set_trigger_level(*level), |error| format!("{error:?}"))
+        }
+        Kind::Quiesce => {
+            uart.quiesce(MCR::from_bits_retain(call.byte), call.fifos);
+            "ok".into()
+        }
+        Kind::Restore => {
+            uart.restore(&dump_of(&call.bytes));
+            "ok".into()
+        }
         Kind::Attach => match uart.attach() {
             Ok((dll, dlm)) => format!("ok {dll:02x} {dlm:02x}"),
             Err(error) => format!("err {error:?}"),
@@ -145,6 +171,24 @@ pub fn with_errors(received: impl Iterator<Item = (u8, u8)>) -> String {
     format!("ok {}", words.join(" "))
 }
 
+/// Returns the dump with these registers, in the order in which a dump is shown.
+fn dump_of(registers: &[u8]) -> ConfigRegisterDump {
+    let &[ier, isr, lcr, mcr, lsr, msr, spr, dll, dlm] = registers else {
+        panic!("a dump has nine registers");
+    };
+    ConfigRegisterDump {
+        ier: IER::from_bits_retain(ier),
+        isr: ISR::from_bits_retain(isr),
+        lcr: LCR::from_bits_retain(lcr),
+        mcr: MCR::from_bits_retain(mcr),
+        lsr: LSR::from_bits_retain(lsr),
+        msr: MSR::from_bits_retain(msr),
+        spr,
+        dll,
+        dlm,
+    }
+}
+
 fn dumped(dump: &ConfigRegisterDump) -> String {
     format!(
         "ok ier {:02x} isr {:02x} lcr {:02x} mcr {:02x} lsr {:02x} msr {:02x} spr {:02x} divisor {}",
@@ -183,20 +227,17 @@ fn shown<T: std::fmt::Display>(outcome: Result<T, StalledError>) -> String {
 fn init_error(error: InitError) -> String {
     match error {
         InitError::DeviceNotPresent => "DeviceNotPresent".into(),
-        InitError::InvalidBaudRate(InvalidDivisorError::NonInteger(_)) => {
-            "InvalidBaudRate NonInteger".into()
-        }
-        InitError::InvalidBaudRate(InvalidDivisorError::OutOfRange { divisor }) => {
-            format!("InvalidBaudRate OutOfRange {divisor}")
-        }
+        InitError::InvalidBaudRate(cause) => divisor_error(cause),
         InitError::Stalled => "Stalled".into(),
     }
 }
 
-fn frame_error(error: InvalidDivisorError) -> String {
+fn divisor_error(error: InvalidDivisorError) -> String {
     match error {
-        InvalidDivisorError::NonInteger(_) => "NonInteger".into(),
-        InvalidDivisorError::OutOfRange { .. } => "OutOfRange".into(),
+        InvalidDivisorError::NonInteger(_) => "InvalidBaudRate NonInteger".into(),
+        InvalidDivisorError::OutOfRange { divisor } => {
+            format!("InvalidBaudRate OutOfRange {divisor}")
+        }
     }
 }
 

@@ -9,7 +9,7 @@ use uart_16550::{Config, DriverState};
 
 #[repr(C)]
 #[derive(Debug)]
-struct Setup {
+struct Configuration {
     frequency: u32,
     baud_rate: u32,
     prescaler_division_factor: u32,
@@ -26,7 +26,7 @@ struct Setup {
 #[derive(Debug)]
 struct Driver {
     spin_limit: u64,
-    config: Setup,
+    config: Configuration,
     fifo_enabled: u8,
     saved_lsr: u8,
     saved_msr: u8,
@@ -34,11 +34,20 @@ struct Driver {
 
 #[repr(C)]
 struct Order {
-    config: Setup,
+    config: Configuration,
     kind: u8,
     byte: u8,
     len: u8,
     bytes: [u8; CALL_BYTES],
+    setup: Arrangement,
+    fifos: u8,
+}
+
+#[repr(C)]
+struct Arrangement {
+    checks_presence: u8,
+    wait: u8,
+    outputs: u8,
 }
 
 #[repr(C)]
@@ -55,6 +64,13 @@ const STEP_DONE: u32 = 0;
 const STEP_ASKED: u32 = 1;
 const ANSWER_STALLED: u8 = 7;
 
+/// Why a frame is refused, by its number. The divisor of the second is not told.
+const FRAME_ERRORS: [&str; 3] = [
+    "InvalidBaudRate NonInteger",
+    "InvalidBaudRate OutOfRange",
+    "Stalled",
+];
+
 unsafe extern "C" {
     fn uart_step(
         driver: *mut Driver,
@@ -66,10 +82,10 @@ unsafe extern "C" {
     ) -> u32;
 }
 
-impl Setup {
+impl Configuration {
     fn of(config: &Config) -> Self {
         let factor = config.prescaler_division_factor;
-        Setup {
+        Configuration {
             frequency: config.frequency,
             baud_rate: config.baud_rate.to_integer(),
             prescaler_division_factor: factor.unwrap_or(0),
@@ -91,11 +107,17 @@ impl Order {
         let mut bytes = [0; CALL_BYTES];
         bytes[..call.bytes.len()].copy_from_slice(&call.bytes);
         Order {
-            config: Setup::of(&call.config),
+            config: Configuration::of(&call.config),
             kind: call.kind as u8,
             byte: call.byte,
             len: call.bytes.len().max(call.slots) as u8,
             bytes,
+            setup: Arrangement {
+                checks_presence: call.setup.checks_presence.into(),
+                wait: call.setup.wait as u8,
+                outputs: call.setup.outputs.bits(),
+            },
+            fifos: call.fifos as u8,
         }
     }
 }
@@ -145,9 +167,11 @@ impl Answer {
             ),
             12 => "err ByteReceiveError".into(),
             13 => refused(self.value, &["NoCapacity", "RemoteNotClearToSend"]),
-            14 => refused(self.value, &["NonInteger", "OutOfRange"]),
+            14 => refused(self.value, &FRAME_ERRORS),
             15 => refused(self.value, &["DivisorLatchOpen", "Loopback"]),
             16 => with_errors(self.bytes.into_iter().zip(self.errors).take(self.count)),
+            17 => refused(self.value, &FRAME_ERRORS),
+            18 => "err FifosOffError".into(),
             kind => format!("an answer of kind {kind}"),
         }
     }
@@ -285,7 +309,7 @@ fn expansion_of(byte: u8) -> Vec<u8> {
 fn driver_of(state: &DriverState) -> Driver {
     Driver {
         spin_limit: state.spin_limit.get(),
-        config: Setup::of(&state.config),
+        config: Configuration::of(&state.config),
         fifo_enabled: state.fifo_enabled.into(),
         saved_lsr: state.saved_lsr.bits(),
         saved_msr: state.saved_msr.bits(),

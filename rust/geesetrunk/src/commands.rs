@@ -2,7 +2,7 @@
 
 use crate::command_line::{Command, Count, Flag, Operand, Program};
 use crate::end::STATUSES;
-use crate::findings::Judge;
+use crate::judging::Judge;
 use crate::script::Task;
 
 const FILE: Operand = Operand {
@@ -21,7 +21,19 @@ const FILES: Operand = Operand {
 const JSON: Flag = Flag {
     name: "json",
     value: None,
-    help: "Prints each finding as a line of JSON, with its file, line, kind and text",
+    help: "Prints each finding as a line of JSON, with its file, line, kind, name and text",
+};
+
+const ALL: Flag = Flag {
+    name: "all",
+    value: None,
+    help: "Prints each finding, and not only the first of its kind",
+};
+
+const SETTLED: Flag = Flag {
+    name: "settled",
+    value: None,
+    help: "Leaves out what the datasheet leaves open",
 };
 
 /// What `geesetrunk` can do.
@@ -111,15 +123,15 @@ recording may have any length.",
             name: "geesetrunk audit",
             about: "Says what the driver of a recording does wrong",
             operands: &[FILES],
-            flags: &[JSON],
+            flags: &[ALL, JSON],
             more: None,
         },
         Command {
             job: Job::Judge(Judge::Replay),
             name: "geesetrunk replay",
-            about: "Says where the chip of a recording answers as no 16550A does",
+            about: "Says where its chip answers as the one defined here never does",
             operands: &[FILES],
-            flags: &[JSON],
+            flags: &[ALL, SETTLED, JSON],
             more: None,
         },
         Command {

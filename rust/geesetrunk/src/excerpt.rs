@@ -1,14 +1,15 @@
 //! The timeline of a recording: its accesses up to a line, and what the audit warns of there.
 
 use crate::heap;
+use crate::judging::{Audited, Stop};
+use crate::kinds::Kind;
 use crate::moments::{Arrival, Happened, Moment, Seen, parts, register_of};
 use crate::picture::picture_of_recording;
 use crate::table::table_of_recording;
 use crate::text::file_name;
 use std::collections::VecDeque;
 use std::io::Read;
-use uart_judges::audit::{Auditor, Finding, Severity};
-use uart_judges::findings::Stop;
+use uart_judges::audit::{Finding, Findings, Severity};
 use uart_judges::recording::{Event, Happening, Recording, RecordingError};
 use uart_spec::access::Access;
 use uart_spec::registers::{LCR, offsets};
@@ -46,12 +47,12 @@ pub struct Excerpt<'a> {
 #[derive(Clone, Copy)]
 struct Watched {
     moment: Moment,
-    findings: [Option<Finding>; 5],
+    findings: Findings,
 }
 
 // The last events of a recording, as far as it is read.
 struct Watch {
-    auditor: Auditor,
+    audited: Audited,
     is_dlab_set: bool,
     level: Option<bool>,
     most: usize,
@@ -65,7 +66,7 @@ fn is_warning(finding: &Finding) -> bool {
 impl Watch {
     fn new(most: usize) -> Self {
         Watch {
-            auditor: Auditor::new(),
+            audited: Audited::default(),
             is_dlab_set: false,
             level: None,
             most,
@@ -94,18 +95,16 @@ impl Watch {
         level.filter(|_| is_new)
     }
 
-    // Returns what the audit finds at an access that is made so many times: at the first of them at
-    // which it finds something.
-    fn found(&mut self, access: Access, times: u64) -> [Option<Finding>; 5] {
-        match access {
-            Access::Write(..) => self.auditor.step(access),
-            Access::Read(offset, value) => self
-                .auditor
-                .reads(offset, value, times)
-                .into_iter()
-                .find(|stretch| stretch.times > 0 && stretch.findings.iter().any(Option::is_some))
-                .map_or([None; 5], |stretch| stretch.findings),
-        }
+    // Returns what the audit finds at an entry: at the first of equal reads in turn at which it finds
+    // something.
+    fn found(&mut self, event: &Event) -> Findings {
+        let mut first = None;
+        self.audited.step(event, |findings, times| {
+            if times > 0 && findings.iter().any(Option::is_some) {
+                first.get_or_insert(*findings);
+            }
+        });
+        first.unwrap_or([None; 16])
     }
 
     // Keeps an event. Returns whether the audit warns of it.
@@ -114,12 +113,9 @@ impl Watch {
             interrupt: self.new_level(event),
             ..Happened::default()
         };
-        let mut findings = [None; 5];
+        let findings = self.found(event);
         match event.happening {
-            Happening::Access(access) => {
-                happened.access = Some(self.seen(access));
-                findings = self.found(access, event.times);
-            }
+            Happening::Access(access) => happened.access = Some(self.seen(access)),
             Happening::Arrive { byte, errors } => {
                 happened.arrival = Some(Arrival {
                     byte,
@@ -152,7 +148,7 @@ fn warnings<'a>(
     let found = findings.into_iter().flatten();
     found
         .filter(|finding| is_warning(finding))
-        .map(move |finding| format!("line {line}: {finding}"))
+        .map(move |&finding| format!("line {line}: {}", Kind::Finding(finding)))
 }
 
 // Reads a recording up to the last line that is drawn. Returns whether that is its end.
@@ -197,7 +193,7 @@ pub fn timeline_of(excerpt: &Excerpt<'_>, reader: impl Read) -> Result<String, S
         .flat_map(|watched| warnings(watched.moment.time, &watched.findings))
         .collect();
     if is_end {
-        lines.extend(warnings(recording.lines(), &watch.auditor.end()));
+        lines.extend(warnings(recording.lines(), &watch.audited.end()));
     }
     Ok(match excerpt.form {
         Form::Table => table_of_recording(&moments, &lines),

@@ -1,35 +1,29 @@
 //! What is found in recordings and traces, and how that is printed: as lines for people, or as lines
 //! of JSON for programs.
 //!
-//! The judges print lines. They are given no name of a file, so each line begins with the number of
-//! the line in which something was found. The name is put in front here.
+//! For people a kind of finding is printed in full where it is found first. If it is found again, a
+//! line at the end says how often, and from which line to which. The option `--all` prints each.
 
 use crate::end::{End, Status};
 use crate::heap;
 use crate::json::Quoted;
+use crate::judging::{Found, Judge, Stop, judge_recording};
 use crate::streams::{Output, Watched, bytes_of, print, standard_output};
 use crate::terminal::{Paint, Style};
 use std::cell::RefCell;
-use std::io::{self, Read, Write};
+use std::io::{self, Write};
 use std::num::NonZeroU64;
-use uart_judges::findings::{self, MOST_TRACE_BYTES, Stop, VerifyError};
+use uart_judges::findings::{self, MOST_TRACE_BYTES, VerifyError};
 use uart_judges::recording::RecordingError;
 use uart_judges::traces::TraceError;
-
-/// Who judges a recording.
-#[derive(Clone, Copy, Debug, PartialEq, Eq)]
-pub enum Judge {
-    /// The judge of the driver.
-    Audit,
-    /// The judge of the chip.
-    Replay,
-}
 
 /// How findings are printed.
 #[derive(Clone, Copy, Debug, PartialEq, Eq)]
 pub enum Format {
-    /// As lines for people.
+    /// As lines for people, each kind once.
     Lines(Style),
+    /// As lines for people, all of them.
+    AllLines(Style),
     /// Each as an object of JSON, which is one line.
     Json,
 }
@@ -42,154 +36,166 @@ impl Judge {
         }
     }
 
-    // Prints what is found in a recording, and returns how much that is.
-    fn judge(self, reader: impl Read, mut out: impl Write) -> Result<u64, Stop> {
+    // Returns what is counted: notes are not.
+    fn counted(self) -> &'static str {
         match self {
-            Judge::Audit => findings::audit(heap(), "", reader, &mut out),
-            Judge::Replay => findings::replay(heap(), "", reader, &mut out),
+            Judge::Audit => "warning",
+            Judge::Replay => "difference",
         }
     }
 }
 
-/// Something that was found.
-#[derive(Clone, Copy, Debug, PartialEq, Eq)]
-pub struct Found<'a> {
-    /// The number of the line, counted from 1.
-    pub line: &'a str,
-    /// What kind of finding it is: `note`, `warning`, `difference` or `stray`.
-    pub kind: &'a str,
-    /// What is found.
-    pub text: &'a str,
-    /// How many times in turn it was found at this line.
-    pub times: u64,
-}
-
-// Returns a text without the number of times at its end, and that number.
-fn without_times(text: &str) -> (&str, u64) {
-    let parts = text
-        .strip_suffix(" times)")
-        .and_then(|text| text.rsplit_once(" ("));
-    match parts.and_then(|(text, times)| Some((text, times.parse().ok()?))) {
-        Some((text, times)) => (text, times),
-        None => (text, 1),
+/// Returns a count with its noun: `1 line`, `2 lines`.
+pub fn counted(count: u64, noun: &str) -> String {
+    match count {
+        1 => format!("1 {noun}"),
+        _ => format!("{count} {noun}s"),
     }
 }
 
-impl<'a> Found<'a> {
-    /// Returns what a judge of recordings says in a line: `:LINE: KIND: TEXT`, or `:LINE: TEXT` for
-    /// a difference. `None` for the line with the count, which has no number in front.
-    ///
-    /// # Examples
-    ///
-    /// ```
-    /// use geesetrunk::findings::Found;
-    ///
-    /// let found = Found::in_line(":25: warning: byte sent without a look (2 times)").unwrap();
-    /// assert_eq!((found.line, found.kind, found.times), ("25", "warning", 2));
-    /// assert_eq!(found.text, "byte sent without a look");
-    /// assert!(Found::in_line(": 32 lines, 5 warnings").is_none());
-    /// ```
-    pub fn in_line(line: &'a str) -> Option<Self> {
-        let (number, rest) = line.strip_prefix(':')?.split_once(": ")?;
-        if number.is_empty() || !number.bytes().all(|digit| digit.is_ascii_digit()) {
-            return None;
+// How often a kind of finding was found.
+#[derive(Clone, Copy)]
+struct Tally {
+    name: &'static str,
+    severity: &'static str,
+    times: u64,
+    first: u64,
+    last: u64,
+}
+
+// What was found so far, by its kinds, of which there are some fifty.
+#[derive(Default)]
+struct Tallies {
+    kinds: Vec<Tally>,
+}
+
+impl Tallies {
+    // Counts a finding. Returns whether it is the first of its kind.
+    fn count(&mut self, found: &Found) -> bool {
+        let name = found.kind.name();
+        let known = self.kinds.iter_mut().find(|tally| tally.name == name);
+        if let Some(tally) = known {
+            tally.times = tally.times.saturating_add(found.times);
+            tally.last = found.line;
+            return false;
         }
-        let (kind, text) = match rest.split_once(": ") {
-            Some((kind @ ("note" | "warning"), text)) => (kind, text),
-            _ => ("difference", rest),
-        };
-        let (text, times) = without_times(text);
-        Some(Found {
-            line: number,
-            kind,
-            text,
-            times,
-        })
+        self.kinds.push(Tally {
+            name,
+            severity: found.kind.severity(),
+            times: found.times,
+            first: found.line,
+            last: found.line,
+        });
+        true
     }
 
-    // Returns what is found in this file as a line in this style, without its end.
-    fn coloured(&self, file: &str, style: Style) -> String {
-        let place = format!("{file}:{}:", self.line);
-        let place = style.painted(Paint::Place, &place);
-        let (kind, text) = (self.kind, self.text);
-        let times = match self.times {
-            1 => String::new(),
-            times => format!(" ({times} times)"),
-        };
-        match kind {
-            "note" => format!(
-                "{place} {}: {text}{times}",
-                style.painted(Paint::Note, kind)
-            ),
-            "warning" => format!(
-                "{place} {}: {text}{times}",
-                style.painted(Paint::Warning, kind)
-            ),
-            _ => format!("{place} {text}{times}"),
-        }
-    }
-
-    /// Returns what is found in this file as an object of JSON.
-    pub fn json(&self, file: &str) -> String {
-        format!(
-            "{{\"file\":{},\"line\":{},\"kind\":{},\"text\":{},\"times\":{}}}",
-            Quoted(file),
-            self.line,
-            Quoted(self.kind),
-            Quoted(self.text),
-            self.times
-        )
+    fn total(&self, severity: &str) -> u64 {
+        let of_this = self.kinds.iter().filter(|tally| tally.severity == severity);
+        of_this.fold(0, |total, tally| total.saturating_add(tally.times))
     }
 }
 
-// Takes the lines of a judge, and prints each as a line of its file.
+fn paint_of(severity: &str) -> Paint {
+    match severity {
+        "note" => Paint::Note,
+        _ => Paint::Warning,
+    }
+}
+
+fn severity_text(severity: &str, style: Style) -> String {
+    style.painted(paint_of(severity), severity).to_string()
+}
+
+// Returns a finding of this file as a line in this style, without its end.
+fn line_of(file: &str, found: &Found, style: Style) -> String {
+    let place = format!("{file}:{}:", found.line);
+    let place = style.painted(Paint::Place, &place);
+    let (kind, name) = (
+        severity_text(found.kind.severity(), style),
+        found.kind.name(),
+    );
+    let times = match found.times {
+        1 => String::new(),
+        times => format!(" ({times} times)"),
+    };
+    format!("{place} {kind}: {}{times} [{name}]", found.kind)
+}
+
+// Returns how often a kind was found in this file.
+fn tally_line(file: &str, tally: &Tally, style: Style) -> String {
+    let kind = severity_text(tally.severity, style);
+    let place = format!("{file}:");
+    let place = style.painted(Paint::Place, &place);
+    let (name, times) = (tally.name, tally.times);
+    if tally.first == tally.last {
+        return format!(
+            "{place} {kind}: [{name}] {times} times, line {}",
+            tally.first
+        );
+    }
+    let (first, last) = (tally.first, tally.last);
+    format!("{place} {kind}: [{name}] {times} times, from line {first} to line {last}")
+}
+
+// Returns an object of JSON, of something of this kind that was found so many times.
+fn json(file: &str, line: &str, kind: &str, name: &str, text: &str, times: u64) -> String {
+    format!(
+        "{{\"file\":{},\"line\":{line},\"kind\":{},\"name\":{},\"text\":{},\"times\":{times}}}",
+        Quoted(file),
+        Quoted(kind),
+        Quoted(name),
+        Quoted(text),
+    )
+}
+
+// Prints findings of a file.
 struct Listing<'a, W: Write> {
     output: &'a RefCell<Output<W>>,
     file: &'a str,
     format: Format,
-    // The beginning of a line.
-    line: Vec<u8>,
+    tallies: Tallies,
 }
 
 impl<W: Write> Listing<'_, W> {
-    fn print_line(&self) -> io::Result<()> {
+    fn print(&mut self, found: &Found) -> io::Result<()> {
+        let is_first = self.tallies.count(found);
         let mut output = self.output.borrow_mut();
-        if self.format == Format::Lines(Style::PLAIN) {
-            // A recording may have millions of findings: nothing is looked at that is not needed.
-            output.write_all(self.file.as_bytes())?;
-            output.write_all(&self.line)?;
-            return output.write_all(b"\n");
-        }
-        let (file, line) = (self.file, String::from_utf8_lossy(&self.line));
-        match (self.format, Found::in_line(&line)) {
-            (Format::Lines(style), Some(found)) => {
-                writeln!(output, "{}", found.coloured(file, style))
+        match self.format {
+            Format::Lines(_) if !is_first => Ok(()),
+            Format::Lines(style) | Format::AllLines(style) => {
+                writeln!(output, "{}", line_of(self.file, found, style))
             }
-            (Format::Lines(_), None) => writeln!(output, "{file}{line}"),
-            (Format::Json, Some(found)) => writeln!(output, "{}", found.json(file)),
+            Format::Json => {
+                let (kind, line) = (&found.kind, found.line.to_string());
+                let text = kind.to_string();
+                let object = json(
+                    self.file,
+                    &line,
+                    kind.severity(),
+                    kind.name(),
+                    &text,
+                    found.times,
+                );
+                writeln!(output, "{object}")
+            }
+        }
+    }
+
+    // Prints how often each kind was found, and how much that is.
+    fn print_end(&mut self, judge: Judge, lines: u64) -> io::Result<()> {
+        let mut output = self.output.borrow_mut();
+        let (Format::Lines(style) | Format::AllLines(style)) = self.format else {
             // The exit status says whether anything was found.
-            (Format::Json, None) => Ok(()),
-        }
-    }
-}
-
-impl<W: Write> Write for Listing<'_, W> {
-    fn write(&mut self, bytes: &[u8]) -> io::Result<usize> {
-        for part in bytes.split_inclusive(|&byte| byte == b'\n') {
-            match part.strip_suffix(b"\n") {
-                Some(end) => {
-                    self.line.extend_from_slice(end);
-                    self.print_line()?;
-                    self.line.clear();
-                }
-                None => self.line.extend_from_slice(part),
+            return Ok(());
+        };
+        if let Format::Lines(_) = self.format {
+            for tally in self.tallies.kinds.iter().filter(|tally| tally.times > 1) {
+                writeln!(output, "{}", tally_line(self.file, tally, style))?;
             }
         }
-        Ok(bytes.len())
-    }
-
-    fn flush(&mut self) -> io::Result<()> {
-        Ok(())
+        let lines = counted(lines, "line");
+        let total = counted(self.tallies.total(judge.counted()), judge.counted());
+        writeln!(output, "{}: {lines}, {total}", self.file)
     }
 }
 
@@ -205,23 +211,33 @@ pub fn stopped(file: &str, stop: Stop) -> End {
     }
 }
 
-/// Judges the recording of this name, and prints what is found as soon as it is found.
+/// Judges the recording of this name, and prints what is found as soon as it is found. What the
+/// datasheet leaves open is left out if only what is settled is wanted.
 ///
 /// # Errors
 ///
 /// How the program ends: something was found that is wrong, the recording cannot be read to its end,
 /// or the output cannot be written.
-pub fn judged(judge: Judge, file: &str, format: Format) -> Result<(), End> {
+pub fn judged(judge: Judge, file: &str, format: Format, is_settled: bool) -> Result<(), End> {
     let output = RefCell::new(Output::new(standard_output().map_err(End::unwritten)?));
     let reader = Watched::open(file, judge.name(), &output);
     let reader = reader.map_err(|cause| End::unread(file, cause))?;
-    let listing = Listing {
+    let mut listing = Listing {
         output: &output,
         file,
         format,
-        line: Vec::new(),
+        tallies: Tallies::default(),
     };
-    let count = judge.judge(reader, listing);
+    let lines = judge_recording(judge, reader, |found| {
+        if is_settled && found.kind.is_open() {
+            return Ok(());
+        }
+        listing.print(found)
+    });
+    let count = lines.and_then(|lines| {
+        listing.print_end(judge, lines).map_err(Stop::Output)?;
+        Ok(listing.tallies.total(judge.counted()))
+    });
     // If the output cannot be written, nothing else is worth saying.
     output.into_inner().finish().map_err(End::unwritten)?;
     match count.map_err(|stop| stopped(file, stop))? {
@@ -239,7 +255,7 @@ fn stray_line(trace: &[u8], limit: NonZeroU64) -> Result<String, VerifyError> {
 // Prints where a trace strays. For people that is an error, on standard error.
 fn print_stray(file: &str, name: &str, line: &str, format: Format) -> Result<(), End> {
     match format {
-        Format::Lines(_) => {
+        Format::Lines(_) | Format::AllLines(_) => {
             // If standard error cannot be written, the exit status still says that it strays.
             let _ = writeln!(io::stderr(), "{name}{line}");
         }
@@ -248,13 +264,8 @@ fn print_stray(file: &str, name: &str, line: &str, format: Format) -> Result<(),
                 .strip_prefix("line ")
                 .and_then(|line| line.split_once(": "));
             let (line, text) = parts.unwrap_or(("0", line));
-            let found = Found {
-                line,
-                kind: "stray",
-                text,
-                times: 1,
-            };
-            print(format!("{}\n", found.json(file)).as_bytes())?;
+            let object = json(file, line, "stray", "stray", text, 1);
+            print(format!("{object}\n").as_bytes())?;
         }
     }
     Err(End::told(Status::Refused))
@@ -291,60 +302,45 @@ pub fn verified(
 #[cfg(test)]
 mod tests {
     use super::*;
+    use crate::kinds::Kind;
+    use uart_judges::audit::Finding;
+
+    const FOUND: Found = Found {
+        line: 3,
+        kind: Kind::Finding(Finding::ZeroDivisor),
+        times: 2,
+    };
+
+    const TEXT: &str = "the divisor is 0: nothing is sent or received. Write DLL and DLM";
 
     #[test]
-    fn findings_of_lines() {
-        let found = Found::in_line(":25: warning: byte sent: 16 were (5 times)");
-        assert_eq!(
-            found,
-            Some(Found {
-                line: "25",
-                kind: "warning",
-                text: "byte sent: 16 were",
-                times: 5
-            })
-        );
-        let found = Found::in_line(":5: SCR reads 00: the register keeps it, 5a");
-        assert_eq!(
-            found,
-            Some(Found {
-                line: "5",
-                kind: "difference",
-                text: "SCR reads 00: the register keeps it, 5a",
-                times: 1
-            })
-        );
-        assert_eq!(Found::in_line(": 32 lines, 5 warnings"), None);
+    fn a_line_has_its_place_its_text_and_its_name() {
+        let line = format!("a:3: warning: {TEXT} (2 times) [divisor-zero]");
+        assert_eq!(line_of("a", &FOUND, Style::PLAIN), line);
+        assert!(line_of("a", &FOUND, Style::COLOURED).starts_with("\x1b[1ma:3:"));
     }
 
     #[test]
-    fn colours_change_nothing_else() {
-        for line in [
-            ":25: warning: byte sent: 16 were (5 times)",
-            ":1: note: set-up: none",
-            ":5: SCR reads 00: the register keeps it, 5a",
-        ] {
-            let found = Found::in_line(line).unwrap();
-            assert_eq!(found.coloured("a", Style::PLAIN), format!("a{line}"));
-            assert!(
-                found
-                    .coloured("a", Style::COLOURED)
-                    .starts_with("\x1b[1ma:")
-            );
-        }
+    fn kinds_are_counted() {
+        let mut tallies = Tallies::default();
+        assert!(tallies.count(&FOUND));
+        assert!(!tallies.count(&Found { line: 9, ..FOUND }));
+        let line = "a: warning: [divisor-zero] 4 times, from line 3 to line 9";
+        assert_eq!(tally_line("a", &tallies.kinds[0], Style::PLAIN), line);
+        assert_eq!((tallies.total("warning"), tallies.total("note")), (4, 0));
     }
 
     #[test]
     fn a_finding_is_an_object() {
-        let found = Found {
-            line: "3",
-            kind: "note",
-            text: "a \"b\"",
-            times: 2,
-        };
         assert_eq!(
-            found.json("a\n.recording"),
-            r#"{"file":"a\n.recording","line":3,"kind":"note","text":"a \"b\"","times":2}"#
+            json("a\n.recording", "3", "note", "n", "a \"b\"", 2),
+            r#"{"file":"a\n.recording","line":3,"kind":"note","name":"n","text":"a \"b\"","times":2}"#
         );
+    }
+
+    #[test]
+    fn one_is_no_plural() {
+        assert_eq!(counted(1, "line"), "1 line");
+        assert_eq!(counted(0, "warning"), "0 warnings");
     }
 }

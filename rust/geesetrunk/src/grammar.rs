@@ -4,8 +4,9 @@
 //! of a line that it refuses.
 
 use uart_language::fields::{
-    byte_in, bytes_in, char_ticks_in, chip_in, count_in, cts_in, cut_in, errors_in, interrupts_in,
-    level_in, limit_in, lines_in, rate_in, text_in, ticks_in, wire_capacity_in, word_length_in,
+    byte_in, bytes_in, char_ticks_in, check_in, chip_in, count_in, cts_in, cut_in, dump_in,
+    errors_in, fifos_in, interrupts_in, level_in, limit_in, lines_in, outputs_in, rate_in,
+    switch_in, text_in, ticks_in, trigger_in, wait_in, wire_capacity_in, word_length_in,
 };
 
 /// A field of a line.
@@ -45,6 +46,20 @@ pub enum Field {
     Bytes,
     /// The text of a call.
     Text,
+    /// Whether the scratch register is tested.
+    Check,
+    /// When to wait until the transmitter is empty.
+    Wait,
+    /// The outputs to the modem.
+    Outputs,
+    /// The trigger level of FIFOs that are on.
+    Trigger,
+    /// Whether a break or an output is on.
+    Switch,
+    /// What becomes of the FIFOs.
+    Fifos,
+    /// The registers of a dump.
+    Registers,
 }
 
 impl Field {
@@ -70,6 +85,15 @@ impl Field {
             Field::Count => "how many bytes there is room for: a number from 0 to 64",
             Field::Bytes => "at most 64 bytes: pairs of hexadecimal digits, or -",
             Field::Text => "a text of at most 64 bytes of UTF-8: pairs of hexadecimal digits, or -",
+            Field::Check => "check or nocheck",
+            Field::Wait => "when to wait: first, last or never",
+            Field::Outputs => "outputs, as in MCR: two hexadecimal digits",
+            Field::Trigger => "a trigger level: 1, 4, 8 or 14",
+            Field::Switch => "on or off",
+            Field::Fifos => "what becomes of the FIFOs: keep, reset or disable",
+            Field::Registers => {
+                "nine bytes: the registers in the order of dump, with DLL and DLM at the end"
+            }
         }
     }
 
@@ -93,6 +117,13 @@ impl Field {
             Field::Count => count_in(word).is_ok(),
             Field::Bytes => bytes_in(word).is_ok(),
             Field::Text => text_in(word).is_ok(),
+            Field::Check => check_in(word).is_ok(),
+            Field::Wait => wait_in(word).is_ok(),
+            Field::Outputs => outputs_in(word).is_ok(),
+            Field::Trigger => trigger_in(word).is_ok(),
+            Field::Switch => switch_in(word).is_ok(),
+            Field::Fifos => fifos_in(word).is_ok(),
+            Field::Registers => dump_in(word).is_ok(),
         }
     }
 }
@@ -107,7 +138,7 @@ pub struct Form {
 }
 
 // The first word of a usage is that of the line.
-const FORMS: [Form; 16] = [
+const FORMS: [Form; 27] = [
     Form {
         usage: "chip 16550a|16450 T W [cut]",
         fields: &[Field::Chip, Field::CharTicks, Field::WireRoom, Field::Cut],
@@ -137,6 +168,59 @@ const FORMS: [Form; 16] = [
             Field::Interrupts,
             Field::DataBits,
         ],
+    },
+    Form {
+        usage: "init-with F BAUD cts|nocts HH BITS check|nocheck first|last|never HH",
+        fields: &[
+            Field::Level,
+            Field::Rate,
+            Field::Cts,
+            Field::Interrupts,
+            Field::DataBits,
+            Field::Check,
+            Field::Wait,
+            Field::Outputs,
+        ],
+    },
+    Form {
+        usage: "set-frame BAUD BITS",
+        fields: &[Field::Rate, Field::DataBits],
+    },
+    Form {
+        usage: "set-frame-when-idle BAUD BITS",
+        fields: &[Field::Rate, Field::DataBits],
+    },
+    Form {
+        usage: "set-trigger-level F",
+        fields: &[Field::Trigger],
+    },
+    Form {
+        usage: "set-break on|off",
+        fields: &[Field::Switch],
+    },
+    Form {
+        usage: "set-modem-control HH",
+        fields: &[Field::Outputs],
+    },
+    Form {
+        usage: "set-rts on|off",
+        fields: &[Field::Switch],
+    },
+    Form {
+        usage: "set-dtr on|off",
+        fields: &[Field::Switch],
+    },
+    Form {
+        usage: "quiesce HH keep|reset|disable",
+        fields: &[Field::Outputs, Field::Fifos],
+    },
+    Form {
+        usage: "restore HEX",
+        fields: &[Field::Registers],
+    },
+    Form {
+        usage: "receive-with-errors N",
+        fields: &[Field::Count],
     },
     Form {
         usage: "try-send HH",

@@ -16,6 +16,8 @@ pub mod findings;
 pub mod grammar;
 pub mod history;
 pub mod json;
+pub mod judging;
+pub mod kinds;
 pub mod moments;
 pub mod observing;
 pub mod picture;

@@ -189,22 +189,26 @@ fn findings_as_json() {
     let wanted: String = [
         (
             5,
+            "not-kept",
             "SCR reads 00: the register keeps what is written to it, 5a",
         ),
         (
             6,
+            "not-kept",
             "LCR reads 13: the register keeps what is written to it, 03",
         ),
         (
             9,
+            "fifo-bits",
             "ISR reads 41: bits 6 and 7 are both set while the FIFOs are on, and else clear",
         ),
     ]
     .iter()
-    .map(|(line, text)| {
+    .map(|(line, name, text)| {
         let file = r#"{"file":"recordings/wrong-latch.recording""#;
         format!(
-            "{file},\"line\":{line},\"kind\":\"difference\",\"text\":\"{text}\",\"times\":1}}\n"
+            "{file},\"line\":{line},\"kind\":\"difference\",\"name\":\"{name}\",\
+             \"text\":\"{text}\",\"times\":1}}\n"
         )
     })
     .collect();
@@ -216,16 +220,19 @@ fn findings_as_json() {
     let file = r#"{"file":"traces/forgets-an-overrun.trace""#;
     assert_eq!(
         text,
-        format!("{file},\"line\":7,\"kind\":\"stray\",\"text\":\"{stray}\",\"times\":1}}\n")
+        format!(
+            "{file},\"line\":7,\"kind\":\"stray\",\"name\":\"stray\",\"text\":\"{stray}\",\
+             \"times\":1}}\n"
+        )
     );
 }
 
 // Each line for people is an object, with the same parts.
 #[test]
 fn json_has_what_the_lines_have() {
-    for (command, count) in [("audit", 5), ("replay", 0)] {
+    for (command, count) in [("audit", 4), ("replay", 0)] {
         let file = "recordings/wrong-driver.recording";
-        let (_, lines, _) = parts(&run(GEESETRUNK, &[command, file], b""));
+        let (_, lines, _) = parts(&run(GEESETRUNK, &[command, "--all", file], b""));
         let (_, objects, _) = parts(&run(GEESETRUNK, &[command, "--json", file], b""));
         let mut objects = objects.lines();
         for line in lines.lines().filter(|line| !line.contains(" lines, ")) {
@@ -233,9 +240,11 @@ fn json_has_what_the_lines_have() {
             let (number, text) = line.split_once(": ").unwrap();
             let number = number.rsplit(':').next().unwrap();
             let (kind, text) = text.split_once(": ").unwrap();
+            let (text, name) = text.rsplit_once(" [").unwrap();
             for part in [
                 format!("\"line\":{number},"),
                 format!("\"kind\":\"{kind}\""),
+                format!("\"name\":\"{}\"", name.trim_end_matches(']')),
                 format!("\"text\":\"{text}\""),
             ] {
                 assert!(object.contains(&part), "{part} in {object}");
@@ -249,10 +258,10 @@ fn json_has_what_the_lines_have() {
 #[test]
 fn equal_findings_in_turn_are_counted() {
     let recording = b"w 3 80\nr 0 00\nr 5 60\nr 0 00\nx 4\n";
-    let (_, lines, _) = parts(&run(GEESETRUNK, &["audit", "-"], recording));
+    let (_, lines, _) = parts(&run(GEESETRUNK, &["audit", "--all", "-"], recording));
     let (_, objects, _) = parts(&run(GEESETRUNK, &["audit", "--json", "-"], recording));
     assert!(
-        lines.contains("-:5: warning: ") && lines.contains(" (4 times)\n"),
+        lines.contains("-:5: warning: ") && lines.contains(" (4 times) [read-from-divisor]\n"),
         "{lines}"
     );
     assert!(
@@ -260,6 +269,29 @@ fn equal_findings_in_turn_are_counted() {
         "{objects}"
     );
     assert!(!objects.contains("times)"), "{objects}");
+}
+
+#[test]
+fn a_kind_is_printed_once_and_counted() {
+    let recording = b"w 3 80\nr 5 60\nr 0 00\nx 4\nr 7 00\nr 0 00\n";
+    let (status, lines, _) = parts(&run(GEESETRUNK, &["audit", "-"], recording));
+    assert_eq!(status, 1);
+    let lines: Vec<_> = lines.lines().collect();
+    assert!(lines[0].starts_with("-:3: warning: "), "{lines:?}");
+    assert!(lines[1].starts_with("-:6: note: "), "{lines:?}");
+    let tally = "-: warning: [read-from-divisor] 6 times, from line 3 to line 6";
+    assert_eq!(lines[2..], [tally, "-: 6 lines, 6 warnings"]);
+}
+
+#[test]
+fn what_the_datasheet_leaves_open_can_be_left_out() {
+    let file = "recordings/kinds/thr-empty-not-raised-again.recording";
+    assert_eq!(parts(&run(GEESETRUNK, &["replay", file], b"")).0, 1);
+    let (status, lines, _) = parts(&run(GEESETRUNK, &["replay", "--settled", file], b""));
+    assert_eq!(
+        (status, lines),
+        (0, format!("{file}: 14 lines, 0 differences\n"))
+    );
 }
 
 #[test]

@@ -13,7 +13,7 @@ use std::fmt::Write;
 // How many faulty scripts there are: one in so many.
 const FAULTY: u64 = 3;
 
-const CALLS: [&str; 21] = [
+const CALLS: [&str; 25] = [
     "loopback",
     "present",
     "connected",
@@ -35,9 +35,13 @@ const CALLS: [&str; 21] = [
     "fifo",
     "next",
     "access",
+    "attach",
+    "peek-modem",
+    "is-idle",
+    "retrigger-interrupts",
 ];
 
-const FAULTS: [&str; 24] = [
+const FAULTS: [&str; 31] = [
     "sing",
     "lsr ",
     " lsr",
@@ -62,6 +66,13 @@ const FAULTS: [&str; 24] = [
     "lsr\t",
     "receive +1",
     "send zz",
+    "init-with 1 9600 cts 00 8 check first",
+    "init-with 1 9600 cts 00 8 check later 0b",
+    "set-frame 9600 9",
+    "set-trigger-level off",
+    "set-break 1",
+    "quiesce 00 drop",
+    "restore 0001020304050607",
 ];
 
 fn hex(random: &mut Random, most: u64) -> String {
@@ -87,17 +98,55 @@ fn text(random: &mut Random) -> String {
     }
 }
 
-fn init(random: &mut Random) -> String {
+fn setup(random: &mut Random) -> String {
     let level = random.pick(&["1", "4", "8", "14", "off"]);
     let rate = random.pick(&["9600", "115200", "1", "75", "4294967295", "38400", "57601"]);
     let cts = if random.is_one_in(4) { "cts" } else { "nocts" };
     let interrupts = random.below(16);
     let bits = random.pick(&["8", "8", "8", "7", "6", "5"]);
-    format!("init {level} {rate} {cts} {interrupts:02x} {bits}")
+    format!("{level} {rate} {cts} {interrupts:02x} {bits}")
+}
+
+fn init(random: &mut Random) -> String {
+    format!("init {}", setup(random))
+}
+
+fn init_with(random: &mut Random) -> String {
+    let check = random.pick(&["check", "nocheck"]);
+    let wait = random.pick(&["first", "last", "never"]);
+    let outputs = random.below(256);
+    format!("init-with {} {check} {wait} {outputs:02x}", setup(random))
+}
+
+fn frame(random: &mut Random) -> String {
+    let call = random.pick(&["set-frame", "set-frame-when-idle"]);
+    let rate = random.pick(&["9600", "115200", "1", "75", "38400", "57601"]);
+    format!("{call} {rate} {}", random.pick(&["8", "8", "7", "6", "5"]))
+}
+
+// A call that changes a port otherwise than by its frame.
+fn change(random: &mut Random) -> String {
+    match random.below(4) {
+        0 => {
+            let call = random.pick(&["set-break", "set-rts", "set-dtr"]);
+            format!("{call} {}", random.pick(&["on", "off"]))
+        }
+        1 => format!("set-modem-control {:02x}", random.below(256)),
+        2 => format!("set-trigger-level {}", random.pick(&["1", "4", "8", "14"])),
+        _ => {
+            let fifos = random.pick(&["keep", "reset", "disable"]);
+            format!("quiesce {:02x} {fifos}", random.below(256))
+        }
+    }
+}
+
+// The registers of a dump.
+fn registers(random: &mut Random) -> String {
+    (0..9).map(|_| format!("{:02x}", random.below(256))).collect()
 }
 
 fn line(random: &mut Random) -> String {
-    match random.below(16) {
+    match random.below(20) {
         0 => init(random),
         1 | 2 => format!("tick {}", random.below(40)),
         3 | 4 => {
@@ -111,7 +160,8 @@ fn line(random: &mut Random) -> String {
             format!("{call} {:02x}", random.below(256))
         }
         8 | 9 => {
-            let call = random.pick(&["receive", "receive-exact", "read"]);
+            let calls = ["receive", "receive-exact", "read", "receive-with-errors"];
+            let call = random.pick(&calls);
             format!("{call} {}", random.below(20))
         }
         10 | 11 => {
@@ -120,6 +170,10 @@ fn line(random: &mut Random) -> String {
         }
         12 => format!("text {}", text(random)),
         13 if random.is_one_in(4) => String::new(),
+        14 => frame(random),
+        15 => change(random),
+        16 if random.is_one_in(2) => init_with(random),
+        16 => format!("restore {}", registers(random)),
         _ => (*random.pick(&CALLS)).into(),
     }
 }

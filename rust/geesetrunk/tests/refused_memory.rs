@@ -2,6 +2,7 @@
 //! none ends the process.
 
 use geesetrunk::heap;
+use geesetrunk::judging::{Judge, judge_recording};
 use geesetrunk_kit::Vec as List;
 use geesetrunk_kit::alloc::AllocError;
 use std::alloc::{GlobalAlloc, Layout, System};
@@ -142,12 +143,9 @@ fn each_request_for_memory() {
         let line = findings::verify(heap(), TRACE, NonZeroU64::MIN).ok()?;
         Some(line.len())
     });
-    each("audit", None, || {
-        let mut room = [0; 8192];
-        findings::audit(heap(), "a", RECORDING, &mut &mut room[..]).ok()
-    });
-    each("replay", None, || {
-        let mut room = [0; 8192];
-        findings::replay(heap(), "a", RECORDING, &mut &mut room[..]).ok()
-    });
+    for judge in [Judge::Audit, Judge::Replay] {
+        each("a recording", None, || {
+            judge_recording(judge, RECORDING, |_| Ok(())).ok()
+        });
+    }
 }

@@ -127,7 +127,7 @@ fn an_output_that_cannot_be_written_is_an_error() {
 // Each finding is there before the recording goes on.
 #[test]
 fn findings_of_a_recording_that_still_grows() {
-    let mut child = started(GEESETRUNK, &["replay", "-"], Stdio::piped());
+    let mut child = started(GEESETRUNK, &["replay", "--all", "-"], Stdio::piped());
     let mut recording = child.stdin.take().unwrap();
     let lines = BufReader::new(child.stdout.take().unwrap()).lines();
     let (sender, found) = mpsc::channel();
@@ -138,9 +138,9 @@ fn findings_of_a_recording_that_still_grows() {
     });
     let next = || found.recv_timeout(Duration::from_secs(20)).unwrap();
     recording.write_all(b"w 3 03\nr 3 13\n").unwrap();
-    assert!(next().starts_with("-:2: LCR reads 13"));
+    assert!(next().starts_with("-:2: difference: LCR reads 13"));
     recording.write_all(b"w 7 5a\nr 7 00\n").unwrap();
-    assert!(next().starts_with("-:4: SCR reads 00"));
+    assert!(next().starts_with("-:4: difference: SCR reads 00"));
     drop(recording);
     assert_eq!(next(), "-: 4 lines, 2 differences");
     assert_eq!(child.wait().unwrap().code(), Some(1));

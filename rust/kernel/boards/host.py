@@ -3,8 +3,9 @@
 
 Starts a machine whose serial port is at standard input and output, and which runs console.rs. Types 10,000 bytes and the mark, and
 compares every byte that comes back. Does not read for a while what the machine sends then, and compares all of it. With
-`by-interrupts` types another 10,000 bytes, in bursts. Every byte that the machine sends has to be as expected, up to the last one.
-A machine that sends nothing for a while is stopped, and one that has said `end` too. Prints how long it took.
+`by-interrupts` types another 10,000 bytes, or as many as BY_INTERRUPTS of the environment says, in bursts. Every byte that the machine
+sends has to be as expected, up to the last one. A machine that sends nothing for a while is stopped, and one that has said `end` too.
+Prints how long it took.
 """
 import fcntl
 import os
@@ -18,6 +19,7 @@ import time
 
 MARK = b"\x04"
 TYPED = 10_000
+TYPED_BY_INTERRUPTS = int(os.environ.get("BY_INTERRUPTS", TYPED))
 PATTERN = bytes(at % 251 for at in range(65_536))
 PATIENCE = 20  # seconds without a byte, after which the machine is stopped
 PAUSE = 1  # seconds in which nothing is read
@@ -83,7 +85,7 @@ class Machine:
 
     def echo(self, numbers, in_bursts):
         """Types bytes and the mark, and takes the bytes that come back."""
-        typed = numbers.randbytes(TYPED).replace(MARK, b"")
+        typed = numbers.randbytes(TYPED_BY_INTERRUPTS if in_bursts else TYPED).replace(MARK, b"")
         pieces = bursts(typed) if in_bursts else [typed]
         threading.Thread(target=self.type_in, args=([*pieces, MARK],), daemon=True).start()
         self.expect(typed, "the echo")

@@ -1,7 +1,7 @@
-//! An echo by interrupts with rings, over the `Ports` of the program, on a PC's interrupt controller, which detects edges.
+//! An echo by interrupts with rings, over the `Ports` of the program, on one of a PC's interrupt controllers.
 
 use crate::Ports;
-use crate::machine::{self, End, Shared, end};
+use crate::machine::{self, Controller, End, Shared, end};
 use uart_16550::native::Uart16550;
 use uart_16550::native::spec::registers::{IER, LSR};
 use uart_16550::ring::{HandleEnd, Memory, Uart16550Ring};
@@ -11,6 +11,28 @@ pub type Ring = Uart16550Ring<Ports>;
 
 /// What the handler does with the rings.
 pub type Serve = fn(&mut Ring) -> HandleEnd;
+
+/// How COM1's interrupt is kept out while the program calls the rings.
+#[derive(Clone, Copy, PartialEq, Eq)]
+pub enum Exclusion {
+    /// The processor lets no interrupt in. The controller notes an edge meanwhile.
+    Processor,
+    /// The line is masked at the controller. Once it is let in again, the rings retrigger.
+    MaskAndRetrigger,
+    /// The same, without the retrigger. An I/O APIC forgets the edges that came meanwhile.
+    MaskAlone,
+}
+
+/// What an echo is tried with.
+#[derive(Clone, Copy)]
+pub struct Trial {
+    /// What the handler does.
+    pub serve: Serve,
+    /// The controller that COM1's line is at.
+    pub controller: Controller,
+    /// How the program keeps the handler out.
+    pub exclusion: Exclusion,
+}
 
 const RING_SIZE: usize = 256;
 
@@ -77,19 +99,31 @@ fn echo_some(ring: &mut Ring) -> usize {
     ring.queue(&slots[..count])
 }
 
-/// Sends back this number of bytes as they are received. The handler does `serve`. Returns how it ended, and the driver.
+// Lets the line in again that was masked at the controller.
+fn unmask(ring: &mut Ring, exclusion: Exclusion) {
+    if exclusion == Exclusion::Processor {
+        return;
+    }
+    machine::set_masked(false);
+    if exclusion == Exclusion::MaskAndRetrigger {
+        // Behind the unmasking: an edge before would be forgotten too.
+        ring.retrigger();
+    }
+}
+
+/// Sends back this number of bytes as they are received. Returns how it ended, and the driver.
 pub fn by_interrupts(
     driver: Uart16550<Ports>,
     typed: usize,
-    serve: Serve,
+    trial: Trial,
 ) -> (Echoed, Uart16550<Ports>) {
     let memory = Memory::new(RING_MEMORY.alone());
     let Ok(ring) = Uart16550Ring::new(memory.global(), driver, RING_SIZE, RING_SIZE) else {
         end(End::NoRings)
     };
-    CONSOLE.alone().serve = serve;
+    CONSOLE.alone().serve = trial.serve;
     let ring = CONSOLE.alone().ring.insert(ring);
-    machine::set_up_interrupts();
+    machine::set_up_interrupts_at(trial.controller);
     ring.inner_mut()
         .enable_interrupts(IER::DATA_READY | IER::RECEIVER_LINE_STATUS);
     let (mut done, mut is_over, mut line) = (0, false, LSR::empty());
@@ -99,9 +133,15 @@ pub fn by_interrupts(
             let Some(ring) = &mut console.ring else {
                 end(End::NoRings)
             };
+            if trial.exclusion != Exclusion::Processor {
+                machine::set_masked(true);
+            }
             let count = echo_some(ring);
             done += count;
             line |= ring.take_line() & LSR::ERRORS;
+            if !console.is_masked {
+                unmask(ring, trial.exclusion);
+            }
             is_over = console.is_masked || done == typed && ring.transmit_len() == 0;
             count > 0 || is_over
         });

@@ -1,5 +1,5 @@
-//! A kernel for a PC that shows what an interrupt controller that detects edges asks of a handler: an echo of many bytes, by
-//! interrupts with rings. What is typed first says what the handler does. Then it ends the machine.
+//! A kernel for a PC that shows what an interrupt controller asks of a handler: an echo of many bytes, by interrupts with rings. What
+//! is typed first says what the handler does, at which controller, and what is wrong with the chip. Then it ends the machine.
 #![no_std]
 #![no_main]
 
@@ -7,8 +7,8 @@ mod echo;
 mod machine;
 
 use core::fmt::Write;
-use echo::{Echoed, Ring, Serve};
-use machine::{End, end};
+use echo::{Echoed, Exclusion, Ring, Trial};
+use machine::{Controller, End, end};
 use uart_16550::native::backend::{Backend, X86Ports};
 use uart_16550::native::embedded_io::Write as _;
 use uart_16550::native::spec::registers::{FifoTriggerLevel, offsets};
@@ -22,13 +22,14 @@ const TYPED: usize = 300_000;
 // FIFO meanwhile.
 const SLOWNESS: u32 = 10;
 
-// An ISR that shows an interrupt without a name, with the FIFO on.
+// An ISR that shows an interrupt without a name, and one that shows THR_EMPTY, both with the FIFO on.
 const NO_NAME: u8 = 0xc8;
+const THR_EMPTY: u8 = 0xc2;
 
-/// COM1. If it is broken, its ISR always shows an interrupt without a name.
+/// COM1. If it is broken, its ISR always shows the same.
 struct Ports {
     ports: X86Ports,
-    is_broken: bool,
+    shown: Option<u8>,
 }
 
 impl Backend for Ports {
@@ -37,10 +38,9 @@ impl Backend for Ports {
             self.ports.read(offsets::SPR as u8);
         }
         let value = self.ports.read(register_offset);
-        if self.is_broken && usize::from(register_offset) == offsets::ISR {
-            NO_NAME
-        } else {
-            value
+        match self.shown {
+            Some(shown) if usize::from(register_offset) == offsets::ISR => shown,
+            _ => value,
         }
     }
 
@@ -65,10 +65,7 @@ fn start() -> Uart16550Tty<Ports> {
     let Ok(ports) = (unsafe { X86Ports::new(COM1) }) else {
         end(End::NoConsole)
     };
-    let mut driver = Uart16550::new_with_backend(Ports {
-        ports,
-        is_broken: false,
-    });
+    let mut driver = Uart16550::new_with_backend(Ports { ports, shown: None });
     let config = Config {
         baud_rate: BaudRate::Baud115200,
         fifo_trigger_level: Some(FifoTriggerLevel::One),
@@ -94,20 +91,36 @@ fn service_once(ring: &mut Ring) -> HandleEnd {
     }
 }
 
-// Waits until something is typed, and returns what the handler is to do.
-fn choice(console: &mut Uart16550Tty<Ports>) -> Serve {
-    let mut typed = [0];
+// Waits until two characters are typed, and returns what they ask for. If they ask for a broken chip, it is broken from now on.
+fn choice(console: &mut Uart16550Tty<Ports>) -> Trial {
+    let mut typed = [0; 2];
     if console.inner_mut().receive_bytes_exact(&mut typed).is_err() {
         end(End::NoConsole)
     }
-    match &typed {
-        b"1" => handle_one,
-        b"s" => service_once,
-        b"b" => {
-            console.inner_mut().backend_mut().is_broken = true;
-            handle_one
-        }
+    let [handler, controller] = typed;
+    let serve = match handler {
+        b's' => service_once,
+        _ => handle_one,
+    };
+    console.inner_mut().backend_mut().shown = match handler {
+        b'1' | b's' => None,
+        b'b' => Some(NO_NAME),
+        b't' => Some(THR_EMPTY),
         _ => end(End::NoConsole),
+    };
+    let (controller, exclusion) = match controller {
+        b'p' => (Controller::I8259, Exclusion::Processor),
+        b'e' => (Controller::IoApicEdges, Exclusion::Processor),
+        b'l' => (Controller::IoApicLevels, Exclusion::Processor),
+        b'm' => (Controller::IoApicEdges, Exclusion::MaskAndRetrigger),
+        b'f' => (Controller::IoApicEdges, Exclusion::MaskAlone),
+        b'q' => (Controller::I8259, Exclusion::MaskAlone),
+        _ => end(End::NoConsole),
+    };
+    Trial {
+        serve,
+        controller,
+        exclusion,
     }
 }
 
@@ -115,8 +128,8 @@ fn choice(console: &mut Uart16550Tty<Ports>) -> Serve {
 extern "C" fn kernel_main() -> ! {
     let mut console = start();
     say(&mut console, format_args!("what is the handler to do?"));
-    let serve = choice(&mut console);
-    let (echoed, driver) = echo::by_interrupts(console.into_inner(), TYPED, serve);
+    let trial = choice(&mut console);
+    let (echoed, driver) = echo::by_interrupts(console.into_inner(), TYPED, trial);
     let mut console = Uart16550Tty::from_inner(driver);
     match echoed {
         Echoed::All(line) => {

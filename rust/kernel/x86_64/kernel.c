@@ -11,7 +11,7 @@
 enum end { DONE = 0x10, NO_CONSOLE = 0x20, NO_RINGS = 0x21, NOT_SENT = 0x22, NO_INTERRUPTS = 0x23, MASKED = 0x24, PANIC = 0x3f };
 
 enum {
-    COM1 = 0x3f8, COM1_LINE = 4,
+    COM1 = 0x3f8, COM1_LINE = 4, ISR = 2,
     EXIT_PORT = 0xf4, PRIMARY = 0x20, SECONDARY = 0xa0, END_OF_INTERRUPT = 0x20,
     VECTORS = 256, FIRST_VECTOR = 0x20, CODE_SEGMENT = 8, INTERRUPT_GATE = 0x8e,
     TYPED = 10000, RING_SIZE = 256,
@@ -92,10 +92,18 @@ static void set_up_interrupts(void)
 
 /* ---- the console */
 
+/* What ISR of a broken chip always shows while interrupts serve it. 0, which no chip with its FIFO on shows, stands for a sound one. */
+#ifndef SHOWN_ISR
+#define SHOWN_ISR 0
+#endif
+
+static uint8_t is_served;
+
 static uint8_t port_read(void *context, uintptr_t port)
 {
     (void)context;
-    return read_port((uint16_t)port);
+    uint8_t value = read_port((uint16_t)port);
+    return SHOWN_ISR != 0 && is_served && port == COM1 + ISR ? SHOWN_ISR : value;
 }
 
 static void port_write(void *context, uintptr_t port, uint8_t value)
@@ -176,6 +184,7 @@ static uint8_t echo_by_interrupts(void)
     uint8_t line, errors = 0;
     must(u16550_ring_new(&console, ring_memory, sizeof ring_memory, RING_SIZE, RING_SIZE), NO_RINGS);
     set_up_interrupts();
+    is_served = 1;
     must(u16550_enable_interrupts(&console, U16550_IER_DATA_READY | U16550_IER_RECEIVER_LINE_STATUS), NO_CONSOLE);
     while (done < TYPED || waiting > 0) {
         size_t count = echo_some();

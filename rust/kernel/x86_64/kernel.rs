@@ -7,8 +7,8 @@ mod echo;
 mod machine;
 
 use core::fmt::Write;
-use echo::Echoed;
-use machine::{End, end};
+use echo::{Echoed, Exclusion, Trial};
+use machine::{Controller, End, end};
 use uart_16550::native::backend::X86Ports;
 use uart_16550::native::embedded_io::Write as _;
 use uart_16550::native::{BaudRate, Config, Uart16550, Uart16550Tty};
@@ -72,8 +72,12 @@ extern "C" fn kernel_main() -> ! {
     echo_by_polling(console.inner_mut());
     say(&mut console, format_args!("\n{TYPED} bytes by polling"));
     let driver = console.into_inner();
-    let (echoed, driver) =
-        echo::by_interrupts(driver, TYPED, |ring| ring.handle(MOST_SERVED).end);
+    let trial = Trial {
+        serve: |ring| ring.handle(MOST_SERVED).end,
+        controller: Controller::I8259,
+        exclusion: Exclusion::Processor,
+    };
+    let (echoed, driver) = echo::by_interrupts(driver, TYPED, trial);
     let mut console = Uart16550Tty::from_inner(driver);
     match echoed {
         Echoed::All(line) => {

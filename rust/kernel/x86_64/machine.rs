@@ -2,6 +2,9 @@
 //! kernel needs a part.
 #![allow(dead_code)]
 
+#[path = "io_apic.rs"]
+mod io_apic;
+
 use core::arch::asm;
 use core::cell::UnsafeCell;
 
@@ -26,7 +29,7 @@ const SECONDARY: u16 = 0xa0;
 
 const END_OF_INTERRUPT: u8 = 0x20;
 
-// COM1's line of the first controller, and the vector of its line 0.
+// COM1's line of the first controller and of the I/O APIC, and the vector of line 0.
 const COM1_LINE: usize = 4;
 const FIRST_VECTOR: usize = 0x20;
 
@@ -50,14 +53,48 @@ pub fn end(how: End) -> ! {
     }
 }
 
-/// Tells the interrupt controller that an interrupt was served.
+// The bits of a page table's entry that say where a page is.
+const PAGE_ADDRESS: u64 = 0x000f_ffff_ffff_f000;
+
+/// The controller that COM1's line is at, and what of the line that detects.
+#[derive(Clone, Copy, PartialEq, Eq)]
+pub enum Controller {
+    /// The first 8259. It detects edges, and remembers one that comes while the line is masked.
+    I8259,
+    /// The I/O APIC, which detects edges, and forgets one that comes while the line is masked.
+    IoApicEdges,
+    /// The I/O APIC, which detects levels.
+    IoApicLevels,
+}
+
+static CONTROLLER: Shared<Controller> = Shared::new(Controller::I8259);
+
+const COM1_VECTOR: u8 = (FIRST_VECTOR + COM1_LINE) as u8;
+
+/// Tells the interrupt controller that an interrupt was served. The handler calls this.
 pub fn end_of_interrupt() {
-    write_port(PRIMARY, END_OF_INTERRUPT);
+    CONTROLLER.in_handler(|controller| match controller {
+        Controller::I8259 => write_port(PRIMARY, END_OF_INTERRUPT),
+        Controller::IoApicEdges | Controller::IoApicLevels => io_apic::end_of_interrupt(),
+    });
+}
+
+/// Lets COM1's interrupt in no more, or again. Interrupts are off, or the handler calls this.
+pub fn set_masked(is_masked: bool) {
+    CONTROLLER.in_handler(|controller| match controller {
+        Controller::I8259 => write_port(PRIMARY + 1, if is_masked { 0xff } else { ALL_BUT_COM1 }),
+        Controller::IoApicEdges | Controller::IoApicLevels => io_apic::set_masked(
+            COM1_LINE as u8,
+            COM1_VECTOR,
+            *controller == Controller::IoApicLevels,
+            is_masked,
+        ),
+    });
 }
 
 /// Lets no interrupt in any more.
 pub fn mask_interrupts() {
-    write_port(PRIMARY + 1, 0xff);
+    set_masked(true);
 }
 
 /// Lets interrupts in from now on.
@@ -149,8 +186,17 @@ struct TablePointer {
 
 static TABLE: Shared<[[u64; 2]; VECTORS]> = Shared::new([[0; 2]; VECTORS]);
 
-/// Lets COM1's interrupt in, as soon as interrupts are on, and no other.
+// What the first 8259 masks if COM1's line is at it.
+const ALL_BUT_COM1: u8 = !(1 << COM1_LINE);
+
+/// Lets COM1's interrupt in at the 8259, as soon as interrupts are on, and no other.
 pub fn set_up_interrupts() {
+    set_up_interrupts_at(Controller::I8259);
+}
+
+/// Lets COM1's interrupt in at this controller, as soon as interrupts are on, and no other.
+pub fn set_up_interrupts_at(controller: Controller) {
+    *CONTROLLER.alone() = controller;
     let table = TABLE.alone();
     *table = [gate(fault_entry); VECTORS];
     table[FIRST_VECTOR + COM1_LINE] = gate(interrupt_entry);
@@ -162,15 +208,25 @@ pub fn set_up_interrupts() {
     unsafe {
         asm!("lidt [{}]", in(reg) &raw const pointer, options(readonly, nostack, preserves_flags))
     };
-    // Edges, two controllers, their vectors, how they are connected, their mode, and which lines are masked.
-    let all_but_com1 = !(1 << COM1_LINE);
-    for (controller, data) in [
-        (PRIMARY, [FIRST_VECTOR as u8, 1 << 2, 1, all_but_com1]),
+    // Edges, two 8259, their vectors, how they are connected, their mode, and which lines are masked.
+    let let_in = match controller {
+        Controller::I8259 => ALL_BUT_COM1,
+        Controller::IoApicEdges | Controller::IoApicLevels => 0xff,
+    };
+    for (port, data) in [
+        (PRIMARY, [FIRST_VECTOR as u8, 1 << 2, 1, let_in]),
         (SECONDARY, [FIRST_VECTOR as u8 + 8, 2, 1, 0xff]),
     ] {
-        write_port(controller, 0x11);
+        write_port(port, 0x11);
         for byte in data {
-            write_port(controller + 1, byte);
+            write_port(port + 1, byte);
         }
+    }
+    if controller != Controller::I8259 {
+        io_apic::set_up(
+            COM1_LINE as u8,
+            COM1_VECTOR,
+            controller == Controller::IoApicLevels,
+        );
     }
 }

@@ -11,6 +11,10 @@
 #![forbid(unsafe_code)]
 #![deny(missing_docs)]
 
+// The proofs take a number of 32 bits for one that fits into `usize`.
+#[cfg(not(any(target_pointer_width = "32", target_pointer_width = "64")))]
+compile_error!("the driver is for targets whose addresses have 32 or 64 bits: on others an index may not fit into `usize`");
+
 #[cfg(feature = "alloc")]
 extern crate alloc as heap;
 #[cfg(any(feature = "std", test))]

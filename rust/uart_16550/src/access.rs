@@ -5,6 +5,7 @@
 //! its stride in itself, tested when it is made, so safe code can make it access nothing else.
 #![allow(unsafe_code)]
 
+use crate::design_ware::DesignWareRegisters;
 use crate::layout::{ByteOrder, InvalidLayoutError, RegisterLayout, RegisterWidth};
 #[cfg(any(target_arch = "x86", target_arch = "x86_64"))]
 use core::cell::Cell;
@@ -355,6 +356,102 @@ impl Backend for WideMemory {
     }
 }
 
+/// The eight registers of a DesignWare UART in memory, and USR, which is the 32nd register from the
+/// base.
+///
+/// Use it by [`DesignWare`](crate::native::backend::DesignWare). Accesses are made as by [`WideMemory`].
+///
+/// # Panics
+///
+/// `read` and `write` panic if the register offset is 8 or more. The driver passes none of these.
+///
+/// # Examples
+///
+/// Those of [`DesignWare`](crate::native::backend::DesignWare).
+#[derive(Debug)]
+pub struct DesignWareMemory {
+    registers: WideMemory,
+}
+
+// How many registers USR is behind the first one.
+const USR: usize = 0x1f;
+
+impl DesignWareMemory {
+    /// Returns the access to registers that lie as `layout` says, from `base` on. Makes no access.
+    ///
+    /// # Errors
+    ///
+    /// Those of [`WideMemory::new`], and `InvalidAddress` if USR would be beyond the last address.
+    ///
+    /// # Safety
+    ///
+    /// That of [`WideMemory::new`], for USR too: it is at `base + 31 * stride`. A DesignWare UART must be
+    /// there, or anything that does no harm if it is accessed as one.
+    pub unsafe fn new(
+        base: NonNull<u8>,
+        layout: RegisterLayout,
+    ) -> Result<Self, InvalidLayoutError> {
+        let stride = check_layout(base.addr().get(), layout)?;
+        check_usr(base.addr().get(), stride)?;
+        let registers = WideMemory::over(base, stride, layout);
+        Ok(DesignWareMemory { registers })
+    }
+
+    /// Does the same as [`new`](Self::new) for an address that is a number. Can be called where a
+    /// constant is computed, as for the object of a `static`.
+    ///
+    /// # Errors
+    ///
+    /// Those of [`new`](Self::new).
+    ///
+    /// # Safety
+    ///
+    /// That of [`new`](Self::new), and of [`WideMemory::from_address`].
+    pub const unsafe fn from_address(
+        base: NonZeroUsize,
+        layout: RegisterLayout,
+    ) -> Result<Self, InvalidLayoutError> {
+        let stride = match check_layout(base.get(), layout) {
+            Ok(stride) => stride,
+            Err(cause) => return Err(cause),
+        };
+        match check_usr(base.get(), stride) {
+            Ok(()) => Ok(DesignWareMemory {
+                registers: WideMemory::over(pointer_to(base), stride, layout),
+            }),
+            Err(cause) => Err(InvalidLayoutError::InvalidAddress(cause)),
+        }
+    }
+}
+
+impl Backend for DesignWareMemory {
+    #[inline]
+    fn read(&mut self, register_offset: u8) -> u8 {
+        self.registers.read(register_offset)
+    }
+
+    #[inline]
+    fn write(&mut self, register_offset: u8, value: u8) {
+        self.registers.write(register_offset, value);
+    }
+}
+
+impl DesignWareRegisters for DesignWareMemory {
+    #[inline]
+    fn read_usr(&mut self) -> u8 {
+        let WideMemory {
+            base,
+            stride,
+            width,
+            byte_order,
+        } = self.registers;
+        let address = base.as_ptr().wrapping_add(USR * usize::from(stride.get()));
+        // SAFETY: the constructor has tested that this address does not wrap around, and its caller
+        // promised that USR is there.
+        unsafe { load_register(address, width, byte_order) }
+    }
+}
+
 /// Loads the register at an address, and returns its lowest byte. This is one access, in the order that
 /// [`VolatileMemory`] has. For a backend of your own, as one that keeps a register which the chip has
 /// not.
@@ -430,6 +527,14 @@ const fn check_memory(base: usize, stride: u8) -> Result<NonZeroU8, InvalidAddre
     }
     match base.checked_add(offsets::SPR * stride as usize) {
         Some(_) => Ok(distance),
+        None => Err(InvalidAddressError::InvalidBaseAddress(base)),
+    }
+}
+
+// Checks that USR has an address.
+const fn check_usr(base: usize, stride: NonZeroU8) -> Result<(), InvalidAddressError> {
+    match base.checked_add(USR * stride.get() as usize) {
+        Some(_) => Ok(()),
         None => Err(InvalidAddressError::InvalidBaseAddress(base)),
     }
 }

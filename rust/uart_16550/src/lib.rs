@@ -7,6 +7,7 @@
 mod access;
 #[cfg(feature = "compat")]
 pub mod compat;
+mod design_ware;
 pub mod emergency;
 #[cfg(all(feature = "compat", feature = "embedded-io"))]
 mod io;

@@ -11,8 +11,8 @@ pub use uart_driver::{
     StalledError, Uart16550, Uart16550Tty, Uart16550TtyError, embedded_io,
 };
 pub use uart_spec::{
-    AttachError, FifoAction, FifosOffError, FrameError, NearestDivisorError, Setup,
-    TransmitterWait,
+    AttachError, ConfigurationError, FifoAction, FifoSize, FifosOffError, FrameError,
+    NearestDivisorError, Setup, TransmitterWait,
 };
 
 pub mod backend {
@@ -25,6 +25,8 @@ pub mod backend {
     //! | [`WideMemory`] | a device in memory, with registers of 8, 16 or 32 bits | its constructors |
     //! | [`PioBackend`] | ports that code of yours accesses: [`PortAccess`] | |
     //! | [`MmioBackend`] | memory that code of yours accesses: [`ByteAccess`] | |
+    //! | [`DesignWare`] | a UART of DesignWare, over registers that have USR too | |
+    //! | [`DesignWareMemory`] | these registers in memory | its constructors |
     //! | your own | anything with eight registers: implement [`Backend`] | |
     //!
     //! The driver passes offsets of 0 to 7. Other code that gets hold of a backend may pass any, so a
@@ -35,7 +37,8 @@ pub mod backend {
     pub use crate::access::VolatileMemory;
     #[cfg(any(target_arch = "x86", target_arch = "x86_64"))]
     pub use crate::access::X86Ports;
-    pub use crate::access::{WideMemory, load_register, store_register};
+    pub use crate::access::{DesignWareMemory, WideMemory, load_register, store_register};
+    pub use crate::design_ware::{DesignWare, DesignWareFault, DesignWareRegisters};
     pub use crate::layout::{ByteOrder, InvalidLayoutError, RegisterLayout, RegisterWidth};
     pub use uart_driver::backend::{Backend, ByteAccess, MmioBackend, PioBackend, PortAccess};
 }

@@ -8,14 +8,16 @@
 mod chip;
 
 use chip::{Chip, Fault};
+use std::collections::VecDeque;
 use std::num::NonZeroU64;
-use uart_16550::native::backend::Backend;
+use uart_16550::native::backend::{Backend, DesignWare, DesignWareFault, DesignWareRegisters};
 use uart_16550::native::embedded_io::Write;
 use uart_16550::native::{
-    Config, InitError, RemoteReadyToReceiveError, Setup, StalledError, TransmitterWait, Uart16550,
+    Config, ConfigurationError, FifoAction, InitError, Received, RemoteReadyToReceiveError, Setup,
+    StalledError, TransmitterWait, Uart16550,
 };
 use uart_16550::ring::{HandleEnd, Handled, MAX_INTERRUPTS, Memory, Uart16550Ring};
-use uart_16550::spec::registers::{IER, LCR, MCR, MSR, offsets};
+use uart_16550::spec::registers::{IER, LCR, LSR, MCR, MSR, offsets};
 
 // The low four bits of an ISR that shows a line status, and of one that has no name.
 const LINE_STATUS: u8 = 0x06;
@@ -109,6 +111,12 @@ mod design_ware {
         assert_eq!(uart.backend().latch, [0xaa, 0xbb]);
         assert_eq!(uart.backend().sent, [b'x', 12]);
         assert_eq!(uart.backend().cells[offsets::LCR], LINE.bits());
+        // `check_configured` tells.
+        let wrong = ConfigurationError::Divisor {
+            expected: 12,
+            shown: 0xbbaa,
+        };
+        assert_eq!(uart.check_configured(MCR::READY), Err(wrong));
     }
 
     /// The chip is busy too while it has received data that nobody read.
@@ -152,6 +160,12 @@ mod design_ware {
         uart.backend_mut().received.push_back(b'r');
         assert_eq!(uart.init_with(Config::DEFAULT, &setup), Ok(()));
         assert_eq!(uart.backend().latch, [0xaa, 0xbb]);
+        // `check_configured` tells: the frame was not taken either.
+        let ignored = ConfigurationError::LineControl {
+            expected: LINE,
+            shown: LCR::empty(),
+        };
+        assert_eq!(uart.check_configured(MCR::READY), Err(ignored));
     }
 
     /// `set_frame_when_idle` waits for the transmitter, and not for data to be read.
@@ -170,6 +184,28 @@ mod design_ware {
         uart.backend_mut().received.push_back(b'r');
         assert_eq!(uart.set_frame_when_idle(&config), Ok(()));
         assert_eq!(uart.lcr(), LINE);
+        // `check_configured` tells, and the byte still waits.
+        let ignored = ConfigurationError::LineControl {
+            expected: LINE | LCR::MORE_STOP_BITS,
+            shown: LINE,
+        };
+        assert_eq!(uart.check_configured(MCR::READY), Err(ignored));
+        assert_eq!(uart.backend().received, [b'r']);
+    }
+
+    /// The chip is busy while the check looks: DLAB is not taken, so the latch is not read, and no received byte is
+    /// lost.
+    #[test]
+    fn a_check_while_data_wait() {
+        let mut uart = ready(FAULT);
+        uart.backend_mut().received.push_back(b'r');
+        let ignored = ConfigurationError::LineControl {
+            expected: LINE | LCR::DLAB,
+            shown: LINE,
+        };
+        assert_eq!(uart.check_configured(MCR::READY), Err(ignored));
+        assert_eq!(uart.try_receive_byte(), Ok(b'r'));
+        assert_eq!(uart.check_configured(MCR::READY), Ok(()));
     }
 
     /// `set_frame` returns Ok as well, and nothing was set. It would have to wait and to compare, as `init`.
@@ -251,6 +287,389 @@ mod design_ware {
     }
 }
 
+/// The same chips by the backend for them.
+mod design_ware_backend {
+    use super::*;
+
+    const FAULT: Fault = Fault::IgnoresLcrWhileBusy;
+    const PATIENCE: NonZeroU64 = NonZeroU64::new(1_000).unwrap();
+
+    type Port = Uart16550<DesignWare<Chip>>;
+
+    fn over(fault: Fault) -> Port {
+        let backend = DesignWare::new(Chip::new(Some(fault)), PATIENCE);
+        let mut uart = Uart16550::new_with_backend(backend);
+        uart.set_spin_limit(NonZeroU64::new(1_000).unwrap());
+        uart
+    }
+
+    fn ready(fault: Fault) -> Port {
+        let mut uart = over(fault);
+        uart.init(Config::DEFAULT).unwrap();
+        uart
+    }
+
+    fn chip(uart: &mut Port) -> &mut Chip {
+        uart.backend_mut().registers_mut()
+    }
+
+    fn two_stop_bits() -> Config {
+        Config {
+            extra_stop_bits: true,
+            ..Config::DEFAULT
+        }
+    }
+
+    fn rings(fault: Fault) -> Uart16550Ring<DesignWare<Chip>> {
+        let memory = Memory::new(Box::leak(Box::new([0; 256 + 256])));
+        let mut uart = ready(fault);
+        uart.enable_interrupts(IER::DATA_READY | IER::RECEIVER_LINE_STATUS | IER::MODEM_STATUS);
+        Uart16550Ring::new(memory.global(), uart, 256, 256)
+            .map_err(|(_uart, error)| error)
+            .unwrap()
+    }
+
+    /// A chip that is compatible is used as without the backend.
+    #[test]
+    fn a_chip_without_these_faults() {
+        let mut uart = ready(Fault::SilentWhenEnabled);
+        assert_eq!(uart.test_loopback(), Ok(()));
+        assert_eq!(uart.send_bytes_exact(&[7; 100]), Ok(()));
+        assert_eq!(uart.flush(), Ok(()));
+        assert_eq!(chip(&mut uart).sent, [7; 100]);
+        assert_eq!(uart.check_configured(MCR::READY), Ok(()));
+        assert_eq!(uart.backend().fault(), None);
+    }
+
+    #[test]
+    fn init_while_the_chip_sends_and_data_wait() {
+        let mut uart = over(FAULT);
+        chip(&mut uart).send_for(b'x', 100);
+        chip(&mut uart).received.push_back(b'r');
+        assert_eq!(uart.init(Config::DEFAULT), Ok(()));
+        assert_eq!(uart.check_configured(MCR::READY), Ok(()));
+        assert_eq!(chip(&mut uart).latch, [12, 0]);
+        assert_eq!(chip(&mut uart).sent, [b'x']);
+        // As on any chip, what waited before an `init` is discarded.
+        assert!(uart.try_receive_byte().is_err());
+        assert!(!chip(&mut uart).is_interrupting());
+    }
+
+    /// What was received stays, in its order, before what comes afterwards.
+    #[test]
+    fn a_frame_while_data_wait() {
+        let changes: [fn(&mut Port); 2] = [
+            |uart| assert_eq!(uart.set_frame(&two_stop_bits()), Ok(())),
+            |uart| assert_eq!(uart.set_frame_when_idle(&two_stop_bits()), Ok(())),
+        ];
+        for change in changes {
+            let mut uart = ready(FAULT);
+            chip(&mut uart).received.extend(b"abc");
+            change(&mut uart);
+            assert_eq!(uart.check_configured(MCR::READY), Ok(()));
+            chip(&mut uart).received.extend(b"de");
+            let mut slots = [0; 8];
+            assert_eq!(
+                (uart.receive_bytes(&mut slots), &slots[..5]),
+                (5, &b"abcde"[..])
+            );
+            assert_eq!(chip(&mut uart).discarded, 0);
+        }
+    }
+
+    #[test]
+    fn looks_at_the_latch_while_data_wait() {
+        let looks: [fn(&mut Port); 3] = [
+            |uart| assert_eq!(uart.dll_dlm(), (12, 0)),
+            |uart| assert_eq!(uart.attach(), Ok((12, 0))),
+            |uart| assert_eq!(uart.config_register_dump().divisor(), 12),
+        ];
+        for look in looks {
+            let mut uart = ready(FAULT);
+            chip(&mut uart).received.push_back(b'r');
+            look(&mut uart);
+            assert_eq!(uart.try_receive_byte(), Ok(b'r'));
+            assert!(uart.try_receive_byte().is_err());
+        }
+    }
+
+    /// A remote that sends all the time. A byte that comes while DLAB is set cannot be read; then LSR shows an
+    /// overrun. No other byte is lost.
+    #[test]
+    fn a_frame_while_the_remote_sends() {
+        let mut discarded = 0;
+        for arrives_every in 5..200 {
+            let mut uart = ready(FAULT);
+            chip(&mut uart).arriving = (0..100).collect();
+            chip(&mut uart).arrives_every = arrives_every;
+            let mut received = Vec::new();
+            let mut slots = [0; 8];
+            let mut has_overrun = false;
+            for turn in 0..60 {
+                let frame = if turn % 2 == 0 {
+                    two_stop_bits()
+                } else {
+                    Config::DEFAULT
+                };
+                assert_eq!(uart.set_frame(&frame), Ok(()));
+                assert_eq!(
+                    (
+                        uart.backend().fault(),
+                        uart.lcr().contains(LCR::MORE_STOP_BITS)
+                    ),
+                    (None, turn % 2 == 0)
+                );
+                let count = uart.receive_bytes(&mut slots);
+                received.extend_from_slice(&slots[..count]);
+                has_overrun |= uart.lsr().contains(LSR::OVERRUN_ERROR);
+            }
+            while let Ok(byte) = uart.try_receive_byte() {
+                received.push(byte);
+            }
+            has_overrun |= uart.lsr().contains(LSR::OVERRUN_ERROR);
+            let chip = chip(&mut uart);
+            let left = chip.arriving.len() + chip.received.len();
+            assert_eq!(received.len() + chip.discarded + left, 100);
+            assert!(received.is_sorted_by(|a, b| a < b));
+            assert_eq!(has_overrun, chip.discarded > 0);
+            assert_eq!(chip.latch, [12, 0]);
+            discarded += chip.discarded;
+        }
+        assert!(discarded > 0);
+    }
+
+    /// A busy chip whose characters have errors, which LSR shows for the one at the front, and once.
+    struct Faulty {
+        waiting: VecDeque<Received>,
+        cells: [u8; 8],
+    }
+
+    impl Backend for Faulty {
+        fn read(&mut self, register_offset: u8) -> u8 {
+            match usize::from(register_offset) {
+                offsets::DATA => self.waiting.pop_front().map_or(0, |received| received.byte),
+                offsets::LSR => {
+                    let front = self.waiting.front_mut();
+                    let shown = front
+                        .map(|received| std::mem::take(&mut received.errors) | LSR::DATA_READY);
+                    shown.unwrap_or_default().bits()
+                }
+                offset => self.cells[offset],
+            }
+        }
+
+        fn write(&mut self, register_offset: u8, value: u8) {
+            match usize::from(register_offset) {
+                offsets::DATA => {}
+                offsets::LCR if !self.waiting.is_empty() => {}
+                offset => self.cells[offset] = value,
+            }
+        }
+    }
+
+    impl DesignWareRegisters for Faulty {
+        fn read_usr(&mut self) -> u8 {
+            u8::from(!self.waiting.is_empty())
+        }
+    }
+
+    /// What is kept has its own errors, and what comes behind it too. An overrun is told at once.
+    #[test]
+    fn kept_data_have_their_errors() {
+        let character = |byte, errors| Received { byte, errors };
+        let kept = [
+            character(b'a', LSR::PARITY_ERROR),
+            character(b'b', LSR::empty()),
+            character(0, LSR::BREAK_INTERRUPT | LSR::FRAMING_ERROR),
+        ];
+        let behind = [
+            character(b'd', LSR::empty()),
+            character(b'e', LSR::PARITY_ERROR),
+        ];
+        let faulty = Faulty {
+            waiting: VecDeque::from(kept),
+            cells: [0; 8],
+        };
+        let mut uart = Uart16550::new_with_backend(DesignWare::new(faulty, PATIENCE));
+        assert_eq!(uart.set_frame(&two_stop_bits()), Ok(()));
+        uart.backend_mut().registers_mut().waiting.extend(behind);
+        let mut slots = [character(0xff, LSR::empty()); 8];
+        assert_eq!(uart.receive_with_errors(&mut slots), 5);
+        assert_eq!(slots[..3], kept);
+        assert_eq!(slots[3..5], behind);
+        let errors = LSR::PARITY_ERROR | LSR::BREAK_INTERRUPT | LSR::FRAMING_ERROR;
+        assert_eq!(uart.lsr() & LSR::LINE_ERRORS, errors);
+        assert!(uart.lsr().is_empty());
+
+        let overrun = [
+            character(b'a', LSR::OVERRUN_ERROR),
+            character(b'b', LSR::empty()),
+        ];
+        uart.backend_mut().registers_mut().waiting.extend(overrun);
+        assert_eq!(uart.set_frame(&Config::DEFAULT), Ok(()));
+        assert!(uart.lsr().contains(LSR::OVERRUN_ERROR));
+        assert_eq!(uart.try_receive_byte(), Ok(b'a'));
+        assert!(!uart.lsr().contains(LSR::OVERRUN_ERROR));
+
+        // Errors of a byte that is read without a look are told afterwards.
+        let unseen = [character(b'f', LSR::PARITY_ERROR)];
+        uart.backend_mut().registers_mut().waiting.extend(unseen);
+        assert_eq!(uart.set_frame(&Config::DEFAULT), Ok(()));
+        while uart.backend_mut().read(offsets::DATA as u8) != b'f' {}
+        assert!(uart.lsr().contains(LSR::PARITY_ERROR));
+    }
+
+    /// What empties the chip's receiver empties what is kept.
+    #[test]
+    fn kept_data_are_discarded_by_a_reset() {
+        for action in [FifoAction::Reset, FifoAction::Disable] {
+            let mut uart = ready(FAULT);
+            chip(&mut uart).received.extend(b"abc");
+            assert_eq!(uart.set_frame(&two_stop_bits()), Ok(()));
+            uart.quiesce(MCR::READY, action);
+            assert!(uart.try_receive_byte().is_err());
+        }
+    }
+
+    /// A chip that becomes busy after each look at USR: its last interrupt for that is ended too.
+    #[test]
+    fn a_write_that_is_always_ignored() {
+        struct Racing {
+            is_busy_detected: bool,
+        }
+
+        impl Backend for Racing {
+            fn read(&mut self, _register_offset: u8) -> u8 {
+                0
+            }
+
+            fn write(&mut self, register_offset: u8, _value: u8) {
+                self.is_busy_detected |= usize::from(register_offset) == offsets::LCR;
+            }
+        }
+
+        impl DesignWareRegisters for Racing {
+            fn read_usr(&mut self) -> u8 {
+                self.is_busy_detected = false;
+                0
+            }
+        }
+
+        let racing = Racing {
+            is_busy_detected: false,
+        };
+        let mut uart = Uart16550::new_with_backend(DesignWare::new(racing, PATIENCE));
+        assert_eq!(uart.set_frame(&Config::DEFAULT), Ok(()));
+        let fault = Some(DesignWareFault::LineControlIgnored);
+        assert_eq!(uart.backend().fault(), fault);
+        assert!(!uart.backend_mut().registers_mut().is_busy_detected);
+    }
+
+    /// A chip that stays busy: the frame is not set, `check_configured` says so, nothing of the divisor goes to the line
+    /// or to IER, and the chip interrupts nobody. Once it is idle, the next frame is taken, and its interrupts are back.
+    #[test]
+    fn a_chip_that_stays_busy() {
+        let mut uart = ready(FAULT);
+        uart.enable_interrupts(IER::DATA_READY);
+        chip(&mut uart).send_for(b'x', 1_000_000);
+        assert_eq!(uart.set_frame(&two_stop_bits()), Ok(()));
+        let ignored = ConfigurationError::LineControl {
+            expected: LINE | LCR::MORE_STOP_BITS,
+            shown: LINE,
+        };
+        assert_eq!(uart.check_configured(MCR::READY), Err(ignored));
+        let fault = Some(DesignWareFault::LineControlIgnored);
+        assert_eq!(uart.backend().fault(), fault);
+        uart.enable_interrupts(IER::DATA_READY);
+        chip(&mut uart).received.push_back(b'r');
+        assert!(!chip(&mut uart).is_interrupting());
+        assert_eq!(chip(&mut uart).cells[offsets::IER], 0);
+        assert_eq!((chip(&mut uart).latch, chip(&mut uart).lost), ([12, 0], 0));
+        chip(&mut uart).rest();
+        assert_eq!(chip(&mut uart).sent, [b'x']);
+        assert_eq!(uart.set_frame(&two_stop_bits()), Ok(()));
+        assert_eq!(uart.check_configured(MCR::READY), Ok(()));
+        assert_eq!(uart.backend().fault(), None);
+        assert_eq!(uart.try_receive_byte(), Ok(b'r'));
+    }
+
+    /// A chip that never takes LCR again once DLAB is set. Neither data nor THR can be reached: nothing is received,
+    /// and a send stalls.
+    #[test]
+    fn a_latch_that_does_not_close() {
+        let mut uart = ready(FAULT);
+        chip(&mut uart).cells[offsets::LCR] |= LCR::DLAB.bits();
+        chip(&mut uart).send_for(b'x', 1_000_000);
+        assert_eq!(uart.set_frame(&two_stop_bits()), Ok(()));
+        let fault = Some(DesignWareFault::LineControlIgnored);
+        assert_eq!(uart.backend().fault(), fault);
+        chip(&mut uart).received.push_back(b'r');
+        assert!(uart.try_receive_byte().is_err());
+        assert_eq!(
+            uart.send_bytes_exact(b"hello"),
+            Err(StalledError { done: 0 })
+        );
+        assert_eq!(uart.backend_mut().read(offsets::DATA as u8), 0);
+        uart.backend_mut().write(offsets::DATA as u8, 0x55);
+        assert!(uart.check_configured(MCR::READY).is_err());
+        assert_eq!(chip(&mut uart).received, [b'r']);
+    }
+
+    #[test]
+    fn busy_detect() {
+        let mut ring = rings(FAULT);
+        chip(ring.inner_mut()).is_busy_detected = true;
+        assert!(chip(ring.inner_mut()).is_interrupting());
+        let idle = Handled {
+            served: 0,
+            end: HandleEnd::Idle,
+        };
+        assert_eq!(ring.handle(32), idle);
+        assert!(!chip(ring.inner_mut()).is_interrupting());
+    }
+
+    #[test]
+    fn a_timeout_without_data() {
+        let mut ring = rings(Fault::TimesOutWithoutData);
+        chip(ring.inner_mut()).is_timed_out = true;
+        assert_eq!(ring.handle(32).end, HandleEnd::Idle);
+        assert!(!chip(ring.inner_mut()).is_interrupting());
+        // One with data is served as any.
+        chip(ring.inner_mut()).received.push_back(b'r');
+        chip(ring.inner_mut()).is_timed_out = true;
+        assert_eq!(ring.handle(32).end, HandleEnd::Idle);
+        let mut slots = [0; 4];
+        assert_eq!((ring.take(&mut slots), slots[0]), (1, b'r'));
+    }
+
+    /// Data that were kept while LCR was written raise no interrupt, but a handler that is called takes them.
+    #[test]
+    fn kept_data_are_served() {
+        let mut ring = rings(FAULT);
+        chip(ring.inner_mut()).received.extend(b"abc");
+        assert_eq!(ring.inner_mut().set_frame(&two_stop_bits()), Ok(()));
+        assert!(!chip(ring.inner_mut()).is_interrupting());
+        assert_eq!(ring.handle(32).end, HandleEnd::Idle);
+        let mut slots = [0; 4];
+        assert_eq!((ring.take(&mut slots), &slots[..3]), (3, &b"abc"[..]));
+    }
+
+    /// An interrupt that a read of USR, or of RBR, does not end: the chip's interrupts are off then.
+    #[test]
+    fn an_interrupt_that_does_not_end() {
+        for cause in [0x07, 0x0c] {
+            let mut ring = rings(Fault::Stuck(cause));
+            assert!(chip(ring.inner_mut()).is_interrupting());
+            let before = ring.handle(32);
+            assert_eq!((before.served, before.end), (0, HandleEnd::Idle));
+            let fault = Some(DesignWareFault::InterruptWithoutEnd);
+            assert_eq!(ring.inner_mut().backend().fault(), fault);
+            ring.queue(&[7; 20]);
+            assert!(!chip(ring.inner_mut()).is_interrupting());
+        }
+    }
+}
+
 mod thr_empty {
     use super::*;
 
@@ -289,6 +708,23 @@ mod thr_empty {
         assert_eq!(sleeps.count(), 2);
     }
 
+    /// What a program can do without a timer: `resume_transmit` after each `queue` looks once more.
+    #[test]
+    fn that_is_looked_at_after_each_queue() {
+        for accesses in 0..200 {
+            let mut ring = rings(Fault::SilentWhenEnabled);
+            ring.queue(&[7; 16]);
+            ring.resume_transmit();
+            for _ in 0..accesses {
+                ring.inner_mut().spr();
+            }
+            ring.queue(&[8; 4]);
+            ring.resume_transmit();
+            assert!(serve(&mut ring));
+            assert_eq!(ring.transmit_len(), 0);
+        }
+    }
+
     /// A look at ISR acknowledges the interrupt, on every chip, and then it does not come again. `isr`,
     /// `attach` and the dump say so.
     #[test]
@@ -306,8 +742,7 @@ mod thr_empty {
     }
 
     /// A chip that does not keep the bit of IER never interrupts for it: the rings sleep from the first
-    /// burst on. `ier` tells. A call that compares what registers keep with what was written would find
-    /// it before the first byte.
+    /// burst on. `ier` tells, and `check_configured` after an `init` with this interrupt, before the first byte.
     #[test]
     fn that_cannot_be_enabled() {
         let mut ring = rings(Fault::Keeps {
@@ -431,9 +866,8 @@ mod registers {
         assert_eq!(uart.send_bytes_exact(b"hello"), Ok(()));
     }
 
-    /// `init` does not look whether registers keep what it writes: it returns Ok. The dump shows it.
-    ///
-    /// A call that compares, register by register, would make each an error.
+    /// `init` does not look whether registers keep what it writes: it returns Ok. The dump shows it, and
+    /// `check_configured` makes each an error.
     #[test]
     fn that_do_not_keep_what_is_written() {
         let frame = Config {
@@ -446,7 +880,33 @@ mod registers {
             assert_eq!(uart.init(frame.clone()), Ok(()));
             uart.config_register_dump()
         };
-        let outputs = MCR::DTR | MCR::RTS | MCR::OUT_2_INT_ENABLE;
+        let outputs = MCR::READY;
+        let check = |offset, bits| {
+            let mut uart = over(Fault::Keeps { offset, bits });
+            uart.init(frame.clone()).unwrap();
+            uart.check_configured(outputs)
+        };
+        assert_eq!(check(offsets::SPR, 0xff), Ok(()));
+        let interrupts = ConfigurationError::Interrupts {
+            expected: IER::DATA_READY,
+            shown: IER::empty(),
+        };
+        assert_eq!(check(offsets::IER, 0), Err(interrupts));
+        let control = ConfigurationError::ModemControl {
+            expected: outputs,
+            shown: MCR::DTR,
+        };
+        assert_eq!(check(offsets::MCR, MCR::DTR.bits()), Err(control));
+        let line = ConfigurationError::LineControl {
+            expected: LINE | LCR::MORE_STOP_BITS,
+            shown: LINE,
+        };
+        assert_eq!(check(offsets::LCR, (LINE | LCR::DLAB).bits()), Err(line));
+        let latch = ConfigurationError::LineControl {
+            expected: LINE | LCR::MORE_STOP_BITS | LCR::DLAB,
+            shown: LINE | LCR::MORE_STOP_BITS,
+        };
+        assert_eq!(check(offsets::LCR, (!LCR::DLAB).bits()), Err(latch));
         let dump = keeps(offsets::IER, 0);
         assert_eq!((dump.ier, dump.mcr), (IER::empty(), outputs));
         let dump = keeps(offsets::MCR, MCR::DTR.bits());

@@ -5,7 +5,8 @@ use std::num::NonZeroUsize;
 use std::panic::{AssertUnwindSafe, catch_unwind};
 use std::ptr::NonNull;
 use uart_16550::native::backend::{
-    Backend, ByteOrder, InvalidLayoutError, RegisterLayout, RegisterWidth, WideMemory,
+    Backend, ByteOrder, DesignWareMemory, DesignWareRegisters, InvalidLayoutError, RegisterLayout,
+    RegisterWidth, WideMemory,
 };
 use uart_16550::native::{BaudRate, Config, InvalidAddressError, Uart16550};
 use uart_16550::spec::registers::{LSR, offsets};
@@ -207,6 +208,42 @@ fn texts_and_causes() {
         assert!(error.source().is_none());
     }
     assert_eq!(InvalidLayoutError::from(address), InvalidAddress(address));
+}
+
+/// USR, the 32nd register, has an address too.
+#[test]
+fn registers_of_design_ware() {
+    let mut words = [0_u32; 32];
+    words[31] = 0x1_55;
+    let base = NonNull::from(&mut words).cast();
+    // SAFETY: the words are there, and nothing else accesses them in between.
+    let mut registers = unsafe { DesignWareMemory::new(base, RegisterLayout::WORDS) }.unwrap();
+    assert_eq!(registers.read_usr(), 0x55);
+    registers.write(offsets::SPR as u8, 0x5a);
+    assert_eq!(registers.read(offsets::SPR as u8), 0x5a);
+    assert_eq!((words[offsets::SPR], words[31]), (0x5a, 0x155));
+
+    let at = |base: usize, layout| {
+        let base = NonZeroUsize::new(base).unwrap();
+        // SAFETY: no access is made.
+        unsafe { DesignWareMemory::from_address(base, layout) }.map(|_registers| ())
+    };
+    let last = usize::MAX - 31 * 4 - 3;
+    assert_eq!(at(last, RegisterLayout::WORDS), Ok(()));
+    let beyond = InvalidAddressError::InvalidBaseAddress(last + 4);
+    let refused = Err(InvalidLayoutError::InvalidAddress(beyond));
+    assert_eq!(at(last + 4, RegisterLayout::WORDS), refused);
+    let misaligned = InvalidLayoutError::MisalignedBase {
+        base: 0x1002,
+        width: RegisterWidth::Bits32,
+    };
+    assert_eq!(at(0x1002, RegisterLayout::WORDS), Err(misaligned));
+    // SAFETY: no access is made.
+    const CONSOLE: Result<DesignWareMemory, InvalidLayoutError> = unsafe {
+        let base = NonZeroUsize::new(0xff1a_0000).unwrap();
+        DesignWareMemory::from_address(base, RegisterLayout::WORDS)
+    };
+    const { assert!(CONSOLE.is_ok()) };
 }
 
 #[test]

@@ -100,6 +100,12 @@ enum u16550_ring_error {
     U16550_RING_OUT_OF_MEMORY = 91 /* the memory is smaller than both capacities together */
 };
 
+/* Why a chip is stuck. */
+enum u16550_stuck_error {
+    U16550_RING_STUCK_UNKNOWN = 92, /* ISR shows an interrupt that has no name */
+    U16550_RING_STUCK_PENDING = 93 /* ISR shows an interrupt that was served and does not go away */
+};
+
 /* Why no frame was set. */
 enum u16550_frame_error {
     U16550_FRAME_NON_INTEGER_DIVISOR = 100, /* no whole divisor gives the baud rate; no access was made */
@@ -120,6 +126,16 @@ enum u16550_attach_error {
 };
 
 enum u16550_fifos_error { U16550_FIFOS_OFF = 130 }; /* the FIFOs are off, so they have no trigger level */
+
+/* What a chip does not show of what was written to it. The first difference is told, in this order. */
+enum u16550_configuration_error {
+    U16550_CONFIGURATION_NO_DIVISOR = 140, /* the driver's configuration has no divisor; no access was made */
+    U16550_CONFIGURATION_LINE_CONTROL = 141, /* LCR shows another frame, or DLAB was not set or not cleared */
+    U16550_CONFIGURATION_MODEM_CONTROL = 142,
+    U16550_CONFIGURATION_INTERRUPTS = 143,
+    U16550_CONFIGURATION_DIVISOR = 144,
+    U16550_CONFIGURATION_FIFOS = 145 /* ISR shows otherwise than u16550_fifo_enabled whether they are on */
+};
 
 /* Returns a text for what a function returned, for a log. Never null. */
 const char *u16550_text(int status);
@@ -231,6 +247,9 @@ struct u16550_loopback_failure {
     uint8_t expected_msg[16], actual_msg[16];
 };
 
+/* What was expected of a register, and what it shows. For FIFOs 1 says that they are on. */
+struct u16550_difference { uint16_t expected, shown; };
+
 /* A received byte, and the line errors that LSR showed with it. */
 struct u16550_received {
     uint8_t byte;                       /* 0 for a break */
@@ -250,6 +269,18 @@ struct u16550_handled {
     uint8_t end;                        /* an enum u16550_handle_end */
 };
 
+/* The urgent byte of rings. */
+struct u16550_urgent {
+    uint8_t waits;                      /* whether there is one */
+    uint8_t byte;                       /* 0 if there is none */
+};
+
+/* Whether a chip is stuck. */
+struct u16550_stuck {
+    uint8_t is_stuck;
+    uint8_t isr;                        /* bits 3 to 0 of ISR, which showed why; 0 if it is not stuck */
+};
+
 U16550_ASSERT(sizeof(struct u16550) == 224, "struct u16550");
 U16550_ASSERT(sizeof(struct u16550_io) == 3 * sizeof(void *), "struct u16550_io");
 U16550_ASSERT(sizeof(struct u16550_layout) == 3, "struct u16550_layout");
@@ -262,7 +293,10 @@ U16550_ASSERT(offsetof(struct u16550_state, saved_msr) == 30, "struct u16550_sta
 U16550_ASSERT(sizeof(struct u16550_dump) == 9, "struct u16550_dump");
 U16550_ASSERT(sizeof(struct u16550_setup) == 3, "struct u16550_setup");
 U16550_ASSERT(sizeof(struct u16550_loopback_failure) == 34, "struct u16550_loopback_failure");
+U16550_ASSERT(sizeof(struct u16550_difference) == 4, "struct u16550_difference");
 U16550_ASSERT(sizeof(struct u16550_received) == 2, "struct u16550_received");
+U16550_ASSERT(sizeof(struct u16550_urgent) == 2, "struct u16550_urgent");
+U16550_ASSERT(sizeof(struct u16550_stuck) == 2, "struct u16550_stuck");
 U16550_ASSERT(offsetof(struct u16550_received, errors) == 1, "struct u16550_received");
 U16550_ASSERT(sizeof(struct u16550_handled) == 2 * sizeof(size_t), "struct u16550_handled");
 U16550_ASSERT(offsetof(struct u16550_handled, end) == sizeof(size_t), "struct u16550_handled");
@@ -343,6 +377,14 @@ int u16550_init_with(struct u16550 *uart, const struct u16550_config *config, co
  * may be null.
  */
 int u16550_test_loopback(struct u16550 *uart, struct u16550_loopback_failure *failure);
+
+/*
+ * Whether the chip shows what was written to it: the frame, these outputs, which after u16550_init are 0x0b, the interrupts, the
+ * divisor, and whether the FIFOs are on. Call it after a call that sets the chip up, if the chip may ignore a write. Returns an
+ * enum u16550_configuration_error if a register differs; *difference then has both values. difference may be null. It reads the
+ * latch only if LCR shows DLAB, writes LCR back, and is without interrupts while it reads ISR.
+ */
+int u16550_check_configured(struct u16550 *uart, uint8_t outputs, struct u16550_difference *difference);
 
 /* Whether a remote is there and ready to receive. Returns an enum u16550_remote_error if not. */
 int u16550_check_connected(struct u16550 *uart);
@@ -425,6 +467,12 @@ int u16550_try_send_byte(struct u16550 *uart, uint8_t byte);
 /* Receive what is there, or send one burst, without waiting. *count is how many bytes it was, perhaps 0. */
 int u16550_receive_bytes(struct u16550 *uart, uint8_t *buffer, size_t len, size_t *count);
 int u16550_send_bytes(struct u16550 *uart, const uint8_t *buffer, size_t len, size_t *count);
+
+/*
+ * The same as u16550_send_bytes for a chip whose transmitter FIFO has 16, 32, 64, 128 or 256 characters: one burst of that size.
+ * On a chip with fewer the bytes that do not fit are lost.
+ */
+int u16550_send_burst(struct u16550 *uart, const uint8_t *buffer, size_t len, uint16_t fifo_size, size_t *count);
 
 /*
  * The same as u16550_try_receive_byte and u16550_receive_bytes, with the line errors of each byte. A chip shows these once: if
@@ -557,6 +605,38 @@ int u16550_ring_is_paused(struct u16550 *uart, uint8_t *paused);
 /* Queues bytes to be sent, as many as there is room for. *count is how many. */
 int u16550_ring_queue(struct u16550 *uart, const uint8_t *buffer, size_t len, size_t *count);
 
+/* How many more bytes can be queued. */
+int u16550_ring_transmit_room(struct u16550 *uart, size_t *room);
+
+/*
+ * Holds the bytes that are queued: what is in the chip goes out, and nothing more is handed over. The release starts sending
+ * again, and misses no interrupt that came meanwhile.
+ */
+int u16550_ring_hold_transmit(struct u16550 *uart);
+int u16550_ring_release_transmit(struct u16550 *uart);
+int u16550_ring_is_held(struct u16550 *uart, uint8_t *held);
+
+/*
+ * Sends a byte before all that wait, as XON and XOFF are, also during a hold. There is one place: a byte that still waits there is
+ * replaced, and *replaced is that byte. The second tells which byte still waits.
+ */
+int u16550_ring_queue_urgent(struct u16550 *uart, uint8_t byte, struct u16550_urgent *replaced);
+int u16550_ring_urgent(struct u16550 *uart, struct u16550_urgent *urgent);
+
+/*
+ * Drop the bytes that are queued, and those that were received and not taken. *count is how many. An urgent byte and what is in the
+ * chip stay.
+ */
+int u16550_ring_clear_transmit(struct u16550 *uart, size_t *count);
+int u16550_ring_clear_receive(struct u16550 *uart, size_t *count);
+
+/*
+ * The low mark, a number of queued bytes, is 0 at first. *low is whether their number fell from above the mark to the mark or
+ * below since the last call. Ask at the end of the handler, and wake who waits for room.
+ */
+int u16550_ring_set_low_mark(struct u16550 *uart, size_t mark);
+int u16550_ring_take_low(struct u16550 *uart, uint8_t *low);
+
 /* Takes received bytes, as many as there are and as there is room for. *count is how many. */
 int u16550_ring_take(struct u16550 *uart, uint8_t *buffer, size_t len, size_t *count);
 
@@ -576,6 +656,23 @@ int u16550_ring_resume_transmit(struct u16550 *uart);
  * controller, or it comes for ever.
  */
 int u16550_ring_handle(struct u16550 *uart, size_t limit, struct u16550_handled *handled);
+
+/*
+ * Handles the interrupt as u16550_ring_handle does, and ends a storm. If so many rounds in a row have ended with another end
+ * than U16550_HANDLE_IDLE, it reads ISR once more. If that still shows an interrupt, the chip is stuck: the call writes 0 to
+ * IER, and returns an enum u16550_stuck_error. While the chip is stuck, each further call writes 0 to IER again and returns the
+ * same, and the rings hand no byte to the chip. 100 rounds are 3,200 interrupts without a pause, if the limit is 32.
+ */
+int u16550_ring_try_handle(struct u16550 *uart, size_t limit, uint32_t rounds, struct u16550_handled *handled);
+
+/* Whether the chip is stuck, and what ISR showed. */
+int u16550_ring_stuck(struct u16550 *uart, struct u16550_stuck *stuck);
+
+/*
+ * Starts a chip again that is stuck: enables these interrupts, U16550_IER_DATA_READY not while receiving is paused, and sends
+ * what waits. After u16550_init, which enables interrupts itself, give 0.
+ */
+int u16550_ring_restart(struct u16550 *uart, uint8_t interrupts);
 
 /* The same as u16550_retrigger_interrupts. */
 int u16550_ring_retrigger(struct u16550 *uart);

@@ -64,6 +64,23 @@ pub unsafe extern "C" fn u16550_send_bytes(
 }
 
 #[unsafe(no_mangle)]
+pub unsafe extern "C" fn u16550_send_burst(
+    uart: *mut Memory,
+    buffer: *const u8,
+    len: usize,
+    fifo_size: u16,
+    count: *mut usize,
+) -> c_int {
+    // SAFETY: the caller promises that pointers are null or valid.
+    unsafe {
+        report(uart, count, |driver| {
+            let size = crate::data::fifo_size(fifo_size)?;
+            Ok(driver.send_burst(bytes(buffer, len)?, size))
+        })
+    }
+}
+
+#[unsafe(no_mangle)]
 pub unsafe extern "C" fn u16550_try_receive_with_errors(
     uart: *mut Memory,
     received: *mut CReceived,

@@ -4,12 +4,13 @@ use crate::status::Failure;
 use core::mem::{offset_of, size_of};
 use core::num::NonZeroU64;
 use uart_16550::native::spec::registers::{
-    FifoTriggerLevel, IER, ISR, LCR, LSR, MCR, MSR, Parity, WordLength,
+    FifoTriggerLevel, IER, ISR, InterruptType, LCR, LSR, MCR, MSR, Parity, WordLength,
 };
 use uart_16550::native::{
-    BaudRate, Config, ConfigRegisterDump, DriverState, FifoAction, Received, Setup, TransmitterWait,
+    BaudRate, Config, ConfigRegisterDump, ConfigurationError, DriverState, FifoAction, FifoSize, Received,
+    Setup, TransmitterWait,
 };
-use uart_16550::ring::{HandleEnd, Handled};
+use uart_16550::ring::{HandleEnd, Handled, StuckError};
 
 // The largest prescaler division factor of which a divisor can be computed.
 const MAX_PRESCALER: u32 = 15;
@@ -316,6 +317,48 @@ pub struct CLoopbackFailure {
 
 const _: () = assert!(size_of::<CLoopbackFailure>() == 34);
 
+/// The header's `struct u16550_difference`.
+#[repr(C)]
+#[derive(Clone, Copy, Default)]
+pub struct CDifference {
+    expected: u16,
+    shown: u16,
+}
+
+const _: () = assert!(size_of::<CDifference>() == 4 && offset_of!(CDifference, shown) == 2);
+
+impl From<&ConfigurationError> for CDifference {
+    fn from(error: &ConfigurationError) -> Self {
+        let (expected, shown) = match *error {
+            ConfigurationError::NoDivisor => (0, 0),
+            ConfigurationError::LineControl { expected, shown } => {
+                (expected.bits().into(), shown.bits().into())
+            }
+            ConfigurationError::ModemControl { expected, shown } => {
+                (expected.bits().into(), shown.bits().into())
+            }
+            ConfigurationError::Interrupts { expected, shown } => {
+                (expected.bits().into(), shown.bits().into())
+            }
+            ConfigurationError::Divisor { expected, shown } => (expected, shown),
+            ConfigurationError::Fifos { expected, shown } => (expected.into(), shown.into()),
+        };
+        Self { expected, shown }
+    }
+}
+
+/// Returns the size of a FIFO of so many characters.
+pub fn fifo_size(characters: u16) -> Result<FifoSize, Failure> {
+    match characters {
+        16 => Ok(FifoSize::Sixteen),
+        32 => Ok(FifoSize::ThirtyTwo),
+        64 => Ok(FifoSize::SixtyFour),
+        128 => Ok(FifoSize::OneHundredTwentyEight),
+        256 => Ok(FifoSize::TwoHundredFiftySix),
+        _ => Err(Failure::BadCode),
+    }
+}
+
 /// The header's `struct u16550_received`.
 #[repr(C)]
 #[derive(Clone, Copy)]
@@ -354,6 +397,64 @@ impl From<Handled> for CHandled {
                 HandleEnd::Idle => 0,
                 HandleEnd::Unknown => 1,
                 HandleEnd::Limit => 2,
+            },
+        }
+    }
+}
+
+/// The header's `struct u16550_urgent`.
+#[repr(C)]
+#[derive(Clone, Copy)]
+pub struct CUrgent {
+    waits: u8,
+    byte: u8,
+}
+
+const _: () = assert!(size_of::<CUrgent>() == 2);
+
+impl From<Option<u8>> for CUrgent {
+    fn from(urgent: Option<u8>) -> Self {
+        Self {
+            waits: urgent.is_some().into(),
+            byte: urgent.unwrap_or(0),
+        }
+    }
+}
+
+/// The header's `struct u16550_stuck`.
+#[repr(C)]
+#[derive(Clone, Copy)]
+pub struct CStuck {
+    is_stuck: u8,
+    isr: u8,
+}
+
+const _: () = assert!(size_of::<CStuck>() == 2);
+
+// The low nibble of ISR.
+const IDENTIFICATION: u8 = 0x0f;
+
+// How ISR identifies an interrupt.
+const fn identification(interrupt: InterruptType) -> u8 {
+    match interrupt {
+        InterruptType::ReceiverLineStatus => 0b0110,
+        InterruptType::ReceivedDataReady => 0b0100,
+        InterruptType::ReceptionTimeout => 0b1100,
+        InterruptType::TransmitterHoldingRegisterEmpty => 0b0010,
+        InterruptType::ModemStatus => 0b0000,
+        InterruptType::DmaReceptionEndOfTransfer => 0b1110,
+        InterruptType::DmaTransmissionEndOfTransfer => 0b1010,
+    }
+}
+
+impl From<Option<StuckError>> for CStuck {
+    fn from(stuck: Option<StuckError>) -> Self {
+        Self {
+            is_stuck: stuck.is_some().into(),
+            isr: match stuck {
+                None => 0,
+                Some(StuckError::Unknown(isr)) => isr.bits() & IDENTIFICATION,
+                Some(StuckError::Pending(interrupt)) => identification(interrupt),
             },
         }
     }

@@ -1,11 +1,12 @@
 //! The rings, for use with interrupts.
 
-use crate::data::CHandled;
+use crate::data::{CHandled, CStuck, CUrgent};
 use crate::device::Device;
 use crate::memory::{Held, Memory, bytes, slots, usable, with};
 use crate::status::{Failure, status};
 use core::ffi::c_int;
 use core::mem;
+use uart_16550::native::spec::registers::IER;
 use uart_16550::ring::{Memory as RingMemory, Uart16550Ring};
 
 type Rings = Uart16550Ring<Device>;
@@ -172,4 +173,105 @@ pub unsafe extern "C" fn u16550_ring_take_line(uart: *mut Memory, lsr: *mut u8) 
 pub unsafe extern "C" fn u16550_ring_take_modem(uart: *mut Memory, msr: *mut u8) -> c_int {
     // SAFETY: the caller promises that pointers are null or valid.
     unsafe { report(uart, msr, |ring| Ok(ring.take_modem().bits())) }
+}
+
+// Makes a call over the rings that returns nothing.
+unsafe fn order(uart: *mut Memory, call: impl FnOnce(&mut Rings)) -> c_int {
+    let order = |held: &mut Held| {
+        call(held.ring()?);
+        Ok(())
+    };
+    // SAFETY: the caller promises that the pointer is null or valid.
+    status(unsafe { with(uart, order) })
+}
+
+#[unsafe(no_mangle)]
+pub unsafe extern "C" fn u16550_ring_transmit_room(uart: *mut Memory, room: *mut usize) -> c_int {
+    // SAFETY: the caller promises that pointers are null or valid.
+    unsafe { report(uart, room, |ring| Ok(ring.transmit_room())) }
+}
+
+#[unsafe(no_mangle)]
+pub unsafe extern "C" fn u16550_ring_hold_transmit(uart: *mut Memory) -> c_int {
+    // SAFETY: the caller promises that the pointer is null or valid.
+    unsafe { order(uart, |ring| ring.hold_transmit()) }
+}
+
+#[unsafe(no_mangle)]
+pub unsafe extern "C" fn u16550_ring_release_transmit(uart: *mut Memory) -> c_int {
+    // SAFETY: the caller promises that the pointer is null or valid.
+    unsafe { order(uart, |ring| ring.release_transmit()) }
+}
+
+#[unsafe(no_mangle)]
+pub unsafe extern "C" fn u16550_ring_is_held(uart: *mut Memory, held: *mut u8) -> c_int {
+    // SAFETY: the caller promises that pointers are null or valid.
+    unsafe { report(uart, held, |ring| Ok(ring.is_held().into())) }
+}
+
+#[unsafe(no_mangle)]
+pub unsafe extern "C" fn u16550_ring_queue_urgent(
+    uart: *mut Memory,
+    byte: u8,
+    replaced: *mut CUrgent,
+) -> c_int {
+    // SAFETY: the caller promises that pointers are null or valid.
+    unsafe { report(uart, replaced, |ring| Ok(ring.queue_urgent(byte).into())) }
+}
+
+#[unsafe(no_mangle)]
+pub unsafe extern "C" fn u16550_ring_urgent(uart: *mut Memory, urgent: *mut CUrgent) -> c_int {
+    // SAFETY: the caller promises that pointers are null or valid.
+    unsafe { report(uart, urgent, |ring| Ok(ring.urgent().into())) }
+}
+
+#[unsafe(no_mangle)]
+pub unsafe extern "C" fn u16550_ring_clear_transmit(uart: *mut Memory, count: *mut usize) -> c_int {
+    // SAFETY: the caller promises that pointers are null or valid.
+    unsafe { report(uart, count, |ring| Ok(ring.clear_transmit())) }
+}
+
+#[unsafe(no_mangle)]
+pub unsafe extern "C" fn u16550_ring_clear_receive(uart: *mut Memory, count: *mut usize) -> c_int {
+    // SAFETY: the caller promises that pointers are null or valid.
+    unsafe { report(uart, count, |ring| Ok(ring.clear_receive())) }
+}
+
+#[unsafe(no_mangle)]
+pub unsafe extern "C" fn u16550_ring_set_low_mark(uart: *mut Memory, mark: usize) -> c_int {
+    // SAFETY: the caller promises that the pointer is null or valid.
+    unsafe { order(uart, |ring| ring.set_low_mark(mark)) }
+}
+
+#[unsafe(no_mangle)]
+pub unsafe extern "C" fn u16550_ring_take_low(uart: *mut Memory, low: *mut u8) -> c_int {
+    // SAFETY: the caller promises that pointers are null or valid.
+    unsafe { report(uart, low, |ring| Ok(ring.take_low().into())) }
+}
+
+#[unsafe(no_mangle)]
+pub unsafe extern "C" fn u16550_ring_try_handle(
+    uart: *mut Memory,
+    limit: usize,
+    rounds: u32,
+    handled: *mut CHandled,
+) -> c_int {
+    // SAFETY: the caller promises that pointers are null or valid.
+    unsafe {
+        report(uart, handled, |ring| {
+            Ok(ring.try_handle(limit, rounds)?.into())
+        })
+    }
+}
+
+#[unsafe(no_mangle)]
+pub unsafe extern "C" fn u16550_ring_stuck(uart: *mut Memory, stuck: *mut CStuck) -> c_int {
+    // SAFETY: the caller promises that pointers are null or valid.
+    unsafe { report(uart, stuck, |ring| Ok(ring.stuck().into())) }
+}
+
+#[unsafe(no_mangle)]
+pub unsafe extern "C" fn u16550_ring_restart(uart: *mut Memory, interrupts: u8) -> c_int {
+    // SAFETY: the caller promises that the pointer is null or valid.
+    unsafe { order(uart, |ring| ring.restart(IER::from_bits_retain(interrupts))) }
 }

@@ -1,7 +1,7 @@
 //! What the driver keeps, its initialisation, and its tests.
 
 use crate::data::{
-    CConfig, CDump, CLoopbackFailure, CSetup, CState, fifo_action, flag, level, spin_limit,
+    CConfig, CDifference, CDump, CLoopbackFailure, CSetup, CState, fifo_action, flag, level, spin_limit,
 };
 use crate::device::Io;
 use crate::memory::{Driver, Memory, given, usable, with};
@@ -312,6 +312,27 @@ pub unsafe extern "C" fn u16550_test_loopback(
     };
     // SAFETY: the same.
     unsafe { perform(uart, test) }
+}
+
+#[unsafe(no_mangle)]
+pub unsafe extern "C" fn u16550_check_configured(
+    uart: *mut Memory,
+    outputs: u8,
+    difference: *mut CDifference,
+) -> c_int {
+    let check = |driver: &mut Driver| {
+        if !difference.is_aligned() {
+            return Err(Failure::Misaligned);
+        }
+        let outcome = driver.check_configured(MCR::from_bits_retain(outputs));
+        if let (Err(error), false) = (&outcome, difference.is_null()) {
+            // SAFETY: the caller promises that the pointer is null or valid.
+            unsafe { difference.write(CDifference::from(error)) };
+        }
+        outcome.map_err(|error| Failure::from(&error))
+    };
+    // SAFETY: the same.
+    unsafe { perform(uart, check) }
 }
 
 #[unsafe(no_mangle)]

@@ -3,11 +3,11 @@
 use core::ffi::{CStr, c_char, c_int};
 use uart_16550::native::backend::InvalidLayoutError;
 use uart_16550::native::{
-    AttachError, ByteReceiveError, ByteSendError, FifosOffError, FrameError, InitError, InvalidAddressError,
+    AttachError, ByteReceiveError, ByteSendError, ConfigurationError, FifosOffError, FrameError, InitError, InvalidAddressError,
     InvalidDivisorError, LoopbackError, NearestDivisorError, NonIntegerBaudRateError,
     RemoteReadyToReceiveError, StalledError,
 };
-use uart_16550::ring::RingError;
+use uart_16550::ring::{RingError, StuckError};
 
 /// Why a call did not do what it is for. The header has the same numbers: those of misuses are negative.
 #[derive(Clone, Copy)]
@@ -48,6 +48,8 @@ pub enum Failure {
     NonIntegerBaudRate = 80,
     RingBadCapacity = 90,
     RingOutOfMemory = 91,
+    RingStuckUnknown = 92,
+    RingStuckPending = 93,
     FrameNonIntegerDivisor = 100,
     FrameDivisorOutOfRange = 101,
     FrameStalled = 102,
@@ -56,10 +58,16 @@ pub enum Failure {
     AttachDivisorLatchOpen = 120,
     AttachLoopback = 121,
     FifosOff = 130,
+    ConfigurationNoDivisor = 140,
+    ConfigurationLineControl = 141,
+    ConfigurationModemControl = 142,
+    ConfigurationInterrupts = 143,
+    ConfigurationDivisor = 144,
+    ConfigurationFifos = 145,
 }
 
 impl Failure {
-    const ALL: [Self; 43] = [
+    const ALL: [Self; 51] = [
         Self::NullPointer,
         Self::Misaligned,
         Self::NotMade,
@@ -95,6 +103,8 @@ impl Failure {
         Self::NonIntegerBaudRate,
         Self::RingBadCapacity,
         Self::RingOutOfMemory,
+        Self::RingStuckUnknown,
+        Self::RingStuckPending,
         Self::FrameNonIntegerDivisor,
         Self::FrameDivisorOutOfRange,
         Self::FrameStalled,
@@ -103,6 +113,12 @@ impl Failure {
         Self::AttachDivisorLatchOpen,
         Self::AttachLoopback,
         Self::FifosOff,
+        Self::ConfigurationNoDivisor,
+        Self::ConfigurationLineControl,
+        Self::ConfigurationModemControl,
+        Self::ConfigurationInterrupts,
+        Self::ConfigurationDivisor,
+        Self::ConfigurationFifos,
     ];
 
     const fn text(self) -> &'static CStr {
@@ -142,6 +158,8 @@ impl Failure {
             Self::NonIntegerBaudRate => c"the divisor gives no whole baud rate",
             Self::RingBadCapacity => c"a ring has room for 1 to 4096 bytes",
             Self::RingOutOfMemory => c"the memory is too small for the rings",
+            Self::RingStuckUnknown => c"the chip shows an unknown interrupt for ever",
+            Self::RingStuckPending => c"an interrupt does not go away",
             Self::FrameNonIntegerDivisor => c"frame: no whole divisor gives the baud rate",
             Self::FrameDivisorOutOfRange => c"frame: the divisor for the baud rate does not fit",
             Self::FrameStalled => c"frame: the transmitter did not become empty",
@@ -150,6 +168,12 @@ impl Failure {
             Self::AttachDivisorLatchOpen => c"attach: the divisor latch was left open",
             Self::AttachLoopback => c"attach: the chip was left in loopback",
             Self::FifosOff => c"the FIFOs are off",
+            Self::ConfigurationNoDivisor => c"configured: there is no divisor for the baud rate",
+            Self::ConfigurationLineControl => c"configured: LCR does not show what was written",
+            Self::ConfigurationModemControl => c"configured: MCR does not show what was written",
+            Self::ConfigurationInterrupts => c"configured: IER does not show what was written",
+            Self::ConfigurationDivisor => c"configured: the divisor latch has another divisor",
+            Self::ConfigurationFifos => c"configured: the FIFOs are not as the driver takes them to be",
         }
     }
 }
@@ -272,6 +296,19 @@ impl From<FifosOffError> for Failure {
     }
 }
 
+impl From<&ConfigurationError> for Failure {
+    fn from(error: &ConfigurationError) -> Self {
+        match error {
+            ConfigurationError::NoDivisor => Self::ConfigurationNoDivisor,
+            ConfigurationError::LineControl { .. } => Self::ConfigurationLineControl,
+            ConfigurationError::ModemControl { .. } => Self::ConfigurationModemControl,
+            ConfigurationError::Interrupts { .. } => Self::ConfigurationInterrupts,
+            ConfigurationError::Divisor { .. } => Self::ConfigurationDivisor,
+            ConfigurationError::Fifos { .. } => Self::ConfigurationFifos,
+        }
+    }
+}
+
 impl From<AttachError> for Failure {
     fn from(error: AttachError) -> Self {
         match error {
@@ -286,6 +323,15 @@ impl From<RingError> for Failure {
         match error {
             RingError::BadCapacity => Self::RingBadCapacity,
             RingError::OutOfMemory => Self::RingOutOfMemory,
+        }
+    }
+}
+
+impl From<StuckError> for Failure {
+    fn from(error: StuckError) -> Self {
+        match error {
+            StuckError::Unknown(_) => Self::RingStuckUnknown,
+            StuckError::Pending(_) => Self::RingStuckPending,
         }
     }
 }

@@ -520,6 +520,43 @@ static void frame(void)
     MISUSE(u16550_set_frame(&uart, NULL), U16550_NULL_POINTER);
 }
 
+/* What the chip shows of what was written to it. */
+static void configured(void)
+{
+    struct u16550_difference difference = { 7, 7 };
+    ready();
+    OK(u16550_check_configured(&uart, 0x0b, &difference));
+    OK(u16550_check_configured(&uart, 0x0b | U16550_MCR_LOOP_BACK, NULL));
+    IS(difference.expected, 7);
+    d.registers[LCR] |= 0x40;
+    OK(u16550_check_configured(&uart, 0x0b, NULL));
+    d.registers[LCR] = 0x1b;
+    IS(u16550_check_configured(&uart, 0x0b, &difference), U16550_CONFIGURATION_LINE_CONTROL);
+    IS(difference.expected, 0x03);
+    IS(difference.shown, 0x1b);
+    d.registers[LCR] = 0x03;
+    IS(u16550_check_configured(&uart, 0x09, &difference), U16550_CONFIGURATION_MODEM_CONTROL);
+    IS(difference.expected, 0x09);
+    IS(difference.shown, 0x0b);
+    d.registers[IER] ^= 0x08;
+    IS(u16550_check_configured(&uart, 0x0b, &difference), U16550_CONFIGURATION_INTERRUPTS);
+    IS(difference.expected ^ difference.shown, 0x08);
+    d.registers[IER] ^= 0x08;
+    d.dll = 13;
+    d.dlm = 1;
+    IS(u16550_check_configured(&uart, 0x0b, &difference), U16550_CONFIGURATION_DIVISOR);
+    IS(difference.expected, 12);
+    IS(difference.shown, 256 + 13);
+    IS(d.registers[LCR], 0x03);
+    d.dll = 12;
+    d.dlm = 0;
+    d.fifo_on = 0;
+    IS(u16550_check_configured(&uart, 0x0b, &difference), U16550_CONFIGURATION_FIFOS);
+    IS(difference.expected, 1);
+    IS(difference.shown, 0);
+    IS(u16550_check_configured(&uart, 0x0b, NULL), U16550_CONFIGURATION_FIFOS);
+}
+
 /* A port that firmware has set up. */
 /* An initialisation otherwise, the trigger level, a frame that waits, and a port that is left and taken up again. */
 static void setup(void)
@@ -761,6 +798,31 @@ static void bytes(void)
     OK(u16550_init(&uart, &config));
     OK(u16550_send_bytes(&uart, twenty, 20, &count));
     IS(count, 1);
+    OK(u16550_send_burst(&uart, twenty, 20, 64, &count));
+    IS(count, 1);
+}
+
+/* A burst as large as the transmitter FIFO is. */
+static void bursts(void)
+{
+    static const uint8_t many[300] = { 0 };
+    static const uint16_t sizes[] = { 16, 32, 64, 128, 256 }, wrong[] = { 0, 1, 15, 17, 48, 512 };
+    size_t i, count, before;
+    for (i = 0; i < sizeof sizes / sizeof *sizes; i++) {
+        ready();
+        before = d.sent_len;
+        OK(u16550_send_burst(&uart, many, sizeof many, sizes[i], &count));
+        IS(count, sizes[i]);
+        IS(d.sent_len - before, sizes[i]);
+    }
+    ready();
+    OK(u16550_send_burst(&uart, many, 20, 64, &count));
+    IS(count, 20);
+    OK(u16550_send_burst(&uart, NULL, 0, 64, &count));
+    IS(count, 0);
+    accesses = d.accesses;
+    for (i = 0; i < sizeof wrong / sizeof *wrong; i++)
+        MISUSE(u16550_send_burst(&uart, many, sizeof many, wrong[i], &count), U16550_BAD_CODE);
 }
 
 static void exact(void)
@@ -1013,9 +1075,114 @@ static void handling(void)
     IS(handled.end, U16550_HANDLE_IDLE);
 }
 
+/* What an operating system tells the transmit ring. */
+static void telling(void)
+{
+    struct u16550_urgent urgent = { 9, 9 };
+    size_t count = 99;
+    uint8_t value = 9;
+    rings_ready();
+    OK(u16550_ring_set_low_mark(&uart, 8));
+    OK(u16550_ring_queue(&uart, (const uint8_t *)"abcdefghijklmnopqrstuvwxyz", 26, &count));
+    IS(d.sent_len, 16);
+    OK(u16550_ring_transmit_room(&uart, &count));
+    IS(count, 30);
+    OK(u16550_ring_hold_transmit(&uart));
+    OK(u16550_ring_is_held(&uart, &value));
+    IS(value, 1);
+    OK(u16550_ring_service(&uart, &count));
+    IS(d.sent_len, 16);
+    IS(d.registers[IER], config.interrupts);
+    OK(u16550_ring_queue_urgent(&uart, 0x13, &urgent));
+    IS(urgent.waits, 0);
+    IS(urgent.byte, 0);
+    IS(d.sent_len, 17);
+    BYTES(d.sent + 16, "\x13");
+    d.is_stuck = 1;
+    OK(u16550_ring_queue_urgent(&uart, 0x11, &urgent));
+    OK(u16550_ring_urgent(&uart, &urgent));
+    IS(urgent.waits, 1);
+    IS(urgent.byte, 0x11);
+    urgent.waits = urgent.byte = 0;
+    OK(u16550_ring_queue_urgent(&uart, 0x12, &urgent));
+    IS(urgent.waits, 1);
+    IS(urgent.byte, 0x11);
+    d.is_stuck = 0;
+    OK(u16550_ring_take_low(&uart, &value));
+    IS(value, 0);
+    OK(u16550_ring_release_transmit(&uart));
+    OK(u16550_ring_is_held(&uart, &value));
+    IS(value, 0);
+    BYTES(d.sent + 17, "\x12qrstuvwxyz");
+    OK(u16550_ring_take_low(&uart, &value));
+    IS(value, 1);
+    OK(u16550_ring_take_low(&uart, &value));
+    IS(value, 0);
+    d.is_stuck = 1;
+    OK(u16550_ring_queue(&uart, (const uint8_t *)"123456789", 9, &count));
+    OK(u16550_ring_clear_transmit(&uart, &count));
+    IS(count, 9);
+    OK(u16550_ring_take_low(&uart, &value));
+    IS(value, 1);
+    d.is_stuck = 0;
+    device_arrive(&d, "0123456789abcdef0123456789");
+    OK(u16550_ring_service(&uart, &count));
+    OK(u16550_ring_is_paused(&uart, &value));
+    IS(value, 1);
+    OK(u16550_ring_clear_receive(&uart, &count));
+    IS(count, 24);
+    OK(u16550_ring_is_paused(&uart, &value));
+    IS(value, 0);
+    OK(u16550_ring_clear_receive(&uart, &count));
+    IS(count, 0);
+}
+
+/* A chip that shows interrupts for ever. */
+static void storms(void)
+{
+    struct u16550_handled handled = { 9, 9 };
+    struct u16550_stuck stuck = { 9, 9 };
+    size_t count;
+    rings_ready();
+    OK(u16550_ring_stuck(&uart, &stuck));
+    IS(stuck.is_stuck, 0);
+    IS(stuck.isr, 0);
+    OK(u16550_ring_try_handle(&uart, 4, 2, &handled));
+    IS(handled.served, 0);
+    IS(handled.end, U16550_HANDLE_IDLE);
+    d.shows = 0xc8;
+    OK(u16550_ring_try_handle(&uart, 4, 2, &handled));
+    IS(handled.end, U16550_HANDLE_UNKNOWN);
+    IS(u16550_ring_try_handle(&uart, 4, 2, &handled), U16550_RING_STUCK_UNKNOWN);
+    IS(d.registers[IER], 0);
+    OK(u16550_ring_stuck(&uart, &stuck));
+    IS(stuck.is_stuck, 1);
+    IS(stuck.isr, 0x08);
+    OK(u16550_ring_queue(&uart, (const uint8_t *)"ab", 2, &count));
+    IS(count, 2);
+    IS(d.sent_len, 0);
+    d.registers[IER] = 1;
+    IS(u16550_ring_try_handle(&uart, 4, 2, &handled), U16550_RING_STUCK_UNKNOWN);
+    IS(d.registers[IER], 0);
+    OK(u16550_ring_restart(&uart, config.interrupts));
+    IS(d.registers[IER], config.interrupts);
+    BYTES(d.sent, "ab");
+    d.shows = 0xcc;
+    IS(u16550_ring_try_handle(&uart, 4, 0, &handled), U16550_RING_STUCK_PENDING);
+    OK(u16550_ring_stuck(&uart, &stuck));
+    IS(stuck.isr, 0x0c);
+    d.shows = 0;
+    OK(u16550_ring_restart(&uart, 0));
+    OK(u16550_ring_stuck(&uart, &stuck));
+    IS(stuck.is_stuck, 0);
+    IS(strcmp(u16550_text(U16550_RING_STUCK_PENDING), "an interrupt does not go away"), 0);
+}
+
 static void ring_errors(void)
 {
     struct u16550_handled handled;
+    struct u16550_urgent urgent;
+    struct u16550_stuck stuck;
     size_t count;
     uint8_t value;
     anew();
@@ -1039,6 +1206,19 @@ static void ring_errors(void)
     MISUSE(u16550_ring_resume_transmit(&uart), U16550_NO_RINGS);
     MISUSE(u16550_ring_take_line(&uart, &value), U16550_NO_RINGS);
     MISUSE(u16550_ring_take_modem(&uart, &value), U16550_NO_RINGS);
+    MISUSE(u16550_ring_transmit_room(&uart, &count), U16550_NO_RINGS);
+    MISUSE(u16550_ring_hold_transmit(&uart), U16550_NO_RINGS);
+    MISUSE(u16550_ring_release_transmit(&uart), U16550_NO_RINGS);
+    MISUSE(u16550_ring_is_held(&uart, &value), U16550_NO_RINGS);
+    MISUSE(u16550_ring_queue_urgent(&uart, 1, &urgent), U16550_NO_RINGS);
+    MISUSE(u16550_ring_urgent(&uart, &urgent), U16550_NO_RINGS);
+    MISUSE(u16550_ring_clear_transmit(&uart, &count), U16550_NO_RINGS);
+    MISUSE(u16550_ring_clear_receive(&uart, &count), U16550_NO_RINGS);
+    MISUSE(u16550_ring_set_low_mark(&uart, 1), U16550_NO_RINGS);
+    MISUSE(u16550_ring_take_low(&uart, &value), U16550_NO_RINGS);
+    MISUSE(u16550_ring_try_handle(&uart, 1, 1, &handled), U16550_NO_RINGS);
+    MISUSE(u16550_ring_stuck(&uart, &stuck), U16550_NO_RINGS);
+    MISUSE(u16550_ring_restart(&uart, 1), U16550_NO_RINGS);
 }
 
 /* Each call over this memory is refused by this number, and makes no access. `u` is the memory. */
@@ -1049,6 +1229,8 @@ static void refused(struct u16550 *u, int wanted)
     struct u16550_dump dump;
     struct u16550_received received;
     struct u16550_handled handled;
+    struct u16550_urgent urgent;
+    struct u16550_stuck stuck;
     struct u16550_setup setup = { 1, U16550_WAIT_LAST, 0 };
     uint8_t byte;
     uint64_t limit;
@@ -1068,6 +1250,7 @@ static void refused(struct u16550 *u, int wanted)
     MISUSE(u16550_emergency(u), wanted);
     MISUSE(u16550_set_frame(u, &config), wanted);
     MISUSE(u16550_init_with(u, &config, &setup), wanted);
+    MISUSE(u16550_check_configured(u, 0, NULL), wanted);
     MISUSE(u16550_set_frame_when_idle(u, &config), wanted);
     MISUSE(u16550_set_trigger_level(u, 4), wanted);
     MISUSE(u16550_quiesce(u, 0, U16550_FIFOS_KEEP), wanted);
@@ -1088,6 +1271,7 @@ static void refused(struct u16550 *u, int wanted)
     MISUSE(u16550_try_send_byte(u, 0), wanted);
     MISUSE(u16550_receive_bytes(u, &byte, 1, &count), wanted);
     MISUSE(u16550_send_bytes(u, &byte, 1, &count), wanted);
+    MISUSE(u16550_send_burst(u, &byte, 1, 16, &count), wanted);
     MISUSE(u16550_receive_bytes_exact(u, &byte, 1, &count), wanted);
     MISUSE(u16550_send_bytes_exact(u, &byte, 1, &count), wanted);
     MISUSE(u16550_read(u, &byte, 1, &count), wanted);
@@ -1120,6 +1304,19 @@ static void refused(struct u16550 *u, int wanted)
     MISUSE(u16550_ring_resume_transmit(u), wanted);
     MISUSE(u16550_ring_take_line(u, &byte), wanted);
     MISUSE(u16550_ring_take_modem(u, &byte), wanted);
+    MISUSE(u16550_ring_transmit_room(u, &count), wanted);
+    MISUSE(u16550_ring_hold_transmit(u), wanted);
+    MISUSE(u16550_ring_release_transmit(u), wanted);
+    MISUSE(u16550_ring_is_held(u, &byte), wanted);
+    MISUSE(u16550_ring_queue_urgent(u, 1, &urgent), wanted);
+    MISUSE(u16550_ring_urgent(u, &urgent), wanted);
+    MISUSE(u16550_ring_clear_transmit(u, &count), wanted);
+    MISUSE(u16550_ring_clear_receive(u, &count), wanted);
+    MISUSE(u16550_ring_set_low_mark(u, 1), wanted);
+    MISUSE(u16550_ring_take_low(u, &byte), wanted);
+    MISUSE(u16550_ring_try_handle(u, 1, 1, &handled), wanted);
+    MISUSE(u16550_ring_stuck(u, &stuck), wanted);
+    MISUSE(u16550_ring_restart(u, 1), wanted);
 }
 
 static void misuses(void)
@@ -1177,6 +1374,8 @@ static void nulls(void)
     MISUSE(u16550_receive_bytes(&uart, &byte, 1, NULL), null);
     MISUSE(u16550_send_bytes(&uart, NULL, 1, &count), null);
     MISUSE(u16550_send_bytes(&uart, &byte, 1, NULL), null);
+    MISUSE(u16550_send_burst(&uart, NULL, 1, 16, &count), null);
+    MISUSE(u16550_send_burst(&uart, &byte, 1, 16, NULL), null);
     MISUSE(u16550_receive_bytes_exact(&uart, NULL, 1, &count), null);
     MISUSE(u16550_send_bytes_exact(&uart, NULL, 1, &count), null);
     MISUSE(u16550_read(&uart, NULL, 1, &count), null);
@@ -1203,6 +1402,7 @@ static void nulls(void)
     MISUSE(u16550_dump_baud_rate(&dump, &config, NULL), null);
     MISUSE(u16550_receive_bytes(&uart, &byte, SIZE_MAX / 2 + 1, &count), U16550_BAD_LENGTH);
     MISUSE(u16550_send_bytes(&uart, &byte, SIZE_MAX, &count), U16550_BAD_LENGTH);
+    MISUSE(u16550_send_burst(&uart, &byte, SIZE_MAX, 16, &count), U16550_BAD_LENGTH);
     /* An array with the last address would end where no pointer can point to. */
     MISUSE(u16550_send_bytes(&uart, (const uint8_t *)(last - 3), 4, &count), U16550_BAD_LENGTH);
     MISUSE(u16550_receive_bytes(&uart, (uint8_t *)last, 1, &count), U16550_BAD_LENGTH);
@@ -1219,6 +1419,15 @@ static void nulls(void)
     MISUSE(u16550_ring_handle(&uart, 1, NULL), null);
     MISUSE(u16550_ring_take_line(&uart, NULL), null);
     MISUSE(u16550_ring_take_modem(&uart, NULL), null);
+    MISUSE(u16550_ring_transmit_room(&uart, NULL), null);
+    MISUSE(u16550_ring_is_held(&uart, NULL), null);
+    MISUSE(u16550_ring_queue_urgent(&uart, 1, NULL), null);
+    MISUSE(u16550_ring_urgent(&uart, NULL), null);
+    MISUSE(u16550_ring_clear_transmit(&uart, NULL), null);
+    MISUSE(u16550_ring_clear_receive(&uart, NULL), null);
+    MISUSE(u16550_ring_take_low(&uart, NULL), null);
+    MISUSE(u16550_ring_try_handle(&uart, 1, 1, NULL), null);
+    MISUSE(u16550_ring_stuck(&uart, NULL), null);
 }
 
 /* Each constructor over the memory of a driver is refused by this number. */
@@ -1438,10 +1647,12 @@ int main(void)
     remote();
     nearest();
     frame();
+    configured();
     setup();
     attach();
     outputs();
     bytes();
+    bursts();
     with_errors();
     exact();
     io_traits();
@@ -1449,6 +1660,8 @@ int main(void)
     registers();
     rings();
     handling();
+    telling();
+    storms();
     ring_errors();
     misuses();
     nulls();

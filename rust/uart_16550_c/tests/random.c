@@ -9,7 +9,7 @@
 
 #include "u16550.h"
 
-enum { CALLS = 40000, NESTED_IN = 16, ROOM = 64, LAST = 67 };
+enum { CALLS = 40000, NESTED_IN = 16, ROOM = 64, LAST = 78 };
 
 void u16550_panic(void)
 {
@@ -45,6 +45,8 @@ struct room {
     struct u16550_loopback_failure failure;
     struct u16550_received received[ROOM];
     struct u16550_handled handled;
+    struct u16550_difference difference;
+    struct u16550_urgent urgent;
 };
 
 static struct u16550 uart;
@@ -186,6 +188,17 @@ static int make(struct u16550 *u, unsigned which, struct room *r)
     case 64: return u16550_set_trigger_level(u, (uint8_t)below(16));
     case 65: return u16550_quiesce(u, (uint8_t)below(256), (uint8_t)below(4));
     case 66: return u16550_restore(u, &r->dump);
+    case 67: return u16550_check_configured(u, (uint8_t)below(256), &r->difference);
+    case 68: return u16550_send_burst(u, r->bytes, len, (uint16_t)(16 << below(6)), &r->count);
+    case 69: return u16550_ring_hold_transmit(u);
+    case 70: return u16550_ring_release_transmit(u);
+    case 71: return u16550_ring_queue_urgent(u, (uint8_t)below(256), &r->urgent);
+    case 72: return u16550_ring_clear_transmit(u, &r->count);
+    case 73: return u16550_ring_clear_receive(u, &r->count);
+    case 74: return u16550_ring_set_low_mark(u, below(20));
+    case 75: return u16550_ring_take_low(u, &r->value);
+    case 76: return u16550_ring_try_handle(u, below(10), below(4), &r->handled);
+    case 77: return u16550_ring_restart(u, (uint8_t)below(256));
     default: return u16550_ring_take_modem(u, &r->value);
     }
 }

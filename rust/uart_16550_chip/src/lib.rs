@@ -11,12 +11,15 @@ pub mod serial;
 
 pub use geesetrunk_kit::{ArrayVec, Bits, Flag, Flags};
 #[doc(inline)]
+pub use serial::{
+    BadState, FromStateError, NoEvents, Output, Serial, SerialEvents, SerialState, Trigger,
+    TriggerError,
+};
+#[doc(inline)]
 pub use uart_live::{
     Character, Chip, ChipData, ChipError, InputError, Latches, LiveChip, ModemData, Origin,
     ReceiverData, RestoreError, Shifting, TransmitterData, WIRE_ROOM,
 };
 pub use uart_spec::registers;
 #[doc(inline)]
-pub use uart_virtual::{Answer, Received, Todo, VirtualPort};
-#[doc(inline)]
-pub use serial::{NoEvents, Output, Serial, SerialEvents, SerialState, Trigger};
+pub use uart_virtual::{Answer, Received, Restored, Todo, VirtualPort, settle};

@@ -14,6 +14,7 @@ const MSR_OFFSET: u8 = offsets::MSR as u8;
 const NOTHING: Todo = Todo {
     signal: false,
     level: false,
+    has_moved: false,
     has_room: false,
     ready: 0,
 };
@@ -73,6 +74,7 @@ fn input_interrupts_the_guest() {
     let pending = Todo {
         signal: true,
         level: true,
+        has_moved: true,
         ..NOTHING
     };
     let received = Received {
@@ -83,7 +85,11 @@ fn input_interrupts_the_guest() {
     assert!(port.level());
     let answer = Answer {
         value: b'a',
-        todo: NOTHING,
+        todo: Todo {
+            has_moved: true,
+            has_room: true,
+            ..NOTHING
+        },
     };
     assert_eq!(port.read(DATA), answer);
     assert!(!port.level());
@@ -92,14 +98,15 @@ fn input_interrupts_the_guest() {
 }
 
 #[test]
-fn input_without_room_is_put_off_until_the_monitor_is_told() {
+fn room_is_told_after_there_was_none() {
     let mut port = port();
     assert_eq!(port.receive(b"ab").count, 1);
     assert_eq!(port.receive(b"b").count, 0);
+    assert_eq!(port.receive_room(), 0);
     assert!(port.read(DATA).todo.has_room);
-    assert_eq!(port.receive(b"b").count, 1);
     assert!(!port.read(DATA).todo.has_room);
-    port.write(FCR_OFFSET, FCR::FIFO_ENABLE.bits());
+    assert_eq!(port.receive(b"b").count, 1);
+    assert!(port.write(FCR_OFFSET, FCR::FIFO_ENABLE.bits()).has_room);
     assert_eq!(port.receive(&[0; 20]).count, 16);
     assert_eq!(port.receive(&[]).count, 0);
 }
@@ -196,9 +203,26 @@ impl Random {
 struct Plain {
     chip: LiveChip,
     is_line_high: bool,
-    is_unanswered: bool,
-    is_put_off: bool,
+    had_room: bool,
+    has_looked: bool,
+    spare: u8,
 }
+
+/// What a call is, as far as signals are concerned.
+#[derive(Clone, Copy, Default)]
+struct Kind {
+    brings: bool,
+    looks: bool,
+    moves_data: bool,
+    may_dip: bool,
+}
+
+const INPUT: Kind = Kind {
+    brings: true,
+    looks: false,
+    moves_data: false,
+    may_dip: false,
+};
 
 impl Plain {
     fn new(chip: Chip) -> Self {
@@ -207,40 +231,68 @@ impl Plain {
         Plain {
             chip,
             is_line_high: false,
-            is_unanswered: false,
-            is_put_off: false,
+            had_room: true,
+            has_looked: false,
+            spare: 0,
         }
     }
 
-    /// Lets time pass after what a call did, and returns what is to be done.
-    fn end_call(&mut self, brings: bool, looks: bool) -> Todo {
-        let was_high = self.chip.is_interrupting();
-        self.chip.ticks(22);
+    /// Lets time pass after what a call did, tick by tick, and returns what is to be done.
+    fn end_call(&mut self, kind: Kind) -> Todo {
+        let mut was_low = !self.chip.is_interrupting() || kind.may_dip;
+        for _tick in 0..22 {
+            self.chip.ticks(1);
+            was_low |= !self.chip.is_interrupting();
+        }
         let level = self.chip.is_interrupting();
-        let is_free = looks || !self.is_unanswered;
-        let signal = level && (!self.is_line_high || brings || !was_high && is_free);
-        let has_room = self.is_put_off && self.chip.receive_room() > 0;
-        self.is_line_high = level;
-        self.is_unanswered = signal || level && self.is_unanswered && !looks;
-        self.is_put_off &= !has_room;
-        Todo {
+        let signal = level && (!self.is_line_high || kind.brings || was_low && self.spare == 0);
+        let has_room = self.chip.receive_room() > 0;
+        let todo = Todo {
             signal,
             level,
-            has_room,
+            has_moved: level != self.is_line_high,
+            has_room: has_room && !self.had_room,
             ready: self.chip.wire().len(),
-        }
+        };
+        self.spare = match kind {
+            Kind { looks: true, .. } => 0,
+            _ if signal => {
+                15 * u8::from(kind.moves_data && self.has_looked && self.chip.has_fifo_on())
+            }
+            Kind {
+                moves_data: true, ..
+            } => self.spare.saturating_sub(1),
+            _ => self.spare,
+        };
+        self.has_looked = kind.looks || self.has_looked && !signal;
+        self.is_line_high = level;
+        self.had_room = has_room;
+        todo
+    }
+
+    /// Whether the guest has loopback on.
+    fn is_loopback(&mut self) -> bool {
+        self.chip.read(offsets::MCR as u8) & 0x10 != 0
     }
 
     fn read(&mut self, offset: u8) -> Answer {
         let value = self.chip.read(offset);
-        let looks = [ISR_OFFSET, LSR_OFFSET, MSR_OFFSET].contains(&offset);
-        let todo = self.end_call(false, looks);
+        let todo = self.end_call(Kind {
+            looks: offset == ISR_OFFSET,
+            moves_data: offset == DATA,
+            ..Kind::default()
+        });
         Answer { value, todo }
     }
 
     fn write(&mut self, offset: u8, value: u8) -> Todo {
         self.chip.write(offset, value);
-        self.end_call(false, false)
+        let may_dip = self.is_loopback();
+        self.end_call(Kind {
+            moves_data: offset == DATA,
+            may_dip,
+            ..Kind::default()
+        })
     }
 
     fn receive(&mut self, input: &[u8]) -> Received {
@@ -248,25 +300,27 @@ impl Plain {
         for byte in &input[..count] {
             self.chip.arrive(*byte, LSR::empty()).unwrap();
         }
-        self.is_put_off |= count < input.len();
-        let todo = self.end_call(count > 0, false);
+        let todo = self.end_call(Kind {
+            brings: count > 0,
+            ..INPUT
+        });
         Received { count, todo }
     }
 
     fn receive_one(&mut self, byte: u8, errors: LSR) -> Todo {
         self.chip.arrive(byte, errors).unwrap();
-        self.end_call(true, false)
+        self.end_call(INPUT)
     }
 
     fn set_lines(&mut self, inputs: MSR) -> Todo {
         self.chip.set_lines(inputs).unwrap();
-        self.end_call(true, false)
+        self.end_call(INPUT)
     }
 
     fn take_output(&mut self, count: usize) -> Todo {
         let brings = self.chip.held_len() > 0;
         self.chip.take_wire(count);
-        self.end_call(brings, false)
+        self.end_call(Kind { brings, ..INPUT })
     }
 }
 
@@ -310,6 +364,33 @@ fn compare_call(random: &mut Random, port: &mut VirtualPort, plain: &mut Plain) 
     }
     assert_eq!(port.output(), plain.chip.wire());
     assert_eq!(port.level(), plain.chip.is_interrupting());
+    assert_eq!(port.receive_room(), plain.chip.receive_room());
+}
+
+/// Restores a port now and then. Its monitor is told anew.
+fn restore(random: &mut Random, port: &mut VirtualPort, plain: &mut Plain) {
+    if random.below(30) > 0 {
+        return;
+    }
+    let restored = VirtualPort::from_data(&port.data(), port.output()).unwrap();
+    let level = plain.chip.is_interrupting();
+    let has_room = plain.chip.receive_room() > 0;
+    let todo = Todo {
+        signal: level,
+        level,
+        has_moved: level,
+        has_room,
+        ready: plain.chip.wire().len(),
+    };
+    assert_eq!(restored.todo, todo);
+    *port = restored.port;
+    *plain = Plain {
+        chip: LiveChip::from_data(&plain.chip.data(), plain.chip.wire()).unwrap(),
+        is_line_high: level,
+        had_room: has_room,
+        has_looked: false,
+        spare: 0,
+    };
 }
 
 #[test]
@@ -320,6 +401,7 @@ fn each_call_does_what_its_definition_says() {
         let (mut port, mut plain) = (VirtualPort::new(chip), Plain::new(chip));
         for _call in 0..500 {
             compare_call(&mut random, &mut port, &mut plain);
+            restore(&mut random, &mut port, &mut plain);
         }
     }
 }

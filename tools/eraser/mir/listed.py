@@ -25,6 +25,7 @@ SHOWS_REGISTER = "shows a register, of which `Debug` is by hand"
 DIFFER = {
     r"::registers::\w+::[A-Z]{3}Debug::fmt": "`Debug` of a register shows the names of its bits: by hand, in registers/by_hand.rs",
     r"^uart_spec::received::ReceivedDebug::fmt": SHOWS_REGISTER,
+    r"^uart_spec::errors::ConfigurationError(Debug|Display)::fmt": SHOWS_REGISTER,
     r"^uart_spec::setup::SetupDebug::fmt": SHOWS_REGISTER,
     r"::state::DriverStateDebug::fmt": SHOWS_REGISTER,
     r"::config::ConfigDebug::fmt": SHOWS_REGISTER,
@@ -57,6 +58,8 @@ IN_JUMPS = "time passes for a live chip in jumps, which end where something happ
 NOT_REACHED = {
     r"(PartialEq::eq|PartialOrd::partial_cmp|Ord::cmp) \d+ case \d+(\|\d+)*$": "another variant: their numbers were compared before",
     r"Clone::clone \d+ case 1$": "no memory: what is cloned has none",
+    r"^uart_16550::driver::Uart16550::check_registers \d+ case \d$": "a device that shows three registers as the arguments ask: "
+    "the tests of `check_configured` have one, on both sides",
     r"^uart_chip::controlling::read_register 8 case 5$": "LSR, which `read` looks for before",
     r"^uart_chip::controlling::write_register 1 case 0$": "DATA, which `write` looks for before",
     r"^uart_chip::receiving::enter 6 else$": OF_ORIGINS,

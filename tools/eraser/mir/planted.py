@@ -84,14 +84,14 @@ PLANTED = {
         ),
         (
             "uart_live/sound.rs",
-            "<= TIMEOUT_CHARACTERS * char_ticks as u32",
-            "<= 1 + TIMEOUT_CHARACTERS * char_ticks as u32",
+            "<= TIMEOUT_CHARACTERS as u32 * char_ticks as u32",
+            "<= 1 + TIMEOUT_CHARACTERS as u32 * char_ticks as u32",
             [r"sound::is_sound_receiver: \d+ of \d+ cases differ"],
         ),
         (
             "uart_virtual/port.rs",
-            "let has_room = kind.puts_off && chip.receive_room() != 0;",
-            "let has_room = kind.puts_off && chip.receive_room() != 1;",
+            "let has_room = chip.receive_room() != 0;",
+            "let has_room = chip.receive_room() != 1;",
             [r"port::decide: \d+ of \d+ cases differ", r"sequences of uart_virtual::port::VirtualPort: \d+ of"],
         ),
         (

@@ -14,6 +14,8 @@ use Rattle.uart_16550.proofs.determined.Frame.{modifies_determined, sets_frame_d
 use Rattle.uart_16550.proofs.determined.Doings.{no_choice, saving_determined, does_so, does_set}
 use Rattle.uart_16550.proofs.determined.Receive.{ready_to_receive_determined, try_receive_determined, try_receive_with_determined}
 use Rattle.uart_16550.proofs.determined.Transmit.{ready_to_send_determined, sends_determined, try_send_determined, sends_exact_determined}
+use Rattle.uart_16550.proofs.determined.Transmit.{sends_burst_determined}
+use Rattle.uart_16550.proofs.determined.Configured.{checks_configured_determined}
 use Rattle.uart_16550.proofs.determined.Expansion.{text_determined, str_determined}
 use Rattle.uart_16550.proofs.determined.Io.{receives_into_determined, exact_into_determined, reads_into_determined, writes_determined}
 use Rattle.uart_16550.proofs.determined.Io.{receives_with_into_determined}
@@ -34,6 +36,7 @@ lists_determined SavingCall.check_connected s = connects_determined s
 lists_determined SavingCall.dll_dlm s = divisor_determined s
 lists_determined SavingCall.check_present s = presence_determined s
 lists_determined SavingCall.is_idle s = asks_determined offsets.LSR LSR.TRANSMITTER_EMPTY.0
+lists_determined (SavingCall.check_configured config outputs) s = checks_configured_determined config outputs s
 lists_determined (SavingCall.set_break on) s = modifies_determined s offsets.LCR (switched on LCR.SET_BREAK.0)
 lists_determined (SavingCall.set_modem_control bits) s = λ a b. determined_so (λ t. refl) (determined_only refl)
 lists_determined (SavingCall.set_output output on) s = modifies_determined s offsets.MCR (λ mcr. unlooped (switched on output mcr))
@@ -47,6 +50,7 @@ lists_determined (SavingCall.receive_bytes slots) s = receives_into_determined s
 lists_determined (SavingCall.receive_bytes_exact slots) s = exact_into_determined s slots
 lists_determined (SavingCall.try_send_byte byte) s = try_send_determined s byte
 lists_determined (SavingCall.send_bytes bytes) s = sends_determined s bytes
+lists_determined (SavingCall.send_burst size bytes) s = sends_burst_determined s size bytes
 lists_determined (SavingCall.send_bytes_exact bytes) s = sends_exact_determined s bytes
 lists_determined (SavingCall.read slots) s = reads_into_determined s slots
 lists_determined (SavingCall.write bytes) s = writes_determined s bytes

@@ -1,6 +1,6 @@
 -- The sending calls are determined.
 use Rattle.std.proofs.Common.{◌≡◌, ◌<◌, ℕ, suc, Bool, true, false, List, [], ◌∷◌, refl, sym, ◌∙◌, ap, subst, arith, inl, inr, Result, Ok}
-use Rattle.std.proofs.Common.{Err, Option, Some, None, length, take, drop}
+use Rattle.std.proofs.Common.{Err, Option, Some, None, length, take, drop, min, ◌⊎◌}
 use Rattle.uart_spec.specs.declared.errors.StalledError.{StalledError}
 use Rattle.uart_spec.specs.declared.errors.ByteSendError.{ByteSendError}
 use Rattle.uart_spec.specs.declared.errors.ByteSendError.TheVariants.{NoCapacity, RemoteNotClearToSend}
@@ -12,6 +12,8 @@ use Rattle.uart_spec.specs.declared.access.Access.{Access}
 use Rattle.uart_16550.specs.Grammar.{Settings, Then, AllMisses, Asks, Never}
 use Rattle.uart_16550.specs.Transmit.{LinesAllow, SendHit, SendRefused, SendMiss, ReadyToSend, Burst, Round, Sends, TrySends, burst_size}
 use Rattle.uart_16550.specs.Transmit.{IsCut, SendsAll, SendsExact, SendsSome, WaitsFor}
+use Rattle.uart_16550.specs.Bursts.{SendsBurst, room}
+use Rattle.uart_spec.specs.declared.setup.FifoSize.{FifoSize}
 use Rattle.uart_16550.proofs.determined.Parting.{SameOrPart, Determined, so, determined_so, determined_sym, determined_then}
 use Rattle.uart_16550.proofs.determined.Parting.{determined_front, determined_only, determined_never, determined_checks, determined_if}
 use Rattle.uart_16550.proofs.determined.Parting.{asks_determined, asks_apart, asks_same, not_both}
@@ -107,10 +109,17 @@ refusal_burst s xs = determined_sym (determined_front (determined_sym (refusal_h
 burst_of : (s : Settings) (bytes : List ℕ) (k n : ℕ) (l : List Access) → k ≡ n → Burst (take k bytes) s l → Burst (take n bytes) s l
 burst_of s bytes k n l same t = let B : ℕ → Type 0 = λ x. Burst (take x bytes) s l in subst B same t
 
-pub sends_determined : (s : Settings) (bytes : List ℕ) (j k : ℕ) → Determined (j ≡ k) (Sends bytes j s) (Sends bytes k s)
-sends_determined s bytes j k = record { at = at }
+-- nothing if there are no bytes; else a check that fails, or one burst of n bytes
+abbrev Fronts : (n : ℕ) → List ℕ → ℕ → Settings → List Access → Type 0
+Fronts n bytes k s l =
+    ((length bytes ≡ 0) × (k ≡ 0) × (l ≡ []))
+    ⊎ ((0 < length bytes) × (k ≡ 0) × SendMiss s l)
+    ⊎ ((0 < length bytes) × (k ≡ n) × Burst (take k bytes) s l)
+
+fronts_determined : (s : Settings) (n : ℕ) (bytes : List ℕ) (j k : ℕ) → Determined (j ≡ k) (Fronts n bytes j s) (Fronts n bytes k s)
+fronts_determined s n bytes j k = record { at = at }
   where
-    at : (l m : List Access) → Sends bytes j s l → Sends bytes k s m → SameOrPart (j ≡ k) l m
+    at : (l m : List Access) → Fronts n bytes j s l → Fronts n bytes k s m → SameOrPart (j ≡ k) l m
     at l m (inl p) (inl q) = inl (p.1 ∙ sym q.1, p.2 ∙ sym q.2)
     at l m (inl p) (inr (inl q)) = absurd (omega (arith, p.0, q.0))
     at l m (inl p) (inr (inr q)) = absurd (omega (arith, p.0, q.0))
@@ -120,8 +129,14 @@ sends_determined s bytes j k = record { at = at }
     at l m (inr (inl p)) (inr (inr q)) = so absurd ((refusal_burst s (take k bytes)).at l m p.2 q.2)
     at l m (inr (inr p)) (inr (inl q)) = (determined_sym (refusal_burst s (take j bytes))).at l m p.2 q.2
     at l m (inr (inr p)) (inr (inr q)) =
-        let n = burst_size s bytes in
         so (λ t. p.1 ∙ sym q.1) ((burst_same s (take n bytes)).at l m (burst_of s bytes j n l p.1 p.2) (burst_of s bytes k n m q.1 q.2))
+
+pub sends_determined : (s : Settings) (bytes : List ℕ) (j k : ℕ) → Determined (j ≡ k) (Sends bytes j s) (Sends bytes k s)
+sends_determined s bytes j k = fronts_determined s (burst_size s bytes) bytes j k
+
+pub sends_burst_determined : (s : Settings) (size : FifoSize) (bytes : List ℕ) (j k : ℕ) →
+    Determined (j ≡ k) (SendsBurst size bytes j s) (SendsBurst size bytes k s)
+sends_burst_determined s size bytes j k = fronts_determined s (min (length bytes) (room s.fifo size)) bytes j k
 
 pub try_send_determined : (s : Settings) (byte : ℕ) (a b : Result (Unit {0}) ByteSendError) →
     Determined (a ≡ b) (TrySends byte a s) (TrySends byte b s)

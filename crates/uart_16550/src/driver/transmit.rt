@@ -68,7 +68,7 @@ impl<B: Backend> Uart16550<B> {
     }
 
     // Writes the bytes to DATA in order.
-    fn write_data(&mut self, bytes: &[u8])
+    pub(super) fn write_data(&mut self, bytes: &[u8])
         ensures { Made B.step (Only (data_writes bytes.now)) self.old self.new }
     {
         for &byte in bytes {

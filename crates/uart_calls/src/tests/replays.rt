@@ -32,8 +32,8 @@ use uart_16550::{ConfigRegisterDump, Uart16550, Uart16550Tty};
 use uart_spec::InitError::DeviceNotPresent;
 use uart_spec::RemoteReadyToReceiveError::RemoteNotClearToSend;
 use uart_spec::access::Access;
-use uart_spec::registers::{IER, ISR, LCR, LSR, MCR, MSR, offsets};
-use uart_spec::{Config, LoopbackError, Received};
+use uart_spec::registers::{FifoTriggerLevel, IER, ISR, LCR, LSR, MCR, MSR, offsets};
+use uart_spec::{Config, FifoAction, LoopbackError, Received, Setup};
 
 // A driver under a terminal, over a device whose reads return listed bytes.
 type Replaying<'a> = Uart16550Tty<Replay<'a>>;
@@ -170,7 +170,16 @@ fn looks_and_registers_over_a_replay(rt: HostRuntime) {
         (Call::SetBreak(true), Done, 44),
         (Call::SetRts(true), Done, 46),
         (Call::SetDtr(false), Done, 48),
-        (Call::Attach, Latch(0x60, 0x60), 56),
+        (Call::SetTriggerLevel(FifoTriggerLevel::One), Done, 49),
+        (Call::Quiesce(MCR::empty(), FifoAction::Keep), Done, 51),
+        (Call::SetFrameWhenIdle(Config::DEFAULT), Done, 56),
+        (Call::Restore(dump([0x60; 7], 0x60, 0x60)), Done, 67),
+        (
+            Call::InitWith(Config::DEFAULT, Setup::DEFAULT),
+            InitRefused(DeviceNotPresent),
+            71,
+        ),
+        (Call::Attach, Latch(0x60, 0x60), 79),
     ] {
         shows(&rt, &mut terminal, call, answer, count);
     }

@@ -26,7 +26,7 @@ use Rattle.uart_chip.proofs.conservation.Went.{Modes, IsIn, fixed, dlab, loopbac
 use Rattle.uart_chip.proofs.statuses.Reports.{IsReported, report_reported}
 use Rattle.uart_chip.proofs.conservation.Effects.{went-look, went-send, TookFront, went-take, went-read_latch, went-write_lcr}
 use Rattle.uart_chip.proofs.conservation.Effects.{went-read_1, went-write_low, went-write_high, went-write_frame}
-use Rattle.uart_chip.proofs.conservation.Effects.{went-quiet_read, went-quiet_write}
+use Rattle.uart_chip.proofs.conservation.Effects.{went-quiet_read, went-quiet_write, IsLevel, went-write_level}
 use Rattle.uart_chip.proofs.conservation.Passed.{Passed, passed-refl, passed-trans, passed-access, passed-effect}
 
 -- a path of a list is one of the same list
@@ -138,6 +138,13 @@ passed_quiet x m n (Read offset value) o w q s =
 passed_quiet x m n (Write offset value) o w q s =
     passed_write x x m n offset value [] o.loopback refl w s
     (λ p. went-quiet_write x (at_access m).chip offset value o.dlab p.sound.chip p.went.modes q)
+
+-- FCR is written while the FIFO is on, and nothing is reset
+pub passed_level : (x : Modes) (m n : MachineState) (value : ℕ) → IsOpen x → x.fifo ≡ true → IsLevel value → Stands x m →
+    MachineStep m (Write offsets.FCR value) n → Passed x m n (Write offsets.FCR value ∷ []) [] []
+passed_level x m n value o on level w s =
+    passed_write x x m n offsets.FCR value [] o.loopback refl w s
+    (λ p. went-write_level x (at_access m).chip value on level p.sound.chip p.went.modes)
 
 -- ---- some accesses of one kind
 

@@ -1,5 +1,6 @@
 -- What each access of a session does to the chip.
 use Rattle.std.proofs.Common.{◌≡◌, ℕ, zero, suc, ◌<◌, Bool, true, false, ◌==◌, inl, inr, List, [], ◌∷◌, length, refl, arith, sym, ◌∙◌, ap}
+use Rattle.std.proofs.Common.{if◌then◌else◌}
 use Rattle.std.proofs.Common.{subst, bit_and, bit_or, ◌^◌}
 use Rattle.std.proofs.Math.Nat.{mod_self}
 use Rattle.std.proofs.lemmas.Nat.{pow_pos}
@@ -10,19 +11,22 @@ use Rattle.uart_spec.specs.Access.{saved_lsr, saved_msr}
 use Rattle.uart_spec.specs.declared.access.Access.{Access}
 use Rattle.uart_spec.specs.declared.access.Access.TheVariants.{Read, Write}
 use Rattle.uart_spec.specs.Bits.{has_any}
+use Rattle.uart_spec.specs.declared.registers.fifo_control.TheConstants.FCR
 use Rattle.uart_spec.specs.declared.registers.line_status.TheConstants.LSR
 use Rattle.uart_spec.specs.declared.registers.offsets.TheConstants as offsets
 use Rattle.uart_chip.specs.Transmitter.{TransmitterState, room, load}
-use Rattle.uart_chip.specs.Receiver.{report, take_front}
+use Rattle.uart_events.specs.declared.event.Chip.{Chip}
+use Rattle.uart_chip.specs.Receiver.{report, take_front, clear}
 use Rattle.uart_chip.specs.Chip.{ChipState, word_length, cut_to, cut_of, line_status, interrupt, is_thr_empty, answer, after_read}
-use Rattle.uart_chip.specs.Chip.{after_write, with_latches}
+use Rattle.uart_chip.specs.Chip.{after_write, with_latches, is_same, switch, set_fifo, set_trigger, trigger_level, control}
+use Rattle.uart_chip.specs.Chip.{reset_receiver, reset_transmitter}
 use Rattle.uart_chip.specs.Sound.{IsSoundChip}
 use Rattle.uart_chip.proofs.Bits.{has_and}
 use Rattle.uart_chip.proofs.statuses.Status.{status_overrun}
 use Rattle.uart_chip.proofs.conservation.Sends.{Sends, sends-refl, sends-pending, sends-load}
-use Rattle.uart_chip.proofs.conservation.Receives.{Shows, receives-refl, receives-same}
+use Rattle.uart_chip.proofs.conservation.Receives.{Shows, receives-refl, receives-same, receives-still}
 use Rattle.uart_chip.proofs.conservation.Arrivals.{receives-front}
-use Rattle.uart_chip.proofs.statuses.Reports.{IsReported, reports-refl, reports-look, reports-front}
+use Rattle.uart_chip.proofs.statuses.Reports.{IsReported, reports-refl, reports-same, reports-look, reports-front}
 use Rattle.uart_chip.proofs.statuses.LinesChanged.{changed-refl, changed-status}
 use Rattle.uart_chip.proofs.conservation.Blocks.{is_quiet}
 use Rattle.uart_chip.proofs.conservation.Went.{Modes, IsIn, fixed_in, dlab, dlab-in, marked-in, Went}
@@ -241,3 +245,47 @@ went-quiet_write x c offset value off s w h = either (offset == offsets.IER) ref
         let f : offset ≡ offsets.SPR = grind arith in
         rw f (went-still x c (after_write offsets.SPR value c) (Write offsets.SPR value) s w refl refl refl
         (sends-refl c.transmitter) refl refl refl refl)
+
+-- ---- the trigger level
+
+-- a value of FCR that leaves a FIFO on that is on, and resets nothing
+pub record IsLevel (value : ℕ) : Type 0 where
+  pub on : has_any value FCR.FIFO_ENABLE.0 ≡ true
+  pub keeps_received : has_any value FCR.RX_FIFO_RESET.0 ≡ false
+  pub keeps_queued : has_any value FCR.TX_FIFO_RESET.0 ≡ false
+
+pub levelled : (c : ChipState) (value : ℕ) → c.fifo ≡ true → IsLevel value → set_fifo value c ≡ set_trigger (trigger_level value) c
+levelled c value on level =
+    ap (λ (b : Bool). if b then levelling (still b) else still b) level.on
+    ∙ (ap (λ (b : Bool). levelling (if b then c else switch true c)) same
+    ∙ (ap (λ (b : Bool). set_trigger (trigger_level value)
+    (reset_transmitter value (if b then record c { receiver = clear c.receiver } else c))) level.keeps_received
+    ∙ ap (λ (b : Bool). set_trigger (trigger_level value) (if b then emptied else c)) level.keeps_queued))
+  where
+    levelling : ChipState → ChipState
+    levelling d = set_trigger (trigger_level value) (reset_transmitter value (reset_receiver value d))
+
+    still : Bool → ChipState
+    still b = if is_same c.fifo b then c else switch b c
+
+    same : is_same c.fifo true ≡ true
+    same = ap (λ (b : Bool). is_same b true) on
+
+    emptied : ChipState
+    emptied = record c { transmitter = record c.transmitter { queue = []; is_thr_pending = true } }
+
+pub went-write_level : (x : Modes) (c : ChipState) (value : ℕ) → x.fifo ≡ true → IsLevel value → IsSoundChip c → IsIn x c →
+    Went x c (after_write offsets.FCR value c) [] (Write offsets.FCR value ∷ []) [] []
+went-write_level x c value on level s w =
+    let fifo : c.fifo ≡ true = w.fifo ∙ on in
+    let same : after_write offsets.FCR value c ≡ set_trigger (trigger_level value) c =
+    ap (λ (model : Chip). control model value c) (s.implemented fifo) ∙ levelled c value fifo level in
+    rw same (record {
+      modes = record { lcr = w.lcr; mcr = w.mcr; fifo = w.fifo; cut = w.cut };
+      sends = sends-refl c.transmitter;
+      receives =
+          receives-still x.fifo c.receiver (record c.receiver { trigger = trigger_level value }) (marked-in x c s w)
+          (record { queue = refl; marks = refl; missing = refl; arrived = refl }) refl;
+      reports = reports-same x.fifo c.receiver (record c.receiver { trigger = trigger_level value }) refl refl refl;
+      modem_lines = changed-refl c.modem;
+    })

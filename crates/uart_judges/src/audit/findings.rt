@@ -1,16 +1,16 @@
-//! The findings at an action, and at the end.
+//! The findings at a step, and at the end.
 ghost use Rattle.std.specs.Prelude.{◌≡◌};
 ghost use Rattle.uart_judges.specs.Findings as spec;
-ghost use Rattle.uart_judges.specs.History.{depth};
 
 use crate::audit::action::Action;
-use crate::audit::auditor::Auditor;
+use crate::audit::auditor::{Auditor, Latch, Mark};
 use crate::audit::finding::Finding;
-use crate::audit::judging::{empties, has_dlab};
-use crate::audit::shows::is_cut;
+use crate::audit::setup::Setup;
+use crate::audit::shows::{identified, is_cut};
+use crate::audit::step::Step;
+use crate::audit::unread::Arrived;
 use bitflags::Flags;
-use uart_spec::FIFO_SIZE;
-use uart_spec::registers::{FCR, InterruptType, LCR, LSR, MCR, MSR};
+use uart_spec::registers::{FCR, IER, ISR, InterruptType, LCR, LSR, MCR, MSR};
 
 // Returns the finding where something holds.
 fn when(holds: bool, finding: Finding) -> Option<Finding>
@@ -20,24 +20,23 @@ fn when(holds: bool, finding: Finding) -> Option<Finding>
 }
 
 // Returns the set-up at a transfer, if it is not that of the transfer before.
-fn set_up(a: &Auditor) -> Option<Finding>
-    ensures { result ≡ spec.note a.now (Action.Receives) }
+fn set_up(told: Option<Setup>, setup: Setup) -> Option<Finding>
+    ensures { result ≡ spec.set_up told setup }
 {
-    if let Some(before) = a.told {
-        if before.is_same(a.setup) {
+    if let Some(before) = told {
+        if before.is_same(setup) {
             return None;
         }
     }
-    Some(Finding::SetUp(a.setup))
+    Some(Finding::SetUp(setup))
 }
 
 // Returns what an access shows.
-pub(crate) fn note(a: &Auditor, action: Action) -> Option<Finding>
-    ensures { result ≡ spec.note a.now action }
+pub(crate) fn note(a: &Auditor, s: &Step) -> Option<Finding>
+    ensures { result ≡ spec.note a.now s.now }
 {
-    match action {
-        Action::Sends(_) => set_up(a),
-        Action::Receives => set_up(a),
+    match s.action {
+        Action::Sends(_) | Action::Receives(_) => set_up(a.told, s.setup),
         Action::LooksAtLine(lsr) => {
             when(
                 lsr.intersects(LSR::LINE_ERRORS),
@@ -51,82 +50,379 @@ pub(crate) fn note(a: &Auditor, action: Action) -> Option<Finding>
     }
 }
 
-// Returns how many bytes fit into an empty transmitter.
-fn depth(has_fifo: Option<bool>) -> u64
-    ensures { result ≡ depth has_fifo }
+// Returns how many bytes were sent since the transmitter had room.
+fn sent_before(a: &Auditor, s: &Step) -> u64
+    ensures { result ≡ spec.sent_before a.now s.now }
 {
-    match has_fifo {
-        Some(true) => FIFO_SIZE as u64,
-        _ => 1,
+    if s.has_rested { 0 } else { a.sent }
+}
+
+// Returns a byte for which there may be no room.
+pub(crate) fn room(a: &Auditor, s: &Step) -> Option<Finding>
+    ensures { result ≡ spec.room a.now s.now }
+{
+    if !s.action.sends() {
+        return None;
+    }
+    let (sent, room) = (sent_before(a, s), s.setup.depth());
+    when(
+        u64::from(room) <= sent,
+        Finding::SentBeyondRoom {
+            sent: sent.saturating_add(1),
+            room,
+        },
+    )
+}
+
+// Returns whether LCR is known to send a break.
+fn is_in_break(line: Option<LCR>) -> bool
+    ensures { result ≡ spec.is_in_break line }
+{
+    match line {
+        Some(lcr) => lcr.contains(LCR::SET_BREAK),
+        None => false,
     }
 }
 
-// Returns how many bytes the latest look that showed room allows.
-fn room(a: &Auditor) -> u64
-    ensures { result ≡ spec.room a.now }
+// Returns whether a byte has more bits than a character.
+fn cuts(line: Option<LCR>, byte: u8) -> bool
+    ensures { result ≡ spec.cuts line byte }
 {
-    if a.has_shown_room {
-        depth(a.setup.has_fifo)
-    } else {
-        0
+    match line {
+        Some(lcr) => is_cut(lcr, byte),
+        None => false,
     }
 }
 
-// Returns a read of DATA that no look allowed.
-fn unasked(ready: Option<bool>) -> Finding
-    ensures { result ≡ spec.unasked ready }
+// Returns whether a byte was sent in loopback before, and a look showed room since, and nothing was
+// received. A loopback test reads what it sent before it sends more.
+fn loops_again(a: &Auditor, setup: Setup) -> bool
+    ensures { result ≡ spec.loops_again a.now setup }
 {
-    match ready {
-        Some(false) => Finding::ReceivedFromEmpty,
-        _ => Finding::ReceivedWithoutLook,
-    }
-}
-
-// Returns whether a write of FCR discards a received byte that is known to wait.
-fn discards(a: &Auditor, fcr: FCR) -> bool
-    ensures { result ≡ spec.discards a.now fcr }
-{
-    if a.waiting == 0 {
+    if !setup.loops_back() {
         return false;
     }
-    empties(FCR::RX_FIFO_RESET, a.setup.has_fifo, fcr)
+    a.has_looped && a.sent == 0
 }
 
-// Returns whether the latch is taken for DATA by a write: LSR was read since the latch was opened,
-// or its low byte was written already. No driver polls while it sets the divisor.
-fn is_forgotten(a: &Auditor) -> bool
-    ensures { result ≡ spec.is_latch_forgotten a.now }
+// Returns a byte that does not go out as it was given.
+pub(crate) fn output(a: &Auditor, s: &Step) -> Option<Finding>
+    ensures { result ≡ spec.output a.now s.now }
 {
-    if a.has_looked_at_open {
-        return true;
+    let Action::Sends(byte) = s.action else {
+        return None;
+    };
+    if is_in_break(s.setup.line) {
+        return Some(Finding::SentInBreak(byte));
     }
-    a.has_set_low
+    if loops_again(a, s.setup) {
+        return Some(Finding::SentInLoopback(byte));
+    }
+    when(cuts(s.setup.line, byte), Finding::WordTooShort(byte))
 }
 
-// Returns bytes that are lost, or that are none.
-pub(crate) fn loss(a: &Auditor, action: Action) -> Option<Finding>
-    ensures { result ≡ spec.loss a.now action }
+// Returns whether the latest look at MSR since a byte was sent showed that the remote is not ready.
+fn is_held(cts: Option<bool>) -> bool
+    ensures { result ≡ spec.is_held cts }
 {
-    match action {
-        Action::Sends(_) => {
-            let room = room(a);
-            when(!(a.sent < room), Finding::SentWithoutLook(a.sent, room))
-        }
-        Action::Receives => when(!(0 < a.waiting), unasked(a.ready)),
-        Action::SetsDivisorLow(byte) => when(is_forgotten(a), Finding::SentIntoLatch(byte)),
-        Action::ReadsDivisorLow => when(a.has_looked_at_open, Finding::ReceivedFromLatch),
-        Action::ControlsFifo(fcr) => when(discards(a, fcr), Finding::WaitingDiscarded),
+    match cts {
+        Some(is_set) => !is_set,
+        None => false,
+    }
+}
+
+// Returns a byte that the remote may not take. A line on which CTS was never set has no CTS.
+pub(crate) fn flow(a: &Auditor, s: &Step) -> Option<Finding>
+    ensures { result ≡ spec.flow a.now s.now }
+{
+    if !s.action.sends() {
+        return None;
+    }
+    if s.setup.loops_back() {
+        return None;
+    }
+    when(is_held(a.cts) && a.was_cts_set, Finding::SentWithoutCts)
+}
+
+// Returns whether an interrupt is known to be enabled.
+fn enables_some(interrupts: Option<IER>) -> bool
+    ensures { result ≡ spec.enables_some interrupts }
+{
+    match interrupts {
+        Some(ier) => ier.intersects(
+            IER::DATA_READY
+                .union(IER::THR_EMPTY)
+                .union(IER::RECEIVER_LINE_STATUS.union(IER::MODEM_STATUS)),
+        ),
+        None => false,
+    }
+}
+
+// Returns whether OUT2 is known to be off, outside of loopback.
+fn is_cut_off(modem: Option<MCR>) -> bool
+    ensures { result ≡ spec.is_cut_off modem }
+{
+    match modem {
+        Some(mcr) => !mcr.intersects(MCR::OUT_2_INT_ENABLE.union(MCR::LOOP_BACK)),
+        None => false,
+    }
+}
+
+// Returns whether a byte is sent or received.
+fn transfers(action: Action) -> bool
+    ensures { result ≡ spec.transfers action }
+{
+    action.sends() || action.receives()
+}
+
+// Returns whether a driver relies on interrupts that do not reach the processor. Where one was seen
+// to reach it, the board does not gate them by OUT2.
+pub(crate) fn gate(a: &Auditor, s: &Step) -> Option<Finding>
+    ensures { result ≡ spec.gate a.now s.now }
+{
+    if a.has_signalled || s.is_line_up() {
+        return None;
+    }
+    if !transfers(s.action) {
+        return None;
+    }
+    when(
+        enables_some(s.setup.interrupts) && is_cut_off(s.setup.modem),
+        Finding::InterruptsCutOff,
+    )
+}
+
+// Returns a byte that is none, or may be none. A driver that has not begun to work empties the
+// receiver, and so does one that ISR told of a timeout.
+fn taken_from_nothing(a: &Auditor) -> Option<Finding>
+    ensures { result ≡ spec.taken_from_nothing a.now }
+{
+    if !a.is_at_work {
+        return None;
+    }
+    if let Some(InterruptType::ReceptionTimeout) = a.data_interrupt {
+        return None;
+    }
+    match a.ready {
+        Some(false) => Some(Finding::ReceivedFromEmpty),
+        _ => when(a.has_taken, Finding::ReceivedWithoutLook),
+    }
+}
+
+// Returns what is wrong with a read of DATA. What the recording has of the character says whether
+// there was an error to be seen.
+pub(crate) fn taken(a: &Auditor, s: &Step) -> Option<Finding>
+    ensures { result ≡ spec.taken a.now s.now }
+{
+    if !s.action.receives() {
+        return None;
+    }
+    if a.waiting == 0 {
+        return taken_from_nothing(a);
+    }
+    match a.unread.front() {
+        Some(_) => None,
+        None => when(a.has_taken, Finding::ErrorsNotRead),
+    }
+}
+
+// Returns whether the character behind the oldest one has this byte.
+fn is_next(second: Option<Arrived>, byte: u8) -> bool
+    ensures { result ≡ spec.is_next second byte }
+{
+    match second {
+        Some(arrived) => arrived.byte == byte,
+        None => false,
+    }
+}
+
+// Returns what is wrong with a read of DATA while this character is the oldest.
+fn arrived_and_read(a: &Auditor, front: Arrived, byte: u8) -> Option<Finding>
+    ensures { result ≡ spec.arrived_and_read a.now front byte }
+{
+    if front.byte == byte {
+        return when(
+            !front.errors.is_empty() && !a.unread.is_front_seen,
+            Finding::ErrorsLost(front),
+        );
+    }
+    if is_next(a.unread.second(), byte) {
+        return Some(Finding::ArrivalSkipped(front.byte));
+    }
+    Some(Finding::OtherByte {
+        arrived: front.byte,
+        read: byte,
+    })
+}
+
+// Returns what is wrong with a read of LSR while this character is the oldest.
+fn arrived_and_shown(a: &Auditor, front: Arrived, lsr: LSR) -> Option<Finding>
+    ensures { result ≡ spec.arrived_and_shown a.now front lsr }
+{
+    if !lsr.contains(LSR::DATA_READY) {
+        return Some(Finding::ArrivalGone(front.byte));
+    }
+    when(
+        !lsr.contains(front.errors) && !a.unread.is_front_seen,
+        Finding::ErrorsHidden(front),
+    )
+}
+
+// Returns what became of a character that arrived.
+pub(crate) fn arrival(a: &Auditor, s: &Step) -> Option<Finding>
+    ensures { result ≡ spec.arrival a.now s.now }
+{
+    let front = a.unread.front()?;
+    match s.action {
+        Action::Receives(byte) => arrived_and_read(a, front, byte),
+        Action::LooksAtLine(lsr) => arrived_and_shown(a, front, lsr),
         _ => None,
     }
 }
 
-// Returns whether LCR is known to have had another value, DLAB apart. To write the same frame again
-// while bytes go out is no fault.
+// Returns an overrun that LSR does not show.
+pub(crate) fn overrun(a: &Auditor, s: &Step) -> Option<Finding>
+    ensures { result ≡ spec.overrun a.now s.now }
+{
+    match s.action {
+        Action::LooksAtLine(lsr) => when(
+            a.is_overrun && !lsr.contains(LSR::OVERRUN_ERROR),
+            Finding::OverrunHidden,
+        ),
+        _ => None,
+    }
+}
+
+// Returns an empty receiver in which a byte is to wait.
+fn empty_though_waiting(a: &Auditor) -> Option<Finding>
+    ensures { result ≡ spec.empty_though_waiting a.now }
+{
+    if let Some(_) = a.unread.front() {
+        return None;
+    }
+    match a.data_interrupt {
+        Some(interrupt) => Some(Finding::InterruptWithoutData(interrupt)),
+        None => when(a.is_controlled && a.waiting > 0, Finding::GoneAtFcr),
+    }
+}
+
+// Returns an empty receiver in which a byte is to wait.
+pub(crate) fn empty(a: &Auditor, s: &Step) -> Option<Finding>
+    ensures { result ≡ spec.empty a.now s.now }
+{
+    match s.action {
+        Action::LooksAtLine(lsr) => {
+            if lsr.contains(LSR::DATA_READY) {
+                None
+            } else {
+                empty_though_waiting(a)
+            }
+        }
+        _ => None,
+    }
+}
+
+// Returns whether with DLM at zero this would be the divisor of a usual rate at 1.8432 MHz.
+fn is_usual(low: Option<u8>) -> bool
+    ensures { result ≡ spec.is_usual low }
+{
+    match low {
+        Some(low) => matches!(low, 1 | 2 | 3 | 6 | 12 | 24 | 48 | 96 | 192),
+        None => false,
+    }
+}
+
+// Returns whether a value for the high byte of the divisor looks like one for IER: the high byte
+// was written already; or the low byte is that of a usual rate, which this changes.
+fn is_for_ier(a: &Auditor, s: &Step, value: u8) -> bool
+    ensures { result ≡ spec.is_for_ier a.now s.now value }
+{
+    if a.latch.is_high_new {
+        return true;
+    }
+    if !a.latch.has_low {
+        return false;
+    }
+    value != 0 && value < 16 && is_usual(s.setup.divisor.low)
+}
+
+fn is_zero(value: Option<u8>) -> bool
+    ensures { result ≡ spec.is_zero value }
+{
+    match value {
+        Some(value) => value == 0,
+        None => false,
+    }
+}
+
+// Returns what is wrong with the divisor when the latch is closed.
+fn closed(a: &Auditor, s: &Step) -> Option<Finding>
+    ensures { result ≡ spec.closed a.now s.now }
+{
+    if is_zero(s.setup.divisor.low) && is_zero(s.setup.divisor.high) {
+        return Some(Finding::ZeroDivisor);
+    }
+    when(has_low_alone(a.latch), Finding::HighByteNotSet)
+}
+
+// Returns whether the low byte of the divisor was written alone, and not by a driver that took the
+// latch for DATA.
+fn has_low_alone(latch: Latch) -> bool
+    ensures { result ≡ spec.has_low_alone latch }
+{
+    if !latch.was_opened || latch.has_looked {
+        return false;
+    }
+    latch.has_low && !latch.has_high
+}
+
+// Returns whether this value of LCR closes the latch, which is open.
+fn closes(setup: Setup, lcr: LCR) -> bool
+    ensures { result ≡ spec.closes setup.is_open lcr }
+{
+    match setup.is_open {
+        Some(is_open) => is_open && !lcr.contains(LCR::DLAB),
+        None => false,
+    }
+}
+
+// Returns a divisor latch that is taken for DATA or IER, or the other way round. No driver polls
+// while it sets the divisor.
+pub(crate) fn latch(a: &Auditor, s: &Step) -> Option<Finding>
+    ensures { result ≡ spec.latch a.now s.now }
+{
+    match s.action {
+        Action::SetsDivisorLow(byte) => when(
+            a.latch.has_looked || a.latch.is_low_new,
+            Finding::SentIntoLatch(byte),
+        ),
+        Action::SetsDivisorHigh(value) => {
+            when(is_for_ier(a, s, value), Finding::InterruptsIntoLatch(value))
+        }
+        Action::ReadsDivisor => when(a.latch.has_looked, Finding::ReceivedFromLatch),
+        Action::SetsLine(lcr) if closes(s.setup, lcr) => closed(a, s),
+        _ => None,
+    }
+}
+
+// Returns the bits of LCR that say how a character is sent: the kind of parity matters only if
+// there is one, and DLAB does not.
+fn frame(lcr: LCR) -> u8
+    ensures { result ≡ spec.frame lcr }
+{
+    if lcr.contains(LCR::PARITY0) {
+        lcr.bits() & 0x7f
+    } else {
+        lcr.bits() & 0x47
+    }
+}
+
+// Returns whether LCR is known to have had another frame. A break that ends is none.
 fn is_other_frame(old: Option<LCR>, new: LCR) -> bool
     ensures { result ≡ spec.is_other_frame old new }
 {
     match old {
-        Some(old) => (old.bits() | LCR::DLAB.bits()) != (new.bits() | LCR::DLAB.bits()),
+        Some(old) => !old.contains(LCR::SET_BREAK) && frame(old) != frame(new),
         None => false,
     }
 }
@@ -141,141 +437,187 @@ fn is_other(old: Option<u8>, new: u8) -> bool
     }
 }
 
-// Returns what is changed, if anything, whatever goes out.
-fn change(a: &Auditor, action: Action) -> Option<Finding>
-    ensures { result ≡ spec.change a.now action }
+// Returns what is changed while bytes may be going out.
+pub(crate) fn change(a: &Auditor, s: &Step) -> Option<Finding>
+    ensures { result ≡ spec.change a.now s.now }
 {
-    match action {
+    if s.has_rested || a.going_out == 0 {
+        return None;
+    }
+    match s.action {
         Action::SetsLine(lcr) => when(
-            is_other_frame(a.setup.line, lcr),
+            is_other_frame(s.setup.line, lcr),
             Finding::FrameChangedWhileSending,
         ),
         Action::SetsDivisorLow(value) => when(
-            is_other(a.setup.divisor.low, value),
+            is_other(s.setup.divisor.low, value),
             Finding::DivisorChangedWhileSending,
         ),
         Action::SetsDivisorHigh(value) => when(
-            is_other(a.setup.divisor.high, value),
+            is_other(s.setup.divisor.high, value),
             Finding::DivisorChangedWhileSending,
         ),
-        Action::ControlsFifo(fcr) => when(
-            empties(FCR::TX_FIFO_RESET, a.setup.has_fifo, fcr),
+        Action::ControlsFifo(_) => when(
+            a.sent > 0 && s.empties(FCR::TX_FIFO_RESET),
             Finding::ResetWhileSending,
         ),
         _ => None,
     }
 }
 
-// Returns what is changed while bytes may still be going out.
-pub(crate) fn disturbance(a: &Auditor, action: Action) -> Option<Finding>
-    ensures { result ≡ spec.disturbance a.now action }
+// Returns received bytes that FCR discards.
+pub(crate) fn discard(a: &Auditor, s: &Step) -> Option<Finding>
+    ensures { result ≡ spec.discard a.now s.now }
 {
-    if a.is_sending {
-        change(a, action)
+    when(
+        a.waiting > 0 && s.empties(FCR::RX_FIFO_RESET),
+        Finding::WaitingDiscarded,
+    )
+}
+
+// Returns the interrupt that an earlier read of ISR identified, and that is not served.
+pub(crate) fn service(a: &Auditor, s: &Step) -> Option<Finding>
+    ensures { result ≡ spec.service a.now s.now }
+{
+    let before = a.unserved?;
+    let now = s.action.identified()?;
+    when(now == before.interrupt, Finding::NotServed(before))
+}
+
+// Returns whether this is not what was written while bytes were going out.
+fn is_ignored(a: &Auditor, read: LCR) -> Option<Finding>
+    ensures { result ≡ spec.is_ignored a.now read }
+{
+    let written = a.busy_line?;
+    when(
+        written.bits() != read.bits(),
+        Finding::LineIgnored { written, read },
+    )
+}
+
+// Returns an interrupt of an empty transmitter that did not come.
+fn not_raised(a: &Auditor, isr: ISR) -> Option<Finding>
+    ensures { result ≡ spec.not_raised a.now isr }
+{
+    let finding = if a.is_acknowledged {
+        Finding::ThrEmptyNotRaisedAgain
     } else {
-        None
-    }
+        Finding::ThrEmptyNotRaised
+    };
+    when(a.is_thr_due && isr.contains(ISR::INTERRUPT_STATUS), finding)
 }
 
-fn is_zero(value: Option<u8>) -> bool
-    ensures { result ≡ spec.is_zero value }
+// Returns what the chip does not do as it was told.
+pub(crate) fn chip(a: &Auditor, s: &Step) -> Option<Finding>
+    ensures { result ≡ spec.chip a.now s.now }
 {
-    match value {
-        Some(value) => value == 0,
-        None => false,
-    }
-}
-
-// Returns whether the latch is closed with a divisor of zero.
-fn closes_at_zero(a: &Auditor, lcr: LCR) -> bool
-    ensures { result ≡ spec.closes_at_zero a.now lcr }
-{
-    if !has_dlab(a.setup.line) {
-        return false;
-    }
-    if lcr.contains(LCR::DLAB) {
-        return false;
-    }
-    if !is_zero(a.setup.divisor.low) {
-        return false;
-    }
-    is_zero(a.setup.divisor.high)
-}
-
-// Returns whether a byte has more bits than a character.
-fn cuts(line: Option<LCR>, byte: u8) -> bool
-    ensures { result ≡ spec.cuts line byte }
-{
-    match line {
-        Some(lcr) => is_cut(lcr, byte),
-        None => false,
-    }
-}
-
-// Returns a set-up with which nothing is sent, or not what was given.
-pub(crate) fn setting(a: &Auditor, action: Action) -> Option<Finding>
-    ensures { result ≡ spec.setting a.now action }
-{
-    match action {
-        Action::Sends(byte) => when(cuts(a.setup.line, byte), Finding::WordTooShort(byte)),
-        Action::SetsLine(lcr) => when(closes_at_zero(a, lcr), Finding::ZeroDivisor),
+    match s.action {
+        Action::IdentifiesInterrupt(isr) => not_raised(a, isr),
+        Action::ReadsLine(lcr) => is_ignored(a, lcr),
         _ => None,
     }
 }
 
-fn not_served(unserved: Option<InterruptType>) -> Option<Finding>
-    ensures { result ≡ spec.not_served unserved }
+// Returns whether an interrupt that a read of ISR does not acknowledge is shown.
+fn stays(isr: ISR) -> bool
+    ensures { result ≡ spec.stays isr }
 {
-    match unserved {
-        Some(interrupt) => Some(Finding::NotServed(interrupt)),
-        None => None,
+    match identified(isr) {
+        Some(InterruptType::TransmitterHoldingRegisterEmpty) | None => false,
+        Some(_) => true,
     }
 }
 
-// Returns the interrupt that an earlier read of ISR identified, and that was not served before
-// this one.
-pub(crate) fn interrupt(a: &Auditor, action: Action) -> Option<Finding>
-    ensures { result ≡ spec.interrupt a.now action }
-{
-    match action {
-        Action::IdentifiesInterrupt(_) => not_served(a.unserved),
-        _ => None,
-    }
-}
-
-// Returns whether loopback is on.
-fn loops_back(modem: Option<MCR>) -> bool
-    ensures { result ≡ spec.loops_back modem }
+// Returns whether OUT2 is known to be on.
+fn is_connected(modem: Option<MCR>) -> bool
+    ensures { result ≡ spec.is_connected modem }
 {
     match modem {
-        Some(mcr) => mcr.contains(MCR::LOOP_BACK),
+        Some(mcr) => mcr.contains(MCR::OUT_2_INT_ENABLE),
         None => false,
     }
 }
 
-// Returns the interrupt if it was never acknowledged.
-fn never_acknowledged(is_due: bool, interrupt: InterruptType) -> Option<Finding>
-    ensures { result ≡ spec.never_acknowledged is_due interrupt }
+// Returns whether the line is not as ISR says. While OUT2 is off the line may be down.
+fn is_other_level(setup: Setup, isr: ISR, is_up: bool) -> bool
+    ensures { result ≡ spec.is_other_level setup.modem isr is_up }
 {
-    when(is_due, Finding::NeverAcknowledged(interrupt))
+    if is_up {
+        return isr.contains(ISR::INTERRUPT_STATUS);
+    }
+    stays(isr) && is_connected(setup.modem)
+}
+
+// Returns lines that are not as a register says.
+pub(crate) fn level(a: &Auditor, s: &Step) -> Option<Finding>
+    ensures { result ≡ spec.level a.now s.now }
+{
+    match s.action {
+        Action::IdentifiesInterrupt(isr) => {
+            let is_up = s.level?;
+            when(
+                is_other_level(s.setup, isr, is_up),
+                Finding::LevelDiffers(is_up),
+            )
+        }
+        Action::LooksAtModem(shown) if !s.setup.loops_back() => {
+            let inputs = a.lines?;
+            when(
+                shown.intersection(MSR::LINES).bits() != inputs.intersection(MSR::LINES).bits(),
+                Finding::LinesDiffer { inputs, shown },
+            )
+        }
+        _ => None,
+    }
+}
+
+/// The nanoseconds after which a driver has left its handler, if it accesses nothing: 10 ms.
+pub const HANDLER_TIME: u64 = 10_000_000;
+
+// Returns whether so much time passed since a mark.
+fn is_long_since(mark: Mark, now: u64) -> bool
+    ensures { result ≡ spec.is_long_since mark now }
+{
+    HANDLER_TIME <= now.saturating_sub(mark.time)
+}
+
+// Returns an interrupt line that was left up by a handler, while interrupts are not known to be
+// off: a byte arrives, and there was no access for so long. A processor that is slow is no handler
+// that has returned, so what the driver accesses next does not show it.
+pub(crate) fn line_up(a: &Auditor, s: &Step) -> Option<Finding>
+    ensures { result ≡ spec.line_up a.now s.now }
+{
+    if !s.action.arrives() {
+        return None;
+    }
+    let mark = a.up?;
+    let now = s.time?;
+    if s.setup.interrupts.is_some() && !enables_some(s.setup.interrupts) {
+        return None;
+    }
+    when(
+        a.is_handling && is_long_since(mark, now),
+        Finding::LeftWithLineUp(mark.line),
+    )
 }
 
 impl Auditor {
-    /// Returns the findings after the last access, each in its place.
-    pub fn end(&self) -> [Option<Finding>; 7]
+    /// Returns the findings after the last entry, each in its place.
+    pub fn end(&self) -> [Option<Finding>; 2]
         ensures { result ≡ spec.end_findings self.now }
     {
         [
-            when(has_dlab(self.setup.line), Finding::LatchLeftOpen),
-            when(loops_back(self.modem), Finding::LoopbackLeftOn),
-            not_served(self.unserved),
-            never_acknowledged(self.due.data_ready, InterruptType::ReceivedDataReady),
-            never_acknowledged(
-                self.due.thr_empty,
-                InterruptType::TransmitterHoldingRegisterEmpty,
-            ),
-            never_acknowledged(self.due.line_status, InterruptType::ReceiverLineStatus),
-            never_acknowledged(self.due.modem_status, InterruptType::ModemStatus),
+            when(is_open(self.setup.is_open), Finding::LatchLeftOpen),
+            when(self.setup.loops_back(), Finding::LoopbackLeftOn),
         ]
+    }
+}
+
+fn is_open(is_open: Option<bool>) -> bool
+    ensures { result ≡ spec.is_open is_open }
+{
+    match is_open {
+        Some(is_open) => is_open,
+        None => false,
     }
 }

@@ -5,9 +5,7 @@ ghost use Rattle.uart_spec.specs.Fields.{word_length_code};
 
 use crate::audit::action::Action;
 use bitflags::Flags;
-use uart_spec::registers::{
-    FCR, FifoTriggerLevel, IER, ISR, InterruptType, LCR, LSR, MCR, WordLength,
-};
+use uart_spec::registers::{FCR, FifoTriggerLevel, IER, ISR, InterruptType, LCR, LSR, WordLength};
 
 // Returns the interrupt that a value of ISR identifies.
 pub(crate) fn identified(isr: ISR) -> Option<InterruptType>
@@ -54,7 +52,7 @@ impl Action {
     pub(crate) fn receives(self) -> bool
         ensures { result ≡ spec.receives self }
     {
-        matches!(self, Action::Receives)
+        matches!(self, Action::Receives(_))
     }
 
     // Returns whether LSR is read.
@@ -64,23 +62,6 @@ impl Action {
         matches!(self, Action::LooksAtLine(_))
     }
 
-    // Returns whether nothing is going out.
-    pub(crate) fn shows_idle(self) -> bool
-        ensures { result ≡ spec.shows_idle self }
-    {
-        matches!(self, Action::LooksAtLine(lsr) if lsr.contains(LSR::TRANSMITTER_EMPTY))
-    }
-
-    // Returns whether a look at LSR shows a received byte.
-    pub(crate) fn ready(self) -> Option<bool>
-        ensures { result ≡ spec.ready_of self }
-    {
-        match self {
-            Action::LooksAtLine(lsr) => Some(lsr.contains(LSR::DATA_READY)),
-            _ => None,
-        }
-    }
-
     // Returns whether MSR is read.
     pub(crate) fn looks_at_modem(self) -> bool
         ensures { result ≡ spec.looks_at_modem self }
@@ -88,27 +69,82 @@ impl Action {
         matches!(self, Action::LooksAtModem(_))
     }
 
-    // Returns whether ISR is read.
-    pub(crate) fn identifies(self) -> bool
-        ensures { result ≡ spec.identifies self }
+    // Returns whether a character arrives.
+    pub(crate) fn arrives(self) -> bool
+        ensures { result ≡ spec.arrives self }
     {
-        matches!(self, Action::IdentifiesInterrupt(_))
+        matches!(self, Action::Arrives(_, _))
     }
 
-    // Returns whether the transmitter has room.
-    pub(crate) fn shows_room(self) -> bool
-        ensures { result ≡ spec.shows_room self }
+    // Returns whether FCR is written.
+    pub(crate) fn controls_fifo(self) -> bool
+        ensures { result ≡ spec.controls_fifo self }
+    {
+        matches!(self, Action::ControlsFifo(_))
+    }
+
+    // Returns whether MCR is written.
+    pub(crate) fn sets_modem(self) -> bool
+        ensures { result ≡ spec.sets_modem self }
+    {
+        matches!(self, Action::SetsModem(_))
+    }
+
+    // Returns whether a register is written that says how the chip works.
+    pub(crate) fn configures(self) -> bool
+        ensures { result ≡ spec.configures self }
+    {
+        matches!(
+            self,
+            Action::EnablesInterrupts(_)
+                | Action::ControlsFifo(_)
+                | Action::SetsLine(_)
+                | Action::SetsModem(_)
+        )
+    }
+
+    // Returns the interrupt that is identified, if ISR is read.
+    pub(crate) fn identified(self) -> Option<InterruptType>
+        ensures { result ≡ spec.identified_by self }
+    {
+        match self {
+            Action::IdentifiesInterrupt(isr) => identified(isr),
+            _ => None,
+        }
+    }
+
+    // Returns whether ISR shows that no interrupt is pending.
+    pub(crate) fn shows_none(self) -> bool
+        ensures { result ≡ spec.shows_none self }
+    {
+        matches!(self, Action::IdentifiesInterrupt(isr) if isr.contains(ISR::INTERRUPT_STATUS))
+    }
+
+    // Returns whether ISR identifies this interrupt: the transmitter is empty.
+    pub(crate) fn identifies_thr_empty(self) -> bool
+        ensures { result ≡ spec.identifies_thr_empty self }
+    {
+        matches!(
+            self.identified(),
+            Some(InterruptType::TransmitterHoldingRegisterEmpty)
+        )
+    }
+
+    // Returns whether THR is shown to be empty: by LSR, or by ISR.
+    pub(crate) fn shows_thr_empty(self) -> bool
+        ensures { result ≡ spec.shows_thr_empty self }
     {
         match self {
             Action::LooksAtLine(lsr) => lsr.contains(LSR::THR_EMPTY),
-            Action::IdentifiesInterrupt(isr) => {
-                matches!(
-                    identified(isr),
-                    Some(InterruptType::TransmitterHoldingRegisterEmpty)
-                )
-            }
-            _ => false,
+            _ => self.identifies_thr_empty(),
         }
+    }
+
+    // Returns whether nothing is going out.
+    pub(crate) fn shows_idle(self) -> bool
+        ensures { result ≡ spec.shows_idle self }
+    {
+        matches!(self, Action::LooksAtLine(lsr) if lsr.contains(LSR::TRANSMITTER_EMPTY))
     }
 
     // Returns whether the divisor latch is opened.
@@ -125,14 +161,18 @@ impl Action {
         matches!(self, Action::SetsDivisorLow(_))
     }
 
-    // Returns the value of MCR that is written or read.
-    pub(crate) fn modem(self) -> Option<MCR>
-        ensures { result ≡ spec.modem_of self }
+    // Returns whether the high byte of the divisor is written.
+    pub(crate) fn sets_high(self) -> bool
+        ensures { result ≡ spec.sets_high self }
     {
-        match self {
-            Action::SetsModem(mcr) | Action::ReadsModem(mcr) => Some(mcr),
-            _ => None,
-        }
+        matches!(self, Action::SetsDivisorHigh(_))
+    }
+
+    // Returns whether the latch is opened, or a byte of the divisor is read.
+    pub(crate) fn begins_divisor(self) -> bool
+        ensures { result ≡ spec.begins_divisor self }
+    {
+        matches!(self, Action::ReadsDivisor) || self.opens()
     }
 
     // Returns whether this writes IER without these bits.
@@ -140,34 +180,5 @@ impl Action {
         ensures { result ≡ spec.disables interrupts.0 self }
     {
         matches!(self, Action::EnablesInterrupts(ier) if !ier.contains(interrupts))
-    }
-
-    // Returns whether the receiver FIFO is reset.
-    pub(crate) fn resets_receiver(self) -> bool
-        ensures { result ≡ spec.resets_receiver self }
-    {
-        matches!(self, Action::ControlsFifo(fcr) if fcr.contains(FCR::RX_FIFO_RESET))
-    }
-
-    // Returns whether this does what the interrupt asks for, or disables it.
-    pub(crate) fn serves(self, interrupt: InterruptType) -> bool
-        ensures { result ≡ spec.serves interrupt self }
-    {
-        match interrupt {
-            InterruptType::ReceiverLineStatus => {
-                self.looks_at_line() || self.disables(IER::RECEIVER_LINE_STATUS)
-            }
-            InterruptType::ReceivedDataReady | InterruptType::ReceptionTimeout => {
-                self.receives() || self.resets_receiver() || self.disables(IER::DATA_READY)
-            }
-            InterruptType::TransmitterHoldingRegisterEmpty => {
-                self.sends() || self.disables(IER::THR_EMPTY)
-            }
-            InterruptType::ModemStatus => {
-                self.looks_at_modem() || self.disables(IER::MODEM_STATUS)
-            }
-            InterruptType::DmaReceptionEndOfTransfer
-            | InterruptType::DmaTransmissionEndOfTransfer => true,
-        }
     }
 }

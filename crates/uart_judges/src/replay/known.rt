@@ -42,6 +42,10 @@ pub struct Known {
     pub sender: Sender,
     /// Whether a received character waits for certain.
     pub waits: bool,
+    /// Whether LSR was read, and since then neither DATA was read nor FCR written. The read cleared
+    /// the errors of a character. A real chip may show them until then, even if the character was
+    /// read.
+    pub is_looked: bool,
 }
 
 // Returns whether the FIFOs are on at the start, if it is known: a 16450 has none.
@@ -118,6 +122,7 @@ impl Known {
             fifo: first_fifo(model, start),
             sender: first_sender(start),
             waits: false,
+            is_looked: false,
         }
     }
 
@@ -145,13 +150,17 @@ impl Known {
         let mut known = self;
         known.latches = self.latches.after_read(offset, value);
         match offset {
-            offsets::DATA => known.waits = self.waits_after_data(),
+            offsets::DATA => {
+                known.waits = self.waits_after_data();
+                known.is_looked = false;
+            }
             offsets::ISR => {
                 known.fifo = Some(ISR::from_bits_retain(value).intersects(ISR::FIFOS_ENABLED));
             }
             offsets::LSR => {
                 known.sender = sender_shown(LSR::from_bits_retain(value), self.sender);
                 known.waits = LSR::from_bits_retain(value).intersects(LSR::DATA_READY);
+                known.is_looked = true;
             }
             _ => {}
         }
@@ -165,6 +174,7 @@ impl Known {
         match offset {
             offsets::DATA => Self {
                 waits: self.waits_after_data(),
+                is_looked: false,
                 ..self
             },
             _ => self,
@@ -182,6 +192,7 @@ impl Known {
             offsets::FCR => {
                 known.fifo = fifo_after(self.model, value, self.fifo);
                 known.waits = false;
+                known.is_looked = false;
             }
             _ => {}
         }

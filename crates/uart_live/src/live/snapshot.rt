@@ -21,7 +21,8 @@ impl LiveChip {
     /// let restored = LiveChip::from_data(&saved, chip.wire())?;
     /// ```
     pub fn data(&self) -> ChipData
-        ensures { chip_of result self.now.transmitter.wire ≡ self.now }
+        ensures data { chip_of result self.now.transmitter.wire ≡ self.now }
+        ensures live { IsLive self.now }
     {
         self.uart.data()
     }

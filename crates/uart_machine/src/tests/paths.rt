@@ -5,7 +5,7 @@ use crate::laws::{
     plain_reads_change_nothing, runs_have_one_outcome, scripts_have_one_output,
 };
 use crate::script::{
-    Cause, Fault, Input, Output, PlayError, Script, ScriptError, Std, parse, play,
+    Cause, Input, Output, PlayError, Script, ScriptError, Std, StreamFault, parse, play,
 };
 use crate::{
     Answer, ArrivalMark, BuildError, CALL_BYTES, Call, Character, Chip, ChipData, Device16550,
@@ -42,7 +42,7 @@ fn no_calls_are_run_and_one_is_performed(rt: HostRuntime) -> Result<(), Fail> {
 }
 
 // Moves one byte of the input to the output.
-fn moved<R: Input, W: Output>(reader: &mut R, writer: &mut W) -> Result<usize, Fault> {
+fn moved<R: Input, W: Output>(reader: &mut R, writer: &mut W) -> Result<usize, StreamFault> {
     let mut byte = [0u8; 1];
     let count = reader.read(&mut byte)?;
     writer.write(&byte[..count])

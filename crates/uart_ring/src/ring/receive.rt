@@ -1,7 +1,8 @@
 //! From the chip to the receive ring, and from there to the caller.
 ghost use Rattle.std.specs.Prelude.{◌≡◌, length, take, drop, min};
-ghost use Rattle.uart_ring.specs.Ring.{RingDid, ring_fields};
-ghost use Rattle.uart_ring.specs.Receive.{PausesIfFull, FillsReceiveRing, TakesBytes};
+ghost use Rattle.uart_ring.specs.Ring.{IfAny, RingDid, ring_fields};
+ghost use Rattle.uart_ring.specs.Receive.{PausesIfFull, FillsReceiveRing, EndsPause};
+ghost use Rattle.uart_ring.specs.Receive.{TakesBytes, ClearsReceive};
 
 use super::Uart16550Ring;
 use uart_16550::backend::Backend;
@@ -31,6 +32,16 @@ impl<B: Backend> Uart16550Ring<B> {
         self.pause_if_full();
     }
 
+    // Ends a pause if so many bytes have left the receive ring.
+    fn end_pause(&mut self, count: usize)
+        ensures { RingDid B.step (IfAny count EndsPause) self.old self.new }
+    {
+        if count > 0 && self.is_paused {
+            self.uart.enable_interrupts(IER::DATA_READY);
+            self.is_paused = false;
+        }
+    }
+
     /// Takes received bytes from the front of the receive ring, as many as there are slots, and
     /// returns how many. Leaves the other slots unchanged.
     ///
@@ -51,10 +62,26 @@ impl<B: Backend> Uart16550Ring<B> {
         ensures rest { drop result slots.new ≡ drop result slots.old }
     {
         let count = self.receive.read_into(slots);
-        if count > 0 && self.is_paused {
-            self.uart.enable_interrupts(IER::DATA_READY);
-            self.is_paused = false;
-        }
+        self.end_pause(count);
+        count
+    }
+
+    /// Drops the bytes of the receive ring, and returns how many. What is in the chip stays there.
+    ///
+    /// Does not wait. If it drops at least one byte and receiving is paused, it enables
+    /// `DATA_READY` again and ends the pause, as `take` does. Otherwise it makes no access.
+    ///
+    /// # Examples
+    ///
+    /// ```
+    /// let dropped = ring.clear_receive();
+    /// ```
+    pub fn clear_receive(&mut self) -> usize
+        ensures { RingDid B.step (ClearsReceive result) self.old self.new }
+    {
+        let count = self.receive.len();
+        self.receive.drop_front(count);
+        self.end_pause(count);
         count
     }
 }

@@ -1,7 +1,11 @@
 //! From the transmit ring to the chip.
-ghost use Rattle.std.specs.Prelude.{◌≡◌, length, min};
-ghost use Rattle.uart_ring.specs.Ring.{RingDid, free, ring_fields};
+ghost use Rattle.std.specs.Prelude.{◌≡◌, ◌≤◌, ◌<◌, ◌==◌, ◌||◌, ◌++◌, not, length, min, take, drop};
+ghost use Rattle.uart_ring.specs.Queue.{queue};
+ghost use Rattle.uart_ring.specs.Ring.{RingDid, falls, free, ring_fields, sendable, unless_held};
+ghost use Rattle.uart_ring.specs.Ring.{without_sent_bytes};
 ghost use Rattle.uart_ring.specs.Transmit.{Pumps, Queues, ResumesTransmit};
+ghost use Rattle.uart_ring.specs.Transmit.{Holds, Releases, QueuesUrgent, ClearsTransmit};
+ghost use Rattle.uart_ring.specs.Transmit.{SetsLowMark, TakesLow};
 
 use super::Uart16550Ring;
 use uart_16550::backend::Backend;
@@ -9,7 +13,87 @@ use uart_spec::FIFO_SIZE;
 use uart_spec::registers::IER;
 
 impl<B: Backend> Uart16550Ring<B> {
-    // Sends bytes of the transmit ring if the chip has room. Then enables THR_EMPTY if bytes are
+    // Copies bytes of the transmit ring, as many as there are slots, and returns how many: none
+    // while it is held. Leaves the other slots unchanged.
+    fn copy_queued(&self, slots: &mut [u8]) -> usize
+        ensures count { result ≡ min (length slots.old)
+            (length (unless_held self.now.is_held self.now.transmit.items)) }
+        ensures copied { slots.new ≡
+            take result (unless_held self.now.is_held self.now.transmit.items)
+            ++ drop result slots.old }
+    {
+        if self.is_held {
+            return 0;
+        }
+        self.transmit.copy_front(slots)
+    }
+
+    // Copies bytes that may be sent, from the front, as many as there are slots, and returns how
+    // many. Leaves the other slots unchanged.
+    fn copy_sendable(&self, slots: &mut [u8]) -> usize
+        requires { 0 < length slots.old }
+        ensures count { result ≡ min (length slots.old)
+            (length (sendable (ring_fields self.now))) }
+        ensures copied { slots.new ≡
+            take result (sendable (ring_fields self.now)) ++ drop result slots.old }
+    {
+        if self.stuck.is_some() {
+            return 0;
+        }
+        match self.urgent {
+            None => self.copy_queued(slots),
+            Some(byte) => {
+                slots[0] = byte;
+                1 + self.copy_queued(&mut slots[1..])
+            }
+        }
+    }
+
+    // Returns whether a byte waits that may be sent.
+    fn has_sendable(&self) -> bool
+        ensures { result ≡ not (length (sendable (ring_fields self.now)) == 0) }
+    {
+        if self.stuck.is_some() {
+            return false;
+        }
+        if self.urgent.is_some() {
+            return true;
+        }
+        let is_empty = self.transmit.is_empty();
+        !self.is_held && !is_empty
+    }
+
+    // Drops bytes from the front of the transmit ring, and notes it if the ring falls to the low
+    // mark.
+    fn drop_queued(&mut self, count: usize)
+        requires { count ≤ length self.old.transmit.items }
+        ensures { self.new ≡ record self.old {
+          transmit = queue (drop count self.old.transmit.items) self.old.transmit.capacity;
+          is_low = self.old.is_low || falls self.old.low_mark (length self.old.transmit.items)
+              (length (drop count self.old.transmit.items));
+        } }
+    {
+        let was_above = self.transmit.len() > self.low_mark;
+        self.transmit.drop_front(count);
+        let is_at_mark = self.transmit.len() <= self.low_mark;
+        self.is_low = self.is_low || (was_above && is_at_mark);
+    }
+
+    // Drops bytes that were sent. The urgent byte is the first of them.
+    fn drop_sent(&mut self, count: usize)
+        requires { count ≤ length (sendable (ring_fields self.old)) }
+        ensures { self.new ≡ without_sent_bytes count self.old }
+    {
+        if count == 0 {
+            return;
+        }
+        match self.urgent.take() {
+            Some(_) => self.drop_queued(count - 1),
+            None => self.drop_queued(count),
+        }
+    }
+
+    // Sends bytes that may be sent if the chip has room. Then enables THR_EMPTY if such bytes are
     // left, else disables it.
     //
     // The bytes are sent first, because not every chip interrupts when THR_EMPTY is enabled on an
@@ -21,15 +105,16 @@ impl<B: Backend> Uart16550Ring<B> {
     pub(super) fn pump(&mut self)
         ensures { RingDid B.step Pumps self.old self.new }
     {
-        // In the ring the bytes may be in two pieces, and `send_bytes` takes one slice.
+        // In the ring the bytes may be in two pieces, and the urgent byte is in none of them.
+        // `send_bytes` takes one slice.
         let mut burst = [0; FIFO_SIZE];
-        let count = self.transmit.copy_front(&mut burst);
+        let count = self.copy_sendable(&mut burst);
         let sent = self.uart.send_bytes(&burst[..count]);
-        self.transmit.drop_front(sent);
-        if self.transmit.is_empty() {
-            self.uart.disable_interrupts(IER::THR_EMPTY);
-        } else {
+        self.drop_sent(sent);
+        if self.has_sendable() {
             self.uart.enable_interrupts(IER::THR_EMPTY);
+        } else {
+            self.uart.disable_interrupts(IER::THR_EMPTY);
         }
     }
 
@@ -38,7 +123,8 @@ impl<B: Backend> Uart16550Ring<B> {
     ///
     /// If it queues any, it sends bytes of the ring if the chip has room: up to 16 if its FIFO is
     /// on, else one. Then it enables `THR_EMPTY` if bytes are left in the ring, else it disables
-    /// it. The rest is sent when that interrupt is served.
+    /// it. The rest is sent when that interrupt is served. While the ring is held or the chip is
+    /// stuck, it sends none, and disables `THR_EMPTY`.
     ///
     /// Does not wait. If it did not queue all bytes, call it again with the rest of the slice after
     /// interrupts were served.
@@ -85,8 +171,121 @@ impl<B: Backend> Uart16550Ring<B> {
         ensures { RingDid B.step ResumesTransmit self.old self.new }
     {
         // A pump, and not THR_EMPTY switched off and on: some devices raise no interrupt for that.
-        if !self.transmit.is_empty() {
+        if self.urgent.is_some() || !self.transmit.is_empty() {
             self.pump();
         }
+    }
+
+    /// Holds the transmit ring: none of its bytes is handed to the chip until `release_transmit`.
+    ///
+    /// What is in the chip goes out: a held ring stops with at most 16 characters of delay. `queue`
+    /// accepts bytes as before, and an urgent byte still goes out.
+    ///
+    /// Makes no access. If `THR_EMPTY` is enabled, it is disabled when its next interrupt is
+    /// served.
+    ///
+    /// # Examples
+    ///
+    /// ```
+    /// ring.hold_transmit();
+    /// ```
+    pub fn hold_transmit(&mut self)
+        ensures { RingDid B.step Holds self.old self.new }
+    {
+        self.is_held = true;
+    }
+
+    /// Ends the hold of the transmit ring, and starts sending again as `resume_transmit` does, so
+    /// that no interrupt is missed which came during the hold.
+    ///
+    /// Does not wait.
+    ///
+    /// # Examples
+    ///
+    /// ```
+    /// ring.release_transmit();
+    /// ```
+    pub fn release_transmit(&mut self)
+        ensures { RingDid B.step Releases self.old self.new }
+    {
+        self.is_held = false;
+        self.resume_transmit();
+    }
+
+    /// Puts this byte before all bytes that wait to be sent, and sends if the chip has room.
+    /// Returns the urgent byte that still waited, which this one replaces.
+    ///
+    /// This is for the flow control of a terminal: an XON or XOFF goes out after what is in the
+    /// chip, even while the transmit ring is held. The newest one counts, so it replaces one that
+    /// waits. With CTS checking it waits, as all bytes do, until the remote is clear to send.
+    ///
+    /// Does not wait.
+    ///
+    /// # Examples
+    ///
+    /// ```
+    /// assert_eq!(rt; ring.queue_urgent(XOFF), None);
+    /// ```
+    pub fn queue_urgent(&mut self, byte: u8) -> Option<u8>
+        ensures { RingDid B.step (QueuesUrgent byte result) self.old self.new }
+    {
+        let replaced = self.urgent.replace(byte);
+        self.pump();
+        replaced
+    }
+
+    /// Drops the bytes of the transmit ring, and returns how many.
+    ///
+    /// An urgent byte, and what is in the chip, still go out. Makes no access: if `THR_EMPTY` is
+    /// enabled, it is disabled when its next interrupt is served.
+    ///
+    /// # Examples
+    ///
+    /// ```
+    /// let dropped = ring.clear_transmit();
+    /// ```
+    pub fn clear_transmit(&mut self) -> usize
+        ensures { RingDid B.step (ClearsTransmit result) self.old self.new }
+    {
+        let count = self.transmit.len();
+        self.drop_queued(count);
+        count
+    }
+
+    /// Sets the low mark, a number of bytes in the transmit ring. It is 0 at first. Makes no
+    /// access.
+    ///
+    /// # Examples
+    ///
+    /// ```
+    /// ring.set_low_mark(256);
+    /// ```
+    pub fn set_low_mark(&mut self, mark: usize)
+        ensures { RingDid B.step (SetsLowMark mark) self.old self.new }
+    {
+        self.low_mark = mark;
+    }
+
+    /// Returns whether the transmit ring fell from above the low mark to the mark or below since
+    /// the last `take_low`. Makes no access.
+    ///
+    /// Call it at the end of the interrupt handler, and wake who waits for room if it returns
+    /// `true`. It tells once of each fall; of several falls between two calls it tells once.
+    // A flag and not a callback: a callback would run inside the call that sends, with the rings
+    // borrowed, and could not queue.
+    ///
+    /// # Examples
+    ///
+    /// ```
+    /// if ring.take_low() {
+    ///     writers.wake();
+    /// }
+    /// ```
+    pub fn take_low(&mut self) -> bool
+        ensures { RingDid B.step (TakesLow result) self.old self.new }
+    {
+        let low = self.is_low;
+        self.is_low = false;
+        low
     }
 }

@@ -39,7 +39,7 @@ is_off true implemented = let same = implemented refl in absurd (cc)
 is_off false implemented = refl
 
 -- what a write of the bits for a level leaves
-controlled : (model : Chip) (level : Option FifoTriggerLevel) (k : Kept) → (k.fifo ≡ true → model ≡ Uart16550A) →
+pub controlled : (model : Chip) (level : Option FifoTriggerLevel) (k : Kept) → (k.fifo ≡ true → model ≡ Uart16550A) →
     keep_control model (fifo_bits level) k ≡ record k { fifo = is_level level && has_fifo model }
 controlled Uart16450 level k implemented = ap (λ (on : Bool). record k { fifo = on }) (is_off k.fifo implemented ∙ sym (never_on level))
 controlled Uart16550A level k implemented = ap (λ (on : Bool). record k { fifo = on }) (enables level)

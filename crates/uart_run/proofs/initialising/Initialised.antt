@@ -124,7 +124,7 @@ stalled config d on f l m t w does p =
     ready_by t _ set (frame-dlab config) refl (ap (λ (g : Fields). g.fifo) a.parts.second.1 ∙ b.knows)
 
 -- nothing was done
-untouched : (s t : State) (l : List Access) → l ≡ [] → fields (inner_of t) ≡ fields (inner_of s) →
+pub untouched : (s t : State) (l : List Access) → l ≡ [] → fields (inner_of t) ≡ fields (inner_of s) →
     Path MachineStep (machine_of s) l (machine_of t) → Ready s → Ready t
 untouched s t l none same p ready =
     ready_by t (kept_in (machine_of s).chip) (kept_list l [] (machine_of s) (machine_of t) none p) ready.dlab ready.loopback

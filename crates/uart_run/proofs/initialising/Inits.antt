@@ -66,11 +66,11 @@ abbrev pub set_up : Config → (divisor mcr scr : ℕ) → LatchesState
 set_up config divisor mcr scr = record { ier = 0; lcr = frame_bits config; mcr = mcr; scr = scr; dll = divisor % 256; dlm = divisor / 256 }
 
 -- a presence check leaves all but the scratch register
-record Checked (l : List Access) : Type 0 where
+pub record Checked (l : List Access) : Type 0 where
   pub scr : ℕ
   pub kept : (k : Kept) → kept_after l k ≡ record k { latches = record k.latches { scr = scr } }
 
-checked : (s : Settings) (l : List Access) → ChecksPresence true s l → Checked l
+pub checked : (s : Settings) (l : List Access) → ChecksPresence true s l → Checked l
 checked s l (old, t) = record {
   scr = old;
   kept =
@@ -114,19 +114,19 @@ lined config d on s l m n w t p =
       is_on = set.is_on ∙ ap (λ (k : Kept). is_level config.fifo_trigger_level && has_fifo k.model) second;
     }
 
--- the drain, and MCR written
-drained : (f after : Fields) (l : List Access) (m n : MachineState) → is_dlab_set m.chip.latches ≡ false →
-    Next (Plain DrainsReceiver) (Saving (Only (Write offsets.MCR raised_outputs ∷ []))) f l after → Path MachineStep m l n →
-    LeftBy (Write offsets.MCR raised_outputs ∷ []) f after m n
-drained f after l m n dlab t p =
-    let a = next_stages (Plain DrainsReceiver) (Saving (Only (Write offsets.MCR raised_outputs ∷ []))) f after l m n t p in
+-- the drain, and these outputs written to MCR
+pub drained : (outputs : ℕ) (f after : Fields) (l : List Access) (m n : MachineState) → is_dlab_set m.chip.latches ≡ false →
+    Next (Plain DrainsReceiver) (Saving (Only (Write offsets.MCR outputs ∷ []))) f l after → Path MachineStep m l n →
+    LeftBy (Write offsets.MCR outputs ∷ []) f after m n
+drained outputs f after l m n dlab t p =
+    let a = next_stages (Plain DrainsReceiver) (Saving (Only (Write offsets.MCR outputs ∷ []))) f after l m n t p in
     let same : kept_in a.parts.between.chip ≡ kept_in m.chip =
     kept_still (settings_of f) DrainsReceiver a.parts.front m a.parts.between (keeps_drains (settings_of f)) dlab
     a.parts.first.0 a.parts.before in
     record {
       kept =
-          kept_list a.parts.back (Write offsets.MCR raised_outputs ∷ []) a.parts.between n a.parts.second.0.is a.parts.after
-          ∙ ap (kept_after (Write offsets.MCR raised_outputs ∷ [])) same;
+          kept_list a.parts.back (Write offsets.MCR outputs ∷ []) a.parts.between n a.parts.second.0.is a.parts.after
+          ∙ ap (kept_after (Write offsets.MCR outputs ∷ [])) same;
       knows = ap (λ (g : Fields). g.fifo) a.parts.second.1 ∙ ap (λ (g : Fields). g.fifo) a.parts.first.1;
     }
 
@@ -148,7 +148,7 @@ begun config d on f after l m n w t p =
     joined a.parts.between b.parts.between c.parts.between c.mid begins sets
     (lined config d on (settings_of a.mid) b.parts.front a.parts.between b.parts.between (sound_path [] m a.parts.between w begins)
     b.parts.first.0 b.parts.before)
-    (λ dlab. drained c.mid after c.parts.back c.parts.between n dlab c.parts.second c.parts.after)
+    (λ dlab. drained raised_outputs c.mid after c.parts.back c.parts.between n dlab c.parts.second c.parts.after)
     (ap (λ (g : Fields). g.fifo) c.parts.first.1)
   where
     -- nothing is accessed where the driver alone is set

@@ -51,6 +51,8 @@ fn each(given: &Given, mut act: impl FnMut(&str) -> Result<(), End>) -> Result<(
 fn format_of(given: &Given) -> Format {
     if given.has("json") {
         Format::Json
+    } else if given.has("all") {
+        Format::AllLines(Style::of(&io::stdout()))
     } else {
         Format::Lines(Style::of(&io::stdout()))
     }
@@ -143,7 +145,9 @@ fn run(job: Job, given: &Given) -> Result<(), End> {
     match job {
         Job::Report(task) => each(given, |file| report(task, file)),
         Job::Timeline => timeline(given),
-        Job::Judge(judge) => each(given, |file| judged(judge, file, format_of(given))),
+        Job::Judge(judge) => each(given, |file| {
+            judged(judge, file, format_of(given), given.has("settled"))
+        }),
         Job::Verify => verify(given),
         Job::Completions => complete(given),
         Job::Manual => print(manual_page(&GEESETRUNK).as_bytes()),

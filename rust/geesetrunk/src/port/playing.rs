@@ -7,7 +7,7 @@ use crate::heap;
 use std::fs::File;
 use std::io::{self, ErrorKind, Write};
 use uart_language::{Script, ScriptError, parse};
-use uart_port::{Journal, NotedPorts, Trace, terminal_at};
+use uart_port::{NotedPorts, Report, ReportError, Trace, terminal_at};
 
 /// What is played, and where.
 #[derive(Clone, Copy, Debug)]
@@ -41,11 +41,11 @@ fn unopened(cause: io::Error) -> End {
 }
 
 // Returns how the program ends that could not play the calls to their end, though no port failed.
-fn unplayed(end: uart_port::End) -> End {
-    match end {
-        uart_port::End::Trace(cause) => untraced(cause),
-        uart_port::End::Output(cause) => End::unwritten(cause),
-        uart_port::End::OutOfMemory => End::out_of_memory(),
+fn unplayed(error: ReportError) -> End {
+    match error {
+        ReportError::Trace(cause) => untraced(cause),
+        ReportError::Output(cause) => End::unwritten(cause),
+        ReportError::OutOfMemory => End::out_of_memory(),
     }
 }
 
@@ -83,8 +83,8 @@ pub fn play(run: &Run<'_>, out: &mut impl Write) -> Result<(), End> {
     let ports = NotedPorts::new(device, run.base, trace);
     let mut terminal = terminal_at(run.base, limit, ports);
     let lines: Vec<&[u8]> = call_lines(run.text).collect();
-    let mut journal = Journal::new(heap(), out, trace);
-    uart_port::play(&mut terminal, script.calls(), &lines, &mut journal).map_err(unplayed)?;
+    let mut report = Report::new(heap(), out, trace);
+    uart_port::play(&mut terminal, script.calls(), &lines, &mut report).map_err(unplayed)?;
     match terminal.inner().backend().access().fault() {
         Some(fault) => Err(End::failed(format!(
             "port {:x}: {}",

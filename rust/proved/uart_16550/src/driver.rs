@@ -1,5 +1,7 @@
 //! The driver: its fields, its constructor, and one function for each kind of register access.
 
+mod burst;
+mod configured;
 mod frame;
 mod init;
 mod loopback;

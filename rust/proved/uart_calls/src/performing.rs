@@ -7,8 +7,8 @@ use uart_16550::embedded_io::{Read, ReadReady, Write, WriteReady};
 use uart_16550::{Uart16550, Uart16550Tty};
 use uart_events::{Answer, CALL_BYTES, Call};
 use uart_spec::{
-    AttachError, ByteReceiveError, ByteSendError, Config, InitError, InvalidDivisorError,
-    LoopbackError, Received, RemoteReadyToReceiveError, StalledError,
+    AttachError, ByteReceiveError, ByteSendError, Config, FifosOffError, FrameError, InitError,
+    InvalidDivisorError, LoopbackError, Received, RemoteReadyToReceiveError, Setup, StalledError,
 };
 
 /// Makes one call of the driver, over any backend, and returns its answer. Allocates no memory.
@@ -28,7 +28,12 @@ pub fn perform<B: Backend>(uart: &mut Uart16550Tty<B>, call: &Call) -> Answer {
     match call {
         Call::Next => Answer::Done,
         Call::Init(config) => init(uart.inner_mut(), config),
+        Call::InitWith(config, setup) => init_with(uart.inner_mut(), config, setup),
         Call::SetFrame(config) => framed(uart.inner_mut().set_frame(config)),
+        Call::SetFrameWhenIdle(config) => {
+            framed_when_idle(uart.inner_mut().set_frame_when_idle(config))
+        }
+        Call::SetTriggerLevel(level) => levelled(uart.inner_mut().set_trigger_level(*level)),
         Call::Attach => attached(uart.inner_mut().attach()),
         Call::SetBreak(on) => {
             uart.inner_mut().set_break(*on);
@@ -44,6 +49,14 @@ pub fn perform<B: Backend>(uart: &mut Uart16550Tty<B>, call: &Call) -> Answer {
         }
         Call::SetDtr(on) => {
             uart.inner_mut().set_dtr(*on);
+            Answer::Done
+        }
+        Call::Quiesce(outputs, fifos) => {
+            uart.inner_mut().quiesce(*outputs, *fifos);
+            Answer::Done
+        }
+        Call::Restore(dump) => {
+            uart.inner_mut().restore(dump);
             Answer::Done
         }
         Call::TestLoopback => tested(uart.inner_mut().test_loopback()),
@@ -117,6 +130,13 @@ fn init<B: Backend>(uart: &mut Uart16550<B>, config: &Config) -> Answer {
     }
 }
 
+fn init_with<B: Backend>(uart: &mut Uart16550<B>, config: &Config, setup: &Setup) -> Answer {
+    match uart.init_with(Config { ..*config }, setup) {
+        Ok(()) => Answer::Done,
+        Err(error) => Answer::InitRefused(error),
+    }
+}
+
 // Calls that receive into slots.
 fn receive<B: Backend>(uart: &mut Uart16550<B>, slots: &mut [u8]) -> Answer {
     let count = uart.receive_bytes(slots);
@@ -146,6 +166,20 @@ fn framed(outcome: Result<(), InvalidDivisorError>) -> Answer {
     match outcome {
         Ok(()) => Answer::Done,
         Err(error) => Answer::FrameRefused(error),
+    }
+}
+
+fn framed_when_idle(outcome: Result<(), FrameError>) -> Answer {
+    match outcome {
+        Ok(()) => Answer::Done,
+        Err(error) => Answer::FrameWhenIdleRefused(error),
+    }
+}
+
+fn levelled(outcome: Result<(), FifosOffError>) -> Answer {
+    match outcome {
+        Ok(()) => Answer::Done,
+        Err(_) => Answer::FifosOff,
     }
 }
 

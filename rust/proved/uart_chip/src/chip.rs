@@ -1,8 +1,8 @@
 //! The chip: its registers, its transmitter, its receiver and its modem lines.
 
 use crate::controlling::{
-    ChipParts, advance, arrive_live, change_lines, cut, divisor, is_interrupting, is_loopback,
-    read, receive_room, tick, write,
+    ChipParts, advance, arrive_live, change_lines, cut, divisor, is_dlab_set, is_interrupting,
+    is_loopback, read, receive_room, tick, write,
 };
 use crate::fifo::{Fifo, HeapFifo};
 use crate::journal::{Journal, Marks};
@@ -156,6 +156,16 @@ impl<B: Fifo<u8>, W: Wire, C: Fifo<Character>, J: Journal> Uart<
         self.fifo
     }
 
+    /// Returns whether what is sent comes back to the receiver.
+    pub fn is_loopback(&self) -> bool {
+        is_loopback(self)
+    }
+
+    /// Returns whether DATA and IER are the divisor latch.
+    pub fn is_dlab_set(&self) -> bool {
+        is_dlab_set(self)
+    }
+
     /// Returns the divisor in the divisor latch.
     pub fn divisor(&self) -> u16 {
         divisor(self)
@@ -230,6 +240,7 @@ impl<B: Fifo<u8>, W: Wire, C: Fifo<Character>, J: Journal> Uart<
 
     /// Reads the register at this offset: returns its value, and has the effect of the read on the
     /// chip.
+    #[inline]
     pub fn read(&mut self, offset: u8) -> u8 {
         read(self, offset)
     }

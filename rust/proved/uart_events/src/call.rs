@@ -1,10 +1,10 @@
 //! Calls of a driver, and their answers.
 
 use arrayvec::{ArrayString, ArrayVec};
-use uart_spec::registers::{IER, MCR};
+use uart_spec::registers::{FifoTriggerLevel, IER, MCR};
 use uart_spec::{
-    AttachError, ByteSendError, Config, ConfigRegisterDump, InitError, InvalidDivisorError,
-    LoopbackError, Received, RemoteReadyToReceiveError,
+    AttachError, ByteSendError, Config, ConfigRegisterDump, FifoAction, FrameError, InitError,
+    InvalidDivisorError, LoopbackError, Received, RemoteReadyToReceiveError, Setup,
 };
 
 /// The most bytes that a call sends or receives.
@@ -20,8 +20,14 @@ pub enum Call {
     Next,
     /// `Uart16550::init` with this configuration, which must be computable.
     Init(Config),
+    /// `Uart16550::init_with` with this configuration, which must be computable, and this setup.
+    InitWith(Config, Setup),
     /// `Uart16550::set_frame` with this configuration, which must be computable.
     SetFrame(Config),
+    /// `Uart16550::set_frame_when_idle` with this configuration, which must be computable.
+    SetFrameWhenIdle(Config),
+    /// `Uart16550::set_trigger_level`.
+    SetTriggerLevel(FifoTriggerLevel),
     /// `Uart16550::attach`.
     Attach,
     /// `Uart16550::set_break`.
@@ -32,6 +38,10 @@ pub enum Call {
     SetRts(bool),
     /// `Uart16550::set_dtr`.
     SetDtr(bool),
+    /// `Uart16550::quiesce` with these outputs.
+    Quiesce(MCR, FifoAction),
+    /// `Uart16550::restore` of this dump.
+    Restore(ConfigRegisterDump),
     /// `Uart16550::test_loopback`.
     TestLoopback,
     /// `Uart16550::check_present`.
@@ -105,7 +115,10 @@ impl Call {
     /// is computable.
     pub fn is_runnable(&self) -> bool {
         match self {
-            Call::Init(config) | Call::SetFrame(config) => config.is_computable(),
+            Call::Init(config)
+            | Call::InitWith(config, _)
+            | Call::SetFrame(config)
+            | Call::SetFrameWhenIdle(config) => config.is_computable(),
             Call::Receive(count)
             | Call::ReceiveExact(count)
             | Call::ReceiveWithErrors(count)
@@ -139,10 +152,14 @@ pub enum Answer {
     Stalled(usize),
     /// A wait of a `ReceiveExact` reached the spin limit, after these bytes.
     ReceiveStalled(ArrayVec<u8, CALL_BYTES>),
-    /// Why an `Init` failed.
+    /// Why an `Init` or an `InitWith` failed.
     InitRefused(InitError),
     /// Why a `SetFrame` failed.
     FrameRefused(InvalidDivisorError),
+    /// Why a `SetFrameWhenIdle` failed.
+    FrameWhenIdleRefused(FrameError),
+    /// The FIFOs are off, so that a `SetTriggerLevel` changed nothing.
+    FifosOff,
     /// Why an `Attach` failed.
     AttachRefused(AttachError),
     /// Why a `TestLoopback` failed.

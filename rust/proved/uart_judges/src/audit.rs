@@ -1,27 +1,28 @@
-//! What a recorded list of accesses says about the driver that made them.
+//! What a recording says about its driver and its chip.
 //!
-//! An [`Auditor`] is given the accesses in turn. [`Auditor::step`] returns the findings at each:
-//! what it shows of the set-up, which errors it cleared, and where the driver did not look before
-//! it took or gave a byte, or lost what a reset discards. [`Auditor::end`] returns the findings
-//! after the last.
+//! An [`Auditor`] is given the entries of a recording in turn. [`Auditor::step`] returns the
+//! findings at each, and [`Auditor::end`] those after the last.
 //!
-//! A driver is blamed for what it did not look at, and not for what was lost, since a recording
-//! does not show the transmitter. A look that shows room allows as many bytes as the FIFO has room
-//! for, or one, and stays valid at a later look that shows none. ISR with its transmitter interrupt
-//! is a look too, and a reset is none. A data interrupt allows as many reads as the trigger level,
-//! and a timeout allows one.
+//! A recording begins in use: nothing is held against a driver that the recording does not show. A
+//! look that shows room allows as many bytes as the FIFO has room for, or one without FIFO, and
+//! stays valid at a later look that shows none. ISR with the interrupt of an empty transmitter is a
+//! look too. A data interrupt shows that as many bytes wait as the trigger level says, and a
+//! timeout shows one.
 
 mod action;
 mod auditor;
 mod finding;
 mod findings;
-mod judging;
-mod reads;
+mod history;
 mod setup;
 mod shows;
+mod step;
+mod unread;
 
 pub use action::Action;
-pub use auditor::{Auditor, Due};
+pub use auditor::{Auditor, Findings, Identified, Latch, Mark};
 pub use finding::{Finding, Severity};
-pub use reads::Stretch;
+pub use findings::HANDLER_TIME;
 pub use setup::{DivisorBytes, Setup};
+pub use step::{CHARACTER_TIME, MOST_HELD, Step, USUAL_DIVISOR};
+pub use unread::{Arrived, MOST_UNREAD, Unread};

@@ -1,143 +1,154 @@
-//! One list of accesses for each kind of finding, and one without any.
+//! What the auditor finds that no recording of the examples has: its bounds, and what it knows.
 
-use proved_uart_judges::audit::{Auditor, Finding, Severity};
+use proved_uart_judges::audit::{
+    Arrived, Auditor, CHARACTER_TIME, Finding, HANDLER_TIME, MOST_UNREAD, Severity,
+};
+use proved_uart_judges::recording::{Event, Happening};
 use uart_spec::access::Access::{self, Read, Write};
-use uart_spec::registers::offsets::{DATA, FCR, IER, ISR, LCR, LSR as STATUS, MCR, MSR as LINES};
-use uart_spec::registers::{InterruptType, LSR, MSR};
+use uart_spec::registers::LSR;
+use uart_spec::registers::offsets::{DATA, FCR, IER, ISR, LCR, LSR as STATUS};
 
-/// Returns the findings on these accesses and at their end, without the set-up.
-fn found(accesses: &[Access]) -> Vec<Finding> {
+/// Returns an entry without level and time.
+fn entry(happening: Happening) -> Event {
+    Event {
+        happening,
+        times: 1,
+        line: 1,
+        time: None,
+        interrupt: None,
+    }
+}
+
+/// Returns what is found at these entries, without the set-up.
+fn found(entries: impl IntoIterator<Item = Event>) -> Vec<Finding> {
     let mut auditor = Auditor::new();
-    let steps = accesses.iter().flat_map(|&access| auditor.step(access));
+    let steps = entries.into_iter().flat_map(|entry| auditor.step(&entry));
     let mut found: Vec<_> = steps.flatten().collect();
-    found.extend(auditor.end().into_iter().flatten());
     found.retain(|finding| !matches!(finding, Finding::SetUp(_)));
     found
 }
 
-/// A look that shows room, and a byte that is sent.
-const SENT: [Access; 2] = [Read(STATUS, 0x60), Write(DATA, b'a')];
+fn access(access: Access) -> Event {
+    entry(Happening::Access(access))
+}
+
+fn arrival(byte: u8) -> Event {
+    let errors = LSR::from_bits_retain(0);
+    entry(Happening::Arrive { byte, errors })
+}
+
+/// FIFOs that are on, and a look that shows an empty chip.
+const BEGUN: [Access; 3] = [Write(FCR, 0x07), Read(ISR, 0xc1), Read(STATUS, 0x60)];
 
 #[test]
-fn a_driver_that_looks_is_not_blamed() {
-    let accesses = [
-        Write(LCR, 0x83),
-        Write(DATA, 0x01),
-        Write(IER, 0x00),
-        Write(LCR, 0x03),
-        Write(FCR, 0xc1),
-        Read(STATUS, 0x60),
-        Write(DATA, b'a'),
-        Write(DATA, b'b'),
-        Read(STATUS, 0x61),
-        Read(DATA, b'c'),
-        Read(ISR, 0xc4),
-        Read(DATA, b'd'),
-        Read(DATA, b'e'),
-        Read(STATUS, 0x60),
-        Write(LCR, 0x02),
-        Write(FCR, 0x07),
-    ];
-    assert_eq!(found(&accesses), []);
+fn as_many_bytes_as_fit() {
+    let sent = |count| {
+        let bytes = std::iter::repeat_n(Write(DATA, b'a'), count);
+        found(BEGUN.into_iter().chain(bytes).map(access))
+    };
+    assert_eq!(sent(16), []);
+    let beyond = |sent| Finding::SentBeyondRoom { sent, room: 16 };
+    assert_eq!(sent(18), [beyond(17), beyond(18)]);
+    let one = [Write(FCR, 0x00), Read(STATUS, 0x60), Write(DATA, b'a')];
+    let two = one.into_iter().chain([Write(DATA, b'b')]).map(access);
+    assert_eq!(found(two), [Finding::SentBeyondRoom { sent: 2, room: 1 }]);
 }
 
 #[test]
-fn bytes_that_no_look_allowed() {
-    let a = Write(DATA, b'a');
-    assert_eq!(found(&[a]), [Finding::SentWithoutLook(0, 0)]);
-    let two = [&SENT[..], &[a]].concat();
-    assert_eq!(found(&two), [Finding::SentWithoutLook(1, 1)]);
-    let look = Read(STATUS, 0x60);
-    let with_fifo = [Write(FCR, 0x01), look];
-    let seventeen = [&with_fifo[..], &[a; 17]].concat();
-    assert_eq!(found(&seventeen), [Finding::SentWithoutLook(16, 16)]);
-    let blind = [Read(DATA, 0x00)];
-    assert_eq!(found(&blind), [Finding::ReceivedWithoutLook]);
-    let from_empty = [look, Read(DATA, 0x00)];
-    assert_eq!(found(&from_empty), [Finding::ReceivedFromEmpty]);
-    let again = [Read(STATUS, 0x61), Read(DATA, b'a'), Read(DATA, 0x00)];
-    assert_eq!(found(&again), [Finding::ReceivedWithoutLook]);
+fn sixteen_bytes_wait_and_the_next_is_lost() {
+    let arrivals = |count: u8| (0..count).map(arrival);
+    let look = |lsr| access(Read(STATUS, lsr));
+    let begun = || BEGUN.into_iter().map(access);
+    assert_eq!(MOST_UNREAD, 16);
+    let full = begun().chain(arrivals(16)).chain([look(0x61)]);
+    assert_eq!(found(full), []);
+    let overrun = begun().chain(arrivals(17)).chain([look(0x61)]);
+    assert_eq!(found(overrun), [Finding::OverrunHidden]);
+    let read = (0..17).flat_map(|byte| [look(0x61), access(Read(DATA, byte))]);
+    let read = begun()
+        .chain(arrivals(16))
+        .chain(read.take(32))
+        .chain([look(0x60)]);
+    assert_eq!(found(read), []);
 }
 
 #[test]
-fn an_interrupt_allows_as_many_reads_as_the_trigger_level() {
-    let interrupted = [Write(FCR, 0x81), Read(ISR, 0xc4)];
-    let eight = [&interrupted[..], &[Read(DATA, b'a'); 8]].concat();
-    assert_eq!(found(&eight), []);
-    let nine = [&interrupted[..], &[Read(DATA, b'a'); 9]].concat();
-    assert_eq!(found(&nine), [Finding::ReceivedWithoutLook]);
+fn what_arrived_is_kept_in_order() {
+    let arrived = |byte| Arrived {
+        byte,
+        errors: LSR::from_bits_retain(0),
+    };
+    let mut auditor = Auditor::new();
+    for entry in BEGUN.into_iter().map(access).chain((1..4).map(arrival)) {
+        auditor.step(&entry);
+    }
+    auditor.step(&access(Read(DATA, 1)));
+    let unread = auditor.unread;
+    assert!(unread.is_known);
+    let characters = [Some(arrived(2)), Some(arrived(3)), None];
+    assert_eq!(unread.characters[..3], characters);
+    assert_eq!(unread.characters[15], None);
 }
 
 #[test]
-fn an_open_latch_takes_what_is_sent() {
-    let (open, close) = (Write(LCR, 0x83), Write(LCR, 0x03));
-    let sent = [open, Write(DATA, 0x01), Write(IER, 0x00), Write(DATA, b'a')];
-    assert_eq!(
-        found(&sent),
-        [Finding::SentIntoLatch(b'a'), Finding::LatchLeftOpen]
-    );
-    let received = [open, Read(STATUS, 0x61), Read(DATA, 0x01), close];
-    assert_eq!(found(&received), [Finding::ReceivedFromLatch]);
-    assert_eq!(found(&[open]), [Finding::LatchLeftOpen]);
+fn seventeen_characters_take_so_much_time() {
+    // At divisor 12: 17 characters of 12 bits at 9600 baud.
+    let at = |happening, time| Event {
+        time: Some(time),
+        ..entry(Happening::Access(happening))
+    };
+    let changed = |time| {
+        let set = [
+            at(Write(LCR, 0x83), 1),
+            at(Write(DATA, 12), 2),
+            at(Write(IER, 0), 3),
+            at(Write(LCR, 0x03), 4),
+            at(Write(FCR, 0x07), 5),
+            at(Read(STATUS, 0x60), 6),
+        ];
+        let bytes = (0..16).map(|_| at(Write(DATA, b'a'), 10));
+        let change = at(Write(LCR, 0x02), time);
+        found(set.into_iter().chain(bytes).chain([change]))
+    };
+    let rest = 10 + 12 * CHARACTER_TIME * 16;
+    assert_eq!(changed(rest), []);
+    assert_eq!(changed(rest - 1), [Finding::FrameChangedWhileSending]);
 }
 
 #[test]
-fn what_a_read_or_a_reset_clears() {
-    let errors = Finding::LineErrorsRead(LSR::OVERRUN_ERROR | LSR::DATA_READY);
-    assert_eq!(found(&[Read(STATUS, 0x03)]), [errors]);
-    assert_eq!(errors.severity(), Severity::Note);
-    let changes = Finding::LineChangesRead(MSR::DELTA_CTS | MSR::CTS);
-    assert_eq!(found(&[Read(LINES, 0x11)]), [changes]);
-    let discarded = [Read(STATUS, 0x61), Write(FCR, 0x07)];
-    assert_eq!(found(&discarded), [Finding::WaitingDiscarded]);
-    assert_eq!(Finding::WaitingDiscarded.severity(), Severity::Warning);
+fn a_handler_has_so_much_time() {
+    let at = |happening, time, interrupt| Event {
+        time: Some(time),
+        interrupt: Some(interrupt),
+        line: 7,
+        ..entry(Happening::Access(happening))
+    };
+    let left = |time| {
+        found([
+            at(Read(STATUS, 0x61), 1, true),
+            at(Write(IER, 0x01), 2, true),
+            at(Read(ISR, 0xc4), 3, true),
+            Event {
+                time: Some(3 + time),
+                ..arrival(b'a')
+            },
+        ])
+    };
+    assert_eq!(left(HANDLER_TIME - 1), []);
+    assert_eq!(left(HANDLER_TIME), [Finding::LeftWithLineUp(7)]);
 }
 
 #[test]
-fn what_is_changed_while_bytes_go_out() {
-    let (eight, seven) = (Write(LCR, 0x03), Write(LCR, 0x02));
-    let framed = [&[eight][..], &SENT, &[seven]].concat();
-    assert_eq!(found(&framed), [Finding::FrameChangedWhileSending]);
-    let divisor = |low| [Write(LCR, 0x83), Write(DATA, low), Write(LCR, 0x03)];
-    let faster = [&divisor(2)[..], &SENT, &divisor(1)].concat();
-    assert_eq!(found(&faster), [Finding::DivisorChangedWhileSending]);
-    let reset = [&[Write(FCR, 0x01)][..], &SENT, &[Write(FCR, 0x05)]].concat();
-    assert_eq!(found(&reset), [Finding::ResetWhileSending]);
-}
-
-#[test]
-fn a_set_up_that_cannot_work() {
-    let short = [Write(LCR, 0x02), Read(STATUS, 0x60), Write(DATA, 0x80)];
-    assert_eq!(found(&short), [Finding::WordTooShort(0x80)]);
-    let zero = [
-        Write(LCR, 0x83),
-        Write(DATA, 0x00),
-        Write(IER, 0x00),
-        Write(LCR, 0x03),
-    ];
-    assert_eq!(found(&zero), [Finding::ZeroDivisor]);
-    assert_eq!(found(&[Write(MCR, 0x10)]), [Finding::LoopbackLeftOn]);
-}
-
-#[test]
-fn interrupts_that_are_not_served() {
-    let data = InterruptType::ReceivedDataReady;
-    let twice = [
-        Write(IER, 0x01),
-        Read(ISR, 0x04),
-        Read(ISR, 0x04),
-        Read(DATA, b'a'),
-    ];
-    assert_eq!(found(&twice), [Finding::NotServed(data)]);
-    assert_eq!(found(&[Read(ISR, 0x04)]), [Finding::NotServed(data)]);
-    let polled = [Write(IER, 0x01), Read(STATUS, 0x61), Read(DATA, b'a')];
-    assert_eq!(found(&polled), [Finding::NeverAcknowledged(data)]);
+fn whose_fault_it_is() {
+    assert_eq!(Finding::LatchLeftOpen.severity(), Severity::Note);
+    assert_eq!(Finding::ZeroDivisor.severity(), Severity::Warning);
+    assert_eq!(Finding::OverrunHidden.severity(), Severity::Answer);
 }
 
 #[test]
 fn a_set_up_in_words() {
     let mut auditor = Auditor::new();
-    for access in [
+    for happening in [
         Write(LCR, 0x83),
         Write(DATA, 0x0c),
         Write(IER, 0x00),
@@ -146,15 +157,15 @@ fn a_set_up_in_words() {
         Write(IER, 0x05),
         Read(STATUS, 0x60),
     ] {
-        assert_eq!(auditor.step(access)[0], None);
+        auditor.step(&access(happening));
     }
-    let set_up = auditor.step(Write(DATA, b'a'))[0].map(|found| found.to_string());
+    let Some(Finding::SetUp(setup)) = auditor.step(&access(Write(DATA, b'a')))[0] else {
+        panic!("no set-up");
+    };
     assert_eq!(
-        set_up.as_deref(),
-        Some(
-            "set-up: divisor 12 (9600 baud at 1.8432 MHz), 8 data bits, no parity, 1 stop bit, \
-            FIFOs on with trigger level 14, interrupts: DATA_READY RECEIVER_LINE_STATUS"
-        )
+        setup.to_string(),
+        "divisor 12 (9600 baud at 1.8432 MHz), 8 data bits, no parity, 1 stop bit, FIFOs on with \
+         trigger level 14, interrupts: DATA_READY RECEIVER_LINE_STATUS"
     );
-    assert_eq!(auditor.step(Write(DATA, b'b'))[0], None);
+    assert_eq!(auditor.step(&access(Write(DATA, b'b')))[0], None);
 }

@@ -103,7 +103,10 @@ fn line_status() {
     assert_last(Chip::Uart16550A, Start::Reset, at_reset);
     let in_use: &[Case<'_>] = &[
         (&[Read(LSR, 0x40)], Some(EmptyBits)),
-        (&[Read(LSR, 0x68)], Some(ErrorAlone)),
+        // Errors stay until LSR is read, though the character was.
+        (&[Read(LSR, 0x68)], None),
+        (&[Read(LSR, 0x68), Read(LSR, 0x68)], Some(ErrorAlone)),
+        (&[Read(LSR, 0x61), Read(DATA, 0x41), Read(LSR, 0x64)], None),
         (&[Read(LSR, 0xe9)], None),
         (&[Read(LSR, 0x61), Read(LSR, 0x60)], Some(StillWaits)),
         (&[Read(LSR, 0x20), Read(LSR, 0x00)], Some(ThrStaysEmpty)),

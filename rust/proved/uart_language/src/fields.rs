@@ -7,8 +7,8 @@ use arrayvec::{ArrayString, ArrayVec};
 use bitflags::Flags;
 use std::num::NonZeroU64;
 use uart_events::{CALL_BYTES, Chip, MAX_CHAR_TICKS, MAX_WIRE_CAPACITY};
-use uart_spec::BaudRate;
-use uart_spec::registers::{FifoTriggerLevel, IER, LSR, WordLength};
+use uart_spec::registers::{FifoTriggerLevel, IER, ISR, LCR, LSR, MCR, MSR, WordLength};
+use uart_spec::{BaudRate, ConfigRegisterDump, FifoAction, TransmitterWait};
 
 /// Reads a number of a script, from `least` to `most`.
 pub fn number_in(least: u64, most: u64, word: &[u8]) -> Result<u64, Cause> {
@@ -16,7 +16,7 @@ pub fn number_in(least: u64, most: u64, word: &[u8]) -> Result<u64, Cause> {
 }
 
 /// Returns the value of a hexadecimal digit.
-fn hex_digit(digit: u8) -> u8 {
+fn digit_value(digit: u8) -> u8 {
     match digit {
         b'0'..=b'9' => digit - b'0',
         b'A'..=b'F' => digit - b'A' + 10,
@@ -28,7 +28,7 @@ fn hex_digit(digit: u8) -> u8 {
 pub fn byte_in(word: &[u8]) -> Result<u8, Cause> {
     match word {
         [high, low] if high.is_ascii_hexdigit() && low.is_ascii_hexdigit() => {
-            Ok(16 * hex_digit(*high) + hex_digit(*low))
+            Ok(16 * digit_value(*high) + digit_value(*low))
         }
         _ => Err(Cause::BadHex),
     }
@@ -37,7 +37,7 @@ pub fn byte_in(word: &[u8]) -> Result<u8, Cause> {
 /// Reads the modem lines as one hexadecimal digit.
 pub fn lines_in(word: &[u8]) -> Result<u8, Cause> {
     match word {
-        [digit] if digit.is_ascii_hexdigit() => Ok(16 * hex_digit(*digit)),
+        [digit] if digit.is_ascii_hexdigit() => Ok(16 * digit_value(*digit)),
         _ => Err(Cause::BadHex),
     }
 }
@@ -56,7 +56,7 @@ fn pairs_of(word: &[u8]) -> ArrayVec<u8, CALL_BYTES> {
     let mut bytes = ArrayVec::new();
     let mut rest = word;
     while let [high, low, after @ ..] = rest {
-        bytes.push(16 * hex_digit(*high) + hex_digit(*low));
+        bytes.push(16 * digit_value(*high) + digit_value(*low));
         rest = after;
     }
     bytes
@@ -191,4 +191,86 @@ pub fn interrupts_in(word: &[u8]) -> Result<IER, Cause> {
 pub fn word_length_in(word: &[u8]) -> Result<WordLength, Cause> {
     let bits = number_in(5, 8, word)?;
     Ok(WordLength::from_integer(bits as u8))
+}
+
+/// Reads the bits of MCR.
+pub fn outputs_in(word: &[u8]) -> Result<MCR, Cause> {
+    Ok(MCR::from_bits_retain(byte_in(word)?))
+}
+
+/// Reads a trigger level of FIFOs that are on.
+pub fn trigger_in(word: &[u8]) -> Result<FifoTriggerLevel, Cause> {
+    match word {
+        b"1" => Ok(FifoTriggerLevel::One),
+        b"4" => Ok(FifoTriggerLevel::Four),
+        b"8" => Ok(FifoTriggerLevel::Eight),
+        b"14" => Ok(FifoTriggerLevel::Fourteen),
+        _ => Err(Cause::BadWord),
+    }
+}
+
+/// Reads whether a break or an output is on.
+pub fn switch_in(word: &[u8]) -> Result<bool, Cause> {
+    match word {
+        b"on" => Ok(true),
+        b"off" => Ok(false),
+        _ => Err(Cause::BadWord),
+    }
+}
+
+/// Reads whether the scratch register is tested.
+pub fn check_in(word: &[u8]) -> Result<bool, Cause> {
+    if word == b"check".as_slice() {
+        Ok(true)
+    } else if word == b"nocheck".as_slice() {
+        Ok(false)
+    } else {
+        Err(Cause::BadWord)
+    }
+}
+
+/// Reads when to wait until the transmitter is empty.
+pub fn wait_in(word: &[u8]) -> Result<TransmitterWait, Cause> {
+    match word {
+        b"first" => Ok(TransmitterWait::First),
+        b"last" => Ok(TransmitterWait::Last),
+        b"never" => Ok(TransmitterWait::Never),
+        _ => Err(Cause::BadWord),
+    }
+}
+
+/// Reads what becomes of the FIFOs.
+pub fn fifos_in(word: &[u8]) -> Result<FifoAction, Cause> {
+    if word == b"keep".as_slice() {
+        Ok(FifoAction::Keep)
+    } else if word == b"reset".as_slice() {
+        Ok(FifoAction::Reset)
+    } else if word == b"disable".as_slice() {
+        Ok(FifoAction::Disable)
+    } else {
+        Err(Cause::BadWord)
+    }
+}
+
+// Returns the registers in the order in which `dump` prints them, with DLL and DLM at the end.
+fn registers_of(bytes: &[u8]) -> Result<ConfigRegisterDump, Cause> {
+    match bytes {
+        [ier, isr, lcr, mcr, lsr, msr, spr, dll, dlm] => Ok(ConfigRegisterDump {
+            ier: IER::from_bits_retain(*ier),
+            isr: ISR::from_bits_retain(*isr),
+            lcr: LCR::from_bits_retain(*lcr),
+            mcr: MCR::from_bits_retain(*mcr),
+            lsr: LSR::from_bits_retain(*lsr),
+            msr: MSR::from_bits_retain(*msr),
+            spr: *spr,
+            dll: *dll,
+            dlm: *dlm,
+        }),
+        _ => Err(Cause::BadHex),
+    }
+}
+
+/// Reads the registers of a dump, which are nine bytes.
+pub fn dump_in(word: &[u8]) -> Result<ConfigRegisterDump, Cause> {
+    registers_of(bytes_in(word)?.as_slice())
 }

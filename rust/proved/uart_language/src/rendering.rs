@@ -6,8 +6,8 @@ use bitflags::Flags;
 use std::alloc::{AllocError, Global};
 use uart_events::{Answer, ArrivalMark};
 use uart_spec::{
-    AttachError, ByteSendError, ConfigRegisterDump, InitError, InvalidDivisorError, LoopbackError,
-    Received, RemoteReadyToReceiveError,
+    AttachError, ByteSendError, ConfigRegisterDump, FrameError, InitError, InvalidDivisorError,
+    LoopbackError, Received, RemoteReadyToReceiveError,
 };
 
 /// Returns a digit below 16 as text, in lower case.
@@ -65,6 +65,13 @@ fn push_divisor_error(
             out.extend_from_slice(b"InvalidBaudRate OutOfRange ")?;
             push_number(alloc, out, *divisor as usize)
         }
+    }
+}
+
+fn push_frame_error(alloc: Global, out: &mut Vec<u8>, error: &FrameError) -> Result<(), AllocError> {
+    match error {
+        FrameError::InvalidBaudRate(cause) => push_divisor_error(alloc, out, cause),
+        FrameError::Stalled => out.extend_from_slice(b"Stalled"),
     }
 }
 
@@ -208,6 +215,11 @@ pub fn push_answer(alloc: Global, out: &mut Vec<u8>, answer: &Answer) -> Result<
             out.extend_from_slice(b"err ")?;
             push_divisor_error(alloc, out, error)
         }
+        Answer::FrameWhenIdleRefused(error) => {
+            out.extend_from_slice(b"err ")?;
+            push_frame_error(alloc, out, error)
+        }
+        Answer::FifosOff => out.extend_from_slice(b"err FifosOffError"),
         Answer::AttachRefused(error) => {
             out.extend_from_slice(b"err ")?;
             out.extend_from_slice(attach_error_name(error))

@@ -15,10 +15,10 @@ const CHUNK: usize = 512;
 
 /// The error of a read or a write.
 #[derive(Clone, Copy, Debug, PartialEq, Eq)]
-pub struct Fault;
+pub struct StreamFault;
 
 #[automatically_derived]
-impl std::fmt::Display for Fault {
+impl std::fmt::Display for StreamFault {
     fn fmt(&self, f: &mut std::fmt::Formatter<'_>) -> std::fmt::Result {
         match self {
             Self => { ({ (f.write_fmt(format_args!("a read or a write failed"))) }) }
@@ -27,7 +27,7 @@ impl std::fmt::Display for Fault {
 }
 
 #[automatically_derived]
-impl std::error::Error for Fault {}
+impl std::error::Error for StreamFault {}
 
 // These traits are not those of std: beside the bytes, contracts see whether a call has failed.
 
@@ -36,13 +36,13 @@ pub trait Input {
     /// Fills the front of the buffer, and returns how many bytes that are.
     ///
     /// `Ok(0)` for a buffer that is not empty is the end of the input.
-    fn read(&mut self, buf: &mut [u8]) -> Result<usize, Fault>;
+    fn read(&mut self, buf: &mut [u8]) -> Result<usize, StreamFault>;
 }
 
 /// A writer whose contracts state its bytes, if they are known, and whether it has failed.
 pub trait Output {
     /// Writes bytes from the front, and returns how many. If it fails, nothing is written.
-    fn write(&mut self, bytes: &[u8]) -> Result<usize, Fault>;
+    fn write(&mut self, bytes: &[u8]) -> Result<usize, StreamFault>;
 }
 
 /// A reader or a writer of std.
@@ -62,19 +62,19 @@ impl<T> Std<T> {
 }
 
 impl<T: Read> Input for Std<T> {
-    fn read(&mut self, buf: &mut [u8]) -> Result<usize, Fault> {
+    fn read(&mut self, buf: &mut [u8]) -> Result<usize, StreamFault> {
         match self.inner.read(buf) {
             Ok(count) => Ok(count),
             Err(_) => {
                 self.failed = true;
-                Err(Fault)
+                Err(StreamFault)
             }
         }
     }
 }
 
 impl<T: Write> Output for Std<T> {
-    fn write(&mut self, bytes: &[u8]) -> Result<usize, Fault> {
+    fn write(&mut self, bytes: &[u8]) -> Result<usize, StreamFault> {
         match self.inner.write(bytes) {
             Ok(count) => {
                 if count == 0 && !bytes.is_empty() {
@@ -84,7 +84,7 @@ impl<T: Write> Output for Std<T> {
             }
             Err(_) => {
                 self.failed = true;
-                Err(Fault)
+                Err(StreamFault)
             }
         }
     }
@@ -118,13 +118,14 @@ pub fn read_all<R: Input>(alloc: Global, reader: &mut R) -> Result<Vec<u8>, Play
 ///
 /// # Errors
 ///
-/// [`Fault`] if the writer failed, or accepted no byte; a beginning of the bytes may be written.
-pub fn write_all<W: Output>(writer: &mut W, bytes: &[u8]) -> Result<(), Fault> {
+/// [`StreamFault`] if the writer failed, or accepted no byte; a beginning of the bytes may be
+/// written.
+pub fn write_all<W: Output>(writer: &mut W, bytes: &[u8]) -> Result<(), StreamFault> {
     let mut done = 0;
     while done < bytes.len() {
         match writer.write(&bytes[done..]) {
-            Err(_) => return Err(Fault),
-            Ok(0) => return Err(Fault),
+            Err(_) => return Err(StreamFault),
+            Ok(0) => return Err(StreamFault),
             Ok(count) => done += count,
         }
     }

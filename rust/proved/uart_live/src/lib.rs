@@ -16,7 +16,7 @@ extern crate geesetrunk_kit as arrayvec;
 mod errors;
 mod fixed;
 mod live;
-mod sound;
+pub mod sound;
 
 pub use errors::{ChipError, InputError, RestoreError};
 pub use fixed::WIRE_ROOM;

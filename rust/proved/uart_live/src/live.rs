@@ -113,6 +113,7 @@ impl LiveChip {
     /// let line = chip.is_interrupting();
     /// # Ok(()) }
     /// ```
+    #[inline]
     pub fn read(&mut self, offset: u8) -> u8 {
         self.uart.read(offset)
     }
@@ -157,6 +158,7 @@ impl LiveChip {
     /// }
     /// # Ok(()) }
     /// ```
+    #[inline]
     pub fn sends_at_once(&self) -> bool {
         self.uart.sends_at_once()
     }
@@ -184,6 +186,7 @@ impl LiveChip {
     /// }
     /// # Ok(()) }
     /// ```
+    #[inline]
     pub fn send_at_once(&mut self, value: u8) {
         self.uart.send_at_once(value);
     }
@@ -232,6 +235,7 @@ impl LiveChip {
     /// }
     /// # Ok(()) }
     /// ```
+    #[inline]
     pub fn arrive(&mut self, byte: u8, errors: LSR) -> Result<(), InputError> {
         if errors.intersection(LSR::CHARACTER_ERRORS) != errors {
             return Err(InputError::BadErrors);
@@ -348,13 +352,38 @@ impl LiveChip {
     /// chip.take_wire(sent);
     /// # Ok(()) }
     /// ```
+    #[inline]
     pub fn take_wire(&mut self, count: usize) {
         self.uart.take_wire(count);
     }
 
     /// Returns how many more bytes the wire has room for.
+    #[inline]
     pub fn wire_room(&self) -> usize {
         self.uart.transmitter().wire_room()
+    }
+
+    /// Returns whether what the guest sends comes back to its receiver.
+    pub fn is_loopback(&self) -> bool {
+        self.uart.is_loopback()
+    }
+
+    /// Returns whether the guest has DLAB set: then DATA and IER are the divisor latch.
+    pub fn is_dlab_set(&self) -> bool {
+        self.uart.is_dlab_set()
+    }
+
+    /// Returns whether the guest has the FIFOs on.
+    pub fn has_fifo_on(&self) -> bool {
+        self.uart.fifo()
+    }
+
+    /// Makes a reception timeout due now, if the FIFO is on and a character waits in it.
+    ///
+    /// For an owner who lets no time pass between a character and its timeout. While nothing moves
+    /// in the transmitter, this is what four character times do. Check `is_interrupting` after it.
+    pub fn expire_timeout(&mut self) {
+        self.uart.expire_timeout();
     }
 
     /// Returns how many characters can be received before one is lost. In loopback that is 0.

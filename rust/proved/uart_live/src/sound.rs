@@ -2,26 +2,23 @@
 //!
 //! Data are typed (a trigger level, an optional character in the shift register, registers), so
 //! that less of them can be wrong. The wire comes beside the data: its owner has it already.
+//!
+//! The tests of small parts are public: the library for C uses them for its own structs.
 
 use bitflags::Flags;
 use uart_chip::{
     Character, Chip, ChipData, Latches, MAX_CHAR_TICKS, MAX_WIRE_CAPACITY, ModemData, Origin,
-    ReceiverData, Shifting, TransmitterData, kept_interrupts, kept_modem_control,
+    ReceiverData, Shifting, TransmitterData, kept_interrupts, kept_modem_control, room_of,
 };
-use uart_spec::FIFO_SIZE;
 use uart_spec::registers::{LSR, MSR};
 
 /// The number of character times after which a reception timeout is due, if no character comes or
 /// is read.
-pub const TIMEOUT_CHARACTERS: u32 = 4;
+pub const TIMEOUT_CHARACTERS: u16 = 4;
 
-// Returns the number of characters that a queue has room for.
-fn room_of(fifo: bool) -> usize {
-    if fifo { FIFO_SIZE } else { 1 }
-}
-
-// It is not an arrival of a schedule, and has only errors of a character.
-fn is_live_character(character: &Character) -> bool {
+/// Returns whether a character may wait in a live chip: it is no arrival of a schedule, and has
+/// only errors of a character.
+pub fn is_live_character(character: &Character) -> bool {
     let errors = LSR::from_bits_retain(character.errors);
     let is_unscheduled = match character.origin {
         Origin::Looped | Origin::Live => true,
@@ -39,18 +36,20 @@ fn are_live(characters: &[Character]) -> bool {
 fn is_sound_receiver(saved: &ReceiverData, fifo: bool, char_ticks: u16) -> bool {
     saved.queue.as_slice().len() <= room_of(fifo)
         && are_live(saved.queue.as_slice())
-        && saved.timeout_ticks as u32 <= TIMEOUT_CHARACTERS * char_ticks as u32
+        && saved.timeout_ticks as u32 <= TIMEOUT_CHARACTERS as u32 * char_ticks as u32
 }
 
-// It has at least one tick left, and at most its whole time.
-fn is_ticking(char_ticks: u16, place: Option<Shifting>) -> bool {
-    match place {
+/// Returns whether a character in the shift register has at least one tick left, and at most its
+/// whole time.
+pub fn is_ticking(char_ticks: u16, shift_register: Option<Shifting>) -> bool {
+    match shift_register {
         None => true,
         Some(shifting) => 1 <= shifting.ticks_left && shifting.ticks_left <= char_ticks,
     }
 }
 
-fn is_char_time(char_ticks: u16) -> bool {
+/// Returns whether a character may take so many ticks.
+pub fn is_char_time(char_ticks: u16) -> bool {
     1 <= char_ticks && char_ticks <= MAX_CHAR_TICKS
 }
 
@@ -62,19 +61,21 @@ fn is_sound_transmitter(saved: &TransmitterData, fifo: bool, wire: &[u8]) -> boo
         && saved.wire_capacity <= MAX_WIRE_CAPACITY
 }
 
-fn is_sound_modem(saved: ModemData) -> bool {
+/// Returns whether inputs and lines have bits of lines alone, and changes bits of changes.
+pub fn is_sound_modem(saved: ModemData) -> bool {
     saved.inputs.intersection(MSR::LINES) == saved.inputs
         && saved.lines.intersection(MSR::LINES) == saved.lines
         && saved.deltas.intersection(MSR::CHANGES) == saved.deltas
 }
 
-// The two latches that keep only some bits have no others.
-fn is_sound_latches(latches: Latches) -> bool {
+/// Returns whether the two latches that keep only some bits have no others.
+pub fn is_sound_latches(latches: Latches) -> bool {
     kept_interrupts(latches.ier) == latches.ier && kept_modem_control(latches.mcr) == latches.mcr
 }
 
-// Only a chip that has a FIFO has it on.
-fn is_implemented(model: Chip, fifo: bool) -> bool {
+/// Returns whether a chip of this model can have its FIFO as it is: only one that has a FIFO has it
+/// on.
+pub fn is_implemented(model: Chip, fifo: bool) -> bool {
     match model {
         Chip::Uart16550A => true,
         Chip::Uart16450 => !fifo,

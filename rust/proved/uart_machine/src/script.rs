@@ -2,4 +2,4 @@
 //! the last state of the device.
 
 pub use uart_language::{Cause, Script, ScriptError, parse};
-pub use uart_play::{Fault, Input, Output, PlayError, Std, play};
+pub use uart_play::{Input, Output, PlayError, Std, StreamFault, play};

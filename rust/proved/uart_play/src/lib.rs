@@ -16,5 +16,5 @@ extern crate geesetrunk_kit as arrayvec;
 
 mod playing;
 
-pub use playing::play;
-pub use uart_language::{Fault, Input, Output, PlayError, Std};
+pub use playing::{machine_for, play};
+pub use uart_language::{Input, Output, PlayError, Std, StreamFault};

@@ -10,26 +10,18 @@ use uart_language::limits::MOST_READ;
 use uart_language::{Input, Output, PlayError, Script, parse, read_all, render, write_all};
 use uart_run::run;
 
-// Returns the machine of the script.
-fn machine_for(alloc: Global, script: &Script) -> Result<Device16550, AllocError> {
+/// Returns the machine of a script, under its schedule.
+///
+/// # Errors
+///
+/// If memory for the schedule or the machine could not be allocated.
+pub fn machine_for(alloc: Global, script: &Script) -> Result<Device16550, AllocError> {
     let schedule = script.events().to_vec_with(alloc)?;
-    let wire_capacity = script.wire_capacity();
+    let (chip, ticks, capacity) = (script.chip(), script.ticks(), script.wire_capacity());
     let machine = if script.cut() {
-        Device16550::new_cut(
-            alloc,
-            script.chip(),
-            script.ticks(),
-            wire_capacity,
-            schedule,
-        )
+        Device16550::new_cut(alloc, chip, ticks, capacity, schedule)
     } else {
-        Device16550::new(
-            alloc,
-            script.chip(),
-            script.ticks(),
-            wire_capacity,
-            schedule,
-        )
+        Device16550::new(alloc, chip, ticks, capacity, schedule)
     };
     match machine {
         Ok(machine) => Ok(machine),

@@ -9,14 +9,14 @@ const _: () = assert!(usize::BITS == 64, "what is not for users is for targets o
 #[macro_use]
 extern crate geesetrunk_kit as std;
 
-mod end;
 mod noted;
 mod playing;
 mod ports;
+mod report_error;
 mod trace;
 
-pub use end::End;
 pub use noted::NotedPorts;
-pub use playing::{Journal, Terminal, play, terminal_at};
-pub use ports::{FLOATING, Fault, GuardedPorts, PortFile};
+pub use playing::{Report, Terminal, play, terminal_at};
+pub use ports::{FLOATING, GuardedPorts, PortFault, PortFile};
+pub use report_error::ReportError;
 pub use trace::Trace;

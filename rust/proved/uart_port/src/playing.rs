@@ -2,8 +2,8 @@
 
 use std::{Vec};
 
-use crate::end::End;
 use crate::ports::{GuardedPorts, PortFile};
+use crate::report_error::ReportError;
 use crate::trace::Trace;
 use std::alloc::Global;
 use std::io::Write;
@@ -26,7 +26,7 @@ pub fn terminal_at<F: PortFile>(port: u16, limit: NonZeroU64, file: F) -> Termin
 }
 
 /// Where answers are printed and, if there is one, the trace of the run.
-pub struct Journal<W, T> {
+pub struct Report<W, T> {
     alloc: Global,
     writer: W,
     trace: Option<Trace<T>>,
@@ -37,10 +37,10 @@ fn is_driven(call: &Call) -> bool {
     !matches!(call, Call::Next)
 }
 
-impl<W: Write, T: Write> Journal<W, T> {
-    /// Returns a journal that prints to this writer, and writes this trace.
+impl<W: Write, T: Write> Report<W, T> {
+    /// Returns a report that prints to this writer, and writes this trace.
     pub fn new(alloc: Global, writer: W, trace: Option<Trace<T>>) -> Self {
-        Journal {
+        Report {
             alloc,
             writer,
             trace,
@@ -48,23 +48,23 @@ impl<W: Write, T: Write> Journal<W, T> {
     }
 
     // Writes that this call is made, as its line of the script.
-    fn call(&mut self, call: &Call, text: &[u8]) -> Result<(), End> {
+    fn call(&mut self, call: &Call, text: &[u8]) -> Result<(), ReportError> {
         match &mut self.trace {
-            Some(trace) if is_driven(call) => trace.call(text).map_err(End::Trace),
+            Some(trace) if is_driven(call) => trace.call(text).map_err(ReportError::Trace),
             _ => Ok(()),
         }
     }
 
     // Prints the answer of this call, which has returned.
-    fn answer(&mut self, call: &Call, answer: &Answer) -> Result<(), End> {
+    fn answer(&mut self, call: &Call, answer: &Answer) -> Result<(), ReportError> {
         let mut text = Vec::new(self.alloc);
         push_answer(self.alloc, &mut text, answer)?;
         match &mut self.trace {
-            Some(trace) if is_driven(call) => trace.answer(&text).map_err(End::Trace)?,
+            Some(trace) if is_driven(call) => trace.answer(&text).map_err(ReportError::Trace)?,
             _ => {}
         }
         text.extend_from_slice(b"\n")?;
-        self.writer.write_all(&text).map_err(End::Output)
+        self.writer.write_all(&text).map_err(ReportError::Output)
     }
 }
 
@@ -81,16 +81,16 @@ pub fn play<F: PortFile, W: Write, T: Write>(
     uart: &mut Terminal<F>,
     calls: &[Call],
     lines: &[&[u8]],
-    journal: &mut Journal<W, T>,
-) -> Result<(), End> {
+    report: &mut Report<W, T>,
+) -> Result<(), ReportError> {
     for i in 0..calls.len() {
         let call = &calls[i];
-        journal.call(call, lines.get(i).copied().unwrap_or(&[]))?;
+        report.call(call, lines.get(i).copied().unwrap_or(&[]))?;
         let answer = perform(uart, call);
         if uart.inner().backend().access().fault().is_some() {
             return Ok(());
         }
-        journal.answer(call, &answer)?;
+        report.answer(call, &answer)?;
     }
     Ok(())
 }

@@ -20,7 +20,7 @@ pub trait PortFile {
 
 /// The first access that failed.
 #[derive(Debug)]
-pub struct Fault {
+pub struct PortFault {
     /// The port.
     pub port: u16,
     /// The error of the file.
@@ -33,7 +33,7 @@ pub struct Fault {
 /// read returns [`FLOATING`].
 pub struct GuardedPorts<F> {
     file: F,
-    fault: Option<Fault>,
+    fault: Option<PortFault>,
 }
 
 impl<F: PortFile> GuardedPorts<F> {
@@ -43,7 +43,7 @@ impl<F: PortFile> GuardedPorts<F> {
     }
 
     /// Returns the first access that failed, if any did.
-    pub fn fault(&self) -> Option<&Fault> {
+    pub fn fault(&self) -> Option<&PortFault> {
         self.fault.as_ref()
     }
 }
@@ -56,7 +56,7 @@ impl<F: PortFile> PortAccess for GuardedPorts<F> {
         match self.file.read(port) {
             Ok(value) => value,
             Err(cause) => {
-                self.fault = Some(Fault { port, cause });
+                self.fault = Some(PortFault { port, cause });
                 FLOATING
             }
         }
@@ -67,7 +67,7 @@ impl<F: PortFile> PortAccess for GuardedPorts<F> {
             return;
         }
         if let Err(cause) = self.file.write(port, value) {
-            self.fault = Some(Fault { port, cause });
+            self.fault = Some(PortFault { port, cause });
         }
     }
 }

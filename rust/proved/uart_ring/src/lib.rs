@@ -15,4 +15,6 @@ extern crate geesetrunk_kit as bitflags;
 mod queue;
 mod ring;
 
-pub use ring::{HandleEnd, Handled, MAX_CAPACITY, MAX_INTERRUPTS, RingError, Uart16550Ring};
+pub use ring::{
+    HandleEnd, Handled, MAX_CAPACITY, MAX_INTERRUPTS, RingError, StuckError, Uart16550Ring,
+};

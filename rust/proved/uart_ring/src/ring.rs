@@ -3,12 +3,14 @@
 mod receive;
 mod service;
 mod status;
+mod storm;
 mod transmit;
 
 use crate::queue::ByteQueue;
 use bitflags::Flags;
 pub use service::{HandleEnd, Handled, MAX_INTERRUPTS};
 use std::alloc::Global;
+pub use storm::StuckError;
 use uart_16550::Uart16550;
 use uart_16550::backend::Backend;
 use uart_spec::registers::{LSR, MSR};
@@ -44,8 +46,8 @@ impl std::error::Error for RingError {}
 ///
 /// Initialise the driver through `inner_mut`, with `DATA_READY`, `RECEIVER_LINE_STATUS` and
 /// `MODEM_STATUS` enabled and without `THR_EMPTY`, which the rings enable as long as there are
-/// bytes to send. Call `handle` in the interrupt handler. Mask the interrupt during all other
-/// calls, since the handler must not run in the middle of one.
+/// bytes to send. Call `handle` or `try_handle` in the interrupt handler. Mask the interrupt during
+/// all other calls, since the handler must not run in the middle of one.
 ///
 /// No call waits, so none returns a stall.
 ///
@@ -74,6 +76,17 @@ pub struct Uart16550Ring<B> {
     line: LSR,
     modem: MSR,
     is_paused: bool,
+    // It overtakes the transmit ring. A terminal's flow control has at most one to send: a newer
+    // XON or XOFF makes an older one that still waits pointless.
+    urgent: Option<u8>,
+    is_held: bool,
+    low_mark: usize,
+    // The transmit ring fell to the low mark since this was taken.
+    is_low: bool,
+    // Calls of `try_handle` in a row, up to the last one, that did not end with `Idle`.
+    rounds: u32,
+    // Why the interrupts are off, until a `restart`.
+    stuck: Option<StuckError>,
 }
 
 // Returns whether a ring can have this capacity.
@@ -131,6 +144,12 @@ impl<B: Backend> Uart16550Ring<B> {
             line: LSR::from_bits_retain(0),
             modem: MSR::from_bits_retain(0),
             is_paused: false,
+            urgent: None,
+            is_held: false,
+            low_mark: 0,
+            is_low: false,
+            rounds: 0,
+            stuck: None,
         })
     }
 
@@ -149,6 +168,71 @@ impl<B: Backend> Uart16550Ring<B> {
     /// ```
     pub fn transmit_len(&self) -> usize {
         self.transmit.len()
+    }
+
+    /// Returns how many more bytes the transmit ring has room for. Makes no access.
+    ///
+    /// # Examples
+    ///
+    /// ```
+    /// # include!(concat!(env!("CARGO_MANIFEST_DIR"), "/examples.rs"));
+    /// # fn main() {}
+    /// # use facade::ring;
+    /// # fn example(ring: &mut ring::Uart16550Ring<Device>) -> Outcome<()> {
+    /// assert_eq!(ring.transmit_room(), 1024);
+    /// # Ok(()) }
+    /// ```
+    pub fn transmit_room(&self) -> usize {
+        self.transmit.capacity() - self.transmit.len()
+    }
+
+    /// Returns the urgent byte that still waits to be sent. Makes no access.
+    ///
+    /// # Examples
+    ///
+    /// ```
+    /// # include!(concat!(env!("CARGO_MANIFEST_DIR"), "/examples.rs"));
+    /// # fn main() {}
+    /// # use facade::ring;
+    /// # fn example(ring: &mut ring::Uart16550Ring<Device>) -> Outcome<()> {
+    /// assert_eq!(ring.urgent(), None);
+    /// # Ok(()) }
+    /// ```
+    pub fn urgent(&self) -> Option<u8> {
+        self.urgent
+    }
+
+    /// Returns whether the transmit ring is held. Makes no access.
+    ///
+    /// # Examples
+    ///
+    /// ```
+    /// # include!(concat!(env!("CARGO_MANIFEST_DIR"), "/examples.rs"));
+    /// # fn main() {}
+    /// # use facade::ring;
+    /// # fn example(ring: &mut ring::Uart16550Ring<Device>) -> Outcome<()> {
+    /// assert!(ring.is_held());
+    /// # Ok(()) }
+    /// ```
+    pub fn is_held(&self) -> bool {
+        self.is_held
+    }
+
+    /// Returns why the chip is stuck, or `None` if it is not: `try_handle` has disabled its
+    /// interrupts since the last `restart`. Makes no access.
+    ///
+    /// # Examples
+    ///
+    /// ```
+    /// # include!(concat!(env!("CARGO_MANIFEST_DIR"), "/examples.rs"));
+    /// # fn main() {}
+    /// # use facade::ring;
+    /// # fn example(ring: &mut ring::Uart16550Ring<Device>) -> Outcome<()> {
+    /// assert_eq!(ring.stuck(), None);
+    /// # Ok(()) }
+    /// ```
+    pub fn stuck(&self) -> Option<StuckError> {
+        self.stuck
     }
 
     /// Returns the number of bytes in the receive ring: those that were received and not yet taken.

@@ -2,8 +2,8 @@
 
 use arrayvec::ArrayVec;
 use uart_calls::CALL_BYTES;
-use uart_ring::Handled;
-use uart_spec::registers::{LSR, MSR};
+use uart_ring::{Handled, StuckError};
+use uart_spec::registers::{IER, LSR, MSR};
 
 /// A call of the rings as data.
 ///
@@ -26,6 +26,24 @@ pub enum RingCall {
     TakeLine,
     /// `take_modem`.
     TakeModem,
+    /// `hold_transmit`.
+    HoldTransmit,
+    /// `release_transmit`.
+    ReleaseTransmit,
+    /// `queue_urgent` of this byte.
+    QueueUrgent(u8),
+    /// `clear_transmit`.
+    ClearTransmit,
+    /// `clear_receive`.
+    ClearReceive,
+    /// `set_low_mark` to this mark.
+    SetLowMark(usize),
+    /// `take_low`.
+    TakeLow,
+    /// `try_handle` of at most so many interrupts, and of so many unfinished rounds in a row.
+    TryHandle(usize, u32),
+    /// `restart` with these interrupts.
+    Restart(IER),
     /// `Device16550::next`: goes on to the next mark of the schedule.
     Next,
 }
@@ -43,7 +61,7 @@ impl RingCall {
 /// The answer of a call of the rings.
 #[derive(Debug, PartialEq)]
 pub enum RingAnswer {
-    /// The number of bytes that were queued, or of interrupts that were served.
+    /// The number of bytes that were queued or dropped, or of interrupts that were served.
     Count(usize),
     /// The bytes that were taken.
     Bytes(ArrayVec<u8, CALL_BYTES>),
@@ -53,7 +71,12 @@ pub enum RingAnswer {
     Line(LSR),
     /// What `take_modem` returned.
     Modem(MSR),
-    /// The call returned nothing: sending was resumed, interrupts were triggered again, or the
-    /// schedule went on.
+    /// The urgent byte that was replaced.
+    Replaced(Option<u8>),
+    /// What `take_low` returned.
+    Low(bool),
+    /// What `try_handle` returned.
+    Tried(Result<Handled, StuckError>),
+    /// The call returned nothing.
     Done,
 }

@@ -31,6 +31,27 @@ fn run_ring_call(ring: &mut Uart16550Ring<Device16550>, call: &RingCall) -> Ring
         }
         RingCall::TakeLine => RingAnswer::Line(ring.take_line()),
         RingCall::TakeModem => RingAnswer::Modem(ring.take_modem()),
+        RingCall::HoldTransmit => {
+            ring.hold_transmit();
+            RingAnswer::Done
+        }
+        RingCall::ReleaseTransmit => {
+            ring.release_transmit();
+            RingAnswer::Done
+        }
+        RingCall::QueueUrgent(byte) => RingAnswer::Replaced(ring.queue_urgent(*byte)),
+        RingCall::ClearTransmit => RingAnswer::Count(ring.clear_transmit()),
+        RingCall::ClearReceive => RingAnswer::Count(ring.clear_receive()),
+        RingCall::SetLowMark(mark) => {
+            ring.set_low_mark(*mark);
+            RingAnswer::Done
+        }
+        RingCall::TakeLow => RingAnswer::Low(ring.take_low()),
+        RingCall::TryHandle(limit, rounds) => RingAnswer::Tried(ring.try_handle(*limit, *rounds)),
+        RingCall::Restart(interrupts) => {
+            ring.restart(*interrupts);
+            RingAnswer::Done
+        }
         RingCall::Next => {
             ring.inner_mut().backend_mut().next();
             RingAnswer::Done
@@ -44,15 +65,18 @@ fn run_ring_call(ring: &mut Uart16550Ring<Device16550>, call: &RingCall) -> Ring
 /// A *session* begins in a ready state: DLAB and loopback are off, and the driver knows whether the
 /// FIFO is on. The rings may hold anything then. In each session
 ///
-/// - what has been sent, what is in the transmitter, and then the transmit ring have grown by
-///   exactly the bytes that were queued, and no data write meets a full transmitter;
-/// - the bytes taken, then the receive ring, then those in the chip's receiver are those of the
-///   receive ring at the start, those that were in the receiver, and those that arrived, in order,
-///   without those that were dropped;
+/// - what has been sent, what is in the transmitter, and then the bytes that wait have grown by
+///   exactly the bytes that were queued, and no data write meets a full transmitter. This holds if
+///   no call is a `QueueUrgent` or a `ClearTransmit`. Of these the one puts its byte before all
+///   that wait, and the other drops as many bytes of the transmit ring as it returns;
+/// - the bytes taken, or dropped by a `ClearReceive`, then the receive ring, then those in the
+///   chip's receiver are those of the receive ring at the start, those that were in the receiver,
+///   and those that arrived, in order, without those that the chip dropped;
 /// - `TakeLine` reports drops and line errors, and `TakeModem` changes of the modem lines, also
 ///   those that were read when interrupts were served;
-/// - if CTS is not checked, there are never bytes in the transmit ring with no interrupt to come,
-///   unless there were at the start and no byte was queued and sending not resumed since;
+/// - if CTS is not checked, there are never bytes that may be sent with no interrupt to come,
+///   unless there were at the start and no byte was queued and sending not resumed since. While the
+///   ring is held only an urgent byte may be sent, and while the chip is stuck none;
 /// - each call preserves a ready state.
 ///
 /// On a machine that cuts characters to the word length ([`Device16550::new_cut`]) the first holds

@@ -1,4 +1,5 @@
 //! The errors of the baud rate arithmetic and of the driver.
+use crate::registers::{IER, LCR, MCR};
 use std::fmt;
 use std::fmt::Write as _;
 
@@ -113,6 +114,85 @@ impl std::fmt::Display for FrameError {
                 ({ (f.write_fmt(format_fields!("invalid baud rate: {0}", _0))) })
             }
             Self::Stalled => { ({ (f.write_fmt(format_args!("the device stalled"))) }) }
+        }
+    }
+}
+
+/// What a chip shows in place of what was written to it. The first difference is told, in the order
+/// of the cases.
+#[derive(Clone, Copy, Debug, PartialEq, Eq, Hash)]
+pub enum ConfigurationError {
+    /// The configuration of the driver has no divisor, so no chip can be set up so. No access was
+    /// made.
+    NoDivisor,
+    /// LCR shows another frame; or DLAB, which is set to reach the divisor latch, was not set or
+    /// not cleared. A DesignWare UART ignores LCR while it is busy.
+    LineControl {
+        /// What was written to LCR.
+        expected: LCR,
+        /// What LCR shows.
+        shown: LCR,
+    },
+    /// MCR shows other outputs, or loopback.
+    ModemControl {
+        /// What was written to MCR.
+        expected: MCR,
+        /// What MCR shows.
+        shown: MCR,
+    },
+    /// IER shows other interrupts.
+    Interrupts {
+        /// The interrupts that were enabled.
+        expected: IER,
+        /// What IER shows.
+        shown: IER,
+    },
+    /// The divisor latch has another divisor.
+    Divisor {
+        /// The divisor for the baud rate.
+        expected: u16,
+        /// What the divisor latch shows.
+        shown: u16,
+    },
+    /// ISR shows FIFOs that are on where the driver takes them to be off, or the other way round.
+    Fifos {
+        /// Whether the driver takes the FIFOs to be on.
+        expected: bool,
+        /// Whether ISR shows that they are on.
+        shown: bool,
+    },
+}
+
+#[automatically_derived]
+impl std::fmt::Display for ConfigurationError {
+    fn fmt(&self, f: &mut std::fmt::Formatter<'_>) -> std::fmt::Result {
+        match self {
+            Self::NoDivisor => {
+                ({ (f.write_fmt(format_args!("there is no divisor for the baud rate"))) })
+            }
+            Self::LineControl { expected, shown } => {
+                ({ (f.write_fmt(format_args!("LCR shows {shown:?}, and not {expected:?}"))) })
+            }
+            Self::ModemControl { expected, shown } => {
+                ({ (f.write_fmt(format_args!("MCR shows {shown:?}, and not {expected:?}"))) })
+            }
+            Self::Interrupts { expected, shown } => {
+                ({ (f.write_fmt(format_args!("IER shows {shown:?}, and not {expected:?}"))) })
+            }
+            Self::Divisor { expected, shown } => {
+                ({
+                    (f.write_fmt(format_args!(
+                        "the divisor latch shows {shown}, and not {expected}"
+                    )))
+                })
+            }
+            Self::Fifos { expected, shown } => {
+                ({
+                    (f.write_fmt(format_args!(
+                        "the FIFOs are on: ISR shows {shown}, and not {expected}"
+                    )))
+                })
+            }
         }
     }
 }

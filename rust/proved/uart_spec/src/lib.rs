@@ -29,12 +29,12 @@ pub use baud::{
 pub use config::{BaudRate, Config};
 pub use dump::ConfigRegisterDump;
 pub use errors::{
-    AttachError, ByteReceiveError, ByteSendError, FifosOffError, FrameError, InitError,
-    InvalidAddressError, InvalidDivisorError, LoopbackError, NearestDivisorError,
+    AttachError, ByteReceiveError, ByteSendError, ConfigurationError, FifosOffError, FrameError,
+    InitError, InvalidAddressError, InvalidDivisorError, LoopbackError, NearestDivisorError,
     NonIntegerBaudRateError, NonIntegerDivisorError, RemoteReadyToReceiveError, StalledError,
     Uart16550TtyError,
 };
 pub use received::Received;
-pub use setup::{FifoAction, Setup, TransmitterWait};
+pub use setup::{FifoAction, FifoSize, Setup, TransmitterWait};
 
 pub mod by_hand;

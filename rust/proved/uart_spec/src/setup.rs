@@ -1,4 +1,7 @@
-//! How a device is initialised, beside its configuration, and how it is left.
+//! How a device is initialised, beside its configuration, and how it is left; and how large its
+//! FIFOs are.
+
+use crate::baud::FIFO_SIZE;
 use crate::registers::MCR;
 
 /// When an initialisation waits until the transmitter is empty.
@@ -57,4 +60,43 @@ pub enum FifoAction {
     Reset,
     /// Both are emptied and turned off.
     Disable,
+}
+
+/// How many characters the transmitter FIFO of a chip holds, for `Uart16550::send_burst`.
+///
+/// A 16550 has 16. No register that all chips have shows the size, so it is taken from the
+/// datasheet. If a size is given that is larger than the chip's, bytes are lost.
+///
+/// # Examples
+///
+/// ```
+/// # use uart_16550::native::{*, spec::*};
+/// assert_eq!(FifoSize::SixtyFour.characters(), 64);
+/// ```
+#[derive(Clone, Copy, Debug, PartialEq, Eq, PartialOrd, Ord, Hash, Default)]
+pub enum FifoSize {
+    /// 16, as a 16550 has them.
+    #[default]
+    Sixteen,
+    /// 32, as a 16650 has them.
+    ThirtyTwo,
+    /// 64, as a 16750 has them.
+    SixtyFour,
+    /// 128, as a 16950 has them.
+    OneHundredTwentyEight,
+    /// 256.
+    TwoHundredFiftySix,
+}
+
+impl FifoSize {
+    /// Returns the number of characters.
+    pub fn characters(self) -> usize {
+        match self {
+            FifoSize::Sixteen => FIFO_SIZE,
+            FifoSize::ThirtyTwo => 32,
+            FifoSize::SixtyFour => 64,
+            FifoSize::OneHundredTwentyEight => 128,
+            FifoSize::TwoHundredFiftySix => 256,
+        }
+    }
 }

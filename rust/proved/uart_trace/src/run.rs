@@ -1,7 +1,5 @@
 //! Runs a script, and tells a listener of each call and each access.
 
-use std::{ToVecWith as _};
-
 use crate::listener::Listener;
 use crate::recorder::Recorder;
 use std::alloc::{AllocError, Global};
@@ -9,24 +7,10 @@ use uart_16550::{Uart16550, Uart16550Tty};
 use uart_calls::{Call, perform};
 use uart_chip::Device16550;
 use uart_language::{Script, ScriptError, parse};
+use uart_play::machine_for;
 
 // A driver under its terminal, over the machine of a script and a recorder.
 type Terminal<L> = Uart16550Tty<Recorder<Device16550, L>>;
-
-// Returns the machine of the script.
-fn machine_for(alloc: Global, script: &Script) -> Result<Device16550, AllocError> {
-    let schedule = script.events().to_vec_with(alloc)?;
-    let (chip, ticks, capacity) = (script.chip(), script.ticks(), script.wire_capacity());
-    let machine = if script.cut() {
-        Device16550::new_cut(alloc, chip, ticks, capacity, schedule)
-    } else {
-        Device16550::new(alloc, chip, ticks, capacity, schedule)
-    };
-    match machine {
-        Ok(machine) => Ok(machine),
-        Err(_) => Err(AllocError),
-    }
-}
 
 // Returns a new driver with the limit of the script, over its machine and a recorder.
 fn terminal_for<L: Listener>(

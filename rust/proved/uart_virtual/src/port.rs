@@ -1,7 +1,10 @@
 //! The port: how each call is carried out, and what is told of it.
 
-use crate::told::{Todo, Told};
+mod snapshot;
+
+use crate::told::{Kind, REST_OF_A_FIFO, Todo, Told};
 use bitflags::Flags;
+pub use snapshot::Restored;
 use uart_live::{Chip, InputError, LiveChip, WIRE_ROOM};
 use uart_spec::registers::{LSR, MSR, offsets};
 
@@ -12,6 +15,27 @@ const CHAR_TICKS: u16 = 1;
 // is due, and one. So time between calls would change nothing, and no guest waits for a clock that
 // its monitor does not have.
 const SETTLE_TICKS: u16 = 22;
+
+// A call of the host that brings something, and a call that is nothing but time.
+const INPUT: Kind = Kind {
+    brings: true,
+    looks: false,
+    moves_data: false,
+};
+
+const IDLE: Kind = Kind {
+    brings: false,
+    looks: false,
+    moves_data: false,
+};
+
+// Nothing was told yet.
+const UNTOLD: Told = Told {
+    line: false,
+    has_room: false,
+    has_looked: false,
+    spare: 0,
+};
 
 /// A serial port of a virtual machine.
 ///
@@ -60,21 +84,26 @@ pub struct Received {
     pub todo: Todo,
 }
 
-// What a call was, as far as the monitor is concerned.
-#[derive(Clone, Copy)]
-struct Kind {
-    brings: bool,
-    looks: bool,
-    puts_off: bool,
+// Returns what the guest's access to this register is, as far as signals are concerned. Only a read
+// of ISR is a look. With LSR and MSR, a handler that reads LSR before each byte, as most do, would
+// be signalled for each byte, as long as more wait. A handler that never reads ISR is signalled
+// each time that the line falls and rises, so it cannot wait for ever.
+fn kind_of_read(offset: u8) -> Kind {
+    let offset = offset as usize;
+    Kind {
+        brings: false,
+        looks: offset == offsets::ISR,
+        moves_data: offset == offsets::DATA,
+    }
 }
 
-// Returns whether a read of this register tells the guest what may have interrupted it. Which
-// registers do is a choice. With ISR alone, a handler that looks at LSR only would not be signalled
-// again; with LSR and MSR, one that looks at LSR before each byte is signalled for each byte, as
-// long as more wait.
-fn is_look(offset: u8) -> bool {
+fn kind_of_write(offset: u8) -> Kind {
     let offset = offset as usize;
-    offset == offsets::ISR || (offset == offsets::LSR || offset == offsets::MSR)
+    Kind {
+        brings: false,
+        looks: false,
+        moves_data: offset == offsets::DATA,
+    }
 }
 
 // The ticks that pass in each call.
@@ -82,58 +111,119 @@ fn settle_ticks() -> u16 {
     SETTLE_TICKS
 }
 
-// Lets so much time pass that nothing is left to happen. Returns the number of jumps, which is at
-// most 18.
-fn settle(chip: &mut LiveChip) -> usize {
+/// Lets so much time pass that nothing is left to happen, if a character takes one tick: 22 ticks.
+/// Returns the number of jumps, which is at most 18.
+///
+/// Each call of a [`VirtualPort`] does this once or not at all, and takes no other time. So what a
+/// guest can make its monitor do in a call has this bound.
+pub fn settle(chip: &mut LiveChip) -> usize {
     chip.ticks(settle_ticks())
 }
 
-// Returns what was told after a call, and what is to be told.
-fn decide(chip: &LiveChip, was_up: bool, told: Told, kind: Kind) -> (Told, Todo) {
+// Returns how many more accesses of DATA the last signal covers.
+//
+// A burst of 16 bytes takes the line down 16 times. The first of them is signalled, which calls the
+// guest's handler again once it is done; 15 signals more would say nothing. But a guest that does
+// not look may have returned from its handler before any of them. So a signal covers others only
+// after a look, and no more than a FIFO has room for.
+fn spare_after(kind: Kind, signal: bool, fifo: bool, told: Told) -> u8 {
+    if kind.looks {
+        0
+    } else if signal {
+        if kind.moves_data && (told.has_looked && fifo) {
+            REST_OF_A_FIFO
+        } else {
+            0
+        }
+    } else if kind.moves_data {
+        told.spare.saturating_sub(1)
+    } else {
+        told.spare
+    }
+}
+
+// Returns what is to be told after a call, and notes that it was told.
+#[inline]
+fn decide(chip: &LiveChip, was_up: bool, told: &mut Told, kind: Kind) -> Todo {
     let level = chip.is_interrupting();
     // A rise of the line is not enough. If the host adds to a FIFO while the line is up, or if the
     // line falls and rises in one call, a handler that has already left would not be called again.
-    // So input is always signalled. A fall within a call is signalled once the guest has looked
-    // since the last signal: without this condition a burst of 16 bytes would be 16 signals.
-    let is_answered = kind.looks || !told.is_unanswered;
-    let signal = level && (!told.line || (kind.brings || (!was_up && is_answered)));
-    let has_room = kind.puts_off && chip.receive_room() != 0;
-    let is_unanswered = signal || (level && (told.is_unanswered && !kind.looks));
-    (
-        Told {
-            line: level,
-            is_unanswered,
-            is_put_off: kind.puts_off && !has_room,
-        },
-        Todo {
-            signal,
-            level,
-            has_room,
-            ready: chip.wire().len(),
-        },
-    )
+    // So input is always signalled, and so is a fall within a call, if no signal covers it.
+    let signal = level && (!told.line || (kind.brings || (!was_up && told.spare == 0)));
+    let has_room = chip.receive_room() != 0;
+    let todo = Todo {
+        signal,
+        level,
+        has_moved: if level { !told.line } else { told.line },
+        has_room: has_room && !told.has_room,
+        ready: WIRE_ROOM - chip.wire_room(),
+    };
+    *told = Told {
+        line: level,
+        has_room,
+        has_looked: kind.looks || (told.has_looked && !signal),
+        spare: spare_after(kind, signal, chip.has_fifo_on(), *told),
+    };
+    todo
 }
 
-// Lets the time of a call pass, and returns what was told and what is to be told.
-fn finish(chip: &mut LiveChip, told: Told, kind: Kind) -> (Told, Todo) {
-    let was_up = chip.is_interrupting();
+// Returns what is to be told after a call that leaves the line and the room as they were.
+#[inline(always)]
+fn nothing_new(chip: &LiveChip, told: Told) -> Todo {
+    Todo {
+        signal: false,
+        level: told.line,
+        has_moved: false,
+        has_room: false,
+        ready: WIRE_ROOM - chip.wire_room(),
+    }
+}
+
+// Lets the time of a call pass, and returns what is to be told.
+#[inline(never)]
+fn finish(chip: &mut LiveChip, was_up: bool, told: &mut Told, kind: Kind) -> Todo {
     settle(chip);
     decide(chip, was_up, told, kind)
 }
 
-// Returns the same as `finish`, for a chip to which time does nothing.
-fn finish_still(chip: &LiveChip, told: Told, kind: Kind) -> (Told, Todo) {
-    // The level is the same before and after, so it does not matter here.
-    decide(chip, true, told, kind)
+// Does the same as `finish`, if no character can move in the transmitter. Then a reception timeout
+// is all that time brings.
+#[inline(always)]
+fn finish_unmoved(chip: &mut LiveChip, told: &mut Told, kind: Kind) -> Todo {
+    // If the line was down before the call, it does not matter here.
+    let was_up = told.line && chip.is_interrupting();
+    chip.expire_timeout();
+    decide(chip, was_up, told, kind)
 }
 
-// Does the same as `finish` after a read of the register at this offset. Only a read of DATA leaves
-// something for time to do.
-fn finish_read(chip: &mut LiveChip, offset: u8, told: Told, kind: Kind) -> (Told, Todo) {
-    if offset as usize == offsets::DATA {
-        finish(chip, told, kind)
+// Does the same as `finish_unmoved`, out of line: most reads are of LSR, and need none of it.
+#[inline(never)]
+fn finish_read(chip: &mut LiveChip, told: &mut Told, kind: Kind) -> Todo {
+    finish_unmoved(chip, told, kind)
+}
+
+// Returns whether a read that returned this value left the line and the room as they were, and was
+// no look: a read of LSR shows no error, or the register has no side effects.
+#[inline(always)]
+fn is_quiet(offset: u8, value: u8) -> bool {
+    let offset = offset as usize;
+    if offset == offsets::LSR {
+        !LSR::from_bits_retain(value).intersects(LSR::LINE_ERRORS)
     } else {
-        finish_still(chip, told, kind)
+        offset != offsets::DATA && (offset != offsets::ISR && offset != offsets::MSR)
+    }
+}
+
+// Reads a register, and lets the time of a call pass.
+#[inline]
+fn read(chip: &mut LiveChip, offset: u8, told: &mut Told) -> Answer {
+    let value = chip.read(offset);
+    if is_quiet(offset, value) {
+        let todo = nothing_new(chip, *told);
+        Answer { value, todo }
+    } else {
+        let todo = finish_read(chip, told, kind_of_read(offset));
+        Answer { value, todo }
     }
 }
 
@@ -141,34 +231,31 @@ fn finish_read(chip: &mut LiveChip, offset: u8, told: Told, kind: Kind) -> (Told
 // what is told does not depend on the level of the line in between.
 fn is_fast(chip: &LiveChip, offset: u8, told: Told) -> bool {
     let sends = chip.sends_at_once();
-    offset as usize == offsets::DATA && (sends && (!told.line || told.is_unanswered))
+    offset as usize == offsets::DATA && (sends && (!told.line || told.spare != 0))
 }
 
 // Does the same as `write_slowly` for a byte that can be sent at once.
-fn send(chip: &mut LiveChip, value: u8, told: Told) -> (Told, Todo) {
-    let kind = Kind {
-        brings: false,
-        looks: false,
-        puts_off: told.is_put_off,
-    };
+#[inline]
+fn send(chip: &mut LiveChip, value: u8, told: &mut Told) -> Todo {
+    let kind = kind_of_write(offsets::DATA as u8);
     chip.send_at_once(value);
     decide(chip, false, told, kind)
 }
 
 // Writes a register and lets the time of a call pass.
-fn write_slowly(chip: &mut LiveChip, offset: u8, value: u8, told: Told) -> (Told, Todo) {
-    let kind = Kind {
-        brings: false,
-        looks: false,
-        puts_off: told.is_put_off,
-    };
+#[inline(never)]
+fn write_slowly(chip: &mut LiveChip, offset: u8, value: u8, told: &mut Told) -> Todo {
     chip.write(offset, value);
-    finish(chip, told, kind)
+    // What comes back in loopback takes the line down for four ticks if a timeout was due, and up
+    // again. So there a line that is up before and after counts as one that fell.
+    let was_up = chip.is_interrupting() && !chip.is_loopback();
+    finish(chip, was_up, told, kind_of_write(offset))
 }
 
 // Does the same as `write_slowly`, by `send` where that can do it.
-fn write(chip: &mut LiveChip, offset: u8, value: u8, told: Told) -> (Told, Todo) {
-    if is_fast(chip, offset, told) {
+#[inline]
+fn write(chip: &mut LiveChip, offset: u8, value: u8, told: &mut Told) -> Todo {
+    if is_fast(chip, offset, *told) {
         send(chip, value, told)
     } else {
         write_slowly(chip, offset, value, told)
@@ -176,19 +263,17 @@ fn write(chip: &mut LiveChip, offset: u8, value: u8, told: Told) -> (Told, Todo)
 }
 
 // Takes this number of bytes from the output, or all if there are fewer, and lets the time of a
-// call pass. Only if the transmitter holds something, time has something to do.
-fn take(chip: &mut LiveChip, count: usize, told: Told) -> (Told, Todo) {
+// call pass. Only if the transmitter holds something, time has something to do, and something is
+// new.
+#[inline]
+fn take(chip: &mut LiveChip, count: usize, told: &mut Told) -> Todo {
     let held = chip.held_len();
-    let kind = Kind {
-        brings: held != 0,
-        looks: false,
-        puts_off: told.is_put_off,
-    };
     chip.take_wire(count);
     if held == 0 {
-        finish_still(chip, told, kind)
+        nothing_new(chip, *told)
     } else {
-        finish(chip, told, kind)
+        let was_up = chip.is_interrupting();
+        finish(chip, was_up, told, INPUT)
     }
 }
 
@@ -217,17 +302,9 @@ impl VirtualPort {
         // says so, and the check proves it here. A `Result` would give each caller an error that
         // never comes.
         let mut chip = LiveChip::new(chip, CHAR_TICKS, WIRE_ROOM).unwrap();
-        let none = Told {
-            line: false,
-            is_unanswered: false,
-            is_put_off: false,
-        };
-        let kind = Kind {
-            brings: false,
-            looks: false,
-            puts_off: false,
-        };
-        let (told, _todo) = finish(&mut chip, none, kind);
+        // Nothing is in the chip that could move.
+        let mut told = UNTOLD;
+        let _todo = finish_unmoved(&mut chip, &mut told, IDLE);
         VirtualPort { chip, told }
     }
 
@@ -235,7 +312,7 @@ impl VirtualPort {
     /// to do.
     ///
     /// A read can change the port: one of DATA takes a received byte and makes room for another,
-    /// and one of ISR, LSR or MSR tells the guest what may have interrupted it.
+    /// one of ISR tells the guest what interrupted it, and one of LSR or MSR ends what it shows.
     ///
     /// # Panics
     ///
@@ -252,16 +329,9 @@ impl VirtualPort {
     /// answer.value
     /// # }
     /// ```
+    #[inline]
     pub fn read(&mut self, offset: u8) -> Answer {
-        let value = self.chip.read(offset);
-        let kind = Kind {
-            brings: false,
-            looks: is_look(offset),
-            puts_off: self.told.is_put_off,
-        };
-        let (told, todo) = finish_read(&mut self.chip, offset, self.told, kind);
-        self.told = told;
-        Answer { value, todo }
+        read(&mut self.chip, offset, &mut self.told)
     }
 
     /// Writes a value to the register at this offset for the guest. Returns what the monitor has to
@@ -284,18 +354,17 @@ impl VirtualPort {
     /// obey_signals(host, port.write(offset, value));
     /// # }
     /// ```
+    #[inline]
     pub fn write(&mut self, offset: u8, value: u8) -> Todo {
-        let (told, todo) = write(&mut self.chip, offset, value, self.told);
-        self.told = told;
-        todo
+        write(&mut self.chip, offset, value, &mut self.told)
     }
 
     /// Receives as many of these bytes as there is room for, from the front. Returns how many that
     /// were, and what the monitor has to do.
     ///
-    /// If that is not all, the others are put off: the first call after which there is room says so
-    /// in `has_room`. Offer them again then, and not before. Without FIFO there is room for one
-    /// byte, with it for 16, and in loopback for none.
+    /// If that is not all, there is no room left, and the first call after which there is room says
+    /// so in `has_room`. Offer the others again then, and not before. Without FIFO there is room
+    /// for one byte, with it for 16, and in loopback for none.
     ///
     /// # Examples
     ///
@@ -308,17 +377,17 @@ impl VirtualPort {
     /// &input[received.count..]
     /// # }
     /// ```
+    #[inline]
     pub fn receive(&mut self, input: &[u8]) -> Received {
         let room = self.chip.receive_room();
         let count = input.len().min(room);
         let kind = Kind {
             brings: 0 < count,
             looks: false,
-            puts_off: self.told.is_put_off || room < input.len(),
+            moves_data: false,
         };
         receive_all(&mut self.chip, &input[..count]);
-        let (told, todo) = finish(&mut self.chip, self.told, kind);
-        self.told = told;
+        let todo = finish_unmoved(&mut self.chip, &mut self.told, kind);
         Received { count, todo }
     }
 
@@ -346,13 +415,7 @@ impl VirtualPort {
             return Err(InputError::BadErrors);
         }
         let _received = self.chip.arrive(byte, errors);
-        let kind = Kind {
-            brings: true,
-            looks: false,
-            puts_off: self.told.is_put_off,
-        };
-        let (told, todo) = finish(&mut self.chip, self.told, kind);
-        self.told = told;
+        let todo = finish_unmoved(&mut self.chip, &mut self.told, INPUT);
         Ok(todo)
     }
 
@@ -377,13 +440,7 @@ impl VirtualPort {
             return Err(InputError::BadLines);
         }
         let _set = self.chip.set_lines(inputs);
-        let kind = Kind {
-            brings: true,
-            looks: false,
-            puts_off: self.told.is_put_off,
-        };
-        let (told, todo) = finish(&mut self.chip, self.told, kind);
-        self.told = told;
+        let todo = finish_unmoved(&mut self.chip, &mut self.told, INPUT);
         Ok(todo)
     }
 
@@ -399,6 +456,7 @@ impl VirtualPort {
     /// let taken = host.take(port.output());
     /// # }
     /// ```
+    #[inline]
     pub fn output(&self) -> &[u8] {
         self.chip.wire()
     }
@@ -417,10 +475,21 @@ impl VirtualPort {
     /// obey_signals(host, port.take_output(taken));
     /// # }
     /// ```
+    #[inline]
     pub fn take_output(&mut self, count: usize) -> Todo {
-        let (told, todo) = take(&mut self.chip, count, self.told);
-        self.told = told;
-        todo
+        take(&mut self.chip, count, &mut self.told)
+    }
+
+    /// Returns how many bytes `receive` has room for. In loopback that is 0.
+    ///
+    /// If it is 0, the first call after which there is room says so in `has_room`.
+    pub fn receive_room(&self) -> usize {
+        self.chip.receive_room()
+    }
+
+    /// Returns the chip, for what can be seen of it.
+    pub fn chip(&self) -> &LiveChip {
+        &self.chip
     }
 
     /// Returns the level of the interrupt line, which is the level that was told last. It stays so

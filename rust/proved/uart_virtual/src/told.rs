@@ -1,5 +1,7 @@
 //! What a monitor has to do after a call, and what a port keeps of what it told.
 
+use uart_spec::FIFO_SIZE;
+
 /// What a monitor has to do after a call.
 ///
 /// A monitor whose interrupt controller takes edges obeys `signal`, and one whose controller takes
@@ -10,19 +12,39 @@ pub struct Todo {
     pub signal: bool,
     /// Set the interrupt line to this level.
     pub level: bool,
-    /// Offer the input again that was put off: there is room now. It is told once.
+    /// The level is another one than after the call before.
+    pub has_moved: bool,
+    /// Offer input again: there is room now, and after the call before there was none. It is told
+    /// once.
     pub has_room: bool,
     /// How many bytes of output are ready. `output` returns them.
     pub ready: usize,
 }
+
+// How many more accesses of DATA a signal covers, if the guest has looked before it: with the one
+// in which it is given, as many as a FIFO has characters.
+pub const REST_OF_A_FIFO: u8 = FIFO_SIZE as u8 - 1;
 
 /// What a monitor was told, as far as the next call depends on it.
 #[derive(Clone, Copy, Debug, PartialEq, Eq)]
 pub struct Told {
     /// The level of the line.
     pub line: bool,
-    /// The guest has not looked since the last signal, and the line was up after each call since.
-    pub is_unanswered: bool,
-    /// Input was put off, and the monitor was not told of room since.
-    pub is_put_off: bool,
+    /// Whether there was room for input.
+    pub has_room: bool,
+    /// The guest has read ISR since the last signal.
+    pub has_looked: bool,
+    /// How many more accesses of DATA the last signal covers.
+    pub spare: u8,
+}
+
+/// What a call is, as far as signals are concerned.
+#[derive(Clone, Copy, Debug, PartialEq, Eq)]
+pub struct Kind {
+    /// The host brings something.
+    pub brings: bool,
+    /// The guest reads ISR.
+    pub looks: bool,
+    /// The guest reads or writes DATA.
+    pub moves_data: bool,
 }

@@ -1,7 +1,7 @@
 //! A 16550A in which time passes, with one fault or with none.
 
 use std::collections::VecDeque;
-use uart_16550::native::backend::Backend;
+use uart_16550::native::backend::{Backend, DesignWareRegisters};
 use uart_16550::spec::registers::{FCR, IER, LCR, LSR, MCR, MSR, offsets};
 
 /// What is wrong with a chip.
@@ -61,6 +61,12 @@ pub struct Chip {
     pub is_busy_detected: bool,
     /// Bytes that were written while there was no room.
     pub lost: usize,
+    /// What the remote will send, a byte each so many accesses, unless that is 0.
+    pub arriving: VecDeque<u8>,
+    pub arrives_every: u32,
+    /// Bytes that were in the receiver when it was reset.
+    pub discarded: usize,
+    passed: u32,
     waiting: VecDeque<u8>,
     shifting: Option<u8>,
     left: u32,
@@ -107,6 +113,10 @@ impl Chip {
 
     // Lets the time of one access pass.
     fn pass(&mut self) {
+        self.passed += 1;
+        if self.arrives_every > 0 && self.passed % self.arrives_every == 0 {
+            self.received.extend(self.arriving.pop_front());
+        }
         let Some(byte) = self.shifting else { return };
         self.left -= 1;
         if self.left > 0 {
@@ -220,6 +230,15 @@ impl Chip {
         }
     }
 
+    fn control(&mut self, control: FCR) {
+        let is_on = control.contains(FCR::FIFO_ENABLE);
+        if is_on != self.is_fifo_on || (is_on && control.contains(FCR::RX_FIFO_RESET)) {
+            self.discarded += self.received.len();
+            self.received.clear();
+        }
+        self.is_fifo_on = is_on;
+    }
+
     fn store(&mut self, offset: usize, value: u8) {
         let value = match self.fault {
             Some(Fault::Keeps { offset: of, bits }) if of == offset => value & bits,
@@ -229,9 +248,7 @@ impl Chip {
             _ if self.is_latched(offset) => self.latch[offset] = value,
             offsets::DATA => self.transmit(value),
             offsets::IER => self.enable(value),
-            offsets::FCR => {
-                self.is_fifo_on = FCR::from_bits_retain(value).contains(FCR::FIFO_ENABLE);
-            }
+            offsets::FCR => self.control(FCR::from_bits_retain(value)),
             offsets::LCR if self.fault == Some(Fault::IgnoresLcrWhileBusy) && self.is_busy() => {
                 self.is_busy_detected = true;
             }
@@ -251,5 +268,13 @@ impl Backend for Chip {
     fn write(&mut self, register_offset: u8, value: u8) {
         self.store(register_offset.into(), value);
         self.pass();
+    }
+}
+
+impl DesignWareRegisters for Chip {
+    fn read_usr(&mut self) -> u8 {
+        let is_busy = Chip::read_usr(self);
+        self.pass();
+        u8::from(is_busy)
     }
 }

@@ -6,6 +6,6 @@ use Rattle.uart_c.proofs.sound.is_sound_queue.Goals as goal
 
 pub returns : goal.returns
 returns c =
-    c.are_sound_characters.ensures ∙
+    c.are_live.ensures ∙
     all_of_queue is_live_character character_of c.args.receiver.now.queue.len c.queue_len-len.result c.args.receiver.now.queue.items
     c.queue_len-len.ensures.len

@@ -12,3 +12,8 @@ returns-in-ReadyToReceive g c =
 
 pub returns-in-FifoEnabled : goal.returns-in-FifoEnabled
 returns-in-FifoEnabled g c = rw c.in-FifoEnabled.is (called_fifo _ _ _ _ c.inner.ensures c.fifo_enabled.ensures)
+
+pub returns-in-SetTriggerLevel : goal.returns-in-SetTriggerLevel
+returns-in-SetTriggerLevel g c =
+    rw (c.in-SetTriggerLevel.is, ← c.inner_mut-in-SetTriggerLevel.ensures.value)
+    (record { outcome = c.set_trigger_level.result; answered = c.levelled.ensures; did = c.set_trigger_level.ensures })

@@ -7,8 +7,8 @@ use bitflags::Flags;
 use std::test::Fail;
 use uart_calls::Call;
 use uart_chip::{Chip, Event};
-use uart_spec::registers::{FifoTriggerLevel, IER, WordLength};
-use uart_spec::{BaudRate, Config};
+use uart_spec::registers::{FifoTriggerLevel, IER, ISR, LCR, LSR, MCR, MSR, WordLength};
+use uart_spec::{BaudRate, Config, ConfigRegisterDump, FifoAction, Setup, TransmitterWait};
 
 const FAULTS: &[(&str, &str)] = &[
     ("chip 16450 4 64", "line 2: misplaced"),
@@ -20,6 +20,23 @@ const FAULTS: &[(&str, &str)] = &[
     ("lsr ", "line 2: wrong count"),
     ("send ", "line 2: bad hex"),
     ("tick +4", "line 2: bad number"),
+    (
+        "init-with 14 9600 cts 00 8 check last",
+        "line 2: wrong count",
+    ),
+    (
+        "init-with 14 9600 cts 00 9 maybe last 0b",
+        "line 2: bad number",
+    ),
+    (
+        "init-with 14 9600 cts 00 8 check late b",
+        "line 2: bad word",
+    ),
+    ("set-trigger-level off", "line 2: bad word"),
+    ("set-break 1", "line 2: bad word"),
+    ("quiesce 0 drop", "line 2: bad hex"),
+    ("restore 0001020304050607", "line 2: bad hex"),
+    ("restore -", "line 2: bad hex"),
 ];
 
 const FAULTS_OF_THE_FIRST_LINE: &[(&str, &str)] = &[
@@ -146,6 +163,75 @@ fn every_word_means_its_event_or_call(rt: HostRuntime) -> Result<(), Fail> {
                     .ok_or("too many")?,
             ),
             Call::Text(ArrayString::try_from("\u{e9}").ok().ok_or("too many")?),
+        ][..],
+    );
+    Ok(())
+}
+
+const LATER_WORDS: &[u8] = b"chip 16550a 3 7
+init-with off 9600 nocts 00 8 nocheck first 1F
+set-frame 38400 7
+set-frame-when-idle 2 6
+set-trigger-level 4
+attach
+set-break on
+set-modem-control 0b
+set-rts off
+set-dtr on
+quiesce 08 reset
+restore 05c11b0b60b0a58001
+peek-modem
+is-idle
+retrigger-interrupts
+receive-with-errors 64";
+
+#[test]
+fn later_words_mean_their_calls(rt: HostRuntime) -> Result<(), Fail> {
+    let script = parse(rt.alloc(), LATER_WORDS).ok().ok_or("refused")?;
+    let frame = |baud_rate, data_bits| Config {
+        baud_rate,
+        data_bits,
+        ..Config::DEFAULT
+    };
+    let dump = ConfigRegisterDump {
+        ier: IER::from_bits_retain(0x05),
+        isr: ISR::from_bits_retain(0xc1),
+        lcr: LCR::from_bits_retain(0x1b),
+        mcr: MCR::from_bits_retain(0x0b),
+        lsr: LSR::from_bits_retain(0x60),
+        msr: MSR::from_bits_retain(0xb0),
+        spr: 0xa5,
+        dll: 0x80,
+        dlm: 0x01,
+    };
+    let setup = Setup {
+        checks_presence: false,
+        wait: TransmitterWait::First,
+        outputs: MCR::from_bits_retain(0x1f),
+    };
+    let config = Config {
+        fifo_trigger_level: None,
+        ..Config::DEFAULT
+    };
+    assert_equal(
+        &rt,
+        script.calls(),
+        &[
+            Call::InitWith(config, setup),
+            Call::SetFrame(frame(BaudRate::Baud38400, WordLength::SevenBits)),
+            Call::SetFrameWhenIdle(frame(BaudRate::Custom(2), WordLength::SixBits)),
+            Call::SetTriggerLevel(FifoTriggerLevel::Four),
+            Call::Attach,
+            Call::SetBreak(true),
+            Call::SetModemControl(MCR::from_bits_retain(0x0b)),
+            Call::SetRts(false),
+            Call::SetDtr(true),
+            Call::Quiesce(MCR::from_bits_retain(0x08), FifoAction::Reset),
+            Call::Restore(dump),
+            Call::PeekModem,
+            Call::IsIdle,
+            Call::RetriggerInterrupts,
+            Call::ReceiveWithErrors(64),
         ][..],
     );
     Ok(())

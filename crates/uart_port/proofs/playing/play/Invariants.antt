@@ -5,5 +5,5 @@ use Rattle.uart_port.proofs.playing.play.Given as goal
 
 abbrev pub invariant-loop-i : goal.invariant-loop-i
 invariant-loop-i g l =
-    IsBegun g.F.PortFile.step l.fn.uart (take l.i l.calls) (g.W.Write.contents (writer_of l.fn.journal))
-    (g.W.Write.contents (writer_of l.journal)) l.uart
+    IsBegun g.F.PortFile.step l.fn.uart (take l.i l.calls) (g.W.Write.contents (writer_of l.fn.report))
+    (g.W.Write.contents (writer_of l.report)) l.uart

@@ -1,12 +1,18 @@
-use Rattle.uart_virtual.proofs.Stays.{line_stays}
-use Rattle.uart_virtual.proofs.Tells.{rise_signalled, signals_up, unanswered_signalled}
+use Rattle.uart_virtual.proofs.Stays.{line_stays, dip_signalled}
+use Rattle.uart_virtual.proofs.Tells.{rise_signalled, signals_up, a_signal_covers, no_look_covers_nothing}
 use Rattle.uart_virtual.proofs.laws.rises_are_signalled.Goals as goal
 
 pub returns-clause-rise : goal.returns-clause-rise
 returns-clause-rise c = rise_signalled
 
-pub returns-clause-unanswered : goal.returns-clause-unanswered
-returns-clause-unanswered c = unanswered_signalled
+pub returns-clause-dip : goal.returns-clause-dip
+returns-clause-dip c = dip_signalled
+
+pub returns-clause-covers : goal.returns-clause-covers
+returns-clause-covers c = a_signal_covers
+
+pub returns-clause-blind : goal.returns-clause-blind
+returns-clause-blind c = no_look_covers_nothing
 
 pub returns-clause-up : goal.returns-clause-up
 returns-clause-up c = signals_up

@@ -1,6 +1,10 @@
-use Rattle.uart_virtual.proofs.Times.{still_settle}
+use Rattle.uart_virtual.proofs.Times.{still_settle, paced-ticks}
+use Rattle.uart_virtual.specs.Port.{settle_ticks}
 use Rattle.uart_virtual.proofs.port.finish.Goals as goal
 
+pub decide-requires : goal.decide-requires
+decide-requires c = rw c.settle.ensures.after (paced-ticks settle_ticks c.args.chip.now c.requires.paced)
+
 pub returns-clause-still : goal.returns-clause-still
-returns-clause-still c one =
-    rw c.settle.ensures.after (still_settle c.args.chip.now c.is_interrupting-was_up.ensures.live.whole.sound.chip one)
+returns-clause-still c =
+    rw c.settle.ensures.after (still_settle c.args.chip.now c.requires.live.whole.sound.chip c.requires.paced)

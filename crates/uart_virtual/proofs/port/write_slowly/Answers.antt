@@ -1,8 +1,10 @@
 use Rattle.uart_virtual.specs.Port.{Write}
-use Rattle.uart_virtual.proofs.Times.{takes-happen}
+use Rattle.uart_virtual.proofs.Times.{paced-happen}
 use Rattle.uart_virtual.proofs.port.write_slowly.Goals as goal
 
-pub returns-clause-still : goal.returns-clause-still
-returns-clause-still c =
-    c.finish.ensures.still
-    (rw c.write.ensures (takes-happen 1 (Write c.args.offset c.args.value) c.args.chip.now c.requires.still.takes))
+pub finish-requires-clause-live : goal.finish-requires-clause-live
+finish-requires-clause-live c = c.is_interrupting.ensures.live
+
+pub finish-requires-clause-paced : goal.finish-requires-clause-paced
+finish-requires-clause-paced c =
+    rw c.write.ensures (paced-happen (Write c.args.offset c.args.value) c.args.chip.now c.requires.still.paced)

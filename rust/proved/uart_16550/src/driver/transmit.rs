@@ -57,7 +57,7 @@ impl<B: Backend> Uart16550<B> {
     }
 
     // Writes the bytes to DATA in order.
-    fn write_data(&mut self, bytes: &[u8]) {
+    pub(super) fn write_data(&mut self, bytes: &[u8]) {
         for &byte in bytes {
             self.write_byte(byte);
         }

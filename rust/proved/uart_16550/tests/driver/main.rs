@@ -7,6 +7,8 @@ mod address;
 mod always;
 mod bytes;
 mod calls;
+mod changes;
+mod configured;
 mod counts;
 mod devices;
 mod driving;

@@ -5,7 +5,7 @@ use crate::audit::shows::level_of;
 use bitflags::Flags;
 use std::fmt;
 use uart_chip::receiving::characters_of;
-use uart_spec::registers::{FCR, FifoTriggerLevel, IER, ISR, LCR, Parity};
+use uart_spec::registers::{FCR, FifoTriggerLevel, IER, ISR, LCR, MCR, Parity};
 
 /// The bytes of the divisor, as far as they were written.
 #[derive(Clone, Copy, Debug, PartialEq, Eq)]
@@ -29,6 +29,11 @@ pub struct Setup {
     pub trigger: Option<FifoTriggerLevel>,
     /// The interrupts that are enabled.
     pub interrupts: Option<IER>,
+    /// The modem outputs, and loopback.
+    pub modem: Option<MCR>,
+    /// Whether the divisor latch is open: DLAB, where LCR was seen. Else it is taken for closed
+    /// once LSR was read, since no driver polls while it sets the divisor.
+    pub is_open: Option<bool>,
 }
 
 // Returns whether both are unknown, or both are one number.
@@ -70,14 +75,37 @@ fn interrupt_bits(interrupts: Option<IER>) -> Option<u8> {
 }
 
 impl Setup {
+    // Returns the set-up of which nothing is known.
+    pub(crate) fn unknown() -> Setup {
+        Setup {
+            divisor: DivisorBytes {
+                low: None,
+                high: None,
+            },
+            line: None,
+            has_fifo: None,
+            trigger: None,
+            interrupts: None,
+            modem: None,
+            is_open: None,
+        }
+    }
+
     // Returns the set-up after an action.
     pub(crate) fn after(self, action: Action) -> Setup {
         let mut after = self;
         match action {
             Action::SetsDivisorLow(value) => after.divisor.low = Some(value),
             Action::SetsDivisorHigh(value) => after.divisor.high = Some(value),
-            Action::SetsLine(lcr) | Action::ReadsLine(lcr) => after.line = Some(lcr),
-            Action::EnablesInterrupts(ier) => after.interrupts = Some(ier),
+            Action::SetsLine(lcr) | Action::ReadsLine(lcr) => {
+                after.line = Some(lcr);
+                after.is_open = Some(lcr.contains(LCR::DLAB));
+            }
+            Action::LooksAtLine(_) => after.is_open = Some(self.is_open.unwrap_or(false)),
+            Action::EnablesInterrupts(ier) | Action::ShowsInterrupts(ier) => {
+                after.interrupts = Some(ier);
+            }
+            Action::SetsModem(mcr) | Action::ReadsModem(mcr) => after.modem = Some(mcr),
             Action::IdentifiesInterrupt(isr) => {
                 after.has_fifo = Some(isr.contains(ISR::FIFOS_ENABLED));
             }

@@ -2,9 +2,7 @@
 
 use crate::audit::action::Action;
 use bitflags::Flags;
-use uart_spec::registers::{
-    FCR, FifoTriggerLevel, IER, ISR, InterruptType, LCR, LSR, MCR, WordLength,
-};
+use uart_spec::registers::{FCR, FifoTriggerLevel, IER, ISR, InterruptType, LCR, LSR, WordLength};
 
 // Returns the interrupt that a value of ISR identifies.
 pub(crate) fn identified(isr: ISR) -> Option<InterruptType> {
@@ -39,7 +37,7 @@ impl Action {
 
     // Returns whether a byte is taken from the receiver.
     pub(crate) fn receives(self) -> bool {
-        matches!(self, Action::Receives)
+        matches!(self, Action::Receives(_))
     }
 
     // Returns whether LSR is read.
@@ -47,41 +45,69 @@ impl Action {
         matches!(self, Action::LooksAtLine(_))
     }
 
-    // Returns whether nothing is going out.
-    pub(crate) fn shows_idle(self) -> bool {
-        matches!(self, Action::LooksAtLine(lsr) if lsr.contains(LSR::TRANSMITTER_EMPTY))
-    }
-
-    // Returns whether a look at LSR shows a received byte.
-    pub(crate) fn ready(self) -> Option<bool> {
-        match self {
-            Action::LooksAtLine(lsr) => Some(lsr.contains(LSR::DATA_READY)),
-            _ => None,
-        }
-    }
-
     // Returns whether MSR is read.
     pub(crate) fn looks_at_modem(self) -> bool {
         matches!(self, Action::LooksAtModem(_))
     }
 
-    // Returns whether ISR is read.
-    pub(crate) fn identifies(self) -> bool {
-        matches!(self, Action::IdentifiesInterrupt(_))
+    // Returns whether a character arrives.
+    pub(crate) fn arrives(self) -> bool {
+        matches!(self, Action::Arrives(_, _))
     }
 
-    // Returns whether the transmitter has room.
-    pub(crate) fn shows_room(self) -> bool {
+    // Returns whether FCR is written.
+    pub(crate) fn controls_fifo(self) -> bool {
+        matches!(self, Action::ControlsFifo(_))
+    }
+
+    // Returns whether MCR is written.
+    pub(crate) fn sets_modem(self) -> bool {
+        matches!(self, Action::SetsModem(_))
+    }
+
+    // Returns whether a register is written that says how the chip works.
+    pub(crate) fn configures(self) -> bool {
+        matches!(
+            self,
+            Action::EnablesInterrupts(_)
+                | Action::ControlsFifo(_)
+                | Action::SetsLine(_)
+                | Action::SetsModem(_)
+        )
+    }
+
+    // Returns the interrupt that is identified, if ISR is read.
+    pub(crate) fn identified(self) -> Option<InterruptType> {
+        match self {
+            Action::IdentifiesInterrupt(isr) => identified(isr),
+            _ => None,
+        }
+    }
+
+    // Returns whether ISR shows that no interrupt is pending.
+    pub(crate) fn shows_none(self) -> bool {
+        matches!(self, Action::IdentifiesInterrupt(isr) if isr.contains(ISR::INTERRUPT_STATUS))
+    }
+
+    // Returns whether ISR identifies this interrupt: the transmitter is empty.
+    pub(crate) fn identifies_thr_empty(self) -> bool {
+        matches!(
+            self.identified(),
+            Some(InterruptType::TransmitterHoldingRegisterEmpty)
+        )
+    }
+
+    // Returns whether THR is shown to be empty: by LSR, or by ISR.
+    pub(crate) fn shows_thr_empty(self) -> bool {
         match self {
             Action::LooksAtLine(lsr) => lsr.contains(LSR::THR_EMPTY),
-            Action::IdentifiesInterrupt(isr) => {
-                matches!(
-                    identified(isr),
-                    Some(InterruptType::TransmitterHoldingRegisterEmpty)
-                )
-            }
-            _ => false,
+            _ => self.identifies_thr_empty(),
         }
+    }
+
+    // Returns whether nothing is going out.
+    pub(crate) fn shows_idle(self) -> bool {
+        matches!(self, Action::LooksAtLine(lsr) if lsr.contains(LSR::TRANSMITTER_EMPTY))
     }
 
     // Returns whether the divisor latch is opened.
@@ -94,41 +120,18 @@ impl Action {
         matches!(self, Action::SetsDivisorLow(_))
     }
 
-    // Returns the value of MCR that is written or read.
-    pub(crate) fn modem(self) -> Option<MCR> {
-        match self {
-            Action::SetsModem(mcr) | Action::ReadsModem(mcr) => Some(mcr),
-            _ => None,
-        }
+    // Returns whether the high byte of the divisor is written.
+    pub(crate) fn sets_high(self) -> bool {
+        matches!(self, Action::SetsDivisorHigh(_))
+    }
+
+    // Returns whether the latch is opened, or a byte of the divisor is read.
+    pub(crate) fn begins_divisor(self) -> bool {
+        matches!(self, Action::ReadsDivisor) || self.opens()
     }
 
     // Returns whether this writes IER without these bits.
     pub(crate) fn disables(self, interrupts: IER) -> bool {
         matches!(self, Action::EnablesInterrupts(ier) if !ier.contains(interrupts))
-    }
-
-    // Returns whether the receiver FIFO is reset.
-    pub(crate) fn resets_receiver(self) -> bool {
-        matches!(self, Action::ControlsFifo(fcr) if fcr.contains(FCR::RX_FIFO_RESET))
-    }
-
-    // Returns whether this does what the interrupt asks for, or disables it.
-    pub(crate) fn serves(self, interrupt: InterruptType) -> bool {
-        match interrupt {
-            InterruptType::ReceiverLineStatus => {
-                self.looks_at_line() || self.disables(IER::RECEIVER_LINE_STATUS)
-            }
-            InterruptType::ReceivedDataReady | InterruptType::ReceptionTimeout => {
-                self.receives() || self.resets_receiver() || self.disables(IER::DATA_READY)
-            }
-            InterruptType::TransmitterHoldingRegisterEmpty => {
-                self.sends() || self.disables(IER::THR_EMPTY)
-            }
-            InterruptType::ModemStatus => {
-                self.looks_at_modem() || self.disables(IER::MODEM_STATUS)
-            }
-            InterruptType::DmaReceptionEndOfTransfer
-            | InterruptType::DmaTransmissionEndOfTransfer => true,
-        }
     }
 }

@@ -22,7 +22,7 @@ pub enum Rule {
     Interrupt,
     /// The transmitter is empty only if THR is.
     EmptyBits,
-    /// No error of a character is reported while none waits.
+    /// No error of a character is reported while none waits, once LSR was read.
     ErrorAlone,
     /// Bit 7 of LSR is clear while the FIFOs are off.
     FifoError,
@@ -137,10 +137,15 @@ fn broken_isr(known: &Known, value: u8) -> Option<Rule> {
     }
 }
 
+// Returns whether an error of a character is shown, and none waits.
+fn has_error_alone(lsr: LSR) -> bool {
+    let errors = LSR::CHARACTER_ERRORS.union(LSR::FIFO_DATA_ERROR);
+    !lsr.intersects(LSR::DATA_READY) && lsr.intersects(errors)
+}
+
 // Returns the first rule that the receiver's bits of a value of LSR break.
 fn broken_receiver(known: &Known, lsr: LSR) -> Option<Rule> {
-    let errors = LSR::CHARACTER_ERRORS.union(LSR::FIFO_DATA_ERROR);
-    if !lsr.intersects(LSR::DATA_READY) && lsr.intersects(errors) {
+    if known.is_looked && has_error_alone(lsr) {
         Some(Rule::ErrorAlone)
     } else if lsr.intersects(LSR::FIFO_DATA_ERROR) && !known.may_have_fifo() {
         Some(Rule::FifoError)

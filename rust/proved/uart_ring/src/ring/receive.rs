@@ -24,6 +24,14 @@ impl<B: Backend> Uart16550Ring<B> {
         self.pause_if_full();
     }
 
+    // Ends a pause if so many bytes have left the receive ring.
+    fn end_pause(&mut self, count: usize) {
+        if count > 0 && self.is_paused {
+            self.uart.enable_interrupts(IER::DATA_READY);
+            self.is_paused = false;
+        }
+    }
+
     /// Takes received bytes from the front of the receive ring, as many as there are slots, and
     /// returns how many. Leaves the other slots unchanged.
     ///
@@ -43,10 +51,29 @@ impl<B: Backend> Uart16550Ring<B> {
     /// ```
     pub fn take(&mut self, slots: &mut [u8]) -> usize {
         let count = self.receive.read_into(slots);
-        if count > 0 && self.is_paused {
-            self.uart.enable_interrupts(IER::DATA_READY);
-            self.is_paused = false;
-        }
+        self.end_pause(count);
+        count
+    }
+
+    /// Drops the bytes of the receive ring, and returns how many. What is in the chip stays there.
+    ///
+    /// Does not wait. If it drops at least one byte and receiving is paused, it enables
+    /// `DATA_READY` again and ends the pause, as `take` does. Otherwise it makes no access.
+    ///
+    /// # Examples
+    ///
+    /// ```
+    /// # include!(concat!(env!("CARGO_MANIFEST_DIR"), "/examples.rs"));
+    /// # fn main() {}
+    /// # use facade::ring;
+    /// # fn example(ring: &mut ring::Uart16550Ring<Device>) -> Outcome<()> {
+    /// let dropped = ring.clear_receive();
+    /// # Ok(()) }
+    /// ```
+    pub fn clear_receive(&mut self) -> usize {
+        let count = self.receive.len();
+        self.receive.drop_front(count);
+        self.end_pause(count);
         count
     }
 }

@@ -1,4 +1,5 @@
-//! Rings over a replay, what the reads of a chip return, and lists of accesses as tests write them.
+//! Rings over a replay, what the reads of a chip return, and lists of accesses as tests write them. Each test program needs a part.
+#![allow(dead_code)]
 
 use geesetrunk_kit_of_rings::alloc::Global;
 use proved_uart_ring::Uart16550Ring;

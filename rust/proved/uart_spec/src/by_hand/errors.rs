@@ -1,7 +1,7 @@
 //! What Rust's errors are beside their texts: [`core::error::Error`] with the cause, and `Copy`.
 
 use crate::{
-    AttachError, ByteReceiveError, ByteSendError, FifosOffError, FrameError, InitError,
+    AttachError, ByteReceiveError, ByteSendError, ConfigurationError, FifosOffError, FrameError, InitError,
     InvalidAddressError, InvalidDivisorError, LoopbackError, NearestDivisorError, NonIntegerBaudRateError,
     NonIntegerDivisorError, RemoteReadyToReceiveError, StalledError, Uart16550TtyError,
 };
@@ -16,6 +16,7 @@ impl Error for RemoteReadyToReceiveError {}
 impl Error for StalledError {}
 impl Error for AttachError {}
 impl Error for FifosOffError {}
+impl Error for ConfigurationError {}
 impl Error for NearestDivisorError {}
 
 // Its text is that of the cause, so the cause is not named again.

@@ -5,7 +5,7 @@ use geesetrunk_kit::{CollectWith as _, String, ToStringWith as _, ToVecWith as _
 // Each public path of the crate, named once.
 use super::{arrive, assert_equal};
 use uart_machine::script::{
-    Cause, Fault, Input, Output, PlayError, Script, ScriptError, Std, parse, play,
+    Cause, Input, Output, PlayError, Script, ScriptError, Std, StreamFault, parse, play,
 };
 use uart_machine::{
     Answer, ArrivalMark, BuildError, CALL_BYTES, Call, Character, Chip, ChipData, Device16550,
@@ -43,7 +43,7 @@ fn no_calls_are_run_and_one_is_performed() -> Result<(), Fail> {
 }
 
 // Moves one byte of the input to the output.
-fn moved<R: Input, W: Output>(reader: &mut R, writer: &mut W) -> Result<usize, Fault> {
+fn moved<R: Input, W: Output>(reader: &mut R, writer: &mut W) -> Result<usize, StreamFault> {
     let mut byte = [0u8; 1];
     let count = reader.read(&mut byte)?;
     writer.write(&byte[..count])

@@ -7,7 +7,7 @@ use uart_virtual::{Todo, VirtualPort};
 use geesetrunk_kit::Flags;
 use crate::runtime::Abort;
 use crate::runtime::Fail;
-use uart_live::{Chip, InputError};
+use uart_live::{Chip, InputError, RestoreError, Shifting};
 use uart_spec::registers::{LSR, MSR};
 
 const DATA: u8 = 0;
@@ -144,6 +144,7 @@ fn breaks_and_overruns() -> Result<(), Fail> {
             == Todo {
                 signal: false,
                 level: false,
+                has_moved: false,
                 has_room: false,
                 ready: 0
             }
@@ -173,17 +174,88 @@ fn other_bits_are_refused() -> Result<(), Fail> {
     Ok(())
 }
 
-// What is not promised: a guest that fills the FIFO, and looks at nothing before it writes again,
-// is signalled once for all of that.
+// A guest that never reads ISR is signalled each time that the line falls and rises.
 #[test]
-fn a_guest_that_never_looks_is_signalled_once() -> Result<(), Fail> {
+fn a_guest_that_never_looks_is_signalled_each_time() -> Result<(), Fail> {
     let rt = HostRuntime;
     let mut port = VirtualPort::new(Chip::Uart16550A);
     port.write(FCR, 0x07);
     assert!(rt; port.write(IER, 0x02).signal);
-    assert!(rt; !port.write(DATA, 0x41).signal);
-    assert!(rt; !port.write(DATA, 0x41).signal);
+    assert!(rt; port.read(LINE).value == 0x60);
+    assert!(rt; port.write(DATA, 0x41).signal);
+    assert!(rt; port.write(DATA, 0x41).signal);
     assert!(rt; port.level());
+    Ok(())
+}
+
+// A signal covers no more than a FIFO: the next byte after 16 is signalled again.
+#[test]
+fn a_signal_covers_one_fifo() -> Result<(), Fail> {
+    let rt = HostRuntime;
+    let mut port = VirtualPort::new(Chip::Uart16550A);
+    port.write(FCR, 0x07);
+    port.write(IER, 0x02);
+    assert!(rt; port.read(ISR).value == 0xc2);
+    assert!(rt; port.write(DATA, 0x41).signal);
+    for _ in 0..15 {
+        assert!(rt; !port.write(DATA, 0x41).signal);
+    }
+    assert!(rt; port.write(DATA, 0x41).signal);
+    Ok(())
+}
+
+// What comes back in loopback withdraws a timeout that was due, and that is signalled though the
+// line is up before and after.
+#[test]
+fn a_fall_while_time_passes_in_loopback_is_signalled() -> Result<(), Fail> {
+    let rt = HostRuntime;
+    let mut port = VirtualPort::new(Chip::Uart16550A);
+    port.write(FCR, 0xc7);
+    port.write(IER, 0x01);
+    assert!(rt; port.receive(b"a").todo.signal);
+    assert!(rt; port.read(ISR).value == 0xcc);
+    assert!(rt; port.write(MCR, 0x18).level);
+    let todo = port.write(DATA, 0x41);
+    assert!(rt; todo.signal && todo.level);
+    Ok(())
+}
+
+// A port that is restored goes on as the one that was saved, and its monitor is told anew.
+#[test]
+fn a_restored_port_goes_on() -> Result<(), Fail> {
+    let rt = HostRuntime;
+    let mut port = VirtualPort::new(Chip::Uart16550A);
+    port.write(IER, 0x01);
+    port.write(DATA, 0x42);
+    port.receive(b"ab");
+    let restored = VirtualPort::from_data(&port.data(), port.output())?;
+    let todo = restored.todo;
+    assert!(rt; todo.signal && todo.level && !todo.has_room && todo.ready == 1);
+    let mut again = restored.port;
+    assert!(rt; again.output() == b"B".as_slice());
+    let answer = again.read(DATA);
+    assert!(rt; answer.value == 0x61 && answer.todo.has_room && !answer.todo.level);
+    Ok(())
+}
+
+// No port holds bytes while its output has room, and none has a character that takes longer.
+#[test]
+fn data_of_no_port_are_refused() -> Result<(), Fail> {
+    let rt = HostRuntime;
+    let port = VirtualPort::new(Chip::Uart16550A);
+    let mut held = port.data();
+    held.transmitter.shift_register = Some(Shifting {
+        byte: 0x41,
+        ticks_left: 1,
+    });
+    let mut slow = port.data();
+    slow.transmitter.char_ticks = 2;
+    let mut early = port.data();
+    early.receiver.timeout_ticks = 3;
+    for saved in [held, slow, early] {
+        let refused = VirtualPort::from_data(&saved, &[]);
+        assert!(rt; matches!(refused, Err(RestoreError::BadData)));
+    }
     Ok(())
 }
 

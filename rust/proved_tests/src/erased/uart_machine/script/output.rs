@@ -12,7 +12,7 @@ use uart_chip::ArrivalMark;
 use uart_language::render;
 use uart_spec::registers::{IER, ISR, LCR, LSR, MCR, MSR};
 use uart_spec::{
-    AttachError, ByteSendError, InitError, InvalidDivisorError, LoopbackError,
+    AttachError, ByteSendError, FrameError, InitError, InvalidDivisorError, LoopbackError,
     NonIntegerDivisorError, Received, RemoteReadyToReceiveError,
 };
 
@@ -76,6 +76,17 @@ fn each_answer_has_its_line() -> Result<(), Fail> {
             Answer::AttachRefused(AttachError::DivisorLatchOpen),
             "err DivisorLatchOpen",
         ),
+        (
+            Answer::FrameWhenIdleRefused(FrameError::InvalidBaudRate(
+                InvalidDivisorError::OutOfRange { divisor: 0 },
+            )),
+            "err InvalidBaudRate OutOfRange 0",
+        ),
+        (
+            Answer::FrameWhenIdleRefused(FrameError::Stalled),
+            "err Stalled",
+        ),
+        (Answer::FifosOff, "err FifosOffError"),
         (Answer::Register(0x62), "ok 62"),
         (Answer::Latch(0x0c, 0x00), "ok 0c 00"),
         (

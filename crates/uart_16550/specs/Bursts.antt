@@ -1,0 +1,17 @@
+-- Bursts to a transmitter FIFO whose size the caller names.
+use Rattle.std.specs.Prelude.{◌≡◌, ◌<◌, ◌⊎◌, ℕ, Bool, List, [], length, take, min, if◌then◌else◌}
+use Rattle.uart_spec.specs.FifoSize.{characters}
+use Rattle.uart_spec.specs.declared.setup.FifoSize.{FifoSize}
+use Rattle.uart_16550.specs.Grammar.{Language}
+use Rattle.uart_16550.specs.Transmit.{Burst, SendMiss}
+
+-- the most bytes in one burst: as many as a FIFO of this size holds, or the one of the holding register
+abbrev pub room : (fifo : Bool) → FifoSize → ℕ
+room fifo size = if fifo then characters size else 1
+
+-- `send_burst`: nothing if there are no bytes; else a check that fails, or one burst from the front
+abbrev pub SendsBurst : FifoSize → List ℕ → ℕ → Language
+SendsBurst size bytes k s l =
+    ((length bytes ≡ 0) × (k ≡ 0) × (l ≡ []))
+    ⊎ ((0 < length bytes) × (k ≡ 0) × SendMiss s l)
+    ⊎ ((0 < length bytes) × (k ≡ min (length bytes) (room s.fifo size)) × Burst (take k bytes) s l)

@@ -1,0 +1,183 @@
+//! Chips that show interrupts for ever.
+ghost use Rattle.uart_ring.specs.Ring.{RingDid};
+ghost use Rattle.std.specs.Prelude.{◌≡◌};
+ghost use Rattle.uart_ring.specs.Storm.{CountsRound, CountsUnfinished, LooksOnceMore};
+ghost use Rattle.uart_ring.specs.Storm.{HandlesRound, Restarts, ShowsIfStuck, TriesToHandle};
+ghost use Rattle.uart_ring.specs.Storm.{not_paused};
+
+use super::{HandleEnd, Handled, Uart16550Ring};
+use bitflags::Flags;
+use thiserror::Error;
+use uart_16550::backend::Backend;
+use uart_spec::registers::{IER, ISR, InterruptType};
+
+/// Why a chip is stuck: what ISR still showed after as many rounds as the caller allows.
+#[derive(Clone, Copy, Debug, PartialEq, Eq, Error)]
+pub enum StuckError {
+    /// An interrupt that has no name, which nobody can serve.
+    #[error("the chip shows an unknown interrupt for ever: {0:?}")]
+    Unknown(ISR),
+    /// This interrupt, which was served and did not go away.
+    #[error("the interrupt {0:?} does not go away")]
+    Pending(InterruptType),
+}
+
+// Returns why a chip that shows this is stuck, or `None` if no interrupt is pending.
+fn shown_by(isr: ISR) -> Option<StuckError>
+    ensures { ShowsIfStuck result isr.0 }
+{
+    match isr.interrupt_type() {
+        Some(interrupt) => Some(StuckError::Pending(interrupt)),
+        None => {
+            if isr.has_pending_interrupt() {
+                Some(StuckError::Unknown(isr))
+            } else {
+                None
+            }
+        }
+    }
+}
+
+impl<B: Backend> Uart16550Ring<B> {
+    // Reads ISR once more. If it shows an interrupt, disables all interrupts and returns why.
+    fn look_once_more(&mut self) -> Option<StuckError>
+        ensures { RingDid B.step (LooksOnceMore result) self.old self.new }
+    {
+        // This read may acknowledge a THR_EMPTY interrupt, which is then not served. The chip is
+        // stuck in that case, and a `restart` sends what waits.
+        let isr = self.uart.isr();
+        match shown_by(isr) {
+            None => {
+                self.rounds = 0;
+                None
+            }
+            Some(error) => {
+                // All eight bits, and not only those of the interrupts that are served here: some
+                // chips have more. Without them IER is 0.
+                self.uart.disable_interrupts(IER::all());
+                self.rounds = 0;
+                self.stuck = Some(error);
+                Some(error)
+            }
+        }
+    }
+
+    // Counts a round that did not end with `Idle`, if there may be more of them in a row.
+    fn count_unfinished(&mut self, rounds: u32) -> Option<StuckError>
+        ensures { RingDid B.step (CountsUnfinished rounds result) self.old self.new }
+    {
+        if self.rounds < rounds.saturating_sub(1) {
+            self.rounds += 1;
+            return None;
+        }
+        self.look_once_more()
+    }
+
+    // Counts a round that ended so.
+    fn count_round(&mut self, rounds: u32, end: HandleEnd) -> Option<StuckError>
+        ensures { RingDid B.step (CountsRound rounds end result) self.old self.new }
+    {
+        match end {
+            HandleEnd::Idle => {
+                self.rounds = 0;
+                None
+            }
+            HandleEnd::Unknown | HandleEnd::Limit => self.count_unfinished(rounds),
+        }
+    }
+
+    // Handles the interrupt, and counts the round.
+    fn handle_round(&mut self, limit: usize, rounds: u32) -> Result<Handled, StuckError>
+        ensures { RingDid B.step (HandlesRound limit rounds result) self.old self.new }
+    {
+        let handled = self.handle(limit);
+        match self.count_round(rounds, handled.end) {
+            None => Ok(handled),
+            Some(error) => Err(error),
+        }
+    }
+
+    /// Handles the chip's interrupt as `handle` does, and ends a storm: a chip that shows an
+    /// interrupt for ever gets its interrupts disabled.
+    ///
+    /// A call that does not end with `Idle` is a round that is left unfinished. The controller then
+    /// calls the handler again, and on a broken chip for ever. So this call counts such rounds. If
+    /// there were `rounds` of them in a row, the last one reads ISR once more. If that shows no
+    /// interrupt, the count begins again. Otherwise the chip is stuck: the call reads IER, writes 0
+    /// to it, and returns why.
+    ///
+    /// While the chip is stuck, the rings hand no byte to it, and each further call of `try_handle`
+    /// serves nothing, writes 0 to IER again, and returns the same error. `restart` starts again.
+    ///
+    /// If `rounds` is 0 or 1, the first unfinished round is the last one. A chip that works leaves
+    /// a round unfinished only if interrupts come as fast as they are served.
+    ///
+    /// Does not wait: makes at most 35 accesses for each interrupt of the limit, and 6 more.
+    ///
+    /// # Errors
+    ///
+    /// The chip is stuck:
+    ///
+    /// - `Unknown` if ISR shows an interrupt without a name.
+    /// - `Pending` if ISR shows this interrupt, after so many were served.
+    ///
+    /// If the chip's interrupt line stays high although IER is 0, mask the interrupt at the
+    /// controller.
+    ///
+    /// # Examples
+    ///
+    /// ```
+    /// match self.ring.try_handle(4 * MAX_INTERRUPTS, MAX_UNFINISHED_ROUNDS) {
+    ///     Ok(_) => {}
+    ///     Err(cause) => self.report(cause),
+    /// }
+    /// ```
+    pub fn try_handle(&mut self, limit: usize, rounds: u32) -> Result<Handled, StuckError>
+        ensures { RingDid B.step (TriesToHandle limit rounds result) self.old self.new }
+    {
+        match self.stuck {
+            None => self.handle_round(limit, rounds),
+            Some(error) => {
+                // A `take` that ended a pause has enabled DATA_READY again, or another device on
+                // the line has interrupted.
+                self.uart.disable_interrupts(IER::all());
+                Err(error)
+            }
+        }
+    }
+
+    // Returns these interrupts, without DATA_READY while receiving is paused.
+    fn not_paused(&self, interrupts: IER) -> IER
+        ensures { result.0 ≡ not_paused self.now.is_paused interrupts.0 }
+    {
+        if self.is_paused {
+            interrupts.difference(IER::DATA_READY)
+        } else {
+            interrupts
+        }
+    }
+
+    /// Starts a chip again that is stuck: forgets why, and the count of rounds, enables these
+    /// interrupts, and sends bytes that wait, as `resume_transmit` does.
+    ///
+    /// `DATA_READY` is left out while receiving is paused: the `take` that ends the pause enables
+    /// it. After an `init` through `inner_mut`, which has enabled interrupts itself, call it with
+    /// none.
+    ///
+    /// Does not wait. It may be called on a chip that is not stuck.
+    ///
+    /// # Examples
+    ///
+    /// ```
+    /// ring.restart(IER::DATA_READY.union(IER::RECEIVER_LINE_STATUS));
+    /// ```
+    pub fn restart(&mut self, interrupts: IER)
+        ensures { RingDid B.step (Restarts interrupts.0) self.old self.new }
+    {
+        let enabled = self.not_paused(interrupts);
+        self.uart.enable_interrupts(enabled);
+        self.rounds = 0;
+        self.stuck = None;
+        self.resume_transmit();
+    }
+}

@@ -1,0 +1,253 @@
+//! Judges a recording, entry by entry, in constant memory.
+
+use crate::heap;
+use crate::kinds::Kind;
+use geesetrunk_kit::alloc::AllocError;
+use std::io::{self, Read};
+use uart_chip::Chip;
+use uart_judges::audit::{Auditor, Finding, Findings, Severity};
+use uart_judges::recording::{Event, Happening, Recording, RecordingError};
+use uart_judges::replay::{Replayer, Start};
+use uart_spec::access::Access;
+
+/// Who judges a recording.
+#[derive(Clone, Copy, Debug, PartialEq, Eq)]
+pub enum Judge {
+    /// The judge of the driver.
+    Audit,
+    /// The judge of the chip.
+    Replay,
+}
+
+/// Why a recording was not read to its end.
+#[derive(Debug)]
+pub enum Stop {
+    /// A line is no line of a recording, or the reader failed.
+    Recording(RecordingError),
+    /// What was found could not be printed.
+    Output(io::Error),
+    /// Memory could not be allocated.
+    OutOfMemory,
+}
+
+impl From<RecordingError> for Stop {
+    fn from(error: RecordingError) -> Self {
+        Stop::Recording(error)
+    }
+}
+
+impl From<AllocError> for Stop {
+    fn from(_: AllocError) -> Self {
+        Stop::OutOfMemory
+    }
+}
+
+/// Something that was found.
+#[derive(Clone, Copy, Debug, PartialEq, Eq)]
+pub struct Found {
+    /// The number of its line, counted from 1.
+    pub line: u64,
+    /// What was found.
+    pub kind: Kind,
+    /// How many times in turn it was found at this line.
+    pub times: u64,
+}
+
+/// An auditor that makes an entry again and again in the time of a few.
+#[derive(Clone, Copy, Debug, PartialEq, Eq)]
+pub struct Audited {
+    auditor: Auditor,
+    last: Option<Last>,
+}
+
+// What happened last, and the level of the interrupt line then.
+#[derive(Clone, Copy, Debug, PartialEq, Eq)]
+struct Last {
+    happening: Happening,
+    level: Option<bool>,
+    // Whether it changed nothing and nothing was found, and would not be now.
+    is_quiet: bool,
+}
+
+impl Default for Audited {
+    fn default() -> Self {
+        Audited {
+            auditor: Auditor::new(),
+            last: None,
+        }
+    }
+}
+
+impl Audited {
+    /// Goes on by an entry, which is made so many times as it says, and tells what is found, with
+    /// how many times in turn. A judge that an entry leaves as it was finds the same at each that
+    /// follows: from the third equal read on it knows no more, but for bytes that wait, of which
+    /// there are at most 16.
+    pub fn step(&mut self, event: &Event, mut tell: impl FnMut(&Findings, u64)) {
+        let (happening, level) = (event.happening, event.interrupt);
+        let is_again = self
+            .last
+            .is_some_and(|last| last.happening == happening && last.level == level);
+        if is_again && self.last.is_some_and(|last| last.is_quiet) {
+            return;
+        }
+        let mut is_quiet = false;
+        if is_again || event.times != 1 {
+            is_quiet = self.repeat(event, &mut tell);
+        } else {
+            self.once(event, &mut tell);
+        }
+        self.last = Some(Last {
+            happening,
+            level,
+            is_quiet,
+        });
+    }
+
+    // Makes an entry once.
+    fn once(&mut self, event: &Event, tell: &mut impl FnMut(&Findings, u64)) {
+        let findings = self.auditor.step(event);
+        if findings.iter().any(Option::is_some) {
+            tell(&findings, 1);
+        }
+    }
+
+    // Makes an entry so many times, up to one that changes nothing: there the findings are those of
+    // all that are left. Returns whether there were none, and there would be none later.
+    fn repeat(&mut self, event: &Event, tell: &mut impl FnMut(&Findings, u64)) -> bool {
+        let mut left = event.times;
+        while left > 0 {
+            let before = self.auditor;
+            let findings = self.auditor.step(event);
+            let is_settled = self.auditor == before;
+            let is_silent = findings.iter().all(Option::is_none);
+            let count = if is_settled { left } else { 1 };
+            if !is_silent {
+                tell(&findings, count);
+            }
+            left -= count;
+            if is_settled {
+                // Time changes what is known only while bytes go out, or while the line is up.
+                let is_timeless = self.auditor.going_out == 0 && self.auditor.up.is_none();
+                return is_silent && is_timeless;
+            }
+        }
+        false
+    }
+
+    /// Returns the findings after the last entry.
+    pub fn end(&self) -> [Option<Finding>; 2] {
+        self.auditor.end()
+    }
+}
+
+// The judges of a recording.
+struct Judges {
+    judge: Judge,
+    audited: Audited,
+    replayer: Replayer,
+}
+
+impl Judges {
+    // Tells what the auditor finds that is for this judge. Returns whether that was something.
+    fn audit(&mut self, event: &Event, found: &mut Vec<Found>) -> bool {
+        let judge = self.judge;
+        let before = found.len();
+        self.audited.step(event, |findings, times| {
+            for &finding in findings.iter().flatten() {
+                let is_of_chip = finding.severity() == Severity::Answer;
+                if is_of_chip != (judge == Judge::Replay) {
+                    continue;
+                }
+                let kind = Kind::Finding(finding);
+                let line = kind.line().unwrap_or(event.line);
+                // Equal reads in turn have one finding, with how often.
+                match found.last_mut() {
+                    Some(last) if last.kind == kind && last.line == line => last.times += times,
+                    _ => found.push(Found { line, kind, times }),
+                }
+            }
+        });
+        found.len() > before
+    }
+
+    fn differences(&mut self, event: &Event, found: &mut Vec<Found>) {
+        match event.happening {
+            Happening::Access(Access::Read(offset, answer)) => {
+                let reported = self.replayer.reads(offset, answer, event.times);
+                let others = event.times.saturating_sub(1);
+                let stretches = if reported.first == reported.others {
+                    [(reported.first, event.times), (None, 0)]
+                } else {
+                    [
+                        (reported.first, event.times.min(1)),
+                        (reported.others, others),
+                    ]
+                };
+                for (difference, times) in stretches {
+                    if let (Some(difference), 1..) = (difference, times) {
+                        let kind = Kind::Difference(difference);
+                        let line = event.line;
+                        found.push(Found { line, kind, times });
+                    }
+                }
+            }
+            Happening::Access(Access::Write(offset, value)) => self.replayer.write(offset, value),
+            _ => {}
+        }
+    }
+
+    // Returns what is found at an entry. What the recording contradicts says more than that the
+    // chip never returns it, so that comes first, and alone.
+    fn step(&mut self, event: &Event, found: &mut Vec<Found>) {
+        let is_contradicted = self.audit(event, found);
+        if self.judge == Judge::Replay {
+            let before = found.len();
+            self.differences(event, found);
+            if is_contradicted {
+                found.truncate(before);
+            }
+        }
+    }
+}
+
+/// Judges a recording, and tells what is found as soon as it is found. Returns how many lines it
+/// has.
+///
+/// # Errors
+///
+/// Why the recording was not read to its end.
+pub fn judge_recording(
+    judge: Judge,
+    reader: impl Read,
+    mut tell: impl FnMut(&Found) -> io::Result<()>,
+) -> Result<u64, Stop> {
+    let mut recording = Recording::new(heap(), reader)?;
+    let mut judges = Judges {
+        judge,
+        audited: Audited::default(),
+        replayer: Replayer::new(Chip::Uart16550A, Start::InUse),
+    };
+    let mut found = Vec::new();
+    // More than are found at an entry.
+    found.try_reserve(64).map_err(|_| Stop::OutOfMemory)?;
+    while let Some(event) = recording.next_event()? {
+        judges.step(&event, &mut found);
+        for found in found.drain(..) {
+            tell(&found).map_err(Stop::Output)?;
+        }
+    }
+    if judge == Judge::Audit {
+        let line = recording.lines();
+        for finding in judges.audited.end().into_iter().flatten() {
+            let kind = Kind::Finding(finding);
+            tell(&Found {
+                line,
+                kind,
+                times: 1,
+            })
+            .map_err(Stop::Output)?;
+        }
+    }
+    Ok(recording.lines())
+}

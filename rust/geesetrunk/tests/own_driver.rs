@@ -1,0 +1,158 @@
+//! A run of our own driver over the software chip has no warning, whatever the schedule.
+
+use geesetrunk::heap;
+use geesetrunk::judging::Audited;
+use uart_judges::audit::{Finding, Severity};
+use uart_judges::recording::{Event, Happening};
+use uart_spec::access::Access;
+use uart_trace::{Listener, tell};
+
+// Gives the accesses of a run to the auditor, and keeps the faults.
+#[derive(Default)]
+struct Judged {
+    audited: Audited,
+    accesses: u64,
+    faults: Vec<(u64, Finding)>,
+}
+
+impl Listener for Judged {
+    fn begin(&mut self) {}
+
+    fn hear(&mut self, access: Access) {
+        self.accesses += 1;
+        let event = Event {
+            happening: Happening::Access(access),
+            times: 1,
+            line: self.accesses,
+            time: None,
+            interrupt: None,
+        };
+        let faults = &mut self.faults;
+        self.audited.step(&event, |findings, _| {
+            let faulty = findings.iter().flatten();
+            let faulty = faulty.filter(|finding| finding.severity() != Severity::Note);
+            faults.extend(faulty.map(|&finding| (event.line, finding)));
+        });
+    }
+
+    fn end(&mut self) {}
+}
+
+// A sequence of numbers that looks random, and is the same each time: the generator of Lehmer.
+struct Numbers(u64);
+
+impl Numbers {
+    fn below(&mut self, bound: u64) -> u64 {
+        self.0 = self.0 * 48271 % 2_147_483_647;
+        self.0 % bound
+    }
+
+    fn one_of(&mut self, texts: &[&str]) -> String {
+        texts[self.below(texts.len() as u64) as usize].into()
+    }
+}
+
+fn event(numbers: &mut Numbers) -> String {
+    match numbers.below(6) {
+        0 => format!("tick {}", numbers.below(300)),
+        1 => format!(
+            "arrive {:02x} {}",
+            numbers.below(128),
+            numbers.one_of(&["p", "f", "pf"])
+        ),
+        2 => format!("lines {:x}", numbers.below(16)),
+        3 => "access".into(),
+        _ => format!("arrive {:02x}", numbers.below(128)),
+    }
+}
+
+// A call of a session: what a program does between one init and the next. A byte has 7 bits, so
+// that each word length has room for it.
+fn call(numbers: &mut Numbers) -> String {
+    let byte = format!("{:02x}", numbers.below(128));
+    let bytes = byte.repeat(1 + numbers.below(20) as usize);
+    let count = numbers.below(20);
+    match numbers.below(12) {
+        0 => format!("send {bytes}"),
+        1 => format!("send-exact {bytes}"),
+        2 => format!("write {bytes}"),
+        3 => format!("try-send {byte}"),
+        4 => format!("text {bytes}"),
+        5 => format!("receive {count}"),
+        6 => format!("receive-exact {count}"),
+        7 => format!("read {count}"),
+        8 => "try-receive".into(),
+        9 => format!("enable {:02x}", numbers.below(16)),
+        10 => format!("disable {:02x}", numbers.below(16)),
+        _ => numbers.one_of(&[
+            "next",
+            "flush",
+            "lsr",
+            "msr",
+            "isr",
+            "ier",
+            "lcr",
+            "mcr",
+            "spr",
+            "dump",
+            "present",
+            "connected",
+            "dll-dlm",
+            "fifo",
+            "ready-send",
+            "ready-receive",
+            "read-ready",
+            "write-ready",
+            "next",
+        ]),
+    }
+}
+
+fn script(numbers: &mut Numbers) -> String {
+    let mut lines = vec![
+        format!(
+            "chip {} {} {}",
+            numbers.one_of(&["16550a", "16450"]),
+            1 + numbers.below(40),
+            1000 * numbers.below(2)
+        ),
+        format!("limit {}", 1 + numbers.below(300)),
+    ];
+    for _ in 0..numbers.below(40) {
+        lines.push(event(numbers));
+        if numbers.below(3) == 0 {
+            lines.push("next".into());
+        }
+    }
+    lines.push(format!(
+        "init {} {} {} {:02x} {}",
+        numbers.one_of(&["off", "1", "4", "8", "14"]),
+        numbers.one_of(&["9600", "115200", "300"]),
+        numbers.one_of(&["cts", "nocts"]),
+        numbers.below(16),
+        numbers.one_of(&["7", "8"])
+    ));
+    for _ in 0..numbers.below(40) {
+        lines.push(call(numbers));
+    }
+    if numbers.below(2) == 0 {
+        lines.extend(["flush".into(), "loopback".into(), "send 41".into()]);
+    }
+    lines.join("\n")
+}
+
+#[test]
+fn our_own_driver_has_no_warning() {
+    let runs = std::env::var("RUNS").map_or(2000, |runs| runs.parse().unwrap());
+    let mut accesses = 0;
+    for seed in 1..=runs {
+        let script = script(&mut Numbers(seed));
+        let judged = tell(heap(), script.as_bytes(), Judged::default());
+        let Ok(judged) = judged else {
+            panic!("{script}");
+        };
+        accesses += judged.accesses;
+        assert_eq!(judged.faults, [], "seed {seed}:\n{script}");
+    }
+    println!("{runs} runs, {accesses} accesses");
+}

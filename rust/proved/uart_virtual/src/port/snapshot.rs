@@ -1,0 +1,91 @@
+//! A port as plain data, and back.
+
+use super::{CHAR_TICKS, IDLE, UNTOLD, VirtualPort, decide};
+use crate::told::Todo;
+use bitflags::Flags;
+use uart_live::{ChipData, LiveChip, RestoreError, TransmitterData, WIRE_ROOM};
+use uart_spec::registers::MCR;
+
+// The ticks after which a reception timeout is due: four characters, each of one tick.
+const TIMEOUT_TICKS: u16 = 4;
+
+/// A port that was restored, and what its monitor has to do.
+pub struct Restored {
+    /// The port.
+    pub port: VirtualPort,
+    /// What the monitor has to do.
+    pub todo: Todo,
+}
+
+// Returns whether no character can move, with this output: the transmitter is empty, or holds bytes
+// only because the output is full.
+fn is_unmoved(saved: &TransmitterData, loopback: bool, output: &[u8]) -> bool {
+    match saved.shift_register {
+        None => saved.queue.as_slice().is_empty(),
+        Some(_) => !loopback && output.len() >= saved.wire_capacity,
+    }
+}
+
+// Returns whether nothing is left to happen to a chip with these data and this output.
+fn is_settled(saved: &ChipData, output: &[u8]) -> bool {
+    let loopback = saved.latches.mcr.intersects(MCR::LOOP_BACK);
+    saved.transmitter.char_ticks == CHAR_TICKS
+        && saved.transmitter.wire_capacity == WIRE_ROOM
+        && saved.receiver.timeout_ticks == TIMEOUT_TICKS
+        && is_unmoved(&saved.transmitter, loopback, output)
+}
+
+impl VirtualPort {
+    /// Returns the port as plain data. The bytes of its output are [`VirtualPort::output`].
+    ///
+    /// What the monitor was told is not part of the data: a monitor that restores a port is told
+    /// anew.
+    ///
+    /// # Examples
+    ///
+    /// ```
+    /// # include!(concat!(env!("CARGO_MANIFEST_DIR"), "/examples.rs"));
+    /// # fn main() {}
+    /// # fn example(port: &mut VirtualPort, host: &mut Host) -> Outcome<()> {
+    /// let saved = port.data();
+    /// let restored = VirtualPort::from_data(&saved, port.output())?;
+    /// obey_signals(host, restored.todo);
+    /// # Ok(()) }
+    /// ```
+    pub fn data(&self) -> ChipData {
+        self.chip.data()
+    }
+
+    /// Returns the port with these data, and with this output. Its guest goes on as with the port
+    /// that was saved.
+    ///
+    /// What has to be done is said beside it. If the line is up, that is a signal: the last one may
+    /// have been lost on the way. If there is room for input, that is told too.
+    ///
+    /// # Errors
+    ///
+    /// `BadData` if no port has these data: the chip is not sound, a character does not take one
+    /// tick, the output has not room for 64 bytes, or something is left to happen.
+    ///
+    /// # Examples
+    ///
+    /// ```
+    /// # include!(concat!(env!("CARGO_MANIFEST_DIR"), "/examples.rs"));
+    /// # fn main() {}
+    /// # fn example(port: &mut VirtualPort, host: &mut Host) -> Outcome<()> {
+    /// let saved = port.data();
+    /// let restored = VirtualPort::from_data(&saved, port.output())?;
+    /// obey_signals(host, restored.todo);
+    /// # Ok(()) }
+    /// ```
+    pub fn from_data(saved: &ChipData, output: &[u8]) -> Result<Restored, RestoreError> {
+        if !is_settled(saved, output) {
+            return Err(RestoreError::BadData);
+        }
+        let chip = LiveChip::from_data(saved, output)?;
+        let mut told = UNTOLD;
+        let todo = decide(&chip, true, &mut told, IDLE);
+        let port = VirtualPort { chip, told };
+        Ok(Restored { port, todo })
+    }
+}
