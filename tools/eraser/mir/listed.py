@@ -69,7 +69,7 @@ NOT_REACHED = {
 }
 
 # Functions that read outside of an empty slice, as their contract allows.
-NOT_EMPTY = ["receive_some", "write_burst", "send_some", "send_piece"]
+NOT_EMPTY = ["receive_some", "write_burst", "send_some", "send_piece", "copy_sendable"]
 
 # When a call breaks what a guard of the eraser is for, as Rust code over the arguments a0, a1, .. of the function: Rust has to panic then,
 # and at no other time. By the path that the eraser gives.
@@ -101,6 +101,7 @@ CONTRACTS = {
     "uart_live::live::LiveChip::send_at_once": "!a0.sends_at_once()",
     "uart_virtual::port::VirtualPort::read": "a1 >= 8",
     "uart_virtual::port::VirtualPort::write": "a1 >= 8",
+    "uart_virtual::port::read": "a1 >= 8",
     "uart_virtual::port::send": "!a0.sends_at_once()",
     "uart_virtual::port::write": "a1 >= 8",
     "uart_virtual::port::write_slowly": "a1 >= 8",
