@@ -28,6 +28,7 @@ DIFFER = {
     r"^uart_spec::errors::ConfigurationError(Debug|Display)::fmt": SHOWS_REGISTER,
     r"^uart_spec::setup::SetupDebug::fmt": SHOWS_REGISTER,
     r"::state::DriverStateDebug::fmt": SHOWS_REGISTER,
+    r"^uart_ring::ring::storm::StuckError(Debug|Display)::fmt": SHOWS_REGISTER,
     r"::config::ConfigDebug::fmt": SHOWS_REGISTER,
     r"::dump::ConfigRegisterDumpDebug::fmt": SHOWS_REGISTER,
 }
@@ -129,6 +130,26 @@ SEQUENCES = {
             "let made = {uart_live::live::LiveChip::from_data}(&raw mut data as *mut u8, wire); out.push((made.v0.f0 == 0) as u64);",
         ),
     ],
-    "uart_virtual::port::VirtualPort::new": [],
+    "uart_virtual::port::VirtualPort::new": [
+        # Data at random are those of no port.
+        (
+            "if let Ok(made) = VirtualPort::from_data(&state.data(), state.output()) "
+            "{ Value::show(&made.todo, &mut out); state = made.port; }",
+            "let mut data = {uart_virtual::port::VirtualPort::data}(&raw mut state as *mut u8); "
+            "let output = {uart_virtual::port::VirtualPort::output}(&raw mut state as *mut u8); "
+            "let made = {uart_virtual::port::VirtualPort::from_data}(&raw mut data as *mut u8, output); "
+            "if made.v0.f0 == 0 { Value::show(&{ made.v0.f1.f1 }, &mut out); state = made.v0.f1.f0; }",
+        ),
+        # and with an input that is no line
+        (
+            "let mut data = state.data(); "
+            "data.modem.inputs = MSR::from_bits_retain(data.modem.inputs.bits() | 1); "
+            "out.push(VirtualPort::from_data(&data, state.output()).is_ok() as u64);",
+            "let mut data = {uart_virtual::port::VirtualPort::data}(&raw mut state as *mut u8); data.f5.f0.f0 |= 1; "
+            "let output = {uart_virtual::port::VirtualPort::output}(&raw mut state as *mut u8); "
+            "let made = {uart_virtual::port::VirtualPort::from_data}(&raw mut data as *mut u8, output); "
+            "out.push((made.v0.f0 == 0) as u64);",
+        ),
+    ],
 }
 STEPS = 60
