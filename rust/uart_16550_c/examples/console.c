@@ -3,11 +3,14 @@
 /* The device: registers in memory, one byte apart, and its clock. */
 enum { BASE = 0x10000000, STRIDE = 1, FREQUENCY = 3686400, RING = 1024 };
 
+/* The interrupts that the console asks for. The rings ask for THR_EMPTY themselves, as long as bytes wait. */
+enum { INTERRUPTS = U16550_IER_DATA_READY | U16550_IER_RECEIVER_LINE_STATUS };
+
 /*
- * How many interrupts one run of the handler serves, and how many runs in a row may end with more to do and without a call of
- * the program. A sound chip moves a byte at each interrupt, and long before this both rings are full or empty.
+ * How many interrupts one run of the handler serves, and how many runs in a row may leave some unserved before the chip is stuck. These
+ * are 3,200 interrupts without a pause, a tenth of a second at a microsecond for an access.
  */
-enum { MOST_INTERRUPTS = 32, MOST_RUNS = 1024 };
+enum { MOST_INTERRUPTS = 32, MOST_RUNS = 100 };
 
 /* What the program has for this: the device's line at the interrupt controller, and the interrupts of the processor. */
 void mask_line(void);
@@ -29,8 +32,8 @@ static void store(void *context, uintptr_t address, uint8_t value)
 
 static struct u16550 console;
 static uint8_t rings[2 * RING];
-static volatile unsigned runs_in_a_row;
-static volatile uint8_t is_put_off, is_broken;
+static volatile uint8_t is_put_off;
+static volatile int why_broken;
 
 /* A panic is a defect of the library: there is nothing to go on with. */
 void u16550_panic(void)
@@ -52,7 +55,7 @@ int console_start(void)
         return status;
     config.frequency = FREQUENCY;
     config.baud_rate = 115200;
-    config.interrupts = U16550_IER_DATA_READY | U16550_IER_RECEIVER_LINE_STATUS;
+    config.interrupts = INTERRUPTS;
     status = u16550_init(&console, &config);
     if (status == U16550_OK)
         status = u16550_test_loopback(&console, NULL);
@@ -62,7 +65,8 @@ int console_start(void)
 /* From here on the interrupt handler moves the bytes. The line is masked until this has returned. */
 int console_use_interrupts(void)
 {
-    runs_in_a_row = is_put_off = is_broken = 0;
+    is_put_off = 0;
+    why_broken = U16550_OK;
     return u16550_ring_new(&console, rings, sizeof rings, RING, RING);
 }
 
@@ -70,19 +74,40 @@ int console_use_interrupts(void)
 void console_interrupt(void)
 {
     struct u16550_handled handled;
-    int status = u16550_ring_handle(&console, MOST_INTERRUPTS, &handled);
+    int status = u16550_ring_try_handle(&console, MOST_INTERRUPTS, MOST_RUNS, &handled);
 
     if (status == U16550_BUSY) {
         /* A call is not done. It never would be if the line stayed high and the handler came again at once. */
         mask_line();
         is_put_off = 1;
-    } else if (status == U16550_OK && handled.end == U16550_HANDLE_IDLE) {
-        runs_in_a_row = 0;
-    } else if (status != U16550_OK || ++runs_in_a_row == MOST_RUNS) {
-        /* Nobody can serve this: there are no rings, or the chip is broken. */
+    } else if (status != U16550_OK) {
+        /* Nobody can serve this: the chip is stuck, or there are no rings. A stuck chip's line may stay high although IER is 0. */
         mask_line();
-        is_broken = 1;
+        why_broken = status;
     }
+}
+
+/* Why the handler has given up, or U16550_OK if it has not. u16550_text has a text for it. */
+int console_broken(void)
+{
+    return why_broken;
+}
+
+/* Starts a console again whose handler has given up. What waits to be sent is sent. */
+int console_restart(void)
+{
+    int status;
+
+    interrupts_off();
+    status = u16550_ring_restart(&console, INTERRUPTS);
+    if (status == U16550_OK) {
+        why_broken = U16550_OK;
+        unmask_line();
+        /* A controller for edges may have missed one while the line was masked. */
+        u16550_ring_retrigger(&console);
+    }
+    interrupts_on();
+    return status;
 }
 
 /* Lets the interrupt in again that the handler has put off. To be called after each call that the handler may have come into. */
@@ -115,7 +140,6 @@ size_t console_write(const uint8_t *bytes, size_t len)
 
     interrupts_off();
     status = u16550_ring_queue(&console, bytes, len, &count);
-    runs_in_a_row = 0;
     interrupts_on();
     return status == U16550_OK ? count : 0;
 }
@@ -128,13 +152,6 @@ size_t console_read(uint8_t *slots, size_t len)
 
     interrupts_off();
     status = u16550_ring_take(&console, slots, len, &count);
-    runs_in_a_row = 0;
     interrupts_on();
     return status == U16550_OK ? count : 0;
-}
-
-/* Whether the handler has given up, because the interrupt had no end. */
-int console_is_broken(void)
-{
-    return is_broken;
 }

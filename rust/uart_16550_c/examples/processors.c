@@ -13,11 +13,18 @@ void halt(void);
 extern const struct u16550_io port_io;
 enum { PORT_BASE = 0x10000000, PORT_STRIDE = 1 };
 
-/* How many interrupts one run of the handler serves, and how many polls the last words wait for a byte: about a second. */
-enum { MOST_SERVED = 32, PATIENCE = 1000000 };
+/*
+ * How many interrupts one run of the handler serves, how many runs in a row may leave some unserved before the chip is stuck, and how many
+ * polls the last words wait for a byte: about a second.
+ */
+enum { MOST_SERVED = 32, MOST_RUNS = 100, PATIENCE = 1000000 };
 
-/* Set up with rings, as console above. */
+/* Set up with rings, as console above, and with these interrupts. */
 static struct u16550 port;
+enum { PORT_INTERRUPTS = U16550_IER_DATA_READY | U16550_IER_RECEIVER_LINE_STATUS | U16550_IER_MODEM_STATUS };
+
+/* How often the chip has dropped a received byte. */
+static unsigned overruns;
 
 /*
  * The interrupts go off first, and on last. Otherwise the handler could come when this processor has the lock, and would wait for it
@@ -59,21 +66,51 @@ size_t port_read(uint8_t *slots, size_t len)
     return status == U16550_OK ? count : 0;
 }
 
-/* The handler of the device's interrupt, on any processor. Returns whether the chip has become idle; console counts the others. */
+/* Counts what was lost, and sends what waits when CTS came back: the chip has already reported that it is empty. */
+static void look_at_lines(void)
+{
+    enum { CTS_CAME_BACK = U16550_MSR_DELTA_CTS | U16550_MSR_CTS };
+    uint8_t line, modem;
+
+    if (u16550_ring_take_line(&port, &line) == U16550_OK && (line & U16550_LSR_OVERRUN_ERROR))
+        overruns++;
+    if (u16550_ring_take_modem(&port, &modem) == U16550_OK && (modem & CTS_CAME_BACK) == CTS_CAME_BACK)
+        u16550_ring_resume_transmit(&port);
+}
+
+/*
+ * The handler of the device's interrupt, on any processor, at a controller that detects levels or edges. Returns U16550_OK, or why the
+ * chip is stuck: then its interrupts are off until port_restart.
+ */
 int port_interrupt(void)
 {
     struct u16550_handled handled;
     size_t received = 0;
+    uint8_t scratch;
     unsigned long were = enter_port();
-    int status = u16550_ring_handle(&port, MOST_SERVED, &handled);
+    int status = u16550_ring_try_handle(&port, MOST_SERVED, MOST_RUNS, &handled);
 
-    if (status == U16550_OK)
+    if (status == U16550_OK) {
+        look_at_lines();
         status = u16550_ring_receive_len(&port, &received);
+    }
+    /* This read is answered when all writes before it have arrived, so the controller then sees the line that they have made. */
+    u16550_spr(&port, &scratch);
     leave_port(were);
     /* Behind the lock: whoever is woken takes it. */
     if (received > 0)
         wake_readers();
-    return status == U16550_OK && handled.end == U16550_HANDLE_IDLE;
+    return status;
+}
+
+/* Starts a port again that is stuck. What waits to be sent is sent. */
+int port_restart(void)
+{
+    unsigned long were = enter_port();
+    int status = u16550_ring_restart(&port, PORT_INTERRUPTS);
+
+    leave_port(were);
+    return status;
 }
 
 /*

@@ -575,7 +575,7 @@ enum u16550_msr_bits {
 /* --------------------------------------------------------------- rings, for use with interrupts
  *
  * Rings keep bytes until the chip has room for them, and received bytes until they are taken. Initialise the driver with
- * DATA_READY and RECEIVER_LINE_STATUS enabled, and call u16550_ring_handle in the interrupt handler. No ring call waits. All
+ * DATA_READY and RECEIVER_LINE_STATUS enabled, and call u16550_ring_try_handle in the interrupt handler. No ring call waits. All
  * calls above work on a driver with rings; what they send and receive bypasses the rings.
  *
  * A handler that comes into the middle of another call gets U16550_BUSY, and comes again at once if the line stays high. So turn
@@ -652,8 +652,7 @@ int u16550_ring_resume_transmit(struct u16550 *uart);
  *
  * Call it once in an interrupt handler, whether the controller detects levels or edges: the line was low at some time during
  * the call, so what is pending afterwards makes a new edge. It does not wait, and ends on a chip that shows an interrupt for
- * ever. If its end is another than U16550_HANDLE_IDLE time after time, the chip is broken: mask the interrupt at the
- * controller, or it comes for ever.
+ * ever. But then the controller calls the handler for ever, unless somebody counts: u16550_ring_try_handle does.
  */
 int u16550_ring_handle(struct u16550 *uart, size_t limit, struct u16550_handled *handled);
 

@@ -1066,7 +1066,7 @@ static void handling(void)
     IS(handled.served, 0);
     IS(handled.end, U16550_HANDLE_UNKNOWN);
     IS(d.falls, 3);
-    d.shows = 0;
+    d.shows = SHOWS_WHAT_IS;
     OK(u16550_ring_retrigger(&uart));
     IS(d.falls, 4);
     IS(d.registers[IER], config.interrupts);
@@ -1171,7 +1171,7 @@ static void storms(void)
     IS(u16550_ring_try_handle(&uart, 4, 0, &handled), U16550_RING_STUCK_PENDING);
     OK(u16550_ring_stuck(&uart, &stuck));
     IS(stuck.isr, 0x0c);
-    d.shows = 0;
+    d.shows = SHOWS_WHAT_IS;
     OK(u16550_ring_restart(&uart, 0));
     OK(u16550_ring_stuck(&uart, &stuck));
     IS(stuck.is_stuck, 0);

@@ -11,7 +11,7 @@ enum {
     DATA = 0, IER = 1, ISR = 2, FCR = 2, LCR = 3, MCR = 4, LSR = 5, MSR = 6, SPR = 7,
     DLAB = 0x80, LOOP_BACK = 0x10, FIFOS_ENABLED = 0xc0, FIFO_ENABLE = 0x01,
     NO_INTERRUPT = 0x01, LINE_STATUS = 0x06, RECEIVED_DATA = 0x04, THR_IS_EMPTY = 0x02, MODEM = 0x00,
-    CHANGES = 0x0f, ROOM = 256
+    CHANGES = 0x0f, ROOM = 256, SHOWS_WHAT_IS = 0x80
 };
 
 struct device {
@@ -28,7 +28,7 @@ struct device {
     uint8_t fifo_on, thr_pending;
     /* what is wrong with it */
     uint8_t is_absent, is_stuck, is_silent;
-    uint8_t shows;               /* that ISR shows, if not 0 */
+    uint8_t shows;               /* what ISR shows: SHOWS_WHAT_IS, or always this, whatever is pending */
     unsigned room;               /* how many more bytes it sends; it is then full */
     uint8_t flips;               /* that a byte in loopback comes back with */
     unsigned flips_after;        /* so many bytes */
@@ -40,7 +40,7 @@ struct device {
 static inline uint8_t device_interrupt(const struct device *d)
 {
     uint8_t ier = d->registers[IER];
-    if (d->shows)
+    if (d->shows != SHOWS_WHAT_IS)
         return d->shows;
     if ((ier & U16550_IER_RECEIVER_LINE_STATUS) && d->errors)
         return LINE_STATUS;
@@ -180,6 +180,7 @@ static inline struct device device_new(void)
     memset(&d, 0, sizeof d);
     d.stride = 1;
     d.room = ROOM;
+    d.shows = SHOWS_WHAT_IS;
     d.registers[MSR] = U16550_MSR_CTS | U16550_MSR_DSR;
     return d;
 }

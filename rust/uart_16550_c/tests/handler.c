@@ -46,6 +46,8 @@ enum controller { LEVELS, EDGES, EDGES_UNLESS_MASKED, CONTROLLERS };
 enum {
     FIFO = 16,
     NAMELESS = 0x08, /* no interrupt has this code */
+    TIMEOUT = 0x0c,
+    GONE = 0xff,
     STORM = 100000, /* runs of the handler in a row are without end */
     STEPS = 1000000 /* in which a test has to come to its end */
 };
@@ -210,15 +212,31 @@ static void texts(enum controller controller)
     }
 }
 
-/* The chip shows this interrupt for ever. */
-static void broken(enum controller controller, uint8_t shows)
+/* The chip shows this interrupt for ever. It is given up, and goes on once the chip is mended. */
+static void broken(enum controller controller, uint8_t shows, int why)
 {
+    struct u16550_stuck stuck;
+    static const char waiting[] = "waits";
     start(controller, 1);
     d.shows = shows;
     moment(&d);
     IS(machine.is_storm, 0);
     IS(machine.is_masked, 1);
-    IS(console_is_broken(), 1);
+    IS(console_broken(), why);
+    IS(d.registers[IER], 0);
+    OK(u16550_ring_stuck(&console, &stuck));
+    IS(stuck.is_stuck, 1);
+    IS(stuck.isr, shows);
+    IS(console_write((const uint8_t *)waiting, sizeof waiting), sizeof waiting);
+    IS(d.sent_len, 0);
+    d.shows = SHOWS_WHAT_IS;
+    OK(console_restart());
+    OK(console_broken());
+    IS(machine.is_masked, 0);
+    IS(d.sent_len, sizeof waiting);
+    machine.to_type = 100;
+    receive(100);
+    OK(console_broken());
 }
 
 /* Runs the handler while the line is masked, so often as may be in a row, but for one. */
@@ -229,29 +247,35 @@ static void run_almost_too_often(void)
         console_interrupt();
 }
 
-/* The chip shows an interrupt without a name for some time, and the handler does not give up while the program goes on. */
+/* The chip shows an interrupt without a name for some time, and the handler does not give up. */
 static void recovered(enum controller controller)
 {
-    uint8_t slot;
+    unsigned turn;
     start(controller, 1);
     mask_line();
-    d.shows = NAMELESS;
-    run_almost_too_often();
-    d.shows = 0;
-    console_interrupt();
-    d.shows = NAMELESS;
-    run_almost_too_often();
-    IS(console_read(&slot, 1), 0);
-    run_almost_too_often();
-    IS(console_write(NULL, 0), 0);
-    run_almost_too_often();
-    IS(console_is_broken(), 0);
-    d.shows = 0;
+    for (turn = 0; turn < 3; turn++) {
+        d.shows = NAMELESS;
+        run_almost_too_often();
+        d.shows = SHOWS_WHAT_IS;
+        console_interrupt();
+    }
+    OK(console_broken());
     unmask_line();
-    console_interrupt();
     machine.to_type = 100;
     receive(100);
-    IS(console_is_broken(), 0);
+    OK(console_broken());
+}
+
+/* Every register of a device that is gone reads as 0xff, and in ISR that is no interrupt. */
+static void gone(void)
+{
+    unsigned i;
+    start(LEVELS, 1);
+    mask_line();
+    d.shows = GONE;
+    for (i = 0; i < 2 * MOST_RUNS; i++)
+        console_interrupt();
+    OK(console_broken());
 }
 
 /* An interrupt before there are rings. */
@@ -264,20 +288,24 @@ static void early(enum controller controller)
         moment(&d);
     IS(machine.is_storm, 0);
     IS(machine.is_masked, 1);
-    IS(console_is_broken(), 1);
+    IS(console_broken(), U16550_NO_RINGS);
 }
 
 int main(void)
 {
+    static const uint8_t served[] = { THR_IS_EMPTY, RECEIVED_DATA, TIMEOUT, LINE_STATUS, MODEM };
     enum controller controller;
+    size_t i;
     for (controller = LEVELS; controller < CONTROLLERS; controller++) {
         echo(controller);
         texts(controller);
-        broken(controller, NAMELESS);
-        broken(controller, RECEIVED_DATA);
+        broken(controller, NAMELESS, U16550_RING_STUCK_UNKNOWN);
+        for (i = 0; i < sizeof served; i++)
+            broken(controller, served[i], U16550_RING_STUCK_PENDING);
         recovered(controller);
         early(controller);
     }
+    gone();
     printf("%d compared, %d failed\n", compared, failed);
     return failed != 0;
 }

@@ -126,7 +126,7 @@ static void threads_and_handler(void)
     IS(port_write((const uint8_t *)"hello", 5), 5);
     IS(port_read(slots, sizeof slots), 0);
     device_arrive(&d, "typed");
-    IS(port_interrupt(), 1);
+    OK(port_interrupt());
     IS(woken, 1);
     are_off = 1; /* as in a handler that is called with interrupts off */
     IS(port_read(slots, sizeof slots), 5);
@@ -134,6 +134,43 @@ static void threads_and_handler(void)
     IS(memcmp(slots, "typed", 5), 0);
     d.meanwhile = NULL;
     IS(memcmp(d.sent, "hello", 5), 0);
+}
+
+/* A write waits for CTS, and goes out when the handler sees it come back. An overrun is counted. */
+static void lines(void)
+{
+    start();
+    config.check_cts_before_sending = 1;
+    config.interrupts = PORT_INTERRUPTS;
+    OK(u16550_init(&port, &config));
+    d.registers[MSR] = U16550_MSR_DSR;
+    IS(port_write((const uint8_t *)"hello", 5), 5);
+    IS(d.sent_len, 0);
+    d.registers[MSR] = U16550_MSR_DSR | U16550_MSR_CTS | U16550_MSR_DELTA_CTS;
+    d.errors = U16550_LSR_OVERRUN_ERROR;
+    OK(port_interrupt());
+    IS(d.sent_len, 5);
+    IS(overruns, 1);
+}
+
+/* The chip shows an interrupt for ever, until it is mended. */
+static void stuck(uint8_t shows, int why)
+{
+    unsigned run;
+    start();
+    d.shows = shows;
+    for (run = 1; run < MOST_RUNS; run++)
+        OK(port_interrupt());
+    IS(port_interrupt(), why);
+    IS(d.registers[IER], 0);
+    IS(port_write((const uint8_t *)"waits", 5), 5);
+    IS(port_interrupt(), why);
+    IS(d.registers[IER], 0);
+    IS(d.sent_len, 0);
+    d.shows = SHOWS_WHAT_IS;
+    OK(port_restart());
+    IS(d.sent_len, 5);
+    OK(port_interrupt());
 }
 
 static void panic_in_a_call(const struct u16550_config *frame)
@@ -157,6 +194,9 @@ static void panic_in_a_call(const struct u16550_config *frame)
 int main(void)
 {
     threads_and_handler();
+    lines();
+    stuck(0x08, U16550_RING_STUCK_UNKNOWN);
+    stuck(RECEIVED_DATA, U16550_RING_STUCK_PENDING);
     panic_in_a_call(NULL);
     panic_in_a_call(&config);
     printf("%d compared, %d failed\n", compared, failed);

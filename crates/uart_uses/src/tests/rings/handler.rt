@@ -11,8 +11,8 @@ use thiserror::Error;
 use uart_16550::backend::Backend;
 use uart_16550::{Config, InitError, Uart16550};
 use uart_calls::replay::Replay;
-use uart_ring::{HandleEnd, MAX_INTERRUPTS, RingError, Uart16550Ring};
-use uart_spec::registers::{IER, LSR, MSR, offsets};
+use uart_ring::{HandleEnd, Handled, MAX_INTERRUPTS, RingError, StuckError, Uart16550Ring};
+use uart_spec::registers::{IER, ISR, InterruptType, LSR, MSR, offsets};
 
 /// Why a port was not started.
 #[derive(Debug, Drop, Error)]
@@ -25,7 +25,8 @@ pub enum StartError {
     NoDevice(InitError),
 }
 
-/// A chip is broken if this many rounds of the handler in a row did not end with `Idle`.
+/// A chip is stuck if this many rounds of the handler in a row did not end with `Idle`, and it
+/// still shows an interrupt.
 ///
 /// One that works leaves a round unfinished only if interrupts come as fast as they are served, and
 /// these rounds are 3,200 interrupts without a pause. At a microsecond for an access they take a
@@ -38,8 +39,6 @@ pub struct Port<B> {
     ring: Uart16550Ring<B>,
     overruns: u32,
     bad_characters: u32,
-    // Rounds in a row, up to the last one, that did not end with `Idle`.
-    unfinished_rounds: u32,
 }
 
 // Returns a configuration without THR_EMPTY: the rings enable it as long as bytes wait to be sent.
@@ -70,45 +69,27 @@ impl<B: Backend + Drop> Port<B> {
                 ring,
                 overruns: 0,
                 bad_characters: 0,
-                unfinished_rounds: 0,
             }),
             Err(cause) => Err(StartError::NoDevice(cause)),
         }
     }
 
-    /// Handles an interrupt. Does not wait.
-    pub fn on_interrupt(&mut self) {
-        if self.is_stuck() {
-            // A `read` has enabled DATA_READY again. Or another device on the line interrupted.
-            self.disable_interrupts();
-            return;
-        }
-        let handled = self.ring.handle(4 * MAX_INTERRUPTS);
+    /// Handles an interrupt, once each time the controller calls for it. Does not wait.
+    ///
+    /// Returns what was handled, or why the chip is stuck: then its interrupts are off until a
+    /// `restart` or a `configure`.
+    pub fn on_interrupt(&mut self) -> Result<Handled, StuckError> {
+        let handled = self
+            .ring
+            .try_handle(4 * MAX_INTERRUPTS, MAX_UNFINISHED_ROUNDS)?;
         self.look_at_line();
         self.look_at_modem();
-        self.count_round(handled.end);
+        Ok(handled)
     }
 
-    // Disables the chip's interrupts if too many rounds in a row did not end with `Idle`.
-    fn count_round(&mut self, end: HandleEnd) {
-        self.unfinished_rounds = match end {
-            HandleEnd::Idle => 0,
-            HandleEnd::Unknown | HandleEnd::Limit => self.unfinished_rounds.saturating_add(1),
-        };
-        if self.is_stuck() {
-            self.disable_interrupts();
-        }
-    }
-
-    // Disables all interrupts of the chip.
-    fn disable_interrupts(&mut self) {
-        self.ring.inner_mut().disable_interrupts(IER::all());
-    }
-
-    /// Returns whether the chip is broken: it showed interrupts without end, so they are disabled.
-    /// A `configure` starts the port again.
-    pub fn is_stuck(&self) -> bool {
-        self.unfinished_rounds >= MAX_UNFINISHED_ROUNDS
+    /// Returns why the chip is stuck, or `None` if it is not.
+    pub fn stuck(&self) -> Option<StuckError> {
+        self.ring.stuck()
     }
 
     // Counts what was lost or arrived broken.
@@ -130,25 +111,25 @@ impl<B: Backend + Drop> Port<B> {
         }
     }
 
+    /// Starts a port again that is stuck. The interrupt is to be masked meanwhile.
+    pub fn restart(&mut self) {
+        self.ring.restart(config().interrupts);
+    }
+
     /// Changes the configuration while bytes may wait, and starts a port again that is stuck. The
     /// interrupt is to be masked meanwhile.
     pub fn configure(&mut self, config: Config) -> Result<(), InitError>
         requires { IsComputable config }
     {
         self.ring.inner_mut().init(config)?;
-        self.unfinished_rounds = 0;
-        // `init` has disabled THR_EMPTY.
-        self.ring.resume_transmit();
+        // `init` has enabled the interrupts of the configuration, and disabled THR_EMPTY.
+        self.ring.restart(IER::empty());
         Ok(())
     }
 
-    /// Sends bytes from the front, and returns how many were accepted: none if the port is stuck.
-    /// The interrupt is to be masked meanwhile.
+    /// Sends bytes from the front, and returns how many were accepted. Of a port that is stuck they
+    /// wait until it is started again. The interrupt is to be masked meanwhile.
     pub fn write(&mut self, bytes: &[u8]) -> usize {
-        if self.is_stuck() {
-            // Nothing would send the rest, and `queue` would enable THR_EMPTY.
-            return 0;
-        }
         self.ring.queue(bytes)
     }
 
@@ -192,6 +173,14 @@ const HELD: [Step; 4] = [
     Changed(offsets::IER, 0x0d, 0x0f),
 ];
 
+// Returns what a call has handled that served so many interrupts, and then none was pending.
+fn idle_after(served: usize) -> Result<Handled, StuckError> {
+    Ok(Handled {
+        served,
+        end: HandleEnd::Idle,
+    })
+}
+
 fn in_turn(rt: &impl AllocGlobal, parts: &[&[Step]]) -> Result<Vec<Step>, Fail> {
     let mut steps = Vec::new(rt.alloc());
     for part in parts {
@@ -231,9 +220,9 @@ fn a_port_that_is_served_by_interrupts(rt: HostRuntime) -> Result<(), Fail> {
     let mut port = Port::start(rt.alloc(), Replay::new(&answers))?;
     assert_eq!(rt; port.write(b"hello"), 5);
     assert_eq!(rt; port.ring.transmit_len(), 5);
-    port.on_interrupt();
+    assert_eq!(rt; port.on_interrupt(), idle_after(1));
     assert_eq!(rt; port.ring.transmit_len(), 0);
-    port.on_interrupt();
+    assert_eq!(rt; port.on_interrupt(), idle_after(2));
     let mut slots = [0; 4];
     assert_eq!(rt; port.read(&mut slots), 2);
     assert_eq!(rt; slots, *b"ok\0\0");
@@ -245,7 +234,11 @@ fn a_port_that_is_served_by_interrupts(rt: HostRuntime) -> Result<(), Fail> {
 #[test]
 fn a_port_that_is_configured_again(rt: HostRuntime) -> Result<(), Fail> {
     // Without CTS checking the bytes are sent after the `init`.
-    let sent = [Burst(b"hello"), Changed(offsets::IER, 0x0d, 0x0d)];
+    let sent = [
+        Changed(offsets::IER, 0x0d, 0x0d),
+        Burst(b"hello"),
+        Changed(offsets::IER, 0x0d, 0x0d),
+    ];
     let steps = in_turn(&rt, &[&INIT, &HELD, &INIT, &sent])?;
     let answers = answers_in(&rt, &steps)?;
     let mut port = Port::start(rt.alloc(), Replay::new(&answers))?;
@@ -259,8 +252,8 @@ fn a_port_that_is_configured_again(rt: HostRuntime) -> Result<(), Fail> {
     Ok(())
 }
 
-// A chip that always shows the same ISR, and an empty transmitter. Its other registers return what
-// was written to them.
+// A chip that always shows the same ISR, an empty transmitter, and a remote that is clear to send.
+// Its other registers return what was written to them.
 #[derive(Drop)]
 struct StuckChip {
     isr: u8,
@@ -268,9 +261,9 @@ struct StuckChip {
 }
 
 impl StuckChip {
-    fn new() -> Self {
+    fn new(isr: u8) -> Self {
         StuckChip {
-            isr: UNKNOWN,
+            isr,
             registers: [0; 8],
         }
     }
@@ -288,6 +281,7 @@ impl Backend for StuckChip {
         match register_offset as usize {
             offsets::ISR => self.isr,
             offsets::LSR => EMPTY,
+            offsets::MSR => MSR::CTS.bits(),
             offset => self.registers.get(offset).copied().unwrap_or(0),
         }
     }
@@ -299,38 +293,87 @@ impl Backend for StuckChip {
     }
 }
 
+// Returns what the ISR of a broken chip always shows, and why it is then stuck.
+fn storms() -> [(u8, StuckError); 6] {
+    let unknown = StuckError::Unknown(ISR::from_bits_retain(UNKNOWN));
+    let empty = InterruptType::TransmitterHoldingRegisterEmpty;
+    [
+        (UNKNOWN, unknown),
+        (0xc2, StuckError::Pending(empty)),
+        (
+            DATA_READY,
+            StuckError::Pending(InterruptType::ReceivedDataReady),
+        ),
+        (0xcc, StuckError::Pending(InterruptType::ReceptionTimeout)),
+        (
+            LINE_STATUS,
+            StuckError::Pending(InterruptType::ReceiverLineStatus),
+        ),
+        (
+            MODEM_STATUS,
+            StuckError::Pending(InterruptType::ModemStatus),
+        ),
+    ]
+}
+
 #[test]
-fn a_broken_chip_ends_without_interrupts(rt: HostRuntime) -> Result<(), Fail> {
-    let mut port = Port::start(rt.alloc(), StuckChip::new())?;
-    for _round in 0..MAX_UNFINISHED_ROUNDS {
-        assert!(rt; !port.is_stuck());
+fn a_storm_of_each_kind_ends(rt: HostRuntime) -> Result<(), Fail> {
+    for (isr, cause) in storms() {
+        let mut port = Port::start(rt.alloc(), StuckChip::new(isr))?;
+        for _round in 1..MAX_UNFINISHED_ROUNDS {
+            assert!(rt; port.on_interrupt().is_ok());
+            assert!(rt; port.ring.inner().backend().is_line_high());
+        }
+        assert_eq!(rt; port.on_interrupt(), Err(cause));
+        assert_eq!(rt; port.stuck(), Some(cause));
+        assert!(rt; !port.ring.inner().backend().is_line_high());
+        // It stays so, whatever is written, and if another device interrupts.
+        assert_eq!(rt; port.write(b"hello"), 5);
+        assert_eq!(rt; port.on_interrupt(), Err(cause));
+        assert!(rt; !port.ring.inner().backend().is_line_high());
+        port.restart();
+        assert_eq!(rt; port.stuck(), None);
         assert!(rt; port.ring.inner().backend().is_line_high());
-        port.on_interrupt();
+        assert_eq!(rt; port.ring.transmit_len(), 0);
     }
-    assert!(rt; port.is_stuck());
-    assert!(rt; !port.ring.inner().backend().is_line_high());
-    // It stays so, whatever is written, and if another device interrupts.
-    assert_eq!(rt; port.write(b"hello"), 0);
-    port.on_interrupt();
-    assert!(rt; port.is_stuck());
-    assert!(rt; !port.ring.inner().backend().is_line_high());
+    Ok(())
+}
+
+#[test]
+fn a_chip_that_is_configured_again_is_not_stuck(rt: HostRuntime) -> Result<(), Fail> {
+    let mut port = Port::start(rt.alloc(), StuckChip::new(UNKNOWN))?;
+    for _round in 0..MAX_UNFINISHED_ROUNDS {
+        let _handled = port.on_interrupt();
+    }
+    assert!(rt; port.stuck().is_some());
     port.configure(config())?;
-    assert!(rt; !port.is_stuck());
+    assert_eq!(rt; port.stuck(), None);
     assert!(rt; port.ring.inner().backend().is_line_high());
     Ok(())
 }
 
 #[test]
 fn an_idle_round_starts_the_count_again(rt: HostRuntime) -> Result<(), Fail> {
-    let mut port = Port::start(rt.alloc(), StuckChip::new())?;
+    let mut port = Port::start(rt.alloc(), StuckChip::new(UNKNOWN))?;
     for isr in [UNKNOWN, NONE, UNKNOWN] {
         port.ring.inner_mut().backend_mut().isr = isr;
         for _round in 1..MAX_UNFINISHED_ROUNDS {
-            port.on_interrupt();
+            let _handled = port.on_interrupt();
         }
-        assert!(rt; !port.is_stuck());
+        assert_eq!(rt; port.stuck(), None);
     }
-    port.on_interrupt();
-    assert!(rt; port.is_stuck());
+    assert!(rt; port.on_interrupt().is_err());
+    Ok(())
+}
+
+// Every register of a device that is gone reads so, and in ISR that is no interrupt.
+const GONE: u8 = 0xff;
+
+#[test]
+fn a_chip_that_is_gone_has_no_interrupt(rt: HostRuntime) -> Result<(), Fail> {
+    let mut port = Port::start(rt.alloc(), StuckChip::new(GONE))?;
+    for _round in 0..2 * MAX_UNFINISHED_ROUNDS {
+        assert_eq!(rt; port.on_interrupt(), idle_after(0));
+    }
     Ok(())
 }
