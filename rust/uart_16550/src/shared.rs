@@ -19,7 +19,7 @@ pub use blocking::{Blocking, Unfinished, Wait};
 
 use crate::native::Uart16550;
 use crate::native::backend::Backend;
-use crate::ring::{Global, RingError, Uart16550Ring};
+use crate::ring::{Global, RingError, StuckError, Uart16550Ring};
 use asynchronous::{Side, Waiter};
 use core::fmt;
 use exclusive::Exclusive;
@@ -94,15 +94,18 @@ pub enum SharedError {
     InUse,
     /// The kernel's function said not to go on waiting, or the chip was not empty after as many looks as the driver's spin limit.
     GaveUp,
+    /// What is awaited does not come, since the chip is stuck. A [`restart`](Uart16550Ring::restart) starts it again.
+    Stuck(StuckError),
 }
 
 impl fmt::Display for SharedError {
     fn fmt(&self, f: &mut fmt::Formatter<'_>) -> fmt::Result {
-        f.write_str(match self {
-            Self::NoRings => "there are no rings",
-            Self::InUse => "the rings are in use by a call that is not done",
-            Self::GaveUp => "waiting was given up",
-        })
+        match self {
+            Self::NoRings => f.write_str("there are no rings"),
+            Self::InUse => f.write_str("the rings are in use by a call that is not done"),
+            Self::GaveUp => f.write_str("waiting was given up"),
+            Self::Stuck(cause) => cause.fmt(f),
+        }
     }
 }
 
@@ -198,6 +201,11 @@ impl<B: Backend> Rings<B> {
             Awaited::TransmitRoom => self.ring.transmit_len() < self.transmit_capacity,
             Awaited::EmptyTransmitRing => self.ring.transmit_len() == 0,
         }
+    }
+
+    // Whether to wait for this no longer: it is there, or does not come.
+    fn ends_wait(&self, awaited: Awaited) -> bool {
+        self.has(awaited) || self.ring.stuck().is_some()
     }
 }
 
@@ -324,11 +332,24 @@ impl<S: CriticalSection, B: Backend> Shared<S, B> {
         })
     }
 
-    // Whether this is there, so that a call would not wait for it. It would not if it is refused, either.
-    fn has(&self, awaited: Awaited) -> bool {
-        let looked =
-            self.in_section(|port| Ok(port.rings.as_ref().is_none_or(|rings| rings.has(awaited))));
+    // Whether a call would not wait for this. It would not if it is refused, either.
+    fn ends_wait(&self, awaited: Awaited) -> bool {
+        let looked = self.in_section(|port| {
+            let rings = port.rings.as_ref();
+            Ok(rings.is_none_or(|rings| rings.ends_wait(awaited)))
+        });
         looked.unwrap_or(true)
+    }
+
+    // Looks for what is awaited. It is an error if that is not there and does not come.
+    fn look<R>(
+        &self,
+        look: impl FnOnce(&mut Uart16550Ring<B>) -> Option<R>,
+    ) -> Result<Option<R>, SharedError> {
+        self.with(|ring| match (look(ring), ring.stuck()) {
+            (None, Some(cause)) => Err(SharedError::Stuck(cause)),
+            (found, _) => Ok(found),
+        })?
     }
 
     // Whether the transmit ring and the chip are empty.

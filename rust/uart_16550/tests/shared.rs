@@ -14,13 +14,14 @@ use std::thread;
 use std::time::{Duration, Instant};
 use uart_16550::native::embedded_io::{Read, ReadReady, Write, WriteReady};
 use uart_16550::native::{Config, Uart16550};
-use uart_16550::ring::{MAX_INTERRUPTS, Memory, RingError};
+use uart_16550::ring::{MAX_INTERRUPTS, Memory, RingError, StuckError};
 use uart_16550::shared::{
     Blocking, CriticalSection, Shared, SharedError, StartError, Unfinished, Wait,
 };
-use uart_16550::spec::registers::IER;
+use uart_16550::spec::registers::{IER, ISR};
 
 const CAPACITY: usize = 32;
+const MAX_UNFINISHED_ROUNDS: u32 = 100;
 
 fn memory() -> Memory {
     Memory::new(vec![0; 2 * CAPACITY].leak())
@@ -43,8 +44,22 @@ fn start<S: CriticalSection>(port: &Shared<S, Cable>, cable: &Cable) {
 /// The handler, if the chip's line is high.
 fn handle<S: CriticalSection>(port: &Shared<S, Cable>, cable: &Cable) {
     if cable.chip().is_interrupting() {
-        port.with(|ring| ring.handle(MAX_INTERRUPTS)).unwrap();
+        let _handled = port
+            .with(|ring| ring.try_handle(MAX_INTERRUPTS, MAX_UNFINISHED_ROUNDS))
+            .unwrap();
     }
+}
+
+/// The chip shows an interrupt without a name until it is given up. Returns what waits then get.
+fn make_stuck<S: CriticalSection>(port: &Shared<S, Cable>, cable: &Cable) -> SharedError {
+    const UNKNOWN: u8 = 0xc8;
+    cable.chip().shown = Some(UNKNOWN);
+    for _round in 0..MAX_UNFINISHED_ROUNDS {
+        handle(port, cable);
+    }
+    assert!(!cable.chip().is_interrupting());
+    cable.chip().shown = None;
+    SharedError::Stuck(StuckError::Unknown(ISR::from_bits_retain(UNKNOWN)))
 }
 
 /// A section that keeps nobody out, since nobody else is there.
@@ -269,6 +284,32 @@ fn a_wait_that_is_given_up_loses_nothing() {
     );
     assert_eq!(unfinished.to_string(), "waiting was given up after 3 bytes");
     assert_eq!(port.blocking(Turns(3)).read(&mut []), Ok(0));
+}
+
+#[test]
+fn a_thread_is_told_that_the_chip_is_stuck() {
+    let (port, cable) = (Shared::new(Alone), Cable::default());
+    start(&port, &cable);
+    cable.chip().received.push_back(b'a');
+    handle(&port, &cable);
+    let cause = make_stuck(&port, &cable);
+    let mut blocking = waiting(&port, &cable);
+    let mut slots = [0; 2];
+    // What is there, and what there is room for, is no wait.
+    let unfinished = Unfinished { done: 1, cause };
+    assert_eq!(blocking.receive_bytes_exact(&mut slots), Err(unfinished));
+    let done = CAPACITY;
+    let unfinished = Unfinished { done, cause };
+    assert_eq!(blocking.send_bytes_exact(&[b'x'; 100]), Err(unfinished));
+    assert_eq!(blocking.write_ready(), Ok(false));
+    assert_eq!(blocking.flush(), Err(cause));
+    assert_eq!(port.with(|ring| ring.restart(IER::DATA_READY)), Ok(()));
+    cable.chip().received.push_back(b'b');
+    assert_eq!(blocking.read(&mut slots), Ok(1));
+    assert_eq!(blocking.send_bytes_exact(&[b'x'; 68]), Ok(()));
+    assert_eq!(blocking.flush(), Err(SharedError::GaveUp));
+    cable.chip().send_all();
+    assert_eq!(cable.chip().wire, [b'x'; 100]);
 }
 
 #[test]
@@ -556,6 +597,27 @@ fn a_task_that_waits_when_the_rings_go_is_told() {
         read.poll(&mut context),
         Poll::Ready(Err(SharedError::NoRings))
     );
+}
+
+#[test]
+fn a_task_is_told_that_the_chip_is_stuck() {
+    let world = World::new(Vec::new());
+    let waker = Waker::from(world.clone());
+    let mut context = Context::from_waker(&waker);
+    let mut slots = [0];
+    let mut read = pin!(world.port().read(&mut slots));
+    assert!(read.as_mut().poll(&mut context).is_pending());
+    let cause = make_stuck(world.port(), &world.cable);
+    assert!(world.is_woken.load(Ordering::SeqCst));
+    assert_eq!(read.poll(&mut context), Poll::Ready(Err(cause)));
+    // There is room for some.
+    let written = block_on(&world, world.port().write(&[b'x'; 100]));
+    assert_eq!(written, Ok(CAPACITY));
+    assert_eq!(block_on(&world, world.port().write(b"x")), Err(cause));
+    assert_eq!(block_on(&world, world.port().flush()), Err(cause));
+    let restarted = world.port().with(|ring| ring.restart(IER::DATA_READY));
+    assert_eq!(restarted, Ok(()));
+    assert_eq!(block_on(&world, world.port().write(b"x")), Ok(1));
 }
 
 /// A waker that counts.

@@ -40,11 +40,11 @@ impl Waiter {
 }
 
 impl<B: Backend> Port<B> {
-    // Takes the waiters whose turn it is: what they wait for is there, or never comes, since there are no rings.
+    // Takes the waiters whose turn it is: what they wait for is there, or does not come, since the chip is stuck or there are no rings.
     pub(super) fn due(&mut self) -> [Option<Waiter>; Side::COUNT] {
         let rings = self.rings.as_ref();
         self.waiters.each_mut().map(|waiter| {
-            waiter.take_if(|waiter| rings.is_none_or(|rings| rings.has(waiter.awaited)))
+            waiter.take_if(|waiter| rings.is_none_or(|rings| rings.ends_wait(waiter.awaited)))
         })
     }
 }
@@ -59,6 +59,7 @@ impl<S: CriticalSection, B: Backend> Shared<S, B> {
     ///
     /// # Errors
     ///
+    /// - `Stuck` if the chip is stuck, and so does not come to it.
     /// - `NoRings` if there are none, or none any more.
     /// - `InUse` if the future is polled in the middle of a call.
     ///
@@ -97,6 +98,7 @@ impl<S: CriticalSection, B: Backend> Shared<S, B> {
     ///
     /// # Errors
     ///
+    /// - `Stuck` if the chip is stuck, and so does not come to it.
     /// - `NoRings` if there are none, or none any more.
     /// - `InUse` if the future is polled in the middle of a call.
     ///
@@ -125,6 +127,7 @@ impl<S: CriticalSection, B: Backend> Shared<S, B> {
     /// # Errors
     ///
     /// - `GaveUp` after that many looks at the chip.
+    /// - `Stuck` if the chip is stuck, and so does not come to it.
     /// - `NoRings` if there are none, or none any more.
     /// - `InUse` if the future is polled in the middle of a call.
     ///
@@ -198,7 +201,7 @@ impl<S: CriticalSection, B: Backend> Shared<S, B> {
         awaited: Awaited,
         look: impl FnOnce(&mut Uart16550Ring<B>) -> Option<R>,
     ) -> Poll<Result<R, SharedError>> {
-        match self.with(look) {
+        match self.look(look) {
             Ok(None) => {}
             Ok(Some(found)) => return Poll::Ready(Ok(found)),
             Err(error) => return Poll::Ready(Err(error)),

@@ -91,6 +91,7 @@ impl core::error::Error for Unfinished {}
 /// # Errors
 ///
 /// - `GaveUp` if the wait function returned false, or after those looks at the chip. Bytes that came meanwhile are in the rings.
+/// - `Stuck` if what is awaited is not there, and the chip is stuck, and so does not come to it.
 /// - `NoRings` or `InUse` if the call over the rings was refused.
 ///
 /// A call that fails took, or queued, no byte.
@@ -206,10 +207,10 @@ impl<S: CriticalSection, B: Backend, W: Wait> Blocking<'_, S, B, W> {
     ) -> Result<R, SharedError> {
         let shared = self.shared;
         loop {
-            if let Some(found) = shared.with(&mut look)? {
+            if let Some(found) = shared.look(&mut look)? {
                 return Ok(found);
             }
-            self.wait_once(|| shared.has(awaited))?;
+            self.wait_once(|| shared.ends_wait(awaited))?;
         }
     }
 
@@ -271,7 +272,9 @@ impl<S: CriticalSection, B: Backend, W> ReadReady for Blocking<'_, S, B, W> {
 
 impl<S: CriticalSection, B: Backend, W> WriteReady for Blocking<'_, S, B, W> {
     fn write_ready(&mut self) -> Result<bool, SharedError> {
-        self.shared.with(|_ring| ())?;
-        Ok(self.shared.has(Awaited::TransmitRoom))
+        self.shared.in_section(|port| {
+            let rings = port.rings.as_ref().ok_or(SharedError::NoRings)?;
+            Ok(rings.has(Awaited::TransmitRoom))
+        })
     }
 }

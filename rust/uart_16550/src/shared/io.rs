@@ -13,7 +13,7 @@ impl foreign::Error for SharedError {
     fn kind(&self) -> foreign::ErrorKind {
         match self {
             Self::GaveUp => foreign::ErrorKind::TimedOut,
-            Self::NoRings | Self::InUse => foreign::ErrorKind::Other,
+            Self::NoRings | Self::InUse | Self::Stuck(_) => foreign::ErrorKind::Other,
         }
     }
 }

@@ -18,6 +18,8 @@ pub struct Chip {
     pub wire: Vec<u8>,
     cells: [u8; 8],
     is_empty_due: bool,
+    /// What ISR always shows, if the chip is broken.
+    pub shown: Option<u8>,
 }
 
 impl Chip {
@@ -27,7 +29,9 @@ impl Chip {
 
     // ISR without acknowledging.
     fn isr(&self) -> u8 {
-        if self.is_enabled(IER::DATA_READY) && !self.received.is_empty() {
+        if let Some(shown) = self.shown {
+            shown
+        } else if self.is_enabled(IER::DATA_READY) && !self.received.is_empty() {
             DATA_INTERRUPT
         } else if self.is_enabled(IER::THR_EMPTY) && self.is_empty_due {
             THR_EMPTY_INTERRUPT
@@ -37,7 +41,7 @@ impl Chip {
     }
 
     pub fn is_interrupting(&self) -> bool {
-        self.isr() != NO_INTERRUPT
+        self.isr() != NO_INTERRUPT && self.is_enabled(IER::all())
     }
 
     /// Lets the transmitter send what it holds.
