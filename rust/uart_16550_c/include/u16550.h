@@ -137,6 +137,12 @@ enum u16550_configuration_error {
     U16550_CONFIGURATION_FIFOS = 145 /* ISR shows otherwise than u16550_fifo_enabled whether they are on */
 };
 
+/* What a DesignWare UART did that could not be mended. */
+enum u16550_design_ware_fault {
+    U16550_DESIGN_WARE_LINE_CONTROL = 150, /* it was busy for longer than the patience, and LCR does not have what was written */
+    U16550_DESIGN_WARE_INTERRUPT = 151 /* busy detect, or a reception timeout without data, does not end */
+};
+
 /* Returns a text for what a function returned, for a log. Never null. */
 const char *u16550_text(int status);
 
@@ -181,6 +187,11 @@ struct u16550_layout {
  * may look like a driver, or like a call that is not done.
  */
 struct u16550 {
+    uint64_t opaque[28];
+};
+
+/* The memory of a DesignWare UART: what the library keeps of it. It stays where it is as long as the driver is used. */
+struct u16550_design_ware {
     uint64_t opaque[28];
 };
 
@@ -282,6 +293,7 @@ struct u16550_stuck {
 };
 
 U16550_ASSERT(sizeof(struct u16550) == 224, "struct u16550");
+U16550_ASSERT(sizeof(struct u16550_design_ware) == 224, "struct u16550_design_ware");
 U16550_ASSERT(sizeof(struct u16550_io) == 3 * sizeof(void *), "struct u16550_io");
 U16550_ASSERT(sizeof(struct u16550_layout) == 3, "struct u16550_layout");
 U16550_ASSERT(sizeof(struct u16550_config) == 20, "struct u16550_config");
@@ -327,6 +339,26 @@ int u16550_new_mmio(struct u16550 *uart, const struct u16550_io *io, uintptr_t b
  * U16550_BAD_CODE if the byte order is none, else as u16550_new_mmio, else by U16550_STRIDE_TOO_SMALL or U16550_MISALIGNED_BASE.
  */
 int u16550_new_mmio_wide(struct u16550 *uart, uintptr_t base, const struct u16550_layout *layout);
+
+/*
+ * A driver for a UART of Synopsys' DesignWare, as Rockchip, Allwinner, StarFive, Intel and others have it. Such a chip ignores a write of
+ * LCR while it is busy, and interrupts for that and for reception timeouts without data. Here each write of LCR waits until the chip is not
+ * busy, is read back, and loses none of what is received meanwhile, up to 64 characters; and these interrupts are ended. patience is how
+ * many looks in a row a write of LCR waits; 0 is refused by U16550_ZERO_LIMIT.
+ *
+ * The functions get the offset of a register, 0 to 7, or 31 for the register USR. With mmio there are none, and the registers lie in
+ * memory as for u16550_new_mmio_wide. Each driver has its own chip, which is in no other use as long as the driver is used.
+ */
+int u16550_new_design_ware(struct u16550 *uart, struct u16550_design_ware *chip, const struct u16550_io *io, uint64_t patience);
+int u16550_new_mmio_design_ware(struct u16550 *uart, struct u16550_design_ware *chip, uintptr_t base,
+                                const struct u16550_layout *layout, uint64_t patience);
+
+/*
+ * What went wrong since the last write of LCR that the chip took, as an enum u16550_design_ware_fault, or U16550_OK. After a fault the
+ * chip's interrupts are off, whatever is written to IER. The calls return no error for it: u16550_check_configured does. Makes no access.
+ * U16550_NOT_MADE if the driver has another chip.
+ */
+int u16550_design_ware_fault(struct u16550 *uart, struct u16550_design_ware *chip);
 
 /* A driver in this state, whose functions get offsets. */
 int u16550_from_state(struct u16550 *uart, const struct u16550_io *io, const struct u16550_state *state);

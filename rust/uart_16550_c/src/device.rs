@@ -22,8 +22,13 @@ pub struct Io {
 impl Io {
     /// Returns these functions, which need no context.
     pub fn over(read: ReadFunction, write: WriteFunction) -> Self {
+        Self::with_context(ptr::null_mut(), read, write)
+    }
+
+    /// Returns these functions, with this context.
+    pub fn with_context(context: *mut c_void, read: ReadFunction, write: WriteFunction) -> Self {
         Self {
-            context: ptr::null_mut(),
+            context,
             read: Some(read),
             write: Some(write),
         }
@@ -89,6 +94,11 @@ impl Device {
             read: Some(self.read),
             write: Some(self.write),
         }
+    }
+
+    /// Returns whether the functions get this context.
+    pub fn is_reached_by(&self, context: *mut c_void) -> bool {
+        self.context == context
     }
 
     // The address of a register. It does not overflow: the constructors refuse such places.

@@ -8,6 +8,7 @@
 
 mod bytes;
 mod data;
+mod design_ware;
 mod device;
 mod emergency;
 mod make;

@@ -1,7 +1,7 @@
 //! What the functions return: one number for each error of the driver, and for each misuse of a function.
 
 use core::ffi::{CStr, c_char, c_int};
-use uart_16550::native::backend::InvalidLayoutError;
+use uart_16550::native::backend::{DesignWareFault, InvalidLayoutError};
 use uart_16550::native::{
     AttachError, ByteReceiveError, ByteSendError, ConfigurationError, FifosOffError, FrameError, InitError, InvalidAddressError,
     InvalidDivisorError, LoopbackError, NearestDivisorError, NonIntegerBaudRateError,
@@ -64,10 +64,12 @@ pub enum Failure {
     ConfigurationInterrupts = 143,
     ConfigurationDivisor = 144,
     ConfigurationFifos = 145,
+    DesignWareLineControl = 150,
+    DesignWareInterrupt = 151,
 }
 
 impl Failure {
-    const ALL: [Self; 51] = [
+    const ALL: [Self; 53] = [
         Self::NullPointer,
         Self::Misaligned,
         Self::NotMade,
@@ -119,6 +121,8 @@ impl Failure {
         Self::ConfigurationInterrupts,
         Self::ConfigurationDivisor,
         Self::ConfigurationFifos,
+        Self::DesignWareLineControl,
+        Self::DesignWareInterrupt,
     ];
 
     const fn text(self) -> &'static CStr {
@@ -174,6 +178,8 @@ impl Failure {
             Self::ConfigurationInterrupts => c"configured: IER does not show what was written",
             Self::ConfigurationDivisor => c"configured: the divisor latch has another divisor",
             Self::ConfigurationFifos => c"configured: the FIFOs are not as the driver takes them to be",
+            Self::DesignWareLineControl => c"the UART stayed busy, and ignored LCR",
+            Self::DesignWareInterrupt => c"an interrupt of the UART does not end",
         }
     }
 }
@@ -332,6 +338,15 @@ impl From<StuckError> for Failure {
         match error {
             StuckError::Unknown(_) => Self::RingStuckUnknown,
             StuckError::Pending(_) => Self::RingStuckPending,
+        }
+    }
+}
+
+impl From<DesignWareFault> for Failure {
+    fn from(fault: DesignWareFault) -> Self {
+        match fault {
+            DesignWareFault::LineControlIgnored => Self::DesignWareLineControl,
+            DesignWareFault::InterruptWithoutEnd => Self::DesignWareInterrupt,
         }
     }
 }

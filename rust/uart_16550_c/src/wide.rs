@@ -7,7 +7,8 @@ use core::ffi::{c_int, c_void};
 use core::num::NonZeroUsize;
 use core::ptr;
 use uart_16550::native::backend::{
-    ByteOrder, RegisterLayout, RegisterWidth, WideMemory, load_register, store_register,
+    ByteOrder, DesignWareMemory, RegisterLayout, RegisterWidth, WideMemory, load_register,
+    store_register,
 };
 use uart_16550::native::{InvalidAddressError, Uart16550};
 
@@ -94,14 +95,32 @@ fn functions_for(layout: RegisterLayout) -> (ReadFunction, WriteFunction) {
     }
 }
 
+// The address as the constructors of Rust take it.
+fn address(base: usize) -> Result<NonZeroUsize, Failure> {
+    Ok(NonZeroUsize::new(base).ok_or(InvalidAddressError::InvalidBaseAddress(base))?)
+}
+
+/// Returns the device of this layout whose first register is there, if the constructor of Rust for a DesignWare UART accepts it.
+///
+/// # Safety
+///
+/// As long as the device is used, there are registers of this layout at the base, with USR, and a load or a store of one is what it is of
+/// the device.
+pub unsafe fn design_ware(base: usize, layout: &CLayout) -> Result<Device, Failure> {
+    let layout = layout.decoded()?;
+    // SAFETY: no access is made by this object.
+    unsafe { DesignWareMemory::from_address(address(base)?, layout) }?;
+    // SAFETY: the caller promises it.
+    unsafe { device(base, layout) }
+}
+
 // The device of this layout, if the constructor of Rust accepts it.
 //
 // Safety: as long as the device is used, there are registers of this layout at the base, and a load or a store of one is what it is
 // of the device.
 unsafe fn device(base: usize, layout: RegisterLayout) -> Result<Device, Failure> {
-    let address = NonZeroUsize::new(base).ok_or(InvalidAddressError::InvalidBaseAddress(base))?;
     // SAFETY: no access is made by this object.
-    unsafe { WideMemory::from_address(address, layout) }?;
+    unsafe { WideMemory::from_address(address(base)?, layout) }?;
     let (read, write) = functions_for(layout);
     let stride = layout.stride;
     // SAFETY: the functions use no context, and the caller promises that the registers are there.
